@@ -1,14 +1,10 @@
 -- Which counts a tag tells.
-use Rattle.std.proofs.Common.{◌≡◌, ℕ, ◌+◌, ◌*◌, ◌^◌, ◌<◌, ◌≤◌, [], ◌∷◌, List, length, ap, arith, inl, inr}
+use Rattle.std.proofs.Common.{ℕ, ◌*◌, ◌^◌, ◌<◌, ◌≤◌, [], ◌∷◌, List, length, arith, inl, inr}
 use Rattle.std.proofs.Math.Nat.{mul-le-mul_right, pow-succ', pow-le-pow_right}
-use Rattle.byteorder.specs.Numbers.{big_from-cons}
 use Rattle.iim_dataset.specs.Format.Octets.{Octets, number}
 use Rattle.iim_dataset.specs.Format.Datasets.{SpellsCount, SpellsTag, count_octets}
 use Rattle.iim_dataset.specs.declared.head.Head.{Head}
-
--- the first octet counts by its place
-number-cons : (b : ℕ) (bs : List ℕ) → number (b ∷ bs) ≡ b * 256 ^ length bs + number bs
-number-cons b bs = ap (λ (r : ℕ). b * 256 ^ length bs + r) (big_from-cons 0 (length bs) b bs)
+use Rattle.iim_dataset.proofs.OctetLists.{number-cons}
 
 -- n octets spell less than 256 ^ n
 number-lt : (xs : List ℕ) → Octets xs → number xs < 256 ^ length xs

@@ -8,6 +8,7 @@ use Rattle.std.proofs.lemmas.Bool.{cases_lt}
 use Rattle.iim_dataset.specs.Format.Octets.{Octets, number}
 use Rattle.iim_dataset.specs.Format.Datasets.{SpellsCount, count_octets}
 use Rattle.iim_dataset.specs.Format.Tags.{BeginsTag, BeginsNoTag, HasTag}
+use Rattle.iim_dataset.proofs.OctetLists.{zeros_are, octets_append}
 
 -- each is an octet
 abbrev pub Fit : List ℕ → Type 0
@@ -16,14 +17,6 @@ Fit octets = (i : ℕ) → get_or octets i 0 < 256
 pub are_octets : (xs : List ℕ) → Fit xs → Octets xs
 are_octets [] fits = tt
 are_octets (x ∷ xs) fits = (fits 0, are_octets xs (λ i. fits (suc i)))
-
-pub zeros_are : (n : ℕ) → Octets (replicate n 0)
-zeros_are zero = tt
-zeros_are (suc n) = (omega arith, zeros_are n)
-
-pub both_are : (xs ys : List ℕ) → Octets xs → Octets ys → Octets (xs ++ ys)
-both_are [] ys h k = k
-both_are (x ∷ xs) ys h k = (h.0, both_are xs ys h.1 k)
 
 pub front_are : (n : ℕ) (xs : List ℕ) → Octets xs → Octets (take n xs)
 front_are zero xs h = tt
@@ -101,7 +94,7 @@ begun_extended (a ∷ b ∷ c ∷ d ∷ []) n fits long marker form is some few 
 begun_extended (a ∷ b ∷ c ∷ d ∷ e ∷ o) n fits long marker form is some few short =
     let zeros : List ℕ = replicate (e - length o) 0 in
     let len : length (o ++ zeros) ≡ e = omega (arith, length-append o zeros, length-replicate {A = ℕ} (e - length o) 0) in
-    let rest : Octets (o ++ zeros) = both_are o zeros (are_octets o (λ i. fits (suc (suc (suc (suc (suc i))))))) (zeros_are (e - length o)) in
+    let rest : Octets (o ++ zeros) = octets_append o zeros (are_octets o (λ i. fits (suc (suc (suc (suc (suc i))))))) (zeros_are (e - length o)) in
     leads_on (a ∷ b ∷ c ∷ d ∷ e ∷ o) zeros (d ∷ e ∷ (o ++ zeros)) b c (number (o ++ zeros)) (omega (arith, length-replicate {A = ℕ} (e - length o) 0)) (fits 1) (fits 2)
     (inr (form, sym len, omega arith, omega arith, rest, refl)) (ap (λ (x : ℕ). x ∷ b ∷ c ∷ d ∷ e ∷ (o ++ zeros)) marker)
 

@@ -7,7 +7,6 @@ pub mod Places
 pub mod HeldTags
 pub mod Stopping
 pub mod OneHanding
-pub mod Telling
 pub mod Deaths
 pub mod Lives
 pub mod OneOctet
@@ -19,3 +18,5 @@ pub mod StoppedTexts
 pub mod WrittenNumbers
 pub mod Agreeing
 pub mod Each
+pub mod OctetLists
+pub mod Telling

@@ -13,9 +13,10 @@ use Rattle.iim_dataset.specs.declared.head.Head.{Head}
 use Rattle.iim_dataset.specs.declared.head.HeadCause.{HeadCause}
 use Rattle.iim_dataset.specs.declared.place.DatasetPlace.{DatasetPlace}
 use Rattle.iim_dataset.proofs.Deaths.{no_octets_continue}
-use Rattle.iim_dataset.proofs.Fronts.{begun_none, zeros_are}
+use Rattle.iim_dataset.proofs.Fronts.{begun_none}
 use Rattle.iim_dataset.proofs.OneHanding.{ends, with_data}
 use Rattle.iim_dataset.proofs.Places.{stream_more, tag_held}
+use Rattle.iim_dataset.proofs.OctetLists.{zeros_are}
 
 pub read_octets_continue : ReadOctetsContinue
 read_octets_continue octets whole begun r =

@@ -7,8 +7,8 @@ use Rattle.iim_dataset.specs.Format.Splits.{Begun, InTag, InData, IsBegun}
 use Rattle.iim_dataset.specs.States.Events.{DatasetEvent, handed_on}
 use Rattle.iim_dataset.specs.States.Places.{HandsOn}
 use Rattle.iim_dataset.specs.declared.head.Head.{Head}
-use Rattle.iim_dataset.proofs.Fronts.{zeros_are, both_are}
 use Rattle.iim_dataset.proofs.Spellings.{one_tag, one_splitting}
+use Rattle.iim_dataset.proofs.OctetLists.{zeros_are, octets_append}
 
 pub with_data : (h : Head) (tag xs : List ℕ) → SpellsTag count_octets h tag → Octets xs → length xs ≡ h.count → SpellsDataset count_octets (record { rec = h.rec; set = h.set; octets = xs }) (tag ++ xs)
 with_data h tag xs s o count =
@@ -33,7 +33,7 @@ ends (InData h taken) rest (tag, s, some, o, e) =
       record { rec = h.rec; set = h.set; octets = taken ++ zeros },
       tag ++ (taken ++ zeros),
       zeros,
-      with_data h tag (taken ++ zeros) s (both_are taken zeros o (zeros_are left)) (omega (arith, some, len, length-append taken zeros)),
+      with_data h tag (taken ++ zeros) s (octets_append taken zeros o (zeros_are left)) (omega (arith, some, len, length-append taken zeros)),
       omega (arith, some, len),
       ap (λ u. u ++ zeros) e ∙ append_assoc tag taken zeros,
     )

@@ -1,6 +1,7 @@
 -- What one octet completes.
 use Rattle.std.proofs.Common.{◌≡◌, ℕ, ◌<◌, ◌⊎◌, List, [], ◌∷◌, ◌++◌, length, map, flat_map, refl, ap, sym, subst, ◌∙◌, inl, inr, arith, append-nil, append_assoc, length-append}
 use Rattle.std.proofs.lemmas.List.Concat.{flat_map-append}
+use Rattle.std.proofs.lemmas.List.{append_cancel_left, nil_from_length}
 use Rattle.iim_dataset.specs.Format.Datasets.{Dataset, SpellsTag, SpellsDataset, SpellsStream, head_of, count_octets}
 use Rattle.iim_dataset.specs.Format.Splits.{Begun, InTag, InData, IsBegun, Reads}
 use Rattle.iim_dataset.specs.States.Events.{DatasetEvent, HeadRead, DataOctet, DatasetEnd, events_of, handed_on}
@@ -21,10 +22,6 @@ first_of' h = cc
 no_snoc : {A : Type 0} (ys zs : List A) (y : A) → ys ++ (y ∷ zs) ≡ [] → ⊥
 no_snoc [] zs y h = absurd cc
 no_snoc (a ∷ ys) zs y h = absurd cc
-
-cancel : (xs ys zs : List DatasetEvent) → xs ++ ys ≡ xs ++ zs → ys ≡ zs
-cancel [] ys zs h = h
-cancel (x ∷ xs) ys zs h = cancel xs ys zs (tail_of h)
 
 -- a list with one more element is longer than what that begins with
 shorter : (held xs tag : List ℕ) (next t : ℕ) → held ++ next ∷ [] ≡ tag ++ (t ∷ xs) → (init : List ℕ) × (held ≡ tag ++ init)
@@ -80,7 +77,7 @@ front_none (x ∷ xs) ys e = absurd cc
 since_is : (whole W : List Dataset) (begun c : Begun) (before since later events X : List DatasetEvent) (event : DatasetEvent) → before ≡ handed_on whole begun → events ≡ before ++ since
     → events ++ (event ∷ later) ≡ handed_on W c → handed_on W c ≡ handed_on whole begun ++ X → since ++ (event ∷ later) ≡ X
 since_is whole W begun c before since later events X event is parts told grows =
-    cancel before (since ++ (event ∷ later)) X
+    append_cancel_left before (since ++ (event ∷ later)) X
     (sym (append_assoc before since (event ∷ later)) ∙ ap (λ (es : List DatasetEvent). es ++ (event ∷ later)) (sym parts) ∙ told ∙ grows ∙ ap (λ (es : List DatasetEvent). es ++ X) (sym is))
 
 data_one : (ds : List Dataset) (h : Head) (taken : List ℕ) (next : ℕ) → handed_on ds (InData h (taken ++ next ∷ [])) ≡ handed_on ds (InData h taken) ++ DataOctet next ∷ []
@@ -130,10 +127,6 @@ same_whole octets next events since later event whole (InData h taken) (InData k
     )
 
 -- ---- one dataset more is whole
-
-no_length : (xs : List ℕ) → length xs ≡ 0 → xs ≡ []
-no_length [] e = refl
-no_length (x ∷ xs) e = absurd (omega (arith, e))
 
 back_none : (xs ys : List ℕ) → xs ++ ys ≡ [] → ys ≡ []
 back_none [] ys e = e
@@ -198,7 +191,7 @@ more_in_data octets next events since later event whole W h taken c rest y reads
     let count : h.count ≡ length d.octets = ap (λ (k : Head). k.count) same.0 in
     let lengths : length (taken ++ next ∷ []) ≡ length (d.octets ++ (n.q ++ y)) = ap length same.2 in
     let less = b.2 in
-    let none : n.q ++ y ≡ [] = no_length (n.q ++ y) (omega (arith, less, count, lengths, length-append taken (next ∷ []), length-append d.octets (n.q ++ y))) in
+    let none : n.q ++ y ≡ [] = nil_from_length (n.q ++ y) (omega (arith, less, count, lengths, length-append taken (next ∷ []), length-append d.octets (n.q ++ y))) in
     let all : taken ++ next ∷ [] ≡ d.octets = same.2 ∙ ap (λ l. d.octets ++ l) none ∙ append-nil d.octets in
     let F : List DatasetEvent = flat_map events_of whole in
     let two : List DatasetEvent = DataOctet next ∷ DatasetEnd ∷ [] in

@@ -16,7 +16,8 @@ use Rattle.iim_dataset.specs.TagEnds.{head_events, place_after_head}
 use Rattle.iim_dataset.specs.declared.head.Head.{Head}
 use Rattle.iim_dataset.specs.declared.place.DatasetPlace.{DatasetPlace}
 use Rattle.iim_dataset.specs.declared.place.DatasetPlace.TheVariants.{Tag, Inside}
-use Rattle.iim_dataset.proofs.Fronts.{begun_none, both_are}
+use Rattle.iim_dataset.proofs.Fronts.{begun_none}
+use Rattle.iim_dataset.proofs.OctetLists.{octets_append}
 
 -- ---- whole datasets and a begun one
 
@@ -79,7 +80,7 @@ data_reads_on xs ys taken whole h o short r =
       front = r.front;
       rest = i.0 ++ (taken ++ ys);
       is_front = r.is_front;
-      is_rest = (i.0, i.1, omega (arith, short, length-append taken ys), both_are taken ys i.3 o, refl);
+      is_rest = (i.0, i.1, omega (arith, short, length-append taken ys), octets_append taken ys i.3 o, refl);
       parts = data_parts xs ys r.front r.rest i.0 taken r.parts i.4;
     }
 
@@ -92,7 +93,7 @@ data_reads_end xs ys taken whole h o all r =
     let same : h ≡ record { rec = h.rec; set = h.set; count = length (taken ++ ys) } = (λ j. record { rec = h.rec; set = h.set; count = count j }) in
     nothing_begun (r.front ++ (i.0 ++ (taken ++ ys))) (xs ++ ys) _
     (stream_more whole r.front _ (i.0 ++ (taken ++ ys)) r.is_front
-    (record { tag = i.0; is_tag = subst (λ (k : Head). SpellsTag count_octets k i.0) same i.1; data_octets = both_are taken ys i.3 o; parts = refl }))
+    (record { tag = i.0; is_tag = subst (λ (k : Head). SpellsTag count_octets k i.0) same i.1; data_octets = octets_append taken ys i.3 o; parts = refl }))
     (data_parts xs ys r.front r.rest i.0 taken r.parts i.4)
 
 -- ---- what is handed on of them

@@ -9,9 +9,9 @@ use Rattle.iim_dataset.specs.States.Places.{IsPlace, IsKeptAs, LeadsTo}
 use Rattle.iim_dataset.specs.Laws.Datasets.{PlacesAreReached, OctetsLeadToOnePlace}
 use Rattle.iim_dataset.specs.declared.place.DatasetPlace.{DatasetPlace}
 use Rattle.iim_dataset.specs.declared.place.DatasetPlace.TheVariants.{Tag, Inside}
-use Rattle.iim_dataset.proofs.Fronts.{zeros_are}
 use Rattle.iim_dataset.proofs.Places.{tag_held, data_kept}
 use Rattle.iim_dataset.proofs.OneHanding.{one_handing}
+use Rattle.iim_dataset.proofs.OctetLists.{zeros_are}
 
 -- ---- octets that lead to a place
 

@@ -6,7 +6,7 @@ use Rattle.iim_dataset.specs.States.Events.{DatasetEvent, HeadRead, DataOctet, D
 use Rattle.iim_dataset.specs.declared.head.Head.{Head}
 
 -- the data before an end are determined
-same_data : (xs ys : List ℕ) (r s : List DatasetEvent) → map DataOctet xs ++ DatasetEnd ∷ r ≡ map DataOctet ys ++ DatasetEnd ∷ s → (xs ≡ ys) × (r ≡ s)
+pub same_data : (xs ys : List ℕ) (r s : List DatasetEvent) → map DataOctet xs ++ DatasetEnd ∷ r ≡ map DataOctet ys ++ DatasetEnd ∷ s → (xs ≡ ys) × (r ≡ s)
 same_data [] [] r s e = (refl, cc)
 same_data [] (y ∷ ys) r s e = absurd cc
 same_data (x ∷ xs) [] r s e = absurd cc
@@ -17,13 +17,13 @@ same_data (x ∷ xs) (y ∷ ys) r s e =
     (cc, more.1)
 
 -- data alone have no end
-no_end : (xs ys : List ℕ) (r : List DatasetEvent) → map DataOctet xs ≡ map DataOctet ys ++ DatasetEnd ∷ r → ⊥
+pub no_end : (xs ys : List ℕ) (r : List DatasetEvent) → map DataOctet xs ≡ map DataOctet ys ++ DatasetEnd ∷ r → ⊥
 no_end [] [] r e = absurd cc
 no_end [] (y ∷ ys) r e = absurd cc
 no_end (x ∷ xs) [] r e = absurd cc
 no_end (x ∷ xs) (y ∷ ys) r e = let rests : map DataOctet xs ≡ map DataOctet ys ++ DatasetEnd ∷ r = cc in no_end xs ys r rests
 
-same_begun_data : (xs ys : List ℕ) → map DataOctet xs ≡ map DataOctet ys → xs ≡ ys
+pub same_begun_data : (xs ys : List ℕ) → map DataOctet xs ≡ map DataOctet ys → xs ≡ ys
 same_begun_data [] [] e = refl
 same_begun_data [] (y ∷ ys) e = absurd cc
 same_begun_data (x ∷ xs) [] e = absurd cc

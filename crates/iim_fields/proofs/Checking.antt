@@ -1,38 +1,40 @@
 -- Where a check of records stands, token by token.
-use Rattle.std.proofs.Common.{◌≡◌, ◌≢◌, ℕ, zero, suc, ◌<◌, ◌≤◌, Bool, true, false, not, ◌&&◌, ◌||◌, if◌then◌else◌, nat_eq, nat_le, ◌==◌, List, [], ◌∷◌, ◌++◌, length, replicate, get_or, refl, ap, sym, ◌∙◌, inl, inr, arith, subst, length-set, Option, Some, None}
+use Rattle.std.proofs.Common.{◌≡◌, ◌≢◌, ℕ, zero, suc, ◌<◌, ◌≤◌, Bool, true, false, ◌||◌, nat_eq, nat_le, List, [], ◌∷◌, ◌++◌, length, replicate, get_or, refl, ap, sym, ◌∙◌, inl, inr, arith, subst, length-set, Option, Some, None}
 use Rattle.std.specs.List.{list_any}
 use Rattle.std.proofs.lemmas.List.{length-replicate}
 use Rattle.std.specs.Option.{option_or}
 use Rattle.std.proofs.lemmas.List.Folds.{list_any-append}
 use Rattle.std.proofs.lemmas.Bool.{leb-true, and_parts, and_from}
 use Rattle.std.proofs.lemmas.Bool.Decides.{eqb_tells}
-use Rattle.iim_dataset.specs.Format.Octets.{Octets, number, within}
+use Rattle.std.proofs.lemmas.Option.{same_Some}
+use Rattle.iim_dataset.specs.Format.Octets.{Octets, within}
 use Rattle.iim_dataset.specs.Format.Datasets.{Dataset, head_of, of_record}
 use Rattle.iim_dataset.specs.declared.head.Head.{Head}
+use Rattle.iim_dataset.proofs.OctetLists.{zeros_are}
 use Rattle.iim_tables.specs.Format.Rows.{row_of, is_admitted}
 use Rattle.iim_tables.specs.declared.shape.Row.{Row}
 use Rattle.iim_tables.specs.Format.Kinds.{has_kind}
 use Rattle.iim_tables.specs.declared.shape.Kind.{Kind}
-use Rattle.iim_tables.specs.declared.shape.Kind.TheVariants as kinds
 use Rattle.iim_fields.specs.Format.Records.{records, after}
-use Rattle.iim_tables.specs.Format.Records.{occurs, is_file_format}
+use Rattle.iim_tables.specs.Format.Records.{occurs}
 use Rattle.iim_fields.specs.Format.Alive.{SectionsLive, SectionsLiveAt}
-use Rattle.iim_fields.specs.Format.Faults.{head_fault, record_fault, value_fault, fault_by_row, limits_fault, section_after, section_run}
-use Rattle.iim_fields.specs.States.Orders.{nothing, has_seen, IsOrderOf}
-use Rattle.iim_fields.specs.OrderChanges.{AddsHead}
+use Rattle.iim_fields.specs.Format.Faults.{head_fault, record_fault, value_fault, limits_fault, section_after, section_run}
+use Rattle.iim_fields.specs.States.Orders.{has_seen, IsOrderOf}
+use Rattle.iim_fields.specs.OrderChanges.{AddsHead, nothing}
 use Rattle.iim_fields.specs.Format.Values.{data_of, number_told}
-use Rattle.iim_fields.specs.States.Checks.{TakesHead, AwaitsNone, IsIn, HasChecked, IsChecking, HasTaken, IsRecordFault, IsValueFault}
+use Rattle.iim_fields.specs.States.Checks.{AwaitsHead, TakesHead, AwaitsNone, IsIn, HasChecked, IsChecking, HasTaken, IsRecordFault, IsValueFault}
 use Rattle.iim_fields.specs.Checking.{IsRecordPlace}
 use Rattle.iim_fields.specs.declared.order.Order.{Order}
 use Rattle.iim_fields.specs.declared.check.Begun.{Begun}
 use Rattle.iim_fields.specs.declared.check.RecordPlace.{RecordPlace}
 use Rattle.iim_fields.specs.declared.fault.FieldFault.{FieldFault}
+use Rattle.iim_tables.proofs.GoodDatasets.{good_elsewhere, meets_as}
 use Rattle.iim_fields.proofs.NumberSets.{seen_more}
 use Rattle.iim_fields.proofs.Table.{EachRowHasValues, not_after_itself, object_kind}
 use Rattle.iim_fields.proofs.Runs.{records_to_come, eq_itself}
 use Rattle.iim_fields.proofs.Follows.{Follows, present_more, run_more, alive_follows}
 use Rattle.iim_fields.proofs.Telling.{head_fault_told, value_fault_told}
-use Rattle.iim_fields.proofs.Dies.{HasNoFault, no_fault_parts, in_order_cases, head_alive, head_no_fault, value_alive, value_no_fault}
+use Rattle.iim_fields.proofs.Dies.{HasNoFault, no_fault_parts, in_order_cases, head_alive, head_no_fault, head_octet, good_value, value_alive, value_no_fault}
 
 -- ---- which numbers have occurred
 
@@ -106,31 +108,15 @@ pub octets_of : (xs : List ℕ) → ((i : ℕ) → get_or xs i 0 < 256) → Octe
 octets_of [] h = tt
 octets_of (x ∷ xs) h = (h 0, octets_of xs (λ i. h (suc i)))
 
-pub octets_append : (xs ys : List ℕ) → Octets xs → Octets ys → Octets (xs ++ ys)
-octets_append [] ys h k = k
-octets_append (x ∷ xs) ys h k = (h.0, octets_append xs ys h.1 k)
-
 -- subfiles have no fault
-subfile_fine : (row : Row) (d : Dataset) → row.kind ≡ kinds.Octets → within row.min row.max (length d.octets) ≡ true → is_file_format d ≡ false → fault_by_row (Some row) d ≡ None
-subfile_fine row d kind fits other =
-    let any : is_admitted row d.octets ≡ true = and_from (within row.min row.max (length d.octets)) (has_kind row.kind d.octets) fits (ap (λ (k : Kind). has_kind k d.octets) kind) in
-    fine (is_admitted row d.octets) (is_file_format d) (number d.octets == 2) _ _ any other
-  where
-    fine : (a b e : Bool) (f g : FieldFault) → a ≡ true → b ≡ false → (if not a then Some f else if not (not b || e) then Some g else None) ≡ None
-    fine true false e f g h k = refl
-    fine true true e f g h k = absurd cc
-    fine false b e f g h k = absurd cc
-
-subfile_value : (ds : List Dataset) (d : Dataset) → SectionsLiveAt ds (head_of d) → d.rec ≡ 8 → value_fault d ≡ None
-subfile_value ds d at eight =
+subfile_value : (ds : List Dataset) (d : Dataset) → SectionsLiveAt ds (head_of d) → d.rec ≡ 8 → Octets d.octets → value_fault d ≡ None
+subfile_value ds d at eight octets =
     let f = no_fault_parts (section_after ds) (λ n. occurs n (section_run ds)) (head_of d) (head_no_fault ds (head_of d) at) in
-    let known : row_of 8 d.set ≡ Some f.row = subst (λ (r : ℕ). row_of r d.set ≡ Some f.row) eight f.known in
-    let other : is_file_format d ≡ false = ap (λ (r : ℕ). nat_eq r 1 && nat_eq d.set 20) eight in
-    ap (λ (o : Option Row). fault_by_row o d) f.known ∙ subfile_fine f.row d (object_kind d.set f.row known) f.fits other
-
-zeros_are : (n : ℕ) → Octets (replicate n 0)
-zeros_are zero = tt
-zeros_are (suc n) = (omega arith, zeros_are n)
+    let kind = object_kind d.set f.row (subst (λ (r : ℕ). row_of r d.set ≡ Some f.row) eight f.known) in
+    let any : is_admitted f.row d.octets ≡ true =
+    and_from (within f.row.min f.row.max (length d.octets)) (has_kind f.row.kind d.octets) f.fits (ap (λ (k : Kind). has_kind k d.octets) kind) in
+    good_value d (good_elsewhere (ap (λ (r : ℕ). nat_eq r 1) eight) (head_octet ds (head_of d) at) octets
+    (meets_as d.rec d.set f.row d.octets f.known any))
 
 -- ---- the start
 
@@ -146,19 +132,21 @@ checked_start values o first none = record { order = o; begun = None; at = refl;
 abbrev pub AwaitsValue : Option RecordPlace → Head → Type 0
 AwaitsValue check h = IsIn check h × (h.rec ≢ 8)
 
-pub same_place : (a b : RecordPlace) → Some a ≡ Some b → a ≡ b
-same_place a b e = cc
-
-pub same_begun : (a b : Begun) → Some a ≡ Some b → a ≡ b
-same_begun a b e = cc
-
 -- the order of the place
 pub order_at : (place : RecordPlace) (o : Order) (b : Option Begun) → Some place ≡ Some (record { order = o; begun = b }) → place.order ≡ o
-order_at place o b e = ap (λ (p : RecordPlace). p.order) (same_place place (record { order = o; begun = b }) e)
+order_at place o b e = ap (λ (p : RecordPlace). p.order) (same_Some place (record { order = o; begun = b }) e)
 
 -- one dataset is begun, or none
 pub one_begun : (check : Option RecordPlace) (o p : Order) (a b : Option Begun) → check ≡ Some (record { order = o; begun = a }) → check ≡ Some (record { order = p; begun = b }) → a ≡ b
-one_begun check o p a b e f = ap (λ (p : RecordPlace). p.begun) (same_place (record { order = o; begun = a }) (record { order = p; begun = b }) (sym e ∙ f))
+one_begun check o p a b e f = ap (λ (p : RecordPlace). p.begun) (same_Some {A = RecordPlace} (record { order = o; begun = a }) (record { order = p; begun = b }) (sym e ∙ f))
+
+-- one order is kept
+pub same_order : (check : Option RecordPlace) (o p : Order) (a b : Option Begun) → check ≡ Some (record { order = o; begun = a }) → check ≡ Some (record { order = p; begun = b }) → o ≡ p
+same_order check o p a b e f = ap (λ (p : RecordPlace). p.order) (same_Some {A = RecordPlace} (record { order = o; begun = a }) (record { order = p; begun = b }) (sym e ∙ f))
+
+-- between datasets none is begun
+pub none_begun : (place : RecordPlace) → AwaitsHead (Some place) → place.begun ≡ None
+none_begun place b = ap (λ (p : RecordPlace). p.begun) (same_Some place (record { order = b.order; begun = None }) b.between)
 
 -- where no value is to come, none is
 pub not_both : (check : Option RecordPlace) (o p : Order) (a : Option Begun) (begun : Begun) → check ≡ Some (record { order = o; begun = a }) → AwaitsNone a
@@ -206,7 +194,7 @@ taken_by values old new h row small takes begun known none ds s =
         begun = Some (record { head = h; row = row });
         at = (λ i. Some (record { order = new.order; begun = begun i }));
         none = eight;
-        alive = value_alive values ds d (subst (SectionsLiveAt ds) (sym is) at) octets (subfile_value ds d (subst (SectionsLiveAt ds) (sym is) at) (ap (λ (k : Head). k.rec) is ∙ eight));
+        alive = value_alive values ds d (subst (SectionsLiveAt ds) (sym is) at) octets (subfile_value ds d (subst (SectionsLiveAt ds) (sym is) at) (ap (λ (k : Head). k.rec) is ∙ eight) octets);
         tells = more d is;
       };
     }
@@ -237,8 +225,8 @@ place_headed old new h takes (inr (ds, g, s)) on = absurd (not_both (Some old) t
 pub one_awaited : (place : RecordPlace) (begun : Begun) → place.begun ≡ Some begun → (o : Order) (h : Head) (row : Row)
     → Some place ≡ Some (record { order = o; begun = Some (record { head = h; row = row }) }) → (place.order ≡ o) × (begun ≡ record { head = h; row = row })
 one_awaited place begun is o h row e =
-    let same = same_place place (record { order = o; begun = Some (record { head = h; row = row }) }) e in
-    (ap (λ (p : RecordPlace). p.order) same, same_begun begun (record { head = h; row = row }) (sym is ∙ ap (λ (p : RecordPlace). p.begun) same))
+    let same = same_Some place (record { order = o; begun = Some (record { head = h; row = row }) }) e in
+    (ap (λ (p : RecordPlace). p.order) same, same_Some begun (record { head = h; row = row }) (sym is ∙ ap (λ (p : RecordPlace). p.begun) same))
 
 pub checked_value : EachRowHasValues → (old new : RecordPlace) (begun : Begun) (xs : List ℕ) (number : Option ℕ) → old.begun ≡ Some begun → new.order ≡ old.order → new.begun ≡ None
     → begun.head.count ≡ length xs → ((i : ℕ) → get_or xs i 0 < 256) → value_fault (data_of begun.head xs) ≡ None → number ≡ number_told (data_of begun.head xs)

@@ -17,9 +17,11 @@ use Rattle.iim_fields.specs.Laws.Records.{HeadsDieWithTheirFault, ValuesDieWithT
 use Rattle.iim_fields.specs.Format.Records.{AreRecords, AreSections}
 use Rattle.iim_fields.specs.Format.Bounds.{IsWithin}
 use Rattle.iim_fields.specs.declared.fault.FieldFault.{FieldFault}
-use Rattle.iim_fields.specs.declared.fault.FieldCause.{FieldCause}
 use Rattle.iim_fields.specs.declared.fault.FieldCause.TheVariants.{RecordOrder, HeaderFull, TooManyFields}
 use Rattle.iim_fields.specs.declared.limits.Limits.{Limits}
+use Rattle.iim_dataset.proofs.Each.{all_append, all_front, all_back}
+use Rattle.iim_tables.proofs.GoodDatasets.{good_elsewhere}
+use Rattle.iim_fields.proofs.Tested.{passed, passes}
 
 -- ---- records that can follow
 
@@ -51,10 +53,7 @@ ten_or_twenty n h = grind (arith, nat_tests)
 seven : IsGoodRecord 7 (mode ∷ subfile_size ∷ [])
 unfolding row_of table
 seven = record {
-  each = (
-    (refl, record { numbered = omega arith; octets = (omega arith, tt); meets = refl; file_format = refl }),
-    ((refl, record { numbered = omega arith; octets = (omega arith, tt); meets = refl; file_format = refl }), tt),
-  );
+  each = ((refl, good_elsewhere refl (omega arith) (omega arith, tt) refl), ((refl, good_elsewhere refl (omega arith) (omega arith, tt) refl), tt));
   mandatory = (refl, (refl, tt));
   once = λ n h. one_of_two (nat_eq 10 n) (nat_eq 20 n) (ten_or_twenty n);
 }
@@ -62,7 +61,7 @@ seven = record {
 eight : IsGoodRecord 8 (subfile ∷ [])
 unfolding row_of table
 eight = record {
-  each = ((refl, record { numbered = omega arith; octets = tt; meets = refl; file_format = refl }), tt);
+  each = ((refl, good_elsewhere refl (omega arith) tt refl), tt);
   mandatory = (refl, tt);
   once = λ n h. one_at_most (nat_eq 10 n);
 }
@@ -70,7 +69,7 @@ eight = record {
 nine : IsGoodRecord 9 (size ∷ [])
 unfolding row_of table
 nine = record {
-  each = ((refl, record { numbered = omega arith; octets = (omega arith, tt); meets = refl; file_format = refl }), tt);
+  each = ((refl, good_elsewhere refl (omega arith) (omega arith, tt) refl), tt);
   mandatory = (refl, tt);
   once = λ n h. one_at_most (nat_eq 10 n);
 }
@@ -101,20 +100,8 @@ takeable : (r : ℕ) (ds : List Dataset) → is_kept r ≡ true → AllByRecursi
 takeable r [] is h = tt
 takeable r (d ∷ ds) is h = (record { is_kept = ap is_kept h.0.0 ∙ is; octets = h.0.1.octets }, takeable r ds is h.1)
 
-both : (xs ys : List Dataset) → AllByRecursion IsTakeable xs → AllByRecursion IsTakeable ys → AllByRecursion IsTakeable (xs ++ ys)
-both [] ys h k = k
-both (x ∷ xs) ys h k = (h.0, both xs ys h.1 k)
-
 all_takeable : (ds : List Dataset) → IsEnvelope ds → AllByRecursion IsTakeable ds
-all_takeable ds e = subst (AllByRecursion IsTakeable) (sym e.parts) (both e.r1 e.r2 (takeable 1 e.r1 refl e.envelope.each) (takeable 2 e.r2 refl e.application.each))
-
-front : (xs ys : List Dataset) → AllByRecursion IsTakeable (xs ++ ys) → AllByRecursion IsTakeable xs
-front [] ys h = tt
-front (x ∷ xs) ys h = (h.0, front xs ys h.1)
-
-back : (xs ys : List Dataset) → AllByRecursion IsTakeable (xs ++ ys) → AllByRecursion IsTakeable ys
-back [] ys h = h
-back (x ∷ xs) ys h = back xs ys h.1
+all_takeable ds e = subst (AllByRecursion IsTakeable) (sym e.parts) (all_append IsTakeable e.r1 e.r2 (takeable 1 e.r1 refl e.envelope.each) (takeable 2 e.r2 refl e.application.each))
 
 all_kept : (ds : List Dataset) → AllByRecursion IsTakeable ds → kept ds ≡ ds
 all_kept [] h = refl
@@ -122,18 +109,9 @@ all_kept (d ∷ ds) h = ap (λ (b : Bool). cond b (d ∷ kept ds) (kept ds)) h.0
 
 -- ---- no fault
 
-none_at_all : (b : Bool) (f : FieldFault) (r l v : Option FieldFault) → b ≡ true → r ≡ None → l ≡ None → v ≡ None
-    → cond (not b) (Some f) (option_or (option_or r l) v) ≡ None
-none_at_all true f None None v h i j k = k
-none_at_all true f None (Some x) v h i j k = absurd cc
-none_at_all true f (Some x) l v h i j k = absurd cc
-none_at_all false f r l v h i j k = absurd cc
-
-room_by : (k a b : Bool) (f g : FieldFault) → a ≡ true → b ≡ true → cond (not k) None (cond (not a) (Some f) (cond (not b) (Some g) None)) ≡ None
-room_by true true true f g h i = refl
-room_by true true false f g h i = absurd cc
-room_by true false b f g h i = absurd cc
-room_by false a b f g h i = refl
+none_if : (k : Bool) (o : Option FieldFault) → o ≡ None → cond (not k) None o ≡ None
+none_if true o none = none
+none_if false o none = refl
 
 joined_more : (before : List Dataset) (d : Dataset) (ds : List Dataset) → length (joined (before ++ d ∷ ds)) ≡ length (joined before) + (length d.octets + length (joined ds))
 joined_more before d ds =
@@ -149,34 +127,31 @@ has_room limits before ds d all within =
     let few = within.fields_in in
     let more = joined_more before d ds in
     let longer = length-append before (d ∷ ds) in
-    room_by (is_kept d.rec) (nat_le (kept_octets before + length d.octets) limits.octets) (nat_le (length (kept before) + 1) limits.fields) _ _
-    (le-leb _ _ (omega (arith, octets, fits, more))) (le-leb _ _ (omega (arith, fields, few, longer)))
+    none_if (is_kept d.rec) _ (passes (nat_le (kept_octets before + length d.octets) limits.octets) _ _ (le-leb _ _ (omega (arith, octets, fits, more)))
+    (passes (nat_le (length (kept before) + 1) limits.fields) _ _ (le-leb _ _ (omega (arith, fields, few, longer))) refl))
 
 pub added : HeadsDieWithTheirFault → ValuesDieWithTheirFault → DatasetsOfEnvelopesAreAdded
 added heads values limits before ds d e within =
     let sections = sections_of (before ++ d ∷ ds) e in
     let each = all_takeable (before ++ d ∷ ds) e in
-    let this : IsTakeable d = (back before (d ∷ ds) each).0 in
+    let this : IsTakeable d = (all_back IsTakeable before (d ∷ ds) each).0 in
     let parts : (before ++ d ∷ []) ++ ds ≡ before ++ d ∷ ds = append_assoc before (d ∷ []) ds in
     let more : AreSections (((before ++ d ∷ []) ++ ds) ++ object_records) = subst (λ (l : List Dataset). AreSections (l ++ object_records)) (sym parts) sections in
     let alive : SectionsLive before = (d ∷ ds ++ object_records, subst AreSections (append_assoc before (d ∷ ds) object_records) sections) in
     let alive_more : SectionsLive (before ++ d ∷ []) = (ds ++ object_records, subst AreSections (append_assoc (before ++ d ∷ []) ds object_records) more) in
     let at : SectionsLiveAt before (head_of d) = (d, refl, alive_more) in
-    none_at_all (is_kept d.rec) (fault_on (head_of d) RecordOrder) (record_fault before (head_of d)) (limits_fault limits before (head_of d)) (value_fault d)
-    this.is_kept ((heads before (head_of d) alive).1 at).0 (has_room limits before ds d (all_kept before (front before (d ∷ ds) each)) within)
-    ((values before d at this.octets).1 alive_more)
+    let head : record_fault before (head_of d) ≡ None = ((heads before (head_of d) alive).1 at).0 in
+    let room : limits_fault limits before (head_of d) ≡ None = has_room limits before ds d (all_kept before (all_front IsTakeable before (d ∷ ds) each)) within in
+    let value : value_fault d ≡ None = (values before d at this.octets).1 alive_more in
+    passes (is_kept d.rec) (fault_on (head_of d) RecordOrder) _ this.is_kept (λ i. option_or (option_or (head i) (room i)) (value i))
 
 -- ---- within the limits
 
-both_hold : (a b : Bool) (f g : FieldCause) → cond (not a) (Some f) (cond (not b) (Some g) None) ≡ None → (a ≡ true) × (b ≡ true)
-both_hold true true f g h = (refl, refl)
-both_hold true false f g h = absurd cc
-both_hold false b f g h = absurd cc
-
 pub within_of : (limits : Limits) (ds : List Dataset) → passed_by limits ds ≡ None → IsWithin limits (length (joined ds)) (length ds)
 within_of limits ds none =
-    let held = both_hold (nat_le (length (joined ds)) limits.octets) (nat_le (length ds) limits.fields) HeaderFull TooManyFields none in
-    record { octets_in = leb-true (length (joined ds)) limits.octets held.0; fields_in = leb-true (length ds) limits.fields held.1 }
+    let octets = passed (nat_le (length (joined ds)) limits.octets) HeaderFull _ none in
+    let fields = passed (nat_le (length ds) limits.fields) TooManyFields _ octets.1 in
+    record { octets_in = leb-true (length (joined ds)) limits.octets octets.0; fields_in = leb-true (length ds) limits.fields fields.0 }
 
 -- the next dataset of an envelope is taken
 pub takes : {T : Type 0} → DatasetsOfEnvelopesAreAdded → (limits under : Limits) (all done rest : List Dataset) (d : Dataset) (result : Result T FieldFault) → IsEnvelope all → passed_by limits all ≡ None

@@ -1,9 +1,9 @@
 -- The record layer dies exactly with a fault.
-use Rattle.std.proofs.Common.{◌≡◌, ℕ, ◌+◌, ◌⊎◌, Bool, true, false, not, ◌&&◌, ◌||◌, cond, if◌then◌else◌, nat_eq, List, [], ◌∷◌, ◌++◌, length, refl, ap, sym, ◌∙◌, inl, inr, arith, subst, append_assoc, Option, Some, None}
+use Rattle.std.proofs.Common.{◌≡◌, ℕ, ◌+◌, ◌⊎◌, Bool, true, false, not, ◌&&◌, cond, if◌then◌else◌, nat_eq, List, [], ◌∷◌, ◌++◌, length, refl, ap, sym, ◌∙◌, inl, inr, arith, subst, append_assoc, Option, Some, None}
 use Rattle.std.specs.Prelude.{IsSomeAnd, IsTrue}
 use Rattle.std.specs.List.{AllByRecursion, find}
 use Rattle.std.specs.Option.{option_or}
-use Rattle.std.proofs.lemmas.Bool.{and_parts, and_from, or_cases, eqb-true}
+use Rattle.std.proofs.lemmas.Bool.{and_parts, and_from, or_cases, eqb-true, or_right, or_left, and_right, and_left}
 use Rattle.std.proofs.lemmas.Bool.Decides.{eqb_tells}
 use Rattle.iim_dataset.specs.Format.Octets.{IsOctet, Octets, within}
 use Rattle.iim_dataset.specs.Format.Datasets.{Dataset, head_of}
@@ -12,11 +12,13 @@ use Rattle.iim_tables.specs.Format.Kinds.{has_kind}
 use Rattle.iim_tables.specs.Format.Rows.{row_of, is_admitted}
 use Rattle.iim_tables.specs.declared.shape.Row.{Row}
 use Rattle.iim_fields.specs.Format.Records.{after, AreSections}
-use Rattle.iim_tables.specs.Format.Records.{mandatory, repeats, may_repeat, occurs, occurrences, has_file_format, IsGoodDataset, IsGoodRecord}
+use Rattle.iim_tables.specs.Format.Records.{mandatory, repeats, occurs, occurrences, has_file_format, IsGoodDataset, IsGoodRecord}
 use Rattle.iim_fields.specs.Format.Alive.{SectionsLive, SectionsLiveAt}
 use Rattle.iim_fields.specs.Format.Faults.{section_after, section_run, is_first, is_in_order, fault_on, row_fault, missing_fault, missing_of, head_fault, record_fault, fault_by_row, value_fault}
 use Rattle.iim_fields.specs.declared.fault.FieldFault.{FieldFault}
 use Rattle.iim_fields.specs.declared.fault.FieldCause.TheVariants.{RecordOrder, BadValue, FileFormat}
+use Rattle.iim_tables.proofs.GoodDatasets.{repeats_as, meets_as}
+use Rattle.iim_fields.proofs.Tested.{passed, passes}
 use Rattle.iim_fields.proofs.Table.{EachRowHasValues, after_tail, not_after_itself, no_row, value_for}
 use Rattle.iim_fields.proofs.Runs.{IsPart, part_front, part_of, part_more, no_part, part_completes, records_to_come, MayCome, occurrences_append, some_counts, eq_itself}
 use Rattle.iim_fields.proofs.Follows.{From, Follows, IsSame, IsNext, from_cons, same_from, next_from, alive_follows}
@@ -89,22 +91,14 @@ no_fault_built present has h f = built_by present has h (is_in_order present h.r
 
 -- ---- what is missing
 
-found_none : (b : Bool) (n : ℕ) (rest : Option ℕ) → (cond (not b) (Some n) rest) ≡ None → (b ≡ true) × (rest ≡ None)
-found_none true n rest h = (refl, h)
-found_none false n rest h = absurd cc
-
 pub none_missing : (has : ℕ → Bool) (ns : List ℕ) → find (λ n. not (has n)) ns ≡ None → AllByRecursion (λ n. has n ≡ true) ns
 none_missing has [] h = tt
 none_missing has (n ∷ ns) h =
-    let parts = found_none (has n) n (find (λ m. not (has m)) ns) h in (parts.0, none_missing has ns parts.1)
-
-passed_over : (b : Bool) (n : ℕ) (rest : Option ℕ) → b ≡ true → rest ≡ None → (cond (not b) (Some n) rest) ≡ None
-passed_over true n rest h k = k
-passed_over false n rest h k = absurd cc
+    let parts = passed (has n) n (find (λ m. not (has m)) ns) h in (parts.0, none_missing has ns parts.1)
 
 pub all_there : (has : ℕ → Bool) (ns : List ℕ) → AllByRecursion (λ n. has n ≡ true) ns → find (λ n. not (has n)) ns ≡ None
 all_there has [] h = refl
-all_there has (n ∷ ns) h = passed_over (has n) n (find (λ m. not (has m)) ns) h.0 (all_there has ns h.1)
+all_there has (n ∷ ns) h = passes (has n) n (find (λ m. not (has m)) ns) h.0 (all_there has ns h.1)
 
 -- ---- the order
 
@@ -127,14 +121,6 @@ in_order_cases present r h = elim (or_cases (nat_eq r present && not (nat_eq r 0
 is_first_of : (present r : ℕ) → after present ≡ r ∷ after r → is_first r (after present) ≡ true
 is_first_of present r e = ap (is_first r) e ∙ eq_itself r
 
-or_last : (a b : Bool) → b ≡ true → (a || b) ≡ true
-or_last true b h = refl
-or_last false b h = h
-
-or_first : (a b : Bool) → a ≡ true → (a || b) ≡ true
-or_first true b h = refl
-or_first false b h = absurd cc
-
 -- ---- no fault where the layer is alive
 
 -- the row that good data meet
@@ -149,14 +135,6 @@ and_not : (a b : Bool) → (b ≡ false → a ≡ false) → (a && not b) ≡ fa
 and_not true true h = refl
 and_not true false h = h refl
 and_not false b h = refl
-
-and_right : (a b : Bool) → b ≡ false → (a && b) ≡ false
-and_right true b h = h
-and_right false b h = refl
-
-and_left : (a b : Bool) → a ≡ false → (a && b) ≡ false
-and_left true b h = absurd cc
-and_left false b h = refl
 
 not_one_more : (b : Bool) (n : ℕ) (xs : List Dataset) → occurs n xs ≡ b → occurrences n xs ≡ 0 → b ≡ false
 not_one_more true n xs is none = let some = some_counts n xs is in absurd (omega arith)
@@ -193,12 +171,12 @@ same_no_fault ds d more s good =
     let present : ℕ = section_after ds in
     let is : nat_eq d.rec present ≡ true = subst (λ (q : ℕ). nat_eq d.rec q ≡ true) s.same (eq_itself d.rec) in
     record {
-      order = or_first (nat_eq d.rec present && not (nat_eq d.rec 0)) (is_first d.rec (after present))
+      order = or_left (nat_eq d.rec present && not (nat_eq d.rec 0)) (is_first d.rec (after present))
           (and_from (nat_eq d.rec present) (not (nat_eq d.rec 0)) is (ap not (zero_has_none d m.0 m.1)));
       row = m.0;
       known = m.1;
       once = and_not (nat_eq d.rec present && occurs d.set (section_run ds)) m.0.repeats (λ single.
-          let alone : repeats present d.set ≡ false = ap (λ (q : ℕ). repeats q d.set) (sym s.same) ∙ (ap may_repeat m.1 ∙ single) in
+          let alone : repeats present d.set ≡ false = ap (λ (q : ℕ). repeats q d.set) (sym s.same) ∙ (repeats_as d.rec d.set (Some m.0) m.1 ∙ single) in
           and_right (nat_eq d.rec present) (occurs d.set (section_run ds)) (not_before present (section_run ds) d s.run s.good alone));
       fits = m.2;
       whole = λ first. absurd (not_after_itself present d.rec (after d.rec) (next_is present d.rec first) (sym s.same));
@@ -213,7 +191,7 @@ next_no_fault ds d more n good =
       | inr other ↦ other.0
     ] in
     record {
-      order = or_last (nat_eq d.rec present && not (nat_eq d.rec 0)) (is_first d.rec (after present)) (is_first_of present d.rec n.next);
+      order = or_right (nat_eq d.rec present && not (nat_eq d.rec 0)) (is_first d.rec (after present)) (is_first_of present d.rec n.next);
       row = m.0;
       known = m.1;
       once = and_left (nat_eq d.rec present && occurs d.set (section_run ds)) (not m.0.repeats) (and_left (nat_eq d.rec present) (occurs d.set (section_run ds)) differ);
@@ -240,9 +218,6 @@ may_come r xs d a true rep occ h = inl rep
 may_come r xs d true false rep occ h = absurd cc
 may_come r xs d false false rep occ h = inr occ
 
-may_repeat_of : (r n : ℕ) (row : Row) → row_of r n ≡ Some row → repeats r n ≡ row.repeats
-may_repeat_of r n row e = ap may_repeat e
-
 alive_from : (ds : List Dataset) (d : Dataset) (more : List Dataset) → Follows ds → From ds (d ∷ more) → SectionsLive (ds ++ d ∷ [])
 alive_from ds d more follows from = (more, subst AreSections (sym (append_assoc ds (d ∷ []) more)) (follows.comes (d ∷ more) from))
 
@@ -254,7 +229,7 @@ same_alive values ds d follows part good f same =
     let once : (occurs d.set (section_run ds) && not f.row.repeats) ≡ false =
     sym (ap (λ (b : Bool). (b && occurs d.set (section_run ds)) && not f.row.repeats) is) ∙ f.once in
     let known : row_of present d.set ≡ Some f.row = subst (λ (q : ℕ). row_of q d.set ≡ Some f.row) same f.known in
-    let may = may_come present (section_run ds) d (occurs d.set (section_run ds)) f.row.repeats (may_repeat_of present d.set f.row known) refl once in
+    let may = may_come present (section_run ds) d (occurs d.set (section_run ds)) f.row.repeats (repeats_as present d.set (Some f.row) known) refl once in
     let done = part_completes values present (section_run ds ++ d ∷ []) (part_more present (section_run ds) d part same good may) in
     let later = records_to_come values (after present) in
     alive_from ds d (done.0 ++ later.0) follows (same_from ds d (done.0 ++ later.0) (record {
@@ -317,18 +292,15 @@ head_octet ds h (d, is, alive) = subst (λ (k : Head). IsOctet k.set) is (good_n
 
 value_parts : (o : Option Row) (d : Dataset) → IsOctet d.set → row_of d.rec d.set ≡ o → Octets d.octets → fault_by_row o d ≡ None → IsGoodDataset d
 value_parts None d small known octets none = absurd cc
-value_parts (Some row) d small known octets none = value_tests (is_admitted row d.octets) (has_file_format d) row d small refl refl known octets none
-  where
-    value_tests : (a b : Bool) (row : Row) (d : Dataset) → IsOctet d.set → is_admitted row d.octets ≡ a → has_file_format d ≡ b → row_of d.rec d.set ≡ Some row → Octets d.octets
-        → (if not a then Some (fault_on (head_of d) BadValue) else if not b then Some (fault_on (head_of d) FileFormat) else None) ≡ None → IsGoodDataset d
-    value_tests true true row d small admitted format known octets none = record {
+value_parts (Some row) d small known octets none =
+    let admitted = passed (is_admitted row d.octets) (fault_on (head_of d) BadValue) _ none in
+    let format = passed (has_file_format d) (fault_on (head_of d) FileFormat) _ admitted.1 in
+    record {
       numbered = small;
       octets = octets;
-      meets = subst (λ (o : Option Row). IsSomeAnd o (λ r. IsTrue (is_admitted r d.octets))) (sym known) admitted;
-      file_format = format;
+      meets = meets_as d.rec d.set row d.octets known admitted.0;
+      file_format = format.0;
     }
-    value_tests true false row d small admitted format known octets none = absurd cc
-    value_tests false b row d small admitted format known octets none = absurd cc
 
 pub value_good : (d : Dataset) → IsOctet d.set → Octets d.octets → value_fault d ≡ None → IsGoodDataset d
 value_good d small octets none = value_parts (row_of d.rec d.set) d small refl octets none
@@ -338,12 +310,7 @@ value_built None d row known admitted format = absurd cc
 value_built (Some own) d row known admitted format =
     let same : row ≡ own = cc in
     let holds : is_admitted own d.octets ≡ true = subst (λ (r : Row). is_admitted r d.octets ≡ true) same admitted in
-    value_tests (is_admitted own d.octets) (has_file_format d) _ _ holds format
-  where
-    value_tests : (a b : Bool) (f g : FieldFault) → a ≡ true → b ≡ true → (if not a then Some f else if not b then Some g else None) ≡ None
-    value_tests true true f g h k = refl
-    value_tests true false f g h k = absurd cc
-    value_tests false b f g h k = absurd cc
+    passes (is_admitted own d.octets) _ _ holds (passes (has_file_format d) _ _ format refl)
 
 pub good_value : (d : Dataset) → IsGoodDataset d → value_fault d ≡ None
 good_value d good = let m = meets_row (row_of d.rec d.set) d.octets good.meets in value_built (row_of d.rec d.set) d m.0 m.1 m.3 good.file_format

@@ -1,14 +1,14 @@
 -- Where the datasets of an envelope end.
 use Rattle.std.proofs.Common.{◌≡◌, ℕ, ◌+◌, ◌<◌, ◌≤◌, false, cond, nat_eq, List, [], ◌∷◌, ◌++◌, length, refl, ap, sym, ◌∙◌, inl, inr, arith, subst, append-nil, length-append}
-use Rattle.std.specs.Prelude.{IsSomeAnd, IsTrue, Option, None}
+use Rattle.std.specs.Prelude.{None}
 use Rattle.std.specs.List.{AllByRecursion}
 use Rattle.std.proofs.lemmas.Bool.Decides.{eqb_tells}
 use Rattle.iim_dataset.specs.Format.Datasets.{Dataset, of_record}
-use Rattle.iim_tables.specs.Format.Rows.{table, row_of, is_admitted}
-use Rattle.iim_tables.specs.declared.shape.Row.{Row}
+use Rattle.iim_tables.specs.Format.Rows.{table, row_of}
 use Rattle.iim_fields.specs.Format.Alive.{SectionsLive}
 use Rattle.iim_fields.specs.Format.Records.{after, AreRecords, AreSections}
 use Rattle.iim_tables.specs.Format.Records.{repeats, occurrences, IsGoodDataset, IsGoodRecord}
+use Rattle.iim_tables.proofs.GoodDatasets.{none_meets}
 use Rattle.iim_fields.specs.Format.Faults.{last_record, section_after}
 use Rattle.iim_fields.specs.Laws.Records.{EnvelopesEndWithTheLastRecord, NoSectionsBeginOthers}
 use Rattle.iim_fields.proofs.Table.{mandatory_is}
@@ -30,7 +30,7 @@ is_ten d last good = elim (eqb_tells 10 d.set) [
   | inl same ↦ sym same.1
   | inr other ↦
       let none : row_of d.rec d.set ≡ None = ap (λ (r : ℕ). row_of r d.set) last ∙ no_row_but_ten d.set other.0 in
-      absurd (subst (λ (o : Option Row). IsSomeAnd o (λ r. IsTrue (is_admitted r d.octets))) none good.meets)
+      absurd (none_meets d.rec d.set d.octets none good.meets)
 ]
 
 all_ten : (ds : List Dataset) → AllByRecursion (λ d. (d.rec ≡ 9) × IsGoodDataset d) ds → occurrences 10 ds ≡ length ds

@@ -2,16 +2,17 @@
 use Rattle.std.proofs.Common.{◌≡◌, ℕ, ◌⊎◌, Bool, true, false, ◌||◌, cond, nat_eq, List, [], ◌∷◌, ◌++◌, refl, ap, sym, ◌∙◌, inl, inr, arith, subst, append_assoc, append-nil}
 use Rattle.std.specs.List.{AllByRecursion, list_any}
 use Rattle.std.proofs.lemmas.List.Elements.{filter-append}
+use Rattle.std.proofs.lemmas.Bool.{or_right}
 use Rattle.std.proofs.lemmas.Bool.Decides.{eqb_tells}
 use Rattle.iim_dataset.specs.Format.Datasets.{Dataset, of_record}
-use Rattle.std.specs.Prelude.{IsSomeAnd, IsTrue, Option, None}
-use Rattle.iim_tables.specs.Format.Rows.{row_of, is_admitted, table}
-use Rattle.iim_tables.specs.declared.shape.Row.{Row}
+use Rattle.std.specs.Prelude.{None}
+use Rattle.iim_tables.specs.Format.Rows.{row_of, table}
 use Rattle.iim_fields.specs.Format.Records.{after, records, AreRecords, AreSections}
 use Rattle.iim_tables.specs.Format.Records.{IsGoodDataset, IsGoodRecord}
+use Rattle.iim_tables.proofs.GoodDatasets.{none_meets}
 use Rattle.iim_fields.specs.Format.Alive.{SectionsLive}
 use Rattle.iim_fields.specs.Format.Faults.{last_record, section_after, section_run}
-use Rattle.iim_fields.proofs.Table.{after_tail, no_row}
+use Rattle.iim_fields.proofs.Table.{after_tail, by_record, no_row}
 use Rattle.iim_fields.proofs.Runs.{not_empty, eq_itself}
 
 -- the rest of the present record after its run so far, and then the records after it
@@ -170,33 +171,16 @@ retreat ds d old more follows before f =
 
 -- no record comes after itself
 not_coming_itself : (r : ℕ) → is_coming r r ≡ false
-not_coming_itself r =
-    let P : ℕ → Type 0 = λ m. is_coming m m ≡ false in
-    elim (eqb_tells r 0) [
-      | inl is ↦ subst P (sym is.1) refl
-      | inr not0 ↦ elim (eqb_tells r 1) [
-        | inl is ↦ subst P (sym is.1) refl
-        | inr not1 ↦ elim (eqb_tells r 2) [
-          | inl is ↦ subst P (sym is.1) refl
-          | inr not2 ↦ elim (eqb_tells r 7) [
-            | inl is ↦ subst P (sym is.1) refl
-            | inr not7 ↦ elim (eqb_tells r 8) [
-              | inl is ↦ subst P (sym is.1) refl
-              | inr not8 ↦ rw (not0.0, not1.0, not2.0, not7.0, not8.0) refl
-            ]
-          ]
-        ]
-      ]
-    ]
-
-or_true : (b : Bool) → (b || true) ≡ true
-or_true true = refl
-or_true false = refl
+not_coming_itself r = elim (eqb_tells r 0) [
+  | inl is ↦ subst (λ (m : ℕ). is_coming m m ≡ false) (sym is.1) refl
+  | inr not0 ↦ by_record (λ m. is_coming m m ≡ false) r refl refl refl refl refl
+      (λ not1 not2 not7 not8 not9. rw (not0.0, not1, not2, not7, not8, not9) refl)
+]
 
 -- a record that comes after the dataset came before it
 still_coming : (ds : List Dataset) (d : Dataset) (more : List Dataset) (r : ℕ) → IsSame ds d more ⊎ IsNext ds d more → is_coming d.rec r ≡ true → is_coming (section_after ds) r ≡ true
 still_coming ds d more r (inl s) coming = ap (λ (m : ℕ). is_coming m r) (sym s.same) ∙ coming
-still_coming ds d more r (inr n) coming = ap (list_any (λ x. nat_eq x r)) n.next ∙ (ap (λ b. nat_eq d.rec r || b) coming ∙ or_true (nat_eq d.rec r))
+still_coming ds d more r (inr n) coming = ap (list_any (λ x. nat_eq x r)) n.next ∙ (ap (λ b. nat_eq d.rec r || b) coming ∙ or_right (nat_eq d.rec r) true refl)
 
 another : (d : Dataset) (r : ℕ) → is_coming d.rec r ≡ true → of_record r (d ∷ []) ≡ []
 another d r coming = elim (eqb_tells d.rec r) [
@@ -223,7 +207,7 @@ empty_run (d ∷ run) good =
     let known = good.each.0 in
     let meets = known.1.meets in
     let none : row_of d.rec d.set ≡ None = ap (λ (r : ℕ). row_of r d.set) known.0 ∙ no_row d.set in
-    absurd (subst (λ (o : Option Row). IsSomeAnd o (λ r. IsTrue (is_admitted r d.octets))) none meets)
+    absurd (none_meets d.rec d.set d.octets none meets)
 
 start_good : IsGoodRecord 0 []
 unfolding table

@@ -1,5 +1,5 @@
 -- When a reader of records hands over an envelope.
-use Rattle.std.proofs.Common.{◌≡◌, ℕ, List, [], length, ap, sym, ◌∙◌, arith, subst, Option, Some, None}
+use Rattle.std.proofs.Common.{◌≡◌, ℕ, List, [], length, ap, sym, ◌∙◌, arith, subst, Option, None}
 use Rattle.iim_dataset.specs.Format.Datasets.{Dataset}
 use Rattle.iim_fields.specs.Format.Records.{AreSections}
 use Rattle.iim_fields.specs.Format.Faults.{kept, joined, section_after}
@@ -11,15 +11,11 @@ use Rattle.iim_fields.specs.Reading.{IsReading, place_of}
 use Rattle.iim_fields.specs.declared.limits.Limits.{Limits}
 use Rattle.iim_fields.specs.declared.order.Order.{Order}
 use Rattle.iim_fields.specs.declared.store.Store.{Store}
-use Rattle.iim_fields.specs.declared.check.Begun.{Begun}
 use Rattle.iim_fields.specs.declared.check.RecordPlace.{RecordPlace}
-use Rattle.iim_fields.proofs.Checking.{same_place}
 use Rattle.iim_fields.proofs.Stand.{between_after, holds_after}
 use Rattle.iim_fields.proofs.Endings.{sections_end, whole_after_nine}
 use Rattle.iim_fields.proofs.Finish.{kept_of_sections}
-
-same_order : (check : Option RecordPlace) (o p : Order) (a b : Option Begun) → check ≡ Some (record { order = o; begun = a }) → check ≡ Some (record { order = p; begun = b }) → o ≡ p
-same_order check o p a b e f = ap (λ (p : RecordPlace). p.order) (same_place (record { order = o; begun = a }) (record { order = p; begun = b }) (sym e ∙ f))
+use Rattle.iim_fields.proofs.Checking.{same_order}
 
 pub whole_where_ended : (check : Option RecordPlace) (ds : List Dataset) → HasEnded check → HasChecked check ds → AreSections ds
 whole_where_ended check ds ended s =

@@ -1,4 +1,5 @@
 pub mod NumberSets
+pub mod Tested
 pub mod Handed
 pub mod Entries
 pub mod Table

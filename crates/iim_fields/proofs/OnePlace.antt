@@ -1,15 +1,14 @@
 -- Datasets lead a check to one place.
-use Rattle.std.proofs.Common.{◌≡◌, List, [], ◌∷◌, ◌++◌, ap, sym, ◌∙◌, Option, Some, None}
+use Rattle.std.proofs.Common.{◌≡◌, List, [], ◌∷◌, ◌++◌, sym, ◌∙◌, Option, Some, None}
 use Rattle.iim_dataset.specs.Format.Datasets.{Dataset, head_of}
 use Rattle.iim_dataset.specs.declared.head.Head.{Head}
 use Rattle.iim_fields.specs.States.Orders.{IsOrderOf}
 use Rattle.iim_fields.specs.States.Checks.{AwaitsHead, HasChecked, IsChecking}
 use Rattle.iim_fields.specs.Laws.Records.{DatasetsLeadToOnePlace}
 use Rattle.iim_fields.specs.declared.order.Order.{Order}
-use Rattle.iim_fields.specs.declared.check.Begun.{Begun}
 use Rattle.iim_fields.specs.declared.check.RecordPlace.{RecordPlace}
 use Rattle.iim_fields.proofs.NumberSets.{same_members}
-use Rattle.iim_fields.proofs.Checking.{same_place}
+use Rattle.iim_fields.proofs.Checking.{same_order}
 
 -- one order tells of datasets
 one_order : (o p : Order) (ds : List Dataset) → IsOrderOf o ds → IsOrderOf p ds → o ≡ p
@@ -18,12 +17,9 @@ one_order o p ds s t =
     let rec_is : o.rec ≡ p.rec = s.present ∙ sym t.present in
     λ i. record { rec = rec_is i; seen = seen i }
 
-order_of : (check : Option RecordPlace) (o p : Order) (a b : Option Begun) → check ≡ Some (record { order = o; begun = a }) → check ≡ Some (record { order = p; begun = b }) → o ≡ p
-order_of check o p a b e f = ap (λ (p : RecordPlace). p.order) (same_place (record { order = o; begun = a }) (record { order = p; begun = b }) (sym e ∙ f))
-
 between_one : (a b : Option RecordPlace) (ds : List Dataset) → AwaitsHead a → AwaitsHead b → HasChecked a ds → HasChecked b ds → a ≡ b
 between_one a b ds i j s t =
-    let same : i.order ≡ j.order = order_of a i.order s.order None s.begun i.between s.at ∙ (one_order s.order t.order ds s.tells t.tells ∙ sym (order_of b j.order t.order None t.begun j.between t.at)) in
+    let same : i.order ≡ j.order = same_order a i.order s.order None s.begun i.between s.at ∙ (one_order s.order t.order ds s.tells t.tells ∙ sym (same_order b j.order t.order None t.begun j.between t.at)) in
     i.between ∙ ((λ k. Some (record { order = same k; begun = None })) ∙ sym j.between)
 
 checking_one : (a b : Option RecordPlace) (ds : List Dataset) (h : Head) → IsChecking a ds h → IsChecking b ds h → a ≡ b

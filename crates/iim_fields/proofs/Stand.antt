@@ -10,6 +10,7 @@ use Rattle.std.proofs.lemmas.Bool.Decides.{eqb_tells}
 use Rattle.iim_dataset.specs.Format.Octets.{Octets}
 use Rattle.iim_dataset.specs.Format.Datasets.{Dataset, head_of}
 use Rattle.iim_dataset.specs.declared.head.Head.{Head}
+use Rattle.iim_dataset.proofs.OctetLists.{octets_append}
 use Rattle.iim_tables.specs.Format.Numbers.{size_octets}
 use Rattle.iim_tables.specs.Format.Records.{occurs}
 use Rattle.iim_fields.specs.Format.Alive.{SectionsLiveAt}
@@ -31,7 +32,7 @@ use Rattle.iim_fields.proofs.Table.{EachRowHasValues, size_row, kept_or_tells}
 use Rattle.iim_fields.proofs.Follows.{present_more}
 use Rattle.iim_fields.proofs.Telling.{head_fault_told}
 use Rattle.iim_fields.proofs.Dies.{head_no_fault}
-use Rattle.iim_fields.proofs.Checking.{one_begun, some_data, octets_of, octets_append, count_fits}
+use Rattle.iim_fields.proofs.Checking.{one_begun, some_data, octets_of, count_fits}
 
 -- ---- the limits
 

@@ -30,7 +30,7 @@ use Rattle.iim_fields.specs.declared.check.Begun.{Begun}
 use Rattle.iim_fields.specs.declared.check.RecordPlace.{RecordPlace}
 use Rattle.iim_fields.proofs.Table.{EachRowHasValues}
 use Rattle.iim_fields.proofs.Dies.{no_fault_parts}
-use Rattle.iim_fields.proofs.Checking.{taken_by, not_both, order_at, record_fault_is, same_place, some_data}
+use Rattle.iim_fields.proofs.Checking.{taken_by, not_both, order_at, record_fault_is, some_data, none_begun}
 use Rattle.iim_fields.proofs.Stand.{between_after, stands_in, head_in, closed_subfile, reading_passed}
 use Rattle.iim_fields.proofs.Wholes.{no_limit, none_where}
 
@@ -94,7 +94,10 @@ elsewhere p not8 not7 = elim (eqb_tells p 0) [
     | inl is ↦ rw (not0.0, is.0) refl
     | inr not1 ↦ elim (eqb_tells p 2) [
       | inl is ↦ rw (not0.0, not1.0, is.0) refl
-      | inr not2 ↦ rw (not0.0, not1.0, not2.0, not7, not8) refl
+      | inr not2 ↦ elim (eqb_tells p 9) [
+        | inl is ↦ rw (not0.0, not1.0, not2.0, not7, not8, is.0) refl
+        | inr not9 ↦ rw (not0.0, not1.0, not2.0, not7, not8, not9.0) refl
+      ]
     ]
   ]
 ]
@@ -130,10 +133,6 @@ subfile_admitted p has h eight = admitted_at p has h.set h.count ∙ (λ i. is_n
 
 -- ---- the check
 
--- nothing is begun
-none_in : (place : RecordPlace) → checks.AwaitsHead (Some place) → place.begun ≡ None
-none_in place b = ap (λ (p : RecordPlace). p.begun) (same_place place (record { order = b.order; begun = None }) b.between)
-
 pub takes_subfile_by : (old new : RecordPlace) (h : Head) → is_none (head_fault old.order.rec (has_seen old.order) h) ≡ true → AddsHead old.order h new.order → new.begun ≡ old.begun → TakesSubfile old h new
 takes_subfile_by old new h fine adds begun =
     let none = none_where _ fine in
@@ -144,7 +143,7 @@ pub subfile_took : EachRowHasValues → (old new : RecordPlace) (h : Head) → h
 subfile_took values old new h small between t =
     let begun : Begun = record { head = h; row = t.row } in
     let mid : RecordPlace = record { order = new.order; begun = Some begun } in
-    let none : new.begun ≡ None = t.begun ∙ none_in old between in
+    let none : new.begun ≡ None = t.begun ∙ none_begun old between in
     record {
       mid = Some mid;
       inside = record { order = new.order; row = t.row; inside = refl; known = t.known };
@@ -156,7 +155,7 @@ subfile_took values old new h small between t =
 
 pub between_subfile : (old new : RecordPlace) (h : Head) → checks.AwaitsHead (Some old) → TakesSubfile old h new → checks.AwaitsHead (Some new)
 between_subfile old new h b t =
-    let none : new.begun ≡ None = t.begun ∙ none_in old b in
+    let none : new.begun ≡ None = t.begun ∙ none_begun old b in
     record { order = new.order; between = λ i. Some (record { order = new.order; begun = none i }) }
 
 pub subfile_exactly : (old : RecordPlace) (h : Head) (b : Bool) → b ≡ is_none (head_fault old.order.rec (has_seen old.order) h) → (ds : List Dataset) → HasChecked (Some old) ds → b ≡ is_none (record_fault ds h)

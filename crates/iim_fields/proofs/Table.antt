@@ -1,13 +1,12 @@
 -- What the table says of the records of an envelope.
-use Rattle.std.proofs.Common.{◌≡◌, ◌≢◌, ℕ, ◌<◌, ◌≤◌, ◌⊎◌, Bool, true, false, not, ◌&&◌, ◌||◌, cond, nat_eq, nat_le, List, [], ◌∷◌, length, map, Option, Some, None, refl, ap, sym, ◌∙◌, inl, inr, arith, subst}
+use Rattle.std.proofs.Common.{◌≡◌, ◌≢◌, ℕ, ◌<◌, ◌≤◌, ◌⊎◌, Bool, true, false, ◌&&◌, ◌||◌, cond, nat_eq, nat_le, List, [], ◌∷◌, length, map, Option, Some, None, refl, ap, sym, ◌∙◌, inl, inr, arith, subst}
 use Rattle.std.specs.List.{AllByRecursion, list_all, filter, find}
 use Rattle.std.specs.Option.{option_or, option_map}
 use Rattle.iim_fields.specs.Format.Faults.{is_kept, value_fault, fault_by_row, missing_fault}
 use Rattle.iim_fields.specs.OrderChanges.{no_application}
 use Rattle.iim_fields.specs.declared.fault.FieldCause.TheVariants as causes
-use Rattle.iim_fields.specs.declared.fault.FieldFault.{FieldFault}
 use Rattle.iim_tables.specs.declared.shape.Kind.TheVariants as kinds
-use Rattle.std.proofs.lemmas.Bool.{and_parts, or_cases, or_parts, leb-true, eqb-true}
+use Rattle.std.proofs.lemmas.Bool.{and_parts, or_cases, or_parts, leb-true, eqb-true, and_left, or_right}
 use Rattle.std.proofs.lemmas.Bool.Decides.{eqb_tells}
 use Rattle.iim_dataset.specs.Format.Octets.{IsOctet, within}
 use Rattle.iim_dataset.specs.Format.Datasets.{Dataset, head_of}
@@ -19,6 +18,8 @@ use Rattle.iim_tables.specs.Format.Rows.{table, row_of, row_of_others, Meets, is
 use Rattle.iim_tables.specs.Format.Records.{HasValue, mandatory, has_to_occur, IsGoodDataset}
 use Rattle.iim_tables.specs.declared.shape.Row.{Row}
 use Rattle.iim_fields.specs.Format.Records.{after}
+use Rattle.iim_tables.proofs.GoodDatasets.{good_elsewhere}
+use Rattle.iim_fields.proofs.Tested.{passed}
 
 -- the numbers that the table makes mandatory, written out
 abbrev pub mandatory_numbers : ℕ → List ℕ
@@ -49,10 +50,6 @@ all_in_five : list_all (λ e. in_five e.rec) table ≡ true
 unfolding table in_five
 all_in_five = refl
 
-and_none : (a b : Bool) → a ≡ false → (a && b) ≡ false
-and_none true b h = absurd cc
-and_none false b h = refl
-
 -- none has the record
 none_of : {E : Type 0} (rec : E → ℕ) (must : E → Bool) (r : ℕ) → in_five r ≡ false → (es : List E) → list_all (λ e. in_five (rec e)) es ≡ true
     → filter (λ e. nat_eq (rec e) r && must e) es ≡ []
@@ -64,33 +61,36 @@ none_of rec must r other (e ∷ es) all =
       | inr differ ↦ differ.0
     ] in
     let later = none_of rec must r other es parts.1 in
-    ap (λ (b : Bool). cond b (e ∷ filter (λ x. nat_eq (rec x) r && must x) es) (filter (λ x. nat_eq (rec x) r && must x) es)) (and_none (nat_eq (rec e) r) (must e) apart) ∙ later
+    ap (λ (b : Bool). cond b (e ∷ filter (λ x. nat_eq (rec x) r && must x) es) (filter (λ x. nat_eq (rec x) r && must x) es)) (and_left (nat_eq (rec e) r) (must e) apart) ∙ later
 
 mandatory_others : (r : ℕ) → in_five r ≡ false → mandatory r ≡ []
 mandatory_others r other = ap (map (λ e. e.set)) (none_of (λ e. e.rec) (λ e. has_to_occur e.row.duty) r other table all_in_five)
 
-pub mandatory_is : (r : ℕ) → mandatory r ≡ mandatory_numbers r
-unfolding table in_five
-mandatory_is r =
-    let P : ℕ → Type 0 = λ m. mandatory m ≡ mandatory_numbers m in
-    elim (eqb_tells r 1) [
-      | inl is ↦ subst P (sym is.1) refl
-      | inr not1 ↦ elim (eqb_tells r 2) [
-        | inl is ↦ subst P (sym is.1) refl
-        | inr not2 ↦ elim (eqb_tells r 7) [
-          | inl is ↦ subst P (sym is.1) refl
-          | inr not7 ↦ elim (eqb_tells r 8) [
-            | inl is ↦ subst P (sym is.1) refl
-            | inr not8 ↦ elim (eqb_tells r 9) [
-              | inl is ↦ subst P (sym is.1) refl
-              | inr not9 ↦
-                  let none : mandatory_numbers r ≡ [] = rw (not1.0, not2.0, not7.0, not8.0, not9.0) refl in
-                  mandatory_others r (rw (not1.0, not2.0, not7.0, not8.0, not9.0) refl) ∙ sym none
-            ]
-          ]
+-- what holds of each of the five records and of all others, holds of a record
+pub by_record : (P : ℕ → Type 0) (r : ℕ) → P 1 → P 2 → P 7 → P 8 → P 9
+    → (nat_eq r 1 ≡ false → nat_eq r 2 ≡ false → nat_eq r 7 ≡ false → nat_eq r 8 ≡ false → nat_eq r 9 ≡ false → P r) → P r
+by_record P r one two seven eight nine other = elim (eqb_tells r 1) [
+  | inl is ↦ subst P (sym is.1) one
+  | inr not1 ↦ elim (eqb_tells r 2) [
+    | inl is ↦ subst P (sym is.1) two
+    | inr not2 ↦ elim (eqb_tells r 7) [
+      | inl is ↦ subst P (sym is.1) seven
+      | inr not7 ↦ elim (eqb_tells r 8) [
+        | inl is ↦ subst P (sym is.1) eight
+        | inr not8 ↦ elim (eqb_tells r 9) [
+          | inl is ↦ subst P (sym is.1) nine
+          | inr not9 ↦ other not1.0 not2.0 not7.0 not8.0 not9.0
         ]
       ]
     ]
+  ]
+]
+
+pub mandatory_is : (r : ℕ) → mandatory r ≡ mandatory_numbers r
+unfolding table in_five
+mandatory_is r = by_record (λ m. mandatory m ≡ mandatory_numbers m) r refl refl refl refl refl (λ not1 not2 not7 not8 not9.
+    let none : mandatory_numbers r ≡ [] = rw (not1, not2, not7, not8, not9) refl in
+    mandatory_others r (rw (not1, not2, not7, not8, not9) refl) ∙ sym none)
 
 -- ---- the records in order
 
@@ -98,16 +98,13 @@ mandatory_is r =
 abbrev Next : List ℕ → Type 0
 Next rs = (rs ≡ []) ⊎ ((r : ℕ) × (rs ≡ r ∷ after r) × (0 < length (mandatory_numbers r)))
 
-next_either : (b : Bool) (x y : List ℕ) → Next x → Next y → Next (cond b x y)
-next_either true x y h k = h
-next_either false x y h k = k
-
 next_of : (r : ℕ) → Next (after r)
-next_of r = next_either (nat_eq r 0) _ _ (inr (1, refl, omega arith))
-    (next_either (nat_eq r 1) _ _ (inr (2, refl, omega arith))
-    (next_either (nat_eq r 2) _ _ (inr (7, refl, omega arith))
-    (next_either (nat_eq r 7) _ _ (inr (8, refl, omega arith))
-    (next_either (nat_eq r 8) _ _ (inr (9, refl, omega arith)) (inl refl)))))
+next_of r = elim (eqb_tells r 0) [
+  | inl is ↦ subst (λ (m : ℕ). Next (after m)) (sym is.1) (inr (1, refl, omega arith))
+  | inr not0 ↦ by_record (λ m. Next (after m)) r
+      (inr (2, refl, omega arith)) (inr (7, refl, omega arith)) (inr (8, refl, omega arith)) (inr (9, refl, omega arith)) (inl refl)
+      (λ not1 not2 not7 not8 not9. rw (not0.0, not1, not2, not7, not8, not9) (inl refl))
+]
 
 pub after_tail : (r s : ℕ) (rs : List ℕ) → after r ≡ s ∷ rs → (rs ≡ after s) × (0 < length (mandatory s))
 after_tail r s rs e = elim (next_of r) [
@@ -137,24 +134,9 @@ fits_least (Some row) = within row.min row.max row.min
 
 least_fit : (r : ℕ) → AllByRecursion (λ n. fits_least (row_of r n) ≡ true) (mandatory_numbers r)
 unfolding row_of table
-least_fit r =
-    let P : ℕ → Type 0 = λ m. AllByRecursion (λ n. fits_least (row_of m n) ≡ true) (mandatory_numbers m) in
-    elim (eqb_tells r 1) [
-      | inl is ↦ subst P (sym is.1) (refl, (refl, (refl, (refl, (refl, (refl, tt))))))
-      | inr not1 ↦ elim (eqb_tells r 2) [
-        | inl is ↦ subst P (sym is.1) (refl, tt)
-        | inr not2 ↦ elim (eqb_tells r 7) [
-          | inl is ↦ subst P (sym is.1) (refl, (refl, tt))
-          | inr not7 ↦ elim (eqb_tells r 8) [
-            | inl is ↦ subst P (sym is.1) (refl, tt)
-            | inr not8 ↦ elim (eqb_tells r 9) [
-              | inl is ↦ subst P (sym is.1) (refl, tt)
-              | inr not9 ↦ rw (not1.0, not2.0, not7.0, not8.0, not9.0) tt
-            ]
-          ]
-        ]
-      ]
-    ]
+least_fit r = by_record (λ m. AllByRecursion (λ n. fits_least (row_of m n) ≡ true) (mandatory_numbers m)) r
+    (refl, (refl, (refl, (refl, (refl, (refl, tt)))))) (refl, tt) (refl, (refl, tt)) (refl, tt) (refl, tt)
+    (λ not1 not2 not7 not8 not9. rw (not1, not2, not7, not8, not9) tt)
 
 -- each number of octets that a row allows is that of some that meet it
 abbrev pub EachRowHasValues : Type 0
@@ -176,18 +158,24 @@ file_format_meets : Meets 1 20 (0 ∷ 2 ∷ [])
 unfolding row_of table
 file_format_meets = refl
 
+-- a head that a row of two octets allows counts two
+two_long : (h : Head) (row : Row) → (row.min ≡ 2) × (row.max ≡ 2) → within row.min row.max h.count ≡ true → 2 ≡ h.count
+two_long h row bounds fits =
+    let parts = and_parts (nat_le row.min h.count) (nat_le h.count row.max) fits in
+    let low : row.min ≤ h.count = leb-true row.min h.count parts.0 in
+    let high : h.count ≤ row.max = leb-true h.count row.max parts.1 in omega arith
+
+-- the row of a head, where its record and number are known
+known_at : (r s : ℕ) (h : Head) (row : Row) → row_of h.rec h.set ≡ Some row → h.rec ≡ r → h.set ≡ s → row_of r s ≡ Some row
+known_at r s h row known first second = subst (λ (n : ℕ). row_of r n ≡ Some row) second (subst (λ (n : ℕ). row_of n h.set ≡ Some row) first known)
+
 -- good data for a head that its row allows
 pub value_for : EachRowHasValues → (h : Head) (row : Row) → IsOctet h.set → row_of h.rec h.set ≡ Some row → within row.min row.max h.count ≡ true
     → (d : Dataset) × (head_of d ≡ h) × IsGoodDataset d
 value_for values h row small e fits = elim (eqb_tells h.rec 1) [
   | inl first ↦ elim (eqb_tells h.set 20) [
     | inl format ↦
-        let e2 : row_of 1 20 ≡ Some row = subst (λ (s : ℕ). row_of 1 s ≡ Some row) format.1 (subst (λ (r : ℕ). row_of r h.set ≡ Some row) first.1 e) in
-        let bounds = file_format_bounds row e2 in
-        let parts = and_parts (nat_le row.min h.count) (nat_le h.count row.max) fits in
-        let low : row.min ≤ h.count = leb-true row.min h.count parts.0 in
-        let high : h.count ≤ row.max = leb-true h.count row.max parts.1 in
-        let count : 2 ≡ h.count = omega arith in (
+        let count = two_long h row (file_format_bounds row (known_at 1 20 h row e first.1 format.1)) fits in (
           record { rec = 1; set = 20; octets = 0 ∷ 2 ∷ [] },
           (λ i. record { rec = sym first.1 i; set = sym format.1 i; count = count i }),
           record { numbered = omega arith; octets = (omega arith, (omega arith, tt)); meets = file_format_meets; file_format = refl },
@@ -201,7 +189,7 @@ value_for values h row small e fits = elim (eqb_tells h.rec 1) [
   | inr other ↦ let v = values h.rec h.set h.count row e fits in (
     record { rec = h.rec; set = h.set; octets = v.0 },
     (λ i. record { rec = h.rec; set = h.set; count = v.2 i }),
-    record { numbered = small; octets = v.1; meets = v.3; file_format = rw other.0 refl },
+    good_elsewhere other.0 small v.1 v.3,
   )
 ]
 
@@ -273,8 +261,7 @@ admitted_length row xs h =
 
 pub file_format_length : (h : Head) (row : Row) (xs : List ℕ) → row_of h.rec h.set ≡ Some row → is_admitted row xs ≡ true → h.rec ≡ 1 → h.set ≡ 20 → length xs ≡ 2
 file_format_length h row xs known admitted first format =
-    let e : row_of 1 20 ≡ Some row = subst (λ (s : ℕ). row_of 1 s ≡ Some row) format (subst (λ (r : ℕ). row_of r h.set ≡ Some row) first known) in
-    let bounds = file_format_bounds row e in
+    let bounds = file_format_bounds row (known_at 1 20 h row known first format) in
     let long = admitted_length row xs admitted in omega arith
 
 -- ---- which records have rows
@@ -289,7 +276,7 @@ find_none rec set r n other (e ∷ es) all =
       | inr differ ↦ differ.0
     ] in
     let later = find_none rec set r n other es parts.1 in
-    ap (λ (b : Bool). cond b (Some e) (find (λ x. nat_eq (rec x) r && nat_eq (set x) n) es)) (and_none (nat_eq (rec e) r) (nat_eq (set e) n) apart) ∙ later
+    ap (λ (b : Bool). cond b (Some e) (find (λ x. nat_eq (rec x) r && nat_eq (set x) n) es)) (and_left (nat_eq (rec e) r) (nat_eq (set e) n) apart) ∙ later
 
 no_others : (r : ℕ) → in_five r ≡ false → row_of_others r ≡ None
 unfolding in_five
@@ -321,26 +308,18 @@ kept_or_tells r n row known not8 not_kept =
           | inl seven ↦ ap (λ (b : Bool). b || nat_eq r 9) seven
           | inr last ↦ elim (or_cases (nat_eq r 8) (nat_eq r 9) last) [
             | inl eight ↦ absurd (not8 (eqb-true r 8 eight))
-            | inr nine ↦ or_last (nat_eq r 7) (nat_eq r 9) nine
+            | inr nine ↦ or_right (nat_eq r 7) (nat_eq r 9) nine
           ]
         ]
       ]
     ]
-  where
-    or_last : (a b : Bool) → b ≡ true → (a || b) ≡ true
-    or_last true b h = refl
-    or_last false b h = h
 
 -- what is admitted of the rows of sizes is as long as a size
 pub size_length : (h : Head) (row : Row) (xs : List ℕ) → row_of h.rec h.set ≡ Some row → value_fault (data_of h xs) ≡ None → tells_number h.rec ≡ true → (1 ≤ length xs) × (length xs ≤ size_octets)
 size_length h row xs known none tells =
     let bounds = size_row h.rec h.set row tells known in
     let shown : fault_by_row (Some row) (data_of h xs) ≡ None = subst (λ (o : Option Row). fault_by_row o (data_of h xs) ≡ None) known none in
-    let long = admitted_length row xs (admitted (is_admitted row xs) _ _ shown) in (omega arith, omega arith)
-  where
-    admitted : (b : Bool) (f : FieldFault) (rest : Option FieldFault) → (cond (not b) (Some f) rest) ≡ None → b ≡ true
-    admitted true f rest h = refl
-    admitted false f rest h = absurd cc
+    let long = admitted_length row xs (passed (is_admitted row xs) _ _ shown).0 in (omega arith, omega arith)
 
 -- subfiles may have any octets
 AnyOctets : Option Row → Type 0

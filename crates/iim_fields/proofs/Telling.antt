@@ -1,9 +1,9 @@
 -- The first fault is that of the cause of the lowest number whose condition holds.
-use Rattle.std.proofs.Common.{◌≡◌, ◌≢◌, ℕ, ◌+◌, ◌<◌, ◌≤◌, ◌⊎◌, Bool, true, false, not, ◌&&◌, cond, nat_eq, nat_le, List, [], ◌∷◌, length, refl, ap, sym, ◌∙◌, inl, inr, arith, subst, Option, Some, None}
-use Rattle.std.specs.Prelude.{IsSomeAnd, IsTrue}
+use Rattle.std.proofs.Common.{◌≡◌, ◌≢◌, ℕ, ◌+◌, ◌<◌, ◌≤◌, ◌⊎◌, Bool, true, false, not, ◌&&◌, ◌||◌, cond, nat_eq, nat_le, List, [], ◌∷◌, length, refl, ap, sym, ◌∙◌, inl, inr, arith, subst, Option, Some, None}
+use Rattle.std.specs.Prelude.{IsSomeAnd}
 use Rattle.std.specs.List.{find, list_any}
 use Rattle.std.specs.Option.{option_or}
-use Rattle.std.proofs.lemmas.Bool.{and_parts, and_from, or_cases, or_left, or_parts, or_right, eqb-true, leb-true, leb-false}
+use Rattle.std.proofs.lemmas.Bool.{and_parts, and_from, or_cases, or_left, or_parts, or_right, eqb-true, leb-true, leb-false, not-true, and_cases, not-false, eqb-false, eq-eqb}
 use Rattle.std.proofs.lemmas.Bool.Decides.{eqb_tells}
 use Rattle.iim_dataset.specs.Format.Octets.{number, within}
 use Rattle.iim_dataset.specs.Format.Datasets.{Dataset, head_of}
@@ -11,7 +11,7 @@ use Rattle.iim_dataset.specs.declared.head.Head.{Head}
 use Rattle.iim_tables.specs.Format.Rows.{row_of, is_admitted}
 use Rattle.iim_tables.specs.declared.shape.Row.{Row}
 use Rattle.iim_fields.specs.Format.Records.{after}
-use Rattle.iim_tables.specs.Format.Records.{mandatory, may_repeat, occurs, is_file_format, has_file_format}
+use Rattle.iim_tables.specs.Format.Records.{mandatory, occurs, has_file_format}
 use Rattle.iim_fields.specs.Format.Faults.{section_after, section_run, is_first, is_in_order, fault_on, row_fault, missing_fault, missing_of, is_kept, kept, kept_octets, limits_fault, first_fault, value_fault, fault_by_row}
 use Rattle.iim_fields.specs.Format.Causes.{Token, IsInPresent, BeginsNext, IsOutOfOrder, HasNoRow, IsRepeated, IsOutOfRange, IsAbsent, EndsTooEarly, IsBad, IsOtherFormat, PassesOctets, PassesFields, number_of_cause, HasCause, Names, IsFault, HasNoFault}
 use Rattle.iim_fields.specs.Format.Causes.Token.{AtHead, AtValue}
@@ -20,52 +20,24 @@ use Rattle.iim_fields.specs.declared.limits.Limits.{Limits}
 use Rattle.iim_fields.specs.declared.fault.FieldFault.{FieldFault}
 use Rattle.iim_fields.specs.declared.fault.FieldCause.{FieldCause}
 use Rattle.iim_fields.specs.declared.fault.FieldCause.TheVariants.{RecordOrder, UnknownDataset, Repeated, CountRange, Missing, BadValue, FileFormat, HeaderFull, TooManyFields}
+use Rattle.iim_tables.proofs.GoodDatasets.{repeats_as, meets_as, admitted_as, none_meets}
+use Rattle.iim_fields.proofs.Tested.{passed}
 use Rattle.iim_fields.proofs.Table.{mandatory_is}
 use Rattle.iim_fields.proofs.Runs.{eq_itself}
 use Rattle.iim_fields.proofs.Dies.{next_is}
 
 -- ---- one fault at most
 
--- the cause of a number
-cause_numbered : ℕ → FieldCause
-cause_numbered n =
-    cond (nat_eq n 10) RecordOrder
-    (cond (nat_eq n 11) UnknownDataset
-    (cond (nat_eq n 12) Repeated
-    (cond (nat_eq n 13) CountRange
-    (cond (nat_eq n 14) Missing
-    (cond (nat_eq n 15) BadValue
-    (cond (nat_eq n 16) FileFormat
-    (cond (nat_eq n 50) HeaderFull TooManyFields)))))))
-
-numbered_is : (c : FieldCause) → cause_numbered (number_of_cause c) ≡ c
-unfolding cause_numbered
-numbered_is RecordOrder = refl
-numbered_is UnknownDataset = refl
-numbered_is Repeated = refl
-numbered_is CountRange = refl
-numbered_is Missing = refl
-numbered_is BadValue = refl
-numbered_is FileFormat = refl
-numbered_is HeaderFull = refl
-numbered_is TooManyFields = refl
-
--- causes of one number are one
+-- causes of one number are one: of each two
 same_cause : (c e : FieldCause) → number_of_cause c ≡ number_of_cause e → c ≡ e
-same_cause c e same = sym (numbered_is c) ∙ (ap cause_numbered same ∙ numbered_is e)
+same_cause RecordOrder RecordOrder same = refl
+same_cause one other same = grind arith
 
 one_name : (c : FieldCause) (ds : List Dataset) (t : Token) (r s q n : ℕ) → Names c ds t r s → Names c ds t q n → (r ≡ q) × (s ≡ n)
 one_name Missing ds t r s q n f g =
     let low : s ≤ n = f.2 n g.1 in
     let high : n ≤ s = g.2 s f.1 in (f.0 ∙ sym g.0, omega arith)
-one_name RecordOrder ds t r s q n f g = (f.0 ∙ sym g.0, f.1 ∙ sym g.1)
-one_name UnknownDataset ds t r s q n f g = (f.0 ∙ sym g.0, f.1 ∙ sym g.1)
-one_name Repeated ds t r s q n f g = (f.0 ∙ sym g.0, f.1 ∙ sym g.1)
-one_name CountRange ds t r s q n f g = (f.0 ∙ sym g.0, f.1 ∙ sym g.1)
-one_name BadValue ds t r s q n f g = (f.0 ∙ sym g.0, f.1 ∙ sym g.1)
-one_name FileFormat ds t r s q n f g = (f.0 ∙ sym g.0, f.1 ∙ sym g.1)
-one_name HeaderFull ds t r s q n f g = (f.0 ∙ sym g.0, f.1 ∙ sym g.1)
-one_name TooManyFields ds t r s q n f g = (f.0 ∙ sym g.0, f.1 ∙ sym g.1)
+one_name other ds t r s q n f g = (f.0 ∙ sym g.0, f.1 ∙ sym g.1)
 
 -- a number that neither is below the other of
 neither_below : (m n : ℕ) → (m < n → ⊥) → (n < m → ⊥) → m ≡ n
@@ -165,14 +137,10 @@ least_found : (has : ℕ → Bool) (low : ℕ) (ns : List ℕ) (n : ℕ) → Ris
 least_found has low [] n rise h = absurd cc
 least_found has low (x ∷ ns) n rise h = least_by has low x ns n (has x) refl rise (λ later. least_found has x ns n rise.1 later) h
 
-none_by : (b : Bool) (x : ℕ) (rest : Option ℕ) → (cond (not b) (Some x) rest) ≡ None → (b ≡ true) × (rest ≡ None)
-none_by true x rest h = (refl, h)
-none_by false x rest h = absurd cc
-
 none_absent : (has : ℕ → Bool) (ns : List ℕ) (m : ℕ) → find (λ n. not (has n)) ns ≡ None → list_any (λ k. nat_eq k m) ns ≡ true → has m ≡ true
 none_absent has [] m none some = absurd cc
 none_absent has (x ∷ ns) m none some =
-    let parts = none_by (has x) x (find (λ n. not (has n)) ns) none in
+    let parts = passed (has x) x (find (λ n. not (has n)) ns) none in
     elim (or_cases (nat_eq x m) (list_any (λ k. nat_eq k m) ns) some) [
       | inl here ↦ ap has (sym (eqb-true x m here)) ∙ parts.0
       | inr later ↦ none_absent has ns m parts.1 later
@@ -194,10 +162,9 @@ lower limits ds h k order row again range missing octets fields UnknownDataset b
 lower limits ds h k order row again range missing octets fields Repeated below holds = again below holds
 lower limits ds h k order row again range missing octets fields CountRange below holds = range below holds
 lower limits ds h k order row again range missing octets fields Missing below holds = missing below holds
-lower limits ds h k order row again range missing octets fields BadValue below holds = holds
-lower limits ds h k order row again range missing octets fields FileFormat below holds = holds
 lower limits ds h k order row again range missing octets fields HeaderFull below holds = octets below holds
 lower limits ds h k order row again range missing octets fields TooManyFields below holds = fields below holds
+lower limits ds h k order row again range missing octets fields other below holds = holds
 
 -- nothing of the record layer is wrong with the head
 record IsClear (ds : List Dataset) (h : Head) : Type 0 where
@@ -265,26 +232,18 @@ is_repeated : (ds : List Dataset) (h : Head) (row : Row) → row_of h.rec h.set 
 is_repeated ds h row known t =
     let parts = and_parts (nat_eq h.rec (section_after ds) && has_come ds h.set) (not row.repeats) t in
     let came = and_parts (nat_eq h.rec (section_after ds)) (has_come ds h.set) parts.0 in
-    (ap may_repeat known ∙ not_true row.repeats parts.1, eqb-true h.rec (section_after ds) came.0, came.1)
-  where
-    not_true : (b : Bool) → not b ≡ true → b ≡ false
-    not_true true h = absurd cc
-    not_true false h = refl
+    (repeats_as h.rec h.set (Some row) known ∙ not-true row.repeats parts.1, eqb-true h.rec (section_after ds) came.0, came.1)
 
 not_repeated : (ds : List Dataset) (h : Head) (row : Row) → row_of h.rec h.set ≡ Some row → ((nat_eq h.rec (section_after ds) && has_come ds h.set) && not row.repeats) ≡ false → IsRepeated ds h → ⊥
 not_repeated ds h row known t is =
     let same : nat_eq h.rec (section_after ds) ≡ true = ap (nat_eq h.rec) (sym is.1) ∙ eq_itself h.rec in
-    let once : not row.repeats ≡ true = ap not (sym (ap may_repeat known) ∙ is.0) in
+    let once : not row.repeats ≡ true = ap not (sym (repeats_as h.rec h.set (Some row) known) ∙ is.0) in
     let bad = and_from (nat_eq h.rec (section_after ds) && has_come ds h.set) (not row.repeats) (and_from (nat_eq h.rec (section_after ds)) (has_come ds h.set) same is.2) once in
     cc (bad, t)
 
-either_false : (a b : Bool) → (a && b) ≡ false → (a ≡ false) ⊎ (b ≡ false)
-either_false true b h = inr h
-either_false false b h = inl refl
-
 out_of_range : (h : Head) (row : Row) → row_of h.rec h.set ≡ Some row → within row.min row.max h.count ≡ false → IsOutOfRange h
 out_of_range h row known s =
-    let ends : (h.count < row.min) ⊎ (row.max < h.count) = elim (either_false (nat_le row.min h.count) (nat_le h.count row.max) s) [
+    let ends : (h.count < row.min) ⊎ (row.max < h.count) = elim (and_cases (nat_le row.min h.count) (nat_le h.count row.max) s) [
       | inl low ↦ inl (leb-false row.min h.count low)
       | inr high ↦ inr (leb-false h.count row.max high)
     ] in
@@ -340,53 +299,44 @@ head_told limits ds h = head_by limits ds h (is_in_order (section_after ds) h.re
 
 lower_value : (limits : Limits) (ds : List Dataset) (d : Dataset) (k : ℕ) → (15 < k → IsBad d → ⊥) → (16 < k → IsOtherFormat d → ⊥)
     → (c : FieldCause) → number_of_cause c < k → HasCause c limits ds (AtValue d) → ⊥
-lower_value limits ds d k bad format RecordOrder below holds = holds
-lower_value limits ds d k bad format UnknownDataset below holds = holds
-lower_value limits ds d k bad format Repeated below holds = holds
-lower_value limits ds d k bad format CountRange below holds = holds
-lower_value limits ds d k bad format Missing below holds = holds
 lower_value limits ds d k bad format BadValue below holds = bad below holds
 lower_value limits ds d k bad format FileFormat below holds = format below holds
-lower_value limits ds d k bad format HeaderFull below holds = holds
-lower_value limits ds d k bad format TooManyFields below holds = holds
+lower_value limits ds d k bad format other below holds = holds
 
-other_format : (d : Dataset) → has_file_format d ≡ false → IsOtherFormat d
-other_format d is =
-    let parts = or_parts (not (is_file_format d)) (nat_eq (number d.octets) 2) is in
-    let format = and_parts (nat_eq d.rec 1) (nat_eq d.set 20) (not_false (is_file_format d) parts.0) in
-    (eqb-true d.rec 1 format.0, eqb-true d.set 20 format.1, λ two. let yes : nat_eq (number d.octets) 2 ≡ true = ap (λ (n : ℕ). nat_eq n 2) two in let no = parts.1 in cc (yes, no))
-  where
-    not_false : (b : Bool) → not b ≡ false → b ≡ true
-    not_false true h = refl
-    not_false false h = absurd cc
+-- a dataset of which a value is asked has another
+other_value : (d : Dataset) (rec set n : ℕ) → (not (nat_eq d.rec rec && nat_eq d.set set) || nat_eq (number d.octets) n) ≡ false → (d.rec ≡ rec) × (d.set ≡ set) × (number d.octets ≢ n)
+other_value d rec set n is =
+    let parts = or_parts (not (nat_eq d.rec rec && nat_eq d.set set)) (nat_eq (number d.octets) n) is in
+    let named = and_parts (nat_eq d.rec rec) (nat_eq d.set set) (not-false (nat_eq d.rec rec && nat_eq d.set set) parts.0) in
+    (eqb-true d.rec rec named.0, eqb-true d.set set named.1, eqb-false (number d.octets) n parts.1)
 
-right_format : (d : Dataset) → has_file_format d ≡ true → IsOtherFormat d → ⊥
-right_format d is other =
-    let one : nat_eq d.rec 1 ≡ true = ap (λ (n : ℕ). nat_eq n 1) other.0 in
-    let twenty : nat_eq d.set 20 ≡ true = ap (λ (n : ℕ). nat_eq n 20) other.1 in
-    elim (or_cases (not (is_file_format d)) (nat_eq (number d.octets) 2) is) [
-      | inl another ↦ let yes : not (is_file_format d) ≡ false = ap not (and_from (nat_eq d.rec 1) (nat_eq d.set 20) one twenty) in cc (yes, another)
-      | inr two ↦ other.2 (eqb-true (number d.octets) 2 two)
-    ]
+-- or it has that value
+right_value : (d : Dataset) (rec set n : ℕ) → (not (nat_eq d.rec rec && nat_eq d.set set) || nat_eq (number d.octets) n) ≡ true → (d.rec ≡ rec) × (d.set ≡ set) × (number d.octets ≢ n) → ⊥
+right_value d rec set n is other = elim (or_cases (not (nat_eq d.rec rec && nat_eq d.set set)) (nat_eq (number d.octets) n) is) [
+  | inl another ↦
+      let yes = and_from (nat_eq d.rec rec) (nat_eq d.set set) (eq-eqb d.rec rec other.0) (eq-eqb d.set set other.1) in
+      let no = not-true (nat_eq d.rec rec && nat_eq d.set set) another in cc (yes, no)
+  | inr same ↦ other.2 (eqb-true (number d.octets) n same)
+]
 
 value_by : (limits : Limits) (ds : List Dataset) (d : Dataset) (row : Row) (a b : Bool) → row_of d.rec d.set ≡ Some row → is_admitted row d.octets ≡ a → has_file_format d ≡ b
     → Told limits ds (AtValue d) (cond (not a) (Some (fault_on (head_of d) BadValue)) (cond (not b) (Some (fault_on (head_of d) FileFormat)) None))
 value_by limits ds d row false b known admitted format = record {
-  holds = λ meets. let yes : is_admitted row d.octets ≡ true = subst (λ (o : Option Row). IsSomeAnd o (λ r. IsTrue (is_admitted r d.octets))) known meets in cc (yes, admitted);
+  holds = λ meets. let yes = admitted_as d.rec d.set row d.octets known meets in cc (yes, admitted);
   lowest = lower_value limits ds d 15 (λ below. absurd (omega arith)) (λ below. absurd (omega arith));
   names = (refl, refl);
 }
 value_by limits ds d row true false known admitted format = record {
-  holds = other_format d format;
-  lowest = lower_value limits ds d 16 (λ _ bad. bad (subst (λ (o : Option Row). IsSomeAnd o (λ r. IsTrue (is_admitted r d.octets))) (sym known) admitted)) (λ below. absurd (omega arith));
+  holds = other_value d 1 20 2 format;
+  lowest = lower_value limits ds d 16 (λ _ bad. bad (meets_as d.rec d.set row d.octets known admitted)) (λ below. absurd (omega arith));
   names = (refl, refl);
 }
 value_by limits ds d row true true known admitted format = λ c holds. lower_value limits ds d (number_of_cause c + 1)
-    (λ _ bad. bad (subst (λ (o : Option Row). IsSomeAnd o (λ r. IsTrue (is_admitted r d.octets))) (sym known) admitted)) (λ _. right_format d format) c (omega arith) holds
+    (λ _ bad. bad (meets_as d.rec d.set row d.octets known admitted)) (λ _. right_value d 1 20 2 format) c (omega arith) holds
 
 value_row : (limits : Limits) (ds : List Dataset) (d : Dataset) (o : Option Row) → row_of d.rec d.set ≡ o → Told limits ds (AtValue d) (fault_by_row o d)
 value_row limits ds d None known = record {
-  holds = λ meets. subst (λ (o : Option Row). IsSomeAnd o (λ r. IsTrue (is_admitted r d.octets))) known meets;
+  holds = none_meets d.rec d.set d.octets known;
   lowest = lower_value limits ds d 15 (λ below. absurd (omega arith)) (λ below. absurd (omega arith));
   names = (refl, refl);
 }

@@ -1,5 +1,6 @@
 -- A whole dataset, taken at once.
 use Rattle.std.proofs.Common.{◌≡◌, ◌≢◌, ℕ, ◌+◌, ◌<◌, ◌≤◌, List, [], ◌∷◌, ◌++◌, length, get_or, ◌⊎◌, refl, ap, sym, subst, ◌∙◌, inl, inr, arith, Bool, true, false, not, if◌then◌else◌, nat_le, Option, Some, None}
+use Rattle.std.proofs.lemmas.Option.{same_Some}
 use Rattle.std.specs.Prelude.{vec_len, vec_capacity, is_some, is_none}
 use Rattle.std.specs.Option.{option_or}
 use Rattle.iim_dataset.specs.Format.Datasets.{Dataset, head_of}
@@ -26,7 +27,7 @@ use Rattle.iim_fields.specs.declared.store.Store.{Store}
 use Rattle.iim_fields.specs.declared.check.Begun.{Begun}
 use Rattle.iim_fields.specs.declared.check.RecordPlace.{RecordPlace}
 use Rattle.iim_fields.proofs.Table.{EachRowHasValues}
-use Rattle.iim_fields.proofs.Checking.{taken_by, checked_value, not_both, octets_of, same_place, order_at, record_fault_is}
+use Rattle.iim_fields.proofs.Checking.{taken_by, checked_value, not_both, octets_of, order_at, record_fault_is, none_begun}
 use Rattle.iim_fields.proofs.Build.{add_fault_of}
 use Rattle.iim_fields.proofs.Stand.Kept.{Passed}
 use Rattle.iim_fields.proofs.Stand.{taken_in_size, reading_passed, holds_after, room_fault_is, between_after, stands_in, reading_begun, head_in, store_room_for, reading_stored, entry_room, taken_in_store, stands_more, kept_in_store, kept_not_object, stands_closed, reading_kept}
@@ -75,14 +76,11 @@ place_whole old new h xs between other (inr (ds, g, s)) t = absurd (not_both (So
 pub took_by : EachRowHasValues → (old new : RecordPlace) (h : Head) (xs : List ℕ) → h.set < 256 → checks.AwaitsHead (Some old) → h.count ≡ length xs → ((i : ℕ) → get_or xs i 0 < 256) → TakesWhole old h xs new
     → TookWhole (Some old) (Some new) h xs
 took_by values old new h xs small between count octets t =
-    took_whole values old new h t.row xs small t.adds (t.begun ∙ none_in old between) t.known t.no_fault count octets t.fine
-  where
-    none_in : (place : RecordPlace) → checks.AwaitsHead (Some place) → place.begun ≡ None
-    none_in place b = ap (λ (p : RecordPlace). p.begun) (same_place place (record { order = b.order; begun = None }) b.between)
+    took_whole values old new h t.row xs small t.adds (t.begun ∙ none_begun old between) t.known t.no_fault count octets t.fine
 
 pub between_by : (old new : RecordPlace) (h : Head) (xs : List ℕ) → checks.AwaitsHead (Some old) → TakesWhole old h xs new → checks.AwaitsHead (Some new)
 between_by old new h xs b t =
-    let none : new.begun ≡ None = t.begun ∙ ap (λ (p : RecordPlace). p.begun) (same_place old (record { order = b.order; begun = None }) b.between) in
+    let none : new.begun ≡ None = t.begun ∙ ap (λ (p : RecordPlace). p.begun) (same_Some old (record { order = b.order; begun = None }) b.between) in
     record { order = new.order; between = λ i. Some (record { order = new.order; begun = none i }) }
 
 pub place_either : (old new : RecordPlace) (h : Head) (xs : List ℕ) (b : Bool) → checks.AwaitsHead (Some old) → h.rec ≢ 8 → IsRecordPlace old → (b ≡ true → TookWhole (Some old) (Some new) h xs) → (b ≡ false → new ≡ old)

@@ -1,5 +1,5 @@
 -- The places of a check, and what it says is missing.
-use Rattle.std.specs.Prelude.{◌≡◌, ℕ, ◌⊎◌, List, [], ◌∷◌, ◌++◌, Option, Some, None}
+use Rattle.std.specs.Prelude.{◌≡◌, ℕ, ◌⊎◌, List, [], ◌∷◌, ◌++◌, Option, Some, None, IsTrue}
 use Rattle.iim_dataset.specs.Format.Datasets.{Dataset, head_of}
 use Rattle.iim_dataset.specs.declared.head.Head.{Head}
 use Rattle.iim_fields.specs.States.Orders.{has_seen}
@@ -11,7 +11,7 @@ use Rattle.iim_tables.specs.Format.Rows.{row_of}
 use Rattle.iim_tables.specs.declared.shape.Row.{Row}
 use Rattle.std.specs.Option.{option_or}
 use Rattle.iim_fields.specs.Format.Faults.{head_fault, record_fault, value_fault}
-use Rattle.iim_fields.specs.Format.Values.{data_of, number_told}
+use Rattle.iim_fields.specs.Format.Values.{data_of, tells_number, number_told}
 
 -- Some datasets lead to the place, or some datasets and a head.
 abbrev pub IsRecordPlace : RecordPlace → Type 0
@@ -61,3 +61,7 @@ pub record TookSubfile (old new : Option RecordPlace) (h : Head) : Type 0 where
   pub inside : IsIn mid h
   pub taken : (ds : List Dataset) → HasChecked old ds → HasTaken mid ds h
   pub closed : (ds : List Dataset) → HasChecked mid ds → HasChecked new ds
+
+-- The record's values tell numbers.
+abbrev pub HasNumberValues : ℕ → Type 0
+HasNumberValues rec = IsTrue (tells_number rec)

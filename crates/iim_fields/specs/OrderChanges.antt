@@ -1,12 +1,15 @@
 -- How a head changes what a check knows of the present record, and what is missing where records 1 and 2 end.
-use Rattle.std.specs.Prelude.{◌≡◌, ◌≢◌, ℕ, Bool, true, false, slice_set, Option, ◌==◌, ◌&&◌, nat_le, if◌then◌else◌, is_none}
+use Rattle.std.specs.Prelude.{◌≡◌, ◌≢◌, ℕ, Bool, true, false, List, replicate, slice_set, Option, ◌==◌, ◌&&◌, nat_le, if◌then◌else◌, is_none}
 use Rattle.iim_dataset.specs.Format.Octets.{greatest_size}
 use Rattle.iim_dataset.specs.declared.head.Head.{Head}
 use Rattle.std.specs.Option.{option_or}
 use Rattle.iim_fields.specs.Format.Faults.{missing_fault, missing_of}
 use Rattle.iim_fields.specs.declared.fault.FieldFault.{FieldFault}
 use Rattle.iim_fields.specs.declared.order.Order.{Order}
-use Rattle.iim_fields.specs.States.Orders.{nothing}
+
+-- none of the 256 numbers has occurred
+abbrev pub nothing : List Bool
+nothing = replicate 256 false
 
 -- A head leads from one to the other: its number is added, to those of the present record or to none.
 pub record AddsHead (old : Order) (h : Head) (new : Order) : Type 0 where

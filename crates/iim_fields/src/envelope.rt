@@ -38,7 +38,8 @@ impl Envelope {
     ghost use Rattle.iim_fields.specs.Format.Envelopes.{IsEnvelope};
     ghost use Rattle.iim_fields.specs.States.Builders.{AreFew};
     ghost use Rattle.iim_fields.specs.Format.Faults.{joined};
-    ghost use Rattle.iim_fields.specs.Format.Views.{first_data, all_data, instant_sent, instant_of_pair, instant_of_release, instant_of_expiration, IsInEach};
+    ghost use Rattle.iim_fields.specs.Format.Views.{first_data, all_data, instant_sent, instant_of_pair, instant_of_release, instant_of_expiration};
+    ghost use Rattle.iim_fields.specs.Building.{IsInEach};
     ghost use Rattle.iim_tables.specs.Format.Rows.{Meets};
 
     /// The envelope where it lies.

@@ -36,7 +36,8 @@ impl<'a> EnvelopeRef<'a> {
     ghost use Rattle.iim_fields.specs.States.Walks.{rest_of};
     ghost use Rattle.iim_fields.specs.Format.Envelopes.{IsEnvelope};
     ghost use Rattle.iim_fields.specs.States.Builders.{AreFew};
-    ghost use Rattle.iim_fields.specs.Format.Views.{first_data, instant_sent, instant_of_pair, instant_of_release, instant_of_expiration, IsInEach};
+    ghost use Rattle.iim_fields.specs.Format.Views.{first_data, instant_sent, instant_of_pair, instant_of_release, instant_of_expiration};
+    ghost use Rattle.iim_fields.specs.Building.{IsInEach};
     ghost use Rattle.iim_tables.specs.Format.Rows.{Meets};
 
     /// All datasets, in order: record, number and data of each.

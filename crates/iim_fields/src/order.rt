@@ -4,8 +4,8 @@ ghost use Rattle.std.specs.Prelude.{◌≡◌, is_none, Some, None, IfOk, IfErr,
 ghost use Rattle.iim_tables.specs.Format.Rows.{row_of};
 ghost use Rattle.iim_fields.specs.Format.Faults.{head_fault, row_fault, missing_of, missing_fault, is_in_order, is_first};
 ghost use Rattle.iim_fields.specs.Format.Records.{after};
-ghost use Rattle.iim_fields.specs.States.Orders.{has_seen, nothing};
-ghost use Rattle.iim_fields.specs.OrderChanges.{AddsHead, end_fault, is_subfile_head, no_application, takes_subfile};
+ghost use Rattle.iim_fields.specs.States.Orders.{has_seen};
+ghost use Rattle.iim_fields.specs.OrderChanges.{AddsHead, end_fault, is_subfile_head, no_application, nothing, takes_subfile};
 
 use crate::fault::{FieldCause, FieldFault};
 use crate::number_set::NumberSet;

@@ -6,7 +6,8 @@ ghost use Rattle.iim_fields.specs.Format.Faults.{value_fault};
 ghost use Rattle.std.specs.Int.{IsInRange};
 ghost use Rattle.iim_tables.specs.Format.Numbers.{size_octets};
 ghost use Rattle.iim_tables.specs.Format.Records.{has_file_format};
-ghost use Rattle.iim_fields.specs.Format.Values.{data_of, number_told, HasNumberValues};
+ghost use Rattle.iim_fields.specs.Format.Values.{data_of, number_told};
+ghost use Rattle.iim_fields.specs.Checking.{HasNumberValues};
 
 use crate::fault::{FieldCause, FieldFault};
 use crate::order::fault_on;

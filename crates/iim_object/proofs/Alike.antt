@@ -1,5 +1,6 @@
 -- From places at which one reader stands the same tokens lead on alike.
 use Rattle.std.proofs.Common.{◌≡◌, ℕ, ◌+◌, ◌⊎◌, List, [], ◌∷◌, ◌++◌, length, Option, Some, None, is_some, refl, sym, ap, subst, ◌∙◌, arith, inl, inr}
+use Rattle.std.proofs.lemmas.List.{nil_from_length}
 use Rattle.iim_dataset.specs.Format.Languages.{IsAlive}
 use Rattle.iim_object.specs.declared.reading.state.State.{State}
 use Rattle.iim_object.specs.declared.reading.fault.SizeCause.{SizeCause}
@@ -12,7 +13,7 @@ use Rattle.iim_object.specs.States.Reading.{IsStateAt, StandsAt, LeadsOn, Refuse
 use Rattle.iim_object.specs.Laws.Places.{TokensLead, TokensLeadOnAlike}
 use Rattle.iim_object.proofs.Numbers.{each-append, once-append}
 use Rattle.iim_object.proofs.Steps.{tells_of, once_last, number_leads_on, number_refused, subfile_leads_on, subfile_refused, end_leads_on, end_refused, confirmed_leads_on, confirmed_refused, tokens_follow}
-use Rattle.iim_object.proofs.Reached.{front_lives, no_lengths}
+use Rattle.iim_object.proofs.Reached.{front_lives}
 use Rattle.iim_object.proofs.Staying.{last_row}
 use Rattle.iim_object.proofs.Saved.{one_state}
 use Rattle.iim_object.proofs.Leading.{tokens_after}
@@ -37,7 +38,7 @@ follows_too s p q (NumberRead set n) x y e (not_ended, none, stated) =
     let item : Stated = record { set = set; number = n } in
     let row : InRow item = last_row p.stated item stated.each in
     let fresh : number_at set q.stated ≡ None = sym (same_number s p q set n t u row) ∙ once_last p.stated item stated.once in
-    (sym e ∙ not_ended, no_lengths q.lengths (sym (same_length s p q t u) ∙ ap length none), record { each = each-append q.stated item y.stated.each row; once = once-append q.stated item y.stated.once fresh })
+    (sym e ∙ not_ended, nil_from_length q.lengths (sym (same_length s p q t u) ∙ ap length none), record { each = each-append q.stated item y.stated.each row; once = once-append q.stated item y.stated.once fresh })
 follows_too s p q (SubfileBegun count) x y e (not_ended, both, few) =
     let t = tells_of s p x in
     let u = tells_of s q y in (

@@ -1,8 +1,7 @@
 -- A plan's bound leaves room for just the objects that keep to what is said of their sizes.
 use Rattle.std.proofs.Common.{ℕ, ◌≤◌, length, Some, None, IfSome, arith}
 use Rattle.iim_dataset.specs.Format.Octets.{greatest_size}
-use Rattle.iim_object.specs.Format.Plans.{limit_of}
-use Rattle.iim_object.specs.Format.Packing.{announced_of, maximum_of}
+use Rattle.iim_object.specs.Format.Plans.{announced_of, maximum_of, limit_of}
 use Rattle.iim_object.specs.Laws.Packing.{SubfilesAreFew}
 use Rattle.iim_object.specs.declared.size.Size.{Size}
 use Rattle.iim_object.specs.declared.size.Size.TheVariants.{Known, Unknown}

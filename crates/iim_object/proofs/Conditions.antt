@@ -1,6 +1,7 @@
 -- The first cause by tests is the cause of the lowest number whose condition holds.
-use Rattle.std.proofs.Common.{◌≡◌, ℕ, ◌+◌, ◌<◌, ◌≤◌, ◌==◌, if◌then◌else◌, Bool, true, false, ◌&&◌, not, nat_lt, eqb, List, sum, Option, Some, None, is_some, unwrap_or, refl, sym, ap, subst, ◌∙◌, arith, inl, inr}
-use Rattle.std.proofs.lemmas.Bool.{cases_Bool, cases_lt, eqb-true, eq-eqb, lt-ltb}
+use Rattle.std.proofs.Common.{◌≡◌, ℕ, ◌+◌, ◌<◌, ◌≤◌, Bool, true, false, ◌&&◌, not, nat_lt, eqb, List, sum, Option, Some, None, is_some, unwrap_or, refl, sym, ap, subst, ◌∙◌, arith, inl, inr}
+use Rattle.std.proofs.lemmas.Bool.{cases_Bool, cases_lt, eqb-true, eq-eqb, lt-ltb, and_parts, ltb-false, ltb-true, not-true}
+use Rattle.std.proofs.lemmas.Option.{same_Some}
 use Rattle.iim_dataset.specs.Format.Languages.{IsAlive, DiesAt}
 use Rattle.iim_dataset.specs.Format.Octets.{greatest_size}
 use Rattle.iim_object.specs.declared.reading.state.State.{State}
@@ -13,36 +14,21 @@ use Rattle.iim_object.specs.Format.Causes.{is_given, is_above, bound, is_past, c
 use Rattle.iim_object.specs.Format.Conditions.{number_of, stated_with, PassesBound, HasCause}
 use Rattle.iim_object.specs.Laws.Conditions.{IsFirstCause, CausesAreTheFirst, ObjectsDieForCauses}
 use Rattle.iim_object.specs.States.Reading.{StandsAt}
-use Rattle.iim_object.proofs.Steps.{tells_of, number_tells, number_cause_is, number_leads_on, number_refused, subfile_cause_is, subfile_leads_on, subfile_refused, end_cause_is, end_leads_on, end_refused, confirmed_cause_is, confirmed_leads_on, confirmed_refused, tokens_follow, given_is, is_given_by, none_of, both_true, given, not_below, is_below, announced_small, not_true}
+use Rattle.iim_object.proofs.Steps.{tells_of, number_tells, number_cause_is, number_leads_on, number_refused, subfile_cause_is, subfile_leads_on, subfile_refused, end_cause_is, end_leads_on, end_refused, confirmed_cause_is, confirmed_leads_on, confirmed_refused, tokens_follow, given_is, is_given_by, none_of, given, announced_small}
 
 -- ---- numbers of causes
 
-abbrev cause_of : ℕ → SizeCause
-cause_of n =
-    if n == 20 then ModeClash else if n == 21 then SizeClash else if n == 22 then SubfileTooLong else if n == 23 then PastSize else if n == 24 then Short else ConfirmedWrong
-
-of_its_number : (c : SizeCause) → cause_of (number_of c) ≡ c
-of_its_number ModeClash = refl
-of_its_number SizeClash = refl
-of_its_number SubfileTooLong = refl
-of_its_number PastSize = refl
-of_its_number Short = refl
-of_its_number ConfirmedWrong = refl
-
+-- causes of one number are one: of each two
 same_cause : (a b : SizeCause) → number_of a ≤ number_of b → number_of b ≤ number_of a → a ≡ b
-same_cause a b h k =
-    let same : number_of a ≡ number_of b = omega (arith, h, k) in
-    sym (of_its_number a) ∙ (ap cause_of same ∙ of_its_number b)
-
-the_cause : (a b : SizeCause) → Some a ≡ Some b → a ≡ b
-the_cause a b e = cc
+same_cause ModeClash ModeClash h k = refl
+same_cause one other h k = grind arith
 
 -- ---- a number of record 7
 
 mode_met : (ps : List Stated) → (is_given (number_at 10 ps) 0 && is_some (number_at 90 ps)) ≡ true
     → (number_at 10 ps ≡ Some 0) × ((announced : ℕ) × (number_at 90 ps ≡ Some announced))
 mode_met ps t =
-    let both = both_true (is_given (number_at 10 ps) 0) (is_some (number_at 90 ps)) t in
+    let both = and_parts (is_given (number_at 10 ps) 0) (is_some (number_at 90 ps)) t in
     (given_is (number_at 10 ps) 0 both.0, given (number_at 90 ps) both.1)
 
 mode_tested : (ps : List Stated) (announced : ℕ) → number_at 10 ps ≡ Some 0 → number_at 90 ps ≡ Some announced → (is_given (number_at 10 ps) 0 && is_some (number_at 90 ps)) ≡ true
@@ -57,7 +43,7 @@ above_met ps t = by_both (number_at 90 ps) (number_at 95 ps) refl refl t
         → (announced : ℕ) × (most : ℕ) × (number_at 90 ps ≡ Some announced) × (number_at 95 ps ≡ Some most) × (most < announced)
     by_both None q x y t = absurd cc
     by_both (Some a) None x y t = absurd cc
-    by_both (Some a) (Some m) x y t = (a, m, x, y, is_below m a t)
+    by_both (Some a) (Some m) x y t = (a, m, x, y, ltb-true m a t)
 
 above_tested : (ps : List Stated) (announced most : ℕ) → number_at 90 ps ≡ Some announced → number_at 95 ps ≡ Some most → most < announced → is_above (number_at 90 ps) (number_at 95 ps) ≡ true
 above_tested ps announced most e f h =
@@ -95,21 +81,17 @@ pub record Told (p : Place) (token : ObjectToken) : Type 0 where
 
 from_twenty : (other : SizeCause) → number_of ModeClash ≤ number_of other
 from_twenty ModeClash = omega arith
-from_twenty SizeClash = omega arith
-from_twenty SubfileTooLong = omega arith
-from_twenty PastSize = omega arith
-from_twenty Short = omega arith
-from_twenty ConfirmedWrong = omega arith
+from_twenty other = omega arith
 
 number_first : (p : Place) (set n : ℕ) (c : SizeCause) → cause_at p (NumberRead set n) ≡ Some c → IsFirstCause p (NumberRead set n) c
 number_first p set n c e = elim (cases_Bool (is_given (number_at 10 (stated_with p set n)) 0 && is_some (number_at 90 (stated_with p set n)))) [
   | inl t ↦
-      let is : ModeClash ≡ c = the_cause ModeClash c (rw t at e) in
+      let is : ModeClash ≡ c = same_Some ModeClash c (rw t at e) in
       let met = mode_met (stated_with p set n) t in
       subst (IsFirstCause p (NumberRead set n)) is (record { holds = inl (set, n, refl, met.0, met.1); lowest = λ other h. from_twenty other })
   | inr f ↦ elim (cases_Bool (is_above (number_at 90 (stated_with p set n)) (number_at 95 (stated_with p set n)))) [
     | inl t ↦
-        let is : SizeClash ≡ c = the_cause SizeClash c (rw (f, t) at e) in
+        let is : SizeClash ≡ c = same_Some SizeClash c (rw (f, t) at e) in
         let met = above_met (stated_with p set n) t in
         subst (IsFirstCause p (NumberRead set n)) is (record { holds = (set, n, refl, met); lowest = λ other h. beyond f other h })
     | inr g ↦ let clash : ◌≡◌ {A = Option SizeCause} None (Some c) = (rw (f, g) at e) in absurd cc
@@ -119,11 +101,7 @@ number_first p set n c e = elim (cases_Bool (is_given (number_at 10 (stated_with
     beyond : (is_given (number_at 10 (stated_with p set n)) 0 && is_some (number_at 90 (stated_with p set n))) ≡ false
         → (other : SizeCause) → HasCause other p (NumberRead set n) → number_of SizeClash ≤ number_of other
     beyond f ModeClash h = absurd (no_mode_at_number p set n f h)
-    beyond f SizeClash h = omega arith
-    beyond f SubfileTooLong h = omega arith
-    beyond f PastSize h = omega arith
-    beyond f Short h = omega arith
-    beyond f ConfirmedWrong h = omega arith
+    beyond f other h = omega arith
 
 number_none : (p : Place) (set n : ℕ) → cause_at p (NumberRead set n) ≡ None → (c : SizeCause) → HasCause c p (NumberRead set n) → ⊥
 number_none p set n e = elim (cases_Bool (is_given (number_at 10 (stated_with p set n)) 0 && is_some (number_at 90 (stated_with p set n)))) [
@@ -139,17 +117,14 @@ number_none p set n e = elim (cases_Bool (is_given (number_at 10 (stated_with p 
         → (c : SizeCause) → HasCause c p (NumberRead set n) → ⊥
     by_cause f g ModeClash h = no_mode_at_number p set n f h
     by_cause f g SizeClash h = no_above_at_number p set n g h
-    by_cause f g SubfileTooLong (count, token, rest) = let clash : NumberRead set n ≡ SubfileBegun count = token in cc
-    by_cause f g PastSize (count, token, rest) = let clash : NumberRead set n ≡ SubfileBegun count = token in cc
-    by_cause f g Short (announced, token, x, y) = let clash : NumberRead set n ≡ ObjectEnded = token in cc
-    by_cause f g ConfirmedWrong (m, token, wrong) = let clash : NumberRead set n ≡ Confirmed m = token in cc
+    by_cause f g other h = let another = h.1 in cc
 
 -- ---- a subfile
 
 unannounced_met : (ps : List Stated) → (is_given (number_at 10 ps) 1 && not (is_some (number_at 90 ps))) ≡ true → (number_at 10 ps ≡ Some 1) × (number_at 90 ps ≡ None)
 unannounced_met ps t =
-    let both = both_true (is_given (number_at 10 ps) 1) (not (is_some (number_at 90 ps))) t in
-    (given_is (number_at 10 ps) 1 both.0, none_of (number_at 90 ps) (not_true (is_some (number_at 90 ps)) both.1))
+    let both = and_parts (is_given (number_at 10 ps) 1) (not (is_some (number_at 90 ps))) t in
+    (given_is (number_at 10 ps) 1 both.0, none_of (number_at 90 ps) (not-true (is_some (number_at 90 ps)) both.1))
 
 unannounced_tested : (ps : List Stated) → number_at 10 ps ≡ Some 1 → number_at 90 ps ≡ None → (is_given (number_at 10 ps) 1 && not (is_some (number_at 90 ps))) ≡ true
 unannounced_tested ps e f =
@@ -186,31 +161,31 @@ no_above_at_subfile p count (set, n, token, rest) = let clash : SubfileBegun cou
 no_long_at_subfile : (p : Place) (count : ℕ) → nat_lt (unwrap_or (number_at 20 p.stated) 0) count ≡ false → HasCause SubfileTooLong p (SubfileBegun count) → ⊥
 no_long_at_subfile p count f (other, token, (largest, e, h)) =
     let is : unwrap_or (number_at 20 p.stated) 0 ≡ largest = ap (λ (o : Option ℕ). unwrap_or o 0) e in
-    omega (arith, is, h, same_count count other token, not_below (unwrap_or (number_at 20 p.stated) 0) count f)
+    omega (arith, is, h, same_count count other token, ltb-false (unwrap_or (number_at 20 p.stated) 0) count f)
 
 no_past_at_subfile : (p : Place) (count : ℕ) → AreStated p.stated → is_past (bound (number_at 90 p.stated) (number_at 95 p.stated)) (sum p.lengths) count ≡ false
     → HasCause PastSize p (SubfileBegun count) → ⊥
 no_past_at_subfile p count stated f (other, token, passes) =
     let past = past_tested p.stated (sum p.lengths + other) stated passes in
-    omega (arith, past, same_count count other token, not_below (bound (number_at 90 p.stated) (number_at 95 p.stated)) (sum p.lengths + count) f)
+    omega (arith, past, same_count count other token, ltb-false (bound (number_at 90 p.stated) (number_at 95 p.stated)) (sum p.lengths + count) f)
 
 subfile_first : (p : Place) (count : ℕ) → HasBoth p.stated → (c : SizeCause) → cause_at p (SubfileBegun count) ≡ Some c → IsFirstCause p (SubfileBegun count) c
 subfile_first p count both c e = elim (cases_Bool (is_given (number_at 10 p.stated) 1 && not (is_some (number_at 90 p.stated)))) [
   | inl t ↦
-      let is : ModeClash ≡ c = the_cause ModeClash c (rw t at e) in
+      let is : ModeClash ≡ c = same_Some ModeClash c (rw t at e) in
       let met = unannounced_met p.stated t in
       subst (IsFirstCause p (SubfileBegun count)) is (record { holds = inr (count, refl, met.0, met.1); lowest = λ other h. from_twenty other })
   | inr f ↦ elim (cases_Bool (nat_lt (unwrap_or (number_at 20 p.stated) 0) count)) [
     | inl t ↦
-        let is : SubfileTooLong ≡ c = the_cause SubfileTooLong c (rw (f, t) at e) in
+        let is : SubfileTooLong ≡ c = same_Some SubfileTooLong c (rw (f, t) at e) in
         let largest = given (number_at 20 p.stated) both.1 in
         let same : unwrap_or (number_at 20 p.stated) 0 ≡ largest.0 = ap (λ (o : Option ℕ). unwrap_or o 0) largest.1 in
-        let long : largest.0 < count = omega (arith, same, is_below (unwrap_or (number_at 20 p.stated) 0) count t) in
+        let long : largest.0 < count = omega (arith, same, ltb-true (unwrap_or (number_at 20 p.stated) 0) count t) in
         subst (IsFirstCause p (SubfileBegun count)) is (record { holds = (count, refl, (largest.0, largest.1, long)); lowest = λ other h. from_long f other h })
     | inr g ↦ elim (cases_Bool (is_past (bound (number_at 90 p.stated) (number_at 95 p.stated)) (sum p.lengths) count)) [
       | inl t ↦
-          let is : PastSize ≡ c = the_cause PastSize c (rw (f, g, t) at e) in
-          let past = past_met p.stated (sum p.lengths + count) (is_below (bound (number_at 90 p.stated) (number_at 95 p.stated)) (sum p.lengths + count) t) in
+          let is : PastSize ≡ c = same_Some PastSize c (rw (f, g, t) at e) in
+          let past = past_met p.stated (sum p.lengths + count) (ltb-true (bound (number_at 90 p.stated) (number_at 95 p.stated)) (sum p.lengths + count) t) in
           subst (IsFirstCause p (SubfileBegun count)) is (record { holds = (count, refl, past); lowest = λ other h. from_past f g other h })
       | inr i ↦ let clash : ◌≡◌ {A = Option SizeCause} None (Some c) = (rw (f, g, i) at e) in absurd cc
     ]
@@ -221,19 +196,14 @@ subfile_first p count both c e = elim (cases_Bool (is_given (number_at 10 p.stat
         → (other : SizeCause) → HasCause other p (SubfileBegun count) → number_of SubfileTooLong ≤ number_of other
     from_long f ModeClash h = absurd (no_mode_at_subfile p count f h)
     from_long f SizeClash h = absurd (no_above_at_subfile p count h)
-    from_long f SubfileTooLong h = omega arith
-    from_long f PastSize h = omega arith
-    from_long f Short h = omega arith
-    from_long f ConfirmedWrong h = omega arith
+    from_long f other h = omega arith
 
     from_past : (is_given (number_at 10 p.stated) 1 && not (is_some (number_at 90 p.stated))) ≡ false → nat_lt (unwrap_or (number_at 20 p.stated) 0) count ≡ false
         → (other : SizeCause) → HasCause other p (SubfileBegun count) → number_of PastSize ≤ number_of other
     from_past f g ModeClash h = absurd (no_mode_at_subfile p count f h)
     from_past f g SizeClash h = absurd (no_above_at_subfile p count h)
     from_past f g SubfileTooLong h = absurd (no_long_at_subfile p count g h)
-    from_past f g PastSize h = omega arith
-    from_past f g Short h = omega arith
-    from_past f g ConfirmedWrong h = omega arith
+    from_past f g other h = omega arith
 
 subfile_none : (p : Place) (count : ℕ) → AreStated p.stated → cause_at p (SubfileBegun count) ≡ None → (c : SizeCause) → HasCause c p (SubfileBegun count) → ⊥
 subfile_none p count stated e = elim (cases_Bool (is_given (number_at 10 p.stated) 1 && not (is_some (number_at 90 p.stated)))) [
@@ -254,8 +224,7 @@ subfile_none p count stated e = elim (cases_Bool (is_given (number_at 10 p.state
     by_cause f g i SizeClash h = no_above_at_subfile p count h
     by_cause f g i SubfileTooLong h = no_long_at_subfile p count g h
     by_cause f g i PastSize h = no_past_at_subfile p count stated i h
-    by_cause f g i Short (announced, token, x, y) = let clash : SubfileBegun count ≡ ObjectEnded = token in cc
-    by_cause f g i ConfirmedWrong (m, token, wrong) = let clash : SubfileBegun count ≡ Confirmed m = token in cc
+    by_cause f g i other h = let another = h.1 in cc
 
 -- ---- the end, and the confirmed size
 
@@ -263,16 +232,15 @@ not_at_end : (p : Place) (c : SizeCause) → HasCause c p ObjectEnded → number
 not_at_end p ModeClash (inl (set, n, token, mode, rest)) = let clash : ObjectEnded ≡ NumberRead set n = token in absurd cc
 not_at_end p ModeClash (inr (count, token, mode, none)) = let clash : ObjectEnded ≡ SubfileBegun count = token in absurd cc
 not_at_end p SizeClash (set, n, token, rest) = let clash : ObjectEnded ≡ NumberRead set n = token in absurd cc
-not_at_end p SubfileTooLong (count, token, rest) = let clash : ObjectEnded ≡ SubfileBegun count = token in absurd cc
-not_at_end p PastSize (count, token, rest) = let clash : ObjectEnded ≡ SubfileBegun count = token in absurd cc
 not_at_end p Short h = omega arith
 not_at_end p ConfirmedWrong h = omega arith
+not_at_end p other h = let another = h.1 in absurd cc
 
 end_first : (p : Place) (c : SizeCause) → cause_at p ObjectEnded ≡ Some c → IsFirstCause p ObjectEnded c
 end_first p c e = elim (cases_Bool (nat_lt (sum p.lengths) (unwrap_or (number_at 90 p.stated) 0))) [
   | inl t ↦
-      let is : Short ≡ c = the_cause Short c (rw t at e) in
-      let below = is_below (sum p.lengths) (unwrap_or (number_at 90 p.stated) 0) t in
+      let is : Short ≡ c = same_Some Short c (rw t at e) in
+      let below = ltb-true (sum p.lengths) (unwrap_or (number_at 90 p.stated) 0) t in
       subst (IsFirstCause p ObjectEnded) is (record { holds = by_announced (number_at 90 p.stated) refl below; lowest = not_at_end p })
   | inr f ↦ let clash : ◌≡◌ {A = Option SizeCause} None (Some c) = (rw f at e) in absurd cc
 ]
@@ -284,31 +252,26 @@ end_first p c e = elim (cases_Bool (nat_lt (sum p.lengths) (unwrap_or (number_at
 end_none : (p : Place) → cause_at p ObjectEnded ≡ None → (c : SizeCause) → HasCause c p ObjectEnded → ⊥
 end_none p e = elim (cases_Bool (nat_lt (sum p.lengths) (unwrap_or (number_at 90 p.stated) 0))) [
   | inl t ↦ let clash : ◌≡◌ {A = Option SizeCause} (Some Short) None = (rw t at e) in absurd cc
-  | inr f ↦ λ c h. by_cause (not_below (sum p.lengths) (unwrap_or (number_at 90 p.stated) 0) f) c h
+  | inr f ↦ λ c h. by_cause (ltb-false (sum p.lengths) (unwrap_or (number_at 90 p.stated) 0) f) c h
 ]
   where
     by_cause : unwrap_or (number_at 90 p.stated) 0 ≤ sum p.lengths → (c : SizeCause) → HasCause c p ObjectEnded → ⊥
-    by_cause k ModeClash h = let low = not_at_end p ModeClash h in omega (arith, low)
-    by_cause k SizeClash h = let low = not_at_end p SizeClash h in omega (arith, low)
-    by_cause k SubfileTooLong h = let low = not_at_end p SubfileTooLong h in omega (arith, low)
-    by_cause k PastSize h = let low = not_at_end p PastSize h in omega (arith, low)
     by_cause k Short (a, token, x, h) = let is : unwrap_or (number_at 90 p.stated) 0 ≡ a = ap (λ (o : Option ℕ). unwrap_or o 0) x in omega (arith, is, h, k)
     by_cause k ConfirmedWrong (m, token, wrong) = let clash : ObjectEnded ≡ Confirmed m = token in cc
+    by_cause k other h = let low = not_at_end p other h in omega (arith, low)
 
 not_at_confirmed : (p : Place) (n : ℕ) (c : SizeCause) → HasCause c p (Confirmed n) → number_of ConfirmedWrong ≤ number_of c
 not_at_confirmed p n ModeClash (inl (set, m, token, mode, rest)) = let clash : Confirmed n ≡ NumberRead set m = token in absurd cc
 not_at_confirmed p n ModeClash (inr (count, token, mode, none)) = let clash : Confirmed n ≡ SubfileBegun count = token in absurd cc
 not_at_confirmed p n SizeClash (set, m, token, rest) = let clash : Confirmed n ≡ NumberRead set m = token in absurd cc
-not_at_confirmed p n SubfileTooLong (count, token, rest) = let clash : Confirmed n ≡ SubfileBegun count = token in absurd cc
-not_at_confirmed p n PastSize (count, token, rest) = let clash : Confirmed n ≡ SubfileBegun count = token in absurd cc
-not_at_confirmed p n Short (announced, token, x, y) = let clash : Confirmed n ≡ ObjectEnded = token in absurd cc
 not_at_confirmed p n ConfirmedWrong h = omega arith
+not_at_confirmed p n other h = let another = h.1 in absurd cc
 
 confirmed_first : (p : Place) (n : ℕ) (c : SizeCause) → cause_at p (Confirmed n) ≡ Some c → IsFirstCause p (Confirmed n) c
 confirmed_first p n c e = elim (cases_Bool (eqb n (sum p.lengths))) [
   | inl t ↦ let clash : ◌≡◌ {A = Option SizeCause} None (Some c) = (rw t at e) in absurd cc
   | inr f ↦
-      let is : ConfirmedWrong ≡ c = the_cause ConfirmedWrong c (rw f at e) in
+      let is : ConfirmedWrong ≡ c = same_Some ConfirmedWrong c (rw f at e) in
       subst (IsFirstCause p (Confirmed n)) is (record { holds = (n, refl, λ same. true_is_false (sym (eq-eqb n (sum p.lengths) same) ∙ f)); lowest = not_at_confirmed p n })
 ]
 
@@ -322,12 +285,8 @@ confirmed_none p n e = elim (cases_Bool (eqb n (sum p.lengths))) [
     the_number n m e = cc
 
     by_cause : n ≡ sum p.lengths → (c : SizeCause) → HasCause c p (Confirmed n) → ⊥
-    by_cause same ModeClash h = let low = not_at_confirmed p n ModeClash h in omega (arith, low)
-    by_cause same SizeClash h = let low = not_at_confirmed p n SizeClash h in omega (arith, low)
-    by_cause same SubfileTooLong h = let low = not_at_confirmed p n SubfileTooLong h in omega (arith, low)
-    by_cause same PastSize h = let low = not_at_confirmed p n PastSize h in omega (arith, low)
-    by_cause same Short h = let low = not_at_confirmed p n Short h in omega (arith, low)
     by_cause same ConfirmedWrong (m, token, wrong) = wrong (the_number n m token ∙ same)
+    by_cause same other h = let low = not_at_confirmed p n other h in omega (arith, low)
 
 -- ---- the laws
 

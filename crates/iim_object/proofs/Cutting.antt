@@ -17,10 +17,6 @@ same_front (x ∷ xs) (y ∷ ys) us vs n e =
     let more = same_front xs ys us vs (omega (arith, n)) rest in
     ((λ i. first i ∷ more.0 i), more.1)
 
-no_octet : (xs : List ℕ) → length xs ≡ 0 → xs ≡ []
-no_octet [] e = refl
-no_octet (x ∷ xs) e = absurd (omega (arith, e))
-
 -- a last part after a full one has an octet
 pub some_octet : (size : ℕ) (first last : List ℕ) (full : List (List ℕ)) → 1 ≤ size → length first ≡ size → (last ≡ [] → first ++ (joined_parts full ++ last) ≡ []) → 1 ≤ length last
 some_octet size [] last full one e some = absurd (omega (arith, e, one))

@@ -3,6 +3,7 @@ use Rattle.std.proofs.Common.{◌≡◌, ℕ, ◌<◌, ◌≤◌, List, [], ◌�
 use Rattle.std.specs.List.{AllByRecursion}
 use Rattle.std.proofs.lemmas.List.{map-append, length-map}
 use Rattle.std.proofs.lemmas.Bool.{eq-eqb}
+use Rattle.std.proofs.lemmas.Option.{same_Some}
 use Rattle.iim_dataset.specs.Format.Octets.{number, greatest_size}
 use Rattle.iim_dataset.specs.Format.Datasets.{Dataset}
 use Rattle.iim_dataset.specs.Format.Languages.{IsAlive}
@@ -15,8 +16,8 @@ use Rattle.iim_object.specs.Format.Records.{AreObjectRecords, numbers_of, length
 use Rattle.iim_object.specs.Laws.Records.{AreSized}
 use Rattle.iim_object.specs.Format.Numbers.{ending_of, place_after_datasets, place_ended}
 use Rattle.iim_object.specs.Laws.Numbers.{object_tokens, TokensAreOfSizedDatasets, DatasetsLiveWithTheirTokens, DatasetsEndWithTheirTokens}
-use Rattle.iim_object.proofs.Numbers.{read-append, read_front, in_row_at}
-use Rattle.iim_object.proofs.Subfiles.{numbers_end, subfiles_front, subfiles_end}
+use Rattle.iim_object.proofs.Numbers.{read-append, read_front, in_row_at, largest_at_most}
+use Rattle.iim_object.proofs.Subfiles.{numbers_end, subfiles_front, subfiles_end, confirmed_is}
 use Rattle.iim_object.proofs.Members.{IsMember, are_stated, descriptor_of, object_of, confirmation_of, one_confirmation, some_subfile, ten_of, stating, subfiles, confirmation}
 use Rattle.iim_object.proofs.Cuts.{AreSorted, cut, next_end, sorted, place_is, place_with}
 
@@ -67,10 +68,7 @@ tokens_in_subfiles ds b x y others sevens eights seen =
 confirmed_at : (r9 : List Dataset) (e : Dataset) (n : ℕ) → IsMember 9 e → r9 ≡ e ∷ [] → number_at 10 (numbers_of r9) ≡ Some n → number e.octets ≡ n
 confirmed_at r9 e n m one h =
     let here : number_at 10 (numbers_of (e ∷ [])) ≡ Some n = subst (λ (ds : List Dataset). number_at 10 (numbers_of ds) ≡ Some n) one h in
-    some_is (number e.octets) n (rw (eq-eqb e.set 10 (ten_of e m)) at here)
-  where
-    some_is : (a b : ℕ) → Some a ≡ Some b → a ≡ b
-    some_is a b e = cc
+    same_Some (number e.octets) n (rw (eq-eqb e.set 10 (ten_of e m)) at here)
 
 -- the tokens of datasets that have sizes are a member
 member_of : (ds : List Dataset) → AreSized ds → ObjectLanguage (object_tokens ds)
@@ -128,13 +126,8 @@ sized_of b x y e tokens o others sevens eights nine stated lengths value = recor
 -- no subfile of a member is longer than the greatest size
 lengths_fit : (tokens : List ObjectToken) (o : ObjectLanguage tokens) → AllByRecursion (λ n. n ≤ greatest_size) o.lengths
 lengths_fit tokens o =
-    let most : o.subfile ≤ greatest_size = largest_fits o.subfile (in_row_at 20 o.subfile o.stated o.are_stated.each o.largest) in
+    let most : o.subfile ≤ greatest_size = largest_at_most o.subfile (in_row_at 20 o.subfile o.stated o.are_stated.each o.largest) in
     all_map (λ (n : ℕ). n ≤ o.subfile) (λ (n : ℕ). n ≤ greatest_size) o.lengths (λ n h. omega arith) o.agree.each_subfile
-  where
-    largest_fits : (n : ℕ) → InRow (record { set = 20; number = n }) → n ≤ greatest_size
-    largest_fits n (inl h) = absurd (omega (arith, h.0))
-    largest_fits n (inr (inl h)) = h.2
-    largest_fits n (inr (inr h)) = h.1
 
 confirmed_fits : (tokens : List ObjectToken) (o : ObjectLanguage tokens) → o.confirmed ≤ greatest_size
 confirmed_fits tokens o = omega (arith, o.agree.as_confirmed, o.agree.total_fits)
@@ -249,9 +242,6 @@ whole_continue ds b x y e rest others sevens eights nine some seen o =
       subst AreSized (sym seen ∙ sym (append-nil ds))
           (sized_of b x y e (numbers x ++ (heads y ++ ObjectEnded ∷ (Confirmed (number e.octets) ∷ rest))) o others sevens eights nine ends.0 ends.1 value),
     )
-  where
-    confirmed_is : (n m : ℕ) (rest : List ObjectToken) → ◌≡◌ {A = List ObjectToken} (Confirmed n ∷ rest) (Confirmed m ∷ []) → n ≡ m
-    confirmed_is n m rest e = cc
 
 live_tokens : (ds : List Dataset) → IsAlive AreObjectRecords ds → IsAlive ObjectLanguage (object_tokens ds) → IsAlive AreSized ds
 live_tokens ds (more, r) (rest, o) =

@@ -12,6 +12,7 @@ use Rattle.iim_dataset.proofs.Each.{all_front, all_back}
 use Rattle.iim_tables.specs.Format.Numbers.{size_octets}
 use Rattle.iim_tables.specs.Format.Rows.{table, row_of, Meets}
 use Rattle.iim_tables.specs.Format.Records.{IsGoodDataset, IsGoodRecord, occurs, occurrences, repeats, mandatory}
+use Rattle.iim_tables.proofs.GoodDatasets.{good_elsewhere}
 use Rattle.iim_object.specs.Format.Sizes.{mode_number}
 use Rattle.iim_object.specs.Format.Cuts.{AreFull, joined_parts}
 use Rattle.iim_object.specs.Format.Plans.{limit_of}
@@ -65,7 +66,7 @@ confirmed_meets n le = size_from 0 n (omega arith) le
 -- ---- record 7
 
 good_number : (rec set n : ℕ) → set < 256 → (nat_eq rec 1 ≡ false) → Meets rec set (written_number n) → IsGoodDataset (number_dataset rec set n)
-good_number rec set n small other meets = record { numbered = small; octets = number_octets n; meets = meets; file_format = rw other refl }
+good_number rec set n small other meets = good_elsewhere other small (number_octets n) meets
 
 abbrev Seven : Dataset → Type 0
 Seven d = (d.rec ≡ 7) × IsGoodDataset d
@@ -76,15 +77,15 @@ mode_octets (Unknown m) = (omega arith, tt)
 
 each_seven : (subfile : ℕ) (size : Size) → 1 ≤ subfile → subfile ≤ greatest_size → limit_of size ≤ greatest_size → AllByRecursion Seven (plan_datasets subfile size)
 each_seven subfile (Known n) one most limit = (
-  (refl, record { numbered = omega arith; octets = mode_octets (Known n); meets = mode_meets (Known n); file_format = refl }),
+  (refl, good_elsewhere refl (omega arith) (mode_octets (Known n)) (mode_meets (Known n))),
   ((refl, good_number 7 20 subfile (omega arith) refl (subfile_meets subfile one most)), ((refl, good_number 7 90 n (omega arith) refl (announced_meets n limit)), tt)),
 )
 each_seven subfile (Unknown (Some m)) one most limit = (
-  (refl, record { numbered = omega arith; octets = mode_octets (Unknown (Some m)); meets = mode_meets (Unknown (Some m)); file_format = refl }),
+  (refl, good_elsewhere refl (omega arith) (mode_octets (Unknown (Some m))) (mode_meets (Unknown (Some m)))),
   ((refl, good_number 7 20 subfile (omega arith) refl (subfile_meets subfile one most)), ((refl, good_number 7 95 m (omega arith) refl (maximum_meets m limit)), tt)),
 )
 each_seven subfile (Unknown None) one most limit = (
-  (refl, record { numbered = omega arith; octets = mode_octets (Unknown None); meets = mode_meets (Unknown None); file_format = refl }),
+  (refl, good_elsewhere refl (omega arith) (mode_octets (Unknown None)) (mode_meets (Unknown None))),
   ((refl, good_number 7 20 subfile (omega arith) refl (subfile_meets subfile one most)), tt),
 )
 
@@ -159,7 +160,7 @@ abbrev Eight : Dataset → Type 0
 Eight d = (d.rec ≡ 8) × IsGoodDataset d
 
 good_part : (xs : List ℕ) → length xs ≤ greatest_size → Octets xs → Eight (subfile_dataset xs)
-good_part xs le o = (refl, record { numbered = omega arith; octets = o; meets = part_meets xs le; file_format = refl })
+good_part xs le o = (refl, good_elsewhere refl (omega arith) o (part_meets xs le))
 
 each_eight : (parts : List (List ℕ)) → AllByRecursion (λ p. (length p ≤ greatest_size) × Octets p) parts → AllByRecursion Eight (subfile_datasets parts)
 each_eight [] h = tt

@@ -11,9 +11,7 @@ pub mod Cutting
 pub mod PackedSizes
 pub mod Bounds
 pub mod GoodRecords
-pub mod Outputs
 pub mod Rooms
-pub mod Written
 pub mod Reached
 pub mod Staying
 pub mod Saved
@@ -23,3 +21,5 @@ pub mod Within
 -- What proofs of other crates cite.
 pub mod PlanLengths
 pub mod PlanParts
+pub mod Outputs
+pub mod Written

@@ -1,5 +1,5 @@
 -- Datasets of records 7, 8 and 9 as their rows say, and the numbers that they state.
-use Rattle.std.proofs.Common.{◌≡◌, ℕ, zero, suc, ◌+◌, ◌<◌, ◌≤◌, Bool, true, false, ◌&&◌, ◌||◌, ◌==◌, cond, eqb, nat_le, List, [], ◌∷◌, length, replicate, Some, None, is_some, refl, sym, ap, subst, ◌∙◌, arith, inl, inr}
+use Rattle.std.proofs.Common.{◌≡◌, ℕ, ◌+◌, ◌<◌, ◌≤◌, Bool, true, false, ◌&&◌, ◌||◌, ◌==◌, cond, eqb, nat_le, List, [], ◌∷◌, length, replicate, Some, None, is_some, refl, sym, ap, subst, ◌∙◌, arith, inl, inr}
 use Rattle.std.specs.List.{AllByRecursion, list_any, list_all}
 use Rattle.std.proofs.lemmas.List.{length-replicate}
 use Rattle.std.proofs.lemmas.List.Sums.{sum_by-cons}
@@ -7,12 +7,14 @@ use Rattle.std.proofs.lemmas.Bool.{and_parts, and_from, eqb-true, leb-true, le-l
 use Rattle.std.proofs.lemmas.Bool.Decides.{eqb_tells}
 use Rattle.iim_dataset.specs.Format.Octets.{Octets, number, greatest_size, within}
 use Rattle.iim_dataset.specs.Format.Datasets.{Dataset}
+use Rattle.iim_dataset.proofs.OctetLists.{zeros_are}
 use Rattle.byteorder.specs.Endian.{big_bytes}
 use Rattle.byteorder.specs.Numbers.{big_number-reads_back}
 use Rattle.iim_tables.specs.Format.Numbers.{size_octets}
 use Rattle.iim_tables.specs.Format.Kinds.{is_mode, is_size_from}
 use Rattle.iim_tables.specs.Format.Rows.{table, row_of, Meets}
-use Rattle.iim_tables.specs.Format.Records.{repeats, may_repeat, occurrences, IsGoodDataset, IsGoodRecord}
+use Rattle.iim_tables.specs.Format.Records.{repeats, occurrences, IsGoodDataset, IsGoodRecord}
+use Rattle.iim_tables.proofs.GoodDatasets.{good_elsewhere, repeats_as, none_meets}
 use Rattle.iim_object.specs.Format.Sizes.{Stated, InRow, AreOnce, AreStated, number_at}
 use Rattle.iim_object.specs.Format.Records.{numbers_of, lengths_of}
 use Rattle.iim_object.proofs.Numbers.{none_parts}
@@ -65,9 +67,6 @@ by_row P set mode largest announced maximum other = elim (eqb_tells 10 set) [
   ]
 ]
 
-no_row : (rec set : ℕ) (xs : List ℕ) → row_of rec set ≡ None → Meets rec set xs → ⊥
-no_row rec set xs none h = rw none at h
-
 in_row : (set : ℕ) (xs : List ℕ) → Meets 7 set xs → InRow (record { set = set; number = number xs })
 unfolding row_of table
 in_row set xs = by_row (λ (k : ℕ). Meets 7 k xs → InRow (record { set = k; number = number xs })) set
@@ -75,13 +74,13 @@ in_row set xs = by_row (λ (k : ℕ). Meets 7 k xs → InRow (record { set = k; 
     (λ h. let range = size_within 1 xs h in inr (inl (refl, range.0, range.1)))
     (λ h. inr (inr (inl refl, (size_within 0 xs h).1)))
     (λ h. inr (inr (inr refl, (size_within 0 xs h).1)))
-    (λ none h. absurd (no_row 7 set xs none h))
+    (λ none h. absurd (none_meets 7 set xs none h))
 
 -- no dataset of record 7 repeats
 at_most_one : (set : ℕ) (xs : List ℕ) (k : ℕ) → Meets 7 set xs → (repeats 7 set ≡ false → k ≤ 1) → k ≤ 1
 unfolding row_of table
 at_most_one set xs k = by_row (λ (n : ℕ). Meets 7 n xs → (repeats 7 n ≡ false → k ≤ 1) → k ≤ 1) set
-    (λ h f. f refl) (λ h f. f refl) (λ h f. f refl) (λ h f. f refl) (λ none h. absurd (no_row 7 set xs none h))
+    (λ h f. f refl) (λ h f. f refl) (λ h f. f refl) (λ h f. f refl) (λ none h. absurd (none_meets 7 set xs none h))
 
 -- ---- numbers of record 7
 
@@ -158,7 +157,7 @@ once_counts set (d ∷ ds) o = elim (eqb_tells d.set set) [
 
 -- a number that has no row may repeat
 no_row_repeats : (rec set : ℕ) → row_of rec set ≡ None → repeats rec set ≡ false → ⊥
-no_row_repeats rec set none once = let bad : true ≡ false = sym (ap may_repeat none) ∙ once in absurd cc
+no_row_repeats rec set none once = let bad : true ≡ false = sym (repeats_as rec set None none) ∙ once in absurd cc
 
 -- datasets whose numbers are those of an object are record 7
 pub descriptor_of : (ds : List Dataset) (mode largest : ℕ) → AllByRecursion (IsMember 7) ds → AreOnce (numbers_of ds)
@@ -196,13 +195,13 @@ object_of (d ∷ ds) each some = record {
 }
   where
     ten : d.set ≡ 10
-    ten = by_one (λ (k : ℕ). Meets 8 k d.octets → k ≡ 10) 8 d.set (no_other8 d.set) (λ h. refl) (λ none h. absurd (no_row 8 d.set d.octets none h)) (met 8 d each.0)
+    ten = by_one (λ (k : ℕ). Meets 8 k d.octets → k ≡ 10) 8 d.set (no_other8 d.set) (λ h. refl) (λ none h. absurd (none_meets 8 d.set d.octets none h)) (met 8 d each.0)
 
     first : (eqb d.set 10 || list_any (λ x. x.set == 10) ds) ≡ true
     first = rw (eq-eqb d.set 10 ten) refl
 
 pub ten_of : (d : Dataset) → IsMember 9 d → d.set ≡ 10
-ten_of d m = by_one (λ (k : ℕ). Meets 9 k d.octets → k ≡ 10) 9 d.set (no_other9 d.set) (λ h. refl) (λ none h. absurd (no_row 9 d.set d.octets none h)) (met 9 d m)
+ten_of d m = by_one (λ (k : ℕ). Meets 9 k d.octets → k ≡ 10) 9 d.set (no_other9 d.set) (λ h. refl) (λ none h. absurd (none_meets 9 d.set d.octets none h)) (met 9 d m)
 
 -- record 8 has a subfile
 pub some_subfile : (ds : List Dataset) → IsGoodRecord 8 ds → 0 < length ds
@@ -257,23 +256,23 @@ states : (p : Stated) → InRow p → States p
 unfolding row_of table
 states p (inl h) = (
   record { rec = 7; set = 10; octets = p.number ∷ [] },
-  (refl, record { numbered = omega arith; octets = (omega (arith, h.1), tt); meets = and_from (nat_le p.number 1) true (le-leb p.number 1 h.1) refl; file_format = refl }),
+  (refl, good_elsewhere refl (omega arith) (omega (arith, h.1), tt) (and_from (nat_le p.number 1) true (le-leb p.number 1 h.1) refl)),
   stated_is p 10 (number (p.number ∷ [])) h.0 (omega arith),
 )
 states p (inr (inl h)) = (
   record { rec = 7; set = 20; octets = spelled p.number },
-  (refl, record { numbered = omega arith; octets = spelled_octets p.number h.2; meets = is_size 1 p.number h.1 h.2; file_format = refl }),
+  (refl, good_elsewhere refl (omega arith) (spelled_octets p.number h.2) (is_size 1 p.number h.1 h.2)),
   stated_is p 20 (number (spelled p.number)) h.0 (size_read p.number h.2),
 )
 states p (inr (inr h)) = elim h.0 [
   | inl is ↦ (
     record { rec = 7; set = 90; octets = spelled p.number },
-    (refl, record { numbered = omega arith; octets = spelled_octets p.number h.1; meets = is_size 0 p.number (omega arith) h.1; file_format = refl }),
+    (refl, good_elsewhere refl (omega arith) (spelled_octets p.number h.1) (is_size 0 p.number (omega arith) h.1)),
     stated_is p 90 (number (spelled p.number)) is (size_read p.number h.1),
   )
   | inr is ↦ (
     record { rec = 7; set = 95; octets = spelled p.number },
-    (refl, record { numbered = omega arith; octets = spelled_octets p.number h.1; meets = is_size 0 p.number (omega arith) h.1; file_format = refl }),
+    (refl, good_elsewhere refl (omega arith) (spelled_octets p.number h.1) (is_size 0 p.number (omega arith) h.1)),
     stated_is p 95 (number (spelled p.number)) is (size_read p.number h.1),
   )
 ]
@@ -285,16 +284,12 @@ stating (p ∷ ps) h =
     let more = stating ps h.1 in
     (first.0 ∷ more.0, (first.1, more.1), λ i. first.2 i ∷ more.2 i)
 
-zeros_octets : (n : ℕ) → Octets (replicate n 0)
-zeros_octets zero = tt
-zeros_octets (suc n) = (omega arith, zeros_octets n)
-
 subfile : (n : ℕ) → n ≤ greatest_size → (d : Dataset) × IsMember 8 d × (length d.octets ≡ n)
 unfolding row_of table
 subfile n h =
     let long : length {A = ℕ} (replicate n 0) ≡ n = length-replicate n 0 in (
       record { rec = 8; set = 10; octets = replicate n 0 },
-      (refl, record { numbered = omega arith; octets = zeros_octets n; meets = and_from (within 0 greatest_size (length {A = ℕ} (replicate n 0))) true (rw long (and_from (nat_le 0 n) (nat_le n greatest_size) (le-leb 0 n (omega arith)) (le-leb n greatest_size h))) refl; file_format = refl }),
+      (refl, good_elsewhere refl (omega arith) (zeros_are n) (and_from (within 0 greatest_size (length {A = ℕ} (replicate n 0))) true (rw long (and_from (nat_le 0 n) (nat_le n greatest_size) (le-leb 0 n (omega arith)) (le-leb n greatest_size h))) refl)),
       long,
     )
 
@@ -307,4 +302,4 @@ subfiles (n ∷ ns) h =
 
 pub confirmation : (n : ℕ) → n ≤ greatest_size → (d : Dataset) × IsMember 9 d × (number d.octets ≡ n)
 unfolding row_of table
-confirmation n h = (record { rec = 9; set = 10; octets = spelled n }, (refl, record { numbered = omega arith; octets = spelled_octets n h; meets = is_size 0 n (omega arith) h; file_format = refl }), size_read n h)
+confirmation n h = (record { rec = 9; set = 10; octets = spelled n }, (refl, good_elsewhere refl (omega arith) (spelled_octets n h) (is_size 0 n (omega arith) h)), size_read n h)

@@ -4,6 +4,7 @@ use Rattle.std.proofs.Common.{◌≡◌, ℕ, zero, suc, ◌+◌, ◌<◌, ◌�
 use Rattle.std.specs.List.{AllByRecursion}
 use Rattle.std.proofs.lemmas.Bool.{cases_Bool, eqb-true, eqb-false, eq-eqb, ne_eqb}
 use Rattle.std.proofs.lemmas.List.Sums.{sum_by-cons}
+use Rattle.std.proofs.lemmas.Option.{same_Some}
 use Rattle.iim_dataset.specs.Format.Languages.{IsAlive}
 use Rattle.iim_dataset.specs.Format.Octets.{greatest_size}
 use Rattle.iim_object.specs.Format.Sizes.{Stated, InRow, AreOnce, AreStated, Agree, number_at, mode_number, sizes_at}
@@ -105,7 +106,7 @@ pub record Added (ps : List Stated) (set n : ℕ) : Type 0 where
   pub low : (most : ℕ) → n ≤ most → AreLow most ps → AreLow most all
 
 add_by : (ps : List Stated) (set n : ℕ) → AreStated ps → InRow (record { set = set; number = n }) → (o : Option ℕ) → number_at set ps ≡ o → Added ps set n
-add_by ps set n h r (Some m) e = record { all = ps; more = []; parts = sym (append-nil ps); are_stated = h; here = e ∙ ap (λ (o : Option ℕ). Some (unwrap_or o n)) (sym e); others = λ k ne. refl; low = λ most le low. low }
+add_by ps set n h r (Some m) e = record { all = ps; more = []; parts = sym (append-nil ps); are_stated = h; here = e ∙ ap (λ (o : Option ℕ). Some (unwrap_or o n)) (sym e); others = λ k eqb-false. refl; low = λ most le low. low }
 add_by ps set n h r None e =
     let q : Stated = record { set = set; number = n } in
     record {
@@ -114,13 +115,13 @@ add_by ps set n h r None e =
       parts = refl;
       are_stated = record { each = each-append ps q h.each r; once = once-append ps q h.once e };
       here = none-append set ps (q ∷ []) e ∙ (rw (eq-eqb set set refl) refl ∙ ap (λ (o : Option ℕ). Some (unwrap_or o n)) (sym e));
-      others = λ k ne. other k ne (number_at k ps) refl;
+      others = λ k eqb-false. other k eqb-false (number_at k ps) refl;
       low = λ most le low. low_append most ps (q ∷ []) low (le, tt);
     }
   where
     other : (k : ℕ) → (k ≡ set → ⊥) → (o : Option ℕ) → number_at k ps ≡ o → number_at k (ps ++ (record { set = set; number = n } ∷ [])) ≡ number_at k ps
-    other k ne (Some m) f = at-append k m ps (record { set = set; number = n } ∷ []) f ∙ sym f
-    other k ne None f = none-append k ps (record { set = set; number = n } ∷ []) f ∙ (rw (ne_eqb set k (λ s. ne (sym s))) refl ∙ sym f)
+    other k eqb-false (Some m) f = at-append k m ps (record { set = set; number = n } ∷ []) f ∙ sym f
+    other k eqb-false None f = none-append k ps (record { set = set; number = n } ∷ []) f ∙ (rw (ne_eqb set k (λ s. eqb-false (sym s))) refl ∙ sym f)
 
 pub add : (ps : List Stated) (set n : ℕ) → AreStated ps → InRow (record { set = set; number = n }) → Added ps set n
 add ps set n h r = add_by ps set n h r (number_at set ps) refl
@@ -132,13 +133,10 @@ in_row_at set n [] h e = absurd cc
 in_row_at set n (p ∷ ps) h e = elim (cases_Bool (p.set == set)) [
   | inl t ↦
       let same : p.set ≡ set = eqb-true p.set set t in
-      let value : p.number ≡ n = some_is p.number n (rw t at e) in
+      let value : p.number ≡ n = same_Some p.number n (rw t at e) in
       subst (λ (k : ℕ). InRow (record { set = set; number = k })) value (subst (λ (k : ℕ). InRow (record { set = k; number = p.number })) same h.0)
   | inr f ↦ in_row_at set n ps h.1 (rw f at e)
 ]
-  where
-    some_is : (a b : ℕ) → Some a ≡ Some b → a ≡ b
-    some_is a b e = cc
 
 pub read-append : (ps qs : List Stated) → number_tokens (ps ++ qs) ≡ number_tokens ps ++ number_tokens qs
 read-append [] qs = refl
@@ -241,13 +239,20 @@ at_most_size n (inl h) = absurd (omega (arith, h.0))
 at_most_size n (inr (inl h)) = absurd (omega (arith, h.0))
 at_most_size n (inr (inr h)) = h.1
 
+pub mode_known : (n : ℕ) → n ≤ 1 → (known : Bool) × (n ≡ mode_number known)
+mode_known zero h = (false, refl)
+mode_known (suc zero) h = (true, refl)
+mode_known (suc (suc n)) h = absurd (omega (arith, h))
+
+pub largest_at_most : (n : ℕ) → InRow (record { set = 20; number = n }) → n ≤ greatest_size
+largest_at_most n (inl h) = absurd (omega (arith, h.0))
+largest_at_most n (inr (inl h)) = h.2
+largest_at_most n (inr (inr h)) = h.1
+
 pub mode_at_most_one : (n : ℕ) → InRow (record { set = 10; number = n }) → n ≤ 1
 mode_at_most_one n (inl h) = h.1
 mode_at_most_one n (inr (inl h)) = absurd (omega (arith, h.0))
 mode_at_most_one n (inr (inr h)) = elim h.0 [ inl e ↦ absurd (omega arith) | inr e ↦ absurd (omega arith) ]
-
-ne : (a b : ℕ) → eqb a b ≡ false → a ≡ b → ⊥
-ne a b f e = eqb-false a b f e
 
 -- mode 1, given or to come
 alive_known : (most : ℕ) → 1 ≤ most → (ps : List Stated) → AreLow most ps → AreStated ps → NoClash ps → unwrap_or (number_at 10 ps) 1 ≡ 1 → IsAlive (LanguageWithin most) (number_tokens ps)
@@ -257,10 +262,10 @@ alive_known most some ps low st c one =
     let d = add b.all 90 0 b.are_stated (inr (inr (inl refl, omega arith))) in
     let parts : d.all ≡ ps ++ (a.more ++ (b.more ++ d.more)) =
     d.parts ∙ (ap (λ (t : List Stated). t ++ d.more) b.parts ∙ (ap (λ (t : List Stated). (t ++ b.more) ++ d.more) a.parts ∙ (append_assoc (ps ++ a.more) b.more d.more ∙ append_assoc ps a.more (b.more ++ d.more)))) in
-    let mode : number_at 10 d.all ≡ Some 1 = d.others 10 (ne 10 90 refl) ∙ (b.others 10 (ne 10 20 refl) ∙ (a.here ∙ ap (λ (n : ℕ). Some n) one)) in
-    let largest : number_at 20 d.all ≡ Some (unwrap_or (number_at 20 a.all) 1) = d.others 20 (ne 20 90 refl) ∙ b.here in
-    let same90 : number_at 90 b.all ≡ number_at 90 ps = b.others 90 (ne 90 20 refl) ∙ a.others 90 (ne 90 10 refl) in
-    let same95 : number_at 95 d.all ≡ number_at 95 ps = d.others 95 (ne 95 90 refl) ∙ (b.others 95 (ne 95 20 refl) ∙ a.others 95 (ne 95 10 refl)) in
+    let mode : number_at 10 d.all ≡ Some 1 = d.others 10 (eqb-false 10 90 refl) ∙ (b.others 10 (eqb-false 10 20 refl) ∙ (a.here ∙ ap (λ (n : ℕ). Some n) one)) in
+    let largest : number_at 20 d.all ≡ Some (unwrap_or (number_at 20 a.all) 1) = d.others 20 (eqb-false 20 90 refl) ∙ b.here in
+    let same90 : number_at 90 b.all ≡ number_at 90 ps = b.others 90 (eqb-false 90 20 refl) ∙ a.others 90 (eqb-false 90 10 refl) in
+    let same95 : number_at 95 d.all ≡ number_at 95 ps = d.others 95 (eqb-false 95 90 refl) ∙ (b.others 95 (eqb-false 95 20 refl) ∙ a.others 95 (eqb-false 95 10 refl)) in
     let announced : number_at 90 d.all ≡ Some (unwrap_or (number_at 90 ps) 0) = d.here ∙ ap (λ (o : Option ℕ). Some (unwrap_or o 0)) same90 in
     known_run most ps d.all (a.more ++ (b.more ++ d.more)) (unwrap_or (number_at 20 a.all) 1) (unwrap_or (number_at 90 ps) 0) parts d.are_stated mode largest
     (at_least_one (unwrap_or (number_at 20 a.all) 1) (in_row_at 20 (unwrap_or (number_at 20 a.all) 1) d.all d.are_stated.each largest)) announced
@@ -275,7 +280,7 @@ alive_known most some ps low st c one =
 alive_unknown : (most : ℕ) → 1 ≤ most → (ps : List Stated) → AreLow most ps → AreStated ps → NoClash ps → number_at 10 ps ≡ Some 0 → IsAlive (LanguageWithin most) (number_tokens ps)
 alive_unknown most some ps low st c e =
     let b = add ps 20 1 st (inr (inl (refl, omega arith, omega arith))) in
-    unknown_run most ps b.all b.more (unwrap_or (number_at 20 ps) 1) b.parts b.are_stated (b.others 10 (ne 10 20 refl) ∙ e) b.here (b.others 90 (ne 90 20 refl) ∙ c.mode e) (b.low most some low)
+    unknown_run most ps b.all b.more (unwrap_or (number_at 20 ps) 1) b.parts b.are_stated (b.others 10 (eqb-false 10 20 refl) ∙ e) b.here (b.others 90 (eqb-false 90 20 refl) ∙ c.mode e) (b.low most some low)
 
 mode_cases : (P : Type 0) (o : Option ℕ) → (unwrap_or o 1 ≡ 1 → P) → (o ≡ Some 0 → P) → ((n : ℕ) → o ≡ Some n → n ≤ 1) → P
 mode_cases P None f g h = f refl

@@ -5,10 +5,10 @@ use Rattle.std.proofs.lemmas.List.Sums.{sum_by-cons}
 use Rattle.iim_dataset.proofs.WrittenNumbers.{number_back}
 use Rattle.iim_dataset.specs.Format.Octets.{number, greatest_size}
 use Rattle.iim_object.specs.Format.Sizes.{Agree, number_at, mode_number}
-use Rattle.iim_object.specs.Format.Plans.{fits, limit_of, bound_of}
+use Rattle.iim_object.specs.Format.Plans.{fits, announced_of, maximum_of, limit_of, bound_of}
 use Rattle.iim_object.specs.Format.Records.{numbers_of, lengths_of}
 use Rattle.iim_object.specs.Format.Cuts.{joined_parts, AreFull, IsCut}
-use Rattle.iim_object.specs.Format.Packing.{is_known, announced_of, maximum_of, plan_datasets, subfile_datasets, IsAsKnown, packed_sizes}
+use Rattle.iim_object.specs.Format.Packing.{is_known, plan_datasets, subfile_datasets, IsAsKnown, packed_sizes}
 use Rattle.iim_object.specs.Laws.Packing.{PackedObjectsHaveSizes}
 use Rattle.iim_object.specs.declared.size.Size.{Size}
 use Rattle.iim_object.specs.declared.size.Size.TheVariants.{Known, Unknown}

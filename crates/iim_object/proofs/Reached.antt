@@ -3,6 +3,7 @@ use Rattle.std.proofs.Common.{◌≡◌, ℕ, zero, suc, ◌+◌, ◌-◌, ◌*�
 use Rattle.std.specs.List.{AllByRecursion}
 use Rattle.std.proofs.lemmas.Bool.{cases_lt, eq-eqb}
 use Rattle.std.proofs.lemmas.List.Sums.{sum_by-cons}
+use Rattle.std.proofs.lemmas.List.{nil_from_length}
 use Rattle.std.proofs.Math.Nat.{suc-mul}
 use Rattle.iim_dataset.specs.Format.Languages.{IsAlive}
 use Rattle.iim_dataset.specs.Format.Octets.{greatest_size}
@@ -15,7 +16,7 @@ use Rattle.iim_object.specs.Format.Places.{Place, NotEnded, HasBoth, ending_toke
 use Rattle.iim_object.specs.States.KeptNumbers.{HasNumbers, HasSubfiles, IsState}
 use Rattle.iim_object.specs.States.Reading.{IsStateAt, StandsAt}
 use Rattle.iim_object.specs.Laws.Places.{PlacesAreReached}
-use Rattle.iim_object.proofs.Numbers.{in_row_at, mode_at_most_one, at_least_one, at_most_size}
+use Rattle.iim_object.proofs.Numbers.{in_row_at, mode_at_most_one, at_least_one, at_most_size, largest_at_most}
 use Rattle.iim_object.proofs.Subfiles.{numbers_law, subfiles_law}
 use Rattle.iim_object.proofs.Steps.{tells_of, both_of, not_ended_tokens, number_before}
 
@@ -32,11 +33,6 @@ by_row P set ps each f = by_number (number_at set ps) refl
     by_number : (o : Option ℕ) → number_at set ps ≡ o → IfSome o P
     by_number None e = tt
     by_number (Some n) e = f n (in_row_at set n ps each e)
-
-pub largest_at_most : (n : ℕ) → InRow (record { set = 20; number = n }) → n ≤ greatest_size
-largest_at_most n (inl h) = absurd (omega (arith, h.0))
-largest_at_most n (inr (inl h)) = h.2
-largest_at_most n (inr (inr h)) = h.1
 
 pub maximum_at_most : (n : ℕ) → InRow (record { set = 95; number = n }) → n ≤ greatest_size
 maximum_at_most n (inl h) = absurd (omega (arith, h.0))
@@ -246,10 +242,6 @@ fits_in s is h =
 both_in : (s : State) → HasSubfiles s → HasBoth (numbers_in s)
 both_in s h = (ap (λ (o : Option ℕ). is_some o) (mode_in s ∙ h.mode), ap (λ (o : Option ℕ). is_some o) (largest_in s ∙ h.largest))
 
-pub no_lengths : (xs : List ℕ) → length xs ≡ 0 → xs ≡ []
-no_lengths [] e = refl
-no_lengths (x ∷ xs) e = absurd (omega (arith, e))
-
 alive_in : (s : State) → IsState s → IsAlive ObjectLanguage (tokens_of (place_in s))
 alive_in s is =
     let long : length (lengths_in s) ≡ s.subfiles = filled_length s.subfiles (unwrap_or s.subfile 0) s.total in
@@ -261,7 +253,7 @@ alive_in s is =
           subst (IsAlive ObjectLanguage) (sym (not_ended_tokens (place_in s) refl))
           ((subfiles_law h.known h.subfile (numbers_in s) (lengths_in s) d (omega (arith, long, some))).1 (fits_in s is h))
       | inr none ↦
-          let empty : lengths_in s ≡ [] = no_lengths (lengths_in s) (omega (arith, long, none)) in
+          let empty : lengths_in s ≡ [] = nil_from_length (lengths_in s) (omega (arith, long, none)) in
           subst (IsAlive ObjectLanguage) (sym (number_before (place_in s) empty refl)) ((numbers_law (numbers_in s) stated).1 (clash_in s is.numbers))
     ]
 

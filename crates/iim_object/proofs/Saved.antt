@@ -1,5 +1,7 @@
 -- Where numbers are those of a possible place, and the state that stands there.
-use Rattle.std.proofs.Common.{◌≡◌, ℕ, ◌+◌, ◌-◌, ◌*◌, ◌≤◌, true, List, [], ◌∷◌, ◌++◌, length, sum, Option, Some, None, is_some, IsSome, IfSome, unwrap_or, Result, Ok, Err, IfOk, IfErr, refl, sym, ap, subst, ◌∙◌, arith, length-append}
+use Rattle.std.proofs.Common.{◌≡◌, ℕ, ◌+◌, ◌-◌, ◌*◌, ◌≤◌, true, [], ◌∷◌, ◌++◌, length, sum, Option, Some, None, is_some, IsSome, IfSome, unwrap_or, Result, Ok, Err, IfOk, IfErr, refl, sym, ap, subst, ◌∙◌, arith}
+use Rattle.std.proofs.lemmas.List.{length_push}
+use Rattle.std.proofs.lemmas.Option.{same_Some}
 use Rattle.std.specs.Result.{result_ok}
 use Rattle.iim_dataset.specs.Format.Languages.{IsAlive}
 use Rattle.iim_dataset.specs.Format.Octets.{greatest_size}
@@ -102,9 +104,6 @@ finds_between n taken heads found there back value =
 
 -- ---- within a subfile
 
-long_by : (finished : List ℕ) (count : ℕ) → length (finished ++ count ∷ []) ≡ length finished + 1
-long_by finished count = omega (arith, length-append finished (count ∷ []))
-
 -- before a begun subfile
 abbrev pub state_before : State → ℕ → ℕ → ℕ → ℕ → State
 state_before n taken count left heads = with_subfiles n (heads - 1) (taken - (count - left))
@@ -126,7 +125,7 @@ before n taken count left heads p is possible =
     let s : State = state_before n taken count left heads in
     let q : Place = record p { lengths = b.finished } in
     let token : ObjectToken = SubfileBegun count in
-    let long : length p.lengths ≡ length b.finished + 1 = ap length b.lengths_are ∙ long_by b.finished count in
+    let long : length p.lengths ≡ length b.finished + 1 = ap length b.lengths_are ∙ length_push b.finished count in
     let total : sum p.lengths ≡ sum b.finished + count = ap sum b.lengths_are ∙ sum_more b.finished count in
     let leads : place_after q token ≡ p = λ i. record { stated = p.stated; lengths = sym b.lengths_are i; ending = p.ending } in
     let both : HasBoth p.stated = possible.duties (omega (arith, long)) in
@@ -168,9 +167,6 @@ dead_head n taken count left heads cause refused =
     let all : tokens_of p ≡ tokens_of b.place ++ SubfileBegun count ∷ [] = ap tokens_of (sym b.leads) ∙ tokens_follow b.place (SubfileBegun count) b.follows in
     (refused b.place b.stands b.follows).0.1 (subst (IsAlive ObjectLanguage) all possible.alive))
 
-some_state : (a b : State) → Some a ≡ Some b → a ≡ b
-some_state a b e = cc
-
 pub finds_within : (n : State) (taken count left heads : ℕ) (new : State) → MayHaveBegun taken count left heads → IsState (state_before n taken count left heads)
     → TakesSubfile (state_before n taken count left heads) → LeadsOn (Some (state_before n taken count left heads)) (SubfileBegun count) (Some new)
     → Finds (IsAt (state_numbers n) taken (Some (count, left)) heads) (Some new)
@@ -181,7 +177,7 @@ finds_within n taken count left heads new (some, fits, long, room) is takes goes
     let q : Place = place_after p (SubfileBegun count) in
     let follows = may_take s count is takes in
     let stands : StandsAt (Some new) q = goes p (stands_in s is) follows in
-    let heads_are : heads ≡ length q.lengths = omega (arith, t.subfiles, long, long_by p.lengths count) in
+    let heads_are : heads ≡ length q.lengths = omega (arith, t.subfiles, long, length_push p.lengths count) in
     let octets : sum q.lengths ≡ taken + left = omega (arith, t.total, sum_more p.lengths count, fits, room) in
     record {
       exactly = (
@@ -193,13 +189,13 @@ finds_within n taken count left heads new (some, fits, long, room) is takes goes
             subfiles = heads_are;
             not_ended = refl;
           },
-          possible_of (Some new) q stands (omega (arith, long_by p.lengths count, follows.2)),
+          possible_of (Some new) q stands (omega (arith, length_push p.lengths count, follows.2)),
         ),
         λ h. refl,
       );
       stands = λ x e r here possible.
           let b = before n taken count left heads r here possible in
-          subst (λ (y : State). StandsAt (Some y) r) (some_state new x e) (subst (StandsAt (Some new)) b.leads (goes b.place b.stands b.follows));
+          subst (λ (y : State). StandsAt (Some y) r) (same_Some new x e) (subst (StandsAt (Some new)) b.leads (goes b.place b.stands b.follows));
     }
 
 pub finds_after : (n : State) (taken count left heads : ℕ) (answer : Result State SizeCause) → MayHaveBegun taken count left heads → IsState (state_before n taken count left heads)

@@ -1,7 +1,7 @@
 -- From state to state: each token leads from a state to which tokens lead to another.
 use Rattle.std.proofs.Common.{◌≡◌, ℕ, ◌+◌, ◌≤◌, ◌==◌, List, [], ◌∷◌, ◌++◌, length, Option, Some, None, is_some, IfSome, refl, sym, ap, subst, ◌∙◌, arith, inl, inr, length-append}
 use Rattle.std.specs.List.{AllByRecursion}
-use Rattle.std.proofs.lemmas.Bool.{cases_Bool, eqb-true}
+use Rattle.std.proofs.lemmas.Bool.{cases_Bool, eqb-true, ltb-false}
 use Rattle.iim_dataset.specs.Format.Octets.{greatest_size}
 use Rattle.iim_object.specs.declared.reading.state.State.{State}
 use Rattle.iim_object.specs.Format.Sizes.{Stated, InRow, number_at}
@@ -12,9 +12,9 @@ use Rattle.iim_object.specs.Format.Causes.{number_cause, subfile_cause, bound}
 use Rattle.iim_object.specs.States.KeptNumbers.{IsState}
 use Rattle.iim_object.specs.StateChanges.{TakesNumber, TakesSubfile, set_where, state_with}
 use Rattle.iim_object.specs.States.Reading.{StandsAt, LeadsOn}
-use Rattle.iim_object.proofs.Numbers.{mode_at_most_one, at_least_one, at_most_size}
-use Rattle.iim_object.proofs.Steps.{tells_of, clear_numbers, clear_of, announced_small, not_below, subfile_leads_on}
-use Rattle.iim_object.proofs.Reached.{numbers_in, mode_in, largest_in, announced_in, maximum_in, are_stated, largest_at_most, maximum_at_most, place_in, tells_in, stands_in, state_of}
+use Rattle.iim_object.proofs.Numbers.{mode_at_most_one, at_least_one, at_most_size, largest_at_most}
+use Rattle.iim_object.proofs.Steps.{tells_of, clear_numbers, clear_of, announced_small, subfile_leads_on}
+use Rattle.iim_object.proofs.Reached.{numbers_in, mode_in, largest_in, announced_in, maximum_in, are_stated, maximum_at_most, place_in, tells_in, stands_in, state_of}
 
 -- ---- tokens that may not come
 
@@ -73,7 +73,7 @@ pub room_for : (s : State) (count : ℕ) → IsState s → subfile_cause s.mode 
 room_for s count is no_cause =
     let ps : List Stated = numbers_in s in
     let clear = clear_of ps s.total count ((λ i. subfile_cause (mode_in s i) (largest_in s i) (announced_in s i) (maximum_in s i) s.total count) ∙ no_cause) in
-    let within : s.total + count ≤ bound (number_at 90 ps) (number_at 95 ps) = not_below (bound (number_at 90 ps) (number_at 95 ps)) (s.total + count) clear.within in
+    let within : s.total + count ≤ bound (number_at 90 ps) (number_at 95 ps) = ltb-false (bound (number_at 90 ps) (number_at 95 ps)) (s.total + count) clear.within in
     omega (arith, within, announced_small ps (are_stated s is.numbers) (number_at 90 ps) refl)
 
 -- after the subfiles of a state that takes one more, one may follow

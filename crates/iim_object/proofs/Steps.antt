@@ -1,8 +1,9 @@
 -- How each token leads on, and where the object layer dies with it.
-use Rattle.std.proofs.Common.{◌≡◌, ℕ, zero, suc, ◌+◌, ◌<◌, ◌≤◌, Bool, true, false, ◌&&◌, not, nat_lt, min, eqb, List, [], ◌∷◌, ◌++◌, length, map, sum, Option, Some, None, is_some, IfSome, unwrap_or, refl, sym, ap, subst, ◌∙◌, arith, inl, inr, append_assoc, append-nil, length-append}
+use Rattle.std.proofs.Common.{◌≡◌, ℕ, ◌+◌, ◌<◌, ◌≤◌, Bool, true, false, ◌&&◌, not, nat_lt, min, eqb, List, [], ◌∷◌, ◌++◌, length, map, sum, Option, Some, None, is_some, IfSome, unwrap_or, refl, sym, ap, subst, ◌∙◌, arith, inl, inr, append_assoc, append-nil, length-append}
 use Rattle.std.specs.List.{AllByRecursion}
 use Rattle.std.proofs.lemmas.List.{map-append}
-use Rattle.std.proofs.lemmas.Bool.{cases_Bool, cases_lt, eqb-true, eq-eqb, lt-ltb, le-ltb}
+use Rattle.std.proofs.lemmas.Bool.{cases_Bool, cases_lt, eqb-true, eq-eqb, lt-ltb, le-ltb, and_parts, ltb-false, ltb-true, not-false}
+use Rattle.std.proofs.lemmas.Option.{same_Some}
 use Rattle.iim_dataset.specs.Format.Languages.{IsAlive}
 use Rattle.iim_dataset.specs.Format.Octets.{greatest_size}
 use Rattle.iim_object.specs.declared.reading.state.State.{State}
@@ -16,7 +17,7 @@ use Rattle.iim_object.specs.Laws.Numbers.{TokensFollow}
 use Rattle.iim_object.specs.Format.Causes.{is_given, is_above, number_cause, bound, is_past, subfile_cause, end_cause, confirmed_cause, cause_at}
 use Rattle.iim_object.specs.States.Reading.{IsStateAt, StandsAt, LeadsOn, LivesWith, Refuses, IsSizes}
 use Rattle.iim_object.specs.StateChanges.{set_where, state_start, state_with}
-use Rattle.iim_object.proofs.Numbers.{at-append, at_most_size, in_row_at, mode_at_most_one, none-append, read-append}
+use Rattle.iim_object.proofs.Numbers.{at-append, at_most_size, in_row_at, mode_at_most_one, none-append, read-append, mode_known}
 use Rattle.iim_object.proofs.Subfiles.{numbers_law, subfiles_law, ends_law, confirmed_law, each_append, sum_append}
 
 -- ---- tokens of a place
@@ -69,11 +70,6 @@ pub none_of : (o : Option ℕ) → is_some o ≡ false → o ≡ None
 none_of None e = refl
 none_of (Some n) e = absurd cc
 
-pub both_true : (a b : Bool) → (a && b) ≡ true → (a ≡ true) × (b ≡ true)
-both_true true true e = (refl, refl)
-both_true true false e = absurd cc
-both_true false b e = absurd cc
-
 -- no cause, no clash
 pub clear_numbers : (ps : List Stated) → number_cause (number_at 10 ps) (number_at 90 ps) (number_at 95 ps) ≡ None → NoClash ps
 clear_numbers ps e = elim (cases_Bool (is_given (number_at 10 ps) 0 && is_some (number_at 90 ps))) [
@@ -99,7 +95,7 @@ clear_numbers ps e = elim (cases_Bool (is_given (number_at 10 ps) 0 && is_some (
 clashing_numbers : (ps : List Stated) (c : SizeCause) → number_cause (number_at 10 ps) (number_at 90 ps) (number_at 95 ps) ≡ Some c → NoClash ps → ⊥
 clashing_numbers ps c e clear = elim (cases_Bool (is_given (number_at 10 ps) 0 && is_some (number_at 90 ps))) [
   | inl t ↦
-      let both = both_true (is_given (number_at 10 ps) 0) (is_some (number_at 90 ps)) t in
+      let both = and_parts (is_given (number_at 10 ps) 0) (is_some (number_at 90 ps)) t in
       let none : number_at 90 ps ≡ None = clear.mode (given_is (number_at 10 ps) 0 both.0) in
       let bad : true ≡ false = sym both.1 ∙ ap (λ (o : Option ℕ). is_some o) none in absurd cc
   | inr f ↦ elim (cases_Bool (is_above (number_at 90 ps) (number_at 95 ps))) [
@@ -126,12 +122,9 @@ number_before p none not_ended =
     ap (λ (e : Ending). number_tokens p.stated ++ (map SubfileBegun p.lengths ++ ending_tokens e)) not_ended
     ∙ (ap (λ (ls : List ℕ). number_tokens p.stated ++ (map SubfileBegun ls ++ [])) none ∙ append-nil (number_tokens p.stated))
 
-pub some_is : (a b : State) → Some a ≡ Some b → a ≡ b
-some_is a b e = cc
-
 -- the state that the reader has tells of the place
 pub tells_of : (s : State) (p : Place) → StandsAt (Some s) p → IsStateAt s p
-tells_of s p st = subst (λ (x : State). IsStateAt x p) (sym (some_is s st.state st.is_state)) st.tells
+tells_of s p st = subst (λ (x : State). IsStateAt x p) (sym (same_Some s st.state st.is_state)) st.tells
 
 pub number_tells : (s : State) (p : Place) (set number : ℕ) → IsStateAt s p → AreStated (p.stated ++ record { set = set; number = number } ∷ [])
     → IsStateAt (state_with s set number) (place_after p (NumberRead set number))
@@ -178,11 +171,6 @@ number_refused s set number c e p st (not_ended, none, stated) =
 
 -- ---- subfiles
 
-mode_known : (n : ℕ) → n ≤ 1 → (known : Bool) × (n ≡ mode_number known)
-mode_known zero h = (false, refl)
-mode_known (suc zero) h = (true, refl)
-mode_known (suc (suc n)) h = absurd (omega arith)
-
 pub given : (o : Option ℕ) → is_some o ≡ true → (n : ℕ) × (o ≡ Some n)
 given None e = absurd cc
 given (Some n) e = (n, refl)
@@ -211,12 +199,6 @@ sum_more lengths count = sum_append lengths (count ∷ []) ∙ (let one : sum (c
     one_sum : (n : ℕ) → sum (n ∷ []) ≡ n
     one_sum n = omega arith
 
-pub not_below : (a b : ℕ) → nat_lt a b ≡ false → b ≤ a
-not_below a b f = elim (cases_lt a b) [ inl lt ↦ let bad : true ≡ false = sym (lt-ltb a b lt) ∙ f in absurd cc | inr ge ↦ ge ]
-
-pub is_below : (a b : ℕ) → nat_lt a b ≡ true → a < b
-is_below a b t = elim (cases_lt a b) [ inl lt ↦ lt | inr ge ↦ let bad : false ≡ true = sym (le-ltb a b ge) ∙ t in absurd cc ]
-
 pub or_less : (o : Option ℕ) (n most other : ℕ) → n ≤ min (unwrap_or o most) other → IfSome o (λ m. n ≤ m)
 or_less None n most other h = tt
 or_less (Some m) n most other h = omega arith
@@ -239,14 +221,6 @@ announced_small ps stated (Some a) e = at_most_size a (in_row_at 90 a ps stated.
 both_false : (a b : Bool) → (a && b) ≡ false → a ≡ true → b ≡ false
 both_false true b e t = e
 both_false false b e t = absurd cc
-
-pub not_false : (b : Bool) → not b ≡ false → b ≡ true
-not_false true e = refl
-not_false false e = absurd cc
-
-pub not_true : (b : Bool) → not b ≡ true → b ≡ false
-not_true true e = absurd cc
-not_true false e = refl
 
 -- the tests of a subfile, one after the other
 pub record Clear (ps : List Stated) (total count : ℕ) : Type 0 where
@@ -277,9 +251,9 @@ subfile_fits : (known : Bool) (subfile : ℕ) (ps : List Stated) (lengths : List
     → Fit known subfile ps (lengths ++ count ∷ [])
 subfile_fits known subfile ps lengths count d so clear =
     let sums = sum_more lengths count in
-    let within : sum (lengths ++ count ∷ []) ≤ bound (number_at 90 ps) (number_at 95 ps) = omega (arith, sums, not_below (bound (number_at 90 ps) (number_at 95 ps)) (sum lengths + count) clear.within) in
+    let within : sum (lengths ++ count ∷ []) ≤ bound (number_at 90 ps) (number_at 95 ps) = omega (arith, sums, ltb-false (bound (number_at 90 ps) (number_at 95 ps)) (sum lengths + count) clear.within) in
     let largest : unwrap_or (number_at 20 ps) 0 ≡ subfile = ap (λ (o : Option ℕ). unwrap_or o 0) d.largest in
-    let short : count ≤ subfile = omega (arith, largest, not_below (unwrap_or (number_at 20 ps) 0) count clear.short) in
+    let short : count ≤ subfile = omega (arith, largest, ltb-false (unwrap_or (number_at 20 ps) 0) count clear.short) in
     record {
       clash = so.clash;
       by_mode = announced_by known d.mode;
@@ -291,7 +265,7 @@ subfile_fits known subfile ps lengths count d so clear =
   where
     announced_by : (k : Bool) → number_at 10 ps ≡ Some (mode_number k) → is_some (number_at 90 ps) ≡ k
     announced_by true e =
-        not_false (is_some (number_at 90 ps)) (both_false (is_given (number_at 10 ps) 1) (not (is_some (number_at 90 ps))) clear.announced (is_given_by (number_at 10 ps) 1 e))
+        not-false (is_some (number_at 90 ps)) (both_false (is_given (number_at 10 ps) 1) (not (is_some (number_at 90 ps))) clear.announced (is_given_by (number_at 10 ps) 1 e))
     announced_by false e = ap (λ (o : Option ℕ). is_some o) (so.clash.mode e)
 
 each_last : (subfile : ℕ) (lengths : List ℕ) (count : ℕ) → AllByRecursion (λ n. n ≤ subfile) (lengths ++ count ∷ []) → count ≤ subfile
@@ -389,16 +363,16 @@ whole_of : (o : Option ℕ) (total : ℕ) → end_cause o total ≡ None → IfS
 whole_of None total e h = tt
 whole_of (Some a) total e h = elim (cases_Bool (nat_lt total a)) [
   | inl t ↦ let clash : ◌≡◌ {A = Option SizeCause} (Some Short) None = (rw t at e) in absurd cc
-  | inr f ↦ omega (arith, not_below total a f)
+  | inr f ↦ omega (arith, ltb-false total a f)
 ]
 
 short_of : (o : Option ℕ) (total : ℕ) (c : SizeCause) → end_cause o total ≡ Some c → IfSome o (λ a. total ≡ a) → ⊥
 short_of None total c e h = elim (cases_Bool (nat_lt total 0)) [
-  | inl t ↦ omega (arith, is_below total 0 t)
+  | inl t ↦ omega (arith, ltb-true total 0 t)
   | inr f ↦ let bad : ◌≡◌ {A = Option SizeCause} None (Some c) = (rw f at e) in cc
 ]
 short_of (Some a) total c e h = elim (cases_Bool (nat_lt total a)) [
-  | inl t ↦ omega (arith, is_below total a t)
+  | inl t ↦ omega (arith, ltb-true total a t)
   | inr f ↦ let bad : ◌≡◌ {A = Option SizeCause} None (Some c) = (rw f at e) in cc
 ]
 
@@ -412,6 +386,21 @@ end_cause_is s p t = λ i. end_cause (t.announced i) (t.total i)
 no_length : (xs : List ℕ) → xs ≡ [] → length xs ≡ 0
 no_length xs e = ap length e
 
+-- where the object ends, or its size is confirmed, the state stays
+stays_at : (s : State) (p : Place) (ending : Ending) → StandsAt (Some s) p → 0 < length p.lengths → IsAlive ObjectLanguage (tokens_of (record p { ending = ending }))
+    → StandsAt (Some s) (record p { ending = ending })
+stays_at s p ending st some alive =
+    let t = tells_of s p st in
+    record {
+      state = s;
+      is_state = refl;
+      tells = record { mode = t.mode; largest = t.largest; announced = t.announced; maximum = t.maximum; subfiles = t.subfiles; total = t.total };
+      stated = st.stated;
+      subfiles = λ e. absurd (omega (arith, some, no_length p.lengths e));
+      duties = st.duties;
+      alive = alive;
+    }
+
 pub end_leads_on : (s : State) → end_cause s.announced s.total ≡ None → LeadsOn (Some s) ObjectEnded (Some s)
 end_leads_on s no_cause p st (not_ended, some) =
     let t = tells_of s p st in
@@ -420,15 +409,7 @@ end_leads_on s no_cause p st (not_ended, some) =
     let d = duties.2 in
     let fit = (subfiles_law duties.0 duties.1 p.stated p.lengths d some).0 (subst (IsAlive ObjectLanguage) (not_ended_tokens p not_ended) st.alive) in
     let whole = whole_of (number_at 90 p.stated) (sum p.lengths) (sym (end_cause_is s p t) ∙ no_cause) fit.announced in
-    record {
-      state = s;
-      is_state = refl;
-      tells = record { mode = t.mode; largest = t.largest; announced = t.announced; maximum = t.maximum; subfiles = t.subfiles; total = t.total };
-      stated = st.stated;
-      subfiles = λ e. absurd (omega (arith, no_length p.lengths e));
-      duties = st.duties;
-      alive = (ends_law duties.0 duties.1 p.stated p.lengths d some).1 (fit, whole);
-    }
+    stays_at s p Ended st some ((ends_law duties.0 duties.1 p.stated p.lengths d some).1 (fit, whole))
 
 pub end_refused : (s : State) (c : SizeCause) → end_cause s.announced s.total ≡ Some c → Refuses (Some s) ObjectEnded c
 end_refused s c e p st (not_ended, some) =
@@ -467,13 +448,17 @@ confirmed_wrong : (total n : ℕ) (c : SizeCause) → confirmed_cause total n �
 confirmed_wrong total n c e same =
     let bad : ◌≡◌ {A = Option SizeCause} None (Some c) = (rw (eq-eqb n total same) at e) in cc
 
--- after the end a subfile has come
-some_subfile : (s : State) (p : Place) → StandsAt (Some s) p → p.ending ≡ Ended → 0 < length p.lengths
-some_subfile s p st e = by_lengths p.lengths refl
+-- once the object has ended a subfile has come
+ended_some : (s : State) (p : Place) → StandsAt (Some s) p → (p.ending ≡ NotEnded → ⊥) → 0 < length p.lengths
+ended_some s p st ended = by_lengths p.lengths refl
   where
     by_lengths : (ls : List ℕ) → p.lengths ≡ ls → 0 < length p.lengths
-    by_lengths [] f = let clash : ◌≡◌ {A = Ending} NotEnded Ended = sym (st.subfiles f) ∙ e in absurd cc
+    by_lengths [] f = absurd (ended (st.subfiles f))
     by_lengths (l ∷ ls) f = omega (arith, ap length f)
+
+-- after the end a subfile has come
+some_subfile : (s : State) (p : Place) → StandsAt (Some s) p → p.ending ≡ Ended → 0 < length p.lengths
+some_subfile s p st e = ended_some s p st (λ f. let clash : ◌≡◌ {A = Ending} NotEnded Ended = sym f ∙ e in cc)
 
 pub confirmed_cause_is : (s : State) (p : Place) (n : ℕ) → IsStateAt s p → confirmed_cause s.total n ≡ cause_at p (Confirmed n)
 confirmed_cause_is s p n t = λ i. confirmed_cause (t.total i) n
@@ -487,15 +472,7 @@ confirmed_leads_on s n no_cause p st ended =
     let d = duties.2 in
     let w = (ends_law duties.0 duties.1 p.stated p.lengths d some).0 (subst (IsAlive ObjectLanguage) (ended_tokens p ended) st.alive) in
     let same = confirmed_is (sum p.lengths) n (sym (confirmed_cause_is s p n t) ∙ no_cause) in
-    record {
-      state = s;
-      is_state = refl;
-      tells = record { mode = t.mode; largest = t.largest; announced = t.announced; maximum = t.maximum; subfiles = t.subfiles; total = t.total };
-      stated = st.stated;
-      subfiles = λ e. absurd (omega (arith, no_length p.lengths e));
-      duties = st.duties;
-      alive = (confirmed_law duties.0 duties.1 p.stated p.lengths n d some).1 (w.0, w.1, same);
-    }
+    stays_at s p (ConfirmedAs n) st some ((confirmed_law duties.0 duties.1 p.stated p.lengths n d some).1 (w.0, w.1, same))
 
 pub confirmed_refused : (s : State) (n : ℕ) (c : SizeCause) → confirmed_cause s.total n ≡ Some c → Refuses (Some s) (Confirmed n) c
 confirmed_refused s n c e p st ended =
@@ -547,11 +524,7 @@ known_is o false e = ap (λ (x : Option ℕ). is_given x 1) e
 
 -- after the confirmed size a subfile has come
 some_confirmed : (s : State) (p : Place) (n : ℕ) → StandsAt (Some s) p → p.ending ≡ ConfirmedAs n → 0 < length p.lengths
-some_confirmed s p n st e = by_lengths p.lengths refl
-  where
-    by_lengths : (ls : List ℕ) → p.lengths ≡ ls → 0 < length p.lengths
-    by_lengths [] f = let clash : ◌≡◌ {A = Ending} NotEnded (ConfirmedAs n) = sym (st.subfiles f) ∙ e in absurd cc
-    by_lengths (l ∷ ls) f = omega (arith, ap length f)
+some_confirmed s p n st e = ended_some s p st (λ f. let clash : ◌≡◌ {A = Ending} NotEnded (ConfirmedAs n) = sym f ∙ e in cc)
 
 pub sizes_are : (s : State) (p : Place) (n : ℕ) → StandsAt (Some s) p → p.ending ≡ ConfirmedAs n
     → IsSizes p (record { known = is_given s.mode 1; subfile = unwrap_or s.subfile 0; announced = s.announced; maximum = s.maximum; subfiles = s.subfiles; total = s.total })

@@ -3,6 +3,7 @@ use Rattle.std.proofs.Common.{◌≡◌, ℕ, ◌+◌, ◌-◌, ◌<◌, ◌≤�
 use Rattle.std.specs.List.{AllByRecursion}
 use Rattle.std.proofs.lemmas.List.{map-append}
 use Rattle.std.proofs.lemmas.List.Sums.{sum_by-append}
+use Rattle.std.proofs.lemmas.Option.{same_Some}
 use Rattle.iim_dataset.specs.Format.Languages.{IsAlive}
 use Rattle.iim_object.specs.Laws.Records.{SizesAreDetermined}
 use Rattle.iim_object.specs.Format.Within.{LanguageWithin}
@@ -200,14 +201,11 @@ mode_is true false e = absurd cc
 mode_is false true e = absurd cc
 mode_is false false e = refl
 
-pub number_is : (a b : ℕ) → Some a ≡ Some b → a ≡ b
-number_is a b e = cc
-
 -- a front of lengths that agree fits
 front_fits : (known : Bool) (subfile : ℕ) (ps : List Stated) (lengths more : List ℕ) (rest : List ObjectToken) → HasDuties known subfile ps → (b : Begins ps lengths rest) → b.all ≡ lengths ++ more → Fit known subfile ps lengths
 front_fits known subfile ps lengths more rest d b e =
     let same : b.known ≡ known = mode_is b.known known (sym b.mode ∙ d.mode) in
-    let largest : b.subfile ≡ subfile = number_is b.subfile subfile (sym b.largest ∙ d.largest) in
+    let largest : b.subfile ≡ subfile = same_Some b.subfile subfile (sym b.largest ∙ d.largest) in
     let total : sum b.all ≡ sum lengths + sum more = ap sum e ∙ sum_append lengths more in
     let each : AllByRecursion (λ n. n ≤ subfile) (lengths ++ more) =
     subst (λ (xs : List ℕ). AllByRecursion (λ n. n ≤ subfile) xs) e (subst (λ (k : ℕ). AllByRecursion (λ n. n ≤ k) b.all) largest b.agree.each_subfile) in
@@ -274,7 +272,7 @@ ends_law known subfile ps lengths d some = (
   (λ h. (Confirmed (sum lengths) ∷ [], subst ObjectLanguage (sym (end_parts ps lengths (ObjectEnded ∷ []) (Confirmed (sum lengths) ∷ []))) (whole_object known subfile ps lengths d some h.0 h.1))),
 )
 
-confirmed_is : (n m : ℕ) (rest : List ObjectToken) → ◌≡◌ {A = List ObjectToken} (Confirmed n ∷ rest) (Confirmed m ∷ []) → n ≡ m
+pub confirmed_is : (n m : ℕ) (rest : List ObjectToken) → ◌≡◌ {A = List ObjectToken} (Confirmed n ∷ rest) (Confirmed m ∷ []) → n ≡ m
 confirmed_is n m rest e = cc
 
 pub confirmed_law : TotalsAreConfirmed
@@ -309,7 +307,7 @@ confirmed_within most known subfile ps lengths n low le d some fit whole is = (
 pub sizes_law : SizesAreDetermined
 sizes_law r7 r8 r9 s t a b =
     let known : s.known ≡ t.known = mode_is s.known t.known (sym a.mode ∙ b.mode) in
-    let subfile : s.subfile ≡ t.subfile = number_is s.subfile t.subfile (sym a.largest ∙ b.largest) in
+    let subfile : s.subfile ≡ t.subfile = same_Some s.subfile t.subfile (sym a.largest ∙ b.largest) in
     λ i. record {
       known = known i;
       subfile = subfile i;

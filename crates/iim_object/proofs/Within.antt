@@ -1,13 +1,13 @@
 -- From a possible place the layer can continue by each smaller greatest size that the place keeps to.
-use Rattle.std.proofs.Common.{◌≡◌, ℕ, zero, suc, ◌<◌, ◌≤◌, Bool, true, false, List, [], ◌∷◌, ◌++◌, length, map, sum, Option, Some, None, is_some, refl, sym, ap, subst, ◌∙◌, arith, append-nil}
+use Rattle.std.proofs.Common.{◌≡◌, ℕ, ◌<◌, ◌≤◌, Bool, true, false, List, [], ◌∷◌, ◌++◌, length, map, sum, Option, Some, None, is_some, refl, sym, ap, subst, ◌∙◌, arith, append-nil}
 use Rattle.iim_dataset.specs.Format.Languages.{IsAlive}
-use Rattle.iim_object.specs.Format.Sizes.{Stated, AreStated, number_at, mode_number}
+use Rattle.iim_object.specs.Format.Sizes.{Stated, AreStated, number_at}
 use Rattle.iim_object.specs.Laws.Living.{HasDuties}
 use Rattle.iim_object.specs.Format.Objects.{ObjectToken, SubfileBegun, ObjectLanguage, number_tokens}
 use Rattle.iim_object.specs.Format.Places.{Ending, NotEnded, Ended, ConfirmedAs, HasBoth, ending_tokens}
 use Rattle.iim_object.specs.Format.Within.{LanguageWithin}
 use Rattle.iim_object.specs.Laws.Within.{PlacesLiveWithin}
-use Rattle.iim_object.proofs.Numbers.{AreLow, numbers_low, numbers_alive_within, in_row_at, mode_at_most_one}
+use Rattle.iim_object.proofs.Numbers.{AreLow, numbers_low, numbers_alive_within, in_row_at, mode_at_most_one, mode_known}
 use Rattle.iim_object.proofs.Subfiles.{numbers_law, subfiles_law, ends_law, confirmed_law, subfiles_alive_within, ends_within, confirmed_within}
 
 -- mode and largest subfile of a place that has both
@@ -16,11 +16,6 @@ record Duties (ps : List Stated) : Type 0 where
   subfile : ℕ
   duties : HasDuties known subfile ps
 
-known_as : (n : ℕ) → n ≤ 1 → (known : Bool) × (n ≡ mode_number known)
-known_as zero le = (false, refl)
-known_as (suc zero) le = (true, refl)
-known_as (suc (suc n)) le = absurd (omega (arith, le))
-
 duties_of : (ps : List Stated) → AreStated ps → HasBoth ps → Duties ps
 duties_of ps stated both = by (number_at 10 ps) refl (number_at 20 ps) refl both.0 both.1
   where
@@ -28,7 +23,7 @@ duties_of ps stated both = by (number_at 10 ps) refl (number_at 20 ps) refl both
     by None e l f some more = absurd (let bad : true ≡ false = sym some ∙ ap (λ (o : Option ℕ). is_some o) e in cc)
     by (Some m) e None f some more = absurd (let bad : true ≡ false = sym more ∙ ap (λ (o : Option ℕ). is_some o) f in cc)
     by (Some m) e (Some l) f some more =
-        let mode = known_as m (mode_at_most_one m (in_row_at 10 m ps stated.each e)) in
+        let mode = mode_known m (mode_at_most_one m (in_row_at 10 m ps stated.each e)) in
         record { known = mode.0; subfile = l; duties = record { stated = stated; mode = e ∙ ap (λ (n : ℕ). Some n) mode.1; largest = f } }
 
 with_none : (ps : List Stated) → number_tokens ps ++ (map SubfileBegun [] ++ ending_tokens NotEnded) ≡ number_tokens ps

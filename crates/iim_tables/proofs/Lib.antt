@@ -4,3 +4,5 @@ pub mod NumberLemmas
 pub mod RowLemmas
 pub mod TimeLemmas
 pub mod WorkedRows
+-- What proofs of other crates cite.
+pub mod GoodDatasets

@@ -1,14 +1,10 @@
 -- The number that octets spell, octet by octet, and its bounds.
 use Rattle.std.proofs.Common.{◌≡◌, refl, take, get_or, add-one, ℕ, ◌+◌, ◌-◌, ◌*◌, ◌^◌, ◌<◌, ◌≤◌, [], ◌∷◌, ◌++◌, List, suc, length, ap, arith, length-append}
-use Rattle.byteorder.specs.Numbers.{big_from-cons}
 use Rattle.std.proofs.Math.Seq.{take-suc}
 use Rattle.std.proofs.Math.Nat.{mul_left_comm, mul-le-mul_right, pow-succ', pow-le-pow_right}
 use Rattle.iim_dataset.specs.Format.Octets.{Octets as AreOctets, number}
+use Rattle.iim_dataset.proofs.OctetLists.{number-cons}
 use Rattle.iim_tables.specs.Format.Numbers.{size_octets}
-
--- the first octet counts by its place
-pub number-cons : (b : ℕ) (bs : List ℕ) → number (b ∷ bs) ≡ b * 256 ^ length bs + number bs
-number-cons b bs = ap (λ (r : ℕ). b * 256 ^ length bs + r) (big_from-cons 0 (length bs) b bs)
 
 -- n octets spell less than 256 ^ n
 pub number-lt : (xs : List ℕ) → AreOctets xs → number xs < 256 ^ length xs

@@ -3,8 +3,8 @@ use Rattle.std.proofs.Common.{◌⊎◌, inl, inr, if◌then◌else◌, Option, 
 use Rattle.std.specs.List.{list_all}
 use Rattle.std.proofs.lemmas.List.{length-replicate}
 use Rattle.std.proofs.lemmas.Bool.{and_from, and_parts, eqb-true, le-leb, leb-true}
-use Rattle.iim_tables.proofs.NumberLemmas.{number-cons}
 use Rattle.iim_dataset.specs.Format.Octets.{Octets as AreOctets, within, is_digit, is_letter, number, greatest_size}
+use Rattle.iim_dataset.proofs.OctetLists.{number-cons, octets_append, octets_same}
 use Rattle.iim_tables.specs.Format.Octets.{is_graphic, is_spaced, is_spaced_or_line_end}
 use Rattle.iim_tables.specs.Format.Numbers.{size_octets}
 use Rattle.iim_tables.specs.Format.Kinds.{has_kind, is_size_from}
@@ -37,10 +37,6 @@ all_same : (test : ℕ → Bool) (b n : ℕ) → test b ≡ true → list_all te
 all_same test b zero h = refl
 all_same test b (suc n) h = and_from (test b) (list_all test (replicate n b)) h (all_same test b n h)
 
-octets_same : (b n : ℕ) → b < 256 → AreOctets (replicate n b)
-octets_same b zero h = tt
-octets_same b (suc n) h = (h, octets_same b n h)
-
 number-zeros : (n : ℕ) → number (replicate n 0) ≡ 0
 number-zeros zero = refl
 number-zeros (suc n) = omega (arith, number-cons 0 (replicate n 0), zero-mul (256 ^ length {A = ℕ} (replicate n 0)), number-zeros n)
@@ -48,10 +44,6 @@ number-zeros (suc n) = omega (arith, number-cons 0 (replicate n 0), zero-mul (25
 number-zeros_one : (n : ℕ) → number (replicate n 0 ++ (1 ∷ [])) ≡ 1
 number-zeros_one zero = refl
 number-zeros_one (suc n) = omega (arith, number-cons 0 (replicate n 0 ++ (1 ∷ [])), zero-mul (256 ^ length {A = ℕ} (replicate n 0 ++ (1 ∷ []))), number-zeros_one n)
-
-octets_append : (xs ys : List ℕ) → AreOctets xs → AreOctets ys → AreOctets (xs ++ ys)
-octets_append [] ys h k = k
-octets_append (x ∷ xs) ys h k = (h.0, octets_append xs ys h.1 k)
 
 size_of : (least : ℕ) (xs : List ℕ) → within 1 size_octets (length xs) ≡ true → least ≤ number xs → number xs ≤ greatest_size → is_size_from least xs ≡ true
 size_of least xs h k g =

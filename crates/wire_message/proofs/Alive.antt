@@ -1,9 +1,10 @@
 -- A message can continue from octets that spell a place, and not with an octet after which there is no place.
 use Rattle.std.proofs.Common.{◌≡◌, ℕ, ◌+◌, ◌<◌, ◌≤◌, Bool, true, false, ◌||◌, nat_lt, List, [], ◌∷◌, ◌++◌, length, Option, Some, None, refl, sym, ap, subst, ◌∙◌, arith, append_assoc, append-nil, map}
-use Rattle.std.proofs.lemmas.Bool.{ltb-true}
+use Rattle.std.proofs.lemmas.Bool.{ltb-true, or_right}
 use Rattle.arrayvec.specs.ArrayVec.{ArrayVec}
 use Rattle.iim_dataset.specs.Format.Languages.{IsAlive}
 use Rattle.wire_story.specs.Format.Tokens.{OctetOrEnd, Octet, End, with_end}
+use Rattle.wire_story.proofs.SoFar.{with_end-append, map_snoc}
 use Rattle.wire_message.specs.Format.Fields.{IsField, is_alphanumeric, is_trailer_octet, max_filler, max_source, max_number, max_category, max_words, max_trailer}
 use Rattle.iim_dataset.specs.Format.Octets.{is_digit, is_letter}
 use Rattle.wire_message.specs.Format.Messages.{Header, IsHeader, IsMessage, IsTrailer}
@@ -26,14 +27,6 @@ front_of (b ∷ xs) (c ∷ object) rest e =
     let more = front_of xs object rest tails in
     (more.0, ap (λ (n : ℕ). n ∷ object) (sym same) ∙ ap (λ (u : List ℕ). b ∷ u) more.1)
 
-with_end-append : (xs ys : List ℕ) → with_end (xs ++ ys) ≡ map Octet xs ++ with_end ys
-with_end-append [] ys = refl
-with_end-append (b ∷ xs) ys = ap (λ (u : List OctetOrEnd). Octet b ∷ u) (with_end-append xs ys)
-
-pub map_snoc : (xs : List ℕ) (b : ℕ) → map Octet xs ++ (Octet b ∷ []) ≡ map Octet (xs ++ (b ∷ []))
-map_snoc [] b = refl
-map_snoc (c ∷ xs) b = ap (λ (u : List OctetOrEnd). Octet c ∷ u) (map_snoc xs b)
-
 -- ---- each place can continue to a message
 
 abbrev pub Completes : List ℕ → Type 0
@@ -54,12 +47,8 @@ completes_text xs text h i l = then xs 3 (completes_trailer (xs ++ (3 ∷ [])) t
 fed : (xs text : List ℕ) (h : Header) (k : ℕ) → IsHeader h → 1 ≤ k → k ≤ max_filler → Spells xs text (Gap h k true) → Completes xs
 fed xs text h k i low high l = then xs 2 (completes_text (xs ++ (2 ∷ [])) text h i (gap_stx xs text h k None low high l))
 
-or_true : (x : Bool) → (x || true) ≡ true
-or_true true = refl
-or_true false = refl
-
 feed_comes : (xs text : List ℕ) (h : Header) (k : ℕ) (feed : Bool) → Spells xs text (Gap h k feed) → Spells (xs ++ (10 ∷ [])) text (Gap h (k + 1) true)
-feed_comes xs text h k feed l = subst (λ (f : Bool). Spells (xs ++ (10 ∷ [])) text (Gap h (k + 1) f)) (or_true feed) (gap_more xs text h k feed 10 refl l)
+feed_comes xs text h k feed l = subst (λ (f : Bool). Spells (xs ++ (10 ∷ [])) text (Gap h (k + 1) f)) (or_right feed true refl) (gap_more xs text h k feed 10 refl l)
 
 completes_gap : (xs text : List ℕ) (h : Header) (k : ℕ) (feed : Bool) → IsHeader h → 1 ≤ k → k ≤ max_filler → (feed || nat_lt k max_filler) ≡ true → Spells xs text (Gap h k feed) → Completes xs
 completes_gap xs text h k true i low high on l = fed xs text h k i low high l

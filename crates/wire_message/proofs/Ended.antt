@@ -1,9 +1,9 @@
 -- What a story takes of a text, and the octet at which it stops, as octets of a message.
-use Rattle.std.proofs.Common.{◌≡◌, ℕ, zero, suc, Bool, ◌==◌, ◌+◌, ◌<◌, true, false, List, [], ◌∷◌, ◌++◌, length, take, slice_index, replicate, Option, Some, refl, sym, ap, subst, ◌∙◌, arith, append_assoc, append-nil}
+use Rattle.std.proofs.Common.{◌≡◌, ℕ, Bool, ◌==◌, ◌+◌, ◌<◌, true, false, List, [], ◌∷◌, ◌++◌, length, take, slice_index, replicate, Option, Some, refl, sym, ap, subst, ◌∙◌, arith, append_assoc, append-nil}
 use Rattle.std.proofs.lemmas.List.{take_more}
 use Rattle.std.proofs.lemmas.Bool.{eqb-true}
 use Rattle.std.proofs.lemmas.Bool.Decides.{nat_tests}
-use Rattle.wire_story.specs.Format.Texts.{Holds, IsTextSoFar, is_line_octet, line_end}
+use Rattle.wire_story.specs.Format.Texts.{Holds, IsTextSoFar, line_end}
 use Rattle.wire_story.specs.Format.Tokens.{End, StoryDiesAt}
 use Rattle.wire_story.specs.Laws.Texts.{StoriesLiveAsTextsSoFar, StoriesEndAsTexts, TextsEndInNoReturn, TextsSoFarHaveOneReading}
 use Rattle.wire_story.specs.States.Reading as story
@@ -20,27 +20,20 @@ use Rattle.wire_message.specs.Steps.{cause_of}
 use Rattle.wire_message.specs.declared.fault.MessageCause.TheVariants.{LoneReturn}
 use Rattle.wire_message.specs.declared.place.Place.TheVariants.{Text, Trailer}
 use Rattle.wire_message.proofs.Machine.{of}
-use Rattle.wire_story.proofs.Spans.{Are-tail, Are-head, Are-cons, Are-append}
-use Rattle.wire_message.proofs.TextSoFar.{each}
+use Rattle.wire_story.proofs.Spans.{Are-tail, Are-head, Are-append}
 use Rattle.wire_message.proofs.Transitions.{text_more}
 use Rattle.wire_message.proofs.Held.{holds_two, holds_none}
 use Rattle.wire_message.proofs.Readings.{leads_on_of, goes_somewhere_of, refuses_of, stood_before, text_leads, text_stops, text_refuses, etx_leads, etx_refuses}
+use Rattle.wire_message.proofs.Packed.{returns_text, line_text}
 
 -- ---- octets of a story are octets of a text
 
-line_text : (b : ℕ) → is_line_octet b ≡ true → is_text_octet b ≡ true
-line_text b h = grind (arith, nat_tests)
-
-pub returns_text : (n : ℕ) → Are is_text_octet (replicate n 13)
-returns_text zero = refl
-returns_text (suc n) = Are-cons is_text_octet 13 (replicate n 13) refl (returns_text n)
-
 so_far_text : (x : List ℕ) (lines : List (List ℕ)) (line : List ℕ) (held : ℕ) → IsTextSoFar x lines line held → Are is_text_octet x
 so_far_text x [] line held h =
-    subst (Are is_text_octet) (sym h.2) (Are-append is_text_octet line (replicate held 13) (each is_line_octet is_text_octet line line_text h.0) (returns_text held))
+    subst (Are is_text_octet) (sym h.2) (Are-append is_text_octet line (replicate held 13) (line_text line h.0) (returns_text held))
 so_far_text x (first ∷ lines) line held h =
     subst (Are is_text_octet) (sym h.4)
-    (Are-append is_text_octet first (line_end h.1 ++ h.3) (each is_line_octet is_text_octet first line_text h.0)
+    (Are-append is_text_octet first (line_end h.1 ++ h.3) (line_text first h.0)
     (Are-append is_text_octet (line_end h.1) h.3 (Are-append is_text_octet (replicate h.1 13) (10 ∷ []) (returns_text h.1) refl) (so_far_text h.3 lines line held h.5)))
 
 holds_text : (x : List ℕ) (held : ℕ) → Holds x held → Are is_text_octet x

@@ -1,12 +1,9 @@
 -- How many CR a reader of the text holds.
-use Rattle.std.proofs.Common.{ℕ, ◌≤◌, List, [], ◌∷◌, Some, refl, arith}
-use Rattle.wire_story.specs.Format.Texts.{IsTextSoFar, Holds}
+use Rattle.std.proofs.Common.{ℕ, ◌≤◌, List, Some, refl, arith}
+use Rattle.wire_story.specs.Format.Texts.{Holds}
 use Rattle.wire_story.specs.States.Reading as story
 use Rattle.wire_story.specs.declared.reader.TextReader.{TextReader}
-
-so_far_two : (x : List ℕ) (lines : List (List ℕ)) (line : List ℕ) (held : ℕ) → IsTextSoFar x lines line held → held ≤ 2
-so_far_two x [] line held h = h.1
-so_far_two x (first ∷ lines) line held h = so_far_two h.3 lines line held h.5
+use Rattle.wire_story.proofs.SoFar.{so_far_two}
 
 pub holds_two : (x : List ℕ) (held : ℕ) → Holds x held → held ≤ 2
 holds_two x held h = so_far_two x h.0 h.1 held h.2

@@ -10,11 +10,11 @@ use Rattle.std.proofs.lemmas.Bool.Decides.{nat_tests}
 line_octet_text : (b : ℕ) → is_line_octet b ≡ true → is_text_octet b ≡ true
 line_octet_text b h = grind (arith, nat_tests)
 
-line_text : (xs : List ℕ) → IsLine xs → Are is_text_octet xs
+pub line_text : (xs : List ℕ) → IsLine xs → Are is_text_octet xs
 line_text [] h = refl
 line_text (b ∷ xs) h = Are-cons is_text_octet b xs (line_octet_text b (Are-head is_line_octet b xs h)) (line_text xs (Are-tail is_line_octet b xs h))
 
-returns_text : (n : ℕ) → Are is_text_octet (replicate n 13)
+pub returns_text : (n : ℕ) → Are is_text_octet (replicate n 13)
 returns_text zero = refl
 returns_text (suc n) = returns_text n
 
@@ -27,7 +27,7 @@ text_octets x (line ∷ next ∷ lines) h =
     (Are-append is_text_octet line (line_end h.1 ++ h.3) (line_text line h.0)
     (Are-append is_text_octet (line_end h.1) h.3 (Are-append is_text_octet (replicate h.1 13) (10 ∷ []) (returns_text h.1) refl) (text_octets h.3 (next ∷ lines) h.5)))
 
-spells_packed : (info : List ℕ) → SpellsInfo info (packed_info info)
+pub spells_packed : (info : List ℕ) → SpellsInfo info (packed_info info)
 spells_packed [] = inl (refl, refl)
 spells_packed (b ∷ bs) = inr refl
 

@@ -1,6 +1,6 @@
 -- Octets lead to each place: of each length that is neither too small nor too great. Filler is of zeros; a gap has its LF
 -- first; a text is letters and its held CR.
-use Rattle.std.proofs.Common.{◌≡◌, ℕ, zero, suc, ◌+◌, ◌-◌, ◌≤◌, Bool, true, false, List, [], ◌∷◌, ◌++◌, length, replicate, Some, None, refl, arith, inl, inr, length-append, ⊎_elim}
+use Rattle.std.proofs.Common.{◌≡◌, ℕ, zero, suc, ◌+◌, ◌-◌, ◌≤◌, Bool, true, false, List, [], ◌∷◌, ◌++◌, length, replicate, Some, None, refl, arith, inr, length-append, ⊎_elim}
 use Rattle.std.proofs.lemmas.Bool.{cases_lt}
 use Rattle.std.proofs.lemmas.List.{length-replicate}
 use Rattle.arrayvec.specs.ArrayVec.{ArrayVec}
@@ -15,7 +15,7 @@ use Rattle.wire_message.specs.declared.place.Place.{Place}
 use Rattle.wire_message.specs.declared.place.Place.TheVariants.{Filler, Source, Number, Priority, PriorityRead, Category, Words, Info, Gap, Text, Trailer, AfterEnd}
 use Rattle.wire_story.proofs.Spans.{Are-cons, Are-append}
 use Rattle.wire_message.proofs.Transitions.{field_none}
-use Rattle.wire_message.proofs.Ended.{returns_text}
+use Rattle.wire_message.proofs.Packed.{spells_packed, returns_text}
 
 -- octets of that length lead to the place
 abbrev IsReached : Place → ℕ → Type 0
@@ -94,11 +94,6 @@ gap_feeds : (k : ℕ) (feed : Bool) → has_feed (gap_of k feed) ≡ feed
 gap_feeds k true = refl
 gap_feeds k false = zeros_feed k
 
--- an empty info without its SP
-packed_spells : (info : List ℕ) → SpellsInfo info (packed_info info)
-packed_spells [] = inl (refl, refl)
-packed_spells (b ∷ bs) = inr refl
-
 pub packed_within : (info : List ℕ) → (length info ≤ length (packed_info info)) × (length (packed_info info) ≤ 1 + length info)
 packed_within [] = (omega arith, omega arith)
 packed_within (b ∷ bs) = (omega arith, omega arith)
@@ -119,7 +114,7 @@ gap_reached : (h : Header) (k : ℕ) (feed : Bool) → IsPlace (Gap h k feed)
 gap_reached h k feed i count one =
     let least : ℕ = fixed_octets h + length (packed_info h.info) + k in
     ⊎_elim (λ more. gap_filled h k feed (32 ∷ h.info) i (inr refl) count (omega (arith, more, (packed_within h.info).0)) (omega (arith, one.1)))
-    (λ few. gap_filled h k feed (packed_info h.info) i (packed_spells h.info) count one.0 few) (cases_lt (max_filler + least) count)
+    (λ few. gap_filled h k feed (packed_info h.info) i (spells_packed h.info) count one.0 few) (cases_lt (max_filler + least) count)
 
 -- ---- from STX on the text makes up the length
 
@@ -140,7 +135,7 @@ text_reached h held i count above =
       text,
       record {
         is_place = i;
-        spelled = ([], packed_info h.info, 10 ∷ [], nothing, packed_spells h.info, feed_alone, Are-append is_text_octet (letters k) (replicate held 13) (letters_text k) (returns_text held), refl);
+        spelled = ([], packed_info h.info, 10 ∷ [], nothing, spells_packed h.info, feed_alone, Are-append is_text_octet (letters k) (replicate held 13) (letters_text k) (returns_text held), refl);
         story = (held, refl, ([], letters k, (letters_line k, few, refl)));
       },
       omega (arith, before_text_length h text, length-append (letters k) (replicate held 13), letters_many k, length-replicate {A = ℕ} held 13, above),
@@ -154,7 +149,7 @@ trailer_reached h t i count above =
       letters k,
       record {
         is_place = i;
-        spelled = ([], packed_info h.info, 10 ∷ [], nothing, packed_spells h.info, feed_alone, letters_text k, refl);
+        spelled = ([], packed_info h.info, 10 ∷ [], nothing, spells_packed h.info, feed_alone, letters_text k, refl);
         story = (letters k ∷ [], (letters_line k, refl));
       },
       omega (arith, before_text_length h rest, length-append (letters k) (3 ∷ t.items), letters_many k, above),
@@ -173,7 +168,7 @@ end_reached h t k i count above =
       after = after;
       is_before = nothing;
       is_header = i.0;
-      is_info = packed_spells h.info;
+      is_info = spells_packed h.info;
       is_gap = feed_alone;
       is_text = letters_text more;
       is_trailer = i.1;

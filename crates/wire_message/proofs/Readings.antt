@@ -14,6 +14,7 @@ use Rattle.wire_story.specs.States.Reading as story
 use Rattle.wire_story.specs.declared.reader.TextReader.{TextReader}
 use Rattle.wire_story.specs.declared.fault.TextCause.{TextCause}
 use Rattle.wire_story.specs.declared.fault.TextCause.TheVariants as text_cause
+use Rattle.wire_story.proofs.SoFar.{map_snoc}
 use Rattle.wire_message.specs.Format.Fields.{Are, is_text_octet}
 use Rattle.wire_message.specs.Format.Messages.{Header, IsHeader, IsMessage}
 use Rattle.wire_message.specs.Format.Layers.{MessageDiesAt}
@@ -24,10 +25,10 @@ use Rattle.wire_message.specs.Steps.{cause_of, TakesSome, DiesWith}
 use Rattle.wire_message.specs.declared.fault.MessageCause.{MessageCause}
 use Rattle.wire_message.specs.declared.fault.MessageCause.TheVariants.{BadOctet, LoneReturn}
 use Rattle.wire_message.specs.declared.place.Place.{Place}
-use Rattle.wire_message.specs.declared.place.Place.TheVariants.{Filler, Source, Number, Priority, PriorityRead, Category, Words, Info, Gap, Text, Trailer, AfterEnd}
+use Rattle.wire_message.specs.declared.place.Place.TheVariants.{Text, Trailer, AfterEnd}
 use Rattle.wire_message.proofs.Machine.{of}
 use Rattle.wire_message.proofs.Transitions.{text_more, text_etx, one_is}
-use Rattle.wire_message.proofs.Alive.{message_lives, map_snoc, message_unfinished, IsAfterEnd}
+use Rattle.wire_message.proofs.Alive.{message_lives, message_unfinished, IsAfterEnd}
 use Rattle.wire_message.proofs.Runs.{unread}
 use Rattle.wire_message.proofs.TextSoFar.{text_is, tokens_are, tokens_at_etx}
 use Rattle.wire_message.proofs.Held.{holds_two, stands_two, holds_none}
@@ -186,17 +187,7 @@ is_whole (Some p) e octets text s = ended_whole p e octets text (subst (LeadsTo 
 
 not_after_end : (p : Place) → is_ended (Some p) ≡ false → IsAfterEnd (unread p) → ⊥
 not_after_end (AfterEnd h t k) e h' = absurd cc
-not_after_end (Filler k) e h' = h'
-not_after_end (Source s) e h' = h'
-not_after_end (Number s n) e h' = h'
-not_after_end (Priority s n) e h' = h'
-not_after_end (PriorityRead s n p) e h' = h'
-not_after_end (Category s n p c) e h' = h'
-not_after_end (Words s n p c w) e h' = h'
-not_after_end (Info h) e h' = h'
-not_after_end (Gap h k f) e h' = h'
-not_after_end (Text h r) e h' = h'
-not_after_end (Trailer h t) e h' = h'
+not_after_end other e h' = h'
 
 pub is_unfinished : (reader : Option Place) → is_ended reader ≡ false → (octets text : List ℕ) → StandsAt reader octets text → MessageDiesAt octets End
 is_unfinished reader e octets text s =

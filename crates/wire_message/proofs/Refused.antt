@@ -4,6 +4,7 @@ use Rattle.std.proofs.lemmas.List.{append_cancel_left}
 use Rattle.iim_dataset.specs.Format.Languages.{IsAlive}
 use Rattle.wire_story.specs.Format.Texts.{Holds}
 use Rattle.wire_story.specs.Laws.Texts.{TextsSoFarHaveOneReading, TextsEndInNoReturn}
+use Rattle.wire_story.proofs.SoFar.{map_snoc}
 use Rattle.wire_message.specs.Format.Layers.{MessageLanguage, MessageLivesWith, text_so_far, StoryLivesIn}
 use Rattle.wire_message.specs.States.SoFar.{LeadsTo}
 use Rattle.wire_message.specs.Format.Causes.{StoryDiesWith, HasCause}
@@ -12,7 +13,7 @@ use Rattle.wire_message.specs.declared.place.Place.{Place}
 use Rattle.wire_message.specs.declared.place.Place.TheVariants.{Text}
 use Rattle.wire_message.specs.declared.fault.MessageCause.{MessageCause}
 use Rattle.wire_message.specs.declared.fault.MessageCause.TheVariants.{BadOctet, Unfinished, LoneReturn, ControlOctet, Sink}
-use Rattle.wire_message.proofs.Alive.{map_snoc, message_lives}
+use Rattle.wire_message.proofs.Alive.{message_lives}
 use Rattle.wire_message.proofs.Alike.{Stands, reader_stands, stands_bare}
 use Rattle.wire_message.proofs.Held.{holds_none}
 use Rattle.wire_message.proofs.Living.{message_leads}

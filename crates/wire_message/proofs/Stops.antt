@@ -1,6 +1,6 @@
 -- With which octet no place comes after a place.
-use Rattle.std.proofs.Common.{◌≡◌, ℕ, ◌<◌, ◌≤◌, Bool, false, ◌&&◌, ◌==◌, nat_lt, length, List, ◌++◌, None, ap, ◌∙◌, arith, inl, inr, take, append-nil}
-use Rattle.std.proofs.lemmas.Bool.{and_left, and_right, cases_lt}
+use Rattle.std.proofs.Common.{◌≡◌, ℕ, ◌<◌, Bool, false, ◌&&◌, ◌==◌, nat_lt, length, List, ◌++◌, None, ap, ◌∙◌, arith, inl, inr, take, append-nil}
+use Rattle.std.proofs.lemmas.Bool.{and_left, and_right, cases_lt, le-ltb}
 use Rattle.std.proofs.lemmas.Bool.Decides.{nat_tests}
 use Rattle.arrayvec.specs.ArrayVec.{ArrayVec}
 use Rattle.wire_message.specs.Format.Fields.{is_alphanumeric, is_info_octet, is_trailer_octet, is_filler_octet, max_filler, max_source, max_number, max_category, max_words, max_info, max_trailer}
@@ -21,11 +21,8 @@ not_eq a b h = grind (arith, nat_tests)
 pub stays : (test : ℕ → Bool) (room : ℕ) (xs : ArrayVec ℕ) (b : ℕ) → (length xs.items < room → test b ≡ false) → may test room xs b ≡ false
 stays test room xs b h = elim (cases_lt (length xs.items) room) [
   | inl lt ↦ and_left (test b) (nat_lt (length xs.items) room) (h lt)
-  | inr ge ↦ and_right (test b) (nat_lt (length xs.items) room) (no_room (length xs.items) room ge)
+  | inr ge ↦ and_right (test b) (nat_lt (length xs.items) room) (le-ltb (length xs.items) room ge)
 ]
-  where
-    no_room : (n m : ℕ) → m ≤ n → nat_lt n m ≡ false
-    no_room n m le = grind (arith, nat_tests)
 
 -- without a next place no message can continue
 pub dies : (p : Place) (b : ℕ) → IsPlace p → next (unread p) b ≡ None → DiesWith p b

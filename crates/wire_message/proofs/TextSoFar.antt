@@ -1,7 +1,7 @@
 -- The text so far in octets that spell a place.
 use Rattle.std.proofs.Common.{◌≡◌, ℕ, ◌+◌, Bool, true, false, not, ◌||◌, ◌==◌, cond, nat_lt, List, [], ◌∷◌, ◌++◌, length, take, drop, map, Some, None, refl, sym, ap, subst, ◌∙◌, arith, inl, inr, append-nil}
 use Rattle.std.specs.List.{list_any, position_or_len, before_first, after_first}
-use Rattle.std.proofs.lemmas.Bool.{and_parts}
+use Rattle.std.proofs.lemmas.Bool.{and_parts, or_right}
 use Rattle.std.proofs.lemmas.Bool.Decides.{nat_tests}
 use Rattle.std.proofs.Math.Seq.{drop-append-add, take-append_seam, take-length}
 use Rattle.wire_story.specs.Format.Tokens.{Octet, End}
@@ -53,11 +53,7 @@ any_none k (b ∷ xs) h = any_cons (b == k) (list_any (λ c. c == k) xs) (Are-he
 
 pub any_found : (k : ℕ) (front x : List ℕ) → (k == k) ≡ true → list_any (λ b. b == k) (front ++ (k ∷ x)) ≡ true
 any_found k [] x e = ap (λ (t : Bool). t || list_any (λ c. c == k) x) e
-any_found k (b ∷ front) x e = or_yes (b == k) (list_any (λ c. c == k) (front ++ (k ∷ x))) (any_found k front x e)
-  where
-    or_yes : (x y : Bool) → y ≡ true → (x || y) ≡ true
-    or_yes true y p = refl
-    or_yes false y p = p
+any_found k (b ∷ front) x e = or_right (b == k) (list_any (λ c. c == k) (front ++ (k ∷ x))) (any_found k front x e)
 
 -- ---- no STX stands before the text, and no ETX in it
 

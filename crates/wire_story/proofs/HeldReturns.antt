@@ -24,9 +24,6 @@ held_after held (b ∷ bs) = option_and_then (λ h. held_after h bs) (after_octe
 abbrev pub Step : ℕ → ℕ → ℕ → Type 0
 Step held b k = ((b ≡ 10) × (k ≡ 0)) ⊎ (((b ≡ 13) × (held < 2) × (k ≡ suc held)) ⊎ ((is_line_octet b ≡ true) × (held ≡ 0) × (k ≡ 0)))
 
-pub some_is : (a b : ℕ) → Some a ≡ Some b → a ≡ b
-some_is a b e = cc
-
 chosen-is : (lf cr more line : Bool) (held k : ℕ) → chosen lf cr more line held ≡ Some k
     → ((lf ≡ true) × (k ≡ 0)) ⊎ (((cr ≡ true) × (more ≡ true) × (k ≡ suc held)) ⊎ ((line ≡ true) × (k ≡ 0)))
 chosen-is true cr more line held k e = inl (refl, cc)

@@ -1,9 +1,11 @@
 -- The story layer is alive exactly where the octets are a text so far.
 use Rattle.std.proofs.Common.{◌≡◌, ℕ, zero, suc, ◌<◌, ◌≤◌, List, [], ◌∷◌, ◌++◌, map, replicate, Some, None, refl, sym, ap, subst, ◌∙◌, arith, append-nil, append_assoc, option_and_then}
+use Rattle.std.proofs.lemmas.Option.{same_Some}
 use Rattle.iim_dataset.specs.Format.Languages.{IsAlive}
 use Rattle.wire_story.specs.Format.Texts.{IsLine, line_end, IsText, IsTextSoFar, Holds, AreLines}
 use Rattle.wire_story.specs.Format.Tokens.{OctetOrEnd, Octet, End, with_end, StoryLanguage, LivesWith, StoryDiesAt}
-use Rattle.wire_story.proofs.HeldReturns.{held_after, after_octet, held_is, so_far, and_then_is, some_is}
+use Rattle.wire_story.proofs.HeldReturns.{held_after, after_octet, held_is, so_far, and_then_is}
+use Rattle.wire_story.proofs.SoFar.{with_end-append, map_snoc}
 
 -- ---- octets and their end
 
@@ -18,10 +20,6 @@ front_of (b ∷ bs) (t ∷ ts) rest e =
     let first : t ≡ b = cc in
     let rests : ts ≡ bs ++ more.0 = more.1 in
     (more.0, cc, more.2)
-
-pub with_end-append : (x y : List ℕ) → with_end (x ++ y) ≡ map Octet x ++ with_end y
-with_end-append [] y = refl
-with_end-append (b ∷ bs) y = ap (λ (t : List OctetOrEnd). Octet b ∷ t) (with_end-append bs y)
 
 -- ---- texts and texts so far
 
@@ -107,10 +105,6 @@ live_of x k h =
     let c = completed x h.0 h.1 k h.2 in
     (with_end (completion k), record { text = x ++ completion k; lines = c.0; lined = c.1; tokens_are = sym (with_end-append x (completion k)) })
 
-pub map_snoc : (x : List ℕ) (b : ℕ) → map Octet x ++ (Octet b ∷ []) ≡ map Octet (x ++ (b ∷ []))
-map_snoc [] b = refl
-map_snoc (a ∷ as') b = ap (λ (t : List OctetOrEnd). Octet a ∷ t) (map_snoc as' b)
-
 -- dead with an octet after which no number is held
 pub dies : (x : List ℕ) (k b : ℕ) → Holds x k → after_octet k b ≡ None → StoryDiesAt x (Octet b)
 dies x k b h none = (
@@ -118,7 +112,7 @@ dies x k b h none = (
   λ alive.
       let l = live_held (x ++ (b ∷ [])) (subst (IsAlive StoryLanguage) (map_snoc x b) alive) in
       let p = held_parts 0 x (b ∷ []) l.0 l.1 in
-      let same : p.0 ≡ k = some_is p.0 k (sym p.1 ∙ held_of x k h) in
+      let same : p.0 ≡ k = same_Some p.0 k (sym p.1 ∙ held_of x k h) in
       let q = and_then_is (after_octet p.0 b) (λ j. Some j) l.0 p.2 in
       let clash : after_octet k b ≡ Some q.0 = subst (λ (n : ℕ). after_octet n b ≡ Some q.0) same q.1 in
       cc,
@@ -150,6 +144,6 @@ dies_at_end x k h some = (
   live_of x k h,
   λ alive.
       let t = ended_lines x alive in
-      let none : k ≡ 0 = some_is k 0 (sym (held_of x k h) ∙ text_to x t.0 t.1) in
+      let none : k ≡ 0 = same_Some k 0 (sym (held_of x k h) ∙ text_to x t.0 t.1) in
       omega (arith, some, none),
 )

@@ -3,21 +3,22 @@ use Rattle.std.proofs.Math.Seq.{take-add}
 use Rattle.std.specs.List.{slice_range}
 use Rattle.std.proofs.lemmas.List.{take_rest}
 use Rattle.std.proofs.Common.{◌≡◌, ◌≢◌, ℕ, ◌+◌, ◌<◌, ◌≤◌, Bool, true, false, ◌==◌, nat_lt, ◌&&◌, List, [], ◌∷◌, ◌++◌, take, slice_index, Option, Some, None, refl, sym, ap, subst, ◌∙◌, arith, append-nil, append_assoc, option_and_then, get_or-drop, length}
-use Rattle.std.proofs.lemmas.Bool.{true≢false}
+use Rattle.std.proofs.lemmas.Bool.{true≢false, lt-ltb, le-ltb, and_right, and_left}
 use Rattle.std.proofs.lemmas.Bool.Decides.{nat_tests}
+use Rattle.std.proofs.lemmas.Option.{same_Some}
 use Rattle.wire_story.specs.Format.Texts.{is_line_octet, IsLine, Holds}
 use Rattle.wire_story.specs.Format.Tokens.{LivesWith}
 use Rattle.wire_story.specs.States.Reading.{StandsAt, LeadsOn, IsLoneReturn, IsControl, HasCause, Refuses}
 use Rattle.wire_story.specs.declared.fault.TextCause.{TextCause}
 use Rattle.wire_story.specs.declared.fault.TextCause.TheVariants.{LoneReturn, ControlOctet, Sink}
-use Rattle.wire_story.proofs.HeldReturns.{held_after, after_octet, chosen, some_is, held_line, line_octet_step}
+use Rattle.wire_story.proofs.HeldReturns.{held_after, after_octet, chosen, held_line, line_octet_step}
 use Rattle.wire_story.proofs.Lives.{held_joined, held_of, holds, live_of, dies}
 
 -- ---- pieces
 
 pub leads_on : (h : ℕ) (piece : List ℕ) (k : ℕ) → held_after h piece ≡ Some k → LeadsOn (Some h) piece (Some k)
 leads_on h piece k e octets w =
-    let same : w.0 ≡ h = sym (some_is h w.0 w.1) in
+    let same : w.0 ≡ h = sym (same_Some h w.0 w.1) in
     (k, refl, holds (octets ++ piece) k (held_joined 0 octets piece w.0 k (held_of octets w.0 w.2) (ap (λ n. held_after n piece) same ∙ e)))
 
 pub leads_on_in_line : (run : List ℕ) → IsLine run → LeadsOn (Some 0) run (Some 0)
@@ -43,12 +44,6 @@ refuses_front old mid piece i k cause f g octets w =
 
 -- ---- what an octet does
 
-lt_true : (a b : ℕ) → a < b → nat_lt a b ≡ true
-lt_true a b l = grind (arith, nat_tests)
-
-lt_false : (a b : ℕ) → b ≤ a → nat_lt a b ≡ false
-lt_false a b l = grind (arith, nat_tests)
-
 is_not : (a b : ℕ) → a ≢ b → (a == b) ≡ false
 is_not a b ne = grind (arith, nat_tests)
 
@@ -56,10 +51,10 @@ octet_end : (held b : ℕ) → b ≡ 10 → after_octet held b ≡ Some 0
 octet_end held b e = rw e refl
 
 octet_return : (held b : ℕ) → b ≡ 13 → held < 2 → after_octet held b ≡ Some (held + 1)
-octet_return held b e l = rw (e, lt_true held 2 l) (ap Some (omega arith))
+octet_return held b e l = rw (e, lt-ltb held 2 l) (ap Some (omega arith))
 
 octet_third : (held b : ℕ) → b ≡ 13 → 2 ≤ held → after_octet held b ≡ None
-octet_third held b e l = rw (e, lt_false held 2 l) refl
+octet_third held b e l = rw (e, le-ltb held 2 l) refl
 
 chosen_other : (lf cr more line : Bool) (held : ℕ) → lf ≡ false → cr ≡ false → line ≡ false → chosen lf cr more line held ≡ None
 chosen_other true cr more line held p q r = absurd cc
@@ -67,19 +62,11 @@ chosen_other false true more line held p q r = absurd cc
 chosen_other false false more true held p q r = absurd cc
 chosen_other false false more false held p q r = refl
 
-and_false : (a b : Bool) → b ≡ false → (a && b) ≡ false
-and_false true b e = e
-and_false false b e = refl
-
 octet_after_return : (held b : ℕ) → b ≢ 10 → b ≢ 13 → 0 < held → after_octet held b ≡ None
-octet_after_return held b n m l = chosen_other (b == 10) (b == 13) (nat_lt held 2) (is_line_octet b && (held == 0)) held (is_not b 10 n) (is_not b 13 m) (and_false (is_line_octet b) (held == 0) (is_not held 0 (omega (arith, l))))
-
-false_and : (a b : Bool) → a ≡ false → (a && b) ≡ false
-false_and true b e = absurd cc
-false_and false b e = refl
+octet_after_return held b n m l = chosen_other (b == 10) (b == 13) (nat_lt held 2) (is_line_octet b && (held == 0)) held (is_not b 10 n) (is_not b 13 m) (and_right (is_line_octet b) (held == 0) (is_not held 0 (omega (arith, l))))
 
 octet_control : (b : ℕ) → b ≢ 10 → b ≢ 13 → is_line_octet b ≡ false → after_octet 0 b ≡ None
-octet_control b n m l = chosen_other (b == 10) (b == 13) true (is_line_octet b && true) 0 (is_not b 10 n) (is_not b 13 m) (false_and (is_line_octet b) true l)
+octet_control b n m l = chosen_other (b == 10) (b == 13) true (is_line_octet b && true) 0 (is_not b 10 n) (is_not b 13 m) (and_left (is_line_octet b) true l)
 
 -- below 256 what is no octet of a line, nor LF or CR, is a control octet
 control : (b : ℕ) → b < 256 → b ≢ 10 → b ≢ 13 → is_line_octet b ≡ false → IsControl b
@@ -91,7 +78,7 @@ one_octet : (held k b : ℕ) → after_octet held b ≡ Some k → LeadsOn (Some
 one_octet held k b e = leads_on held (b ∷ []) k (ap (option_and_then (λ n. Some n)) e)
 
 held_by : (held : ℕ) (octets : List ℕ) → StandsAt (Some held) octets → Holds (octets ++ []) held
-held_by held octets w = subst (λ (t : List ℕ). Holds t held) (sym (append-nil octets)) (subst (Holds octets) (sym (some_is held w.0 w.1)) w.2)
+held_by held octets w = subst (λ (t : List ℕ). Holds t held) (sym (append-nil octets)) (subst (Holds octets) (sym (same_Some held w.0 w.1)) w.2)
 
 pub leads_on_end : (held b : ℕ) → b ≡ 10 → LeadsOn (Some held) (b ∷ []) (Some 0)
 leads_on_end held b e = one_octet held 0 b (octet_end held b e)
@@ -152,4 +139,4 @@ refuses_line_feed more octets w =
 
 -- what a reader that stands somewhere holds
 pub stood : (reader : Option ℕ) (held : ℕ) (octets : List ℕ) → reader ≡ Some held → StandsAt reader octets → Holds octets held
-stood reader held octets e w = subst (Holds octets) (sym (some_is held w.0 (sym e ∙ w.1))) w.2
+stood reader held octets e w = subst (Holds octets) (sym (same_Some held w.0 (sym e ∙ w.1))) w.2

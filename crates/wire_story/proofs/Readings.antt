@@ -1,8 +1,9 @@
 -- Octets are lines in one way at most.
 use Rattle.std.proofs.Common.{◌≡◌, ℕ, zero, suc, false, List, [], ◌∷◌, ◌++◌, replicate, refl, sym, ap, subst, ◌∙◌, append-nil, append_assoc}
+use Rattle.std.proofs.lemmas.Option.{same_Some}
 use Rattle.wire_story.specs.Format.Texts.{is_line_octet, IsLine, line_end, IsText, IsTextSoFar}
 use Rattle.wire_story.proofs.Spans.{Are, span, no_stop}
-use Rattle.wire_story.proofs.HeldReturns.{held_is, some_is}
+use Rattle.wire_story.proofs.HeldReturns.{held_is}
 
 pub line_end_is : (j k : ℕ) (x y : List ℕ) → line_end j ++ x ≡ line_end k ++ y → (j ≡ k) × (x ≡ y)
 line_end_is zero zero x y e = (refl, cc)
@@ -78,4 +79,4 @@ pub one_text_so_far : (x : List ℕ) (lines others : List (List ℕ)) (line othe
     → IsTextSoFar x lines line held → IsTextSoFar x others other returns → (lines ≡ others) × (line ≡ other) × (held ≡ returns)
 one_text_so_far x lines others line other held returns h k =
     let s = same_lines x lines others line other held returns h k in
-    (s.0, s.1, some_is held returns (sym (held_is x lines line held h) ∙ held_is x others other returns k))
+    (s.0, s.1, same_Some held returns (sym (held_is x lines line held h) ∙ held_is x others other returns k))

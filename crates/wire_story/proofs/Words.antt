@@ -1,6 +1,6 @@
 -- The words of lines.
 use Rattle.std.proofs.Common.{◌≡◌, ℕ, ◌+◌, ◌&&◌, cond, Bool, true, false, not, List, [], ◌∷◌, ◌++◌, length, map, inl, inr, refl, sym, ap, subst, ◌∙◌, arith, append-nil}
-use Rattle.std.proofs.lemmas.Bool.{cases_Bool, both_ways}
+use Rattle.std.proofs.lemmas.Bool.{cases_Bool, both_ways, not-true}
 use Rattle.std.proofs.lemmas.List.Sums.{sum_by-cons}
 use Rattle.wire_story.specs.Format.Delivery.{StoryEvent, LineOctet, LineEnd, delivered, events_of_lines}
 use Rattle.wire_story.specs.Format.Words.{is_word_octet, words_begun, words_in, words, EndsWord, HasWords, capped, words_told}
@@ -12,11 +12,7 @@ abbrev is_blank : ℕ → Bool
 is_blank b = not (is_word_octet b)
 
 blank_is : (b : ℕ) → is_blank b ≡ true → is_word_octet b ≡ false
-blank_is b h = not_true (is_word_octet b) h
-  where
-    not_true : (w : Bool) → not w ≡ true → w ≡ false
-    not_true true e = absurd cc
-    not_true false e = refl
+blank_is b h = not-true (is_word_octet b) h
 
 -- ---- the count of longest runs
 

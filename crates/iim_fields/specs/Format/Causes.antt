@@ -1,6 +1,6 @@
 -- Why a head or a value is refused. Each cause has a number and a condition; of the causes whose condition holds, the one of
 -- the lowest number is told.
-use Rattle.std.specs.Prelude.{◌≡◌, ◌≢◌, ℕ, ◌+◌, ◌<◌, ◌≤◌, ◌⊎◌, ◌==◌, true, false, List, ◌∷◌, length, None, IsSomeAnd, IsTrue}
+use Rattle.std.specs.Prelude.{◌≡◌, ◌≢◌, ℕ, ◌+◌, ◌<◌, ◌≤◌, ◌⊎◌, ◌==◌, true, false, List, ◌∷◌, length, None, IsSomeAnd, IsTrue, codes}
 use Rattle.std.specs.List.{list_any}
 use Rattle.iim_dataset.specs.Format.Octets.{number}
 use Rattle.iim_dataset.specs.Format.Datasets.{Dataset, head_of}
@@ -82,21 +82,22 @@ OfValue P (AtValue d) = P d
 
 -- ---- the causes
 
--- The number of a cause, and its condition at a token after datasets, under limits.
+-- The number of a cause, its name, and its condition at a token after datasets, under limits.
 pub record Rule : Type 1 where
   pub number : ℕ
+  pub name : List ℕ
   pub holds : Limits → List Dataset → Token → Type 0
 
 abbrev pub rule_of : FieldCause → Rule
-rule_of RecordOrder = record { number = 10; holds = λ limits ds. OfHead (IsOutOfOrder ds) }
-rule_of UnknownDataset = record { number = 11; holds = λ limits ds. OfHead HasNoRow }
-rule_of Repeated = record { number = 12; holds = λ limits ds. OfHead (IsRepeated ds) }
-rule_of CountRange = record { number = 13; holds = λ limits ds. OfHead IsOutOfRange }
-rule_of Missing = record { number = 14; holds = λ limits ds. OfHead (EndsTooEarly ds) }
-rule_of BadValue = record { number = 15; holds = λ limits ds. OfValue IsBad }
-rule_of FileFormat = record { number = 16; holds = λ limits ds. OfValue IsOtherFormat }
-rule_of HeaderFull = record { number = 50; holds = λ limits ds. OfHead (PassesOctets limits ds) }
-rule_of TooManyFields = record { number = 51; holds = λ limits ds. OfHead (PassesFields limits ds) }
+rule_of RecordOrder = record { number = 10; name = codes "RecordOrder"; holds = λ limits ds. OfHead (IsOutOfOrder ds) }
+rule_of UnknownDataset = record { number = 11; name = codes "UnknownDataset"; holds = λ limits ds. OfHead HasNoRow }
+rule_of Repeated = record { number = 12; name = codes "Repeated"; holds = λ limits ds. OfHead (IsRepeated ds) }
+rule_of CountRange = record { number = 13; name = codes "CountRange"; holds = λ limits ds. OfHead IsOutOfRange }
+rule_of Missing = record { number = 14; name = codes "Missing"; holds = λ limits ds. OfHead (EndsTooEarly ds) }
+rule_of BadValue = record { number = 15; name = codes "BadValue"; holds = λ limits ds. OfValue IsBad }
+rule_of FileFormat = record { number = 16; name = codes "FileFormat"; holds = λ limits ds. OfValue IsOtherFormat }
+rule_of HeaderFull = record { number = 50; name = codes "HeaderFull"; holds = λ limits ds. OfHead (PassesOctets limits ds) }
+rule_of TooManyFields = record { number = 51; name = codes "TooManyFields"; holds = λ limits ds. OfHead (PassesFields limits ds) }
 
 -- the number of a cause
 abbrev pub number_of_cause : FieldCause → ℕ

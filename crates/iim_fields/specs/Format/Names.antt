@@ -4,20 +4,11 @@ use Rattle.iim_dataset.specs.Format.Shown.{dataset_name}
 use Rattle.iim_fields.specs.declared.fault.CopyFault.{CopyFault}
 use Rattle.iim_fields.specs.declared.fault.CopyFault.TheVariants.{Passed, OutOfMemory}
 use Rattle.iim_fields.specs.declared.fault.FieldFault.{FieldFault}
-use Rattle.iim_fields.specs.Format.Causes.{number_of_cause}
+use Rattle.iim_fields.specs.Format.Causes.{rule_of, number_of_cause}
 use Rattle.iim_fields.specs.declared.fault.FieldCause.{FieldCause}
-use Rattle.iim_fields.specs.declared.fault.FieldCause.TheVariants.{RecordOrder, UnknownDataset, Repeated, CountRange, Missing, BadValue, FileFormat, HeaderFull, TooManyFields}
 
 abbrev pub name_of_cause : FieldCause → List ℕ
-name_of_cause RecordOrder = codes "RecordOrder"
-name_of_cause UnknownDataset = codes "UnknownDataset"
-name_of_cause Repeated = codes "Repeated"
-name_of_cause CountRange = codes "CountRange"
-name_of_cause Missing = codes "Missing"
-name_of_cause BadValue = codes "BadValue"
-name_of_cause FileFormat = codes "FileFormat"
-name_of_cause HeaderFull = codes "HeaderFull"
-name_of_cause TooManyFields = codes "TooManyFields"
+name_of_cause cause = (rule_of cause).name
 
 -- a cause's number and name, as they are printed
 abbrev pub text_of_cause : FieldCause → List ℕ

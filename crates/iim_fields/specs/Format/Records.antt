@@ -1,6 +1,7 @@
 -- Good records, and the records of an envelope (IIM version 4, the chapters on the envelope, application, pre-ObjectData
 -- descriptor, ObjectData and post-ObjectData descriptor records; their order is the profile's).
 use Rattle.std.specs.Prelude.{◌≡◌, ℕ, ◌==◌, if◌then◌else◌, List, [], ◌∷◌, ◌++◌}
+use Rattle.std.specs.List.{after_first}
 use Rattle.iim_dataset.specs.Format.Datasets.{Dataset}
 use Rattle.iim_tables.specs.Format.Records.{IsGoodRecord}
 
@@ -10,13 +11,7 @@ records = 1 ∷ 2 ∷ 7 ∷ 8 ∷ 9 ∷ []
 
 -- the records that come after a record, 0 standing for the beginning
 abbrev pub after : ℕ → List ℕ
-after r =
-    if r == 0 then records
-    else if r == 1 then 2 ∷ 7 ∷ 8 ∷ 9 ∷ []
-    else if r == 2 then 7 ∷ 8 ∷ 9 ∷ []
-    else if r == 7 then 8 ∷ 9 ∷ []
-    else if r == 8 then 9 ∷ []
-    else []
+after r = if r == 0 then records else after_first (λ k. r == k) records
 
 -- The datasets are good records of these numbers, in this order.
 abbrev pub AreRecords : List ℕ → List Dataset → Type 0

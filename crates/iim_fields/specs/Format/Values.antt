@@ -1,5 +1,5 @@
 -- Datasets from a head and data, and the numbers that they tell.
-use Rattle.std.specs.Prelude.{ℕ, Bool, ◌||◌, ◌==◌, if◌then◌else◌, List, Option, Some, None, IsTrue}
+use Rattle.std.specs.Prelude.{ℕ, Bool, ◌||◌, ◌==◌, if◌then◌else◌, List, Option, Some, None}
 use Rattle.iim_dataset.specs.Format.Octets.{number}
 use Rattle.iim_dataset.specs.Format.Datasets.{Dataset}
 use Rattle.iim_dataset.specs.declared.head.Head.{Head}
@@ -11,10 +11,6 @@ data_of h xs = record { rec = h.rec; set = h.set; octets = xs }
 -- records 7 and 9 tell numbers
 abbrev pub tells_number : ℕ → Bool
 tells_number rec = rec == 7 || rec == 9
-
--- The record's values tell numbers.
-abbrev pub HasNumberValues : ℕ → Type 0
-HasNumberValues rec = IsTrue (tells_number rec)
 
 -- the number that a value tells
 abbrev pub number_told : Dataset → Option ℕ

@@ -1,10 +1,9 @@
 -- Views of the datasets of an envelope.
-use Rattle.std.specs.Prelude.{ℕ, Bool, true, ◌≡◌, ◌&&◌, ◌==◌, if◌then◌else◌, List, [], ◌∷◌, map, codes, Option, Some, None, is_some, ℤ}
+use Rattle.std.specs.Prelude.{ℕ, Bool, ◌&&◌, ◌==◌, if◌then◌else◌, List, [], ◌∷◌, map, codes, Option, Some, None, ℤ}
 use Rattle.std.specs.List.{filter}
 use Rattle.std.specs.Option.{option_and_then, option_or}
 use Rattle.iim_tables.specs.Format.Instants.{instant_in}
 use Rattle.iim_dataset.specs.Format.Datasets.{Dataset}
-use Rattle.iim_fields.specs.Format.Envelopes.{IsEnvelope}
 
 -- the dataset has the numbers
 abbrev pub has_names : ℕ → ℕ → Dataset → Bool
@@ -36,7 +35,3 @@ instant_of_release ds = instant_of_pair 2 30 35 (Some (codes "000000+0000")) ds
 -- the instant of 2:37 Expiration Date and 2:38 Expiration Time, or of that day's last second
 abbrev pub instant_of_expiration : List Dataset → Option ℤ
 instant_of_expiration ds = instant_of_pair 2 37 38 (Some (codes "235959+0000")) ds
-
--- Each envelope has a dataset with the numbers.
-abbrev pub IsInEach : ℕ → ℕ → Type 0
-IsInEach rec set = (ds : List Dataset) → IsEnvelope ds → is_some (first_data rec set ds) ≡ true

@@ -1,13 +1,9 @@
 -- What a check knows of the present record.
-use Rattle.std.specs.Prelude.{◌≡◌, ℕ, Bool, false, List, length, replicate, slice_index_or}
+use Rattle.std.specs.Prelude.{◌≡◌, ℕ, Bool, false, List, length, slice_index_or}
 use Rattle.iim_dataset.specs.Format.Datasets.{Dataset}
 use Rattle.iim_tables.specs.Format.Records.{occurs}
 use Rattle.iim_fields.specs.Format.Faults.{section_after, section_run}
 use Rattle.iim_fields.specs.declared.order.Order.{Order}
-
--- none of the 256 numbers has occurred
-abbrev pub nothing : List Bool
-nothing = replicate 256 false
 
 -- the number has occurred in the present record
 abbrev pub has_seen : Order → ℕ → Bool

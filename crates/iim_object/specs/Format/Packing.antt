@@ -1,8 +1,8 @@
 -- What a packer writes of an object by a plan: record 7, the subfiles and record 9.
-use Rattle.std.specs.Prelude.{◌≡◌, ℕ, ◌≤◌, Bool, true, false, List, [], ◌∷◌, ◌++◌, length, map, Option, Some, None}
+use Rattle.std.specs.Prelude.{◌≡◌, ℕ, ◌≤◌, Bool, List, [], ◌∷◌, ◌++◌, length, map, Some, None, is_some, IfSome}
 use Rattle.iim_dataset.specs.Format.Datasets.{Dataset, canonical_stream, written_number}
 use Rattle.iim_object.specs.Format.Sizes.{mode_number}
-use Rattle.iim_object.specs.Format.Plans.{bound_of}
+use Rattle.iim_object.specs.Format.Plans.{announced_of, maximum_of, bound_of}
 use Rattle.iim_object.specs.Format.Cuts.{IsCut}
 use Rattle.iim_object.specs.declared.size.Size.{Size}
 use Rattle.iim_object.specs.declared.size.Size.TheVariants.{Known, Unknown}
@@ -13,16 +13,7 @@ abbrev pub number_dataset : ℕ → ℕ → ℕ → Dataset
 number_dataset rec set n = record { rec = rec; set = set; octets = written_number n }
 
 abbrev pub is_known : Size → Bool
-is_known (Known n) = true
-is_known (Unknown most) = false
-
-abbrev pub announced_of : Size → Option ℕ
-announced_of (Known n) = Some n
-announced_of (Unknown most) = None
-
-abbrev pub maximum_of : Size → Option ℕ
-maximum_of (Known n) = None
-maximum_of (Unknown most) = most
+is_known size = is_some (announced_of size)
 
 -- 7:90 for a known size, 7:95 for a maximum
 abbrev pub size_datasets : Size → List Dataset
@@ -58,8 +49,7 @@ pub record IsWritten (subfile : ℕ) (size : Size) (object octets : List ℕ) : 
 
 -- The object is as long as a known size says.
 abbrev pub IsAsKnown : Size → List ℕ → Type 0
-IsAsKnown (Known n) object = length object ≡ n
-IsAsKnown (Unknown most) object = Unit {0}
+IsAsKnown size object = IfSome (announced_of size) (λ n. length object ≡ n)
 
 -- The plan has room for the object, which is as long as a known size says.
 pub record Suits (subfile : ℕ) (size : Size) (object : List ℕ) : Type 0 where

@@ -1,5 +1,6 @@
 -- Plans of objects.
-use Rattle.std.specs.Prelude.{ℕ, ◌+◌, ◌*◌, ◌^◌, Bool, true, false, ◌&&◌, nat_le, nat_lt, min, Some, None}
+use Rattle.std.specs.Prelude.{ℕ, ◌+◌, ◌*◌, ◌^◌, Bool, true, false, ◌&&◌, nat_le, nat_lt, min, Option, Some, None, unwrap_or}
+use Rattle.std.specs.Option.{option_or}
 use Rattle.iim_dataset.specs.Format.Datasets.{tag_octets}
 use Rattle.iim_dataset.specs.Format.Octets.{greatest_size, greatest_u32}
 use Rattle.iim_object.specs.declared.size.Size.{Size}
@@ -31,11 +32,19 @@ fits subfile (Unknown None) = true
 abbrev pub is_plan : ℕ → Size → Bool
 is_plan subfile size = nat_le 1 subfile && nat_le subfile greatest_size && fits subfile size
 
+-- a known size is announced
+abbrev pub announced_of : Size → Option ℕ
+announced_of (Known n) = Some n
+announced_of (Unknown most) = None
+
+-- of an unknown one a maximum may be said
+abbrev pub maximum_of : Size → Option ℕ
+maximum_of (Known n) = None
+maximum_of (Unknown most) = most
+
 -- what is said of the size: the known one, the maximum, or the greatest
 abbrev pub limit_of : Size → ℕ
-limit_of (Known n) = n
-limit_of (Unknown (Some m)) = m
-limit_of (Unknown None) = greatest_size
+limit_of size = unwrap_or (option_or (announced_of size) (maximum_of size)) greatest_size
 
 -- the most octets of the object: never more than full subfiles hold
 abbrev pub bound_of : ℕ → Size → ℕ

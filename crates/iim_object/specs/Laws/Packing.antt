@@ -2,11 +2,11 @@
 use Rattle.std.specs.Prelude.{◌↔◌, ℕ, ◌≤◌, IsTrue, IfSome, List, length}
 use Rattle.iim_dataset.specs.Format.Octets.{Octets, greatest_size}
 use Rattle.iim_tables.specs.Format.Records.{IsGoodDataset, IsGoodRecord}
-use Rattle.iim_object.specs.Format.Plans.{is_plan, bound_of, max_subfiles}
+use Rattle.iim_object.specs.Format.Plans.{is_plan, announced_of, maximum_of, bound_of, max_subfiles}
 use Rattle.iim_object.specs.Format.Records.{HaveSizes}
 use Rattle.iim_object.specs.Format.Cuts.{IsCut}
 use Rattle.iim_object.specs.declared.size.Size.{Size}
-use Rattle.iim_object.specs.Format.Packing.{number_dataset, announced_of, maximum_of, plan_datasets, subfile_datasets, confirmed_datasets, Suits, packed_sizes}
+use Rattle.iim_object.specs.Format.Packing.{number_dataset, plan_datasets, subfile_datasets, confirmed_datasets, Suits, packed_sizes}
 
 -- Records 7, 8 and 9 that are written of an object are good.
 pub record AreGoodRecords (subfile : ℕ) (size : Size) (object : List ℕ) (parts : List (List ℕ)) : Type 0 where

@@ -1,13 +1,13 @@
 -- Good records: each dataset as its row says, those that must occur, and those that occur once (IIM version 4, the chapters on
 -- the envelope, application, pre-ObjectData descriptor, ObjectData and post-ObjectData descriptor records).
-use Rattle.std.specs.Prelude.{◌≡◌, ℕ, Bool, true, false, not, ◌&&◌, ◌||◌, ◌==◌, ◌≤◌, List, map, count_by, Option, Some, None, length}
+use Rattle.std.specs.Prelude.{◌≡◌, ℕ, Bool, true, false, not, ◌&&◌, ◌||◌, ◌==◌, ◌≤◌, List, map, count_by, length}
 use Rattle.std.specs.List.{AllByRecursion, list_any, filter}
+use Rattle.std.specs.Option.{option_map_or}
 use Rattle.iim_dataset.specs.Format.Octets.{IsOctet, Octets, number}
 use Rattle.iim_dataset.specs.Format.Datasets.{Dataset}
 use Rattle.iim_tables.specs.Format.Rows.{Meets, row_of, table}
-use Rattle.iim_tables.specs.declared.shape.Row.{Row}
 use Rattle.iim_tables.specs.declared.shape.Duty.{Duty}
-use Rattle.iim_tables.specs.declared.shape.Duty.TheVariants.{Mandatory, Optional, ByMode}
+use Rattle.iim_tables.specs.declared.shape.Duty.TheVariants.{Mandatory}
 
 -- 7:90 has to occur by the mode: that is a matter of sizes
 abbrev pub has_to_occur : Duty → Bool
@@ -18,14 +18,9 @@ has_to_occur other = false
 abbrev pub mandatory : ℕ → List ℕ
 mandatory rec = map (λ e. e.set) (filter (λ e. e.rec == rec && has_to_occur e.row.duty) table)
 
--- the row does not say that the dataset occurs once at most
-abbrev pub may_repeat : Option Row → Bool
-may_repeat None = true
-may_repeat (Some r) = r.repeats
-
 -- no row says that the dataset occurs once at most
 abbrev pub repeats : ℕ → ℕ → Bool
-repeats rec n = may_repeat (row_of rec n)
+repeats rec n = option_map_or (λ r. r.repeats) (row_of rec n) true
 
 -- how many datasets have the number
 abbrev pub occurrences : ℕ → List Dataset → ℕ
@@ -35,13 +30,9 @@ occurrences n ds = count_by (λ d. d.set == n) ds
 abbrev pub occurs : ℕ → List Dataset → Bool
 occurs n ds = list_any (λ d. d.set == n) ds
 
--- it is 1:20 File Format
-abbrev pub is_file_format : Dataset → Bool
-is_file_format d = d.rec == 1 && d.set == 20
-
 -- 1:20 File Format has the value 2
 abbrev pub has_file_format : Dataset → Bool
-has_file_format d = not (is_file_format d) || number d.octets == 2
+has_file_format d = not (d.rec == 1 && d.set == 20) || number d.octets == 2
 
 -- The number is an octet, the data are octets as the row of the dataset says, and a file format is 2.
 pub record IsGoodDataset (d : Dataset) : Type 0 where

@@ -1,7 +1,8 @@
 use Rattle.std.proofs.Common.{take, drop, arith, length-take, length-drop}
+use Rattle.std.proofs.lemmas.List.{take_rest}
 use Rattle.std.proofs.Math.Seq.{take-add}
-use Rattle.iim_dataset.proofs.Devices.{appends_appends, rest_whole}
 use Rattle.iim_dataset.proofs.target.put.Goals as goal
+use Rattle.iim_dataset.specs.Appending.{appends_joined}
 
 pub loop-at-preserved : goal.loop-at-preserved
 loop-at-preserved g c =
@@ -15,8 +16,8 @@ loop-at-preserved g c =
     record {
       within = omega (arith, simp (length-take, length-drop) at sent.0);
       out = (
-        rw (take-add at c.in-Ok.taken piece) (appends_appends old.octets middle.octets new.octets (take at piece) (take c.in-Ok.taken (drop at piece)) out.0
-            (rw (rest_whole piece at) at sent.1)),
+        rw (take-add at c.in-Ok.taken piece) (appends_joined old.octets middle.octets new.octets (take at piece) (take c.in-Ok.taken (drop at piece)) out.0
+            (rw (take_rest piece at) at sent.1)),
         (omega (arith, sent.3, out.1.0), omega (arith, sent.2, out.1.1)),
       );
       patience = omega (arith, sent.3, c.in-Ok.ensures.patience, c.loop-at.invariant.patience);

@@ -1,4 +1,4 @@
-use Rattle.std.proofs.Common.{slice_index, sym, subst}
+use Rattle.std.proofs.Common.{◌≡◌, ℕ, Option, slice_index, sym, subst}
 use Rattle.std.specs.Prelude.{IfNone}
 use Rattle.wire_message.specs.Steps.{DiesWith}
 use Rattle.wire_message.specs.declared.place.Place.{Place}
@@ -8,35 +8,39 @@ use Rattle.wire_message.specs.States.SoFar.{IsPlace}
 use Rattle.wire_message.proofs.Stops.{dies, end_stops}
 use Rattle.wire_message.proofs.next.next_part.Goals as goal
 
+-- what is said of the part, is said of the place that it is
+as_part : {place part : Place} (octet : ℕ) (next : Option Place) → place ≡ part → IfNone next (DiesWith part octet) → IfNone next (DiesWith place octet)
+as_part octet next is dies = subst (λ (p : Place). IfNone next (DiesWith p octet)) (sym is) dies
+
 pub returns-in-Filler-clause-dies : goal.returns-in-Filler-clause-dies
-returns-in-Filler-clause-dies c = subst (λ (p : Place). IfNone c.after_filler.result (DiesWith p (slice_index c.args.rest.now 0))) (sym c.in-Filler.is) c.after_filler.ensures.dies
+returns-in-Filler-clause-dies c = as_part (slice_index c.args.rest.now 0) c.after_filler.result c.in-Filler.is c.after_filler.ensures.dies
 
 pub returns-in-Source-clause-dies : goal.returns-in-Source-clause-dies
-returns-in-Source-clause-dies c = subst (λ (p : Place). IfNone c.after_source.result (DiesWith p (slice_index c.args.rest.now 0))) (sym c.in-Source.is) c.after_source.ensures.dies
+returns-in-Source-clause-dies c = as_part (slice_index c.args.rest.now 0) c.after_source.result c.in-Source.is c.after_source.ensures.dies
 
 pub returns-in-Number-clause-dies : goal.returns-in-Number-clause-dies
-returns-in-Number-clause-dies c = subst (λ (p : Place). IfNone c.after_number.result (DiesWith p (slice_index c.args.rest.now 0))) (sym c.in-Number.is) c.after_number.ensures.dies
+returns-in-Number-clause-dies c = as_part (slice_index c.args.rest.now 0) c.after_number.result c.in-Number.is c.after_number.ensures.dies
 
 pub returns-in-Priority-clause-dies : goal.returns-in-Priority-clause-dies
-returns-in-Priority-clause-dies c = subst (λ (p : Place). IfNone c.in_priority.result (DiesWith p (slice_index c.args.rest.now 0))) (sym c.in-Priority.is) c.in_priority.ensures.dies
+returns-in-Priority-clause-dies c = as_part (slice_index c.args.rest.now 0) c.in_priority.result c.in-Priority.is c.in_priority.ensures.dies
 
 pub returns-in-PriorityRead-clause-dies : goal.returns-in-PriorityRead-clause-dies
-returns-in-PriorityRead-clause-dies c = subst (λ (p : Place). IfNone c.after_priority.result (DiesWith p (slice_index c.args.rest.now 0))) (sym c.in-PriorityRead.is) c.after_priority.ensures.dies
+returns-in-PriorityRead-clause-dies c = as_part (slice_index c.args.rest.now 0) c.after_priority.result c.in-PriorityRead.is c.after_priority.ensures.dies
 
 pub returns-in-Category-clause-dies : goal.returns-in-Category-clause-dies
-returns-in-Category-clause-dies c = subst (λ (p : Place). IfNone c.after_category.result (DiesWith p (slice_index c.args.rest.now 0))) (sym c.in-Category.is) c.after_category.ensures.dies
+returns-in-Category-clause-dies c = as_part (slice_index c.args.rest.now 0) c.after_category.result c.in-Category.is c.after_category.ensures.dies
 
 pub returns-in-Words-clause-dies : goal.returns-in-Words-clause-dies
-returns-in-Words-clause-dies c = subst (λ (p : Place). IfNone c.after_words.result (DiesWith p (slice_index c.args.rest.now 0))) (sym c.in-Words.is) c.after_words.ensures.dies
+returns-in-Words-clause-dies c = as_part (slice_index c.args.rest.now 0) c.after_words.result c.in-Words.is c.after_words.ensures.dies
 
 pub returns-in-Info-clause-dies : goal.returns-in-Info-clause-dies
-returns-in-Info-clause-dies c = subst (λ (p : Place). IfNone c.after_info.result (DiesWith p (slice_index c.args.rest.now 0))) (sym c.in-Info.is) c.after_info.ensures.dies
+returns-in-Info-clause-dies c = as_part (slice_index c.args.rest.now 0) c.after_info.result c.in-Info.is c.after_info.ensures.dies
 
 pub returns-in-Gap-clause-dies : goal.returns-in-Gap-clause-dies
-returns-in-Gap-clause-dies c = subst (λ (p : Place). IfNone c.after_gap.result (DiesWith p (slice_index c.args.rest.now 0))) (sym c.in-Gap.is) c.after_gap.ensures.dies
+returns-in-Gap-clause-dies c = as_part (slice_index c.args.rest.now 0) c.after_gap.result c.in-Gap.is c.after_gap.ensures.dies
 
 pub returns-in-Trailer-clause-dies : goal.returns-in-Trailer-clause-dies
-returns-in-Trailer-clause-dies c = subst (λ (p : Place). IfNone c.after_trailer.result (DiesWith p (slice_index c.args.rest.now 0))) (sym c.in-Trailer.is) c.after_trailer.ensures.dies
+returns-in-Trailer-clause-dies c = as_part (slice_index c.args.rest.now 0) c.after_trailer.result c.in-Trailer.is c.after_trailer.ensures.dies
 
 pub returns-in-AfterEnd-clause-dies : goal.returns-in-AfterEnd-clause-dies
 returns-in-AfterEnd-clause-dies c =

@@ -1,11 +1,12 @@
 use Rattle.std.proofs.Common.{[], subst, inl}
+use Rattle.std.proofs.lemmas.Option.{same_Some}
 use Rattle.iim_fields.specs.Checking.{IsRecordPlace}
-use Rattle.iim_fields.proofs.Checking.{checked_start, same_place}
+use Rattle.iim_fields.proofs.Checking.{checked_start}
 use Rattle.iim_fields.proofs.check.RecordCheck.new.Goals as goal
 
 pub invariant_of-result : goal.invariant_of-result
 invariant_of-result c x same =
-    subst IsRecordPlace (same_place _ x same) (inl ([], checked_start c.each_row_has_values.ensures c.new.result c.new.ensures.rec c.new.ensures.seen))
+    subst IsRecordPlace (same_Some _ x same) (inl ([], checked_start c.each_row_has_values.ensures c.new.result c.new.ensures.rec c.new.ensures.seen))
 
 pub returns-clause-stands : goal.returns-clause-stands
 returns-clause-stands c = checked_start c.each_row_has_values.ensures c.new.result c.new.ensures.rec c.new.ensures.seen

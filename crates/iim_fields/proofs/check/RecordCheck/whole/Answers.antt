@@ -1,8 +1,8 @@
 use Rattle.std.proofs.Common.{◌≡◌, sym, ◌∙◌, subst, arith, true, Option, Some}
+use Rattle.std.proofs.lemmas.Option.{same_Some}
 use Rattle.iim_fields.specs.States.Checks.{AwaitsHead, HasChecked}
 use Rattle.iim_fields.specs.Checking.{IsRecordPlace, TookWhole}
 use Rattle.iim_fields.specs.declared.check.RecordPlace.{RecordPlace}
-use Rattle.iim_fields.proofs.Checking.{same_place}
 use Rattle.iim_fields.proofs.Wholes.{exactly_by, took_by, place_either}
 use Rattle.iim_fields.proofs.check.RecordCheck.whole.Goals as goal
 
@@ -25,5 +25,5 @@ returns-clause-took c is =
 
 pub invariant_of-self : goal.invariant_of-self
 invariant_of-self c x same =
-    subst IsRecordPlace (same_place c.whole.new.self x same)
+    subst IsRecordPlace (same_Some c.whole.new.self x same)
     (place_either c.in-Some.place c.whole.new.self c.args.head c.args.octets.now c.whole.result (between c) c.requires.value (c.self.invariant c.in-Some.place c.in-Some.is) (took c) c.whole.ensures.left)

@@ -1,8 +1,8 @@
 use Rattle.std.proofs.Common.{◌≡◌, sym, ◌∙◌, subst, arith, true, Option, Some}
+use Rattle.std.proofs.lemmas.Option.{same_Some}
 use Rattle.iim_fields.specs.States.Checks.{AwaitsHead, HasChecked}
 use Rattle.iim_fields.specs.Checking.{IsRecordPlace, TookSubfile}
 use Rattle.iim_fields.specs.declared.check.RecordPlace.{RecordPlace}
-use Rattle.iim_fields.proofs.Checking.{same_place}
 use Rattle.iim_fields.proofs.Subfiles.{subfile_exactly, subfile_took, place_subfile_either}
 use Rattle.iim_fields.proofs.check.RecordCheck.whole_subfile.Goals as goal
 
@@ -24,5 +24,5 @@ returns-clause-took c is =
 
 pub invariant_of-self : goal.invariant_of-self
 invariant_of-self c x same =
-    subst IsRecordPlace (same_place c.whole_subfile.new.self x same)
+    subst IsRecordPlace (same_Some c.whole_subfile.new.self x same)
     (place_subfile_either c.in-Some.place c.whole_subfile.new.self c.args.head c.whole_subfile.result (between c) c.requires.subfile (c.self.invariant c.in-Some.place c.in-Some.is) (took c) c.whole_subfile.ensures.left)

@@ -1,4 +1,5 @@
-use Rattle.std.proofs.Common.{ℕ, List, take, Result, Ok, Err, OnOk, IfErr, subst, sym}
+use Rattle.std.proofs.Common.{ℕ, List, take, OnOk, subst, sym}
+use Rattle.std.proofs.lemmas.Result.{IfErr-weaker}
 use Rattle.wire_story.specs.States.Writing.{WritesOctets}
 use Rattle.wire_story.proofs.MadeTexts.{octets_of_line}
 use Rattle.wire_story.proofs.writer.LineWriterStorySink.text.Goals as goal
@@ -7,12 +8,8 @@ pub returns-clause-ok : goal.returns-clause-ok
 returns-clause-ok g c =
     subst (λ (xs : List ℕ). OnOk c.write.result (WritesOctets g.W.Target.state c.args.self.now xs c.write.new.self)) (sym (octets_of_line c.args.run.now)) c.write.ensures.ok
 
-if_err : {T E : Type 0} (r : Result T E) (P Q : E → Type 0) → ((e : E) → P e → Q e) → IfErr r P → IfErr r Q
-if_err (Ok x) P Q f h = h
-if_err (Err e) P Q f h = f e h
-
 pub returns-clause-front : goal.returns-clause-front
 returns-clause-front g c =
-    if_err c.write.result _ _
+    IfErr-weaker c.write.result _ _
     (λ stop. subst (λ (xs : List ℕ). WritesOctets g.W.Target.state c.args.self.now xs c.write.new.self) (sym (octets_of_line (take stop.taken c.args.run.now))))
     c.write.ensures.front

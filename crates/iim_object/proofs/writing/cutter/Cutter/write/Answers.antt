@@ -1,13 +1,11 @@
-use Rattle.std.proofs.Common.{◌≡◌, ℕ, ◌-◌, List, length, take, drop, refl, sym, ap, subst, ◌∙◌, arith, length-drop, take-append-drop}
-use Rattle.std.proofs.Math.Seq.{take-add, take-length}
+use Rattle.std.proofs.Common.{ℕ, List, length, take, drop, refl, sym, ap, subst, ◌∙◌, arith, length-drop, take-append-drop}
+use Rattle.std.proofs.lemmas.List.{take_rest}
+use Rattle.std.proofs.Math.Seq.{take-add}
 use Rattle.iim_object.specs.States.Writing.{Lengthens, BreaksOff, ContinuesWith, write_cause}
 use Rattle.iim_object.specs.Cutting.{writing_of}
 use Rattle.iim_object.specs.declared.plan.Plan.{Plan}
 use Rattle.iim_object.proofs.Written.{goes_nowhere, leads_on, breaks_later, if_none, may_write}
 use Rattle.iim_object.proofs.writing.cutter.Cutter.write.Goals as goal
-
-rest_whole : (xs : List ℕ) (at : ℕ) → take (length xs - at) (drop at xs) ≡ drop at xs
-rest_whole xs at = ap (λ n. take n (drop at xs)) (sym (length-drop at xs)) ∙ take-length (drop at xs)
 
 pub loop-at-init : goal.loop-at-init
 loop-at-init g c = record {
@@ -24,9 +22,9 @@ loop-at-preserved g c =
     let n = c.in-Ok.taken in
     let state = g.W.Target.state in
     let more : Lengthens state (writing_of c.loop-at.self) (writing_of c.take_front.new.self) (take n (drop at xs)) =
-    subst (λ (t : List ℕ). Lengthens state (writing_of c.loop-at.self) (writing_of c.take_front.new.self) (take n t)) (rest_whole xs at) c.in-Ok.ensures.ok in
+    subst (λ (t : List ℕ). Lengthens state (writing_of c.loop-at.self) (writing_of c.take_front.new.self) (take n t)) (take_rest xs at) c.in-Ok.ensures.ok in
     record {
-      within = omega (arith, ap length (rest_whole xs at), length-drop at xs, c.in-Ok.ensures.within, c.loop-at.invariant.within);
+      within = omega (arith, ap length (take_rest xs at), length-drop at xs, c.in-Ok.ensures.within, c.loop-at.invariant.within);
       room = c.take_front.ensures.room;
       same_room = c.take_front.ensures.same_room ∙ c.loop-at.invariant.same_room;
       lengthened = subst (Lengthens state (writing_of c.args.self.now) (writing_of c.take_front.new.self)) (sym (take-add at n xs))
@@ -42,7 +40,7 @@ returns-in-Err-clause-broke g c =
     let b = writing_of c.loop-at.self in
     let d = writing_of c.take_front.new.self in
     let here : BreaksOff state (ContinuesWith c.loop-at.self.plan (drop at xs)) b d =
-    subst (λ (t : List ℕ). BreaksOff state (ContinuesWith c.loop-at.self.plan t) b d) (rest_whole xs at) c.in-Err.ensures.err in
+    subst (λ (t : List ℕ). BreaksOff state (ContinuesWith c.loop-at.self.plan t) b d) (take_rest xs at) c.in-Err.ensures.err in
     let now : BreaksOff state (ContinuesWith c.args.self.now.plan (drop at xs)) b d =
     subst (λ (p : Plan). BreaksOff state (ContinuesWith p (drop at xs)) b d) c.loop-at.invariant.lengthened.plan here in
     if_none (write_cause a (length xs)) _

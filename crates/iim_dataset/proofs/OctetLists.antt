@@ -1,0 +1,20 @@
+-- Lemmas on lists of octets, for the proofs of every crate: nothing here is to be believed.
+use Rattle.std.proofs.Common.{◌≡◌, ℕ, zero, suc, ◌+◌, ◌*◌, ◌^◌, ◌<◌, List, ◌∷◌, ◌++◌, length, replicate, ap, arith}
+use Rattle.byteorder.specs.Numbers.{big_from-cons}
+use Rattle.iim_dataset.specs.Format.Octets.{IsOctet, Octets, number}
+use Rattle.iim_dataset.proofs.Each.{all_append}
+
+pub octets_append : (xs ys : List ℕ) → Octets xs → Octets ys → Octets (xs ++ ys)
+octets_append xs ys h k = all_append IsOctet xs ys h k
+
+-- an octet as often as may be
+pub octets_same : (b n : ℕ) → b < 256 → Octets (replicate n b)
+octets_same b zero h = tt
+octets_same b (suc n) h = (h, octets_same b n h)
+
+pub zeros_are : (n : ℕ) → Octets (replicate n 0)
+zeros_are n = octets_same 0 n (omega arith)
+
+-- the first octet counts by its place
+pub number-cons : (b : ℕ) (bs : List ℕ) → number (b ∷ bs) ≡ b * 256 ^ length bs + number bs
+number-cons b bs = ap (λ (r : ℕ). b * 256 ^ length bs + r) (big_from-cons 0 (length bs) b bs)
