@@ -8,7 +8,8 @@ use Rattle.iim_audit.specs.declared.fault.AuditCause.{AuditCause}
 use Rattle.iim_audit.specs.declared.fault.AuditCause.TheVariants as causes
 use Rattle.iim_audit.specs.Format.Texts.{lines_from, printed_report, row_line, sums_line}
 use Rattle.iim_audit.specs.declared.row.AuditRow.{AuditRow}
-use Rattle.iim_commands.specs.Format.Audits.{CannotTell, IsAuditAnswer, IsUnaudited}
+use Rattle.iim_commands.specs.Format.Audits.{IsAuditAnswer, IsUnaudited}
+use Rattle.iim_commands.specs.Untold.{CannotTell}
 use Rattle.iim_commands.specs.States.Holding.{HasPut, HoldsNothing, device_of}
 use Rattle.iim_commands.specs.Listing.{IsCutShort, IsUnadded}
 use Rattle.iim_commands.specs.Format.Listings.{limits}
@@ -63,6 +64,7 @@ cut_sooner : {W : Type 0} (state : W → Device) (a b : BlockWriter W) (xs ys : 
 cut_sooner state a b xs ys cut = record {
   out = cut.out;
   rest = cut.rest ++ ys;
+  same = cut.same;
   parts = sym (append_assoc a.held.octets xs ys) ∙ ap (λ (t : List ℕ). t ++ ys) cut.parts ∙ append_assoc cut.out cut.rest ys;
   some = some_more cut.rest ys cut.some;
   broke = cut.broke;

@@ -1,13 +1,14 @@
 -- Writers of blocks.
 use Rattle.std.proofs.Common.{◌≡◌, ℕ, zero, suc, ◌+◌, ◌^◌, ◌<◌, ◌≤◌, inl, inr, List, [], ◌∷◌, ◌++◌, length, take, drop, map, refl, sym, ap, subst, ◌∙◌, append-nil, append_assoc, arith, Result, Ok, Err, IfErr, OnOk, OnErr}
 use Rattle.std.proofs.lemmas.List.{take-append-drop}
+use Rattle.std.specs.Borrow.{MutBor}
 use Rattle.std.specs.Io.KnownBytes.{Appends}
 use Rattle.iim_dataset.specs.States.Devices.{Device, Broke, RoseAtLeast, Stopped, Wrote}
 use Rattle.iim_dataset.specs.Format.Counts.{Rose}
 use Rattle.iim_dataset.specs.Laws.Devices.{TextsJoin}
 use Rattle.wire_story.specs.Format.Delivery.{octet_for, LineOctet}
 use Rattle.wire_story.specs.States.Writing.{HasBroken}
-use Rattle.iim_commands.specs.States.Holding.{HasPut, HasStuck, HoldsNothing, PutsOn, PutsLines, StaysStuck, device_of, held_of, stops_of, writer_of}
+use Rattle.iim_commands.specs.States.Holding.{HasPut, HasStuck, HoldsNothing, KeepsWriter, PutsOn, PutsLines, StaysStuck, device_of, held_of, stops_of}
 use Rattle.iim_commands.specs.Listing.{IsCutShort}
 use Rattle.iim_commands.specs.HoldingLaws.{parts_on}
 use Rattle.iim_dataset.specs.declared.stop.Stop.{Stop}
@@ -44,6 +45,7 @@ has_broken a b (inr i) = inr i.2
 pub puts_of_put : {W : Type 0} (state : W → Device) (a b : BlockWriter W) (text : List ℕ) → HasPut state a b text → stops_of b ≡ stops_of a → PutsOn state a b text
 puts_of_put state a b text h same = record {
   out = h.out;
+  same = h.same;
   parts = h.parts;
   writes = record {
     octets = h.wrote.0;
@@ -58,6 +60,7 @@ puts_of_put state a b text h same = record {
 pub puts_of_stuck : {W : Type 0} (state : W → Device) (a b : BlockWriter W) (text : List ℕ) → HasStuck state a b text → Rose (stops_of a) (stops_of b) → PutsOn state a b text
 puts_of_stuck state a b text h rose = record {
   out = h.out;
+  same = h.same;
   parts = h.parts;
   writes = record {
     octets = h.broke.0;
@@ -83,12 +86,18 @@ if_err (Err e) P Q f h = f e h
 
 -- ---- what is held and let out
 
-pub holds : {W : Type 0} (state : W → Device) → TextsJoin → (a b : BlockWriter W) (text : List ℕ) → held_of b ≡ held_of a ++ text → device_of state b ≡ device_of state a → HasPut state a b text
-holds state texts a b text is same = record { out = []; parts = sym is; wrote = subst (λ (d : Device). Wrote (device_of state a) d []) (sym same) (texts.none (device_of state a)) }
+pub holds : {W : Type 0} (state : W → Device) → TextsJoin → (a b : BlockWriter W) (text : List ℕ) → KeepsWriter a b → held_of b ≡ held_of a ++ text → device_of state b ≡ device_of state a → HasPut state a b text
+holds state texts a b text keeps is same = record {
+  out = [];
+  same = keeps;
+  parts = sym is;
+  wrote = subst (λ (d : Device). Wrote (device_of state a) d []) (sym same) (texts.none (device_of state a));
+}
 
-pub lets_out : {W : Type 0} (state : W → Device) (a b : BlockWriter W) (octets : List ℕ) → octets ≡ held_of a → held_of b ≡ [] → Wrote (device_of state a) (device_of state b) octets → HasPut state a b []
-lets_out state a b octets is none wrote = record {
+pub lets_out : {W : Type 0} (state : W → Device) (a b : BlockWriter W) (octets : List ℕ) → KeepsWriter a b → octets ≡ held_of a → held_of b ≡ [] → Wrote (device_of state a) (device_of state b) octets → HasPut state a b []
+lets_out state a b octets same is none wrote = record {
   out = octets;
+  same = same;
   parts = append-nil (held_of a) ∙ sym is ∙ sym (ap (λ (t : List ℕ). octets ++ t) none ∙ append-nil octets);
   wrote = wrote;
 }
@@ -99,10 +108,11 @@ some_left zero (x ∷ xs) le = omega arith
 some_left (suc n) [] le = absurd (omega (arith, le))
 some_left (suc n) (x ∷ xs) le = some_left n xs (omega (arith, le))
 
-pub stays_stuck : {W : Type 0} (state : W → Device) (a b : BlockWriter W) (octets : List ℕ) (n : ℕ) → octets ≡ held_of a → held_of b ≡ drop n (held_of a) → Stopped (device_of state a) (device_of state b) octets n → Rose (stops_of a) (stops_of b) → StaysStuck state a b
-stays_stuck state a b octets n is rest stopped rose = (
+pub stays_stuck : {W : Type 0} (state : W → Device) (a b : BlockWriter W) (octets : List ℕ) (n : ℕ) → KeepsWriter a b → octets ≡ held_of a → held_of b ≡ drop n (held_of a) → Stopped (device_of state a) (device_of state b) octets n → Rose (stops_of a) (stops_of b) → StaysStuck state a b
+stays_stuck state a b octets n same is rest stopped rose = (
   record {
     out = take n octets;
+    same = same;
     parts = append-nil (held_of a) ∙ sym is ∙ sym (ap (λ (t : List ℕ). take n octets ++ t) (rest ∙ ap (drop n) (sym is)) ∙ take-append-drop n octets);
     broke = (stopped.1, stopped.2);
   },
@@ -111,16 +121,18 @@ stays_stuck state a b octets n is rest stopped rose = (
 )
 
 -- a text that is longer than a block, where nothing is held
-pub passes_through : {W : Type 0} (state : W → Device) (a b : BlockWriter W) (text : List ℕ) → HoldsNothing a → held_of b ≡ held_of a → Wrote (device_of state a) (device_of state b) text → HasPut state a b text
-passes_through state a b text none same wrote = record {
+pub passes_through : {W : Type 0} (state : W → Device) (a b : BlockWriter W) (text : List ℕ) → KeepsWriter a b → HoldsNothing a → held_of b ≡ held_of a → Wrote (device_of state a) (device_of state b) text → HasPut state a b text
+passes_through state a b text keeps none same wrote = record {
   out = text;
+  same = keeps;
   parts = ap (λ (t : List ℕ). t ++ text) none ∙ sym (ap (λ (t : List ℕ). text ++ t) (same ∙ none) ∙ append-nil text);
   wrote = wrote;
 }
 
-pub breaks_through : {W : Type 0} (state : W → Device) (a b : BlockWriter W) (text : List ℕ) (n : ℕ) → HoldsNothing a → held_of b ≡ held_of a → Stopped (device_of state a) (device_of state b) text n → HasStuck state a b (take n text)
-breaks_through state a b text n none same stopped = record {
+pub breaks_through : {W : Type 0} (state : W → Device) (a b : BlockWriter W) (text : List ℕ) (n : ℕ) → KeepsWriter a b → HoldsNothing a → held_of b ≡ held_of a → Stopped (device_of state a) (device_of state b) text n → HasStuck state a b (take n text)
+breaks_through state a b text n keeps none same stopped = record {
   out = take n text;
+  same = keeps;
   parts = ap (λ (t : List ℕ). t ++ take n text) none ∙ sym (ap (λ (t : List ℕ). take n text ++ t) (same ∙ none) ∙ append-nil (take n text));
   broke = (stopped.1, stopped.2);
 }
@@ -128,6 +140,7 @@ breaks_through state a b text n none same stopped = record {
 pub stuck_on : {W : Type 0} (state : W → Device) → TextsJoin → (a b c : BlockWriter W) (xs ys : List ℕ) → HasPut state a b xs → HasStuck state b c ys → HasStuck state a c (xs ++ ys)
 stuck_on state texts a b c xs ys first then = record {
   out = first.out ++ then.out;
+  same = then.same ∙ first.same;
   parts = parts_on (held_of a) (held_of b) (held_of c) xs ys first.out then.out first.parts then.parts;
   broke = texts.broke (device_of state a) (device_of state b) (device_of state c) first.out then.out first.wrote then.broke;
 }
@@ -162,6 +175,7 @@ cut_by_stuck state texts a b c text put stuck =
     record {
       out = both.out;
       rest = held_of c;
+      same = both.same;
       parts = sym (ap (λ (t : List ℕ). held_of a ++ t) (append-nil text)) ∙ both.parts;
       some = stuck.1;
       broke = both.broke;
@@ -172,6 +186,7 @@ pub cut_by_put : {W : Type 0} (state : W → Device) (a b : BlockWriter W) (text
 cut_by_put state a b text n within stuck = record {
   out = stuck.out;
   rest = held_of b ++ drop n text;
+  same = stuck.same;
   parts =
       ap (λ (t : List ℕ). held_of a ++ t) (sym (take-append-drop n text)) ∙ sym (append_assoc (held_of a) (take n text) (drop n text)) ∙ ap (λ (t : List ℕ). t ++ drop n text) stuck.parts
       ∙ append_assoc stuck.out (held_of b) (drop n text);
@@ -188,6 +203,7 @@ pub cut_on : {W : Type 0} (state : W → Device) → TextsJoin → (a b c : Bloc
 cut_on state texts a b c xs ys put cut = record {
   out = put.out ++ cut.out;
   rest = cut.rest;
+  same = cut.same ∙ put.same;
   parts = parts_on (held_of a) (held_of b) cut.rest xs ys put.out cut.out put.parts cut.parts;
   some = cut.some;
   broke = texts.broke (device_of state a) (device_of state b) (device_of state c) put.out cut.out put.wrote cut.broke;
@@ -208,7 +224,8 @@ pub taken_none : {T : Type 0} (r : Result T Stop) → IfErr r (λ stop. stop.tak
 taken_none (Ok y) few = tt
 taken_none (Err stop) few = omega (arith, few)
 
--- what is so of the devices of a writer is so of the target that it was made of and the one that it hands back
-pub between : {W : Type 0} (state : W → Device) (P : Device → Device → Type 0) (a c : BlockWriter W) (output last : W) → writer_of a ≡ output → last ≡ writer_of c → P (device_of state a) (device_of state c)
-    → P (state output) (state last)
-between state P a c output last begun ended p = subst (λ w. P (state output) (state w)) (sym ended) (subst (λ w. P (state w) (device_of state c)) begun p)
+-- what is so of the devices of a writer is so of the target that it was lent, before and after
+pub between : {W : Type 0} {after : Device} (state : W → Device) (P : Device → Device → Type 0) (a c : BlockWriter W) (first last : MutBor W) → a.writer ≡ first → last ≡ c.writer → after ≡ state last.now → P (device_of state a) (device_of state c)
+    → P (state first.now) after
+between state P a c first last begun ended back p =
+    subst (P (state first.now)) (sym back) (subst (λ (r : MutBor _). P (state first.now) (state r.now)) (sym ended) (subst (λ (r : MutBor _). P (state r.now) (device_of state c)) begun p))

@@ -17,7 +17,7 @@ use Rattle.wire_message.specs.declared.place.Place.TheVariants.{AfterEnd}
 use Rattle.wire_story.specs.Format.Delivery.{StoryEvent, delivered, octet_for}
 use Rattle.wire_story.specs.Laws.Texts.{LinesAreJoinedByLineFeeds, TextsAreDeliveredAsLines}
 use Rattle.wire_story.specs.States.Writing.{HasBroken}
-use Rattle.iim_commands.specs.States.Holding.{HoldsNothing, PutsLines, PutsOn, StaysStuck, device_of, held_of, stops_of}
+use Rattle.iim_commands.specs.States.Holding.{HoldsNothing, KeepsWriter, PutsLines, PutsOn, StaysStuck, device_of, held_of, stops_of}
 use Rattle.iim_commands.specs.HoldingLaws.{puts_on}
 use Rattle.iim_commands.proofs.Holding.{puts_of_stuck}
 use Rattle.iim_commands.specs.declared.block_writer.BlockWriter.{BlockWriter}
@@ -392,6 +392,11 @@ unended_text {state = state} {source = source} {mid = mid} {rest = rest} {old = 
     let less = but_last (text_of e) w.out (held_of d) 10 (front_of state a d (text_of e ++ (10 ∷ [])) empty w) u.1 in
     rw is (broke_in_text state joins source mid rest old errors_old errors_new a d count e.octets (length e.octets) (text_of e) (text_of e ++ (10 ∷ [])) less.0
     r t.come.came.given (omega arith) (λ all nothing. (e, t.come.is, refl)) t.whole w less.1 none (rose_from (stops_of a) (stops_of b) (stops_of d) calm rose))
+
+-- where the LF is not out, the writer is over the same target
+pub unended_keeps : {W : Type 0} (state : W → Device) (b d : BlockWriter W) (fault : CommandFault) → IsUnended state b d fault → KeepsWriter b d
+unended_keeps state b d fault (is, rose, inl u) = u.same
+unended_keeps state b d fault (is, rose, inr u) = u.0.same
 
 -- what was added where memory was not refused
 pub pushed : {E : Type 0} (r : Result (Unit {0}) E) (P : Type 0) → is_err r ≡ false → OnOk r P → P

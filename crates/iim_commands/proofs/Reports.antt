@@ -287,15 +287,6 @@ settled_starved state texts text source rest a b c (Err OutOfMemory) result empt
     let cut = cut_by_stuck state texts a b c words put s.1 in
     rw s.0 (input, es, begun, words, length cut.out, divided, given, inl refl, stopped_in state a c words empty cut)
 
-pub settled_ok : {W : Type 0} (state : W → Device) (text : ℕ → Listed → List ℕ) (source rest : Device) (a b c : BlockWriter W) (answer result : Result ℕ CommandFault)
-    → IfOk answer (WritesListing text source rest (device_of state a) (device_of state b)) → Settles state b c answer result → IfOk result (WritesListing text source rest (device_of state a) (device_of state c))
-settled_ok state text source rest a b c (Ok x) result ok s =
-    rw s.0 (subst (λ (w : BlockWriter _). WritesListing text source rest (device_of state a) (device_of state w) x) (sym s.1) ok)
-settled_ok state text source rest a b c (Err CannotRead) result ok s = rw s.0 tt
-settled_ok state text source rest a b c (Err CannotWrite) result ok s = rw s.0 tt
-settled_ok state text source rest a b c (Err OutOfMemory) result ok (inl s) = rw s.0 tt
-settled_ok state text source rest a b c (Err OutOfMemory) result ok (inr s) = rw s.0 tt
-
 -- memory was short before anything was read
 pub nothing_listed : GiftsJoin → TextsJoin → (text : ℕ → Listed → List ℕ) (source old new : Device) → new ≡ old → FailsListing text source source old new OutOfMemory
 nothing_listed joins texts text source old new same =

@@ -1,5 +1,5 @@
 -- What an intake gives, of an unpacker that stands on no octets.
-use Rattle.std.proofs.Common.{◌≡◌, ◌≢◌, ◌⊎◌, ℕ, inl, inr, refl, sym, ap, subst, ◌∙◌, arith, List, [], ◌∷◌, length, take, Option, None, Some, Result, Ok}
+use Rattle.std.proofs.Common.{◌≡◌, ◌≢◌, ◌⊎◌, ℕ, inl, inr, refl, sym, ap, subst, ◌∙◌, arith, List, [], ◌∷◌, length, take, Option, None, Some, Result, Ok, Err}
 use Rattle.std.proofs.Math.Seq.{take-length}
 use Rattle.iim_dataset.specs.Format.Datasets.{count_octets}
 use Rattle.iim_dataset.specs.States.Devices.{Device, HasGiven}
@@ -29,6 +29,7 @@ use Rattle.iim_places.specs.declared.refusal.Cause.{Cause}
 use Rattle.iim_places.specs.declared.refusal.Cause.TheVariants.{Sink, Truncated}
 use Rattle.iim_commands.specs.Feeding.{IsOfFault}
 use Rattle.iim_commands.specs.declared.fault.CommandFault.{CommandFault}
+use Rattle.iim_commands.specs.declared.fault.CommandFault.TheVariants.{CannotRead, CannotWrite, OutOfMemory}
 use Rattle.iim_commands.specs.States.Coming.{CanAskForMore, EnvelopeHasCome, IsCalm, IsCutOff, IsHeldUp, IsNext, IsRefusal, IsUnheard}
 use Rattle.iim_commands.specs.Format.Listings.{limits, IsDelivered}
 
@@ -174,6 +175,18 @@ refusal_as goes failures settled stuck old new u a b x e is n = subst (λ (y : N
 pub end_as : {S : Type 0} (goes : S → List StoryEvent → S → Type 0) (failures : S → ℕ) (settled : S → Type 0) (stuck : S → S → Type 0) (old new : Device) (u : Unpacking) (a b : S) (x : Next)
     → x ≡ next.End → IsNext goes failures settled stuck (old, a) (new, u, b) (Ok x) → HasGiven old new [] × IsAtEnd new.octets × goes a [] b × settled b
 end_as goes failures settled stuck old new u a b x is n = subst (λ (y : Next). IsNext goes failures settled stuck (old, a) (new, u, b) (Ok y)) is n
+
+-- what is so of what a sink is told, and stays so where it is held up, is so of what comes next
+pub kept_next : {S : Type 0} (goes : S → List StoryEvent → S → Type 0) (failures : S → ℕ) (settled : S → Type 0) (stuck : S → S → Type 0) (K : S → S → Type 0)
+    → ((a b : S) (more : List StoryEvent) → goes a more b → K a b) → ((a b d : S) → K a b → stuck b d → K a d) → (old new : Device) (u : Unpacking) (a b : S) (result : Result Next CommandFault)
+    → IsNext goes failures settled stuck (old, a) (new, u, b) result → K a b
+kept_next goes failures settled stuck K keep then old new u a b (Ok (next.Envelope octets)) c = keep a b c.more c.came.told
+kept_next goes failures settled stuck K keep then old new u a b (Ok next.End) c = keep a b [] c.2
+kept_next goes failures settled stuck K keep then old new u a b (Ok (next.Refused refusal)) c = keep a b c.more c.came.told
+kept_next goes failures settled stuck K keep then old new u a b (Err CannotRead) (c, rests) = keep a b c.more c.told
+kept_next goes failures settled stuck K keep then old new u a b (Err CannotWrite) (inl c) = keep a b c.more c.came.told
+kept_next goes failures settled stuck K keep then old new u a b (Err CannotWrite) (inr c) = then a c.told b (keep a c.told c.more c.came.told) c.holds_back
+kept_next goes failures settled stuck K keep then old new u a b (Err OutOfMemory) c = absurd c
 
 -- ---- of an unpacker that was fed
 

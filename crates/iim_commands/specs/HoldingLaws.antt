@@ -1,6 +1,5 @@
 -- The laws of writers of blocks, handed in by their impls.
-use Rattle.std.proofs.Common.{◌≡◌, ℕ, List, [], ◌∷◌, ◌++◌, map, refl, sym, ap, subst, ◌∙◌, append-nil, append_assoc, Option, None, Some, arith}
-use Rattle.std.specs.Io.KnownBytes.{Appends}
+use Rattle.std.proofs.Common.{◌≡◌, ℕ, List, [], ◌∷◌, ◌++◌, map, refl, sym, ap, subst, ◌∙◌, append-nil, append_assoc, arith}
 use Rattle.std.proofs.lemmas.List.{map-append}
 use Rattle.iim_dataset.specs.States.Devices.{Device}
 use Rattle.iim_dataset.specs.Appending.{appends_nothing, appends_joined}
@@ -26,11 +25,12 @@ parts_on held mid rest first second out more one two =
     sym (append_assoc held first second) ∙ ap (λ (t : List ℕ). t ++ second) one ∙ append_assoc out mid second ∙ ap (λ (t : List ℕ). out ++ t) two ∙ sym (append_assoc out more rest)
 
 pub puts_nothing : {W : Type 0} (state : W → Device) (b : BlockWriter W) → PutsLines state b [] b
-puts_nothing state b = record { out = []; parts = append-nil (held_of b); writes = writes_nothing (device_of state b) (stops_of b) }
+puts_nothing state b = record { out = []; same = refl; parts = append-nil (held_of b); writes = writes_nothing (device_of state b) (stops_of b) }
 
 pub puts_on : {W : Type 0} (state : W → Device) (a b c : BlockWriter W) (xs ys : List ℕ) → PutsOn state a b xs → PutsOn state b c ys → PutsOn state a c (xs ++ ys)
 puts_on state a b c xs ys first then = record {
   out = first.out ++ then.out;
+  same = then.same ∙ first.same;
   parts = parts_on (held_of a) (held_of b) (held_of c) xs ys first.out then.out first.parts then.parts;
   writes = writes_on (device_of state a) (device_of state b) (device_of state c) (stops_of a) (stops_of b) (stops_of c) first.out then.out first.writes then.writes;
 }
@@ -42,11 +42,12 @@ puts_joined state a b c xs ys first then =
 -- ---- where no write failed
 
 pub put_nothing : {W : Type 0} (state : W → Device) (b : BlockWriter W) → HasPut state b b []
-put_nothing state b = record { out = []; parts = append-nil (held_of b); wrote = (appends_nothing (device_of state b).octets, (refl, omega arith)) }
+put_nothing state b = record { out = []; same = refl; parts = append-nil (held_of b); wrote = (appends_nothing (device_of state b).octets, (refl, omega arith)) }
 
 pub put_on : {W : Type 0} (state : W → Device) (a b c : BlockWriter W) (xs ys : List ℕ) → HasPut state a b xs → HasPut state b c ys → HasPut state a c (xs ++ ys)
 put_on state a b c xs ys first then = record {
   out = first.out ++ then.out;
+  same = then.same ∙ first.same;
   parts = parts_on (held_of a) (held_of b) (held_of c) xs ys first.out then.out first.parts then.parts;
   wrote = (
     appends_joined (device_of state a).octets (device_of state b).octets (device_of state c).octets first.out then.out first.wrote.0 then.wrote.0,

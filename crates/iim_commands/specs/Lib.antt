@@ -6,9 +6,11 @@ pub mod States
 pub mod Laws
 -- What only proofs and private clauses cite.
 pub mod Listing
+pub mod Endings
 pub mod Faults
 pub mod Feeding
 pub mod HoldingLaws
 pub mod NarrationEnds
 pub mod PackSteps
+pub mod Untold
 pub mod Verbs

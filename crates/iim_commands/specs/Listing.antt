@@ -2,7 +2,7 @@
 use Rattle.std.specs.Prelude.{◌≡◌, ℕ, ◌<◌, List, ◌++◌, length, ◌⊎◌, [], Result, Err}
 use Rattle.iim_dataset.specs.States.Devices.{Device, BrokeAfter, HasGiven}
 use Rattle.iim_commands.specs.declared.block_writer.BlockWriter.{BlockWriter}
-use Rattle.iim_commands.specs.States.Holding.{held_of, device_of, HasPut, HoldsNothing, StaysStuck}
+use Rattle.iim_commands.specs.States.Holding.{held_of, device_of, HasPut, HoldsNothing, KeepsWriter, StaysStuck}
 use Rattle.iim_places.specs.Format.Listing.{Divides, Listed}
 use Rattle.iim_commands.specs.Format.Lines.{texts_from}
 use Rattle.iim_commands.specs.Format.Listings.{limits}
@@ -14,6 +14,7 @@ use Rattle.iim_commands.specs.declared.fault.CommandFault.TheVariants.{CannotWri
 pub record IsCutShort {W : Type 0} (state : W → Device) (old new : BlockWriter W) (text : List ℕ) : Type 0 where
   pub out : List ℕ
   pub rest : List ℕ
+  pub same : KeepsWriter old new
   pub parts : held_of old ++ text ≡ out ++ rest
   pub some : 0 < length rest
   pub broke : BrokeAfter (device_of state old) (device_of state new) out

@@ -3,9 +3,10 @@
 ghost use Rattle.std.specs.Prelude.{◌≡◌, None, IfOk, IfErr, OnOk};
 ghost use Rattle.iim_audit.specs.Format.Texts.{printed_report};
 ghost use Rattle.iim_unpack.specs.States.Intakes.{in_line};
-ghost use Rattle.iim_commands.specs.Format.Audits.{Audited, IsUnaudited, TellsWhy, CannotTell};
-ghost use Rattle.iim_commands.specs.States.Holding.{HasPut, HoldsNothing, device_of};
+ghost use Rattle.iim_commands.specs.Format.Audits.{Audited, IsUnaudited, TellsWhy};
+ghost use Rattle.iim_commands.specs.States.Holding.{HasPut, HoldsNothing, KeepsWriter, device_of};
 ghost use Rattle.iim_commands.specs.Listing.{IsUnadded};
+ghost use Rattle.iim_commands.specs.Untold.{CannotTell};
 
 use crate::block_writer::BlockWriter;
 use crate::coming::LIMITS;
@@ -37,7 +38,10 @@ fn reason(alloc: Global, fault: AuditFault) -> Result<Vec<u8>, CommandFault>
 }
 
 /// Writes the lines of a report, and lets out all. It takes no memory.
-fn add_report<W: Target>(output: &mut BlockWriter<W>, report: &Report) -> Result<(), CommandFault>
+fn add_report<W: Target>(
+    output: &mut BlockWriter<'_, W>,
+    report: &Report,
+) -> Result<(), CommandFault>
     ensures ok { OnOk result (HasPut W.state output.old output.new (printed_report report.now)) }
     ensures held { OnOk result (HoldsNothing output.new) }
     ensures err { IfErr result (IsUnadded W.state output.old output.new (printed_report report.now)) }
@@ -55,7 +59,7 @@ fn report_input<R: Source, W: Target>(
     alloc: Global,
     now: Timestamp,
     intake: &mut Intake<R>,
-    output: &mut BlockWriter<W>,
+    output: &mut BlockWriter<'_, W>,
 ) -> Result<u8, CommandFault>
     requires alive { intake.old.failed ≡ None }
     requires held { HoldsNothing output.old }
@@ -63,6 +67,7 @@ fn report_input<R: Source, W: Target>(
         (device_of W.state output.old) (device_of W.state output.new)) }
     ensures err { IfErr result (IsUnaudited now.nanosecond (in_line R.state intake.old) (in_line R.state intake.new)
         (device_of W.state output.old) (device_of W.state output.new)) }
+    ensures same { KeepsWriter output.old output.new }
     ensures leads { R.leads intake.old.reader intake.new.reader }
 {
     match audit(alloc, intake, LIMITS, now) {
@@ -78,21 +83,21 @@ fn report_input<R: Source, W: Target>(
     }
 }
 
-/// Writes the report of an input at the instant `now`, or the line that tells why there is none. Answers the status, and hands back the
-/// output. Memory is asked for before anything is written; where a write fails, what of the text is not out is lost.
+/// Writes the report of an input at the instant `now`, or the line that tells why there is none. Memory is asked for before anything is
+/// written; where a write fails, what of the text is not out is lost.
 pub fn write_audit<R: Source, W: Target>(
     alloc: Global,
     now: Timestamp,
     intake: &mut Intake<R>,
-    output: W,
-) -> (Result<u8, CommandFault>, W)
+    output: &mut W,
+) -> Result<u8, CommandFault>
     requires { intake.old.failed ≡ None }
-    ensures ok { IfOk result.0
-        (Audited now.nanosecond (in_line R.state intake.old) (in_line R.state intake.new) (W.state output)
-        (W.state result.1)) }
-    ensures err { IfErr result.0
-        (IsUnaudited now.nanosecond (in_line R.state intake.old) (in_line R.state intake.new) (W.state output)
-        (W.state result.1)) }
+    ensures ok { IfOk result
+        (Audited now.nanosecond (in_line R.state intake.old) (in_line R.state intake.new) (W.state output.old)
+        (W.state output.new)) }
+    ensures err { IfErr result
+        (IsUnaudited now.nanosecond (in_line R.state intake.old) (in_line R.state intake.new) (W.state output.old)
+        (W.state output.new)) }
     ensures leads { R.leads intake.old.reader intake.new.reader }
 {
     gifts_join();
@@ -100,8 +105,13 @@ pub fn write_audit<R: Source, W: Target>(
         Ok(made) => {
             let mut blocks = made;
             let answer = report_input(alloc, now, intake, &mut blocks);
-            (answer, blocks.into_writer())
+            // No effect at run time. The proof reads what the output holds from this use of what is handed back.
+            let _ = &*blocks.into_writer();
+            answer
         }
-        Err(output) => (Err(CommandFault::OutOfMemory), output),
+        Err(same) => {
+            let _ = &*same;
+            Err(CommandFault::OutOfMemory)
+        }
     }
 }

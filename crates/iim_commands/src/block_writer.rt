@@ -16,21 +16,21 @@ use wire_story::StorySink;
 /// Writes to a target in blocks: holds octets until a block of them is full, or until it is told to let them out. What it took is out,
 /// or held; a failed write loses none of it. It counts its stops up to the greatest number of 64 bits.
 #[derive(Drop)]
-pub struct BlockWriter<W> {
-    writer: W,
+pub struct BlockWriter<'w, W> {
+    writer: &'w mut W,
     held: Held,
     stops: u64,
 }
 
-impl<W: Target> BlockWriter<W> {
-    ghost use Rattle.iim_commands.specs.States.Holding.{HasPut, HasStuck, PutsOn, StaysStuck, HoldsNothing, writer_of, held_of, stops_of};
+impl<'w, W: Target> BlockWriter<'w, W> {
+    ghost use Rattle.iim_commands.specs.States.Holding.{HasPut, HasStuck, PutsOn, StaysStuck, HoldsNothing, held_of, stops_of};
 
-    /// A writer that holds nothing. Where memory is refused, the target is handed back.
-    pub fn new(alloc: Global, writer: W) -> Result<BlockWriter<W>, W>
-        ensures writer { IfOk result (λ made. writer_of made ≡ writer) }
+    /// A writer that holds nothing, over a target that it is lent. Where memory is refused, the target is handed back.
+    pub fn new(alloc: Global, writer: &'w mut W) -> Result<BlockWriter<'w, W>, &'w mut W>
+        ensures writer { IfOk result (λ made. made.writer ≡ writer.entry) }
         ensures held { IfOk result HoldsNothing }
         ensures stops { IfOk result (λ made. stops_of made ≡ 0) }
-        ensures handed_back { IfErr result (λ same. same ≡ writer) }
+        ensures handed_back { IfErr result (λ same. same ≡ writer.entry) }
     {
         match Held::new(alloc) {
             Ok(held) => Ok(BlockWriter {
@@ -42,9 +42,9 @@ impl<W: Target> BlockWriter<W> {
         }
     }
 
-    /// The target. What is still held is lost.
-    pub fn into_writer(self) -> W
-        ensures { result ≡ writer_of self }
+    /// The target, handed back. What is still held is lost.
+    pub fn into_writer(self) -> &'w mut W
+        ensures { result ≡ self.entry.writer }
     {
         let BlockWriter {
             writer,
@@ -65,7 +65,7 @@ impl<W: Target> BlockWriter<W> {
         ensures none { IfErr result (λ stop. stop.taken ≡ 0) }
         ensures counted { OnErr result (Rose (stops_of self.old) (stops_of self.new)) }
     {
-        match put(&mut self.writer, self.held.octets()) {
+        match put(&mut *self.writer, self.held.octets()) {
             Ok(()) => {
                 self.held.clear();
                 Ok(())
@@ -114,7 +114,7 @@ impl<W: Target> BlockWriter<W> {
             self.hold(text);
             return Ok(());
         }
-        match put(&mut self.writer, text) {
+        match put(&mut *self.writer, text) {
             Ok(()) => Ok(()),
             Err(taken) => {
                 self.stops = self.stops.saturating_add(1);
@@ -135,7 +135,7 @@ impl<W: Target> BlockWriter<W> {
     }
 }
 
-impl<W: Target> StorySink for BlockWriter<W> {
+impl<'w, W: Target> StorySink for BlockWriter<'w, W> {
     ghost use Rattle.iim_commands.specs.States.Holding.{PutsLines, stops_of};
 
     ghost goes = { PutsLines W.state };
@@ -157,7 +157,7 @@ impl<W: Target> StorySink for BlockWriter<W> {
     }
 }
 
-impl<W: Target> Outlet for BlockWriter<W> {
+impl<'w, W: Target> Outlet for BlockWriter<'w, W> {
     ghost use Rattle.iim_commands.specs.States.Holding.{HoldsNothing, StaysStuck};
 
     ghost settled = { HoldsNothing };

@@ -31,7 +31,10 @@ pub fn say<W: Target>(output: &mut W, text: &[u8]) -> Result<(), CommandFault>
 }
 
 /// Adds a text to what is written in blocks.
-pub(crate) fn add<W: Target>(output: &mut BlockWriter<W>, text: &[u8]) -> Result<(), CommandFault>
+pub(crate) fn add<W: Target>(
+    output: &mut BlockWriter<'_, W>,
+    text: &[u8],
+) -> Result<(), CommandFault>
     ensures ok { OnOk result (HasPut W.state output.old output.new text.now) }
     ensures err { IfErr result (IsUnadded W.state output.old output.new text.now) }
 {
@@ -43,7 +46,7 @@ pub(crate) fn add<W: Target>(output: &mut BlockWriter<W>, text: &[u8]) -> Result
 
 /// Adds a text to what is written in blocks, and lets out all.
 pub(crate) fn add_last<W: Target>(
-    output: &mut BlockWriter<W>,
+    output: &mut BlockWriter<'_, W>,
     text: &[u8],
 ) -> Result<(), CommandFault>
     ensures ok { OnOk result (HasPut W.state output.old output.new text.now) }

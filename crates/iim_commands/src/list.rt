@@ -6,7 +6,7 @@ ghost use Rattle.iim_unpack.specs.Format.Value.{ShowsParts};
 ghost use Rattle.iim_places.specs.Format.Listing.{Listed};
 ghost use Rattle.iim_commands.specs.Format.Listings.{told};
 ghost use Rattle.iim_commands.specs.Format.WrittenListings.{WritesListing, FailsListing};
-ghost use Rattle.iim_commands.specs.States.Holding.{HoldsNothing, device_of};
+ghost use Rattle.iim_commands.specs.States.Holding.{HoldsNothing, KeepsWriter, device_of};
 ghost use Rattle.iim_commands.specs.Listing.{IsUnlisted, Settles};
 
 use crate::block_writer::BlockWriter;
@@ -25,7 +25,7 @@ fn list_texts<P: EnvelopeLines, R: Source, W: Target>(
     alloc: Global,
     texts: &P,
     intake: &mut Intake<R>,
-    silent: &mut Silent<W>,
+    silent: &mut Silent<'_, W>,
 ) -> Result<u8, CommandFault>
     requires alive { intake.old.failed ≡ None }
     requires held { HoldsNothing silent.old.output }
@@ -33,6 +33,7 @@ fn list_texts<P: EnvelopeLines, R: Source, W: Target>(
         (device_of W.state silent.old.output) (device_of W.state silent.new.output)) }
     ensures err { IfErr result (IsUnlisted W.state P.written (in_line R.state intake.old) (in_line R.state intake.new)
         silent.old.output silent.new.output) }
+    ensures same { KeepsWriter silent.old.output silent.new.output }
     ensures leads { R.leads intake.old.reader intake.new.reader }
 {
     gifts_join();
@@ -67,10 +68,11 @@ fn list_texts<P: EnvelopeLines, R: Source, W: Target>(
 
 /// Lets out what is held where memory was short, and hands on the answer.
 fn settle<W: Target>(
-    output: &mut BlockWriter<W>,
+    output: &mut BlockWriter<'_, W>,
     answer: Result<u8, CommandFault>,
 ) -> Result<u8, CommandFault>
-    ensures { Settles W.state output.old output.new answer result }
+    ensures settles { Settles W.state output.old output.new answer result }
+    ensures same { KeepsWriter output.old output.new }
 {
     match answer {
         Err(CommandFault::OutOfMemory) => match output.flush() {
@@ -81,22 +83,22 @@ fn settle<W: Target>(
     }
 }
 
-/// Reports an input: each envelope, up to the end, to octets that are refused or to one envelope too many. Answers the status, and hands
-/// back the output. The texts of the envelopes that came are out before the input is read again. At a fault that is not of the output
-/// they are out too; where a write fails, those of them that are not out are lost.
+/// Reports an input: each envelope, up to the end, to octets that are refused or to one envelope too many. The texts of the envelopes that
+/// came are out before the input is read again. At a fault that is not of the output they are out too; where a write fails, those of
+/// them that are not out are lost.
 pub fn list<P: EnvelopeLines, R: Source, W: Target>(
     alloc: Global,
     texts: &P,
     intake: &mut Intake<R>,
-    output: W,
-) -> (Result<u8, CommandFault>, W)
+    output: &mut W,
+) -> Result<u8, CommandFault>
     requires { intake.old.failed ≡ None }
-    ensures ok { IfOk result.0
-        (WritesListing P.written (in_line R.state intake.old) (in_line R.state intake.new) (W.state output)
-        (W.state result.1)) }
-    ensures err { IfErr result.0
-        (FailsListing P.written (in_line R.state intake.old) (in_line R.state intake.new) (W.state output)
-        (W.state result.1)) }
+    ensures ok { IfOk result
+        (WritesListing P.written (in_line R.state intake.old) (in_line R.state intake.new) (W.state output.old)
+        (W.state output.new)) }
+    ensures err { IfErr result
+        (FailsListing P.written (in_line R.state intake.old) (in_line R.state intake.new) (W.state output.old)
+        (W.state output.new)) }
     ensures leads { R.leads intake.old.reader intake.new.reader }
 {
     gifts_join();
@@ -107,9 +109,14 @@ pub fn list<P: EnvelopeLines, R: Source, W: Target>(
             let answer = list_texts(alloc, texts, intake, &mut silent);
             let Silent { mut output } = silent;
             let answer = settle(&mut output, answer);
-            (answer, output.into_writer())
+            // No effect at run time. The proof reads what the output holds from this use of what is handed back.
+            let _ = &*output.into_writer();
+            answer
         }
-        Err(output) => (Err(CommandFault::OutOfMemory), output),
+        Err(same) => {
+            let _ = &*same;
+            Err(CommandFault::OutOfMemory)
+        }
     }
 }
 

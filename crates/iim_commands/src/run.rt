@@ -2,7 +2,8 @@
 
 ghost use Rattle.std.specs.Prelude.{◌≡◌, ℕ, List};
 ghost use Rattle.iim_unpack.specs.States.Blocks.{with_held};
-ghost use Rattle.iim_commands.specs.Format.Outcomes.{Complained, EndsRun, EndsListing, EndsPacking, Ran, Reviewed, ToldAsStory};
+ghost use Rattle.iim_commands.specs.Format.Outcomes.{Complained, EndsListing, EndsPacking, Ran, Reviewed, ToldAsStory};
+ghost use Rattle.iim_commands.specs.Endings.{EndsRun};
 ghost use Rattle.iim_commands.specs.Format.Packing.{asked};
 ghost use Rattle.iim_commands.specs.States.Devices.{devices};
 ghost use Rattle.iim_commands.specs.Format.Statuses.{status_failed};
@@ -20,6 +21,7 @@ use crate::story::narrate;
 use iim_dataset::{Source, Target, put};
 use iim_unpack::Intake;
 use std::alloc::Global;
+use wire_story::LineWriter;
 
 /// Tells a fault. The status is the same whether the line of it could be written or not.
 fn complain<E: Target>(errors: &mut E, fault: CommandFault) -> u8
@@ -53,8 +55,9 @@ fn write_listing<P: EnvelopeLines, R: Source + Drop, W: Target, E: Target>(
         (devices (with_held held (R.state last)) (W.state result.1) (E.state result.2)) result.0 }
 {
     let mut intake = Intake::new(reader);
+    let mut output = output;
     let mut errors = errors;
-    let (answer, output) = list(alloc, texts, &mut intake, output);
+    let answer = list(alloc, texts, &mut intake, &mut output);
     let status = finish(&mut errors, answer);
     (status, output, errors)
 }
@@ -71,10 +74,11 @@ fn tell<R: Source + Drop, W: Target, E: Target>(
         (devices (with_held held (R.state last)) (W.state result.1) (E.state result.2)) result.0 }
 {
     let mut intake = Intake::new(reader);
+    let mut lines = LineWriter::new(output);
     let mut errors = errors;
-    let (answer, output) = narrate(alloc, &mut intake, output, &mut errors);
+    let answer = narrate(alloc, &mut intake, &mut lines, &mut errors);
     let status = finish(&mut errors, answer);
-    (status, output, errors)
+    (status, lines.into_writer(), errors)
 }
 
 /// Reports the audit of a reader: the status, and both writers.
@@ -90,8 +94,9 @@ fn review<R: Source + Drop, W: Target, E: Target>(
         (devices (with_held held (R.state last)) (W.state result.1) (E.state result.2)) result.0 }
 {
     let mut intake = Intake::new(reader);
+    let mut output = output;
     let mut errors = errors;
-    let (answer, output) = write_audit(alloc, now.timestamp(), &mut intake, output);
+    let answer = write_audit(alloc, now.timestamp(), &mut intake, &mut output);
     let status = finish(&mut errors, answer);
     (status, output, errors)
 }

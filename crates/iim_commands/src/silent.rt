@@ -9,12 +9,12 @@ use wire_story::StorySink;
 
 /// Passes over the text of a story, and lets out what a writer holds.
 #[derive(Drop)]
-pub struct Silent<W> {
+pub struct Silent<'w, W> {
     /// The writer.
-    pub output: BlockWriter<W>,
+    pub output: BlockWriter<'w, W>,
 }
 
-impl<W: Target> StorySink for Silent<W> {
+impl<'w, W: Target> StorySink for Silent<'w, W> {
     ghost use Rattle.iim_commands.specs.States.Silence.{PassesOver, refuses_never};
 
     ghost goes = { PassesOver W.state };
@@ -36,7 +36,7 @@ impl<W: Target> StorySink for Silent<W> {
     }
 }
 
-impl<W: Target> Outlet for Silent<W> {
+impl<'w, W: Target> Outlet for Silent<'w, W> {
     ghost use Rattle.iim_commands.specs.States.Silence.{IsSettled, IsStuck};
 
     ghost settled = { IsSettled };

@@ -4,7 +4,9 @@ ghost use Rattle.std.specs.Prelude.{◌≡◌, [], ◌∷◌, None, IfOk, IfErr,
 ghost use Rattle.iim_dataset.specs.Format.Characters.{lf};
 ghost use Rattle.iim_unpack.specs.States.Intakes.{in_line};
 ghost use Rattle.iim_commands.specs.NarrationEnds.{IsHeldBack, IsUnended};
-ghost use Rattle.iim_commands.specs.States.Holding.{HoldsNothing, PutsOn, device_of, stops_of};
+ghost use Rattle.iim_commands.specs.States.Holding.{HoldsNothing, KeepsWriter, PutsOn};
+ghost use Rattle.iim_commands.specs.States.Holding as blocks;
+ghost use Rattle.wire_story.specs.States.Writing.{device_of, stops_of};
 ghost use Rattle.iim_commands.specs.Format.Narration.{IsUnnarrated, Narrated};
 
 use crate::block_writer::BlockWriter;
@@ -18,13 +20,14 @@ use iim_dataset::octets::LF;
 use iim_dataset::{Source, Target};
 use iim_unpack::{Intake, MAX_ENVELOPES, Unpacker};
 use std::alloc::Global;
+use wire_story::LineWriter;
 use wire_story::laws::lines_are_joined_by_line_feeds;
 
 /// Lets out what is held.
-fn let_out<W: Target>(output: &mut BlockWriter<W>) -> Result<(), CommandFault>
+fn let_out<W: Target>(output: &mut BlockWriter<'_, W>) -> Result<(), CommandFault>
     ensures ok { OnOk result (PutsOn W.state output.old output.new []) }
     ensures held { OnOk result (HoldsNothing output.new) }
-    ensures calm { OnOk result (stops_of output.new ≡ stops_of output.old) }
+    ensures calm { OnOk result (blocks.stops_of output.new ≡ blocks.stops_of output.old) }
     ensures err { IfErr result (IsHeldBack W.state output.old output.new) }
 {
     match output.flush() {
@@ -34,10 +37,10 @@ fn let_out<W: Target>(output: &mut BlockWriter<W>) -> Result<(), CommandFault>
 }
 
 /// Takes an LF after the text of an envelope, and lets out what is held.
-fn end_story<W: Target>(output: &mut BlockWriter<W>) -> Result<(), CommandFault>
+fn end_story<W: Target>(output: &mut BlockWriter<'_, W>) -> Result<(), CommandFault>
     ensures ok { OnOk result (PutsOn W.state output.old output.new (lf ∷ [])) }
     ensures held { OnOk result (HoldsNothing output.new) }
-    ensures calm { OnOk result (stops_of output.new ≡ stops_of output.old) }
+    ensures calm { OnOk result (blocks.stops_of output.new ≡ blocks.stops_of output.old) }
     ensures err { IfErr result (IsUnended W.state output.old output.new) }
 {
     match output.put(&[LF]) {
@@ -50,16 +53,17 @@ fn end_story<W: Target>(output: &mut BlockWriter<W>) -> Result<(), CommandFault>
 fn tell_stories<R: Source, W: Target, E: Target>(
     alloc: Global,
     intake: &mut Intake<R>,
-    output: &mut BlockWriter<W>,
+    output: &mut BlockWriter<'_, W>,
     errors: &mut E,
 ) -> Result<u8, CommandFault>
     requires alive { intake.old.failed ≡ None }
     requires held { HoldsNothing output.old }
-    requires unbroken { stops_of output.old ≡ 0 }
+    requires unbroken { blocks.stops_of output.old ≡ 0 }
     ensures ok { IfOk result (Narrated (in_line R.state intake.old) (in_line R.state intake.new)
-        (device_of W.state output.old) (device_of W.state output.new) (E.state errors.old) (E.state errors.new)) }
+        (blocks.device_of W.state output.old) (blocks.device_of W.state output.new) (E.state errors.old) (E.state errors.new)) }
     ensures err { IfErr result (IsUnnarrated (in_line R.state intake.old) (in_line R.state intake.new)
-        (device_of W.state output.old) (device_of W.state output.new) (E.state errors.old) (E.state errors.new)) }
+        (blocks.device_of W.state output.old) (blocks.device_of W.state output.new) (E.state errors.old) (E.state errors.new)) }
+    ensures same { KeepsWriter output.old output.new }
     ensures leads { R.leads intake.old.reader intake.new.reader }
 {
     gifts_join();
@@ -98,22 +102,22 @@ fn tell_stories<R: Source, W: Target, E: Target>(
 }
 
 /// Writes the text of each envelope as it comes, its lines joined by LF, and an LF after each envelope. The errors are told what
-/// `check` tells: each envelope, up to the end, to octets that are refused or to one envelope too many. Answers the status, and hands
-/// back the output. The text that came is out before the input is read again, and before a line is told to the errors; where a write
-/// fails, what of it is not out is lost.
+/// `check` tells: each envelope, up to the end, to octets that are refused or to one envelope too many. The text that came is out before
+/// the input is read again, and before a line is told to the errors; where a write fails, what of it is not out is lost.
 pub fn narrate<R: Source, W: Target, E: Target>(
     alloc: Global,
     intake: &mut Intake<R>,
-    output: W,
+    output: &mut LineWriter<W>,
     errors: &mut E,
-) -> (Result<u8, CommandFault>, W)
-    requires { intake.old.failed ≡ None }
-    ensures ok { IfOk result.0
-        (Narrated (in_line R.state intake.old) (in_line R.state intake.new) (W.state output) (W.state result.1)
-        (E.state errors.old) (E.state errors.new)) }
-    ensures err { IfErr result.0
-        (IsUnnarrated (in_line R.state intake.old) (in_line R.state intake.new) (W.state output) (W.state result.1)
-        (E.state errors.old) (E.state errors.new)) }
+) -> Result<u8, CommandFault>
+    requires alive { intake.old.failed ≡ None }
+    requires unbroken { stops_of output.old ≡ 0 }
+    ensures ok { IfOk result
+        (Narrated (in_line R.state intake.old) (in_line R.state intake.new) (device_of W.state output.old)
+        (device_of W.state output.new) (E.state errors.old) (E.state errors.new)) }
+    ensures err { IfErr result
+        (IsUnnarrated (in_line R.state intake.old) (in_line R.state intake.new) (device_of W.state output.old)
+        (device_of W.state output.new) (E.state errors.old) (E.state errors.new)) }
     ensures leads { R.leads intake.old.reader intake.new.reader }
 {
     gifts_join();
@@ -122,8 +126,13 @@ pub fn narrate<R: Source, W: Target, E: Target>(
         Ok(made) => {
             let mut lines = made;
             let answer = tell_stories(alloc, intake, &mut lines, errors);
-            (answer, lines.into_writer())
+            // No effect at run time. The proof reads what the output holds from this use of what is handed back.
+            let _ = &*lines.into_writer();
+            answer
         }
-        Err(output) => (Err(CommandFault::OutOfMemory), output),
+        Err(same) => {
+            let _ = &*same;
+            Err(CommandFault::OutOfMemory)
+        }
     }
 }

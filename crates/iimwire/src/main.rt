@@ -14,7 +14,7 @@ ghost use Rattle.std.specs.Prelude.{◌≡◌, ◌≢◌, ◌⊎◌, IfSome, Non
 ghost use Rattle.std.specs.IoError.{error_kind};
 ghost use Rattle.std.specs.Process.{exit_status};
 ghost use Rattle.iim_commands.specs.Format.Statuses.{status_failed};
-ghost use Rattle.iimwire.specs.Format.Ended.{EndsWith, EndsWithout};
+ghost use Rattle.iimwire.specs.Ended.{EndsWith, EndsWithout};
 
 use iim_commands::request::{Request, parse};
 use iim_dataset::{FromRead, FromWrite};

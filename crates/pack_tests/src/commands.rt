@@ -10,6 +10,7 @@ use iim_unpack::Intake;
 use std::alloc::Global;
 use std::test::Fail;
 use trials::{TrialReader, TrialWriter, Trouble};
+use wire_story::LineWriter;
 use worked::STORY;
 
 /// The script of the smallest envelope, which has 114 octets.
@@ -38,7 +39,9 @@ fn checked(
     source: TrialReader<'_>,
     output: TrialWriter<256>,
 ) -> (Result<u8, CommandFault>, TrialWriter<256>) {
-    list(alloc, &Check, &mut Intake::new(source), output)
+    let mut output = output;
+    let answer = list(alloc, &Check, &mut Intake::new(source), &mut output);
+    (answer, output)
 }
 
 /// What `story` of the envelope answers, and what it writes on both outputs.
@@ -47,9 +50,11 @@ fn told(
     output: TrialWriter<256>,
     errors: TrialWriter<256>,
 ) -> (Result<u8, CommandFault>, TrialWriter<256>, TrialWriter<256>) {
+    let mut lines = LineWriter::new(output);
     let mut errors = errors;
-    let (answer, output) = narrate(alloc, &mut Intake::new(reader(STORY)), output, &mut errors);
-    (answer, output, errors)
+    let mut intake = Intake::new(reader(STORY));
+    let answer = narrate(alloc, &mut intake, &mut lines, &mut errors);
+    (answer, lines.into_writer(), errors)
 }
 
 #[test]
@@ -109,9 +114,9 @@ fn writes_past_interruptions(rt: HostRuntime) -> Result<(), Fail> {
 
 #[test]
 fn a_full_output_takes_nothing(rt: HostRuntime) {
-    let output: TrialWriter<3> = TrialWriter::new(0, Trouble::Interruptions(0));
+    let mut output: TrialWriter<3> = TrialWriter::new(0, Trouble::Interruptions(0));
     let mut intake = Intake::new(reader(STORY));
-    let (answer, output) = list(rt.alloc(), &Check, &mut intake, output);
+    let answer = list(rt.alloc(), &Check, &mut intake, &mut output);
     assert_eq!(rt; answer, Err(CommandFault::CannotWrite));
     assert_eq!(rt; output.octets(), b"1 a".as_slice());
 }

@@ -20,7 +20,7 @@ use iim_unpack::{Intake, Progress, Unpacker};
 use jiff::Timestamp;
 use std::alloc::Global;
 use wire_message::MessageReader;
-use wire_story::TextReader;
+use wire_story::{LineWriter, TextReader};
 
 /// A reader of octets.
 #[derive(Clone, Copy, Debug, PartialEq, Eq)]
@@ -136,16 +136,18 @@ fn unpack_octets(alloc: Global, octets: &[u8]) -> Option<Tally> {
 /// Lists envelopes as the command does: counts the octets of the list.
 fn listed<P: EnvelopeLines>(alloc: Global, texts: &P, octets: &[u8]) -> Option<Tally> {
     let mut intake = Intake::new(FromRead::new(octets));
-    let (answer, tally) = list(alloc, texts, &mut intake, Tally::new());
-    (answer.ok()? == 0).then_some(tally)
+    let mut tally = Tally::new();
+    let status = list(alloc, texts, &mut intake, &mut tally).ok()?;
+    (status == 0).then_some(tally)
 }
 
 /// Tells stories as the command does: counts the octets of their texts.
 fn narrated(alloc: Global, octets: &[u8]) -> Option<Tally> {
     let mut intake = Intake::new(FromRead::new(octets));
+    let mut lines = LineWriter::new(Tally::new());
     let mut errors = Tally::new();
-    let (answer, tally) = narrate(alloc, &mut intake, Tally::new(), &mut errors);
-    (answer.ok()? == 0).then_some(tally)
+    let status = narrate(alloc, &mut intake, &mut lines, &mut errors).ok()?;
+    (status == 0).then_some(lines.into_writer())
 }
 
 /// Packs what a script tells, as the command does: counts the octets that are written.

@@ -20,12 +20,6 @@ TellsWhy number causes.Read words = ⊥
 TellsWhy number causes.Interrupted words = ⊥
 TellsWhy number causes.OutOfMemory words = ⊥
 
--- A failed reader is told as that. Memory may be short for any line.
-abbrev pub CannotTell : AuditCause → CommandFault → Type 0
-CannotTell causes.Read fault = fault ≡ CannotRead
-CannotTell causes.Interrupted fault = fault ≡ CannotRead
-CannotTell cause fault = fault ≡ OutOfMemory
-
 -- The report of the input, at this instant; or the line that tells why it has none.
 abbrev pub IsAuditAnswer : ℤ → Device → Device → List ℕ → ℕ → Type 0
 IsAuditAnswer now source rest words status =

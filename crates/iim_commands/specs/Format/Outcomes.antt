@@ -1,5 +1,5 @@
 -- What a run leaves.
-use Rattle.std.specs.Prelude.{◌≡◌, ℕ, ℤ, ◌⊎◌, List, Result, Ok, Err}
+use Rattle.std.specs.Prelude.{◌≡◌, ℕ, ℤ, ◌⊎◌, List}
 use Rattle.iim_dataset.specs.States.Devices.{Device, Wrote, Stopped}
 use Rattle.iim_commands.specs.declared.request.Job.{Job}
 use Rattle.iim_commands.specs.declared.request.Job.TheVariants.{Check, Show, Story, Pack, Audit}
@@ -17,11 +17,6 @@ use Rattle.iim_commands.specs.Format.Statuses.{status_failed}
 -- The line of the fault is out, or the device broke inside it.
 abbrev pub Complained : Device → Device → CommandFault → Type 0
 Complained old new fault = Wrote old new (fault_line fault) ⊎ ((n : ℕ) × Stopped old new (fault_line fault) n)
-
--- A run ends with its answer: with the status, or with the fault, which is told, and status 3. (The errors before and after.)
-abbrev pub EndsRun : Device → Device → Result ℕ CommandFault → ℕ → Type 0
-EndsRun old new (Ok want) status = (status ≡ want) × (new ≡ old)
-EndsRun old new (Err fault) status = (status ≡ status_failed) × Complained old new fault
 
 -- The input was reported, without a word on the errors; or a fault came and was told there, and the status is 3.
 abbrev pub EndsListing : (ℕ → Listed → List ℕ) → Devices → Devices → ℕ → Type 0

@@ -10,27 +10,29 @@ use Rattle.iim_commands.specs.declared.block_writer.BlockWriter.{BlockWriter}
 abbrev pub held_of : {W : Type 0} → BlockWriter W → List ℕ
 held_of b = b.held.octets
 
--- what it writes to
-abbrev pub writer_of : {W : Type 0} → BlockWriter W → W
-writer_of b = b.writer
-
--- the same as a device
+-- what it writes to, as a device
 abbrev pub device_of : {W : Type 0} → (W → Device) → BlockWriter W → Device
-device_of state b = state b.writer
+device_of state b = state b.writer.now
 
 -- how often it stopped
 abbrev pub stops_of : {W : Type 0} → BlockWriter W → ℕ
 stops_of b = b.stops
 
+-- It still writes to the target that it was lent.
+abbrev pub KeepsWriter : {W : Type 0} → BlockWriter W → BlockWriter W → Type 0
+KeepsWriter old new = new.writer.ghost_name ≡ old.writer.ghost_name
+
 -- A text was taken, and no write failed: of what was held and the text a front is out, and the rest is held.
 pub record HasPut {W : Type 0} (state : W → Device) (old new : BlockWriter W) (text : List ℕ) : Type 0 where
   pub out : List ℕ
+  pub same : KeepsWriter old new
   pub parts : held_of old ++ text ≡ out ++ held_of new
   pub wrote : Wrote (device_of state old) (device_of state new) out
 
 -- A text was taken, and a write failed: of what was held and the text a front is out, and the rest is held.
 pub record HasStuck {W : Type 0} (state : W → Device) (old new : BlockWriter W) (text : List ℕ) : Type 0 where
   pub out : List ℕ
+  pub same : KeepsWriter old new
   pub parts : held_of old ++ text ≡ out ++ held_of new
   pub broke : BrokeAfter (device_of state old) (device_of state new) out
 
@@ -41,6 +43,7 @@ StaysStuck state old new = HasStuck state old new [] × (0 < length (held_of new
 -- A text was taken: of what was held and the text a front went out, and the rest is held.
 pub record PutsOn {W : Type 0} (state : W → Device) (old new : BlockWriter W) (text : List ℕ) : Type 0 where
   pub out : List ℕ
+  pub same : KeepsWriter old new
   pub parts : held_of old ++ text ≡ out ++ held_of new
   pub writes : WritesOn (device_of state old) (device_of state new) (stops_of old) (stops_of new) out
 

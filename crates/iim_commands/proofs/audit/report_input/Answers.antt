@@ -74,3 +74,17 @@ returns-in_ok-add_last-in-Err-clause-ok g c =
       inr (c.in-Err.fault.envelope, c.in-Err.fault.cause, why, search rules, refl),
       all_out state c.args.output.now c.add_last.new.output words c.requires.held c.in_ok-add_last-in-Err.ensures.held c.in_ok-add_last-in-Err.ensures.ok,
     )
+
+-- ---- the writer is over the same target
+
+pub returns-in_err-add_report-in-Ok-clause-same : goal.returns-in_err-add_report-in-Ok-clause-same
+returns-in_err-add_report-in-Ok-clause-same g c = c.in_err-add_report-in-Ok.ensures.err.1.same
+
+pub returns-in_ok-add_report-in-Ok-clause-same : goal.returns-in_ok-add_report-in-Ok-clause-same
+returns-in_ok-add_report-in-Ok-clause-same g c = c.in_ok-add_report-in-Ok.ensures.ok.same
+
+pub returns-in_err-add_last-in-Err-clause-same : goal.returns-in_err-add_last-in-Err-clause-same
+returns-in_err-add_last-in-Err-clause-same g c = c.in_err-add_last-in-Err.ensures.err.1.same
+
+pub returns-in_ok-add_last-in-Err-clause-same : goal.returns-in_ok-add_last-in-Err-clause-same
+returns-in_ok-add_last-in-Err-clause-same g c = c.in_ok-add_last-in-Err.ensures.ok.same

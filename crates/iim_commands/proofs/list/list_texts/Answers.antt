@@ -1,17 +1,18 @@
-use Rattle.std.proofs.Common.{rules, ◌≡◌, ◌+◌, Option, None, Some, IsSome, [], refl, sym, append-nil}
+use Rattle.std.proofs.Common.{rules, ◌≡◌, ◌∙◌, ◌+◌, Option, None, Some, IsSome, [], refl, sym, append-nil}
 use Rattle.iim_unpack.specs.States.Intakes.{in_line}
 use Rattle.iim_commands.specs.Format.Lines.{refused_line, too_many_line}
 use Rattle.iim_places.specs.Format.Listing.{max_envelopes, Whole, RefusedBy, TooMany}
+use Rattle.iim_commands.specs.States.Holding.{KeepsWriter}
 use Rattle.iim_commands.specs.States.Silence.{IsSettled, IsStuck, PassesOver, refuses_never}
 use Rattle.iim_commands.specs.Listing.{IsUnlisted}
 use Rattle.iim_commands.specs.declared.fault.CommandFault.TheVariants.{OutOfMemory}
 use Rattle.iim_commands.proofs.Reports.{AreReported, ends_refused, failed, left_of, none_left, none_reported, reported, reported_more, reported_out, starved, unended, unsaid_of}
 use Rattle.iim_commands.specs.HoldingLaws.{put_nothing}
-use Rattle.iim_commands.proofs.Taken.{come_as, end_as, lives_as, refusal_as}
+use Rattle.iim_commands.proofs.Taken.{come_as, end_as, kept_next, lives_as, refusal_as}
 use Rattle.iim_commands.proofs.Told.{added, handed_on}
 use Rattle.iim_commands.specs.States.Coming.{EnvelopeHasCome, IsRefusal}
 use Rattle.iim_commands.proofs.list.list_texts.Given.{Over}
-use Rattle.iim_commands.proofs.list.list_texts.Goals.{In-Envelope, In-Refused}
+use Rattle.iim_commands.proofs.list.list_texts.Goals.{After-take_next, In-Envelope, In-Refused}
 use Rattle.iim_commands.proofs.list.list_texts.Goals as goal
 
 -- what came of an envelope, or of refused octets
@@ -217,6 +218,41 @@ returns-in_err-add_last-in-Refused-clause-leads g c = c.listing.invariant.leads 
 
 pub returns-in-Refused-clause-leads : goal.returns-in-Refused-clause-leads
 returns-in-Refused-clause-leads g c = c.listing.invariant.leads c.take_next.new.intake.reader c.take_next.ensures.leads
+
+-- ---- the writer is over the same target
+
+keeps_so_far : (g : Over) (c : After-take_next g) → KeepsWriter c.args.silent.now.output c.take_next.new.sink.output
+keeps_so_far g c =
+    let state = g.W.Target.state in
+    kept_next (PassesOver state) refuses_never IsSettled (IsStuck state) (λ a b. KeepsWriter a.output b.output) (λ a b more told. told.same) (λ a b d keeps stuck. stuck.0.same ∙ keeps) (in_line g.R.Source.state c.listing.intake)
+    (in_line g.R.Source.state c.take_next.new.intake) c.take_next.new.unpacker c.listing.silent c.take_next.new.sink c.take_next.result c.take_next.ensures.next ∙ c.listing.invariant.reported.put.same
+
+pub returns-in_err-octets-clause-same : goal.returns-in_err-octets-clause-same
+returns-in_err-octets-clause-same g c = keeps_so_far g (goal.at.returns-in_err-octets-clause-same g c).After-take_next
+
+pub returns-in_err-add_last-in-Envelope-clause-same : goal.returns-in_err-add_last-in-Envelope-clause-same
+returns-in_err-add_last-in-Envelope-clause-same g c = c.in_err-add_last-in-Envelope.ensures.err.1.same ∙ keeps_so_far g (goal.at.returns-in_err-add_last-in-Envelope-clause-same g c).After-take_next
+
+pub returns-then-count-eq-MAX_ENVELOPES-clause-same : goal.returns-then-count-eq-MAX_ENVELOPES-clause-same
+returns-then-count-eq-MAX_ENVELOPES-clause-same g c = c.in_ok-add_last-in-Envelope.ensures.ok.same ∙ keeps_so_far g (goal.at.returns-then-count-eq-MAX_ENVELOPES-clause-same g c).After-take_next
+
+pub returns-in_err-push_text-in-Envelope-clause-same : goal.returns-in_err-push_text-in-Envelope-clause-same
+returns-in_err-push_text-in-Envelope-clause-same g c = keeps_so_far g (goal.at.returns-in_err-push_text-in-Envelope-clause-same g c).After-take_next
+
+pub returns-in_err-add-in-Envelope-clause-same : goal.returns-in_err-add-in-Envelope-clause-same
+returns-in_err-add-in-Envelope-clause-same g c = c.in_err-add-in-Envelope.ensures.err.1.same ∙ keeps_so_far g (goal.at.returns-in_err-add-in-Envelope-clause-same g c).After-take_next
+
+pub returns-in-End-clause-same : goal.returns-in-End-clause-same
+returns-in-End-clause-same g c = keeps_so_far g (goal.at.returns-in-End-clause-same g c).After-take_next
+
+pub returns-in_err-push_refused-in-Refused-clause-same : goal.returns-in_err-push_refused-in-Refused-clause-same
+returns-in_err-push_refused-in-Refused-clause-same g c = keeps_so_far g (goal.at.returns-in_err-push_refused-in-Refused-clause-same g c).After-take_next
+
+pub returns-in_err-add_last-in-Refused-clause-same : goal.returns-in_err-add_last-in-Refused-clause-same
+returns-in_err-add_last-in-Refused-clause-same g c = c.in_err-add_last-in-Refused.ensures.err.1.same ∙ keeps_so_far g (goal.at.returns-in_err-add_last-in-Refused-clause-same g c).After-take_next
+
+pub returns-in-Refused-clause-same : goal.returns-in-Refused-clause-same
+returns-in-Refused-clause-same g c = c.in_ok-add_last-in-Refused.ensures.ok.same ∙ keeps_so_far g (goal.at.returns-in-Refused-clause-same g c).After-take_next
 
 none_is_none : {A : Type 0} (r : Option A) → r ≡ None → IsSome r → ⊥
 none_is_none (Some x) none some = absurd cc

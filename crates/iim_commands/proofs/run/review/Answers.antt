@@ -3,7 +3,8 @@ use Rattle.iim_dataset.specs.States.Devices.{Device}
 use Rattle.iim_unpack.specs.States.Intakes.{in_line}
 use Rattle.iim_commands.specs.Format.Audits.{Audited, IsUnaudited}
 use Rattle.iim_commands.specs.States.Devices.{devices}
-use Rattle.iim_commands.specs.Format.Outcomes.{EndsRun, Reviewed}
+use Rattle.iim_commands.specs.Endings.{EndsRun}
+use Rattle.iim_commands.specs.Format.Outcomes.{Reviewed}
 use Rattle.iim_commands.specs.declared.fault.CommandFault.{CommandFault}
 use Rattle.iim_commands.proofs.Runs.{with_none_held}
 use Rattle.iim_commands.proofs.run.review.Goals as goal
@@ -21,16 +22,16 @@ returns g c =
     let intake = c.write_audit-answer.new.intake in
     let rest = in_line g.R.Source.state intake in
     let old = g.W.Target.state c.args.output in
-    let new = g.W.Target.state c.write_audit-answer.result.1 in
+    let new = g.W.Target.state c.write_audit-answer.new.output in
     let now = c.timestamp.result.nanosecond in
     let start : in_line g.R.Source.state c.new-intake.result ≡ g.R.Source.state c.args.reader =
     with_none_held c.new-intake.result.block (g.R.Source.state c.new-intake.result.reader) c.new-intake.ensures.block ∙ ap g.R.Source.state c.new-intake.ensures.reader in (
       intake.reader,
       intake.block,
       subst (λ (r : g.row.R.Denot). g.R.Source.leads r intake.reader) c.new-intake.ensures.reader c.write_audit-answer.ensures.leads,
-      reviewed c.args.now.nanosecond now (g.R.Source.state c.args.reader) rest old new (g.E.Target.state c.args.errors) (g.E.Target.state c.finish-status.new.errors) c.write_audit-answer.result.0 c.finish-status.result
+      reviewed c.args.now.nanosecond now (g.R.Source.state c.args.reader) rest old new (g.E.Target.state c.args.errors) (g.E.Target.state c.finish-status.new.errors) c.write_audit-answer.result c.finish-status.result
           c.timestamp.ensures
-          (subst (λ (d : Device). IfOk c.write_audit-answer.result.0 (Audited now d rest old new)) start c.write_audit-answer.ensures.ok)
-          (subst (λ (d : Device). IfErr c.write_audit-answer.result.0 (IsUnaudited now d rest old new)) start c.write_audit-answer.ensures.err)
+          (subst (λ (d : Device). IfOk c.write_audit-answer.result (Audited now d rest old new)) start c.write_audit-answer.ensures.ok)
+          (subst (λ (d : Device). IfErr c.write_audit-answer.result (IsUnaudited now d rest old new)) start c.write_audit-answer.ensures.err)
           c.finish-status.ensures,
     )

@@ -3,7 +3,8 @@ use Rattle.iim_dataset.specs.States.Devices.{Device}
 use Rattle.iim_unpack.specs.States.Intakes.{in_line}
 use Rattle.iim_commands.specs.States.Devices.{devices}
 use Rattle.iim_places.specs.Format.Listing.{Listed}
-use Rattle.iim_commands.specs.Format.Outcomes.{EndsRun, EndsListing}
+use Rattle.iim_commands.specs.Endings.{EndsRun}
+use Rattle.iim_commands.specs.Format.Outcomes.{EndsListing}
 use Rattle.iim_commands.specs.Format.WrittenListings.{WritesListing, FailsListing}
 use Rattle.iim_commands.specs.declared.fault.CommandFault.{CommandFault}
 use Rattle.iim_commands.proofs.Runs.{with_none_held}
@@ -22,14 +23,14 @@ returns g c =
     let intake = c.list-answer.new.intake in
     let rest = in_line g.R.Source.state intake in
     let old = g.W.Target.state c.args.output in
-    let new = g.W.Target.state c.list-answer.result.1 in
+    let new = g.W.Target.state c.list-answer.new.output in
     let start : in_line g.R.Source.state c.new-intake.result ≡ g.R.Source.state c.args.reader =
     with_none_held c.new-intake.result.block (g.R.Source.state c.new-intake.result.reader) c.new-intake.ensures.block ∙ ap g.R.Source.state c.new-intake.ensures.reader in (
       intake.reader,
       intake.block,
       subst (λ (r : g.row.R.Denot). g.R.Source.leads r intake.reader) c.new-intake.ensures.reader c.list-answer.ensures.leads,
-      listed text (g.R.Source.state c.args.reader) rest old new (g.E.Target.state c.args.errors) (g.E.Target.state c.finish-status.new.errors) c.list-answer.result.0 c.finish-status.result
-          (subst (λ (d : Device). IfOk c.list-answer.result.0 (WritesListing text d rest old new)) start c.list-answer.ensures.ok)
-          (subst (λ (d : Device). IfErr c.list-answer.result.0 (FailsListing text d rest old new)) start c.list-answer.ensures.err)
+      listed text (g.R.Source.state c.args.reader) rest old new (g.E.Target.state c.args.errors) (g.E.Target.state c.finish-status.new.errors) c.list-answer.result c.finish-status.result
+          (subst (λ (d : Device). IfOk c.list-answer.result (WritesListing text d rest old new)) start c.list-answer.ensures.ok)
+          (subst (λ (d : Device). IfErr c.list-answer.result (FailsListing text d rest old new)) start c.list-answer.ensures.err)
           c.finish-status.ensures,
     )

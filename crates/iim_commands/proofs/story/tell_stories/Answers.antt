@@ -2,18 +2,18 @@ use Rattle.std.proofs.Common.{rules, ◌≡◌, ◌+◌, [], length, map, refl, 
 use Rattle.iim_dataset.specs.States.Devices.{Wrote}
 use Rattle.iim_unpack.specs.States.Intakes.{in_line}
 use Rattle.wire_story.specs.Format.Delivery.{octet_for}
-use Rattle.iim_commands.specs.States.Holding.{HoldsNothing, PutsLines, StaysStuck, stops_of}
+use Rattle.iim_commands.specs.States.Holding.{HoldsNothing, KeepsWriter, PutsLines, StaysStuck, stops_of}
 use Rattle.iim_commands.specs.Format.Lines.{accepted_line, refused_line, too_many_line}
 use Rattle.iim_places.specs.Format.Listing.{max_envelopes, Whole, RefusedBy, TooMany}
 use Rattle.iim_commands.specs.Format.Narration.{IsUnnarrated, text_of}
 use Rattle.iim_commands.specs.declared.fault.CommandFault.TheVariants.{OutOfMemory}
-use Rattle.iim_commands.proofs.Narration.{TextIsTaken, taken_out, broke_in_line, broke_in_lines, held_back_as, narrated, narrated_more, pushed, refused_within, story_out, text_out, text_refused, text_taken, unended_text, none_narrated, nothing_told, unfed, unfed_for_memory, wrote_by}
+use Rattle.iim_commands.proofs.Narration.{TextIsTaken, taken_out, broke_in_line, broke_in_lines, held_back_as, narrated, narrated_more, pushed, refused_within, story_out, text_out, text_refused, text_taken, unended_keeps, unended_text, none_narrated, nothing_told, unfed, unfed_for_memory, wrote_by}
 use Rattle.iim_commands.proofs.Reports.{ends_refused, left_of, none_left}
-use Rattle.iim_commands.proofs.Taken.{end_as, lives_as, refusal_as}
+use Rattle.iim_commands.proofs.Taken.{end_as, kept_next, lives_as, refusal_as}
 use Rattle.iim_commands.proofs.Told.{added, handed_on}
 use Rattle.iim_commands.specs.States.Coming.{IsRefusal}
 use Rattle.iim_commands.proofs.story.tell_stories.Given.{Over}
-use Rattle.iim_commands.proofs.story.tell_stories.Goals.{In-Envelope, In-Refused}
+use Rattle.iim_commands.proofs.story.tell_stories.Goals.{After-take_next, In-Envelope, In-Refused}
 use Rattle.iim_commands.proofs.story.tell_stories.Goals as goal
 
 -- what came of an envelope, or of refused octets
@@ -34,8 +34,9 @@ telling-init g c = record {
   same = c.in_ok-unpacker.ensures.limits;
   held = c.requires.held;
   unbroken = c.requires.unbroken;
+  keeps = refl;
   narrated =
-      none_narrated c.gifts_join.ensures c.texts_join.ensures (in_line g.R.Source.state c.args.intake.now) (g.W.Target.state c.args.output.now.writer)
+      none_narrated c.gifts_join.ensures c.texts_join.ensures (in_line g.R.Source.state c.args.intake.now) (g.W.Target.state c.args.output.now.writer.now)
       (g.E.Target.state c.args.errors.now);
   leads = λ last h. h;
 }
@@ -43,7 +44,7 @@ telling-init g c = record {
 pub returns-in_err-unpacker-clause-err : goal.returns-in_err-unpacker-clause-err
 returns-in_err-unpacker-clause-err g c =
     let source = in_line g.R.Source.state c.args.intake.now in
-    let old = g.W.Target.state c.args.output.now.writer in
+    let old = g.W.Target.state c.args.output.now.writer.now in
     let errors_old = g.E.Target.state c.args.errors.now in
     handed_on (IsUnnarrated source source old old errors_old errors_old) c.from_residual.result OutOfMemory c.from_residual.ensures.1
     (nothing_told c.gifts_join.ensures c.texts_join.ensures source old old errors_old refl)
@@ -77,7 +78,7 @@ returns-in_err-say-in-Envelope-clause-err g c =
     let fault = c.in_err-say-in-Envelope.field-0.0 in
     let same : c.as_bytes.result.now ≡ too_many_line = search rules in
     handed_on _ c.from_residual-in_err-say-in-Envelope.result fault c.from_residual-in_err-say-in-Envelope.ensures.1
-    (broke_in_lines c.gifts_join.ensures c.texts_join.ensures rest (state d.writer) errors_new e.octets (text_of e) c.as_bytes.result.now TooMany fault r
+    (broke_in_lines c.gifts_join.ensures c.texts_join.ensures rest (state d.writer.now) errors_new e.octets (text_of e) c.as_bytes.result.now TooMany fault r
     h.come.came.given (full, e, h.come.is, [], sym (append-nil e.octets)) (e, h.come.is, [], sym (append-nil e.octets), refl) out same c.in_err-say-in-Envelope.ensures.err)
 
 pub returns-then-count-eq-MAX_ENVELOPES-clause-ok : goal.returns-then-count-eq-MAX_ENVELOPES-clause-ok
@@ -95,7 +96,7 @@ returns-then-count-eq-MAX_ENVELOPES-clause-ok g c =
     let errors_new = g.E.Target.state c.say.new.output in
     let same : c.as_bytes.result.now ≡ too_many_line = search rules in
     let more = left_of rest.octets in
-    narrated c.gifts_join.ensures c.texts_join.ensures rest (state d.writer) errors_new 1 e.octets more.0 (text_of e) c.as_bytes.result.now TooMany r
+    narrated c.gifts_join.ensures c.texts_join.ensures rest (state d.writer.now) errors_new 1 e.octets more.0 (text_of e) c.as_bytes.result.now TooMany r
     h.come.came.given more.1 (full, e, h.come.is, more.0, refl) (e, h.come.is, more.0, refl, refl) refl out same c.in_ok-say-in-Envelope.ensures.ok
 
 pub returns-then-is_err-clause-err : goal.returns-then-is_err-clause-err
@@ -109,7 +110,7 @@ returns-then-is_err-clause-err g c =
     let e = h.come.envelope in
     let d = c.let_out-then-is_err.new.output in
     let out = taken_out d h empty none c.in_ok-octets.ensures.calm c.in_ok-let_out-in-Envelope-2.ensures.ok c.in_ok-let_out-in-Envelope-2.ensures.held c.in_ok-let_out-in-Envelope-2.ensures.calm in
-    unfed_for_memory c.gifts_join.ensures c.texts_join.ensures rest (state d.writer) e.octets (length e.octets) (text_of e) r h.come.came.given h.whole out
+    unfed_for_memory c.gifts_join.ensures c.texts_join.ensures rest (state d.writer.now) e.octets (length e.octets) (text_of e) r h.come.came.given h.whole out
 
 pub returns-in_err-end_story-in-Envelope-clause-err : goal.returns-in_err-end_story-in-Envelope-clause-err
 returns-in_err-end_story-in-Envelope-clause-err g c =
@@ -141,7 +142,7 @@ returns-in_err-say-in-Envelope-2-clause-err g c =
     let errors_new = g.E.Target.state c.say-in-Envelope.new.output in
     let fault = c.in_err-say-in-Envelope-2.field-0.0 in
     handed_on _ c.from_residual-in_err-say-in-Envelope-2.result fault c.from_residual-in_err-say-in-Envelope-2.ensures.1
-    (broke_in_line c.gifts_join.ensures c.texts_join.ensures rest (state d.writer) errors_new c.as_slice.result.now e fault r
+    (broke_in_line c.gifts_join.ensures c.texts_join.ensures rest (state d.writer.now) errors_new c.as_slice.result.now e fault r
     h.come.is h.come.came.given below out words c.in_err-say-in-Envelope-2.ensures.err)
 
 pub returns-in-End-clause-ok : goal.returns-in-End-clause-ok
@@ -157,8 +158,8 @@ returns-in-End-clause-ok g c =
     let empty = c.telling.invariant.held in
     let none = c.telling.invariant.unbroken in
     let h = end_as (PutsLines state) stops_of HoldsNothing (StaysStuck state) mid rest c.take_next.new.unpacker a b c.in_ok-octets.field-0 c.in-End.is c.in_ok-octets.ensures.next in
-    let still : Wrote (state a.writer) (state b.writer) [] = wrote_by state a b [] empty h.3 none c.in_ok-octets.ensures.calm h.2 in
-    narrated c.gifts_join.ensures c.texts_join.ensures rest (state b.writer) errors_now 0 [] [] [] [] Whole r h.0 (none_left rest.octets h.1) refl refl refl
+    let still : Wrote (state a.writer.now) (state b.writer.now) [] = wrote_by state a b [] empty h.3 none c.in_ok-octets.ensures.calm h.2 in
+    narrated c.gifts_join.ensures c.texts_join.ensures rest (state b.writer.now) errors_now 0 [] [] [] [] Whole r h.0 (none_left rest.octets h.1) refl refl refl
     still refl (texts.none errors_now)
 
 pub returns-in_err-push_refused-in-Refused-clause-err : goal.returns-in_err-push_refused-in-Refused-clause-err
@@ -175,7 +176,7 @@ returns-in_err-push_refused-in-Refused-clause-err g c =
     let out = text_out state a b d (map octet_for f.more) empty none c.in_ok-octets.ensures.calm f.came.told c.in_ok-let_out-in-Refused.ensures.ok c.in_ok-let_out-in-Refused.ensures.held c.in_ok-let_out-in-Refused.ensures.calm in
     let words = map octet_for f.more in
     handed_on _ c.from_residual-in_err-push_refused-in-Refused.result OutOfMemory c.from_residual-in_err-push_refused-in-Refused.ensures.1
-    (unfed_for_memory c.gifts_join.ensures c.texts_join.ensures rest (state d.writer) f.octets f.k words r f.came.given (f.more, f.delivered, refl) out)
+    (unfed_for_memory c.gifts_join.ensures c.texts_join.ensures rest (state d.writer.now) f.octets f.k words r f.came.given (f.more, f.delivered, refl) out)
 
 pub returns-in_err-say-in-Refused-clause-err : goal.returns-in_err-say-in-Refused-clause-err
 returns-in_err-say-in-Refused-clause-err g c =
@@ -194,7 +195,7 @@ returns-in_err-say-in-Refused-clause-err g c =
     let same : c.as_slice-in-Refused.result.now ≡ refused_line (c.telling.count + 1) c.in-Refused.refusal = search rules in
     let fault = c.in_err-say-in-Refused.field-0.0 in
     handed_on _ c.from_residual-in_err-say-in-Refused.result fault c.from_residual-in_err-say-in-Refused.ensures.1
-    (broke_in_lines c.gifts_join.ensures c.texts_join.ensures rest (state d.writer) errors_new f.octets words c.as_slice-in-Refused.result.now
+    (broke_in_lines c.gifts_join.ensures c.texts_join.ensures rest (state d.writer.now) errors_new f.octets words c.as_slice-in-Refused.result.now
     (RefusedBy c.in-Refused.refusal) fault r f.came.given (f.k, f.refused) (f.k, f.refused, (f.more, f.delivered, refl)) out same c.in_err-say-in-Refused.ensures.err)
 
 pub returns-in-Refused-clause-ok : goal.returns-in-Refused-clause-ok
@@ -214,7 +215,7 @@ returns-in-Refused-clause-ok g c =
     let errors_new = g.E.Target.state c.say-in-Refused.new.output in
     let same : c.as_slice-in-Refused.result.now ≡ refused_line (c.telling.count + 1) c.in-Refused.refusal = search rules in
     let more = ends_refused (PutsLines state) mid rest a b c.in-Refused.refusal f in
-    narrated c.gifts_join.ensures c.texts_join.ensures rest (state d.writer) errors_new 1 f.octets more.0 words c.as_slice-in-Refused.result.now
+    narrated c.gifts_join.ensures c.texts_join.ensures rest (state d.writer.now) errors_new 1 f.octets more.0 words c.as_slice-in-Refused.result.now
     (RefusedBy c.in-Refused.refusal) r f.came.given more.1 (f.k, more.2) (text_refused state mid rest a b c.in-Refused.refusal f more.0 more.2) refl out same c.in_ok-say-in-Refused.ensures.ok
 
 pub telling-preserved : goal.telling-preserved
@@ -239,8 +240,9 @@ telling-preserved g c =
       same = h.come.same;
       held = c.in_ok-end_story-in-Envelope.ensures.held;
       unbroken = c.in_ok-end_story-in-Envelope.ensures.calm ∙ c.in_ok-octets.ensures.calm ∙ none;
+      keeps = c.in_ok-end_story-in-Envelope.ensures.ok.same ∙ h.come.came.told.same ∙ c.telling.invariant.keeps;
       narrated =
-          narrated_more c.gifts_join.ensures c.texts_join.ensures rest (state d.writer) errors_new c.as_slice.result.now e r
+          narrated_more c.gifts_join.ensures c.texts_join.ensures rest (state d.writer.now) errors_new c.as_slice.result.now e r
           h.come.is h.come.came.given below out words c.in_ok-say-in-Envelope-2.ensures.ok;
       leads = λ last h. c.telling.invariant.leads last (g.met.R.Source.leads_on c.telling.intake.reader c.take_next.new.intake.reader last c.take_next.ensures.leads h);
     }
@@ -330,3 +332,50 @@ returns-in_err-let_out-in-Envelope-2-clause-leads g c = c.telling.invariant.lead
 
 pub returns-in_err-let_out-in-Refused-clause-leads : goal.returns-in_err-let_out-in-Refused-clause-leads
 returns-in_err-let_out-in-Refused-clause-leads g c = c.telling.invariant.leads c.take_next.new.intake.reader c.take_next.ensures.leads
+
+-- ---- the writer is over the same target
+
+keeps_so_far : (g : Over) (c : After-take_next g) → KeepsWriter c.args.output.now c.take_next.new.sink
+keeps_so_far g c =
+    let state = g.W.Target.state in
+    kept_next (PutsLines state) stops_of HoldsNothing (StaysStuck state) KeepsWriter (λ a b more told. told.same) (λ a b d keeps stuck. stuck.0.same ∙ keeps) (in_line g.R.Source.state c.telling.intake) (in_line g.R.Source.state c.take_next.new.intake)
+    c.take_next.new.unpacker c.telling.output c.take_next.new.sink c.take_next.result c.take_next.ensures.next ∙ c.telling.invariant.keeps
+
+pub returns-in_err-octets-clause-same : goal.returns-in_err-octets-clause-same
+returns-in_err-octets-clause-same g c = keeps_so_far g (goal.at.returns-in_err-octets-clause-same g c).After-take_next
+
+pub returns-in_err-let_out-in-Envelope-clause-same : goal.returns-in_err-let_out-in-Envelope-clause-same
+returns-in_err-let_out-in-Envelope-clause-same g c = c.in_err-let_out-in-Envelope.ensures.err.1.0.same ∙ keeps_so_far g (goal.at.returns-in_err-let_out-in-Envelope-clause-same g c).After-take_next
+
+pub returns-in_err-say-in-Envelope-clause-same : goal.returns-in_err-say-in-Envelope-clause-same
+returns-in_err-say-in-Envelope-clause-same g c = c.in_ok-let_out-in-Envelope.ensures.ok.same ∙ keeps_so_far g (goal.at.returns-in_err-say-in-Envelope-clause-same g c).After-take_next
+
+pub returns-then-count-eq-MAX_ENVELOPES-clause-same : goal.returns-then-count-eq-MAX_ENVELOPES-clause-same
+returns-then-count-eq-MAX_ENVELOPES-clause-same g c = c.in_ok-let_out-in-Envelope.ensures.ok.same ∙ keeps_so_far g (goal.at.returns-then-count-eq-MAX_ENVELOPES-clause-same g c).After-take_next
+
+pub returns-in_err-let_out-in-Envelope-2-clause-same : goal.returns-in_err-let_out-in-Envelope-2-clause-same
+returns-in_err-let_out-in-Envelope-2-clause-same g c = c.in_err-let_out-in-Envelope-2.ensures.err.1.0.same ∙ keeps_so_far g (goal.at.returns-in_err-let_out-in-Envelope-2-clause-same g c).After-take_next
+
+pub returns-then-is_err-clause-same : goal.returns-then-is_err-clause-same
+returns-then-is_err-clause-same g c = c.in_ok-let_out-in-Envelope-2.ensures.ok.same ∙ keeps_so_far g (goal.at.returns-then-is_err-clause-same g c).After-take_next
+
+pub returns-in_err-end_story-in-Envelope-clause-same : goal.returns-in_err-end_story-in-Envelope-clause-same
+returns-in_err-end_story-in-Envelope-clause-same g c = unended_keeps g.W.Target.state c.take_next.new.sink c.end_story.new.output c.in_err-end_story-in-Envelope.field-0.0 c.in_err-end_story-in-Envelope.ensures.err ∙ keeps_so_far g (goal.at.returns-in_err-end_story-in-Envelope-clause-same g c).After-take_next
+
+pub returns-in_err-say-in-Envelope-2-clause-same : goal.returns-in_err-say-in-Envelope-2-clause-same
+returns-in_err-say-in-Envelope-2-clause-same g c = c.in_ok-end_story-in-Envelope.ensures.ok.same ∙ keeps_so_far g (goal.at.returns-in_err-say-in-Envelope-2-clause-same g c).After-take_next
+
+pub returns-in-End-clause-same : goal.returns-in-End-clause-same
+returns-in-End-clause-same g c = keeps_so_far g (goal.at.returns-in-End-clause-same g c).After-take_next
+
+pub returns-in_err-let_out-in-Refused-clause-same : goal.returns-in_err-let_out-in-Refused-clause-same
+returns-in_err-let_out-in-Refused-clause-same g c = c.in_err-let_out-in-Refused.ensures.err.1.0.same ∙ keeps_so_far g (goal.at.returns-in_err-let_out-in-Refused-clause-same g c).After-take_next
+
+pub returns-in_err-push_refused-in-Refused-clause-same : goal.returns-in_err-push_refused-in-Refused-clause-same
+returns-in_err-push_refused-in-Refused-clause-same g c = c.in_ok-let_out-in-Refused.ensures.ok.same ∙ keeps_so_far g (goal.at.returns-in_err-push_refused-in-Refused-clause-same g c).After-take_next
+
+pub returns-in_err-say-in-Refused-clause-same : goal.returns-in_err-say-in-Refused-clause-same
+returns-in_err-say-in-Refused-clause-same g c = c.in_ok-let_out-in-Refused.ensures.ok.same ∙ keeps_so_far g (goal.at.returns-in_err-say-in-Refused-clause-same g c).After-take_next
+
+pub returns-in-Refused-clause-same : goal.returns-in-Refused-clause-same
+returns-in-Refused-clause-same g c = c.in_ok-let_out-in-Refused.ensures.ok.same ∙ keeps_so_far g (goal.at.returns-in-Refused-clause-same g c).After-take_next

@@ -2,7 +2,7 @@ use Rattle.std.proofs.Common.{◌≡◌, ◌-◌, None}
 use Rattle.iim_unpack.specs.States.Intakes.{in_line}
 use Rattle.iim_unpack.specs.States.Unpacking.{limits_in}
 use Rattle.iim_commands.specs.Format.Listings.{limits}
-use Rattle.iim_commands.specs.States.Holding.{HoldsNothing, device_of, stops_of}
+use Rattle.iim_commands.specs.States.Holding.{HoldsNothing, KeepsWriter, device_of, stops_of}
 use Rattle.iim_commands.proofs.Narration.{AreNarrated}
 use Rattle.iim_commands.proofs.story.tell_stories.Given as goal
 
@@ -12,6 +12,7 @@ invariant-telling g l = record {
   same : limits_in l.unpacker ≡ limits;
   held : HoldsNothing l.output;
   unbroken : stops_of l.output ≡ 0;
+  keeps : KeepsWriter l.fn.output l.output;
   narrated : AreNarrated (in_line g.R.Source.state l.fn.intake) (in_line g.R.Source.state l.intake) (device_of g.W.Target.state l.fn.output) (device_of g.W.Target.state l.output) (g.E.Target.state l.fn.errors) (g.E.Target.state l.errors) l.count;
   leads : (last : _) → g.R.Source.leads l.intake.reader last → g.R.Source.leads l.fn.intake.reader last;
 }

@@ -1,0 +1,11 @@
+-- How a run ends with its answer.
+use Rattle.std.specs.Prelude.{◌≡◌, ℕ, Result, Ok, Err}
+use Rattle.iim_dataset.specs.States.Devices.{Device}
+use Rattle.iim_commands.specs.Format.Outcomes.{Complained}
+use Rattle.iim_commands.specs.Format.Statuses.{status_failed}
+use Rattle.iim_commands.specs.declared.fault.CommandFault.{CommandFault}
+
+-- With the status, or with the fault, which is told, and status 3. (The errors before and after.)
+abbrev pub EndsRun : Device → Device → Result ℕ CommandFault → ℕ → Type 0
+EndsRun old new (Ok want) status = (status ≡ want) × (new ≡ old)
+EndsRun old new (Err fault) status = (status ≡ status_failed) × Complained old new fault
