@@ -13,7 +13,6 @@ pub mod Bounds
 pub mod GoodRecords
 pub mod Outputs
 pub mod Rooms
-pub mod Written
 pub mod Reached
 pub mod Staying
 pub mod Saved
@@ -23,3 +22,4 @@ pub mod Within
 -- What proofs of other crates cite.
 pub mod PlanLengths
 pub mod PlanParts
+pub mod Written

@@ -102,7 +102,7 @@ add_last [] line b = refl
 add_last (f ∷ []) line b = refl
 add_last (f ∷ g ∷ fs) line b = ap (λ (lines : List (List ℕ)). f ∷ lines) (add_last (g ∷ fs) line b)
 
-line_collected : (front : List (List ℕ)) (line more : List ℕ) → collect (front ++ line ∷ []) (map LineOctet more) ≡ front ++ (line ++ more) ∷ []
+pub line_collected : (front : List (List ℕ)) (line more : List ℕ) → collect (front ++ line ∷ []) (map LineOctet more) ≡ front ++ (line ++ more) ∷ []
 line_collected front line [] = ap (λ (t : List ℕ). front ++ t ∷ []) (sym (append-nil line))
 line_collected front line (b ∷ bs) =
     ap (λ (lines : List (List ℕ)). collect lines (map LineOctet bs)) (add_last front line b)

@@ -5,7 +5,6 @@ pub mod Readings
 pub mod Reached
 pub mod Pieces
 pub mod MadeTexts
-pub mod Collected
 pub mod PackedEvents
 pub mod Marked
 pub mod Words
@@ -14,4 +13,5 @@ pub mod Fronts
 pub mod LineEnds
 pub mod Counted
 -- What proofs of other crates cite.
+pub mod Collected
 pub mod Spans
