@@ -3,6 +3,8 @@ use Rattle.std.proofs.Common.{◌≡◌, ◌≢◌, ℕ, ◌<◌, ◌≤◌, ◌
 use Rattle.std.proofs.lemmas.Bool.{ltb-true, ltb-false}
 use Rattle.iim_fields.specs.declared.limits.Limits.{Limits}
 use Rattle.iim_places.specs.Format.Open.{IsOpen, IsTruncatedAt}
+use Rattle.iim_places.specs.Laws.Admitted.{AdmittedOctetsAreFramed, NoEnvelopeIsEmpty}
+use Rattle.iim_places.specs.Laws.Places.{TicketsTellOnePlace}
 use Rattle.iim_places.specs.States.Restored.{IsRestoreFault}
 use Rattle.iim_places.specs.Format.Streams.{IsEnvelopeWithin}
 use Rattle.iim_places.specs.Format.Tickets.{IsTicketOf}
@@ -25,6 +27,9 @@ use Rattle.iim_c.proofs.Places.{PlaceLaws, stands_at, ends_at, place_of, begun_l
 pub record Begun (limits : Limits) (ticket : List ℕ) (at : ℕ) (u : Unpacking) : Type 0 where
   pub laws : PlaceLaws
   pub is_begun : IsBegun limits ticket at u
+
+pub begun : TicketsTellOnePlace → NoEnvelopeIsEmpty → AdmittedOctetsAreFramed → (limits : Limits) (ticket : List ℕ) (at : ℕ) (u : Unpacking) → IsBegun limits ticket at u → Begun limits ticket at u
+begun one some framed limits ticket at u is = record { laws = record { one_place = one; not_empty = some; framed = framed }; is_begun = is }
 
 is_done : (u : Unpacking) (p : List ℕ) (a : ℕ) → IsDoneWith u p a → IsDone u
 is_done u p a d = (d.taking, d.ended)

@@ -7,9 +7,9 @@ use Rattle.iim_commands.specs.declared.packing.PackFault.{PackFault}
 use Rattle.iim_commands.specs.declared.packing.PackFault.TheVariants.{Refused, Around}
 use Rattle.iim_c.specs.declared.answer.IimAnswer.{IimAnswer}
 use Rattle.iim_c.specs.declared.packing.IimPacking.{IimPacking}
-use Rattle.iim_c.specs.Format.Packing.{Asks, IsFormFor, asked_for}
+use Rattle.iim_c.specs.Format.Packing.{IsFormFor, asked_for}
 use Rattle.iim_c.specs.Format.Packing as packing
-use Rattle.iim_c.specs.PackSteps.{IsPut, IsUnpacked, IsUnpackedFault, sized}
+use Rattle.iim_c.specs.PackSteps.{Asks, IsPut, IsUnpacked, IsUnpackedFault, sized}
 use Rattle.iim_c.specs.Format.Statuses as status
 
 pub unpacked_for : (p : IimPacking) (request : PackRequest) (octets : List ℕ) (old new : Device) (fault : PackFault) (told : IimAnswer) → Asks p request

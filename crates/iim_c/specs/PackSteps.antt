@@ -1,13 +1,19 @@
 -- The steps of a call that packs.
 use Rattle.std.specs.Prelude.{◌≡◌, ℕ, ◌<◌, ◌≤◌, ◌⊎◌, List, [], ◌++◌, length, drop}
+use Rattle.iim_commands.specs.Format.Packing.{asked}
 use Rattle.iim_commands.specs.declared.packing.PackFault.{PackFault}
 use Rattle.iim_commands.specs.declared.packing.PackFault.TheVariants.{Refused, Around}
+use Rattle.iim_commands.specs.declared.packing.PackRequest.{PackRequest}
 use Rattle.iim_c.specs.declared.answer.IimAnswer.{IimAnswer}
 use Rattle.iim_c.specs.declared.packing.IimPacking.{IimPacking}
 use Rattle.iim_c.specs.Format.Answers.{status_answer}
-use Rattle.iim_c.specs.Format.Packing.{PackOutcome, IsPackOutcome, form_of, pack_answer}
+use Rattle.iim_c.specs.Format.Packing.{PackOutcome, IsPackOutcome, asked_for, form_of, pack_answer}
 use Rattle.iim_c.specs.Format.Packing as packing
 use Rattle.iim_c.specs.Format.Statuses as status
+
+-- The request is that of the command for what is asked.
+abbrev pub Asks : IimPacking → PackRequest → Type 0
+Asks p request = asked request.subfile request.unknown request.max ≡ asked_for p
 
 -- The answer is that for the fault.
 abbrev pub IsUnpackedFault : PackFault → IimAnswer → Type 0

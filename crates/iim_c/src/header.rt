@@ -1,6 +1,6 @@
 //! The header and the trailer that a ticket tells.
 
-ghost use Rattle.std.specs.Prelude.{◌≡◌, ◌≤◌, length};
+ghost use Rattle.std.specs.Prelude.{◌≡◌, ◌-◌};
 ghost use Rattle.iim_places.specs.Format.TicketForm.{SplitsTicket};
 ghost use Rattle.iim_places.specs.States.TicketsTold.{split_told};
 ghost use Rattle.iim_c.specs.Format.TicketAnswers.{IsHeader, IsMessageOf};
@@ -45,15 +45,21 @@ const NO_MESSAGE: IimMessage = IimMessage {
     trailer: NO_SPAN,
 };
 
-/// Where a text stands that ends before the octet at `end`.
+/// Where a text stands that ends before the octet at `end`; from octet 0 on where there are too few before that.
 fn span_before(end: usize, text: &[u8]) -> IimSpan
-    requires { length text.now ≤ end }
     ensures { result ≡ span_before end text.now }
 {
     IimSpan {
-        offset: end - text.len(),
+        offset: end.saturating_sub(text.len()),
         count: text.len(),
     }
+}
+
+/// Where a text stands that the length of the next one follows, in one octet.
+fn text_before(next: IimSpan, text: &[u8]) -> IimSpan
+    ensures { result ≡ span_before (next.offset - 1) text.now }
+{
+    span_before(next.offset.saturating_sub(1), text)
 }
 
 /// The header and the trailer in a ticket of these parts. They end it, and before each text stands its length in one octet.
@@ -63,12 +69,12 @@ fn message_in(ticket: &[u8], parts: &TicketParts<'_>) -> IimMessage
 {
     let [source, number, priority, category, words, info, trailer] = parts.texts;
     let trailer = span_before(ticket.len(), trailer);
-    let info = span_before(trailer.offset - 1, info);
-    let words = span_before(info.offset - 1, words);
-    let category = span_before(words.offset - 1, category);
-    let priority = span_before(category.offset - 1, priority);
-    let number = span_before(priority.offset - 1, number);
-    let source = span_before(number.offset - 1, source);
+    let info = text_before(trailer, info);
+    let words = text_before(info, words);
+    let category = text_before(words, category);
+    let priority = text_before(category, priority);
+    let number = text_before(priority, number);
+    let source = text_before(number, source);
     IimMessage {
         part: parts.part,
         source,

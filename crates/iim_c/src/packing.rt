@@ -1,7 +1,8 @@
 //! How an envelope is packed.
 
 ghost use Rattle.std.specs.Prelude.{IfSome, IfNone};
-ghost use Rattle.iim_c.specs.Format.Packing.{Asks, AsksNothing};
+ghost use Rattle.iim_c.specs.Format.Packing.{AsksNothing};
+ghost use Rattle.iim_c.specs.PackSteps.{Asks};
 
 use iim_commands::packing::PackRequest;
 use iim_object::{Plan, Size};

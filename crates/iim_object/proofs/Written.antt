@@ -211,9 +211,10 @@ halted state old new octets full some h =
           begins_by out text (canonical_stream (subfile_datasets others) ++ canonical_stream (confirmed_datasets ((object ++ octets) ++ rest))) whole h.cut.out is;
     }
 
-pub breaks_later : {W : Type 0} (state : W → Device) (plan : Plan) (a b c : Writing W) (xs ys : List ℕ) → TextsJoin → Lengthens state a b xs → BreaksOff state (ContinuesWith plan ys) b c
-    → BreaksOff state (ContinuesWith plan (xs ++ ys)) a c
-breaks_later state plan a b c xs ys join l k = record {
+-- A break comes after octets that were taken before it, whatever may be written: what may be written of all of them may be of the rest.
+pub breaks_on : {W : Type 0} (state : W → Device) (Now May : List ℕ → List ℕ → Type 0) (a b c : Writing W) (xs : List ℕ) → TextsJoin → Lengthens state a b xs
+    → ((object whole : List ℕ) → May object whole → Now (object ++ xs) whole) → BreaksOff state Now b c → BreaksOff state May a c
+breaks_on state Now May a b c xs join l may k = record {
   more = l.more ++ k.more;
   appends = (join.broke (state a.writer) (state b.writer) (state c.writer) l.more k.more l.wrote (k.appends, k.broke)).0;
   broke = (join.broke (state a.writer) (state b.writer) (state c.writer) l.more k.more l.wrote (k.appends, k.broke)).1;
@@ -221,10 +222,14 @@ breaks_later state plan a b c xs ys join l k = record {
   failed = k.failed;
   counted = omega (arith, k.counted, l.counted, length-append l.more k.more);
   begins = λ object out whole s w.
-      subst (λ (t : List ℕ). Begins t whole) (append_assoc out l.more k.more)
-      (k.begins (object ++ xs) (out ++ l.more) whole (l.stands object out s)
-      (w.0, subst (λ (t : List ℕ). IsWritten plan.subfile plan.size (t ++ w.0) whole) (sym (append_assoc object xs ys)) w.1));
+      subst (λ (t : List ℕ). Begins t whole) (append_assoc out l.more k.more) (k.begins (object ++ xs) (out ++ l.more) whole (l.stands object out s) (may object whole w));
 }
+
+pub breaks_later : {W : Type 0} (state : W → Device) (plan : Plan) (a b c : Writing W) (xs ys : List ℕ) → TextsJoin → Lengthens state a b xs → BreaksOff state (ContinuesWith plan ys) b c
+    → BreaksOff state (ContinuesWith plan (xs ++ ys)) a c
+breaks_later state plan a b c xs ys join l k =
+    breaks_on state (ContinuesWith plan ys) (ContinuesWith plan (xs ++ ys)) a b c xs join l
+    (λ object whole w. (w.0, subst (λ (t : List ℕ). IsWritten plan.subfile plan.size (t ++ w.0) whole) (sym (append_assoc object xs ys)) w.1)) k
 
 -- ---- a writer finishes
 

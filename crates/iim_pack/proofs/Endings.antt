@@ -1,13 +1,13 @@
 -- How the end of an object is written.
 use Rattle.std.proofs.Common.{◌≡◌, ℕ, ◌+◌, ◌≤◌, false, None, List, [], ◌++◌, length, refl, sym, subst, ◌∙◌, arith, append_assoc, append-nil, length-append}
-use Rattle.std.specs.Prelude.{Result, Ok, Err, IfOk, IfErr}
 use Rattle.std.proofs.lemmas.Bool.{le-leb}
 use Rattle.iim_dataset.specs.States.Devices.{Device}
 use Rattle.iim_dataset.specs.Laws.Devices.{TextsJoin}
 use Rattle.iim_object.specs.Format.Plans.{is_short}
 use Rattle.iim_object.specs.Format.Packing.{IsWritten}
-use Rattle.iim_object.specs.States.Writing.{Writing, Lengthens, BreaksOff, ContinuesWith, IsTheWhole, Finishes, Begins, most_of, total_of, write_cause, finish_cause}
+use Rattle.iim_object.specs.States.Writing.{Writing, Lengthens, BreaksOff, ContinuesWith, IsTheWhole, Finishes, most_of, total_of, write_cause, finish_cause}
 use Rattle.iim_object.specs.declared.plan.Plan.{Plan}
+use Rattle.iim_object.proofs.Written.{breaks_on}
 use Rattle.iim_pack.specs.Ending.{Ends, EndsWithTail}
 
 pub ends : {W : Type 0} (state : W → Device) (old mid : Writing W) (tail : List ℕ) (writer : W) → TextsJoin → Lengthens state old mid tail → Finishes state mid writer → Ends state old tail writer
@@ -33,17 +33,9 @@ tail_broke state old new tail k = record {
 
 -- what follows could not be written
 pub end_broke : {W : Type 0} (state : W → Device) (old mid new : Writing W) (tail : List ℕ) → TextsJoin → Lengthens state old mid tail → BreaksOff state (IsTheWhole mid.plan) mid new → BreaksOff state (EndsWithTail old.plan tail) old new
-end_broke state old mid new tail join l k = record {
-  more = l.more ++ k.more;
-  appends = (join.broke (state old.writer) (state mid.writer) (state new.writer) l.more k.more l.wrote (k.appends, k.broke)).0;
-  broke = (join.broke (state old.writer) (state mid.writer) (state new.writer) l.more k.more l.wrote (k.appends, k.broke)).1;
-  plan = k.plan ∙ l.plan;
-  failed = k.failed;
-  counted = omega (arith, k.counted, l.counted, length-append l.more k.more);
-  begins = λ object out whole s w.
-      subst (λ (t : List ℕ). Begins t whole) (append_assoc out l.more k.more)
-      (k.begins (object ++ tail) (out ++ l.more) whole (l.stands object out s) (subst (λ (p : Plan). IsWritten p.subfile p.size (object ++ tail) whole) (sym l.plan) w));
-}
+end_broke state old mid new tail join l k =
+    breaks_on state (IsTheWhole mid.plan) (EndsWithTail old.plan tail) old mid new tail join l
+    (λ object whole w. subst (λ (p : Plan). IsWritten p.subfile p.size (object ++ tail) whole) (sym l.plan) w) k
 
 pub may_write : {W : Type 0} (w : Writing W) (n : ℕ) → w.failed ≡ false → total_of w + n ≤ most_of w.plan → write_cause w n ≡ None
 may_write w n unfailed fits = rw (unfailed, le-leb (total_of w + n) (most_of w.plan) fits) refl
@@ -52,13 +44,3 @@ pub may_finish : {W : Type 0} (state : W → Device) (old mid : Writing W) (tail
 may_finish state old mid tail l whole =
     let now : is_short mid.plan.size (total_of mid) ≡ false = rw (l.plan, l.total) whole in
     rw (l.unfailed, now) refl
-
--- ---- results
-
-pub if_ok : {A E : Type 0} (r : Result A E) (P Q : A → Type 0) → ((a : A) → P a → Q a) → IfOk r P → IfOk r Q
-if_ok (Ok a) P Q f h = f a h
-if_ok (Err e) P Q f h = tt
-
-pub if_err : {A E : Type 0} (r : Result A E) (P Q : E → Type 0) → ((e : E) → P e → Q e) → IfErr r P → IfErr r Q
-if_err (Ok a) P Q f h = tt
-if_err (Err e) P Q f h = f e h

@@ -8,7 +8,7 @@ use Rattle.iim_object.specs.Format.Plans.{bound_of, is_short}
 use Rattle.iim_object.specs.Format.Packing.{IsWritten, IsAsKnown}
 use Rattle.iim_object.specs.Format.Cuts.{joined_parts}
 use Rattle.iim_object.specs.States.Writing as object
-use Rattle.iim_object.specs.States.Writing.{Writing, most_of, total_of, passes_plan, Begins}
+use Rattle.iim_object.specs.States.Writing.{Writing, most_of, total_of, passes_plan}
 use Rattle.iim_object.specs.declared.plan.Plan.{Plan}
 use Rattle.iim_object.specs.declared.size.Size.{Size}
 use Rattle.iim_object.specs.declared.size.Size.TheVariants.{Known, Unknown}
@@ -22,7 +22,7 @@ use Rattle.wire_message.specs.Format.Canonical.{packed_head, packed_tail, canoni
 use Rattle.wire_message.specs.Laws.Messages.{CanonicalObjectsAreMessages}
 use Rattle.iim_pack.specs.States.Packing.{BreaksOff, EndsIn, Finishes, is_trailer, ending_cause}
 use Rattle.iim_pack.specs.Ending.{Ends, EndsWithTail}
-use Rattle.iim_pack.proofs.Goings.{begins_after}
+use Rattle.iim_pack.proofs.Goings.{breaks}
 
 -- ---- causes
 
@@ -98,19 +98,11 @@ finished state before old trailer writer lines messages may ends = record {
 
 pub unfinished : {W : Type 0} (state : W → Device) (before : ℕ) (old new : Writing W) (trailer : List ℕ) → EventsArePackedAsLines → object.BreaksOff state (EndsWithTail old.plan (packed_tail trailer)) old new
     → BreaksOff state (EndsIn trailer) (record { before = before; object = old }) (record { before = before; object = new })
-unfinished state before old new trailer lines k = record {
-  more = k.more;
-  appends = k.appends;
-  broke = k.broke;
-  failed = k.failed;
-  counted = omega (arith, k.counted);
-  begins = λ fields head events plan out whole s p.
-      let is = canonical_is head events trailer (lines events s.events_are).text in
-      let written : IsWritten old.plan.subfile old.plan.size ((packed_head head ++ packed_events events) ++ packed_tail trailer) p.object =
-      subst (λ (q : Plan). IsWritten q.subfile q.size ((packed_head head ++ packed_events events) ++ packed_tail trailer) p.object) (sym s.is_plan)
-      (subst (λ (o : List ℕ). IsWritten plan.subfile plan.size o p.object) is p.written) in
-      let here = k.begins (packed_head head ++ packed_events events) s.object_out p.object s.stands written in
-      let there : Begins (canonical_stream fields ++ (s.object_out ++ k.more)) (canonical_stream fields ++ p.object) = begins_after (canonical_stream fields) (s.object_out ++ k.more) p.object here in
-      subst (λ (w : List ℕ). Begins (out ++ k.more) w) (sym p.octets_are)
-      (subst (λ (x : List ℕ). Begins x (canonical_stream fields ++ p.object)) (sym (ap (λ (t : List ℕ). t ++ k.more) s.out_is ∙ append_assoc (canonical_stream fields) s.object_out k.more)) there);
-}
+unfinished state before old new trailer lines k =
+    breaks state before (EndsWithTail old.plan (packed_tail trailer)) (EndsIn trailer) old new
+    (λ fields head events whole are p. (
+      p.object,
+      p.octets_are,
+      subst (λ (o : List ℕ). IsWritten old.plan.subfile old.plan.size o p.object) (canonical_is head events trailer (lines events are).text) p.written,
+    ))
+    k

@@ -1,10 +1,10 @@
 -- How a packer continues, breaks off and finishes, by the writer of its object.
 use Rattle.std.proofs.Common.{◌≡◌, ℕ, ◌+◌, ◌≤◌, Bool, true, false, not, nat_le, Option, Some, None, List, [], ◌∷◌, ◌++◌, map, refl, sym, ap, subst, ◌∙◌, arith, append_assoc}
-use Rattle.std.specs.Prelude.{Result, Ok, Err, OnOk, OnErr, IfNone}
+use Rattle.std.specs.Prelude.{IfNone}
 use Rattle.std.proofs.lemmas.Bool.{and_parts, le-leb, leb-true}
 use Rattle.std.specs.List.{list_all}
 use Rattle.iim_dataset.specs.States.Devices.{Device}
-use Rattle.iim_dataset.specs.Format.Datasets.{canonical_stream}
+use Rattle.iim_dataset.specs.Format.Datasets.{Dataset, canonical_stream}
 use Rattle.iim_dataset.proofs.Each.{all_append}
 use Rattle.iim_object.specs.Format.Packing.{IsWritten}
 use Rattle.iim_object.specs.States.Writing as object
@@ -19,18 +19,6 @@ use Rattle.wire_message.specs.Format.Canonical.{packed_head, packed_tail, canoni
 use Rattle.iim_pack.specs.States.Packing.{Lengthens, BreaksOff, ContinuesWith}
 
 -- ---- results
-
-pub on_err : {A E : Type 0} (r : Result A E) (P Q : Type 0) → (P → Q) → OnErr r P → OnErr r Q
-on_err (Ok a) P Q f h = tt
-on_err (Err e) P Q f h = f h
-
-pub on_ok : {A E : Type 0} (r : Result A E) (P Q : Type 0) → (P → Q) → OnOk r P → OnOk r Q
-on_ok (Ok a) P Q f h = f h
-on_ok (Err e) P Q f h = tt
-
-pub if_none : {A : Type 0} (o : Option A) (P : Type 0) → P → IfNone o P
-if_none None P p = p
-if_none (Some a) P p = tt
 
 pub of_none : {A : Type 0} (o : Option A) (P : Type 0) → o ≡ None → IfNone o P → P
 of_none None P e h = h
@@ -93,26 +81,41 @@ form_object head evs events rest lines trailer law e =
     ∙ (ap (λ (x : List ℕ). h ++ x) (append_assoc (a ++ b) r t ∙ append_assoc a b (r ++ t))
     ∙ (sym (append_assoc h a (b ++ (r ++ t))) ∙ sym (append_assoc (h ++ a) b (r ++ t))))
 
-pub broken : {W : Type 0} (state : W → Device) (before : ℕ) (old new : Writing W) (events : List StoryEvent) → LinesArePackedAsTheirEvents → object.BreaksOff state (object.ContinuesWith old.plan (packed_events events)) old new
-    → BreaksOff state (ContinuesWith events) (record { before = before; object = old }) (record { before = before; object = new })
-broken state before old new events law k = record {
+-- A break of the writer of the object breaks off the packer, where each form that may come of it is the fields and an object that may be
+-- written.
+pub breaks : {W : Type 0} (state : W → Device) (before : ℕ) (May : List ℕ → List ℕ → Type 0) (Form : List Dataset → Header → List StoryEvent → Plan → List ℕ → Type 0) (old new : Writing W)
+    → ((fields : List Dataset) (head : Header) (evs : List StoryEvent) (whole : List ℕ) → AreEvents evs → Form fields head evs old.plan whole
+    → (object : List ℕ) × (whole ≡ canonical_stream fields ++ object) × May (packed_head head ++ packed_events evs) object)
+    → object.BreaksOff state May old new → BreaksOff state Form (record { before = before; object = old }) (record { before = before; object = new })
+breaks state before May Form old new parts k = record {
   more = k.more;
   appends = k.appends;
   broke = k.broke;
   failed = k.failed;
   counted = omega (arith, k.counted);
   begins = λ fields head evs plan out whole s form.
-      let p = form.packed in
-      let is : canonical head form.lines form.trailer ≡ ((packed_head head ++ packed_events evs) ++ packed_events events) ++ (packed_events form.rest ++ packed_tail form.trailer) =
-      form_object head evs events form.rest form.lines form.trailer law form.begins in
-      let written : IsWritten old.plan.subfile old.plan.size (((packed_head head ++ packed_events evs) ++ packed_events events) ++ (packed_events form.rest ++ packed_tail form.trailer)) p.object =
-      subst (λ (q : Plan). IsWritten q.subfile q.size (((packed_head head ++ packed_events evs) ++ packed_events events) ++ (packed_events form.rest ++ packed_tail form.trailer)) p.object) (sym s.is_plan)
-      (subst (λ (o : List ℕ). IsWritten plan.subfile plan.size o p.object) is p.written) in
-      let here = k.begins (packed_head head ++ packed_events evs) s.object_out p.object s.stands (packed_events form.rest ++ packed_tail form.trailer, written) in
-      let there : Begins (canonical_stream fields ++ (s.object_out ++ k.more)) (canonical_stream fields ++ p.object) = begins_after (canonical_stream fields) (s.object_out ++ k.more) p.object here in
-      subst (λ (w : List ℕ). Begins (out ++ k.more) w) (sym p.octets_are)
-      (subst (λ (x : List ℕ). Begins x (canonical_stream fields ++ p.object)) (sym (ap (λ (t : List ℕ). t ++ k.more) s.out_is ∙ append_assoc (canonical_stream fields) s.object_out k.more)) there);
+      let front : List ℕ = canonical_stream fields in
+      let (o, is, may) = parts fields head evs whole s.events_are (subst (λ (q : Plan). Form fields head evs q whole) (sym s.is_plan) form) in
+      let here = k.begins (packed_head head ++ packed_events evs) s.object_out o s.stands may in
+      let there : Begins (front ++ (s.object_out ++ k.more)) (front ++ o) = begins_after front (s.object_out ++ k.more) o here in
+      subst (λ (w : List ℕ). Begins (out ++ k.more) w) (sym is)
+      (subst (λ (x : List ℕ). Begins x (front ++ o)) (sym (ap (λ (t : List ℕ). t ++ k.more) s.out_is ∙ append_assoc front s.object_out k.more)) there);
 }
+
+pub broken : {W : Type 0} (state : W → Device) (before : ℕ) (old new : Writing W) (events : List StoryEvent) → LinesArePackedAsTheirEvents → object.BreaksOff state (object.ContinuesWith old.plan (packed_events events)) old new
+    → BreaksOff state (ContinuesWith events) (record { before = before; object = old }) (record { before = before; object = new })
+broken state before old new events law k =
+    breaks state before (object.ContinuesWith old.plan (packed_events events)) (ContinuesWith events) old new
+    (λ fields head evs whole are form.
+        let p = form.packed in (
+          p.object,
+          p.octets_are,
+          (
+            packed_events form.rest ++ packed_tail form.trailer,
+            subst (λ (o : List ℕ). IsWritten old.plan.subfile old.plan.size o p.object) (form_object head evs events form.rest form.lines form.trailer law form.begins) p.written,
+          ),
+        ))
+    k
 
 -- ---- causes
 

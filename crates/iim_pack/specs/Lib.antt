@@ -6,4 +6,5 @@ pub mod States
 pub mod Laws
 -- What only proofs and private clauses cite.
 pub mod Ending
+pub mod LineEvents
 pub mod Opening

@@ -51,7 +51,7 @@ stands_field limits script rest line after ds d count s n t taken =
     stands_on limits script rest line after (InFields ds) (InFields (ds ++ d ∷ [])) count (count + 1) s n refl
     (record { told = fields_more s.lines ds line d s.come.told t; taken = taken_more limits [] ds d s.come.taken taken })
 
-pub stands_head : (limits : Limits) (script rest after : List ℕ) (ds : List Dataset) (head : Header) (count more : ℕ) → Stands limits script (InFields ds) rest count
+stands_head : (limits : Limits) (script rest after : List ℕ) (ds : List Dataset) (head : Header) (count more : ℕ) → Stands limits script (InFields ds) rest count
     → NextIs (λ line. TellsHead line head) rest after → more ≡ count + 1 → Stands limits script (AfterMessage ds head) after more
 stands_head limits script rest after ds head count more s (line, n, t) e =
     stands_on limits script rest line after (InFields ds) (AfterMessage ds head) count more s n e (s.lines, line, s.come, t, refl)
@@ -69,7 +69,7 @@ abbrev pub Past : Limits → List ℕ → List Dataset → Header → List ℕ �
 Past limits script ds head trailer rest count =
     (Stands limits script (AfterMessage ds head) rest count × NextMustBe TellsNoTrailer rest × (trailer ≡ [])) ⊎ Stands limits script (AfterTrailer ds head trailer) rest count
 
-pub past_trailer : (limits : Limits) (script rest after : List ℕ) (ds : List Dataset) (head : Header) (trailer : List ℕ) (count more : ℕ)
+past_trailer : (limits : Limits) (script rest after : List ℕ) (ds : List Dataset) (head : Header) (trailer : List ℕ) (count more : ℕ)
     → Stands limits script (AfterMessage ds head) rest count → TakesTrailer rest count trailer after more → Past limits script ds head trailer after more
 past_trailer limits script rest after ds head trailer count more s (inl ((line, n, t), e)) =
     inr (stands_trailer limits script rest line after ds head trailer count more s n t.0 t.1 e)
@@ -80,6 +80,18 @@ past_trailer limits script rest after ds head trailer count more s (inr (none, e
       subst (λ (l : List ℕ). NextMustBe TellsNoTrailer l) (sym same) none,
       empty,
     )
+
+-- Past the datasets that a builder has taken under these limits, and the header.
+pub headed : (limits built : Limits) (script rest left : List ℕ) (ds : List Dataset) (head : Header) (count more : ℕ) → built ≡ limits → Stands built script (InFields ds) rest count
+    → NextIs (λ line. TellsHead line head) rest left → more ≡ count + 1 → Stands limits script (AfterMessage ds head) left more
+headed limits built script rest left ds head count more same s told e =
+    stands_head limits script rest left ds head count more (subst (λ (l : Limits). Stands l script (InFields ds) rest count) same s) told e
+
+-- And past the trailer.
+pub past_head : (limits built : Limits) (script rest left last : List ℕ) (ds : List Dataset) (head : Header) (trailer : List ℕ) (count more most : ℕ) → built ≡ limits → Stands built script (InFields ds) rest count
+    → NextIs (λ line. TellsHead line head) rest left → more ≡ count + 1 → TakesTrailer left more trailer last most → Past limits script ds head trailer last most
+past_head limits built script rest left last ds head trailer count more most same s told e takes =
+    past_trailer limits script left last ds head trailer more most (headed limits built script rest left ds head count more same s told e) takes
 
 -- what stands before the story, once the line `text` has come
 abbrev pub FrontAnd : Limits → List ℕ → List Dataset → Header → List ℕ → List ℕ → ℕ → Type 0

@@ -1,30 +1,17 @@
 -- The lines of a story, one after another.
 use Rattle.std.proofs.Common.{◌≡◌, ◌⊎◌, inl, inr, ℕ, ◌+◌, ◌<◌, List, [], ◌∷◌, ◌++◌, append_assoc, append-nil, length, map, refl, ap, sym, ◌∙◌, subst, arith, Option, Some, None, IfSome, IfNone, Bor}
 use Rattle.std.specs.List.{AllByRecursion}
+use Rattle.iim_dataset.proofs.Each.{all_append}
 use Rattle.wire_story.specs.Format.Texts.{IsLine}
 use Rattle.wire_story.specs.Format.Delivery.{LineOctet, LineEnd}
-use Rattle.wire_story.specs.States.Collecting.{collect, add_octet}
+use Rattle.wire_story.specs.States.Collecting.{collect}
+use Rattle.wire_story.proofs.Collected.{line_collected}
 use Rattle.iim_script.specs.Format.Lines.{HasNo, EndsLine, NextLine, EndLines}
 use Rattle.iim_script.specs.Format.Scripts.{IsStory}
 use Rattle.iim_script.specs.Steps.{number_after, IsLastLine, RefusesStory, RefusesStoryLine}
 use Rattle.iim_script.specs.declared.fault.ScriptCause.{ScriptCause}
 use Rattle.iim_script.specs.declared.fault.ScriptCause.TheVariants.{ScriptLine, ScriptTooLong, Field, BadTrailer, BadTextOctet, OutOfMemory}
 use Rattle.iim_script.proofs.Next.{lines_more, count_more}
-
-add_last : (xs : List (List ℕ)) (l : List ℕ) (b : ℕ) → add_octet (xs ++ l ∷ []) b ≡ xs ++ (l ++ b ∷ []) ∷ []
-add_last [] l b = refl
-add_last (x ∷ []) l b = refl
-add_last (x ∷ y ∷ xs) l b = ap (λ (m : List (List ℕ)). x ∷ m) (add_last (y ∷ xs) l b)
-
-collect_line : (xs : List (List ℕ)) (l bs : List ℕ) → collect (xs ++ l ∷ []) (map LineOctet bs) ≡ xs ++ (l ++ bs) ∷ []
-collect_line xs l [] = ap (λ (m : List ℕ). xs ++ m ∷ []) (sym (append-nil l))
-collect_line xs l (b ∷ bs) =
-    ap (λ (m : List (List ℕ)). collect m (map LineOctet bs)) (add_last xs l b)
-    ∙ (collect_line xs (l ++ b ∷ []) bs ∙ ap (λ (m : List ℕ). xs ++ m ∷ []) (append_assoc l (b ∷ []) bs))
-
-all_more : (xs : List (List ℕ)) (l : List ℕ) → AllByRecursion IsLine xs → IsLine l → AllByRecursion IsLine (xs ++ l ∷ [])
-all_more [] l h k = (k, tt)
-all_more (x ∷ xs) l h k = (h.0, all_more xs l h.1 k)
 
 -- The lines of a story so far, what is left of it, and what is collected: the lines, and the empty one that the next goes into.
 pub record StoryStands (story : List ℕ) (before : ℕ) (rest : List ℕ) (count : ℕ) (lines : List (List ℕ)) : Type 0 where
@@ -42,7 +29,7 @@ story_start story before lines e =
     record { done = []; front = []; lined = refl; parts = refl; texts = tt; lines_are = e; count_is = omega arith; more = λ none. refl }
 
 with_line : (done lines added : List (List ℕ)) (line : List ℕ) → lines ≡ done ++ [] ∷ [] → added ≡ collect lines (map LineOctet line) → added ≡ done ++ line ∷ []
-with_line done lines added line e f = f ∙ (ap (λ (m : List (List ℕ)). collect m (map LineOctet line)) e ∙ collect_line done [] line)
+with_line done lines added line e f = f ∙ (ap (λ (m : List (List ℕ)). collect m (map LineOctet line)) e ∙ line_collected done [] line)
 
 some_left : (after : List ℕ) (done : List (List ℕ)) → 0 < length after → after ≡ [] → done ≡ []
 some_left after done some e = absurd (omega (arith, some, ap length e))
@@ -55,7 +42,7 @@ story_step story rest line after before count next lines added ended s n some is
   front = s.front ++ n.ended;
   lined = lines_more s.done s.front line n.ended s.lined n.ends;
   parts = s.parts ∙ (ap (λ (l : List ℕ). s.front ++ l) n.parts ∙ sym (append_assoc s.front n.ended after));
-  texts = all_more s.done line s.texts is;
+  texts = all_append IsLine s.done (line ∷ []) s.texts (is, tt);
   lines_are = g ∙ ap (λ (m : List (List ℕ)). m ++ [] ∷ []) (with_line s.done lines added line s.lines_are f);
   count_is = omega (arith, e, s.count_is, count_more s.done line);
   more = some_left after (s.done ++ line ∷ []) some;
@@ -93,7 +80,7 @@ pub story_ends : (story rest line : List ℕ) (before count : ℕ) (lines added 
 story_ends story rest line before count lines added s last is f =
     let added_is = with_line s.done lines added line s.lines_are f in (
       subst (λ (m : List (List ℕ)). IsStory story m) (sym added_is) (is_whole story rest line before count lines s last),
-      subst (λ (m : List (List ℕ)). AllByRecursion IsLine m) (sym added_is) (all_more s.done line s.texts is),
+      subst (λ (m : List (List ℕ)). AllByRecursion IsLine m) (sym added_is) (all_append IsLine s.done (line ∷ []) s.texts (is, tt)),
     )
 
 next_or_last : (rest line : List ℕ) (after : Option (Bor (List ℕ))) → IfSome after (λ r. NextLine rest line r.now) → IfNone after (IsLastLine rest line)

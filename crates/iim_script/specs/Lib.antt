@@ -5,3 +5,4 @@ pub mod Laws
 -- What only proofs and private clauses cite.
 pub mod Adding
 pub mod Steps
+pub mod ThreeDigits

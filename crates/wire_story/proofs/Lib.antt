@@ -13,6 +13,7 @@ pub mod Fronts
 pub mod LineEnds
 pub mod Counted
 -- What proofs of other crates cite.
+pub mod Collected
 pub mod Spans
 pub mod SoFar
 pub mod Collected

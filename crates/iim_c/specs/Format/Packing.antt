@@ -3,7 +3,6 @@ use Rattle.std.specs.Prelude.{◌≡◌, ℕ, ◌<◌, ◌≤◌, ◌==◌, ◌�
 use Rattle.iim_object.specs.Format.Plans.{is_plan}
 use Rattle.iim_object.specs.declared.size.Size.TheVariants.{Unknown}
 use Rattle.iim_commands.specs.Format.Packing.{Asked, asked, IsFormOf, IsScriptRefusal, IsScriptOf, ScriptContent, refusal_line}
-use Rattle.iim_commands.specs.declared.packing.PackRequest.{PackRequest}
 use Rattle.iim_c.specs.declared.answer.IimAnswer.{IimAnswer}
 use Rattle.iim_c.specs.declared.packing.IimPacking.{IimPacking}
 use Rattle.iim_c.specs.Format.Answers.{status_answer}
@@ -35,10 +34,6 @@ HasNoPlan p = IsTrue (is_plan (subfile_for p.subfile) (Unknown (max_for p.has_ma
 -- Nothing that can be is asked for.
 abbrev pub AsksNothing : IimPacking → Type 0
 AsksNothing p = TellsMaxOfKnown p ⊎ HasNoPlan p
-
--- The request is that of the command for what is asked.
-abbrev pub Asks : IimPacking → PackRequest → Type 0
-Asks p request = asked request.subfile request.unknown request.max ≡ asked_for p
 
 -- ---- what packing comes to
 

@@ -1,19 +1,13 @@
 -- A whole envelope packed in one call.
-use Rattle.std.specs.Prelude.{ℕ, ◌⊎◌, Bool, true, false, List, ◌∷◌, map}
+use Rattle.std.specs.Prelude.{ℕ, ◌⊎◌, List}
 use Rattle.iim_dataset.specs.States.Devices.{Device, Wrote}
 use Rattle.iim_dataset.specs.Format.Datasets.{Dataset}
 use Rattle.iim_object.specs.declared.plan.Plan.{Plan}
 use Rattle.iim_object.specs.declared.writing.cause.PackCause.TheVariants as causes
 use Rattle.iim_object.specs.declared.writing.cause.StartFault.{StartFault}
-use Rattle.wire_story.specs.Format.Delivery.{StoryEvent, LineOctet, LineEnd}
 use Rattle.wire_message.specs.Format.Messages.{Header}
 use Rattle.iim_pack.specs.Format.Packed.{Packed}
 use Rattle.iim_pack.specs.States.Starting.{StartIsRefused, StartBreaksOff}
-
--- the events of a line: before each but the first the last one ends
-abbrev pub line_events : Bool → List ℕ → List StoryEvent
-line_events true line = map LineOctet line
-line_events false line = LineEnd ∷ map LineOctet line
 
 -- The packed form is out.
 pub record Packs {W : Type 0} (state : W → Device) (writer : W) (fields : List Dataset) (head : Header) (lines : List (List ℕ)) (trailer : List ℕ) (plan : Plan) (last : W) : Type 0 where

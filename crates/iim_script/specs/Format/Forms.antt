@@ -8,14 +8,6 @@ use Rattle.wire_message.specs.Format.Messages.{Header, IsHeader}
 use Rattle.iim_script.specs.Format.Lines.{HasNo}
 use Rattle.iim_script.specs.Format.Shown.{TellsLast}
 
--- three decimal digits
-abbrev pub AreDigits : ℕ → ℕ → ℕ → Type 0
-AreDigits hundreds tens ones = IsTrue (is_digit hundreds) × IsTrue (is_digit tens) × IsTrue (is_digit ones)
-
--- the number that they spell
-abbrev pub value_of : ℕ → ℕ → ℕ → ℕ
-value_of hundreds tens ones = (hundreds - digit_zero) * 100 + (tens - digit_zero) * 10 + (ones - digit_zero)
-
 -- the number of decimal digits, after those that have told this number
 abbrev pub decimal_from : ℕ → List ℕ → ℕ
 decimal_from n [] = n

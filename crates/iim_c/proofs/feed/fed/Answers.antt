@@ -3,7 +3,7 @@ use Rattle.iim_unpack.specs.States.Unpacking.{limits_in}
 use Rattle.iim_unpack.specs.declared.unpacker.Progress.{Progress}
 use Rattle.iim_places.specs.declared.refusal.Refusal.{Refusal}
 use Rattle.iim_c.specs.Steps.{HasFedText, HasRefusedText}
-use Rattle.iim_c.proofs.Fed.{Begun, alive_after, fed_ok, fed_refused, fed_not_begun}
+use Rattle.iim_c.proofs.Fed.{begun, alive_after, fed_ok, fed_refused, fed_not_begun}
 use Rattle.iim_c.proofs.Places.{begun_alive}
 use Rattle.iim_c.proofs.feed.fed.Goals as goal
 
@@ -14,10 +14,7 @@ returns-in-Err c =
 
 pub saved-requires : goal.saved-requires
 saved-requires c =
-    let b : Begun c.args.limits c.args.ticket.now c.args.at c.in-Ok.unpacker = record {
-      laws = record { one_place = c.tickets_tell_one_place.ensures; not_empty = c.no_envelope_is_empty.ensures; framed = c.admitted_octets_are_framed.ensures };
-      is_begun = c.in-Ok.ensures.begun;
-    } in
+    let b = begun c.tickets_tell_one_place.ensures c.no_envelope_is_empty.ensures c.admitted_octets_are_framed.ensures c.args.limits c.args.ticket.now c.args.at c.in-Ok.unpacker c.in-Ok.ensures.begun in
     let r = c.feed_text-answer in
     alive_after c.in-Ok-answer.progress c.args.limits c.args.ticket.now c.args.at c.in-Ok.unpacker r.new.unpacker c.args.piece.now r.new.out r.result.1 b
     (subst (λ (x : Result Progress Refusal). IfOk x (HasFedText c.in-Ok.unpacker r.new.unpacker c.args.piece.now r.new.out r.result.1)) c.in-Ok-answer.is r.ensures.goes)
@@ -25,10 +22,7 @@ saved-requires c =
 
 pub returns-in-Ok-answer : goal.returns-in-Ok-answer
 returns-in-Ok-answer c =
-    let b : Begun c.args.limits c.args.ticket.now c.args.at c.in-Ok.unpacker = record {
-      laws = record { one_place = c.tickets_tell_one_place.ensures; not_empty = c.no_envelope_is_empty.ensures; framed = c.admitted_octets_are_framed.ensures };
-      is_begun = c.in-Ok.ensures.begun;
-    } in
+    let b = begun c.tickets_tell_one_place.ensures c.no_envelope_is_empty.ensures c.admitted_octets_are_framed.ensures c.args.limits c.args.ticket.now c.args.at c.in-Ok.unpacker c.in-Ok.ensures.begun in
     let r = c.feed_text-answer in
     let room : length c.args.text_out.now ≡ length r.new.out = omega arith in
     let few : length c.args.text_out.now < 2 ^ 63 = omega arith in
@@ -41,10 +35,7 @@ returns-in-Ok-answer c =
 
 pub returns : goal.returns
 returns c =
-    let b : Begun c.args.limits c.args.ticket.now c.args.at c.in-Ok.unpacker = record {
-      laws = record { one_place = c.tickets_tell_one_place.ensures; not_empty = c.no_envelope_is_empty.ensures; framed = c.admitted_octets_are_framed.ensures };
-      is_begun = c.in-Ok.ensures.begun;
-    } in
+    let b = begun c.tickets_tell_one_place.ensures c.no_envelope_is_empty.ensures c.admitted_octets_are_framed.ensures c.args.limits c.args.ticket.now c.args.at c.in-Ok.unpacker c.in-Ok.ensures.begun in
     let r = c.feed_text-answer in
     let room : length c.args.text_out.now ≡ length r.new.out = omega arith in
     let few : length c.args.text_out.now < 2 ^ 63 = omega arith in

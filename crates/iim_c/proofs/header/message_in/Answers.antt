@@ -5,154 +5,34 @@ use Rattle.iim_c.proofs.Headers.{seven, text, texts_stand}
 use Rattle.iim_c.proofs.TicketTexts.{backwards}
 use Rattle.iim_c.proofs.header.message_in.Goals as goal
 
-pub span_before-trailer-requires : goal.span_before-trailer-requires
-span_before-trailer-requires c =
-    let f = seven c.args.ticket.now c.args.parts.now c.requires in
-    let e = f.ends in
-    omega (arith, e)
-
-pub overflow_sub-trailer : goal.overflow_sub-trailer
-overflow_sub-trailer c =
-    let f = seven c.args.ticket.now c.args.parts.now c.requires in
-    let e = f.ends in
-    let o6 : c.span_before-trailer.result.offset ≡ (length c.args.ticket.now) - length (text c.args.parts.now 6) = ap (λ (s : IimSpan). s.offset) c.span_before-trailer.ensures in
-    omega (arith, e, o6)
-
-pub span_before-info-requires : goal.span_before-info-requires
-span_before-info-requires c =
-    let f = seven c.args.ticket.now c.args.parts.now c.requires in
-    let e = f.ends in
-    let o6 : c.span_before-trailer.result.offset ≡ (length c.args.ticket.now) - length (text c.args.parts.now 6) = ap (λ (s : IimSpan). s.offset) c.span_before-trailer.ensures in
-    omega (arith, e, o6)
-
-pub overflow_sub-info : goal.overflow_sub-info
-overflow_sub-info c =
-    let f = seven c.args.ticket.now c.args.parts.now c.requires in
-    let e = f.ends in
-    let o6 : c.span_before-trailer.result.offset ≡ (length c.args.ticket.now) - length (text c.args.parts.now 6) = ap (λ (s : IimSpan). s.offset) c.span_before-trailer.ensures in
-    let o5 : c.span_before-info.result.offset ≡ (c.span_before-trailer.result.offset - 1) - length (text c.args.parts.now 5) = ap (λ (s : IimSpan). s.offset) c.span_before-info.ensures in
-    omega (arith, e, o6, o5)
-
-pub span_before-words-requires : goal.span_before-words-requires
-span_before-words-requires c =
-    let f = seven c.args.ticket.now c.args.parts.now c.requires in
-    let e = f.ends in
-    let o6 : c.span_before-trailer.result.offset ≡ (length c.args.ticket.now) - length (text c.args.parts.now 6) = ap (λ (s : IimSpan). s.offset) c.span_before-trailer.ensures in
-    let o5 : c.span_before-info.result.offset ≡ (c.span_before-trailer.result.offset - 1) - length (text c.args.parts.now 5) = ap (λ (s : IimSpan). s.offset) c.span_before-info.ensures in
-    omega (arith, e, o6, o5)
-
-pub overflow_sub-words : goal.overflow_sub-words
-overflow_sub-words c =
-    let f = seven c.args.ticket.now c.args.parts.now c.requires in
-    let e = f.ends in
-    let o6 : c.span_before-trailer.result.offset ≡ (length c.args.ticket.now) - length (text c.args.parts.now 6) = ap (λ (s : IimSpan). s.offset) c.span_before-trailer.ensures in
-    let o5 : c.span_before-info.result.offset ≡ (c.span_before-trailer.result.offset - 1) - length (text c.args.parts.now 5) = ap (λ (s : IimSpan). s.offset) c.span_before-info.ensures in
-    let o4 : c.span_before-words.result.offset ≡ (c.span_before-info.result.offset - 1) - length (text c.args.parts.now 4) = ap (λ (s : IimSpan). s.offset) c.span_before-words.ensures in
-    omega (arith, e, o6, o5, o4)
-
-pub span_before-category-requires : goal.span_before-category-requires
-span_before-category-requires c =
-    let f = seven c.args.ticket.now c.args.parts.now c.requires in
-    let e = f.ends in
-    let o6 : c.span_before-trailer.result.offset ≡ (length c.args.ticket.now) - length (text c.args.parts.now 6) = ap (λ (s : IimSpan). s.offset) c.span_before-trailer.ensures in
-    let o5 : c.span_before-info.result.offset ≡ (c.span_before-trailer.result.offset - 1) - length (text c.args.parts.now 5) = ap (λ (s : IimSpan). s.offset) c.span_before-info.ensures in
-    let o4 : c.span_before-words.result.offset ≡ (c.span_before-info.result.offset - 1) - length (text c.args.parts.now 4) = ap (λ (s : IimSpan). s.offset) c.span_before-words.ensures in
-    omega (arith, e, o6, o5, o4)
-
-pub overflow_sub-category : goal.overflow_sub-category
-overflow_sub-category c =
-    let f = seven c.args.ticket.now c.args.parts.now c.requires in
-    let e = f.ends in
-    let o6 : c.span_before-trailer.result.offset ≡ (length c.args.ticket.now) - length (text c.args.parts.now 6) = ap (λ (s : IimSpan). s.offset) c.span_before-trailer.ensures in
-    let o5 : c.span_before-info.result.offset ≡ (c.span_before-trailer.result.offset - 1) - length (text c.args.parts.now 5) = ap (λ (s : IimSpan). s.offset) c.span_before-info.ensures in
-    let o4 : c.span_before-words.result.offset ≡ (c.span_before-info.result.offset - 1) - length (text c.args.parts.now 4) = ap (λ (s : IimSpan). s.offset) c.span_before-words.ensures in
-    let o3 : c.span_before-category.result.offset ≡ (c.span_before-words.result.offset - 1) - length (text c.args.parts.now 3) = ap (λ (s : IimSpan). s.offset) c.span_before-category.ensures in
-    omega (arith, e, o6, o5, o4, o3)
-
-pub span_before-priority-requires : goal.span_before-priority-requires
-span_before-priority-requires c =
-    let f = seven c.args.ticket.now c.args.parts.now c.requires in
-    let e = f.ends in
-    let o6 : c.span_before-trailer.result.offset ≡ (length c.args.ticket.now) - length (text c.args.parts.now 6) = ap (λ (s : IimSpan). s.offset) c.span_before-trailer.ensures in
-    let o5 : c.span_before-info.result.offset ≡ (c.span_before-trailer.result.offset - 1) - length (text c.args.parts.now 5) = ap (λ (s : IimSpan). s.offset) c.span_before-info.ensures in
-    let o4 : c.span_before-words.result.offset ≡ (c.span_before-info.result.offset - 1) - length (text c.args.parts.now 4) = ap (λ (s : IimSpan). s.offset) c.span_before-words.ensures in
-    let o3 : c.span_before-category.result.offset ≡ (c.span_before-words.result.offset - 1) - length (text c.args.parts.now 3) = ap (λ (s : IimSpan). s.offset) c.span_before-category.ensures in
-    omega (arith, e, o6, o5, o4, o3)
-
-pub overflow_sub-priority : goal.overflow_sub-priority
-overflow_sub-priority c =
-    let f = seven c.args.ticket.now c.args.parts.now c.requires in
-    let e = f.ends in
-    let o6 : c.span_before-trailer.result.offset ≡ (length c.args.ticket.now) - length (text c.args.parts.now 6) = ap (λ (s : IimSpan). s.offset) c.span_before-trailer.ensures in
-    let o5 : c.span_before-info.result.offset ≡ (c.span_before-trailer.result.offset - 1) - length (text c.args.parts.now 5) = ap (λ (s : IimSpan). s.offset) c.span_before-info.ensures in
-    let o4 : c.span_before-words.result.offset ≡ (c.span_before-info.result.offset - 1) - length (text c.args.parts.now 4) = ap (λ (s : IimSpan). s.offset) c.span_before-words.ensures in
-    let o3 : c.span_before-category.result.offset ≡ (c.span_before-words.result.offset - 1) - length (text c.args.parts.now 3) = ap (λ (s : IimSpan). s.offset) c.span_before-category.ensures in
-    let o2 : c.span_before-priority.result.offset ≡ (c.span_before-category.result.offset - 1) - length (text c.args.parts.now 2) = ap (λ (s : IimSpan). s.offset) c.span_before-priority.ensures in
-    omega (arith, e, o6, o5, o4, o3, o2)
-
-pub span_before-number-requires : goal.span_before-number-requires
-span_before-number-requires c =
-    let f = seven c.args.ticket.now c.args.parts.now c.requires in
-    let e = f.ends in
-    let o6 : c.span_before-trailer.result.offset ≡ (length c.args.ticket.now) - length (text c.args.parts.now 6) = ap (λ (s : IimSpan). s.offset) c.span_before-trailer.ensures in
-    let o5 : c.span_before-info.result.offset ≡ (c.span_before-trailer.result.offset - 1) - length (text c.args.parts.now 5) = ap (λ (s : IimSpan). s.offset) c.span_before-info.ensures in
-    let o4 : c.span_before-words.result.offset ≡ (c.span_before-info.result.offset - 1) - length (text c.args.parts.now 4) = ap (λ (s : IimSpan). s.offset) c.span_before-words.ensures in
-    let o3 : c.span_before-category.result.offset ≡ (c.span_before-words.result.offset - 1) - length (text c.args.parts.now 3) = ap (λ (s : IimSpan). s.offset) c.span_before-category.ensures in
-    let o2 : c.span_before-priority.result.offset ≡ (c.span_before-category.result.offset - 1) - length (text c.args.parts.now 2) = ap (λ (s : IimSpan). s.offset) c.span_before-priority.ensures in
-    omega (arith, e, o6, o5, o4, o3, o2)
-
-pub overflow_sub-number : goal.overflow_sub-number
-overflow_sub-number c =
-    let f = seven c.args.ticket.now c.args.parts.now c.requires in
-    let e = f.ends in
-    let o6 : c.span_before-trailer.result.offset ≡ (length c.args.ticket.now) - length (text c.args.parts.now 6) = ap (λ (s : IimSpan). s.offset) c.span_before-trailer.ensures in
-    let o5 : c.span_before-info.result.offset ≡ (c.span_before-trailer.result.offset - 1) - length (text c.args.parts.now 5) = ap (λ (s : IimSpan). s.offset) c.span_before-info.ensures in
-    let o4 : c.span_before-words.result.offset ≡ (c.span_before-info.result.offset - 1) - length (text c.args.parts.now 4) = ap (λ (s : IimSpan). s.offset) c.span_before-words.ensures in
-    let o3 : c.span_before-category.result.offset ≡ (c.span_before-words.result.offset - 1) - length (text c.args.parts.now 3) = ap (λ (s : IimSpan). s.offset) c.span_before-category.ensures in
-    let o2 : c.span_before-priority.result.offset ≡ (c.span_before-category.result.offset - 1) - length (text c.args.parts.now 2) = ap (λ (s : IimSpan). s.offset) c.span_before-priority.ensures in
-    let o1 : c.span_before-number.result.offset ≡ (c.span_before-priority.result.offset - 1) - length (text c.args.parts.now 1) = ap (λ (s : IimSpan). s.offset) c.span_before-number.ensures in
-    omega (arith, e, o6, o5, o4, o3, o2, o1)
-
-pub span_before-source-requires : goal.span_before-source-requires
-span_before-source-requires c =
-    let f = seven c.args.ticket.now c.args.parts.now c.requires in
-    let e = f.ends in
-    let o6 : c.span_before-trailer.result.offset ≡ (length c.args.ticket.now) - length (text c.args.parts.now 6) = ap (λ (s : IimSpan). s.offset) c.span_before-trailer.ensures in
-    let o5 : c.span_before-info.result.offset ≡ (c.span_before-trailer.result.offset - 1) - length (text c.args.parts.now 5) = ap (λ (s : IimSpan). s.offset) c.span_before-info.ensures in
-    let o4 : c.span_before-words.result.offset ≡ (c.span_before-info.result.offset - 1) - length (text c.args.parts.now 4) = ap (λ (s : IimSpan). s.offset) c.span_before-words.ensures in
-    let o3 : c.span_before-category.result.offset ≡ (c.span_before-words.result.offset - 1) - length (text c.args.parts.now 3) = ap (λ (s : IimSpan). s.offset) c.span_before-category.ensures in
-    let o2 : c.span_before-priority.result.offset ≡ (c.span_before-category.result.offset - 1) - length (text c.args.parts.now 2) = ap (λ (s : IimSpan). s.offset) c.span_before-priority.ensures in
-    let o1 : c.span_before-number.result.offset ≡ (c.span_before-priority.result.offset - 1) - length (text c.args.parts.now 1) = ap (λ (s : IimSpan). s.offset) c.span_before-number.ensures in
-    omega (arith, e, o6, o5, o4, o3, o2, o1)
-
 pub returns : goal.returns
 returns c =
     let f = seven c.args.ticket.now c.args.parts.now c.requires in
     let e = f.ends in
     let o6 : c.span_before-trailer.result.offset ≡ (length c.args.ticket.now) - length (text c.args.parts.now 6) = ap (λ (s : IimSpan). s.offset) c.span_before-trailer.ensures in
-    let o5 : c.span_before-info.result.offset ≡ (c.span_before-trailer.result.offset - 1) - length (text c.args.parts.now 5) = ap (λ (s : IimSpan). s.offset) c.span_before-info.ensures in
-    let o4 : c.span_before-words.result.offset ≡ (c.span_before-info.result.offset - 1) - length (text c.args.parts.now 4) = ap (λ (s : IimSpan). s.offset) c.span_before-words.ensures in
-    let o3 : c.span_before-category.result.offset ≡ (c.span_before-words.result.offset - 1) - length (text c.args.parts.now 3) = ap (λ (s : IimSpan). s.offset) c.span_before-category.ensures in
-    let o2 : c.span_before-priority.result.offset ≡ (c.span_before-category.result.offset - 1) - length (text c.args.parts.now 2) = ap (λ (s : IimSpan). s.offset) c.span_before-priority.ensures in
-    let o1 : c.span_before-number.result.offset ≡ (c.span_before-priority.result.offset - 1) - length (text c.args.parts.now 1) = ap (λ (s : IimSpan). s.offset) c.span_before-number.ensures in
-    let o0 : c.span_before-source.result.offset ≡ (c.span_before-number.result.offset - 1) - length (text c.args.parts.now 0) = ap (λ (s : IimSpan). s.offset) c.span_before-source.ensures in
-    let s0 : StandAt c.args.ticket.now c.span_before-source.result (text c.args.parts.now 0) =
-    subst (λ (s : IimSpan). StandAt c.args.ticket.now s (text c.args.parts.now 0)) (sym c.span_before-source.ensures)
-    (backwards c.args.ticket.now (text c.args.parts.now 0) (f.first) ((c.span_before-number.result.offset - 1)) f.source (omega (arith, e, o6, o5, o4, o3, o2, o1, o0))) in
-    let s1 : StandAt c.args.ticket.now c.span_before-number.result (text c.args.parts.now 1) =
-    subst (λ (s : IimSpan). StandAt c.args.ticket.now s (text c.args.parts.now 1)) (sym c.span_before-number.ensures)
-    (backwards c.args.ticket.now (text c.args.parts.now 1) (f.first + length (text c.args.parts.now 0) + 1) ((c.span_before-priority.result.offset - 1)) f.number (omega (arith, e, o6, o5, o4, o3, o2, o1, o0))) in
-    let s2 : StandAt c.args.ticket.now c.span_before-priority.result (text c.args.parts.now 2) =
-    subst (λ (s : IimSpan). StandAt c.args.ticket.now s (text c.args.parts.now 2)) (sym c.span_before-priority.ensures)
-    (backwards c.args.ticket.now (text c.args.parts.now 2) (f.first + length (text c.args.parts.now 0) + 1 + length (text c.args.parts.now 1) + 1) ((c.span_before-category.result.offset - 1)) f.priority (omega (arith, e, o6, o5, o4, o3, o2, o1, o0))) in
-    let s3 : StandAt c.args.ticket.now c.span_before-category.result (text c.args.parts.now 3) =
-    subst (λ (s : IimSpan). StandAt c.args.ticket.now s (text c.args.parts.now 3)) (sym c.span_before-category.ensures)
-    (backwards c.args.ticket.now (text c.args.parts.now 3) (f.first + length (text c.args.parts.now 0) + 1 + length (text c.args.parts.now 1) + 1 + length (text c.args.parts.now 2) + 1) ((c.span_before-words.result.offset - 1)) f.category (omega (arith, e, o6, o5, o4, o3, o2, o1, o0))) in
-    let s4 : StandAt c.args.ticket.now c.span_before-words.result (text c.args.parts.now 4) =
-    subst (λ (s : IimSpan). StandAt c.args.ticket.now s (text c.args.parts.now 4)) (sym c.span_before-words.ensures)
-    (backwards c.args.ticket.now (text c.args.parts.now 4) (f.first + length (text c.args.parts.now 0) + 1 + length (text c.args.parts.now 1) + 1 + length (text c.args.parts.now 2) + 1 + length (text c.args.parts.now 3) + 1) ((c.span_before-info.result.offset - 1)) f.words (omega (arith, e, o6, o5, o4, o3, o2, o1, o0))) in
-    let s5 : StandAt c.args.ticket.now c.span_before-info.result (text c.args.parts.now 5) =
-    subst (λ (s : IimSpan). StandAt c.args.ticket.now s (text c.args.parts.now 5)) (sym c.span_before-info.ensures)
+    let o5 : c.text_before-info.result.offset ≡ (c.span_before-trailer.result.offset - 1) - length (text c.args.parts.now 5) = ap (λ (s : IimSpan). s.offset) c.text_before-info.ensures in
+    let o4 : c.text_before-words.result.offset ≡ (c.text_before-info.result.offset - 1) - length (text c.args.parts.now 4) = ap (λ (s : IimSpan). s.offset) c.text_before-words.ensures in
+    let o3 : c.text_before-category.result.offset ≡ (c.text_before-words.result.offset - 1) - length (text c.args.parts.now 3) = ap (λ (s : IimSpan). s.offset) c.text_before-category.ensures in
+    let o2 : c.text_before-priority.result.offset ≡ (c.text_before-category.result.offset - 1) - length (text c.args.parts.now 2) = ap (λ (s : IimSpan). s.offset) c.text_before-priority.ensures in
+    let o1 : c.text_before-number.result.offset ≡ (c.text_before-priority.result.offset - 1) - length (text c.args.parts.now 1) = ap (λ (s : IimSpan). s.offset) c.text_before-number.ensures in
+    let o0 : c.text_before-source.result.offset ≡ (c.text_before-number.result.offset - 1) - length (text c.args.parts.now 0) = ap (λ (s : IimSpan). s.offset) c.text_before-source.ensures in
+    let s0 : StandAt c.args.ticket.now c.text_before-source.result (text c.args.parts.now 0) =
+    subst (λ (s : IimSpan). StandAt c.args.ticket.now s (text c.args.parts.now 0)) (sym c.text_before-source.ensures)
+    (backwards c.args.ticket.now (text c.args.parts.now 0) (f.first) ((c.text_before-number.result.offset - 1)) f.source (omega (arith, e, o6, o5, o4, o3, o2, o1, o0))) in
+    let s1 : StandAt c.args.ticket.now c.text_before-number.result (text c.args.parts.now 1) =
+    subst (λ (s : IimSpan). StandAt c.args.ticket.now s (text c.args.parts.now 1)) (sym c.text_before-number.ensures)
+    (backwards c.args.ticket.now (text c.args.parts.now 1) (f.first + length (text c.args.parts.now 0) + 1) ((c.text_before-priority.result.offset - 1)) f.number (omega (arith, e, o6, o5, o4, o3, o2, o1, o0))) in
+    let s2 : StandAt c.args.ticket.now c.text_before-priority.result (text c.args.parts.now 2) =
+    subst (λ (s : IimSpan). StandAt c.args.ticket.now s (text c.args.parts.now 2)) (sym c.text_before-priority.ensures)
+    (backwards c.args.ticket.now (text c.args.parts.now 2) (f.first + length (text c.args.parts.now 0) + 1 + length (text c.args.parts.now 1) + 1) ((c.text_before-category.result.offset - 1)) f.priority (omega (arith, e, o6, o5, o4, o3, o2, o1, o0))) in
+    let s3 : StandAt c.args.ticket.now c.text_before-category.result (text c.args.parts.now 3) =
+    subst (λ (s : IimSpan). StandAt c.args.ticket.now s (text c.args.parts.now 3)) (sym c.text_before-category.ensures)
+    (backwards c.args.ticket.now (text c.args.parts.now 3) (f.first + length (text c.args.parts.now 0) + 1 + length (text c.args.parts.now 1) + 1 + length (text c.args.parts.now 2) + 1) ((c.text_before-words.result.offset - 1)) f.category (omega (arith, e, o6, o5, o4, o3, o2, o1, o0))) in
+    let s4 : StandAt c.args.ticket.now c.text_before-words.result (text c.args.parts.now 4) =
+    subst (λ (s : IimSpan). StandAt c.args.ticket.now s (text c.args.parts.now 4)) (sym c.text_before-words.ensures)
+    (backwards c.args.ticket.now (text c.args.parts.now 4) (f.first + length (text c.args.parts.now 0) + 1 + length (text c.args.parts.now 1) + 1 + length (text c.args.parts.now 2) + 1 + length (text c.args.parts.now 3) + 1) ((c.text_before-info.result.offset - 1)) f.words (omega (arith, e, o6, o5, o4, o3, o2, o1, o0))) in
+    let s5 : StandAt c.args.ticket.now c.text_before-info.result (text c.args.parts.now 5) =
+    subst (λ (s : IimSpan). StandAt c.args.ticket.now s (text c.args.parts.now 5)) (sym c.text_before-info.ensures)
     (backwards c.args.ticket.now (text c.args.parts.now 5) (f.first + length (text c.args.parts.now 0) + 1 + length (text c.args.parts.now 1) + 1 + length (text c.args.parts.now 2) + 1 + length (text c.args.parts.now 3) + 1 + length (text c.args.parts.now 4) + 1) ((c.span_before-trailer.result.offset - 1)) f.info (omega (arith, e, o6, o5, o4, o3, o2, o1, o0))) in
     let s6 : StandAt c.args.ticket.now c.span_before-trailer.result (text c.args.parts.now 6) =
     subst (λ (s : IimSpan). StandAt c.args.ticket.now s (text c.args.parts.now 6)) (sym c.span_before-trailer.ensures)

@@ -1,11 +1,12 @@
 use Rattle.std.proofs.Common.{◌≡◌, ℕ, ◌+◌, ◌≤◌, Bool, true, false, List, [], ◌∷◌, length, map, sym, ap, subst, ◌∙◌, arith}
+use Rattle.std.proofs.lemmas.Result.{on_ok_weaker, on_err_weaker}
 use Rattle.iim_object.specs.States.Writing.{most_of, total_of}
 use Rattle.iim_object.specs.declared.plan.Plan.{Plan}
 use Rattle.wire_story.specs.Format.Delivery.{LineOctet, LineEnd}
 use Rattle.wire_story.specs.Format.Packing.{packed_events}
 use Rattle.iim_pack.specs.States.Packing.{Lengthens, BreaksOff, ContinuesWith, text_cause, line_end_cause}
-use Rattle.iim_pack.specs.States.Whole.{line_events}
-use Rattle.iim_pack.proofs.Goings.{on_ok, on_err, of_none, line_packed}
+use Rattle.iim_pack.specs.LineEvents.{line_events}
+use Rattle.iim_pack.proofs.Goings.{of_none, line_packed}
 use Rattle.iim_pack.proofs.LinesOut.{leads_on, breaks_later, breaks_before, may_text, may_end_line}
 use Rattle.iim_pack.proofs.lines.put_line.Goals as goal
 
@@ -31,7 +32,7 @@ returns-then-is_first-clause-broke g c =
     let k = c.args.packer.now in
     let line : List ℕ = c.args.line.now in
     let fits = first_fits (total_of k.object) (most_of k.object.plan) c.args.is_first line c.if-is_first.true c.requires.fits in
-    on_err c.text.result _ _ (λ (b : BreaksOff g.W.Target.state (ContinuesWith (map LineOctet line)) k c.text.new.self).
+    on_err_weaker c.text.result (λ (b : BreaksOff g.W.Target.state (ContinuesWith (map LineOctet line)) k c.text.new.self).
     subst (λ (first : Bool). BreaksOff g.W.Target.state (ContinuesWith (line_events first line)) k c.text.new.self) (sym c.if-is_first.true) b)
     (of_none (text_cause k line) _ (may_text k line c.requires.line c.requires.unfailed fits) c.text.ensures.broke)
 
@@ -41,7 +42,7 @@ returns-in-Ok-clause-ok g c =
     let k = c.args.packer.now in
     let m = c.line_end.new.self in
     let line : List ℕ = c.args.line.now in
-    on_ok c.text-in-Ok.result _ _ (λ (l : Lengthens state m c.text-in-Ok.new.self (map LineOctet line)).
+    on_ok_weaker c.text-in-Ok.result (λ (l : Lengthens state m c.text-in-Ok.new.self (map LineOctet line)).
     subst (λ (first : Bool). Lengthens state k c.text-in-Ok.new.self (line_events first line)) (sym c.if-is_first.false)
     (leads_on state k m c.text-in-Ok.new.self (LineEnd ∷ []) (map LineOctet line) c.texts_join.ensures c.in-Ok.ensures.ok l)) c.text-in-Ok.ensures.ok
 
@@ -64,7 +65,7 @@ returns-in-Ok-clause-broke g c =
     let line : List ℕ = c.args.line.now in
     let fits = next_fits (total_of k.object) (most_of k.object.plan) c.args.is_first line c.if-is_first.false c.requires.fits in
     let room : total_of m.object + (length line + 2) ≤ most_of m.object.plan = subst (λ (p : Plan). total_of m.object + (length line + 2) ≤ most_of p) (sym l.plan) (omega (arith, fits, l.total)) in
-    on_err c.text-in-Ok.result _ _ (λ (b : BreaksOff state (ContinuesWith (map LineOctet line)) m c.text-in-Ok.new.self).
+    on_err_weaker c.text-in-Ok.result (λ (b : BreaksOff state (ContinuesWith (map LineOctet line)) m c.text-in-Ok.new.self).
     subst (λ (first : Bool). BreaksOff state (ContinuesWith (line_events first line)) k c.text-in-Ok.new.self) (sym c.if-is_first.false)
     (breaks_later state k m c.text-in-Ok.new.self (LineEnd ∷ []) (map LineOctet line) c.texts_join.ensures l b))
     (of_none (text_cause m line) _ (may_text m line c.requires.line l.unfailed room) c.text-in-Ok.ensures.broke)

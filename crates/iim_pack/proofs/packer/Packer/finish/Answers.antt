@@ -2,10 +2,10 @@ use Rattle.std.proofs.Common.{◌≡◌, ℕ, List, sym, subst, ◌∙◌}
 use Rattle.std.specs.Prelude.{IfSome}
 use Rattle.iim_object.specs.States.Writing as object
 use Rattle.iim_object.specs.States.Writing.{total_of}
+use Rattle.iim_object.proofs.Written.{if_none}
 use Rattle.wire_message.specs.Format.Canonical.{packed_tail}
 use Rattle.iim_pack.specs.States.Packing.{Finishes, BreaksOff, EndsIn, finish_cause}
 use Rattle.iim_pack.specs.Ending.{Ends, EndsWithTail}
-use Rattle.iim_pack.proofs.Goings.{if_none}
 use Rattle.iim_pack.proofs.Finishings.{may_end, finished, unfinished}
 use Rattle.iim_pack.proofs.Beginnings.{begun_ends}
 use Rattle.iim_pack.proofs.Orders.{finish_order}

@@ -2,10 +2,10 @@ use Rattle.std.proofs.Common.{List, ℕ, ◌+◌, inr, refl, subst, ◌∙◌}
 use Rattle.iim_object.specs.declared.plan.Plan.{Plan}
 use Rattle.iim_object.specs.declared.writing.cause.PackCause.TheVariants as causes
 use Rattle.iim_object.specs.States.Writing.{IsWrittenFrom}
+use Rattle.iim_object.proofs.Written.{if_none}
 use Rattle.iim_pack.specs.Opening.{Opens}
 use Rattle.iim_pack.specs.States.Starting.{StartBreaksOff}
 use Rattle.iim_pack.specs.States.Packing.{start_cause}
-use Rattle.iim_pack.proofs.Goings.{if_none}
 use Rattle.iim_pack.proofs.Startings.{fields_broke, object_broke, started}
 use Rattle.iim_pack.proofs.Beginnings.{begun_at_start}
 use Rattle.iim_pack.proofs.Orders.{start_order}

@@ -1,0 +1,7 @@
+use Rattle.iim_places.specs.States.TicketsTold.{split_told}
+use Rattle.caller_tests.proofs.OnePlaces.{same_taken}
+use Rattle.caller_tests.proofs.places.octets_of_object.Goals as goal
+
+pub returns-in-Ok : goal.returns-in-Ok
+returns-in-Ok c =
+    same_taken c.tickets_of_places_are_split.ensures c.tickets_have_one_split.ensures c.args.ticket.now (split_told c.in-Ok.parts) c.in-Ok.ensures.parts

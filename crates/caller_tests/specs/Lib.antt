@@ -1,0 +1,2 @@
+-- What callers are sure of.
+pub mod Missing
