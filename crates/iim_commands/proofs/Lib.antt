@@ -4,7 +4,7 @@ pub mod HeldOctets
 pub mod Holding
 pub mod Narration
 pub mod Packings
-pub mod Reports
+pub mod Listings
 pub mod Requests
 pub mod Runs
 pub mod Scripts

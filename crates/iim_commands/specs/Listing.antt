@@ -1,4 +1,4 @@
--- How a report is held and let out.
+-- How a listing is held and let out.
 use Rattle.std.specs.Prelude.{◌≡◌, ℕ, ◌<◌, List, ◌++◌, length, ◌⊎◌, [], Result, Err}
 use Rattle.iim_dataset.specs.States.Devices.{Device, BrokeAfter, HasGiven}
 use Rattle.iim_commands.specs.declared.block_writer.BlockWriter.{BlockWriter}
@@ -23,12 +23,12 @@ pub record IsCutShort {W : Type 0} (state : W → Device) (old new : BlockWriter
 abbrev pub IsUnadded : {W : Type 0} → (W → Device) → BlockWriter W → BlockWriter W → List ℕ → CommandFault → Type 0
 IsUnadded state old new text fault = (fault ≡ CannotWrite) × IsCutShort state old new text
 
--- Memory was short: some of the envelopes that came are reported, out or held.
+-- Memory was short: some of the envelopes that came are listed, out or held.
 abbrev pub IsStarved : {W : Type 0} → (W → Device) → (ℕ → Listed → List ℕ) → Device → Device → BlockWriter W → BlockWriter W → Type 0
 IsStarved state text source rest old new = (input : List ℕ) × (envelopes : List Listed) × (begun : List ℕ)
     × Divides limits input envelopes begun × HasGiven source rest input × HasPut state old new (texts_from text 1 envelopes)
 
--- Why the report isn't out; where memory was short, some of it may be held.
+-- Why the listing isn't out; where memory was short, some of it may be held.
 abbrev pub IsUnlisted : {W : Type 0} → (W → Device) → (ℕ → Listed → List ℕ) → Device → Device → BlockWriter W → BlockWriter W → CommandFault → Type 0
 IsUnlisted state text source rest old new OutOfMemory = IsStarved state text source rest old new
 IsUnlisted state text source rest old new fault = FailsListing text source rest (device_of state old) (device_of state new) fault

@@ -1,4 +1,4 @@
-//! What the commands are asked for, read and write: reports of inputs (`check`, `show`), stories, audits, and packed scripts.
+//! What the commands are asked for, read and write: listings of inputs (`check`, `show`), stories, audits, and packed scripts.
 //! [`request::parse`] makes a request of the words of a command line, [`run::run`] carries it out, and [`script::read_script`]
 //! tells what a script tells.
 //!

@@ -1,4 +1,4 @@
-//! Reports of inputs: a text for each envelope, and a last line.
+//! Listings of inputs: a text for each envelope, and a last line.
 
 ghost use Rattle.std.specs.Prelude.{◌≡◌, ◌++◌, ℕ, List, length, None, IfOk, IfErr, OnOk};
 ghost use Rattle.iim_unpack.specs.States.Intakes.{in_line};
@@ -20,7 +20,7 @@ use iim_dataset::{Source, Target};
 use iim_unpack::{Intake, MAX_ENVELOPES, UnpackedRef, Unpacker};
 use std::alloc::{AllocError, Global};
 
-/// Reports the envelopes of an input. Where memory is short, some of the report may be held.
+/// Lists the envelopes of an input. Where memory is short, some of the listing may be held.
 fn list_texts<P: EnvelopeLines, R: Source, W: Target>(
     alloc: Global,
     texts: &P,
@@ -83,7 +83,7 @@ fn settle<W: Target>(
     }
 }
 
-/// Reports an input: each envelope, up to the end, to octets that are refused or to one envelope too many. The texts of the envelopes that
+/// Lists an input: each envelope, up to the end, to octets that are refused or to one envelope too many. The texts of the envelopes that
 /// came are out before the input is read again. At a fault that is not of the output they are out too; where a write fails, those of
 /// them that are not out are lost.
 pub fn list<P: EnvelopeLines, R: Source, W: Target>(

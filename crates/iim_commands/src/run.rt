@@ -42,7 +42,7 @@ fn finish<E: Target>(errors: &mut E, answer: Result<u8, CommandFault>) -> u8
     }
 }
 
-/// Reports the envelopes of a reader: the status, and both writers.
+/// Lists the envelopes of a reader: the status, and both writers.
 fn write_listing<P: EnvelopeLines, R: Source + Drop, W: Target, E: Target>(
     alloc: Global,
     texts: &P,

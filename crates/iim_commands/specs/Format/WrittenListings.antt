@@ -1,4 +1,4 @@
--- Reports of inputs: `check` and `show`, each with its text of an envelope.
+-- Listings of inputs: `check` and `show`, each with its text of an envelope.
 use Rattle.std.specs.Prelude.{◌≡◌, ℕ, ◌⊎◌, List, length}
 use Rattle.iim_dataset.specs.States.Devices.{Device, Wrote, Stopped, Unfailed, HasGiven, MissedAfter}
 use Rattle.iim_dataset.specs.declared.device.IoFault.{IoFault}
@@ -11,7 +11,7 @@ use Rattle.iim_places.specs.Format.Listing.{Divides, InputEnding, EndsBy, Listed
 use Rattle.iim_commands.specs.Format.Lines.{listing, status_of, texts_from}
 use Rattle.iim_commands.specs.Format.Statuses.{status_failed}
 
--- The listing of the whole input is reported, and the status is the one for it. (The input before and after, then the output.)
+-- The listing of the whole input is written, and the status is the one for it. (The input before and after, then the output.)
 abbrev pub WritesListing : (ℕ → Listed → List ℕ) → Device → Device → Device → Device → ℕ → Type 0
 WritesListing text source rest old new status = (input : List ℕ) × (envelopes : List Listed) × (ending : InputEnding) × HasOctets source.octets input × Unfailed source rest
     × IsListing limits input envelopes ending × (status ≡ status_of ending) × Wrote old new (listing text envelopes ending)
@@ -22,7 +22,7 @@ IsListingText text envelopes rest words = (words ≡ texts_from text 1 envelopes
     ⊎ ((ending : InputEnding) × EndsBy limits (length envelopes) rest ending × (words ≡ listing text envelopes ending))
 
 -- Why the listing isn't out. A read failed after envelopes and octets that every layer can continue from: all these envelopes are
--- reported. Or the output broke inside the listing. Or memory was short: some of the envelopes that came are reported.
+-- listed. Or the output broke inside the listing. Or memory was short: some of the envelopes that came are listed.
 abbrev pub FailsListing : (ℕ → Listed → List ℕ) → Device → Device → Device → Device → CommandFault → Type 0
 FailsListing text source rest old new CannotRead = (input : List ℕ) × (envelopes : List Listed) × (begun : List ℕ) × (fault : IoFault)
     × Divides limits input envelopes begun × IsOpen limits begun × MissedAfter source rest input fault × Wrote old new (texts_from text 1 envelopes)

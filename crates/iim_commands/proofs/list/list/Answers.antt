@@ -4,7 +4,7 @@ use Rattle.iim_unpack.specs.States.Intakes.{in_line}
 use Rattle.iim_commands.specs.Format.WrittenListings.{FailsListing}
 use Rattle.iim_commands.specs.declared.fault.CommandFault.TheVariants.{OutOfMemory}
 use Rattle.iim_commands.proofs.Holding.{between}
-use Rattle.iim_commands.proofs.Reports.{nothing_listed, settled_starved}
+use Rattle.iim_commands.proofs.Listings.{nothing_listed, settled_starved}
 use Rattle.iim_commands.proofs.list.list.Goals as goal
 
 pub returns-in-Err-clause-err : goal.returns-in-Err-clause-err

@@ -6,7 +6,7 @@ use Rattle.iim_commands.specs.States.Holding.{KeepsWriter}
 use Rattle.iim_commands.specs.States.Silence.{IsSettled, IsStuck, PassesOver, refuses_never}
 use Rattle.iim_commands.specs.Listing.{IsUnlisted}
 use Rattle.iim_commands.specs.declared.fault.CommandFault.TheVariants.{OutOfMemory}
-use Rattle.iim_commands.proofs.Reports.{AreReported, ends_refused, failed, left_of, none_left, none_reported, reported, reported_more, reported_out, starved, unended, unsaid_of}
+use Rattle.iim_commands.proofs.Listings.{AreListed, ends_refused, failed, left_of, none_left, none_listed, listed, listed_more, listed_out, starved, unended, unsaid_of}
 use Rattle.iim_commands.specs.HoldingLaws.{put_nothing}
 use Rattle.iim_commands.proofs.Taken.{come_as, end_as, kept_next, lives_as, refusal_as}
 use Rattle.iim_commands.proofs.Told.{added, handed_on}
@@ -29,20 +29,20 @@ refusal g c =
     refusal_as (PassesOver state) refuses_never IsSettled (IsStuck state) (in_line g.R.Source.state c.listing.intake) (in_line g.R.Source.state c.take_next.new.intake) c.take_next.new.unpacker c.listing.silent c.take_next.new.sink c.in_ok-octets.field-0
     c.in-Refused.refusal c.in-Refused.is c.in_ok-octets.ensures.next
 
--- what was reported before
+-- what was listed before
 so_far : (g : Over) (c : In-Envelope g)
-    → AreReported g.W.Target.state g.P.EnvelopeLines.written (in_line g.R.Source.state c.args.intake.now) (in_line g.R.Source.state c.listing.intake) c.args.silent.now.output c.take_next.new.sink.output c.listing.count
-so_far g c = reported_out _ _ _ _ _ _ _ _ c.listing.invariant.reported (envelope g c).came.told
+    → AreListed g.W.Target.state g.P.EnvelopeLines.written (in_line g.R.Source.state c.args.intake.now) (in_line g.R.Source.state c.listing.intake) c.args.silent.now.output c.take_next.new.sink.output c.listing.count
+so_far g c = listed_out _ _ _ _ _ _ _ _ c.listing.invariant.listed (envelope g c).came.told
 
 so_far_refused : (g : Over) (c : In-Refused g)
-    → AreReported g.W.Target.state g.P.EnvelopeLines.written (in_line g.R.Source.state c.args.intake.now) (in_line g.R.Source.state c.listing.intake) c.args.silent.now.output c.take_next.new.sink.output c.listing.count
-so_far_refused g c = reported_out _ _ _ _ _ _ _ _ c.listing.invariant.reported (refusal g c).came.told
+    → AreListed g.W.Target.state g.P.EnvelopeLines.written (in_line g.R.Source.state c.args.intake.now) (in_line g.R.Source.state c.listing.intake) c.args.silent.now.output c.take_next.new.sink.output c.listing.count
+so_far_refused g c = listed_out _ _ _ _ _ _ _ _ c.listing.invariant.listed (refusal g c).came.told
 
 pub listing-init : goal.listing-init
 listing-init g c = record {
   alive = c.requires.alive;
   same = c.in_ok-unpacker.ensures.limits;
-  reported = none_reported g.W.Target.state c.gifts_join.ensures g.P.EnvelopeLines.written (in_line g.R.Source.state c.args.intake.now) c.args.silent.now.output;
+  listed = none_listed g.W.Target.state c.gifts_join.ensures g.P.EnvelopeLines.written (in_line g.R.Source.state c.args.intake.now) c.args.silent.now.output;
   leads = λ last h. h;
 }
 
@@ -53,7 +53,7 @@ returns-in_err-unpacker-clause-err g c =
     let state = g.W.Target.state in
     let old = c.args.silent.now.output in
     handed_on (IsUnlisted state text source source old old) c.from_residual.result OutOfMemory c.from_residual.ensures.1
-    (starved c.gifts_join.ensures source [] (none_reported state c.gifts_join.ensures text source old) (c.gifts_join.ensures.none source))
+    (starved c.gifts_join.ensures source [] (none_listed state c.gifts_join.ensures text source old) (c.gifts_join.ensures.none source))
 
 pub returns-in_err-octets-clause-err : goal.returns-in_err-octets-clause-err
 returns-in_err-octets-clause-err g c =
@@ -69,7 +69,7 @@ returns-in_err-octets-clause-err g c =
     let empty = c.requires.held in
     let fault = c.in_err-octets.field-0.0 in
     handed_on (IsUnlisted state text source rest old now) c.from_residual-in_err-octets.result fault c.from_residual-in_err-octets.ensures.1
-    (failed state c.gifts_join.ensures c.texts_join.ensures text source mid rest old c.take_next.new.unpacker a b c.listing.count fault c.listing.invariant.reported empty c.in_err-octets.ensures.next)
+    (failed state c.gifts_join.ensures c.texts_join.ensures text source mid rest old c.take_next.new.unpacker a b c.listing.count fault c.listing.invariant.listed empty c.in_err-octets.ensures.next)
 
 pub returns-in_err-add_last-in-Envelope-clause-err : goal.returns-in_err-add_last-in-Envelope-clause-err
 returns-in_err-add_last-in-Envelope-clause-err g c =
@@ -95,7 +95,7 @@ returns-then-count-eq-MAX_ENVELOPES-clause-ok g c =
     let new = c.add_last.new.output in
     let words : c.as_bytes.result.now ≡ too_many_line = search rules in
     let more = left_of rest.octets in
-    reported c.gifts_join.ensures rest new 1 h.envelope.octets more.0 c.as_bytes.result.now TooMany r
+    listed c.gifts_join.ensures rest new 1 h.envelope.octets more.0 c.as_bytes.result.now TooMany r
     h.came.given more.1 (full, h.envelope, h.is, more.0, refl) refl words c.requires.held c.in_ok-add_last-in-Envelope.ensures.ok c.in_ok-add_last-in-Envelope.ensures.held
 
 pub returns-in_err-push_text-in-Envelope-clause-err : goal.returns-in_err-push_text-in-Envelope-clause-err
@@ -135,8 +135,8 @@ listing-preserved g c =
     record {
       alive = lives_as c.take_next.new.intake.failed c.in_ok-octets.field-0 c.in-Envelope.octets c.in-Envelope.is c.in_ok-octets.ensures.lives;
       same = h.same;
-      reported =
-          reported_more c.gifts_join.ensures rest new c.as_slice.result.now h.envelope r h.is h.came.given
+      listed =
+          listed_more c.gifts_join.ensures rest new c.as_slice.result.now h.envelope r h.is h.came.given
           below words c.in_ok-add-in-Envelope.ensures.ok;
       leads = λ last h. c.listing.invariant.leads last (g.met.R.Source.leads_on c.listing.intake.reader c.take_next.new.intake.reader last c.take_next.ensures.leads h);
     }
@@ -154,8 +154,8 @@ returns-in-End-clause-ok g c =
     let now = b.output in
     let empty = c.requires.held in
     let h = end_as (PassesOver state) refuses_never IsSettled (IsStuck state) mid rest c.take_next.new.unpacker a b c.in_ok-octets.field-0 c.in-End.is c.in_ok-octets.ensures.next in
-    let r = reported_out state text source mid old a.output now c.listing.count c.listing.invariant.reported h.2 in
-    reported c.gifts_join.ensures rest now 0 [] [] [] Whole r h.0 (none_left rest.octets h.1) refl refl refl
+    let r = listed_out state text source mid old a.output now c.listing.count c.listing.invariant.listed h.2 in
+    listed c.gifts_join.ensures rest now 0 [] [] [] Whole r h.0 (none_left rest.octets h.1) refl refl refl
     empty (put_nothing state now) h.3
 
 pub returns-in_err-push_refused-in-Refused-clause-err : goal.returns-in_err-push_refused-in-Refused-clause-err
@@ -189,7 +189,7 @@ returns-in-Refused-clause-ok g c =
     let new = c.add_last-in-Refused.new.output in
     let words : c.as_slice-in-Refused.result.now ≡ refused_line (c.listing.count + 1) c.in-Refused.refusal = search rules in
     let more = ends_refused (PassesOver g.W.Target.state) (in_line g.R.Source.state c.listing.intake) rest c.listing.silent c.take_next.new.sink c.in-Refused.refusal h in
-    reported c.gifts_join.ensures rest new 1 h.octets more.0 c.as_slice-in-Refused.result.now (RefusedBy c.in-Refused.refusal) r
+    listed c.gifts_join.ensures rest new 1 h.octets more.0 c.as_slice-in-Refused.result.now (RefusedBy c.in-Refused.refusal) r
     h.came.given more.1 (h.k, more.2) refl words c.requires.held c.in_ok-add_last-in-Refused.ensures.ok c.in_ok-add_last-in-Refused.ensures.held
 
 pub returns-in_err-octets-clause-leads : goal.returns-in_err-octets-clause-leads
@@ -225,7 +225,7 @@ keeps_so_far : (g : Over) (c : After-take_next g) → KeepsWriter c.args.silent.
 keeps_so_far g c =
     let state = g.W.Target.state in
     kept_next (PassesOver state) refuses_never IsSettled (IsStuck state) (λ a b. KeepsWriter a.output b.output) (λ a b more told. told.same) (λ a b d keeps stuck. stuck.0.same ∙ keeps) (in_line g.R.Source.state c.listing.intake)
-    (in_line g.R.Source.state c.take_next.new.intake) c.take_next.new.unpacker c.listing.silent c.take_next.new.sink c.take_next.result c.take_next.ensures.next ∙ c.listing.invariant.reported.put.same
+    (in_line g.R.Source.state c.take_next.new.intake) c.take_next.new.unpacker c.listing.silent c.take_next.new.sink c.take_next.result c.take_next.ensures.next ∙ c.listing.invariant.listed.put.same
 
 pub returns-in_err-octets-clause-same : goal.returns-in_err-octets-clause-same
 returns-in_err-octets-clause-same g c = keeps_so_far g (goal.at.returns-in_err-octets-clause-same g c).After-take_next

@@ -2,14 +2,14 @@ use Rattle.std.proofs.Common.{◌≡◌, ◌-◌, None}
 use Rattle.iim_unpack.specs.States.Intakes.{in_line}
 use Rattle.iim_unpack.specs.States.Unpacking.{limits_in}
 use Rattle.iim_commands.specs.Format.Listings.{limits}
-use Rattle.iim_commands.proofs.Reports.{AreReported}
+use Rattle.iim_commands.proofs.Listings.{AreListed}
 use Rattle.iim_commands.proofs.list.list_texts.Given as goal
 
 abbrev pub invariant-listing : goal.invariant-listing
 invariant-listing g l = record {
   alive : l.intake.failed ≡ None;
   same : limits_in l.unpacker ≡ limits;
-  reported : AreReported g.W.Target.state g.P.EnvelopeLines.written (in_line g.R.Source.state l.fn.intake) (in_line g.R.Source.state l.intake) l.fn.silent.output l.silent.output l.count;
+  listed : AreListed g.W.Target.state g.P.EnvelopeLines.written (in_line g.R.Source.state l.fn.intake) (in_line g.R.Source.state l.intake) l.fn.silent.output l.silent.output l.count;
   leads : (last : _) → g.R.Source.leads l.intake.reader last → g.R.Source.leads l.fn.intake.reader last;
 }
 

@@ -8,7 +8,7 @@ use Rattle.iim_places.specs.Format.Listing.{max_envelopes, Whole, RefusedBy, Too
 use Rattle.iim_commands.specs.Format.Narration.{IsUnnarrated, text_of}
 use Rattle.iim_commands.specs.declared.fault.CommandFault.TheVariants.{OutOfMemory}
 use Rattle.iim_commands.proofs.Narration.{TextIsTaken, taken_out, broke_in_line, broke_in_lines, held_back_as, narrated, narrated_more, pushed, refused_within, story_out, text_out, text_refused, text_taken, unended_keeps, unended_text, none_narrated, nothing_told, unfed, unfed_for_memory, wrote_by}
-use Rattle.iim_commands.proofs.Reports.{ends_refused, left_of, none_left}
+use Rattle.iim_commands.proofs.Listings.{ends_refused, left_of, none_left}
 use Rattle.iim_commands.proofs.Taken.{end_as, kept_next, lives_as, refusal_as}
 use Rattle.iim_commands.proofs.Told.{added, handed_on}
 use Rattle.iim_commands.specs.States.Coming.{IsRefusal}

@@ -1,4 +1,4 @@
--- Reports of inputs.
+-- Listings of inputs.
 use Rattle.std.proofs.Common.{◌≡◌, ℕ, ◌+◌, ◌≤◌, inl, inr, refl, sym, ap, subst, ◌∙◌, arith, List, [], ◌∷◌, ◌++◌, length, take, slice_index, length-append, append_assoc, Option, None, Some, Result, Ok, Err, IfOk, IfErr}
 use Rattle.std.specs.List.{AllByRecursion}
 use Rattle.std.proofs.Math.ListN.{get_or-append}
@@ -54,7 +54,7 @@ pub record AreTaken (source rest : Device) (count : ℕ) (envelopes : List Liste
   pub few : count ≤ max_envelopes
 
 -- and this text of each of them was taken
-pub record AreReported {W : Type 0} (state : W → Device) (text : ℕ → Listed → List ℕ) (source rest : Device) (old new : BlockWriter W) (count : ℕ) : Type 0 where
+pub record AreListed {W : Type 0} (state : W → Device) (text : ℕ → Listed → List ℕ) (source rest : Device) (old new : BlockWriter W) (count : ℕ) : Type 0 where
   pub envelopes : List Listed
   pub taken : AreTaken source rest count envelopes
   pub put : HasPut state old new (texts_from text 1 envelopes)
@@ -62,13 +62,13 @@ pub record AreReported {W : Type 0} (state : W → Device) (text : ℕ → Liste
 pub none_taken : GiftsJoin → (source : Device) → AreTaken source source 0 []
 none_taken joins source = record { admitted = tt; given = joins.none source; counted = refl; few = omega arith }
 
-pub none_reported : {W : Type 0} (state : W → Device) → GiftsJoin → (text : ℕ → Listed → List ℕ) (source : Device) (old : BlockWriter W) → AreReported state text source source old old 0
-none_reported state joins text source old = record { envelopes = []; taken = none_taken joins source; put = put_nothing state old }
+pub none_listed : {W : Type 0} (state : W → Device) → GiftsJoin → (text : ℕ → Listed → List ℕ) (source : Device) (old : BlockWriter W) → AreListed state text source source old old 0
+none_listed state joins text source old = record { envelopes = []; taken = none_taken joins source; put = put_nothing state old }
 
 -- some of it was let out
-pub reported_out : {W : Type 0} (state : W → Device) (text : ℕ → Listed → List ℕ) (source rest : Device) (old now new : BlockWriter W) (count : ℕ) → AreReported state text source rest old now count → HasPut state now new []
-    → AreReported state text source rest old new count
-reported_out state text source rest old now new count r out = record {
+pub listed_out : {W : Type 0} (state : W → Device) (text : ℕ → Listed → List ℕ) (source rest : Device) (old now new : BlockWriter W) (count : ℕ) → AreListed state text source rest old now count → HasPut state now new []
+    → AreListed state text source rest old new count
+listed_out state text source rest old now new count r out = record {
   envelopes = r.envelopes;
   taken = r.taken;
   put = subst (HasPut state old new) (append-nil (texts_from text 1 r.envelopes)) (put_on state old now new (texts_from text 1 r.envelopes) [] r.put out);
@@ -135,12 +135,12 @@ ends_refused goes mid rest a b e r = by_kind r.refused
       inr (refused_later r.octets (left_of rest.octets).0 r.k e d),
     )
 
--- ---- the report is out
+-- ---- the listing is out
 
-pub reported : {W : Type 0} {state : W → Device} {text : ℕ → Listed → List ℕ} {source mid : Device} {old now : BlockWriter W} {count : ℕ} → GiftsJoin → (rest : Device) (new : BlockWriter W) (status : ℕ) (begun more line : List ℕ) (ending : InputEnding)
-    → AreReported state text source mid old now count → HasGiven mid rest begun → HasOctets rest.octets more → EndsBy limits count (begun ++ more) ending
+pub listed : {W : Type 0} {state : W → Device} {text : ℕ → Listed → List ℕ} {source mid : Device} {old now : BlockWriter W} {count : ℕ} → GiftsJoin → (rest : Device) (new : BlockWriter W) (status : ℕ) (begun more line : List ℕ) (ending : InputEnding)
+    → AreListed state text source mid old now count → HasGiven mid rest begun → HasOctets rest.octets more → EndsBy limits count (begun ++ more) ending
     → status ≡ status_of ending → line ≡ ending_line count ending → HoldsNothing old → HasPut state now new line → HoldsNothing new → WritesListing text source rest (device_of state old) (device_of state new) status
-reported {state = state} {text = text} {source = source} {mid = mid} {old = old} {now = now} {count = count} joins rest new status begun more line ending r given holds ends is words before put after =
+listed {state = state} {text = text} {source = source} {mid = mid} {old = old} {now = now} {count = count} joins rest new status begun more line ending r given holds ends is words before put after =
     let es = r.envelopes in
     let all = given_then joins source mid rest count es begun r.taken given in (
       joined es ++ (begun ++ more),
@@ -158,11 +158,11 @@ reported {state = state} {text = text} {source = source} {mid = mid} {old = old}
           (all_out state old new (texts_from text 1 es ++ line) before after (put_on state old now new (texts_from text 1 es) line r.put put)),
     )
 
--- an envelope more is reported
-pub reported_more : {W : Type 0} {state : W → Device} {text : ℕ → Listed → List ℕ} {source mid : Device} {old now : BlockWriter W} {count : ℕ} → GiftsJoin → (rest : Device) (new : BlockWriter W) (line : List ℕ) (e : Listed)
-    → AreReported state text source mid old now count → IsListed limits e → HasGiven mid rest e.octets → (count ≡ max_envelopes → ⊥) → line ≡ text (count + 1) e
-    → HasPut state now new line → AreReported state text source rest old new (count + 1)
-reported_more {state = state} {text = text} {source = source} {mid = mid} {old = old} {now = now} {count = count} joins rest new line e r is given below words put = record {
+-- an envelope more is listed
+pub listed_more : {W : Type 0} {state : W → Device} {text : ℕ → Listed → List ℕ} {source mid : Device} {old now : BlockWriter W} {count : ℕ} → GiftsJoin → (rest : Device) (new : BlockWriter W) (line : List ℕ) (e : Listed)
+    → AreListed state text source mid old now count → IsListed limits e → HasGiven mid rest e.octets → (count ≡ max_envelopes → ⊥) → line ≡ text (count + 1) e
+    → HasPut state now new line → AreListed state text source rest old new (count + 1)
+listed_more {state = state} {text = text} {source = source} {mid = mid} {old = old} {now = now} {count = count} joins rest new line e r is given below words put = record {
   envelopes = r.envelopes ++ e ∷ [];
   taken = taken_more joins source mid rest count r.envelopes e r.taken is given below;
   put =
@@ -170,7 +170,7 @@ reported_more {state = state} {text = text} {source = source} {mid = mid} {old =
       (put_on state old now new (texts_from text 1 r.envelopes) line r.put put);
 }
 
--- ---- the report isn't out
+-- ---- the listing isn't out
 
 consumes_on : (a b c : Option (List ℕ)) (xs ys : List ℕ) → Consumes a b xs → Consumes b c ys → Consumes a c (xs ++ ys)
 consumes_on None b c xs ys h k = tt
@@ -183,7 +183,7 @@ missed_then a b c xs ys fault given missed =
     (consumes_on a.octets b.octets c.octets xs ys given.0 missed.0, broke_for_later a b c fault given.1 missed.1)
 
 pub starved : {W : Type 0} {state : W → Device} {text : ℕ → Listed → List ℕ} {source mid : Device} {old new : BlockWriter W} {count : ℕ} → GiftsJoin → (rest : Device) (begun : List ℕ)
-    → AreReported state text source mid old new count → HasGiven mid rest begun → IsUnlisted state text source rest old new OutOfMemory
+    → AreListed state text source mid old new count → HasGiven mid rest begun → IsUnlisted state text source rest old new OutOfMemory
 starved {source = source} {mid = mid} {count = count} joins rest begun r given = (
   joined r.envelopes ++ begun,
   r.envelopes,
@@ -199,10 +199,10 @@ rises (inr h) = omega (arith, h.0)
 
 -- nothing comes next
 pub failed : {W : Type 0} (state : W → Device) → GiftsJoin → TextsJoin → (text : ℕ → Listed → List ℕ) (source mid rest : Device) (old : BlockWriter W) (v : Unpacking) (a b : Silent W) (count : ℕ) (fault : CommandFault)
-    → AreReported state text source mid old a.output count → HoldsNothing old → IsNext (PassesOver state) refuses_never IsSettled (IsStuck state) (mid, a) (rest, v, b) (Err fault)
+    → AreListed state text source mid old a.output count → HoldsNothing old → IsNext (PassesOver state) refuses_never IsSettled (IsStuck state) (mid, a) (rest, v, b) (Err fault)
     → IsUnlisted state text source rest old b.output fault
 failed state joins texts text source mid rest old v a b count CannotRead r empty (c, settled) =
-    let out = reported_out state text source mid old a.output b.output count r c.told in (
+    let out = listed_out state text source mid old a.output b.output count r c.told in (
       joined r.envelopes ++ c.octets,
       r.envelopes,
       c.octets,
@@ -232,7 +232,7 @@ failed state joins texts text source mid rest old v a b count OutOfMemory r empt
 
 -- the output broke inside the last line
 pub unended : {W : Type 0} {state : W → Device} {text : ℕ → Listed → List ℕ} {source mid : Device} {old now : BlockWriter W} {count : ℕ} → GiftsJoin → TextsJoin → (rest : Device) (new : BlockWriter W) (begun line : List ℕ) (ending : InputEnding) (fault : CommandFault)
-    → AreReported state text source mid old now count → HoldsNothing old → HasGiven mid rest begun → EndsBy limits count begun ending → line ≡ ending_line count ending → IsUnadded state now new line fault
+    → AreListed state text source mid old now count → HoldsNothing old → HasGiven mid rest begun → EndsBy limits count begun ending → line ≡ ending_line count ending → IsUnadded state now new line fault
     → IsUnlisted state text source rest old new fault
 unended {state = state} {text = text} {source = source} {mid = mid} {old = old} {now = now} {count = count} joins texts rest new begun line ending fault r empty given ends words unsaid =
     let es = r.envelopes in
@@ -252,7 +252,7 @@ unended {state = state} {text = text} {source = source} {mid = mid} {old = old} 
 
 -- the output broke inside the text of an envelope
 pub unsaid_of : {W : Type 0} {state : W → Device} {text : ℕ → Listed → List ℕ} {source mid : Device} {old now : BlockWriter W} {count : ℕ} → GiftsJoin → TextsJoin → (rest : Device) (new : BlockWriter W) (line : List ℕ) (e : Listed) (fault : CommandFault)
-    → AreReported state text source mid old now count → HoldsNothing old → IsListed limits e → HasGiven mid rest e.octets → (count ≡ max_envelopes → ⊥) → line ≡ text (count + 1) e
+    → AreListed state text source mid old now count → HoldsNothing old → IsListed limits e → HasGiven mid rest e.octets → (count ≡ max_envelopes → ⊥) → line ≡ text (count + 1) e
     → IsUnadded state now new line fault → IsUnlisted state text source rest old new fault
 unsaid_of {state = state} {text = text} {source = source} {mid = mid} {old = old} {now = now} {count = count} joins texts rest new line e fault r empty is given below words unsaid =
     let es = r.envelopes ++ e ∷ [] in
