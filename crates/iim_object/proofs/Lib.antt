@@ -21,8 +21,5 @@ pub mod Within
 -- What proofs of other crates cite.
 pub mod PlanLengths
 pub mod PlanParts
-<<<<<<< HEAD
 pub mod Outputs
-=======
->>>>>>> 005e1f4745afd1c9ce8d59eebc3cc6d95e103313
 pub mod Written

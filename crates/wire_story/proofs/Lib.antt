@@ -16,4 +16,3 @@ pub mod Counted
 pub mod Collected
 pub mod Spans
 pub mod SoFar
-pub mod Collected
