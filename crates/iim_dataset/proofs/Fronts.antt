@@ -1,5 +1,5 @@
 -- What the octets at the front say of a tag.
-use Rattle.std.proofs.Common.{◌≡◌, ◌≢◌, ℕ, zero, suc, ◌+◌, ◌-◌, ◌<◌, ◌≤◌, ◌⊎◌, List, [], ◌∷◌, ◌++◌, length, take, drop, get_or, replicate, refl, ap, sym, subst, ◌∙◌, inl, inr, arith, length-append}
+use Rattle.std.proofs.Common.{◌≡◌, ◌≢◌, ℕ, suc, ◌+◌, ◌-◌, ◌<◌, ◌≤◌, ◌⊎◌, List, [], ◌∷◌, ◌++◌, length, take, drop, get_or, replicate, refl, ap, sym, subst, ◌∙◌, inl, inr, arith, length-append}
 use Rattle.std.proofs.lemmas.List.{length-replicate, length-take-le}
 use Rattle.std.proofs.Math.Seq.{take-append-add}
 use Rattle.byteorder.specs.Endian.{big_number}
@@ -8,20 +8,7 @@ use Rattle.std.proofs.lemmas.Bool.{cases_lt}
 use Rattle.iim_dataset.specs.Format.Octets.{Octets, number}
 use Rattle.iim_dataset.specs.Format.Datasets.{SpellsCount, count_octets}
 use Rattle.iim_dataset.specs.Format.Tags.{BeginsTag, BeginsNoTag, HasTag}
-use Rattle.iim_dataset.proofs.OctetLists.{zeros_are, octets_append}
-
--- each is an octet
-abbrev pub Fit : List ℕ → Type 0
-Fit octets = (i : ℕ) → get_or octets i 0 < 256
-
-pub are_octets : (xs : List ℕ) → Fit xs → Octets xs
-are_octets [] fits = tt
-are_octets (x ∷ xs) fits = (fits 0, are_octets xs (λ i. fits (suc i)))
-
-pub front_are : (n : ℕ) (xs : List ℕ) → Octets xs → Octets (take n xs)
-front_are zero xs h = tt
-front_are (suc n) [] h = tt
-front_are (suc n) (x ∷ xs) h = (h.0, front_are n xs h.1)
+use Rattle.iim_dataset.proofs.OctetLists.{zeros_are, octets_append, Fit, are_octets, front_are}
 
 -- octets that a tag continues from
 leads_on : (octets more count : List ℕ) (rec set n : ℕ) → 0 < length more → rec < 256 → set < 256 → SpellsCount count_octets n count

@@ -1,5 +1,4 @@
 pub mod Devices
-pub mod DeviceLaws
 pub mod Fronts
 pub mod Spellings
 pub mod Canonical
@@ -20,3 +19,4 @@ pub mod Agreeing
 pub mod Each
 pub mod OctetLists
 pub mod Telling
+pub mod DeviceLaws

@@ -1,8 +1,21 @@
 -- Lemmas on lists of octets, for the proofs of every crate: nothing here is to be believed.
-use Rattle.std.proofs.Common.{◌≡◌, ℕ, zero, suc, ◌+◌, ◌*◌, ◌^◌, ◌<◌, List, ◌∷◌, ◌++◌, length, replicate, ap, arith}
+use Rattle.std.proofs.Common.{◌≡◌, ℕ, zero, suc, ◌+◌, ◌*◌, ◌^◌, ◌<◌, List, [], ◌∷◌, ◌++◌, length, take, get_or, replicate, ap, arith}
 use Rattle.byteorder.specs.Numbers.{big_from-cons}
 use Rattle.iim_dataset.specs.Format.Octets.{IsOctet, Octets, number}
 use Rattle.iim_dataset.proofs.Each.{all_append}
+
+-- each is an octet
+abbrev pub Fit : List ℕ → Type 0
+Fit octets = (i : ℕ) → get_or octets i 0 < 256
+
+pub are_octets : (xs : List ℕ) → Fit xs → Octets xs
+are_octets [] fits = tt
+are_octets (x ∷ xs) fits = (fits 0, are_octets xs (λ i. fits (suc i)))
+
+pub front_are : (n : ℕ) (xs : List ℕ) → Octets xs → Octets (take n xs)
+front_are zero xs h = tt
+front_are (suc n) [] h = tt
+front_are (suc n) (x ∷ xs) h = (h.0, front_are n xs h.1)
 
 pub octets_append : (xs ys : List ℕ) → Octets xs → Octets ys → Octets (xs ++ ys)
 octets_append xs ys h k = all_append IsOctet xs ys h k

@@ -21,9 +21,10 @@ use Rattle.iim_dataset.specs.declared.sink.Step.{Step}
 use Rattle.iim_dataset.specs.declared.sink.Step.TheVariants.{More, Last}
 use Rattle.iim_dataset.specs.declared.place.DatasetPlace.{DatasetPlace}
 use Rattle.iim_dataset.specs.declared.place.DatasetPlace.TheVariants.{Tag, Inside}
-use Rattle.iim_dataset.proofs.Fronts.{begun_none, front_are}
+use Rattle.iim_dataset.proofs.Fronts.{begun_none}
 use Rattle.iim_dataset.proofs.Places.{tag_on, head_leads, data_on, data_end, octet_on, stops_at}
 use Rattle.iim_dataset.proofs.HeldTags.{one_more, unfinished}
+use Rattle.iim_dataset.proofs.OctetLists.{front_are}
 
 pub octet_at : (xs : List ℕ) (k : ℕ) → Octets xs → k < length xs → slice_index xs k < 256
 octet_at [] k o lt = absurd (omega (arith, lt))

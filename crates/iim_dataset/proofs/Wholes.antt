@@ -3,7 +3,7 @@ use Rattle.std.proofs.Common.{◌≡◌, ℕ, ◌+◌, ◌-◌, ◌<◌, ◌≤�
 use Rattle.std.specs.Prelude.{MatchOption, IfSome}
 use Rattle.std.proofs.Math.Seq.{take-add, take-append-add}
 use Rattle.std.proofs.lemmas.List.{take-take, length-take-le, get_or-take, get_or-append-add}
-use Rattle.iim_dataset.specs.Format.Octets.{Octets}
+use Rattle.iim_dataset.specs.Format.Octets.{IsOctet, Octets}
 use Rattle.iim_dataset.specs.Format.Datasets.{SpellsTag, count_octets}
 use Rattle.iim_dataset.specs.States.Events.{DatasetEvent, HeadRead, DataOctet, DatasetEnd}
 use Rattle.iim_dataset.specs.Format.Tags.{BeginsTag, HasTag}
@@ -13,16 +13,13 @@ use Rattle.iim_dataset.specs.Fronts.{WholeFront}
 use Rattle.iim_dataset.specs.declared.head.Head.{Head}
 use Rattle.iim_dataset.specs.declared.sink.Step.{Step}
 use Rattle.iim_dataset.specs.declared.place.DatasetPlace.TheVariants.{Inside}
-use Rattle.iim_dataset.proofs.Fronts.{front_are}
 use Rattle.iim_dataset.proofs.Places.{whole_on, head_on, data_on, octet_on, stops_at}
 use Rattle.iim_dataset.proofs.Stopping.{octet_at}
+use Rattle.iim_dataset.proofs.OctetLists.{front_are}
+use Rattle.iim_dataset.proofs.Each.{all_back}
 
 pub found_tag : (xs : List ℕ) (found : Option (Head × ℕ)) (h : Head) (n : ℕ) → found ≡ Some (h, n) → MatchOption found (BeginsTag count_octets xs) (λ f. HasTag xs f.0 f.1) → HasTag xs h n
 found_tag xs found h n is t = subst (λ (o : Option (Head × ℕ)). MatchOption o (BeginsTag count_octets xs) (λ f. HasTag xs f.0 f.1)) is t
-
-right_are : (xs ys : List ℕ) → Octets (xs ++ ys) → Octets ys
-right_are [] ys o = o
-right_are (x ∷ xs) ys o = right_are xs ys o.1
 
 pub whole_front : (rest : List ℕ) (h : Head) (n : ℕ) (tag after xs : List ℕ) → Octets rest → HasTag rest h n → after ≡ drop n rest → length tag ≡ n → xs ≡ take h.count after → length xs ≡ h.count
     → n + h.count ≤ length rest → WholeFront rest h xs (length tag + length xs)
@@ -32,7 +29,7 @@ whole_front rest h n tag after xs o t back tag_len are data_len within =
     record {
       tag = take n rest;
       spells = t.tag;
-      octets = right_are (take n rest) xs (subst Octets parts (front_are (length tag + length xs) rest o));
+      octets = all_back IsOctet (take n rest) xs (subst Octets parts (front_are (length tag + length xs) rest o));
       count = sym data_len;
       some = omega (arith, t.some, tag_len);
       within = omega (arith, tag_len, data_len, within);

@@ -10,7 +10,7 @@ use Rattle.std.proofs.lemmas.Option.{same_Some}
 use Rattle.iim_dataset.specs.Format.Octets.{Octets, within}
 use Rattle.iim_dataset.specs.Format.Datasets.{Dataset, head_of, of_record}
 use Rattle.iim_dataset.specs.declared.head.Head.{Head}
-use Rattle.iim_dataset.proofs.OctetLists.{zeros_are}
+use Rattle.iim_dataset.proofs.OctetLists.{zeros_are, are_octets}
 use Rattle.iim_tables.specs.Format.Rows.{row_of, is_admitted}
 use Rattle.iim_tables.specs.declared.shape.Row.{Row}
 use Rattle.iim_tables.specs.Format.Kinds.{has_kind}
@@ -103,10 +103,6 @@ count_fits present has h row none known =
     subst (λ (r : Row). h.count ≤ r.max) same high
 
 -- ---- octets
-
-pub octets_of : (xs : List ℕ) → ((i : ℕ) → get_or xs i 0 < 256) → Octets xs
-octets_of [] h = tt
-octets_of (x ∷ xs) h = (h 0, octets_of xs (λ i. h (suc i)))
 
 -- subfiles have no fault
 subfile_value : (ds : List Dataset) (d : Dataset) → SectionsLiveAt ds (head_of d) → d.rec ≡ 8 → Octets d.octets → value_fault d ≡ None
@@ -241,7 +237,7 @@ checked_value values old new begun xs number is order none count small fine told
         begun = None;
         at = λ i. Some (record { order = (order ∙ one.0) i; begun = none i });
         none = tt;
-        alive = value_alive values ds (data_of h xs) (subst (SectionsLiveAt ds) (sym at) s.alive) (octets_of xs small) (subst (λ (k : Head). value_fault (data_of k xs) ≡ None) head fine);
+        alive = value_alive values ds (data_of h xs) (subst (SectionsLiveAt ds) (sym at) s.alive) (are_octets xs small) (subst (λ (k : Head). value_fault (data_of k xs) ≡ None) head fine);
         tells = s.tells (data_of h xs) at;
       },
       told ∙ ap (λ (k : Head). number_told (data_of k xs)) head,

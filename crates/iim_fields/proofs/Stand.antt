@@ -10,7 +10,7 @@ use Rattle.std.proofs.lemmas.Bool.Decides.{eqb_tells}
 use Rattle.iim_dataset.specs.Format.Octets.{Octets}
 use Rattle.iim_dataset.specs.Format.Datasets.{Dataset, head_of}
 use Rattle.iim_dataset.specs.declared.head.Head.{Head}
-use Rattle.iim_dataset.proofs.OctetLists.{octets_append}
+use Rattle.iim_dataset.proofs.OctetLists.{octets_append, are_octets}
 use Rattle.iim_tables.specs.Format.Numbers.{size_octets}
 use Rattle.iim_tables.specs.Format.Records.{occurs}
 use Rattle.iim_fields.specs.Format.Alive.{SectionsLiveAt}
@@ -32,7 +32,7 @@ use Rattle.iim_fields.proofs.Table.{EachRowHasValues, size_row, kept_or_tells}
 use Rattle.iim_fields.proofs.Follows.{present_more}
 use Rattle.iim_fields.proofs.Telling.{head_fault_told}
 use Rattle.iim_fields.proofs.Dies.{head_no_fault}
-use Rattle.iim_fields.proofs.Checking.{one_begun, some_data, octets_of, count_fits}
+use Rattle.iim_fields.proofs.Checking.{one_begun, some_data, count_fits}
 
 -- ---- the limits
 
@@ -310,7 +310,7 @@ stands_more f new xs check_is limits_are kept_is taken_is t small ds h taken s =
       others = subst (λ (l : Limits). IsWithin l (kept_octets ds) (length (kept ds))) (sym limits_are) s.others;
       kept_are = kept_is ∙ s.kept_are;
       taken_are = taken_is ∙ ap (λ (ys : List ℕ). ys ++ xs) s.taken_are;
-      octets = octets_append taken xs s.octets (octets_of xs small);
+      octets = octets_append taken xs s.octets (are_octets xs small);
       nothing = λ eight. absurd (h_other eight);
     }
 

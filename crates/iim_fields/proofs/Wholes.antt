@@ -5,6 +5,7 @@ use Rattle.std.specs.Prelude.{vec_len, vec_capacity, is_some, is_none}
 use Rattle.std.specs.Option.{option_or}
 use Rattle.iim_dataset.specs.Format.Datasets.{Dataset, head_of}
 use Rattle.iim_dataset.specs.declared.head.Head.{Head}
+use Rattle.iim_dataset.proofs.OctetLists.{are_octets}
 use Rattle.iim_tables.specs.Format.Rows.{row_of}
 use Rattle.iim_tables.specs.declared.shape.Row.{Row}
 use Rattle.iim_fields.specs.Format.Faults.{head_fault, record_fault, limits_fault, first_fault, value_fault, room_fault, fault_on, is_kept, kept_octets}
@@ -27,7 +28,7 @@ use Rattle.iim_fields.specs.declared.store.Store.{Store}
 use Rattle.iim_fields.specs.declared.check.Begun.{Begun}
 use Rattle.iim_fields.specs.declared.check.RecordPlace.{RecordPlace}
 use Rattle.iim_fields.proofs.Table.{EachRowHasValues}
-use Rattle.iim_fields.proofs.Checking.{taken_by, checked_value, not_both, octets_of, order_at, record_fault_is, none_begun}
+use Rattle.iim_fields.proofs.Checking.{taken_by, checked_value, not_both, order_at, record_fault_is, none_begun}
 use Rattle.iim_fields.proofs.Build.{add_fault_of}
 use Rattle.iim_fields.proofs.Stand.Kept.{Passed}
 use Rattle.iim_fields.proofs.Stand.{taken_in_size, reading_passed, holds_after, room_fault_is, between_after, stands_in, reading_begun, head_in, store_room_for, reading_stored, entry_room, taken_in_store, stands_more, kept_in_store, kept_not_object, stands_closed, reading_kept}
@@ -191,7 +192,7 @@ whole_stands check new limits store taken kept size h xs w octets entries room k
     (ap (λ (ys : List ℕ). length ys) is ∙ sym w.count) refl both.1 both.0
     (subst (λ (ys : List ℕ). (es : List Dataset) (g : Head) → IsChecking mid es g → HasChecked new (es ++ data_of g ys ∷ []) × (w.took.number ≡ number_told (data_of g ys))) (sym is) w.took.closed)
     ds h xs inside (data_of h xs)
-    (record { head = (λ i. record { rec = h.rec; set = h.set; count = (sym w.count) i }); octets = octets_of xs w.small; given = λ _. refl })).0
+    (record { head = (λ i. record { rec = h.rec; set = h.set; count = (sym w.count) i }); octets = are_octets xs w.small; given = λ _. refl })).0
 
 pub whole_reading : (check new : Option RecordPlace) (limits : Limits) (store taken kept : Store) (size : List ℕ) (h : Head) (xs : List ℕ) → (w : Whole check new limits store size h xs)
     → taken.octets.items ≡ store.octets.items ++ xs → taken.entries ≡ store.entries → taken.octets.room ≡ store.octets.room
@@ -246,7 +247,7 @@ number_stands check new limits store size h xs r took next number count small ds
     (ap (λ (ys : List ℕ). length ys) is ∙ sym count) refl s.taken_are (Passed passes refl)
     (subst (λ (ys : List ℕ). (es : List Dataset) (g : Head) → IsChecking mid es g → HasChecked new (es ++ data_of g ys ∷ []) × (took.number ≡ number_told (data_of g ys))) (sym is) took.closed)
     ds h xs inside (data_of h xs)
-    (record { head = (λ i. record { rec = h.rec; set = h.set; count = (sym count) i }); octets = octets_of xs small; given = λ _. refl })).0
+    (record { head = (λ i. record { rec = h.rec; set = h.set; count = (sym count) i }); octets = are_octets xs small; given = λ _. refl })).0
 
 pub number_reading : (check new : Option RecordPlace) (limits : Limits) (store : Store) (size : List ℕ) (h : Head) (xs : List ℕ) (b : Bool) → IsReading check limits store size → checks.AwaitsHead check → (b ≡ true → TookWhole check new h xs)
     → (b ≡ false → new ≡ check) → checks.AwaitsHead new → (h.rec ≡ 7) ⊎ (h.rec ≡ 9) → h.count ≡ length xs → ((i : ℕ) → get_or xs i 0 < 256) → IsReading new limits store size

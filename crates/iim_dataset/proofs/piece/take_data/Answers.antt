@@ -5,10 +5,10 @@ use Rattle.iim_dataset.specs.States.Events.{DataOctet, DatasetEnd}
 use Rattle.iim_dataset.specs.States.Places.{Brings}
 use Rattle.iim_dataset.specs.declared.place.DatasetPlace.{DatasetPlace}
 use Rattle.iim_dataset.specs.declared.place.DatasetPlace.TheVariants.{Inside}
-use Rattle.iim_dataset.proofs.Fronts.{are_octets, front_are}
 use Rattle.iim_dataset.proofs.Places.{data_on, data_end}
 use Rattle.iim_dataset.proofs.Stopping.{after_end, data_stops, end_stops, stopped_at}
 use Rattle.iim_dataset.proofs.piece.take_data.Goals as goal
+use Rattle.iim_dataset.proofs.OctetLists.{are_octets, front_are}
 
 pub returns-in-Ok-clause-front : goal.returns-in-Ok-clause-front
 returns-in-Ok-clause-front g c =

@@ -1,7 +1,7 @@
 use Rattle.std.proofs.Common.{arith}
-use Rattle.iim_dataset.proofs.Fronts.{are_octets}
 use Rattle.iim_dataset.proofs.Wholes.{found_tag, whole_front}
 use Rattle.iim_dataset.proofs.piece.whole_dataset.Goals as goal
+use Rattle.iim_dataset.proofs.OctetLists.{are_octets}
 
 pub returns-else-after-head : goal.returns-else-after-head
 returns-else-after-head c =
