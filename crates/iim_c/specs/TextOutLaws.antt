@@ -1,5 +1,5 @@
 -- The laws of a sink that writes into a buffer, handed in by its impl.
-use Rattle.std.proofs.Common.{◌≡◌, ℕ, List, [], ◌∷◌, ◌++◌, map, refl, sym, ap, subst, ◌∙◌, append-nil, append_assoc}
+use Rattle.std.proofs.Common.{ℕ, List, [], ◌++◌, map, refl, sym, ap, subst, ◌∙◌, append-nil, append_assoc}
 use Rattle.std.proofs.lemmas.List.{map-append}
 use Rattle.wire_story.specs.Format.Delivery.{StoryEvent, octet_for}
 use Rattle.iim_c.specs.declared.text_out.TextOut.{TextOut}

@@ -107,14 +107,14 @@ pub broken : {W : Type 0} (state : W → Device) (before : ℕ) (old new : Writi
 broken state before old new events law k =
     breaks state before (object.ContinuesWith old.plan (packed_events events)) (ContinuesWith events) old new
     (λ fields head evs whole are form.
-        let p = form.packed in (
-          p.object,
-          p.octets_are,
-          (
-            packed_events form.rest ++ packed_tail form.trailer,
-            subst (λ (o : List ℕ). IsWritten old.plan.subfile old.plan.size o p.object) (form_object head evs events form.rest form.lines form.trailer law form.begins) p.written,
-          ),
-        ))
+    let p = form.packed in (
+      p.object,
+      p.octets_are,
+      (
+        packed_events form.rest ++ packed_tail form.trailer,
+        subst (λ (o : List ℕ). IsWritten old.plan.subfile old.plan.size o p.object) (form_object head evs events form.rest form.lines form.trailer law form.begins) p.written,
+      ),
+    ))
     k
 
 -- ---- causes
