@@ -1,5 +1,4 @@
 pub mod Devices
-pub mod Fronts
 pub mod Spellings
 pub mod Canonical
 pub mod Places
@@ -13,10 +12,11 @@ pub mod Reached
 pub mod Counts
 pub mod Wholes
 -- What proofs of other crates cite.
+pub mod Fronts
+pub mod Telling
 pub mod StoppedTexts
 pub mod WrittenNumbers
 pub mod Agreeing
 pub mod Each
 pub mod OctetLists
-pub mod Telling
 pub mod DeviceLaws

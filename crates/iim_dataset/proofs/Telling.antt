@@ -5,7 +5,7 @@ use Rattle.iim_dataset.specs.Format.Splits.{Begun, InTag, InData}
 use Rattle.iim_dataset.specs.States.Events.{DatasetEvent, HeadRead, DataOctet, DatasetEnd, events_of, begun_events, begun_data, handed_on}
 use Rattle.iim_dataset.specs.declared.head.Head.{Head}
 
--- the data before an end are determined
+-- the data before an end, and what follows it, are determined
 pub same_data : (xs ys : List ℕ) (r s : List DatasetEvent) → map DataOctet xs ++ DatasetEnd ∷ r ≡ map DataOctet ys ++ DatasetEnd ∷ s → (xs ≡ ys) × (r ≡ s)
 same_data [] [] r s e = (refl, cc)
 same_data [] (y ∷ ys) r s e = absurd cc

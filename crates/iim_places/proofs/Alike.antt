@@ -12,7 +12,7 @@ use Rattle.iim_fields.specs.Format.Records.{AreSections}
 use Rattle.iim_tables.specs.Format.Records.{repeats}
 use Rattle.iim_object.specs.Laws.Packing.{NumberDatasetsAreGood}
 use Rattle.iim_object.specs.Format.Packing.{subfile_datasets}
-use Rattle.iim_places.specs.States.Begins.{IsSize}
+use Rattle.iim_places.specs.TicketParts.{IsSize}
 use Rattle.iim_places.specs.States.ByLayers.{one_of_some}
 use Rattle.iim_places.specs.Plain.{Numbers, number_list, plain_numbers, filled, plain_end, plain}
 use Rattle.iim_places.proofs.Bounds.{alive_five}

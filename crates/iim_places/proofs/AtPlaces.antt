@@ -20,7 +20,7 @@ use Rattle.wire_message.specs.States.SoFar.{LeadsTo as LeadTo}
 use Rattle.wire_message.specs.States.Saved.{IsAt, LeadsToSaved}
 use Rattle.wire_message.specs.declared.place.Place.{Place as Message}
 use Rattle.wire_message.specs.declared.saved.MessagePlace.{MessagePlace}
-use Rattle.iim_places.specs.States.Begins.{AreNumbers, IsSize}
+use Rattle.iim_places.specs.TicketParts.{AreNumbers, IsSize}
 use Rattle.iim_places.specs.States.ByLayers.{RecordsLive, head_of_numbers}
 use Rattle.iim_places.specs.Plain.{number_list}
 use Rattle.iim_places.specs.Laws.Tickets.{texts_of}

@@ -30,7 +30,7 @@ use Rattle.iim_places.specs.Format.Streams.{IsEnvelopeWithin}
 use Rattle.iim_places.specs.Format.Tokens.{CanContinue}
 use Rattle.iim_places.specs.Format.Tickets.{Place, TagBegun, AllEnded, IsPlaceOf, heads_of, phase_of, place_of}
 use Rattle.iim_places.specs.Laws.Streams.{OpenOctetsBeginWithNoEnvelope}
-use Rattle.iim_places.specs.Laws.Lower.{OnwardLaws}
+use Rattle.iim_places.specs.Onward.{OnwardLaws}
 use Rattle.iim_places.proofs.Answering.{Lives, goes_envelope, leads_to, lives_envelope, lives_open, one_reading, reads_envelope}
 use Rattle.iim_places.proofs.Following.{alive_of, message_of, story_of, within_of}
 use Rattle.iim_places.proofs.LayersLead.{sizes_of}

@@ -26,7 +26,8 @@ use Rattle.iim_places.specs.Laws.Lower.{AnswerLaws}
 use Rattle.iim_places.specs.Format.Open.{object_so_far, section, AllCanContinue}
 use Rattle.iim_places.specs.Format.Tokens.{ObjectLives, MayContinue}
 use Rattle.iim_places.specs.Format.Tickets.{Place, Phase, TagBegun, DataBegun, AllEnded, present_version, phase_of, heads_of, place_of, ticket_in, layout, text_octets, texts_octets, part_number}
-use Rattle.iim_places.specs.States.Begins.{IsLongField, IsSize, IsSizeIn, AreNumbers, AreTexts}
+use Rattle.iim_places.specs.States.Begins.{IsLongField, IsSizeIn, AreTexts}
+use Rattle.iim_places.specs.TicketParts.{IsSize, AreNumbers}
 use Rattle.iim_places.specs.Format.TicketForm.{IsVersion, IsPhase, HasForm, Split, SplitsTicket, split_octets}
 use Rattle.iim_places.specs.States.Possible.{Possible, IsSmall, IsSmallPhase, IsSmallPlace, widest}
 use Rattle.iim_places.specs.Laws.Places.{SmallPlacesWerePossible, TicketsTellOnePlace}
@@ -299,17 +300,7 @@ part_told p q e = sym (back p) ∙ ap part_at e ∙ back q
 
     back : (p : MessagePart) → part_at (part_number p) ≡ p
     back part.Filler = refl
-    back part.Source = refl
-    back part.Number = refl
-    back part.Priority = refl
-    back part.PriorityRead = refl
-    back part.Category = refl
-    back part.Words = refl
-    back part.Info = refl
-    back part.Gap = refl
-    back part.Text = refl
-    back part.Trailer = refl
-    back part.AfterEnd = refl
+    back other = refl
 
 first_text : {x y : List ℕ} {a b : List (List ℕ)} → x ∷ a ≡ y ∷ b → x ≡ y
 first_text e = cc

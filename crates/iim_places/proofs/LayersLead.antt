@@ -28,19 +28,13 @@ use Rattle.iim_object.specs.Format.Records.{HaveSizes, lengths_of, numbers_of}
 use Rattle.iim_object.specs.States.Saved.{IsAt, IsPossible, LastIsBegun, stated_numbers}
 use Rattle.iim_object.specs.Format.Sizes.{Stated, AreStated, number_at}
 use Rattle.iim_object.specs.declared.size.Sizes.{Sizes}
-use Rattle.wire_story.specs.Format.Texts.{IsText}
 use Rattle.wire_story.specs.Format.Tokens.{Octet, End}
 use Rattle.wire_message.specs.Format.Layers.{MessageLanguage}
-use Rattle.wire_message.specs.Format.Messages.{Header, IsMessage}
-use Rattle.wire_message.specs.States.Reading.{is_ended}
-use Rattle.wire_message.specs.States.Saved.{LeadsToSaved, saved}
-use Rattle.wire_message.specs.States.SoFar.{LeadsTo}
-use Rattle.wire_message.specs.declared.place.Place.{Place as Message}
-use Rattle.wire_message.specs.declared.place.Place.TheVariants as at_message
+use Rattle.wire_message.specs.States.Saved.{LeadsToSaved}
 use Rattle.wire_message.specs.declared.saved.MessagePart.TheVariants as part
 use Rattle.wire_message.specs.declared.saved.MessagePlace.{MessagePlace}
 use Rattle.iim_places.specs.Format.Admitted.{object_of}
-use Rattle.iim_places.specs.States.Begins.{IsSize}
+use Rattle.iim_places.specs.TicketParts.{IsSize}
 use Rattle.iim_places.specs.States.ByLayers.{LeadsByLayers, record_datasets, one_of_some, head_of_numbers}
 use Rattle.iim_places.specs.Format.Framed.{AreWithin}
 use Rattle.iim_places.specs.Format.Open.{object_so_far, section, AllCanContinue}
@@ -49,6 +43,7 @@ use Rattle.iim_places.specs.States.Possible.{Possible, AreOpenOrWhole, widest}
 use Rattle.iim_places.specs.Format.Tickets.{Place, Phase, TagBegun, DataBegun, AllEnded, IsPlaceOf}
 use Rattle.iim_places.specs.Format.Tokens.{place_at, ObjectLives, MayContinue, CanContinue}
 use Rattle.iim_places.specs.Laws.Lower.{ByLayersLaws, SizeLaws}
+use Rattle.iim_places.proofs.AfterEnd.{WholeMessage, ended_after, ended_at}
 use Rattle.iim_places.proofs.Alike.{Fits, alike, told_by, present_alike}
 use Rattle.iim_places.proofs.Answering.{nothing_held}
 use Rattle.iim_places.proofs.Bounds.{object_fits}
@@ -67,47 +62,8 @@ use Rattle.iim_places.proofs.Tickets.{total_of, count_of, sum_more, sum_one}
 
 -- ---- the message
 
-ended_after : (at : Message) → (saved at).part ≡ part.AfterEnd → IsTrue (is_ended (Some at))
-ended_after (at_message.AfterEnd h t count) e = refl
-ended_after (at_message.Filler count) e = absurd cc
-ended_after (at_message.Source s) e = absurd cc
-ended_after (at_message.Number s n) e = absurd cc
-ended_after (at_message.Priority s n) e = absurd cc
-ended_after (at_message.PriorityRead s n p) e = absurd cc
-ended_after (at_message.Category s n p c) e = absurd cc
-ended_after (at_message.Words s n p c w) e = absurd cc
-ended_after (at_message.Info h) e = absurd cc
-ended_after (at_message.Gap h count feed) e = absurd cc
-ended_after (at_message.Text h (Some held)) e = absurd cc
-ended_after (at_message.Text h None) e = absurd cc
-ended_after (at_message.Trailer h t) e = absurd cc
-
--- octets that are a message, and the lines of its text
-record WholeMessage (o : List ℕ) : Type 0 where
-  head : Header
-  text : List ℕ
-  trailer : List ℕ
-  message : IsMessage o head text trailer
-  lines : List (List ℕ)
-  lined : IsText text lines
-
-whole_message : (o text : List ℕ) (at : Message) → LeadsTo o text at → (saved at).part ≡ part.AfterEnd → WholeMessage o
-whole_message o text (at_message.AfterEnd h t count) leads e = record { head = h; text = text; trailer = t.items; message = leads.spelled.0; lines = leads.story.0; lined = leads.story.1 }
-whole_message o text (at_message.Filler count) leads e = absurd cc
-whole_message o text (at_message.Source s) leads e = absurd cc
-whole_message o text (at_message.Number s n) leads e = absurd cc
-whole_message o text (at_message.Priority s n) leads e = absurd cc
-whole_message o text (at_message.PriorityRead s n p) leads e = absurd cc
-whole_message o text (at_message.Category s n p c) leads e = absurd cc
-whole_message o text (at_message.Words s n p c w) leads e = absurd cc
-whole_message o text (at_message.Info h) leads e = absurd cc
-whole_message o text (at_message.Gap h count feed) leads e = absurd cc
-whole_message o text (at_message.Text h (Some held)) leads e = absurd cc
-whole_message o text (at_message.Text h None) leads e = absurd cc
-whole_message o text (at_message.Trailer h t) leads e = absurd cc
-
 whole_saved : (o text : List ℕ) (m : MessagePlace) → LeadsToSaved o text m → m.part ≡ part.AfterEnd → WholeMessage o
-whole_saved o text m (at, leads, saves) e = whole_message o text at leads (ap (λ (x : MessagePlace). x.part) saves ∙ e)
+whole_saved o text m (at, leads, saves) e = ended_at o text at leads (ended_after at (ap (λ (x : MessagePlace). x.part) saves ∙ e))
 
 message_lives : ByLayersLaws → (o text : List ℕ) (m : MessagePlace) → LeadsToSaved o text m → (s : ℕ) → (s ≡ 9 → m.part ≡ part.AfterEnd)
     → languages.IsAlive MessageLanguage (map Octet o ++ (if nat_eq s 9 then End ∷ [] else []))
@@ -249,7 +205,7 @@ finish laws place numbers heads object ended begun rest text spellable is_begun 
         (ap (λ (rs : List Dataset). number_at 10 (numbers_of rs)) ends) in
         subst (λ (r : List ℕ). AreOpenOrWhole widest (canonical_stream ds ++ r)) (sym no_more.1)
         (inr (
-          record { fields = kept ds; head = m.head; lines = m.lines; trailer = m.trailer; sizes = s },
+          record { fields = kept ds; head = m.head; lines = m.lined.0; trailer = m.trailer; sizes = s },
           record {
             admits = record {
               datasets = ds;
@@ -258,7 +214,7 @@ finish laws place numbers heads object ended begun rest text spellable is_begun 
               fields = refl;
               text = m.text;
               message = m.message;
-              lines = m.lined;
+              lines = m.lined.1;
               sizes = have;
             };
             within = tag.within;

@@ -1,5 +1,5 @@
 -- At a possible place each layer alone can be.
-use Rattle.std.proofs.Common.{IsTrue, ◌≡◌, ℕ, zero, suc, ◌+◌, ◌-◌, ◌<◌, ◌≤◌, nat_eq, cond, if◌then◌else◌, Bool, true, false, List, [], ◌∷◌, ◌++◌, length, map, Some, None, refl, ap, sym, subst, ◌∙◌, inl, inr, arith, append_assoc, append-nil, length-append}
+use Rattle.std.proofs.Common.{◌≡◌, ℕ, zero, suc, ◌+◌, ◌-◌, ◌<◌, ◌≤◌, nat_eq, cond, if◌then◌else◌, Bool, true, false, List, [], ◌∷◌, ◌++◌, length, map, Some, None, refl, ap, sym, subst, ◌∙◌, inl, inr, arith, append_assoc, append-nil, length-append}
 use Rattle.std.proofs.lemmas.Bool.{eqb-true}
 use Rattle.std.proofs.lemmas.Bool.Decides.{eqb_tells}
 use Rattle.iim_dataset.specs.Format.Octets.{Octets, greatest_size}
@@ -22,10 +22,7 @@ use Rattle.iim_object.specs.States.Saved.{IsAt, IsPossible, stated_numbers}
 use Rattle.wire_story.specs.Format.Tokens.{OctetOrEnd, Octet, End, with_end}
 use Rattle.wire_message.specs.Format.Layers.{MessageLanguage}
 use Rattle.wire_message.specs.Laws.Messages.{MessagesEndAfterEot}
-use Rattle.wire_message.specs.States.Reading.{is_ended}
-use Rattle.wire_message.specs.States.Saved.{LeadsToSaved, saved}
-use Rattle.wire_message.specs.declared.place.Place.{Place as Message}
-use Rattle.wire_message.specs.declared.place.Place.TheVariants as at_message
+use Rattle.wire_message.specs.States.Saved.{LeadsToSaved}
 use Rattle.wire_message.specs.declared.saved.MessagePart.TheVariants as part
 use Rattle.wire_message.specs.declared.saved.MessagePlace.{MessagePlace}
 use Rattle.iim_places.specs.Format.Admitted.{object_of}
@@ -36,6 +33,7 @@ use Rattle.iim_places.specs.States.Possible.{Possible, widest}
 use Rattle.iim_places.specs.Format.Tickets.{Place, Phase, TagBegun, AllEnded, phase_of, place_of}
 use Rattle.iim_places.specs.Format.Tokens.{ObjectLives, CanContinueAt, MayContinue}
 use Rattle.iim_places.specs.Laws.Lower.{ByLayersLaws, OpenLaws}
+use Rattle.iim_places.proofs.AfterEnd.{after_end}
 use Rattle.iim_places.proofs.Alike.{Fits, alike, present_alike}
 use Rattle.iim_places.proofs.Bounds.{object_fits}
 use Rattle.iim_places.proofs.Fitting.{Lived, lived}
@@ -291,20 +289,6 @@ octets_of_end (x ∷ o) rest (y ∷ other) e =
     let later : (map Octet o ++ End ∷ []) ++ rest ≡ with_end other = cc in
     let more = octets_of_end o rest other later in
     λ i. first i ∷ more i
-
-after_end : (at : Message) → IsTrue (is_ended (Some at)) → (saved at).part ≡ part.AfterEnd
-after_end (at_message.AfterEnd h t count) e = refl
-after_end (at_message.Filler count) e = absurd cc
-after_end (at_message.Source s) e = absurd cc
-after_end (at_message.Number s n) e = absurd cc
-after_end (at_message.Priority s n) e = absurd cc
-after_end (at_message.PriorityRead s n p) e = absurd cc
-after_end (at_message.Category s n p c) e = absurd cc
-after_end (at_message.Words s n p c w) e = absurd cc
-after_end (at_message.Info h) e = absurd cc
-after_end (at_message.Gap h count feed) e = absurd cc
-after_end (at_message.Text h r) e = absurd cc
-after_end (at_message.Trailer h t) e = absurd cc
 
 ended_message : MessagesEndAfterEot → (o text : List ℕ) (m : MessagePlace) → LeadsToSaved o text m → languages.IsAlive MessageLanguage (map Octet o ++ End ∷ []) → m.part ≡ part.AfterEnd
 ended_message law o text m (at, leads, saves) alive = sym (ap (λ (x : MessagePlace). x.part) saves) ∙ after_end at ((law o text at leads).0 alive)

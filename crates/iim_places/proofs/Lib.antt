@@ -1,3 +1,4 @@
+pub mod AfterEnd
 pub mod Living
 pub mod StoryDies
 pub mod Bounds
@@ -46,4 +47,7 @@ pub mod SmallPlaces
 pub mod WerePossible
 pub mod PresentScale
 pub mod Listings
+pub mod PlacesTold
+pub mod Restoring
+pub mod ReadersAt
 pub mod ObjectOctets

@@ -112,36 +112,15 @@ some_is e = cc
 
 field_layer : (f : FieldCause) → (rule_of (cause_of f)).layer ≡ layer_of f
 field_layer fields.RecordOrder = refl
-field_layer fields.UnknownDataset = refl
-field_layer fields.Repeated = refl
-field_layer fields.CountRange = refl
-field_layer fields.Missing = refl
-field_layer fields.BadValue = refl
-field_layer fields.FileFormat = refl
-field_layer fields.HeaderFull = refl
-field_layer fields.TooManyFields = refl
+field_layer other = refl
 
 field_number : (f : FieldCause) → (rule_of (cause_of f)).number ≡ number_of_cause f
 field_number fields.RecordOrder = refl
-field_number fields.UnknownDataset = refl
-field_number fields.Repeated = refl
-field_number fields.CountRange = refl
-field_number fields.Missing = refl
-field_number fields.BadValue = refl
-field_number fields.FileFormat = refl
-field_number fields.HeaderFull = refl
-field_number fields.TooManyFields = refl
+field_number other = refl
 
 field_holds : (f : FieldCause) (limits : Limits) (ds : List Dataset) (token : Token) → (Holds' limits ds token (cause_of f) → OfField f limits ds token) × (OfField f limits ds token → Holds' limits ds token (cause_of f))
 field_holds fields.RecordOrder limits ds token = (λ h. h, λ h. h)
-field_holds fields.UnknownDataset limits ds token = (λ h. h, λ h. h)
-field_holds fields.Repeated limits ds token = (λ h. h, λ h. h)
-field_holds fields.CountRange limits ds token = (λ h. h, λ h. h)
-field_holds fields.Missing limits ds token = (λ h. h, λ h. h)
-field_holds fields.BadValue limits ds token = (λ h. h, λ h. h)
-field_holds fields.FileFormat limits ds token = (λ h. h, λ h. h)
-field_holds fields.HeaderFull limits ds token = (λ h. h, λ h. h)
-field_holds fields.TooManyFields limits ds token = (λ h. h, λ h. h)
+field_holds other limits ds token = (λ h. h, λ h. h)
 
 -- of the limits a lower number than 52 is a cause of fields
 few_limits : (c : Cause) (n : ℕ) → InLayer layers.Limits c → (rule_of c).number < n → n ≤ 52 → (g : FieldCause) × (c ≡ cause_of g)
@@ -149,15 +128,9 @@ few_limits c n (inl field) less low = field
 few_limits c n (inr last) less low = absurd (let is = numbered c causes.TooManySubfiles last in omega (arith, less, low, is))
 
 lower_field : (f : FieldCause) (c : Cause) → (rule_of c).layer ≡ layer_of f → (rule_of c).number < number_of_cause f → (g : FieldCause) × (c ≡ cause_of g)
-lower_field fields.RecordOrder c same less = one_of layers.Record c same
-lower_field fields.UnknownDataset c same less = one_of layers.Record c same
-lower_field fields.Repeated c same less = one_of layers.Record c same
-lower_field fields.CountRange c same less = one_of layers.Record c same
-lower_field fields.Missing c same less = one_of layers.Record c same
-lower_field fields.BadValue c same less = one_of layers.Record c same
-lower_field fields.FileFormat c same less = one_of layers.Record c same
 lower_field fields.HeaderFull c same less = few_limits c 50 (one_of layers.Limits c same) less (omega arith)
 lower_field fields.TooManyFields c same less = few_limits c 51 (one_of layers.Limits c same) less (omega arith)
+lower_field other c same less = one_of layers.Record c same
 
 field_lowest : (limits : Limits) (ds : List Dataset) (token : Token) (f : FieldFault) → OfField f.cause limits ds token
     → ((g : FieldCause) → number_of_cause g < number_of_cause f.cause → OfField g limits ds token → ⊥) → TellsTheLowest limits ds token (of_field f)
@@ -176,27 +149,15 @@ field_lowest limits ds token f holds lowest = record {
 
 size_layer : (s : SizeCause) → (rule_of (cause_of_size s)).layer ≡ layers.Object
 size_layer sizes.ModeClash = refl
-size_layer sizes.SizeClash = refl
-size_layer sizes.SubfileTooLong = refl
-size_layer sizes.PastSize = refl
-size_layer sizes.Short = refl
-size_layer sizes.ConfirmedWrong = refl
+size_layer other = refl
 
 size_number : (s : SizeCause) → (rule_of (cause_of_size s)).number ≡ objects_format.number_of s
 size_number sizes.ModeClash = refl
-size_number sizes.SizeClash = refl
-size_number sizes.SubfileTooLong = refl
-size_number sizes.PastSize = refl
-size_number sizes.Short = refl
-size_number sizes.ConfirmedWrong = refl
+size_number other = refl
 
 size_holds : (s : SizeCause) (limits : Limits) (ds : List Dataset) (token : Token) → (Holds' limits ds token (cause_of_size s) → OfSize s ds token) × (OfSize s ds token → Holds' limits ds token (cause_of_size s))
 size_holds sizes.ModeClash limits ds token = (λ h. h, λ h. h)
-size_holds sizes.SizeClash limits ds token = (λ h. h, λ h. h)
-size_holds sizes.SubfileTooLong limits ds token = (λ h. h, λ h. h)
-size_holds sizes.PastSize limits ds token = (λ h. h, λ h. h)
-size_holds sizes.Short limits ds token = (λ h. h, λ h. h)
-size_holds sizes.ConfirmedWrong limits ds token = (λ h. h, λ h. h)
+size_holds other limits ds token = (λ h. h, λ h. h)
 
 size_lowest : (limits : Limits) (ds : List Dataset) (token : Token) (h : Head) (p : Place) (t : ObjectToken) (s : SizeCause) → objects.IsFirstCause p t s
     → OfSize s ds token → ((r : SizeCause) → OfSize r ds token → objects_format.HasCause r p t) → TellsTheLowest limits ds token (size_on h s)

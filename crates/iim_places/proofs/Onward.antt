@@ -26,7 +26,7 @@ use Rattle.iim_places.specs.Format.Admitted.{object_of}
 use Rattle.iim_places.specs.Format.Framed.{AreWithin}
 use Rattle.iim_places.specs.Format.Open.{AllCanContinue, object_so_far, section}
 use Rattle.iim_places.specs.Format.Tokens.{MayContinue, ObjectLives}
-use Rattle.iim_places.specs.Laws.Lower.{OnwardLaws}
+use Rattle.iim_places.specs.Onward.{OnwardLaws}
 use Rattle.iim_places.proofs.Answering.{nothing_held}
 use Rattle.iim_places.proofs.ObjectOctets.{object_of_more}
 use Rattle.iim_places.proofs.Fitting.{each_octets}

@@ -1,51 +1,22 @@
 -- Octets from which every layer can continue are open, where no envelope stands at their front.
-use Rattle.std.proofs.Common.{◌≡◌, ℕ, true, false, nat_eq, if◌then◌else◌, IsTrue, List, [], ◌∷◌, ◌++◌, Some, map, refl, subst}
+use Rattle.std.proofs.Common.{ℕ, nat_eq, if◌then◌else◌, [], ◌∷◌, ◌++◌, map, refl, subst}
 use Rattle.iim_dataset.specs.Format.Datasets.{count_octets}
 use Rattle.iim_dataset.specs.Format.Splits.{Begun, InTag, InData, Reads}
 use Rattle.iim_dataset.specs.Format.Languages as languages
 use Rattle.iim_fields.specs.Format.Faults.{kept}
 use Rattle.iim_fields.specs.Format.Records.{AreSections}
-use Rattle.wire_story.specs.Format.Texts.{AreLines}
 use Rattle.wire_story.specs.Format.Tokens.{Octet, End, with_end}
 use Rattle.wire_message.specs.Format.Layers.{MessageLanguage, MessageLivesWith}
-use Rattle.wire_message.specs.Format.Messages.{Header, IsMessage}
-use Rattle.wire_message.specs.States.Reading.{is_ended}
 use Rattle.wire_message.specs.States.SoFar.{LeadsTo}
 use Rattle.wire_message.specs.declared.place.Place.{Place}
-use Rattle.wire_message.specs.declared.place.Place.TheVariants as at
 use Rattle.iim_places.specs.Format.Admitted.{object_of}
 use Rattle.iim_places.specs.Format.Open.{AllCanContinue}
 use Rattle.iim_places.specs.Laws.Streams.{LivingOctetsAreOpen}
-use Rattle.iim_places.specs.Laws.Lower.{OnwardLaws}
+use Rattle.iim_places.specs.Onward.{OnwardLaws}
+use Rattle.iim_places.proofs.AfterEnd.{ended_at}
 use Rattle.iim_places.proofs.Continuing.{sized}
 use Rattle.iim_places.proofs.Lasts.{not_all, sections_last}
 use Rattle.iim_places.proofs.Living.{alive_front}
-
--- a message with its text
-record Ended (octets : List ℕ) : Type 0 where
-  head : Header
-  text : List ℕ
-  trailer : List ℕ
-  message : IsMessage octets head text trailer
-  lined : AreLines text
-
-not_ended : {A : Type 0} → false ≡ true → A
-not_ended e = absurd cc
-
--- after EOT the octets are a message
-ended_at : (octets text : List ℕ) (place : Place) → LeadsTo octets text place → IsTrue (is_ended (Some place)) → Ended octets
-ended_at octets text (at.Filler count) leads e = not_ended e
-ended_at octets text (at.Source s) leads e = not_ended e
-ended_at octets text (at.Number s n) leads e = not_ended e
-ended_at octets text (at.Priority s n) leads e = not_ended e
-ended_at octets text (at.PriorityRead s n p) leads e = not_ended e
-ended_at octets text (at.Category s n p c) leads e = not_ended e
-ended_at octets text (at.Words s n p c w) leads e = not_ended e
-ended_at octets text (at.Info h) leads e = not_ended e
-ended_at octets text (at.Gap h count feed) leads e = not_ended e
-ended_at octets text (at.Text h reader) leads e = not_ended e
-ended_at octets text (at.Trailer h t) leads e = not_ended e
-ended_at octets text (at.AfterEnd h t count) leads e = record { head = h; text = text; trailer = t.items; message = leads.spelled.0; lined = leads.story }
 
 pub open_where_none : OnwardLaws → (start : Place) → LeadsTo [] [] start → LivingOctetsAreOpen
 open_where_none laws start begins limits octets whole begun reads all none =

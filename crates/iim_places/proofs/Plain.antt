@@ -17,7 +17,7 @@ use Rattle.iim_object.specs.States.Saved.{stated_numbers}
 use Rattle.iim_object.specs.Format.Sizes.{Stated, number_at}
 use Rattle.wire_message.specs.States.Saved.{LeadsToSaved}
 use Rattle.iim_places.specs.Format.Admitted.{object_of}
-use Rattle.iim_places.specs.States.Begins.{IsSize}
+use Rattle.iim_places.specs.TicketParts.{IsSize}
 use Rattle.iim_places.specs.Format.Open.{object_so_far, section}
 use Rattle.iim_places.specs.Format.Tickets.{phase_of, heads_of}
 use Rattle.iim_places.specs.Plain.{Numbers, number_list, mode_dataset, one_dataset, plain_numbers, filled, plain_end, plain, AreSpellable, begun_object, begun_heads, PlainOctetsLeadToTheirPlace}

@@ -22,7 +22,7 @@ use Rattle.iim_object.specs.Format.Records.{numbers_of}
 use Rattle.iim_object.specs.Format.Sizes.{Stated, InRow, number_at}
 use Rattle.iim_object.specs.States.Saved.{stated_numbers}
 use Rattle.iim_places.specs.Format.Admitted.{object_of}
-use Rattle.iim_places.specs.States.Begins.{IsSize}
+use Rattle.iim_places.specs.TicketParts.{IsSize}
 use Rattle.iim_places.specs.Laws.Lower.{AnswerLaws}
 use Rattle.iim_places.specs.Plain.{Numbers, number_list, mode_dataset, one_dataset, plain_numbers, filled, plain_end, PlainDatasetsContinueAlike}
 use Rattle.iim_places.proofs.Bounds.{IsFive, alive_five}

@@ -30,7 +30,7 @@ use Rattle.wire_message.specs.Format.Messages.{IsMessage}
 use Rattle.wire_message.specs.States.Saved.{LeadsToSaved}
 use Rattle.wire_message.specs.declared.saved.MessagePlace.{MessagePlace}
 use Rattle.iim_places.specs.Format.Admitted.{Value, object_of}
-use Rattle.iim_places.specs.States.Begins.{IsSize}
+use Rattle.iim_places.specs.TicketParts.{IsSize}
 use Rattle.iim_places.specs.Format.Framed.{AreWithin}
 use Rattle.iim_places.specs.Format.Open.{object_so_far, section, AllCanContinue}
 use Rattle.iim_places.specs.Plain.{number_list, filled, plain_end, plain_of, plain_octets, IsPlain, PlainOctetsAreOpenOrWhole}

@@ -31,7 +31,7 @@ use Rattle.iim_places.specs.Format.Tokens.{DiesAtHead, DiesAtValue, CanContinueA
 use Rattle.iim_places.specs.declared.fault.TokenFault.{TokenFault}
 use Rattle.iim_places.specs.declared.refusal.Layer.{Layer}
 use Rattle.iim_places.specs.declared.refusal.Layer.TheVariants as layers
-use Rattle.iim_places.specs.Laws.Lower.{OnwardLaws}
+use Rattle.iim_places.specs.Onward.{OnwardLaws}
 use Rattle.iim_places.proofs.Answering.{before_it, fewer_data}
 use Rattle.iim_places.proofs.ObjectOctets.{few_more, no_object}
 use Rattle.iim_places.proofs.Continuing.{not_both, on_open, unfinished_as}

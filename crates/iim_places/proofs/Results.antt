@@ -1,6 +1,10 @@
 -- Clauses of results that are handed on.
-use Rattle.std.proofs.Common.{◌≡◌, ℕ, List, if◌then◌else◌, Result, Ok, Err, IfErr, OnOk, Option, Some, None, IfNone}
+use Rattle.std.proofs.Common.{◌≡◌, ℕ, List, if◌then◌else◌, Result, Ok, Err, IfOk, IfErr, OnOk, Option, Some, None, IfNone}
 use Rattle.std.specs.Result.{IsErrAnd, is_ok}
+
+pub if_ok : {T E : Type 0} (P Q : T → Type 0) (r : Result T E) → ((x : T) → P x → Q x) → IfOk r P → IfOk r Q
+if_ok P Q (Ok x) f h = f x h
+if_ok P Q (Err e) f h = tt
 
 pub if_err : {T E : Type 0} (P Q : E → Type 0) (r : Result T E) → ((e : E) → P e → Q e) → IfErr r P → IfErr r Q
 if_err P Q (Ok x) f h = tt

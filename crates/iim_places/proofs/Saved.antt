@@ -10,7 +10,7 @@ use Rattle.wire_message.specs.declared.place.Place.{Place as Message}
 use Rattle.iim_places.specs.Format.Admitted.{Value}
 use Rattle.iim_places.specs.Laws.Places.{OctetsHaveOnePlace, TicketsTellOnePlace}
 use Rattle.iim_places.specs.Format.Framed.{AreWithin}
-use Rattle.iim_places.specs.Laws.Lower.{OnwardLaws}
+use Rattle.iim_places.specs.Onward.{OnwardLaws}
 use Rattle.iim_places.specs.Format.Open.{object_so_far, IsOpen}
 use Rattle.iim_places.specs.States.Possible.{AreOpenOrWhole, widest}
 use Rattle.iim_places.specs.States.Scales.{IsPossibleIn}

@@ -11,3 +11,6 @@ pub mod FieldLaws
 pub mod TicketParts
 pub mod Plain
 pub mod Taking
+pub mod Onward
+pub mod Restoring
+pub mod Nowhere

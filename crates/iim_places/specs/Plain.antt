@@ -17,7 +17,7 @@ use Rattle.iim_places.specs.Format.Admitted.{object_of}
 use Rattle.iim_object.specs.Format.Packing.{number_dataset, subfile_datasets, confirmed_datasets}
 use Rattle.wire_message.specs.States.Saved.{LeadsToSaved}
 use Rattle.wire_message.specs.declared.saved.MessagePlace.{MessagePlace}
-use Rattle.iim_places.specs.States.Begins.{IsSize}
+use Rattle.iim_places.specs.TicketParts.{IsSize}
 use Rattle.iim_places.specs.Format.Open.{section}
 use Rattle.iim_places.specs.States.Possible.{Possible, AreOpenOrWhole, widest}
 use Rattle.iim_places.specs.Format.Tickets.{Place, phase_of, IsPlaceOf}

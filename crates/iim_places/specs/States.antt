@@ -4,4 +4,5 @@ pub mod TicketsTold
 pub mod Restored
 pub mod Begins
 pub mod ByLayers
+pub mod Readers
 pub mod Counts

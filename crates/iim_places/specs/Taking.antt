@@ -2,19 +2,15 @@
 use Rattle.std.specs.Prelude.{◌≡◌, ℕ, Bool, true, false, List, [], ◌∷◌, ◌++◌, length, Option, None, cond}
 use Rattle.std.specs.List.{AllByRecursion}
 use Rattle.iim_dataset.specs.Format.Datasets.{Dataset}
-use Rattle.iim_dataset.specs.States.Places.{between}
-use Rattle.iim_dataset.specs.declared.place.DatasetPlace.{DatasetPlace}
-use Rattle.iim_dataset.specs.declared.place.DatasetPlace.TheVariants.{Tag, Inside}
 use Rattle.iim_fields.specs.Format.Alive.{SectionsLive}
 use Rattle.iim_fields.specs.Format.Faults.{is_kept, kept, kept_octets}
 use Rattle.iim_fields.specs.Format.Bounds.{IsWithin}
 use Rattle.iim_fields.specs.States.Stores.{Room}
 use Rattle.iim_fields.specs.declared.limits.Limits.{Limits}
 use Rattle.wire_message.specs.declared.saved.MessagePlace.{MessagePlace}
-use Rattle.iim_places.specs.States.ByLayers.{head_of_numbers}
 use Rattle.iim_places.specs.Plain.{Numbers, plain}
 use Rattle.iim_places.specs.Laws.Tickets.{texts_of}
-use Rattle.iim_places.specs.Format.Tickets.{Phase, TagBegun, DataBegun, AllEnded, part_number}
+use Rattle.iim_places.specs.Format.Tickets.{part_number}
 
 -- all are of records 1 and 2
 abbrev pub AreKept : List Dataset → Type 0
@@ -43,12 +39,6 @@ numbers_told other = record { mode = None; largest = None; announced = None; max
 -- fields, numbers, one subfile where some have ended, and 9:10 where the object has
 abbrev pub told_datasets : List Dataset → List (Option ℕ) → (some ended : Bool) → List Dataset
 told_datasets fields numbers some ended = plain fields (numbers_told numbers) (cond some 1 0) [] ended
-
--- where the next octet stands
-abbrev pub tag_place : ℕ → Phase → DatasetPlace
-tag_place section (TagBegun held) = Tag (record { items = held })
-tag_place section (DataBegun set count left taken) = Inside (head_of_numbers section set count) left
-tag_place section AllEnded = between
 
 -- The place of a message that a ticket tells by its part, counter, flag and texts.
 pub record IsMessageOf (part counter flag : ℕ) (texts : List (List ℕ)) (m : MessagePlace) : Type 0 where

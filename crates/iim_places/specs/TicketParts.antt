@@ -1,11 +1,12 @@
 -- The parts of a ticket, one by one.
-use Rattle.std.specs.Prelude.{◌≡◌, ℕ, ◌+◌, ◌<◌, List, ◌∷◌, ◌++◌, length, codes}
+use Rattle.std.specs.Prelude.{◌≡◌, ℕ, ◌+◌, ◌<◌, List, ◌∷◌, ◌++◌, length, codes, Option}
 use Rattle.std.specs.List.{flat_map}
-use Rattle.iim_places.specs.Format.Tickets.{DataBegun, four, wide, width, phase_octets, fields_octets, number_octets, text_octets}
-use Rattle.iim_places.specs.States.Begins.{AreTexts}
+use Rattle.iim_places.specs.Format.Tickets.{DataBegun, four, wide, width, phase_octets, fields_octets, number_octets, text_octets, present_version}
+use Rattle.iim_places.specs.States.Begins.{AreTexts, IsSizeIn, AreNumbersIn}
 use Rattle.iim_places.specs.declared.ticket.fault.TicketFault.{TicketFault}
 use Rattle.iim_places.specs.declared.ticket.fault.TicketFault.TheVariants.{Form, Version}
 use Rattle.iim_places.specs.Format.TicketForm.{Split, IsPhase, HasForm, HasOtherVersion}
+use Rattle.iim_dataset.specs.Format.Datasets.{Dataset}
 
 -- ---- part by part
 
@@ -41,3 +42,15 @@ abbrev pub IsNameFault : List ℕ → TicketFault → Type 0
 IsNameFault ticket Version = HasOtherVersion ticket
 IsNameFault ticket Form = (version : ℕ) (rest : List ℕ) → ticket ≡ codes "IIMT" ++ version ∷ rest → ⊥
 IsNameFault ticket _ = ⊥
+
+-- one that the octets of the present version tell
+abbrev pub IsSize : Option ℕ → Type 0
+IsSize o = IsSizeIn present_version o
+
+-- a dataset of these numbers
+abbrev pub dataset : ℕ → ℕ → List ℕ → Dataset
+dataset rec set octets = record { rec = rec; set = set; octets = octets }
+
+-- the numbers of record 7, as the octets of that version tell them
+abbrev pub AreNumbers : List (Option ℕ) → Type 0
+AreNumbers numbers = AreNumbersIn present_version numbers

@@ -5,7 +5,8 @@ ghost use Rattle.iim_places.specs.Laws.Admitted.{AdmittedOctetsAreFramed, Admitt
 ghost use Rattle.iim_places.specs.Laws.Streams.{OpenOctetsAreBounded, EnvelopesAreBounded, NothingContinuesFromRefusedOctets, RefusalsAreDetermined, RefusedOctetsWereOpen, StreamsHaveOneAnswer, LivingOctetsAreOpen, OpenOctetsBeginWithNoEnvelope};
 ghost use Rattle.iim_places.specs.States.ByLayers.{PlacesArePossibleByLayers};
 ghost use Rattle.iim_places.specs.Laws.Places.{OctetsHaveOnePlace, PlacesContinueAlike, PlacesRefuseAlike, LimitsAreToldByPlace, PossiblePlacesAreTaken, PresentScaleSaysNothingMore, SmallPlacesWerePossible, TicketsTellOnePlace};
-ghost use Rattle.iim_places.specs.Laws.Lower.{AnswerLaws, ByLayersLaws, FeedLaws, ObjectLaws, OnwardLaws, OpenLaws, PlaceLaws, SizeLaws};
+ghost use Rattle.iim_places.specs.Laws.Lower.{AnswerLaws, ByLayersLaws, FeedLaws, ObjectLaws, OpenLaws, PlaceLaws, SizeLaws};
+ghost use Rattle.iim_places.specs.Onward.{OnwardLaws};
 ghost use Rattle.iim_places.specs.Laws.Listing.{InputsHaveOneListing, ListingsAreLongest};
 ghost use Rattle.iim_places.specs.Plain.{ObjectsArePossibleAlike, PlainDatasetsContinueAlike, PlainOctetsAreOpenOrWhole, PlainOctetsLeadToTheirPlace, PossiblePlacesArePlain};
 ghost use Rattle.iim_places.specs.Laws.Tickets.{TicketsOfPlacesAreSplit, TicketsHaveOneSplit, OctetsHaveOneTicket};

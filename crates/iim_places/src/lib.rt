@@ -2,8 +2,8 @@
 //!
 //! Stands on the layers `iim_dataset`, `iim_fields`, `iim_object`, `wire_message` and `wire_story`, and knows no unpacker. What octets
 //! are is said here ([`laws::streams_have_one_answer`]), how the fault of each layer is told ([`Refusal`]), that octets lead to one
-//! place ([`laws::octets_have_one_place`]) from which they continue alike ([`laws::places_continue_alike`]), and what the octets of a
-//! ticket tell ([`split_ticket`]). Its lemmas may be cited by the crates above.
+//! place ([`laws::octets_have_one_place`]) from which they continue alike ([`laws::places_continue_alike`]), what the octets of a ticket
+//! tell ([`split_ticket`]), and which readers stand there ([`readers_at`], [`fields_at`]). Its lemmas may be cited by the crates above.
 #![tactic(auto)]
 
 mod fault;
@@ -18,4 +18,7 @@ pub use listing::MAX_ENVELOPES;
 pub use refusal::{Cause, Layer, Refusal};
 pub use ticket::fault::TicketFault;
 pub use ticket::fields::TicketFields;
+pub use ticket::possible::{Readers, readers_at};
+pub use ticket::readers::part_number;
+pub use ticket::records::fields_at;
 pub use ticket::split::{TicketParts, TicketPhase, split_ticket};

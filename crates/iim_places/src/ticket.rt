@@ -1,6 +1,11 @@
-//! Tickets: a place as octets, and what they tell.
+//! Tickets: a place as octets, what they tell, and the readers there.
 
 pub(crate) mod fault;
 pub(crate) mod fields;
 pub(crate) mod front;
+pub(crate) mod object;
+pub(crate) mod possible;
+pub(crate) mod readers;
+pub(crate) mod records;
 pub(crate) mod split;
+pub(crate) mod taker;

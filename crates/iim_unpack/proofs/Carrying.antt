@@ -26,13 +26,13 @@ use Rattle.wire_message.specs.declared.fault.MessageCause.TheVariants as message
 use Rattle.iim_places.specs.Format.Admitted.{object_of}
 use Rattle.iim_places.specs.Format.Tokens.{MayContinue, CanContinue, CanContinueAt}
 use Rattle.iim_unpack.specs.Passed.{TellsMessage, MessageRefuses}
-use Rattle.iim_unpack.specs.Passing.{octets_in-octets}
+use Rattle.iim_unpack.proofs.ToldMessage.{octets_in-octets}
 use Rattle.iim_places.specs.Format.Refusals.{message_on, cause_of_message}
 use Rattle.iim_places.specs.Format.Open.{object_so_far, section, AllCanContinue}
 use Rattle.iim_unpack.specs.States.Parts.{AreAfter, Within, StandsFor, AreLed, CountsFor}
 use Rattle.iim_unpack.specs.PartSteps.{TellsParts, PartsRefuse}
 use Rattle.iim_unpack.specs.declared.parts.Parts.{Parts}
-use Rattle.iim_places.specs.Laws.Lower.{MessageLaws}
+use Rattle.iim_unpack.specs.PartLaws.{MessageLaws}
 use Rattle.iim_places.proofs.Lasts.{not_all}
 use Rattle.iim_unpack.proofs.Sequences.{data_more}
 use Rattle.iim_places.proofs.ObjectOctets.{lives_whole}
@@ -230,10 +230,7 @@ tells_parts_object goes failures p a b run message laws k begun eight octets pas
 
 pub counts_for : (cause : MessageCause) (m n : ℕ) → wire.CountsCause m n cause → CountsFor (cause_of_message cause) m n
 counts_for messages.BadOctet m n h = h
-counts_for messages.Unfinished m n h = h
-counts_for messages.LoneReturn m n h = h
-counts_for messages.ControlOctet m n h = h
-counts_for messages.Sink m n h = h
+counts_for other m n h = h
 
 pub stopped_object : {S : Type 0} (goes : S → List story.StoryEvent → S → Type 0) (failures : S → ℕ) (p : Parts) (a b : S) (front : List ℕ) (octet : ℕ) (cause : MessageCause) → MessageLaws → (k : Head) → HasBegun p k → k.rec ≡ 8
     → MessageRefuses goes failures (p.message, a) (map object_events.ObjectOctet front) (object_events.ObjectOctet octet) (Some cause, b)

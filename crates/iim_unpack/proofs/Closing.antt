@@ -22,7 +22,8 @@ use Rattle.wire_message.specs.Laws.Messages.{ReadersStandAtLivingOctets}
 use Rattle.wire_message.specs.States.Reading as wire
 use Rattle.iim_places.specs.Format.Admitted.{object_of}
 use Rattle.iim_places.specs.Format.Tokens.{place_at, IsRefusedValue}
-use Rattle.iim_places.specs.Format.Refusals.{of_field, IsObjectFault}
+use Rattle.iim_places.specs.Format.Refusals.{of_field}
+use Rattle.iim_unpack.specs.PartSteps.{IsObjectFault}
 use Rattle.iim_places.specs.Format.Open.{object_so_far}
 use Rattle.iim_unpack.specs.States.Parts.{AreAfter, Within, CountsFor}
 use Rattle.iim_unpack.specs.PartSteps.{Closed, NotClosed}
@@ -34,7 +35,7 @@ use Rattle.iim_unpack.proofs.Carrying.{HasBegun, in_one, same_head, all_within}
 use Rattle.iim_unpack.proofs.Sequences.{end_told, all_came}
 use Rattle.iim_unpack.proofs.Heading.{quiet_field, counts_size}
 use Rattle.iim_places.proofs.Lasts.{present_last, not_all}
-use Rattle.iim_places.specs.Laws.Lower.{CloseLaws}
+use Rattle.iim_unpack.specs.PartLaws.{CloseLaws}
 use Rattle.iim_places.proofs.ObjectOctets.{object_of_more, few_more}
 
 -- ---- numbers

@@ -28,7 +28,8 @@ use Rattle.iim_object.specs.Format.Numbers.{place_after_datasets}
 use Rattle.iim_object.specs.Laws.Numbers.{TokensFollow}
 use Rattle.iim_object.specs.declared.reading.state.State.{State}
 use Rattle.iim_object.specs.declared.reading.fault.SizeCause.{SizeCause}
-use Rattle.iim_places.specs.Format.Refusals.{layer_of, of_field, size_on, too_many_on, IsObjectFault}
+use Rattle.iim_places.specs.Format.Refusals.{layer_of, of_field, size_on, too_many_on}
+use Rattle.iim_unpack.specs.PartSteps.{IsObjectFault}
 use Rattle.iim_places.specs.Format.Tokens.{HaveRoom, ObjectLives, place_at, DiesAtHead, DiesAtValue, subfile_fault, object_fault, number_fault, IsRefusedHead, IsRefusedValue}
 use Rattle.iim_places.specs.declared.fault.TokenFault.{TokenFault}
 use Rattle.iim_places.specs.declared.refusal.Layer.{Layer}

@@ -40,7 +40,8 @@ use Rattle.iim_places.specs.Format.Tokens.{IsRefusedHead, IsRefusedValue}
 use Rattle.iim_fields.specs.Format.Values.{data_of}
 use Rattle.iim_unpack.specs.UnpackerInside.{cause_of_tag, Advanced, FailsAs, IsOnward, tag_fault, begins, Stood, IsUnpacking}
 use Rattle.iim_places.specs.Format.Open.{object_so_far, AllCanContinue, IsUnfinished, IsTextOf, Delivers, IsOpen, IsBadTagAt, RefusesNext, IsTruncatedAt, truncated_in}
-use Rattle.iim_unpack.specs.States.Parts.{AreAfter, StandsFor, AreLed, Refused, RefusesAt, has_ended}
+use Rattle.iim_unpack.specs.States.Parts.{AreAfter, StandsFor, AreLed, has_ended}
+use Rattle.iim_unpack.specs.PartSteps.{Refused, RefusesAt}
 use Rattle.iim_unpack.specs.Sequence.{AreInOrder}
 use Rattle.iim_unpack.specs.Going.{front_in_order}
 use Rattle.iim_unpack.specs.Routing.{Takes, HasEnded}

@@ -45,7 +45,7 @@ use Rattle.std.proofs.lemmas.List.{length-map}
 use Rattle.iim_places.proofs.Lasts.{sections_last}
 use Rattle.iim_unpack.proofs.Ended.{ended_by_record}
 use Rattle.iim_unpack.proofs.Carrying.{counts_for, passes_on, after_all, all_after}
-use Rattle.iim_places.specs.Laws.Lower.{HeadLaws}
+use Rattle.iim_unpack.specs.PartLaws.{HeadLaws}
 
 -- What stands after a head.
 pub record Begins (new : Parts) (ds : List Dataset) (h : Head) : Type 0 where
@@ -188,22 +188,11 @@ begins_other p ds h checker other8 other9 at inside =
 
 pub quiet_field : (c : FieldCause) (n : ℕ) → CountsFor (cause_of c) n n
 quiet_field fields.RecordOrder n = refl
-quiet_field fields.UnknownDataset n = refl
-quiet_field fields.Repeated n = refl
-quiet_field fields.CountRange n = refl
-quiet_field fields.Missing n = refl
-quiet_field fields.BadValue n = refl
-quiet_field fields.FileFormat n = refl
-quiet_field fields.HeaderFull n = refl
-quiet_field fields.TooManyFields n = refl
+quiet_field other n = refl
 
 pub counts_size : (c : SizeCause) (m n : ℕ) → n ≡ m → CountsFor (cause_of_size c) m n
 counts_size sizes.ModeClash m n e = e
-counts_size sizes.SizeClash m n e = e
-counts_size sizes.SubfileTooLong m n e = e
-counts_size sizes.PastSize m n e = e
-counts_size sizes.Short m n e = e
-counts_size sizes.ConfirmedWrong m n e = e
+counts_size other m n e = e
 
 -- a head is refused, and the sink was told what is delivered of no more text
 stopped_head : {S : Type 0} (goes : S → List story.StoryEvent → S → Type 0) (failures : S → ℕ) (p : Parts) (a b : S) (h : Head) (fault : TokenFault) (more : List ℕ) → HeadLaws → has_ended p ≡ false → IsBetween p.fields

@@ -1,5 +1,5 @@
 -- An unpacker holds few octets and entries.
-use Rattle.std.proofs.Common.{◌≡◌, ℕ, ◌+◌, ◌<◌, ◌≤◌, Bool, true, false, if◌then◌else◌, nat_eq, List, [], length, Option, Some, None, refl, ap, sym, subst, ◌∙◌, inl, inr, arith}
+use Rattle.std.proofs.Common.{◌≡◌, ℕ, ◌+◌, ◌<◌, ◌≤◌, Bool, true, false, if◌then◌else◌, nat_eq, List, [], length, Option, Some, refl, ap, sym, subst, ◌∙◌, inl, inr, arith}
 use Rattle.iim_dataset.specs.Format.Datasets.{Dataset, count_octets}
 use Rattle.iim_dataset.specs.Laws.Datasets.{EventsTellTheDatasets}
 use Rattle.iim_dataset.specs.States.Places.{IsKeptAs}
@@ -27,19 +27,8 @@ use Rattle.iim_unpack.proofs.SamePlace.{told_by}
 -- ---- the message
 
 few_returns : (place : Message) → IsPlace place → returns_held place ≤ 2
-few_returns (at.Filler count) h = omega arith
-few_returns (at.Source s) h = omega arith
-few_returns (at.Number s n) h = omega arith
-few_returns (at.Priority s n) h = omega arith
-few_returns (at.PriorityRead s n p) h = omega arith
-few_returns (at.Category s n p c) h = omega arith
-few_returns (at.Words s n p c w) h = omega arith
-few_returns (at.Info h') h = omega arith
-few_returns (at.Gap h' count feed) h = omega arith
 few_returns (at.Text h' (Some held)) (k, (m, is, few)) = let same : held ≡ m = cc in omega (arith, same, few)
-few_returns (at.Text h' None) h = omega arith
-few_returns (at.Trailer h' t) h = omega arith
-few_returns (at.AfterEnd h' t count) h = omega arith
+few_returns other h = omega arith
 
 few_texts : (place : Message) → IsPlace place → texts_held (saved place) ≤ 159
 few_texts place is =

@@ -1,10 +1,11 @@
-pub mod Octets
 pub mod Blocks
 pub mod Intakes
 pub mod Faults
 pub mod Ends
 pub mod Ended
 pub mod Sequences
+pub mod ToldParts
+pub mod ToldMessage
 pub mod Carrying
 pub mod Heading
 pub mod Closing
@@ -16,9 +17,8 @@ pub mod TicketLengths
 pub mod Held
 pub mod SamePlace
 pub mod Restored
-pub mod Restoring
 pub mod Made
-pub mod PlacesTold
+pub mod MadeFor
 pub mod Saved
 mod Wholes
 mod WholeSubfiles

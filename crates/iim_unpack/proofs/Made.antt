@@ -19,7 +19,8 @@ use Rattle.iim_unpack.specs.UnpackerInside.{IsUnpacking}
 use Rattle.iim_places.specs.Format.Open.{IsOpen}
 use Rattle.iim_unpack.specs.declared.parts.Parts.{Parts}
 use Rattle.iim_unpack.proofs.Ended.{unended_inside}
-use Rattle.iim_unpack.proofs.Restored.{RestoreLaws, AreMadeFor, made_open, made_stands, made_done}
+use Rattle.iim_places.proofs.ReadersAt.{RestoreLaws}
+use Rattle.iim_unpack.proofs.Restored.{AreMadeFor, made_open, made_stands, made_done}
 
 -- What comes next is taken where the readers stand at open octets.
 takes_at : (parts : Parts) (place : DatasetPlace) (ds : List Dataset) (b : Begun) → StandsFor parts ds b → IsKeptAs place b → has_ended parts ≡ false → IsSome parts.object → IsSome parts.message → Takes parts (to_come place)

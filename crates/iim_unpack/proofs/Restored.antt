@@ -1,7 +1,5 @@
 -- Readers that were made for a possible place stand at all octets that lead there.
-use Rattle.std.proofs.Common.{◌≡◌, ℕ, zero, suc, ◌+◌, ◌-◌, ◌<◌, ◌≤◌, nat_eq, if◌then◌else◌, Bool, true, false, List, [], ◌∷◌, ◌++◌, length, Option, Some, None, IsSome, refl, ap, sym, subst, ◌∙◌, inl, inr, arith, append-nil}
-use Rattle.std.specs.List.{AllByRecursion}
-use Rattle.std.proofs.lemmas.Bool.{eqb-true}
+use Rattle.std.proofs.Common.{◌≡◌, ℕ, ◌<◌, nat_eq, if◌then◌else◌, Bool, true, false, List, [], ◌∷◌, length, IsSome, refl, ap, sym, subst, ◌∙◌, inl, inr, arith}
 use Rattle.std.proofs.lemmas.Bool.Decides.{eqb_tells}
 use Rattle.iim_dataset.specs.Format.Octets.{Octets}
 use Rattle.iim_dataset.specs.Format.Datasets.{Dataset, of_record, count_octets}
@@ -11,178 +9,48 @@ use Rattle.iim_dataset.specs.States.Places.{IsKeptAs, between}
 use Rattle.iim_dataset.specs.declared.head.Head.{Head}
 use Rattle.iim_dataset.specs.declared.place.DatasetPlace.{DatasetPlace}
 use Rattle.iim_fields.specs.Format.Alive.{SectionsLive, SectionsLiveAt}
-use Rattle.iim_fields.specs.Format.Faults.{is_kept, kept, section_after}
+use Rattle.iim_fields.specs.Format.Faults.{kept, section_after}
 use Rattle.iim_fields.specs.States.Standing as records
 use Rattle.iim_fields.specs.declared.limits.Limits.{Limits}
-use Rattle.iim_object.specs.Format.Numbers.{place_after_datasets, place_ended, ending_of}
-use Rattle.iim_object.specs.Format.Objects.{ObjectEnded, Confirmed, SubfileBegun}
-use Rattle.iim_object.specs.Format.Places.{NotEnded, place_after}
-use Rattle.iim_object.specs.Format.Places as objects
-use Rattle.iim_object.specs.Format.Plans.{max_subfiles}
-use Rattle.iim_object.specs.States.Reading as reading
-use Rattle.iim_object.specs.Format.Records.{lengths_of, numbers_of}
-use Rattle.iim_object.specs.States.Saved.{IsAt, IsPossible, stated_numbers}
-use Rattle.iim_object.specs.declared.reading.state.State.{State}
+use Rattle.iim_object.specs.Format.Numbers.{place_after_datasets}
+use Rattle.iim_object.specs.Format.Places.{NotEnded}
+use Rattle.iim_object.specs.Format.Records.{numbers_of}
+use Rattle.iim_object.specs.States.Saved.{stated_numbers}
 use Rattle.iim_object.specs.declared.size.Sizes.{Sizes}
-use Rattle.wire_story.specs.Format.Texts.{AreLines}
 use Rattle.wire_message.specs.Format.Layers.{text_so_far}
-use Rattle.wire_message.specs.Format.Messages.{Header, IsMessage}
-use Rattle.wire_message.specs.States.Reading as wire
-use Rattle.wire_message.specs.States.Saved.{LeadsToSaved, saved}
-use Rattle.wire_message.specs.States.SoFar.{LeadsTo}
-use Rattle.wire_message.specs.declared.place.Place.{Place as Message}
-use Rattle.wire_message.specs.declared.place.Place.TheVariants as at_message
-use Rattle.wire_message.specs.declared.saved.MessagePart.TheVariants as part
+use Rattle.wire_message.specs.States.Saved.{LeadsToSaved}
 use Rattle.wire_message.specs.declared.saved.MessagePlace.{MessagePlace}
 use Rattle.iim_places.specs.Format.Admitted.{Value, object_of}
-use Rattle.iim_places.specs.States.Begins.{IsSize}
-use Rattle.iim_places.specs.States.ByLayers.{LeadsByLayers, RecordsLive, record_datasets, begun_of_object, object_after, one_of_some, are_ended, begun_subfiles}
-use Rattle.iim_places.specs.Laws.Lower.{ByLayersLaws, PlaceLaws, FeedLaws}
+use Rattle.iim_places.specs.States.ByLayers.{LeadsByLayers, RecordsLive, record_datasets, one_of_some}
 use Rattle.iim_places.specs.Format.Open.{object_so_far, section, IsOpen}
 use Rattle.iim_unpack.specs.States.Parts.{AreAfter, Within, StandsFor, has_ended}
-use Rattle.iim_places.specs.Plain.{Numbers, number_list, plain}
-use Rattle.iim_unpack.specs.Restoring.{IsMadeFor, RecordsStand, MessageStands, has_come}
+use Rattle.iim_places.specs.Plain.{plain}
+use Rattle.iim_unpack.specs.Restoring.{IsMadeFor, has_come}
+use Rattle.iim_places.specs.States.Readers.{RecordsStand}
 use Rattle.iim_places.specs.Format.Streams.{IsEnvelopeWithin}
-use Rattle.iim_places.specs.Taking.{tag_place}
-use Rattle.iim_places.specs.Format.Tickets.{Place, Phase, TagBegun, AllEnded, IsPlaceOf, phase_of, place_of}
-use Rattle.iim_places.specs.Format.Tokens.{place_at, ObjectLives, CanContinue, CanContinueAt, MayContinue}
+use Rattle.iim_places.specs.Format.Tickets.{Place, IsPlaceOf, phase_of, place_of}
+use Rattle.iim_places.specs.Format.Tokens.{CanContinue, CanContinueAt, MayContinue}
 use Rattle.iim_unpack.specs.States.Unpacking.{Unpacking, Stands, IsDoneWith}
 use Rattle.iim_places.specs.States.Counts.{are_some}
 use Rattle.iim_unpack.specs.declared.parts.Parts.{Parts}
-use Rattle.iim_places.proofs.Alike.{Fits, told_by}
 use Rattle.iim_places.proofs.Answering.{one_reading, reads_envelope, goes_envelope}
 use Rattle.iim_unpack.proofs.Ended.{ended_by_record, unended_inside}
 use Rattle.iim_unpack.proofs.Feeding.{TellsSizes, done_by}
 use Rattle.iim_places.proofs.Following.{alive_of}
 use Rattle.iim_places.proofs.Lasts.{sections_last}
-use Rattle.iim_places.proofs.LayersLead.{same_stated, present_ended, front_alive}
-use Rattle.iim_places.proofs.LeadsByLayers.{whole_at, subfile_at, opened_at, confirmed_at, few_heads, few_with_head, nine_ended, one_same}
-use Rattle.iim_places.proofs.PlainOpens.{fit_in_rows, possible_of}
+use Rattle.iim_places.proofs.LayersLead.{present_ended, front_alive}
+use Rattle.iim_places.proofs.LeadsByLayers.{whole_at}
+use Rattle.iim_places.proofs.PlainOpens.{possible_of}
 use Rattle.iim_places.proofs.SamePlace.{opened, fields_after, fields_in, some_read, has_begun, none_present, less_alive}
-use Rattle.iim_places.proofs.SameRecords.{IsStated, SameRecords, same_shape, stated_after_all, stated_at}
+use Rattle.iim_places.proofs.SameRecords.{stated_after_all}
 use Rattle.iim_places.proofs.Tickets.{count_of}
-
--- by which an unpacker is made of readers
-pub record RestoreLaws : Type 0 where
-  pub layers : ByLayersLaws
-  pub places : PlaceLaws
-  pub feed : FeedLaws
-
--- ---- the records
-
--- What the datasets by which the record layer is told say of others of the same place.
-record Like (es ds : List Dataset) : Type 0 where
-  kept_are : kept es ≡ kept ds
-  same : SameRecords es ds
-
-few_subfiles : (n : ℕ) → one_of_some n ≤ max_subfiles
-few_subfiles zero = omega arith
-few_subfiles (suc n) = omega arith
-
-like : RestoreLaws → (fields : List Dataset) (numbers : Numbers) (some : ℕ) (ended : Bool) (ds : List Dataset) → AllByRecursion (λ (d : Dataset). is_kept d.rec ≡ true) fields
-    → number_list numbers ≡ stated_numbers (numbers_of (of_record 7 ds)) → SectionsLive (plain fields numbers (one_of_some some) [] ended) → SectionsLive ds → length (of_record 8 ds) ≤ max_subfiles → fields ≡ kept ds
-    → some ≡ length (of_record 8 ds) → nat_eq (section_after ds) 9 ≡ ended → Like (plain fields numbers (one_of_some some) [] ended) ds
-like laws fields numbers some ended ds keeps same alive there few fields_are some_are ended_is =
-    let es = plain fields numbers (one_of_some some) [] ended in
-    let ps = numbers_of (of_record 7 ds) in
-    let stated = stated_after_all laws.layers.opens.answer.follow.objects ds there few in
-    let is = same_stated numbers ps same in
-    let fits : Fits fields numbers (one_of_some some) [] = record { kept = keeps; fit = subst (λ (n : Numbers). AllByRecursion IsSize (number_list n)) (sym is.are) (fit_in_rows ps stated.stated.each); room = omega arith } in
-    let tell = told_by fields numbers (one_of_some some) [] ended fits in
-    let heads = tell.heads_are in
-    record {
-      kept_are = tell.kept_are ∙ fields_are;
-      same = same_shape laws.layers.opens.answer.follow laws.layers.opens.answer.numbers es ds alive there (let low = few_subfiles some in omega (arith, heads, low)) few
-          (record {
-            ended = present_ended fields numbers (one_of_some some) [] ended keeps ∙ sym ended_is;
-            fields = tell.kept_are ∙ fields_are;
-            numbers = tell.numbers_are ∙ same;
-            some = ap one_of_some heads ∙ sym (one_same some) ∙ ap one_of_some some_are;
-          });
-    }
-
--- ---- the message
-
--- where octets lead to the place after EOT, they are a whole message
-abbrev IsWholeAt : Header → List ℕ → List ℕ → List ℕ → Type 0
-IsWholeAt h trailer octets text = (head : Header) × (Some h ≡ Some head) × IsMessage octets head text trailer × AreLines text
-
-some_place : {x y : Message} → Some x ≡ Some y → x ≡ y
-some_place e = cc
-
-whole_led : (h : Header) (t : _) (count : ℕ) (octets text : List ℕ) (p : Message) → Some (at_message.AfterEnd h t count) ≡ Some p → LeadsTo octets text p → IsWholeAt h t.items octets text
-whole_led h t count octets text p same leads =
-    let here : LeadsTo octets text (at_message.AfterEnd h t count) = subst (LeadsTo octets text) (sym (some_place same)) leads in
-    (h, refl, here.spelled.0, here.story)
-
-whole_place : (reader : Option Message) (at : Message) → reader ≡ Some at → (saved at).part ≡ part.AfterEnd → wire.IsWhole reader
-whole_place reader (at_message.AfterEnd h t count) is e = subst wire.IsWhole (sym is) (λ octets text s. whole_led h t count octets text s.0 s.1 s.2)
-whole_place reader (at_message.Filler count) is e = absurd cc
-whole_place reader (at_message.Source s) is e = absurd cc
-whole_place reader (at_message.Number s n) is e = absurd cc
-whole_place reader (at_message.Priority s n) is e = absurd cc
-whole_place reader (at_message.PriorityRead s n p) is e = absurd cc
-whole_place reader (at_message.Category s n p c) is e = absurd cc
-whole_place reader (at_message.Words s n p c w) is e = absurd cc
-whole_place reader (at_message.Info h) is e = absurd cc
-whole_place reader (at_message.Gap h count feed) is e = absurd cc
-whole_place reader (at_message.Text h (Some held)) is e = absurd cc
-whole_place reader (at_message.Text h None) is e = absurd cc
-whole_place reader (at_message.Trailer h t) is e = absurd cc
-
-ended_reader : RestoreLaws → (reader : Option Message) (place : Place) (o text : List ℕ) → MessageStands reader place → LeadsToSaved o text place.message → place.message.part ≡ part.AfterEnd → wire.IsWhole reader
-ended_reader laws reader place o text stands leads last =
-    let (at, is, here) = stands o text leads in
-    let one = (laws.places.one_place o text text at leads.0 here leads.1).1 in
-    whole_place reader at is (ap (λ (m : Message). (saved m).part) one ∙ ap (λ (m : MessagePlace). m.part) leads.2 ∙ last)
-
-text_led : RestoreLaws → (reader : Option Message) (place : Place) (o text : List ℕ) → MessageStands reader place → LeadsToSaved o text place.message → wire.StandsAt reader o (text_so_far o)
-text_led laws reader place o text stands leads =
-    let is = laws.places.texts o text leads.0 leads.1 in
-    subst (wire.StandsAt reader o) is (stands o text leads)
+use Rattle.iim_places.proofs.ReadersAt.{RestoreLaws, like, ended_reader, text_led, TagPhase, base_tag, live_tag, stand_tag, present_tag, object_tag, ending_tag, same_heads, object_data, keeps, between_tag}
 
 -- ---- between datasets, or in a tag, or at the end
 
 -- what readers that were made for a place stand on
 abbrev pub AreMadeFor : Limits → ℕ → Unpacking → Place → Type 0
 AreMadeFor limits at u place = (l : LeadsByLayers place) × IsMadeFor place l.numbers limits at u
-
-less_none : (n : ℕ) → n - 0 ≡ n
-less_none n = omega arith
-
--- the same with what is begun told by a test
-abbrev TagPhase : Bool → List ℕ → Phase
-TagPhase b held = if b then AllEnded else TagBegun held
-
-base_tag : (b : Bool) (section heads : ℕ) (held : List ℕ) (fields : List Dataset) (numbers : Numbers)
-    → plain fields numbers (one_of_some (heads - begun_subfiles section (TagPhase b held))) [] (are_ended (TagPhase b held)) ≡ plain fields numbers (one_of_some heads) [] b
-base_tag true section heads held fields numbers = ap (λ (n : ℕ). plain fields numbers (one_of_some n) [] true) (less_none heads)
-base_tag false section heads held fields numbers = ap (λ (n : ℕ). plain fields numbers (one_of_some n) [] false) (less_none heads)
-
-live_tag : (b : Bool) (section : ℕ) (held : List ℕ) (ds : List Dataset) → RecordsLive section (TagPhase b held) ds → SectionsLive ds
-live_tag true section held ds live = live.1
-live_tag false section held ds live = live.1
-
-stand_tag : (b : Bool) (fields : records.FieldsPlace) (section : ℕ) (held : List ℕ) (ds : List Dataset) → RecordsStand fields section (TagPhase b held) ds → records.StandsAfter fields ds
-stand_tag true fields section held ds stand = stand
-stand_tag false fields section held ds stand = stand
-
-present_tag : (b : Bool) (section : ℕ) (held : List ℕ) (ds : List Dataset) → nat_eq (section_after ds) 9 ≡ b → RecordsLive section (TagPhase b held) ds → section_after ds ≡ section
-present_tag true section held ds ended live = eqb-true (section_after ds) 9 ended ∙ sym live.0
-present_tag false section held ds ended live = live.0
-
-object_tag : (b : Bool) (reader : Option State) (numbers : List (Option ℕ)) (section taken heads : ℕ) (held : List ℕ) (p q : objects.Place)
-    → ((p : objects.Place) → IsAt numbers taken (begun_of_object section (TagPhase b held)) heads p → IsPossible (object_after section (TagPhase b held) taken p) → reading.StandsAt reader (object_after section (TagPhase b held) taken p))
-    → IsAt numbers taken None heads p → (if b then place_after (place_after p ObjectEnded) (Confirmed taken) else p) ≡ q → IsPossible q → reading.StandsAt reader q
-object_tag true reader numbers section taken heads held p q stands at is possible = subst (reading.StandsAt reader) is (stands p at (subst IsPossible (sym is) possible))
-object_tag false reader numbers section taken heads held p q stands at is possible = subst (reading.StandsAt reader) is (stands p at (subst IsPossible (sym is) possible))
-
-ending_tag : RestoreLaws → (limits : Limits) (ds : List Dataset) → CanContinue limits ds → (b : Bool) → nat_eq (section_after ds) 9 ≡ b
-    → (if b then place_after (place_after (record (place_after_datasets ds) { ending = NotEnded }) ObjectEnded) (Confirmed (length (object_of ds))) else record (place_after_datasets ds) { ending = NotEnded }) ≡ place_after_datasets ds
-ending_tag laws limits ds goes true is =
-    let end' = confirmed_at laws.layers.opens ds goes.records goes.within.subfiles goes.object is in
-    λ i. record { stated = numbers_of (of_record 7 ds); lengths = lengths_of (of_record 8 ds); ending = sym end' i }
-ending_tag laws limits ds goes false is = opened_at ds (nine_ended laws.layers.opens ds goes.records is)
 
 -- Readers that were made for the place of whole datasets, and perhaps a tag, stand after them.
 after_datasets : RestoreLaws → (limits : Limits) (at : ℕ) (u : Unpacking) (ds : List Dataset) (held : List ℕ) (m : MessagePlace) (text : List ℕ) → AreMadeFor limits at u (place_of ds (InTag held) m) → CanContinue limits ds
@@ -211,40 +79,6 @@ after_datasets laws limits at u ds held m text (l, made) goes leads =
 
 -- ---- in data
 
-same_heads : (n : ℕ) (b : Bool) → (n + (if b then 1 else 0)) - (if b then 1 else 0) ≡ n
-same_heads n true = omega arith
-same_heads n false = omega arith
-
-object_data : RestoreLaws → (limits : Limits) (reader : Option State) (ds : List Dataset) (h : Head) (xs : List ℕ) → CanContinueAt limits ds h → nat_eq (section_after ds) 9 ≡ false → length xs < h.count
-    → ((p : objects.Place) → IsAt (stated_numbers (numbers_of (of_record 7 ds))) (length (object_of ds ++ (if nat_eq h.rec 8 then xs else []))) (if nat_eq h.rec 8 then Some (h.count, h.count - length xs) else None)
-    (length (of_record 8 ds) + (if nat_eq h.rec 8 then 1 else 0)) p → IsPossible (if nat_eq h.rec 9 then place_after p ObjectEnded else p) → reading.StandsAt reader (if nat_eq h.rec 9 then place_after p ObjectEnded else p))
-    → reading.StandsAt reader (place_at ds h)
-object_data laws limits reader ds h xs goes open' less = by (nat_eq h.rec 8) (nat_eq h.rec 9) refl refl
-    (stated_at laws.layers.opens.answer.follow.objects ds h goes.records goes.within.subfiles goes.room.subfiles) goes.object
-  where
-    none : ending_of (of_record 9 ds) ≡ NotEnded
-    none = nine_ended laws.layers.opens ds (less_alive ds h goes.records) open'
-
-    at : Bool → Bool → objects.Place
-    at b c = if b then place_after (place_after_datasets ds) (SubfileBegun h.count) else if c then place_ended ds else place_after_datasets ds
-
-    by : (b c : Bool) → nat_eq h.rec 8 ≡ b → nat_eq h.rec 9 ≡ c → IsStated (at b c) → ObjectLives (at b c)
-        → ((p : objects.Place) → IsAt (stated_numbers (numbers_of (of_record 7 ds))) (length (object_of ds ++ (if b then xs else []))) (if b then Some (h.count, h.count - length xs) else None) (length (of_record 8 ds) + (if b then 1 else 0)) p
-        → IsPossible (if c then place_after p ObjectEnded else p) → reading.StandsAt reader (if c then place_after p ObjectEnded else p))
-        → reading.StandsAt reader (at b c)
-    by true true eight nine stated lives stands = absurd (let e = eqb-true h.rec 8 eight in let f = eqb-true h.rec 9 nine in omega (arith, e, f))
-    by true false eight nine stated lives stands =
-        let is : place_after (record (place_after_datasets ds) { ending = NotEnded }) (SubfileBegun h.count) ≡ place_after (place_after_datasets ds) (SubfileBegun h.count) = ap (λ (p : objects.Place). place_after p (SubfileBegun h.count)) (opened_at ds none) in
-        subst (reading.StandsAt reader) is
-        (stands (place_after (record (place_after_datasets ds) { ending = NotEnded }) (SubfileBegun h.count)) (subfile_at ds h xs less)
-        (subst IsPossible (sym is) (possible_of (place_after (place_after_datasets ds) (SubfileBegun h.count)) stated (few_with_head limits ds h goes eight) lives)))
-    by false true eight nine stated lives stands =
-        stands (record (place_after_datasets ds) { ending = NotEnded }) (whole_at ds (length (object_of ds ++ [])) (length (of_record 8 ds) + 0) (ap length (append-nil (object_of ds))) (omega arith)) (possible_of (place_ended ds) stated (few_heads limits ds h goes) lives)
-    by false false eight nine stated lives stands =
-        subst (reading.StandsAt reader) (opened_at ds none)
-        (stands (record (place_after_datasets ds) { ending = NotEnded }) (whole_at ds (length (object_of ds ++ [])) (length (of_record 8 ds) + 0) (ap length (append-nil (object_of ds))) (omega arith))
-        (subst IsPossible (sym (opened_at ds none)) (possible_of (place_after_datasets ds) stated (few_heads limits ds h goes) lives)))
-
 -- Readers that were made for the place of whole datasets and a begun one stand in it.
 within_data : RestoreLaws → (limits : Limits) (at : ℕ) (u : Unpacking) (ds : List Dataset) (h : Head) (xs : List ℕ) (m : MessagePlace) (text : List ℕ) → AreMadeFor limits at u (place_of ds (InData h xs) m) → CanContinueAt limits ds h
     → nat_eq (section_after ds) 9 ≡ false → Octets xs → length xs < h.count → LeadsToSaved (object_so_far ds (InData h xs)) text m → Within u.parts ds h xs
@@ -265,16 +99,6 @@ within_data laws limits at u ds h xs m text (l, made) goes open' octets less lea
       message = text_led laws u.parts.message (place_of ds (InData h xs) m) (object_so_far ds (InData h xs)) text made.message leads;
       ended = λ nine. ended_reader laws u.parts.message (place_of ds (InData h xs) m) (object_so_far ds (InData h xs)) text made.message leads (l.message.4 nine);
     }
-
--- ---- the reader of tags
-
-keeps_tag : (b : Bool) (place : DatasetPlace) (section : ℕ) (held : List ℕ) → b ≡ false → place ≡ tag_place section (TagPhase b held) → IsKeptAs place (InTag held)
-keeps_tag true place section held e is = absurd cc
-keeps_tag false place section held e is = subst (λ (x : DatasetPlace). IsKeptAs x (InTag held)) (sym is) refl
-
-keeps : (place : DatasetPlace) (p : List ℕ) (ds : List Dataset) (b : Begun) → Reads count_octets p ds b → nat_eq (section_after ds) 9 ≡ false → place ≡ tag_place (section ds b) (phase_of ds b) → IsKeptAs place b
-keeps place p ds (InTag held) reads open' is = keeps_tag (nat_eq (section_after ds) 9) place (section_after ds) held open' is
-keeps place p ds (InData h xs) reads open' is = subst (λ (x : DatasetPlace). IsKeptAs x (InData h xs)) (sym is) (refl, (let less = reads.is_rest.2 in omega (arith, less)))
 
 -- ---- whether an octet has come
 
@@ -341,10 +165,6 @@ made_stands laws place limits at u made p is opens =
     }
 
 -- ---- envelopes
-
-between_tag : (b : Bool) (place : DatasetPlace) (section : ℕ) → b ≡ true → place ≡ tag_place section (TagPhase b []) → place ≡ between
-between_tag true place section e is = is
-between_tag false place section e is = absurd cc
 
 -- An unpacker that was made for a place is done with all octets that lead there and are an envelope.
 pub made_done : RestoreLaws → (place : Place) (limits : Limits) (at : ℕ) (u : Unpacking) (s : Sizes) → AreMadeFor limits at u place → TellsSizes u s → IsSome u.parts.object → IsSome u.parts.message

@@ -7,6 +7,7 @@ use Rattle.iim_dataset.specs.Format.Splits.{Begun, InTag, InData}
 use Rattle.iim_dataset.specs.States.Events.{DatasetEvent, HeadRead, DataOctet, DatasetEnd, events_of, handed_on}
 use Rattle.iim_dataset.specs.States.Places.{HandsOn}
 use Rattle.iim_dataset.specs.declared.head.Head.{Head}
+use Rattle.iim_dataset.proofs.Telling.{same_data}
 use Rattle.iim_fields.specs.Format.Values.{data_of}
 use Rattle.iim_unpack.specs.Sequence.{AreInOrder}
 
@@ -62,17 +63,6 @@ handed_in_order octets events (InData h taken) hands = record {
 }
 
 -- ---- where a dataset ends
-
--- the data before an end, and what follows it, are determined
-same_data : (xs ys : List ℕ) (r s : List DatasetEvent) → map DataOctet xs ++ DatasetEnd ∷ r ≡ map DataOctet ys ++ DatasetEnd ∷ s → (xs ≡ ys) × (r ≡ s)
-same_data [] [] r s e = (refl, cc)
-same_data [] (y ∷ ys) r s e = absurd cc
-same_data (x ∷ xs) [] r s e = absurd cc
-same_data (x ∷ xs) (y ∷ ys) r s e =
-    let rests : map DataOctet xs ++ DatasetEnd ∷ r ≡ map DataOctet ys ++ DatasetEnd ∷ s = cc in
-    let more = same_data xs ys r s rests in
-    let tails : xs ≡ ys = more.0 in
-    (cc, more.1)
 
 -- the first dataset, and what follows it
 first_then : (d : Dataset) (es : List DatasetEvent) → events_of d ++ es ≡ HeadRead (head_of d) ∷ (map DataOctet d.octets ++ DatasetEnd ∷ es)

@@ -19,8 +19,9 @@ use Rattle.wire_message.specs.declared.place.Place.{Place}
 use Rattle.wire_story.specs.Format.Delivery as story
 use Rattle.iim_unpack.specs.States.Parts.{has_ended}
 use Rattle.iim_places.specs.Format.Refusals.{message_on}
-use Rattle.iim_unpack.specs.Going.{tells_parts_closed, tells_parts_joined, tells_parts_whole, stopped_joined}
-use Rattle.iim_places.specs.Laws.Lower.{CloseLaws, HeadLaws, MessageLaws}
+use Rattle.iim_unpack.proofs.ToldParts.{tells_parts_closed, tells_parts_whole}
+use Rattle.iim_unpack.specs.Going.{tells_parts_joined, stopped_joined}
+use Rattle.iim_unpack.specs.PartLaws.{CloseLaws, HeadLaws, MessageLaws}
 use Rattle.iim_unpack.specs.PartSteps.{TakesHead, TellsParts, TellsWhole, PartsRefuse}
 use Rattle.iim_unpack.specs.Routing.{HasEnded, Takes, TookWhole}
 use Rattle.iim_unpack.specs.Passed.{TellsMessage, MessageRefuses, HasFewSubfiles}

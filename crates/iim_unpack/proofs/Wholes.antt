@@ -23,7 +23,7 @@ use Rattle.iim_places.specs.Format.Tokens.{place_at}
 use Rattle.iim_unpack.specs.States.Parts.{AreAfter, has_ended}
 use Rattle.iim_unpack.specs.PartSteps.{TakesHead, TellsWhole}
 use Rattle.iim_unpack.specs.Routing.{HasEnded}
-use Rattle.iim_places.specs.Laws.Lower.{CloseLaws}
+use Rattle.iim_unpack.specs.PartLaws.{CloseLaws}
 use Rattle.iim_unpack.specs.declared.parts.Parts.{Parts}
 use Rattle.iim_places.proofs.Objects.{records_alive}
 use Rattle.iim_places.proofs.Places.{silent_leads}

@@ -12,9 +12,9 @@ pub mod Passed
 pub mod Passing
 pub mod Sequence
 pub mod PartSteps
+pub mod PartLaws
 pub mod Going
 pub mod Routing
 pub mod TicketReading
 pub mod Restoring
-pub mod Nowhere
 pub mod PiecesSoFar

@@ -1,17 +1,12 @@
 -- Events told one after another are told joined.
-use Rattle.std.proofs.Common.{◌≡◌, ℕ, Bool, true, false, List, [], ◌∷◌, ◌++◌, map, Option, Some, IsSome, refl, ap, sym, subst, ◌∙◌, append_assoc, append-nil, length, ◌==◌, arith}
+use Rattle.std.proofs.Common.{◌≡◌, ℕ, Bool, true, false, List, [], ◌∷◌, ◌++◌, Option, IsSome, refl, ap, sym, subst, ◌∙◌, append_assoc, append-nil}
 use Rattle.std.proofs.lemmas.List.Concat.{flat_map-append}
-use Rattle.std.proofs.lemmas.Bool.{eqb-true}
 use Rattle.iim_object.specs.Format.Events.{ObjectEvent, ObjectOctet, ObjectEnd}
 use Rattle.wire_story.specs.Format.Delivery as story
-use Rattle.wire_message.specs.Format.Layers.{MessageDiesAt}
-use Rattle.wire_message.specs.States.Reading.{StandsAt, LeadsOn, GoesSomewhere, CountsCause, IsWhole}
-use Rattle.wire_message.specs.Format.Causes.{HasCause}
+use Rattle.wire_message.specs.States.Reading.{StandsAt, LeadsOn, CountsCause}
 use Rattle.wire_message.specs.States.SoFar.{LeadsTo}
 use Rattle.wire_message.specs.declared.place.Place.{Place}
 use Rattle.wire_message.specs.declared.fault.MessageCause.{MessageCause}
-use Rattle.wire_message.specs.declared.fault.MessageCause.TheVariants.{Unfinished}
-use Rattle.wire_story.specs.Format.Tokens.{End}
 use Rattle.iim_unpack.specs.Passed.{octets_in, end_is_last, TellsMessage, HasCauseAt, MessageRefuses}
 
 pub octets_in-append : (xs ys : List ObjectEvent) → octets_in (xs ++ ys) ≡ octets_in xs ++ octets_in ys
@@ -19,23 +14,15 @@ octets_in-append [] ys = refl
 octets_in-append (ObjectOctet b ∷ xs) ys = ap (λ zs. b ∷ zs) (octets_in-append xs ys)
 octets_in-append (ObjectEnd ∷ xs) ys = octets_in-append xs ys
 
-pub octets_in-octets : (xs : List ℕ) → octets_in (map ObjectOctet xs) ≡ xs
-octets_in-octets [] = refl
-octets_in-octets (x ∷ xs) = ap (λ zs. x ∷ zs) (octets_in-octets xs)
-
 pub is_ended-append : (b : Bool) (xs ys : List ObjectEvent) → end_is_last b (xs ++ ys) ≡ end_is_last (end_is_last b xs) ys
 is_ended-append b [] ys = refl
 is_ended-append b (ObjectOctet x ∷ xs) ys = is_ended-append false xs ys
 is_ended-append b (ObjectEnd ∷ xs) ys = is_ended-append true xs ys
 
-not_ended : (xs : List ℕ) → end_is_last false (map ObjectOctet xs) ≡ false
-not_ended [] = refl
-not_ended (x ∷ xs) = not_ended xs
-
 pub delivered-append : (x y : List ℕ) → story.delivered (x ++ y) ≡ story.delivered x ++ story.delivered y
 delivered-append x y = flat_map-append story.events_of x y
 
-goes_nowhere : (old : Option Place) → LeadsOn old [] [] old
+pub goes_nowhere : (old : Option Place) → LeadsOn old [] [] old
 goes_nowhere old octets text at = subst (λ (t : List ℕ). StandsAt old (octets ++ []) t) (sym (append-nil text)) (subst (λ (o : List ℕ). StandsAt old o text) (sym (append-nil octets)) at)
 
 pub tells_message_nothing : {S : Type 0} (goes : S → List story.StoryEvent → S → Type 0) (failures : S → ℕ) (old : Option Place) (a : S) → IsSome old → goes a [] a → TellsMessage goes failures old a [] old a
@@ -83,63 +70,3 @@ message_refuses_joined goes failures joined p q a b c xs ys refused cause h k = 
       subst (λ (o : List ℕ). HasCauseAt k.why o refused) (append_assoc octets (octets_in xs) (octets_in ys) ∙ ap (λ zs. octets ++ zs) (sym (octets_in-append xs ys)))
       (k.has_cause (octets ++ octets_in xs) (text ++ h.more) (h.stands octets text at));
 }
-
--- one run of octets, at least one
-pub tells_message_octets : {S : Type 0} (goes : S → List story.StoryEvent → S → Type 0) (failures : S → ℕ) (old new : Option Place) (a b : S) (run : List ℕ) (more : List ℕ)
-    → (run ≡ [] → ⊥) → IsSome new → goes a (story.delivered more) b → failures b ≡ failures a → LeadsOn old run more new → TellsMessage goes failures old a (map ObjectOctet run) new b
-tells_message_octets goes failures old new a b [] more some takes told calm stands = absurd (some refl)
-tells_message_octets goes failures old new a b (x ∷ xs) more some takes told calm stands = record {
-  takes_calls = takes;
-  more = more;
-  told = told;
-  calm = calm;
-  stands = subst (λ (o : List ℕ). LeadsOn old o more new) (sym (octets_in-octets (x ∷ xs))) stands;
-  whole = λ before w e. let bad : true ≡ false = sym e ∙ not_ended xs in cc;
-}
-
-pub tells_message_end : {S : Type 0} (goes : S → List story.StoryEvent → S → Type 0) (failures : S → ℕ) (old : Option Place) (a : S) → IsSome old → goes a [] a → IsWhole old
-    → TellsMessage goes failures old a (ObjectEnd ∷ []) old a
-tells_message_end goes failures old a some g whole = record {
-  takes_calls = some;
-  more = [];
-  told = g;
-  calm = refl;
-  stands = goes_nowhere old;
-  whole = λ before w e. whole;
-}
-
-pub message_refuses_octet : {S : Type 0} (goes : S → List story.StoryEvent → S → Type 0) (failures : S → ℕ) (old : Option Place) (a b : S) (front : List ℕ) (octet : ℕ) (why : MessageCause) (more : List ℕ)
-    → goes a (story.delivered more) b → CountsCause (failures a) (failures b) why → GoesSomewhere old front more
-    → ((octets text : List ℕ) → StandsAt old octets text → HasCause why (octets ++ front) octet) → MessageRefuses goes failures (old, a) (map ObjectOctet front) (ObjectOctet octet) (Some why, b)
-message_refuses_octet goes failures old a b front octet why more told counts leads has = record {
-  why = why;
-  is_cause = refl;
-  more = more;
-  told = told;
-  counts = counts;
-  leads = subst (λ (o : List ℕ). GoesSomewhere old o more) (sym (octets_in-octets front)) leads;
-  has_cause = subst (λ (o : List ℕ). (octets text : List ℕ) → StandsAt old octets text → HasCause why (octets ++ o) octet) (sym (octets_in-octets front)) has;
-}
-
--- a reader that takes calls stands somewhere: its octets so far lead there
-leads_nowhere : (old : Option Place) → GoesSomewhere old [] []
-leads_nowhere old octets text (place, is, leads) =
-    (place, subst (λ (t : List ℕ). LeadsTo (octets ++ []) t place) (sym (append-nil text)) (subst (λ (o : List ℕ). LeadsTo o text place) (sym (append-nil octets)) leads))
-
-pub message_refuses_end : {S : Type 0} (goes : S → List story.StoryEvent → S → Type 0) (failures : S → ℕ) (old : Option Place) (a : S) (why : MessageCause) → IsSome old → why ≡ Unfinished → goes a [] a
-    → ((octets text : List ℕ) → StandsAt old octets text → MessageDiesAt octets End) → MessageRefuses goes failures (old, a) [] ObjectEnd (Some why, a)
-message_refuses_end goes failures old a why some is g dies = record {
-  why = why;
-  is_cause = refl;
-  more = [];
-  told = g;
-  counts = subst (λ (c : MessageCause). CountsCause (failures a) (failures a) c) (sym is) refl;
-  leads = leads_nowhere old;
-  has_cause = λ octets text at. (is, subst (λ (o : List ℕ). MessageDiesAt o End) (sym (append-nil octets)) (dies octets text at));
-}
-
--- an empty run
-pub tells_message_empty : {S : Type 0} (goes : S → List story.StoryEvent → S → Type 0) (failures : S → ℕ) (old : Option Place) (a : S) (run : List ℕ) → true ≡ (length run == 0) → IsSome old → goes a [] a
-    → TellsMessage goes failures old a (map ObjectOctet run) old a
-tells_message_empty goes failures old a [] none some g = tells_message_nothing goes failures old a some g
-tells_message_empty goes failures old a (x ∷ xs) none some g = absurd (let is = eqb-true (length (x ∷ xs)) 0 (sym none) in omega (arith, is))

@@ -4,7 +4,7 @@ ghost use Rattle.std.specs.Prelude.{◌≡◌, ℕ, List, None};
 ghost use Rattle.iim_unpack.specs.States.Held.{HoldsFew};
 ghost use Rattle.iim_unpack.specs.States.Unpacking.{IsDone, IsDoneWith, Stands};
 ghost use Rattle.iim_unpack.specs.Laws.Places.{RestoredStandAsSaved};
-ghost use Rattle.iim_places.specs.Laws.Lower.{CloseLaws, HeadLaws, MessageLaws};
+ghost use Rattle.iim_unpack.specs.PartLaws.{CloseLaws, HeadLaws, MessageLaws};
 ghost use Rattle.iim_unpack.specs.Laws.Tickets.{UnpackersStandByPlace};
 ghost use Rattle.iim_unpack.specs.Restoring.{ReadersMakeUnpackers};
 

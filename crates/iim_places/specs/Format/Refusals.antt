@@ -1,13 +1,10 @@
 -- How the faults of the layers are told.
-use Rattle.std.specs.Prelude.{◌≡◌, ℕ, List, [], ◌∷◌, get_or, Option}
+use Rattle.std.specs.Prelude.{ℕ, List, [], ◌∷◌, get_or}
 use Rattle.iim_dataset.specs.Format.Splits.{Begun, InTag, InData}
 use Rattle.iim_dataset.specs.declared.head.Head.{Head}
 use Rattle.iim_fields.specs.declared.fault.FieldFault.{FieldFault}
 use Rattle.iim_fields.specs.declared.fault.FieldCause.{FieldCause}
 use Rattle.iim_fields.specs.declared.fault.FieldCause.TheVariants as fields
-use Rattle.iim_object.specs.Format.Objects.{ObjectToken}
-use Rattle.iim_object.specs.States.Reading.{Refuses}
-use Rattle.iim_object.specs.declared.reading.state.State.{State}
 use Rattle.iim_object.specs.declared.reading.fault.SizeCause.{SizeCause}
 use Rattle.iim_object.specs.declared.reading.fault.SizeCause.TheVariants as sizes
 use Rattle.wire_message.specs.declared.fault.MessageCause.{MessageCause}
@@ -93,9 +90,3 @@ begun_number (InData h taken) = h.set
 abbrev pub tag_cause : List ℕ → Cause
 tag_cause [] = causes.Marker
 tag_cause (x ∷ xs) = causes.CountForm
-
--- ---- the object
-
--- The object refused the token: the layer dies with it wherever the reader stands, and the fault tells the first cause.
-abbrev pub IsObjectFault : Option State → ObjectToken → Head → TokenFault → Type 0
-IsObjectFault old token h fault = (cause : SizeCause) × Refuses old token cause × (fault ≡ size_on h cause)

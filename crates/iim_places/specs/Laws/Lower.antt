@@ -1,11 +1,11 @@
 -- The laws of the lower crates, bundled by what rests on them.
 use Rattle.iim_dataset.specs.Laws.Datasets.{CanonicalStreamsAreSpelled, NoTagBeginsAnother, NoDatasetBeginsAnother, NoOctetsContinue, OctetsAreHandedOnOneWay, EventsTellTheDatasets, WhatAnOctetCompletes}
-use Rattle.iim_fields.specs.Laws.Records.{EnvelopesEndWithTheLastRecord, HeadsDieWithTheirFault, NoSectionsBeginOthers, ValuesDieWithTheirFault}
+use Rattle.iim_fields.specs.Laws.Records.{EnvelopesEndWithTheLastRecord, NoSectionsBeginOthers, ValuesDieWithTheirFault}
 use Rattle.iim_object.specs.Laws.Numbers.{TokensFollow, OthersLeadNowhere, NumbersLead, SubfilesLead, EndsLead, DatasetsLiveWithTheirTokens, DatasetsEndWithTheirTokens, RecordsAreByNumber}
 use Rattle.iim_object.specs.Laws.Packing.{NumberDatasetsAreGood}
 use Rattle.iim_object.specs.Laws.Living.{NumbersLiveWithoutClash, ObjectsEndWhereTheyAreWhole, SubfilesLiveWhileTheyFit, TotalsAreConfirmed}
 use Rattle.wire_story.specs.Laws.Texts.{TextsSoFarHaveOneReading}
-use Rattle.wire_message.specs.Laws.Messages.{LivingOctetsLeadOn, MessagesEndAfterEot, OctetsAreRefusedAlike, OctetsLeadOnAlike, OctetsLeadToOnePlace, PlacesAreSavedApart, ReadersStandAtLivingOctets, TextsStandBetweenStxAndEtx}
+use Rattle.wire_message.specs.Laws.Messages.{MessagesEndAfterEot, OctetsLeadToOnePlace, PlacesAreSavedApart, ReadersStandAtLivingOctets, TextsStandBetweenStxAndEtx}
 
 -- how datasets lead the object from place to place
 pub record ObjectLaws : Type 0 where
@@ -14,26 +14,6 @@ pub record ObjectLaws : Type 0 where
   pub numbers : NumbersLead
   pub subfiles : SubfilesLead
   pub ends : EndsLead
-
--- by which octets go to the message
-pub record MessageLaws : Type 0 where
-  pub texts : TextsStandBetweenStxAndEtx
-  pub living : ReadersStandAtLivingOctets
-  pub sections : NoSectionsBeginOthers
-
--- by which heads go to the parts of an unpacker
-pub record HeadLaws : Type 0 where
-  pub objects : ObjectLaws
-  pub heads : HeadsDieWithTheirFault
-  pub message : MessageLaws
-  pub ends : EnvelopesEndWithTheLastRecord
-
--- by which datasets end
-pub record CloseLaws : Type 0 where
-  pub objects : ObjectLaws
-  pub values : ValuesDieWithTheirFault
-  pub living : ReadersStandAtLivingOctets
-  pub sections : NoSectionsBeginOthers
 
 -- by which an unpacker continues
 pub record FeedLaws : Type 0 where
@@ -91,12 +71,3 @@ pub record PlaceLaws : Type 0 where
 pub record ByLayersLaws : Type 0 where
   pub opens : OpenLaws
   pub ends : MessagesEndAfterEot
-
--- by which octets of one place continue alike
-pub record OnwardLaws : Type 0 where
-  pub opens : OpenLaws
-  pub places : PlaceLaws
-  pub on : LivingOctetsLeadOn
-  pub alike : OctetsLeadOnAlike
-  pub ends : MessagesEndAfterEot
-  pub refused : OctetsAreRefusedAlike

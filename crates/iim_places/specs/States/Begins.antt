@@ -2,7 +2,7 @@
 use Rattle.std.specs.Prelude.{◌≡◌, ℕ, ◌^◌, ◌<◌, List, length, Option, Some, None, ⊤}
 use Rattle.std.specs.List.{AllByRecursion}
 use Rattle.iim_dataset.specs.Format.Datasets.{Dataset}
-use Rattle.iim_places.specs.Format.Tickets.{width, present_version}
+use Rattle.iim_places.specs.Format.Tickets.{width}
 
 -- a dataset whose length four octets tell
 abbrev pub IsLongField : Dataset → Type 0
@@ -17,17 +17,9 @@ abbrev pub IsSizeIn : ℕ → Option ℕ → Type 0
 IsSizeIn version None = ⊤
 IsSizeIn version (Some n) = IsWide version n
 
--- one that the octets of the present version tell
-abbrev pub IsSize : Option ℕ → Type 0
-IsSize o = IsSizeIn present_version o
-
 -- a text whose length one octet tells
 abbrev pub IsShort : List ℕ → Type 0
 IsShort xs = length xs < 256
-
--- a dataset of these numbers
-abbrev pub dataset : ℕ → ℕ → List ℕ → Dataset
-dataset rec set octets = record { rec = rec; set = set; octets = octets }
 
 -- datasets whose number four octets tell
 pub record AreFields (ds : List Dataset) : Type 0 where
@@ -38,9 +30,6 @@ pub record AreFields (ds : List Dataset) : Type 0 where
 pub record AreNumbersIn (version : ℕ) (numbers : List (Option ℕ)) : Type 0 where
   pub each : AllByRecursion (IsSizeIn version) numbers
   pub four : length numbers ≡ 4
-
-abbrev pub AreNumbers : List (Option ℕ) → Type 0
-AreNumbers numbers = AreNumbersIn present_version numbers
 
 -- source, number, priority, category, words, info and trailer
 pub record AreTexts (texts : List (List ℕ)) : Type 0 where

@@ -1,31 +1,24 @@
 -- Where the parts of an unpacker stand.
-use Rattle.std.specs.Prelude.{◌≡◌, ℕ, ◌<◌, ◌≤◌, ◌==◌, ◌&&◌, ◌⊎◌, if◌then◌else◌, Bool, List, [], ◌++◌, length, is_none}
+use Rattle.std.specs.Prelude.{◌≡◌, ℕ, ◌<◌, ◌≤◌, ◌==◌, ◌&&◌, if◌then◌else◌, Bool, List, [], length, is_none}
 use Rattle.iim_dataset.specs.Format.Octets.{Octets}
 use Rattle.iim_dataset.specs.Format.Datasets.{Dataset, of_record}
 use Rattle.iim_dataset.specs.Format.Counts.{Rose}
 use Rattle.iim_dataset.specs.Format.Splits.{Begun, InTag, InData}
-use Rattle.iim_dataset.specs.States.Events.{DatasetEvent, HeadRead, DataOctet, DatasetEnd, handed_on}
+use Rattle.iim_dataset.specs.States.Events.{DatasetEvent, handed_on}
 use Rattle.iim_dataset.specs.declared.head.Head.{Head}
-use Rattle.iim_fields.specs.Format.Records.{AreSections}
 use Rattle.iim_fields.specs.Format.Faults.{section_after}
 use Rattle.iim_fields.specs.States.Standing as records
-use Rattle.iim_fields.specs.Format.Values.{data_of}
-use Rattle.iim_fields.specs.declared.limits.Limits.{Limits}
 use Rattle.iim_object.specs.Format.Plans.{max_subfiles}
 use Rattle.iim_object.specs.States.Reading as objects
 use Rattle.iim_object.specs.Format.Numbers.{place_after_datasets}
 use Rattle.wire_message.specs.Format.Layers.{text_so_far}
 use Rattle.wire_message.specs.States.Reading as wire
-use Rattle.wire_message.specs.Format.Causes as wire_format
-use Rattle.wire_message.specs.declared.fault.MessageCause.{MessageCause}
 use Rattle.iim_places.specs.Format.Admitted.{object_of}
-use Rattle.iim_places.specs.Format.Tokens.{place_at, IsRefusedHead, IsRefusedValue}
-use Rattle.iim_places.specs.Format.Refusals.{message_on}
-use Rattle.iim_places.specs.declared.fault.TokenFault.{TokenFault}
+use Rattle.iim_places.specs.Format.Tokens.{place_at}
 use Rattle.iim_unpack.specs.declared.parts.Parts.{Parts}
 use Rattle.iim_places.specs.declared.refusal.Cause.{Cause}
 use Rattle.iim_places.specs.declared.refusal.Cause.TheVariants.{Sink}
-use Rattle.iim_places.specs.Format.Open.{object_so_far, AllCanContinue, IsUnfinished}
+use Rattle.iim_places.specs.Format.Open.{object_so_far}
 
 -- ---- where the parts stand
 
@@ -69,23 +62,3 @@ has_ended parts = (records.section_of parts.fields == 9) && is_none (records.beg
 abbrev pub CountsFor : Cause → ℕ → ℕ → Type 0
 CountsFor Sink old new = Rose old new
 CountsFor _ old new = new ≡ old
-
--- why an event is refused after whole datasets and a begun one
-abbrev pub RefusesAt : Limits → List Dataset → Begun → DatasetEvent → TokenFault → Type 0
-RefusesAt limits ds (InTag held) (HeadRead h) fault = IsRefusedHead limits ds h fault ⊎ IsUnfinished limits ds h fault
-RefusesAt limits ds (InTag held) (DataOctet b) fault = ⊥
-RefusesAt limits ds (InTag held) DatasetEnd fault = ⊥
-RefusesAt limits ds (InData h taken) (HeadRead k) fault = ⊥
-RefusesAt limits ds (InData h taken) (DataOctet b) fault =
-    (h.rec ≡ 8) × ((cause : MessageCause) × wire_format.HasCause cause (object_of ds ++ taken) b × (fault ≡ message_on h cause))
-RefusesAt limits ds (InData h taken) DatasetEnd fault = (h.rec ≡ 8 → ⊥) × IsRefusedValue ds (data_of h taken) fault
-
--- The event is refused after those, of which this is the text.
-pub record Refused (limits : Limits) (events : List DatasetEvent) (text : List ℕ) (event : DatasetEvent) (fault : TokenFault) : Type 0 where
-  pub whole : List Dataset
-  pub begun : Begun
-  pub told : events ≡ handed_on whole begun
-  pub is_text : text ≡ text_so_far (object_so_far whole begun)
-  pub leads_on : AllCanContinue limits whole begun
-  pub unfinished : AreSections whole → ⊥
-  pub refuses : RefusesAt limits whole begun event fault

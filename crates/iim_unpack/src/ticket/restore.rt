@@ -1,110 +1,28 @@
 //! An unpacker, made again from a ticket.
 
-ghost use Rattle.std.specs.Prelude.{◌≡◌, ◌+◌, ℕ, List, length, IfSome, IfNone, IfOk, IfErr};
-ghost use Rattle.iim_dataset.specs.Format.Datasets.{Dataset};
-ghost use Rattle.iim_fields.specs.Format.Faults.{joined};
+ghost use Rattle.std.specs.Prelude.{IfSome, IfNone, IfOk, IfErr, ◌≡◌, ℕ, List};
 ghost use Rattle.iim_fields.specs.Format.Bounds.{IsWithin};
-ghost use Rattle.iim_fields.specs.States.Standing.{StandsAfter, StandsIn, limits_of, room_for, room_of};
-ghost use Rattle.iim_places.specs.States.Begins.{AreNumbers};
-ghost use Rattle.iim_places.specs.States.ByLayers.{TagsLead, RecordsLive, are_ended};
-ghost use Rattle.iim_places.specs.States.Possible.{begun_count, begun_fields};
-ghost use Rattle.iim_unpack.specs.Restoring.{AreAtIn, RecordsStand, MayBegin, AreWithinWith, HasFew, IsLimitFault, has_come};
+ghost use Rattle.iim_fields.specs.States.Standing.{room_for};
+ghost use Rattle.iim_unpack.specs.Restoring.{IsLimitFault, has_come};
+ghost use Rattle.iim_places.specs.States.Readers.{AreAtIn};
 ghost use Rattle.iim_unpack.specs.States.Restored.{IsRestored};
 ghost use Rattle.iim_places.specs.States.Restored.{IsRestoreFault};
-ghost use Rattle.iim_places.specs.Taking.{AreKept, told_datasets};
 ghost use Rattle.iim_places.specs.Format.TicketForm.{HasForm, SplitsTicket};
 ghost use Rattle.iim_places.specs.States.TicketsTold.{phase_told, split_told};
 ghost use Rattle.iim_unpack.specs.States.Unpacking.{room_in};
 
 use crate::laws::readers_make_unpackers;
 use crate::parts::Parts;
-use crate::ticket::possible::{Readers, readers_at, some_ended};
-use crate::ticket::readers::has_ended;
-use crate::ticket::taker::take_told;
 use crate::unpacker::Unpacker;
-use iim_dataset::Head;
-use iim_fields::{FieldCause, Fields, Limits};
+use iim_fields::{FieldCause, Limits};
 use iim_places::laws::{
     places_are_possible_by_layers, small_places_were_possible, tickets_have_one_split,
     tickets_of_places_are_split,
 };
-use iim_places::{TicketFault, TicketFields, TicketParts, TicketPhase, split_ticket};
-use iim_tables::records::OBJECT;
+use iim_places::{
+    Readers, TicketFault, TicketParts, TicketPhase, fields_at, readers_at, split_ticket,
+};
 use std::alloc::{AllocError, Global};
-
-/// Takes the head and the data so far of a begun dataset. It has none of a subfile.
-fn take_begun(records: &mut Fields, head: Head, taken: &[u8])
-    requires stands { (ds : List Dataset) × StandsAfter records.old ds × MayBegin (limits_of records.old) ds head }
-    requires few { HasFew head taken.now }
-    ensures stands { (ds : List Dataset) → StandsAfter records.old ds → MayBegin (limits_of records.old) ds head
-        → StandsIn records.new ds head taken.now }
-    ensures limits { limits_of records.new ≡ limits_of records.old }
-    ensures room { room_of records.new ≡ room_of records.old }
-{
-    match records.begin(head) {
-        Ok(()) if head.rec == OBJECT => {}
-        Ok(()) => records.bytes(taken),
-        Err(_) => unreachable!(),
-    }
-}
-
-/// Takes what is begun after a head of the section.
-fn take_phase(records: &mut Fields, section: u8, phase: &TicketPhase<'_>)
-    requires stands { (ds : List Dataset) × StandsAfter records.old ds × RecordsLive section (phase_told phase.now) ds
-        × AreWithinWith (limits_of records.old) section (phase_told phase.now) ds }
-    requires tags { TagsLead section (phase_told phase.now) }
-    ensures stands { (ds : List Dataset) → StandsAfter records.old ds → RecordsLive section (phase_told phase.now) ds
-        → AreWithinWith (limits_of records.old) section (phase_told phase.now) ds
-        → RecordsStand records.new section (phase_told phase.now) ds }
-    ensures limits { limits_of records.new ≡ limits_of records.old }
-    ensures room { room_of records.new ≡ room_of records.old }
-{
-    if let TicketPhase::Data {
-        set,
-        count,
-        taken,
-        ..
-    } = phase
-    {
-        let head = Head {
-            rec: section,
-            set: *set,
-            count: *count,
-        };
-        take_begun(records, head, taken);
-    }
-}
-
-/// The reader of records at a ticket's place, with memory for just what the limits allow. An error says that memory was refused.
-fn records_at(
-    alloc: Global,
-    limits: Limits,
-    section: u8,
-    phase: &TicketPhase<'_>,
-    fields: TicketFields<'_>,
-    numbers: [Option<u64>; 4],
-    some: bool,
-) -> Result<Fields, AllocError>
-    requires fits { AreNumbers numbers }
-    requires kept { AreKept fields }
-    requires tags { TagsLead section (phase_told phase.now) }
-    requires lives { RecordsLive section (phase_told phase.now)
-        (told_datasets fields numbers some (are_ended (phase_told phase.now))) }
-    requires within { IsWithin limits (length (joined fields) + begun_count section (phase_told phase.now))
-        (length fields + begun_fields section (phase_told phase.now)) }
-    ensures stands { IfOk result (λ records.
-        RecordsStand records section (phase_told phase.now)
-        (told_datasets fields.entry numbers some (are_ended (phase_told phase.now)))) }
-    ensures limits { IfOk result (λ records. limits_of records ≡ limits) }
-    ensures room { IfOk result (λ records. room_of records ≡ room_for limits) }
-{
-    let mut records = Fields::new(alloc, limits)?;
-    if !take_told(&mut records, fields, numbers, some, has_ended(phase)) {
-        unreachable!()
-    }
-    take_phase(&mut records, section, phase);
-    Ok(records)
-}
 
 /// Whether an octet has come.
 fn has_come(section: u8, phase: &TicketPhase<'_>) -> bool
@@ -148,15 +66,7 @@ fn unpacker_at(
     readers_make_unpackers();
     places_are_possible_by_layers();
     small_places_were_possible();
-    let fields = records_at(
-        alloc,
-        limits,
-        parts.section,
-        &parts.phase,
-        parts.fields.again(),
-        parts.numbers,
-        some_ended(parts.section, &parts.phase, parts.heads),
-    )?;
+    let fields = fields_at(alloc, limits, parts)?;
     let begun = has_come(parts.section, &parts.phase);
     let Readers {
         tags,

@@ -6,7 +6,7 @@ ghost use Rattle.iim_dataset.specs.States.Reading.{TakesCalls};
 ghost use Rattle.iim_fields.specs.States.Standing.{IsFailed};
 ghost use Rattle.iim_object.specs.Format.Places as object_places;
 ghost use Rattle.iim_object.specs.States.Reading as objects;
-ghost use Rattle.iim_places.specs.Format.Tickets.{four, wide, present_version, field_octets, fields_octets, number_octets, text_octets, part_number, texts_octets, message_octets, phase_octets, DataBegun, TagBegun};
+ghost use Rattle.iim_places.specs.Format.Tickets.{four, wide, present_version, field_octets, fields_octets, number_octets, text_octets, texts_octets, message_octets, phase_octets, DataBegun, TagBegun};
 ghost use Rattle.iim_unpack.specs.TicketReading.{phase_in, left_in, IsSpelled};
 
 use crate::parts::Parts;
@@ -14,10 +14,11 @@ use iim_dataset::{DatasetPlace, Head, HeadReader};
 use iim_fields::Fields;
 use iim_object::ObjectReader;
 use iim_places::form::{ENDED, IN_DATA, IN_TAG, PRESENT_VERSION};
+use iim_places::part_number;
 use iim_tables::records::OBJECT;
 use std::alloc::{AllocError, Global};
 use thiserror::Error;
-use wire_message::{MessagePart, MessagePlace};
+use wire_message::MessagePlace;
 
 /// Why an unpacker gave no ticket.
 #[derive(Clone, Copy, Debug, PartialEq, Eq, Error)]
@@ -169,26 +170,6 @@ fn object_octets(reader: &HeadReader, object: &ObjectReader) -> u64
             object.total().saturating_sub(*left)
         }
         _ => object.total(),
-    }
-}
-
-/// The number of a part of a message.
-pub(crate) fn part_number(part: MessagePart) -> u8
-    ensures { result ≡ part_number part }
-{
-    match part {
-        MessagePart::Filler => 0,
-        MessagePart::Source => 1,
-        MessagePart::Number => 2,
-        MessagePart::Priority => 3,
-        MessagePart::PriorityRead => 4,
-        MessagePart::Category => 5,
-        MessagePart::Words => 6,
-        MessagePart::Info => 7,
-        MessagePart::Gap => 8,
-        MessagePart::Text => 9,
-        MessagePart::Trailer => 10,
-        MessagePart::AfterEnd => 11,
     }
 }
 

@@ -1,4 +1,4 @@
-use Rattle.iim_places.specs.States.Begins.{dataset}
+use Rattle.iim_places.specs.TicketParts.{dataset}
 use Rattle.iim_places.proofs.Splitting.{one_more, no_more}
 use Rattle.iim_places.proofs.ticket.split.after_fields.Goals as goal
 

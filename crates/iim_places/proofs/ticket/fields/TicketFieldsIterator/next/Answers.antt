@@ -1,6 +1,6 @@
 use Rattle.std.proofs.Common.{List, ◌∷◌, length, ap, sym, ◌∙◌, arith}
 use Rattle.iim_dataset.specs.Format.Datasets.{Dataset}
-use Rattle.iim_places.specs.States.Begins.{dataset}
+use Rattle.iim_places.specs.TicketParts.{dataset}
 use Rattle.iim_places.proofs.Splitting.{rest_held, first_held, none_held}
 use Rattle.iim_places.proofs.ticket.fields.TicketFieldsIterator.next.Goals as goal
 

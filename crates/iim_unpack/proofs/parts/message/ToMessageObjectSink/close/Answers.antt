@@ -1,5 +1,5 @@
 use Rattle.std.proofs.Common.{refl}
-use Rattle.iim_unpack.specs.Passing.{tells_message_end, message_refuses_end}
+use Rattle.iim_unpack.proofs.ToldMessage.{tells_message_end, message_refuses_end}
 use Rattle.iim_unpack.proofs.parts.message.ToMessageObjectSink.close.Goals as goal
 
 pub returns-in-Ok-clause-ok : goal.returns-in-Ok-clause-ok

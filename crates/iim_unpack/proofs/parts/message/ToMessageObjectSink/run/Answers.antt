@@ -1,5 +1,5 @@
 use Rattle.std.proofs.Common.{◌≡◌, ℕ, true, false, List, take, slice_index, length, refl, ap, ◌∙◌, ◌==◌}
-use Rattle.iim_unpack.specs.Passing.{tells_message_empty, tells_message_octets, message_refuses_octet}
+use Rattle.iim_unpack.proofs.ToldMessage.{tells_message_empty, tells_message_octets, message_refuses_octet}
 use Rattle.iim_unpack.proofs.parts.message.ToMessageObjectSink.run.Goals as goal
 
 pub returns-then-is_empty-clause-ok : goal.returns-then-is_empty-clause-ok

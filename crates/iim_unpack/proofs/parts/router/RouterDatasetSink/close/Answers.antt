@@ -1,5 +1,5 @@
 use Rattle.std.proofs.Common.{refl}
-use Rattle.iim_unpack.specs.Going.{tells_parts_closed, stopped_closed}
+use Rattle.iim_unpack.proofs.ToldParts.{tells_parts_closed, stopped_closed}
 use Rattle.iim_unpack.proofs.parts.router.RouterDatasetSink.close.Goals as goal
 
 pub returns-in-Err-clause-stopped : goal.returns-in-Err-clause-stopped

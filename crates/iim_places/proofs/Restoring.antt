@@ -1,0 +1,54 @@
+-- What the parts of a ticket say of its place.
+use Rattle.std.proofs.Common.{◌≡◌, ℕ, ◌+◌, ◌-◌, ◌≤◌, nat_eq, cond, if◌then◌else◌, Bool, true, false, List, [], ◌∷◌, length, Option, refl, ap, sym, subst, arith}
+use Rattle.iim_dataset.specs.Format.Datasets.{Dataset}
+use Rattle.iim_fields.specs.Format.Faults.{kept, kept_octets, joined}
+use Rattle.iim_fields.specs.Format.Bounds.{IsWithin}
+use Rattle.iim_fields.specs.declared.limits.Limits.{Limits}
+use Rattle.iim_places.specs.TicketParts.{AreNumbers}
+use Rattle.iim_places.specs.States.ByLayers.{TagsLead, RecordsLive, head_of_numbers}
+use Rattle.iim_places.specs.States.Possible.{begun_count, begun_fields}
+use Rattle.iim_places.specs.Restoring.{HasFew, MayBegin, AreWithinWith}
+use Rattle.iim_places.specs.Taking.{AreKept, CanContinueWithin, numbers_told, told_datasets}
+use Rattle.iim_places.specs.Format.Tickets.{Phase, DataBegun}
+use Rattle.iim_places.proofs.AtPlaces.{fits_told, live_alive}
+use Rattle.iim_places.proofs.Plain.{plain_told}
+
+-- ---- what a ticket's parts tell
+
+none_fits : (n : ℕ) → length {A = ℕ} [] ≤ n
+none_fits n = omega arith
+
+-- the told datasets keep the fields
+pub kept_told : (fields : List Dataset) (numbers : List (Option ℕ)) (some ended : Bool) → AreNumbers numbers → AreKept fields → kept (told_datasets fields numbers some ended) ≡ fields
+kept_told fields numbers some ended fit each = (plain_told fields (numbers_told numbers) (cond some 1 0) [] ended each (fits_told numbers fit) (none_fits _)).kept_are
+
+pub with_told : (limits : Limits) (section : ℕ) (phase : Phase) (fields : List Dataset) (numbers : List (Option ℕ)) (some ended : Bool) → AreNumbers numbers → AreKept fields
+    → IsWithin limits (length (joined fields) + begun_count section phase) (length fields + begun_fields section phase) → AreWithinWith limits section phase (told_datasets fields numbers some ended)
+with_told limits section phase fields numbers some ended fit each within =
+    subst (λ (ks : List Dataset). IsWithin limits (length (joined ks) + begun_count section phase) (length ks + begun_fields section phase)) (sym (kept_told fields numbers some ended fit each)) within
+
+pub goes_told : (limits : Limits) (section : ℕ) (phase : Phase) (ds : List Dataset) → RecordsLive section phase ds → AreWithinWith limits section phase ds → CanContinueWithin limits ds
+goes_told limits section phase ds lives within = record {
+  alive = live_alive section phase ds lives;
+  within = record { octets_in = let low = within.octets_in in omega (arith, low); fields_in = let low = within.fields_in in omega (arith, low) };
+}
+
+nothing : (xs : List ℕ) → length xs ≡ 0 → xs ≡ []
+nothing [] e = refl
+nothing (x ∷ xs) e = absurd (omega (arith, e))
+
+pub few_in : (section set count left : ℕ) (given : List ℕ) → TagsLead section (DataBegun set count left given) → HasFew (head_of_numbers section set count) given
+few_in section set count left given tags = (
+  by (nat_eq section 8) tags.1,
+  tags.2,
+  (λ eight. nothing given (subst (λ (b : Bool). length given ≡ (if b then 0 else count - left)) (ap (λ (n : ℕ). nat_eq n 8) eight) tags.1)),
+)
+  where
+    by : (b : Bool) → length given ≡ (if b then 0 else count - left) → length given ≤ count
+    by true e = omega (arith, e)
+    by false e = omega (arith, e)
+
+pub may_begin : (limits : Limits) (section set count left : ℕ) (given : List ℕ) (ds : List Dataset) → RecordsLive section (DataBegun set count left given) ds → AreWithinWith limits section (DataBegun set count left given) ds
+    → MayBegin limits ds (head_of_numbers section set count)
+may_begin limits section set count left given ds lives within =
+    (lives, (λ is. subst (λ (b : Bool). IsWithin limits (kept_octets ds + (if b then count else 0)) (length (kept ds) + (if b then 1 else 0))) is within))

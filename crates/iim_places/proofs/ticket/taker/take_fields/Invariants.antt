@@ -1,0 +1,17 @@
+use Rattle.std.proofs.Common.{◌≡◌, List, ◌++◌, length, true}
+use Rattle.iim_dataset.specs.Format.Datasets.{Dataset}
+use Rattle.iim_places.specs.Taking.{AreKept, TookDatasets}
+use Rattle.iim_places.proofs.ticket.taker.take_fields.Given as goal
+
+-- some datasets are taken
+abbrev pub invariant-loop-rec : goal.invariant-loop-rec
+invariant-loop-rec g l = record {
+  done : List Dataset;
+  parts : l.fn.fields ≡ done ++ l.fields;
+  each : AreKept done;
+  took : TookDatasets g.T.DatasetTaker.ready g.T.DatasetTaker.stands g.T.DatasetTaker.limits l.fn.taker done l.taker true;
+  room : g.T.DatasetTaker.room l.taker ≡ g.T.DatasetTaker.room l.fn.taker;
+}
+
+abbrev pub decreases-loop-rec : goal.decreases-loop-rec
+decreases-loop-rec g l = length l.fields

@@ -1,0 +1,42 @@
+use Rattle.std.proofs.Common.{◌≡◌, ℕ, Bool, true, false, cond, List, [], ◌∷◌, ◌++◌, refl, ap, sym, subst, ◌∙◌, append_assoc}
+use Rattle.std.proofs.Math.Seq.{take-nil}
+use Rattle.std.specs.Option.{unwrap_or}
+use Rattle.iim_dataset.specs.Format.Datasets.{Dataset}
+use Rattle.iim_object.specs.Format.Packing.{subfile_dataset, subfile_datasets}
+use Rattle.iim_places.specs.TicketParts.{dataset}
+use Rattle.iim_places.specs.Plain.{Numbers, filled, plain, plain_end, plain_numbers}
+use Rattle.iim_places.specs.Taking.{TookDatasets, numbers_told}
+use Rattle.iim_places.proofs.Taking.{took_else, took_then}
+use Rattle.iim_places.proofs.ticket.taker.take_told.Goals as goal
+
+-- one subfile without octets, or none
+subfile : Bool → List Dataset
+subfile some = cond some (dataset 8 10 [] ∷ []) []
+
+one_filled : (size : ℕ) (some : Bool) → subfile some ≡ subfile_datasets (filled size (cond some 1 0) [])
+unfolding subfile
+one_filled size true = ap (λ (xs : List ℕ). subfile_dataset xs ∷ []) (sym (take-nil size))
+one_filled size false = refl
+
+joined : (fields : List Dataset) (numbers : Numbers) (some ended : Bool) → (fields ++ plain_numbers numbers) ++ (subfile some ++ plain_end ended []) ≡ plain fields numbers (cond some 1 0) [] ended
+joined fields numbers some ended =
+    append_assoc fields (plain_numbers numbers) (subfile some ++ plain_end ended [])
+    ∙ ap (λ (es : List Dataset). fields ++ (plain_numbers numbers ++ (es ++ plain_end ended []))) (one_filled (unwrap_or numbers.largest 0) some)
+
+pub returns-then-take_records-clause-all : goal.returns-then-take_records-clause-all
+unfolding subfile
+returns-then-take_records-clause-all g c all =
+    let numbers : Numbers = numbers_told c.args.numbers in
+    subst (λ (es : List Dataset). TookDatasets g.T.DatasetTaker.ready g.T.DatasetTaker.stands g.T.DatasetTaker.limits c.args.taker.now es c.take_object.new.taker c.take_object.result) (joined c.args.fields numbers c.args.some c.args.ended)
+    (took_then g.T.DatasetTaker.ready g.T.DatasetTaker.stands g.T.DatasetTaker.limits c.args.taker.now c.take_records.new.taker c.take_object.new.taker c.take_object.new.taker
+    (c.args.fields ++ plain_numbers numbers) (subfile c.args.some ++ plain_end c.args.ended []) c.take_records.result c.take_object.result c.take_object.result
+    (c.take_records.ensures.all all) c.if-take_records.true c.take_object.ensures.took refl refl)
+
+pub returns-else-take_records-clause-all : goal.returns-else-take_records-clause-all
+unfolding subfile
+returns-else-take_records-clause-all g c all =
+    let numbers : Numbers = numbers_told c.args.numbers in
+    subst (λ (es : List Dataset). TookDatasets g.T.DatasetTaker.ready g.T.DatasetTaker.stands g.T.DatasetTaker.limits c.args.taker.now es c.take_records.new.taker c.take_records.result) (joined c.args.fields numbers c.args.some c.args.ended)
+    (took_else g.T.DatasetTaker.ready g.T.DatasetTaker.stands g.T.DatasetTaker.limits c.args.taker.now c.take_records.new.taker c.take_records.new.taker
+    (c.args.fields ++ plain_numbers numbers) (subfile c.args.some ++ plain_end c.args.ended []) c.take_records.result c.take_records.result
+    (c.take_records.ensures.all all) c.if-take_records.false c.if-take_records.false)

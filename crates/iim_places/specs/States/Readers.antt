@@ -1,0 +1,83 @@
+-- The readers that a ticket's place has.
+use Rattle.std.specs.Prelude.{ℕ, ◌≡◌, List, Option, IsSome}
+use Rattle.iim_dataset.specs.States.Places.{between}
+use Rattle.iim_dataset.specs.declared.place.DatasetPlace.{DatasetPlace}
+use Rattle.iim_dataset.specs.declared.place.DatasetPlace.TheVariants.{Tag, Inside}
+use Rattle.iim_places.specs.States.ByLayers.{head_of_numbers, LeadsByLayers, begun_of_object, object_after, record_datasets}
+use Rattle.iim_places.specs.Format.Tickets.{Phase, TagBegun, DataBegun, AllEnded, Place}
+use Rattle.iim_dataset.specs.Format.Datasets.{Dataset}
+use Rattle.iim_dataset.specs.States.Reading.{TakesCalls}
+use Rattle.iim_fields.specs.States.Standing.{FieldsPlace, StandsAfter, StandsIn}
+use Rattle.iim_object.specs.Format.Places as objects
+use Rattle.iim_object.specs.States.Reading as reading
+use Rattle.iim_object.specs.States.Saved.{IsAt, IsPossible}
+use Rattle.iim_object.specs.declared.reading.state.State.{State}
+use Rattle.wire_message.specs.States.Reading as wire
+use Rattle.wire_message.specs.States.Saved.{LeadsToSaved}
+use Rattle.wire_message.specs.declared.place.Place.{Place as Message}
+use Rattle.iim_places.specs.States.Possible.{IsSmallPlace, AreHeadsWithin}
+use Rattle.iim_fields.specs.declared.limits.Limits.{Limits}
+use Rattle.iim_places.specs.Laws.Tickets.{split_of}
+use Rattle.iim_places.specs.Format.TicketForm.{Split}
+use Rattle.iim_places.specs.declared.ticket.possible.Readers.{Readers}
+use Rattle.iim_places.specs.States.Restored.{octets_told, fields_told}
+
+-- where the next octet stands
+abbrev pub tag_place : ℕ → Phase → DatasetPlace
+tag_place section (TagBegun held) = Tag (record { items = held })
+tag_place section (DataBegun set count left taken) = Inside (head_of_numbers section set count) left
+tag_place section AllEnded = between
+
+-- ---- the readers of a place
+
+-- Where the reader of records stands by whole datasets: after them, or in the begun data after them.
+abbrev pub RecordsStand : FieldsPlace → ℕ → Phase → List Dataset → Type 0
+RecordsStand fields section (TagBegun held) ds = StandsAfter fields ds
+RecordsStand fields section (DataBegun set count left given) ds = StandsIn fields ds (head_of_numbers section set count) given
+RecordsStand fields section AllEnded ds = StandsAfter fields ds
+
+-- The object's reader stands wherever numbers, octets and heads say, if the layer can continue from there.
+abbrev pub ObjectStands : Option State → Place → Type 0
+ObjectStands reader place = (p : objects.Place) → IsAt place.numbers place.taken (begun_of_object place.section place.phase) place.heads p
+    → IsPossible (object_after place.section place.phase place.taken p) → reading.StandsAt reader (object_after place.section place.phase place.taken p)
+
+-- The message's reader stands at all octets that lead to the place.
+abbrev pub MessageStands : Option Message → Place → Type 0
+MessageStands reader place = (octets text : List ℕ) → LeadsToSaved octets text place.message → wire.StandsAt reader octets text
+
+-- ---- what a ticket's parts tell
+
+-- They tell a place where each layer can be, and its heads are within the limits.
+pub record LeadsWithin (limits : Limits) (s : Split) : Type 0 where
+  pub place : Place
+  pub parts : split_of s.version place ≡ s
+  pub leads : LeadsByLayers place
+  pub within : AreHeadsWithin limits place
+
+-- The reader of records stands at each place that they tell where each layer can be.
+abbrev pub FieldsStand : Split → FieldsPlace → Type 0
+FieldsStand s records = (place : Place) → split_of s.version place ≡ s → (l : LeadsByLayers place)
+    → RecordsStand records place.section place.phase (record_datasets place l.numbers)
+
+-- None is one where each layer can be by the sizes of the version.
+abbrev pub LeadsNowhereIn : Split → Type 0
+LeadsNowhereIn s = (place : Place) → split_of s.version place ≡ s → LeadsByLayers place → (s.version ≡ 1 → IsSmallPlace place) → ⊥
+
+-- The readers stand where the parts tell, and each layer can be there.
+pub record AreAt (s : Split) (r : Readers) : Type 0 where
+  pub place : Place
+  pub parts : split_of s.version place ≡ s
+  pub leads : LeadsByLayers place
+  pub calls : TakesCalls r.tags
+  pub tags_are : r.tags.place ≡ tag_place place.section place.phase
+  pub some_object : IsSome r.object
+  pub some_message : IsSome r.message
+  pub object_is : ObjectStands r.object place
+  pub message_is : MessageStands r.message place
+  pub octets_are : r.octets ≡ octets_told place
+  pub fields_are : r.fields ≡ fields_told place
+
+-- So they do, by the sizes of the version.
+pub record AreAtIn (s : Split) (r : Readers) : Type 0 where
+  pub at : AreAt s r
+  pub small : s.version ≡ 1 → IsSmallPlace at.place

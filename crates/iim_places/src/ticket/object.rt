@@ -1,0 +1,150 @@
+//! The reader of the object at the place that a ticket tells.
+
+ghost use Rattle.std.specs.Prelude.{◌≡◌, Some, None, IsSome, IfSome, IfNone};
+ghost use Rattle.iim_object.specs.Format.Objects.{ObjectEnded, Confirmed};
+ghost use Rattle.iim_object.specs.Format.Places.{Place, MayFollow, place_after};
+ghost use Rattle.iim_object.specs.States.Reading.{StandsAt};
+ghost use Rattle.iim_object.specs.States.Saved.{IsAt, IsPossible};
+ghost use Rattle.iim_places.specs.States.ByLayers.{begun_of_object, object_after};
+ghost use Rattle.iim_places.specs.Nowhere.{goes_nowhere, stops_nowhere, joins_nowhere, joins_stop_nowhere};
+ghost use Rattle.iim_places.specs.States.TicketsTold.{phase_told};
+
+use crate::laws::object_laws;
+use crate::ticket::split::TicketPhase;
+use iim_dataset::Stop;
+use iim_object::{ObjectReader, ObjectSink};
+use iim_tables::records::{CONFIRMED_SIZE, OBJECT, POST_OBJECT};
+
+/// A sink of objects that takes all of it, and keeps nothing.
+#[derive(Drop)]
+struct Nowhere;
+
+impl ObjectSink for Nowhere {
+    ghost goes = { goes_nowhere };
+
+    ghost stops = { stops_nowhere };
+
+    ghost stands = { λ _. Unit {0} };
+
+    ghost nothing = { λ _. tt };
+
+    ghost joined = { joins_nowhere };
+
+    ghost joined_stop = { joins_stop_nowhere };
+
+    fn run(&mut self, _run: &[u8]) -> Result<(), Stop> {
+        Ok(())
+    }
+
+    fn close(&mut self) -> Result<(), Stop> {
+        Ok(())
+    }
+}
+
+/// The count of a begun subfile, and how many octets of it are to come; None where no subfile is begun.
+fn begun_subfile(section: u8, phase: &TicketPhase<'_>) -> Option<(u64, u64)>
+    ensures { result ≡ begun_of_object section (phase_told phase.now) }
+{
+    match phase {
+        TicketPhase::Data { count, left, .. } if section == OBJECT => Some((*count, *left)),
+        _ => None,
+    }
+}
+
+/// The reader after the end of the object, or None where the object layer dies with it.
+fn ended(object: ObjectReader) -> Option<ObjectReader>
+    requires { IsSome object }
+    ensures calls { IfSome result IsSome }
+    ensures stands { IfSome result (λ r. (p : Place) → StandsAt object p → MayFollow p ObjectEnded
+        → StandsAt r (place_after p ObjectEnded)) }
+    ensures none { IfNone result ((p : Place) → StandsAt object p → MayFollow p ObjectEnded
+        → IsPossible (place_after p ObjectEnded) → ⊥) }
+{
+    object_laws();
+    let mut object = object;
+    match object.head(POST_OBJECT, CONFIRMED_SIZE, 0, &mut Nowhere) {
+        Ok(()) => Some(object),
+        Err(_) => None,
+    }
+}
+
+/// The reader after the confirmed size, or None where the object layer dies with it.
+fn confirmed(object: ObjectReader, size: u64) -> Option<ObjectReader>
+    requires { IsSome object }
+    ensures calls { IfSome result IsSome }
+    ensures stands { IfSome result (λ r. (p : Place) → StandsAt object p → MayFollow p (Confirmed size)
+        → StandsAt r (place_after p (Confirmed size))) }
+    ensures none { IfNone result ((p : Place) → StandsAt object p → MayFollow p (Confirmed size)
+        → IsPossible (place_after p (Confirmed size)) → ⊥) }
+{
+    object_laws();
+    let mut object = object;
+    match object.value(POST_OBJECT, CONFIRMED_SIZE, size) {
+        Ok(()) => Some(object),
+        Err(_) => None,
+    }
+}
+
+/// The reader of the object that has ended, where these numbers of record 7 have come, `taken` octets and `heads` heads; or None where no
+/// tokens lead there.
+fn ended_at(numbers: [Option<u64>; 4], taken: u64, heads: u64) -> Option<ObjectReader>
+    ensures calls { IfSome result IsSome }
+    ensures leads { IfSome result (λ r. (p : Place) × IsAt numbers taken None heads p
+        × IsPossible (place_after p ObjectEnded)) }
+    ensures stands { IfSome result (λ r. (p : Place) → IsAt numbers taken None heads p
+        → IsPossible (place_after p ObjectEnded) → StandsAt r (place_after p ObjectEnded)) }
+    ensures none { IfNone result ((p : Place) → IsAt numbers taken None heads p → IsPossible (place_after p ObjectEnded)
+        → ⊥) }
+{
+    object_laws();
+    let object = ObjectReader::at(numbers, taken, None, heads)?;
+    if heads == 0 {
+        return None;
+    }
+    ended(object)
+}
+
+/// The reader of the object whose size is confirmed, where these numbers of record 7 have come, `taken` octets and `heads` heads; or None
+/// where no tokens lead there.
+fn confirmed_at(numbers: [Option<u64>; 4], taken: u64, heads: u64) -> Option<ObjectReader>
+    ensures calls { IfSome result IsSome }
+    ensures leads { IfSome result (λ r. (p : Place) × IsAt numbers taken None heads p
+        × IsPossible (place_after (place_after p ObjectEnded) (Confirmed taken))) }
+    ensures stands { IfSome result (λ r. (p : Place) → IsAt numbers taken None heads p
+        → IsPossible (place_after (place_after p ObjectEnded) (Confirmed taken))
+        → StandsAt r (place_after (place_after p ObjectEnded) (Confirmed taken))) }
+    ensures none { IfNone result ((p : Place) → IsAt numbers taken None heads p
+        → IsPossible (place_after (place_after p ObjectEnded) (Confirmed taken)) → ⊥) }
+{
+    object_laws();
+    let object = ended_at(numbers, taken, heads)?;
+    confirmed(object, taken)
+}
+
+/// The reader of the object where these numbers of record 7 have come, `taken` octets and `heads` heads, and this is begun after a head
+/// of the section; or None where no tokens lead there.
+pub(crate) fn object_at(
+    section: u8,
+    phase: &TicketPhase<'_>,
+    numbers: [Option<u64>; 4],
+    taken: u64,
+    heads: u64,
+) -> Option<ObjectReader>
+    ensures calls { IfSome result IsSome }
+    ensures leads { IfSome result (λ r. (p : Place)
+        × IsAt numbers taken (begun_of_object section (phase_told phase.now)) heads p
+        × IsPossible (object_after section (phase_told phase.now) taken p)) }
+    ensures stands { IfSome result (λ r. (p : Place)
+        → IsAt numbers taken (begun_of_object section (phase_told phase.now)) heads p
+        → IsPossible (object_after section (phase_told phase.now) taken p)
+        → StandsAt r (object_after section (phase_told phase.now) taken p)) }
+    ensures none { IfNone result ((p : Place)
+        → IsAt numbers taken (begun_of_object section (phase_told phase.now)) heads p
+        → IsPossible (object_after section (phase_told phase.now) taken p) → ⊥) }
+{
+    match phase {
+        TicketPhase::Data { .. } if section == POST_OBJECT => ended_at(numbers, taken, heads),
+        TicketPhase::Ended => confirmed_at(numbers, taken, heads),
+        _ => ObjectReader::at(numbers, taken, begun_subfile(section, phase), heads),
+    }
+}

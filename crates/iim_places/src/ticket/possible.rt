@@ -1,0 +1,194 @@
+//! Whether an envelope can be at the place that a ticket tells, and the readers there.
+
+ghost use Rattle.iim_dataset.specs.Format.Tags.{BeginsTag};
+ghost use Rattle.iim_dataset.specs.Format.Datasets.{count_octets};
+ghost use Rattle.iim_fields.specs.Format.Values.{tells_number};
+ghost use Rattle.std.specs.Prelude.{◌≡◌, ◌↔◌, ◌≤◌, true, ◌+◌, ◌-◌, cond, length, false, IsTrue, IfSome, IfNone};
+ghost use Rattle.iim_fields.specs.Format.Faults.{joined};
+ghost use Rattle.iim_fields.specs.Format.Bounds.{IsWithin};
+ghost use Rattle.iim_places.specs.States.ByLayers.{begun_subfiles, one_of_some, TagsLead};
+ghost use Rattle.iim_places.specs.States.Possible.{widest, begun_count, begun_fields, count_octets_before, greatest_size_before, IsSmallPhase};
+ghost use Rattle.iim_places.specs.States.Readers.{AreAt, AreAtIn, LeadsNowhereIn};
+ghost use Rattle.iim_places.specs.Restoring.{LeadsNowhere};
+ghost use Rattle.iim_places.specs.Format.TicketForm.{HasForm};
+ghost use Rattle.iim_places.specs.States.TicketsTold.{phase_told, split_told};
+
+use crate::form::FIRST_VERSION;
+use crate::ticket::fields::TicketFields;
+use crate::ticket::object::object_at;
+use crate::ticket::readers::{message_at, part_number, records_lead, tags_at};
+use crate::ticket::split::{TicketParts, TicketPhase};
+use crate::ticket::taker::is_kept;
+use iim_dataset::{EXTENDED, HeadReader};
+use iim_object::ObjectReader;
+use iim_tables::records::{OBJECT, POST_OBJECT, PRE_OBJECT};
+use wire_message::{MessagePart, MessageReader};
+
+/// The readers of a place, but for that of the records, which takes memory.
+#[derive(Drop)]
+pub struct Readers {
+    /// The reader of tags.
+    pub tags: HeadReader,
+    /// The reader of the object's sizes.
+    pub object: ObjectReader,
+    /// The reader of the message.
+    pub message: MessageReader,
+    /// How many octets the heads of records 1 and 2 count together, a begun one among them.
+    pub octets: u32,
+    /// How many heads those are.
+    pub fields: u32,
+}
+
+/// How many octets the data of the datasets have together, and how many datasets they are; None where either needs more than 32 bits.
+fn told_fields(fields: TicketFields<'_>) -> Option<(u32, u32)>
+    ensures some { IfSome result (λ r. (r.0 ≡ length (joined fields.entry)) × (r.1 ≡ length fields.entry)) }
+    ensures none { IfNone result (IsWithin widest (length (joined fields.entry)) (length fields.entry) → ⊥) }
+{
+    let mut fields = fields;
+    let mut octets: u32 = 0;
+    let mut count: u32 = 0;
+    while let Some((_, _, data)) = fields.next() {
+        octets = octets.checked_add(u32::try_from(data.len()).ok()?)?;
+        count = count.checked_add(1)?;
+    }
+    Some((octets, count))
+}
+
+/// The same with a begun dataset of records 1 and 2, which counts its octets.
+fn told(section: u8, phase: &TicketPhase<'_>, fields: TicketFields<'_>) -> Option<(u32, u32)>
+    ensures some { IfSome result (λ r. (r.0 ≡ length (joined fields.entry) + begun_count section (phase_told phase.now))
+        × (r.1 ≡ length fields.entry + begun_fields section (phase_told phase.now))) }
+    ensures none { IfNone result (IsWithin widest
+        (length (joined fields.entry) + begun_count section (phase_told phase.now))
+        (length fields.entry + begun_fields section (phase_told phase.now)) → ⊥) }
+{
+    let (octets, count) = told_fields(fields)?;
+    match phase {
+        TicketPhase::Data { count: more, .. } if is_kept(section) => {
+            let octets = octets.checked_add(u32::try_from(*more).ok()?)?;
+            Some((octets, count.checked_add(1)?))
+        }
+        _ => Some((octets, count)),
+    }
+}
+
+/// Whether some subfiles have ended.
+pub(crate) fn some_ended(section: u8, phase: &TicketPhase<'_>, heads: u64) -> bool
+    ensures { cond result 1 0 ≡ one_of_some (heads - begun_subfiles section (phase_told phase.now)) }
+{
+    match phase {
+        TicketPhase::Data { .. } if section == OBJECT => heads > 1,
+        _ => heads > 0,
+    }
+}
+
+/// Whether the message has ended where the object has.
+fn ends_together(section: u8, part: u8) -> bool
+    ensures ends { IsTrue result → section ≡ 9 → part ≡ 11 }
+    ensures apart { result ≡ false → (section ≡ 9) × (part ≡ 11 → ⊥) }
+{
+    section != POST_OBJECT || part == part_number(MessagePart::AfterEnd)
+}
+
+/// The readers where the parts of a ticket tell, or None where no octets lead that an envelope can continue from or end with by
+/// the sizes of the present version.
+fn readers_by_layers(parts: &TicketParts<'_>) -> Option<Readers>
+    requires { HasForm (split_told parts.now) }
+    ensures some { IfSome result (λ r. AreAt (split_told parts.now) r) }
+    ensures none { IfNone result (LeadsNowhere (split_told parts.now)) }
+{
+    let (octets, fields) = told(parts.section, &parts.phase, parts.fields.again())?;
+    let tags = tags_at(parts.section, &parts.phase)?;
+    let some = some_ended(parts.section, &parts.phase, parts.heads);
+    let kept = parts.fields.again();
+    if !records_lead(parts.section, &parts.phase, kept, parts.numbers, some) {
+        return None;
+    }
+    let object = object_at(
+        parts.section,
+        &parts.phase,
+        parts.numbers,
+        parts.taken,
+        parts.heads,
+    )?;
+    let message = message_at(
+        parts.part,
+        parts.counter,
+        parts.flag,
+        &parts.texts,
+        parts.taken,
+    )?;
+    if !ends_together(parts.section, parts.part) {
+        return None;
+    }
+    Some(Readers {
+        tags,
+        object,
+        message,
+        octets,
+        fields,
+    })
+}
+
+/// The most octets of a count or of a size, as they were when version 1 was made.
+const COUNT_OCTETS_BEFORE: u8 = 4;
+
+/// The greatest size of an object at that time.
+const GREATEST_SIZE_BEFORE: u64 = 4_294_967_295;
+
+/// Whether octets that begin a tag begin one whose count has no more octets than counts had.
+fn is_small_tag(held: &[u8]) -> bool
+    requires { BeginsTag count_octets held.now }
+    ensures { IsTrue result ↔ BeginsTag count_octets_before held.now }
+{
+    if held.len() < 5 {
+        return true;
+    }
+    if held[3] != EXTENDED {
+        return true;
+    }
+    held[4] <= COUNT_OCTETS_BEFORE
+}
+
+/// Whether begun data of this count, of which `left` octets are to come, were possible by those sizes after `taken` octets of the
+/// object.
+fn is_small_data(section: u8, taken: u64, count: u64, left: u64) -> bool
+    ensures { IsTrue result ↔ ((tells_number section ≡ true → count ≤ count_octets_before)
+        × (section ≡ 8 → (count ≤ greatest_size_before) × (taken + left ≤ greatest_size_before))) }
+{
+    match section {
+        PRE_OBJECT | POST_OBJECT => count <= u64::from(COUNT_OCTETS_BEFORE),
+        OBJECT => {
+            count <= GREATEST_SIZE_BEFORE
+                && left <= GREATEST_SIZE_BEFORE
+                && taken <= GREATEST_SIZE_BEFORE - left
+        }
+        _ => true,
+    }
+}
+
+/// Whether what is begun was possible by those sizes.
+fn is_small(section: u8, taken: u64, phase: &TicketPhase<'_>) -> bool
+    requires { TagsLead section (phase_told phase.now) }
+    ensures { IsTrue result ↔ IsSmallPhase section taken (phase_told phase.now) }
+{
+    match phase {
+        TicketPhase::Tag(held) => is_small_tag(held),
+        TicketPhase::Data { count, left, .. } => is_small_data(section, taken, *count, *left),
+        TicketPhase::Ended => true,
+    }
+}
+
+/// The readers where the parts of a ticket tell, or None where no octets lead that an envelope can continue from or end with by
+/// the sizes of the ticket's version.
+pub fn readers_at(parts: &TicketParts<'_>) -> Option<Readers>
+    requires { HasForm (split_told parts.now) }
+    ensures some { IfSome result (λ r. AreAtIn (split_told parts.now) r) }
+    ensures none { IfNone result (LeadsNowhereIn (split_told parts.now)) }
+{
+    let readers = readers_by_layers(parts)?;
+    if parts.version == FIRST_VERSION && !is_small(parts.section, parts.taken, &parts.phase) {
+        return None;
+    }
+    Some(readers)
+}

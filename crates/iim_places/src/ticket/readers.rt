@@ -1,0 +1,233 @@
+//! The readers at the place that a ticket tells, but for the records that it keeps.
+
+ghost use Rattle.std.specs.Prelude.{◌≡◌, ◌↔◌, ◌<◌, ℕ, List, length, map, IsSome, IfSome, IfNone, IsTrue, false};
+ghost use Rattle.iim_dataset.specs.Format.Datasets.{Dataset};
+ghost use Rattle.iim_dataset.specs.Format.Octets.{Octets};
+ghost use Rattle.iim_dataset.specs.States.Reading.{TakesCalls};
+ghost use Rattle.iim_fields.specs.States.Checks.{TakesHead, HasChecked};
+ghost use Rattle.iim_fields.specs.Format.Faults.{kept_octets};
+ghost use Rattle.iim_fields.specs.Format.Bounds.{IsWithin};
+ghost use Rattle.wire_message.specs.Format.Lengths.{LeadsIn, IsOneOf};
+ghost use Rattle.wire_message.specs.States.Reading.{StandsAt};
+ghost use Rattle.wire_message.specs.States.Saved.{LeadsToSaved};
+ghost use Rattle.wire_message.specs.declared.saved.MessagePart.{MessagePart as MessagePartValue};
+ghost use Rattle.wire_message.specs.declared.saved.MessagePlace.{MessagePlace as MessagePlaceValue};
+ghost use Rattle.iim_places.specs.TicketParts.{AreNumbers};
+ghost use Rattle.iim_places.specs.States.ByLayers.{TagsLead, RecordsLive, are_ended};
+ghost use Rattle.iim_places.specs.States.Possible.{widest};
+ghost use Rattle.iim_places.specs.Taking.{AreKept, IsMessageOf, told_datasets};
+ghost use Rattle.iim_places.specs.States.Readers.{tag_place};
+ghost use Rattle.iim_places.specs.Format.TicketForm.{IsPhase};
+ghost use Rattle.iim_places.specs.States.TicketsTold.{phase_told};
+ghost use Rattle.iim_places.specs.Format.Tickets.{part_number, present_version};
+
+use crate::ticket::fields::TicketFields;
+use crate::ticket::split::TicketPhase;
+use crate::ticket::taker::take_told;
+use arrayvec::ArrayVec;
+use iim_dataset::laws::places_are_reached;
+use iim_dataset::{DatasetPlace, Head, HeadReader};
+use iim_fields::RecordCheck;
+use wire_message::{MessagePart, MessagePlace, MessageReader};
+
+/// What a slice of octets holds are octets.
+fn are_octets(octets: &[u8])
+    ensures { Octets octets.now }
+{}
+
+/// The octets in an array, where they fit.
+fn fitted<const ROOM: usize>(octets: &[u8]) -> Option<ArrayVec<u8, ROOM>>
+    ensures some { IfSome result (λ array. array.items ≡ octets.now) }
+    ensures none { IfNone result (ROOM < length octets.now) }
+{
+    ArrayVec::try_from(octets).ok()
+}
+
+/// The reader of tags where this is begun after a head of the section, or None where no octets lead there.
+pub(crate) fn tags_at(section: u8, phase: &TicketPhase<'_>) -> Option<HeadReader>
+    requires { IsPhase present_version section (phase_told phase.now) }
+    ensures calls { IfSome result TakesCalls }
+    ensures place { IfSome result (λ r. r.place ≡ tag_place section (phase_told phase.now)) }
+    ensures leads { IfSome result (λ r. TagsLead section (phase_told phase.now)) }
+    ensures none { IfNone result (TagsLead section (phase_told phase.now) → ⊥) }
+{
+    places_are_reached();
+    match phase {
+        TicketPhase::Tag(held) => HeadReader::at(DatasetPlace::Tag(fitted(held)?)),
+        TicketPhase::Data {
+            set,
+            count,
+            left,
+            taken,
+        } => {
+            are_octets(taken);
+            let head = Head {
+                rec: section,
+                set: *set,
+                count: *count,
+            };
+            HeadReader::at(DatasetPlace::Inside { head, left: *left })
+        }
+        TicketPhase::Ended => Some(HeadReader::new()),
+    }
+}
+
+/// Whether the last dataset has ended.
+pub(crate) fn has_ended(phase: &TicketPhase<'_>) -> bool
+    ensures { result ≡ are_ended (phase_told phase.now) }
+{
+    matches!(phase, TicketPhase::Ended)
+}
+
+/// Whether the record layer can continue with this, which is begun, after the datasets that it stands after.
+fn can_continue(check: &mut RecordCheck, section: u8, phase: &TicketPhase<'_>) -> bool
+    requires { TakesHead check.old }
+    ensures lives { IsTrue result → (ds : List Dataset) → HasChecked check.old ds
+        → RecordsLive section (phase_told phase.now) ds }
+    ensures dies { result ≡ false → (ds : List Dataset) → HasChecked check.old ds
+        → RecordsLive section (phase_told phase.now) ds → ⊥ }
+{
+    match phase {
+        TicketPhase::Tag(_) => check.section() == section,
+        TicketPhase::Data { set, count, .. } => {
+            let head = Head {
+                rec: section,
+                set: *set,
+                count: *count,
+            };
+            check.head(head).is_ok()
+        }
+        TicketPhase::Ended => section == 9,
+    }
+}
+
+/// Whether the record layer can be where these fields and numbers of record 7 have come, then subfiles where some have ended, and
+/// 9:10 where the object has; and then this, which is begun.
+pub(crate) fn records_lead(
+    section: u8,
+    phase: &TicketPhase<'_>,
+    fields: TicketFields<'_>,
+    numbers: [Option<u64>; 4],
+    some: bool,
+) -> bool
+    requires { AreNumbers numbers }
+    ensures kept { IsTrue result → AreKept fields.entry }
+    ensures lives { IsTrue result → RecordsLive section (phase_told phase.now)
+        (told_datasets fields.entry numbers some (are_ended (phase_told phase.now))) }
+    ensures dies { result ≡ false → AreKept fields.entry
+        → IsWithin widest (kept_octets fields.entry) (length fields.entry)
+        → RecordsLive section (phase_told phase.now)
+        (told_datasets fields.entry numbers some (are_ended (phase_told phase.now))) → ⊥ }
+{
+    let mut check = RecordCheck::new();
+    take_told(&mut check, fields, numbers, some, has_ended(phase))
+        && can_continue(&mut check, section, phase)
+}
+
+/// The number of a part of a message.
+pub fn part_number(part: MessagePart) -> u8
+    ensures { result ≡ part_number part }
+{
+    match part {
+        MessagePart::Filler => 0,
+        MessagePart::Source => 1,
+        MessagePart::Number => 2,
+        MessagePart::Priority => 3,
+        MessagePart::PriorityRead => 4,
+        MessagePart::Category => 5,
+        MessagePart::Words => 6,
+        MessagePart::Info => 7,
+        MessagePart::Gap => 8,
+        MessagePart::Text => 9,
+        MessagePart::Trailer => 10,
+        MessagePart::AfterEnd => 11,
+    }
+}
+
+/// The part of a message with this number.
+fn message_part(number: u8) -> Option<MessagePart>
+    ensures some { IfSome result (λ part. part_number part ≡ number) }
+    ensures none { IfNone result ((part : MessagePartValue) → part_number part ≡ number → ⊥) }
+{
+    match number {
+        0 => Some(MessagePart::Filler),
+        1 => Some(MessagePart::Source),
+        2 => Some(MessagePart::Number),
+        3 => Some(MessagePart::Priority),
+        4 => Some(MessagePart::PriorityRead),
+        5 => Some(MessagePart::Category),
+        6 => Some(MessagePart::Words),
+        7 => Some(MessagePart::Info),
+        8 => Some(MessagePart::Gap),
+        9 => Some(MessagePart::Text),
+        10 => Some(MessagePart::Trailer),
+        11 => Some(MessagePart::AfterEnd),
+        _ => None,
+    }
+}
+
+/// The place of a message that is told by its part, counter, flag and texts, or None where no octets lead there for a text that is
+/// too long or a part that there is not.
+fn message_place(part: u8, counter: u8, flag: u8, texts: &[&[u8]; 7]) -> Option<MessagePlace>
+    ensures some { IfSome result (IsMessageOf part counter flag (map (λ t. t.now) texts.now)) }
+    ensures none { IfNone result ((m : MessagePlaceValue) (octets text : List ℕ)
+        → IsMessageOf part counter flag (map (λ t. t.now) texts.now) m → LeadsToSaved octets text m → ⊥) }
+{
+    let [source, number, priority, category, words, info, trailer] = texts;
+    Some(MessagePlace {
+        part: message_part(part)?,
+        counter,
+        flag,
+        source: fitted(source)?,
+        number: fitted(number)?,
+        priority: fitted(priority)?,
+        category: fitted(category)?,
+        words: fitted(words)?,
+        info: fitted(info)?,
+        trailer: fitted(trailer)?,
+    })
+}
+
+/// Whether the number is no less than the least, and no more than the greatest where there is one.
+fn is_between(least: u64, greatest: Option<u64>, count: u64) -> bool
+    ensures { IsTrue result ↔ IsOneOf least greatest count }
+{
+    match greatest {
+        Some(most) => (least..=most).contains(&count),
+        None => least <= count,
+    }
+}
+
+/// Whether `taken` octets lead to where the reader stands.
+fn is_reached(reader: &MessageReader, taken: u64) -> bool
+    requires { IsSome reader.now }
+    ensures { IsTrue result ↔ LeadsIn reader.now taken }
+{
+    let (least, greatest) = reader.lengths();
+    is_between(least, greatest, taken)
+}
+
+/// The reader of messages where this part, counter, flag and texts have been reached by `taken` octets, or None where no octets of
+/// that number lead there.
+pub(crate) fn message_at(
+    part: u8,
+    counter: u8,
+    flag: u8,
+    texts: &[&[u8]; 7],
+    taken: u64,
+) -> Option<MessageReader>
+    ensures calls { IfSome result IsSome }
+    ensures some { IfSome result (λ r. (m : MessagePlaceValue)
+        × IsMessageOf part counter flag (map (λ t. t.now) texts.now) m
+        × ((octets : List ℕ) × (text : List ℕ) × LeadsToSaved octets text m × (length octets ≡ taken))
+        × ((octets text : List ℕ) → LeadsToSaved octets text m → StandsAt r octets text)) }
+    ensures none { IfNone result ((m : MessagePlaceValue) (octets text : List ℕ)
+        → IsMessageOf part counter flag (map (λ t. t.now) texts.now) m
+        → LeadsToSaved octets text m → length octets ≡ taken → ⊥) }
+{
+    let reader = MessageReader::at(message_place(part, counter, flag, texts)?)?;
+    if !is_reached(&reader, taken) {
+        return None;
+    }
+    Some(reader)
+}

@@ -1,0 +1,229 @@
+//! What takes whole datasets, one after another: a check of records, or a reader that keeps them.
+
+ghost use Rattle.std.specs.Prelude.{◌≡◌, [], ◌∷◌, ◌++◌, List, IsTrue, true, cond};
+ghost use Rattle.iim_dataset.specs.Format.Datasets.{Dataset};
+ghost use Rattle.iim_fields.specs.States.Checks as checks;
+ghost use Rattle.iim_fields.specs.Format.Faults.{is_kept};
+ghost use Rattle.iim_fields.specs.States.Standing.{IsBetween, StandsAfter, limits_of, room_of};
+ghost use Rattle.iim_fields.specs.States.Stores.{Room};
+ghost use Rattle.iim_fields.specs.declared.limits.Limits.{Limits as LimitsValue};
+ghost use Rattle.iim_object.specs.Format.Packing.{number_dataset};
+ghost use Rattle.iim_places.specs.TicketParts.{dataset, AreNumbers, IsSize};
+ghost use Rattle.iim_places.specs.Plain.{mode_dataset, one_dataset, plain_end, plain_numbers};
+ghost use Rattle.iim_places.specs.States.Possible.{widest};
+ghost use Rattle.iim_places.specs.Taking.{AreKept, TookDatasets, no_room, numbers_told, told_datasets};
+
+use crate::ticket::fields::TicketFields;
+use iim_dataset::{Head, number_bytes};
+use iim_fields::{Fields, RecordCheck};
+use iim_tables::records::{
+    ANNOUNCED_SIZE, CONFIRMED_SIZE, MAX_SUBFILE_SIZE, MAXIMUM_SIZE, OBJECT, POST_OBJECT,
+    PRE_OBJECT, SIZE_MODE, SUBFILE,
+};
+
+/// What takes the datasets of an envelope, each with its whole data.
+pub(crate) trait DatasetTaker {
+    /// It takes a dataset.
+    ghost ready: { Self → Type 0 };
+
+    /// It stands after these datasets.
+    ghost stands: { Self → List Dataset → Type 0 };
+
+    /// The limits that it keeps to.
+    ghost limits: { Self → LimitsValue };
+
+    /// What it has room for.
+    ghost room: { Self → Room };
+
+    /// Takes a dataset, or answers that no datasets within the limits can continue with it. It takes no memory.
+    fn take(&mut self, rec: u8, set: u8, octets: &[u8]) -> bool
+        requires { ready self.old }
+        ensures took { TookDatasets ready stands limits self.old (dataset rec set octets.now ∷ []) self.new result }
+        ensures room { room self.new ≡ room self.old };
+}
+
+impl DatasetTaker for RecordCheck {
+    ghost ready = { checks.TakesHead };
+
+    ghost stands = { checks.HasChecked };
+
+    // Whatever the limits, none is kept to: the widest say no more than the records do.
+    ghost limits = { λ _. widest };
+
+    // It keeps nothing.
+    ghost room = { λ _. no_room };
+
+    fn take(&mut self, rec: u8, set: u8, octets: &[u8]) -> bool {
+        let head = Head {
+            rec,
+            set,
+            count: octets.len() as u64,
+        };
+        match self.head(head) {
+            Ok(()) if rec == OBJECT => true,
+            Ok(()) => self.value(octets).is_ok(),
+            Err(_) => false,
+        }
+    }
+}
+
+impl DatasetTaker for Fields {
+    ghost ready = { IsBetween };
+
+    ghost stands = { StandsAfter };
+
+    ghost limits = { limits_of };
+
+    ghost room = { room_of };
+
+    fn take(&mut self, rec: u8, set: u8, octets: &[u8]) -> bool {
+        let head = Head {
+            rec,
+            set,
+            count: octets.len() as u64,
+        };
+        match self.begin(head) {
+            Ok(()) if rec == OBJECT => self.close().is_ok(),
+            Ok(()) => {
+                self.bytes(octets);
+                self.close().is_ok()
+            }
+            Err(_) => false,
+        }
+    }
+}
+
+/// Whether the record is one that is kept.
+pub(crate) fn is_kept(rec: u8) -> bool
+    ensures { result ≡ is_kept rec }
+{
+    rec == 1 || rec == 2
+}
+
+/// Takes the datasets of records 1 and 2.
+fn take_fields<T: DatasetTaker>(taker: &mut T, fields: TicketFields<'_>) -> bool
+    requires { T.ready taker.old }
+    ensures kept { IsTrue result → AreKept fields.entry }
+    ensures all { AreKept fields.entry
+        → TookDatasets T.ready T.stands T.limits taker.old fields.entry taker.new result }
+    ensures room { T.room taker.new ≡ T.room taker.old }
+{
+    let mut fields = fields;
+    while let Some((rec, set, octets)) = fields.next() {
+        if !is_kept(rec) {
+            return false;
+        }
+        if !taker.take(rec, set, octets) {
+            return false;
+        }
+    }
+    true
+}
+
+/// Takes the mode, 7:10, where there is one.
+fn take_mode<T: DatasetTaker>(taker: &mut T, mode: Option<u64>) -> bool
+    requires { T.ready taker.old }
+    ensures took { TookDatasets T.ready T.stands T.limits taker.old (one_dataset mode_dataset mode) taker.new result }
+    ensures room { T.room taker.new ≡ T.room taker.old }
+{
+    match mode {
+        None => true,
+        Some(mode) if mode < 256 => taker.take(PRE_OBJECT, SIZE_MODE, &[mode as u8]),
+        Some(_) => false,
+    }
+}
+
+/// Takes the size 7:`set`, where there is one.
+fn take_size<T: DatasetTaker>(taker: &mut T, set: u8, size: Option<u64>) -> bool
+    requires ready { T.ready taker.old }
+    requires fits { IsSize size }
+    ensures took { TookDatasets T.ready T.stands T.limits taker.old (one_dataset (number_dataset 7 set) size) taker.new
+        result }
+    ensures room { T.room taker.new ≡ T.room taker.old }
+{
+    match size {
+        None => true,
+        Some(size) => taker.take(PRE_OBJECT, set, number_bytes(size).as_slice()),
+    }
+}
+
+/// Takes the numbers of record 7, in their order.
+fn take_numbers<T: DatasetTaker>(taker: &mut T, numbers: [Option<u64>; 4]) -> bool
+    requires ready { T.ready taker.old }
+    requires fits { AreNumbers numbers }
+    ensures took { TookDatasets T.ready T.stands T.limits taker.old (plain_numbers (numbers_told numbers)) taker.new
+        result }
+    ensures room { T.room taker.new ≡ T.room taker.old }
+{
+    let [mode, largest, announced, maximum] = numbers;
+    take_mode(taker, mode)
+        && take_size(taker, MAX_SUBFILE_SIZE, largest)
+        && take_size(taker, ANNOUNCED_SIZE, announced)
+        && take_size(taker, MAXIMUM_SIZE, maximum)
+}
+
+/// Takes a subfile without octets, where some have ended.
+fn take_subfile<T: DatasetTaker>(taker: &mut T, some: bool) -> bool
+    requires { T.ready taker.old }
+    ensures took { TookDatasets T.ready T.stands T.limits taker.old (cond some (dataset 8 10 [] ∷ []) []) taker.new
+        result }
+    ensures room { T.room taker.new ≡ T.room taker.old }
+{
+    !some || taker.take(OBJECT, SUBFILE, &[])
+}
+
+/// Takes 9:10 of an object without octets, where it has ended.
+fn take_end<T: DatasetTaker>(taker: &mut T, ended: bool) -> bool
+    requires { T.ready taker.old }
+    ensures took { TookDatasets T.ready T.stands T.limits taker.old (plain_end ended []) taker.new result }
+    ensures room { T.room taker.new ≡ T.room taker.old }
+{
+    !ended || taker.take(POST_OBJECT, CONFIRMED_SIZE, &[0, 0, 0, 0])
+}
+
+/// Takes the datasets of records 1 and 2 and the numbers of record 7.
+fn take_records<T: DatasetTaker>(
+    taker: &mut T,
+    fields: TicketFields<'_>,
+    numbers: [Option<u64>; 4],
+) -> bool
+    requires ready { T.ready taker.old }
+    requires fits { AreNumbers numbers }
+    ensures kept { IsTrue result → AreKept fields.entry }
+    ensures all { AreKept fields.entry
+        → TookDatasets T.ready T.stands T.limits taker.old (fields.entry ++ plain_numbers (numbers_told numbers))
+        taker.new result }
+    ensures room { T.room taker.new ≡ T.room taker.old }
+{
+    take_fields(taker, fields) && take_numbers(taker, numbers)
+}
+
+/// Takes a subfile without octets, where some have ended, and 9:10, where the object has.
+fn take_object<T: DatasetTaker>(taker: &mut T, some: bool, ended: bool) -> bool
+    requires { T.ready taker.old }
+    ensures took { TookDatasets T.ready T.stands T.limits taker.old
+        (cond some (dataset 8 10 [] ∷ []) [] ++ plain_end ended []) taker.new result }
+    ensures room { T.room taker.new ≡ T.room taker.old }
+{
+    take_subfile(taker, some) && take_end(taker, ended)
+}
+
+/// Takes the datasets by which the record layer is told a ticket's place: its fields, the numbers of record 7, a subfile without
+/// octets where some have ended, and 9:10 where the object has.
+pub(crate) fn take_told<T: DatasetTaker>(
+    taker: &mut T,
+    fields: TicketFields<'_>,
+    numbers: [Option<u64>; 4],
+    some: bool,
+    ended: bool,
+) -> bool
+    requires ready { T.ready taker.old }
+    requires fits { AreNumbers numbers }
+    ensures kept { IsTrue result → AreKept fields.entry }
+    ensures all { AreKept fields.entry
+        → TookDatasets T.ready T.stands T.limits taker.old (told_datasets fields.entry numbers some ended) taker.new
+        result }
+    ensures room { T.room taker.new ≡ T.room taker.old }
+{
+    take_records(taker, fields, numbers) && take_object(taker, some, ended)
+}
