@@ -22,7 +22,8 @@ pub fn report_of_all<R: Source>(
     now: Timestamp,
 ) -> Option<Report>
     requires { intake.old.failed ≡ None }
-    ensures { IfSome result (λ rows. (input : List ℕ) × HasGiven (in_line R.state intake.old) (in_line R.state intake.new) input
+    ensures { IfSome result (λ rows. (input : List ℕ)
+        × HasGiven (in_line R.state intake.old) (in_line R.state intake.new) input
         × ((es : List Listed) (x : InputEnding) → IsListing limits input es x
         → (x ≡ Whole) × (rows ≡ report_of now.nanosecond (values_of es)))) }
 {

@@ -62,7 +62,8 @@ pub fn at_present(alloc: Global, limits: Limits, ticket: &[u8]) -> Option<Unpack
 /// Whether two unpackers give the same ticket, or None where one gives none. They do wherever they were fed the same octets, in
 /// whatever pieces.
 pub fn are_saved_alike(alloc: Global, one: &Unpacker, other: &Unpacker) -> Option<bool>
-    ensures { IfSome result (λ alike. (p : List ℕ) (a b : ℕ) → Stands one.now p a → Stands other.now p b → IsTrue alike) }
+    ensures { IfSome result (λ alike. (p : List ℕ) (a b : ℕ) → Stands one.now p a → Stands other.now p b
+        → IsTrue alike) }
 {
     octets_have_one_ticket();
     let Ok(first) = one.save(alloc) else {

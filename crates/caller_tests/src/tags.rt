@@ -34,7 +34,8 @@ pub fn read_again(number: u64) -> Option<u64>
 
 /// The tag of a head. Whatever follows it, it is read as that head and as no other, and no octet of it is refused.
 pub fn safe_tag(head: Head) -> ArrayVec<u8, TAG_OCTETS>
-    ensures only { (more : List ℕ) (other : HeadValue) (used : ℕ) → HasTag (result.items ++ more) other used → other ≡ head }
+    ensures only { (more : List ℕ) (other : HeadValue) (used : ℕ) → HasTag (result.items ++ more) other used
+        → other ≡ head }
     ensures sound { (more : List ℕ) (fault : HeadFault) → HasNoTag (result.items ++ more) fault → ⊥ }
 {
     canonical_tags_read_back();
@@ -66,8 +67,8 @@ pub fn read_on<D: DatasetSink>(
 /// Whether a reader of datasets takes calls. However the octets that it read are split, into these datasets and a rest, they are the ones
 /// of which it has told; and some octets more make whole datasets of all of them.
 pub fn is_reading(reader: &HeadReader) -> bool
-    ensures split { (octets rest : List ℕ) (events : List DatasetEvent) (ds : List Dataset) → StandsAt reader.now octets events
-        → SplitsInto count_octets octets ds rest → (begun : Begun) × (events ≡ handed_on ds begun) }
+    ensures split { (octets rest : List ℕ) (events : List DatasetEvent) (ds : List Dataset)
+        → StandsAt reader.now octets events → SplitsInto count_octets octets ds rest → (begun : Begun) × (events ≡ handed_on ds begun) }
     ensures more { (octets : List ℕ) (events : List DatasetEvent) → StandsAt reader.now octets events
         → (ds : List Dataset) × (more : List ℕ) × (0 < length more) × SpellsStream count_octets ds (octets ++ more) }
 {

@@ -45,7 +45,8 @@ pub fn take_front<S: StorySink>(front: &[u8], sink: &mut S) -> bool
 /// How many words a line has, up to the greatest count: however they are found in it, they are as many.
 pub fn words_of_line(line: &[u8]) -> Option<u64>
     requires { IsLine line.now }
-    ensures { IfSome result (λ count. (found : List (List ℕ)) → HasWords line.now found → count ≡ capped (length found)) }
+    ensures { IfSome result (λ count. (found : List (List ℕ)) → HasWords line.now found
+        → count ≡ capped (length found)) }
 {
     texts_have_one_reading();
     words_are_longest_runs();

@@ -49,7 +49,8 @@ pub fn with_any(reader: &ObjectReader, set: u8, number: u64) -> Option<ObjectRea
 /// The reader where these numbers of record 7 have come and no subfile: some tokens lead there one after the other. Where another reader
 /// stands there, it is that one.
 pub fn after_numbers(numbers: [Option<u64>; 4]) -> Option<ObjectReader>
-    ensures led { IfSome result (λ _. (tokens : List ObjectToken) × (p : Place) × TokensLead place_start tokens p) }
+    ensures led { IfSome result (λ _. (p : Place) × IsAt numbers 0 None 0 p × (tokens : List ObjectToken)
+        × TokensLead place_start tokens p) }
     ensures one { IfSome result (λ reader. (other : Option State) (p : Place) → IsAt numbers 0 None 0 p → IsPossible p
         → StandsAt other p → other ≡ reader) }
 {

@@ -5,7 +5,7 @@ pub returns-in-Some-clause-led : goal.returns-in-Some-clause-led
 returns-in-Some-clause-led c =
     let (p, at, possible) = c.in-Some.ensures.exactly.0 refl in
     let (tokens, leads, alive) = (c.places_are_led_to.ensures p).0 possible in
-    (tokens, p, leads)
+    (p, at, tokens, leads)
 
 pub returns-in-Some-clause-one : goal.returns-in-Some-clause-one
 returns-in-Some-clause-one c =
