@@ -1,4 +1,5 @@
 pub mod Devices
+pub mod Fronts
 pub mod Spellings
 pub mod Canonical
 pub mod Places
@@ -12,7 +13,6 @@ pub mod Reached
 pub mod Counts
 pub mod Wholes
 -- What proofs of other crates cite.
-pub mod Fronts
 pub mod Telling
 pub mod StoppedTexts
 pub mod WrittenNumbers

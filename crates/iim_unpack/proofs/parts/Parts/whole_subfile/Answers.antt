@@ -3,7 +3,7 @@ use Rattle.std.proofs.lemmas.Bool.Decides.{nat_tests}
 use Rattle.std.specs.Prelude.{IsSome}
 use Rattle.iim_object.specs.Format.Plans.{max_subfiles}
 use Rattle.iim_object.specs.declared.reading.state.State.{State}
-use Rattle.iim_dataset.proofs.Fronts.{are_octets}
+use Rattle.iim_dataset.proofs.OctetLists.{are_octets}
 use Rattle.iim_unpack.proofs.WholeSubfiles.{subfile_went, subfile_stopped, subfile_takes}
 use Rattle.iim_unpack.proofs.parts.Parts.whole_subfile.Goals as goal
 

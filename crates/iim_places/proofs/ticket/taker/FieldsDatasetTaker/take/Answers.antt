@@ -3,7 +3,7 @@ use Rattle.iim_dataset.specs.declared.head.Head.{Head}
 use Rattle.iim_fields.specs.States.Standing.{IsBetween, StandsAfter, limits_of}
 use Rattle.iim_places.specs.TicketParts.{dataset}
 use Rattle.iim_places.specs.Taking.{TookDatasets}
-use Rattle.iim_dataset.proofs.Fronts.{are_octets}
+use Rattle.iim_dataset.proofs.OctetLists.{are_octets}
 use Rattle.iim_places.proofs.Taking.{closed_took}
 use Rattle.iim_places.proofs.ticket.taker.FieldsDatasetTaker.take.Goals as goal
 
