@@ -1,8 +1,10 @@
-use Rattle.std.proofs.Common.{rules, ◌≡◌, ◌+◌, [], length, map, refl, sym, ap, ◌∙◌, append-nil, arith}
+use Rattle.std.proofs.Common.{rules, ◌≡◌, ◌+◌, [], ◌∷◌, ◌++◌, length, map, refl, sym, ap, ◌∙◌, append-nil, arith}
+use Rattle.iim_dataset.specs.Format.Characters.{lf}
 use Rattle.iim_dataset.specs.States.Devices.{Wrote}
 use Rattle.iim_unpack.specs.States.Intakes.{in_line}
 use Rattle.wire_story.specs.Format.Delivery.{octet_for}
-use Rattle.iim_commands.specs.States.Holding.{HoldsNothing, KeepsWriter, PutsLines, StaysStuck, stops_of}
+use Rattle.iim_commands.specs.States.Holding.{HoldsNothing, KeepsWriter, PutsLines, PutsOn, StaysStuck, device_of, stops_of}
+use Rattle.iim_commands.specs.declared.block_writer.BlockWriter.{BlockWriter}
 use Rattle.iim_commands.specs.Format.Lines.{accepted_line, refused_line, too_many_line}
 use Rattle.iim_places.specs.Format.Listing.{max_envelopes, Whole, RefusedBy, TooMany}
 use Rattle.iim_commands.specs.Format.Narration.{IsUnnarrated, text_of}
@@ -27,6 +29,22 @@ refusal g c =
     let state = g.W.Target.state in
     refusal_as (PutsLines state) stops_of HoldsNothing (StaysStuck state) (in_line g.R.Source.state c.telling.intake) (in_line g.R.Source.state c.take_next.new.intake) c.take_next.new.unpacker c.telling.output c.take_next.new.sink c.in_ok-octets.field-0 c.in-Refused.refusal
     c.in-Refused.is c.in_ok-octets.ensures.next
+
+-- what came is out, once the writer lets out what it holds
+envelope_out : (g : Over) (c : In-Envelope g) (d : BlockWriter g.row.W.Denot) → PutsOn g.W.Target.state c.take_next.new.sink d [] → HoldsNothing d → stops_of d ≡ stops_of c.take_next.new.sink
+    → Wrote (device_of g.W.Target.state c.telling.output) (device_of g.W.Target.state d) (text_of (taken g c).come.envelope)
+envelope_out g c d = taken_out d (taken g c) c.telling.invariant.held c.telling.invariant.unbroken c.in_ok-octets.ensures.calm
+
+refused_out : (g : Over) (c : In-Refused g) (d : BlockWriter g.row.W.Denot) → PutsOn g.W.Target.state c.take_next.new.sink d [] → HoldsNothing d → stops_of d ≡ stops_of c.take_next.new.sink
+    → Wrote (device_of g.W.Target.state c.telling.output) (device_of g.W.Target.state d) (map octet_for (refusal g c).more)
+refused_out g c d =
+    text_out g.W.Target.state c.telling.output c.take_next.new.sink d (map octet_for (refusal g c).more) c.telling.invariant.held c.telling.invariant.unbroken c.in_ok-octets.ensures.calm (refusal g c).came.told
+
+-- with an LF after it
+story_is_out : (g : Over) (c : In-Envelope g) (d : BlockWriter g.row.W.Denot) → PutsOn g.W.Target.state c.take_next.new.sink d (lf ∷ []) → HoldsNothing d → stops_of d ≡ stops_of c.take_next.new.sink
+    → Wrote (device_of g.W.Target.state c.telling.output) (device_of g.W.Target.state d) (text_of (taken g c).come.envelope ++ (lf ∷ []))
+story_is_out g c d =
+    story_out g.W.Target.state c.telling.output c.take_next.new.sink d (text_of (taken g c).come.envelope) c.telling.invariant.held c.telling.invariant.unbroken c.in_ok-octets.ensures.calm (taken g c).text
 
 pub telling-init : goal.telling-init
 telling-init g c = record {
@@ -67,12 +85,11 @@ returns-in_err-say-in-Envelope-clause-err g c =
     let rest = in_line g.R.Source.state c.take_next.new.intake in
     let state = g.W.Target.state in
     let r = c.telling.invariant.narrated in
-    let empty = c.telling.invariant.held in
-    let none = c.telling.invariant.unbroken in
-    let h = taken g (goal.at.returns-in_err-say-in-Envelope-clause-err g c).In-Envelope in
+    let at = (goal.at.returns-in_err-say-in-Envelope-clause-err g c).In-Envelope in
+    let h = taken g at in
     let e = h.come.envelope in
     let d = c.let_out.new.output in
-    let out = taken_out d h empty none c.in_ok-octets.ensures.calm c.in_ok-let_out-in-Envelope.ensures.ok c.in_ok-let_out-in-Envelope.ensures.held c.in_ok-let_out-in-Envelope.ensures.calm in
+    let out = envelope_out g at d c.in_ok-let_out-in-Envelope.ensures.ok c.in_ok-let_out-in-Envelope.ensures.held c.in_ok-let_out-in-Envelope.ensures.calm in
     let full : c.telling.count ≡ max_envelopes = search rules in
     let errors_new = g.E.Target.state c.say.new.output in
     let fault = c.in_err-say-in-Envelope.field-0.0 in
@@ -86,12 +103,11 @@ returns-then-count-eq-MAX_ENVELOPES-clause-ok g c =
     let rest = in_line g.R.Source.state c.take_next.new.intake in
     let state = g.W.Target.state in
     let r = c.telling.invariant.narrated in
-    let empty = c.telling.invariant.held in
-    let none = c.telling.invariant.unbroken in
-    let h = taken g (goal.at.returns-then-count-eq-MAX_ENVELOPES-clause-ok g c).In-Envelope in
+    let at = (goal.at.returns-then-count-eq-MAX_ENVELOPES-clause-ok g c).In-Envelope in
+    let h = taken g at in
     let e = h.come.envelope in
     let d = c.let_out.new.output in
-    let out = taken_out d h empty none c.in_ok-octets.ensures.calm c.in_ok-let_out-in-Envelope.ensures.ok c.in_ok-let_out-in-Envelope.ensures.held c.in_ok-let_out-in-Envelope.ensures.calm in
+    let out = envelope_out g at d c.in_ok-let_out-in-Envelope.ensures.ok c.in_ok-let_out-in-Envelope.ensures.held c.in_ok-let_out-in-Envelope.ensures.calm in
     let full : c.telling.count ≡ max_envelopes = search rules in
     let errors_new = g.E.Target.state c.say.new.output in
     let same : c.as_bytes.result.now ≡ too_many_line = search rules in
@@ -104,12 +120,11 @@ returns-then-is_err-clause-err g c =
     let rest = in_line g.R.Source.state c.take_next.new.intake in
     let state = g.W.Target.state in
     let r = c.telling.invariant.narrated in
-    let empty = c.telling.invariant.held in
-    let none = c.telling.invariant.unbroken in
-    let h = taken g (goal.at.returns-then-is_err-clause-err g c).In-Envelope in
+    let at = (goal.at.returns-then-is_err-clause-err g c).In-Envelope in
+    let h = taken g at in
     let e = h.come.envelope in
     let d = c.let_out-then-is_err.new.output in
-    let out = taken_out d h empty none c.in_ok-octets.ensures.calm c.in_ok-let_out-in-Envelope-2.ensures.ok c.in_ok-let_out-in-Envelope-2.ensures.held c.in_ok-let_out-in-Envelope-2.ensures.calm in
+    let out = envelope_out g at d c.in_ok-let_out-in-Envelope-2.ensures.ok c.in_ok-let_out-in-Envelope-2.ensures.held c.in_ok-let_out-in-Envelope-2.ensures.calm in
     unfed_for_memory c.gifts_join.ensures c.texts_join.ensures rest (state d.writer.now) e.octets (length e.octets) (text_of e) r h.come.came.given h.whole out
 
 pub returns-in_err-end_story-in-Envelope-clause-err : goal.returns-in_err-end_story-in-Envelope-clause-err
@@ -127,18 +142,15 @@ pub returns-in_err-say-in-Envelope-2-clause-err : goal.returns-in_err-say-in-Env
 returns-in_err-say-in-Envelope-2-clause-err g c =
     let rest = in_line g.R.Source.state c.take_next.new.intake in
     let state = g.W.Target.state in
-    let a = c.telling.output in
-    let b = c.take_next.new.sink in
     let r = c.telling.invariant.narrated in
-    let empty = c.telling.invariant.held in
-    let none = c.telling.invariant.unbroken in
-    let h = taken g (goal.at.returns-in_err-say-in-Envelope-2-clause-err g c).In-Envelope in
+    let at = (goal.at.returns-in_err-say-in-Envelope-2-clause-err g c).In-Envelope in
+    let h = taken g at in
     let e = h.come.envelope in
     let words = added c.clear.new.self.items c.push_accepted.new.text.items (accepted_line (c.telling.count + 1) c.in-Envelope.octets) c.as_slice.result.now c.clear.ensures.items
     (pushed c.push_accepted.result _ (sym c.is_err.ensures.value ∙ c.if-is_err.false) c.push_accepted.ensures) c.as_slice.ensures.value ∙ ap (accepted_line (c.telling.count + 1)) h.come.counts in
     let below : c.telling.count ≡ max_envelopes → ⊥ = search rules in
     let d = c.end_story.new.output in
-    let out = story_out state a b d (text_of e) empty none c.in_ok-octets.ensures.calm h.text c.in_ok-end_story-in-Envelope.ensures.ok c.in_ok-end_story-in-Envelope.ensures.held c.in_ok-end_story-in-Envelope.ensures.calm in
+    let out = story_is_out g at d c.in_ok-end_story-in-Envelope.ensures.ok c.in_ok-end_story-in-Envelope.ensures.held c.in_ok-end_story-in-Envelope.ensures.calm in
     let errors_new = g.E.Target.state c.say-in-Envelope.new.output in
     let fault = c.in_err-say-in-Envelope-2.field-0.0 in
     handed_on _ c.from_residual-in_err-say-in-Envelope-2.result fault c.from_residual-in_err-say-in-Envelope-2.ensures.1
@@ -166,14 +178,11 @@ pub returns-in_err-push_refused-in-Refused-clause-err : goal.returns-in_err-push
 returns-in_err-push_refused-in-Refused-clause-err g c =
     let rest = in_line g.R.Source.state c.take_next.new.intake in
     let state = g.W.Target.state in
-    let a = c.telling.output in
-    let b = c.take_next.new.sink in
     let r = c.telling.invariant.narrated in
-    let empty = c.telling.invariant.held in
-    let none = c.telling.invariant.unbroken in
-    let f = refusal g (goal.at.returns-in_err-push_refused-in-Refused-clause-err g c).In-Refused in
+    let at = (goal.at.returns-in_err-push_refused-in-Refused-clause-err g c).In-Refused in
+    let f = refusal g at in
     let d = c.let_out-in-Refused.new.output in
-    let out = text_out state a b d (map octet_for f.more) empty none c.in_ok-octets.ensures.calm f.came.told c.in_ok-let_out-in-Refused.ensures.ok c.in_ok-let_out-in-Refused.ensures.held c.in_ok-let_out-in-Refused.ensures.calm in
+    let out = refused_out g at d c.in_ok-let_out-in-Refused.ensures.ok c.in_ok-let_out-in-Refused.ensures.held c.in_ok-let_out-in-Refused.ensures.calm in
     let words = map octet_for f.more in
     handed_on _ c.from_residual-in_err-push_refused-in-Refused.result OutOfMemory c.from_residual-in_err-push_refused-in-Refused.ensures.1
     (unfed_for_memory c.gifts_join.ensures c.texts_join.ensures rest (state d.writer.now) f.octets f.k words r f.came.given (f.more, f.delivered, refl) out)
@@ -182,14 +191,11 @@ pub returns-in_err-say-in-Refused-clause-err : goal.returns-in_err-say-in-Refuse
 returns-in_err-say-in-Refused-clause-err g c =
     let rest = in_line g.R.Source.state c.take_next.new.intake in
     let state = g.W.Target.state in
-    let a = c.telling.output in
-    let b = c.take_next.new.sink in
     let r = c.telling.invariant.narrated in
-    let empty = c.telling.invariant.held in
-    let none = c.telling.invariant.unbroken in
-    let f = refusal g (goal.at.returns-in_err-say-in-Refused-clause-err g c).In-Refused in
+    let at = (goal.at.returns-in_err-say-in-Refused-clause-err g c).In-Refused in
+    let f = refusal g at in
     let d = c.let_out-in-Refused.new.output in
-    let out = text_out state a b d (map octet_for f.more) empty none c.in_ok-octets.ensures.calm f.came.told c.in_ok-let_out-in-Refused.ensures.ok c.in_ok-let_out-in-Refused.ensures.held c.in_ok-let_out-in-Refused.ensures.calm in
+    let out = refused_out g at d c.in_ok-let_out-in-Refused.ensures.ok c.in_ok-let_out-in-Refused.ensures.held c.in_ok-let_out-in-Refused.ensures.calm in
     let words = map octet_for f.more in
     let errors_new = g.E.Target.state c.say-in-Refused.new.output in
     let same : c.as_slice-in-Refused.result.now ≡ refused_line (c.telling.count + 1) c.in-Refused.refusal = search rules in
@@ -206,11 +212,10 @@ returns-in-Refused-clause-ok g c =
     let a = c.telling.output in
     let b = c.take_next.new.sink in
     let r = c.telling.invariant.narrated in
-    let empty = c.telling.invariant.held in
-    let none = c.telling.invariant.unbroken in
-    let f = refusal g (goal.at.returns-in-Refused-clause-ok g c).In-Refused in
+    let at = (goal.at.returns-in-Refused-clause-ok g c).In-Refused in
+    let f = refusal g at in
     let d = c.let_out-in-Refused.new.output in
-    let out = text_out state a b d (map octet_for f.more) empty none c.in_ok-octets.ensures.calm f.came.told c.in_ok-let_out-in-Refused.ensures.ok c.in_ok-let_out-in-Refused.ensures.held c.in_ok-let_out-in-Refused.ensures.calm in
+    let out = refused_out g at d c.in_ok-let_out-in-Refused.ensures.ok c.in_ok-let_out-in-Refused.ensures.held c.in_ok-let_out-in-Refused.ensures.calm in
     let words = map octet_for f.more in
     let errors_new = g.E.Target.state c.say-in-Refused.new.output in
     let same : c.as_slice-in-Refused.result.now ≡ refused_line (c.telling.count + 1) c.in-Refused.refusal = search rules in
@@ -222,24 +227,21 @@ pub telling-preserved : goal.telling-preserved
 telling-preserved g c =
     let rest = in_line g.R.Source.state c.take_next.new.intake in
     let state = g.W.Target.state in
-    let a = c.telling.output in
-    let b = c.take_next.new.sink in
     let r = c.telling.invariant.narrated in
-    let empty = c.telling.invariant.held in
-    let none = c.telling.invariant.unbroken in
-    let h = taken g (goal.at.telling-preserved g c).In-Envelope in
+    let at = (goal.at.telling-preserved g c).In-Envelope in
+    let h = taken g at in
     let e = h.come.envelope in
     let words = added c.clear.new.self.items c.push_accepted.new.text.items (accepted_line (c.telling.count + 1) c.in-Envelope.octets) c.as_slice.result.now c.clear.ensures.items
     (pushed c.push_accepted.result _ (sym c.is_err.ensures.value ∙ c.if-is_err.false) c.push_accepted.ensures) c.as_slice.ensures.value ∙ ap (accepted_line (c.telling.count + 1)) h.come.counts in
     let below : c.telling.count ≡ max_envelopes → ⊥ = search rules in
     let d = c.end_story.new.output in
-    let out = story_out state a b d (text_of e) empty none c.in_ok-octets.ensures.calm h.text c.in_ok-end_story-in-Envelope.ensures.ok c.in_ok-end_story-in-Envelope.ensures.held c.in_ok-end_story-in-Envelope.ensures.calm in
+    let out = story_is_out g at d c.in_ok-end_story-in-Envelope.ensures.ok c.in_ok-end_story-in-Envelope.ensures.held c.in_ok-end_story-in-Envelope.ensures.calm in
     let errors_new = g.E.Target.state c.say-in-Envelope.new.output in
     record {
       alive = lives_as c.take_next.new.intake.failed c.in_ok-octets.field-0 c.in-Envelope.octets c.in-Envelope.is c.in_ok-octets.ensures.lives;
       same = h.come.same;
       held = c.in_ok-end_story-in-Envelope.ensures.held;
-      unbroken = c.in_ok-end_story-in-Envelope.ensures.calm ∙ c.in_ok-octets.ensures.calm ∙ none;
+      unbroken = c.in_ok-end_story-in-Envelope.ensures.calm ∙ c.in_ok-octets.ensures.calm ∙ c.telling.invariant.unbroken;
       keeps = c.in_ok-end_story-in-Envelope.ensures.ok.same ∙ h.come.came.told.same ∙ c.telling.invariant.keeps;
       narrated =
           narrated_more c.gifts_join.ensures c.texts_join.ensures rest (state d.writer.now) errors_new c.as_slice.result.now e r
