@@ -68,7 +68,8 @@ pub fn read_on<D: DatasetSink>(
 /// of which it has told; and some octets more make whole datasets of all of them.
 pub fn is_reading(reader: &HeadReader) -> bool
     ensures split { (octets rest : List ℕ) (events : List DatasetEvent) (ds : List Dataset)
-        → StandsAt reader.now octets events → SplitsInto count_octets octets ds rest → (begun : Begun) × (events ≡ handed_on ds begun) }
+        → StandsAt reader.now octets events → SplitsInto count_octets octets ds rest
+        → (begun : Begun) × (events ≡ handed_on ds begun) }
     ensures more { (octets : List ℕ) (events : List DatasetEvent) → StandsAt reader.now octets events
         → (ds : List Dataset) × (more : List ℕ) × (0 < length more) × SpellsStream count_octets ds (octets ++ more) }
 {

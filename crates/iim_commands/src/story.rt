@@ -60,9 +60,11 @@ fn tell_stories<R: Source, W: Target, E: Target>(
     requires held { HoldsNothing output.old }
     requires unbroken { blocks.stops_of output.old ≡ 0 }
     ensures ok { IfOk result (Narrated (in_line R.state intake.old) (in_line R.state intake.new)
-        (blocks.device_of W.state output.old) (blocks.device_of W.state output.new) (E.state errors.old) (E.state errors.new)) }
+        (blocks.device_of W.state output.old) (blocks.device_of W.state output.new)
+        (E.state errors.old) (E.state errors.new)) }
     ensures err { IfErr result (IsUnnarrated (in_line R.state intake.old) (in_line R.state intake.new)
-        (blocks.device_of W.state output.old) (blocks.device_of W.state output.new) (E.state errors.old) (E.state errors.new)) }
+        (blocks.device_of W.state output.old) (blocks.device_of W.state output.new)
+        (E.state errors.old) (E.state errors.new)) }
     ensures same { KeepsWriter output.old output.new }
     ensures leads { R.leads intake.old.reader intake.new.reader }
 {

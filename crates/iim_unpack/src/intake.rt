@@ -264,8 +264,8 @@ impl<R: Source> Intake<R> {
         sink: &mut S,
     ) -> Result<Option<Unpacked>, IntakeFault>
         requires ready { IsReady unpacker }
-        ensures gives { self.old.failed ≡ None → IfOk result (Gives S.goes (in_line R.state self.old, unpacker, sink.old)
-            (in_line R.state self.new, sink.new) self.new.octets) }
+        ensures gives { self.old.failed ≡ None → IfOk result (Gives S.goes
+            (in_line R.state self.old, unpacker, sink.old) (in_line R.state self.new, sink.new) self.new.octets) }
         ensures calm { OnOk result ((self.new.failed ≡ None) × (S.failures sink.new ≡ S.failures sink.old)) }
         ensures faults { self.old.failed ≡ None → IfErr result (λ fault. (left : Unpacking)
             × GivesNothing S.goes S.failures R.state (self.old, unpacker, sink.old) (self.new, left, sink.new) fault) }

@@ -235,7 +235,8 @@ impl Parts {
             (self.new, sink.new)) }
         ensures before { IfErr result (λ halt. halt.taken < length octets.now) }
         ensures stopped { IfErr result (λ halt.
-            PartsRefuse S.goes S.failures (self.old, sink.old) (HeadRead head ∷ map DataOctet (take halt.taken octets.now))
+            PartsRefuse S.goes S.failures (self.old, sink.old)
+            (HeadRead head ∷ map DataOctet (take halt.taken octets.now))
             (DataOctet (slice_index octets.now halt.taken)) (Some halt.fault, sink.new)) }
         ensures room { room_of self.new.fields ≡ room_of self.old.fields }
     {
@@ -273,7 +274,8 @@ impl Parts {
             (self.new, sink.new)) }
         ensures before { IfErr result (λ halt. halt.taken < length octets.now) }
         ensures stopped { IfErr result (λ halt.
-            PartsRefuse S.goes S.failures (self.old, sink.old) (HeadRead head ∷ map DataOctet (take halt.taken octets.now))
+            PartsRefuse S.goes S.failures (self.old, sink.old)
+            (HeadRead head ∷ map DataOctet (take halt.taken octets.now))
             (DataOctet (slice_index octets.now halt.taken)) (Some halt.fault, sink.new)) }
         ensures room { room_of self.new.fields ≡ room_of self.old.fields }
     {
