@@ -14,7 +14,7 @@ use Rattle.iim_object.specs.Laws.Packing.{NumberDatasetsAreGood}
 use Rattle.iim_object.specs.Format.Packing.{subfile_datasets}
 use Rattle.iim_places.specs.TicketParts.{IsSize}
 use Rattle.iim_places.specs.States.ByLayers.{one_of_some}
-use Rattle.iim_places.specs.Plain.{Numbers, number_list, plain_numbers, filled, plain_end, plain}
+use Rattle.iim_places.specs.States.PlainDatasets.{Numbers, number_list, plain_numbers, filled, plain_end, plain}
 use Rattle.iim_places.proofs.Bounds.{alive_five}
 use Rattle.iim_places.proofs.Plain.{Tell, plain_told, are_sevens, are_eights, are_nines, filled_count}
 use Rattle.iim_places.proofs.PlainContinues.{AreGood, AreTens, MayReplace, all_good, replace_tens, part_tens, end_tens, good_parts, good_end, sections_continue}

@@ -22,7 +22,7 @@ use Rattle.wire_message.specs.declared.place.Place.{Place as Message}
 use Rattle.wire_message.specs.declared.saved.MessagePlace.{MessagePlace}
 use Rattle.iim_places.specs.TicketParts.{AreNumbers, IsSize}
 use Rattle.iim_places.specs.States.ByLayers.{RecordsLive, head_of_numbers}
-use Rattle.iim_places.specs.Plain.{number_list}
+use Rattle.iim_places.specs.States.PlainDatasets.{number_list}
 use Rattle.iim_places.specs.Laws.Tickets.{texts_of}
 use Rattle.iim_places.specs.States.Possible.{widest}
 use Rattle.iim_places.specs.Taking.{AreKept, CanContinueWithin, IsMessageOf, numbers_told, told_datasets}

@@ -38,7 +38,8 @@ use Rattle.iim_places.specs.TicketParts.{IsSize}
 use Rattle.iim_places.specs.States.ByLayers.{LeadsByLayers, record_datasets, one_of_some, head_of_numbers}
 use Rattle.iim_places.specs.Format.Framed.{AreWithin}
 use Rattle.iim_places.specs.Format.Open.{object_so_far, section, AllCanContinue}
-use Rattle.iim_places.specs.Plain.{Numbers, number_list, plain_numbers, filled, plain_end, plain, AreSpellable, begun_object, plain_place}
+use Rattle.iim_places.specs.Plain.{AreSpellable, begun_object, plain_place}
+use Rattle.iim_places.specs.States.PlainDatasets.{Numbers, number_list, plain_numbers, filled, plain_end, plain}
 use Rattle.iim_places.specs.States.Possible.{Possible, AreOpenOrWhole, widest}
 use Rattle.iim_places.specs.Format.Tickets.{Place, Phase, TagBegun, DataBegun, AllEnded, IsPlaceOf}
 use Rattle.iim_places.specs.Format.Tokens.{place_at, ObjectLives, MayContinue, CanContinue}

@@ -28,7 +28,7 @@ use Rattle.wire_message.specs.declared.saved.MessagePlace.{MessagePlace}
 use Rattle.iim_places.specs.Format.Admitted.{object_of}
 use Rattle.iim_places.specs.States.ByLayers.{LeadsByLayers, TagsLead, RecordsLive, ObjectLeads, MessageLeads, record_datasets, begun_subfiles, begun_of_object, object_after, one_of_some, are_ended}
 use Rattle.iim_places.specs.Format.Open.{object_so_far, section, AllCanContinue}
-use Rattle.iim_places.specs.Plain.{plain}
+use Rattle.iim_places.specs.States.PlainDatasets.{plain}
 use Rattle.iim_places.specs.States.Possible.{Possible, widest}
 use Rattle.iim_places.specs.Format.Tickets.{Place, Phase, TagBegun, AllEnded, phase_of, place_of}
 use Rattle.iim_places.specs.Format.Tokens.{ObjectLives, CanContinueAt, MayContinue}

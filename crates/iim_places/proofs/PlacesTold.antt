@@ -14,7 +14,7 @@ use Rattle.wire_message.specs.States.Saved.{LeadsToSaved}
 use Rattle.wire_message.specs.declared.saved.MessagePart.TheVariants.{AfterEnd}
 use Rattle.wire_message.specs.declared.saved.MessagePlace.{MessagePlace}
 use Rattle.iim_places.specs.States.ByLayers.{LeadsByLayers, PlacesArePossibleByLayers, TagsLead, RecordsLive, are_ended, begun_of_object, begun_subfiles, object_after, one_of_some, record_datasets}
-use Rattle.iim_places.specs.Plain.{Numbers, number_list, plain}
+use Rattle.iim_places.specs.States.PlainDatasets.{Numbers, number_list, plain}
 use Rattle.iim_places.specs.Laws.Tickets.{TicketsOfPlacesAreSplit, split_of, TicketsHaveOneSplit}
 use Rattle.iim_places.specs.States.Possible.{IsSmall, IsSmallPhase, IsSmallPlace, greatest_size_before, AreHeadsWithin, begun_count, begun_fields, widest}
 use Rattle.iim_places.specs.Laws.Places.{SmallPlacesWerePossible}

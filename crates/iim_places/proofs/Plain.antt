@@ -20,7 +20,8 @@ use Rattle.iim_places.specs.Format.Admitted.{object_of}
 use Rattle.iim_places.specs.TicketParts.{IsSize}
 use Rattle.iim_places.specs.Format.Open.{object_so_far, section}
 use Rattle.iim_places.specs.Format.Tickets.{phase_of, heads_of}
-use Rattle.iim_places.specs.Plain.{Numbers, number_list, mode_dataset, one_dataset, plain_numbers, filled, plain_end, plain, AreSpellable, begun_object, begun_heads, PlainOctetsLeadToTheirPlace}
+use Rattle.iim_places.specs.Plain.{AreSpellable, begun_object, begun_heads, PlainOctetsLeadToTheirPlace}
+use Rattle.iim_places.specs.States.PlainDatasets.{Numbers, number_list, mode_dataset, one_dataset, plain_numbers, filled, plain_end, plain}
 
 -- The datasets tell these fields, numbers, object octets and heads.
 pub record Tell (ds fields : List Dataset) (numbers : Numbers) (heads : ℕ) (object : List ℕ) (ended : Bool) : Type 0 where

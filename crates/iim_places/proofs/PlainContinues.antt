@@ -24,7 +24,8 @@ use Rattle.iim_object.specs.States.Saved.{stated_numbers}
 use Rattle.iim_places.specs.Format.Admitted.{object_of}
 use Rattle.iim_places.specs.TicketParts.{IsSize}
 use Rattle.iim_places.specs.Laws.Lower.{AnswerLaws}
-use Rattle.iim_places.specs.Plain.{Numbers, number_list, mode_dataset, one_dataset, plain_numbers, filled, plain_end, PlainDatasetsContinueAlike}
+use Rattle.iim_places.specs.Plain.{PlainDatasetsContinueAlike}
+use Rattle.iim_places.specs.States.PlainDatasets.{Numbers, number_list, mode_dataset, one_dataset, plain_numbers, filled, plain_end}
 use Rattle.iim_places.proofs.Bounds.{IsFive, alive_five}
 use Rattle.iim_places.proofs.Plain.{AreOf, one_stated, are_told, four_told, filled_count, all_of, none_of, none_in_fields, are_sevens, are_eights, are_nines, front_octets, back_octets}
 use Rattle.iim_places.proofs.PlainPlaces.{IsOrdered, none_below, sections_ordered, front_ordered, all_kept, numbers_in, join_octets, end_length, present_same}

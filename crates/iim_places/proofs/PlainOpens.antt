@@ -33,7 +33,8 @@ use Rattle.iim_places.specs.Format.Admitted.{Value, object_of}
 use Rattle.iim_places.specs.TicketParts.{IsSize}
 use Rattle.iim_places.specs.Format.Framed.{AreWithin}
 use Rattle.iim_places.specs.Format.Open.{object_so_far, section, AllCanContinue}
-use Rattle.iim_places.specs.Plain.{number_list, filled, plain_end, plain_of, plain_octets, IsPlain, PlainOctetsAreOpenOrWhole}
+use Rattle.iim_places.specs.Plain.{plain_of, plain_octets, IsPlain, PlainOctetsAreOpenOrWhole}
+use Rattle.iim_places.specs.States.PlainDatasets.{number_list, filled, plain_end}
 use Rattle.iim_places.specs.States.Possible.{AreOpenOrWhole, widest}
 use Rattle.iim_places.specs.Format.Streams.{IsEnvelopeWithin}
 use Rattle.iim_places.specs.Format.Tickets.{Place, IsPlaceOf, place_of}

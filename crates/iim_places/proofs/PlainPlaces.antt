@@ -28,7 +28,8 @@ use Rattle.iim_places.specs.Format.Open.{section, object_so_far}
 use Rattle.iim_places.specs.Format.Tickets.{Place, AllEnded, TagBegun, phase_of, heads_of, place_of}
 use Rattle.iim_places.specs.Format.Tokens.{ObjectLives}
 use Rattle.iim_places.specs.States.Possible.{widest}
-use Rattle.iim_places.specs.Plain.{Numbers, plain_numbers, filled, number_list, mode_dataset, one_dataset, plain_end, plain, begun_object, begun_heads, IsPlain, PossiblePlacesArePlain}
+use Rattle.iim_places.specs.Plain.{begun_object, begun_heads, IsPlain, PossiblePlacesArePlain}
+use Rattle.iim_places.specs.States.PlainDatasets.{Numbers, plain_numbers, filled, number_list, mode_dataset, one_dataset, plain_end, plain}
 use Rattle.iim_places.proofs.Bounds.{IsFive, alive_five, tag_low}
 use Rattle.iim_places.proofs.Fitting.{Lived, lived, each_octets, each_low, numbers_fit, ones_in, taken_fits}
 use Rattle.iim_places.proofs.Following.{alive_of, within_of, object_lives_after}

@@ -35,7 +35,7 @@ use Rattle.iim_places.specs.TicketParts.{IsSize}
 use Rattle.iim_places.specs.States.ByLayers.{RecordsLive, begun_of_object, object_after, one_of_some, are_ended, begun_subfiles}
 use Rattle.iim_places.specs.Laws.Lower.{ByLayersLaws, PlaceLaws, FeedLaws}
 use Rattle.iim_places.specs.Format.Open.{section}
-use Rattle.iim_places.specs.Plain.{Numbers, number_list, plain}
+use Rattle.iim_places.specs.States.PlainDatasets.{Numbers, number_list, plain}
 use Rattle.iim_places.specs.States.Readers.{RecordsStand, MessageStands, tag_place}
 use Rattle.iim_places.specs.Format.Tickets.{Place, Phase, TagBegun, AllEnded, phase_of}
 use Rattle.iim_places.specs.Format.Tokens.{place_at, ObjectLives, CanContinue, CanContinueAt}

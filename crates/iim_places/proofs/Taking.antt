@@ -13,7 +13,7 @@ use Rattle.iim_fields.specs.Format.Values.{data_of, number_told}
 use Rattle.iim_fields.specs.declared.check.RecordPlace.{RecordPlace}
 use Rattle.iim_fields.specs.declared.fault.FieldFault.{FieldFault}
 use Rattle.iim_fields.specs.declared.limits.Limits.{Limits}
-use Rattle.iim_places.specs.Plain.{mode_dataset}
+use Rattle.iim_places.specs.States.PlainDatasets.{mode_dataset}
 use Rattle.iim_places.specs.States.Possible.{widest}
 use Rattle.iim_places.specs.Taking.{CanContinueWithin, TookDatasets}
 use Rattle.iim_places.proofs.Limits.{kept_first, kept_octets_append, kept_length_append}

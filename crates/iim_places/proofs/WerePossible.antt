@@ -32,7 +32,8 @@ use Rattle.iim_places.specs.Laws.Places.{LimitsAreToldByPlace, SmallPlacesWerePo
 use Rattle.iim_places.specs.States.Scales.{FitsRow, SectionsLiveIn, HaveRoomIn, PossibleAt, place_in, first_scale}
 use Rattle.iim_places.specs.Format.Tickets.{Place, IsPlaceOf, TagBegun, AllEnded, phase_of}
 use Rattle.iim_places.specs.Format.Tokens.{CanContinueAt, MayContinue, ObjectLives, place_at}
-use Rattle.iim_places.specs.Plain.{Numbers, number_list, mode_dataset, one_dataset, plain_numbers, filled, plain_end, plain, plain_place, plain_octets, IsPlain, begun_object}
+use Rattle.iim_places.specs.Plain.{plain_place, plain_octets, IsPlain, begun_object}
+use Rattle.iim_places.specs.States.PlainDatasets.{Numbers, number_list, mode_dataset, one_dataset, plain_numbers, filled, plain_end, plain}
 use Rattle.iim_places.proofs.Answering.{one_reading, reads_envelope}
 use Rattle.iim_places.proofs.Bounds.{is_one}
 use Rattle.iim_places.proofs.Following.{within_of}

@@ -1,5 +1,5 @@
--- The plain datasets of a place: those that tell it, and no others.
-use Rattle.std.specs.Prelude.{◌≡◌, ℕ, zero, suc, ◌+◌, ◌*◌, ◌≤◌, ◌==◌, if◌then◌else◌, Bool, true, List, [], ◌∷◌, ◌++◌, length, sum, take, drop, Option, Some, None, IfSome}
+-- Where the plain datasets of a place lead, and what follows them.
+use Rattle.std.specs.Prelude.{◌≡◌, ℕ, ◌+◌, ◌*◌, ◌≤◌, ◌==◌, if◌then◌else◌, Bool, true, List, [], ◌++◌, length, sum, Some, IfSome}
 use Rattle.std.specs.List.{AllByRecursion}
 use Rattle.std.specs.Option.{unwrap_or}
 use Rattle.iim_dataset.specs.Format.Octets.{IsOctet, Octets, greatest_size}
@@ -14,53 +14,13 @@ use Rattle.iim_object.specs.Format.Places as objects
 use Rattle.iim_object.specs.States.Saved.{IsPossible, stated_numbers}
 use Rattle.iim_object.specs.Format.Sizes.{AreStated, number_at}
 use Rattle.iim_places.specs.Format.Admitted.{object_of}
-use Rattle.iim_object.specs.Format.Packing.{number_dataset, subfile_datasets, confirmed_datasets}
 use Rattle.wire_message.specs.States.Saved.{LeadsToSaved}
 use Rattle.wire_message.specs.declared.saved.MessagePlace.{MessagePlace}
 use Rattle.iim_places.specs.TicketParts.{IsSize}
 use Rattle.iim_places.specs.Format.Open.{section}
+use Rattle.iim_places.specs.States.PlainDatasets.{Numbers, number_list, plain}
 use Rattle.iim_places.specs.States.Possible.{Possible, AreOpenOrWhole, widest}
 use Rattle.iim_places.specs.Format.Tickets.{Place, phase_of, IsPlaceOf}
-
--- what a ticket tells of record 7: the numbers of 7:10, 7:20, 7:90 and 7:95
-pub record Numbers : Type 0 where
-  pub mode : Option ℕ
-  pub largest : Option ℕ
-  pub announced : Option ℕ
-  pub maximum : Option ℕ
-
-abbrev pub number_list : Numbers → List (Option ℕ)
-number_list n = n.mode ∷ n.largest ∷ n.announced ∷ n.maximum ∷ []
-
--- Size Mode, in one octet
-abbrev pub mode_dataset : ℕ → Dataset
-mode_dataset n = record { rec = 7; set = 10; octets = n ∷ [] }
-
--- a dataset where there is a number
-abbrev pub one_dataset : (ℕ → Dataset) → Option ℕ → List Dataset
-one_dataset made None = []
-one_dataset made (Some n) = made n ∷ []
-
--- record 7: its numbers in their order
-abbrev pub plain_numbers : Numbers → List Dataset
-plain_numbers n =
-    one_dataset mode_dataset n.mode ++ (one_dataset (number_dataset 7 20) n.largest ++ (one_dataset (number_dataset 7 90) n.announced ++ one_dataset (number_dataset 7 95) n.maximum))
-
--- the octets cut into `count` parts of at most `size` octets, each filled before the next
-abbrev pub filled : (size count : ℕ) → List ℕ → List (List ℕ)
-filled size zero xs = []
-filled size (suc count) xs = take size xs ∷ filled size count (drop size xs)
-
--- 9:10, where the object has ended
-abbrev pub plain_end : Bool → List ℕ → List Dataset
-plain_end ended object = if ended then confirmed_datasets object else []
-
--- records 1 and 2, the numbers of record 7, `heads` subfiles of the object, each filled before the next, and its end where it has
--- come
-abbrev pub plain : List Dataset → Numbers → ℕ → List ℕ → Bool → List Dataset
-plain fields numbers heads object ended = fields ++ (plain_numbers numbers ++ (subfile_datasets (filled (unwrap_or numbers.largest 0) heads object) ++ plain_end ended object))
-
--- ---- their place
 
 -- The plain datasets can be spelled: the fields are datasets of records 1 and 2, each number fits its octets, and the subfiles have
 -- room for the object.

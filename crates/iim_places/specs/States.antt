@@ -1,3 +1,4 @@
+pub mod PlainDatasets
 pub mod Possible
 pub mod Scales
 pub mod TicketsTold

@@ -24,7 +24,7 @@ use Rattle.iim_places.specs.Format.Admitted.{Value, object_of}
 use Rattle.iim_places.specs.States.ByLayers.{LeadsByLayers, RecordsLive, record_datasets, one_of_some}
 use Rattle.iim_places.specs.Format.Open.{object_so_far, section, IsOpen}
 use Rattle.iim_unpack.specs.States.Parts.{AreAfter, Within, StandsFor, has_ended}
-use Rattle.iim_places.specs.Plain.{plain}
+use Rattle.iim_places.specs.States.PlainDatasets.{plain}
 use Rattle.iim_unpack.specs.Restoring.{IsMadeFor, has_come}
 use Rattle.iim_places.specs.States.Readers.{RecordsStand}
 use Rattle.iim_places.specs.Format.Streams.{IsEnvelopeWithin}

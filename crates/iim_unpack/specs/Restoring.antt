@@ -3,7 +3,7 @@ use Rattle.std.specs.Prelude.{◌≡◌, ℕ, ◌<◌, ◌≤◌, ◌==◌, if�
 use Rattle.iim_dataset.specs.States.Reading.{TakesCalls}
 use Rattle.iim_fields.specs.declared.limits.Limits.{Limits}
 use Rattle.iim_places.specs.States.ByLayers.{LeadsByLayers, record_datasets}
-use Rattle.iim_places.specs.Plain.{Numbers}
+use Rattle.iim_places.specs.States.PlainDatasets.{Numbers}
 use Rattle.iim_places.specs.States.Possible.{AreHeadsWithin}
 use Rattle.iim_places.specs.States.Readers.{tag_place, RecordsStand, ObjectStands, MessageStands}
 use Rattle.iim_places.specs.Format.Tickets.{Place, Phase, TagBegun, DataBegun, AllEnded}

@@ -14,7 +14,7 @@ use Rattle.iim_object.specs.Format.Places as objects
 use Rattle.iim_object.specs.States.Saved.{IsAt, IsPossible}
 use Rattle.wire_message.specs.States.Saved.{LeadsToSaved}
 use Rattle.wire_message.specs.declared.saved.MessagePart.TheVariants.{AfterEnd}
-use Rattle.iim_places.specs.Plain.{Numbers, number_list, plain}
+use Rattle.iim_places.specs.States.PlainDatasets.{Numbers, number_list, plain}
 use Rattle.iim_places.specs.States.Possible.{Possible, widest, AreHeadsWithin}
 use Rattle.iim_places.specs.Format.TicketForm.{came}
 use Rattle.iim_places.specs.Format.Tickets.{Place, Phase, TagBegun, DataBegun, AllEnded}

@@ -9,7 +9,7 @@ ghost use Rattle.iim_fields.specs.States.Stores.{Room};
 ghost use Rattle.iim_fields.specs.declared.limits.Limits.{Limits as LimitsValue};
 ghost use Rattle.iim_object.specs.Format.Packing.{number_dataset};
 ghost use Rattle.iim_places.specs.TicketParts.{dataset, AreNumbers, IsSize};
-ghost use Rattle.iim_places.specs.Plain.{mode_dataset, one_dataset, plain_end, plain_numbers};
+ghost use Rattle.iim_places.specs.States.PlainDatasets.{mode_dataset, one_dataset, plain_end, plain_numbers};
 ghost use Rattle.iim_places.specs.States.Possible.{widest};
 ghost use Rattle.iim_places.specs.Taking.{AreKept, TookDatasets, no_room, numbers_told, told_datasets};
 
