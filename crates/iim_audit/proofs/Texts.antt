@@ -17,6 +17,7 @@ use Rattle.wire_message.specs.Format.Messages.{Header, IsMessage}
 use Rattle.wire_message.specs.declared.place.Place.TheVariants.{AfterEnd}
 use Rattle.iim_places.specs.Format.Admitted.{Value, Admits, object_of}
 use Rattle.iim_places.specs.Format.Open.{object_so_far, IsTextOf, Delivers}
+use Rattle.iim_places.proofs.Answering.{no_text}
 
 pub record TextLaws : Type 0 where
   pub way : OctetsAreHandedOnOneWay
@@ -39,9 +40,6 @@ nothing_begun =
 
 reads_whole : (octets : List ℕ) (ds : List Dataset) → SpellsStream count_octets ds octets → Reads count_octets octets ds (InTag [])
 reads_whole octets ds spelled = record { front = octets; rest = []; is_front = spelled; is_rest = nothing_begun; parts = sym (append-nil octets) }
-
-no_text : IsTextOf [] []
-no_text = ([], InTag [], reads_whole [] [] refl, refl)
 
 text_of_message : TextsStandBetweenStxAndEtx → (object text trailer : List ℕ) (head : Header) (lines : List (List ℕ)) → IsMessage object head text trailer → IsText text lines
     → text ≡ text_so_far object

@@ -1,5 +1,5 @@
 -- What the room of a line is enough for.
-use Rattle.std.specs.Prelude.{ℕ, ◌≤◌, List, length}
+use Rattle.std.specs.Prelude.{◌≤◌, List, length}
 use Rattle.std.specs.List.{All}
 use Rattle.iim_fields.specs.Format.Ids.{Identity}
 use Rattle.iim_audit.specs.Repeats.{ids_of}

@@ -80,10 +80,6 @@ octets_of_line (x ∷ xs) = ap (λ (t : List ℕ). x ∷ t) (octets_of_line xs)
 pub told_line : {W : Type 0} (state : W → Device) (a b : BlockWriter W) (xs : List ℕ) → PutsOn state a b xs → PutsLines state a (map LineOctet xs) b
 told_line state a b xs p = subst (PutsOn state a b) (sym (octets_of_line xs)) p
 
-pub if_err : {T E : Type 0} (r : Result T E) (P Q : E → Type 0) → ((e : E) → P e → Q e) → IfErr r P → IfErr r Q
-if_err (Ok x) P Q f h = h
-if_err (Err e) P Q f h = f e h
-
 -- ---- what is held and let out
 
 pub holds : {W : Type 0} (state : W → Device) → TextsJoin → (a b : BlockWriter W) (text : List ℕ) → KeepsWriter a b → held_of b ≡ held_of a ++ text → device_of state b ≡ device_of state a → HasPut state a b text

@@ -40,7 +40,8 @@ use Rattle.iim_commands.specs.declared.coming.Next.TheVariants as next
 use Rattle.iim_commands.specs.declared.fault.CommandFault.{CommandFault}
 use Rattle.iim_commands.specs.declared.fault.CommandFault.TheVariants.{CannotRead, CannotWrite, OutOfMemory}
 use Rattle.iim_commands.proofs.Listings.{AreTaken, consumes_holds, divides, given_then, missed_then, none_taken, taken_more, text_after}
-use Rattle.iim_commands.proofs.Taken.{come_as, no_text}
+use Rattle.iim_places.proofs.Answering.{no_text}
+use Rattle.iim_commands.proofs.Taken.{come_as}
 
 -- ---- what is delivered of an envelope
 

@@ -1,9 +1,7 @@
 -- What an intake gives, of an unpacker that stands on no octets.
-use Rattle.std.proofs.Common.{◌≡◌, ◌≢◌, ◌⊎◌, ℕ, inl, inr, refl, sym, ap, subst, ◌∙◌, arith, List, [], ◌∷◌, length, take, Option, None, Some, Result, Ok, Err}
+use Rattle.std.proofs.Common.{◌≡◌, ◌≢◌, ◌⊎◌, ℕ, inl, inr, refl, sym, ap, subst, ◌∙◌, arith, List, [], length, take, Option, None, Some, Result, Ok, Err}
 use Rattle.std.proofs.Math.Seq.{take-length}
-use Rattle.iim_dataset.specs.Format.Datasets.{count_octets}
 use Rattle.iim_dataset.specs.States.Devices.{Device, HasGiven}
-use Rattle.iim_dataset.specs.Format.Splits.{InTag, Reads}
 use Rattle.iim_dataset.specs.declared.device.IoFault.{IoFault}
 use Rattle.iim_dataset.specs.declared.device.IoFault.TheVariants as io
 use Rattle.std.specs.Io.KnownBytes.{IsAtEnd}
@@ -17,7 +15,7 @@ use Rattle.iim_unpack.specs.declared.intake.IntakeFault.{IntakeFault}
 use Rattle.iim_unpack.specs.declared.intake.IntakeFault.TheVariants.{Refused, Read, Interrupted}
 use Rattle.iim_unpack.specs.States.Intakes.{Faults, IsOfReader, IsRefusedOf, IsTruncatedIn, WasDone, WasMissed, WasRefused, WasTruncated}
 use Rattle.iim_unpack.specs.States.Parts.{CountsFor}
-use Rattle.iim_places.specs.Format.Open.{Delivers, IsOpen, IsTextOf}
+use Rattle.iim_places.specs.Format.Open.{Delivers, IsOpen}
 use Rattle.iim_unpack.specs.States.Unpacking.{IsDoneWith, LeftAs, Stands, Unpacking, limits_in}
 use Rattle.iim_places.specs.States.Counts.{raised}
 use Rattle.iim_unpack.proofs.Intakes.{Joined, fed_and_done, fed_and_faults, missed_open}
@@ -32,31 +30,7 @@ use Rattle.iim_commands.specs.declared.fault.CommandFault.{CommandFault}
 use Rattle.iim_commands.specs.declared.fault.CommandFault.TheVariants.{CannotRead, CannotWrite, OutOfMemory}
 use Rattle.iim_commands.specs.States.Coming.{CanAskForMore, EnvelopeHasCome, IsCalm, IsCutOff, IsHeldUp, IsNext, IsRefusal, IsUnheard}
 use Rattle.iim_commands.specs.Format.Listings.{limits, IsDelivered}
-
--- no octets are no datasets, and the beginning of a tag
-reads_none : Reads count_octets [] [] (InTag [])
-reads_none = record {
-  front = [];
-  rest = [];
-  is_front = refl;
-  is_rest = (
-    refl,
-    record { rec = 0; set = 0; count = 0 },
-    28 ∷ 0 ∷ 0 ∷ 0 ∷ 0 ∷ [],
-    record {
-      rec = omega arith;
-      set = omega arith;
-      count = 0 ∷ 0 ∷ [];
-      is_count = inl (omega arith, omega arith, refl, refl);
-      parts = refl;
-    },
-    (28 ∷ 0 ∷ 0 ∷ 0 ∷ 0 ∷ [], omega arith, refl),
-  );
-  parts = refl;
-}
-
-pub no_text : IsTextOf [] []
-no_text = ([], InTag [], reads_none, refl)
+use Rattle.iim_places.proofs.Answering.{no_text}
 
 pub delivered_of : (octets : List ℕ) (more : List StoryEvent) → Delivers [] octets more → IsDelivered octets more
 delivered_of octets more adds =

@@ -1,7 +1,7 @@
 -- How a packer finishes, by the writer of its object.
 use Rattle.std.proofs.Common.{◌≡◌, ℕ, ◌+◌, ◌≤◌, Bool, true, false, not, nat_le, cond, Option, Some, None, List, ◌++◌, length, refl, sym, ap, subst, ◌∙◌, arith, append_assoc, length-append}
 use Rattle.std.specs.List.{list_all}
-use Rattle.std.proofs.lemmas.Bool.{and_parts, leb-true, ltb-false}
+use Rattle.std.proofs.lemmas.Bool.{and_parts, leb-true, ltb-false, not-false}
 use Rattle.iim_dataset.specs.States.Devices.{Device}
 use Rattle.iim_dataset.specs.Format.Datasets.{canonical_stream}
 use Rattle.iim_object.specs.Format.Plans.{bound_of, is_short}
@@ -30,10 +30,6 @@ pub first_none : {A : Type 0} (b : Bool) (a : A) (o : Option A) → cond b (Some
 first_none true a o e = absurd cc
 first_none false a o e = (refl, e)
 
-pub not_false : (b : Bool) → not b ≡ false → b ≡ true
-not_false true e = refl
-not_false false e = absurd cc
-
 pub record MayEnd (plan : Plan) (total : ℕ) (trailer : List ℕ) : Type 0 where
   pub trailer_is : IsTrailer trailer
   pub fits : total + length (packed_tail trailer) ≤ most_of plan
@@ -44,10 +40,10 @@ may_end plan total trailer e =
     let a = first_none (not (is_trailer trailer)) _ _ e in
     let b = first_none (passes_plan plan (total + length (packed_tail trailer))) _ _ a.1 in
     let d = first_none (is_short plan.size (total + length (packed_tail trailer))) _ _ b.1 in
-    let t = and_parts (list_all is_trailer_octet trailer) (nat_le (length trailer) 64) (not_false (is_trailer trailer) a.0) in
+    let t = and_parts (list_all is_trailer_octet trailer) (nat_le (length trailer) 64) (not-false (is_trailer trailer) a.0) in
     record {
       trailer_is = (t.0, omega arith, leb-true (length trailer) 64 t.1);
-      fits = leb-true (total + length (packed_tail trailer)) (most_of plan) (not_false (nat_le (total + length (packed_tail trailer)) (most_of plan)) b.0);
+      fits = leb-true (total + length (packed_tail trailer)) (most_of plan) (not-false (nat_le (total + length (packed_tail trailer)) (most_of plan)) b.0);
       whole = d.0;
     }
 

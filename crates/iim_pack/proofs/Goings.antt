@@ -1,7 +1,7 @@
 -- How a packer continues, breaks off and finishes, by the writer of its object.
-use Rattle.std.proofs.Common.{◌≡◌, ℕ, ◌+◌, ◌≤◌, Bool, true, false, not, nat_le, Option, Some, None, List, [], ◌∷◌, ◌++◌, map, refl, sym, ap, subst, ◌∙◌, arith, append_assoc}
+use Rattle.std.proofs.Common.{◌≡◌, ℕ, ◌+◌, ◌≤◌, false, not, nat_le, Option, Some, None, List, [], ◌∷◌, ◌++◌, map, refl, sym, ap, subst, ◌∙◌, arith, append_assoc}
 use Rattle.std.specs.Prelude.{IfNone}
-use Rattle.std.proofs.lemmas.Bool.{and_parts, le-leb, leb-true}
+use Rattle.std.proofs.lemmas.Bool.{and_parts, le-leb, leb-true, not-false}
 use Rattle.std.specs.List.{list_all}
 use Rattle.iim_dataset.specs.States.Devices.{Device}
 use Rattle.iim_dataset.specs.Format.Datasets.{Dataset, canonical_stream}
@@ -119,11 +119,7 @@ broken state before old new events law k =
 
 -- ---- causes
 
-not_false : (b : Bool) → not b ≡ false → b ≡ true
-not_false true e = refl
-not_false false e = absurd cc
-
 pub may_write : {W : Type 0} (w : Writing W) (n ending : ℕ) → w.failed ≡ false → not (nat_le (total_of w + (n + ending)) (most_of w.plan)) ≡ false → write_cause w n ≡ None
 may_write w n ending unfailed fits =
-    let le : total_of w + (n + ending) ≤ most_of w.plan = leb-true (total_of w + (n + ending)) (most_of w.plan) (not_false (nat_le (total_of w + (n + ending)) (most_of w.plan)) fits) in
+    let le : total_of w + (n + ending) ≤ most_of w.plan = leb-true (total_of w + (n + ending)) (most_of w.plan) (not-false (nat_le (total_of w + (n + ending)) (most_of w.plan)) fits) in
     rw (unfailed, le-leb (total_of w + n) (most_of w.plan) (omega (arith, le))) refl

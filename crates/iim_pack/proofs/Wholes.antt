@@ -1,6 +1,6 @@
 -- A whole envelope packed in one call.
 use Rattle.std.proofs.Common.{◌≡◌, ℕ, ◌+◌, ◌≤◌, true, false, not, nat_le, None, inl, inr, List, [], ◌∷◌, ◌++◌, length, refl, sym, ap, subst, ◌∙◌, arith, append-nil, length-append}
-use Rattle.std.proofs.lemmas.Bool.{leb-true, le-leb}
+use Rattle.std.proofs.lemmas.Bool.{leb-true, le-leb, not-false}
 use Rattle.iim_dataset.specs.States.Devices.{Device, Wrote, BrokeAfter}
 use Rattle.iim_dataset.specs.Laws.Devices.{TextsJoin}
 use Rattle.iim_dataset.specs.Format.Datasets.{Dataset}
@@ -21,7 +21,7 @@ use Rattle.iim_pack.specs.Format.Packed.{Packed}
 use Rattle.iim_pack.specs.States.Packing.{Packing, Lengthens, BreaksOff, ContinuesWith, EndsIn, Finishes, is_trailer, pack_cause, start_cause, finish_cause, least_ending, written_of}
 use Rattle.iim_pack.specs.States.Starting.{Starts, StartBreaksOff, IsStartFault}
 use Rattle.iim_pack.specs.States.Whole.{Packs, IsPackFault}
-use Rattle.iim_pack.proofs.Finishings.{first_none, not_false}
+use Rattle.iim_pack.proofs.Finishings.{first_none}
 
 -- the lines of the events of lines are these
 pub lines_again : PackedLinesAreAText → TextsAreDeliveredAsLines → TextsAreCollectedAsLines → (lines : List (List ℕ)) → MakeText lines → lines_of (events_of_lines lines) ≡ lines
@@ -97,8 +97,8 @@ may_pack law head lines trailer plan e =
     let b = first_none (passes_plan plan size) _ _ a.1 in
     let d = first_none (is_short plan.size size) _ _ b.1 in
     record {
-      trailer_is = not_false (is_trailer trailer) a.0;
-      fits = leb-true size (most_of plan) (not_false (nat_le size (most_of plan)) b.0);
+      trailer_is = not-false (is_trailer trailer) a.0;
+      fits = leb-true size (most_of plan) (not-false (nat_le size (most_of plan)) b.0);
       whole = d.0;
       parts = omega (arith, length-append (packed_head head) (packed_text lines ++ packed_tail trailer), length-append (packed_text lines) (packed_tail trailer), ap length (law lines));
     }

@@ -27,7 +27,7 @@ use Rattle.wire_message.specs.declared.fault.MessageCause.TheVariants as message
 use Rattle.iim_places.specs.Format.Admitted.{Value, Admits, object_of}
 use Rattle.iim_places.specs.Format.Refusals.{begun_record, begun_number, tag_cause, refusal_at, message_on}
 use Rattle.iim_places.specs.Laws.Admitted.{AdmittedOctetsHaveOneValue, NoAdmittedOctetsBeginOthers}
-use Rattle.iim_places.specs.Format.Open.{object_so_far, AllCanContinue, IsUnfinished, IsOpen, IsBadTagAt, IsBadHeadAt, IsBadOctetAt, IsBadValueAt, RefusesNext, truncated_in}
+use Rattle.iim_places.specs.Format.Open.{IsTextOf, object_so_far, AllCanContinue, IsUnfinished, IsOpen, IsBadTagAt, IsBadHeadAt, IsBadOctetAt, IsBadValueAt, RefusesNext, truncated_in}
 use Rattle.iim_places.specs.Format.Tokens.{IsRefusedHead, IsRefusedValue}
 use Rattle.iim_places.specs.Laws.Streams.{OpenOctetsBeginWithNoEnvelope, EnvelopesAreBounded, RefusedOctetsWereOpen, NothingContinuesFromRefusedOctets, RefusalsAreDetermined, StreamsHaveOneAnswer}
 use Rattle.iim_places.specs.Format.Streams.{IsEnvelopeWithin, Finished, Refused, Truncated, IsFinished, IsRefused, IsTruncated}
@@ -87,6 +87,10 @@ goes_envelope laws limits octets v is =
     }
 
 -- what an envelope's octets read
+-- no octets have no text
+pub no_text : IsTextOf [] []
+no_text = ([], InTag [], record { front = []; rest = []; is_front = refl; is_rest = nothing_held; parts = refl }, refl)
+
 pub reads_envelope : (octets : List ℕ) (v : Value) → (a : Admits octets v) → Reads count_octets octets a.datasets (InTag [])
 reads_envelope octets v a = record { front = octets; rest = []; is_front = a.spelled; is_rest = nothing_held; parts = sym (append-nil octets) }
 

@@ -1,5 +1,6 @@
 -- Octets that lead to one place continue alike.
 use Rattle.std.proofs.Common.{◌≡◌, ℕ, ◌+◌, nat_eq, cond, if◌then◌else◌, Bool, true, false, List, [], ◌∷◌, ◌++◌, length, map, Some, None, refl, ap, sym, subst, ◌∙◌, inl, inr, arith, append_assoc, append-nil}
+use Rattle.std.proofs.lemmas.List.{append_cancel_left}
 use Rattle.iim_dataset.specs.Format.Languages as languages
 use Rattle.iim_dataset.specs.Format.Octets.{number}
 use Rattle.iim_dataset.specs.Format.Datasets.{Dataset, SpellsStream, count_octets, of_record}
@@ -261,10 +262,6 @@ text_of laws p ds c reads text (whole, begun, other, is) =
     let same = one_reading laws.opens.answer p whole ds begun c other reads in
     is ∙ ap (λ (zs : List Dataset). text_so_far (object_so_far zs begun)) same.whole_is ∙ ap (λ (b : Begun). text_so_far (object_so_far ds b)) same.begun_is
 
-cancel : (t x y : List ℕ) → t ++ x ≡ t ++ y → x ≡ y
-cancel [] x y e = e
-cancel (a ∷ t) x y e = cancel t x y (let tails : t ++ x ≡ t ++ y = cc in tails)
-
 pub adds_as : OnwardLaws → (limits : Limits) (p q more : List ℕ) (ds es : List Dataset) (c d : Begun) → Reads count_octets p ds c → Reads count_octets q es d → SameMessage (object_so_far ds c) (object_so_far es d) → (W : List Dataset) (b : Begun) → Reads count_octets (p ++ more) W b
     → ReadAlike limits (q ++ more) (object_so_far ds c) (object_so_far es d) W b → (events : List story.StoryEvent) → Delivers p more events → Delivers q more events
 adds_as laws limits p q more ds es c d r s m W b w read events adds text is =
@@ -280,7 +277,7 @@ adds_as laws limits p q more ds es c d r s m W b w read events adds text is =
     let (more_text, is_text, told) = adds (text_so_far o) (ds, c, r, refl) in
     let here : text_so_far o ++ more_text ≡ text_so_far o ++ added =
     text_of laws (p ++ more) W b w (text_so_far o ++ more_text) is_text ∙ ap text_so_far read.here ∙ sym (texts (o ++ e) (m.text ++ added) new led) ∙ ap (λ (t : List ℕ). t ++ added) (texts o m.text m.at m.here) in
-    let same : more_text ≡ added = cancel (text_so_far o) more_text added here in
+    let same : more_text ≡ added = append_cancel_left (text_so_far o) more_text added here in
     let there : text ++ more_text ≡ text_so_far (object_so_far read.whole read.begun) =
     ap (λ (t : List ℕ). t ++ more_text) (text_of laws q es d s text is ∙ sym (texts x m.other m.at m.there)) ∙ ap (λ (t : List ℕ). m.other ++ t) same ∙ texts (x ++ e) (m.other ++ added) new led' ∙ ap text_so_far (sym read.there) in
     (more_text, (read.whole, read.begun, read.reads, there), told)
@@ -363,7 +360,7 @@ whole_alike laws limits p q place is are w other v whole =
     (goes_envelope laws.opens.answer limits q w other).sizes (nine_at laws limits q w other)
 
 back_none : (t added : List ℕ) → t ++ added ≡ t → added ≡ []
-back_none t added e = cancel t added [] (e ∙ sym (append-nil t))
+back_none t added e = append_cancel_left t added [] (e ∙ sym (append-nil t))
 
 -- nothing follows an envelope but nothing
 both_whole : OnwardLaws → OpenOctetsBeginWithNoEnvelope → NoAdmittedOctetsBeginOthers → (limits : Limits) (p q : List ℕ) (place : Place) → IsPlaceOf p place → IsPlaceOf q place → (v w : Value) → IsEnvelopeWithin limits p v → IsEnvelopeWithin limits q w

@@ -1,7 +1,7 @@
 -- Envelopes one after another.
 use Rattle.std.proofs.Common.{◌≡◌, ◌≤◌, ◌<◌, ◌⊎◌, ◌^◌, ◌-◌, ℕ, List, [], ◌∷◌, ◌++◌, length, take, slice_index, Bool, true, false, refl, ap, sym, subst, ◌∙◌, inl, inr, arith, append_assoc, length-append}
 use Rattle.std.specs.List.{AllByRecursion}
-use Rattle.std.proofs.lemmas.List.{append-nil, length-take-le}
+use Rattle.std.proofs.lemmas.List.{append-nil, length-take-le, append_cancel_left}
 use Rattle.std.proofs.lemmas.Bool.{false≢true}
 use Rattle.std.proofs.Math.Seq.{take-append_seam}
 use Rattle.iim_fields.specs.declared.limits.Limits.{Limits}
@@ -52,21 +52,17 @@ fronts (a ∷ f) (b ∷ g) x y e =
       | inr h ↦ inr (h.0, let p = h.1 in cc)
     ]
 
-cancel : (f x y : List ℕ) → f ++ x ≡ f ++ y → x ≡ y
-cancel [] x y e = e
-cancel (a ∷ f) x y e = cancel f x y (let tail : f ++ x ≡ f ++ y = cc in tail)
-
 -- Envelopes that equal lists begin with are equal.
 same_octets : (limits : Limits) → NoAdmittedOctetsBeginOthers → (e f : Listed) (x y : List ℕ) → IsListed limits e → IsListed limits f → e.octets ++ x ≡ f.octets ++ y → (e.octets ≡ f.octets) × (x ≡ y)
 same_octets limits law e f x y is_e is_f at = elim (fronts e.octets f.octets x y at) [
   | inl h ↦
       let none : h.0 ≡ [] = law e.octets h.0 e.value f.value is_e.admits (subst (λ (l : List ℕ). Admits l f.value) h.1 is_f.admits) in
       let same : e.octets ≡ f.octets = sym (h.1 ∙ ap (λ r. e.octets ++ r) none ∙ append-nil e.octets) in
-      (same, cancel e.octets x y (at ∙ ap (λ l. l ++ y) (sym same)))
+      (same, append_cancel_left e.octets x y (at ∙ ap (λ l. l ++ y) (sym same)))
   | inr h ↦
       let none : h.0 ≡ [] = law f.octets h.0 f.value e.value is_f.admits (subst (λ (l : List ℕ). Admits l e.value) h.1 is_e.admits) in
       let same : e.octets ≡ f.octets = h.1 ∙ ap (λ r. f.octets ++ r) none ∙ append-nil f.octets in
-      (same, cancel e.octets x y (at ∙ ap (λ l. l ++ y) (sym same)))
+      (same, append_cancel_left e.octets x y (at ∙ ap (λ l. l ++ y) (sym same)))
 ]
 
 same_parts : (e f : Listed) → e.octets ≡ f.octets → e.value ≡ f.value → e ≡ f

@@ -1,5 +1,6 @@
 -- Octets that lead to one place read on alike: what follows the one is read alike after the other, and every layer can continue from it.
 use Rattle.std.proofs.Common.{◌≡◌, ℕ, ◌<◌, ◌≤◌, ◌&&◌, nat_eq, cond, not, if◌then◌else◌, Bool, true, false, List, [], ◌∷◌, ◌++◌, length, map, Option, Some, None, refl, ap, sym, subst, ◌∙◌, inl, inr, arith, append_assoc, append-nil, length-append}
+use Rattle.std.proofs.lemmas.List.{append_cancel_left}
 use Rattle.std.specs.List.{AllByRecursion}
 use Rattle.std.proofs.lemmas.Bool.Decides.{eqb_tells}
 use Rattle.iim_dataset.specs.Format.Octets.{Octets, greatest_size, within}
@@ -290,10 +291,6 @@ stays_in p ds h t z r short octets =
       parts = ap (λ (l : List ℕ). l ++ z) (r.parts ∙ ap (λ (l : List ℕ). r.front ++ l) parts) ∙ append_assoc r.front (tag ++ t) z ∙ ap (λ (l : List ℕ). r.front ++ l) (append_assoc tag t z);
     }
 
-cancel : (t x y : List ℕ) → t ++ x ≡ t ++ y → x ≡ y
-cancel [] x y e = e
-cancel (a ∷ t) x y e = cancel t x y (let tails : t ++ x ≡ t ++ y = cc in tails)
-
 octets_mid : (ds : List Dataset) (d : Dataset) (ws : List Dataset) → AllByRecursion (λ (x : Dataset). Octets x.octets) (ds ++ d ∷ ws) → Octets d.octets
 octets_mid [] d ws all = all.0
 octets_mid (x ∷ ds) d ws all = octets_mid ds d ws all.1
@@ -376,7 +373,7 @@ data_on laws limits p q more ds es h t v r s are pair W c w goes =
       | inl (d, ws, tail, is, head, rest) ↦
           (let count : length d.octets ≡ h.count = ap (λ (k : Head). k.count) head in
           let (z, octets_are) = longer_front t more d.octets tail rest (omega (arith, less, count)) in
-          let later : more ≡ z ++ tail = cancel t more (z ++ tail) (rest ∙ ap (λ (l : List ℕ). l ++ tail) octets_are ∙ append_assoc t z tail) in
+          let later : more ≡ z ++ tail = append_cancel_left t more (z ++ tail) (rest ∙ ap (λ (l : List ℕ). l ++ tail) octets_are ∙ append_assoc t z tail) in
           let same : d ≡ data_of h (t ++ z) = same_data d h (t ++ z) head octets_are in
           let many : length (t ++ z) ≡ h.count = sym (ap length octets_are) ∙ count in
           let left : Octets (t ++ z) = subst Octets octets_are (octets_mid ds d ws (subst (AllByRecursion (λ (x : Dataset). Octets x.octets)) is (each_octets W w.front w.is_front))) in

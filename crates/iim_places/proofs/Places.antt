@@ -2,8 +2,7 @@
 use Rattle.std.proofs.Common.{◌≡◌, ℕ, ◌+◌, ◌<◌, ◌⊎◌, Bool, true, false, cond, if◌then◌else◌, nat_eq, List, [], ◌∷◌, ◌++◌, length, refl, ap, sym, subst, ◌∙◌, inl, inr, arith, append_assoc, length-append}
 use Rattle.std.specs.List.{AllByRecursion}
 use Rattle.std.proofs.lemmas.List.Elements.{filter-append}
-use Rattle.std.proofs.lemmas.Bool.{or_cases, eqb-true}
-use Rattle.std.proofs.lemmas.Bool.Decides.{eqb_tells}
+use Rattle.std.proofs.lemmas.Bool.{or_cases, eqb-true, ne_eqb}
 use Rattle.iim_dataset.specs.Format.Octets.{number}
 use Rattle.iim_dataset.specs.Format.Datasets.{Dataset, head_of, of_record}
 use Rattle.iim_dataset.specs.Format.Languages as languages
@@ -60,13 +59,10 @@ at_end ds h is = ap (λ (r : ℕ). if nat_eq r 8 then place_after (place_after_d
 pub at_number : (ds : List Dataset) (h : Head) → h.rec ≡ 7 → place_at ds h ≡ place_after_datasets ds
 at_number ds h is = ap (λ (r : ℕ). if nat_eq r 8 then place_after (place_after_datasets ds) (SubfileBegun h.count) else if nat_eq r 9 then place_ended ds else place_after_datasets ds) is
 
-not_equal : (r s : ℕ) → (r ≡ s → ⊥) → nat_eq r s ≡ false
-not_equal r s other = elim (eqb_tells r s) [ inl same ↦ absurd (other same.1) | inr apart ↦ apart.0 ]
-
 pub at_other : (ds : List Dataset) (h : Head) → h.rec < 7 → place_at ds h ≡ place_after_datasets ds
 at_other ds h less =
-    let not8 : nat_eq h.rec 8 ≡ false = not_equal h.rec 8 (λ e. omega (arith, e, less)) in
-    let not9 : nat_eq h.rec 9 ≡ false = not_equal h.rec 9 (λ e. omega (arith, e, less)) in
+    let not8 : nat_eq h.rec 8 ≡ false = ne_eqb h.rec 8 (λ e. omega (arith, e, less)) in
+    let not9 : nat_eq h.rec 9 ≡ false = ne_eqb h.rec 9 (λ e. omega (arith, e, less)) in
     rw (not8, not9) refl
 
 -- ---- heads

@@ -1,6 +1,5 @@
 -- Where a head leads the parts of an unpacker, and why it is refused.
 use Rattle.std.proofs.Common.{◌≡◌, ℕ, ◌<◌, ◌≤◌, ◌⊎◌, Bool, true, false, cond, if◌then◌else◌, nat_eq, List, [], ◌∷◌, ◌++◌, length, flat_map, Option, Some, refl, ap, sym, subst, ◌∙◌, inl, inr, arith, append-nil}
-use Rattle.std.proofs.lemmas.Bool.Decides.{eqb_tells}
 use Rattle.iim_dataset.specs.Format.Datasets.{Dataset, of_record}
 use Rattle.iim_dataset.specs.Format.Splits.{InTag, InData}
 use Rattle.iim_dataset.specs.States.Events.{DatasetEvent, HeadRead, events_of}
@@ -40,7 +39,7 @@ use Rattle.iim_places.specs.declared.fault.TokenFault.{TokenFault}
 use Rattle.wire_message.specs.declared.fault.MessageCause.{MessageCause}
 use Rattle.iim_places.proofs.Places.{HeadLeads, subfile_leads, end_leads}
 use Rattle.iim_unpack.proofs.Faults.{field_head, too_many_head, object_head, have_room}
-use Rattle.std.proofs.lemmas.Bool.{true≢false}
+use Rattle.std.proofs.lemmas.Bool.{true≢false, ne_eqb}
 use Rattle.std.proofs.lemmas.List.{length-map}
 use Rattle.iim_places.proofs.Lasts.{sections_last}
 use Rattle.iim_unpack.proofs.Ended.{ended_by_record}
@@ -166,14 +165,11 @@ begins_end goes failures laws p a b ds h checker object message nine at inside l
       text.1,
     )
 
-not_equal : (r s : ℕ) → (r ≡ s → ⊥) → nat_eq r s ≡ false
-not_equal r s other = elim (eqb_tells r s) [ inl same ↦ absurd (other same.1) | inr apart ↦ apart.0 ]
-
 pub begins_other : (p : Parts) (ds : List Dataset) (h : Head) (checker : FieldsPlace) → (h.rec ≡ 8 → ⊥) → (h.rec ≡ 9 → ⊥) → AreAfter p ds → records.StandsIn checker ds h []
     → Begins (record { fields = checker; object = p.object; message = p.message }) ds h
 begins_other p ds h checker other8 other9 at inside =
-    let no8 = not_equal h.rec 8 other8 in
-    let no9 = not_equal h.rec 9 other9 in
+    let no8 = ne_eqb h.rec 8 other8 in
+    let no9 = ne_eqb h.rec 9 other9 in
     let elsewhere : place_at ds h ≡ place_after_datasets ds = rw (no8, no9) refl in
     record {
       fields = inside;

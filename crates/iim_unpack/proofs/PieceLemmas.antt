@@ -20,7 +20,7 @@ use Rattle.iim_places.specs.Format.Refusals.{refusal_at}
 use Rattle.iim_places.specs.Format.Streams.{Answer, Answers, Finished, Refused, Truncated, IsEnvelopeWithin, IsFinished, IsRefused}
 use Rattle.iim_unpack.specs.States.Unpacking.{Unpacking, Stands, IsDone, IsDoneWith, Goes, IsRefusedIn, limits_in}
 use Rattle.iim_places.specs.States.Counts.{raised}
-use Rattle.iim_places.specs.Format.Open.{IsOpen, IsTextOf, Delivers, IsTruncatedAt, RefusesNext}
+use Rattle.iim_places.specs.Format.Open.{IsOpen, Delivers, IsTruncatedAt, RefusesNext}
 use Rattle.iim_unpack.specs.Format.Value.{HasParts}
 use Rattle.iim_places.specs.declared.refusal.Refusal.{Refusal}
 use Rattle.iim_unpack.specs.States.Parts.{CountsFor}
@@ -29,7 +29,7 @@ use Rattle.iim_places.specs.declared.refusal.Cause.TheVariants.{Sink}
 use Rattle.iim_unpack.specs.declared.unpacker.Progress.{Progress}
 use Rattle.iim_unpack.specs.declared.unpacker.Progress.TheVariants.{More, Done}
 use Rattle.iim_unpack.specs.declared.unpacker.Unpacked.{Unpacked}
-use Rattle.iim_places.proofs.Answering.{reads_envelope, leads_to, nothing_held}
+use Rattle.iim_places.proofs.Answering.{reads_envelope, leads_to, no_text}
 use Rattle.iim_unpack.proofs.Feeding.{one_text}
 use Rattle.iim_unpack.proofs.Intakes.{Joined, adds_none, adds_more, told_truncated, not_told}
 
@@ -148,9 +148,6 @@ was_refused goes joined laws limits low a b c o piece rest more next e told then
     })
 
 -- ---- the end
-
-no_text : IsTextOf [] []
-no_text = ([], InTag [], record { front = []; rest = []; is_front = refl; is_rest = nothing_held; parts = refl }, refl)
 
 -- what is delivered of an envelope is its lines
 lines_of : FeedLaws → TextsStandBetweenStxAndEtx → TextsAreDeliveredAsLines → (octets : List ℕ) (v : Value) (more : List story.StoryEvent) → Admits octets v → Delivers [] octets more → more ≡ story.events_of_lines v.lines

@@ -9,7 +9,6 @@ use Rattle.iim_audit.specs.declared.fault.AuditFault.{AuditFault}
 use Rattle.iim_audit.specs.Taking.{TookEnvelope}
 use Rattle.iim_audit.specs.Repeats.{ids_of}
 use Rattle.iim_audit.specs.declared.row.AuditRow.{AuditRow}
-use Rattle.iim_audit.specs.declared.row.Taken.{Taken}
 use Rattle.iim_audit.proofs.Reading.{come_none, audited, fails, one_too_many, short_after, read_one, told_again, none_within, short_first, taken_of, took_within}
 use Rattle.iim_audit.proofs.auditing.audit.Goals as goal
 

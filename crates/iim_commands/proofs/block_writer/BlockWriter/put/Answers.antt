@@ -1,7 +1,8 @@
 use Rattle.std.proofs.Common.{[], take, sym, subst}
+use Rattle.std.proofs.lemmas.Result.{IfErr-weaker}
 use Rattle.iim_commands.specs.States.Holding.{HasStuck, PutsOn}
 use Rattle.iim_commands.specs.HoldingLaws.{put_on, puts_on}
-use Rattle.iim_commands.proofs.Holding.{if_err, on_ok, stuck_on}
+use Rattle.iim_commands.proofs.Holding.{on_ok, stuck_on}
 use Rattle.iim_commands.proofs.block_writer.BlockWriter.put.Goals as goal
 
 pub returns-in-Ok-clause-put : goal.returns-in-Ok-clause-put
@@ -12,12 +13,12 @@ returns-in-Ok-clause-puts g c = on_ok c.put_first.result _ _ (λ puts. puts_on g
 
 pub returns-in-Ok-clause-stuck : goal.returns-in-Ok-clause-stuck
 returns-in-Ok-clause-stuck g c =
-    if_err c.put_first.result _ _
+    IfErr-weaker c.put_first.result _ _
     (λ stop stuck. stuck_on g.W.Target.state c.texts_join.ensures c.args.self.now c.flush.new.self c.put_first.new.self [] (take stop.taken c.args.text.now) c.in-Ok.ensures.put stuck) c.put_first.ensures.stuck
 
 pub returns-in-Ok-clause-front : goal.returns-in-Ok-clause-front
 returns-in-Ok-clause-front g c =
-    if_err c.put_first.result _ _
+    IfErr-weaker c.put_first.result _ _
     (λ stop puts. puts_on g.W.Target.state c.args.self.now c.flush.new.self c.put_first.new.self [] (take stop.taken c.args.text.now) c.in-Ok.ensures.puts puts) c.put_first.ensures.front
 
 pub returns-in-Err-clause-stuck : goal.returns-in-Err-clause-stuck

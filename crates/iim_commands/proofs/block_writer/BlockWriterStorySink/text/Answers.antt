@@ -1,5 +1,6 @@
 use Rattle.std.proofs.Common.{take}
-use Rattle.iim_commands.proofs.Holding.{if_err, on_ok, told_line}
+use Rattle.std.proofs.lemmas.Result.{IfErr-weaker}
+use Rattle.iim_commands.proofs.Holding.{on_ok, told_line}
 use Rattle.iim_commands.proofs.block_writer.BlockWriterStorySink.text.Goals as goal
 
 pub returns-clause-ok : goal.returns-clause-ok
@@ -7,4 +8,4 @@ returns-clause-ok g c = on_ok c.put.result _ _ (λ puts. told_line g.W.Target.st
 
 pub returns-clause-front : goal.returns-clause-front
 returns-clause-front g c =
-    if_err c.put.result _ _ (λ stop puts. told_line g.W.Target.state c.args.self.now c.put.new.self (take stop.taken c.args.run.now) puts) c.put.ensures.front
+    IfErr-weaker c.put.result _ _ (λ stop puts. told_line g.W.Target.state c.args.self.now c.put.new.self (take stop.taken c.args.run.now) puts) c.put.ensures.front
