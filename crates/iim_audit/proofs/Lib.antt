@@ -1,9 +1,10 @@
 pub mod Digits
 pub mod Filling
 pub mod Firsts
-pub mod Lines
 pub mod Reading
 pub mod Rows
 pub mod ShortIds
 pub mod Taking
 pub mod Texts
+-- What proofs of other crates cite.
+pub mod Lines

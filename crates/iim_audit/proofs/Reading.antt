@@ -8,6 +8,7 @@ use Rattle.iim_dataset.specs.Format.Counts.{Rose}
 use Rattle.iim_dataset.specs.Laws.Devices.{GiftsJoin}
 use Rattle.iim_dataset.specs.declared.device.IoFault.{IoFault}
 use Rattle.iim_dataset.specs.declared.device.IoFault.TheVariants as io
+use Rattle.iim_dataset.proofs.DeviceLaws.{missed_later}
 use Rattle.iim_fields.specs.declared.limits.Limits.{Limits}
 use Rattle.iim_places.specs.Format.Admitted.{Value, Admits}
 use Rattle.iim_places.specs.Format.Listing.{Listed, Divides, IsListed, joined, values_of, max_envelopes}
@@ -55,21 +56,6 @@ divides_then limits a b es rest come few = record { admitted = come.admitted; pa
 told_more : (before : ℕ) (es : List Listed) (e : Listed) → told_after before (es ++ e ∷ []) ≡ raised 0 (length e.octets)
 told_more before [] e = refl
 told_more before (f ∷ es) e = told_more (raised 0 (length f.octets)) es e
-
-broke_later : (a b c : Device) (xs : List ℕ) (fault : IoFault) → HasGiven a b xs → BrokeFor b c fault → BrokeFor a c fault
-broke_later a b c xs io.Failed given broke =
-    let calm : b.failures ≡ a.failures = given.1.0 in
-    let rose : a.interruptions ≤ b.interruptions = given.1.1 in
-    (subst (λ (n : ℕ). Rose n c.failures) calm broke.0, omega arith)
-broke_later a b c xs io.Interrupted given broke =
-    let calm : b.failures ≡ a.failures = given.1.0 in
-    let rose : a.interruptions ≤ b.interruptions = given.1.1 in
-    let more : b.interruptions ≤ c.interruptions = broke.1 in
-    (broke.0 ∙ calm, omega arith, ⊎_elim (λ many. inl (omega arith)) (λ full. inr full) broke.2)
-
-missed_later : (a b c : Device) (xs ys : List ℕ) (fault : IoFault) → HasGiven a b xs → MissedAfter b c ys fault → MissedAfter a c (xs ++ ys) fault
-missed_later a b c xs ys fault given missed =
-    (Consumes-trans a.octets b.octets c.octets xs ys given.0 missed.0, broke_later a b c xs fault given missed.1)
 
 -- ---- what an audit has read
 

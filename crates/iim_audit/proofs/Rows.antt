@@ -24,13 +24,10 @@ length_rows : (now : ℤ) (earlier vs : List Value) → length (rows_after now e
 length_rows now earlier [] = refl
 length_rows now earlier (x ∷ vs) = ap (λ n. suc n) (length_rows now (earlier ++ x ∷ []) vs)
 
-length_bare : (now : ℤ) (vs : List Value) → length (bare_rows now vs) ≡ length vs
-length_bare now [] = refl
-length_bare now (v ∷ vs) = ap (λ n. suc n) (length_bare now vs)
-
 -- a row for each envelope
 pub length_bare_rows : (now : ℤ) (values : List Value) → length (bare_rows now values) ≡ length values
-length_bare_rows now values = length_bare now values
+length_bare_rows now [] = refl
+length_bare_rows now (v ∷ values) = ap (λ n. suc n) (length_bare_rows now values)
 
 pub bare_push : (now : ℤ) (values : List Value) (v : Value) → bare_rows now (values ++ v ∷ []) ≡ bare_rows now values ++ row_with now v None ∷ []
 bare_push now [] v = refl
@@ -63,7 +60,7 @@ row_at now earlier (v ∷ vs) (suc i) d there =
 -- rows that are told their first ones are the report
 pub told_report : (now : ℤ) (values : List Value) (new : List AuditRow) → AreFilled (bare_rows now values) new → new ≡ report_of now values
 told_report now values new are =
-    let counted : length (bare_rows now values) ≡ length values = length_bare now values in
+    let counted : length (bare_rows now values) ≡ length values = length_bare_rows now values in
     let report : length (report_of now values) ≡ length values = length_rows now [] values in
     same_lists new (report_of now values) (are.len ∙ counted ∙ sym report)
     (λ i d there.

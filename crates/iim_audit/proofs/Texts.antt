@@ -7,6 +7,7 @@ use Rattle.iim_dataset.specs.States.Events.{handed_on}
 use Rattle.iim_dataset.specs.States.Places.{HandsOn}
 use Rattle.iim_dataset.specs.Laws.Datasets.{OctetsAreHandedOnOneWay, EventsTellTheDatasets}
 use Rattle.iim_dataset.specs.declared.head.Head.{Head}
+use Rattle.iim_dataset.proofs.Spelled.{whole_read}
 use Rattle.wire_story.specs.Format.Delivery.{StoryEvent}
 use Rattle.wire_story.specs.Format.Texts.{IsText}
 use Rattle.wire_story.specs.Laws.Words.{TextsAreCountedAsLines}
@@ -38,9 +39,6 @@ nothing_begun =
     } in
     (refl, head, tag, spells, (tag, lit< tt, refl))
 
-reads_whole : (octets : List ℕ) (ds : List Dataset) → SpellsStream count_octets ds octets → Reads count_octets octets ds (InTag [])
-reads_whole octets ds spelled = record { front = octets; rest = []; is_front = spelled; is_rest = nothing_begun; parts = sym (append-nil octets) }
-
 text_of_message : TextsStandBetweenStxAndEtx → (object text trailer : List ℕ) (head : Header) (lines : List (List ℕ)) → IsMessage object head text trailer → IsText text lines
     → text ≡ text_so_far object
 text_of_message law object text trailer head lines m are =
@@ -55,7 +53,7 @@ text_of_value : TextLaws → (octets text : List ℕ) (v : Value) → Admits oct
 text_of_value laws octets text v admits (whole, begun, reads, is) =
     let hands : HandsOn count_octets octets (handed_on whole begun) begun = record { whole = whole; reads = reads; handed = refl } in
     let gives : HandsOn count_octets octets (handed_on admits.datasets (InTag [])) (InTag []) =
-    record { whole = admits.datasets; reads = reads_whole octets admits.datasets admits.spelled; handed = refl } in
+    record { whole = admits.datasets; reads = whole_read octets admits.datasets admits.spelled; handed = refl } in
     let way = laws.way octets (handed_on whole begun) (handed_on admits.datasets (InTag [])) begun (InTag []) hands gives in
     let told = laws.tell whole admits.datasets begun (InTag []) way.0 in
     let object : object_so_far whole begun ≡ object_of admits.datasets =

@@ -6,7 +6,7 @@
 #![tactic(auto)]
 
 mod age;
-mod auditing;
+mod audit;
 mod copy;
 mod fault;
 mod ledger;
@@ -17,7 +17,7 @@ mod row;
 mod text;
 
 pub use age::whole_seconds_are_floors;
-pub use auditing::audit;
+pub use audit::audit;
 pub use copy::CopyState;
 pub use fault::{AuditCause, AuditFault};
 pub use line::ReportLine;

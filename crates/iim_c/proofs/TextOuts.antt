@@ -12,10 +12,6 @@ use Rattle.iim_c.specs.declared.text_out.TextOut.{TextOut}
 use Rattle.iim_c.specs.Format.Writing.{HasTaken, WritesLines}
 use Rattle.iim_c.specs.Steps.{HasFedText, HasRefusedText}
 
-pub octets_of_line : (xs : List ℕ) → map octet_for (map LineOctet xs) ≡ xs
-octets_of_line [] = refl
-octets_of_line (x ∷ xs) = ap (λ (t : List ℕ). x ∷ t) (octets_of_line xs)
-
 -- ---- causes
 
 no_rise : Rose 0 0 → ⊥

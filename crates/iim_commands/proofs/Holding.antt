@@ -8,6 +8,7 @@ use Rattle.iim_dataset.specs.Format.Counts.{Rose}
 use Rattle.iim_dataset.specs.Laws.Devices.{TextsJoin}
 use Rattle.wire_story.specs.Format.Delivery.{octet_for, LineOctet}
 use Rattle.wire_story.specs.States.Writing.{HasBroken}
+use Rattle.wire_story.specs.WritingLaws.{octets_of_line}
 use Rattle.iim_commands.specs.States.Holding.{HasPut, HasStuck, HoldsNothing, KeepsWriter, PutsOn, PutsLines, StaysStuck, device_of, held_of, stops_of}
 use Rattle.iim_commands.specs.Listing.{IsCutShort}
 use Rattle.iim_commands.specs.HoldingLaws.{parts_on}
@@ -71,10 +72,6 @@ puts_of_stuck state a b text h rose = record {
     unbroken = λ still few. absurd (rose_not (stops_of a) (stops_of b) rose still few);
   };
 }
-
-pub octets_of_line : (xs : List ℕ) → map octet_for (map LineOctet xs) ≡ xs
-octets_of_line [] = refl
-octets_of_line (x ∷ xs) = ap (λ (t : List ℕ). x ∷ t) (octets_of_line xs)
 
 -- the octets of a line are told as events
 pub told_line : {W : Type 0} (state : W → Device) (a b : BlockWriter W) (xs : List ℕ) → PutsOn state a b xs → PutsLines state a (map LineOctet xs) b
@@ -206,10 +203,6 @@ cut_on state texts a b c xs ys put cut = record {
 }
 
 -- ---- of answers
-
-pub on_ok : {T E : Type 0} (r : Result T E) (P Q : Type 0) → (P → Q) → OnOk r P → OnOk r Q
-on_ok (Ok x) P Q f h = f h
-on_ok (Err e) P Q f h = h
 
 -- where at most one octet was to be taken
 pub none_of_one : {T : Type 0} (r : Result T Stop) (x : ℕ) (P : List ℕ → Type 0) → IfErr r (λ stop. stop.taken < 1) → IfErr r (λ stop. P (take stop.taken (x ∷ []))) → OnErr r (P [])

@@ -8,7 +8,8 @@ use Rattle.iim_dataset.specs.States.Devices.{Device, Wrote, HasGiven, MissedAfte
 use Rattle.iim_dataset.specs.Format.Counts.{Rose}
 use Rattle.iim_dataset.specs.Laws.Devices.{GiftsJoin, TextsJoin}
 use Rattle.iim_dataset.specs.declared.device.IoFault.{IoFault}
-use Rattle.iim_dataset.proofs.DeviceLaws.{broke_for_later}
+use Rattle.iim_dataset.proofs.DeviceLaws.{broke_for_later, missed_later}
+use Rattle.iim_dataset.specs.Later.{consumes_consumes}
 use Rattle.wire_story.specs.Format.Delivery.{StoryEvent}
 use Rattle.iim_places.specs.Format.Streams.{Kills}
 use Rattle.iim_places.proofs.Listings.{admitted_more, joined_more}
@@ -172,16 +173,6 @@ listed_more {state = state} {text = text} {source = source} {mid = mid} {old = o
 
 -- ---- the listing isn't out
 
-consumes_on : (a b c : Option (List ℕ)) (xs ys : List ℕ) → Consumes a b xs → Consumes b c ys → Consumes a c (xs ++ ys)
-consumes_on None b c xs ys h k = tt
-consumes_on (Some x) None c xs ys h k = absurd h
-consumes_on (Some x) (Some y) None xs ys h k = absurd k
-consumes_on (Some x) (Some y) (Some z) xs ys h k = h ∙ (ap (λ (l : List ℕ). xs ++ l) k ∙ sym (append_assoc xs ys z))
-
-pub missed_then : (a b c : Device) (xs ys : List ℕ) (fault : IoFault) → HasGiven a b xs → MissedAfter b c ys fault → MissedAfter a c (xs ++ ys) fault
-missed_then a b c xs ys fault given missed =
-    (consumes_on a.octets b.octets c.octets xs ys given.0 missed.0, broke_for_later a b c fault given.1 missed.1)
-
 pub starved : {W : Type 0} {state : W → Device} {text : ℕ → Listed → List ℕ} {source mid : Device} {old new : BlockWriter W} {count : ℕ} → GiftsJoin → (rest : Device) (begun : List ℕ)
     → AreListed state text source mid old new count → HasGiven mid rest begun → IsUnlisted state text source rest old new OutOfMemory
 starved {source = source} {mid = mid} {count = count} joins rest begun r given = (
@@ -209,7 +200,7 @@ failed state joins texts text source mid rest old v a b count CannotRead r empty
       c.fault,
       divides source mid count r.envelopes c.octets r.taken,
       c.is_open,
-      missed_then source mid rest (joined r.envelopes) c.octets c.fault r.taken.given c.missed,
+      missed_later source mid rest (joined r.envelopes) c.octets c.fault r.taken.given c.missed,
       all_out state old b.output (texts_from text 1 r.envelopes) empty settled
           (subst (HasPut state old b.output) (append-nil (texts_from text 1 r.envelopes)) (put_on state old a.output b.output (texts_from text 1 r.envelopes) [] r.put c.told)),
     )

@@ -11,12 +11,16 @@ use Rattle.iim_dataset.specs.Format.Datasets.{Dataset, count_octets}
 use Rattle.iim_dataset.specs.Laws.Datasets.{OctetsAreHandedOnOneWay, EventsTellTheDatasets}
 use Rattle.iim_dataset.specs.States.Places.{HandsOn}
 use Rattle.iim_dataset.specs.Format.Splits.{InTag}
+use Rattle.iim_dataset.specs.Appending.{appends_joined}
+use Rattle.iim_dataset.proofs.Lists.{some_none}
+use Rattle.iim_dataset.proofs.DeviceLaws.{missed_later}
 use Rattle.wire_message.specs.Laws.Messages.{TextsStandBetweenStxAndEtx}
 use Rattle.wire_message.specs.Format.Layers.{text_so_far}
 use Rattle.wire_message.specs.declared.place.Place.TheVariants.{AfterEnd}
 use Rattle.wire_story.specs.Format.Delivery.{StoryEvent, delivered, octet_for}
 use Rattle.wire_story.specs.Laws.Texts.{LinesAreJoinedByLineFeeds, TextsAreDeliveredAsLines}
 use Rattle.wire_story.specs.States.Writing.{HasBroken}
+use Rattle.wire_story.specs.WritingLaws.{broken_after}
 use Rattle.iim_commands.specs.States.Holding.{HoldsNothing, KeepsWriter, PutsLines, PutsOn, StaysStuck, device_of, held_of, stops_of}
 use Rattle.iim_commands.specs.HoldingLaws.{puts_on}
 use Rattle.iim_commands.proofs.Holding.{puts_of_stuck}
@@ -39,7 +43,7 @@ use Rattle.iim_commands.specs.declared.coming.Next.{Next}
 use Rattle.iim_commands.specs.declared.coming.Next.TheVariants as next
 use Rattle.iim_commands.specs.declared.fault.CommandFault.{CommandFault}
 use Rattle.iim_commands.specs.declared.fault.CommandFault.TheVariants.{CannotRead, CannotWrite, OutOfMemory}
-use Rattle.iim_commands.proofs.Listings.{AreTaken, consumes_holds, divides, given_then, missed_then, none_taken, taken_more, text_after}
+use Rattle.iim_commands.proofs.Listings.{AreTaken, consumes_holds, divides, given_then, none_taken, taken_more, text_after}
 use Rattle.iim_places.proofs.Answering.{no_text}
 use Rattle.iim_commands.proofs.Taken.{come_as}
 
@@ -75,29 +79,15 @@ wrote_by state a d text before after none same w =
 pub front_of : {W : Type 0} (state : W → Device) (a d : BlockWriter W) (text : List ℕ) → HoldsNothing a → (w : PutsOn state a d text) → text ≡ w.out ++ held_of d
 front_of state a d text before w = sym (ap (λ (t : List ℕ). t ++ text) before) ∙ w.parts
 
-appends_on : (a b c : Option (List ℕ)) (xs ys : List ℕ) → Appends a b xs → Appends b c ys → Appends a c (xs ++ ys)
-appends_on None b c xs ys h k = tt
-appends_on (Some x) None c xs ys h k = absurd h
-appends_on (Some x) (Some y) None xs ys h k = absurd k
-appends_on (Some x) (Some y) (Some z) xs ys h k = k ∙ (ap (λ (t : List ℕ). t ++ ys) h ∙ append_assoc x xs ys)
-
 rises : (i j : ℕ) → i ≡ 0 → Rose i j → i < j
 rises i j none (inl h) = omega (arith, h)
 rises i j none (inr h) = absurd (omega (arith, none, h.0, h.2))
-
-rose_after : (k a b c : ℕ) → a ≤ b → RoseAtLeast k b c → RoseAtLeast k a c
-rose_after k a b c le (inl h) = inl (omega (arith, h, le))
-rose_after k a b c le (inr h) = inr h
-
-broken_after : (a b c : Device) → a.failures ≤ b.failures → a.interruptions ≤ b.interruptions → HasBroken b c → HasBroken a c
-broken_after a b c f i (inl h) = inl (rose_after 1 a.failures b.failures c.failures f h)
-broken_after a b c f i (inr h) = inr (rose_after max_interruptions a.interruptions b.interruptions c.interruptions i h)
 
 -- more is out, and then the device has broken
 broke_on : {W : Type 0} (state : W → Device) (old : Device) (a d : BlockWriter W) (xs text : List ℕ) → Wrote old (device_of state a) xs → (w : PutsOn state a d text) → stops_of a ≡ 0 → Rose (stops_of a) (stops_of d)
     → Appends old.octets (device_of state d).octets (xs ++ w.out) × HasBroken old (device_of state d)
 broke_on state old a d xs text out w none rose = (
-  appends_on old.octets (device_of state a).octets (device_of state d).octets xs w.out out.0 w.writes.octets,
+  appends_joined old.octets (device_of state a).octets (device_of state d).octets xs w.out out.0 w.writes.octets,
   broken_after old (device_of state a) (device_of state d) (omega (arith, out.1.0)) (omega (arith, out.1.1)) (w.writes.broken (rises (stops_of a) (stops_of d) none rose)),
 )
 
@@ -214,10 +204,6 @@ broke_in_text state joins source mid rest old errors_old errors_new a d count be
       ),
     )
 
-no_more : (xs : List ℕ) → 0 < length xs → xs ≡ [] → ⊥
-no_more [] some none = absurd (omega (arith, some))
-no_more (x ∷ xs) some none = absurd cc
-
 rose_from : (i j k : ℕ) → j ≡ i → Rose j k → Rose i k
 rose_from i j k same rose = subst (λ (n : ℕ). Rose n k) same rose
 
@@ -236,7 +222,7 @@ pub held_back : {W : Type 0} (state : W → Device) → GiftsJoin → (source mi
     → HoldsNothing a → stops_of a ≡ 0 → stops_of b ≡ stops_of a → PutsOn state a b text → StaysStuck state b d → IsUnnarrated source rest old (device_of state d) errors_old errors_new CannotWrite
 held_back state joins source mid rest old errors_old errors_new a b d count begun k text r given within is empty none same w stuck =
     let all : PutsOn state a d text = subst (PutsOn state a d) (append-nil text) (puts_on state a b d text [] w (puts_of_stuck state b d [] stuck.0 stuck.2)) in
-    broke_in_text state joins source mid rest old errors_old errors_new a d count begun k text text (held_of d) r given within (λ whole nothing. absurd (no_more (held_of d) stuck.1 nothing)) is all
+    broke_in_text state joins source mid rest old errors_old errors_new a d count begun k text text (held_of d) r given within (λ whole nothing. absurd (some_none (held_of d) stuck.1 nothing)) is all
     (front_of state a d text empty all) none (rose_from (stops_of a) (stops_of b) (stops_of d) same stuck.2)
 
 -- ---- the errors broke
@@ -303,7 +289,7 @@ unfed {source = source} {mid = mid} {old = old} {errors_old = errors_old} {error
   map octet_for c.more,
   divides source mid count r.envelopes c.octets r.taken,
   c.is_open,
-  missed_then source mid rest (joined r.envelopes) c.octets c.fault r.taken.given c.missed,
+  missed_later source mid rest (joined r.envelopes) c.octets c.fault r.taken.given c.missed,
   (c.more, c.delivered, refl),
   texts.more old (device_of state a) (device_of state b) (stories r.envelopes) (map octet_for c.more) r.out (wrote_by state a b (map octet_for c.more) empty settled none calm c.told),
   r.told,
@@ -315,7 +301,7 @@ unfed {source = source} {mid = mid} {old = old} {errors_old = errors_old} {error
     let w : PutsOn state a b (map octet_for u.more) =
     subst (PutsOn state a b) (append-nil (map octet_for u.more)) (puts_on state a u.told b (map octet_for u.more) [] u.came.told (puts_of_stuck state u.told b [] u.holds_back.0 u.holds_back.2)) in
     broke_in_text state joins source mid rest old errors_old errors_new a b count u.octets (length u.octets) (map octet_for u.more) (map octet_for u.more) (held_of b)
-    r u.came.given (omega arith) (λ all nothing. absurd (no_more (held_of b) u.holds_back.1 nothing))
+    r u.came.given (omega arith) (λ all nothing. absurd (some_none (held_of b) u.holds_back.1 nothing))
     (subst (λ (octets : List ℕ). IsTextIn octets (map octet_for u.more)) (sym (take-length u.octets)) (u.more, u.delivered, refl)) w (front_of state a b (map octet_for u.more) empty w) none
     (rose_from (stops_of a) (stops_of u.told) (stops_of b) u.calm u.holds_back.2)
 unfed {source = source} {mid = mid} {old = old} {errors_old = errors_old} {errors_new = errors_new} {count = count} state joins texts rest v a b OutOfMemory r empty none calm c = absurd c

@@ -194,8 +194,3 @@ fault_of_job words verb name rows (usage.Words error) names is h = absurd h
 fault_of_job words verb name rows usage.MaxNeedsUnknown names is h = (name, rows, names, (is ∙ h.0, h.1))
 fault_of_job words verb name rows usage.BadNow names is h = (name, rows, names, is ∙ h.0, h.1)
 fault_of_job words verb name rows usage.OutOfMemory names is h = absurd h
-
--- a fact of the fault that `?` hands on
-pub handed_on : {T E : Type 0} → (P : E → Type 0) (r : Result T E) (fault : E) → IsErrAnd r (λ e. e ≡ fault) → P fault → IfErr r P
-handed_on P (Ok x) fault is h = tt
-handed_on P (Err e) fault is h = rw is h

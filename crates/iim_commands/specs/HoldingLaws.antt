@@ -5,19 +5,15 @@ use Rattle.iim_dataset.specs.States.Devices.{Device}
 use Rattle.iim_dataset.specs.Appending.{appends_nothing, appends_joined}
 use Rattle.wire_story.specs.Format.Delivery.{StoryEvent, octet_for, LineOctet}
 use Rattle.wire_story.specs.States.Writing.{WritesOn}
-use Rattle.wire_story.specs.WritingLaws.{writes_nothing, writes_joined}
+use Rattle.wire_story.specs.WritingLaws.{writes_nothing, writes_joined, octets_of_line}
 use Rattle.iim_commands.specs.States.Holding.{HasPut, PutsOn, PutsLines, device_of, held_of, stops_of}
 use Rattle.iim_commands.specs.declared.block_writer.BlockWriter.{BlockWriter}
 
-same_octets : (xs : List ℕ) → map octet_for (map LineOctet xs) ≡ xs
-same_octets [] = refl
-same_octets (x ∷ xs) = ap (λ (t : List ℕ). x ∷ t) (same_octets xs)
-
 writes_on : (a b c : Device) (i j k : ℕ) (xs ys : List ℕ) → WritesOn a b i j xs → WritesOn b c j k ys → WritesOn a c i k (xs ++ ys)
 writes_on a b c i j k xs ys h l =
-    subst (λ (t : List ℕ). WritesOn a c i k t) (map-append octet_for (map LineOctet xs) (map LineOctet ys) ∙ ap (λ (t : List ℕ). t ++ map octet_for (map LineOctet ys)) (same_octets xs) ∙ ap (λ (t : List ℕ). xs ++ t) (same_octets ys))
-    (writes_joined a b c i j k (map LineOctet xs) (map LineOctet ys) (subst (λ (t : List ℕ). WritesOn a b i j t) (sym (same_octets xs)) h)
-    (subst (λ (t : List ℕ). WritesOn b c j k t) (sym (same_octets ys)) l))
+    subst (λ (t : List ℕ). WritesOn a c i k t) (map-append octet_for (map LineOctet xs) (map LineOctet ys) ∙ ap (λ (t : List ℕ). t ++ map octet_for (map LineOctet ys)) (octets_of_line xs) ∙ ap (λ (t : List ℕ). xs ++ t) (octets_of_line ys))
+    (writes_joined a b c i j k (map LineOctet xs) (map LineOctet ys) (subst (λ (t : List ℕ). WritesOn a b i j t) (sym (octets_of_line xs)) h)
+    (subst (λ (t : List ℕ). WritesOn b c j k t) (sym (octets_of_line ys)) l))
 
 -- of two texts, one after the other
 pub parts_on : (held mid rest first second out more : List ℕ) → held ++ first ≡ out ++ mid → mid ++ second ≡ more ++ rest → held ++ (first ++ second) ≡ (out ++ more) ++ rest

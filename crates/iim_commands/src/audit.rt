@@ -110,6 +110,7 @@ pub fn write_audit<R: Source, W: Target>(
             answer
         }
         Err(same) => {
+            // The same for what is handed back where memory was refused.
             let _ = &*same;
             Err(CommandFault::OutOfMemory)
         }

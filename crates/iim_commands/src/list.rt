@@ -114,6 +114,7 @@ pub fn list<P: EnvelopeLines, R: Source, W: Target>(
             answer
         }
         Err(same) => {
+            // The same for what is handed back where memory was refused.
             let _ = &*same;
             Err(CommandFault::OutOfMemory)
         }

@@ -133,6 +133,7 @@ pub fn narrate<R: Source, W: Target, E: Target>(
             answer
         }
         Err(same) => {
+            // The same for what is handed back where memory was refused.
             let _ = &*same;
             Err(CommandFault::OutOfMemory)
         }

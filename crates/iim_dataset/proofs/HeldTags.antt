@@ -8,17 +8,9 @@ use Rattle.iim_dataset.specs.Format.Tags.{BeginsTag, BeginsNoTag, HasTag, HasNoT
 use Rattle.iim_dataset.specs.declared.head.Head.{Head}
 use Rattle.iim_dataset.specs.declared.head.HeadFault.{HeadFault}
 use Rattle.iim_dataset.proofs.Spellings.{one_tag}
+use Rattle.iim_dataset.proofs.Spelled.{count_length, tag_length}
 
 -- ---- how long a tag is
-
-count_length : (count : ℕ) (xs : List ℕ) → SpellsCount count_octets count xs → length xs ≤ 2 + count_octets
-count_length count [] s = absurd s
-count_length count (high ∷ []) s = absurd s
-count_length count (high ∷ low ∷ more) (inl s) = omega (arith, ap length s.2)
-count_length count (high ∷ low ∷ more) (inr s) = omega (arith, s.1, s.3)
-
-tag_length : (h : Head) (tag : List ℕ) → SpellsTag count_octets h tag → length tag ≤ tag_octets
-tag_length h tag s = omega (arith, ap length s.parts, count_length h.count s.count s.is_count)
 
 pub begun_length : (xs : List ℕ) → BeginsTag count_octets xs → length xs < tag_octets
 begun_length xs b = omega (arith, tag_length b.head (xs ++ b.more) b.whole, length-append xs b.more, b.some_more)

@@ -18,5 +18,7 @@ pub mod StoppedTexts
 pub mod WrittenNumbers
 pub mod Agreeing
 pub mod Each
+pub mod Lists
+pub mod Spelled
 pub mod OctetLists
 pub mod DeviceLaws

@@ -17,6 +17,7 @@ use Rattle.iim_dataset.proofs.Fronts.{begun_none}
 use Rattle.iim_dataset.proofs.OneHanding.{ends, with_data}
 use Rattle.iim_dataset.proofs.Places.{stream_more, tag_held}
 use Rattle.iim_dataset.proofs.OctetLists.{zeros_are}
+use Rattle.iim_dataset.proofs.Spelled.{whole_read}
 
 pub read_octets_continue : ReadOctetsContinue
 read_octets_continue octets whole begun r =
@@ -37,16 +38,6 @@ read_octets_split octets whole begun r =
         parts = r.parts;
       },
     )
-
--- whole datasets were read, and nothing is begun
-whole_read : (xs : List ℕ) (ds : List Dataset) → SpellsStream count_octets ds xs → Reads count_octets xs ds (InTag [])
-whole_read xs ds s = record {
-  front = xs;
-  rest = [];
-  is_front = s;
-  is_rest = (refl, begun_none.head, begun_none.more, begun_none.whole, (begun_none.more, begun_none.some_more, refl));
-  parts = sym (append-nil xs);
-}
 
 dies : (octets : List ℕ) (next : ℕ) (whole : List Dataset) (held : List ℕ) → Reads count_octets octets whole (InTag held) → BeginsNoTag count_octets (held ++ next ∷ []) → DiesAt AreDatasets octets next
 dies octets next whole held r dead =

@@ -10,6 +10,7 @@ use Rattle.iim_dataset.specs.Laws.Datasets.{WhatAnOctetCompletes}
 use Rattle.iim_dataset.specs.declared.head.Head.{Head}
 use Rattle.iim_dataset.proofs.Spellings.{one_tag, one_dataset}
 use Rattle.iim_dataset.proofs.Agreeing.{Next, compare}
+use Rattle.iim_dataset.proofs.Lists.{nothing_of_two}
 
 -- ---- lists
 
@@ -66,10 +67,6 @@ no_datasets : (ds : List Dataset) → SpellsStream count_octets ds [] → ds ≡
 no_datasets [] s = refl
 no_datasets (d ∷ ds) (first, rest, s, more, e) =
     absurd (let bad : [] ≡ 28 ∷ (d.rec ∷ d.set ∷ s.is_tag.count ++ d.octets) ++ rest = e ∙ ap (λ l. l ++ rest) (s.parts ∙ ap (λ l. l ++ d.octets) s.is_tag.parts) in cc)
-
-front_none : (xs ys : List ℕ) → xs ++ ys ≡ [] → xs ≡ []
-front_none [] ys e = refl
-front_none (x ∷ xs) ys e = absurd cc
 
 -- ---- one octet
 
@@ -136,7 +133,7 @@ back_none (x ∷ xs) ys e = absurd cc
 nothing_begun : (W whole more : List Dataset) (d : Dataset) (c : Begun) (q y : List ℕ) → W ≡ whole ++ d ∷ more → SpellsStream count_octets more q → IsBegun count_octets c y → q ++ y ≡ []
     → handed_on W c ≡ flat_map events_of whole ++ (HeadRead (head_of d) ∷ (map DataOctet d.octets ++ DatasetEnd ∷ []))
 nothing_begun W whole more d (InTag held) q y is later b none =
-    let no_more : more ≡ [] = no_datasets more (subst (SpellsStream count_octets more) (front_none q y none) later) in
+    let no_more : more ≡ [] = no_datasets more (subst (SpellsStream count_octets more) ((nothing_of_two q y none).0) later) in
     append-nil (flat_map events_of W) ∙ ap (λ (ds : List Dataset). flat_map events_of ds) (is ∙ ap (λ (ds : List Dataset). whole ++ d ∷ ds) no_more)
     ∙ flat_map-append events_of whole (d ∷ []) ∙ ap (λ (es : List DatasetEvent). flat_map events_of whole ++ es) (append-nil (events_of d))
 nothing_begun W whole more d (InData h taken) q y is later b none =
@@ -155,7 +152,7 @@ more_in_tag octets next events since later event whole W held c rest y reads b b
     let s = n.spelled in
     let d = n.dataset in
     let agree : rest ++ next ∷ [] ≡ s.tag ++ [] = n.agree ∙ ap (λ l. l ++ (n.q ++ y)) s.parts ∙ append_assoc s.tag d.octets (n.q ++ y) ∙ ap (λ l. s.tag ++ l) is in
-    let empty : d.octets ≡ [] = front_none d.octets (n.q ++ y) is in
+    let empty : d.octets ≡ [] = (nothing_of_two d.octets (n.q ++ y) is).0 in
     let tag : SpellsTag count_octets (head_of d) (held ++ next ∷ []) = subst (SpellsTag count_octets (head_of d)) (sym (append-nil s.tag) ∙ sym agree ∙ ap (λ l. l ++ next ∷ []) b.0) s.is_tag in
     let F : List DatasetEvent = flat_map events_of whole in
     let two : List DatasetEvent = HeadRead (head_of d) ∷ DatasetEnd ∷ [] in

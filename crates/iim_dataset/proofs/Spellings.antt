@@ -4,17 +4,8 @@ use Rattle.iim_dataset.specs.Format.Octets.{number, IsProperPrefix}
 use Rattle.iim_dataset.specs.Format.Datasets.{Dataset, head_of, SpellsCount, SpellsTag, SpellsDataset, SpellsStream}
 use Rattle.iim_dataset.specs.Format.Splits.{SplitsInto}
 use Rattle.iim_dataset.specs.declared.head.Head.{Head}
-
-pub same_length : {A : Type 0} (a b x y : List A) → length a ≡ length b → a ++ x ≡ b ++ y → (a ≡ b) × (x ≡ y)
-same_length [] [] x y l e = (refl, e)
-same_length [] (b ∷ bs) x y l e = absurd (omega (arith, l))
-same_length (a ∷ as') [] x y l e = absurd (omega (arith, l))
-same_length (a ∷ as') (b ∷ bs) x y l e =
-    let tails : as' ++ x ≡ bs ++ y = cc in
-    let l' : length as' ≡ length bs = omega (arith, l) in
-    let more = same_length as' bs x y l' tails in
-    let rests : as' ≡ bs = more.0 in
-    (cc, more.1)
+use Rattle.iim_dataset.proofs.Spelled.{dataset_is}
+use Rattle.iim_dataset.specs.Parting.{same_front}
 
 -- what two spellings with tails that join to one list have in common
 pub one_count : (limit c d : ℕ) (o p x y : List ℕ) → SpellsCount limit c o → SpellsCount limit d p → o ++ x ≡ p ++ y
@@ -29,22 +20,19 @@ one_count limit c d (a ∷ b ∷ o) (a' ∷ b' ∷ p) x y (inl h) (inl k) e =
     let tails : o ++ x ≡ p ++ y = cc in
     let nothing : o ≡ p = h.2 ∙ sym k.2 in
     let same : number (a ∷ b ∷ []) ≡ number (a' ∷ b' ∷ []) = rw (first, second) refl in
-    (sym h.3 ∙ (same ∙ k.3), cc, (same_length o p x y (ap length nothing) tails).1)
+    (sym h.3 ∙ (same ∙ k.3), cc, (same_front o p x y (ap length nothing) tails).1)
 one_count limit c d (a ∷ b ∷ o) (a' ∷ b' ∷ p) x y (inl h) (inr k) e = let first : a ≡ a' = cc in absurd (omega arith)
 one_count limit c d (a ∷ b ∷ o) (a' ∷ b' ∷ p) x y (inr h) (inl k) e = let first : a ≡ a' = cc in absurd (omega arith)
 one_count limit c d (a ∷ b ∷ o) (a' ∷ b' ∷ p) x y (inr h) (inr k) e =
     let first : a ≡ a' = cc in
     let second : b ≡ b' = cc in
     let tails : o ++ x ≡ p ++ y = cc in
-    let both = same_length o p x y (sym h.1 ∙ (second ∙ k.1)) tails in
+    let both = same_front o p x y (sym h.1 ∙ (second ∙ k.1)) tails in
     let rests : o ≡ p = both.0 in
     (sym h.5 ∙ (ap number rests ∙ k.5), cc, both.1)
 
 head_is : (h k : Head) → h.rec ≡ k.rec → h.set ≡ k.set → h.count ≡ k.count → h ≡ k
 head_is h k r s c = rw (r, s, c) refl
-
-dataset_is : (d e : Dataset) → d.rec ≡ e.rec → d.set ≡ e.set → d.octets ≡ e.octets → d ≡ e
-dataset_is d e r s o = rw (r, s, o) refl
 
 pub one_tag : (limit : ℕ) (h k : Head) (o p x y : List ℕ) → SpellsTag limit h o → SpellsTag limit k p → o ++ x ≡ p ++ y
     → (h ≡ k) × (o ≡ p) × (x ≡ y)
@@ -68,7 +56,7 @@ one_dataset limit d f o p x y s t e =
     let counts : length d.octets ≡ length f.octets = ap (λ (h : Head). h.count) g.0 in
     let r : d.rec ≡ f.rec = ap (λ (h : Head). h.rec) g.0 in
     let n : d.set ≡ f.set = ap (λ (h : Head). h.set) g.0 in
-    let both = same_length d.octets f.octets x y counts g.2 in
+    let both = same_front d.octets f.octets x y counts g.2 in
     let tags : s.tag ≡ t.tag = g.1 in
     let same : d.octets ≡ f.octets = both.0 in
     let joined : s.tag ++ d.octets ≡ t.tag ++ f.octets = cc in

@@ -11,3 +11,5 @@ pub mod Calls
 -- What impls of sources, targets and sinks hand in.
 pub mod Later
 pub mod Appending
+pub mod Rising
+pub mod Parting

@@ -4,7 +4,7 @@ use Rattle.std.specs.List.{list_any}
 use Rattle.std.proofs.lemmas.List.{length-replicate}
 use Rattle.std.specs.Option.{option_or}
 use Rattle.std.proofs.lemmas.List.Folds.{list_any-append}
-use Rattle.std.proofs.lemmas.Bool.{leb-true, and_parts, and_from}
+use Rattle.std.proofs.lemmas.Bool.{leb-true, and_parts, and_from, eq-eqb}
 use Rattle.std.proofs.lemmas.Bool.Decides.{eqb_tells}
 use Rattle.std.proofs.lemmas.Option.{same_Some}
 use Rattle.iim_dataset.specs.Format.Octets.{Octets, within}
@@ -31,7 +31,7 @@ use Rattle.iim_fields.specs.declared.fault.FieldFault.{FieldFault}
 use Rattle.iim_tables.proofs.GoodDatasets.{good_elsewhere, meets_as}
 use Rattle.iim_fields.proofs.NumberSets.{seen_more}
 use Rattle.iim_fields.proofs.Table.{EachRowHasValues, not_after_itself, object_kind}
-use Rattle.iim_fields.proofs.Runs.{records_to_come, eq_itself}
+use Rattle.iim_fields.proofs.Runs.{records_to_come}
 use Rattle.iim_fields.proofs.Follows.{Follows, present_more, run_more, alive_follows}
 use Rattle.iim_fields.proofs.Telling.{head_fault_told, value_fault_told}
 use Rattle.iim_fields.proofs.Dies.{HasNoFault, no_fault_parts, in_order_cases, head_alive, head_no_fault, head_octet, good_value, value_alive, value_no_fault}
@@ -86,7 +86,7 @@ pub tells_more : (o new : Order) (ds : List Dataset) (d : Dataset) → Follows d
 tells_more o new ds d follows fits f takes tells = elim (in_order_cases (section_after ds) d.rec f.order) [
   | inl same ↦ tells_same o new ds d fits same takes tells
   | inr next ↦ tells_next o new ds d fits (λ same. not_after_itself (section_after ds) d.rec (after d.rec) next (sym same))
-      (follows.fresh d.rec (ap (list_any (λ x. nat_eq x d.rec)) next ∙ ap (λ b. b || list_any (λ x. nat_eq x d.rec) (after d.rec)) (eq_itself d.rec))) takes tells
+      (follows.fresh d.rec (ap (list_any (λ x. nat_eq x d.rec)) next ∙ ap (λ b. b || list_any (λ x. nat_eq x d.rec) (after d.rec)) (eq-eqb d.rec d.rec refl))) takes tells
 ]
 
 -- the fault by what is kept is the fault by the datasets

@@ -3,11 +3,12 @@ use Rattle.std.proofs.Common.{◌≡◌, ℕ, ◌+◌, ◌⊎◌, Bool, true, fa
 use Rattle.std.specs.Prelude.{IsSomeAnd, IsTrue}
 use Rattle.std.specs.List.{AllByRecursion, find}
 use Rattle.std.specs.Option.{option_or}
-use Rattle.std.proofs.lemmas.Bool.{and_parts, and_from, or_cases, eqb-true, or_right, or_left, and_right, and_left}
+use Rattle.std.proofs.lemmas.Bool.{and_parts, and_from, or_cases, eqb-true, or_right, or_left, and_right, and_left, eq-eqb}
 use Rattle.std.proofs.lemmas.Bool.Decides.{eqb_tells}
 use Rattle.iim_dataset.specs.Format.Octets.{IsOctet, Octets, within}
 use Rattle.iim_dataset.specs.Format.Datasets.{Dataset, head_of}
 use Rattle.iim_dataset.specs.declared.head.Head.{Head}
+use Rattle.iim_dataset.proofs.Lists.{all_there}
 use Rattle.iim_tables.specs.Format.Kinds.{has_kind}
 use Rattle.iim_tables.specs.Format.Rows.{row_of, is_admitted}
 use Rattle.iim_tables.specs.declared.shape.Row.{Row}
@@ -17,10 +18,10 @@ use Rattle.iim_fields.specs.Format.Alive.{SectionsLive, SectionsLiveAt}
 use Rattle.iim_fields.specs.Format.Faults.{section_after, section_run, is_first, is_in_order, fault_on, row_fault, missing_fault, missing_of, head_fault, record_fault, fault_by_row, value_fault}
 use Rattle.iim_fields.specs.declared.fault.FieldFault.{FieldFault}
 use Rattle.iim_fields.specs.declared.fault.FieldCause.TheVariants.{RecordOrder, BadValue, FileFormat}
-use Rattle.iim_tables.proofs.GoodDatasets.{repeats_as, meets_as}
+use Rattle.iim_tables.proofs.GoodDatasets.{repeats_as, meets_as, occurrences_append, some_counts}
 use Rattle.iim_fields.proofs.Tested.{passed, passes}
 use Rattle.iim_fields.proofs.Table.{EachRowHasValues, after_tail, not_after_itself, no_row, value_for}
-use Rattle.iim_fields.proofs.Runs.{IsPart, part_front, part_of, part_more, no_part, part_completes, records_to_come, MayCome, occurrences_append, some_counts, eq_itself}
+use Rattle.iim_fields.proofs.Runs.{IsPart, part_front, part_of, part_more, no_part, part_completes, records_to_come, MayCome}
 use Rattle.iim_fields.proofs.Follows.{From, Follows, IsSame, IsNext, from_cons, same_from, next_from, alive_follows}
 
 -- ---- what a head without a fault has
@@ -96,10 +97,6 @@ none_missing has [] h = tt
 none_missing has (n ∷ ns) h =
     let parts = passed (has n) n (find (λ m. not (has m)) ns) h in (parts.0, none_missing has ns parts.1)
 
-pub all_there : (has : ℕ → Bool) (ns : List ℕ) → AllByRecursion (λ n. has n ≡ true) ns → find (λ n. not (has n)) ns ≡ None
-all_there has [] h = refl
-all_there has (n ∷ ns) h = passes (has n) n (find (λ m. not (has m)) ns) h.0 (all_there has ns h.1)
-
 -- ---- the order
 
 first_is : (present r : ℕ) (rs : List ℕ) → after present ≡ rs → is_first r rs ≡ true → after present ≡ r ∷ after r
@@ -119,7 +116,7 @@ in_order_cases present r h = elim (or_cases (nat_eq r present && not (nat_eq r 0
 ]
 
 is_first_of : (present r : ℕ) → after present ≡ r ∷ after r → is_first r (after present) ≡ true
-is_first_of present r e = ap (is_first r) e ∙ eq_itself r
+is_first_of present r e = ap (is_first r) e ∙ eq-eqb r r refl
 
 -- ---- no fault where the layer is alive
 
@@ -146,7 +143,7 @@ not_before r xs d ys good single =
     let most = good.once d.set single in
     let sum = occurrences_append d.set xs (d ∷ ys) in
     let front = occurrences_append d.set (d ∷ []) ys in
-    let one : occurrences d.set (d ∷ []) ≡ 1 = ap (λ (b : Bool). 0 + cond b 1 0) (eq_itself d.set) in
+    let one : occurrences d.set (d ∷ []) ≡ 1 = ap (λ (b : Bool). 0 + cond b 1 0) (eq-eqb d.set d.set refl) in
     not_one_more (occurs d.set xs) d.set xs refl (omega arith)
 
 zero_has_none : (d : Dataset) (row : Row) → row_of d.rec d.set ≡ Some row → nat_eq d.rec 0 ≡ false
@@ -169,7 +166,7 @@ same_no_fault : (ds : List Dataset) (d : Dataset) (more : List Dataset) → IsSa
 same_no_fault ds d more s good =
     let m = meets_row (row_of d.rec d.set) d.octets good.meets in
     let present : ℕ = section_after ds in
-    let is : nat_eq d.rec present ≡ true = subst (λ (q : ℕ). nat_eq d.rec q ≡ true) s.same (eq_itself d.rec) in
+    let is : nat_eq d.rec present ≡ true = subst (λ (q : ℕ). nat_eq d.rec q ≡ true) s.same (eq-eqb d.rec d.rec refl) in
     record {
       order = or_left (nat_eq d.rec present && not (nat_eq d.rec 0)) (is_first d.rec (after present))
           (and_from (nat_eq d.rec present) (not (nat_eq d.rec 0)) is (ap not (zero_has_none d m.0 m.1)));
@@ -225,7 +222,7 @@ same_alive : EachRowHasValues → (ds : List Dataset) (d : Dataset) → Follows 
     → HasNoFault (section_after ds) (λ n. occurs n (section_run ds)) (head_of d) → d.rec ≡ section_after ds → SectionsLive (ds ++ d ∷ [])
 same_alive values ds d follows part good f same =
     let present : ℕ = section_after ds in
-    let is : nat_eq d.rec present ≡ true = subst (λ (q : ℕ). nat_eq d.rec q ≡ true) same (eq_itself d.rec) in
+    let is : nat_eq d.rec present ≡ true = subst (λ (q : ℕ). nat_eq d.rec q ≡ true) same (eq-eqb d.rec d.rec refl) in
     let once : (occurs d.set (section_run ds) && not f.row.repeats) ≡ false =
     sym (ap (λ (b : Bool). (b && occurs d.set (section_run ds)) && not f.row.repeats) is) ∙ f.once in
     let known : row_of present d.set ≡ Some f.row = subst (λ (q : ℕ). row_of q d.set ≡ Some f.row) same f.known in

@@ -8,12 +8,13 @@ use Rattle.iim_tables.specs.Format.Rows.{table, row_of}
 use Rattle.iim_fields.specs.Format.Alive.{SectionsLive}
 use Rattle.iim_fields.specs.Format.Records.{after, AreRecords, AreSections}
 use Rattle.iim_tables.specs.Format.Records.{repeats, occurrences, IsGoodDataset, IsGoodRecord}
-use Rattle.iim_tables.proofs.GoodDatasets.{none_meets}
+use Rattle.iim_tables.proofs.GoodDatasets.{none_meets, occurrences_append}
 use Rattle.iim_fields.specs.Format.Faults.{last_record, section_after}
 use Rattle.iim_fields.specs.Laws.Records.{EnvelopesEndWithTheLastRecord, NoSectionsBeginOthers}
 use Rattle.iim_fields.proofs.Table.{mandatory_is}
-use Rattle.iim_fields.proofs.Runs.{not_empty, occurrences_append}
+use Rattle.iim_fields.proofs.Runs.{not_empty}
 use Rattle.iim_fields.proofs.Follows.{Follows, alive_follows, present_more, run_more}
+use Rattle.iim_fields.proofs.Sections.{last_of_joined}
 
 -- ---- the last record has one dataset
 
@@ -54,10 +55,6 @@ last_of_all : (r s : ℕ) (ds : List Dataset) → AllByRecursion (λ d. (d.rec �
 last_of_all r s [] each some = absurd (omega arith)
 last_of_all r s (d ∷ []) each some = each.0.0
 last_of_all r s (d ∷ e ∷ ds) each some = last_of_all d.rec s (e ∷ ds) each.1 (omega arith)
-
-last_of_joined : (r : ℕ) (xs ys : List Dataset) → last_record r (xs ++ ys) ≡ last_record (last_record r xs) ys
-last_of_joined r [] ys = refl
-last_of_joined r (x ∷ xs) ys = last_of_joined x.rec xs ys
 
 some_of_nine : (ds : List Dataset) → IsGoodRecord 9 ds → 0 < length ds
 some_of_nine [] good = absurd (not_empty 9 (subst (λ (ns : List ℕ). 0 < length ns) (sym (mandatory_is 9)) (omega arith)) good)

@@ -5,6 +5,7 @@ use Rattle.std.specs.Option.{option_or}
 use Rattle.std.proofs.lemmas.List.Elements.{filter-append, filter_passes, recursion_from_All}
 use Rattle.std.proofs.lemmas.Bool.{or_cases, eqb-true}
 use Rattle.iim_dataset.specs.Format.Datasets.{Dataset, of_record}
+use Rattle.iim_dataset.proofs.Lists.{all_there}
 use Rattle.iim_fields.specs.Format.Records.{after, AreRecords, AreSections}
 use Rattle.iim_tables.specs.Format.Records.{mandatory, occurs, IsGoodDataset, IsGoodRecord}
 use Rattle.iim_fields.specs.Format.Alive.{SectionsLive}
@@ -24,7 +25,7 @@ use Rattle.iim_fields.specs.declared.fault.FieldFault.{FieldFault}
 use Rattle.iim_fields.proofs.Table.{EachRowHasValues, no_application_fault}
 use Rattle.iim_fields.proofs.Runs.{IsPart, part_front, part_of, records_to_come}
 use Rattle.iim_fields.proofs.Follows.{From, Follows, alive_follows}
-use Rattle.iim_fields.proofs.Dies.{none_missing, all_there}
+use Rattle.iim_fields.proofs.Dies.{none_missing}
 
 -- ---- the datasets whose record passes a test
 

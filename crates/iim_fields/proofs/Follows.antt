@@ -2,7 +2,7 @@
 use Rattle.std.proofs.Common.{◌≡◌, ℕ, ◌⊎◌, Bool, true, false, ◌||◌, cond, nat_eq, List, [], ◌∷◌, ◌++◌, refl, ap, sym, ◌∙◌, inl, inr, arith, subst, append_assoc, append-nil}
 use Rattle.std.specs.List.{AllByRecursion, list_any}
 use Rattle.std.proofs.lemmas.List.Elements.{filter-append}
-use Rattle.std.proofs.lemmas.Bool.{or_right}
+use Rattle.std.proofs.lemmas.Bool.{or_right, eq-eqb}
 use Rattle.std.proofs.lemmas.Bool.Decides.{eqb_tells}
 use Rattle.iim_dataset.specs.Format.Datasets.{Dataset, of_record}
 use Rattle.std.specs.Prelude.{None}
@@ -13,7 +13,8 @@ use Rattle.iim_tables.proofs.GoodDatasets.{none_meets}
 use Rattle.iim_fields.specs.Format.Alive.{SectionsLive}
 use Rattle.iim_fields.specs.Format.Faults.{last_record, section_after, section_run}
 use Rattle.iim_fields.proofs.Table.{after_tail, by_record, no_row}
-use Rattle.iim_fields.proofs.Runs.{not_empty, eq_itself}
+use Rattle.iim_fields.proofs.Runs.{not_empty}
+use Rattle.iim_fields.proofs.Sections.{last_more}
 
 -- the rest of the present record after its run so far, and then the records after it
 abbrev pub FromRun : ℕ → List Dataset → List Dataset → Type 0
@@ -99,15 +100,11 @@ next_from ds d more n = (
 
 -- ---- the step
 
-last_more : (r : ℕ) (ds : List Dataset) (d : Dataset) → last_record r (ds ++ d ∷ []) ≡ d.rec
-last_more r [] d = refl
-last_more r (x ∷ ds) d = last_more x.rec ds d
-
 pub present_more : (ds : List Dataset) (d : Dataset) → section_after (ds ++ d ∷ []) ≡ d.rec
 present_more ds d = last_more 0 ds d
 
 own_of : (d : Dataset) → of_record d.rec (d ∷ []) ≡ d ∷ []
-own_of d = ap (λ (b : Bool). cond b (d ∷ []) []) (eq_itself d.rec)
+own_of d = ap (λ (b : Bool). cond b (d ∷ []) []) (eq-eqb d.rec d.rec refl)
 
 pub run_more : (ds : List Dataset) (d : Dataset) → section_run (ds ++ d ∷ []) ≡ of_record d.rec ds ++ d ∷ []
 run_more ds d =
@@ -123,7 +120,7 @@ from_less ds d more f = subst (λ (own : List Dataset). FromRun d.rec own more) 
 -- the next record has not occurred
 fresh_next : (ds : List Dataset) (d : Dataset) → Follows ds → after (section_after ds) ≡ d.rec ∷ after d.rec → of_record d.rec ds ≡ []
 fresh_next ds d follows next =
-    follows.fresh d.rec (ap (list_any (λ x. nat_eq x d.rec)) next ∙ ap (λ b. b || list_any (λ x. nat_eq x d.rec) (after d.rec)) (eq_itself d.rec))
+    follows.fresh d.rec (ap (list_any (λ x. nat_eq x d.rec)) next ∙ ap (λ b. b || list_any (λ x. nat_eq x d.rec) (after d.rec)) (eq-eqb d.rec d.rec refl))
 
 advance : (ds : List Dataset) (d : Dataset) (more : List Dataset) → Follows ds → From ds (d ∷ more) → From (ds ++ d ∷ []) more
 advance ds d more follows f = from_more ds d more (elim (from_cons ds d more f) [

@@ -1,6 +1,5 @@
 pub mod NumberSets
 pub mod Tested
-pub mod Handed
 pub mod Entries
 pub mod Table
 pub mod Runs
@@ -20,3 +19,5 @@ pub mod Keeping
 pub mod OnePlace
 pub mod Wholes
 pub mod Subfiles
+-- What proofs of other crates cite.
+pub mod Sections

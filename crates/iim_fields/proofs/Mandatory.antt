@@ -3,12 +3,12 @@ use Rattle.std.proofs.Common.{◌≡◌, ℕ, Bool, true, false, ◌&&◌, ◌||
 use Rattle.std.specs.Prelude.{is_some, IsSome}
 use Rattle.std.specs.Option.{option_map}
 use Rattle.std.specs.List.{AllByRecursion}
+use Rattle.std.proofs.lemmas.Bool.{eq-eqb}
 use Rattle.iim_dataset.specs.Format.Datasets.{Dataset}
 use Rattle.iim_tables.specs.Format.Records.{occurs, IsGoodDataset}
 use Rattle.iim_fields.specs.Format.Envelopes.{IsEnvelope}
 use Rattle.iim_fields.specs.Format.Views.{has_names, first_data}
 use Rattle.iim_fields.proofs.Table.{mandatory_is}
-use Rattle.iim_fields.proofs.Runs.{eq_itself}
 
 some_by : (a b : Bool) (xs : List ℕ) (rest : Option (List ℕ)) (more : Bool) → a ≡ true → (b || more) ≡ true → (more ≡ true → is_some rest ≡ true)
     → is_some (cond (a && b) (Some xs) rest) ≡ true
@@ -19,7 +19,7 @@ some_by false b xs rest more h k later = absurd cc
 first_in_run : (r n : ℕ) (run rest : List Dataset) → AllByRecursion (λ d. (d.rec ≡ r) × IsGoodDataset d) run → occurs n run ≡ true → is_some (first_data r n (run ++ rest)) ≡ true
 first_in_run r n [] rest each h = absurd cc
 first_in_run r n (d ∷ run) rest each h =
-    some_by (nat_eq d.rec r) (nat_eq d.set n) d.octets (first_data r n (run ++ rest)) (occurs n run) (ap (λ (m : ℕ). nat_eq m r) each.0.0 ∙ eq_itself r) h
+    some_by (nat_eq d.rec r) (nat_eq d.set n) d.octets (first_data r n (run ++ rest)) (occurs n run) (ap (λ (m : ℕ). nat_eq m r) each.0.0 ∙ eq-eqb r r refl) h
     (first_in_run r n run rest each.1)
 
 keep_by : (a : Bool) (xs : List ℕ) (rest : Option (List ℕ)) → is_some rest ≡ true → is_some (cond a (Some xs) rest) ≡ true

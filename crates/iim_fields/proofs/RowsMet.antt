@@ -7,6 +7,7 @@ use Rattle.iim_dataset.specs.Format.Datasets.{Dataset}
 use Rattle.iim_tables.specs.Format.Octets.{is_graphic}
 use Rattle.iim_dataset.specs.Format.Octets.{within, is_digit}
 use Rattle.iim_dataset.proofs.Each.{all_append}
+use Rattle.iim_dataset.proofs.Lists.{within_most}
 use Rattle.iim_tables.specs.Format.Dates.{is_date}
 use Rattle.iim_tables.specs.Format.Rows.{table, row_of, Meets}
 use Rattle.iim_tables.specs.Format.Records.{IsGoodDataset}
@@ -42,9 +43,6 @@ data_meet ds e r n xs h =
 
 -- ---- the rows of the views that rest on them
 
-at_most : (low high n : ℕ) → within low high n ≡ true → n ≤ high
-at_most low high n h = leb-true n high (and_parts (nat_le low n) (nat_le n high) h).1
-
 exactly : (only n : ℕ) → within only only n ≡ true → n ≡ only
 exactly only n h =
     let parts = and_parts (nat_le only n) (nat_le n only) h in
@@ -53,7 +51,7 @@ exactly only n h =
 
 pub service_fits : (xs : List ℕ) → Meets 1 30 xs → length xs ≤ 10
 unfolding row_of table
-service_fits xs h = at_most 0 10 (length xs) (and_parts (within 0 10 (length xs)) (list_all is_graphic xs) h).0
+service_fits xs h = within_most 0 10 (length xs) (and_parts (within 0 10 (length xs)) (list_all is_graphic xs) h).0
 
 pub number_fits : (xs : List ℕ) → Meets 1 40 xs → length xs ≡ 8
 unfolding row_of table

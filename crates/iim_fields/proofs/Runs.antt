@@ -3,43 +3,22 @@ use Rattle.std.proofs.Common.{◌≡◌, ℕ, ◌+◌, ◌<◌, ◌≤◌, ◌�
 use Rattle.std.specs.List.{AllByRecursion}
 use Rattle.std.proofs.lemmas.List.Folds.{list_any-append}
 use Rattle.std.proofs.lemmas.List.Sums.{sum_by-append}
-use Rattle.std.proofs.lemmas.Bool.{or_left, or_parts, or_right}
+use Rattle.std.proofs.lemmas.Bool.{or_left, or_parts, or_right, eq-eqb}
 use Rattle.std.proofs.lemmas.Bool.Decides.{eqb_tells}
 use Rattle.iim_dataset.specs.Format.Datasets.{Dataset}
 use Rattle.iim_dataset.proofs.Each.{all_append, all_front}
 use Rattle.iim_fields.specs.Format.Records.{AreRecords}
 use Rattle.iim_tables.specs.Format.Records.{mandatory, IsGoodDataset, IsGoodRecord, occurs, occurrences, repeats}
+use Rattle.iim_tables.proofs.GoodDatasets.{occurrences_append, none_counts}
 use Rattle.iim_fields.proofs.Table.{EachRowHasValues, HasSample, samples}
-
-pub occurrences_append : (n : ℕ) (xs ys : List Dataset) → occurrences n (xs ++ ys) ≡ occurrences n xs + occurrences n ys
-occurrences_append n xs ys = sum_by-append (λ (d : Dataset). cond (nat_eq d.set n) 1 0) xs ys
-
-pub none_counts : (n : ℕ) (xs : List Dataset) → occurs n xs ≡ false → occurrences n xs ≡ 0
-none_counts n [] h = refl
-none_counts n (x ∷ xs) h =
-    let parts = or_parts (nat_eq x.set n) (occurs n xs) h in
-    let later = none_counts n xs parts.1 in rw parts.0 later
-
-some_counts_by : (b : Bool) (rest : Bool) (count : ℕ) → (rest ≡ true → 1 ≤ count) → (b || rest) ≡ true → 1 ≤ cond b 1 0 + count
-some_counts_by true rest count more h = omega arith
-some_counts_by false rest count more h = let m = more h in omega arith
-
-pub some_counts : (n : ℕ) (xs : List Dataset) → occurs n xs ≡ true → 1 ≤ occurrences n xs
-some_counts n [] h = absurd cc
-some_counts n (x ∷ xs) h =
-    let sum = occurrences_append n (x ∷ []) xs in
-    let more = some_counts_by (nat_eq x.set n) (occurs n xs) (occurrences n xs) (some_counts n xs) h in omega arith
 
 pub occurs_front : (n : ℕ) (xs ys : List Dataset) → occurs n xs ≡ true → occurs n (xs ++ ys) ≡ true
 occurs_front n xs ys h = list_any-append (λ (d : Dataset). nat_eq d.set n) xs ys ∙ or_left (occurs n xs) (occurs n ys) h
 
-pub eq_itself : (n : ℕ) → nat_eq n n ≡ true
-eq_itself n = elim (eqb_tells n n) [ inl same ↦ same.0 | inr other ↦ absurd (other.1 refl) ]
-
 pub occurs_last : (n : ℕ) (xs : List Dataset) (d : Dataset) → d.set ≡ n → occurs n (xs ++ d ∷ []) ≡ true
 occurs_last n xs d is =
     list_any-append (λ (d : Dataset). nat_eq d.set n) xs (d ∷ [])
-    ∙ or_right (occurs n xs) (nat_eq d.set n || false) (or_left (nat_eq d.set n) false (subst (λ (m : ℕ). nat_eq d.set m ≡ true) is (eq_itself d.set)))
+    ∙ or_right (occurs n xs) (nat_eq d.set n || false) (or_left (nat_eq d.set n) false (subst (λ (m : ℕ). nat_eq d.set m ≡ true) is (eq-eqb d.set d.set refl)))
 
 -- ---- a part of a record
 

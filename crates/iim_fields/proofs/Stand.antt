@@ -11,6 +11,7 @@ use Rattle.iim_dataset.specs.Format.Octets.{Octets}
 use Rattle.iim_dataset.specs.Format.Datasets.{Dataset, head_of}
 use Rattle.iim_dataset.specs.declared.head.Head.{Head}
 use Rattle.iim_dataset.proofs.OctetLists.{octets_append, are_octets}
+use Rattle.iim_dataset.proofs.Lists.{nothing_of_two}
 use Rattle.iim_tables.specs.Format.Numbers.{size_octets}
 use Rattle.iim_tables.specs.Format.Records.{occurs}
 use Rattle.iim_fields.specs.Format.Alive.{SectionsLiveAt}
@@ -138,10 +139,6 @@ ends_within store is =
 -- the store of a reader that has kept those
 holds_kept : (store : Store) (ds : List Dataset) → IsStore store → fields_of store ≡ kept ds → HasStored store (kept ds) (begun_octets store)
 holds_kept store ds is same = subst (λ (ks : List Dataset). HasStored store ks (begun_octets store)) same is
-
-nothing_of_two : (xs ys : List ℕ) → xs ++ ys ≡ [] → (xs ≡ []) × (ys ≡ [])
-nothing_of_two [] ys h = (refl, h)
-nothing_of_two (x ∷ xs) ys h = absurd cc
 
 -- ---- the start
 

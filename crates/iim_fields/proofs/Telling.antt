@@ -23,7 +23,6 @@ use Rattle.iim_fields.specs.declared.fault.FieldCause.TheVariants.{RecordOrder, 
 use Rattle.iim_tables.proofs.GoodDatasets.{repeats_as, meets_as, admitted_as, none_meets}
 use Rattle.iim_fields.proofs.Tested.{passed}
 use Rattle.iim_fields.proofs.Table.{mandatory_is}
-use Rattle.iim_fields.proofs.Runs.{eq_itself}
 use Rattle.iim_fields.proofs.Dies.{next_is}
 
 -- ---- one fault at most
@@ -67,14 +66,14 @@ in_order ds h is = elim (or_cases (nat_eq h.rec (section_after ds) && not (nat_e
 ]
 
 begins : (ds : List Dataset) (h : Head) → BeginsNext ds h → is_first h.rec (after (section_after ds)) ≡ true
-begins ds h (later, is) = ap (is_first h.rec) is ∙ eq_itself h.rec
+begins ds h (later, is) = ap (is_first h.rec) is ∙ eq-eqb h.rec h.rec refl
 
 out_of_order : (ds : List Dataset) (h : Head) → is_in_order (section_after ds) h.rec ≡ false → IsOutOfOrder ds h
 out_of_order ds h is =
     let parts = or_parts (nat_eq h.rec (section_after ds) && not (nat_eq h.rec 0)) (is_first h.rec (after (section_after ds))) is in
     λ may. elim may [
       | inl present ↦
-          let same : nat_eq h.rec (section_after ds) ≡ true = ap (nat_eq h.rec) (sym present.1) ∙ eq_itself h.rec in
+          let same : nat_eq h.rec (section_after ds) ≡ true = ap (nat_eq h.rec) (sym present.1) ∙ eq-eqb h.rec h.rec refl in
           let bad = and_from (nat_eq h.rec (section_after ds)) (not (nat_eq h.rec 0)) same (is_not_zero h.rec present.0) in
           let no = parts.0 in cc (bad, no)
       | inr next ↦ let bad = begins ds h next in let no = parts.1 in cc (bad, no)
@@ -116,7 +115,7 @@ least_by : (has : ℕ → Bool) (low x : ℕ) (ns : List ℕ) (n : ℕ) (b : Boo
     → (cond (not b) (Some x) (find (λ m. not (has m)) ns)) ≡ Some n → IsLeast has (x ∷ ns) n
 least_by has low x ns n false is rise later h =
     let same : x ≡ n = cc in record {
-      one = or_left (nat_eq x n) (list_any (λ m. nat_eq m n) ns) (ap (nat_eq x) (sym same) ∙ eq_itself x);
+      one = or_left (nat_eq x n) (list_any (λ m. nat_eq m n) ns) (ap (nat_eq x) (sym same) ∙ eq-eqb x x refl);
       absent = ap has (sym same) ∙ is;
       least = λ m some lacks. elim (or_cases (nat_eq x m) (list_any (λ k. nat_eq k m) ns) some) [
         | inl here ↦ let at = eqb-true x m here in omega arith
@@ -236,7 +235,7 @@ is_repeated ds h row known t =
 
 not_repeated : (ds : List Dataset) (h : Head) (row : Row) → row_of h.rec h.set ≡ Some row → ((nat_eq h.rec (section_after ds) && has_come ds h.set) && not row.repeats) ≡ false → IsRepeated ds h → ⊥
 not_repeated ds h row known t is =
-    let same : nat_eq h.rec (section_after ds) ≡ true = ap (nat_eq h.rec) (sym is.1) ∙ eq_itself h.rec in
+    let same : nat_eq h.rec (section_after ds) ≡ true = ap (nat_eq h.rec) (sym is.1) ∙ eq-eqb h.rec h.rec refl in
     let once : not row.repeats ≡ true = ap not (sym (repeats_as h.rec h.set (Some row) known) ∙ is.0) in
     let bad = and_from (nat_eq h.rec (section_after ds) && has_come ds h.set) (not row.repeats) (and_from (nat_eq h.rec (section_after ds)) (has_come ds h.set) same is.2) once in
     cc (bad, t)

@@ -33,10 +33,6 @@ use Rattle.iim_fields.proofs.Build.{add_fault_of}
 use Rattle.iim_fields.proofs.Stand.Kept.{Passed}
 use Rattle.iim_fields.proofs.Stand.{taken_in_size, reading_passed, holds_after, room_fault_is, between_after, stands_in, reading_begun, head_in, store_room_for, reading_stored, entry_room, taken_in_store, stands_more, kept_in_store, kept_not_object, stands_closed, reading_kept}
 
-pub no_some : {X : Type 0} (o : Option X) → is_some o ≡ false → o ≡ None
-no_some None e = refl
-no_some (Some x) e = absurd cc
-
 pub none_where : {X : Type 0} (o : Option X) → is_none o ≡ true → o ≡ None
 none_where None e = refl
 none_where (Some x) e = absurd cc

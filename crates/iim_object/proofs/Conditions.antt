@@ -4,6 +4,7 @@ use Rattle.std.proofs.lemmas.Bool.{cases_Bool, cases_lt, eqb-true, eq-eqb, lt-lt
 use Rattle.std.proofs.lemmas.Option.{same_Some}
 use Rattle.iim_dataset.specs.Format.Languages.{IsAlive, DiesAt}
 use Rattle.iim_dataset.specs.Format.Octets.{greatest_size}
+use Rattle.iim_dataset.proofs.Lists.{no_some, some_of}
 use Rattle.iim_object.specs.declared.reading.state.State.{State}
 use Rattle.iim_object.specs.declared.reading.fault.SizeCause.{SizeCause}
 use Rattle.iim_object.specs.declared.reading.fault.SizeCause.TheVariants.{ModeClash, SizeClash, SubfileTooLong, PastSize, Short, ConfirmedWrong}
@@ -14,7 +15,7 @@ use Rattle.iim_object.specs.Format.Causes.{is_given, is_above, bound, is_past, c
 use Rattle.iim_object.specs.Format.Conditions.{number_of, stated_with, PassesBound, HasCause}
 use Rattle.iim_object.specs.Laws.Conditions.{IsFirstCause, CausesAreTheFirst, ObjectsDieForCauses}
 use Rattle.iim_object.specs.States.Reading.{StandsAt}
-use Rattle.iim_object.proofs.Steps.{tells_of, number_tells, number_cause_is, number_leads_on, number_refused, subfile_cause_is, subfile_leads_on, subfile_refused, end_cause_is, end_leads_on, end_refused, confirmed_cause_is, confirmed_leads_on, confirmed_refused, tokens_follow, given_is, is_given_by, none_of, given, announced_small}
+use Rattle.iim_object.proofs.Steps.{tells_of, number_tells, number_cause_is, number_leads_on, number_refused, subfile_cause_is, subfile_leads_on, subfile_refused, end_cause_is, end_leads_on, end_refused, confirmed_cause_is, confirmed_leads_on, confirmed_refused, tokens_follow, given_is, is_given_by, announced_small}
 
 -- ---- numbers of causes
 
@@ -29,7 +30,7 @@ mode_met : (ps : List Stated) → (is_given (number_at 10 ps) 0 && is_some (numb
     → (number_at 10 ps ≡ Some 0) × ((announced : ℕ) × (number_at 90 ps ≡ Some announced))
 mode_met ps t =
     let both = and_parts (is_given (number_at 10 ps) 0) (is_some (number_at 90 ps)) t in
-    (given_is (number_at 10 ps) 0 both.0, given (number_at 90 ps) both.1)
+    (given_is (number_at 10 ps) 0 both.0, some_of (number_at 90 ps) both.1)
 
 mode_tested : (ps : List Stated) (announced : ℕ) → number_at 10 ps ≡ Some 0 → number_at 90 ps ≡ Some announced → (is_given (number_at 10 ps) 0 && is_some (number_at 90 ps)) ≡ true
 mode_tested ps announced e f =
@@ -124,7 +125,7 @@ number_none p set n e = elim (cases_Bool (is_given (number_at 10 (stated_with p 
 unannounced_met : (ps : List Stated) → (is_given (number_at 10 ps) 1 && not (is_some (number_at 90 ps))) ≡ true → (number_at 10 ps ≡ Some 1) × (number_at 90 ps ≡ None)
 unannounced_met ps t =
     let both = and_parts (is_given (number_at 10 ps) 1) (not (is_some (number_at 90 ps))) t in
-    (given_is (number_at 10 ps) 1 both.0, none_of (number_at 90 ps) (not-true (is_some (number_at 90 ps)) both.1))
+    (given_is (number_at 10 ps) 1 both.0, no_some (number_at 90 ps) (not-true (is_some (number_at 90 ps)) both.1))
 
 unannounced_tested : (ps : List Stated) → number_at 10 ps ≡ Some 1 → number_at 90 ps ≡ None → (is_given (number_at 10 ps) 1 && not (is_some (number_at 90 ps))) ≡ true
 unannounced_tested ps e f =
@@ -178,7 +179,7 @@ subfile_first p count both c e = elim (cases_Bool (is_given (number_at 10 p.stat
   | inr f ↦ elim (cases_Bool (nat_lt (unwrap_or (number_at 20 p.stated) 0) count)) [
     | inl t ↦
         let is : SubfileTooLong ≡ c = same_Some SubfileTooLong c (rw (f, t) at e) in
-        let largest = given (number_at 20 p.stated) both.1 in
+        let largest = some_of (number_at 20 p.stated) both.1 in
         let same : unwrap_or (number_at 20 p.stated) 0 ≡ largest.0 = ap (λ (o : Option ℕ). unwrap_or o 0) largest.1 in
         let long : largest.0 < count = omega (arith, same, ltb-true (unwrap_or (number_at 20 p.stated) 0) count t) in
         subst (IsFirstCause p (SubfileBegun count)) is (record { holds = (count, refl, (largest.0, largest.1, long)); lowest = λ other h. from_long f other h })

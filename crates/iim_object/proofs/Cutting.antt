@@ -2,20 +2,10 @@
 use Rattle.std.proofs.Common.{◌≡◌, ℕ, ◌+◌, ◌*◌, ◌≤◌, inl, inr, subst, List, [], ◌∷◌, ◌++◌, length, refl, sym, ap, ◌∙◌, arith, append_assoc, length-append}
 use Rattle.std.proofs.Math.Nat.{mul-le-mul_left}
 use Rattle.std.proofs.lemmas.Bool.{cases_lt}
+use Rattle.iim_dataset.specs.Parting.{same_front}
 use Rattle.iim_object.specs.Format.Cuts.{joined_parts, AreFull, IsCut}
 use Rattle.iim_object.specs.Laws.Cuts.{ObjectsAreCutOneWay}
 use Rattle.iim_object.specs.Format.Plans.{max_subfiles}
-
--- lists of one length that lists begin with are equal, and so is what follows
-pub same_front : (xs ys us vs : List ℕ) → length xs ≡ length ys → xs ++ us ≡ ys ++ vs → (xs ≡ ys) × (us ≡ vs)
-same_front [] [] us vs n e = (refl, e)
-same_front [] (y ∷ ys) us vs n e = absurd (omega (arith, n))
-same_front (x ∷ xs) [] us vs n e = absurd (omega (arith, n))
-same_front (x ∷ xs) (y ∷ ys) us vs n e =
-    let first : x ≡ y = cc in
-    let rest : xs ++ us ≡ ys ++ vs = cc in
-    let more = same_front xs ys us vs (omega (arith, n)) rest in
-    ((λ i. first i ∷ more.0 i), more.1)
 
 -- a last part after a full one has an octet
 pub some_octet : (size : ℕ) (first last : List ℕ) (full : List (List ℕ)) → 1 ≤ size → length first ≡ size → (last ≡ [] → first ++ (joined_parts full ++ last) ≡ []) → 1 ≤ length last

@@ -12,7 +12,7 @@ use Rattle.iim_dataset.proofs.Each.{all_front, all_back}
 use Rattle.iim_tables.specs.Format.Numbers.{size_octets}
 use Rattle.iim_tables.specs.Format.Rows.{table, row_of, Meets}
 use Rattle.iim_tables.specs.Format.Records.{IsGoodDataset, IsGoodRecord, occurs, occurrences, repeats, mandatory}
-use Rattle.iim_tables.proofs.GoodDatasets.{good_elsewhere}
+use Rattle.iim_tables.proofs.GoodDatasets.{good_elsewhere, occurrences_cons, part_meets}
 use Rattle.iim_object.specs.Format.Sizes.{mode_number}
 use Rattle.iim_object.specs.Format.Cuts.{AreFull, joined_parts}
 use Rattle.iim_object.specs.Format.Plans.{limit_of}
@@ -54,10 +54,6 @@ announced_meets n le = size_from 0 n (omega arith) le
 maximum_meets : (n : ℕ) → n ≤ greatest_size → Meets 7 95 (written_number n)
 unfolding row_of table
 maximum_meets n le = size_from 0 n (omega arith) le
-
-part_meets : (xs : List ℕ) → length xs ≤ greatest_size → Meets 8 10 xs
-unfolding row_of table
-part_meets xs le = rw (le-leb (length xs) greatest_size le, le-leb 0 (length xs) (omega arith)) refl
 
 confirmed_meets : (n : ℕ) → n ≤ greatest_size → Meets 9 10 (written_number n)
 unfolding row_of table
@@ -117,14 +113,11 @@ apart n a b other first = elim (eqb_tells 10 n) [
   ]
 ]
 
-counted : (n : ℕ) (d : Dataset) (ds : List Dataset) → occurrences n (d ∷ ds) ≡ cond (nat_eq d.set n) 1 0 + occurrences n ds
-counted n d ds = sum_by-cons (λ (x : Dataset). cond (nat_eq x.set n) 1 0) d ds
-
 three : (n : ℕ) (d e f : Dataset) → d.set ≡ 10 → e.set ≡ 20 → (f.set ≡ 20 → ⊥) → (f.set ≡ 10 → ⊥) → occurrences n (d ∷ e ∷ f ∷ []) ≤ 1
 three n d e f ten twenty other first =
-    let c1 = counted n d (e ∷ f ∷ []) in
-    let c2 = counted n e (f ∷ []) in
-    let c3 = counted n f [] in
+    let c1 = occurrences_cons n d (e ∷ f ∷ []) in
+    let c2 = occurrences_cons n e (f ∷ []) in
+    let c3 = occurrences_cons n f [] in
     let sum : cond (nat_eq d.set n) 1 0 + (cond (nat_eq e.set n) 1 0 + cond (nat_eq f.set n) 1 0) ≤ 1 =
     subst (λ (s : ℕ). cond (nat_eq s n) 1 0 + (cond (nat_eq e.set n) 1 0 + cond (nat_eq f.set n) 1 0) ≤ 1) (sym ten)
     (subst (λ (s : ℕ). cond (nat_eq 10 n) 1 0 + (cond (nat_eq s n) 1 0 + cond (nat_eq f.set n) 1 0) ≤ 1) (sym twenty) (apart n f.set 0 other first)) in
@@ -132,11 +125,11 @@ three n d e f ten twenty other first =
 
 two : (n : ℕ) (d e : Dataset) → d.set ≡ 10 → e.set ≡ 20 → occurrences n (d ∷ e ∷ []) ≤ 1
 two n d e ten twenty =
-    let c1 = counted n d (e ∷ []) in
-    let c2 = counted n e [] in
+    let c1 = occurrences_cons n d (e ∷ []) in
+    let c2 = occurrences_cons n e [] in
     let all = three n d e (record { rec = 7; set = 0; octets = [] }) ten twenty (λ b. omega (arith, b)) (λ b. omega (arith, b)) in
-    let d1 = counted n d (e ∷ record { rec = 7; set = 0; octets = [] } ∷ []) in
-    let d2 = counted n e (record { rec = 7; set = 0; octets = [] } ∷ []) in
+    let d1 = occurrences_cons n d (e ∷ record { rec = 7; set = 0; octets = [] } ∷ []) in
+    let d2 = occurrences_cons n e (record { rec = 7; set = 0; octets = [] } ∷ []) in
     omega (arith, c1, c2, all, d1, d2)
 
 once_seven : (n subfile : ℕ) (size : Size) → occurrences n (plan_datasets subfile size) ≤ 1
@@ -173,7 +166,7 @@ repeats_eight = refl
 none_eight : (n : ℕ) (parts : List (List ℕ)) → nat_eq 10 n ≡ false → occurrences n (subfile_datasets parts) ≡ 0
 none_eight n [] other = refl
 none_eight n (p ∷ ps) other =
-    let c = counted n (subfile_dataset p) (subfile_datasets ps) in
+    let c = occurrences_cons n (subfile_dataset p) (subfile_datasets ps) in
     let more = none_eight n ps other in
     c ∙ rw (other, more) refl
 
@@ -210,7 +203,7 @@ at_most_one false = omega arith
 
 once_nine : (m n : ℕ) → occurrences m (number_dataset 9 10 n ∷ []) ≤ 1
 once_nine m n =
-    let c = counted m (number_dataset 9 10 n) [] in
+    let c = occurrences_cons m (number_dataset 9 10 n) [] in
     let one = at_most_one (nat_eq 10 m) in omega (arith, c, one)
 
 pub good_nine : (object : List ℕ) → length object ≤ greatest_size → IsGoodRecord 9 (confirmed_datasets object)

@@ -1,6 +1,7 @@
 -- Tokens lead to the places that are possible.
 use Rattle.std.proofs.Common.{◌≡◌, ℕ, ◌<◌, ◌≤◌, List, [], ◌∷◌, ◌++◌, length, map, refl, sym, ap, subst, ◌∙◌, arith, append_assoc, append-nil, length-append}
 use Rattle.iim_dataset.specs.Format.Languages.{IsAlive}
+use Rattle.iim_dataset.proofs.Lists.{some_none}
 use Rattle.iim_object.specs.Format.Plans.{max_subfiles}
 use Rattle.iim_object.specs.Format.Sizes.{Stated, AreStated}
 use Rattle.iim_object.specs.Format.Objects.{ObjectToken, NumberRead, SubfileBegun, ObjectEnded, Confirmed, ObjectLanguage, number_tokens}
@@ -18,9 +19,6 @@ record IsAdmitted (p : Place) : Type 0 where
   subfiles : p.lengths ≡ [] → p.ending ≡ NotEnded
   duties : 0 < length p.lengths → HasBoth p.stated
   few : length p.lengths ≤ max_subfiles
-
-some_none : (xs : List ℕ) → 0 < length xs → xs ≡ [] → ⊥
-some_none xs some e = omega (arith, some, ap length e)
 
 none_some : (xs : List ℕ) → xs ≡ [] → 0 < length xs → ⊥
 none_some xs e some = omega (arith, some, ap length e)

@@ -23,3 +23,4 @@ pub mod PlanLengths
 pub mod PlanParts
 pub mod Outputs
 pub mod Written
+pub mod Bounded

@@ -11,6 +11,7 @@ use Rattle.iim_object.specs.Format.Sizes.{Stated, InRow, AreOnce, AreStated, Agr
 use Rattle.iim_object.specs.Laws.Living.{NoClash}
 use Rattle.iim_object.specs.Format.Within.{TokensWithin, LanguageWithin}
 use Rattle.iim_object.specs.Format.Objects.{ObjectToken, NumberRead, SubfileBegun, ObjectEnded, Confirmed, ObjectLanguage, number_tokens}
+use Rattle.iim_object.proofs.Bounded.{within_append, begun_within, row_low}
 
 -- ---- what is stated stays stated
 
@@ -61,13 +62,6 @@ low_at most set n (p ∷ ps) low e = by_test (λ f. low_at most set n ps low.1 f
     by_test more true f = let same : p.number ≡ n = cc in omega (arith, same, low.0)
     by_test more false f = more f
 
-within_append : (most : ℕ) (xs ys : List ObjectToken) → TokensWithin most xs → TokensWithin most ys → TokensWithin most (xs ++ ys)
-within_append most [] ys a b = b
-within_append most (NumberRead set n ∷ xs) ys a b = (a.0, within_append most xs ys a.1 b)
-within_append most (SubfileBegun n ∷ xs) ys a b = within_append most xs ys a b
-within_append most (ObjectEnded ∷ xs) ys a b = within_append most xs ys a b
-within_append most (Confirmed n ∷ xs) ys a b = (a.0, within_append most xs ys a.1 b)
-
 numbers_within : (most : ℕ) (ps : List Stated) → AreLow most ps → TokensWithin most (number_tokens ps)
 numbers_within most [] all = tt
 numbers_within most (p ∷ ps) all = (all.0, numbers_within most ps all.1)
@@ -76,19 +70,9 @@ pub numbers_low : (most : ℕ) (ps : List Stated) (rest : List ObjectToken) → 
 numbers_low most [] rest all = tt
 numbers_low most (p ∷ ps) rest all = (all.0, numbers_low most ps rest all.1)
 
-begun_within : (most : ℕ) (ls : List ℕ) → TokensWithin most (map SubfileBegun ls)
-begun_within most [] = tt
-begun_within most (l ∷ ls) = begun_within most ls
-
 -- tokens of low numbers, any lengths, and a low size
 pub whole_within : (most : ℕ) (all : List Stated) (lengths : List ℕ) (n : ℕ) → AreLow most all → n ≤ most → TokensWithin most (number_tokens all ++ (map SubfileBegun lengths ++ (ObjectEnded ∷ Confirmed n ∷ [])))
 whole_within most all lengths n low le = within_append most (number_tokens all) _ (numbers_within most all low) (within_append most (map SubfileBegun lengths) _ (begun_within most lengths) (le, tt))
-
--- what rows allow is at most the greatest size
-row_low : (p : Stated) → InRow p → p.number ≤ greatest_size
-row_low p (inl h) = omega (arith, h.1)
-row_low p (inr (inl h)) = h.2
-row_low p (inr (inr h)) = h.1
 
 pub rows_low : (ps : List Stated) → AllByRecursion InRow ps → AreLow greatest_size ps
 rows_low [] all = tt
@@ -238,11 +222,6 @@ pub at_most_size : (n : ℕ) → InRow (record { set = 90; number = n }) → n �
 at_most_size n (inl h) = absurd (omega (arith, h.0))
 at_most_size n (inr (inl h)) = absurd (omega (arith, h.0))
 at_most_size n (inr (inr h)) = h.1
-
-pub mode_known : (n : ℕ) → n ≤ 1 → (known : Bool) × (n ≡ mode_number known)
-mode_known zero h = (false, refl)
-mode_known (suc zero) h = (true, refl)
-mode_known (suc (suc n)) h = absurd (omega (arith, h))
 
 pub largest_at_most : (n : ℕ) → InRow (record { set = 20; number = n }) → n ≤ greatest_size
 largest_at_most n (inl h) = absurd (omega (arith, h.0))

@@ -7,6 +7,7 @@ use Rattle.std.proofs.lemmas.List.{nil_from_length}
 use Rattle.std.proofs.Math.Nat.{suc-mul}
 use Rattle.iim_dataset.specs.Format.Languages.{IsAlive}
 use Rattle.iim_dataset.specs.Format.Octets.{greatest_size}
+use Rattle.iim_dataset.proofs.Lists.{sum_fits}
 use Rattle.iim_object.specs.declared.reading.state.State.{State}
 use Rattle.iim_object.specs.Format.Plans.{max_subfiles}
 use Rattle.iim_object.specs.Format.Sizes.{Stated, InRow, AreOnce, AreStated, number_at}
@@ -53,13 +54,6 @@ numbers_of_place s p st =
       not_known = λ e. t.announced ∙ clash.mode (sym t.mode ∙ e);
       sizes = λ a m e f. clash.sizes a m (sym t.announced ∙ e) (sym t.maximum ∙ f);
     }
-
--- subfiles that are no longer than the largest
-sum_fits : (most : ℕ) (lengths : List ℕ) → AllByRecursion (λ n. n ≤ most) lengths → sum lengths ≤ length lengths * most
-sum_fits most [] h = omega arith
-sum_fits most (l ∷ lengths) h =
-    let total : sum (l ∷ lengths) ≡ l + sum lengths = sum_by-cons (λ n. n) l lengths in
-    let room : length (l ∷ lengths) * most ≡ length lengths * most + most = suc-mul (length lengths) most in omega (arith, h.0, sum_fits most lengths h.1, total, room)
 
 subfiles_of_place : (s : State) (p : Place) → StandsAt (Some s) p → length p.lengths ≤ max_subfiles → 0 < s.subfiles → HasSubfiles s
 subfiles_of_place s p st few some =

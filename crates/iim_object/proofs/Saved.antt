@@ -21,6 +21,7 @@ use Rattle.iim_object.specs.Finding.{Finds}
 use Rattle.iim_object.proofs.Steps.{given_is, or_less, or_less_right, under_both, sum_more, tokens_follow}
 use Rattle.iim_object.proofs.Reached.{front_lives, place_in, tells_in, stands_in, few_in, state_of}
 use Rattle.iim_object.proofs.Staying.{takes_of, may_take}
+use Rattle.iim_object.proofs.Bounded.{possible_of}
 
 -- ---- the tests of a state
 
@@ -47,9 +48,6 @@ pub subfiles_within : (s : State) → HasSubfiles s → s.total ≤ bound s.anno
 subfiles_within s h = under_both s.announced s.maximum s.total greatest_size h.total h.announced h.maximum
 
 -- ---- a place and its state
-
-pub possible_of : (r : Option State) (p : Place) → StandsAt r p → length p.lengths ≤ max_subfiles → IsPossible p
-possible_of r p st few = record { stated = st.stated; subfiles = st.subfiles; duties = st.duties; few = few; alive = st.alive }
 
 pub stands_by : (s : State) (p : Place) → IsStateAt s p → IsPossible p → StandsAt (Some s) p
 stands_by s p t h = record { state = s; is_state = refl; tells = t; stated = h.stated; subfiles = h.subfiles; duties = h.duties; alive = h.alive }

@@ -6,6 +6,8 @@ use Rattle.std.proofs.lemmas.Bool.{cases_Bool, cases_lt, eqb-true, eq-eqb, lt-lt
 use Rattle.std.proofs.lemmas.Option.{same_Some}
 use Rattle.iim_dataset.specs.Format.Languages.{IsAlive}
 use Rattle.iim_dataset.specs.Format.Octets.{greatest_size}
+use Rattle.iim_dataset.proofs.Each.{all_append, all_last}
+use Rattle.iim_dataset.proofs.Lists.{sum_append, some_of}
 use Rattle.iim_object.specs.declared.reading.state.State.{State}
 use Rattle.iim_object.specs.declared.reading.fault.SizeCause.{SizeCause}
 use Rattle.iim_object.specs.declared.reading.fault.SizeCause.TheVariants.{ModeClash, SizeClash, SubfileTooLong, PastSize, Short, ConfirmedWrong}
@@ -17,8 +19,9 @@ use Rattle.iim_object.specs.Laws.Numbers.{TokensFollow}
 use Rattle.iim_object.specs.Format.Causes.{is_given, is_above, number_cause, bound, is_past, subfile_cause, end_cause, confirmed_cause, cause_at}
 use Rattle.iim_object.specs.States.Reading.{IsStateAt, StandsAt, LeadsOn, LivesWith, Refuses, IsSizes}
 use Rattle.iim_object.specs.StateChanges.{set_where, state_start, state_with}
-use Rattle.iim_object.proofs.Numbers.{at-append, at_most_size, in_row_at, mode_at_most_one, none-append, read-append, mode_known}
-use Rattle.iim_object.proofs.Subfiles.{numbers_law, subfiles_law, ends_law, confirmed_law, each_append, sum_append}
+use Rattle.iim_object.proofs.Numbers.{at-append, at_most_size, in_row_at, mode_at_most_one, none-append, read-append}
+use Rattle.iim_object.proofs.Subfiles.{numbers_law, subfiles_law, ends_law, confirmed_law}
+use Rattle.iim_object.proofs.Bounded.{mode_known}
 
 -- ---- tokens of a place
 
@@ -65,10 +68,6 @@ given_is (Some m) n e = ap (λ (k : ℕ). Some k) (eqb-true m n e)
 
 pub is_given_by : (o : Option ℕ) (n : ℕ) → o ≡ Some n → is_given o n ≡ true
 is_given_by o n e = ap (λ (x : Option ℕ). is_given x n) e ∙ eq-eqb n n refl
-
-pub none_of : (o : Option ℕ) → is_some o ≡ false → o ≡ None
-none_of None e = refl
-none_of (Some n) e = absurd cc
 
 -- no cause, no clash
 pub clear_numbers : (ps : List Stated) → number_cause (number_at 10 ps) (number_at 90 ps) (number_at 95 ps) ≡ None → NoClash ps
@@ -171,15 +170,11 @@ number_refused s set number c e p st (not_ended, none, stated) =
 
 -- ---- subfiles
 
-pub given : (o : Option ℕ) → is_some o ≡ true → (n : ℕ) × (o ≡ Some n)
-given None e = absurd cc
-given (Some n) e = (n, refl)
-
 -- mode and largest subfile
 pub both_of : (ps : List Stated) → AreStated ps → HasBoth ps → (known : Bool) × (subfile : ℕ) × HasDuties known subfile ps
 both_of ps stated both =
-    let mode = given (number_at 10 ps) both.0 in
-    let largest = given (number_at 20 ps) both.1 in
+    let mode = some_of (number_at 10 ps) both.0 in
+    let largest = some_of (number_at 20 ps) both.1 in
     let known = mode_known mode.0 (mode_at_most_one mode.0 (in_row_at 10 mode.0 ps stated.each mode.1)) in
     (known.0, largest.0, record { stated = stated; mode = mode.1 ∙ ap (λ (n : ℕ). Some n) known.1; largest = largest.1 })
 
@@ -257,7 +252,7 @@ subfile_fits known subfile ps lengths count d so clear =
     record {
       clash = so.clash;
       by_mode = announced_by known d.mode;
-      each = each_append subfile lengths (count ∷ []) so.each (short, tt);
+      each = all_append (λ (n : ℕ). n ≤ subfile) lengths (count ∷ []) so.each (short, tt);
       total = omega (arith, within, announced_small ps d.stated (number_at 90 ps) refl);
       announced = or_less (number_at 90 ps) (sum (lengths ++ count ∷ [])) greatest_size (unwrap_or (number_at 95 ps) greatest_size) within;
       maximum = or_less_right (number_at 95 ps) (sum (lengths ++ count ∷ [])) greatest_size (unwrap_or (number_at 90 ps) greatest_size) within;
@@ -268,16 +263,12 @@ subfile_fits known subfile ps lengths count d so clear =
         not-false (is_some (number_at 90 ps)) (both_false (is_given (number_at 10 ps) 1) (not (is_some (number_at 90 ps))) clear.announced (is_given_by (number_at 10 ps) 1 e))
     announced_by false e = ap (λ (o : Option ℕ). is_some o) (so.clash.mode e)
 
-each_last : (subfile : ℕ) (lengths : List ℕ) (count : ℕ) → AllByRecursion (λ n. n ≤ subfile) (lengths ++ count ∷ []) → count ≤ subfile
-each_last subfile [] count h = h.0
-each_last subfile (l ∷ lengths) count h = each_last subfile lengths count h.1
-
 fits_clear : (known : Bool) (subfile : ℕ) (ps : List Stated) (lengths : List ℕ) (count : ℕ) → HasDuties known subfile ps → Fit known subfile ps (lengths ++ count ∷ []) → Clear ps (sum lengths) count
 fits_clear known subfile ps lengths count d fit =
     let sums = sum_more lengths count in
     let within : sum (lengths ++ count ∷ []) ≤ bound (number_at 90 ps) (number_at 95 ps) = under_both (number_at 90 ps) (number_at 95 ps) (sum (lengths ++ count ∷ [])) greatest_size fit.total fit.announced fit.maximum in
     let largest : unwrap_or (number_at 20 ps) 0 ≡ subfile = ap (λ (o : Option ℕ). unwrap_or o 0) d.largest in
-    let short : count ≤ unwrap_or (number_at 20 ps) 0 = omega (arith, largest, each_last subfile lengths count fit.each) in
+    let short : count ≤ unwrap_or (number_at 20 ps) 0 = omega (arith, largest, all_last (λ (n : ℕ). n ≤ subfile) lengths count fit.each) in
     record {
       announced = announced_by (is_given (number_at 10 ps) 1) refl;
       short = le-ltb (unwrap_or (number_at 20 ps) 0) count short;

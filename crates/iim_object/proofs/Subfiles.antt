@@ -8,6 +8,8 @@ use Rattle.iim_dataset.specs.Format.Languages.{IsAlive}
 use Rattle.iim_object.specs.Laws.Records.{SizesAreDetermined}
 use Rattle.iim_object.specs.Format.Within.{LanguageWithin}
 use Rattle.iim_dataset.specs.Format.Octets.{greatest_size}
+use Rattle.iim_dataset.proofs.Each.{all_append, all_front}
+use Rattle.iim_dataset.proofs.Lists.{sum_append}
 use Rattle.iim_object.specs.Format.Sizes.{Stated, Agree, number_at, mode_number, sizes_at}
 use Rattle.iim_object.specs.Laws.Living.{HasDuties, Fit, MeetsAnnounced, NumbersLiveWithoutClash, SubfilesLiveWhileTheyFit, ObjectsEndWhereTheyAreWhole, TotalsAreConfirmed}
 use Rattle.iim_object.specs.Format.Objects.{ObjectToken, SubfileBegun, ObjectEnded, Confirmed, ObjectLanguage, number_tokens}
@@ -21,17 +23,6 @@ numbers_law ps stated = (numbers_live ps, numbers_alive ps stated)
 -- the tokens of the end
 abbrev ending : ℕ → List ObjectToken
 ending n = ObjectEnded ∷ Confirmed n ∷ []
-
-pub each_append : (subfile : ℕ) (xs ys : List ℕ) → AllByRecursion (λ n. n ≤ subfile) xs → AllByRecursion (λ n. n ≤ subfile) ys → AllByRecursion (λ n. n ≤ subfile) (xs ++ ys)
-each_append subfile [] ys h k = k
-each_append subfile (x ∷ xs) ys h k = (h.0, each_append subfile xs ys h.1 k)
-
-each_front : (subfile : ℕ) (xs ys : List ℕ) → AllByRecursion (λ n. n ≤ subfile) (xs ++ ys) → AllByRecursion (λ n. n ≤ subfile) xs
-each_front subfile [] ys h = tt
-each_front subfile (x ∷ xs) ys h = (h.0, each_front subfile xs ys h.1)
-
-pub sum_append : (xs ys : List ℕ) → sum (xs ++ ys) ≡ sum xs + sum ys
-sum_append xs ys = sum_by-append (λ n. n) xs ys
 
 one_at_least : (known : Bool) (subfile : ℕ) (ps : List Stated) → HasDuties known subfile ps → 1 ≤ subfile
 one_at_least known subfile ps d = at_least_one subfile (in_row_at 20 subfile ps d.stated.each d.largest)
@@ -89,7 +80,7 @@ filled_fits known subfile ps lengths a d fit e h =
     record {
       clash = fit.clash;
       by_mode = fit.by_mode;
-      each = each_append subfile lengths (fill a lengths) fit.each (short_ones (a - sum lengths) subfile (one_at_least known subfile ps d));
+      each = all_append (λ (n : ℕ). n ≤ subfile) lengths (fill a lengths) fit.each (short_ones (a - sum lengths) subfile (one_at_least known subfile ps d));
       total = omega (arith, total, at_most_size a (in_row_at 90 a ps d.stated.each e));
       announced = subst (λ (o : Option ℕ). IfSome o (λ x. sum (lengths ++ fill a lengths) ≤ x)) (sym e) (omega (arith, total));
       maximum = under (number_at 95 ps) refl;
@@ -212,7 +203,7 @@ front_fits known subfile ps lengths more rest d b e =
     record {
       clash = record { mode = λ z. no_size z (number_at 90 ps) refl; sizes = λ a m x y. subst (λ (o : Option ℕ). IfSome o (λ k. a ≤ k)) y (subst (λ (o : Option ℕ). IfSome o (λ k. IfSome (number_at 95 ps) (λ j. k ≤ j))) x b.agree.announced_fits) };
       by_mode = b.agree.by_mode ∙ same;
-      each = each_front subfile lengths more each;
+      each = all_front (λ (n : ℕ). n ≤ subfile) lengths more each;
       total = omega (arith, total, b.agree.total_fits);
       announced = less (number_at 90 ps) total b.agree.as_announced;
       maximum = under (number_at 95 ps) total b.agree.within_maximum;

@@ -7,8 +7,9 @@ use Rattle.iim_object.specs.Format.Objects.{ObjectToken, SubfileBegun, ObjectLan
 use Rattle.iim_object.specs.Format.Places.{Ending, NotEnded, Ended, ConfirmedAs, HasBoth, ending_tokens}
 use Rattle.iim_object.specs.Format.Within.{LanguageWithin}
 use Rattle.iim_object.specs.Laws.Within.{PlacesLiveWithin}
-use Rattle.iim_object.proofs.Numbers.{AreLow, numbers_low, numbers_alive_within, in_row_at, mode_at_most_one, mode_known}
+use Rattle.iim_object.proofs.Numbers.{AreLow, numbers_low, numbers_alive_within, in_row_at, mode_at_most_one}
 use Rattle.iim_object.proofs.Subfiles.{numbers_law, subfiles_law, ends_law, confirmed_law, subfiles_alive_within, ends_within, confirmed_within}
+use Rattle.iim_object.proofs.Bounded.{mode_known}
 
 -- mode and largest subfile of a place that has both
 record Duties (ps : List Stated) : Type 0 where

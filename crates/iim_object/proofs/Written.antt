@@ -5,6 +5,7 @@ use Rattle.std.proofs.lemmas.List.{take-append-drop}
 use Rattle.iim_dataset.specs.States.Devices.{Device, Wrote}
 use Rattle.iim_dataset.specs.Laws.Devices.{TextsJoin}
 use Rattle.iim_dataset.specs.Format.Datasets.{Dataset, canonical_dataset, canonical_stream}
+use Rattle.iim_dataset.specs.Parting.{same_front}
 use Rattle.iim_object.specs.Format.Cuts.{joined_parts, AreFull, IsCut}
 use Rattle.iim_object.specs.Laws.Cuts.{ObjectsAreCutOneWay}
 use Rattle.iim_object.specs.Format.Packing.{plan_datasets, subfile_dataset, subfile_datasets, confirmed_datasets, number_dataset, object_datasets, IsWritten}
@@ -15,7 +16,7 @@ use Rattle.iim_object.specs.declared.plan.Plan.{Plan}
 use Rattle.iim_object.specs.declared.writing.output.Output.{Output}
 use Rattle.iim_object.specs.declared.writing.cutter.Cutter.{Cutter}
 use Rattle.iim_object.proofs.PlanParts.{plan_parts}
-use Rattle.iim_object.proofs.Cutting.{same_front, some_octet, too_short, at_least}
+use Rattle.iim_object.proofs.Cutting.{some_octet, too_short, at_least}
 
 -- ---- streams
 
@@ -162,7 +163,7 @@ flushed state old mid new xs join unfailed full some f h room =
 
 -- ---- a writer breaks off
 
-front_length : (n : ℕ) (text : List ℕ) → n < length text → length (take n text) ≡ n
+pub front_length : (n : ℕ) (text : List ℕ) → n < length text → length (take n text) ≡ n
 front_length n text lt = omega (arith, lt, length-take n text)
 
 -- the whole after full parts that are out, and one more

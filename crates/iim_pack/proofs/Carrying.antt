@@ -13,9 +13,10 @@ use Rattle.iim_object.specs.Format.Plans.{bound_of}
 use Rattle.iim_object.specs.Format.Packing.{plan_datasets, subfile_datasets, confirmed_datasets, packed_sizes}
 use Rattle.iim_object.specs.Laws.Packing.{PackedObjectsHaveSizes, PackedRecordsAreGood}
 use Rattle.iim_object.proofs.PlanParts.{plan_parts}
+use Rattle.iim_object.proofs.Written.{stream_append}
 use Rattle.wire_message.specs.Format.Canonical.{canonical}
 use Rattle.iim_pack.specs.Laws.Packed.{PackedOctetsCarryTheValue}
-use Rattle.iim_pack.proofs.Octets.{message_octets}
+use Rattle.wire_message.proofs.MessageOctets.{message_octets}
 use Rattle.iim_pack.proofs.Spelling.{record_spelled}
 use Rattle.iim_pack.proofs.Sorting.{AreInOrder, AreOf, kept_are, sevens_are, eights_are, nines_are, object_joined}
 
@@ -23,10 +24,6 @@ use Rattle.iim_pack.proofs.Sorting.{AreInOrder, AreOf, kept_are, sevens_are, eig
 
 of_good : (rec : ℕ) (ds : List Dataset) → IsGoodRecord rec ds → AreOf rec ds
 of_good rec ds good = all_map (λ (d : Dataset). (d.rec ≡ rec) × IsGoodDataset d) (λ (d : Dataset). d.rec ≡ rec) ds (λ d h. h.0) good.each
-
-stream_append : (xs ys : List Dataset) → canonical_stream (xs ++ ys) ≡ canonical_stream xs ++ canonical_stream ys
-stream_append [] ys = refl
-stream_append (x ∷ xs) ys = ap (λ (t : List ℕ). canonical_dataset x ++ t) (stream_append xs ys) ∙ sym (append_assoc (canonical_dataset x) (canonical_stream xs) (canonical_stream ys))
 
 -- ---- five good records
 

@@ -1,6 +1,7 @@
 -- Records 1 and 2 written one dataset after another.
 use Rattle.std.proofs.Common.{◌≡◌, ℕ, ◌+◌, ◌*◌, ◌^◌, ◌<◌, ◌≤◌, List, [], ◌∷◌, ◌++◌, length, refl, sym, ap, subst, ◌∙◌, arith, append_assoc, append-nil, length-append}
 use Rattle.std.specs.List.{AllByRecursion}
+use Rattle.iim_object.proofs.Written.{stream_append}
 use Rattle.iim_dataset.specs.States.Devices.{Device, Wrote, Stopped}
 use Rattle.iim_dataset.specs.Laws.Devices.{TextsJoin}
 use Rattle.iim_dataset.specs.Format.Datasets.{Dataset, canonical_dataset, canonical_stream, count_octets, tag_octets}
@@ -24,10 +25,6 @@ stream_length (d ∷ ds) =
 
 pub stream_small : (ds : List Dataset) → AreFew ds → length (canonical_stream ds) < 2 ^ 40
 stream_small ds f = let long = stream_length ds in omega (arith, long, f.datasets, f.octets)
-
-pub stream_append : (xs ys : List Dataset) → canonical_stream (xs ++ ys) ≡ canonical_stream xs ++ canonical_stream ys
-stream_append [] ys = refl
-stream_append (x ∷ xs) ys = ap (λ (t : List ℕ). canonical_dataset x ++ t) (stream_append xs ys) ∙ sym (append_assoc (canonical_dataset x) (canonical_stream xs) (canonical_stream ys))
 
 pub stream_one : (xs : List Dataset) (d : Dataset) → canonical_stream (xs ++ d ∷ []) ≡ canonical_stream xs ++ canonical_dataset d
 stream_one xs d = stream_append xs (d ∷ []) ∙ ap (λ (t : List ℕ). canonical_stream xs ++ t) (append-nil (canonical_dataset d))

@@ -14,6 +14,7 @@ use Rattle.wire_story.specs.Format.Texts.{is_line_octet, IsLine, packed_text}
 use Rattle.wire_story.specs.Format.Delivery.{StoryEvent, LineOctet, events_of_lines}
 use Rattle.wire_story.specs.Format.Packing.{packed_event, packed_events, AreEvents}
 use Rattle.wire_story.specs.Laws.Packing.{LinesArePackedAsTheirEvents}
+use Rattle.wire_story.proofs.PackedEvents.{events_append}
 use Rattle.wire_message.specs.Format.Messages.{Header}
 use Rattle.wire_message.specs.Format.Canonical.{packed_head, packed_tail, canonical}
 use Rattle.iim_pack.specs.States.Packing.{Lengthens, BreaksOff, ContinuesWith}
@@ -25,14 +26,6 @@ of_none None P e h = h
 of_none (Some a) P e h = absurd cc
 
 -- ---- events
-
-pub events_append : (xs ys : List StoryEvent) → packed_events (xs ++ ys) ≡ packed_events xs ++ packed_events ys
-events_append [] ys = refl
-events_append (x ∷ xs) ys = ap (λ (t : List ℕ). packed_event x ++ t) (events_append xs ys) ∙ sym (append_assoc (packed_event x) (packed_events xs) (packed_events ys))
-
-pub line_packed : (line : List ℕ) → packed_events (map LineOctet line) ≡ line
-line_packed [] = refl
-line_packed (b ∷ bs) = ap (λ (t : List ℕ). b ∷ t) (line_packed bs)
 
 pub line_events : (line : List ℕ) → IsLine line → AreEvents (map LineOctet line)
 line_events [] h = tt

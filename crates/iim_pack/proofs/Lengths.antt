@@ -13,7 +13,8 @@ use Rattle.iim_object.specs.declared.plan.Plan.{Plan}
 use Rattle.wire_message.specs.Format.Canonical.{canonical}
 use Rattle.iim_pack.specs.Laws.Packed.{PackedOctetsAreFew}
 use Rattle.iim_object.proofs.PlanParts.{plan_parts}
-use Rattle.iim_pack.proofs.FieldsOut.{stream_append, stream_length}
+use Rattle.iim_object.proofs.Written.{stream_append}
+use Rattle.iim_pack.proofs.FieldsOut.{stream_length}
 use Rattle.iim_pack.proofs.Ones.{few_subfiles}
 use Rattle.iim_pack.proofs.Openings.{plan_small}
 use Rattle.iim_pack.proofs.Sorting.{object_joined}

@@ -1,4 +1,3 @@
-pub mod Octets
 pub mod Spelling
 pub mod Sorting
 pub mod Carrying

@@ -7,9 +7,9 @@ use Rattle.iim_object.specs.States.Writing.{most_of, total_of, Begins}
 use Rattle.wire_story.specs.Format.Texts.{IsLine}
 use Rattle.wire_story.specs.Format.Delivery.{StoryEvent, LineOctet, LineEnd, events_of_lines}
 use Rattle.wire_story.specs.Format.Packing.{packed_events}
+use Rattle.wire_story.proofs.PackedEvents.{events_append}
 use Rattle.iim_pack.specs.States.Packing.{Packing, HasPacked, Lengthens, BreaksOff, ContinuesWith, FormWith, text_cause, line_end_cause}
 use Rattle.iim_pack.specs.LineEvents.{line_events}
-use Rattle.iim_pack.proofs.Goings.{events_append}
 
 pub goes_nowhere : {W : Type 0} (state : W → Device) (k : Packing W) → TextsJoin → k.object.failed ≡ false → Lengthens state k k []
 goes_nowhere state k join unfailed = record {

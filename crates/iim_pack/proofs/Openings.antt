@@ -14,12 +14,9 @@ use Rattle.iim_object.specs.States.Writing.{Writing, IsWrittenFrom, HasWritten, 
 use Rattle.iim_object.specs.declared.plan.Plan.{Plan}
 use Rattle.iim_object.specs.declared.writing.cause.StartFault.{StartFault}
 use Rattle.iim_object.specs.declared.writing.cause.PackCause.TheVariants as causes
+use Rattle.iim_object.proofs.Written.{stream_append, front_length}
 use Rattle.iim_pack.specs.Opening.{Opens}
 use Rattle.iim_pack.specs.States.Starting.{StartBreaksOff}
-use Rattle.iim_pack.proofs.FieldsOut.{stream_append}
-
-front_length : (n : ℕ) (text : List ℕ) → n < length text → length (take n text) ≡ n
-front_length n text lt = omega (arith, lt, length-take n text)
 
 pub begins_by : (text rest whole : List ℕ) (n : ℕ) → whole ≡ text ++ rest → Begins (take n text) whole
 begins_by text rest whole n e =

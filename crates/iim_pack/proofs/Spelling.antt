@@ -9,6 +9,7 @@ use Rattle.iim_dataset.specs.Laws.Datasets.{HasSpellings}
 use Rattle.iim_tables.specs.Format.Rows.{table, row_of, row_in, row_of_others, is_admitted}
 use Rattle.iim_tables.specs.declared.shape.Row.{Row}
 use Rattle.iim_tables.specs.Format.Records.{IsGoodDataset}
+use Rattle.iim_tables.proofs.GoodDatasets.{table_bounded}
 
 abbrev IsBounded : Option Row → Type 0
 IsBounded o = IfSome o (λ r. r.max ≤ greatest_size)
@@ -22,10 +23,6 @@ in_lines rec_of set_of row_at (e ∷ es) rec set h =
     cond_both (nat_eq (rec_of e) rec && nat_eq (set_of e) set) (Some e) (find (λ x. nat_eq (rec_of x) rec && nat_eq (set_of x) set) es) (λ o. IsBounded (option_map row_at o))
     (λ t. leb-true (row_at e).max greatest_size p.0) (λ f. in_lines rec_of set_of row_at es rec set p.1)
 
-lines_bounded : list_all (λ e. nat_le e.row.max greatest_size) table ≡ true
-unfolding table
-lines_bounded = refl
-
 others_bounded : (rec : ℕ) → IsBounded (row_of_others rec)
 others_bounded rec = cond_both (nat_eq rec 1 || nat_eq rec 2) (Some _) None IsBounded (λ t. omega arith) (λ f. tt)
 
@@ -35,7 +32,7 @@ either (Some r) b h k = h
 
 row_bounded : (rec set : ℕ) → IsBounded (row_of rec set)
 unfolding row_of
-row_bounded rec set = either (row_in table rec set) (row_of_others rec) (in_lines (λ e. e.rec) (λ e. e.set) (λ e. e.row) table rec set lines_bounded) (others_bounded rec)
+row_bounded rec set = either (row_in table rec set) (row_of_others rec) (in_lines (λ e. e.rec) (λ e. e.set) (λ e. e.row) table rec set table_bounded) (others_bounded rec)
 
 within_row : (o : Option Row) (xs : List ℕ) → IsBounded o → IsSomeAnd o (λ r. is_admitted r xs ≡ true) → length xs ≤ greatest_size
 within_row None xs h m = absurd m

@@ -17,7 +17,7 @@ use Rattle.iim_places.specs.States.ByLayers.{one_of_some}
 use Rattle.iim_places.specs.States.PlainDatasets.{Numbers, number_list, plain_numbers, filled, plain_end, plain}
 use Rattle.iim_places.proofs.Bounds.{alive_five}
 use Rattle.iim_places.proofs.Plain.{Tell, plain_told, are_sevens, are_eights, are_nines, filled_count}
-use Rattle.iim_places.proofs.PlainContinues.{AreGood, AreTens, MayReplace, all_good, replace_tens, part_tens, end_tens, good_parts, good_end, sections_continue}
+use Rattle.iim_places.proofs.PlainContinues.{AreGood, AreTens, MayReplace, all_good, replace_tens, part_tens, end_tens, good_parts, good_end, sections_continue, good_front}
 use Rattle.iim_places.proofs.SameRecords.{tens_seen}
 use Rattle.iim_places.proofs.PlainPlaces.{pick_like, pick_by, picks_plain, end_length}
 
@@ -28,10 +28,6 @@ eights_repeat n = elim (eqb_tells 10 n) [
   | inl is ↦ subst (λ (k : ℕ). repeats 8 k ≡ true) is.1 refl
   | inr other ↦ rw (other.0) refl
 ]
-
-good_front : (r : ℕ) (xs ys : List Dataset) → AreGood r (xs ++ ys) → AreGood r xs
-good_front r [] ys all = tt
-good_front r (x ∷ xs) ys all = (all.0, good_front r xs ys all.1)
 
 none_alike : {A B : Type 0} (xs : List A) (ys : List B) → one_of_some (length xs) ≡ one_of_some (length ys) → length xs ≡ 0 → length ys ≡ 0
 none_alike xs [] e none = refl

@@ -1,8 +1,9 @@
 -- A stream has one answer: what is refused, what is open and what is an envelope exclude one another.
 use Rattle.std.proofs.Common.{◌≡◌, ◌≢◌, ℕ, zero, suc, ◌-◌, ◌^◌, ◌<◌, ◌≤◌, ◌⊎◌, Bool, false, nat_eq, if◌then◌else◌, List, [], ◌∷◌, ◌++◌, length, take, drop, slice_index, map, Some, refl, ap, sym, subst, ◌∙◌, inl, inr, arith, append-nil, append_assoc, length-append}
-use Rattle.std.proofs.lemmas.Bool.{cases_lt}
+use Rattle.std.proofs.lemmas.Bool.{cases_lt, ne_eqb}
 use Rattle.std.proofs.lemmas.Bool.Decides.{eqb_tells}
 use Rattle.std.proofs.lemmas.List.{map-append, take-append-drop, take-take}
+use Rattle.std.proofs.lemmas.Option.{same_Some}
 use Rattle.iim_dataset.specs.Format.Datasets.{Dataset, SpellsTag, SpellsDataset, SpellsStream, head_of, count_octets}
 use Rattle.iim_dataset.specs.Format.Splits.{Begun, InTag, InData, IsBegun, Reads}
 use Rattle.iim_dataset.specs.Format.Tags.{BeginsNoTag}
@@ -10,6 +11,7 @@ use Rattle.iim_dataset.specs.Format.Completing.{CompletesData}
 use Rattle.iim_dataset.specs.States.Events.{handed_on}
 use Rattle.iim_dataset.specs.Format.Languages as languages
 use Rattle.iim_dataset.specs.declared.head.Head.{Head}
+use Rattle.iim_dataset.proofs.Spelled.{tag_length}
 use Rattle.iim_fields.specs.Format.Records.{AreSections}
 use Rattle.iim_fields.specs.Format.Alive.{SectionsLive}
 use Rattle.iim_fields.specs.Format.Faults.{section_after}
@@ -37,7 +39,7 @@ use Rattle.iim_places.specs.declared.refusal.Layer.TheVariants as layers
 use Rattle.iim_places.specs.declared.refusal.Cause.TheVariants as causes
 use Rattle.iim_places.proofs.ObjectOctets.{lives_whole}
 use Rattle.iim_places.proofs.Following.{Follows, in_front, follows, alive_of, within_of, head_lives, value_lives, object_lives_after, object_on, message_of, story_of, message_ends, ends_tokens}
-use Rattle.iim_places.proofs.Bounds.{head_fits, tag_fits}
+use Rattle.iim_places.proofs.Bounds.{head_fits}
 use Rattle.iim_places.proofs.Frames.{no_sections}
 use Rattle.iim_places.proofs.Lasts.{SplitLast, split_last, last_sections}
 use Rattle.iim_places.proofs.Places.{lives_after}
@@ -204,15 +206,12 @@ envelope_bounded laws limits octets v low few is = by (split_last is.admits.data
         let bad : d ∷ [] ≡ [] = laws.follow.sections ds (d ∷ []) sections (subst AreSections parts is.admits.sections) in absurd cc in
         let front = head_fits laws.follow.sections laws.follow.ends limits low few ds (head_of d) one.front one.is_front goes unfinished in
         let s = one.is_last in
-        omega (arith, front, ap length one.parts, length-append one.front one.last, ap length s.parts, length-append s.tag d.octets, tag_fits (head_of d) s.tag s.is_tag)
+        omega (arith, front, ap length one.parts, length-append one.front one.last, ap length s.parts, length-append s.tag d.octets, tag_length (head_of d) s.tag s.is_tag)
 
 -- ---- refused octets were open
 
-not_eight : (r : ℕ) → (r ≡ 8 → ⊥) → nat_eq r 8 ≡ false
-not_eight r other = elim (eqb_tells r 8) [ inl same ↦ absurd (other same.1) | inr apart ↦ apart.0 ]
-
 no_object : (ds : List Dataset) (h : Head) (x y : List ℕ) → (h.rec ≡ 8 → ⊥) → object_so_far ds (InData h x) ≡ object_so_far ds (InData h y)
-no_object ds h x y other = ap (λ (b : Bool). object_of ds ++ (if b then x else [])) (not_eight h.rec other) ∙ sym (ap (λ (b : Bool). object_of ds ++ (if b then y else [])) (not_eight h.rec other))
+no_object ds h x y other = ap (λ (b : Bool). object_of ds ++ (if b then x else [])) (ne_eqb h.rec 8 other) ∙ sym (ap (λ (b : Bool). object_of ds ++ (if b then y else [])) (ne_eqb h.rec 8 other))
 
 -- data that are no subfile's change no layer
 pub fewer_data : (limits : Limits) (ds : List Dataset) (h : Head) (x y : List ℕ) → (h.rec ≡ 8 → ⊥) → AllCanContinue limits ds (InData h x) → AllCanContinue limits ds (InData h y)
@@ -226,7 +225,7 @@ fewer_data limits ds h x y other all = record {
 pub before_it : AnswerLaws → (limits : Limits) (ds : List Dataset) (h : Head) (held : List ℕ) → (h.rec ≡ 8 → ⊥) → (AreSections ds → ⊥) → AllCanContinue limits ds (InData h []) → AllCanContinue limits ds (InTag held)
 before_it laws limits ds h held other unfinished all =
     let alive = alive_of limits ds (InData h []) all.sizes in
-    let object : object_so_far ds (InData h []) ≡ object_of ds = ap (λ (b : Bool). object_of ds ++ (if b then [] else [])) (not_eight h.rec other) ∙ append-nil (object_of ds) in
+    let object : object_so_far ds (InData h []) ≡ object_of ds = ap (λ (b : Bool). object_of ds ++ (if b then [] else [])) (ne_eqb h.rec 8 other) ∙ append-nil (object_of ds) in
     let not_nine : nat_eq (section_after ds) 9 ≡ false =
     elim (eqb_tells (section_after ds) 9) [ inl same ↦ absurd (unfinished (last_sections laws.follow.ends ds alive same.1)) | inr apart ↦ apart.0 ] in
     let message : MessageLivesWith (object_of ds) = message_of limits ds (InData h []) all (object_of ds) [] (object ∙ sym (append-nil (object_of ds))) in
@@ -283,9 +282,6 @@ data_is e = cc
 not_data : {A : Type 0} {h : Head} {x y : List ℕ} → InTag x ≡ InData h y → A
 not_data e = absurd cc
 
-some_is : {x y : TokenFault} → Some x ≡ Some y → x ≡ y
-some_is e = cc
-
 not_in_tag : AnswerLaws → {A : Type 0} → (octets : List ℕ) (whole other : List Dataset) (held taken : List ℕ) (h : Head) → Reads count_octets octets whole (InTag held) → Reads count_octets octets other (InData h taken) → A
 not_in_tag laws octets whole other held taken h r s = not_data (one_reading laws octets whole other (InTag held) (InData h taken) r s).begun_is
 
@@ -313,7 +309,7 @@ not_both laws limits whole h given fault all (inr unfinished) =
     absurd (unfinished.dies.1 (subst (languages.IsAlive MessageLanguage) (ends_tokens whole h given unfinished.last) all.message))
 
 one_head_fault : (limits : Limits) (whole : List Dataset) (h : Head) (f g : TokenFault) → IsRefusedHead limits whole h f ⊎ IsUnfinished limits whole h f → IsRefusedHead limits whole h g ⊎ IsUnfinished limits whole h g → f ≡ g
-one_head_fault limits whole h f g (inl a) (inl b) = some_is (sym a.first ∙ b.first)
+one_head_fault limits whole h f g (inl a) (inl b) = same_Some _ _ (sym a.first ∙ b.first)
 one_head_fault limits whole h f g (inl a) (inr b) = absurd (no_dead_head f.layer limits whole h b.leads_on a.dead)
 one_head_fault limits whole h f g (inr a) (inl b) = absurd (no_dead_head g.layer limits whole h a.leads_on b.dead)
 one_head_fault limits whole h f g (inr a) (inr b) = a.is_fault ∙ sym b.is_fault
@@ -428,7 +424,7 @@ values_agree laws limits octets next f g a b =
     let refused : IsRefusedValue b.whole (data_of b.head b.given) f =
     subst (λ (x : List ℕ). IsRefusedValue b.whole (data_of b.head x) f) same.given_is
     (subst (λ (h : Head). IsRefusedValue b.whole (data_of h a.given) f) same.head_is (subst (λ (ds : List Dataset). IsRefusedValue ds (data_of a.head a.given) f) same.whole_is a.refuses)) in
-    some_is (sym refused.first ∙ b.refuses.first)
+    same_Some _ _ (sym refused.first ∙ b.refuses.first)
 
 pub one_refusal : AnswerLaws → RefusalsAreDetermined
 one_refusal laws limits octets next f g (inl a) (inl b) = tags_agree laws limits octets next f g a b

@@ -3,18 +3,22 @@ use Rattle.std.proofs.Common.{◌≡◌, ℕ, zero, suc, ◌≤◌, ◌↔◌, B
 use Rattle.std.proofs.lemmas.Bool.Decides.{eqb_tells}
 use Rattle.std.proofs.lemmas.List.{length-replicate}
 use Rattle.std.specs.List.{AllByRecursion}
+use Rattle.std.proofs.lemmas.Option.{same_Some}
 use Rattle.iim_dataset.specs.Format.Octets.{Octets}
 use Rattle.iim_dataset.specs.Format.Datasets.{Dataset, head_of, count_octets}
 use Rattle.iim_dataset.specs.States.Events.{DatasetEvent}
 use Rattle.iim_dataset.specs.States.Places.{IsPlace, LeadsTo}
 use Rattle.iim_dataset.specs.declared.head.Head.{Head}
 use Rattle.iim_dataset.specs.declared.place.DatasetPlace.{DatasetPlace}
+use Rattle.iim_dataset.proofs.OctetLists.{zeros_are}
+use Rattle.iim_dataset.proofs.Lists.{nothing_fits}
 use Rattle.iim_fields.specs.Format.Alive.{SectionsLive, SectionsLiveAt}
 use Rattle.iim_fields.specs.States.Checks.{HasChecked, HasTaken, IsRecordFault}
 use Rattle.iim_fields.specs.Format.Faults.{joined, kept, kept_octets}
 use Rattle.iim_fields.specs.Format.Bounds.{IsWithin}
 use Rattle.iim_fields.specs.declared.check.RecordPlace.{RecordPlace}
 use Rattle.iim_fields.specs.declared.fault.FieldFault.{FieldFault}
+use Rattle.iim_fields.proofs.Sections.{head_alive}
 use Rattle.wire_message.specs.States.Reading.{StandsAt}
 use Rattle.wire_message.specs.States.SoFar.{LeadsTo as LeadTo}
 use Rattle.wire_message.specs.States.Saved.{IsAt, LeadsToSaved}
@@ -29,7 +33,6 @@ use Rattle.iim_places.specs.Taking.{AreKept, CanContinueWithin, IsMessageOf, num
 use Rattle.iim_places.specs.Format.Tickets.{Phase, TagBegun, DataBegun, AllEnded}
 use Rattle.iim_places.proofs.Fitting.{part_told}
 use Rattle.iim_places.proofs.Plain.{kept_fields, plain_told}
-use Rattle.iim_places.proofs.Taking.{head_alive}
 
 -- ---- tags
 
@@ -46,17 +49,13 @@ no_place None place exactly law P by = λ p. let bad : false ≡ true = exactly.
 
 -- ---- records
 
-zeros : (n : ℕ) → Octets (replicate n 0)
-zeros zero = tt
-zeros (suc n) = (omega arith, zeros n)
-
 -- After a head that was taken datasets can continue.
 pub taken_alive : (check : Option RecordPlace) (ds : List Dataset) (h : Head) → HasTaken check ds h → SectionsLiveAt ds h
 taken_alive check ds h taken = elim (eqb_tells h.rec 8) [
   | inl eight ↦
       let d : Dataset = record { rec = h.rec; set = h.set; octets = replicate h.count 0 } in
       let is : head_of d ≡ h = ap (λ (n : ℕ). head_of_numbers h.rec h.set n) (length-replicate h.count 0) in
-      (d, is, (taken.subfile eight.1 d is (zeros h.count)).alive)
+      (d, is, (taken.subfile eight.1 d is (zeros_are h.count)).alive)
   | inr other ↦ (taken.checking other.1).alive
 ]
 
@@ -83,14 +82,11 @@ fits_told (a ∷ b ∷ c ∷ []) fit = absurd (let bad = fit.four in omega (arit
 fits_told (a ∷ b ∷ c ∷ d ∷ []) fit = fit.each
 fits_told (a ∷ b ∷ c ∷ d ∷ e ∷ more) fit = absurd (let bad = fit.four in omega (arith, bad))
 
-none_fits : (n : ℕ) → length {A = ℕ} [] ≤ n
-none_fits n = omega arith
-
 pub leads_on_told : (section : ℕ) (phase : Phase) (fields : List Dataset) (numbers : List (Option ℕ)) (some ended : Bool) → AreNumbers numbers → AreKept fields → IsWithin widest (kept_octets fields) (length fields)
     → RecordsLive section phase (told_datasets fields numbers some ended) → CanContinueWithin widest (told_datasets fields numbers some ended)
 leads_on_told section phase fields numbers some ended fit each within lives =
     let told = told_datasets fields numbers some ended in
-    let are : kept told ≡ fields = (plain_told fields (numbers_told numbers) (cond some 1 0) [] ended each (fits_told numbers fit) (none_fits _)).kept_are in
+    let are : kept told ≡ fields = (plain_told fields (numbers_told numbers) (cond some 1 0) [] ended each (fits_told numbers fit) (nothing_fits _)).kept_are in
     let octets : kept_octets told ≡ kept_octets fields = ap (λ (ds : List Dataset). length (joined ds)) (are ∙ sym (kept_fields fields each)) in
     let many : length (kept told) ≡ length fields = ap length are in
     record { alive = live_alive section phase told lives; within = record { octets_in = omega (arith, octets, within.octets_in); fields_in = omega (arith, many, within.fields_in) } }
@@ -141,9 +137,6 @@ same_message part counter flag texts m n is are =
       trailer = record { items = first_text t6 i };
     }
 
-some_same : {X : Type 0} {x y : X} → Some x ≡ Some y → x ≡ y
-some_same e = cc
-
 -- Octets that lead to where the reader stands lead to its place as it is saved.
 pub leads_saved : (reader : Option Message) (octets text : List ℕ) (m : MessagePlace) → IsAt reader m → StandsAt reader octets text → LeadsToSaved octets text m
-leads_saved reader octets text m at stands = (at.0, subst (LeadTo octets text) (some_same (sym stands.1 ∙ at.1)) stands.2, at.2)
+leads_saved reader octets text m at stands = (at.0, subst (LeadTo octets text) (same_Some _ _ (sym stands.1 ∙ at.1)) stands.2, at.2)

@@ -10,8 +10,12 @@ use Rattle.iim_tables.specs.Format.Rows.{table, row_of, Meets}
 use Rattle.iim_dataset.specs.Format.Datasets.{Dataset, SpellsCount, SpellsTag, SpellsStream, count_octets, of_record, tag_octets}
 use Rattle.iim_dataset.specs.Format.Splits.{Begun, InTag, InData, IsBegun}
 use Rattle.iim_dataset.specs.declared.head.Head.{Head}
+use Rattle.iim_dataset.proofs.Each.{all_append, all_front}
+use Rattle.iim_dataset.proofs.Spelled.{tag_length}
+use Rattle.iim_dataset.proofs.Lists.{sum_cons, within_most_and}
 use Rattle.iim_fields.specs.Format.Records.{AreSections}
 use Rattle.iim_tables.specs.Format.Records.{IsGoodDataset}
+use Rattle.iim_tables.proofs.GoodDatasets.{none_meets}
 use Rattle.iim_fields.specs.Format.Alive.{SectionsLive, SectionsLiveAt}
 use Rattle.iim_fields.specs.Format.Faults.{kept, joined, is_kept}
 use Rattle.iim_fields.specs.Laws.Records.{NoSectionsBeginOthers, EnvelopesEndWithTheLastRecord}
@@ -36,15 +40,12 @@ count_fits : (n : ℕ) (xs : List ℕ) → SpellsCount count_octets n xs → len
 count_fits n [] is = absurd is
 count_fits n (high ∷ []) is = absurd is
 count_fits n (high ∷ low ∷ more) (inl (a, b, none, c)) = omega (arith, ap length none)
-count_fits n (high ∷ low ∷ more) (inr (a, len, b, most, fits, c)) = omega (arith, len, most)
-
-pub tag_fits : (h : Head) (tag : List ℕ) → SpellsTag count_octets h tag → length tag ≤ tag_octets
-tag_fits h tag is = omega (arith, ap length is.parts, count_fits h.count is.count is.is_count)
+count_fits n (high ∷ low ∷ more) (inr (a, len, b, within_most_and, fits, c)) = omega (arith, len, within_most_and)
 
 pub stream_fits : (ds : List Dataset) (xs : List ℕ) → SpellsStream count_octets ds xs → length xs ≤ weight ds
 stream_fits [] xs none = omega (arith, ap length none)
 stream_fits (d ∷ ds) xs (first, rest, one, more, parts) =
-    omega (arith, ap length parts, length-append first rest, ap length one.parts, length-append one.tag d.octets, tag_fits _ one.tag one.is_tag, stream_fits ds rest more)
+    omega (arith, ap length parts, length-append first rest, ap length one.parts, length-append one.tag d.octets, tag_length _ one.tag one.is_tag, stream_fits ds rest more)
 
 -- ---- the records apart
 
@@ -70,16 +71,12 @@ one_of : (r : ℕ) (ds : List Dataset) → IsFive r → AllByRecursion (λ d. (d
 one_of r [] five all = tt
 one_of r (d ∷ ds) five all = (subst IsFive (sym all.0.0) five, one_of r ds five all.1)
 
-both : (xs ys : List Dataset) → AllByRecursion (λ d. IsFive d.rec) xs → AllByRecursion (λ d. IsFive d.rec) ys → AllByRecursion (λ d. IsFive d.rec) (xs ++ ys)
-both [] ys first last = last
-both (x ∷ xs) ys first last = (first.0, both xs ys first.1 last)
-
 front : (xs ys : List Dataset) → AllByRecursion (λ d. IsFive d.rec) (xs ++ ys) → AllByRecursion (λ d. IsFive d.rec) xs
 front [] ys all = tt
 front (x ∷ xs) ys all = (all.0, front xs ys all.1)
 
 joined_five : (r : ℕ) (ds run rest : List Dataset) → IsFive r → ds ≡ run ++ rest → AllByRecursion (λ d. (d.rec ≡ r) × IsGoodDataset d) run → AllByRecursion (λ d. IsFive d.rec) rest → AllByRecursion (λ d. IsFive d.rec) ds
-joined_five r ds run rest five is good more = subst (λ (xs : List Dataset). AllByRecursion (λ d. IsFive d.rec) xs) (sym is) (both run rest (one_of r run five good) more)
+joined_five r ds run rest five is good more = subst (λ (xs : List Dataset). AllByRecursion (λ d. IsFive d.rec) xs) (sym is) (all_append (λ (d : Dataset). IsFive d.rec) run rest (one_of r run five good) more)
 
 none_five : (ds : List Dataset) → ds ≡ [] → AllByRecursion (λ d. IsFive d.rec) ds
 none_five ds is = subst (λ (xs : List Dataset). AllByRecursion (λ d. IsFive d.rec) xs) (sym is) tt
@@ -98,12 +95,9 @@ pub weight_joined : (ds : List Dataset) → weight ds ≡ tag_octets * length ds
 weight_joined [] = refl
 weight_joined (d ∷ ds) = omega (arith, weight_joined ds, length-append d.octets (joined ds))
 
-sum_more : (n : ℕ) (ls : List ℕ) → sum (n ∷ ls) ≡ n + sum ls
-sum_more n ls = sum_by-cons (λ n. n) n ls
-
 pub weight_lengths : (ds : List Dataset) → weight ds ≡ tag_octets * length ds + sum (lengths_of ds)
 weight_lengths [] = refl
-weight_lengths (d ∷ ds) = omega (arith, weight_lengths ds, sum_more (length d.octets) (lengths_of ds))
+weight_lengths (d ∷ ds) = omega (arith, weight_lengths ds, sum_cons (length d.octets) (lengths_of ds))
 
 abbrev total : List ObjectToken → ℕ
 total [] = 0
@@ -125,7 +119,7 @@ total_numbers (p ∷ ps) = total_numbers ps
 
 total_begun : (ls : List ℕ) → total (map SubfileBegun ls) ≡ sum ls
 total_begun [] = refl
-total_begun (n ∷ ls) = omega (arith, total_begun ls, sum_more n ls)
+total_begun (n ∷ ls) = omega (arith, total_begun ls, sum_cons n ls)
 
 -- The subfiles so far have at most as many octets as all of them.
 pub object_total : (p : Place) → (lives : ObjectLives p) → sum p.lengths ≤ sum lives.1.lengths
@@ -255,7 +249,7 @@ count_low : (n : ℕ) (xs : List ℕ) → SpellsCount count_octets n xs → n < 
 count_low n [] is = absurd is
 count_low n (high ∷ []) is = absurd is
 count_low n (high ∷ next ∷ more) (inl (a, b, none, c)) = omega (arith, c, low (high ∷ next ∷ []) (omega (arith, a), (b, tt)) (omega arith))
-count_low n (high ∷ next ∷ more) (inr (a, len, b, most, octets, c)) = omega (arith, c, low more octets (omega (arith, len, most)))
+count_low n (high ∷ next ∷ more) (inr (a, len, b, within_most_and, octets, c)) = omega (arith, c, low more octets (omega (arith, len, within_most_and)))
 
 pub tag_low : (h : Head) (tag : List ℕ) → SpellsTag count_octets h tag → h.count < 2 ^ 64
 tag_low h tag is = count_low h.count is.count is.is_count
@@ -266,23 +260,17 @@ tag_low h tag is = count_low h.count is.count is.is_count
 abbrev pub IsOne : Dataset → Type 0
 IsOne d = (is_kept d.rec ≡ true) ⊎ ((d.rec ≡ 8) ⊎ (length d.octets ≤ size_octets))
 
-most : (low high n : ℕ) (kind : Bool) → (within low high n && kind) ≡ true → n ≤ high
-most low high n kind h = leb-true n high (and_parts (nat_le low n) (nat_le n high) (and_parts (within low high n) kind h).0).1
-
-no_row : (rec set : ℕ) (xs : List ℕ) → row_of rec set ≡ None → Meets rec set xs → ⊥
-no_row rec set xs is h = rw is at h
-
 short_seven : (set : ℕ) (xs : List ℕ) → Meets 7 set xs → length xs ≤ size_octets
 unfolding row_of table
 short_seven set xs = elim (eqb_tells 10 set) [
-  | inl is ↦ subst (λ (k : ℕ). Meets 7 k xs → length xs ≤ size_octets) is.1 (λ h. let one = most 1 1 (length xs) _ h in omega (arith, one))
+  | inl is ↦ subst (λ (k : ℕ). Meets 7 k xs → length xs ≤ size_octets) is.1 (λ h. let one = within_most_and 1 1 (length xs) _ h in omega (arith, one))
   | inr not10 ↦ elim (eqb_tells 20 set) [
-    | inl is ↦ subst (λ (k : ℕ). Meets 7 k xs → length xs ≤ size_octets) is.1 (λ h. most 1 size_octets (length xs) _ h)
+    | inl is ↦ subst (λ (k : ℕ). Meets 7 k xs → length xs ≤ size_octets) is.1 (λ h. within_most_and 1 size_octets (length xs) _ h)
     | inr not20 ↦ elim (eqb_tells 90 set) [
-      | inl is ↦ subst (λ (k : ℕ). Meets 7 k xs → length xs ≤ size_octets) is.1 (λ h. most 1 size_octets (length xs) _ h)
+      | inl is ↦ subst (λ (k : ℕ). Meets 7 k xs → length xs ≤ size_octets) is.1 (λ h. within_most_and 1 size_octets (length xs) _ h)
       | inr not90 ↦ elim (eqb_tells 95 set) [
-        | inl is ↦ subst (λ (k : ℕ). Meets 7 k xs → length xs ≤ size_octets) is.1 (λ h. most 1 size_octets (length xs) _ h)
-        | inr not95 ↦ λ h. absurd (no_row 7 set xs (rw (not10.0, not20.0, not90.0, not95.0) refl) h)
+        | inl is ↦ subst (λ (k : ℕ). Meets 7 k xs → length xs ≤ size_octets) is.1 (λ h. within_most_and 1 size_octets (length xs) _ h)
+        | inr not95 ↦ λ h. absurd (none_meets 7 set xs (rw (not10.0, not20.0, not90.0, not95.0) refl) h)
       ]
     ]
   ]
@@ -291,13 +279,9 @@ short_seven set xs = elim (eqb_tells 10 set) [
 short_nine : (set : ℕ) (xs : List ℕ) → Meets 9 set xs → length xs ≤ size_octets
 unfolding row_of table
 short_nine set xs = elim (eqb_tells 10 set) [
-  | inl is ↦ subst (λ (k : ℕ). Meets 9 k xs → length xs ≤ size_octets) is.1 (λ h. most 1 size_octets (length xs) _ h)
-  | inr not10 ↦ λ h. absurd (no_row 9 set xs (rw not10.0 refl) h)
+  | inl is ↦ subst (λ (k : ℕ). Meets 9 k xs → length xs ≤ size_octets) is.1 (λ h. within_most_and 1 size_octets (length xs) _ h)
+  | inr not10 ↦ λ h. absurd (none_meets 9 set xs (rw not10.0 refl) h)
 ]
-
-pub all_join : (P : Dataset → Type 0) (xs ys : List Dataset) → AllByRecursion P xs → AllByRecursion P ys → AllByRecursion P (xs ++ ys)
-all_join P [] ys h k = k
-all_join P (x ∷ xs) ys h k = (h.0, all_join P xs ys h.1 k)
 
 pub all_weaker : (P Q : Dataset → Type 0) → ((x : Dataset) → P x → Q x) → (xs : List Dataset) → AllByRecursion P xs → AllByRecursion Q xs
 all_weaker P Q f [] h = tt
@@ -319,22 +303,18 @@ of_nine d h = inr (inr (short_nine d.set d.octets (subst (λ (r : ℕ). Meets r 
 pub all_ones : (ds : List Dataset) → AreSections ds → AllByRecursion IsOne ds
 all_ones ds (r1, from2, one, good1, (r2, from7, two, good2, (r7, from8, seven', good7, (r8, from9, eight, good8, (r9, rest, nine, good9, end))))) =
     let last : AllByRecursion IsOne rest = subst (AllByRecursion IsOne) (sym end) tt in
-    let a9 : AllByRecursion IsOne from9 = subst (AllByRecursion IsOne) (sym nine) (all_join IsOne r9 rest (all_weaker _ IsOne of_nine r9 good9.each) last) in
-    let a8 : AllByRecursion IsOne from8 = subst (AllByRecursion IsOne) (sym eight) (all_join IsOne r8 from9 (all_weaker _ IsOne (λ d h. inr (inl h.0)) r8 good8.each) a9) in
-    let a7 : AllByRecursion IsOne from7 = subst (AllByRecursion IsOne) (sym seven') (all_join IsOne r7 from8 (all_weaker _ IsOne of_seven r7 good7.each) a8) in
-    let a2 : AllByRecursion IsOne from2 = subst (AllByRecursion IsOne) (sym two) (all_join IsOne r2 from7 (all_weaker _ IsOne (of_first 2 refl) r2 good2.each) a7) in
-    subst (AllByRecursion IsOne) (sym one) (all_join IsOne r1 from2 (all_weaker _ IsOne (of_first 1 refl) r1 good1.each) a2)
+    let a9 : AllByRecursion IsOne from9 = subst (AllByRecursion IsOne) (sym nine) (all_append IsOne r9 rest (all_weaker _ IsOne of_nine r9 good9.each) last) in
+    let a8 : AllByRecursion IsOne from8 = subst (AllByRecursion IsOne) (sym eight) (all_append IsOne r8 from9 (all_weaker _ IsOne (λ d h. inr (inl h.0)) r8 good8.each) a9) in
+    let a7 : AllByRecursion IsOne from7 = subst (AllByRecursion IsOne) (sym seven') (all_append IsOne r7 from8 (all_weaker _ IsOne of_seven r7 good7.each) a8) in
+    let a2 : AllByRecursion IsOne from2 = subst (AllByRecursion IsOne) (sym two) (all_append IsOne r2 from7 (all_weaker _ IsOne (of_first 2 refl) r2 good2.each) a7) in
+    subst (AllByRecursion IsOne) (sym one) (all_append IsOne r1 from2 (all_weaker _ IsOne (of_first 1 refl) r1 good1.each) a2)
 
 pub is_one : (ds : List Dataset) (h : Head) → SectionsLiveAt ds h → (is_kept h.rec ≡ true) ⊎ ((h.rec ≡ 8) ⊎ (h.count ≤ size_octets))
 is_one ds h (d, is, alive) =
     subst (λ (k : Head). (is_kept k.rec ≡ true) ⊎ ((k.rec ≡ 8) ⊎ (k.count ≤ size_octets))) is (all_at ds d alive.0 (all_ones ((ds ++ d ∷ []) ++ alive.0) alive.1))
 
-front_ones : (xs ys : List Dataset) → AllByRecursion IsOne (xs ++ ys) → AllByRecursion IsOne xs
-front_ones [] ys all = tt
-front_ones (x ∷ xs) ys all = (all.0, front_ones xs ys all.1)
-
 alive_ones : (ds : List Dataset) → SectionsLive ds → AllByRecursion IsOne ds
-alive_ones ds alive = front_ones ds alive.0 (all_ones (ds ++ alive.0) alive.1)
+alive_ones ds alive = all_front (IsOne) ds alive.0 (all_ones (ds ++ alive.0) alive.1)
 
 pub few_in_seven : (d : Dataset) → d.rec ≡ 7 → IsOne d → length d.octets ≤ size_octets
 few_in_seven d seven (inl keeps) = absurd (let bad : false ≡ true = ap is_kept (sym seven) ∙ keeps in cc)
@@ -381,7 +361,7 @@ whole_fits law ends limits octets fields ds xs spelled alive within few more siz
 sizes_at : (ds : List Dataset) (n : ℕ) (b c : Bool) → ObjectLives (if b then place_after (place_after_datasets ds) (SubfileBegun n) else if c then place_ended ds else place_after_datasets ds)
     → (length (numbers_of (of_record 7 ds)) ≤ 4) × (sum (lengths_of (of_record 8 ds)) + (if b then n else 0) ≤ greatest_size)
 sizes_at ds n true c is =
-    (few_numbers (place_after (place_after_datasets ds) (SubfileBegun n)) is, omega (arith, object_fits (place_after (place_after_datasets ds) (SubfileBegun n)) is, sum_by-append (λ k. k) (lengths_of (of_record 8 ds)) (n ∷ []), sum_more n []))
+    (few_numbers (place_after (place_after_datasets ds) (SubfileBegun n)) is, omega (arith, object_fits (place_after (place_after_datasets ds) (SubfileBegun n)) is, sum_by-append (λ k. k) (lengths_of (of_record 8 ds)) (n ∷ []), sum_cons n []))
 sizes_at ds n false true is = (few_numbers (place_ended ds) is, omega (arith, object_fits (place_ended ds) is))
 sizes_at ds n false false is = (few_numbers (place_after_datasets ds) is, omega (arith, object_fits (place_after_datasets ds) is))
 
@@ -415,7 +395,7 @@ bounded_octets law ends limits octets low_octets few_fields is = by is.begun is.
     by : (begun : Begun) → IsBegun count_octets begun is.reads.rest → MayContinue limits ds begun → length octets < 2 ^ 64 - 1
     by (InTag held) (same, h, tag, spelled, (rest, some, joined)) goes =
         let whole = whole_fits law ends limits low_octets few_fields ds is.reads.front is.reads.is_front goes.records goes.within (few_numbers (place_after_datasets ds) goes.object) 0 (omega (arith, object_fits (place_after_datasets ds) goes.object)) is.unfinished in
-        omega (arith, parts, whole, ap length same, ap length joined, length-append held rest, tag_fits h tag spelled)
+        omega (arith, parts, whole, ap length same, ap length joined, length-append held rest, tag_length h tag spelled)
     by (InData h taken) (tag, spelled, fits, all, same) goes =
         let whole = head_fits law ends limits low_octets few_fields ds h is.reads.front is.reads.is_front goes is.unfinished in
-        omega (arith, parts, whole, ap length same, length-append tag taken, tag_fits h tag spelled, fits)
+        omega (arith, parts, whole, ap length same, length-append tag taken, tag_length h tag spelled, fits)

@@ -11,6 +11,8 @@ use Rattle.iim_fields.specs.Format.Values.{tells_number}
 use Rattle.iim_fields.specs.Format.Alive.{SectionsLiveAt}
 use Rattle.iim_dataset.specs.declared.head.Head.{Head}
 use Rattle.iim_dataset.specs.Format.Tags.{BeginsTag}
+use Rattle.iim_dataset.proofs.Each.{all_front}
+use Rattle.iim_dataset.proofs.Lists.{sum_append}
 use Rattle.iim_object.specs.Format.Objects.{SubfileBegun}
 use Rattle.iim_object.specs.Format.Places.{place_after}
 use Rattle.iim_object.specs.Format.Numbers.{place_after_datasets, place_ended}
@@ -36,7 +38,7 @@ use Rattle.iim_places.proofs.Answering.{Lives, lives_open, lives_envelope, one_r
 use Rattle.iim_places.proofs.Bounds.{low, object_fits, tag_low, IsOne, all_ones, is_one, few_in_seven, IsFive, alive_five}
 use Rattle.iim_places.proofs.Splitting.{one_split}
 use Rattle.iim_places.proofs.TicketLengths.{tag_length_in, held_length, AreShortIn, texts_led}
-use Rattle.iim_places.proofs.Tickets.{total_of, sum_more, sum_one}
+use Rattle.iim_places.proofs.Tickets.{total_of, sum_one}
 
 -- ---- what is read
 
@@ -104,22 +106,18 @@ low_at set (p ∷ ps) all = by (nat_eq p.set set) (low_at set ps all.1)
 pub numbers_fit : (ps : List Stated) → AllByRecursion IsLow ps → AreNumbers (stated_numbers ps)
 numbers_fit ps all = record { each = (low_at 10 ps all, (low_at 20 ps all, (low_at 90 ps all, (low_at 95 ps all, tt)))); four = refl }
 
-front_ones : (xs ys : List Dataset) → AllByRecursion IsOne (xs ++ ys) → AllByRecursion IsOne xs
-front_ones [] ys all = tt
-front_ones (x ∷ xs) ys all = (all.0, front_ones xs ys all.1)
-
 pub ones_in : (ds : List Dataset) (b : Begun) → MayContinue widest ds b → AllByRecursion IsOne ds
-ones_in ds (InTag held) goes = front_ones ds goes.records.0 (all_ones (ds ++ goes.records.0) goes.records.1)
+ones_in ds (InTag held) goes = all_front (IsOne) ds goes.records.0 (all_ones (ds ++ goes.records.0) goes.records.1)
 ones_in ds (InData h taken) goes =
     let (d, head, (later, are)) = goes.records in
-    front_ones ds (d ∷ later) (all_ones (ds ++ d ∷ later) (subst AreSections (append_assoc ds (d ∷ []) later) are))
+    all_front (IsOne) ds (d ∷ later) (all_ones (ds ++ d ∷ later) (subst AreSections (append_assoc ds (d ∷ []) later) are))
 
 -- ---- the object
 
 taken_by : (b c : Bool) (ds : List Dataset) (count : ℕ) (taken : List ℕ) → length taken ≤ count → ObjectLives (if b then place_after (place_after_datasets ds) (SubfileBegun count) else if c then place_ended ds else place_after_datasets ds)
     → length (object_of ds ++ (if b then taken else [])) ≤ greatest_size
 taken_by true c ds count taken few lives =
-    let sums = sum_more (lengths_of (of_record 8 ds)) (count ∷ []) in
+    let sums = sum_append (lengths_of (of_record 8 ds)) (count ∷ []) in
     let one = sum_one count in
     let total = total_of (of_record 8 ds) in
     let both = length-append (object_of ds) taken in

@@ -12,6 +12,7 @@ use Rattle.iim_fields.specs.Format.Alive.{SectionsLive}
 use Rattle.iim_fields.specs.Format.Faults.{section_after, joined}
 use Rattle.iim_fields.specs.Format.Values.{data_of}
 use Rattle.iim_fields.specs.declared.limits.Limits.{Limits}
+use Rattle.iim_fields.proofs.Sections.{last_more}
 use Rattle.iim_object.specs.Format.Objects.{ObjectLanguage}
 use Rattle.iim_object.specs.Format.Places.{place_after, head_token, tokens_of}
 use Rattle.iim_object.specs.Laws.Records.{AreSized}
@@ -23,8 +24,9 @@ use Rattle.iim_places.specs.Format.Tokens.{MayContinue, CanContinueAt, ObjectLiv
 use Rattle.iim_places.specs.Format.Framed.{AreWithin}
 use Rattle.iim_places.specs.Format.Open.{object_so_far, section, message_tokens, AllCanContinue}
 use Rattle.iim_dataset.proofs.Agreeing.{compare}
+use Rattle.iim_dataset.proofs.Lists.{nothing_of_two}
 use Rattle.iim_places.proofs.Fronts.{no_longer, begun_none}
-use Rattle.iim_places.proofs.Lasts.{present_last, not_all}
+use Rattle.iim_places.proofs.Lasts.{not_all}
 use Rattle.iim_places.proofs.Limits.{leaves_room, within_front}
 use Rattle.iim_places.proofs.Living.{alive_front, message_front, story_front}
 use Rattle.iim_places.proofs.Objects.{records_alive}
@@ -50,10 +52,6 @@ same_front : (x y u v : List ℕ) → x ++ y ≡ u ++ v → length x ≡ length 
 same_front x y u v e same =
     let (m, is) = longer_front x y u v e (omega (arith, same)) in
     is ∙ nothing_more x m (sym (ap length is) ∙ sym same)
-
-none_of : (xs ys : List Dataset) → xs ++ ys ≡ [] → xs ≡ []
-none_of [] ys e = refl
-none_of (x ∷ xs) ys e = absurd cc
 
 -- no stream begins what is less than a dataset
 no_longer_stream : NoTagBeginsAnother → (c : Begun) (y z r : List ℕ) (more : List Dataset) → IsBegun count_octets c y → SpellsStream count_octets more r → r ++ z ≡ y → more ≡ []
@@ -236,7 +234,7 @@ after_last ds d nine =
     let none : object_of (d ∷ []) ≡ [] = ap (λ (r : ℕ). joined (cond (nat_eq r 8) (d ∷ []) [])) nine in
     let object : object_of (ds ++ d ∷ []) ≡ object_of ds = objects_append ds (d ∷ []) ∙ ap (λ (xs : List ℕ). object_of ds ++ xs) none ∙ append-nil (object_of ds) in
     ap (λ (o : List ℕ). map Octet o ++ (if nat_eq (section_after (ds ++ d ∷ [])) 9 then End ∷ [] else [])) object
-    ∙ ap (λ (r : ℕ). map Octet (object_of ds) ++ (if nat_eq r 9 then End ∷ [] else [])) (present_last 0 ds d ∙ nine)
+    ∙ ap (λ (r : ℕ). map Octet (object_of ds) ++ (if nat_eq r 9 then End ∷ [] else [])) (last_more 0 ds d ∙ nine)
 
 -- Where the head of 9:10 has come, a message can end with the octets of the object.
 pub message_ends : FollowLaws → (limits : Limits) (W : List Dataset) (c : Begun) → AllCanContinue limits W c → (whole : List Dataset) (head : Head) (z : List ℕ) → Follows whole head z W c → head.rec ≡ 9
@@ -250,7 +248,7 @@ message_ends laws limits W c all whole head z (inl (d, ws, tail, is, h, rest)) n
     let alive = alive_of limits W c all.sizes in
     let later : ws ++ alive.0 ≡ [] = laws.sections (whole ++ d ∷ []) (ws ++ alive.0) sections
     (subst AreSections (ap (λ (xs : List Dataset). xs ++ alive.0) is ∙ append_assoc whole (d ∷ ws) alive.0 ∙ sym (append_assoc whole (d ∷ []) (ws ++ alive.0))) alive.1) in
-    let same : W ≡ whole ++ d ∷ [] = is ∙ ap (λ (xs : List Dataset). whole ++ d ∷ xs) (none_of ws alive.0 later) in
+    let same : W ≡ whole ++ d ∷ [] = is ∙ ap (λ (xs : List Dataset). whole ++ d ∷ xs) ((nothing_of_two ws alive.0 later).0) in
     at_last c (subst (λ (ds : List Dataset). AllCanContinue limits ds c) same all) sections rec
   where
     at_last : (b : Begun) → AllCanContinue limits (whole ++ d ∷ []) b → AreSections (whole ++ d ∷ []) → d.rec ≡ 9 → languages.IsAlive MessageLanguage (map Octet (object_of whole) ++ End ∷ [])

@@ -6,11 +6,8 @@ use Rattle.iim_fields.specs.Format.Records.{AreSections}
 use Rattle.iim_fields.specs.Format.Alive.{SectionsLive, SectionsLiveAt}
 use Rattle.iim_fields.specs.Format.Faults.{section_after, last_record}
 use Rattle.iim_fields.specs.Laws.Records.{EnvelopesEndWithTheLastRecord, NoSectionsBeginOthers}
+use Rattle.iim_fields.proofs.Sections.{last_more}
 use Rattle.iim_places.proofs.Frames.{no_sections}
-
-pub present_last : (r : ℕ) (ds : List Dataset) (d : Dataset) → last_record r (ds ++ d ∷ []) ≡ d.rec
-present_last r [] d = refl
-present_last r (x ∷ ds) d = present_last x.rec ds d
 
 abbrev pub SplitLast : List Dataset → Type 0
 SplitLast ds = (ds ≡ []) ⊎ ((front : List Dataset) × (d : Dataset) × (ds ≡ front ++ d ∷ []))
@@ -29,7 +26,7 @@ sections_last ends ds alive sections = by (split_last ds)
     by : SplitLast ds → section_after ds ≡ 9
     by (inl none) = absurd (no_sections (subst AreSections none sections))
     by (inr (front, d, is)) =
-        ap section_after is ∙ present_last 0 front d ∙ (ends front d (subst SectionsLive is alive)).1 (subst AreSections is sections)
+        ap section_after is ∙ last_more 0 front d ∙ (ends front d (subst SectionsLive is alive)).1 (subst AreSections is sections)
 
 pub last_sections : EnvelopesEndWithTheLastRecord → (ds : List Dataset) → SectionsLive ds → section_after ds ≡ 9 → AreSections ds
 last_sections ends ds alive nine = by (split_last ds)
@@ -37,7 +34,7 @@ last_sections ends ds alive nine = by (split_last ds)
     by : SplitLast ds → AreSections ds
     by (inl none) = absurd (let bad : 0 ≡ 9 = sym (ap section_after none) ∙ nine in omega (arith, bad))
     by (inr (front, d, is)) =
-        subst AreSections (sym is) ((ends front d (subst SectionsLive is alive)).0 (sym (present_last 0 front d) ∙ sym (ap section_after is) ∙ nine))
+        subst AreSections (sym is) ((ends front d (subst SectionsLive is alive)).0 (sym (last_more 0 front d) ∙ sym (ap section_after is) ∙ nine))
 
 -- datasets after which a head may stand are no envelope
 pub not_all : NoSectionsBeginOthers → (ds : List Dataset) (h : Head) → SectionsLiveAt ds h → AreSections ds → ⊥

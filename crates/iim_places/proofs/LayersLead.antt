@@ -4,7 +4,7 @@ use Rattle.std.specs.List.{AllByRecursion}
 use Rattle.std.specs.Option.{unwrap_or}
 use Rattle.std.proofs.lemmas.Bool.{eqb-true}
 use Rattle.std.proofs.lemmas.Bool.Decides.{eqb_tells}
-use Rattle.std.proofs.lemmas.List.{length-take, take-append-drop}
+use Rattle.std.proofs.lemmas.List.{length-take, take-append-drop, nil_from_length}
 use Rattle.iim_dataset.specs.Format.Octets.{IsOctet, Octets, number, greatest_size}
 use Rattle.iim_dataset.specs.Format.Datasets.{Dataset, SpellsTag, SpellsStream, canonical_stream, count_octets, of_record}
 use Rattle.iim_dataset.specs.Format.Languages as languages
@@ -12,11 +12,15 @@ use Rattle.iim_dataset.specs.Laws.Datasets.{HasSpellings}
 use Rattle.iim_dataset.specs.Format.Splits.{Begun, InTag, InData, IsBegun}
 use Rattle.iim_dataset.specs.Format.Tags.{BeginsTag}
 use Rattle.iim_dataset.specs.declared.head.Head.{Head}
+use Rattle.iim_dataset.proofs.Each.{all_front, all_append}
+use Rattle.iim_dataset.proofs.Lists.{sum_fits, sum_append}
+use Rattle.iim_dataset.proofs.OctetLists.{front_are}
 use Rattle.iim_fields.specs.Format.Alive.{SectionsLive, SectionsLiveAt}
 use Rattle.iim_fields.specs.Format.Faults.{is_kept, kept, joined, section_after, last_record}
 use Rattle.iim_fields.specs.Format.Records.{AreSections, AreRecords, records}
 use Rattle.iim_tables.specs.Format.Records.{IsGoodDataset}
 use Rattle.iim_fields.specs.Format.Bounds.{IsWithin}
+use Rattle.iim_fields.proofs.Sections.{head_alive}
 use Rattle.iim_object.specs.Format.Numbers.{place_after_datasets, place_ended, ending_of}
 use Rattle.iim_object.specs.Format.Objects.{ObjectEnded, Confirmed, SubfileBegun, ObjectLanguage, number_tokens}
 use Rattle.iim_object.specs.Laws.Packing.{NumberDatasetsAreGood}
@@ -52,14 +56,14 @@ use Rattle.iim_places.proofs.Following.{alive_of}
 use Rattle.iim_places.proofs.Lasts.{sections_last, last_sections}
 use Rattle.iim_places.proofs.LeadsByLayers.{one_same}
 use Rattle.iim_places.proofs.MessageOctets.{living_octets}
-use Rattle.iim_places.proofs.Plain.{Tell, taken_told, plain_led, plain_spelled, front_octets, back_octets}
+use Rattle.iim_places.proofs.Plain.{Tell, taken_told, plain_led, plain_spelled, back_octets}
 use Rattle.iim_places.proofs.PlainContinues.{fields_low, two_at_most, low_number}
-use Rattle.iim_places.proofs.PlainOpens.{fit_in_rows, part_small, join_small}
-use Rattle.iim_places.proofs.PlainPlaces.{pick, picks_plain, numbers_in, alive_front, low_mode, mode_octet, sum_most}
+use Rattle.iim_places.proofs.PlainOpens.{fit_in_rows, part_small}
+use Rattle.iim_places.proofs.PlainPlaces.{pick, picks_plain, numbers_in, alive_front, low_mode, mode_octet}
 use Rattle.iim_places.proofs.Places.{at_end}
 use Rattle.iim_places.proofs.PlainSizes.{duties_of, possible_like}
 use Rattle.iim_places.proofs.SameRecords.{stated_after_all}
-use Rattle.iim_places.proofs.Tickets.{total_of, count_of, sum_more, sum_one}
+use Rattle.iim_places.proofs.Tickets.{total_of, count_of, sum_one}
 
 -- ---- the message
 
@@ -282,10 +286,6 @@ each_small laws p is size largest some =
     (subst (languages.IsAlive ObjectLanguage) (sym (append_assoc (number_tokens p.stated) (map SubfileBegun p.lengths) (ending_tokens p.ending))) is.alive) in
     ((laws.fit d.known size p.stated p.lengths (record { stated = is.stated; mode = d.mode; largest = largest }) some).0 alive).each
 
-front_small : (size : ℕ) (xs ys : List ℕ) → AllByRecursion (λ n. n ≤ size) (xs ++ ys) → AllByRecursion (λ n. n ≤ size) xs
-front_small size [] ys all = tt
-front_small size (x ∷ xs) ys all = (all.0, front_small size xs ys all.1)
-
 -- the first subfiles of a possible place have room for their octets
 room_in : SizeLaws → (p : objects.Place) → IsPossible p → (ls ks : List ℕ) → p.lengths ≡ ls ++ ks → sum ls ≤ length ls * unwrap_or (number_at 20 p.stated) 0
 room_in laws p is [] ks parts = omega arith
@@ -293,8 +293,8 @@ room_in laws p is (l ∷ ls) ks parts =
     let many = ap length parts in
     let some : 0 < length p.lengths = omega (arith, many) in
     let d = duties_of p.stated is.stated (is.duties some) in
-    let each = front_small d.size (l ∷ ls) ks (subst (AllByRecursion (λ n. n ≤ d.size)) parts (each_small laws p is d.size d.largest some)) in
-    subst (λ (o : Option ℕ). sum (l ∷ ls) ≤ length (l ∷ ls) * unwrap_or o 0) (sym d.largest) (sum_most d.size (l ∷ ls) each)
+    let each = all_front (λ (n : ℕ). n ≤ d.size) (l ∷ ls) ks (subst (AllByRecursion (λ n. n ≤ d.size)) parts (each_small laws p is d.size d.largest some)) in
+    subst (λ (o : Option ℕ). sum (l ∷ ls) ≤ length (l ∷ ls) * unwrap_or o 0) (sym d.largest) (sum_fits d.size (l ∷ ls) each)
 
 -- ---- the data of a place, phase by phase
 
@@ -359,7 +359,7 @@ filling : ByLayersLaws → (fields : List Dataset) (numbers : Numbers) (p : obje
     → IsPossible p → (ls ks : List ℕ) → p.lengths ≡ ls ++ ks → heads ≡ length ls → sum ls ≡ length object → Filling fields numbers p heads object
 filling laws fields numbers p heads object keeps same is ls ks parts many total =
     let most = object_fits p is.alive in
-    let sums : sum p.lengths ≡ sum ls + sum ks = ap sum parts ∙ sum_more ls ks in
+    let sums : sum p.lengths ≡ sum ls + sum ks = ap sum parts ∙ sum_append ls ks in
     let stated = same_stated numbers p.stated same in
     let room : length object ≤ heads * unwrap_or (number_at 20 p.stated) 0 =
     subst (λ (n : ℕ). n ≤ heads * unwrap_or (number_at 20 p.stated) 0) total (subst (λ (k : ℕ). sum ls ≤ k * unwrap_or (number_at 20 p.stated) 0) (sym many) (room_in laws.opens.sizes p is ls ks parts)) in
@@ -492,9 +492,6 @@ at_with rows fields numbers heads object fits octets few h (d, is, (more, sectio
     let ds = plain fields numbers heads object false in
     (d, is, (more, subst AreSections (sym (append_assoc ds (d ∷ []) more)) (alive_with rows fields numbers heads object false fits octets few ((d ∷ []) ++ more) (subst AreSections (append_assoc base (d ∷ []) more) sections))))
 
-pub front_alive : (ds : List Dataset) (h : Head) → SectionsLiveAt ds h → SectionsLive ds
-front_alive ds h (d, is, (more, sections)) = ((d ∷ []) ++ more, subst AreSections (append_assoc ds (d ∷ []) more) sections)
-
 -- in data that are no subfile's
 lead_other : ByLayersLaws → (place : Place) (numbers : Numbers) (p : objects.Place) (e : Ending) (h : Head) (left : ℕ) (taken o text tag : List ℕ) → place.numbers ≡ number_list numbers
     → AllByRecursion (λ (d : Dataset). is_kept d.rec ≡ true) place.fields → number_list numbers ≡ stated_numbers p.stated → IsPossible p → p.ending ≡ e → place.heads ≡ length p.lengths → sum p.lengths ≡ length o → length o ≡ place.taken
@@ -536,7 +533,7 @@ lead_other laws place numbers p e h left taken o text tag numbers_are keeps same
     tell = told_by fields numbers heads o false base.fits
 
     base_alive : SectionsLive (plain fields numbers (one_of_some heads) [] false)
-    base_alive = front_alive (plain fields numbers (one_of_some heads) [] false) h at
+    base_alive = head_alive (plain fields numbers (one_of_some heads) [] false) h at
 
     spelled : AllByRecursion HasSpellings fields
     spelled = fields_spelled fields numbers (one_of_some heads) [] false base_alive.0 keeps base_alive.1 (let low = within.octets_in in omega (arith, low))
@@ -548,7 +545,7 @@ lead_other laws place numbers p e h left taken o text tag numbers_are keeps same
     inside = within_plain fields numbers heads o false tell (within_whole fields _ _ within) (let most = is.few in omega (arith, many, most))
 
     lives : ObjectLives (record (place_after_datasets ds) { ending = e })
-    lives = after_plain laws.opens.sizes fields numbers heads o false p e tell same is (stated_after_all laws.opens.answer.follow.objects ds (front_alive ds h alive_at) inside.subfiles).stated many total end'
+    lives = after_plain laws.opens.sizes fields numbers heads o false p e tell same is (stated_after_all laws.opens.answer.follow.objects ds (head_alive ds h alive_at) inside.subfiles).stated many total end'
 
     place_is : place ≡ plain_place fields numbers heads o false (InData h taken) place.message
     place_is =
@@ -601,7 +598,7 @@ lead_subfile laws place numbers p set count left o text tag numbers_are keeps sa
     more = last.some
 
     sums : sum p.lengths ≡ sum last.finished + count
-    sums = ap sum last.lengths_are ∙ sum_more last.finished (count ∷ []) ∙ ap (λ (n : ℕ). sum last.finished + n) (sum_one count)
+    sums = ap sum last.lengths_are ∙ sum_append last.finished (count ∷ []) ∙ ap (λ (n : ℕ). sum last.finished + n) (sum_one count)
 
     finished_is : sum last.finished ≡ cut
     finished_is = let all = last.octets in let fits = last.fits in omega (arith, sums, all, fits)
@@ -628,7 +625,7 @@ lead_subfile laws place numbers p set count left o text tag numbers_are keeps sa
     octets = living_octets o (laws.opens.answer.living o text leads.0 leads.1).0
 
     object_octets : Octets object
-    object_octets = front_octets cut o octets
+    object_octets = front_are cut o octets
 
     ds : List Dataset
     ds = plain fields numbers heads object false
@@ -637,7 +634,7 @@ lead_subfile laws place numbers p set count left o text tag numbers_are keeps sa
     tell = told_by fields numbers heads object false base.fits
 
     base_alive : SectionsLive (plain fields numbers (one_of_some heads) [] false)
-    base_alive = front_alive (plain fields numbers (one_of_some heads) [] false) h at
+    base_alive = head_alive (plain fields numbers (one_of_some heads) [] false) h at
 
     spelled : AllByRecursion HasSpellings fields
     spelled = fields_spelled fields numbers (one_of_some heads) [] false base_alive.0 keeps base_alive.1 (let low = within.octets_in in omega (arith, low))
@@ -649,7 +646,7 @@ lead_subfile laws place numbers p set count left o text tag numbers_are keeps sa
     inside = within_plain fields numbers heads object false tell within (let most = is.few in omega (arith, many, most))
 
     stated : AreStated (numbers_of (of_record 7 ds))
-    stated = (stated_after_all laws.opens.answer.follow.objects ds (front_alive ds h alive_at) inside.subfiles).stated
+    stated = (stated_after_all laws.opens.answer.follow.objects ds (head_alive ds h alive_at) inside.subfiles).stated
 
     small : (size : ℕ) → number_at 20 (numbers_of (of_record 7 ds)) ≡ Some size → count ≤ size
     small size e =
@@ -670,9 +667,9 @@ lead_subfile laws place numbers p set count left o text tag numbers_are keeps sa
         let longer = length-append ls (count ∷ []) in
         let total = total_of (of_record 8 ds) in
         let object_is = ap length tell.object_is in
-        let added : sum (ls ++ count ∷ []) ≡ sum ls + count = sum_more ls (count ∷ []) ∙ ap (λ (n : ℕ). sum ls + n) (sum_one count) in
+        let added : sum (ls ++ count ∷ []) ≡ sum ls + count = sum_append ls (count ∷ []) ∙ ap (λ (n : ℕ). sum ls + n) (sum_one count) in
         (possible_like laws.opens.sizes p q is stated (sym same ∙ sym tell.numbers_are) (omega (arith, count_is, told, longer, heads_are, lengths_many)) (omega (arith, sums, added, total, object_is, object_length, finished_is))
-        (λ size e. join_small size ls (count ∷ []) (small_in fields numbers heads object false tell size e) (small size e, tt)) (end' ∙ sym (ap ending_of tell.nines_are))).alive
+        (λ size e. all_append (λ (n : ℕ). n ≤ size) ls (count ∷ []) (small_in fields numbers heads object false tell size e) (small size e, tt)) (end' ∙ sym (ap ending_of tell.nines_are))).alive
 
     place_is : place ≡ plain_place fields numbers heads object false (InData h begun) place.message
     place_is =
@@ -687,16 +684,12 @@ lead_subfile laws place numbers p set count left o text tag numbers_are keeps sa
 abbrev DataPlace : (section set count left : ℕ) (given : List ℕ) (fields : List Dataset) (nums : List (Option ℕ)) (taken heads : ℕ) (m : MessagePlace) → Place
 DataPlace section set count left given fields nums taken heads m = record { section = section; phase = DataBegun set count left given; fields = fields; numbers = nums; taken = taken; heads = heads; message = m }
 
-nothing_given : (given : List ℕ) → length given ≡ 0 → given ≡ []
-nothing_given [] e = refl
-nothing_given (x ∷ given) e = absurd (omega (arith, e))
-
 lead_eight : ByLayersLaws → (set count left : ℕ) (given : List ℕ) (fields : List Dataset) (nums : List (Option ℕ)) (taken heads : ℕ) (m : MessagePlace) → LeadsByLayers (DataPlace 8 set count left given fields nums taken heads m)
     → Possible (DataPlace 8 set count left given fields nums taken heads m)
 lead_eight laws set count left given fields nums taken heads m l =
     let at = l.object.1 in
     let (o, text, leads, many, last) = l.message in
-    let nil = nothing_given given l.tags.1 in
+    let nil = nil_from_length given l.tags.1 in
     lead_subfile laws (DataPlace 8 set count left given fields nums taken heads m) l.numbers l.object.0 set count left o text l.tags.0.2 l.numbers_are l.kept (sym l.numbers_are ∙ at.numbers_are) l.object.2 at.not_ended at.subfiles at.octets many
     leads l.records refl l.tags.0.3 (ap (DataBegun set count left) nil) (within_whole fields 0 0 l.within)
 

@@ -8,6 +8,7 @@ use Rattle.iim_dataset.specs.Format.Languages as languages
 use Rattle.iim_dataset.specs.Format.Splits.{Begun, InTag, InData, Reads}
 use Rattle.iim_dataset.specs.Format.Tags.{BeginsTag}
 use Rattle.iim_dataset.specs.declared.head.Head.{Head}
+use Rattle.iim_dataset.proofs.Lists.{sum_append}
 use Rattle.iim_fields.specs.Format.Alive.{SectionsLive, SectionsLiveAt}
 use Rattle.iim_fields.specs.Format.Faults.{kept, section_after}
 use Rattle.iim_fields.specs.Format.Records.{AreSections}
@@ -44,7 +45,7 @@ use Rattle.iim_places.proofs.PlainContinues.{plain_on, low_number}
 use Rattle.iim_places.proofs.PlainOpens.{ending_like, possible_of, fit_in_rows}
 use Rattle.iim_places.proofs.PlainPlaces.{numbers_in, all_kept, room_for, present_same}
 use Rattle.iim_places.proofs.SameRecords.{IsStated, nines, stated_after_all, stated_at}
-use Rattle.iim_places.proofs.Tickets.{total_of, count_of, sum_more, sum_one}
+use Rattle.iim_places.proofs.Tickets.{total_of, count_of, sum_one}
 
 -- ---- the dataset layer
 
@@ -111,7 +112,7 @@ fewer laws ds alive few lives =
           alike laws.answer.rows (kept ds) (numbers_in ps) heads (one_of_some heads) object [] ended more (fits_of laws ds stated lives) (few_fit ds stated) (one_same heads) tt (omega arith) (plain_on laws.answer ds more sections few fits);
     }
 
-begun_same : (n : ℕ) (b : Bool) → (n + (if b then 1 else 0)) - (if b then 1 else 0) ≡ n
+pub begun_same : (n : ℕ) (b : Bool) → (n + (if b then 1 else 0)) - (if b then 1 else 0) ≡ n
 begun_same n true = omega arith
 begun_same n false = omega arith
 
@@ -213,7 +214,7 @@ subfile_at ds h taken less =
     let ls = lengths_of (of_record 8 ds) in
     let total = total_of (of_record 8 ds) in
     let both = length-append (object_of ds) taken in
-    let sums = sum_more ls (h.count ∷ []) in
+    let sums = sum_append ls (h.count ∷ []) in
     let one = sum_one h.count in
     let count = count_of (of_record 8 ds) in
     let more = length-append ls (h.count ∷ []) in

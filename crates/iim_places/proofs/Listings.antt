@@ -4,6 +4,7 @@ use Rattle.std.specs.List.{AllByRecursion}
 use Rattle.std.proofs.lemmas.List.{append-nil, length-take-le, append_cancel_left}
 use Rattle.std.proofs.lemmas.Bool.{false≢true}
 use Rattle.std.proofs.Math.Seq.{take-append_seam}
+use Rattle.iim_dataset.proofs.Lists.{nothing_of_two}
 use Rattle.iim_fields.specs.declared.limits.Limits.{Limits}
 use Rattle.iim_places.specs.Format.Admitted.{Value, Admits}
 use Rattle.iim_places.specs.Format.Framed.{Framed}
@@ -158,14 +159,10 @@ refused_begins {limits} laws rest k e f more (inl (t, at_end)) is at =
 refused_begins {limits} laws rest k e f more (inr d) is at =
     false≢true (ap is_finished (laws.one_answer limits rest (Refused e) (Finished (length f.octets) f.value) (refused_answer laws rest k e d) (finished_answer limits rest f more is at)))
 
-none_before : (f more : List ℕ) → f ++ more ≡ [] → f ≡ []
-none_before [] more e = refl
-none_before (a ∷ f) more e = absurd (omega (arith, ap length e))
-
 -- no octets begin with no envelope
 empty_begins : {limits : Limits} → ListingLaws limits → (rest : List ℕ) (f : Listed) (more : List ℕ) → rest ≡ [] → IsListed limits f → rest ≡ f.octets ++ more → ⊥
 empty_begins {limits} laws rest f more none is at =
-    let empty : f.octets ≡ [] = none_before f.octets more (sym at ∙ none) in
+    let empty : f.octets ≡ [] = (nothing_of_two f.octets more (sym at ∙ none)).0 in
     laws.some limits (subst (λ (l : List ℕ). Framed limits l) empty (laws.framed limits f.octets f.value is.admits is.within))
 
 -- after a listing no envelope stands, unless it is one too many

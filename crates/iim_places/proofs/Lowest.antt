@@ -3,11 +3,13 @@ use Rattle.std.proofs.Common.{◌≡◌, ◌≢◌, ℕ, zero, suc, ◌<◌, ◌
 use Rattle.std.specs.Option.{option_or, option_map}
 use Rattle.std.proofs.lemmas.Bool.{cases_lt, eqb-true, lt-ltb, or_cases}
 use Rattle.std.proofs.lemmas.List.{length-replicate}
+use Rattle.std.proofs.lemmas.Option.{same_Some}
 use Rattle.iim_dataset.specs.Format.Octets.{IsOctet, Octets, IsProperPrefix, number}
 use Rattle.iim_dataset.specs.Format.Datasets.{Dataset, SpellsTag, SpellsCount, head_of, of_record, count_octets}
 use Rattle.iim_dataset.specs.Format.Splits.{InTag}
 use Rattle.iim_dataset.specs.Format.Tags.{BeginsNoTag}
 use Rattle.iim_dataset.specs.declared.head.Head.{Head}
+use Rattle.iim_dataset.proofs.OctetLists.{zeros_are}
 use Rattle.iim_fields.specs.Format.Alive.{SectionsLive, SectionsLiveAt}
 use Rattle.iim_fields.specs.Format.Causes.{number_of_cause}
 use Rattle.iim_fields.specs.Format.Faults.{first_fault, value_fault}
@@ -105,9 +107,6 @@ numbered c d is = ap (λ (x : Cause). (rule_of x).number) is
 abbrev Holds' : Limits → List Dataset → Token → Cause → Type 0
 Holds' limits ds token c = (rule_of c).holds limits ds token
 
-some_is : {A : Type 0} {x y : A} → Some x ≡ Some y → x ≡ y
-some_is e = cc
-
 -- ---- the record layer and the limits
 
 field_layer : (f : FieldCause) → (rule_of (cause_of f)).layer ≡ layer_of f
@@ -177,7 +176,7 @@ size_lowest limits ds token h p t s first holds back = record {
 
 taken_if : (b c : Bool) (x s : TokenFault) → (if b && not c then Some x else None) ≡ Some s → (x ≡ s) × (b ≡ true) × (c ≡ false)
 taken_if true true x s e = absurd cc
-taken_if true false x s e = (some_is e, refl, refl)
+taken_if true false x s e = (same_Some _ _ e, refl, refl)
 taken_if false c x s e = absurd cc
 
 -- the cause and the fault that a test lets through
@@ -188,7 +187,7 @@ pub record Mapped (b : Bool) (o : Option SizeCause) (f : SizeCause → TokenFaul
   pub fault : f cause ≡ s
 
 mapped_if : (b : Bool) (o : Option SizeCause) (f : SizeCause → TokenFault) (s : TokenFault) → (if b then option_map f o else None) ≡ Some s → Mapped b o f s
-mapped_if true (Some c) f s e = record { on = refl; cause = c; is = refl; fault = some_is e }
+mapped_if true (Some c) f s e = record { on = refl; cause = c; is = refl; fault = same_Some _ _ e }
 mapped_if true None f s e = absurd cc
 mapped_if false o f s e = absurd cc
 
@@ -228,10 +227,10 @@ head_lowest laws limits ds h fault alive within refused = by (first_fault limits
         → option_or (option_map of_field o) (option_or p q) ≡ Some fault → TellsTheLowest limits ds (AtHead h) fault
     by (Some f) p q first second third e =
         let is = ((laws.heads limits ds h).0 f).0 first in
-        subst (TellsTheLowest limits ds (AtHead h)) (some_is e) (field_lowest limits ds (AtHead h) f is.holds is.lowest)
+        subst (TellsTheLowest limits ds (AtHead h)) (same_Some _ _ e) (field_lowest limits ds (AtHead h) f is.holds is.lowest)
     by None (Some s) q first second third e =
         let many = taken_if (nat_eq h.rec 8) (nat_lt (length (of_record 8 ds)) max_subfiles) (too_many_on h) s second in
-        subst (TellsTheLowest limits ds (AtHead h)) (many.0 ∙ some_is e)
+        subst (TellsTheLowest limits ds (AtHead h)) (many.0 ∙ same_Some _ _ e)
         (too_many_lowest limits ds h (eqb-true h.rec 8 many.1) (not_less (length (of_record 8 ds)) max_subfiles many.2) ((laws.heads limits ds h).1.0 first))
     by None None (Some s) first second third e =
         by_object (mapped_if (nat_eq h.rec 8 || nat_eq h.rec 9) (cause_at (place_after_datasets ds) (head_token h.rec h.count)) (size_on h) fault (third ∙ e))
@@ -258,7 +257,7 @@ value_lowest laws limits ds d fault within refused = by (value_fault d) (number_
     by : (o : Option FieldFault) (q : Option TokenFault) → value_fault d ≡ o → number_fault ds d ≡ q → option_or (option_map of_field o) q ≡ Some fault → TellsTheLowest limits ds (AtValue d) fault
     by (Some f) q first second e =
         let is = ((laws.values limits ds d).0 f).0 first in
-        subst (TellsTheLowest limits ds (AtValue d)) (some_is e) (field_lowest limits ds (AtValue d) f is.holds is.lowest)
+        subst (TellsTheLowest limits ds (AtValue d)) (same_Some _ _ e) (field_lowest limits ds (AtValue d) f is.holds is.lowest)
     by None q first second e = by_object (mapped_if (tells_number d.rec) (cause_at (place_at ds (head_of d)) (value_token d.rec d.set (number d.octets))) (size_on (head_of d)) fault (second ∙ e))
 
 -- ---- octets of the object, and its end
@@ -306,10 +305,6 @@ spelled a r s n count first hr hs is = record { rec = hr; set = hs; count = coun
 no_marker : (next : ℕ) → BeginsNoTag count_octets (next ∷ []) → next ≢ 28
 no_marker next dead is = dead (record { rec = 0; set = 0; count = 0 }) (0 ∷ 0 ∷ 0 ∷ 0 ∷ []) (spelled next 0 0 0 (0 ∷ 0 ∷ []) is (omega arith) (omega arith) (inl (omega arith, omega arith, refl, refl)))
 
-zeros : (n : ℕ) → Octets (replicate n 0)
-zeros zero = tt
-zeros (suc n) = (omega arith, zeros n)
-
 other_octet : (xs ys : List ℕ) (a b : ℕ) → IsOctet b → Octets (xs ++ a ∷ ys) → Octets ((xs ++ b ∷ []) ++ ys)
 other_octet [] ys a b low h = (low, h.1)
 other_octet (x ∷ xs) ys a b low h = (h.0, other_octet xs ys a b low h.1)
@@ -322,7 +317,7 @@ fifth a r s d (suc n) first hr hs is dead = elim (cases_lt count_octets (suc n))
   | inr few ↦
       let zs : List ℕ = replicate (suc n) 0 in
       let long : suc n ≡ length zs = sym (length-replicate (suc n) 0) in
-      absurd (dead (record { rec = r; set = s; count = number zs }) zs (spelled a r s (number zs) (d ∷ suc n ∷ zs) first hr hs (inr (is, long, omega arith, few, zeros (suc n), refl))))
+      absurd (dead (record { rec = r; set = s; count = number zs }) zs (spelled a r s (number zs) (d ∷ suc n ∷ zs) first hr hs (inr (is, long, omega arith, few, zeros_are (suc n), refl))))
 ]
 
 -- the fourth octet and those after it

@@ -37,9 +37,6 @@ before_size law p n is = record {
   alive = before law (place_after p ObjectEnded) (Confirmed n) refl is.alive;
 }
 
-pub stands_possible : (reader : Option State) (p : Place) → StandsAt reader p → length p.lengths ≤ max_subfiles → IsPossible p
-stands_possible reader p at few = record { stated = at.stated; subfiles = at.subfiles; duties = at.duties; few = few; alive = at.alive }
-
 -- what dies with a token is not possible with it
 pub not_possible : TokensFollow → (p : Place) (token : ObjectToken) → MayFollow p token → (IsAlive ObjectLanguage (tokens_of p ++ token ∷ []) → ⊥) → IsPossible (place_after p token) → ⊥
 not_possible law p token may dead is = dead (subst (IsAlive ObjectLanguage) (law p token may) is.alive)

@@ -3,6 +3,7 @@ use Rattle.std.proofs.Common.{◌≡◌, ℕ, ◌<◌, List, [], ◌∷◌, ◌+
 use Rattle.std.specs.List.{AllByRecursion}
 use Rattle.iim_dataset.specs.Format.Datasets.{Dataset}
 use Rattle.iim_dataset.specs.Format.Languages.{IsAlive}
+use Rattle.iim_dataset.proofs.Each.{all_append}
 use Rattle.iim_fields.specs.Format.Records.{AreSections}
 use Rattle.iim_tables.specs.Format.Records.{IsGoodDataset}
 use Rattle.iim_fields.specs.Format.Alive as sections
@@ -13,10 +14,6 @@ use Rattle.iim_object.specs.Format.Records.{AreObjectRecords}
 before_seven : (rec : ℕ) (ds : List Dataset) → rec < 7 → AllByRecursion (λ d. (d.rec ≡ rec) × IsGoodDataset d) ds → AllByRecursion (λ d. d.rec < 7) ds
 before_seven rec [] low all = tt
 before_seven rec (d ∷ ds) low all = (omega (arith, all.0.0), before_seven rec ds low all.1)
-
-both : (P : Dataset → Type 0) (xs ys : List Dataset) → AllByRecursion P xs → AllByRecursion P ys → AllByRecursion P (xs ++ ys)
-both P [] ys first last = last
-both P (x ∷ xs) ys first last = (first.0, both P xs ys first.1 last)
 
 joined : (ds r1 r2 r7 r8 r9 from2 from7 from8 from9 none : List Dataset) → ds ≡ r1 ++ from2 → from2 ≡ r2 ++ from7 → from7 ≡ r7 ++ from8 → from8 ≡ r8 ++ from9 → from9 ≡ r9 ++ none → none ≡ []
     → ds ≡ (r1 ++ r2) ++ (r7 ++ (r8 ++ r9))
@@ -32,7 +29,7 @@ are_records ds (r1, from2, one, good1, (r2, from7, two, good2, (r7, from8, seven
   r7 = r7;
   r8 = r8;
   r9 = r9;
-  others = both (λ (d : Dataset). d.rec < 7) r1 r2 (before_seven 1 r1 (omega arith) good1.each) (before_seven 2 r2 (omega arith) good2.each);
+  others = all_append (λ (d : Dataset). d.rec < 7) r1 r2 (before_seven 1 r1 (omega arith) good1.each) (before_seven 2 r2 (omega arith) good2.each);
   descriptor = good7;
   object = good8;
   confirmation = good9;

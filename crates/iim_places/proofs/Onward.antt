@@ -19,6 +19,7 @@ use Rattle.iim_fields.specs.Format.Values.{data_of}
 use Rattle.iim_fields.specs.declared.fault.FieldFault.{FieldFault}
 use Rattle.iim_fields.specs.declared.fault.FieldCause.TheVariants.{BadValue}
 use Rattle.iim_fields.specs.declared.limits.Limits.{Limits}
+use Rattle.iim_fields.proofs.Sections.{last_more}
 use Rattle.iim_object.specs.Format.Numbers.{place_after_datasets}
 use Rattle.iim_object.specs.Format.Plans.{max_subfiles}
 use Rattle.wire_story.specs.Format.Tokens.{Octet, End}
@@ -33,8 +34,8 @@ use Rattle.iim_places.proofs.ObjectOctets.{object_of_more}
 use Rattle.iim_places.proofs.Fitting.{each_octets}
 use Rattle.iim_places.proofs.Following.{alive_of, follows, in_front, longer_front, message_of, object_lives_after, objects_append, same_data, story_of, within_of}
 use Rattle.iim_dataset.proofs.Agreeing.{compare}
+use Rattle.iim_dataset.proofs.OctetLists.{octets_append}
 use Rattle.iim_places.proofs.Fronts.{begun_none}
-use Rattle.iim_places.proofs.Lasts.{present_last}
 use Rattle.iim_places.proofs.Limits.{within_front}
 use Rattle.iim_places.proofs.Places.{lives_after}
 use Rattle.iim_places.proofs.PlainOpens.{possible_of}
@@ -255,10 +256,6 @@ octets_back : (t z : List ℕ) → Octets (t ++ z) → Octets z
 octets_back [] z all = all
 octets_back (x ∷ t) z all = octets_back t z all.1
 
-pub octets_both : (t z : List ℕ) → Octets t → Octets z → Octets (t ++ z)
-octets_both [] z a b = b
-octets_both (x ∷ t) z a b = (a.0, octets_both t z a.1 b)
-
 -- where the last octets of a dataset have come
 closes : (p : List ℕ) (ds : List Dataset) (h : Head) (t z : List ℕ) → Reads count_octets p ds (InData h t) → length (t ++ z) ≡ h.count → Octets z → Reads count_octets (p ++ z) (ds ++ data_of h (t ++ z) ∷ []) (InTag [])
 closes p ds h t z r many octets =
@@ -267,7 +264,7 @@ closes p ds h t z r many octets =
     let one : SpellsStream count_octets (d ∷ []) (tag ++ (t ++ z)) = (
       tag ++ (t ++ z),
       [],
-      record { tag = tag; is_tag = subst (λ (k : Head). SpellsTag count_octets k tag) (sym (head_is h (t ++ z) many)) spelled; data_octets = octets_both t z given octets; parts = refl },
+      record { tag = tag; is_tag = subst (λ (k : Head). SpellsTag count_octets k tag) (sym (head_is h (t ++ z) many)) spelled; data_octets = octets_append t z given octets; parts = refl },
       refl,
       sym (append-nil (tag ++ (t ++ z))),
     ) in
@@ -287,7 +284,7 @@ stays_in p ds h t z r short octets =
       front = r.front;
       rest = tag ++ (t ++ z);
       is_front = r.is_front;
-      is_rest = (tag, spelled, short, octets_both t z given octets, refl);
+      is_rest = (tag, spelled, short, octets_append t z given octets, refl);
       parts = ap (λ (l : List ℕ). l ++ z) (r.parts ∙ ap (λ (l : List ℕ). r.front ++ l) parts) ∙ append_assoc r.front (tag ++ t) z ∙ ap (λ (l : List ℕ). r.front ++ l) (append_assoc tag t z);
     }
 
@@ -346,7 +343,7 @@ closed_before laws limits ds es ws h t v z W c are pair goes is many left right 
     let so_far : object_so_far W c ≡ (o ++ e) ++ object_so_far ws c = ap (λ (zs : List Dataset). object_so_far zs c) regroup ∙ so_far_both (ds ++ d ∷ []) ws c ∙ ap (λ (l : List ℕ). l ++ object_so_far ws c) (closed_object ds h t z) in
     let m = messages_on laws o (object_so_far es (InData h v)) e pair.message (message_of limits W c goes (o ++ e) (object_so_far ws c) so_far) (story_of limits W c goes (o ++ e) (object_so_far ws c) so_far) in
     record {
-      present = present_last 0 ds d ∙ sym (present_last 0 es x);
+      present = last_more 0 ds d ∙ sym (last_more 0 es x);
       twins = twins_on ds es (d ∷ []) (x ∷ []) pair.twins (tail_as h (t ++ z) (v ++ z) both) bounded;
       alive = alive_with laws.places.values ds es h (t ++ z) (v ++ z) both (sym both.0 ∙ many) left right front.alive pair.there.sizes.records;
       message = subst (SameMessage (object_of (ds ++ d ∷ []))) (sym (closed_object es h v z)) (subst (λ (l : List ℕ). SameMessage l (object_so_far es (InData h v) ++ e)) (sym (closed_object ds h t z)) m);
@@ -378,7 +375,7 @@ data_on laws limits p q more ds es h t v r s are pair W c w goes =
           let many : length (t ++ z) ≡ h.count = sym (ap length octets_are) ∙ count in
           let left : Octets (t ++ z) = subst Octets octets_are (octets_mid ds d ws (subst (AllByRecursion (λ (x : Dataset). Octets x.octets)) is (each_octets W w.front w.is_front))) in
           let more_octets = octets_back t z left in
-          let right : Octets (v ++ z) = octets_both v z s.is_rest.3 more_octets in
+          let right : Octets (v ++ z) = octets_append v z s.is_rest.3 more_octets in
           let before = closed_before laws limits ds es ws h t v z W c are pair goes (is ∙ ap (λ (x : Dataset). ds ++ x ∷ ws) same) many left right in
           let many' : length (v ++ z) ≡ h.count = sym (data_more h t v z are).0 ∙ many in
           let joined : (o : List ℕ) → (o ++ z) ++ tail ≡ o ++ more = λ o. append_assoc o z tail ∙ ap (λ (l : List ℕ). o ++ l) (sym later) in

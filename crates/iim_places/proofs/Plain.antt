@@ -10,6 +10,8 @@ use Rattle.iim_dataset.specs.Format.Octets.{IsOctet, Octets, number, greatest_si
 use Rattle.iim_dataset.specs.Format.Datasets.{Dataset, canonical_stream, of_record}
 use Rattle.iim_dataset.specs.Format.Splits.{Begun, InTag, InData}
 use Rattle.iim_dataset.specs.Laws.Datasets.{HasSpellings, CanonicalStreamsAreSpelled}
+use Rattle.iim_dataset.proofs.Each.{all_append}
+use Rattle.iim_dataset.proofs.OctetLists.{front_are}
 use Rattle.iim_fields.specs.Format.Faults.{kept, is_kept, joined}
 use Rattle.iim_object.specs.Format.Records.{numbers_of}
 use Rattle.iim_object.specs.Format.Packing.{number_dataset, subfile_datasets}
@@ -203,10 +205,6 @@ plain_told fields numbers heads object ended each fit room =
 
 -- ---- spellings
 
-pub all_both : (P : Dataset → Type 0) (xs ys : List Dataset) → AllByRecursion P xs → AllByRecursion P ys → AllByRecursion P (xs ++ ys)
-all_both P [] ys a b = b
-all_both P (x ∷ xs) ys a b = (a.0, all_both P xs ys a.1 b)
-
 mode_spelled : (o : Option ℕ) → IfSome o IsOctet → AllByRecursion HasSpellings (one_dataset mode_dataset o)
 mode_spelled None h = tt
 mode_spelled (Some n) h = (record { rec = omega arith; set = omega arith; octets = (h, tt); few = omega arith }, tt)
@@ -224,13 +222,8 @@ end_spelled false object = tt
 
 numbers_spelled : (n : Numbers) → IfSome n.mode IsOctet → AllByRecursion HasSpellings (plain_numbers n)
 numbers_spelled n mode =
-    all_both HasSpellings _ _ (mode_spelled n.mode mode)
-    (all_both HasSpellings _ _ (number_spelled 20 (omega arith) n.largest) (all_both HasSpellings _ _ (number_spelled 90 (omega arith) n.announced) (number_spelled 95 (omega arith) n.maximum)))
-
-pub front_octets : (k : ℕ) (xs : List ℕ) → Octets xs → Octets (take k xs)
-front_octets zero xs all = tt
-front_octets (suc k) [] all = tt
-front_octets (suc k) (x ∷ xs) all = (all.0, front_octets k xs all.1)
+    all_append HasSpellings _ _ (mode_spelled n.mode mode)
+    (all_append HasSpellings _ _ (number_spelled 20 (omega arith) n.largest) (all_append HasSpellings _ _ (number_spelled 90 (omega arith) n.announced) (number_spelled 95 (omega arith) n.maximum)))
 
 pub back_octets : (k : ℕ) (xs : List ℕ) → Octets xs → Octets (drop k xs)
 back_octets zero xs all = all
@@ -242,12 +235,12 @@ parts_spelled size zero xs all few = tt
 parts_spelled size (suc count) xs all few =
     let first = length-take size xs in
     let rest = length-drop size xs in
-    (record { rec = omega arith; set = omega arith; octets = front_octets size xs all; few = omega (arith, few, first) }, parts_spelled size count (drop size xs) (back_octets size xs all) (omega (arith, few, rest)))
+    (record { rec = omega arith; set = omega arith; octets = front_are size xs all; few = omega (arith, few, first) }, parts_spelled size count (drop size xs) (back_octets size xs all) (omega (arith, few, rest)))
 
 pub plain_spelled : (fields : List Dataset) (numbers : Numbers) (heads : ℕ) (object : List ℕ) (ended : Bool) → AreSpellable fields numbers heads object → AllByRecursion HasSpellings (plain fields numbers heads object ended)
 plain_spelled fields numbers heads object ended are =
-    all_both HasSpellings fields _ are.spelled
-    (all_both HasSpellings _ _ (numbers_spelled numbers are.mode) (all_both HasSpellings _ _ (parts_spelled (unwrap_or numbers.largest 0) heads object are.octets are.few) (end_spelled ended object)))
+    all_append HasSpellings fields _ are.spelled
+    (all_append HasSpellings _ _ (numbers_spelled numbers are.mode) (all_append HasSpellings _ _ (parts_spelled (unwrap_or numbers.largest 0) heads object are.octets are.few) (end_spelled ended object)))
 
 -- ---- the place
 

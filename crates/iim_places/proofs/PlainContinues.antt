@@ -11,11 +11,14 @@ use Rattle.std.proofs.lemmas.List.Sums.{sum_by-cons, sum_by-append}
 use Rattle.iim_dataset.specs.Format.Octets.{Octets, number, greatest_size}
 use Rattle.iim_dataset.specs.Format.Datasets.{Dataset, of_record}
 use Rattle.iim_dataset.proofs.WrittenNumbers.{number_back}
+use Rattle.iim_dataset.proofs.Each.{all_append}
+use Rattle.iim_dataset.proofs.OctetLists.{front_are, octets_append}
 use Rattle.iim_tables.specs.Format.Rows.{table, row_of, Meets}
 use Rattle.iim_fields.specs.Format.Alive.{SectionsLive}
 use Rattle.iim_fields.specs.Format.Faults.{joined, kept, is_kept, section_after, last_record}
 use Rattle.iim_fields.specs.Format.Records.{AreSections}
 use Rattle.iim_tables.specs.Format.Records.{IsGoodDataset, IsGoodRecord, occurs, occurrences, repeats, mandatory}
+use Rattle.iim_tables.proofs.GoodDatasets.{occurrences_cons, occurrences_append, none_counts, some_counts, part_meets}
 use Rattle.iim_object.specs.Laws.Packing.{NumberDatasetsAreGood}
 use Rattle.iim_object.specs.Format.Packing.{number_dataset, subfile_datasets}
 use Rattle.iim_object.specs.Format.Records.{numbers_of}
@@ -27,41 +30,19 @@ use Rattle.iim_places.specs.Laws.Lower.{AnswerLaws}
 use Rattle.iim_places.specs.Plain.{PlainDatasetsContinueAlike}
 use Rattle.iim_places.specs.States.PlainDatasets.{Numbers, number_list, mode_dataset, one_dataset, plain_numbers, filled, plain_end}
 use Rattle.iim_places.proofs.Bounds.{IsFive, alive_five}
-use Rattle.iim_places.proofs.Plain.{AreOf, one_stated, are_told, four_told, filled_count, all_of, none_of, none_in_fields, are_sevens, are_eights, are_nines, front_octets, back_octets}
-use Rattle.iim_places.proofs.PlainPlaces.{IsOrdered, none_below, sections_ordered, front_ordered, all_kept, numbers_in, join_octets, end_length, present_same}
+use Rattle.iim_places.proofs.Plain.{AreOf, one_stated, are_told, four_told, filled_count, all_of, none_of, none_in_fields, are_sevens, are_eights, are_nines, back_octets}
+use Rattle.iim_places.proofs.PlainPlaces.{IsOrdered, none_below, sections_ordered, front_ordered, all_kept, numbers_in, end_length, present_same}
 use Rattle.iim_places.proofs.SameRecords.{of_kept, occurs_stated, same_stated, same_numbers, stated_after_all, tens_after, nines}
 
 -- ---- counts
-
-counted : (n : ℕ) (d : Dataset) (ds : List Dataset) → occurrences n (d ∷ ds) ≡ cond (nat_eq d.set n) 1 0 + occurrences n ds
-counted n d ds = sum_by-cons (λ (x : Dataset). cond (nat_eq x.set n) 1 0) d ds
-
-pub count_join : (n : ℕ) (xs ys : List Dataset) → occurrences n (xs ++ ys) ≡ occurrences n xs + occurrences n ys
-count_join n xs ys = sum_by-append (λ (x : Dataset). cond (nat_eq x.set n) 1 0) xs ys
-
-none_occurs : (n : ℕ) (ds : List Dataset) → occurs n ds ≡ false → occurrences n ds ≡ 0
-none_occurs n [] e = refl
-none_occurs n (d ∷ ds) e = by (nat_eq d.set n) refl (none_occurs n ds) e
-  where
-    by : (b : Bool) → nat_eq d.set n ≡ b → (occurs n ds ≡ false → occurrences n ds ≡ 0) → (b || occurs n ds) ≡ false → occurrences n (d ∷ ds) ≡ 0
-    by true is more bad = absurd (let no' : true ≡ false = bad in cc)
-    by false is more none = let all = counted n d ds in let first = ap (λ (b : Bool). cond {A = ℕ} b 1 0) is in let rest = more none in omega (arith, all, first, rest)
-
-some_occurs : (n : ℕ) (ds : List Dataset) → occurs n ds ≡ true → 1 ≤ occurrences n ds
-some_occurs n [] e = absurd (let no' : false ≡ true = e in cc)
-some_occurs n (d ∷ ds) e = by (nat_eq d.set n) refl (some_occurs n ds) e
-  where
-    by : (b : Bool) → nat_eq d.set n ≡ b → (occurs n ds ≡ true → 1 ≤ occurrences n ds) → (b || occurs n ds) ≡ true → 1 ≤ occurrences n (d ∷ ds)
-    by true is more some = let all = counted n d ds in let first = ap (λ (b : Bool). cond {A = ℕ} b 1 0) is in omega (arith, all, first)
-    by false is more some = let all = counted n d ds in let rest = more some in omega (arith, all, rest)
 
 -- what occurs once at most occurs no oftener than in other datasets where it is seen as well
 pub fewer_by : (n : ℕ) (xs ys : List Dataset) → occurs n xs ≡ occurs n ys → occurrences n ys ≤ 1 → occurrences n ys ≤ occurrences n xs
 fewer_by n xs ys same one = by (occurs n ys) refl
   where
     by : (b : Bool) → occurs n ys ≡ b → occurrences n ys ≤ occurrences n xs
-    by true is = let some = some_occurs n xs (same ∙ is) in omega (arith, some, one)
-    by false is = let none = none_occurs n ys is in omega (arith, none)
+    by true is = let some = some_counts n xs (same ∙ is) in omega (arith, some, one)
+    by false is = let none = none_counts n ys is in omega (arith, none)
 
 -- ---- one run for another
 
@@ -86,7 +67,7 @@ pub good_with : (r : ℕ) (xs ys more : List Dataset) → MayReplace r xs ys →
 good_with r xs ys more may good = record {
   each = good_both r ys more may.each (good_back r xs more good.each);
   mandatory = all_seen (mandatory r) good.mandatory;
-  once = λ n no'. let one = good.once n no' in let a = count_join n xs more in let b = count_join n ys more in let less = may.fewer n no' in omega (arith, one, a, b, less);
+  once = λ n no'. let one = good.once n no' in let a = occurrences_append n xs more in let b = occurrences_append n ys more in let less = may.fewer n no' in omega (arith, one, a, b, less);
 }
   where
     seen : (n : ℕ) → occurs n (xs ++ more) ≡ occurs n (ys ++ more)
@@ -252,10 +233,6 @@ three_ordered r a b c le is7 is8 is9 =
 
 -- ---- five records
 
-pub five_both : (xs ys : List Dataset) → AllByRecursion (λ d. IsFive d.rec) xs → AllByRecursion (λ d. IsFive d.rec) ys → AllByRecursion (λ d. IsFive d.rec) (xs ++ ys)
-five_both [] ys a b = b
-five_both (x ∷ xs) ys a b = (a.0, five_both xs ys a.1 b)
-
 pub five_back : (xs ys : List Dataset) → AllByRecursion (λ d. IsFive d.rec) (xs ++ ys) → AllByRecursion (λ d. IsFive d.rec) ys
 five_back [] ys a = a
 five_back (x ∷ xs) ys a = five_back xs ys a.1
@@ -300,8 +277,8 @@ sections_continue ds more sevens eights nines five like sections =
     let low = fields_low 0 (kept ds) (omega arith) keeps in
     let first : IsOrdered 0 es = join_ordered 0 (kept ds) (sevens ++ (eights ++ nines)) (kept_ordered 0 ds (front_ordered 0 ds more order)) (three_ordered (last_record 0 (kept ds)) sevens eights nines (omega (arith, low)) like.is7 like.is8 like.is9) in
     let ordered : IsOrdered 0 (es ++ more) = join_ordered 0 es more first (subst (λ (r : ℕ). IsOrdered r more) like.present (back_ordered 0 ds more order)) in
-    let fives = five_both es more (five_both (kept ds) (sevens ++ (eights ++ nines)) (five_kept (kept ds) keeps) (five_both sevens (eights ++ nines) (five_of 7 (inr (inr (inl refl))) sevens like.is7)
-    (five_both eights nines (five_of 8 (inr (inr (inr (inl refl)))) eights like.is8) (five_of 9 (inr (inr (inr (inr refl)))) nines like.is9)))) (five_back ds more five) in
+    let fives = all_append (λ (d : Dataset). IsFive d.rec) es more (all_append (λ (d : Dataset). IsFive d.rec) (kept ds) (sevens ++ (eights ++ nines)) (five_kept (kept ds) keeps) (all_append (λ (d : Dataset). IsFive d.rec) sevens (eights ++ nines) (five_of 7 (inr (inr (inl refl))) sevens like.is7)
+    (all_append (λ (d : Dataset). IsFive d.rec) eights nines (five_of 8 (inr (inr (inr (inl refl)))) eights like.is8) (five_of 9 (inr (inr (inr (inr refl)))) nines like.is9)))) (five_back ds more five) in
     rebuilt (es ++ more) (ordered_sorted 0 (es ++ more) ordered fives) (record {
       one = subst (IsGoodRecord 1) (low_same 1 refl) good.one;
       two = subst (IsGoodRecord 2) (low_same 2 refl) good.two;
@@ -341,10 +318,6 @@ unfolding row_of table
 mode_meets zero h = refl
 mode_meets (suc zero) h = refl
 mode_meets (suc (suc n)) h = absurd (omega (arith, h))
-
-part_meets : (xs : List ℕ) → length xs ≤ greatest_size → Meets 8 10 xs
-unfolding row_of table
-part_meets xs le = rw (le-leb (length xs) greatest_size le, le-leb 0 (length xs) (omega arith)) refl
 
 abbrev InRowAt : ℕ → Option ℕ → Type 0
 InRowAt set o = IfSome o (λ n. InRow (record { set = set; number = n }))
@@ -402,7 +375,7 @@ good_sevens rows ps all =
 one_most : (n set : ℕ) (made : ℕ → Dataset) → ((k : ℕ) → (made k).set ≡ set) → (o : Option ℕ) → occurrences n (one_dataset made o) ≤ cond (nat_eq set n) 1 0
 one_most n set made is None = omega arith
 one_most n set made is (Some k) =
-    let all = counted n (made k) [] in
+    let all = occurrences_cons n (made k) [] in
     let same = ap (λ (s : ℕ). cond {A = ℕ} (nat_eq s n) 1 0) (is k) in
     omega (arith, all, same)
 
@@ -412,9 +385,9 @@ sevens_once n numbers =
     let b = one_most n 20 (number_dataset 7 20) (λ k. refl) numbers.largest in
     let c = one_most n 90 (number_dataset 7 90) (λ k. refl) numbers.announced in
     let d = one_most n 95 (number_dataset 7 95) (λ k. refl) numbers.maximum in
-    let last = count_join n (one_dataset (number_dataset 7 90) numbers.announced) (one_dataset (number_dataset 7 95) numbers.maximum) in
-    let more = count_join n (one_dataset (number_dataset 7 20) numbers.largest) (one_dataset (number_dataset 7 90) numbers.announced ++ one_dataset (number_dataset 7 95) numbers.maximum) in
-    let all = count_join n (one_dataset mode_dataset numbers.mode) (one_dataset (number_dataset 7 20) numbers.largest ++ (one_dataset (number_dataset 7 90) numbers.announced ++ one_dataset (number_dataset 7 95) numbers.maximum)) in
+    let last = occurrences_append n (one_dataset (number_dataset 7 90) numbers.announced) (one_dataset (number_dataset 7 95) numbers.maximum) in
+    let more = occurrences_append n (one_dataset (number_dataset 7 20) numbers.largest) (one_dataset (number_dataset 7 90) numbers.announced ++ one_dataset (number_dataset 7 95) numbers.maximum) in
+    let all = occurrences_append n (one_dataset mode_dataset numbers.mode) (one_dataset (number_dataset 7 20) numbers.largest ++ (one_dataset (number_dataset 7 90) numbers.announced ++ one_dataset (number_dataset 7 95) numbers.maximum)) in
     let sum = apart4 n in
     omega (arith, a, b, c, d, last, more, all, sum)
   where
@@ -445,8 +418,8 @@ tens_same n (x ∷ xs) (y ∷ ys) a b e =
     let more = tens_same n xs ys a.1 b.1 (omega (arith, e)) in
     let set : x.set ≡ y.set = a.0 ∙ sym b.0 in
     let first = ap (λ (s : ℕ). cond {A = ℕ} (nat_eq s n) 1 0) set in
-    let left = counted n x xs in
-    let right = counted n y ys in
+    let left = occurrences_cons n x xs in
+    let right = occurrences_cons n y ys in
     let rest = more.1 in
     ((λ i. nat_eq (set i) n || more.0 i), omega (arith, first, left, right, rest))
 
@@ -470,7 +443,7 @@ good_parts size zero xs all few = tt
 good_parts size (suc count) xs all few =
     let first = length-take size xs in
     let rest = length-drop size xs in (
-      (refl, record { numbered = omega arith; octets = front_octets size xs all; meets = part_meets (take size xs) (omega (arith, few, first)); file_format = refl }),
+      (refl, record { numbered = omega arith; octets = front_are size xs all; meets = part_meets (take size xs) (omega (arith, few, first)); file_format = refl }),
       good_parts size count (drop size xs) (back_octets size xs all) (omega (arith, few, rest)),
     )
 
@@ -531,7 +504,7 @@ replace_sevens rows es all = record { each = good_sevens rows ps all; seen = see
 
 good_octets : (r : ℕ) (es more : List Dataset) → AreGood r (es ++ more) → Octets (joined es)
 good_octets r [] more all = tt
-good_octets r (e ∷ es) more all = join_octets e.octets (joined es) all.0.1.octets (good_octets r es more all.1)
+good_octets r (e ∷ es) more all = octets_append e.octets (joined es) all.0.1.octets (good_octets r es more all.1)
 
 -- Datasets that follow some to sections follow their plain ones too.
 pub plain_on : AnswerLaws → PlainDatasetsContinueAlike
@@ -558,3 +531,7 @@ plain_on laws ds more sections few fits =
       present = present_same laws ds alive stated;
     })
     sections
+
+pub good_front : (r : ℕ) (xs ys : List Dataset) → AreGood r (xs ++ ys) → AreGood r xs
+good_front r [] ys all = tt
+good_front r (x ∷ xs) ys all = (all.0, good_front r xs ys all.1)

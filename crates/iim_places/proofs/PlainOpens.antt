@@ -9,6 +9,8 @@ use Rattle.iim_dataset.specs.Format.Datasets.{Dataset, SpellsStream, canonical_s
 use Rattle.iim_dataset.specs.Format.Languages as languages
 use Rattle.iim_dataset.specs.Format.Splits.{Begun, InTag, InData, Reads}
 use Rattle.iim_dataset.specs.declared.head.Head.{Head}
+use Rattle.iim_dataset.proofs.Each.{all_last, all_append}
+use Rattle.iim_dataset.proofs.Lists.{sum_append}
 use Rattle.iim_fields.specs.Format.Alive.{SectionsLive, SectionsLiveAt}
 use Rattle.iim_fields.specs.Format.Faults.{kept, joined, section_after}
 use Rattle.iim_fields.specs.Format.Records.{AreSections}
@@ -50,7 +52,7 @@ use Rattle.iim_places.proofs.PlainContinues.{plain_on, in_row, low_in_row, low_n
 use Rattle.iim_places.proofs.PlainPlaces.{plain_by, numbers_in, all_kept, alive_front, room_for, present_same}
 use Rattle.iim_places.proofs.PlainSizes.{duties_of, Lives, possible_like}
 use Rattle.iim_places.proofs.SameRecords.{IsStated, nines, same_numbers, stated_after_all, stated_at}
-use Rattle.iim_places.proofs.Tickets.{total_of, count_of, sum_more}
+use Rattle.iim_places.proofs.Tickets.{total_of, count_of}
 
 -- ---- the plain datasets
 
@@ -122,10 +124,6 @@ told laws ds alive few lives =
 
 -- ---- the object
 
-last_small : (size : ℕ) (ls : List ℕ) (c : ℕ) → AllByRecursion (λ n. n ≤ size) (ls ++ c ∷ []) → c ≤ size
-last_small size [] c all = all.0
-last_small size (l ∷ ls) c all = last_small size ls c all.1
-
 pub begun_small : SizeLaws → (ps : List Stated) (ls : List ℕ) (c size : ℕ) (e : Ending) → AreStated ps → HasBoth ps → number_at 20 ps ≡ Some size → Lives ps (ls ++ c ∷ []) e → c ≤ size
 begun_small laws ps ls c size e are both largest lives =
     let d = duties_of ps are both in
@@ -133,11 +131,7 @@ begun_small laws ps ls c size e are both largest lives =
     let some = length-append ls (c ∷ []) in
     let alive : languages.IsAlive ObjectLanguage (number_tokens ps ++ map SubfileBegun ks) =
     alive_front (number_tokens ps ++ map SubfileBegun ks) (ending_tokens e) (subst (languages.IsAlive ObjectLanguage) (sym (append_assoc (number_tokens ps) (map SubfileBegun ks) (ending_tokens e))) lives) in
-    last_small size ls c ((laws.fit d.known size ps ks (record { stated = are; mode = d.mode; largest = largest }) (omega (arith, some))).0 alive).each
-
-pub join_small : (size : ℕ) (xs ys : List ℕ) → AllByRecursion (λ n. n ≤ size) xs → AllByRecursion (λ n. n ≤ size) ys → AllByRecursion (λ n. n ≤ size) (xs ++ ys)
-join_small size [] ys a b = b
-join_small size (x ∷ xs) ys a b = (a.0, join_small size xs ys a.1 b)
+    all_last (λ (n : ℕ). n ≤ size) ls c ((laws.fit d.known size ps ks (record { stated = are; mode = d.mode; largest = largest }) (omega (arith, some))).0 alive).each
 
 pub possible_of : (p : objects.Place) → IsStated p → length p.lengths ≤ max_subfiles → ObjectLives p → IsPossible p
 possible_of p is few lives = record { stated = is.stated; subfiles = is.subfiles; duties = is.duties; few = few; alive = lives }
@@ -170,8 +164,8 @@ subfile_on laws ds es c t was is few lives =
     let same = same_numbers ps (numbers_of (of_record 7 es)) t.numbers in
     let both : HasBoth ps = was.duties (omega (arith, more)) in
     (possible_like laws p q (possible_of p was (omega (arith, count, more, few)) lives) is.stated t.numbers (omega (arith, count, count', heads, more, more'))
-    (sum_more ls (c ∷ []) ∙ ap (λ (n : ℕ). n + sum (c ∷ [])) (total_of (of_record 8 ds) ∙ ap length t.object ∙ sym (total_of (of_record 8 es))) ∙ sym (sum_more ks (c ∷ [])))
-    (λ size e. join_small size ks (c ∷ []) (t.each size e) (begun_small laws ps ls c size (ending_of (of_record 9 ds)) was.stated both (same.largest ∙ e) lives, tt)) t.ending).alive
+    (sum_append ls (c ∷ []) ∙ ap (λ (n : ℕ). n + sum (c ∷ [])) (total_of (of_record 8 ds) ∙ ap length t.object ∙ sym (total_of (of_record 8 es))) ∙ sym (sum_append ks (c ∷ [])))
+    (λ size e. all_append (λ (n : ℕ). n ≤ size) ks (c ∷ []) (t.each size e) (begun_small laws ps ls c size (ending_of (of_record 9 ds)) was.stated both (same.largest ∙ e) lives, tt)) t.ending).alive
 
 at_on : SizeLaws → (ds es : List Dataset) (h : Head) → Told ds es → IsStated (place_at ds h) → IsStated (place_at es h) → length (of_record 8 ds) ≤ max_subfiles → (h.rec ≡ 8 → length (of_record 8 ds) < max_subfiles)
     → ObjectLives (place_at ds h) → ObjectLives (place_at es h)

@@ -9,9 +9,12 @@ use Rattle.iim_dataset.specs.Format.Datasets.{Dataset, SpellsStream, count_octet
 use Rattle.iim_dataset.specs.Format.Languages as languages
 use Rattle.iim_dataset.specs.Laws.Datasets.{HasSpellings}
 use Rattle.iim_dataset.specs.Format.Splits.{Begun, InTag, InData}
+use Rattle.iim_dataset.proofs.Lists.{some_of, sum_fits}
+use Rattle.iim_dataset.proofs.OctetLists.{octets_append}
 use Rattle.iim_fields.specs.Format.Alive.{SectionsLive}
 use Rattle.iim_fields.specs.Format.Faults.{kept, is_kept, joined, section_after, last_record}
 use Rattle.iim_fields.specs.Format.Records.{AreSections}
+use Rattle.iim_fields.proofs.Sections.{last_of_joined}
 use Rattle.iim_tables.specs.Format.Records.{IsGoodDataset}
 use Rattle.iim_object.specs.Format.Objects.{ObjectToken, SubfileBegun, ObjectLanguage, number_tokens}
 use Rattle.iim_object.specs.Format.Places.{ending_tokens}
@@ -20,6 +23,7 @@ use Rattle.iim_object.specs.Format.Records.{lengths_of, numbers_of}
 use Rattle.iim_object.specs.Format.Sizes.{Stated, InRow, number_at, mode_number}
 use Rattle.iim_object.specs.Laws.Living.{SubfilesLiveWhileTheyFit}
 use Rattle.iim_object.specs.Format.Packing.{number_dataset, subfile_datasets}
+use Rattle.iim_object.proofs.Bounded.{mode_known}
 use Rattle.iim_places.specs.Format.Admitted.{object_of}
 use Rattle.iim_places.specs.Laws.Lower.{AnswerLaws}
 use Rattle.wire_message.specs.States.Saved.{LeadsToSaved}
@@ -53,10 +57,6 @@ pick_by [] [] r same e = e
 pick_by [] (y ∷ ys) r same e = absurd (omega (arith, same))
 pick_by (x ∷ xs) [] r same e = absurd (omega (arith, same))
 pick_by (x ∷ xs) (y ∷ ys) r same e = refl
-
-last_join : (r : ℕ) (xs ys : List Dataset) → last_record r (xs ++ ys) ≡ last_record (last_record r xs) ys
-last_join r [] ys = refl
-last_join r (x ∷ xs) ys = last_join x.rec xs ys
 
 last_of : (k r : ℕ) (xs : List Dataset) → AreOf k xs → last_record r xs ≡ pick xs k r
 last_of k r [] all = refl
@@ -156,7 +156,7 @@ picks_plain fields numbers heads object ended =
     let sevens = plain_numbers numbers in
     let eights = subfile_datasets parts in
     let ends = plain_end ended object in
-    last_join 0 fields (sevens ++ (eights ++ ends)) ∙ last_join (last_record 0 fields) sevens (eights ++ ends) ∙ last_join (last_record (last_record 0 fields) sevens) eights ends
+    last_of_joined 0 fields (sevens ++ (eights ++ ends)) ∙ last_of_joined (last_record 0 fields) sevens (eights ++ ends) ∙ last_of_joined (last_record (last_record 0 fields) sevens) eights ends
     ∙ last_of 9 (last_record (last_record (last_record 0 fields) sevens) eights) ends (are_nines ended object)
     ∙ ap (pick ends 9)
     (last_of 8 (last_record (last_record 0 fields) sevens) eights (are_eights parts) ∙ ap (pick eights 8) (last_of 7 (last_record 0 fields) sevens (are_sevens numbers)))
@@ -221,18 +221,6 @@ mode_octet (Some n) h = omega (arith, h)
 
 -- ---- the subfiles have room
 
-pub some_of : (o : Option ℕ) → is_some o ≡ true → (n : ℕ) × (o ≡ Some n)
-some_of None h = absurd cc
-some_of (Some n) h = (n, refl)
-
-pub known_of : (n : ℕ) → n ≤ 1 → (b : Bool) × (n ≡ mode_number b)
-known_of zero h = (false, refl)
-known_of (suc n) h = (true, omega (arith, h))
-
-pub sum_most : (size : ℕ) (ls : List ℕ) → AllByRecursion (λ n. n ≤ size) ls → sum ls ≤ length ls * size
-sum_most size [] all = omega arith
-sum_most size (n ∷ ls) all = let more = sum_most size ls all.1 in let one = sum_by-cons (λ (k : ℕ). k) n ls in omega (arith, more, one, all.0)
-
 pub alive_front : (xs ys : List ObjectToken) → languages.IsAlive ObjectLanguage (xs ++ ys) → languages.IsAlive ObjectLanguage xs
 alive_front xs ys (rest, is) = (ys ++ rest, subst ObjectLanguage (append_assoc xs ys rest) is)
 
@@ -245,11 +233,11 @@ room_some law ds is lives some =
     let (n, mode) = some_of (number_at 10 ps) duties.0 in
     let (size, largest) = some_of (number_at 20 ps) duties.1 in
     let low : n ≤ 1 = subst (λ (o : Option ℕ). IfSome o (λ k. k ≤ 1)) mode (low_mode ps is.stated.each) in
-    let (known, same) = known_of n low in
+    let (known, same) = mode_known n low in
     let alive : languages.IsAlive ObjectLanguage (number_tokens ps ++ map SubfileBegun lengths) =
     alive_front (number_tokens ps ++ map SubfileBegun lengths) (ending_tokens (place_after_datasets ds).ending) (subst (languages.IsAlive ObjectLanguage) (sym (append_assoc (number_tokens ps) (map SubfileBegun lengths) (ending_tokens (place_after_datasets ds).ending))) lives) in
     let fit = (law known size ps lengths (record { stated = is.stated; mode = mode ∙ ap Some same; largest = largest }) some).0 alive in
-    let most = sum_most size lengths fit.each in
+    let most = sum_fits size lengths fit.each in
     subst (λ (k : ℕ). sum lengths ≤ length lengths * k) (sym (ap (λ (o : Option ℕ). unwrap_or o 0) largest)) most
 
 pub room_for : SubfilesLiveWhileTheyFit → (ds : List Dataset) → IsStated (place_after_datasets ds) → ObjectLives (place_after_datasets ds)
@@ -284,16 +272,12 @@ each_spelled (d ∷ ds) xs (first, rest, one, more, parts) = by (is_kept d.rec) 
     by true later = (record { rec = one.is_tag.rec; set = one.is_tag.set; octets = one.data_octets; few = tag_low _ one.tag one.is_tag }, later)
     by false later = later
 
-pub join_octets : (xs ys : List ℕ) → Octets xs → Octets ys → Octets (xs ++ ys)
-join_octets [] ys a b = b
-join_octets (x ∷ xs) ys a b = (a.0, join_octets xs ys a.1 b)
-
 pub object_octets : (ds : List Dataset) → AllByRecursion (λ (d : Dataset). Octets d.octets) ds → Octets (object_of ds)
 object_octets [] all = tt
 object_octets (d ∷ ds) all = by (nat_eq d.rec 8) (object_octets ds all.1)
   where
     by : (b : Bool) → Octets (joined (of_record 8 ds)) → Octets (joined (cond b (d ∷ of_record 8 ds) (of_record 8 ds)))
-    by true more = join_octets d.octets (joined (of_record 8 ds)) all.0 more
+    by true more = octets_append d.octets (joined (of_record 8 ds)) all.0 more
     by false more = more
 
 -- ---- all of it

@@ -3,13 +3,15 @@ use Rattle.std.proofs.Common.{◌≡◌, ℕ, ◌<◌, ◌≤◌, Bool, List, []
 use Rattle.std.specs.List.{AllByRecursion}
 use Rattle.iim_dataset.specs.Format.Languages.{IsAlive}
 use Rattle.iim_dataset.specs.Format.Octets.{greatest_size}
+use Rattle.iim_dataset.proofs.Lists.{some_of}
 use Rattle.iim_object.specs.Laws.Living.{NoClash, HasDuties, Fit, MeetsAnnounced}
 use Rattle.iim_object.specs.Format.Objects.{SubfileBegun, ObjectLanguage, number_tokens}
 use Rattle.iim_object.specs.Format.Places.{Ending, NotEnded, Ended, ConfirmedAs, HasBoth, ending_tokens}
 use Rattle.iim_object.specs.Format.Sizes.{Stated, AreStated, number_at, mode_number}
+use Rattle.iim_object.proofs.Bounded.{mode_known}
 use Rattle.iim_places.specs.Plain.{ObjectsArePossibleAlike}
 use Rattle.iim_places.specs.Laws.Lower.{SizeLaws}
-use Rattle.iim_places.proofs.PlainPlaces.{some_of, known_of, low_mode}
+use Rattle.iim_places.proofs.PlainPlaces.{low_mode}
 use Rattle.iim_places.proofs.SameRecords.{SameNumbers, same_numbers}
 
 clash_like : (ps qs : List Stated) → SameNumbers ps qs → NoClash ps → NoClash qs
@@ -44,7 +46,7 @@ duties_of ps stated both =
     let (n, mode) = some_of (number_at 10 ps) both.0 in
     let (size, largest) = some_of (number_at 20 ps) both.1 in
     let low : n ≤ 1 = subst (λ (o : Option ℕ). IfSome o (λ k. k ≤ 1)) mode (low_mode ps stated.each) in
-    let (known, same) = known_of n low in
+    let (known, same) = mode_known n low in
     record { known = known; size = size; mode = mode ∙ ap Some same; largest = largest }
 
 abbrev pub Lives : List Stated → List ℕ → Ending → Type 0

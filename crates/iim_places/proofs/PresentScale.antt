@@ -7,15 +7,18 @@ use Rattle.iim_dataset.specs.Format.Octets.{Octets, number, within, greatest_siz
 use Rattle.iim_dataset.specs.Format.Datasets.{Dataset, of_record}
 use Rattle.iim_dataset.specs.Format.Languages.{IsAlive}
 use Rattle.iim_dataset.specs.Format.Splits.{Begun, InTag, InData}
+use Rattle.iim_dataset.proofs.Lists.{within_most_and}
 use Rattle.iim_tables.specs.Format.Kinds.{is_mode, is_size_from}
 use Rattle.iim_tables.specs.Format.Numbers.{size_octets}
 use Rattle.iim_tables.specs.Format.Rows.{table, row_of, Meets}
 use Rattle.iim_tables.specs.Format.Records.{IsGoodDataset}
+use Rattle.iim_tables.proofs.GoodDatasets.{none_meets}
 use Rattle.iim_fields.specs.Format.Records.{AreRecords, AreSections, records}
 use Rattle.iim_object.specs.Format.Objects.{ObjectToken, SubfileBegun, ObjectLanguage, number_tokens}
 use Rattle.iim_object.specs.Format.Places as objects
 use Rattle.iim_object.specs.Format.Sizes.{Stated, InRow}
 use Rattle.iim_object.specs.Format.Within.{TokensWithin, LanguageWithin}
+use Rattle.iim_object.proofs.Bounded.{within_append, begun_within, row_low}
 use Rattle.iim_places.specs.States.Possible.{Possible, widest}
 use Rattle.iim_places.specs.States.Scales.{FitsRow, SectionsIn, SectionsLiveIn, HaveRoomIn, PossibleAt, place_in}
 use Rattle.iim_places.specs.Laws.Places.{PresentScaleSaysNothingMore, present_scale}
@@ -23,9 +26,9 @@ use Rattle.iim_places.specs.Format.Tickets.{Place}
 use Rattle.iim_places.specs.Format.Tokens.{MayContinue}
 use Rattle.iim_places.proofs.Following.{within_of}
 use Rattle.iim_places.proofs.SmallPlaces.{may_continue, rows_of}
-use Rattle.iim_places.proofs.SmallSections.{most, no_row, told_in}
+use Rattle.iim_places.proofs.SmallSections.{told_in}
 use Rattle.iim_places.proofs.Tickets.{total_of}
-use Rattle.iim_places.proofs.WerePossible.{append_within, subfiles_within}
+use Rattle.iim_places.proofs.WerePossible.{room_in}
 
 -- ---- rows
 
@@ -36,7 +39,7 @@ row_size : (least : ℕ) (xs : List ℕ) → (within 1 size_octets (length xs) &
 row_size least xs h =
     let parts = and_parts (within 1 size_octets (length xs)) (is_size_from least xs) h in
     let inner = and_parts (within 1 size_octets (length xs)) (within least greatest_size (number xs)) parts.1 in
-    (most 1 size_octets (length xs) (is_size_from least xs) h, leb-true (number xs) greatest_size (and_parts (nat_le least (number xs)) (nat_le (number xs) greatest_size) inner.1).1)
+    (within_most_and 1 size_octets (length xs) (is_size_from least xs) h, leb-true (number xs) greatest_size (and_parts (nat_le least (number xs)) (nat_le (number xs) greatest_size) inner.1).1)
 
 one_octet : (xs : List ℕ) → Octets xs → length xs ≤ 1 → IsSized xs
 one_octet [] all few = (omega arith, omega arith)
@@ -46,14 +49,14 @@ one_octet (a ∷ b ∷ xs) all few = absurd (omega (arith, few))
 seven_fits : (set : ℕ) (xs : List ℕ) → Octets xs → Meets 7 set xs → IsSized xs
 unfolding row_of table
 seven_fits set xs all = elim (eqb_tells 10 set) [
-  | inl is ↦ subst (λ (k : ℕ). Meets 7 k xs → IsSized xs) is.1 (λ h. one_octet xs all (most 1 1 (length xs) (is_mode xs) h))
+  | inl is ↦ subst (λ (k : ℕ). Meets 7 k xs → IsSized xs) is.1 (λ h. one_octet xs all (within_most_and 1 1 (length xs) (is_mode xs) h))
   | inr not10 ↦ elim (eqb_tells 20 set) [
     | inl is ↦ subst (λ (k : ℕ). Meets 7 k xs → IsSized xs) is.1 (λ h. row_size 1 xs h)
     | inr not20 ↦ elim (eqb_tells 90 set) [
       | inl is ↦ subst (λ (k : ℕ). Meets 7 k xs → IsSized xs) is.1 (λ h. row_size 0 xs h)
       | inr not90 ↦ elim (eqb_tells 95 set) [
         | inl is ↦ subst (λ (k : ℕ). Meets 7 k xs → IsSized xs) is.1 (λ h. row_size 0 xs h)
-        | inr not95 ↦ λ h. absurd (no_row 7 set xs (rw (not10.0, not20.0, not90.0, not95.0) refl) h)
+        | inr not95 ↦ λ h. absurd (none_meets 7 set xs (rw (not10.0, not20.0, not90.0, not95.0) refl) h)
       ]
     ]
   ]
@@ -63,14 +66,14 @@ nine_fits : (set : ℕ) (xs : List ℕ) → Meets 9 set xs → IsSized xs
 unfolding row_of table
 nine_fits set xs = elim (eqb_tells 10 set) [
   | inl is ↦ subst (λ (k : ℕ). Meets 9 k xs → IsSized xs) is.1 (λ h. row_size 0 xs h)
-  | inr not10 ↦ λ h. absurd (no_row 9 set xs (rw not10.0 refl) h)
+  | inr not10 ↦ λ h. absurd (none_meets 9 set xs (rw not10.0 refl) h)
 ]
 
 eight_fits : (set : ℕ) (xs : List ℕ) → Meets 8 set xs → length xs ≤ greatest_size
 unfolding row_of table
 eight_fits set xs = elim (eqb_tells 10 set) [
-  | inl is ↦ subst (λ (k : ℕ). Meets 8 k xs → length xs ≤ greatest_size) is.1 (λ h. most 0 greatest_size (length xs) true h)
-  | inr not10 ↦ λ h. absurd (no_row 8 set xs (rw not10.0 refl) h)
+  | inl is ↦ subst (λ (k : ℕ). Meets 8 k xs → length xs ≤ greatest_size) is.1 (λ h. within_most_and 0 greatest_size (length xs) true h)
+  | inr not10 ↦ λ h. absurd (none_meets 8 set xs (rw not10.0 refl) h)
 ]
 
 good_fits : (d : Dataset) → IsGoodDataset d → FitsRow present_scale d
@@ -95,14 +98,9 @@ sections_in ds (more, are) = (more, (are, records_fit records (ds ++ more) are))
 
 -- ---- the object
 
-in_row : (p : Stated) → InRow p → p.number ≤ greatest_size
-in_row p (inl m) = let low = m.1 in omega (arith, low)
-in_row p (inr (inl m)) = m.2
-in_row p (inr (inr m)) = m.1
-
 stated_in : (ps : List Stated) → AllByRecursion InRow ps → TokensWithin greatest_size (number_tokens ps)
 stated_in [] all = tt
-stated_in (p ∷ ps) all = (in_row p all.0, stated_in ps all.1)
+stated_in (p ∷ ps) all = (row_low p all.0, stated_in ps all.1)
 
 language_in : (tokens : List ObjectToken) → ObjectLanguage tokens → LanguageWithin greatest_size tokens
 language_in tokens lang =
@@ -110,8 +108,8 @@ language_in tokens lang =
     let fits = lang.agree.total_fits in (
       lang,
       subst (TokensWithin greatest_size) (sym lang.tokens_are)
-          (append_within greatest_size (number_tokens lang.stated) _ (stated_in lang.stated lang.are_stated.each)
-          (append_within greatest_size (map SubfileBegun lang.lengths) _ (subfiles_within greatest_size lang.lengths) (omega (arith, same, fits), tt))),
+          (within_append greatest_size (number_tokens lang.stated) _ (stated_in lang.stated lang.are_stated.each)
+          (within_append greatest_size (map SubfileBegun lang.lengths) _ (begun_within greatest_size lang.lengths) (omega (arith, same, fits), tt))),
     )
 
 alive_in : (tokens : List ObjectToken) → IsAlive ObjectLanguage tokens → IsAlive (LanguageWithin greatest_size) tokens
@@ -122,10 +120,6 @@ alive_in tokens (rest, lang) = (rest, language_in (tokens ++ rest) lang)
 records_at : (ds : List Dataset) (b : Begun) → MayContinue widest ds b → SectionsLiveIn present_scale ds b
 records_at ds (InTag held) goes = sections_in ds goes.records
 records_at ds (InData h taken) goes = let (d, head, alive) = goes.records in (d, head, sections_in (ds ++ d ∷ []) alive)
-
-room_at : (ds : List Dataset) (b : Begun) → MayContinue widest ds b → HaveRoomIn widest ds b
-room_at ds (InTag held) goes = tt
-room_at ds (InData h taken) goes = goes.room
 
 object_at : (ds : List Dataset) (b : Begun) → MayContinue widest ds b → IsAlive (LanguageWithin greatest_size) (objects.tokens_of (place_in ds b))
 object_at ds (InTag held) goes = alive_in (objects.tokens_of (place_in ds (InTag held))) goes.object
@@ -158,7 +152,7 @@ was place p = record {
       reads = is.reads;
       records = records_at is.whole is.begun is.leads_on.sizes;
       within = within_of widest is.whole is.begun is.leads_on.sizes;
-      room = room_at is.whole is.begun is.leads_on.sizes;
+      room = room_in is.whole is.begun is.leads_on.sizes;
       object = object_at is.whole is.begun is.leads_on.sizes;
       message = is.leads_on.message;
       story = is.leads_on.story;

@@ -11,6 +11,7 @@ use Rattle.iim_fields.specs.Format.Alive.{SectionsLive}
 use Rattle.iim_fields.specs.Format.Faults.{is_kept, kept, section_after}
 use Rattle.iim_fields.specs.States.Standing as records
 use Rattle.iim_fields.specs.declared.limits.Limits.{Limits}
+use Rattle.iim_fields.proofs.Sections.{head_alive}
 use Rattle.iim_object.specs.Format.Numbers.{place_after_datasets, place_ended, ending_of}
 use Rattle.iim_object.specs.Format.Objects.{ObjectEnded, Confirmed, SubfileBegun}
 use Rattle.iim_object.specs.Format.Places.{NotEnded, place_after}
@@ -43,7 +44,6 @@ use Rattle.iim_places.proofs.Alike.{Fits, told_by}
 use Rattle.iim_places.proofs.LayersLead.{same_stated, present_ended}
 use Rattle.iim_places.proofs.LeadsByLayers.{whole_at, subfile_at, opened_at, confirmed_at, few_heads, few_with_head, nine_ended, one_same}
 use Rattle.iim_places.proofs.PlainOpens.{fit_in_rows, possible_of}
-use Rattle.iim_places.proofs.SamePlace.{less_alive}
 use Rattle.iim_places.proofs.SameRecords.{IsStated, SameRecords, same_shape, stated_after_all, stated_at}
 
 -- by which an unpacker is made of readers
@@ -156,10 +156,6 @@ ending_tag laws limits ds goes false is = opened_at ds (nine_ended laws.layers.o
 
 -- ---- in data
 
-pub same_heads : (n : ℕ) (b : Bool) → (n + (if b then 1 else 0)) - (if b then 1 else 0) ≡ n
-same_heads n true = omega arith
-same_heads n false = omega arith
-
 pub object_data : RestoreLaws → (limits : Limits) (reader : Option State) (ds : List Dataset) (h : Head) (xs : List ℕ) → CanContinueAt limits ds h → nat_eq (section_after ds) 9 ≡ false → length xs < h.count
     → ((p : objects.Place) → IsAt (stated_numbers (numbers_of (of_record 7 ds))) (length (object_of ds ++ (if nat_eq h.rec 8 then xs else []))) (if nat_eq h.rec 8 then Some (h.count, h.count - length xs) else None)
     (length (of_record 8 ds) + (if nat_eq h.rec 8 then 1 else 0)) p → IsPossible (if nat_eq h.rec 9 then place_after p ObjectEnded else p) → reading.StandsAt reader (if nat_eq h.rec 9 then place_after p ObjectEnded else p))
@@ -168,7 +164,7 @@ object_data laws limits reader ds h xs goes open' less = by (nat_eq h.rec 8) (na
     (stated_at laws.layers.opens.answer.follow.objects ds h goes.records goes.within.subfiles goes.room.subfiles) goes.object
   where
     none : ending_of (of_record 9 ds) ≡ NotEnded
-    none = nine_ended laws.layers.opens ds (less_alive ds h goes.records) open'
+    none = nine_ended laws.layers.opens ds (head_alive ds h goes.records) open'
 
     at : Bool → Bool → objects.Place
     at b c = if b then place_after (place_after_datasets ds) (SubfileBegun h.count) else if c then place_ended ds else place_after_datasets ds

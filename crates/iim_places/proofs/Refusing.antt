@@ -2,17 +2,20 @@
 use Rattle.std.proofs.Common.{◌≡◌, ℕ, ◌+◌, ◌≤◌, ◌&&◌, ◌||◌, ◌⊎◌, not, nat_lt, nat_eq, if◌then◌else◌, Bool, true, false, List, [], ◌∷◌, ◌++◌, length, sum, Option, Some, None, refl, ap, sym, subst, ◌∙◌, inl, inr, arith, append_assoc}
 use Rattle.std.specs.Option.{option_or, option_map}
 use Rattle.std.proofs.lemmas.Bool.Decides.{eqb_tells}
+use Rattle.std.proofs.lemmas.Bool.{ne_eqb}
 use Rattle.iim_dataset.specs.Format.Octets.{Octets, number}
 use Rattle.iim_dataset.specs.Format.Completing.{CompletesData}
 use Rattle.iim_dataset.specs.Format.Datasets.{Dataset, head_of, of_record as of_fields, of_record, count_octets}
 use Rattle.iim_dataset.specs.Format.Splits.{Begun, InTag, InData, Reads}
 use Rattle.iim_dataset.specs.declared.head.Head.{Head}
+use Rattle.iim_dataset.proofs.Lists.{sum_append}
 use Rattle.iim_fields.specs.Format.Alive.{SectionsLive, SectionsLiveAt}
 use Rattle.iim_fields.specs.Format.Faults.{head_fault, joined, kept, section_after, room_fault, value_fault}
 use Rattle.iim_fields.specs.Format.Records.{AreSections}
 use Rattle.iim_tables.specs.Format.Records.{occurs}
 use Rattle.iim_fields.specs.Format.Values.{data_of, tells_number}
 use Rattle.iim_fields.specs.declared.limits.Limits.{Limits}
+use Rattle.iim_fields.proofs.Sections.{head_alive}
 use Rattle.iim_object.specs.Format.Numbers.{place_after_datasets, place_ended}
 use Rattle.iim_object.specs.Format.Causes.{cause_at, confirmed_cause, end_cause, number_cause, subfile_cause}
 use Rattle.iim_object.specs.Format.Objects.{Confirmed, NumberRead, ObjectEnded, ObjectToken, SubfileBegun}
@@ -38,10 +41,10 @@ use Rattle.iim_places.proofs.Continuing.{not_both, on_open, unfinished_as}
 use Rattle.iim_places.proofs.Following.{object_lives_after, with_data}
 use Rattle.iim_places.proofs.Onward.{AreData, Pair, ReadAlike, all_as, given_as, head_is, lives_as}
 use Rattle.iim_places.proofs.PlainOpens.{possible_of}
-use Rattle.iim_places.proofs.SamePlace.{SameData, SameMessage, less_alive, value_as}
+use Rattle.iim_places.proofs.SamePlace.{SameData, SameMessage, value_as}
 use Rattle.iim_places.proofs.SameRecords.{SameNumbers, stated_after_all}
 use Rattle.iim_places.proofs.Taking.{each_good, good_at}
-use Rattle.iim_places.proofs.Tickets.{count_of, sum_more}
+use Rattle.iim_places.proofs.Tickets.{count_of}
 use Rattle.iim_places.proofs.Twins.{AreBounded, Twins, at_as, after_as, bounded_at, eights, follows_as, goes_at_as, numbers_on, room_as, same_tail, sevens, twins_on}
 
 -- ---- the other way round
@@ -181,7 +184,7 @@ place_told ds es h twins = by (nat_eq h.rec 8) (nat_eq h.rec 9)
     at b c xs = if b then place_after (place_after_datasets xs) (SubfileBegun h.count) else if c then place_ended xs else place_after_datasets xs
 
     by : (b c : Bool) → SameNumbers (at b c ds).stated (at b c es).stated × (sum (at b c ds).lengths ≡ sum (at b c es).lengths)
-    by true c = (twins.numbers, sum_more (eights ds) (h.count ∷ []) ∙ ap (λ (n : ℕ). n + sum (h.count ∷ [])) twins.octets ∙ sym (sum_more (eights es) (h.count ∷ [])))
+    by true c = (twins.numbers, sum_append (eights ds) (h.count ∷ []) ∙ ap (λ (n : ℕ). n + sum (h.count ∷ [])) twins.octets ∙ sym (sum_append (eights es) (h.count ∷ [])))
     by false true = (twins.numbers, twins.octets)
     by false false = (twins.numbers, twins.octets)
 
@@ -319,14 +322,8 @@ inside laws limits ds es h goes there twins lives = record {
   there = there.records;
   few = goes.within.subfiles;
   few_there = there.within.subfiles;
-  bounded = bounded_of laws ds (less_alive ds h goes.records) goes.within.subfiles lives;
+  bounded = bounded_of laws ds (head_alive ds h goes.records) goes.within.subfiles lives;
 }
-
-not_eight : (n : ℕ) → (n ≡ 8 → ⊥) → nat_eq n 8 ≡ false
-not_eight n other = elim (eqb_tells n 8) [
-  | inl same ↦ absurd (other same.1)
-  | inr apart ↦ apart.0
-]
 
 -- a value, where it is told what completes its data, and what stands before them
 value_at : OnwardLaws → (limits : Limits) (q : List ℕ) (next : ℕ) (fault : TokenFault) (ds es : List Dataset) (h : Head) (given : List ℕ) → (h.rec ≡ 8 → ⊥) → length given ≡ h.count → CompletesData q next es h given → AllCanContinue limits ds (InData h given)
@@ -356,7 +353,7 @@ bad_value laws limits p q o r on next fault bad = by bad.completes
     by (inl (taken, reads, parts, many)) =
         let goes = fewer_data limits bad.whole h bad.given taken bad.is_value bad.leads_on in
         let read = data_read limits q o r bad.whole h taken (on bad.whole (InData h taken) reads goes) in
-        let same : taken ≡ read.taken = read.are.1 (not_eight h.rec bad.is_value) in
+        let same : taken ≡ read.taken = read.are.1 (ne_eqb h.rec 8 bad.is_value) in
         let unfinished = unfinished_as laws limits bad.whole read.whole (InData h taken) (InData h read.taken) read.pair bad.unfinished in
         value_at laws limits q next fault bad.whole read.whole h bad.given bad.is_value many (inl (read.taken, read.reads, parts ∙ ap (λ (l : List ℕ). l ++ next ∷ []) same, many)) bad.leads_on
         (fewer_data limits read.whole h read.taken bad.given bad.is_value read.pair.there) read.pair.twins unfinished bad.refuses

@@ -1,6 +1,8 @@
 -- What the parts of a ticket say of its place.
 use Rattle.std.proofs.Common.{◌≡◌, ℕ, ◌+◌, ◌-◌, ◌≤◌, nat_eq, cond, if◌then◌else◌, Bool, true, false, List, [], ◌∷◌, length, Option, refl, ap, sym, subst, arith}
+use Rattle.std.proofs.lemmas.List.{nil_from_length}
 use Rattle.iim_dataset.specs.Format.Datasets.{Dataset}
+use Rattle.iim_dataset.proofs.Lists.{nothing_fits}
 use Rattle.iim_fields.specs.Format.Faults.{kept, kept_octets, joined}
 use Rattle.iim_fields.specs.Format.Bounds.{IsWithin}
 use Rattle.iim_fields.specs.declared.limits.Limits.{Limits}
@@ -15,12 +17,9 @@ use Rattle.iim_places.proofs.Plain.{plain_told}
 
 -- ---- what a ticket's parts tell
 
-none_fits : (n : ℕ) → length {A = ℕ} [] ≤ n
-none_fits n = omega arith
-
 -- the told datasets keep the fields
 pub kept_told : (fields : List Dataset) (numbers : List (Option ℕ)) (some ended : Bool) → AreNumbers numbers → AreKept fields → kept (told_datasets fields numbers some ended) ≡ fields
-kept_told fields numbers some ended fit each = (plain_told fields (numbers_told numbers) (cond some 1 0) [] ended each (fits_told numbers fit) (none_fits _)).kept_are
+kept_told fields numbers some ended fit each = (plain_told fields (numbers_told numbers) (cond some 1 0) [] ended each (fits_told numbers fit) (nothing_fits _)).kept_are
 
 pub with_told : (limits : Limits) (section : ℕ) (phase : Phase) (fields : List Dataset) (numbers : List (Option ℕ)) (some ended : Bool) → AreNumbers numbers → AreKept fields
     → IsWithin limits (length (joined fields) + begun_count section phase) (length fields + begun_fields section phase) → AreWithinWith limits section phase (told_datasets fields numbers some ended)
@@ -33,15 +32,11 @@ goes_told limits section phase ds lives within = record {
   within = record { octets_in = let low = within.octets_in in omega (arith, low); fields_in = let low = within.fields_in in omega (arith, low) };
 }
 
-nothing : (xs : List ℕ) → length xs ≡ 0 → xs ≡ []
-nothing [] e = refl
-nothing (x ∷ xs) e = absurd (omega (arith, e))
-
 pub few_in : (section set count left : ℕ) (given : List ℕ) → TagsLead section (DataBegun set count left given) → HasFew (head_of_numbers section set count) given
 few_in section set count left given tags = (
   by (nat_eq section 8) tags.1,
   tags.2,
-  (λ eight. nothing given (subst (λ (b : Bool). length given ≡ (if b then 0 else count - left)) (ap (λ (n : ℕ). nat_eq n 8) eight) tags.1)),
+  (λ eight. nil_from_length given (subst (λ (b : Bool). length given ≡ (if b then 0 else count - left)) (ap (λ (n : ℕ). nat_eq n 8) eight) tags.1)),
 )
   where
     by : (b : Bool) → length given ≡ (if b then 0 else count - left) → length given ≤ count

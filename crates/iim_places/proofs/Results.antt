@@ -26,11 +26,6 @@ pub err_both : {T E : Type 0} (P Q : E → Type 0) (r : Result T E) → IfErr r 
 err_both P Q (Ok x) h k = tt
 err_both P Q (Err e) h k = (h, k)
 
--- what the exit of a `?` returns
-pub handed_on : {T E : Type 0} → (P : E → Type 0) (r : Result T E) (fault : E) → IsErrAnd r (λ e. e ≡ fault) → P fault → IfErr r P
-handed_on P (Ok x) fault is h = tt
-handed_on P (Err e) fault is h = rw is h
-
 pub if_none : {T : Type 0} (P Q : Type 0) (o : Option T) → (P → Q) → IfNone o P → IfNone o Q
 if_none P Q (Some x) f h = tt
 if_none P Q None f h = f h

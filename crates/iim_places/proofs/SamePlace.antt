@@ -12,6 +12,7 @@ use Rattle.iim_dataset.specs.States.Places.{IsKeptAs}
 use Rattle.iim_dataset.specs.declared.head.Head.{Head}
 use Rattle.iim_dataset.specs.declared.place.DatasetPlace.{DatasetPlace}
 use Rattle.iim_dataset.specs.declared.place.DatasetPlace.TheVariants.{Tag, Inside}
+use Rattle.iim_dataset.proofs.Lists.{sum_cons, sum_append}
 use Rattle.iim_fields.specs.Format.Records.{AreSections}
 use Rattle.iim_tables.specs.Format.Records.{occurs}
 use Rattle.iim_fields.specs.States.Orders as orders
@@ -24,6 +25,7 @@ use Rattle.iim_fields.specs.Format.Bounds as records_format
 use Rattle.iim_fields.specs.declared.limits.Limits.{Limits}
 use Rattle.iim_fields.specs.declared.order.Order.{Order}
 use Rattle.iim_fields.specs.declared.check.RecordPlace.{RecordPlace}
+use Rattle.iim_fields.proofs.Sections.{last_more}
 use Rattle.iim_object.specs.Format.Objects.{SubfileBegun}
 use Rattle.iim_object.specs.Format.Places as objects
 use Rattle.iim_object.specs.States.Reading as reading
@@ -44,8 +46,9 @@ use Rattle.iim_places.specs.Format.Open.{object_so_far, section, AllCanContinue,
 use Rattle.iim_places.specs.States.Counts.{are_some}
 use Rattle.iim_places.specs.Format.Tickets.{Phase, TagBegun, DataBegun, AllEnded, phase_of, heads_of}
 use Rattle.iim_places.proofs.Following.{alive_of}
-use Rattle.iim_places.proofs.Lasts.{SplitLast, split_last, present_last, last_sections}
+use Rattle.iim_places.proofs.Lasts.{SplitLast, split_last, last_sections}
 use Rattle.iim_places.proofs.SameRecords.{SameRecords, SameFields, SameNumbers, IsStated, same_more, same_numbers, none_other}
+use Rattle.iim_places.proofs.Tickets.{total_of, count_of}
 
 -- ---- what is begun
 
@@ -99,7 +102,7 @@ same_tells o ds es t is s =
     record { places = t.places; present = t.present ∙ is; seen = λ n. t.seen n ∙ (s.seen (section_after ds) n ∙ ap (λ (r : ℕ). occurs n (of_record r es)) is) }
 
 last_same : (ds es : List Dataset) (d : Dataset) → section_after (ds ++ d ∷ []) ≡ section_after (es ++ d ∷ [])
-last_same ds es d = present_last 0 ds d ∙ sym (present_last 0 es d)
+last_same ds es d = last_more 0 ds d ∙ sym (last_more 0 es d)
 
 checked_as : (check : Option RecordPlace) (ds es : List Dataset) → HasChecked check ds → SectionsLive es → section_after ds ≡ section_after es → SameRecords ds es → HasChecked check es
 checked_as check ds es at alive present same =
@@ -152,20 +155,6 @@ fields_in law fields ds es h taken at alive keeps same = record {
 
 -- ---- the object
 
-sum_cons : (x : ℕ) (xs : List ℕ) → sum (x ∷ xs) ≡ x + sum xs
-sum_cons x xs = sum_by-cons (λ (n : ℕ). n) x xs
-
-total_of : (ds : List Dataset) → sum (lengths_of ds) ≡ length (joined ds)
-total_of [] = refl
-total_of (d ∷ ds) = sum_cons (length d.octets) (lengths_of ds) ∙ (ap (λ n. length d.octets + n) (total_of ds) ∙ sym (length-append d.octets (joined ds)))
-
-count_of : (ds : List Dataset) → length (lengths_of ds) ≡ length ds
-count_of ds = length-map ds (λ (d : Dataset). length d.octets)
-
-sum_more : (xs ys : List ℕ) → sum (xs ++ ys) ≡ sum xs + sum ys
-sum_more [] ys = let none : sum [] ≡ 0 = refl in omega (arith, none)
-sum_more (x ∷ xs) ys = sum_cons x (xs ++ ys) ∙ (let more = sum_more xs ys in let first = sum_cons x xs in omega (arith, more, first))
-
 -- places of the object with the same numbers, heads and octets
 pub record SameObject (p q : objects.Place) : Type 0 where
   pub numbers : SameNumbers p.stated q.stated
@@ -207,7 +196,7 @@ more_object : (p q : objects.Place) (count : ℕ) → SameObject p q → SameObj
 more_object p q count same = record {
   numbers = same.numbers;
   heads = length-append p.lengths (count ∷ []) ∙ ap (λ n. n + 1) same.heads ∙ sym (length-append q.lengths (count ∷ []));
-  octets = sum_more p.lengths (count ∷ []) ∙ ap (λ n. n + sum (count ∷ [])) same.octets ∙ sym (sum_more q.lengths (count ∷ []));
+  octets = sum_append p.lengths (count ∷ []) ∙ ap (λ n. n + sum (count ∷ [])) same.octets ∙ sym (sum_append q.lengths (count ∷ []));
 }
 
 pub object_at_as : (ds es : List Dataset) (h : Head) → SameWhole ds es → SameObject (place_at ds h) (place_at es h)
@@ -244,9 +233,6 @@ same_message laws o r t v m n is (at, leads, saves) (other, goes, keeps) =
 
 -- ---- the parts
 
-pub less_alive : (ds : List Dataset) (h : Head) → SectionsLiveAt ds h → SectionsLive ds
-less_alive ds h (d, is, alive) = ((d ∷ []) ++ alive.0, subst AreSections (append_assoc ds (d ∷ []) alive.0) alive.1)
-
 -- ---- whether an octet has come
 
 pub none_present : (es : List Dataset) → SectionsLive es → section_after es ≡ 0 → es ≡ []
@@ -255,7 +241,7 @@ none_present es alive zero = by (split_last es)
     by : SplitLast es → es ≡ []
     by (inl none) = none
     by (inr (front, l, is)) =
-        let rec : l.rec ≡ 0 = sym (present_last 0 front l) ∙ sym (ap section_after is) ∙ zero in
+        let rec : l.rec ≡ 0 = sym (last_more 0 front l) ∙ sym (ap section_after is) ∙ zero in
         let none : of_record 0 (front ++ l ∷ []) ≡ [] = none_other 0 (refl, (refl, (refl, (refl, (refl, tt))))) (front ++ l ∷ []) (subst SectionsLive is alive) in
         let few = ap length (sym (filter-append (λ (x : Dataset). nat_eq x.rec 0) front (l ∷ [])) ∙ none) in
         let one : length (of_record 0 (l ∷ [])) ≡ 1 = ap (λ (r : ℕ). length (cond (nat_eq r 0) (l ∷ []) [])) rec in

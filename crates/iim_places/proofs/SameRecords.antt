@@ -9,11 +9,14 @@ use Rattle.iim_dataset.specs.Format.Octets.{number}
 use Rattle.iim_dataset.specs.Format.Datasets.{Dataset, head_of, of_record}
 use Rattle.iim_dataset.specs.declared.head.Head.{Head}
 use Rattle.iim_dataset.proofs.Each.{all_front}
+use Rattle.iim_dataset.proofs.Lists.{nothing_of_two}
 use Rattle.iim_tables.specs.Format.Rows.{table, row_of, Meets}
 use Rattle.iim_fields.specs.Format.Records.{AreSections, AreRecords, records}
 use Rattle.iim_tables.specs.Format.Records.{IsGoodDataset, occurs}
+use Rattle.iim_tables.proofs.GoodDatasets.{none_meets}
 use Rattle.iim_fields.specs.Format.Alive.{SectionsLive, SectionsLiveAt}
 use Rattle.iim_fields.specs.Format.Faults.{section_after, kept, is_kept}
+use Rattle.iim_fields.proofs.Sections.{last_more}
 use Rattle.iim_object.specs.Format.Plans.{max_subfiles}
 use Rattle.iim_object.specs.Format.Sizes.{Stated, InRow, AreStated, number_at}
 use Rattle.iim_object.specs.Format.Records.{numbers_of}
@@ -25,7 +28,7 @@ use Rattle.iim_object.specs.States.Saved.{stated_numbers}
 use Rattle.iim_places.specs.States.ByLayers.{one_of_some}
 use Rattle.iim_places.specs.Format.Tokens.{place_at}
 use Rattle.iim_places.specs.Laws.Lower.{ObjectLaws, FollowLaws}
-use Rattle.iim_places.proofs.Lasts.{SplitLast, split_last, present_last}
+use Rattle.iim_places.proofs.Lasts.{SplitLast, split_last}
 use Rattle.iim_places.proofs.Objects.{records_alive}
 use Rattle.iim_places.proofs.Places.{is_one, at_other, at_number, subfile_leads, end_leads}
 
@@ -189,9 +192,6 @@ pub no_other : (n : ℕ) → nat_eq 10 n ≡ false → (row_of 8 n ≡ None) × 
 unfolding row_of table
 no_other n e = (rw e refl, rw e refl)
 
-no_row : (r n : ℕ) (xs : List ℕ) → row_of r n ≡ None → Meets r n xs → ⊥
-no_row r n xs none h = rw none at h
-
 abbrev pub AreTens : List Dataset → Type 0
 AreTens ds = AllByRecursion (λ d. d.set ≡ 10) ds
 
@@ -206,7 +206,7 @@ tens_of r none (d ∷ ds) all = (ten, tens_of r none ds all.1)
     ten : d.set ≡ 10
     ten = elim (eqb_tells 10 d.set) [
       | inl is ↦ sym is.1
-      | inr other ↦ absurd (no_row r d.set d.octets (none d.set other.0) (subst (λ (k : ℕ). Meets k d.set d.octets) all.0.0 all.0.1.meets))
+      | inr other ↦ absurd (none_meets r d.set d.octets (none d.set other.0) (subst (λ (k : ℕ). Meets k d.set d.octets) all.0.0 all.0.1.meets))
     ]
 
 tens_front : (r : ℕ) (xs ys zs : List Dataset) → of_record r (xs ++ ys) ≡ zs → AreTens zs → AreTens (of_record r xs)
@@ -242,10 +242,6 @@ tens_seen n (x ∷ xs) (y ∷ ys) a b e = first x xs a ∙ sym (first y ys b)
 
 -- ---- record 9 is the last
 
-no_first : (xs ys : List Dataset) → xs ++ ys ≡ [] → xs ≡ []
-no_first [] ys e = refl
-no_first (x ∷ xs) ys e = absurd cc
-
 none_nine : FollowLaws → (xs ys : List Dataset) → SectionsLive (xs ++ ys) → (AreSections (xs ++ ys) → ⊥) → of_record 9 ys ≡ []
 none_nine laws xs [] alive open' = refl
 none_nine laws xs (d ∷ ys) alive open' = elim (eqb_tells d.rec 9) [
@@ -253,7 +249,7 @@ none_nine laws xs (d ∷ ys) alive open' = elim (eqb_tells d.rec 9) [
       (let sections : AreSections (xs ++ d ∷ []) = (laws.ends xs d (front_alive xs d ys alive)).0 nine.1 in
       let later : ys ++ alive.0 ≡ [] = laws.sections (xs ++ d ∷ []) (ys ++ alive.0) sections
       (subst AreSections (append_assoc xs (d ∷ ys) alive.0 ∙ sym (append_assoc xs (d ∷ []) (ys ++ alive.0))) alive.1) in
-      absurd (open' (subst (λ (zs : List Dataset). AreSections (xs ++ d ∷ zs)) (sym (no_first ys alive.0 later)) sections)))
+      absurd (open' (subst (λ (zs : List Dataset). AreSections (xs ++ d ∷ zs)) (sym ((nothing_of_two ys alive.0 later).0)) sections)))
   | inr apart ↦
       (let parts = append_assoc xs (d ∷ []) ys in
       ap (λ (b : Bool). cond b (d ∷ of_record 9 ys) (of_record 9 ys)) apart.0
@@ -276,7 +272,7 @@ nines laws ds alive = by (split_last ds)
         let more : AreSections (front ++ d ∷ alive.0) = subst AreSections parts alive.1 in
         let none : of_record 9 front ≡ [] = none_nine laws [] front ((d ∷ alive.0), more) (λ s. let bad : d ∷ alive.0 ≡ [] = laws.sections front (d ∷ alive.0) s more in absurd cc) in
         ap length (filter-append (λ (x : Dataset). nat_eq x.rec 9) front (d ∷ [])) ∙ ap (λ (xs : List Dataset). length (xs ++ of_record 9 (d ∷ []))) none
-        ∙ length_one (nat_eq d.rec 9) d ∙ ap (λ (r : ℕ). cond (nat_eq r 9) 1 0) (sym (present_last 0 front d))
+        ∙ length_one (nat_eq d.rec 9) d ∙ ap (λ (r : ℕ). cond (nat_eq r 9) 1 0) (sym (last_more 0 front d))
 
     by : SplitLast ds → CountsNines ds
     by (inl none) = subst CountsNines (sym none) refl
@@ -298,7 +294,7 @@ none_of r (k ∷ rs) ds (run, rest, parts, good, later) apart =
 
 pub none_other : (r : ℕ) → AllByRecursion (λ k. nat_eq k r ≡ false) records → (ds : List Dataset) → SectionsLive ds → of_record r ds ≡ []
 none_other r apart ds alive =
-    no_first (of_record r ds) (of_record r alive.0) (sym (filter-append (λ (x : Dataset). nat_eq x.rec r) ds alive.0) ∙ none_of r records (ds ++ alive.0) alive.1 apart)
+    (nothing_of_two (of_record r ds) (of_record r alive.0) (sym (filter-append (λ (x : Dataset). nat_eq x.rec r) ds alive.0) ∙ none_of r records (ds ++ alive.0) alive.1 apart)).0
 
 -- ---- all records
 

@@ -8,6 +8,7 @@ use Rattle.iim_dataset.specs.Format.Languages.{IsAlive}
 use Rattle.iim_dataset.specs.Format.Splits.{Begun, InTag, InData, IsBegun, Reads}
 use Rattle.iim_dataset.specs.Format.Tags.{BeginsTag}
 use Rattle.iim_dataset.specs.declared.head.Head.{Head}
+use Rattle.iim_dataset.proofs.Lists.{sum_append}
 use Rattle.iim_fields.specs.Format.Faults.{section_after}
 use Rattle.iim_fields.specs.Format.Values.{tells_number}
 use Rattle.iim_object.specs.Format.Numbers.{place_after_datasets, place_ended}
@@ -28,7 +29,7 @@ use Rattle.iim_places.specs.Format.Tokens.{MayContinue}
 use Rattle.iim_places.proofs.Answering.{one_reading, reads_envelope}
 use Rattle.iim_places.proofs.Bounds.{object_total}
 use Rattle.iim_places.proofs.SmallTags.{wider_tag}
-use Rattle.iim_places.proofs.Tickets.{total_of, sum_more, sum_one}
+use Rattle.iim_places.proofs.Tickets.{total_of, sum_one}
 
 -- ---- spellings with shorter counts
 
@@ -110,7 +111,7 @@ taken_by : (b c : Bool) (ds : List Dataset) (count : ℕ) (taken : List ℕ) →
     → sum (if b then objects.place_after (place_after_datasets ds) (SubfileBegun count) else if c then place_ended ds else place_after_datasets ds).lengths ≤ greatest_size_before
     → length (object_of ds ++ (if b then taken else [])) ≤ greatest_size_before
 taken_by true c ds count taken few low =
-    let sums = sum_more (lengths_of (of_record 8 ds)) (count ∷ []) in
+    let sums = sum_append (lengths_of (of_record 8 ds)) (count ∷ []) in
     let one = sum_one count in
     let total = total_of (of_record 8 ds) in
     let both = length-append (object_of ds) taken in
@@ -127,7 +128,7 @@ left_by : (ds : List Dataset) (count : ℕ) (taken : List ℕ) (b c : Bool) → 
     → sum (if b then objects.place_after (place_after_datasets ds) (SubfileBegun count) else if c then place_ended ds else place_after_datasets ds).lengths ≤ greatest_size_before
     → length (object_of ds ++ (if b then taken else [])) + (count - length taken) ≤ greatest_size_before
 left_by ds count taken true c is few low =
-    let sums = sum_more (lengths_of (of_record 8 ds)) (count ∷ []) in
+    let sums = sum_append (lengths_of (of_record 8 ds)) (count ∷ []) in
     let one = sum_one count in
     let total = total_of (of_record 8 ds) in
     let both = length-append (object_of ds) taken in

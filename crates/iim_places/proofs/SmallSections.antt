@@ -7,8 +7,10 @@ use Rattle.std.proofs.lemmas.List.{map-append}
 use Rattle.iim_dataset.specs.Format.Octets.{Octets, IsOctet, number, within}
 use Rattle.iim_dataset.specs.Format.Datasets.{Dataset}
 use Rattle.iim_dataset.specs.Format.Languages.{IsAlive}
+use Rattle.iim_dataset.proofs.Lists.{within_most_and}
 use Rattle.iim_tables.specs.Format.Rows.{table, row_of, Meets}
 use Rattle.iim_tables.specs.Format.Records.{IsGoodDataset, IsGoodRecord, occurs, occurrences, mandatory}
+use Rattle.iim_tables.proofs.GoodDatasets.{none_meets}
 use Rattle.iim_fields.specs.Format.Records.{AreRecords, AreSections, records}
 use Rattle.iim_fields.specs.Format.Values.{tells_number}
 use Rattle.iim_places.specs.States.Scales.{FitsRow, SectionsIn, first_scale}
@@ -34,24 +36,17 @@ told_in r is = elim (or_cases (nat_eq r 7) (nat_eq r 9) is) [ inl seven ↦ inl 
 above : (m n : ℕ) → nat_le m n ≡ false → n < m
 above m n is = grind (arith, nat_tests)
 
--- the row of a number that is too long takes a short one
-pub most : (low high n : ℕ) (kind : Bool) → (within low high n && kind) ≡ true → n ≤ high
-most low high n kind h = leb-true n high (and_parts (nat_le low n) (nat_le n high) (and_parts (within low high n) kind h).0).1
-
-pub no_row : (rec set : ℕ) (xs : List ℕ) → row_of rec set ≡ None → Meets rec set xs → ⊥
-no_row rec set xs is h = rw is at h
-
 seven_takes : (set : ℕ) (xs : List ℕ) → Meets 7 set xs → 4 < length xs → Meets 7 set short_number
 unfolding row_of table
 seven_takes set xs = elim (eqb_tells 10 set) [
-  | inl is ↦ subst (λ (k : ℕ). Meets 7 k xs → 4 < length xs → Meets 7 k short_number) is.1 (λ h long. absurd (let one = most 1 1 (length xs) _ h in omega (arith, one, long)))
+  | inl is ↦ subst (λ (k : ℕ). Meets 7 k xs → 4 < length xs → Meets 7 k short_number) is.1 (λ h long. absurd (let one = within_most_and 1 1 (length xs) _ h in omega (arith, one, long)))
   | inr not10 ↦ elim (eqb_tells 20 set) [
     | inl is ↦ subst (λ (k : ℕ). Meets 7 k xs → 4 < length xs → Meets 7 k short_number) is.1 (λ h long. refl)
     | inr not20 ↦ elim (eqb_tells 90 set) [
       | inl is ↦ subst (λ (k : ℕ). Meets 7 k xs → 4 < length xs → Meets 7 k short_number) is.1 (λ h long. refl)
       | inr not90 ↦ elim (eqb_tells 95 set) [
         | inl is ↦ subst (λ (k : ℕ). Meets 7 k xs → 4 < length xs → Meets 7 k short_number) is.1 (λ h long. refl)
-        | inr not95 ↦ λ h long. absurd (no_row 7 set xs (rw (not10.0, not20.0, not90.0, not95.0) refl) h)
+        | inr not95 ↦ λ h long. absurd (none_meets 7 set xs (rw (not10.0, not20.0, not90.0, not95.0) refl) h)
       ]
     ]
   ]
@@ -61,14 +56,14 @@ nine_takes : (set : ℕ) (xs : List ℕ) → Meets 9 set xs → Meets 9 set shor
 unfolding row_of table
 nine_takes set xs = elim (eqb_tells 10 set) [
   | inl is ↦ subst (λ (k : ℕ). Meets 9 k xs → Meets 9 k short_number) is.1 (λ h. refl)
-  | inr not10 ↦ λ h. absurd (no_row 9 set xs (rw not10.0 refl) h)
+  | inr not10 ↦ λ h. absurd (none_meets 9 set xs (rw not10.0 refl) h)
 ]
 
 eight_takes : (set : ℕ) (xs : List ℕ) → Meets 8 set xs → Meets 8 set []
 unfolding row_of table
 eight_takes set xs = elim (eqb_tells 10 set) [
   | inl is ↦ subst (λ (k : ℕ). Meets 8 k xs → Meets 8 k []) is.1 (λ h. refl)
-  | inr not10 ↦ λ h. absurd (no_row 8 set xs (rw not10.0 refl) h)
+  | inr not10 ↦ λ h. absurd (none_meets 8 set xs (rw not10.0 refl) h)
 ]
 
 low_four : (xs : List ℕ) → Octets xs → length xs ≤ 4 → number xs ≤ 4294967295

@@ -5,11 +5,12 @@ use Rattle.std.specs.Int.{w64, from_be_bytes, to_be_bytes}
 use Rattle.std.specs.List.{AllByRecursion, flat_map}
 use Rattle.std.proofs.lemmas.Nat.{from_be_bytes-to_be_bytes_8}
 use Rattle.iim_dataset.specs.Format.Datasets.{Dataset}
+use Rattle.iim_dataset.specs.Parting.{same_front}
 use Rattle.iim_places.specs.Format.Tickets.{Phase, TagBegun, DataBegun, AllEnded, ticket_name, present_version, width, four, wide, phase_octets, field_octets, fields_octets, number_octets, text_octets}
 use Rattle.iim_places.specs.States.Begins.{IsLongField, AreFields, AreNumbersIn, AreTexts, IsSizeIn, IsShort, IsWide}
 use Rattle.iim_places.specs.TicketFields.{HoldsFields}
 use Rattle.iim_places.specs.Shortfalls.{BeginsWithNone, BeginsWithFewer, FieldsBefore, IsFour}
-use Rattle.iim_places.specs.FieldLaws.{first_same, rest_same, fronts, one_four, one_field, some_octets, same_fields}
+use Rattle.iim_places.specs.FieldLaws.{first_same, rest_same, one_four, one_field, some_octets, same_fields}
 use Rattle.iim_places.specs.Format.TicketForm.{IsVersion, IsPhase, IsFaultOf, HasForm, Split, SplitsTicket, split_octets, came}
 use Rattle.iim_places.specs.Laws.Tickets.{TicketsHaveOneSplit}
 use Rattle.iim_places.specs.TicketParts.{AreNoMessage, AreNoBody, BeginsWithNoData, body_octets, message_parts}
@@ -23,7 +24,7 @@ HasOne Is spelled = (x y : _) (a b : List ℕ) → Is x → Is y → spelled x +
 
 one_eight : (m n : ℕ) (a b : List ℕ) → m < 2 ^ 64 → n < 2 ^ 64 → to_be_bytes w64 m ++ a ≡ to_be_bytes w64 n ++ b → (m ≡ n) × (a ≡ b)
 one_eight m n a b hm hn e =
-    let both = fronts (to_be_bytes w64 m) (to_be_bytes w64 n) a b refl e in
+    let both = same_front (to_be_bytes w64 m) (to_be_bytes w64 n) a b refl e in
     (sym (from_be_bytes-to_be_bytes_8 m hm) ∙ ap (from_be_bytes w64) both.0 ∙ from_be_bytes-to_be_bytes_8 n hn, both.1)
 
 -- a number as wide as the version has it
@@ -35,7 +36,7 @@ one_wide version m n a b = by (nat_eq version 1)
     by false hm hn e = one_eight m n a b (omega (arith, hm)) (omega (arith, hn)) e
 
 pub one_text : (x y a b : List ℕ) → text_octets x ++ a ≡ text_octets y ++ b → (x ≡ y) × (a ≡ b)
-one_text x y a b e = fronts x y a b (first_same e) (rest_same e)
+one_text x y a b e = same_front x y a b (first_same e) (rest_same e)
 
 pub one_short : HasOne IsShort text_octets
 one_short x y a b hx hy e = one_text x y a b e
@@ -153,7 +154,7 @@ cut_fields count octets rest front back before is_front is_back =
     let some = ap length is_front ∙ length-take at octets in
     let many = length-append (flat_map field_octets before.datasets) rest in
     let is = ap length before.spelled in
-    let both = fronts front (flat_map field_octets before.datasets) back rest (omega (arith, some, is, many)) (all ∙ before.spelled) in
+    let both = same_front front (flat_map field_octets before.datasets) back rest (omega (arith, some, is, many)) (all ∙ before.spelled) in
     (before, both.0, both.1)
 
 pub cut_held : (count : ℕ) (octets rest front back : List ℕ) → FieldsBefore count octets rest → front ≡ take (length octets - length rest) octets → back ≡ drop (length octets - length rest) octets → HoldsFields front
@@ -205,7 +206,7 @@ one_phase version section (DataBegun s m l t) (DataBegun u n k v) a b hx hy e =
     let left = one_wide version l k (t ++ a) (v ++ b) (no_wider version l m hx.1 hx.0) (no_wider version k n hy.1 hy.0) count.1 in
     let c = count.0 in
     let d = left.0 in
-    let taken = fronts t v a b (hx.2 ∙ (let same : came section m l ≡ came section n k = cc in same) ∙ sym hy.2) left.1 in
+    let taken = same_front t v a b (hx.2 ∙ (let same : came section m l ≡ came section n k = cc in same) ∙ sym hy.2) left.1 in
     ((λ i. DataBegun (set i) (c i) (d i) (taken.0 i)), taken.1)
 one_phase version section (DataBegun set count left taken) AllEnded a b hx hy e = absurd (let bad = first_same e in omega (arith, bad))
 one_phase version section AllEnded (TagBegun k) a b hx hy e = absurd (let bad = first_same e in omega (arith, bad))

@@ -11,6 +11,7 @@ use Rattle.wire_story.specs.Laws.Texts.{StoriesLiveAsTextsSoFar, StoriesEndAsTex
 use Rattle.wire_story.specs.States.Reading.{IsLoneReturn}
 use Rattle.wire_story.specs.Format.Texts.{IsTextSoFar, Holds, is_line_octet, line_end}
 use Rattle.wire_story.specs.Format.Tokens.{OctetOrEnd, Octet, End, StoryLanguage}
+use Rattle.wire_story.proofs.SoFar.{so_far_two}
 use Rattle.wire_message.specs.Format.Layers.{StoryLivesIn, after_stx, text_so_far}
 use Rattle.wire_message.specs.Format.Causes.{StoryDiesWith}
 use Rattle.iim_places.specs.Format.Conditions.{IsInText}
@@ -92,10 +93,6 @@ no_death laws o b held dies other holds =
 
 -- ---- texts so far with one octet more
 
-few_held : (x : List ℕ) (lines : List (List ℕ)) (line : List ℕ) (held : ℕ) → IsTextSoFar x lines line held → held ≤ 2
-few_held x [] line held is = is.1
-few_held x (first ∷ lines) line held (good, returns, few, rest, parts, more) = few_held rest lines line held more
-
 -- the front of a text so far, and its rest with more
 on_rest : (first x rest more : List ℕ) (returns : ℕ) → x ≡ first ++ (line_end returns ++ rest) → x ++ more ≡ first ++ (line_end returns ++ (rest ++ more))
 on_rest first x rest more returns parts =
@@ -141,7 +138,7 @@ lone_return laws o b held dies some (lines, line, so_far) = (
   (λ feed. no_death laws o b 0 dies (λ three. let bad : 3 ≡ 10 = sym three ∙ feed in omega (arith, bad))
       (subst (λ (n : ℕ). Holds (text_so_far o ++ n ∷ []) 0) (sym feed) (lines ++ line ∷ [], [], feed_after (text_so_far o) lines line held so_far))),
   (λ return'. elim (cases_lt held 2) [
-    | inr full ↦ (let few = few_held (text_so_far o) lines line held so_far in omega (arith, few, full))
+    | inr full ↦ (let few = so_far_two (text_so_far o) lines line held so_far in omega (arith, few, full))
     | inl less ↦
         absurd (no_death laws o b (held + 1) dies (λ three. let bad : 3 ≡ 13 = sym three ∙ return' in omega (arith, bad))
         (subst (λ (n : ℕ). Holds (text_so_far o ++ n ∷ []) (held + 1)) (sym return') (lines, line, return_after (text_so_far o) lines line held less so_far)))

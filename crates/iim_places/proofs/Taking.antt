@@ -3,6 +3,7 @@ use Rattle.std.proofs.Common.{◌≡◌, ℕ, ◌<◌, ◌≤◌, ◌≢◌, Boo
 use Rattle.std.specs.List.{AllByRecursion}
 use Rattle.iim_dataset.specs.Format.Datasets.{Dataset, head_of}
 use Rattle.iim_dataset.specs.declared.head.Head.{Head}
+use Rattle.iim_dataset.proofs.Each.{all_append}
 use Rattle.iim_fields.specs.States.Checks.{TakesHead, HasChecked, HasTaken, IsChecking, IsValueFault}
 use Rattle.iim_fields.specs.Format.Alive.{SectionsLive, SectionsLiveAt}
 use Rattle.iim_fields.specs.Format.Faults.{is_kept}
@@ -13,20 +14,14 @@ use Rattle.iim_fields.specs.Format.Values.{data_of, number_told}
 use Rattle.iim_fields.specs.declared.check.RecordPlace.{RecordPlace}
 use Rattle.iim_fields.specs.declared.fault.FieldFault.{FieldFault}
 use Rattle.iim_fields.specs.declared.limits.Limits.{Limits}
+use Rattle.iim_fields.proofs.Sections.{front_alive}
 use Rattle.iim_places.specs.States.PlainDatasets.{mode_dataset}
 use Rattle.iim_places.specs.States.Possible.{widest}
 use Rattle.iim_places.specs.Taking.{CanContinueWithin, TookDatasets}
 use Rattle.iim_places.proofs.Limits.{kept_first, kept_octets_append, kept_length_append}
-use Rattle.iim_places.proofs.Bounds.{all_join, all_weaker}
+use Rattle.iim_places.proofs.Bounds.{all_weaker}
 
 -- ---- datasets that can continue
-
-pub front_alive : (xs ys : List Dataset) → SectionsLive (xs ++ ys) → SectionsLive xs
-front_alive xs ys (more, are) = (ys ++ more, subst AreSections (append_assoc xs ys more) are)
-
--- datasets can continue where they can with a head
-pub head_alive : (ds : List Dataset) (h : Head) → SectionsLiveAt ds h → SectionsLive ds
-head_alive ds h (d, is, alive) = front_alive ds (d ∷ []) alive
 
 pub front_leads_on : (limits : Limits) (xs ys : List Dataset) → CanContinueWithin limits (xs ++ ys) → CanContinueWithin limits xs
 front_leads_on limits xs ys goes =
@@ -74,11 +69,11 @@ good_only r d h = h.1
 pub each_good : (ds : List Dataset) → AreSections ds → AllByRecursion IsGoodDataset ds
 each_good ds (r1, from2, one, good1, (r2, from7, two, good2, (r7, from8, seven, good7, (r8, from9, eight, good8, (r9, rest, nine, good9, end))))) =
     let last : AllByRecursion IsGoodDataset rest = subst (AllByRecursion IsGoodDataset) (sym end) tt in
-    let a9 : AllByRecursion IsGoodDataset from9 = subst (AllByRecursion IsGoodDataset) (sym nine) (all_join IsGoodDataset r9 rest (all_weaker _ IsGoodDataset (good_only 9) r9 good9.each) last) in
-    let a8 : AllByRecursion IsGoodDataset from8 = subst (AllByRecursion IsGoodDataset) (sym eight) (all_join IsGoodDataset r8 from9 (all_weaker _ IsGoodDataset (good_only 8) r8 good8.each) a9) in
-    let a7 : AllByRecursion IsGoodDataset from7 = subst (AllByRecursion IsGoodDataset) (sym seven) (all_join IsGoodDataset r7 from8 (all_weaker _ IsGoodDataset (good_only 7) r7 good7.each) a8) in
-    let a2 : AllByRecursion IsGoodDataset from2 = subst (AllByRecursion IsGoodDataset) (sym two) (all_join IsGoodDataset r2 from7 (all_weaker _ IsGoodDataset (good_only 2) r2 good2.each) a7) in
-    subst (AllByRecursion IsGoodDataset) (sym one) (all_join IsGoodDataset r1 from2 (all_weaker _ IsGoodDataset (good_only 1) r1 good1.each) a2)
+    let a9 : AllByRecursion IsGoodDataset from9 = subst (AllByRecursion IsGoodDataset) (sym nine) (all_append IsGoodDataset r9 rest (all_weaker _ IsGoodDataset (good_only 9) r9 good9.each) last) in
+    let a8 : AllByRecursion IsGoodDataset from8 = subst (AllByRecursion IsGoodDataset) (sym eight) (all_append IsGoodDataset r8 from9 (all_weaker _ IsGoodDataset (good_only 8) r8 good8.each) a9) in
+    let a7 : AllByRecursion IsGoodDataset from7 = subst (AllByRecursion IsGoodDataset) (sym seven) (all_append IsGoodDataset r7 from8 (all_weaker _ IsGoodDataset (good_only 7) r7 good7.each) a8) in
+    let a2 : AllByRecursion IsGoodDataset from2 = subst (AllByRecursion IsGoodDataset) (sym two) (all_append IsGoodDataset r2 from7 (all_weaker _ IsGoodDataset (good_only 2) r2 good2.each) a7) in
+    subst (AllByRecursion IsGoodDataset) (sym one) (all_append IsGoodDataset r1 from2 (all_weaker _ IsGoodDataset (good_only 1) r1 good1.each) a2)
 
 pub good_at : (ds : List Dataset) (d : Dataset) (more : List Dataset) → AllByRecursion IsGoodDataset ((ds ++ d ∷ []) ++ more) → IsGoodDataset d
 good_at [] d more h = h.0

@@ -4,6 +4,8 @@ use Rattle.std.specs.List.{flat_map}
 use Rattle.iim_dataset.specs.Format.Datasets.{Dataset, SpellsTag, SpellsCount, count_octets, tag_octets}
 use Rattle.iim_dataset.specs.Format.Splits.{InTag, Reads}
 use Rattle.iim_dataset.specs.declared.head.Head.{Head}
+use Rattle.iim_dataset.proofs.Spelled.{tag_length}
+use Rattle.iim_dataset.proofs.Lists.{nothing_fits}
 use Rattle.iim_fields.specs.Format.Faults.{joined, kept}
 use Rattle.wire_message.specs.States.Saved.{saved, LeadsToSaved}
 use Rattle.wire_message.specs.States.SoFar.{IsPlace}
@@ -90,25 +92,22 @@ seven_length a b c d e f g short =
     by : (w a b c d e f g : ℕ) → w ≡ a + b + c + d + e + f + g → a ≤ 1 + 8 → b ≤ 1 + 8 → c ≤ 1 + 1 → d ≤ 1 + 8 → e ≤ 1 + 6 → f ≤ 1 + 64 → g ≤ 1 + 64 → w ≤ 166
     by w a b c d e f g is ha hb hc hd he hf hg = omega (arith, is, ha, hb, hc, hd, he, hf, hg)
 
-none : (n : ℕ) → length {A = ℕ} [] ≤ n
-none n = omega arith
-
 -- The texts of a saved place are short.
 abbrev pub AreShortIn : MessagePlace → Type 0
 AreShortIn m = AreShort m.source.items m.number.items m.priority.items m.category.items m.words.items m.info.items m.trailer.items
 
 pub texts_at : (place : Message) → IsPlace place → AreShortIn (saved place)
-texts_at (at.Filler count) h = seven [] [] [] [] [] [] [] (none 8) (none 8) (none 1) (none 8) (none 6) (none 64) (none 64)
-texts_at (at.Source s) h = seven s.items [] [] [] [] [] [] h.2 (none 8) (none 1) (none 8) (none 6) (none 64) (none 64)
-texts_at (at.Number s n) h = seven s.items n.items [] [] [] [] [] h.0.2 h.1.2 (none 1) (none 8) (none 6) (none 64) (none 64)
-texts_at (at.Priority s n) h = seven s.items n.items [] [] [] [] [] h.0.2 h.1.2 (none 1) (none 8) (none 6) (none 64) (none 64)
-texts_at (at.PriorityRead s n p) (hs, hn, hp) = seven s.items n.items p.items [] [] [] [] hs.2 hn.2 hp.2 (none 8) (none 6) (none 64) (none 64)
-texts_at (at.Category s n p c) (hs, hn, hp, hc) = seven s.items n.items p.items c.items [] [] [] hs.2 hn.2 hp.2 hc.2 (none 6) (none 64) (none 64)
-texts_at (at.Words s n p c w) (hs, hn, hp, hc, hw) = seven s.items n.items p.items c.items w.items [] [] hs.2 hn.2 hp.2 hc.2 hw.2 (none 64) (none 64)
-texts_at (at.Info h) k = seven h.source h.number h.priority h.category h.words h.info [] k.source.2 k.number.2 k.priority.2 k.category.2 k.words.2 k.info.2 (none 64)
-texts_at (at.Gap h count feed) (k, some, few, feeds) = seven h.source h.number h.priority h.category h.words h.info [] k.source.2 k.number.2 k.priority.2 k.category.2 k.words.2 k.info.2 (none 64)
-texts_at (at.Text h (Some held)) (k, more) = seven h.source h.number h.priority h.category h.words h.info [] k.source.2 k.number.2 k.priority.2 k.category.2 k.words.2 k.info.2 (none 64)
-texts_at (at.Text h None) (k, more) = seven h.source h.number h.priority h.category h.words h.info [] k.source.2 k.number.2 k.priority.2 k.category.2 k.words.2 k.info.2 (none 64)
+texts_at (at.Filler count) h = seven [] [] [] [] [] [] [] (nothing_fits 8) (nothing_fits 8) (nothing_fits 1) (nothing_fits 8) (nothing_fits 6) (nothing_fits 64) (nothing_fits 64)
+texts_at (at.Source s) h = seven s.items [] [] [] [] [] [] h.2 (nothing_fits 8) (nothing_fits 1) (nothing_fits 8) (nothing_fits 6) (nothing_fits 64) (nothing_fits 64)
+texts_at (at.Number s n) h = seven s.items n.items [] [] [] [] [] h.0.2 h.1.2 (nothing_fits 1) (nothing_fits 8) (nothing_fits 6) (nothing_fits 64) (nothing_fits 64)
+texts_at (at.Priority s n) h = seven s.items n.items [] [] [] [] [] h.0.2 h.1.2 (nothing_fits 1) (nothing_fits 8) (nothing_fits 6) (nothing_fits 64) (nothing_fits 64)
+texts_at (at.PriorityRead s n p) (hs, hn, hp) = seven s.items n.items p.items [] [] [] [] hs.2 hn.2 hp.2 (nothing_fits 8) (nothing_fits 6) (nothing_fits 64) (nothing_fits 64)
+texts_at (at.Category s n p c) (hs, hn, hp, hc) = seven s.items n.items p.items c.items [] [] [] hs.2 hn.2 hp.2 hc.2 (nothing_fits 6) (nothing_fits 64) (nothing_fits 64)
+texts_at (at.Words s n p c w) (hs, hn, hp, hc, hw) = seven s.items n.items p.items c.items w.items [] [] hs.2 hn.2 hp.2 hc.2 hw.2 (nothing_fits 64) (nothing_fits 64)
+texts_at (at.Info h) k = seven h.source h.number h.priority h.category h.words h.info [] k.source.2 k.number.2 k.priority.2 k.category.2 k.words.2 k.info.2 (nothing_fits 64)
+texts_at (at.Gap h count feed) (k, some, few, feeds) = seven h.source h.number h.priority h.category h.words h.info [] k.source.2 k.number.2 k.priority.2 k.category.2 k.words.2 k.info.2 (nothing_fits 64)
+texts_at (at.Text h (Some held)) (k, more) = seven h.source h.number h.priority h.category h.words h.info [] k.source.2 k.number.2 k.priority.2 k.category.2 k.words.2 k.info.2 (nothing_fits 64)
+texts_at (at.Text h None) (k, more) = seven h.source h.number h.priority h.category h.words h.info [] k.source.2 k.number.2 k.priority.2 k.category.2 k.words.2 k.info.2 (nothing_fits 64)
 texts_at (at.Trailer h t) (k, more) = seven h.source h.number h.priority h.category h.words h.info t.items k.source.2 k.number.2 k.priority.2 k.category.2 k.words.2 k.info.2 more.2
 texts_at (at.AfterEnd h t count) (k, more, few) = seven h.source h.number h.priority h.category h.words h.info t.items k.source.2 k.number.2 k.priority.2 k.category.2 k.words.2 k.info.2 more.2
 
@@ -125,9 +124,6 @@ count_length limit count (high ∷ low ∷ more) (inr h) = omega (arith, h.1, h.
 
 pub tag_length_in : (limit : ℕ) (h : Head) (tag : List ℕ) → SpellsTag limit h tag → length tag ≤ 5 + limit
 tag_length_in limit h tag s = let is = ap length s.parts in let most = count_length limit h.count s.count s.is_count in omega (arith, is, most)
-
-tag_length : (h : Head) (tag : List ℕ) → SpellsTag count_octets h tag → length tag ≤ tag_octets
-tag_length h tag s = tag_length_in count_octets h tag s
 
 pub held_length : (p : List ℕ) (ds : List Dataset) (held : List ℕ) → Reads count_octets p ds (InTag held) → length held ≤ 12
 held_length p ds held r =

@@ -6,6 +6,7 @@ use Rattle.iim_dataset.specs.Format.Datasets.{Dataset, of_record}
 use Rattle.iim_dataset.specs.Format.Splits.{Begun}
 use Rattle.iim_dataset.specs.States.Events.{handed_on}
 use Rattle.iim_dataset.specs.Laws.Datasets.{OctetsAreHandedOnOneWay, EventsTellTheDatasets}
+use Rattle.iim_dataset.proofs.Lists.{sum_cons, sum_append}
 use Rattle.iim_fields.specs.Format.Faults.{joined}
 use Rattle.iim_object.specs.Format.Objects.{SubfileBegun}
 use Rattle.iim_object.specs.Format.Places as objects
@@ -24,19 +25,12 @@ use Rattle.iim_places.specs.Laws.Tickets.{OctetsHaveOneTicket}
 
 -- ---- lengths
 
-sum_cons : (x : ℕ) (xs : List ℕ) → sum (x ∷ xs) ≡ x + sum xs
-sum_cons x xs = sum_by-cons (λ (n : ℕ). n) x xs
-
 pub total_of : (ds : List Dataset) → sum (lengths_of ds) ≡ length (joined ds)
 total_of [] = refl
 total_of (d ∷ ds) = sum_cons (length d.octets) (lengths_of ds) ∙ (ap (λ n. length d.octets + n) (total_of ds) ∙ sym (length-append d.octets (joined ds)))
 
 pub count_of : (ds : List Dataset) → length (lengths_of ds) ≡ length ds
 count_of ds = length-map ds (λ (d : Dataset). length d.octets)
-
-pub sum_more : (xs ys : List ℕ) → sum (xs ++ ys) ≡ sum xs + sum ys
-sum_more [] ys = let none : sum [] ≡ 0 = refl in omega (arith, none)
-sum_more (x ∷ xs) ys = sum_cons x (xs ++ ys) ∙ (let more = sum_more xs ys in let first = sum_cons x xs in omega (arith, more, first))
 
 pub sum_one : (x : ℕ) → sum (x ∷ []) ≡ x
 sum_one x = sum_cons x [] ∙ (let none : sum [] ≡ 0 = refl in omega (arith, none))
@@ -60,7 +54,7 @@ heads_by false false ds count = let same = count_of (of_record 8 ds) in omega (a
 pub taken_by : (b c : Bool) (ds : List Dataset) (taken : List ℕ) (count left : ℕ) → length taken + left ≡ count
     → sum (at_by b c ds count).lengths - (if b then left else 0) ≡ length (object_of ds ++ (if b then taken else []))
 taken_by true c ds taken count left e =
-    let sums = sum_more (lengths_of (of_record 8 ds)) (count ∷ []) in
+    let sums = sum_append (lengths_of (of_record 8 ds)) (count ∷ []) in
     let one = sum_one count in
     let total = total_of (of_record 8 ds) in
     let both = length-append (object_of ds) taken in

@@ -5,14 +5,19 @@ use Rattle.std.specs.Option.{option_or}
 use Rattle.std.proofs.lemmas.List.Elements.{filter-append}
 use Rattle.std.proofs.lemmas.List.Folds.{list_any-append}
 use Rattle.std.proofs.lemmas.Bool.{eqb-true}
+use Rattle.std.proofs.lemmas.Option.{same_Some}
 use Rattle.iim_dataset.specs.Format.Datasets.{Dataset, of_record}
 use Rattle.iim_dataset.specs.declared.head.Head.{Head}
+use Rattle.iim_dataset.proofs.Each.{all_append}
+use Rattle.iim_dataset.proofs.Lists.{sum_append, nothing_of_two}
 use Rattle.iim_fields.specs.Format.Alive.{SectionsLive, SectionsLiveAt}
 use Rattle.iim_fields.specs.Format.Faults.{is_kept, joined, kept, last_record, section_after}
 use Rattle.iim_fields.specs.Format.Records.{AreSections}
 use Rattle.iim_tables.specs.Format.Records.{IsGoodRecord, occurs}
+use Rattle.iim_tables.proofs.GoodDatasets.{occurrences_append}
 use Rattle.iim_fields.specs.Format.Bounds.{IsWithin}
 use Rattle.iim_fields.specs.declared.limits.Limits.{Limits}
+use Rattle.iim_fields.proofs.Sections.{last_of_joined}
 use Rattle.iim_object.specs.Format.Numbers.{ending_of, place_after_datasets, place_ended}
 use Rattle.iim_object.specs.Format.Objects.{SubfileBegun}
 use Rattle.iim_object.specs.Format.Places as objects
@@ -26,28 +31,25 @@ use Rattle.iim_places.specs.Format.Tokens.{place_at, ObjectLives, HaveRoom, CanC
 use Rattle.iim_places.proofs.Bounds.{alive_five}
 use Rattle.iim_places.proofs.LayersLead.{each_small}
 use Rattle.iim_places.proofs.Plain.{numbers_join}
-use Rattle.iim_places.proofs.PlainContinues.{AreGood, MayReplace, all_good, back_ordered, count_join, fewer_by, five_both, five_back, good_with, join_ordered, ordered_sorted, rebuilt}
+use Rattle.iim_places.proofs.PlainContinues.{AreGood, MayReplace, all_good, back_ordered, fewer_by, five_back, good_with, join_ordered, ordered_sorted, rebuilt, good_front}
 use Rattle.iim_places.proofs.PlainOpens.{possible_of}
 use Rattle.iim_places.proofs.PlainPlaces.{IsOrdered, front_ordered, sections_ordered}
 use Rattle.iim_places.proofs.PlainSizes.{duties_of, possible_like}
 use Rattle.iim_places.proofs.SameRecords.{IsStated, SameNumbers, SameRecords, stated_at, stated_after_all}
-use Rattle.iim_places.proofs.Tickets.{count_of, sum_more}
+use Rattle.iim_places.proofs.Tickets.{count_of}
+use Rattle.iim_places.proofs.Limits.{kept_append}
 
 -- ---- what follows datasets to the sections of an envelope
 
 of_both : (r : ℕ) (xs ys : List Dataset) → of_record r (xs ++ ys) ≡ of_record r xs ++ of_record r ys
 of_both r xs ys = filter-append (λ (d : Dataset). nat_eq d.rec r) xs ys
 
-good_front : (r : ℕ) (xs ys : List Dataset) → AreGood r (xs ++ ys) → AreGood r xs
-good_front r [] ys all = tt
-good_front r (x ∷ xs) ys all = (all.0, good_front r xs ys all.1)
-
 -- a record of datasets that can continue may stand for that of others with the same numbers
 may_replace : (r : ℕ) (xs ys later : List Dataset) → ((n : ℕ) → occurs n xs ≡ occurs n ys) → IsGoodRecord r (ys ++ later) → MayReplace r xs ys
 may_replace r xs ys later seen good = record {
   each = good_front r ys later good.each;
   seen = seen;
-  fewer = λ n no'. fewer_by n xs ys (seen n) (let one = good.once n no' in let both = count_join n ys later in omega (arith, one, both));
+  fewer = λ n no'. fewer_by n xs ys (seen n) (let one = good.once n no' in let both = occurrences_append n ys later in omega (arith, one, both));
 }
 
 replaced : (r : ℕ) (ds es later more : List Dataset) → SameRecords ds es → IsGoodRecord r (of_record r (es ++ later)) → IsGoodRecord r (of_record r (ds ++ more)) → IsGoodRecord r (of_record r (es ++ more))
@@ -62,7 +64,7 @@ follows_as ds es (later, alive) present same more sections =
     let there = all_good (es ++ later) alive in
     let order = subst (λ (r : ℕ). IsOrdered r more) present (back_ordered 0 ds more (sections_ordered (ds ++ more) sections)) in
     let ordered = join_ordered 0 es more (front_ordered 0 es later (sections_ordered (es ++ later) alive)) order in
-    let fives = five_both es more (alive_five es (later, alive)) (five_back ds more (alive_five (ds ++ more) ([], subst AreSections (sym (append-nil (ds ++ more))) sections))) in
+    let fives = all_append (λ (d : Dataset). IsFive d.rec) es more (alive_five es (later, alive)) (five_back ds more (alive_five (ds ++ more) ([], subst AreSections (sym (append-nil (ds ++ more))) sections))) in
     rebuilt (es ++ more) (ordered_sorted 0 (es ++ more) ordered fives) (record {
       one = replaced 1 ds es later more same there.one here.one;
       two = replaced 2 ds es later more same there.two here.two;
@@ -72,13 +74,6 @@ follows_as ds es (later, alive) present same more sections =
     })
 
 -- ---- datasets joined
-
-last_on : (r : ℕ) (xs ys : List Dataset) → last_record r (xs ++ ys) ≡ last_record (last_record r xs) ys
-last_on r [] ys = refl
-last_on r (x ∷ xs) ys = last_on x.rec xs ys
-
-kept_both : (xs ys : List Dataset) → kept (xs ++ ys) ≡ kept xs ++ kept ys
-kept_both xs ys = filter-append (λ (d : Dataset). is_kept d.rec) xs ys
 
 seen_both : (n r : ℕ) (xs ys : List Dataset) → occurs n (of_record r (xs ++ ys)) ≡ (occurs n (of_record r xs) || occurs n (of_record r ys))
 seen_both n r xs ys = ap (occurs n) (of_both r xs ys) ∙ list_any-append (λ (d : Dataset). nat_eq d.set n) (of_record r xs) (of_record r ys)
@@ -141,25 +136,14 @@ small_back : (size : ℕ) (xs ys : List ℕ) → AllByRecursion (λ n. n ≤ siz
 small_back size [] ys all = all
 small_back size (x ∷ xs) ys all = small_back size xs ys all.1
 
-small_both : (size : ℕ) (xs ys : List ℕ) → AllByRecursion (λ n. n ≤ size) xs → AllByRecursion (λ n. n ≤ size) ys → AllByRecursion (λ n. n ≤ size) (xs ++ ys)
-small_both size [] ys a b = b
-small_both size (x ∷ xs) ys a b = (a.0, small_both size xs ys a.1 b)
-
-empty_both : (xs ys : List ℕ) → xs ++ ys ≡ [] → (xs ≡ []) × (ys ≡ [])
-empty_both [] ys e = (refl, e)
-empty_both (x ∷ xs) ys e = absurd cc
-
 none_too : (ls ks : List ℕ) → length ls ≡ length ks → ls ≡ [] → ks ≡ []
 none_too ls [] many e = refl
 none_too ls (k ∷ ks) many e = absurd (let none = ap length e in omega (arith, none, many))
 
-some_is : {x y : ℕ} → Some x ≡ Some y → x ≡ y
-some_is e = cc
-
 -- Bounds of two joined lists, of which the second stands after another first.
 bounded_on : (ps qs rs : List Stated) (ls ks ms : List ℕ) → SameNumbers ps qs → length ls ≡ length ks → AreBounded qs ks → AreBounded (ps ++ rs) (ls ++ ms) → AreBounded (qs ++ rs) (ks ++ ms)
 bounded_on ps qs rs ls ks ms same many own (inl none) =
-    let (first, last) = empty_both ls ms none in
+    let (first, last) = nothing_of_two ls ms none in
     inl (ap (λ (ns : List ℕ). ns ++ ms) (none_too ls ks many first) ∙ last)
 bounded_on ps qs rs ls ks ms same many (inl none) (inr all) =
     inr (record {
@@ -169,11 +153,11 @@ bounded_on ps qs rs ls ks ms same many (inl none) (inr all) =
     })
 bounded_on ps qs rs ls ks ms same many (inr own) (inr all) =
     let here : number_at 20 (qs ++ rs) ≡ Some own.size = at_both 20 qs rs ∙ ap (λ (o : Option ℕ). option_or o (number_at 20 rs)) own.stated in
-    let size : own.size ≡ all.size = some_is (sym here ∙ sym (numbers_on ps qs rs same).largest ∙ all.stated) in
+    let size : own.size ≡ all.size = same_Some _ _ (sym here ∙ sym (numbers_on ps qs rs same).largest ∙ all.stated) in
     inr (record {
       size = own.size;
       stated = here;
-      each = small_both own.size ks ms own.each (subst (λ (n : ℕ). AllByRecursion (λ m. m ≤ n) ms) (sym size) (small_back all.size ls ms all.each));
+      each = all_append (λ (n : ℕ). n ≤ own.size) ks ms own.each (subst (λ (n : ℕ). AllByRecursion (λ m. m ≤ n) ms) (sym size) (small_back all.size ls ms all.each));
     })
 
 -- ---- datasets that tell the same
@@ -200,10 +184,10 @@ same_tail xs = record { fields = refl; numbers = refl; lengths = refl; nines = r
 
 pub twins_on : (ds es xs ys : List Dataset) → Twins ds es → SameTail xs ys → AreBounded (sevens (ds ++ xs)) (eights (ds ++ xs)) → Twins (ds ++ xs) (es ++ ys)
 twins_on ds es xs ys twins tail bounded = record {
-  fields = kept_both ds xs ∙ (λ i. twins.fields i ++ tail.fields i) ∙ sym (kept_both es ys);
+  fields = kept_append ds xs ∙ (λ i. twins.fields i ++ tail.fields i) ∙ sym (kept_append es ys);
   numbers = subst (SameNumbers (sevens (ds ++ xs))) (sym (sevens_both es ys)) (subst (λ (ps : List Stated). SameNumbers ps (sevens es ++ sevens ys)) (sym (sevens_both ds xs)) (subst (λ (rs : List Stated). SameNumbers (sevens ds ++ sevens xs) (sevens es ++ rs)) tail.numbers (numbers_on (sevens ds) (sevens es) (sevens xs) twins.numbers)));
   heads = ap length (eights_both ds xs) ∙ length-append (eights ds) (eights xs) ∙ (λ i. twins.heads i + length (tail.lengths i)) ∙ sym (length-append (eights es) (eights ys)) ∙ sym (ap length (eights_both es ys));
-  octets = ap sum (eights_both ds xs) ∙ sum_more (eights ds) (eights xs) ∙ (λ i. twins.octets i + sum (tail.lengths i)) ∙ sym (sum_more (eights es) (eights ys)) ∙ sym (ap sum (eights_both es ys));
+  octets = ap sum (eights_both ds xs) ∙ sum_append (eights ds) (eights xs) ∙ (λ i. twins.octets i + sum (tail.lengths i)) ∙ sym (sum_append (eights es) (eights ys)) ∙ sym (ap sum (eights_both es ys));
   nines = of_both 9 ds xs ∙ (λ i. twins.nines i ++ tail.nines i) ∙ sym (of_both 9 es ys);
   seen = record { seen = λ r n. seen_both n r ds xs ∙ (λ i. twins.seen.seen r n i || tail.seen.seen r n i) ∙ sym (seen_both n r es ys) };
   bounded =
@@ -214,7 +198,7 @@ twins_on ds es xs ys twins tail bounded = record {
 }
 
 pub present_on : (ds es xs : List Dataset) → section_after ds ≡ section_after es → section_after (ds ++ xs) ≡ section_after (es ++ xs)
-present_on ds es xs same = last_on 0 ds xs ∙ ap (λ (r : ℕ). last_record r xs) same ∙ sym (last_on 0 es xs)
+present_on ds es xs same = last_of_joined 0 ds xs ∙ ap (λ (r : ℕ). last_record r xs) same ∙ sym (last_of_joined 0 es xs)
 
 -- ---- the object, after them
 
@@ -223,7 +207,7 @@ stated_as ps qs same = λ i. same.mode i ∷ same.largest i ∷ same.announced i
 
 each_by : (ps : List Stated) (ls : List ℕ) → AreBounded ps ls → (size : ℕ) → number_at 20 ps ≡ Some size → AllByRecursion (λ n. n ≤ size) ls
 each_by ps ls (inl none) size is = subst (AllByRecursion (λ n. n ≤ size)) (sym none) tt
-each_by ps ls (inr all) size is = subst (λ (n : ℕ). AllByRecursion (λ m. m ≤ n) ls) (some_is (sym all.stated ∙ is)) all.each
+each_by ps ls (inr all) size is = subst (λ (n : ℕ). AllByRecursion (λ m. m ≤ n) ls) (same_Some _ _ (sym all.stated ∙ is)) all.each
 
 -- one place of the object for another
 pub place_as : SizeLaws → (p q : objects.Place) → IsStated p → length p.lengths ≤ max_subfiles → IsStated q → SameNumbers p.stated q.stated → length p.lengths ≡ length q.lengths → sum p.lengths ≡ sum q.lengths → AreBounded q.stated q.lengths
@@ -278,7 +262,7 @@ at_as laws ds es h alive there few room twins =
         (subst (λ (ps : List Stated). AreBounded ps (eights ds ++ h.count ∷ [])) (sym (append-nil (sevens ds))) here)) in
         place_as laws.sizes p q was room' is twins.numbers
         (length-append (eights ds) (h.count ∷ []) ∙ ap (λ (n : ℕ). n + 1) twins.heads ∙ sym (length-append (eights es) (h.count ∷ [])))
-        (sum_more (eights ds) (h.count ∷ []) ∙ ap (λ (n : ℕ). n + sum (h.count ∷ [])) twins.octets ∙ sym (sum_more (eights es) (h.count ∷ []))) bounded (ap ending_of twins.nines) lives
+        (sum_append (eights ds) (h.count ∷ []) ∙ ap (λ (n : ℕ). n + sum (h.count ∷ [])) twins.octets ∙ sym (sum_append (eights es) (h.count ∷ []))) bounded (ap ending_of twins.nines) lives
     by false true eight was is lives = place_as laws.sizes (place_ended ds) (place_ended es) was (omega (arith, few, count)) is twins.numbers twins.heads twins.octets twins.bounded refl lives
     by false false eight was is lives = place_as laws.sizes (place_after_datasets ds) (place_after_datasets es) was (omega (arith, few, count)) is twins.numbers twins.heads twins.octets twins.bounded (ap ending_of twins.nines) lives
 

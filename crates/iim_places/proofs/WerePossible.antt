@@ -24,6 +24,7 @@ use Rattle.iim_object.specs.States.Saved.{IsPossible}
 use Rattle.iim_object.specs.Format.Sizes.{Stated}
 use Rattle.iim_object.specs.Format.Within.{TokensWithin, LanguageWithin}
 use Rattle.iim_object.specs.Laws.Within.{PlacesLiveWithin}
+use Rattle.iim_object.proofs.Bounded.{within_append, begun_within}
 use Rattle.iim_places.specs.Laws.Lower.{OpenLaws}
 use Rattle.iim_places.specs.Format.Admitted.{object_of}
 use Rattle.iim_places.specs.Format.Open.{AllCanContinue, object_so_far, section}
@@ -40,12 +41,14 @@ use Rattle.iim_places.proofs.Following.{within_of}
 use Rattle.iim_places.proofs.Lasts.{last_sections}
 use Rattle.iim_places.proofs.LeadsByLayers.{few_heads, few_with_head}
 use Rattle.iim_dataset.proofs.WrittenNumbers.{number_back}
-use Rattle.iim_places.proofs.Plain.{Tell, all_both, all_stated, are_told, one_stated, plain_led, plain_spelled, plain_told, taken_told}
+use Rattle.iim_dataset.proofs.Each.{all_append}
+use Rattle.iim_dataset.proofs.Lists.{sum_append}
+use Rattle.iim_places.proofs.Plain.{Tell, all_stated, are_told, one_stated, plain_led, plain_spelled, plain_told, taken_told}
 use Rattle.iim_places.proofs.PlainOpens.{plain_open, possible_of}
 use Rattle.iim_places.proofs.SameRecords.{IsStated, stated_after_all, stated_at}
 use Rattle.iim_places.proofs.SmallPlaces.{still_possible, wider_rest, wider_stream}
 use Rattle.iim_places.proofs.SmallSections.{Short, told_in, sections_live_small, sections_small}
-use Rattle.iim_places.proofs.Tickets.{total_of, count_of, sum_more, sum_one}
+use Rattle.iim_places.proofs.Tickets.{total_of, count_of, sum_one}
 
 -- ---- spellings with few count octets
 
@@ -123,10 +126,10 @@ size_low (Some n) low = low
 low_plain : (fields : List Dataset) (numbers : Numbers) (heads : ℕ) (object : List ℕ) (ended : Bool) → AllByRecursion (λ (d : Dataset). is_kept d.rec ≡ true) fields → length (joined fields) < 2 ^ 32
     → AllByRecursion IsSmall (number_list numbers) → length object ≤ greatest_size_before → AllByRecursion Low (plain fields numbers heads object ended)
 low_plain fields numbers heads object ended kept few small low =
-    all_both Low fields _ (low_fields fields kept few)
-    (all_both Low (plain_numbers numbers) _
-    (all_both Low _ _ (low_mode numbers.mode) (all_both Low _ _ (low_number 20 numbers.largest small.1.0) (all_both Low _ _ (low_number 90 numbers.announced small.1.1.0) (low_number 95 numbers.maximum small.1.1.1.0))))
-    (all_both Low _ _ (low_parts (unwrap_or numbers.largest 0) heads object (size_low numbers.largest small.1.0)) (low_end ended object low)))
+    all_append Low fields _ (low_fields fields kept few)
+    (all_append Low (plain_numbers numbers) _
+    (all_append Low _ _ (low_mode numbers.mode) (all_append Low _ _ (low_number 20 numbers.largest small.1.0) (all_append Low _ _ (low_number 90 numbers.announced small.1.1.0) (low_number 95 numbers.maximum small.1.1.1.0))))
+    (all_append Low _ _ (low_parts (unwrap_or numbers.largest 0) heads object (size_low numbers.largest small.1.0)) (low_end ended object low)))
 
 shorts : (ds : List Dataset) → AllByRecursion Low ds → AllByRecursion Short ds
 shorts [] all = tt
@@ -137,17 +140,6 @@ fews [] all = tt
 fews (d ∷ ds) all = (all.0.1, fews ds all.1)
 
 -- ---- the object's tokens
-
-pub append_within : (most : ℕ) (xs ys : List ObjectToken) → TokensWithin most xs → TokensWithin most ys → TokensWithin most (xs ++ ys)
-append_within most [] ys a b = b
-append_within most (NumberRead set n ∷ xs) ys a b = (a.0, append_within most xs ys a.1 b)
-append_within most (SubfileBegun n ∷ xs) ys a b = append_within most xs ys a b
-append_within most (ObjectEnded ∷ xs) ys a b = append_within most xs ys a b
-append_within most (Confirmed n ∷ xs) ys a b = (a.0, append_within most xs ys a.1 b)
-
-pub subfiles_within : (most : ℕ) (ls : List ℕ) → TokensWithin most (map SubfileBegun ls)
-subfiles_within most [] = tt
-subfiles_within most (l ∷ ls) = subfiles_within most ls
 
 one_within : (set : ℕ) (o : Option ℕ) → IsSmall o → TokensWithin greatest_size_before (number_tokens (one_stated set o))
 one_within set None low = tt
@@ -176,11 +168,11 @@ at ds n b c = if b then objects.place_after (place_after_datasets ds) (SubfileBe
 
 within_at : (ds : List Dataset) (n : ℕ) (b c : Bool) → ObjectKeeps ds → TokensWithin greatest_size_before (objects.tokens_of (at ds n b c))
 within_at ds n true c keeps =
-    append_within greatest_size_before (number_tokens (numbers_of (of_record 7 ds))) _ keeps.numbers (append_within greatest_size_before (map SubfileBegun (lengths_of (of_record 8 ds) ++ n ∷ [])) _ (subfiles_within greatest_size_before (lengths_of (of_record 8 ds) ++ n ∷ [])) keeps.ending)
+    within_append greatest_size_before (number_tokens (numbers_of (of_record 7 ds))) _ keeps.numbers (within_append greatest_size_before (map SubfileBegun (lengths_of (of_record 8 ds) ++ n ∷ [])) _ (begun_within greatest_size_before (lengths_of (of_record 8 ds) ++ n ∷ [])) keeps.ending)
 within_at ds n false true keeps =
-    append_within greatest_size_before (number_tokens (numbers_of (of_record 7 ds))) _ keeps.numbers (append_within greatest_size_before (map SubfileBegun (lengths_of (of_record 8 ds))) _ (subfiles_within greatest_size_before (lengths_of (of_record 8 ds))) tt)
+    within_append greatest_size_before (number_tokens (numbers_of (of_record 7 ds))) _ keeps.numbers (within_append greatest_size_before (map SubfileBegun (lengths_of (of_record 8 ds))) _ (begun_within greatest_size_before (lengths_of (of_record 8 ds))) tt)
 within_at ds n false false keeps =
-    append_within greatest_size_before (number_tokens (numbers_of (of_record 7 ds))) _ keeps.numbers (append_within greatest_size_before (map SubfileBegun (lengths_of (of_record 8 ds))) _ (subfiles_within greatest_size_before (lengths_of (of_record 8 ds))) keeps.ending)
+    within_append greatest_size_before (number_tokens (numbers_of (of_record 7 ds))) _ keeps.numbers (within_append greatest_size_before (map SubfileBegun (lengths_of (of_record 8 ds))) _ (begun_within greatest_size_before (lengths_of (of_record 8 ds))) keeps.ending)
 
 possible_at : (ds : List Dataset) (h : Head) → CanContinueAt widest ds h → (b c : Bool) → nat_eq h.rec 8 ≡ b → IsStated (at ds h.count b c) → ObjectLives (at ds h.count b c) → IsPossible (at ds h.count b c)
 possible_at ds h goes true c eight stated lives = possible_of (objects.place_after (place_after_datasets ds) (SubfileBegun h.count)) stated (few_with_head widest ds h goes eight) lives
@@ -200,7 +192,7 @@ object_in laws law ds (InData h taken) keeps low goes =
 sum_low : (ds : List Dataset) (n : ℕ) (got : List ℕ) (b c : Bool) → length got < n → length (object_of ds ++ (if b then got else [])) ≤ greatest_size_before
     → (b ≡ true → length (object_of ds ++ (if b then got else [])) + (n - length got) ≤ greatest_size_before) → sum (at ds n b c).lengths ≤ greatest_size_before
 sum_low ds n got true c less low all =
-    let sums = sum_more (lengths_of (of_record 8 ds)) (n ∷ []) in
+    let sums = sum_append (lengths_of (of_record 8 ds)) (n ∷ []) in
     let one = sum_one n in
     let total = total_of (of_record 8 ds) in
     let both = length-append (object_of ds) got in
@@ -241,9 +233,9 @@ records_in ds (InData h got) short goes small =
       (λ told. let few = small.0 (sym (ap tells_number rec) ∙ told) in omega (arith, few, count)),
       (λ eight. let low = (small.1 (sym rec ∙ eight)).0 in omega (arith, low, count)),
     ) in
-    (d, head, sections_live_small (ds ++ d ∷ []) alive (all_both Short ds (d ∷ []) short (last, tt)))
+    (d, head, sections_live_small (ds ++ d ∷ []) alive (all_append Short ds (d ∷ []) short (last, tt)))
 
-room_in : (ds : List Dataset) (b : Begun) → MayContinue widest ds b → HaveRoomIn widest ds b
+pub room_in : (ds : List Dataset) (b : Begun) → MayContinue widest ds b → HaveRoomIn widest ds b
 room_in ds (InTag held) goes = tt
 room_in ds (InData h got) goes = goes.room
 

@@ -5,6 +5,7 @@ use Rattle.std.specs.Int.{w32, from_be_bytes}
 use Rattle.std.specs.List.{AllByRecursion, flat_map}
 use Rattle.std.proofs.lemmas.Nat.{from_be_bytes-to_be_bytes_4}
 use Rattle.iim_dataset.specs.Format.Datasets.{Dataset}
+use Rattle.iim_dataset.specs.Parting.{same_front}
 use Rattle.iim_places.specs.Format.Tickets.{four, field_octets}
 use Rattle.iim_places.specs.States.Begins.{IsLongField}
 use Rattle.iim_places.specs.TicketFields.{HoldsFields}
@@ -18,19 +19,11 @@ first_same e = cc
 pub rest_same : {x y : ℕ} {a b : List ℕ} → x ∷ a ≡ y ∷ b → a ≡ b
 rest_same e = cc
 
-pub fronts : (x y a b : List ℕ) → length x ≡ length y → x ++ a ≡ y ++ b → (x ≡ y) × (a ≡ b)
-fronts [] [] a b n e = (refl, e)
-fronts [] (k ∷ y) a b n e = absurd (omega (arith, n))
-fronts (k ∷ x) [] a b n e = absurd (omega (arith, n))
-fronts (k ∷ x) (l ∷ y) a b n e =
-    let more = fronts x y a b (ap pred n) (rest_same e) in
-    (let one = first_same e in let two = more.0 in cc, more.1)
-
 -- ---- numbers
 
 pub one_four : (m n : ℕ) (a b : List ℕ) → m < 2 ^ 32 → n < 2 ^ 32 → four m ++ a ≡ four n ++ b → (m ≡ n) × (a ≡ b)
 one_four m n a b hm hn e =
-    let both = fronts (four m) (four n) a b refl e in
+    let both = same_front (four m) (four n) a b refl e in
     (sym (from_be_bytes-to_be_bytes_4 m hm) ∙ ap (from_be_bytes w32) both.0 ∙ from_be_bytes-to_be_bytes_4 n hn, both.1)
 
 -- ---- datasets
@@ -45,7 +38,7 @@ one_field d e a b hd he same =
     let rec : d.rec ≡ e.rec = first_same is in
     let set : d.set ≡ e.set = first_same (rest_same is) in
     let count = one_four (length d.octets) (length e.octets) (d.octets ++ a) (e.octets ++ b) hd he (rest_same (rest_same is)) in
-    let octets = fronts d.octets e.octets a b count.0 count.1 in
+    let octets = same_front d.octets e.octets a b count.0 count.1 in
     ((λ i. record { rec = rec i; set = set i; octets = octets.0 i }), octets.1)
 
 -- ---- datasets to the end

@@ -2,6 +2,7 @@
 use Rattle.std.proofs.Common.{◌≡◌, ℕ, List, ◌∷◌, ◌++◌, get_or, drop, refl, ap, sym, ◌∙◌, subst, arith}
 use Rattle.std.specs.List.{position_or_len}
 use Rattle.iim_dataset.specs.Format.Datasets.{Dataset}
+use Rattle.iim_dataset.proofs.Spelled.{dataset_is}
 use Rattle.wire_message.specs.Format.Messages.{Header}
 use Rattle.iim_script.specs.Format.Shown.{TellsLast}
 use Rattle.iim_script.specs.Format.Forms.{TellsNumber, TellsNames, TellsField, TellsHead, TellsTrailer, words_of, after_source, text_word}
@@ -19,21 +20,12 @@ at_others : (line : List ℕ) (rec set r s : ℕ) (end other : List ℕ) → Tel
 at_others line rec set r s end other t u =
     names_at line u.rec_digits (u.set_digits ++ other) (position_or_len no_digit (u.set_digits ++ other)) rec set end (no_colon u.rec_digits u.is_rec.are_digits) u.line_is refl t
 
-same_dataset : (d e : Dataset) → d.rec ≡ e.rec → d.set ≡ e.set → d.octets ≡ e.octets → d ≡ e
-same_dataset d e a b c =
-    let d1 : Dataset = record d { rec = e.rec } in
-    let d2 : Dataset = record d1 { set = e.set } in
-    let e1 : d ≡ d1 = ap (λ (n : ℕ). record d { rec = n }) a in
-    let e2 : d1 ≡ d2 = ap (λ (n : ℕ). record d1 { set = n }) b in
-    let e3 : d2 ≡ e = ap (λ (l : List ℕ). record d2 { octets = l }) c in
-    e1 ∙ (e2 ∙ e3)
-
 pub field_once : (line : List ℕ) (d e : Dataset) → TellsField line d → TellsField line e → d ≡ e
 field_once line d e t u =
     let a = at_others line d.rec d.set e.rec e.set t.end u.end t.names u.names in
     let b = at_others line e.rec e.set e.rec e.set u.end u.end u.names u.names in
     let same = names_once line d.rec d.set e.rec e.set t.end u.end t.names u.names in
-    same_dataset d e (number_once _ d.rec e.rec a.is_rec b.is_rec) (number_once _ d.set e.set a.is_set b.is_set)
+    dataset_is d e (number_once _ d.rec e.rec a.is_rec b.is_rec) (number_once _ d.set e.set a.is_set b.is_set)
     (last_once u.end d.octets e.octets (subst (λ (l : List ℕ). TellsLast l d.octets) same t.is_end) u.is_end)
 
 pub one_head : (line : List ℕ) (head other : Header) → TellsHead line head → TellsHead line other → head ≡ other

@@ -5,8 +5,10 @@ use Rattle.std.specs.Option.{option_or}
 use Rattle.std.proofs.lemmas.Bool.Decides.{nat_tests}
 use Rattle.std.proofs.lemmas.List.Elements.{filter-append}
 use Rattle.std.proofs.lemmas.List.Folds.{list_any-append}
+use Rattle.std.proofs.lemmas.Bool.{eq-eqb}
 use Rattle.iim_dataset.specs.Format.Datasets.{Dataset, of_record}
 use Rattle.iim_dataset.proofs.Each.{all_append}
+use Rattle.iim_dataset.proofs.Lists.{all_there}
 use Rattle.iim_fields.specs.Format.Envelopes.{IsEnvelope}
 use Rattle.iim_fields.specs.States.Builders.{absent, finish_fault}
 use Rattle.iim_fields.specs.Format.Faults.{joined, is_kept, missing_fault}
@@ -54,26 +56,19 @@ taken added limits ds e within = taken_from added limits [] ds e within
 
 -- ---- nothing is missing
 
-nothing_found : (has : ℕ → Bool) (ns : List ℕ) → AllByRecursion (λ n. has n ≡ true) ns → find (λ n. not (has n)) ns ≡ None
-nothing_found has [] h = refl
-nothing_found has (n ∷ ns) h = ap (λ (b : Bool). cond (not b) (Some n) (find (λ m. not (has m)) ns)) h.0 ∙ nothing_found has ns h.1
-
 all_occur : (ns : List ℕ) (xs ys : List Dataset) → ((n : ℕ) → occurs n xs ≡ true → occurs n ys ≡ true) → AllByRecursion (λ n. occurs n xs ≡ true) ns
     → AllByRecursion (λ n. occurs n ys ≡ true) ns
 all_occur [] xs ys f h = tt
 all_occur (n ∷ ns) xs ys f h = (f n h.0, all_occur ns xs ys f h.1)
 
 nothing_absent : (r : ℕ) (ds : List Dataset) → AllByRecursion (λ n. occurs n (of_record r ds) ≡ true) (mandatory r) → absent r ds ≡ None
-nothing_absent r ds h = ap (missing_fault r) (nothing_found (λ n. occurs n (of_record r ds)) (mandatory r) h)
-
-eq_itself : (n : ℕ) → nat_eq n n ≡ true
-eq_itself n = grind (arith, nat_tests)
+nothing_absent r ds h = ap (missing_fault r) (all_there (λ n. occurs n (of_record r ds)) (mandatory r) h)
 
 -- a record has all its datasets
 own : (r : ℕ) (ds : List Dataset) → AllByRecursion (OfRecord r) ds → of_record r ds ≡ ds
 own r [] h = refl
 own r (d ∷ ds) h =
-    ap (λ (b : Bool). cond b (d ∷ of_record r ds) (of_record r ds)) (ap (λ (n : ℕ). nat_eq n r) h.0.0 ∙ eq_itself r) ∙ ap (λ (l : List Dataset). d ∷ l) (own r ds h.1)
+    ap (λ (b : Bool). cond b (d ∷ of_record r ds) (of_record r ds)) (ap (λ (n : ℕ). nat_eq n r) h.0.0 ∙ eq-eqb r r refl) ∙ ap (λ (l : List Dataset). d ∷ l) (own r ds h.1)
 
 or_first : (a b : Bool) → a ≡ true → (a || b) ≡ true
 or_first true b h = refl

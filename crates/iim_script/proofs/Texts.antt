@@ -1,6 +1,6 @@
 -- Octets as text.
 use Rattle.std.proofs.Common.{◌≡◌, inl, inr, ℕ, ◌+◌, ◌-◌, ◌<◌, ◌≤◌, List, [], ◌∷◌, ◌++◌, append_assoc, length, take, drop, get_or, refl, ap, sym, ◌∙◌, subst, arith}
-use Rattle.std.proofs.lemmas.List.{take_rest, append-nil}
+use Rattle.std.proofs.lemmas.List.{take_rest, append-nil, nil_from_length}
 use Rattle.iim_script.specs.Format.Shown.{IsHexDigit, IsOfDigits, BeginsWith, TellsOctets, TellsLast}
 
 -- the first octet, and the others
@@ -117,13 +117,6 @@ pub onto_none : (text octets rest : List ℕ) → Onto text octets rest → (0 <
     → (all : List ℕ) → TellsOctets text all → ⊥
 onto_none text octets rest onto some none all told = let h = onto.only all told in no_start rest h.0 some none h.2
 
-pub some_there : (xs : List ℕ) → (length xs ≡ 0 → ⊥) → 0 < length xs
-some_there xs n = omega (arith, n)
-
-nil_of : (xs : List ℕ) → length xs ≡ 0 → xs ≡ []
-nil_of [] e = refl
-nil_of (x ∷ xs) e = absurd (omega (arith, e))
-
 -- what ends a line, where SP begins it
 pub no_last : (end text : List ℕ) → end ≡ 32 ∷ text → ((octets : List ℕ) → TellsOctets text octets → ⊥) → (octets : List ℕ) → TellsLast end octets → ⊥
 no_last end text e none [] told = absurd (omega (arith, ap length (sym e ∙ told)))
@@ -138,7 +131,7 @@ some_last end text (octet ∷ octets) e some told = (text, e, told)
 pub space_alone : (end text : List ℕ) → end ≡ 32 ∷ text → length text ≡ 0 → (octets : List ℕ) → TellsLast end octets → ⊥
 space_alone end text e none [] told = absurd (omega (arith, ap length (sym e ∙ told)))
 space_alone end text e none (octet ∷ octets) (other, is, (more, begins, told)) =
-    none_left text octet more (subst (λ (l : List ℕ). BeginsWith l octet more) (ap (λ (l : List ℕ). drop 1 l) (sym is ∙ e)) begins) (nil_of text none)
+    none_left text octet more (subst (λ (l : List ℕ). BeginsWith l octet more) (ap (λ (l : List ℕ). drop 1 l) (sym is ∙ e)) begins) (nil_from_length text none)
 
 pub no_space : (end : List ℕ) → (get_or end 0 0 ≡ 32 → ⊥) → (0 < length end) → (octets : List ℕ) → TellsLast end octets → ⊥
 no_space end n some [] told = absurd (omega (arith, some, ap length told))

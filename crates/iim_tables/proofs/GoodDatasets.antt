@@ -1,12 +1,15 @@
 -- What rows say of datasets, for the proofs of every crate: nothing here is to be believed.
-use Rattle.std.proofs.Common.{◌≡◌, ℕ, true, false, nat_eq, List, Option, Some, None, refl, ap, sym, subst}
+use Rattle.std.proofs.Common.{◌≡◌, ℕ, ◌+◌, ◌≤◌, Bool, true, false, ◌||◌, cond, nat_eq, nat_le, List, [], ◌∷◌, ◌++◌, length, Option, Some, None, refl, ap, sym, subst, arith}
+use Rattle.std.proofs.lemmas.Bool.{le-leb, or_parts}
+use Rattle.std.proofs.lemmas.List.Sums.{sum_by-append, sum_by-cons}
+use Rattle.std.specs.List.{list_all}
 use Rattle.std.specs.Prelude.{IsSomeAnd, IsTrue}
 use Rattle.std.specs.Option.{option_map_or}
-use Rattle.iim_dataset.specs.Format.Octets.{IsOctet, Octets}
+use Rattle.iim_dataset.specs.Format.Octets.{IsOctet, Octets, greatest_size}
 use Rattle.iim_dataset.specs.Format.Datasets.{Dataset}
-use Rattle.iim_tables.specs.Format.Rows.{row_of, is_admitted, Meets}
+use Rattle.iim_tables.specs.Format.Rows.{row_of, table, is_admitted, Meets}
 use Rattle.iim_tables.specs.declared.shape.Row.{Row}
-use Rattle.iim_tables.specs.Format.Records.{repeats, IsGoodDataset}
+use Rattle.iim_tables.specs.Format.Records.{occurrences, occurs, repeats, IsGoodDataset}
 
 -- octets meet a row that admits them
 pub meets_as : (rec set : ℕ) (row : Row) (xs : List ℕ) → row_of rec set ≡ Some row → is_admitted row xs ≡ true → Meets rec set xs
@@ -26,3 +29,33 @@ repeats_as rec n o is = ap (λ (p : Option Row). option_map_or (λ (r : Row). r.
 -- beside its row nothing is asked of a dataset of another record than the first
 pub good_elsewhere : {d : Dataset} → nat_eq d.rec 1 ≡ false → IsOctet d.set → Octets d.octets → Meets d.rec d.set d.octets → IsGoodDataset d
 good_elsewhere other small octets meets = record { numbered = small; octets = octets; meets = meets; file_format = rw other refl }
+
+pub occurrences_append : (n : ℕ) (xs ys : List Dataset) → occurrences n (xs ++ ys) ≡ occurrences n xs + occurrences n ys
+occurrences_append n xs ys = sum_by-append (λ (d : Dataset). cond (nat_eq d.set n) 1 0) xs ys
+
+pub none_counts : (n : ℕ) (xs : List Dataset) → occurs n xs ≡ false → occurrences n xs ≡ 0
+none_counts n [] h = refl
+none_counts n (x ∷ xs) h =
+    let parts = or_parts (nat_eq x.set n) (occurs n xs) h in
+    let later = none_counts n xs parts.1 in rw parts.0 later
+
+some_counts_by : (b : Bool) (rest : Bool) (count : ℕ) → (rest ≡ true → 1 ≤ count) → (b || rest) ≡ true → 1 ≤ cond b 1 0 + count
+some_counts_by true rest count more h = omega arith
+some_counts_by false rest count more h = let m = more h in omega arith
+
+pub some_counts : (n : ℕ) (xs : List Dataset) → occurs n xs ≡ true → 1 ≤ occurrences n xs
+some_counts n [] h = absurd cc
+some_counts n (x ∷ xs) h =
+    let sum = occurrences_append n (x ∷ []) xs in
+    let more = some_counts_by (nat_eq x.set n) (occurs n xs) (occurrences n xs) (some_counts n xs) h in omega arith
+
+pub occurrences_cons : (n : ℕ) (d : Dataset) (ds : List Dataset) → occurrences n (d ∷ ds) ≡ cond (nat_eq d.set n) 1 0 + occurrences n ds
+occurrences_cons n d ds = sum_by-cons (λ (x : Dataset). cond (nat_eq x.set n) 1 0) d ds
+
+pub table_bounded : list_all (λ e. nat_le e.row.max greatest_size) table ≡ true
+unfolding table
+table_bounded = refl
+
+pub part_meets : (xs : List ℕ) → length xs ≤ greatest_size → Meets 8 10 xs
+unfolding row_of table
+part_meets xs le = rw (le-leb (length xs) greatest_size le, le-leb 0 (length xs) (omega arith)) refl

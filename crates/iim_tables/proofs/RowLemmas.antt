@@ -16,6 +16,7 @@ use Rattle.std.specs.Option.{option_map, option_or}
 use Rattle.std.proofs.lemmas.Bool.Decides.{nat_tests}
 use Rattle.iim_tables.specs.declared.shape.Kind.{Kind}
 use Rattle.iim_tables.specs.declared.shape.Kind.TheVariants as kinds
+use Rattle.iim_tables.proofs.GoodDatasets.{table_bounded}
 
 -- the lengths that data of the kind has
 abbrev pub has_length : Kind → ℕ → Bool
@@ -143,10 +144,6 @@ row_values rec set n r found t =
     (value.0, value.3, value.1, rw found admitted)
 
 -- ---- no row allows more octets than the greatest size
-
-table_bounded : list_all (λ e. nat_le e.row.max greatest_size) table ≡ true
-unfolding table
-table_bounded = refl
 
 pub row_bounded : (rec set : ℕ) (r : Row) → row_of rec set ≡ Some r → r.max ≤ greatest_size
 unfolding row_of

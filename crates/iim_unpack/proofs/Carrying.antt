@@ -1,6 +1,6 @@
 -- Where heads, data and ends of datasets lead the parts of an unpacker.
 use Rattle.std.proofs.Common.{◌≡◌, ℕ, Bool, true, false, cond, if◌then◌else◌, nat_eq, List, [], ◌∷◌, ◌++◌, map, Option, Some, None, refl, ap, sym, subst, ◌∙◌, inl, inr, arith, append_assoc, append-nil}
-use Rattle.std.proofs.lemmas.Bool.{eqb-true}
+use Rattle.std.proofs.lemmas.Bool.{eqb-true, ne_eqb}
 use Rattle.std.proofs.lemmas.Bool.Decides.{eqb_tells}
 use Rattle.iim_dataset.specs.Format.Octets.{Octets}
 use Rattle.iim_dataset.specs.Format.Datasets.{Dataset}
@@ -8,6 +8,7 @@ use Rattle.iim_dataset.specs.Format.Splits.{Begun, InTag, InData}
 use Rattle.iim_dataset.specs.States.Events.{DatasetEvent, DataOctet, handed_on}
 use Rattle.iim_dataset.specs.Format.Languages as languages
 use Rattle.iim_dataset.specs.declared.head.Head.{Head}
+use Rattle.iim_dataset.proofs.OctetLists.{octets_append}
 use Rattle.iim_fields.specs.States.Checks.{begun_head}
 use Rattle.iim_fields.specs.States.Standing as records
 use Rattle.iim_fields.specs.States.Standing.{IsBetween, begun_head_of, limits_of, FieldsPlace}
@@ -38,10 +39,6 @@ use Rattle.iim_unpack.proofs.Sequences.{data_more}
 use Rattle.iim_places.proofs.ObjectOctets.{lives_whole}
 
 -- ---- lists
-
-octets_join : (xs ys : List ℕ) → Octets xs → Octets ys → Octets (xs ++ ys)
-octets_join [] ys h k = k
-octets_join (x ∷ xs) ys h k = (h.0, octets_join xs ys h.1 k)
 
 -- ---- the reader of the message
 
@@ -98,9 +95,6 @@ same_head p k ds h taken begun at = some-same (sym begun ∙ ap begun_head at.fi
 
 -- ---- every layer can continue
 
-not_eight : (r : ℕ) → (r ≡ 8 → ⊥) → nat_eq r 8 ≡ false
-not_eight r other = elim (eqb_tells r 8) [ inl same ↦ absurd (other same.1) | inr apart ↦ apart.0 ]
-
 pub goes_after : (p : Parts) (ds : List Dataset) → AreAfter p ds → CanContinue (limits_of p.fields) ds
 goes_after p ds at = record { records = at.fields.alive; within = record { kept = at.fields.within; subfiles = at.few }; object = at.object.alive }
 
@@ -145,11 +139,11 @@ pub within_other : (p : Parts) (ds : List Dataset) (h : Head) (taken run : List 
     → ((ds : List Dataset) (h : Head) (taken : List ℕ) → records.StandsIn p.fields ds h taken → records.StandsIn checker ds h (taken ++ run))
     → Within (record p { fields = checker }) ds h (taken ++ run)
 within_other p ds h taken run checker at other octets stands =
-    let no : nat_eq h.rec 8 ≡ false = not_eight h.rec other in
+    let no : nat_eq h.rec 8 ≡ false = ne_eqb h.rec 8 other in
     let same : (xs : List ℕ) → object_so_far ds (InData h xs) ≡ object_of ds ++ [] = λ xs. ap (λ (b : Bool). object_of ds ++ cond b xs []) no in
     let is = same taken ∙ sym (same (taken ++ run)) in
     record {
-      octets = octets_join taken run at.octets octets;
+      octets = octets_append taken run at.octets octets;
       fields = subst (records.StandsIn checker ds h) (sym (ap (λ (b : Bool). cond b [] (taken ++ run)) no))
           (stands ds h taken (subst (records.StandsIn p.fields ds h) (ap (λ (b : Bool). cond b [] taken) no) at.fields));
       object = at.object;
@@ -171,7 +165,7 @@ tells_parts_other goes failures p a run checker k begun other octets g same stan
   leads = λ before text order led.
       let one = in_one p k before text begun led in
       let apart : one.h.rec ≡ 8 → ⊥ = λ eight. other (ap (λ (k : Head). k.rec) (same_head p k one.ds one.h one.taken begun one.within) ∙ eight) in
-      let no : nat_eq one.h.rec 8 ≡ false = not_eight one.h.rec apart in
+      let no : nat_eq one.h.rec 8 ≡ false = ne_eqb one.h.rec 8 apart in
       let same_object : object_so_far one.ds (InData one.h one.taken) ≡ object_so_far one.ds (InData one.h (one.taken ++ run)) =
       ap (λ (b : Bool). object_of one.ds ++ cond b one.taken []) no ∙ sym (ap (λ (b : Bool). object_of one.ds ++ cond b (one.taken ++ run) []) no) in
       record {
@@ -216,7 +210,7 @@ tells_parts_object goes failures p a b run message laws k begun eight octets pas
         begun = InData one.h (one.taken ++ run);
         told = ap (λ (es : List DatasetEvent). es ++ map DataOctet run) one.told ∙ data_more one.ds one.h one.taken run;
         stands = record {
-          octets = octets_join one.taken run at.octets octets;
+          octets = octets_append one.taken run at.octets octets;
           fields = subst (records.StandsIn p.fields one.ds one.h) (ap (λ (b : Bool). cond b [] one.taken) yes ∙ sym (ap (λ (b : Bool). cond b [] (one.taken ++ run)) yes)) at.fields;
           object = at.object;
           few = at.few;

@@ -14,6 +14,7 @@ use Rattle.iim_fields.specs.States.Standing.{IsOf, limits_of, FieldsPlace}
 use Rattle.iim_fields.specs.Format.Values.{data_of, tells_number, number_told}
 use Rattle.iim_fields.specs.Laws.Records.{NoSectionsBeginOthers}
 use Rattle.iim_fields.specs.declared.fault.FieldFault.{FieldFault}
+use Rattle.iim_fields.proofs.Sections.{last_more}
 use Rattle.iim_object.specs.Format.Places.{value_token}
 use Rattle.iim_object.specs.States.Reading as objects
 use Rattle.iim_object.specs.Format.Numbers.{place_after_datasets}
@@ -34,7 +35,7 @@ use Rattle.iim_places.proofs.Places.{number_leads, silent_leads}
 use Rattle.iim_unpack.proofs.Carrying.{HasBegun, in_one, same_head, all_within}
 use Rattle.iim_unpack.proofs.Sequences.{end_told, all_came}
 use Rattle.iim_unpack.proofs.Heading.{quiet_field, counts_size}
-use Rattle.iim_places.proofs.Lasts.{present_last, not_all}
+use Rattle.iim_places.proofs.Lasts.{not_all}
 use Rattle.iim_unpack.specs.PartLaws.{CloseLaws}
 use Rattle.iim_places.proofs.ObjectOctets.{object_of_more, few_more}
 
@@ -58,7 +59,7 @@ pub record Ends (new : Parts) (ds : List Dataset) (d : Dataset) : Type 0 where
 after_data : (p new : Parts) (ds : List Dataset) (h : Head) (taken : List ℕ) → Within p ds h taken → length taken ≡ h.count → Ends new ds (data_of h taken) → new.message ≡ p.message → AreAfter new (ds ++ data_of h taken ∷ [])
 after_data p new ds h taken at whole ends message =
     let d : Dataset = data_of h taken in
-    let present : section_after (ds ++ d ∷ []) ≡ h.rec = present_last 0 ds d in
+    let present : section_after (ds ++ d ∷ []) ≡ h.rec = last_more 0 ds d in
     let object : object_so_far ds (InData h taken) ≡ object_of (ds ++ d ∷ []) = sym (object_of_more ds d) in
     record {
       fields = ends.fields;

@@ -21,7 +21,7 @@ use Rattle.iim_unpack.specs.States.Unpacking.{Unpacking, IsLed}
 use Rattle.iim_unpack.specs.UnpackerInside.{Stood}
 use Rattle.iim_unpack.specs.declared.parts.Parts.{Parts}
 use Rattle.iim_places.proofs.Bounds.{is_one}
-use Rattle.iim_places.proofs.TicketLengths.{AreShortIn, texts_at, held_length}
+use Rattle.iim_places.proofs.TicketLengths.{AreShortIn, texts_at, held_length, some_taken, none_taken}
 use Rattle.iim_unpack.proofs.SamePlace.{told_by}
 
 -- ---- the message
@@ -56,13 +56,6 @@ record FewFields (parts : Parts) : Type 0 where
   octets : length (joined parts.fields.kept) + length parts.fields.taken ≤ parts.fields.limits.octets + 8
   entries : length parts.fields.kept + begun_entries (begun_head_of parts.fields) ≤ parts.fields.limits.fields
 
-none_of_eight : (rec : ℕ) (taken : List ℕ) → rec ≡ 8 → length (if nat_eq rec 8 then [] else taken) ≡ 0
-none_of_eight rec taken is = ap (λ (r : ℕ). length (if nat_eq r 8 then [] else taken)) is
-
-some_of : (b : Bool) (taken : List ℕ) → length (if b then [] else taken) ≤ length taken
-some_of true taken = omega arith
-some_of false taken = omega arith
-
 few_after : (parts : Parts) (ds : List Dataset) → StandsAfter parts.fields ds → FewFields parts
 few_after parts ds at' =
     let none : begun_entries (begun_head_of parts.fields) ≡ 0 = ap begun_entries (ap begun_head at'.between.between) in
@@ -82,14 +75,14 @@ few_in parts ds h taken at' less =
     let octets = ap (λ (xs : List Dataset). length (joined xs)) at'.kept_are in
     let entries = ap length at'.kept_are in
     let now = ap length at'.taken_are in
-    let part = some_of (nat_eq h.rec 8) taken in
+    let part = some_taken (nat_eq h.rec 8) taken in
     elim (is_one ds h at'.alive) [
       | inl keeps ↦
           let room = at'.within keeps in
           let is : entries_if (is_kept h.rec) ≡ 1 = ap entries_if keeps in
           record { octets = omega (arith, octets, now, part, less, room.octets_in); entries = omega (arith, one, is, entries, room.fields_in) }
       | inr (inl eight) ↦
-          let zero' = none_of_eight h.rec taken eight in
+          let zero' = none_taken h.rec taken eight in
           let is : entries_if (is_kept h.rec) ≡ 0 = ap (λ (r : ℕ). entries_if (is_kept r)) eight in
           record { octets = omega (arith, octets, now, zero', at'.others.octets_in); entries = omega (arith, one, is, entries, at'.others.fields_in) }
       | inr (inr few) ↦ record { octets = omega (arith, octets, now, part, less, few, at'.others.octets_in); entries = by (is_kept h.rec) refl one entries }

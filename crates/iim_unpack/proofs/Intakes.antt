@@ -8,6 +8,9 @@ use Rattle.iim_dataset.specs.States.Devices.{Device, Unfailed, RoseAtLeast, max_
 use Rattle.iim_dataset.specs.Laws.Devices.{GiftsJoin}
 use Rattle.iim_dataset.specs.declared.device.IoFault.{IoFault}
 use Rattle.iim_dataset.specs.declared.device.IoFault.TheVariants as io
+use Rattle.iim_dataset.proofs.Lists.{nothing_of_two}
+use Rattle.iim_dataset.proofs.DeviceLaws.{broke_for_later}
+use Rattle.iim_dataset.specs.Later.{consumes_consumes}
 use Rattle.iim_fields.specs.declared.limits.Limits.{Limits}
 use Rattle.wire_story.specs.Format.Delivery as story
 use Rattle.wire_story.specs.Laws.Texts.{DeliveryMayBeCut}
@@ -142,18 +145,6 @@ none_missed goes failures old new u a kept fault answer low nothing missed count
 given_none : GiftsJoin → (a b c : Device) (xs : List ℕ) → HasGiven a b xs → HasGiven b c [] → HasGiven a c xs
 given_none joins a b c xs one none = subst (λ (ys : List ℕ). HasGiven a c ys) (append-nil xs) (joins.more a b c xs [] one none)
 
-no_front : (xs ys : List ℕ) → xs ++ ys ≡ [] → (xs ≡ []) × (ys ≡ [])
-no_front [] ys e = (refl, e)
-no_front (x ∷ xs) ys e = absurd cc
-
-higher : (m n o : ℕ) → m ≤ n → RoseAtLeast max_interruptions n o → RoseAtLeast max_interruptions m o
-higher m n o le (inl some) = inl (omega (arith, some, le))
-higher m n o le (inr full) = inr full
-
-broke_on : (a b c : Device) (fault : IoFault) → Unfailed a b → BrokeFor b c fault → BrokeFor a c fault
-broke_on a b c io.Failed h f = (rw h.0 at f.0, omega (arith, h.1, f.1))
-broke_on a b c io.Interrupted h i = (i.0 ∙ h.0, omega (arith, h.1, i.1), higher a.interruptions b.interruptions c.interruptions h.1 i.2)
-
 -- ---- the end of feeding
 
 pub smaller : (used now k : ℕ) → now ≡ raised used k → 0 < k → used < 2 ^ 64 - 1 → 2 ^ 64 - 1 - now < 2 ^ 64 - 1 - used
@@ -266,7 +257,7 @@ fed_and_done {old = old} {mid = mid} {new = new} {u = u} {v = v} {w = w} {a = a}
 pub fed_nothing : {S : Type 0} {goes : S → List story.StoryEvent → S → Type 0} {old mid new : Device} {u v : Unpacking} {a b c : S} {used : ℕ} (fed : HasFed goes old mid u v a b used) (p : List ℕ) (n : ℕ) → Stands u p n
     → WasEnded mid new v b c → fed.octets ≡ []
 fed_nothing fed p n at ended =
-    (no_front p fed.octets (ended.none (p ++ fed.octets) (raised n (length fed.octets)) (fed.stands p n at).0)).1
+    (nothing_of_two p fed.octets (ended.none (p ++ fed.octets) (raised n (length fed.octets)) (fed.stands p n at).0)).1
 
 pub fed_and_ended : {S : Type 0} {goes : S → List story.StoryEvent → S → Type 0} {old mid new : Device} {u v : Unpacking} {a b c : S} {used : ℕ} → GiftsJoin → (one : HasFed goes old mid u v a b used)
     → (one.octets ≡ [] → b ≡ a) → WasEnded mid new v b c → (p : List ℕ) (n : ℕ) → Stands u p n → WasEnded old new u a c
@@ -276,7 +267,7 @@ fed_and_ended {old = old} {mid = mid} {new = new} joins one same ended p n at =
       given = subst (λ (ys : List ℕ). HasGiven old new ys) empty (given_none joins old mid new one.octets one.came.given ended.given);
       at_end = ended.at_end;
       still = ended.still ∙ same empty;
-      none = λ q k is. (no_front q one.octets (ended.none (q ++ one.octets) (raised k (length one.octets)) (one.stands q k is).0)).0;
+      none = λ q k is. (nothing_of_two q one.octets (ended.none (q ++ one.octets) (raised k (length one.octets)) (one.stands q k is).0)).0;
     }
 
 refused_then : DeliveryMayBeCut → (limits : Limits) (p : List ℕ) (n : ℕ) (xs ys : List ℕ) (first more : List story.StoryEvent) (e : Refusal) → Delivers p xs first
@@ -303,20 +294,14 @@ truncated_then cut limits p n xs ys first more e adds is = record {
   truncated = on_all xs ys p n (λ q k. IsTruncatedAt q k e) is.truncated;
 }
 
-consumed_then : (a b c : Option (List ℕ)) (xs ys : List ℕ) → Consumes a b xs → Consumes b c ys → Consumes a c (xs ++ ys)
-consumed_then None b c xs ys h k = tt
-consumed_then (Some x) None c xs ys h k = absurd h
-consumed_then (Some x) (Some y) None xs ys h k = absurd k
-consumed_then (Some x) (Some y) (Some z) xs ys h k = h ∙ (ap (λ w. xs ++ w) k ∙ sym (append_assoc xs ys z))
-
 missed_then : {S : Type 0} {goes : S → List story.StoryEvent → S → Type 0} {failures : S → ℕ} {old mid new : Device} {u v w : Unpacking} {a b c : S} {used kept : ℕ} → Joined goes → DeliveryMayBeCut → (fault : IoFault)
     → HasFed goes old mid u v a b used → failures b ≡ failures a → WasMissed goes failures mid new v w b c kept fault → WasMissed goes failures old new u w a c kept fault
 missed_then {old = old} {mid = mid} {new = new} {u = u} {v = v} {w = w} {a = a} {b = b} {c = c} joined cut fault one calm was = record {
   octets = one.octets ++ was.octets;
   more = one.more ++ was.more;
   missed = (
-    consumed_then old.octets mid.octets new.octets one.octets was.octets one.came.given.0 was.missed.0,
-    broke_on old mid new fault one.came.given.1 was.missed.1,
+    consumes_consumes old.octets mid.octets new.octets one.octets was.octets one.came.given.0 was.missed.0,
+    broke_for_later old mid new fault one.came.given.1 was.missed.1,
   );
   told = joined a b c one.more was.more one.came.told was.told;
   calm = was.calm ∙ calm;

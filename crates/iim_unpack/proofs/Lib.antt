@@ -1,5 +1,4 @@
 pub mod Blocks
-pub mod Intakes
 pub mod Faults
 pub mod Ends
 pub mod Ended
@@ -22,3 +21,5 @@ pub mod MadeFor
 pub mod Saved
 mod Wholes
 mod WholeSubfiles
+-- What proofs of other crates cite.
+pub mod Intakes

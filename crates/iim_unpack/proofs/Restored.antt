@@ -12,6 +12,7 @@ use Rattle.iim_fields.specs.Format.Alive.{SectionsLive, SectionsLiveAt}
 use Rattle.iim_fields.specs.Format.Faults.{kept, section_after}
 use Rattle.iim_fields.specs.States.Standing as records
 use Rattle.iim_fields.specs.declared.limits.Limits.{Limits}
+use Rattle.iim_fields.proofs.Sections.{head_alive}
 use Rattle.iim_object.specs.Format.Numbers.{place_after_datasets}
 use Rattle.iim_object.specs.Format.Places.{NotEnded}
 use Rattle.iim_object.specs.Format.Records.{numbers_of}
@@ -38,13 +39,13 @@ use Rattle.iim_unpack.proofs.Ended.{ended_by_record, unended_inside}
 use Rattle.iim_unpack.proofs.Feeding.{TellsSizes, done_by}
 use Rattle.iim_places.proofs.Following.{alive_of}
 use Rattle.iim_places.proofs.Lasts.{sections_last}
-use Rattle.iim_places.proofs.LayersLead.{present_ended, front_alive}
-use Rattle.iim_places.proofs.LeadsByLayers.{whole_at}
+use Rattle.iim_places.proofs.LayersLead.{present_ended}
+use Rattle.iim_places.proofs.LeadsByLayers.{whole_at, begun_same}
 use Rattle.iim_places.proofs.PlainOpens.{possible_of}
-use Rattle.iim_places.proofs.SamePlace.{opened, fields_after, fields_in, some_read, has_begun, none_present, less_alive}
+use Rattle.iim_places.proofs.SamePlace.{opened, fields_after, fields_in, some_read, has_begun, none_present}
 use Rattle.iim_places.proofs.SameRecords.{stated_after_all}
 use Rattle.iim_places.proofs.Tickets.{count_of}
-use Rattle.iim_places.proofs.ReadersAt.{RestoreLaws, like, ended_reader, text_led, TagPhase, base_tag, live_tag, stand_tag, present_tag, object_tag, ending_tag, same_heads, object_data, keeps, between_tag}
+use Rattle.iim_places.proofs.ReadersAt.{RestoreLaws, like, ended_reader, text_led, TagPhase, base_tag, live_tag, stand_tag, present_tag, object_tag, ending_tag, object_data, keeps, between_tag}
 
 -- ---- between datasets, or in a tag, or at the end
 
@@ -85,9 +86,9 @@ within_data : RestoreLaws → (limits : Limits) (at : ℕ) (u : Unpacking) (ds :
 within_data laws limits at u ds h xs m text (l, made) goes open' octets less leads =
     let heads = length (of_record 8 ds) in
     let base = plain (kept ds) l.numbers (one_of_some heads) [] false in
-    let is : record_datasets (place_of ds (InData h xs) m) l.numbers ≡ base = ap (λ (n : ℕ). plain (kept ds) l.numbers (one_of_some n) [] false) (same_heads heads (nat_eq h.rec 8)) in
+    let is : record_datasets (place_of ds (InData h xs) m) l.numbers ≡ base = ap (λ (n : ℕ). plain (kept ds) l.numbers (one_of_some n) [] false) (begun_same heads (nat_eq h.rec 8)) in
     let alive_at : SectionsLiveAt base h = subst (λ (es : List Dataset). SectionsLiveAt es h) is l.records in
-    let alike = like laws (kept ds) l.numbers heads false ds l.kept (sym l.numbers_are) (front_alive base h alive_at) (less_alive ds h goes.records) goes.within.subfiles refl refl open' in
+    let alike = like laws (kept ds) l.numbers heads false ds l.kept (sym l.numbers_are) (head_alive base h alive_at) (head_alive ds h goes.records) goes.within.subfiles refl refl open' in
     let given = if nat_eq h.rec 8 then [] else xs in
     let stand : records.StandsIn u.parts.fields base h given = subst (λ (es : List Dataset). records.StandsIn u.parts.fields es h given) is made.records in
     record {

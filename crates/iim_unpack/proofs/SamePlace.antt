@@ -9,6 +9,7 @@ use Rattle.iim_dataset.specs.declared.head.Head.{Head}
 use Rattle.iim_fields.specs.Format.Faults.{section_after}
 use Rattle.iim_fields.specs.States.Standing as records
 use Rattle.iim_fields.specs.declared.limits.Limits.{Limits}
+use Rattle.iim_fields.proofs.Sections.{head_alive}
 use Rattle.iim_object.specs.Format.Numbers.{place_after_datasets}
 use Rattle.wire_message.specs.Format.Layers.{text_so_far}
 use Rattle.iim_places.specs.Format.Admitted.{object_of}
@@ -23,7 +24,7 @@ use Rattle.iim_unpack.specs.Laws.Tickets.{UnpackersStandByPlace}
 use Rattle.iim_unpack.specs.declared.parts.Parts.{Parts}
 use Rattle.iim_places.proofs.Following.{alive_of}
 use Rattle.iim_places.proofs.SameRecords.{same_records, stated_after_all, stated_at}
-use Rattle.iim_places.proofs.SamePlace.{fields_after, object_as, SameWhole, object_lives_after_as, message_as, SameMessage, fields_in, object_at_as, less_alive, SameAll, total_as, count_as, SameData, SameBegun, octets_of, same_message, some_read, keeps_as, opened, held_open, has_as, same_begun}
+use Rattle.iim_places.proofs.SamePlace.{fields_after, object_as, SameWhole, object_lives_after_as, message_as, SameMessage, fields_in, object_at_as, SameAll, total_as, count_as, SameData, SameBegun, octets_of, same_message, some_read, keeps_as, opened, held_open, has_as, same_begun}
 
 -- ---- the parts
 
@@ -42,7 +43,7 @@ after_as laws limits parts ds es at goes present same m =
 within_as : PlaceLaws → (limits : Limits) (parts : Parts) (ds es : List Dataset) (h : Head) (xs ys : List ℕ) → Within parts ds h xs → CanContinueAt limits es h → Octets ys
     → (if h.rec == 8 then [] else xs) ≡ (if h.rec == 8 then [] else ys) → SameWhole ds es → SameMessage (object_so_far ds (InData h xs)) (object_so_far es (InData h ys)) → Within parts es h ys
 within_as laws limits parts ds es h xs ys at goes octets given same m =
-    let recs = same_records laws.answer.follow laws.answer.numbers ds es (less_alive ds h at.fields.alive) (less_alive es h goes.records) at.few goes.within.subfiles same.fields in record {
+    let recs = same_records laws.answer.follow laws.answer.numbers ds es (head_alive ds h at.fields.alive) (head_alive es h goes.records) at.few goes.within.subfiles same.fields in record {
       octets = octets;
       fields = subst (records.StandsIn parts.fields es h) given (fields_in laws.values parts.fields ds es h (if h.rec == 8 then [] else xs) at.fields goes.records same.fields.fields recs);
       object = object_as parts.object (place_at ds h) (place_at es h) at.object (object_at_as ds es h same)

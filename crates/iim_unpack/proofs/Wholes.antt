@@ -12,6 +12,7 @@ use Rattle.iim_fields.specs.States.Checks.{begun_head}
 use Rattle.iim_fields.specs.States.Standing as records
 use Rattle.iim_fields.specs.States.Standing.{FieldsPlace, IsBetween, section_of, begun_head_of}
 use Rattle.iim_fields.specs.Format.Values.{data_of, tells_number}
+use Rattle.iim_fields.proofs.Sections.{last_more}
 use Rattle.iim_dataset.specs.Format.Octets.{number}
 use Rattle.iim_object.specs.Format.Objects.{NumberRead}
 use Rattle.iim_object.specs.States.Reading as objects
@@ -29,7 +30,6 @@ use Rattle.iim_places.proofs.Objects.{records_alive}
 use Rattle.iim_places.proofs.Places.{silent_leads}
 use Rattle.iim_unpack.proofs.Carrying.{after_all}
 use Rattle.iim_places.proofs.ObjectOctets.{object_of_more, few_more}
-use Rattle.iim_places.proofs.Lasts.{present_last}
 
 -- ---- the kept records
 
@@ -73,7 +73,7 @@ after_one p new ds h xs eight nine at fields object message =
       object = object;
       few = few_more ds d at.few (λ is. absurd (not_eight is));
       message = subst (λ (o : List ℕ). wire.StandsAt new.message o (text_so_far o)) (sym same) (subst (λ m. wire.StandsAt m (object_of ds) (text_so_far (object_of ds))) (sym message) at.message);
-      ended = λ is. absurd (let bad : true ≡ false = sym (ap (λ (r : ℕ). nat_eq r 9) (sym (present_last 0 ds d) ∙ is)) ∙ nine in cc);
+      ended = λ is. absurd (let bad : true ≡ false = sym (ap (λ (r : ℕ). nat_eq r 9) (sym (last_more 0 ds d) ∙ is)) ∙ nine in cc);
     }
 
 after_whole : CloseLaws → (p new : Parts) (ds : List Dataset) (h : Head) (xs : List ℕ) → Keeps h.rec → AreAfter p ds → records.StandsAfter new.fields (ds ++ data_of h xs ∷ []) → new.object ≡ p.object → new.message ≡ p.message

@@ -1,6 +1,6 @@
 //! Calls of the audit.
 
-use crate::given::{LIMITS, STREAM};
+use crate::given::LIMITS;
 use crate::outcome::{Trouble, right};
 use iim_audit::{AuditCause, AuditFault, Report, audit, report_text};
 use iim_dataset::{FromRead, Source};
@@ -9,6 +9,7 @@ use jiff::Timestamp;
 use std::alloc::Global;
 use std::io::Read;
 use wire_story::Discard;
+use worked::STREAM;
 
 /// The report of the stream and of the stream again.
 const REPORT: &[u8] =

@@ -2,6 +2,7 @@
 use Rattle.std.proofs.Common.{◌≡◌, ℕ, ◌+◌, ◌<◌, ◌≤◌, Bool, true, false, ◌&&◌, ◌||◌, ◌==◌, nat_lt, List, [], ◌∷◌, ◌++◌, length, Option, Some, None, refl, sym, subst, ◌∙◌, arith, append_assoc, append-nil}
 use Rattle.std.proofs.lemmas.Bool.{and_parts, or_right, eqb-true, ltb-true}
 use Rattle.std.proofs.lemmas.List.{append_cancel_left}
+use Rattle.std.proofs.lemmas.Option.{same_Some}
 use Rattle.arrayvec.specs.ArrayVec.{ArrayVec}
 use Rattle.wire_story.specs.Format.Texts.{AreLines, Holds}
 use Rattle.wire_story.specs.States.Reading as story
@@ -18,7 +19,6 @@ use Rattle.wire_message.proofs.Machine.{of, begun, more_info, guarded, next, run
 use Rattle.wire_message.proofs.Runs.{unread, spelled_runs}
 use Rattle.wire_message.proofs.Alive.{begun_header}
 use Rattle.wire_message.proofs.TextSoFar.{none_yet, text_at}
-use Rattle.wire_message.proofs.OnePlace.{some_same}
 use Rattle.wire_message.proofs.Transitions.{field_more, field_one, field_none, field_from, one_is, filler_more, filler_soh, source_more, source_number, number_more, number_space, space_priority, priority_space, category_more, category_space, words_more, words_space, words_gap, info_more, info_gap, gap_more, gap_stx, text_more, text_etx, trailer_more, trailer_eot, end_more}
 
 -- ---- octets that stand at a place, whatever its reader of the text
@@ -278,7 +278,7 @@ reader_stands ends text (AfterEnd h v k) at = (0, refl, (ends text).0 at)
 reader_stands ends text p at = subst (story.StandsAt (Some 0)) (sym at) (0, refl, ([], [], (refl, omega arith, refl)))
 
 whole_text : stories.TextsEndInNoReturn → (text : List ℕ) → story.StandsAt (Some 0) text → AreLines text
-whole_text ends text at = (ends text).1 (subst (Holds text) (sym (some_same at.1)) at.2)
+whole_text ends text at = (ends text).1 (subst (Holds text) (sym (same_Some _ _ at.1)) at.2)
 
 story_stands : stories.TextsEndInNoReturn → (xs text : List ℕ) (p : Place) → Spells xs text p → story.StandsAt (reader_at p) text → StoryStands text p
 story_stands ends xs text (Text h reader) l at = at
@@ -291,7 +291,7 @@ story_stands ends xs text p l at = none_yet xs text p l refl
 pub alike : stories.TextsEndInNoReturn → stories.OctetsLeadOnAlike → OctetsLeadOnAlike
 alike ends law a b x t u y p q here there on =
     let parts = run_parts (Filler 0) a x (unread q) (spelled_runs (a ++ x) (t ++ y) q on.is_place on.spelled) in
-    let place : parts.0 ≡ unread p = some_same (sym parts.1 ∙ spelled_runs a t p here.is_place here.spelled) in
+    let place : parts.0 ≡ unread p = same_Some _ _ (sym parts.1 ∙ spelled_runs a t p here.is_place here.spelled) in
     let steps = octets_on (unread p) (unread q) x (subst (λ (s : Place). run s x ≡ Some (unread q)) place parts.2) in
     let mine : Spells (a ++ x) (t ++ steps.0) q = spells_read (a ++ x) (t ++ steps.0) q (steps.1 a t (stands_bare a t p here)).spelled in
     let same : steps.0 ≡ y = append_cancel_left t steps.0 y (sym (text_at (a ++ x) (t ++ steps.0) q on.is_place mine).text_is ∙ (text_at (a ++ x) (t ++ y) q on.is_place on.spelled).text_is) in

@@ -4,7 +4,7 @@ use Rattle.std.proofs.lemmas.Bool.{ltb-true, or_right}
 use Rattle.arrayvec.specs.ArrayVec.{ArrayVec}
 use Rattle.iim_dataset.specs.Format.Languages.{IsAlive}
 use Rattle.wire_story.specs.Format.Tokens.{OctetOrEnd, Octet, End, with_end}
-use Rattle.wire_story.proofs.SoFar.{with_end-append, map_snoc}
+use Rattle.wire_story.proofs.SoFar.{with_end-append, map_snoc, front_of, end_of}
 use Rattle.wire_message.specs.Format.Fields.{IsField, is_alphanumeric, is_trailer_octet, max_filler, max_source, max_number, max_category, max_words, max_trailer}
 use Rattle.iim_dataset.specs.Format.Octets.{is_digit, is_letter}
 use Rattle.wire_message.specs.Format.Messages.{Header, IsHeader, IsMessage, IsTrailer}
@@ -15,17 +15,6 @@ use Rattle.wire_message.specs.declared.place.Place.TheVariants.{Filler, Source, 
 use Rattle.wire_message.proofs.Machine.{of, begun, next, run, run_parts, first_step}
 use Rattle.wire_message.proofs.Runs.{unread, message_runs, spelled_runs}
 use Rattle.wire_message.proofs.Transitions.{filler_soh, source_more, source_number, number_space, space_priority, priority_space, category_more, category_space, words_more, words_gap, info_gap, gap_more, gap_stx, text_etx, trailer_eot, field_one, field_none}
-
--- ---- octets before tokens
-
-front_of : (xs object : List ℕ) (rest : List OctetOrEnd) → map Octet xs ++ rest ≡ with_end object → (tail : List ℕ) × (object ≡ xs ++ tail)
-front_of [] object rest e = (object, refl)
-front_of (b ∷ xs) [] rest e = absurd cc
-front_of (b ∷ xs) (c ∷ object) rest e =
-    let tails : map Octet xs ++ rest ≡ with_end object = cc in
-    let same : b ≡ c = cc in
-    let more = front_of xs object rest tails in
-    (more.0, ap (λ (n : ℕ). n ∷ object) (sym same) ∙ ap (λ (u : List ℕ). b ∷ u) more.1)
 
 -- ---- each place can continue to a message
 
@@ -147,16 +136,6 @@ message_dies xs text p b i l none = (
       cc,
 )
 
--- octets that end a message lead to its end
-ends_here : (xs object : List ℕ) (rest : List OctetOrEnd) → (map Octet xs ++ (End ∷ [])) ++ rest ≡ with_end object → xs ≡ object
-ends_here [] [] rest e = refl
-ends_here [] (c ∷ object) rest e = absurd cc
-ends_here (b ∷ xs) [] rest e = absurd cc
-ends_here (b ∷ xs) (c ∷ object) rest e =
-    let same : b ≡ c = cc in
-    let tails : (map Octet xs ++ (End ∷ [])) ++ rest ≡ with_end object = cc in
-    ap (λ (n : ℕ). n ∷ xs) same ∙ ap (λ (u : List ℕ). c ∷ u) (ends_here xs object rest tails)
-
 -- the place is past EOT
 abbrev pub IsAfterEnd : Place → Type 0
 IsAfterEnd (AfterEnd h t k) = Unit {0}
@@ -167,7 +146,7 @@ message_unfinished xs text p i l not_ended = (
   message_lives xs text p i l,
   λ alive.
       let m = alive.1 in
-      let same : xs ≡ m.object = ends_here xs m.object alive.0 m.tokens_are in
+      let same : xs ≡ m.object = sym (end_of xs m.object alive.0 m.tokens_are) in
       let whole : run (Filler 0) xs ≡ Some (AfterEnd m.head (of m.trailer) (length m.message.after)) = ap (run (Filler 0)) same ∙ message_runs m.object m.head m.text m.trailer m.message in
       let place : AfterEnd m.head (of m.trailer) (length m.message.after) ≡ unread p = some_same _ (unread p) (run (Filler 0) xs) whole (spelled_runs xs text p i l) in
       not_ended (subst IsAfterEnd place tt),

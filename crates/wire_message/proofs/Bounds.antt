@@ -1,6 +1,7 @@
 -- The numbers of octets that lead to a place are those from the least on, up to the greatest where there is one.
 use Rattle.std.proofs.Common.{◌≡◌, ℕ, ◌+◌, ◌≤◌, ◌↔◌, List, [], ◌∷◌, ◌++◌, length, replicate, Option, Some, None, refl, sym, ap, subst, ◌∙◌, arith, length-append, ⊎_elim}
 use Rattle.std.proofs.lemmas.List.{length-replicate}
+use Rattle.std.proofs.lemmas.Option.{same_Some}
 use Rattle.wire_message.specs.Format.Fields.{max_filler}
 use Rattle.wire_story.specs.Format.Texts.{IsTextSoFar, line_end}
 use Rattle.wire_message.specs.Format.Messages.{IsFiller, SpellsInfo, fixed_header}
@@ -9,7 +10,6 @@ use Rattle.wire_message.specs.States.SoFar.{IsPlace, LeadsTo}
 use Rattle.wire_message.specs.Format.Lengths.{LeadsIn, IsOneOf, least_of, greatest_of}
 use Rattle.wire_message.specs.declared.place.Place.{Place}
 use Rattle.wire_message.specs.declared.place.Place.TheVariants.{Filler, Gap, Text, Trailer, AfterEnd}
-use Rattle.wire_message.proofs.OnePlace.{some_same}
 use Rattle.wire_message.proofs.Reached.{leads, from_soh, from_soh_length, joined_length, packed_within}
 
 -- ---- the parts
@@ -70,7 +70,7 @@ within p octets text l = filler_within octets l.spelled.0 (from_soh p) (least_of
 pub lengths_are : (p : Place) → IsPlace p → (count : ℕ) → LeadsIn (Some p) count ↔ IsOneOf (least_of p) (greatest_of p) count
 lengths_are p i count = (
   λ led.
-      let there = subst (LeadsTo led.0 led.1) (sym (some_same led.2.1)) led.2.2 in
+      let there = subst (LeadsTo led.0 led.1) (sym (same_Some _ _ led.2.1)) led.2.2 in
       subst (IsOneOf (least_of p) (greatest_of p)) led.3 (within p led.0 led.1 there),
   λ one. let led = leads p i count one in (led.0, led.1, (p, refl, led.2), led.3),
 )

@@ -23,3 +23,5 @@ pub mod Headers
 pub mod Saving
 pub mod FrontHeads
 pub mod Tails
+-- What proofs of other crates cite.
+pub mod MessageOctets

@@ -1,5 +1,6 @@
 -- From a place octets with which a message can continue, and the story in it, lead on.
 use Rattle.std.proofs.Common.{◌≡◌, ℕ, Bool, true, cond, Some, List, [], ◌∷◌, ◌++◌, map, refl, sym, subst, ◌∙◌}
+use Rattle.std.proofs.lemmas.Option.{same_Some}
 use Rattle.iim_dataset.specs.Format.Languages.{IsAlive}
 use Rattle.wire_story.specs.Format.Texts.{AreLines}
 use Rattle.wire_story.specs.Format.Tokens.{Octet, End, StoryLanguage}
@@ -14,7 +15,6 @@ use Rattle.wire_message.proofs.Runs.{unread, spelled_runs}
 use Rattle.wire_message.proofs.Alive.{live_runs}
 use Rattle.wire_message.proofs.Alike.{Stands, Continues, stands_bare, octets_on}
 use Rattle.wire_message.proofs.Held.{holds_two}
-use Rattle.wire_message.proofs.OnePlace.{some_same}
 use Rattle.wire_message.proofs.TextSoFar.{text_ended, none_yet, text_at, tokens_are, tokens_of}
 
 -- from ETX on the text is whole
@@ -42,7 +42,7 @@ pub message_leads : (octets more text : List ℕ) (place : Place) → LeadsTo oc
 message_leads octets more text place led message =
     let ran = live_runs (octets ++ more) message in
     let parts = run_parts (Filler 0) octets more ran.0 ran.1 in
-    let at : parts.0 ≡ unread place = some_same (sym parts.1 ∙ spelled_runs octets text place led.is_place led.spelled) in
+    let at : parts.0 ≡ unread place = same_Some _ _ (sym parts.1 ∙ spelled_runs octets text place led.is_place led.spelled) in
     (ran.0, octets_on (unread place) ran.0 more (subst (λ (p : Place). run p more ≡ Some ran.0) at parts.2))
 
 pub living_lead_on : StoriesLiveAsTextsSoFar → StoriesEndAsTexts → LivingOctetsLeadOn

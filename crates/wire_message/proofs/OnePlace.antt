@@ -1,5 +1,6 @@
 -- Octets lead to one place at most, with one text.
 use Rattle.std.proofs.Common.{◌≡◌, ℕ, Bool, true, false, List, Option, Some, None, refl, sym, ap, subst, ◌∙◌}
+use Rattle.std.proofs.lemmas.Option.{same_Some}
 use Rattle.wire_story.specs.Format.Texts.{Holds}
 use Rattle.wire_story.specs.Laws.Texts.{TextsSoFarHaveOneReading}
 use Rattle.wire_message.specs.States.SoFar.{StoryStands}
@@ -8,9 +9,6 @@ use Rattle.wire_message.specs.declared.place.Place.{Place}
 use Rattle.wire_message.specs.declared.place.Place.TheVariants.{Text}
 use Rattle.wire_message.proofs.Runs.{unread, spelled_runs}
 use Rattle.wire_message.proofs.Standing.{texts_between}
-
-pub some_same : {A : Type 0} {p q : A} → Some p ≡ Some q → p ≡ q
-some_same e = cc
 
 pub one_held : TextsSoFarHaveOneReading → (x : List ℕ) (held returns : ℕ) → Holds x held → Holds x returns → held ≡ returns
 one_held law x held returns h k = (law x h.0 k.0 h.1 k.1 held returns h.2 k.2).2
@@ -54,5 +52,5 @@ same_place law text p q e a b =
 pub one_place : TextsSoFarHaveOneReading → OctetsLeadToOnePlace
 one_place law octets text other p q a b =
     let same : text ≡ other = texts_between octets text p a ∙ sym (texts_between octets other q b) in
-    let runs : unread p ≡ unread q = some_same (sym (spelled_runs octets text p a.is_place a.spelled) ∙ spelled_runs octets other q b.is_place b.spelled) in
+    let runs : unread p ≡ unread q = same_Some _ _ (sym (spelled_runs octets text p a.is_place a.spelled) ∙ spelled_runs octets other q b.is_place b.spelled) in
     (same, same_place law text p q runs a.story (subst (λ t. StoryStands t q) (sym same) b.story))

@@ -1,6 +1,7 @@
 -- From one place an octet is refused for one cause, whatever octets have led there.
 use Rattle.std.proofs.Common.{◌≡◌, ℕ, Some, List, [], ◌∷◌, ◌++◌, sym, ap, subst, ◌∙◌}
 use Rattle.std.proofs.lemmas.List.{append_cancel_left}
+use Rattle.std.proofs.lemmas.Option.{same_Some}
 use Rattle.iim_dataset.specs.Format.Languages.{IsAlive}
 use Rattle.wire_story.specs.Format.Texts.{Holds}
 use Rattle.wire_story.specs.Laws.Texts.{TextsSoFarHaveOneReading, TextsEndInNoReturn}
@@ -17,7 +18,7 @@ use Rattle.wire_message.proofs.Alive.{message_lives}
 use Rattle.wire_message.proofs.Alike.{Stands, reader_stands, stands_bare}
 use Rattle.wire_message.proofs.Held.{holds_none}
 use Rattle.wire_message.proofs.Living.{message_leads}
-use Rattle.wire_message.proofs.OnePlace.{one_held, some_same}
+use Rattle.wire_message.proofs.OnePlace.{one_held}
 use Rattle.wire_message.proofs.Standing.{texts_between}
 
 -- The laws from which this one follows.
@@ -83,7 +84,7 @@ held_alike laws a b t u p held both holds =
     let mine = reader_stands laws.ends t p both.here.story in
     let other = reader_stands laws.ends u p both.there.story in
     let same : held ≡ mine.0 = one_held laws.one t held mine.0 (subst (λ (x : List ℕ). Holds x held) (sym (texts_between a t p both.here)) holds) mine.2 in
-    let held_is : other.0 ≡ held = some_same (sym other.1 ∙ (mine.1 ∙ ap Some (sym same))) in
+    let held_is : other.0 ≡ held = same_Some _ _ (sym other.1 ∙ (mine.1 ∙ ap Some (sym same))) in
     subst (λ (x : List ℕ). Holds x held) (texts_between b u p both.there) (subst (Holds u) held_is other.2)
 
 -- ---- the sink

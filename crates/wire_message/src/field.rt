@@ -30,6 +30,7 @@ pub(crate) fn kept<const ROOM: usize>(octets: &[u8]) -> ArrayVec<u8, ROOM>
     ensures { result.items ≡ octets.now }
 {
     let mut kept = ArrayVec::new();
+    // There is room, so it cannot fail.
     let _ = kept.try_extend_from_slice(octets);
     kept
 }
@@ -66,6 +67,7 @@ pub(crate) fn take_run<const ROOM: usize>(
     let room = part.remaining_capacity();
     let most = octets.len().min(room);
     let run = run_len(class, &octets[..most]);
+    // There is room, so it cannot fail.
     let _ = part.try_extend_from_slice(&octets[..run]);
     run
 }

@@ -19,6 +19,7 @@ fn append<const ROOM: usize>(out: &mut ArrayVec<u8, ROOM>, octets: &[u8])
     ensures items { out.new.items ≡ out.old.items ++ octets.now }
     ensures len { array_vec_len out.new ≡ array_vec_len out.old + length octets.now }
 {
+    // There is room, so it cannot fail.
     let _ = out.try_extend_from_slice(octets);
 }
 

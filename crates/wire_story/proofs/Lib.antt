@@ -5,7 +5,6 @@ pub mod Readings
 pub mod Reached
 pub mod Pieces
 pub mod MadeTexts
-pub mod PackedEvents
 pub mod Marked
 pub mod Words
 pub mod Calm
@@ -16,3 +15,4 @@ pub mod Counted
 pub mod Collected
 pub mod Spans
 pub mod SoFar
+pub mod PackedEvents

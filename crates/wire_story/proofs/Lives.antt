@@ -5,21 +5,7 @@ use Rattle.iim_dataset.specs.Format.Languages.{IsAlive}
 use Rattle.wire_story.specs.Format.Texts.{IsLine, line_end, IsText, IsTextSoFar, Holds, AreLines}
 use Rattle.wire_story.specs.Format.Tokens.{OctetOrEnd, Octet, End, with_end, StoryLanguage, LivesWith, StoryDiesAt}
 use Rattle.wire_story.proofs.HeldReturns.{held_after, after_octet, held_is, so_far, and_then_is}
-use Rattle.wire_story.proofs.SoFar.{with_end-append, map_snoc}
-
--- ---- octets and their end
-
--- what begins octets with their end begins the octets, or is all of them
-pub front_of : (x text : List ℕ) (rest : List OctetOrEnd) → map Octet x ++ rest ≡ with_end text
-    → (y : List ℕ) × (text ≡ x ++ y) × (rest ≡ with_end y)
-front_of [] text rest e = (text, refl, e)
-front_of (b ∷ bs) [] rest e = absurd cc
-front_of (b ∷ bs) (t ∷ ts) rest e =
-    let tails : map Octet bs ++ rest ≡ with_end ts = cc in
-    let more = front_of bs ts rest tails in
-    let first : t ≡ b = cc in
-    let rests : ts ≡ bs ++ more.0 = more.1 in
-    (more.0, cc, more.2)
+use Rattle.wire_story.proofs.SoFar.{with_end-append, map_snoc, front_of, end_of}
 
 -- ---- texts and texts so far
 
@@ -117,17 +103,6 @@ dies x k b h none = (
       let clash : after_octet k b ≡ Some q.0 = subst (λ (n : ℕ). after_octet n b ≡ Some q.0) same q.1 in
       cc,
 )
-
--- the end of the octets ends all of them
-end_of : (x text : List ℕ) (rest : List OctetOrEnd) → (map Octet x ++ (End ∷ [])) ++ rest ≡ with_end text → text ≡ x
-end_of [] [] rest e = refl
-end_of [] (t ∷ ts) rest e = absurd cc
-end_of (b ∷ bs) [] rest e = absurd cc
-end_of (b ∷ bs) (t ∷ ts) rest e =
-    let tails : (map Octet bs ++ (End ∷ [])) ++ rest ≡ with_end ts = cc in
-    let more = end_of bs ts rest tails in
-    let first : t ≡ b = cc in
-    cc
 
 pub ended_lines : (x : List ℕ) → IsAlive StoryLanguage (map Octet x ++ End ∷ []) → AreLines x
 ended_lines x h =

@@ -4,6 +4,7 @@ use Rattle.std.specs.List.{list_all, join_with_byte}
 use Rattle.std.proofs.lemmas.Bool.{and_parts, and_from}
 use Rattle.wire_story.specs.Format.Texts.{is_line_octet, IsText, MakeText, packed_text}
 use Rattle.wire_story.specs.Format.Delivery.{StoryEvent, LineOctet, LineEnd, events_of_lines, octet_for}
+use Rattle.wire_story.specs.WritingLaws.{octets_of_line}
 
 pub packed : (lines : List (List ℕ)) → MakeText lines → IsText (packed_text lines) lines
 packed [] h = absurd (omega (arith, h.0))
@@ -20,10 +21,6 @@ each_line x (line ∷ next ∷ lines) h = and_from (list_all is_line_octet line)
 pub made : (x : List ℕ) (lines : List (List ℕ)) → IsText x lines → MakeText lines
 made x [] h = absurd h
 made x (line ∷ lines) h = (omega arith, each_line x (line ∷ lines) h)
-
-pub octets_of_line : (line : List ℕ) → map octet_for (map LineOctet line) ≡ line
-octets_of_line [] = refl
-octets_of_line (b ∷ bs) = ap (λ (t : List ℕ). b ∷ t) (octets_of_line bs)
 
 octets_of_more : (line : List ℕ) (es : List StoryEvent) → map octet_for (map LineOctet line ++ es) ≡ line ++ map octet_for es
 octets_of_more [] es = refl

@@ -10,11 +10,11 @@ use Rattle.wire_story.specs.Format.Packing.{packed_event, packed_events, AreEven
 use Rattle.wire_story.specs.Laws.Packing.{LinesArePackedAsTheirEvents, EventsArePackedAsLines}
 use Rattle.wire_story.proofs.Collected.{octet_made}
 
-line_packed : (line : List ℕ) → packed_events (map LineOctet line) ≡ line
+pub line_packed : (line : List ℕ) → packed_events (map LineOctet line) ≡ line
 line_packed [] = refl
 line_packed (b ∷ bs) = ap (λ (t : List ℕ). b ∷ t) (line_packed bs)
 
-events_append : (xs ys : List StoryEvent) → packed_events (xs ++ ys) ≡ packed_events xs ++ packed_events ys
+pub events_append : (xs ys : List StoryEvent) → packed_events (xs ++ ys) ≡ packed_events xs ++ packed_events ys
 events_append [] ys = refl
 events_append (x ∷ xs) ys = ap (λ (t : List ℕ). packed_event x ++ t) (events_append xs ys) ∙ sym (append_assoc (packed_event x) (packed_events xs) (packed_events ys))
 

@@ -1,7 +1,7 @@
 -- Octets as tokens, and texts so far: lemmas that proofs on messages cite too.
 use Rattle.std.proofs.Common.{◌≡◌, ℕ, ◌≤◌, List, [], ◌∷◌, ◌++◌, map, refl, ap}
 use Rattle.wire_story.specs.Format.Texts.{IsTextSoFar}
-use Rattle.wire_story.specs.Format.Tokens.{OctetOrEnd, Octet, with_end}
+use Rattle.wire_story.specs.Format.Tokens.{OctetOrEnd, Octet, End, with_end}
 
 pub with_end-append : (x y : List ℕ) → with_end (x ++ y) ≡ map Octet x ++ with_end y
 with_end-append [] y = refl
@@ -10,6 +10,29 @@ with_end-append (b ∷ bs) y = ap (λ (t : List OctetOrEnd). Octet b ∷ t) (wit
 pub map_snoc : (x : List ℕ) (b : ℕ) → map Octet x ++ (Octet b ∷ []) ≡ map Octet (x ++ (b ∷ []))
 map_snoc [] b = refl
 map_snoc (a ∷ as') b = ap (λ (t : List OctetOrEnd). Octet a ∷ t) (map_snoc as' b)
+
+-- what begins octets with their end begins the octets, or is all of them
+pub front_of : (x text : List ℕ) (rest : List OctetOrEnd) → map Octet x ++ rest ≡ with_end text
+    → (y : List ℕ) × (text ≡ x ++ y) × (rest ≡ with_end y)
+front_of [] text rest e = (text, refl, e)
+front_of (b ∷ bs) [] rest e = absurd cc
+front_of (b ∷ bs) (t ∷ ts) rest e =
+    let tails : map Octet bs ++ rest ≡ with_end ts = cc in
+    let more = front_of bs ts rest tails in
+    let first : t ≡ b = cc in
+    let rests : ts ≡ bs ++ more.0 = more.1 in
+    (more.0, cc, more.2)
+
+-- the end of the octets ends all of them
+pub end_of : (x text : List ℕ) (rest : List OctetOrEnd) → (map Octet x ++ (End ∷ [])) ++ rest ≡ with_end text → text ≡ x
+end_of [] [] rest e = refl
+end_of [] (t ∷ ts) rest e = absurd cc
+end_of (b ∷ bs) [] rest e = absurd cc
+end_of (b ∷ bs) (t ∷ ts) rest e =
+    let tails : (map Octet bs ++ (End ∷ [])) ++ rest ≡ with_end ts = cc in
+    let more = end_of bs ts rest tails in
+    let first : t ≡ b = cc in
+    cc
 
 -- a text so far ends in two CR at most
 pub so_far_two : (x : List ℕ) (lines : List (List ℕ)) (line : List ℕ) (held : ℕ) → IsTextSoFar x lines line held → held ≤ 2

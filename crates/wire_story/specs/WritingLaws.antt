@@ -1,11 +1,12 @@
 -- The laws of writers of lines, handed in by their impl.
-use Rattle.std.proofs.Common.{◌≡◌, ℕ, ◌≤◌, inl, inr, List, [], ◌++◌, map, refl, sym, subst, ◌∙◌, arith}
+use Rattle.std.proofs.Common.{◌≡◌, ℕ, ◌≤◌, inl, inr, List, [], ◌∷◌, ◌++◌, map, refl, ap, sym, subst, ◌∙◌, arith}
 use Rattle.std.proofs.lemmas.Bool.{cases_lt}
 use Rattle.std.specs.Io.KnownBytes.{Appends}
 use Rattle.std.proofs.lemmas.List.{map-append}
 use Rattle.iim_dataset.specs.States.Devices.{Device, RoseAtLeast, max_interruptions}
 use Rattle.iim_dataset.specs.Appending.{appends_nothing, appends_joined}
-use Rattle.wire_story.specs.Format.Delivery.{StoryEvent, octet_for}
+use Rattle.iim_dataset.specs.Rising.{rose_before, rose_after}
+use Rattle.wire_story.specs.Format.Delivery.{StoryEvent, LineOctet, octet_for}
 use Rattle.wire_story.specs.States.Writing.{HasBroken, WritesOn}
 
 pub writes_nothing : (device : Device) (stops : ℕ) → WritesOn device device stops stops []
@@ -18,20 +19,11 @@ writes_nothing device stops = record {
   unbroken = λ same few. refl;
 }
 
--- a count that rose stays so
-rose_before : (k a b c : ℕ) → b ≤ c → RoseAtLeast k a b → RoseAtLeast k a c
-rose_before k a b c le (inl h) = inl (omega (arith, h, le))
-rose_before k a b c le (inr h) = inr (omega (arith, h, le))
-
-rose_after : (k a b c : ℕ) → a ≤ b → RoseAtLeast k b c → RoseAtLeast k a c
-rose_after k a b c le (inl h) = inl (omega (arith, h, le))
-rose_after k a b c le (inr h) = inr h
-
 broken_before : (a b c : Device) → b.failures ≤ c.failures → b.interruptions ≤ c.interruptions → HasBroken a b → HasBroken a c
 broken_before a b c f i (inl h) = inl (rose_before 1 a.failures b.failures c.failures f h)
 broken_before a b c f i (inr h) = inr (rose_before max_interruptions a.interruptions b.interruptions c.interruptions i h)
 
-broken_after : (a b c : Device) → a.failures ≤ b.failures → a.interruptions ≤ b.interruptions → HasBroken b c → HasBroken a c
+pub broken_after : (a b c : Device) → a.failures ≤ b.failures → a.interruptions ≤ b.interruptions → HasBroken b c → HasBroken a c
 broken_after a b c f i (inl h) = inl (rose_after 1 a.failures b.failures c.failures f h)
 broken_after a b c f i (inr h) = inr (rose_after max_interruptions a.interruptions b.interruptions c.interruptions i h)
 
@@ -51,3 +43,7 @@ writes_joined a b c i j k xs ys h l = record {
       let then : k ≡ j = omega (arith, first, same) in
       l.unbroken then few ∙ h.unbroken first (omega (arith, first, same, few));
 }
+
+pub octets_of_line : (line : List ℕ) → map octet_for (map LineOctet line) ≡ line
+octets_of_line [] = refl
+octets_of_line (b ∷ bs) = ap (λ (t : List ℕ). b ∷ t) (octets_of_line bs)

@@ -5,9 +5,11 @@
 
 mod least;
 mod rates;
+mod stream;
 
 pub use least::{SMALLEST, SMALLEST_FRONT, SMALLEST_OBJECT};
 pub use rates::{
     FIRST_LINE, LAST_LINE, STORY, STORY_CONFIRMED, STORY_FIELDS, STORY_FRONT, STORY_OBJECT,
     STORY_REST,
 };
+pub use stream::STREAM;

@@ -1,4 +1,5 @@
 use Rattle.std.proofs.Common.{rules, ◌≡◌, ◌∙◌, ◌+◌, Option, None, Some, IsSome, [], refl, sym, append-nil}
+use Rattle.iim_dataset.proofs.Lists.{none_is_none, handed_on}
 use Rattle.iim_unpack.specs.States.Intakes.{in_line}
 use Rattle.iim_commands.specs.Format.Lines.{refused_line, too_many_line}
 use Rattle.iim_places.specs.Format.Listing.{max_envelopes, Whole, RefusedBy, TooMany}
@@ -9,7 +10,7 @@ use Rattle.iim_commands.specs.declared.fault.CommandFault.TheVariants.{OutOfMemo
 use Rattle.iim_commands.proofs.Listings.{AreListed, ends_refused, failed, left_of, none_left, none_listed, listed, listed_more, listed_out, starved, unended, unsaid_of}
 use Rattle.iim_commands.specs.HoldingLaws.{put_nothing}
 use Rattle.iim_commands.proofs.Taken.{come_as, end_as, kept_next, lives_as, refusal_as}
-use Rattle.iim_commands.proofs.Told.{added, handed_on}
+use Rattle.iim_commands.proofs.Told.{added}
 use Rattle.iim_commands.specs.States.Coming.{EnvelopeHasCome, IsRefusal}
 use Rattle.iim_commands.proofs.list.list_texts.Given.{Over}
 use Rattle.iim_commands.proofs.list.list_texts.Goals.{After-take_next, In-Envelope, In-Refused}
@@ -253,10 +254,6 @@ returns-in_err-add_last-in-Refused-clause-same g c = c.in_err-add_last-in-Refuse
 
 pub returns-in-Refused-clause-same : goal.returns-in-Refused-clause-same
 returns-in-Refused-clause-same g c = c.in_ok-add_last-in-Refused.ensures.ok.same ∙ keeps_so_far g (goal.at.returns-in-Refused-clause-same g c).After-take_next
-
-none_is_none : {A : Type 0} (r : Option A) → r ≡ None → IsSome r → ⊥
-none_is_none (Some x) none some = absurd cc
-none_is_none None none some = absurd cc
 
 pub unreachable-requires : goal.unreachable-requires
 unreachable-requires g c =

@@ -1,4 +1,5 @@
 use Rattle.std.proofs.Common.{◌≡◌, [], Some, refl, ap, sym, ◌∙◌, map, subst, string_bytes, codes}
+use Rattle.iim_dataset.proofs.Lists.{handed_on}
 use Rattle.clap.specs.Matches.{found_of}
 use Rattle.clap.specs.Simple.{App, subcommand_rows_of}
 use Rattle.clap.specs.Walk.{Text, rows_of}
@@ -6,7 +7,7 @@ use Rattle.clap.specs.Words.{is_simple, is_simple_and_free, fault_of, subcommand
 use Rattle.clap.proofs.WalkLemmas.{first_value-rows}
 use Rattle.iim_commands.specs.Format.Requests.{AsksJob, IsFaultOf, program}
 use Rattle.iim_commands.specs.Verbs.{verb_name}
-use Rattle.iim_commands.proofs.Requests.{fault_of_job, handed_on, names, names_verb, program_simple, program_free}
+use Rattle.iim_commands.proofs.Requests.{fault_of_job, names, names_verb, program_simple, program_free}
 use Rattle.iim_commands.proofs.request.parse.Goals as goal
 
 pub unreachable-requires-in_default-verb_named : goal.unreachable-requires-in_default-verb_named

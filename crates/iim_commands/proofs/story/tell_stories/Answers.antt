@@ -1,6 +1,7 @@
 use Rattle.std.proofs.Common.{rules, ◌≡◌, ◌+◌, [], ◌∷◌, ◌++◌, length, map, refl, sym, ap, ◌∙◌, append-nil, arith}
 use Rattle.iim_dataset.specs.Format.Characters.{lf}
 use Rattle.iim_dataset.specs.States.Devices.{Wrote}
+use Rattle.iim_dataset.proofs.Lists.{handed_on}
 use Rattle.iim_unpack.specs.States.Intakes.{in_line}
 use Rattle.wire_story.specs.Format.Delivery.{octet_for}
 use Rattle.iim_commands.specs.States.Holding.{HoldsNothing, KeepsWriter, PutsLines, PutsOn, StaysStuck, device_of, stops_of}
@@ -12,7 +13,7 @@ use Rattle.iim_commands.specs.declared.fault.CommandFault.TheVariants.{OutOfMemo
 use Rattle.iim_commands.proofs.Narration.{TextIsTaken, taken_out, broke_in_line, broke_in_lines, held_back_as, narrated, narrated_more, pushed, refused_within, story_out, text_out, text_refused, text_taken, unended_keeps, unended_text, none_narrated, nothing_told, unfed, unfed_for_memory, wrote_by}
 use Rattle.iim_commands.proofs.Listings.{ends_refused, left_of, none_left}
 use Rattle.iim_commands.proofs.Taken.{end_as, kept_next, lives_as, refusal_as}
-use Rattle.iim_commands.proofs.Told.{added, handed_on}
+use Rattle.iim_commands.proofs.Told.{added}
 use Rattle.iim_commands.specs.States.Coming.{IsRefusal}
 use Rattle.iim_commands.proofs.story.tell_stories.Given.{Over}
 use Rattle.iim_commands.proofs.story.tell_stories.Goals.{After-take_next, In-Envelope, In-Refused}

@@ -1,11 +1,9 @@
 use Rattle.std.proofs.Common.{◌≡◌, ◌-◌, ◌<◌, ℕ, List, [], ◌∷◌, length, take, drop, get_or, sym, ◌∙◌, ap, subst, inl, refl, rules, IfSome, IfNone, arith}
 use Rattle.std.proofs.lemmas.Bool.{eqb-true}
+use Rattle.iim_dataset.proofs.Lists.{some_there}
 use Rattle.iim_script.specs.Format.Shown.{BeginsWith}
 use Rattle.iim_script.proofs.Texts.{first_and_rest, empty_begins}
 use Rattle.iim_script.proofs.shown.first_octet.Goals as goal
-
-some_there : (xs : List ℕ) → (length xs ≡ 0 → ⊥) → 0 < length xs
-some_there xs n = omega (arith, n)
 
 none_there : (xs rest : List ℕ) (octet : ℕ) → length xs ≡ 0 → BeginsWith xs octet rest → ⊥
 none_there [] rest octet e h = empty_begins rest octet h

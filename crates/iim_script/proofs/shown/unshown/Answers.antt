@@ -1,6 +1,7 @@
 use Rattle.std.proofs.Common.{ℕ, List, sym, subst, rules}
 use Rattle.std.proofs.lemmas.Bool.{eqb-true}
-use Rattle.iim_script.proofs.Texts.{Onto, onto_step, onto_end, onto_none, some_there}
+use Rattle.iim_dataset.proofs.Lists.{some_there}
+use Rattle.iim_script.proofs.Texts.{Onto, onto_step, onto_end, onto_none}
 use Rattle.iim_script.proofs.shown.unshown.Goals as goal
 
 pub returns-in_default-clause-none : goal.returns-in_default-clause-none

@@ -1,9 +1,9 @@
 use Rattle.std.proofs.Common.{◌+◌, ℕ, [], List, Bor, get_or, take, drop, refl, sym, subst, ◌∙◌}
+use Rattle.iim_dataset.proofs.Lists.{handed_on}
 use Rattle.iim_unpack.specs.PiecesSoFar.{HasFedPieces}
 use Rattle.iim_unpack.specs.Format.Pieces.{IsTurnedDown, stream_of}
 use Rattle.iim_unpack.specs.States.Unpacking.{limits_in}
 use Rattle.iim_unpack.proofs.PieceLemmas.{CountLaws, AreLow, begin_fed, tells_parts_on, turned_down, still_taking, stream_step, stream_rest}
-use Rattle.iim_places.proofs.Results.{handed_on}
 use Rattle.iim_unpack.proofs.pieces.feed_pieces.Goals as goal
 
 pub loop-piece-init : goal.loop-piece-init

@@ -1,7 +1,7 @@
 use Rattle.iim_unpack.specs.Format.Pieces.{IsTurnedDown, stream_of}
 use Rattle.iim_unpack.specs.States.Unpacking.{limits_in}
 use Rattle.iim_unpack.proofs.PieceLemmas.{is_unpacked, only_down, only_up, only_on, ends_short, ends_done, short_counts}
-use Rattle.iim_places.proofs.Results.{handed_on}
+use Rattle.iim_dataset.proofs.Lists.{handed_on}
 use Rattle.iim_unpack.proofs.pieces.unpack_pieces.Goals as goal
 
 pub returns-in_err-feed_pieces-clause-refused : goal.returns-in_err-feed_pieces-clause-refused

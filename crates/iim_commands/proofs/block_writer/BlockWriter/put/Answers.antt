@@ -1,8 +1,9 @@
 use Rattle.std.proofs.Common.{[], take, sym, subst}
 use Rattle.std.proofs.lemmas.Result.{IfErr-weaker}
+use Rattle.iim_object.proofs.Outputs.{on_ok}
 use Rattle.iim_commands.specs.States.Holding.{HasStuck, PutsOn}
 use Rattle.iim_commands.specs.HoldingLaws.{put_on, puts_on}
-use Rattle.iim_commands.proofs.Holding.{on_ok, stuck_on}
+use Rattle.iim_commands.proofs.Holding.{stuck_on}
 use Rattle.iim_commands.proofs.block_writer.BlockWriter.put.Goals as goal
 
 pub returns-in-Ok-clause-put : goal.returns-in-Ok-clause-put

@@ -1,6 +1,7 @@
 use Rattle.std.proofs.Common.{take}
 use Rattle.std.proofs.lemmas.Result.{IfErr-weaker}
-use Rattle.iim_commands.proofs.Holding.{on_ok, told_line}
+use Rattle.iim_object.proofs.Outputs.{on_ok}
+use Rattle.iim_commands.proofs.Holding.{told_line}
 use Rattle.iim_commands.proofs.block_writer.BlockWriterStorySink.text.Goals as goal
 
 pub returns-clause-ok : goal.returns-clause-ok

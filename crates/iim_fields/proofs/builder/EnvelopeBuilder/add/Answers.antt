@@ -1,12 +1,12 @@
 use Rattle.std.proofs.Common.{◌≡◌, List, ℕ, length-append, ◌∷◌, ◌++◌, [], length, sym, ap, ◌∙◌, subst, Option, Some, None}
 use Rattle.std.specs.Prelude.{vec_capacity}
 use Rattle.iim_dataset.specs.Format.Datasets.{Dataset}
+use Rattle.iim_dataset.proofs.Lists.{handed_on}
 use Rattle.iim_fields.specs.Format.Faults.{room_fault}
 use Rattle.iim_fields.specs.States.Checks.{HasChecked}
 use Rattle.iim_fields.specs.StoreLayout.{fields_of}
 use Rattle.iim_fields.specs.States.Builders.{Building, add_fault}
 use Rattle.iim_fields.specs.declared.check.RecordPlace.{RecordPlace}
-use Rattle.iim_fields.proofs.Handed.{handed_on}
 use Rattle.iim_fields.proofs.Build.{Stored, added_room_fault, added_value_fault, added_fine, fields_more, building_more}
 use Rattle.iim_fields.proofs.builder.EnvelopeBuilder.add.Goals as goal
 

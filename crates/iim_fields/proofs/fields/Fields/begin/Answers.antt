@@ -1,9 +1,9 @@
 use Rattle.std.proofs.Common.{List, [], sym, subst, ◌∙◌}
 use Rattle.iim_fields.specs.Format.Faults.{room_fault}
 use Rattle.iim_dataset.specs.Format.Datasets.{Dataset}
+use Rattle.iim_dataset.proofs.Lists.{handed_on}
 use Rattle.iim_fields.specs.States.Standing.{FieldsPlace, StandsAfter, StandsIn, IsHeadFault, IsBetween, limits_of}
 use Rattle.iim_fields.specs.Reading.{place_of}
-use Rattle.iim_fields.proofs.Handed.{handed_on}
 use Rattle.iim_fields.proofs.Stand.{fault_of_record, fault_of_room, stands_in, reading_begun}
 use Rattle.iim_fields.proofs.fields.Fields.begin.Goals as goal
 

@@ -1,11 +1,11 @@
 use Rattle.std.proofs.Common.{◌≡◌, List, ℕ, [], ◌∷◌, ◌++◌, sym, ap, subst, refl, ◌∙◌, None}
 use Rattle.iim_dataset.specs.Format.Datasets.{Dataset}
 use Rattle.iim_dataset.specs.declared.head.Head.{Head}
+use Rattle.iim_dataset.proofs.Lists.{handed_on}
 use Rattle.iim_fields.specs.Format.Values.{data_of, number_told}
 use Rattle.iim_fields.specs.States.Checks.{HasChecked, IsChecking, IsValueFault}
 use Rattle.iim_fields.specs.States.Standing.{FieldsPlace, CanClose, StandsAfter, StandsIn, IsOf}
 use Rattle.iim_fields.specs.Reading.{place_of}
-use Rattle.iim_fields.proofs.Handed.{handed_on}
 use Rattle.iim_fields.proofs.Stand.{ends_within, closed_subfile, closes_in, stands_closed, refused_value, somewhere_closed, kept_in_store, reading_kept, reading_passed, somewhere_subfile, entry_room, in_store_alone}
 use Rattle.iim_fields.proofs.Stand.Kept.{Passed}
 use Rattle.iim_fields.proofs.fields.Fields.close.Goals as goal

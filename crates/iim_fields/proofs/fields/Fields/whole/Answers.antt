@@ -1,12 +1,13 @@
 use Rattle.std.proofs.Common.{◌≡◌, List, [], ◌∷◌, ◌++◌, ap, sym, subst, ◌∙◌, arith, true, false}
 use Rattle.std.specs.Prelude.{is_some, is_none}
 use Rattle.iim_dataset.specs.Format.Datasets.{Dataset}
+use Rattle.iim_dataset.proofs.Lists.{no_some}
 use Rattle.iim_fields.specs.Format.Values.{data_of}
 use Rattle.iim_fields.specs.Format.Faults.{room_fault}
 use Rattle.iim_fields.specs.States.Builders.{add_fault}
 use Rattle.iim_fields.specs.States.Standing.{FieldsPlace, StandsAfter, IsBetween, limits_of}
 use Rattle.iim_fields.specs.Reading.{place_of}
-use Rattle.iim_fields.proofs.Wholes.{Whole, no_some, whole_passes, whole_within, whole_stands, whole_reading}
+use Rattle.iim_fields.proofs.Wholes.{Whole, whole_passes, whole_within, whole_stands, whole_reading}
 use Rattle.iim_fields.proofs.fields.Fields.whole.Goals as goal
 
 pub returns-then-is_some-clause-exactly : goal.returns-then-is_some-clause-exactly

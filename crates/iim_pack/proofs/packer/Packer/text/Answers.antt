@@ -6,8 +6,9 @@ use Rattle.iim_object.specs.States.Writing.{write_cause}
 use Rattle.iim_object.proofs.Written.{if_none}
 use Rattle.wire_story.specs.Format.Delivery.{StoryEvent, LineOctet}
 use Rattle.wire_story.specs.Format.Packing.{AreEvents}
+use Rattle.wire_story.proofs.PackedEvents.{line_packed}
 use Rattle.iim_pack.specs.States.Packing.{Lengthens, BreaksOff, ContinuesWith, text_cause}
-use Rattle.iim_pack.proofs.Goings.{of_none, line_packed, line_events, lengthened, broken, may_write}
+use Rattle.iim_pack.proofs.Goings.{of_none, line_events, lengthened, broken, may_write}
 use Rattle.iim_pack.proofs.Beginnings.{begun_on}
 use Rattle.iim_pack.proofs.Orders.{text_order}
 use Rattle.iim_pack.proofs.packer.Packer.text.Goals as goal

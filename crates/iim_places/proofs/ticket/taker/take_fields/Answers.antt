@@ -1,10 +1,10 @@
 use Rattle.std.proofs.Common.{◌≡◌, Bool, true, false, List, [], ◌∷◌, ◌++◌, sym, ap, subst, ◌∙◌, append_assoc}
 use Rattle.iim_dataset.specs.Format.Datasets.{Dataset}
+use Rattle.iim_dataset.proofs.Each.{all_append}
 use Rattle.iim_fields.specs.Format.Faults.{is_kept}
 use Rattle.iim_places.specs.TicketParts.{dataset}
 use Rattle.iim_places.specs.Taking.{AreKept, CanContinueWithin, TookDatasets}
 use Rattle.iim_places.proofs.Taking.{took_more, took_none}
-use Rattle.iim_places.proofs.Bounds.{all_join}
 use Rattle.iim_places.proofs.ticket.taker.take_fields.Goals as goal
 
 -- one of these is not kept
@@ -46,7 +46,7 @@ loop-rec-preserved g c =
     record {
       done = done ++ d ∷ [];
       parts = c.loop-rec.invariant.parts ∙ (ap (λ (t : List Dataset). done ++ t) c.in-Some.ensures.steps ∙ sym (append_assoc done (d ∷ []) c.next.new.self));
-      each = all_join (λ (e : Dataset). is_kept e.rec ≡ true) done (d ∷ []) c.loop-rec.invariant.each (sym c.is_kept.ensures ∙ c.if-not-is_kept.false, tt);
+      each = all_append (λ (e : Dataset). is_kept e.rec ≡ true) done (d ∷ []) c.loop-rec.invariant.each (sym c.is_kept.ensures ∙ c.if-not-is_kept.false, tt);
       took = took_more ready stands limits c.args.taker.now c.loop-rec.taker new done (d ∷ []) true c.loop-rec.invariant.took one;
       room = c.take.ensures.room ∙ c.loop-rec.invariant.room;
     }

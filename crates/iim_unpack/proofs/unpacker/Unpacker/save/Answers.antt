@@ -1,4 +1,5 @@
 use Rattle.std.proofs.Common.{◌≡◌, ℕ, ◌+◌, ◌*◌, ◌≤◌, length, Option, Some, None, is_some, false, refl, ◌⊎◌, sym, subst, ◌∙◌}
+use Rattle.iim_dataset.proofs.Lists.{no_some}
 use Rattle.iim_unpack.specs.States.Unpacking.{Unpacking, Stands, IsDoneWith, limits_in}
 use Rattle.iim_unpack.specs.UnpackerInside.{Stood}
 use Rattle.iim_unpack.proofs.Tickets.{ticket_by}
@@ -11,13 +12,9 @@ returns-in-Ok-clause-ticket c =
     let u : Unpacking = record { reader = i.reader; parts = i.parts; octets = i.octets; begun = i.begun; refused = i.refused } in
     λ p a at. ticket_by c.feed_laws.ensures.tell u p c.in-Ok.ticket.items a c.in-Ok.ensures (subst (λ (w : Unpacking). Stands w p a ⊎ IsDoneWith w p a) (sym c.self.view_is) at)
 
-none_is : (o : Option ℕ) → is_some o ≡ false → o ≡ None
-none_is None h = refl
-none_is (Some n) h = absurd cc
-
 pub returns-in-Ok-clause-short : goal.returns-in-Ok-clause-short
 returns-in-Ok-clause-short c =
     let i = c.self.inside in
     let u : Unpacking = record { reader = i.reader; parts = i.parts; octets = i.octets; begun = i.begun; refused = i.refused } in
-    let stood : Stood u = (c.self.invariant (none_is i.refused (sym c.is_some.ensures ∙ c.if-is_some.false))).stood in
+    let stood : Stood u = (c.self.invariant (no_some i.refused (sym c.is_some.ensures ∙ c.if-is_some.false))).stood in
     subst (λ (w : Unpacking). length c.in-Ok.ticket.items ≤ (limits_in w).octets + 6 * (limits_in w).fields + 256) c.self.view_is (short_ticket c.feed_laws.ensures.tell u c.in-Ok.ticket.items c.in-Ok.ensures stood)

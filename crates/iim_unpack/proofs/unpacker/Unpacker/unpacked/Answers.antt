@@ -1,12 +1,9 @@
 use Rattle.std.proofs.Common.{◌≡◌, Option, None, Some, IsSome, sym, ap, subst, ◌∙◌}
 use Rattle.std.specs.Option.{option_map}
+use Rattle.iim_dataset.proofs.Lists.{none_is_none}
 use Rattle.iim_unpack.specs.States.Unpacking.{Unpacking, IsDone, IsDoneWith}
 use Rattle.iim_unpack.proofs.Feeding.{shows, some_head, all_sections}
 use Rattle.iim_unpack.proofs.unpacker.Unpacker.unpacked.Goals as goal
-
-none_is_none : {A : Type 0} (r : Option A) → r ≡ None → IsSome r → ⊥
-none_is_none (Some x) none some = absurd cc
-none_is_none None none some = absurd cc
 
 pub unreachable-requires : goal.unreachable-requires
 unreachable-requires c =

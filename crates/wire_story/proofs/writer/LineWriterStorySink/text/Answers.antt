@@ -1,8 +1,8 @@
 use Rattle.std.proofs.Common.{ℕ, List, take, OnOk, subst, sym}
 use Rattle.std.proofs.lemmas.Result.{IfErr-weaker}
 use Rattle.wire_story.specs.States.Writing.{WritesOctets}
-use Rattle.wire_story.proofs.MadeTexts.{octets_of_line}
 use Rattle.wire_story.proofs.writer.LineWriterStorySink.text.Goals as goal
+use Rattle.wire_story.specs.WritingLaws.{octets_of_line}
 
 pub returns-clause-ok : goal.returns-clause-ok
 returns-clause-ok g c =

@@ -1,5 +1,6 @@
 use Rattle.std.proofs.Common.{◌≡◌, ◌∙◌, ℕ, None, Some, Option, List, [], length, ap, subst, arith, refl, Result, Ok, ◌+◌, IsErrAnd, sym, IsSome}
 use Rattle.iim_dataset.specs.States.Devices.{Device}
+use Rattle.iim_dataset.proofs.Lists.{none_is_none}
 use Rattle.iim_unpack.specs.States.Intakes.{in_line}
 use Rattle.iim_unpack.specs.declared.intake.Intake.{Intake}
 use Rattle.iim_audit.specs.Format.Auditing.{FailsLeaving, IsToldAgain}
@@ -10,7 +11,7 @@ use Rattle.iim_audit.specs.Taking.{TookEnvelope}
 use Rattle.iim_audit.specs.Repeats.{ids_of}
 use Rattle.iim_audit.specs.declared.row.AuditRow.{AuditRow}
 use Rattle.iim_audit.proofs.Reading.{come_none, audited, fails, one_too_many, short_after, read_one, told_again, none_within, short_first, taken_of, took_within}
-use Rattle.iim_audit.proofs.auditing.audit.Goals as goal
+use Rattle.iim_audit.proofs.audit.audit.Goals as goal
 
 never : {T E : Type 0} (r : Result T E) (x : T) (P : E → Type 0) → r ≡ Ok x → IsErrAnd r P → ⊥
 never {T} {E} r x P is err =
@@ -20,10 +21,6 @@ never {T} {E} r x P is err =
 -- what holds of a number and a cause holds of the fault that has them
 of_fault : (P : ℕ → AuditCause → Type 0) (fault : AuditFault) (number : ℕ) (cause : AuditCause) → fault ≡ record { envelope = number; cause = cause } → P number cause → P fault.envelope fault.cause
 of_fault P fault number cause is h = subst (λ (f : AuditFault). P f.envelope f.cause) (sym is) h
-
-none_is_none : {A : Type 0} (r : Option A) → r ≡ None → IsSome r → ⊥
-none_is_none (Some x) none some = absurd cc
-none_is_none None none some = absurd cc
 
 -- after a fault the intake is what it was
 still : {R : Type 0} (old now : Intake R) (octet : ℕ) → now ≡ old → old.failed ≡ Some octet → now.failed ≡ Some octet

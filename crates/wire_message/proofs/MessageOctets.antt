@@ -1,15 +1,12 @@
--- The octets of a message are octets.
+-- The octets of a message are octets, for the proofs of every crate: nothing here is to be believed.
 use Rattle.std.proofs.Common.{◌≡◌, ℕ, ◌<◌, Bool, true, List, [], ◌∷◌, ◌++◌, sym, subst, arith, inl, inr}
 use Rattle.std.specs.List.{list_all}
 use Rattle.std.proofs.lemmas.Bool.{and_parts}
 use Rattle.std.proofs.lemmas.Bool.Decides.{nat_tests}
-use Rattle.iim_dataset.specs.Format.Octets.{IsOctet, Octets, is_digit, is_letter}
-use Rattle.iim_dataset.proofs.Each.{all_append}
+use Rattle.iim_dataset.specs.Format.Octets.{Octets, is_digit, is_letter}
+use Rattle.iim_dataset.proofs.OctetLists.{octets_append}
 use Rattle.wire_message.specs.Format.Fields.{Are, is_alphanumeric, is_info_octet, is_trailer_octet, is_filler_octet, is_text_octet}
 use Rattle.wire_message.specs.Format.Messages.{Header, IsHeader, IsMessage, SpellsInfo, fixed_header}
-
-octets_append : (xs ys : List ℕ) → Octets xs → Octets ys → Octets (xs ++ ys)
-octets_append xs ys h k = all_append IsOctet xs ys h k
 
 of_test : (p : ℕ → Bool) → ((b : ℕ) → p b ≡ true → b < 256) → (xs : List ℕ) → Are p xs → Octets xs
 of_test p f [] h = tt

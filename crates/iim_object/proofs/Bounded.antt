@@ -1,0 +1,36 @@
+-- Numbers and subfiles that stay within bounds: lemmas for the proofs of every crate, of which nothing is to be believed.
+use Rattle.std.proofs.Common.{◌≡◌, ℕ, zero, suc, ◌≤◌, Bool, true, false, List, [], ◌∷◌, ◌++◌, map, length, Option, refl, arith, inl, inr}
+use Rattle.iim_dataset.specs.Format.Octets.{greatest_size}
+use Rattle.iim_object.specs.declared.reading.state.State.{State}
+use Rattle.iim_object.specs.Format.Objects.{ObjectToken, NumberRead, SubfileBegun, ObjectEnded, Confirmed}
+use Rattle.iim_object.specs.Format.Places.{Place}
+use Rattle.iim_object.specs.Format.Plans.{max_subfiles}
+use Rattle.iim_object.specs.Format.Sizes.{Stated, InRow, mode_number}
+use Rattle.iim_object.specs.Format.Within.{TokensWithin}
+use Rattle.iim_object.specs.States.Reading.{StandsAt}
+use Rattle.iim_object.specs.States.Saved.{IsPossible}
+
+pub mode_known : (n : ℕ) → n ≤ 1 → (known : Bool) × (n ≡ mode_number known)
+mode_known zero h = (false, refl)
+mode_known (suc zero) h = (true, refl)
+mode_known (suc (suc n)) h = absurd (omega (arith, h))
+
+pub within_append : (most : ℕ) (xs ys : List ObjectToken) → TokensWithin most xs → TokensWithin most ys → TokensWithin most (xs ++ ys)
+within_append most [] ys a b = b
+within_append most (NumberRead set n ∷ xs) ys a b = (a.0, within_append most xs ys a.1 b)
+within_append most (SubfileBegun n ∷ xs) ys a b = within_append most xs ys a b
+within_append most (ObjectEnded ∷ xs) ys a b = within_append most xs ys a b
+within_append most (Confirmed n ∷ xs) ys a b = (a.0, within_append most xs ys a.1 b)
+
+pub begun_within : (most : ℕ) (ls : List ℕ) → TokensWithin most (map SubfileBegun ls)
+begun_within most [] = tt
+begun_within most (l ∷ ls) = begun_within most ls
+
+-- what rows allow is at most the greatest size
+pub row_low : (p : Stated) → InRow p → p.number ≤ greatest_size
+row_low p (inl h) = omega (arith, h.1)
+row_low p (inr (inl h)) = h.2
+row_low p (inr (inr h)) = h.1
+
+pub possible_of : (r : Option State) (p : Place) → StandsAt r p → length p.lengths ≤ max_subfiles → IsPossible p
+possible_of r p st few = record { stated = st.stated; subfiles = st.subfiles; duties = st.duties; few = few; alive = st.alive }
