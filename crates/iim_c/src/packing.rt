@@ -5,10 +5,8 @@ ghost use Rattle.iim_c.specs.Format.Packing.{AsksNothing};
 ghost use Rattle.iim_c.specs.PackSteps.{Asks};
 
 use iim_commands::packing::PackRequest;
+use iim_commands::request::DEFAULT_SUBFILE;
 use iim_object::{Plan, Size};
-
-/// The octets of a full subfile where no number is given.
-const DEFAULT_SUBFILE: u64 = 1_024;
 
 /// How an envelope is packed. A subfile of 0 octets stands for one of 1,024.
 #[repr(C)]

@@ -14,7 +14,7 @@ use jiff::Timestamp;
 use std::alloc::{AllocError, Global};
 
 /// The most octets of a subfile where no number is given.
-const DEFAULT_SUBFILE: u64 = 1_024;
+pub const DEFAULT_SUBFILE: u64 = 1_024;
 
 /// What is to be done.
 #[derive(Clone, Copy, Debug, PartialEq, Eq)]
