@@ -3,6 +3,7 @@ use Rattle.std.specs.Prelude.{◌≡◌, ℕ, ◌<◌, ◌≤◌, ◌==◌, ◌�
 use Rattle.iim_object.specs.Format.Plans.{is_plan}
 use Rattle.iim_object.specs.declared.size.Size.TheVariants.{Unknown}
 use Rattle.iim_commands.specs.Format.Packing.{Asked, asked, IsFormOf, IsScriptRefusal, IsScriptOf, ScriptContent, refusal_line}
+use Rattle.iim_commands.specs.Format.Requests.{default_subfile}
 use Rattle.iim_c.specs.declared.answer.IimAnswer.{IimAnswer}
 use Rattle.iim_c.specs.declared.packing.IimPacking.{IimPacking}
 use Rattle.iim_c.specs.Format.Answers.{status_answer}
@@ -12,7 +13,7 @@ use Rattle.iim_c.specs.Format.Statuses as status
 
 -- the octets of a full subfile: 1,024 stands for 0
 abbrev pub subfile_for : ℕ → ℕ
-subfile_for given = if given == 0 then 1024 else given
+subfile_for given = if given == 0 then default_subfile else given
 
 -- the maximum of the size, where one is told
 abbrev pub max_for : Bool → ℕ → Option ℕ
