@@ -1,6 +1,6 @@
 use Rattle.std.proofs.Common.{◌≡◌, Bool, true, ◌&&◌, nat_eq, refl, sym, ap, ◌∙◌, subst}
 use lib.Pointwise.{pointwise_decides, bytes_decides}
-use Rattle.std.proofs.lemmas.Bool.{and_parts, and_from, eqb-true}
+use Rattle.std.proofs.lemmas.Bool.{and_parts, and_from, eqb-true, eq-eqb}
 use Rattle.iim_fields.specs.States.Stores.{fields_from}
 use Rattle.iim_fields.specs.StoreLayout.{entries_of}
 use Rattle.iim_fields.specs.declared.store.Entry.{Entry}
@@ -16,7 +16,7 @@ entry_decides E is x y = (
       let second = and_parts (nat_eq x.set y.set) (nat_eq x.end y.end) first.1 in
       λ i. record { rec = eqb-true x.rec y.rec first.0 i; set = eqb-true x.set y.set second.0 i; end = eqb-true x.end y.end second.1 i }),
   (λ e. is x y ∙ subst (λ (z : Entry). (nat_eq x.rec z.rec && (nat_eq x.set z.set && nat_eq x.end z.end)) ≡ true) e
-      (and_from (nat_eq x.rec x.rec) (nat_eq x.set x.set && nat_eq x.end x.end) (EQI x.rec) (and_from (nat_eq x.set x.set) (nat_eq x.end x.end) (EQI x.set) (EQI x.end)))),
+      (and_from (nat_eq x.rec x.rec) (nat_eq x.set x.set && nat_eq x.end x.end) (eq-eqb x.rec x.rec refl) (and_from (nat_eq x.set x.set) (nat_eq x.end x.end) (eq-eqb x.set x.set refl) (eq-eqb x.end x.end refl)))),
 )
 
 pub returns-then-eq : goal.returns-then-eq
