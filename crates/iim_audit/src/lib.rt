@@ -6,7 +6,7 @@
 #![tactic(auto)]
 
 mod age;
-mod audit;
+mod auditing;
 mod copy;
 mod fault;
 mod ledger;
@@ -17,7 +17,7 @@ mod row;
 mod text;
 
 pub use age::whole_seconds_are_floors;
-pub use audit::audit;
+pub use auditing::audit;
 pub use copy::CopyState;
 pub use fault::{AuditCause, AuditFault};
 pub use line::ReportLine;

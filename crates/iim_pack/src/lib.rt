@@ -14,10 +14,10 @@ mod fields;
 pub mod laws;
 mod lines;
 mod opening;
-mod pack;
 mod packer;
+mod packing;
 mod size;
 
-pub use pack::pack;
 pub use packer::Packer;
+pub use packing::pack;
 pub use size::packed_size;

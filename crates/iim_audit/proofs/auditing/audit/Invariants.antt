@@ -5,7 +5,7 @@ use Rattle.iim_places.specs.Format.Listing.{max_envelopes}
 use Rattle.iim_audit.specs.Lines.{HaveShortIds}
 use Rattle.iim_unpack.specs.States.Unpacking.{limits_in}
 use Rattle.iim_audit.proofs.Reading.{IsAuditing}
-use Rattle.iim_audit.proofs.audit.audit.Given as goal
+use Rattle.iim_audit.proofs.auditing.audit.Given as goal
 
 abbrev pub invariant-envelopes : goal.invariant-envelopes
 invariant-envelopes g l = record {

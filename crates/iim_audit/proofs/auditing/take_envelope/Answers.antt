@@ -6,7 +6,7 @@ use Rattle.iim_audit.specs.Taking.{TookNone}
 use Rattle.iim_audit.specs.declared.fault.AuditCause.{AuditCause}
 use Rattle.iim_audit.proofs.Taking.{took_end, took_one, none}
 use Rattle.iim_audit.proofs.Texts.{TextLaws}
-use Rattle.iim_audit.proofs.audit.take_envelope.Goals as goal
+use Rattle.iim_audit.proofs.auditing.take_envelope.Goals as goal
 
 pub returns-in-Ok-true-clause-took : goal.returns-in-Ok-true-clause-took
 returns-in-Ok-true-clause-took g c =

@@ -11,7 +11,7 @@ use Rattle.iim_audit.specs.Taking.{TookEnvelope}
 use Rattle.iim_audit.specs.Repeats.{ids_of}
 use Rattle.iim_audit.specs.declared.row.AuditRow.{AuditRow}
 use Rattle.iim_audit.proofs.Reading.{come_none, audited, fails, one_too_many, short_after, read_one, told_again, none_within, short_first, taken_of, took_within}
-use Rattle.iim_audit.proofs.audit.audit.Goals as goal
+use Rattle.iim_audit.proofs.auditing.audit.Goals as goal
 
 never : {T E : Type 0} (r : Result T E) (x : T) (P : E → Type 0) → r ≡ Ok x → IsErrAnd r P → ⊥
 never {T} {E} r x P is err =

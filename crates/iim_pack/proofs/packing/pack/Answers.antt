@@ -4,7 +4,7 @@ use Rattle.iim_pack.specs.States.Packing.{pack_cause, start_cause, finish_cause}
 use Rattle.iim_pack.proofs.Goings.{of_none}
 use Rattle.iim_pack.proofs.Wholes.{lines_again, packs, lines_broke, finish_broke, not_started, may_pack, may_start, lines_fit, may_finish}
 use Rattle.iim_pack.proofs.Orders.{pack_order}
-use Rattle.iim_pack.proofs.pack.pack.Goals as goal
+use Rattle.iim_pack.proofs.packing.pack.Goals as goal
 
 pub returns-in-Err-clause-fault : goal.returns-in-Err-clause-fault
 returns-in-Err-clause-fault g c =
