@@ -15,7 +15,7 @@ joined_append (d ∷ ds) es =
     let more = joined_append ds es in
     omega (arith, length-append d.octets (joined (ds ++ es)), length-append d.octets (joined ds))
 
-kept_append : (ds es : List Dataset) → kept (ds ++ es) ≡ kept ds ++ kept es
+pub kept_append : (ds es : List Dataset) → kept (ds ++ es) ≡ kept ds ++ kept es
 kept_append ds es = filter-append (λ (d : Dataset). is_kept d.rec) ds es
 
 pub kept_octets_append : (ds es : List Dataset) → kept_octets (ds ++ es) ≡ kept_octets ds + kept_octets es

@@ -28,7 +28,7 @@ use Rattle.iim_object.specs.Format.Sizes.{Stated, number_at}
 use Rattle.iim_places.specs.Format.Framed.{AreWithin}
 use Rattle.iim_places.specs.Laws.Lower.{ObjectLaws, OpenLaws, SizeLaws}
 use Rattle.iim_places.specs.Format.Tokens.{place_at, ObjectLives, HaveRoom, CanContinue, CanContinueAt}
-use Rattle.iim_places.proofs.Bounds.{alive_five}
+use Rattle.iim_places.proofs.Bounds.{alive_five, IsFive}
 use Rattle.iim_places.proofs.LayersLead.{each_small}
 use Rattle.iim_places.proofs.Plain.{numbers_join}
 use Rattle.iim_places.proofs.PlainContinues.{AreGood, MayReplace, all_good, back_ordered, fewer_by, five_back, good_with, join_ordered, ordered_sorted, rebuilt, good_front}
