@@ -4,15 +4,7 @@ use Rattle.std.proofs.Math.Nat.{mul-le-mul_right, pow-succ', pow-le-pow_right}
 use Rattle.iim_dataset.specs.Format.Octets.{Octets, number}
 use Rattle.iim_dataset.specs.Format.Datasets.{SpellsCount, SpellsTag, count_octets}
 use Rattle.iim_dataset.specs.declared.head.Head.{Head}
-use Rattle.iim_dataset.proofs.OctetLists.{number-cons}
-
--- n octets spell less than 256 ^ n
-number-lt : (xs : List ℕ) → Octets xs → number xs < 256 ^ length xs
-number-lt [] h = omega arith
-number-lt (b ∷ bs) h =
-    let rest = number-lt bs h.1 in
-    let high : b * 256 ^ length bs ≤ 255 * 256 ^ length bs = mul-le-mul_right (256 ^ length bs) (omega (arith, h.0)) in
-    rw (number-cons b bs, pow-succ' 256 (length bs)) (omega arith)
+use Rattle.iim_dataset.proofs.OctetLists.{number-cons, number-lt}
 
 -- n octets or fewer
 few-lt : (xs : List ℕ) (n : ℕ) → Octets xs → length xs ≤ n → number xs < 256 ^ n

@@ -10,7 +10,6 @@ pub mod Deaths
 pub mod Lives
 pub mod OneOctet
 pub mod Reached
-pub mod Counts
 pub mod Wholes
 -- What proofs of other crates cite.
 pub mod Telling
@@ -22,3 +21,4 @@ pub mod Lists
 pub mod Spelled
 pub mod OctetLists
 pub mod DeviceLaws
+pub mod Counts

@@ -1,5 +1,6 @@
 -- Lemmas on lists of octets, for the proofs of every crate: nothing here is to be believed.
-use Rattle.std.proofs.Common.{◌≡◌, ℕ, zero, suc, ◌+◌, ◌*◌, ◌^◌, ◌<◌, List, [], ◌∷◌, ◌++◌, length, take, get_or, replicate, ap, arith}
+use Rattle.std.proofs.Common.{◌≡◌, ℕ, zero, suc, ◌+◌, ◌*◌, ◌^◌, ◌<◌, ◌≤◌, List, [], ◌∷◌, ◌++◌, length, take, get_or, replicate, ap, arith}
+use Rattle.std.proofs.Math.Nat.{mul-le-mul_right, pow-succ'}
 use Rattle.byteorder.specs.Numbers.{big_from-cons}
 use Rattle.iim_dataset.specs.Format.Octets.{IsOctet, Octets, number}
 use Rattle.iim_dataset.proofs.Each.{all_append}
@@ -31,3 +32,11 @@ zeros_are n = octets_same 0 n (omega arith)
 -- the first octet counts by its place
 pub number-cons : (b : ℕ) (bs : List ℕ) → number (b ∷ bs) ≡ b * 256 ^ length bs + number bs
 number-cons b bs = ap (λ (r : ℕ). b * 256 ^ length bs + r) (big_from-cons 0 (length bs) b bs)
+
+-- n octets spell less than 256 ^ n
+pub number-lt : (xs : List ℕ) → Octets xs → number xs < 256 ^ length xs
+number-lt [] h = omega arith
+number-lt (b ∷ bs) h =
+    let rest = number-lt bs h.1 in
+    let high : b * 256 ^ length bs ≤ 255 * 256 ^ length bs = mul-le-mul_right (256 ^ length bs) (omega (arith, h.0)) in
+    rw (number-cons b bs, pow-succ' 256 (length bs)) (omega arith)

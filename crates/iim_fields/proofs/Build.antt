@@ -15,8 +15,9 @@ use Rattle.iim_fields.specs.declared.store.Store.{Store}
 use Rattle.iim_fields.specs.declared.fault.FieldFault.{FieldFault}
 use Rattle.iim_fields.specs.declared.fault.FieldCause.TheVariants.{RecordOrder}
 use Rattle.iim_fields.specs.declared.check.RecordPlace.{RecordPlace}
-use Rattle.iim_fields.proofs.Stand.{fields_held, entries_append, joined_more, kept_more, kept_not_object, counts, room_fault_is, room_within, taken_alive}
+use Rattle.iim_fields.proofs.Stand.{fields_held, entries_append, joined_more, kept_more, kept_not_object, counts, room_fault_is, room_within}
 use Rattle.iim_fields.proofs.Dies.{head_no_fault, value_no_fault}
+use Rattle.iim_fields.proofs.Sections.{taken_alive}
 
 -- the fault of a dataset whose record is kept
 pub add_fault_of : (limits : Limits) (ds : List Dataset) (d : Dataset) → is_kept d.rec ≡ true → add_fault limits ds d ≡ option_or (option_or (record_fault ds (head_of d)) (limits_fault limits ds (head_of d))) (value_fault d)

@@ -35,6 +35,7 @@ use Rattle.iim_fields.proofs.Runs.{records_to_come}
 use Rattle.iim_fields.proofs.Follows.{Follows, present_more, run_more, alive_follows}
 use Rattle.iim_fields.proofs.Telling.{head_fault_told, value_fault_told}
 use Rattle.iim_fields.proofs.Dies.{HasNoFault, no_fault_parts, in_order_cases, head_alive, head_no_fault, head_octet, good_value, value_alive, value_no_fault}
+use Rattle.iim_fields.proofs.Sections.{some_data}
 
 -- ---- which numbers have occurred
 
@@ -150,13 +151,6 @@ pub not_both : (check : Option RecordPlace) (o p : Order) (a : Option Begun) (be
 not_both check o p a begun e none f other = other (subst AwaitsNone (one_begun check o p a (Some begun) e f) none)
 
 -- ---- a head
-
--- a dataset with this head: `h.count` octets, each 0
-pub some_data : (h : Head) → (d : Dataset) × (head_of d ≡ h) × Octets d.octets
-some_data h =
-    let zeros : List ℕ = replicate h.count 0 in
-    let count : length zeros ≡ h.count = length-replicate {A = ℕ} h.count 0 in
-    (record { rec = h.rec; set = h.set; octets = zeros }, (λ k. record { rec = h.rec; set = h.set; count = count k }), zeros_are h.count)
 
 pub in_by : (new : RecordPlace) (h : Head) (row : Row) → new.begun ≡ Some (record { head = h; row = row }) → row_of h.rec h.set ≡ Some row → IsIn (Some new) h
 in_by new h row begun known = record { order = new.order; row = row; inside = (λ i. Some (record { order = new.order; begun = begun i })); known = known }

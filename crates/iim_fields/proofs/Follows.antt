@@ -12,9 +12,9 @@ use Rattle.iim_tables.specs.Format.Records.{IsGoodDataset, IsGoodRecord}
 use Rattle.iim_tables.proofs.GoodDatasets.{none_meets}
 use Rattle.iim_fields.specs.Format.Alive.{SectionsLive}
 use Rattle.iim_fields.specs.Format.Faults.{last_record, section_after, section_run}
-use Rattle.iim_fields.proofs.Table.{after_tail, by_record, no_row}
+use Rattle.iim_fields.proofs.Table.{after_tail, no_row}
 use Rattle.iim_fields.proofs.Runs.{not_empty}
-use Rattle.iim_fields.proofs.Sections.{last_more}
+use Rattle.iim_fields.proofs.Sections.{last_more, by_record}
 
 -- the rest of the present record after its run so far, and then the records after it
 abbrev pub FromRun : ℕ → List Dataset → List Dataset → Type 0

@@ -33,7 +33,8 @@ use Rattle.iim_fields.proofs.Table.{EachRowHasValues, size_row, kept_or_tells}
 use Rattle.iim_fields.proofs.Follows.{present_more}
 use Rattle.iim_fields.proofs.Telling.{head_fault_told}
 use Rattle.iim_fields.proofs.Dies.{head_no_fault}
-use Rattle.iim_fields.proofs.Checking.{one_begun, some_data, count_fits}
+use Rattle.iim_fields.proofs.Checking.{one_begun, count_fits}
+use Rattle.iim_fields.proofs.Sections.{some_data, taken_alive}
 
 -- ---- the limits
 
@@ -199,12 +200,6 @@ pub none_between : (check : Option RecordPlace) → checks.AwaitsHead check → 
 none_between check t = ap begun_head t.between
 
 -- ---- a head
-
-pub taken_alive : (check : Option RecordPlace) (ds : List Dataset) (h : Head) → HasTaken check ds h → SectionsLiveAt ds h
-taken_alive check ds h t = elim (eqb_tells h.rec 8) [
-  | inl eight ↦ let (d, is, octets) = some_data h in (d, is, (t.subfile eight.1 d is octets).alive)
-  | inr other ↦ (t.checking other.1).alive
-]
 
 pub fault_of_record : (limits : Limits) (ds : List Dataset) (h : Head) (fault : FieldFault) → IsRecordFault ds h fault → IsHeadFault limits ds h fault
 fault_of_record limits ds h fault f = record {

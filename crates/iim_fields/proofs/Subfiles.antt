@@ -30,9 +30,10 @@ use Rattle.iim_fields.specs.declared.check.Begun.{Begun}
 use Rattle.iim_fields.specs.declared.check.RecordPlace.{RecordPlace}
 use Rattle.iim_fields.proofs.Table.{EachRowHasValues}
 use Rattle.iim_fields.proofs.Dies.{no_fault_parts}
-use Rattle.iim_fields.proofs.Checking.{taken_by, not_both, order_at, record_fault_is, some_data, none_begun}
+use Rattle.iim_fields.proofs.Checking.{taken_by, not_both, order_at, record_fault_is, none_begun}
 use Rattle.iim_fields.proofs.Stand.{between_after, stands_in, head_in, closed_subfile, reading_passed}
 use Rattle.iim_fields.proofs.Wholes.{no_limit, none_where}
+use Rattle.iim_fields.proofs.Sections.{some_data}
 
 -- ---- where its head may stand
 

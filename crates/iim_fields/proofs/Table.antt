@@ -20,6 +20,7 @@ use Rattle.iim_tables.specs.declared.shape.Row.{Row}
 use Rattle.iim_fields.specs.Format.Records.{after}
 use Rattle.iim_tables.proofs.GoodDatasets.{good_elsewhere}
 use Rattle.iim_fields.proofs.Tested.{passed}
+use Rattle.iim_fields.proofs.Sections.{by_record}
 
 -- the numbers that the table makes mandatory, written out
 abbrev pub mandatory_numbers : ℕ → List ℕ
@@ -65,26 +66,6 @@ none_of rec must r other (e ∷ es) all =
 
 mandatory_others : (r : ℕ) → in_five r ≡ false → mandatory r ≡ []
 mandatory_others r other = ap (map (λ e. e.set)) (none_of (λ e. e.rec) (λ e. has_to_occur e.row.duty) r other table all_in_five)
-
--- what holds of each of the five records and of all others, holds of a record
-pub by_record : (P : ℕ → Type 0) (r : ℕ) → P 1 → P 2 → P 7 → P 8 → P 9
-    → (nat_eq r 1 ≡ false → nat_eq r 2 ≡ false → nat_eq r 7 ≡ false → nat_eq r 8 ≡ false → nat_eq r 9 ≡ false → P r) → P r
-by_record P r one two seven eight nine other = elim (eqb_tells r 1) [
-  | inl is ↦ subst P (sym is.1) one
-  | inr not1 ↦ elim (eqb_tells r 2) [
-    | inl is ↦ subst P (sym is.1) two
-    | inr not2 ↦ elim (eqb_tells r 7) [
-      | inl is ↦ subst P (sym is.1) seven
-      | inr not7 ↦ elim (eqb_tells r 8) [
-        | inl is ↦ subst P (sym is.1) eight
-        | inr not8 ↦ elim (eqb_tells r 9) [
-          | inl is ↦ subst P (sym is.1) nine
-          | inr not9 ↦ other not1.0 not2.0 not7.0 not8.0 not9.0
-        ]
-      ]
-    ]
-  ]
-]
 
 pub mandatory_is : (r : ℕ) → mandatory r ≡ mandatory_numbers r
 unfolding table in_five

@@ -5,6 +5,7 @@ use Rattle.std.specs.List.{AllByRecursion}
 use Rattle.std.specs.Option.{unwrap_or}
 use Rattle.std.proofs.lemmas.List.Elements.{filter-append}
 use Rattle.iim_dataset.specs.Format.Octets.{Octets, greatest_size}
+use Rattle.iim_dataset.proofs.Each.{all_front}
 use Rattle.iim_dataset.specs.Format.Datasets.{Dataset, of_record}
 use Rattle.iim_tables.specs.Format.Rows.{table, row_of}
 use Rattle.iim_fields.specs.Format.Faults.{is_kept, kept, section_after}
@@ -17,7 +18,7 @@ use Rattle.iim_places.specs.States.ByLayers.{one_of_some}
 use Rattle.iim_places.specs.States.PlainDatasets.{Numbers, number_list, plain_numbers, filled, plain_end, plain}
 use Rattle.iim_places.proofs.Bounds.{alive_five}
 use Rattle.iim_places.proofs.Plain.{Tell, plain_told, are_sevens, are_eights, are_nines, filled_count}
-use Rattle.iim_places.proofs.PlainContinues.{AreGood, AreTens, MayReplace, all_good, replace_tens, part_tens, end_tens, good_parts, good_end, sections_continue, good_front}
+use Rattle.iim_places.proofs.PlainContinues.{AreGood, AreTens, MayReplace, all_good, replace_tens, part_tens, end_tens, good_parts, good_end, sections_continue}
 use Rattle.iim_places.proofs.SameRecords.{tens_seen}
 use Rattle.iim_places.proofs.PlainPlaces.{pick_like, pick_by, picks_plain, end_length}
 
@@ -70,7 +71,7 @@ alike rows fields numbers a b x y ended more left right some octets few sections
     let tell = told_by fields numbers a x ended left in
     let eights = subfile_datasets (filled size b y) in
     let good = all_good (ds ++ more) sections in
-    let sevens : AreGood 7 (of_record 7 ds) = good_front 7 (of_record 7 ds) (of_record 7 more) (subst (AreGood 7) (filter-append (λ (d : Dataset). nat_eq d.rec 7) ds more) good.seven.each) in
+    let sevens : AreGood 7 (of_record 7 ds) = all_front _ (of_record 7 ds) (of_record 7 more) (subst (AreGood 7) (filter-append (λ (d : Dataset). nat_eq d.rec 7) ds more) good.seven.each) in
     let e : one_of_some (length (subfile_datasets (filled size a x))) ≡ one_of_some (length eights) = ap one_of_some (filled_count size a x) ∙ some ∙ sym (ap one_of_some (filled_count size b y)) in
     let is : kept ds ++ (plain_numbers numbers ++ (eights ++ plain_end ended y)) ≡ plain fields numbers b y ended = ap (λ (xs : List Dataset). xs ++ (plain_numbers numbers ++ (eights ++ plain_end ended y))) tell.kept_are in
     subst (λ (es : List Dataset). AreSections (es ++ more)) is

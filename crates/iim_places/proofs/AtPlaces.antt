@@ -2,15 +2,14 @@
 use Rattle.std.proofs.Common.{◌≡◌, ℕ, zero, suc, ◌≤◌, ◌↔◌, Bool, true, false, cond, IsTrue, IsSome, IfSome, IfNone, OnOk, IfErr, Option, Some, None, Result, Ok, Err, is_ok, List, [], ◌∷◌, length, map, get_or, replicate, refl, ap, sym, subst, ◌∙◌, inl, inr, arith, Bor}
 use Rattle.std.proofs.lemmas.Bool.Decides.{eqb_tells}
 use Rattle.std.proofs.lemmas.List.{length-replicate}
-use Rattle.std.specs.List.{AllByRecursion}
 use Rattle.std.proofs.lemmas.Option.{same_Some}
+use Rattle.std.specs.List.{AllByRecursion}
 use Rattle.iim_dataset.specs.Format.Octets.{Octets}
 use Rattle.iim_dataset.specs.Format.Datasets.{Dataset, head_of, count_octets}
 use Rattle.iim_dataset.specs.States.Events.{DatasetEvent}
 use Rattle.iim_dataset.specs.States.Places.{IsPlace, LeadsTo}
 use Rattle.iim_dataset.specs.declared.head.Head.{Head}
 use Rattle.iim_dataset.specs.declared.place.DatasetPlace.{DatasetPlace}
-use Rattle.iim_dataset.proofs.OctetLists.{zeros_are}
 use Rattle.iim_dataset.proofs.Lists.{nothing_fits}
 use Rattle.iim_fields.specs.Format.Alive.{SectionsLive, SectionsLiveAt}
 use Rattle.iim_fields.specs.States.Checks.{HasChecked, HasTaken, IsRecordFault}
@@ -18,7 +17,7 @@ use Rattle.iim_fields.specs.Format.Faults.{joined, kept, kept_octets}
 use Rattle.iim_fields.specs.Format.Bounds.{IsWithin}
 use Rattle.iim_fields.specs.declared.check.RecordPlace.{RecordPlace}
 use Rattle.iim_fields.specs.declared.fault.FieldFault.{FieldFault}
-use Rattle.iim_fields.proofs.Sections.{head_alive}
+use Rattle.iim_fields.proofs.Sections.{head_alive, taken_alive}
 use Rattle.wire_message.specs.States.Reading.{StandsAt}
 use Rattle.wire_message.specs.States.SoFar.{LeadsTo as LeadTo}
 use Rattle.wire_message.specs.States.Saved.{IsAt, LeadsToSaved}
@@ -31,7 +30,7 @@ use Rattle.iim_places.specs.Laws.Tickets.{texts_of}
 use Rattle.iim_places.specs.States.Possible.{widest}
 use Rattle.iim_places.specs.Taking.{AreKept, CanContinueWithin, IsMessageOf, numbers_told, told_datasets}
 use Rattle.iim_places.specs.Format.Tickets.{Phase, TagBegun, DataBegun, AllEnded}
-use Rattle.iim_places.proofs.Fitting.{part_told}
+use Rattle.iim_places.proofs.Fitting.{message_told}
 use Rattle.iim_places.proofs.Plain.{kept_fields, plain_told}
 
 -- ---- tags
@@ -49,16 +48,6 @@ no_place None place exactly law P by = λ p. let bad : false ≡ true = exactly.
 
 -- ---- records
 
--- After a head that was taken datasets can continue.
-pub taken_alive : (check : Option RecordPlace) (ds : List Dataset) (h : Head) → HasTaken check ds h → SectionsLiveAt ds h
-taken_alive check ds h taken = elim (eqb_tells h.rec 8) [
-  | inl eight ↦
-      let d : Dataset = record { rec = h.rec; set = h.set; octets = replicate h.count 0 } in
-      let is : head_of d ≡ h = ap (λ (n : ℕ). head_of_numbers h.rec h.set n) (length-replicate h.count 0) in
-      (d, is, (taken.subfile eight.1 d is (zeros_are h.count)).alive)
-  | inr other ↦ (taken.checking other.1).alive
-]
-
 pub lives_at : (old new : Option RecordPlace) (h : Head) (r : Result (Unit {0}) FieldFault) → OnOk r ((ds : List Dataset) → HasChecked old ds → HasTaken new ds h) → IsTrue (is_ok r)
     → (ds : List Dataset) → HasChecked old ds → SectionsLiveAt ds h
 lives_at old new h (Ok u) stands yes' ds s = taken_alive new ds h (stands ds s)
@@ -74,13 +63,16 @@ live_alive section (TagBegun held) ds lives = lives.1
 live_alive section (DataBegun set count left taken) ds lives = head_alive ds (head_of_numbers section set count) lives
 live_alive section AllEnded ds lives = lives.1
 
+pub four_back : (numbers : List (Option ℕ)) → length numbers ≡ 4 → numbers ≡ number_list (numbers_told numbers)
+four_back [] is = absurd (omega (arith, is))
+four_back (a ∷ []) is = absurd (omega (arith, is))
+four_back (a ∷ b ∷ []) is = absurd (omega (arith, is))
+four_back (a ∷ b ∷ c ∷ []) is = absurd (omega (arith, is))
+four_back (a ∷ b ∷ c ∷ d ∷ []) is = refl
+four_back (a ∷ b ∷ c ∷ d ∷ e ∷ more) is = absurd (omega (arith, is))
+
 pub fits_told : (numbers : List (Option ℕ)) → AreNumbers numbers → AllByRecursion IsSize (number_list (numbers_told numbers))
-fits_told [] fit = absurd (let bad = fit.four in omega (arith, bad))
-fits_told (a ∷ []) fit = absurd (let bad = fit.four in omega (arith, bad))
-fits_told (a ∷ b ∷ []) fit = absurd (let bad = fit.four in omega (arith, bad))
-fits_told (a ∷ b ∷ c ∷ []) fit = absurd (let bad = fit.four in omega (arith, bad))
-fits_told (a ∷ b ∷ c ∷ d ∷ []) fit = fit.each
-fits_told (a ∷ b ∷ c ∷ d ∷ e ∷ more) fit = absurd (let bad = fit.four in omega (arith, bad))
+fits_told numbers fit = subst (AllByRecursion IsSize) (four_back numbers fit.four) fit.each
 
 pub leads_on_told : (section : ℕ) (phase : Phase) (fields : List Dataset) (numbers : List (Option ℕ)) (some ended : Bool) → AreNumbers numbers → AreKept fields → IsWithin widest (kept_octets fields) (length fields)
     → RecordsLive section phase (told_datasets fields numbers some ended) → CanContinueWithin widest (told_datasets fields numbers some ended)
@@ -105,37 +97,10 @@ texts_seven (a ∷ b ∷ c ∷ d ∷ e ∷ f ∷ []) z is = absurd (omega (arith
 texts_seven (a ∷ b ∷ c ∷ d ∷ e ∷ f ∷ g ∷ []) z is = refl
 texts_seven (a ∷ b ∷ c ∷ d ∷ e ∷ f ∷ g ∷ h ∷ more) z is = absurd (omega (arith, is))
 
-first_text : {x y : List ℕ} {a b : List (List ℕ)} → x ∷ a ≡ y ∷ b → x ≡ y
-first_text e = cc
-
-other_texts : {x y : List ℕ} {a b : List (List ℕ)} → x ∷ a ≡ y ∷ b → a ≡ b
-other_texts e = cc
-
 -- What a ticket tells of a message is one place.
 pub same_message : (part counter flag : ℕ) (texts : List (List ℕ)) (m n : MessagePlace) → IsMessageOf part counter flag texts m → IsMessageOf part counter flag texts n → m ≡ n
 same_message part counter flag texts m n is are =
-    let at = part_told m.part n.part (is.part_is ∙ sym are.part_is) in
-    let counters : m.counter ≡ n.counter = is.counter_is ∙ sym are.counter_is in
-    let flags : m.flag ≡ n.flag = is.flag_is ∙ sym are.flag_is in
-    let t0 : texts_of m ≡ texts_of n = is.texts_are ∙ sym are.texts_are in
-    let t1 = other_texts t0 in
-    let t2 = other_texts t1 in
-    let t3 = other_texts t2 in
-    let t4 = other_texts t3 in
-    let t5 = other_texts t4 in
-    let t6 = other_texts t5 in
-    λ i. record {
-      part = at i;
-      counter = counters i;
-      flag = flags i;
-      source = record { items = first_text t0 i };
-      number = record { items = first_text t1 i };
-      priority = record { items = first_text t2 i };
-      category = record { items = first_text t3 i };
-      words = record { items = first_text t4 i };
-      info = record { items = first_text t5 i };
-      trailer = record { items = first_text t6 i };
-    }
+    message_told m n (is.part_is ∙ sym are.part_is) (is.counter_is ∙ sym are.counter_is) (is.flag_is ∙ sym are.flag_is) (is.texts_are ∙ sym are.texts_are)
 
 -- Octets that lead to where the reader stands lead to its place as it is saved.
 pub leads_saved : (reader : Option Message) (octets text : List ℕ) (m : MessagePlace) → IsAt reader m → StandsAt reader octets text → LeadsToSaved octets text m

@@ -1,21 +1,22 @@
 -- How many octets are open at most.
 use Rattle.std.proofs.Common.{◌≡◌, ℕ, ◌+◌, ◌*◌, ◌<◌, ◌≤◌, ◌⊎◌, ◌||◌, ◌&&◌, ◌^◌, ◌-◌, nat_eq, nat_le, cond, if◌then◌else◌, Bool, true, false, List, [], ◌∷◌, ◌++◌, length, map, sum, Option, Some, None, refl, ap, sym, subst, ◌∙◌, inl, inr, arith, append-nil, append_assoc, length-append}
+use Rattle.std.proofs.Math.Nat.{pow-le-pow_right}
 use Rattle.std.specs.List.{AllByRecursion}
 use Rattle.std.proofs.lemmas.Bool.{eqb-true, eq-eqb, and_parts, leb-true}
 use Rattle.std.proofs.lemmas.Bool.Decides.{eqb_tells}
 use Rattle.std.proofs.lemmas.List.Sums.{sum_by-cons, sum_by-append}
 use Rattle.iim_dataset.specs.Format.Octets.{Octets, number, greatest_size, within}
+use Rattle.iim_dataset.proofs.Each.{all_append, all_front, all_back, all_map}
 use Rattle.iim_tables.specs.Format.Numbers.{size_octets}
 use Rattle.iim_tables.specs.Format.Rows.{table, row_of, Meets}
 use Rattle.iim_dataset.specs.Format.Datasets.{Dataset, SpellsCount, SpellsTag, SpellsStream, count_octets, of_record, tag_octets}
 use Rattle.iim_dataset.specs.Format.Splits.{Begun, InTag, InData, IsBegun}
 use Rattle.iim_dataset.specs.declared.head.Head.{Head}
-use Rattle.iim_dataset.proofs.Each.{all_append, all_front}
 use Rattle.iim_dataset.proofs.Spelled.{tag_length}
-use Rattle.iim_dataset.proofs.Lists.{sum_cons, within_most_and}
-use Rattle.iim_fields.specs.Format.Records.{AreSections}
+use Rattle.iim_dataset.proofs.Lists.{within_most_and, sum_cons}
+use Rattle.iim_dataset.proofs.OctetLists.{number-lt}
+use Rattle.iim_fields.specs.Format.Records.{AreRecords, AreSections, records}
 use Rattle.iim_tables.specs.Format.Records.{IsGoodDataset}
-use Rattle.iim_tables.proofs.GoodDatasets.{none_meets}
 use Rattle.iim_fields.specs.Format.Alive.{SectionsLive, SectionsLiveAt}
 use Rattle.iim_fields.specs.Format.Faults.{kept, joined, is_kept}
 use Rattle.iim_fields.specs.Laws.Records.{NoSectionsBeginOthers, EnvelopesEndWithTheLastRecord}
@@ -24,6 +25,8 @@ use Rattle.iim_object.specs.Format.Objects.{ObjectToken, NumberRead, SubfileBegu
 use Rattle.iim_object.specs.Format.Places.{Place, ending_tokens, tokens_of, place_after}
 use Rattle.iim_object.specs.Format.Numbers.{place_after_datasets, place_ended}
 use Rattle.iim_object.specs.Format.Records.{lengths_of, numbers_of}
+use Rattle.iim_places.proofs.Fronts.{empty_front}
+use Rattle.iim_places.proofs.SizeRows.{by_seven, by_ten, nine_has}
 use Rattle.iim_object.specs.Format.Sizes.{Stated, AreStated, AreOnce, InRow, number_at}
 use Rattle.iim_places.specs.Format.Tokens.{MayContinue, CanContinueAt, ObjectLives}
 use Rattle.iim_places.specs.Laws.Streams.{OpenOctetsAreBounded}
@@ -67,27 +70,19 @@ pub apart : (ds : List Dataset) → AllByRecursion (λ d. IsFive d.rec) ds → w
 apart [] all = omega arith
 apart (d ∷ ds) all = step d (kept ds) (of_record 7 ds) (of_record 8 ds) (of_record 9 ds) (weight ds) d.rec (apart ds all.1) all.0
 
-one_of : (r : ℕ) (ds : List Dataset) → IsFive r → AllByRecursion (λ d. (d.rec ≡ r) × IsGoodDataset d) ds → AllByRecursion (λ d. IsFive d.rec) ds
-one_of r [] five all = tt
-one_of r (d ∷ ds) five all = (subst IsFive (sym all.0.0) five, one_of r ds five all.1)
-
-front : (xs ys : List Dataset) → AllByRecursion (λ d. IsFive d.rec) (xs ++ ys) → AllByRecursion (λ d. IsFive d.rec) xs
-front [] ys all = tt
-front (x ∷ xs) ys all = (all.0, front xs ys all.1)
-
-joined_five : (r : ℕ) (ds run rest : List Dataset) → IsFive r → ds ≡ run ++ rest → AllByRecursion (λ d. (d.rec ≡ r) × IsGoodDataset d) run → AllByRecursion (λ d. IsFive d.rec) rest → AllByRecursion (λ d. IsFive d.rec) ds
-joined_five r ds run rest five is good more = subst (λ (xs : List Dataset). AllByRecursion (λ d. IsFive d.rec) xs) (sym is) (all_append (λ (d : Dataset). IsFive d.rec) run rest (one_of r run five good) more)
-
-none_five : (ds : List Dataset) → ds ≡ [] → AllByRecursion (λ d. IsFive d.rec) ds
-none_five ds is = subst (λ (xs : List Dataset). AllByRecursion (λ d. IsFive d.rec) xs) (sym is) tt
+-- what the good datasets of each record have, all of them have
+pub each_in : (P : Dataset → Type 0) (rs : List ℕ) (ds : List Dataset) → AllByRecursion (λ r. (d : Dataset) → d.rec ≡ r → IsGoodDataset d → P d) rs → AreRecords rs ds → AllByRecursion P ds
+each_in P [] ds has none = subst (AllByRecursion P) (sym none) tt
+each_in P (r ∷ rs) ds has (run, rest, parts, good, more) =
+    subst (AllByRecursion P) (sym parts) (all_append P run rest (all_map (λ (d : Dataset). (d.rec ≡ r) × IsGoodDataset d) P run (λ d h. has.0 d h.0 h.1) good.each) (each_in P rs rest has.1 more))
 
 sections_five : (ds : List Dataset) → AreSections ds → AllByRecursion (λ d. IsFive d.rec) ds
-sections_five ds (r1, from2, one, good1, (r2, from7, two, good2, (r7, from8, seven, good7, (r8, from9, eight, good8, (r9, none, nine, good9, end))))) =
-    joined_five 1 ds r1 from2 (inl refl) one good1.each (joined_five 2 from2 r2 from7 (inr (inl refl)) two good2.each (joined_five 7 from7 r7 from8 (inr (inr (inl refl))) seven good7.each
-    (joined_five 8 from8 r8 from9 (inr (inr (inr (inl refl)))) eight good8.each (joined_five 9 from9 r9 none (inr (inr (inr (inr refl)))) nine good9.each (none_five none end)))))
+sections_five ds are =
+    each_in (λ d. IsFive d.rec) records ds
+    ((λ d is good. inl is), ((λ d is good. inr (inl is)), ((λ d is good. inr (inr (inl is))), ((λ d is good. inr (inr (inr (inl is)))), ((λ d is good. inr (inr (inr (inr is)))), tt))))) are
 
 pub alive_five : (ds : List Dataset) → SectionsLive ds → AllByRecursion (λ d. IsFive d.rec) ds
-alive_five ds alive = front ds alive.0 (sections_five (ds ++ alive.0) alive.1)
+alive_five ds alive = all_front _ ds alive.0 (sections_five (ds ++ alive.0) alive.1)
 
 -- ---- the kept ones, and the subfiles
 
@@ -99,43 +94,44 @@ pub weight_lengths : (ds : List Dataset) → weight ds ≡ tag_octets * length d
 weight_lengths [] = refl
 weight_lengths (d ∷ ds) = omega (arith, weight_lengths ds, sum_cons (length d.octets) (lengths_of ds))
 
-abbrev total : List ObjectToken → ℕ
-total [] = 0
-total (NumberRead set n ∷ ts) = total ts
-total (SubfileBegun n ∷ ts) = n + total ts
-total (ObjectEnded ∷ ts) = total ts
-total (Confirmed n ∷ ts) = total ts
+-- tokens weighed one by one
+abbrev weigh : (ObjectToken → ℕ) → List ObjectToken → ℕ
+weigh w [] = 0
+weigh w (t ∷ ts) = w t + weigh w ts
 
-total_append : (xs ys : List ObjectToken) → total (xs ++ ys) ≡ total xs + total ys
-total_append [] ys = omega arith
-total_append (NumberRead set n ∷ xs) ys = total_append xs ys
-total_append (SubfileBegun n ∷ xs) ys = omega (arith, total_append xs ys)
-total_append (ObjectEnded ∷ xs) ys = total_append xs ys
-total_append (Confirmed n ∷ xs) ys = total_append xs ys
+weigh_append : (w : ObjectToken → ℕ) (xs ys : List ObjectToken) → weigh w (xs ++ ys) ≡ weigh w xs + weigh w ys
+weigh_append w [] ys = omega arith
+weigh_append w (x ∷ xs) ys = omega (arith, weigh_append w xs ys)
 
-total_numbers : (ps : List Stated) → total (number_tokens ps) ≡ 0
+-- what an object weighs so far it weighs as a whole
+front_weighs : (w : ObjectToken → ℕ) (p : Place) → (lives : ObjectLives p) → weigh w (number_tokens p.stated) + weigh w (map SubfileBegun p.lengths)
+    ≤ weigh w (number_tokens lives.1.stated) + weigh w (map SubfileBegun lives.1.lengths) + w ObjectEnded + w (Confirmed lives.1.confirmed)
+front_weighs w p (rest, is) =
+    omega (
+      arith,
+      ap (weigh w) is.tokens_are,
+      weigh_append w (tokens_of p) rest,
+      weigh_append w (number_tokens p.stated) (map SubfileBegun p.lengths ++ ending_tokens p.ending),
+      weigh_append w (map SubfileBegun p.lengths) (ending_tokens p.ending),
+      weigh_append w (number_tokens is.stated) (map SubfileBegun is.lengths ++ (ObjectEnded ∷ Confirmed is.confirmed ∷ [])),
+      weigh_append w (map SubfileBegun is.lengths) (ObjectEnded ∷ Confirmed is.confirmed ∷ []),
+    )
+
+abbrev octets_begun : ObjectToken → ℕ
+octets_begun (SubfileBegun n) = n
+octets_begun other = 0
+
+total_numbers : (ps : List Stated) → weigh octets_begun (number_tokens ps) ≡ 0
 total_numbers [] = refl
-total_numbers (p ∷ ps) = total_numbers ps
+total_numbers (p ∷ ps) = omega (arith, total_numbers ps)
 
-total_begun : (ls : List ℕ) → total (map SubfileBegun ls) ≡ sum ls
+total_begun : (ls : List ℕ) → weigh octets_begun (map SubfileBegun ls) ≡ sum ls
 total_begun [] = refl
 total_begun (n ∷ ls) = omega (arith, total_begun ls, sum_cons n ls)
 
 -- The subfiles so far have at most as many octets as all of them.
 pub object_total : (p : Place) → (lives : ObjectLives p) → sum p.lengths ≤ sum lives.1.lengths
-object_total p (rest, is) =
-    omega (
-      arith,
-      ap total is.tokens_are,
-      total_append (tokens_of p) rest,
-      total_append (number_tokens p.stated) (map SubfileBegun p.lengths ++ ending_tokens p.ending),
-      total_append (map SubfileBegun p.lengths) (ending_tokens p.ending),
-      total_begun p.lengths,
-      total_append (number_tokens is.stated) (map SubfileBegun is.lengths ++ (ObjectEnded ∷ Confirmed is.confirmed ∷ [])),
-      total_numbers is.stated,
-      total_append (map SubfileBegun is.lengths) (ObjectEnded ∷ Confirmed is.confirmed ∷ []),
-      total_begun is.lengths,
-    )
+object_total p (rest, is) = omega (arith, front_weighs octets_begun p (rest, is), total_numbers p.stated, total_begun p.lengths, total_numbers is.stated, total_begun is.lengths)
 
 -- The subfiles have at most the greatest size together.
 pub object_fits : (p : Place) → ObjectLives p → sum p.lengths ≤ greatest_size
@@ -153,14 +149,10 @@ no_nine law ends whole xs (d ∷ ys) alive unfinished is = by (no_nine law ends 
     there : SectionsLive (xs ++ d ∷ [])
     there = (ys ++ alive.0, subst AreSections (ap (λ (t : List Dataset). t ++ alive.0) whole_is ∙ append_assoc (xs ++ d ∷ []) ys alive.0) alive.1)
 
-    no_front : (us bs : List Dataset) → us ++ bs ≡ [] → us ≡ []
-    no_front [] bs e = refl
-    no_front (a ∷ us) bs e = absurd cc
-
     bad : d.rec ≡ 9 → ⊥
     bad nine =
         let sections : AreSections (xs ++ d ∷ []) = (ends xs d there).0 nine in
-        let none : ys ≡ [] = no_front ys alive.0 (law (xs ++ d ∷ []) (ys ++ alive.0) sections there.1) in
+        let none : ys ≡ [] = empty_front ys alive.0 (law (xs ++ d ∷ []) (ys ++ alive.0) sections there.1) in
         unfinished (subst AreSections (sym (whole_is ∙ ap (λ (t : List Dataset). (xs ++ d ∷ []) ++ t) none ∙ append-nil (xs ++ d ∷ []))) sections)
 
     by : weight (of_record 9 ys) ≡ 0 → (b : Bool) → nat_eq d.rec 9 ≡ b → weight (cond b (d ∷ of_record 9 ys) (of_record 9 ys)) ≡ 0
@@ -169,27 +161,17 @@ no_nine law ends whole xs (d ∷ ys) alive unfinished is = by (no_nine law ends 
 
 -- ---- record 7
 
-abbrev numbers : List ObjectToken → ℕ
-numbers [] = 0
-numbers (NumberRead set n ∷ ts) = 1 + numbers ts
-numbers (SubfileBegun n ∷ ts) = numbers ts
-numbers (ObjectEnded ∷ ts) = numbers ts
-numbers (Confirmed n ∷ ts) = numbers ts
+abbrev numbers_read : ObjectToken → ℕ
+numbers_read (NumberRead set n) = 1
+numbers_read other = 0
 
-numbers_append : (xs ys : List ObjectToken) → numbers (xs ++ ys) ≡ numbers xs + numbers ys
-numbers_append [] ys = omega arith
-numbers_append (NumberRead set n ∷ xs) ys = omega (arith, numbers_append xs ys)
-numbers_append (SubfileBegun n ∷ xs) ys = numbers_append xs ys
-numbers_append (ObjectEnded ∷ xs) ys = numbers_append xs ys
-numbers_append (Confirmed n ∷ xs) ys = numbers_append xs ys
-
-numbers_stated : (ps : List Stated) → numbers (number_tokens ps) ≡ length ps
+numbers_stated : (ps : List Stated) → weigh numbers_read (number_tokens ps) ≡ length ps
 numbers_stated [] = refl
 numbers_stated (p ∷ ps) = omega (arith, numbers_stated ps)
 
-numbers_begun : (ls : List ℕ) → numbers (map SubfileBegun ls) ≡ 0
+numbers_begun : (ls : List ℕ) → weigh numbers_read (map SubfileBegun ls) ≡ 0
 numbers_begun [] = refl
-numbers_begun (n ∷ ls) = numbers_begun ls
+numbers_begun (n ∷ ls) = omega (arith, numbers_begun ls)
 
 abbrev slot : Option ℕ → ℕ
 slot None = 0
@@ -218,41 +200,15 @@ few_stated ps are = omega (arith, slots ps are.each are.once, slot_most (number_
 -- Record 7 has four datasets at most.
 pub few_numbers : (p : Place) → ObjectLives p → length p.stated ≤ 4
 few_numbers p (rest, is) =
-    omega (
-      arith,
-      ap numbers is.tokens_are,
-      numbers_append (tokens_of p) rest,
-      numbers_append (number_tokens p.stated) (map SubfileBegun p.lengths ++ ending_tokens p.ending),
-      numbers_stated p.stated,
-      numbers_append (number_tokens is.stated) (map SubfileBegun is.lengths ++ (ObjectEnded ∷ Confirmed is.confirmed ∷ [])),
-      numbers_stated is.stated,
-      numbers_append (map SubfileBegun is.lengths) (ObjectEnded ∷ Confirmed is.confirmed ∷ []),
-      numbers_begun is.lengths,
-      few_stated is.stated is.are_stated,
-    )
+    omega (arith, front_weighs numbers_read p (rest, is), numbers_stated p.stated, numbers_stated is.stated, numbers_begun is.lengths, few_stated is.stated is.are_stated)
 
 -- ---- counts
 
-pub low : (xs : List ℕ) → Octets xs → length xs ≤ 8 → number xs < 2 ^ 64
-low [] all fits = omega arith
-low (a ∷ []) all fits = omega (arith, all.0)
-low (a ∷ b ∷ []) all fits = omega (arith, all.0, all.1.0)
-low (a ∷ b ∷ c ∷ []) all fits = omega (arith, all.0, all.1.0, all.1.1.0)
-low (a ∷ b ∷ c ∷ d ∷ []) all fits = omega (arith, all.0, all.1.0, all.1.1.0, all.1.1.1.0)
-low (a ∷ b ∷ c ∷ d ∷ e ∷ []) all fits = omega (arith, all.0, all.1.0, all.1.1.0, all.1.1.1.0, all.1.1.1.1.0)
-low (a ∷ b ∷ c ∷ d ∷ e ∷ f ∷ []) all fits = omega (arith, all.0, all.1.0, all.1.1.0, all.1.1.1.0, all.1.1.1.1.0, all.1.1.1.1.1.0)
-low (a ∷ b ∷ c ∷ d ∷ e ∷ f ∷ g ∷ []) all fits = omega (arith, all.0, all.1.0, all.1.1.0, all.1.1.1.0, all.1.1.1.1.0, all.1.1.1.1.1.0, all.1.1.1.1.1.1.0)
-low (a ∷ b ∷ c ∷ d ∷ e ∷ f ∷ g ∷ h ∷ []) all fits = omega (arith, all.0, all.1.0, all.1.1.0, all.1.1.1.0, all.1.1.1.1.0, all.1.1.1.1.1.0, all.1.1.1.1.1.1.0, all.1.1.1.1.1.1.1.0)
-low (a ∷ b ∷ c ∷ d ∷ e ∷ f ∷ g ∷ h ∷ i ∷ xs) all fits = absurd (omega (arith, fits))
-
-count_low : (n : ℕ) (xs : List ℕ) → SpellsCount count_octets n xs → n < 2 ^ 64
-count_low n [] is = absurd is
-count_low n (high ∷ []) is = absurd is
-count_low n (high ∷ next ∷ more) (inl (a, b, none, c)) = omega (arith, c, low (high ∷ next ∷ []) (omega (arith, a), (b, tt)) (omega arith))
-count_low n (high ∷ next ∷ more) (inr (a, len, b, within_most_and, octets, c)) = omega (arith, c, low more octets (omega (arith, len, within_most_and)))
-
-pub tag_low : (h : Head) (tag : List ℕ) → SpellsTag count_octets h tag → h.count < 2 ^ 64
-tag_low h tag is = count_low h.count is.count is.is_count
+pub low : (n : ℕ) (xs : List ℕ) → Octets xs → length xs ≤ n → number xs < 256 ^ n
+low n xs all fits =
+    let less = number-lt xs all in
+    let most' : 256 ^ length xs ≤ 256 ^ n = pow-le-pow_right (omega arith) fits in
+    omega (arith, less, most')
 
 -- ---- how long data are
 
@@ -262,59 +218,32 @@ IsOne d = (is_kept d.rec ≡ true) ⊎ ((d.rec ≡ 8) ⊎ (length d.octets ≤ s
 
 short_seven : (set : ℕ) (xs : List ℕ) → Meets 7 set xs → length xs ≤ size_octets
 unfolding row_of table
-short_seven set xs = elim (eqb_tells 10 set) [
-  | inl is ↦ subst (λ (k : ℕ). Meets 7 k xs → length xs ≤ size_octets) is.1 (λ h. let one = within_most_and 1 1 (length xs) _ h in omega (arith, one))
-  | inr not10 ↦ elim (eqb_tells 20 set) [
-    | inl is ↦ subst (λ (k : ℕ). Meets 7 k xs → length xs ≤ size_octets) is.1 (λ h. within_most_and 1 size_octets (length xs) _ h)
-    | inr not20 ↦ elim (eqb_tells 90 set) [
-      | inl is ↦ subst (λ (k : ℕ). Meets 7 k xs → length xs ≤ size_octets) is.1 (λ h. within_most_and 1 size_octets (length xs) _ h)
-      | inr not90 ↦ elim (eqb_tells 95 set) [
-        | inl is ↦ subst (λ (k : ℕ). Meets 7 k xs → length xs ≤ size_octets) is.1 (λ h. within_most_and 1 size_octets (length xs) _ h)
-        | inr not95 ↦ λ h. absurd (none_meets 7 set xs (rw (not10.0, not20.0, not90.0, not95.0) refl) h)
-      ]
-    ]
-  ]
-]
+short_seven set xs =
+    by_seven xs (λ _. length xs ≤ size_octets) (λ h. let one = within_most_and 1 1 (length xs) _ h in omega (arith, one))
+    (λ h. within_most_and 1 size_octets (length xs) _ h) (λ h. within_most_and 1 size_octets (length xs) _ h) (λ h. within_most_and 1 size_octets (length xs) _ h) set
 
 short_nine : (set : ℕ) (xs : List ℕ) → Meets 9 set xs → length xs ≤ size_octets
 unfolding row_of table
-short_nine set xs = elim (eqb_tells 10 set) [
-  | inl is ↦ subst (λ (k : ℕ). Meets 9 k xs → length xs ≤ size_octets) is.1 (λ h. within_most_and 1 size_octets (length xs) _ h)
-  | inr not10 ↦ λ h. absurd (none_meets 9 set xs (rw not10.0 refl) h)
-]
+short_nine set xs = by_ten 9 nine_has xs (λ _. length xs ≤ size_octets) (λ h. within_most_and 1 size_octets (length xs) _ h) set
 
-pub all_weaker : (P Q : Dataset → Type 0) → ((x : Dataset) → P x → Q x) → (xs : List Dataset) → AllByRecursion P xs → AllByRecursion Q xs
-all_weaker P Q f [] h = tt
-all_weaker P Q f (x ∷ xs) h = (f x h.0, all_weaker P Q f xs h.1)
+of_first : (rec : ℕ) → is_kept rec ≡ true → (d : Dataset) → d.rec ≡ rec → IsGoodDataset d → IsOne d
+of_first rec yes' d is good = inl (ap is_kept is ∙ yes')
 
-all_at : (ds : List Dataset) (d : Dataset) (more : List Dataset) → AllByRecursion IsOne ((ds ++ d ∷ []) ++ more) → IsOne d
-all_at [] d more h = h.0
-all_at (x ∷ ds) d more h = all_at ds d more h.1
+of_seven : (d : Dataset) → d.rec ≡ 7 → IsGoodDataset d → IsOne d
+of_seven d is good = inr (inr (short_seven d.set d.octets (subst (λ (r : ℕ). Meets r d.set d.octets) is good.meets)))
 
-of_first : (rec : ℕ) → is_kept rec ≡ true → (d : Dataset) → (d.rec ≡ rec) × IsGoodDataset d → IsOne d
-of_first rec yes' d h = inl (ap is_kept h.0 ∙ yes')
+of_nine : (d : Dataset) → d.rec ≡ 9 → IsGoodDataset d → IsOne d
+of_nine d is good = inr (inr (short_nine d.set d.octets (subst (λ (r : ℕ). Meets r d.set d.octets) is good.meets)))
 
-of_seven : (d : Dataset) → (d.rec ≡ 7) × IsGoodDataset d → IsOne d
-of_seven d h = inr (inr (short_seven d.set d.octets (subst (λ (r : ℕ). Meets r d.set d.octets) h.0 h.1.meets)))
+all_ones : (ds : List Dataset) → AreSections ds → AllByRecursion IsOne ds
+all_ones ds are = each_in IsOne records ds (of_first 1 refl, (of_first 2 refl, (of_seven, ((λ d is good. inr (inl is)), (of_nine, tt))))) are
 
-of_nine : (d : Dataset) → (d.rec ≡ 9) × IsGoodDataset d → IsOne d
-of_nine d h = inr (inr (short_nine d.set d.octets (subst (λ (r : ℕ). Meets r d.set d.octets) h.0 h.1.meets)))
-
-pub all_ones : (ds : List Dataset) → AreSections ds → AllByRecursion IsOne ds
-all_ones ds (r1, from2, one, good1, (r2, from7, two, good2, (r7, from8, seven', good7, (r8, from9, eight, good8, (r9, rest, nine, good9, end))))) =
-    let last : AllByRecursion IsOne rest = subst (AllByRecursion IsOne) (sym end) tt in
-    let a9 : AllByRecursion IsOne from9 = subst (AllByRecursion IsOne) (sym nine) (all_append IsOne r9 rest (all_weaker _ IsOne of_nine r9 good9.each) last) in
-    let a8 : AllByRecursion IsOne from8 = subst (AllByRecursion IsOne) (sym eight) (all_append IsOne r8 from9 (all_weaker _ IsOne (λ d h. inr (inl h.0)) r8 good8.each) a9) in
-    let a7 : AllByRecursion IsOne from7 = subst (AllByRecursion IsOne) (sym seven') (all_append IsOne r7 from8 (all_weaker _ IsOne of_seven r7 good7.each) a8) in
-    let a2 : AllByRecursion IsOne from2 = subst (AllByRecursion IsOne) (sym two) (all_append IsOne r2 from7 (all_weaker _ IsOne (of_first 2 refl) r2 good2.each) a7) in
-    subst (AllByRecursion IsOne) (sym one) (all_append IsOne r1 from2 (all_weaker _ IsOne (of_first 1 refl) r1 good1.each) a2)
+pub alive_ones : (ds : List Dataset) → SectionsLive ds → AllByRecursion IsOne ds
+alive_ones ds alive = all_front IsOne ds alive.0 (all_ones (ds ++ alive.0) alive.1)
 
 pub is_one : (ds : List Dataset) (h : Head) → SectionsLiveAt ds h → (is_kept h.rec ≡ true) ⊎ ((h.rec ≡ 8) ⊎ (h.count ≤ size_octets))
 is_one ds h (d, is, alive) =
-    subst (λ (k : Head). (is_kept k.rec ≡ true) ⊎ ((k.rec ≡ 8) ⊎ (k.count ≤ size_octets))) is (all_at ds d alive.0 (all_ones ((ds ++ d ∷ []) ++ alive.0) alive.1))
-
-alive_ones : (ds : List Dataset) → SectionsLive ds → AllByRecursion IsOne ds
-alive_ones ds alive = all_front (IsOne) ds alive.0 (all_ones (ds ++ alive.0) alive.1)
+    subst (λ (k : Head). (is_kept k.rec ≡ true) ⊎ ((k.rec ≡ 8) ⊎ (k.count ≤ size_octets))) is (all_back IsOne ds (d ∷ []) (alive_ones (ds ++ d ∷ []) alive)).0
 
 pub few_in_seven : (d : Dataset) → d.rec ≡ 7 → IsOne d → length d.octets ≤ size_octets
 few_in_seven d seven (inl keeps) = absurd (let bad : false ≡ true = ap is_kept (sym seven) ∙ keeps in cc)
@@ -331,9 +260,9 @@ seven_fits (d ∷ ds) all = low_seven d (of_record 7 ds) (nat_eq d.rec 7) refl a
 
 -- ---- all of it
 
-map_length : (ds : List Dataset) → length (numbers_of ds) ≡ length ds
-map_length [] = refl
-map_length (d ∷ ds) = omega (arith, map_length ds)
+pub same_count : (ds : List Dataset) → length (numbers_of ds) ≡ length ds
+same_count [] = refl
+same_count (d ∷ ds) = omega (arith, same_count ds)
 
 -- the whole datasets
 pub whole_fits : NoSectionsBeginOthers → EnvelopesEndWithTheLastRecord → (limits : Limits) → limits.octets < 4294967296 → limits.fields < 4294967296 → (ds : List Dataset) (xs : List ℕ) → SpellsStream count_octets ds xs
@@ -349,7 +278,7 @@ whole_fits law ends limits octets fields ds xs spelled alive within few more siz
       within.kept.octets_in,
       within.kept.fields_in,
       seven_fits ds (alive_ones ds alive),
-      map_length (of_record 7 ds),
+      same_count (of_record 7 ds),
       few,
       weight_lengths (of_record 8 ds),
       within.subfiles,

@@ -1,7 +1,6 @@
 -- Octets that lead to one place continue alike.
 use Rattle.std.proofs.Common.{◌≡◌, ℕ, ◌+◌, nat_eq, cond, if◌then◌else◌, Bool, true, false, List, [], ◌∷◌, ◌++◌, length, map, Some, None, refl, ap, sym, subst, ◌∙◌, inl, inr, arith, append_assoc, append-nil}
 use Rattle.std.proofs.lemmas.List.{append_cancel_left}
-use Rattle.std.proofs.lemmas.Option.{same_Some}
 use Rattle.iim_dataset.specs.Format.Languages as languages
 use Rattle.iim_dataset.specs.Format.Octets.{number}
 use Rattle.iim_dataset.specs.Format.Datasets.{Dataset, SpellsStream, count_octets, of_record}
@@ -167,6 +166,9 @@ pub record SameEnvelope (ds es : List Dataset) : Type 0 where
   pub octets : length (object_of ds) ≡ length (object_of es)
   pub message : SameMessage (object_of ds) (object_of es)
 
+some_number : {x y : ℕ} → Some x ≡ Some y → x ≡ y
+some_number e = cc
+
 known_as : (a b : Bool) → mode_number a ≡ mode_number b → a ≡ b
 known_as true true e = refl
 known_as true false e = absurd (omega (arith, e))
@@ -175,8 +177,8 @@ known_as false false e = refl
 
 sizes_as : (ds es : List Dataset) (s t : Sizes) → SameEnvelope ds es → HaveSizes (of_record 7 ds) (of_record 8 ds) (of_record 9 ds) s → HaveSizes (of_record 7 es) (of_record 8 es) (of_record 9 es) t → s ≡ t
 sizes_as ds es s t same here there =
-    let known = known_as s.known t.known (same_Some _ _ (sym here.mode ∙ same.numbers.mode ∙ there.mode)) in
-    let subfile = same_Some _ _ (sym here.largest ∙ same.numbers.largest ∙ there.largest) in
+    let known = known_as s.known t.known (some_number (sym here.mode ∙ same.numbers.mode ∙ there.mode)) in
+    let subfile = some_number (sym here.largest ∙ same.numbers.largest ∙ there.largest) in
     let announced = sym here.announced ∙ same.numbers.announced ∙ there.announced in
     let maximum = sym here.maximum ∙ same.numbers.maximum ∙ there.maximum in
     let subfiles = sym here.subfiles ∙ same.heads ∙ there.subfiles in

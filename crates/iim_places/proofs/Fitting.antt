@@ -1,18 +1,16 @@
 -- The ticket of a possible place has the form of a ticket: each number fits its octets.
-use Rattle.std.proofs.Common.{◌≡◌, ℕ, ◌+◌, ◌-◌, ◌<◌, ◌≤◌, ◌^◌, nat_eq, cond, if◌then◌else◌, Bool, true, false, List, [], ◌∷◌, ◌++◌, length, Option, Some, None, ◌⊎◌, refl, ap, sym, subst, ◌∙◌, inl, inr, arith, append_assoc, append-nil, length-append}
+use Rattle.std.proofs.Common.{◌≡◌, ℕ, ◌+◌, ◌-◌, ◌<◌, ◌≤◌, ◌^◌, nat_eq, cond, if◌then◌else◌, Bool, true, false, List, [], ◌∷◌, ◌++◌, length, sum, get_or, Option, Some, None, ◌⊎◌, refl, ap, sym, subst, ◌∙◌, inl, inr, arith, append_assoc, append-nil, length-append}
 use Rattle.std.specs.List.{AllByRecursion, flat_map}
 use Rattle.std.proofs.lemmas.Bool.{eqb-true}
 use Rattle.iim_dataset.specs.Format.Octets.{Octets, greatest_size}
-use Rattle.iim_dataset.specs.Format.Datasets.{Dataset, SpellsStream, count_octets, of_record}
+use Rattle.iim_dataset.specs.Format.Datasets.{Dataset, SpellsStream, SpellsTag, count_octets, of_record}
 use Rattle.iim_dataset.specs.Format.Splits.{Begun, InTag, InData, Reads}
-use Rattle.iim_fields.specs.Format.Records.{AreSections}
+use Rattle.iim_dataset.proofs.Each.{all_back}
 use Rattle.iim_fields.specs.Format.Faults.{kept, kept_octets, joined, is_kept, section_after}
 use Rattle.iim_fields.specs.Format.Values.{tells_number}
 use Rattle.iim_fields.specs.Format.Alive.{SectionsLiveAt}
 use Rattle.iim_dataset.specs.declared.head.Head.{Head}
 use Rattle.iim_dataset.specs.Format.Tags.{BeginsTag}
-use Rattle.iim_dataset.proofs.Each.{all_front}
-use Rattle.iim_dataset.proofs.Lists.{sum_append}
 use Rattle.iim_object.specs.Format.Objects.{SubfileBegun}
 use Rattle.iim_object.specs.Format.Places.{place_after}
 use Rattle.iim_object.specs.Format.Numbers.{place_after_datasets, place_ended}
@@ -31,11 +29,15 @@ use Rattle.iim_places.specs.Format.Tickets.{Place, Phase, TagBegun, DataBegun, A
 use Rattle.iim_places.specs.States.Begins.{IsLongField, IsSizeIn, AreTexts}
 use Rattle.iim_places.specs.TicketParts.{IsSize, AreNumbers}
 use Rattle.iim_places.specs.Format.TicketForm.{IsVersion, IsPhase, HasForm, Split, SplitsTicket, split_octets}
+use Rattle.iim_places.specs.States.Scales.{place_in}
 use Rattle.iim_places.specs.States.Possible.{Possible, IsSmall, IsSmallPhase, IsSmallPlace, widest}
 use Rattle.iim_places.specs.Laws.Places.{SmallPlacesWerePossible, TicketsTellOnePlace}
 use Rattle.iim_places.specs.Laws.Tickets.{TicketsOfPlacesAreSplit, texts_of, split_of}
+use Rattle.iim_dataset.proofs.Counts.{tag-lt}
+use Rattle.iim_dataset.proofs.Lists.{sum_append}
 use Rattle.iim_places.proofs.Answering.{Lives, lives_open, lives_envelope, one_reading}
-use Rattle.iim_places.proofs.Bounds.{low, object_fits, tag_low, IsOne, all_ones, is_one, few_in_seven, IsFive, alive_five}
+use Rattle.iim_places.proofs.Bounds.{low, object_fits, IsOne, alive_ones, is_one, few_in_seven, IsFive, alive_five}
+use Rattle.iim_places.proofs.Following.{alive_of}
 use Rattle.iim_places.proofs.Splitting.{one_split}
 use Rattle.iim_places.proofs.TicketLengths.{tag_length_in, held_length, AreShortIn, texts_led}
 use Rattle.iim_places.proofs.Tickets.{total_of, sum_one}
@@ -92,7 +94,7 @@ each_low [] ones octets = tt
 each_low (d ∷ ds) ones octets = by (nat_eq d.rec 7) refl (each_low ds ones.1 octets.1)
   where
     by : (b : Bool) → nat_eq d.rec 7 ≡ b → AllByRecursion IsLow (numbers_of (of_record 7 ds)) → AllByRecursion IsLow (numbers_of (cond b (d ∷ of_record 7 ds) (of_record 7 ds)))
-    by true is more = (low d.octets octets.0 (few_in_seven d (eqb-true d.rec 7 is) ones.0), more)
+    by true is more = (low 8 d.octets octets.0 (few_in_seven d (eqb-true d.rec 7 is) ones.0), more)
     by false is more = more
 
 low_at : (set : ℕ) (ps : List Stated) → AllByRecursion IsLow ps → IsSize (number_at set ps)
@@ -107,28 +109,35 @@ pub numbers_fit : (ps : List Stated) → AllByRecursion IsLow ps → AreNumbers 
 numbers_fit ps all = record { each = (low_at 10 ps all, (low_at 20 ps all, (low_at 90 ps all, (low_at 95 ps all, tt)))); four = refl }
 
 pub ones_in : (ds : List Dataset) (b : Begun) → MayContinue widest ds b → AllByRecursion IsOne ds
-ones_in ds (InTag held) goes = all_front (IsOne) ds goes.records.0 (all_ones (ds ++ goes.records.0) goes.records.1)
-ones_in ds (InData h taken) goes =
-    let (d, head, (later, are)) = goes.records in
-    all_front (IsOne) ds (d ∷ later) (all_ones (ds ++ d ∷ later) (subst AreSections (append_assoc ds (d ∷ []) later) are))
+ones_in ds b goes = alive_ones ds (alive_of widest ds b goes)
 
 -- ---- the object
 
-taken_by : (b c : Bool) (ds : List Dataset) (count : ℕ) (taken : List ℕ) → length taken ≤ count → ObjectLives (if b then place_after (place_after_datasets ds) (SubfileBegun count) else if c then place_ended ds else place_after_datasets ds)
-    → length (object_of ds ++ (if b then taken else [])) ≤ greatest_size
-taken_by true c ds count taken few lives =
+taken_by : (b c : Bool) (ds : List Dataset) (count : ℕ) (taken : List ℕ) → length taken ≤ count
+    → length (object_of ds ++ (if b then taken else [])) ≤ sum (if b then place_after (place_after_datasets ds) (SubfileBegun count) else if c then place_ended ds else place_after_datasets ds).lengths
+taken_by true c ds count taken few =
     let sums = sum_append (lengths_of (of_record 8 ds)) (count ∷ []) in
     let one = sum_one count in
     let total = total_of (of_record 8 ds) in
     let both = length-append (object_of ds) taken in
-    let fits = object_fits (place_after (place_after_datasets ds) (SubfileBegun count)) lives in
-    omega (arith, sums, one, total, both, fits, few)
-taken_by false true ds count taken few lives = let total = total_of (of_record 8 ds) in let same = ap length (append-nil (object_of ds)) in let fits = object_fits (place_ended ds) lives in omega (arith, total, same, fits)
-taken_by false false ds count taken few lives = let total = total_of (of_record 8 ds) in let same = ap length (append-nil (object_of ds)) in let fits = object_fits (place_after_datasets ds) lives in omega (arith, total, same, fits)
+    omega (arith, sums, one, total, both, few)
+taken_by false true ds count taken few = let total = total_of (of_record 8 ds) in let same = ap length (append-nil (object_of ds)) in omega (arith, total, same)
+taken_by false false ds count taken few = let total = total_of (of_record 8 ds) in let same = ap length (append-nil (object_of ds)) in omega (arith, total, same)
+
+-- the octets of the object so far are no more than its subfiles have
+pub so_far_fits : (counts : ℕ) (octets : List ℕ) (ds : List Dataset) (b : Begun) → Reads counts octets ds b → length (object_so_far ds b) ≤ sum (place_in ds b).lengths
+so_far_fits counts octets ds (InTag held) reads = let total = total_of (of_record 8 ds) in omega (arith, total)
+so_far_fits counts octets ds (InData h taken) reads = let less = reads.is_rest.2 in taken_by (nat_eq h.rec 8) (nat_eq h.rec 9) ds h.count taken (omega (arith, less))
+
+pub lives_in : (ds : List Dataset) (b : Begun) → MayContinue widest ds b → ObjectLives (place_in ds b)
+lives_in ds (InTag held) goes = goes.object
+lives_in ds (InData h taken) goes = goes.object
+
+pub object_low : (ds : List Dataset) → ObjectLives (place_after_datasets ds) → length (object_of ds) ≤ greatest_size
+object_low ds lives = let total = total_of (of_record 8 ds) in let fits = object_fits (place_after_datasets ds) lives in omega (arith, total, fits)
 
 pub taken_fits : (octets : List ℕ) (ds : List Dataset) (b : Begun) → Reads count_octets octets ds b → MayContinue widest ds b → length (object_so_far ds b) ≤ greatest_size
-taken_fits octets ds (InTag held) reads goes = let total = total_of (of_record 8 ds) in let fits = object_fits (place_after_datasets ds) goes.object in omega (arith, total, fits)
-taken_fits octets ds (InData h taken) reads goes = let less = reads.is_rest.2 in taken_by (nat_eq h.rec 8) (nat_eq h.rec 9) ds h.count taken (omega (arith, less)) goes.object
+taken_fits octets ds b reads goes = let less = so_far_fits count_octets octets ds b reads in let fits = object_fits (place_in ds b) (lives_in ds b goes) in omega (arith, less, fits)
 
 heads_fit : (ds : List Dataset) (b : Begun) → MayContinue widest ds b → heads_of ds b < 2 ^ 32
 heads_fit ds (InTag held) goes = let few = goes.within.subfiles in omega (arith, few)
@@ -148,20 +157,23 @@ few_kept ds (InData h taken) goes = let few = goes.within.kept.fields_in in omeg
 
 -- ---- what is begun
 
+pub begins_tag : (counts : ℕ) (octets : List ℕ) (ds : List Dataset) (held : List ℕ) → Reads counts octets ds (InTag held) → BeginsTag counts held
+begins_tag counts octets ds held reads =
+    let (same, h, tag, spelled, (more, some, parts)) = reads.is_rest in
+    record { head = h; more = more; some_more = some; whole = subst (SpellsTag counts h) (sym parts) spelled }
+
+-- the data that are given are those that have come, where they are no subfile's
+pub given_fits : (b : Bool) (count : ℕ) (taken : List ℕ) → length taken < count → length (if b then [] else taken) ≡ (if b then 0 else count - (count - length taken))
+given_fits true count taken less = refl
+given_fits false count taken less = omega (arith, less)
+
 phase_fits : (octets : List ℕ) (ds : List Dataset) (b : Begun) → Reads count_octets octets ds b → IsPhase present_version (section ds b) (phase_of ds b)
 phase_fits octets ds (InTag held) reads = by (nat_eq (section_after ds) 9)
   where
     by : (b : Bool) → IsPhase present_version (section_after ds) (if b then AllEnded else TagBegun held)
     by true = tt
     by false = omega (arith, held_length octets ds held reads)
-phase_fits octets ds (InData h taken) reads = (omega (arith, tag_low h reads.is_rest.0 reads.is_rest.1), omega arith, by (nat_eq h.rec 8))
-  where
-    less : length taken < h.count
-    less = reads.is_rest.2
-
-    by : (b : Bool) → length (if b then [] else taken) ≡ (if b then 0 else h.count - (h.count - length taken))
-    by true = refl
-    by false = omega (arith, less)
+phase_fits octets ds (InData h taken) reads = (omega (arith, tag-lt h reads.is_rest.0 reads.is_rest.1), omega arith, given_fits (nat_eq h.rec 8) h.count taken reads.is_rest.2)
 
 -- ---- the message
 
@@ -206,12 +218,8 @@ form_of place l = record {
   texts = texts_fit l.message (texts_led _ l.text l.message l.leads);
 }
 
-last_of : (P : Dataset → Type 0) (ds : List Dataset) (d : Dataset) → AllByRecursion P (ds ++ d ∷ []) → P d
-last_of P [] d all = all.0
-last_of P (x ∷ ds) d all = last_of P ds d all.1
-
 five_of : (ds : List Dataset) (h : Head) → SectionsLiveAt ds h → IsFive h.rec
-five_of ds h (d, head, alive) = subst IsFive (ap (λ (k : Head). k.rec) head) (last_of (λ (x : Dataset). IsFive x.rec) ds d (alive_five (ds ++ d ∷ []) alive))
+five_of ds h (d, head, alive) = subst IsFive (ap (λ (k : Head). k.rec) head) (all_back (λ (x : Dataset). IsFive x.rec) ds (d ∷ []) (alive_five (ds ++ d ∷ []) alive)).0
 
 low_head : (ds : List Dataset) (b : Begun) → MayContinue widest ds b → LowHead (section ds b) (phase_of ds b)
 low_head ds (InTag held) goes = by (nat_eq (section_after ds) 9)
@@ -300,42 +308,27 @@ part_told p q e = sym (back p) ∙ ap part_at e ∙ back q
     back part.Filler = refl
     back other = refl
 
-first_text : {x y : List ℕ} {a b : List (List ℕ)} → x ∷ a ≡ y ∷ b → x ≡ y
-first_text e = cc
-
-other_texts : {x y : List ℕ} {a b : List (List ℕ)} → x ∷ a ≡ y ∷ b → a ≡ b
-other_texts e = cc
+-- the numbers and the texts of a message's place tell it
+pub message_told : (m n : MessagePlace) → part_number m.part ≡ part_number n.part → m.counter ≡ n.counter → m.flag ≡ n.flag → texts_of m ≡ texts_of n → m ≡ n
+message_told m n parts counter flag texts =
+    let at = part_told m.part n.part parts in
+    λ i. record {
+      part = at i;
+      counter = counter i;
+      flag = flag i;
+      source = record { items = get_or (texts i) 0 [] };
+      number = record { items = get_or (texts i) 1 [] };
+      priority = record { items = get_or (texts i) 2 [] };
+      category = record { items = get_or (texts i) 3 [] };
+      words = record { items = get_or (texts i) 4 [] };
+      info = record { items = get_or (texts i) 5 [] };
+      trailer = record { items = get_or (texts i) 6 [] };
+    }
 
 same_place : (version : ℕ) (p q : Place) → split_of version p ≡ split_of version q → p ≡ q
 same_place version p q e =
-    let t0 : texts_of p.message ≡ texts_of q.message = ap (λ (s : Split). s.texts) e in
-    let t1 = other_texts t0 in
-    let t2 = other_texts t1 in
-    let t3 = other_texts t2 in
-    let t4 = other_texts t3 in
-    let t5 = other_texts t4 in
-    let t6 = other_texts t5 in
-    let at = part_told p.message.part q.message.part (ap (λ (s : Split). s.part) e) in
-    λ i. record {
-      section = (e i).section;
-      phase = (e i).phase;
-      fields = (e i).fields;
-      numbers = (e i).numbers;
-      taken = (e i).taken;
-      heads = (e i).heads;
-      message = record {
-        part = at i;
-        counter = (e i).counter;
-        flag = (e i).flag;
-        source = record { items = first_text t0 i };
-        number = record { items = first_text t1 i };
-        priority = record { items = first_text t2 i };
-        category = record { items = first_text t3 i };
-        words = record { items = first_text t4 i };
-        info = record { items = first_text t5 i };
-        trailer = record { items = first_text t6 i };
-      };
-    }
+    let message = message_told p.message q.message (ap (λ (s : Split). s.part) e) (ap (λ (s : Split). s.counter) e) (ap (λ (s : Split). s.flag) e) (ap (λ (s : Split). s.texts) e) in
+    λ i. record { section = (e i).section; phase = (e i).phase; fields = (e i).fields; numbers = (e i).numbers; taken = (e i).taken; heads = (e i).heads; message = message i }
 
 -- A ticket tells one possible place.
 pub one_told : AnswerLaws → SmallPlacesWerePossible → TicketsTellOnePlace

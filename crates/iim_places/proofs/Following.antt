@@ -24,8 +24,7 @@ use Rattle.iim_places.specs.Format.Tokens.{MayContinue, CanContinueAt, ObjectLiv
 use Rattle.iim_places.specs.Format.Framed.{AreWithin}
 use Rattle.iim_places.specs.Format.Open.{object_so_far, section, message_tokens, AllCanContinue}
 use Rattle.iim_dataset.proofs.Agreeing.{compare}
-use Rattle.iim_dataset.proofs.Lists.{nothing_of_two}
-use Rattle.iim_places.proofs.Fronts.{no_longer, begun_none}
+use Rattle.iim_places.proofs.Fronts.{begun_none, empty_front, no_longer}
 use Rattle.iim_places.proofs.Lasts.{not_all}
 use Rattle.iim_places.proofs.Limits.{leaves_room, within_front}
 use Rattle.iim_places.proofs.Living.{alive_front, message_front, story_front}
@@ -248,7 +247,7 @@ message_ends laws limits W c all whole head z (inl (d, ws, tail, is, h, rest)) n
     let alive = alive_of limits W c all.sizes in
     let later : ws ++ alive.0 ≡ [] = laws.sections (whole ++ d ∷ []) (ws ++ alive.0) sections
     (subst AreSections (ap (λ (xs : List Dataset). xs ++ alive.0) is ∙ append_assoc whole (d ∷ ws) alive.0 ∙ sym (append_assoc whole (d ∷ []) (ws ++ alive.0))) alive.1) in
-    let same : W ≡ whole ++ d ∷ [] = is ∙ ap (λ (xs : List Dataset). whole ++ d ∷ xs) ((nothing_of_two ws alive.0 later).0) in
+    let same : W ≡ whole ++ d ∷ [] = is ∙ ap (λ (xs : List Dataset). whole ++ d ∷ xs) (empty_front ws alive.0 later) in
     at_last c (subst (λ (ds : List Dataset). AllCanContinue limits ds c) same all) sections rec
   where
     at_last : (b : Begun) → AllCanContinue limits (whole ++ d ∷ []) b → AreSections (whole ++ d ∷ []) → d.rec ≡ 9 → languages.IsAlive MessageLanguage (map Octet (object_of whole) ++ End ∷ [])

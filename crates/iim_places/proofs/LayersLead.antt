@@ -2,7 +2,7 @@
 use Rattle.std.proofs.Common.{IsTrue, ◌≡◌, ℕ, ◌+◌, ◌*◌, ◌-◌, ◌<◌, ◌≤◌, ◌^◌, nat_eq, if◌then◌else◌, Bool, true, false, List, [], ◌∷◌, ◌++◌, length, map, sum, take, drop, Option, Some, None, IfSome, refl, ap, sym, subst, ◌∙◌, inl, inr, arith, append_assoc, append-nil, length-append, length-drop}
 use Rattle.std.specs.List.{AllByRecursion}
 use Rattle.std.specs.Option.{unwrap_or}
-use Rattle.std.proofs.lemmas.Bool.{eqb-true}
+use Rattle.std.proofs.lemmas.Bool.{eqb-true, ne_eqb}
 use Rattle.std.proofs.lemmas.Bool.Decides.{eqb_tells}
 use Rattle.std.proofs.lemmas.List.{length-take, take-append-drop, nil_from_length}
 use Rattle.iim_dataset.specs.Format.Octets.{IsOctet, Octets, number, greatest_size}
@@ -12,12 +12,12 @@ use Rattle.iim_dataset.specs.Laws.Datasets.{HasSpellings}
 use Rattle.iim_dataset.specs.Format.Splits.{Begun, InTag, InData, IsBegun}
 use Rattle.iim_dataset.specs.Format.Tags.{BeginsTag}
 use Rattle.iim_dataset.specs.declared.head.Head.{Head}
-use Rattle.iim_dataset.proofs.Each.{all_front, all_append}
-use Rattle.iim_dataset.proofs.Lists.{sum_fits, sum_append}
+use Rattle.iim_dataset.proofs.Each.{all_append, all_front, all_back}
 use Rattle.iim_dataset.proofs.OctetLists.{front_are}
+use Rattle.iim_dataset.proofs.Lists.{sum_fits, sum_append}
 use Rattle.iim_fields.specs.Format.Alive.{SectionsLive, SectionsLiveAt}
 use Rattle.iim_fields.specs.Format.Faults.{is_kept, kept, joined, section_after, last_record}
-use Rattle.iim_fields.specs.Format.Records.{AreSections, AreRecords, records}
+use Rattle.iim_fields.specs.Format.Records.{AreSections}
 use Rattle.iim_tables.specs.Format.Records.{IsGoodDataset}
 use Rattle.iim_fields.specs.Format.Bounds.{IsWithin}
 use Rattle.iim_fields.proofs.Sections.{head_alive}
@@ -57,12 +57,13 @@ use Rattle.iim_places.proofs.Lasts.{sections_last, last_sections}
 use Rattle.iim_places.proofs.LeadsByLayers.{one_same}
 use Rattle.iim_places.proofs.MessageOctets.{living_octets}
 use Rattle.iim_places.proofs.Plain.{Tell, taken_told, plain_led, plain_spelled, back_octets}
-use Rattle.iim_places.proofs.PlainContinues.{fields_low, two_at_most, low_number}
-use Rattle.iim_places.proofs.PlainOpens.{fit_in_rows, part_small}
+use Rattle.iim_places.proofs.PlainContinues.{fields_low, fit_in_rows, two_at_most, low_number}
+use Rattle.iim_places.proofs.PlainOpens.{part_small}
 use Rattle.iim_places.proofs.PlainPlaces.{pick, picks_plain, numbers_in, alive_front, low_mode, mode_octet}
 use Rattle.iim_places.proofs.Places.{at_end}
 use Rattle.iim_places.proofs.PlainSizes.{duties_of, possible_like}
 use Rattle.iim_places.proofs.SameRecords.{stated_after_all}
+use Rattle.iim_places.proofs.Taking.{each_good}
 use Rattle.iim_places.proofs.Tickets.{total_of, count_of, sum_one}
 
 -- ---- the message
@@ -85,10 +86,7 @@ pick_low [] r other a b = b
 pick_low (x ∷ xs) r other a b = a
 
 not_nine : (n : ℕ) → n ≤ 8 → nat_eq n 9 ≡ false
-not_nine n le = elim (eqb_tells n 9) [
-  | inl same ↦ absurd (let e = same.1 in omega (arith, e, le))
-  | inr other ↦ other.0
-]
+not_nine n le = ne_eqb n 9 (λ same. omega (arith, same, le))
 
 pub present_ended : (fields : List Dataset) (numbers : Numbers) (heads : ℕ) (object : List ℕ) (ended : Bool) → AllByRecursion (λ (d : Dataset). is_kept d.rec ≡ true) fields
     → nat_eq (section_after (plain fields numbers heads object ended)) 9 ≡ ended
@@ -233,22 +231,6 @@ finish laws place numbers heads object ended begun rest text spellable is_begun 
 -- ---- what the layers say of the plain datasets
 
 -- the fields of sections can be spelled, where they have few octets
-goods : (rs : List ℕ) (ds : List Dataset) → AreRecords rs ds → AllByRecursion IsGoodDataset ds
-goods [] ds none = subst (AllByRecursion IsGoodDataset) (sym none) tt
-goods (r ∷ rs) ds (run, rest, parts, good, later) = subst (AllByRecursion IsGoodDataset) (sym parts) (join run rest (each run good.each) (goods rs rest later))
-  where
-    join : (xs ys : List Dataset) → AllByRecursion IsGoodDataset xs → AllByRecursion IsGoodDataset ys → AllByRecursion IsGoodDataset (xs ++ ys)
-    join [] ys a b = b
-    join (x ∷ xs) ys a b = (a.0, join xs ys a.1 b)
-
-    each : (xs : List Dataset) → AllByRecursion (λ d. (d.rec ≡ r) × IsGoodDataset d) xs → AllByRecursion IsGoodDataset xs
-    each [] all = tt
-    each (x ∷ xs) all = (all.0.1, each xs all.1)
-
-front_goods : (xs ys : List Dataset) → AllByRecursion IsGoodDataset (xs ++ ys) → AllByRecursion IsGoodDataset xs
-front_goods [] ys all = tt
-front_goods (x ∷ xs) ys all = (all.0, front_goods xs ys all.1)
-
 have_spellings : (ds : List Dataset) → AllByRecursion (λ (d : Dataset). is_kept d.rec ≡ true) ds → AllByRecursion IsGoodDataset ds → length (joined ds) < 2 ^ 32 → AllByRecursion HasSpellings ds
 have_spellings [] keeps good few = tt
 have_spellings (d ∷ ds) keeps good few =
@@ -258,10 +240,11 @@ have_spellings (d ∷ ds) keeps good few =
       have_spellings ds keeps.1 good.1 (omega (arith, both, few)),
     )
 
-fields_spelled : (fields : List Dataset) (numbers : Numbers) (heads : ℕ) (object : List ℕ) (ended : Bool) (more : List Dataset) → AllByRecursion (λ (d : Dataset). is_kept d.rec ≡ true) fields
-    → AreSections (plain fields numbers heads object ended ++ more) → length (joined fields) < 2 ^ 32 → AllByRecursion HasSpellings fields
-fields_spelled fields numbers heads object ended more keeps sections few =
-    have_spellings fields keeps (front_goods fields _ (front_goods (plain fields numbers heads object ended) more (goods records (plain fields numbers heads object ended ++ more) sections))) few
+fields_spelled : (fields : List Dataset) (numbers : Numbers) (heads : ℕ) (object : List ℕ) (ended : Bool) → AllByRecursion (λ (d : Dataset). is_kept d.rec ≡ true) fields
+    → SectionsLive (plain fields numbers heads object ended) → length (joined fields) < 2 ^ 32 → AllByRecursion HasSpellings fields
+fields_spelled fields numbers heads object ended keeps (more, sections) few =
+    let ds = plain fields numbers heads object ended in
+    have_spellings fields keeps (all_front IsGoodDataset fields _ (all_front IsGoodDataset ds more (each_good (ds ++ more) sections))) few
 
 -- the numbers of record 7 are those that a place of the object has
 pub record SameStated (numbers : Numbers) (ps : List Stated) : Type 0 where
@@ -293,28 +276,10 @@ room_in laws p is (l ∷ ls) ks parts =
     let many = ap length parts in
     let some : 0 < length p.lengths = omega (arith, many) in
     let d = duties_of p.stated is.stated (is.duties some) in
-    let each = all_front (λ (n : ℕ). n ≤ d.size) (l ∷ ls) ks (subst (AllByRecursion (λ n. n ≤ d.size)) parts (each_small laws p is d.size d.largest some)) in
+    let each = all_front (λ n. n ≤ d.size) (l ∷ ls) ks (subst (AllByRecursion (λ n. n ≤ d.size)) parts (each_small laws p is d.size d.largest some)) in
     subst (λ (o : Option ℕ). sum (l ∷ ls) ≤ length (l ∷ ls) * unwrap_or o 0) (sym d.largest) (sum_fits d.size (l ∷ ls) each)
 
 -- ---- the data of a place, phase by phase
-
--- what all phases have: numbers as the object's place has them, fields that are kept, and octets of the message
-record Given (fields : List Dataset) (numbers : Numbers) (p : objects.Place) : Type 0 where
-  kept : AllByRecursion (λ (d : Dataset). is_kept d.rec ≡ true) fields
-  same : SameStated numbers p.stated
-  stated : AreStated p.stated
-
-spellable_by : (fields : List Dataset) (numbers : Numbers) (p : objects.Place) → Given fields numbers p → (heads : ℕ) (object : List ℕ) → Fits fields numbers heads object → AllByRecursion HasSpellings fields → Octets object
-    → length object ≤ greatest_size → AreSpellable fields numbers heads object
-spellable_by fields numbers p g heads object fits spelled octets few = record {
-  kept = g.kept;
-  spelled = spelled;
-  mode = subst (λ (o : Option ℕ). IfSome o IsOctet) (sym g.same.mode) (mode_octet (number_at 10 p.stated) (low_mode p.stated g.stated.each));
-  fit = fits.fit;
-  octets = octets;
-  few = few;
-  room = fits.room;
-}
 
 small_in : (fields : List Dataset) (numbers : Numbers) (heads : ℕ) (object : List ℕ) (ended : Bool) → Tell (plain fields numbers heads object ended) fields numbers heads object ended
     → (size : ℕ) → number_at 20 (numbers_of (of_record 7 (plain fields numbers heads object ended))) ≡ Some size
@@ -325,53 +290,69 @@ small_in fields numbers heads object ended tell size e =
     subst (λ (xs : List Dataset). AllByRecursion (λ n. n ≤ size) (lengths_of xs)) (sym tell.eights_are)
     (subst (λ (o : Option ℕ). AllByRecursion (λ n. n ≤ size) (lengths_of (subfile_datasets (filled (unwrap_or o 0) heads object)))) (sym (sym largest ∙ e)) (part_small size heads object))
 
--- the object lives after plain datasets as at the place
-after_plain : SizeLaws → (fields : List Dataset) (numbers : Numbers) (heads : ℕ) (object : List ℕ) (ended : Bool) (p : objects.Place) (e : Ending) → Tell (plain fields numbers heads object ended) fields numbers heads object ended
-    → number_list numbers ≡ stated_numbers p.stated → IsPossible p → AreStated (numbers_of (of_record 7 (plain fields numbers heads object ended))) → heads ≡ length p.lengths → sum p.lengths ≡ length object → p.ending ≡ e
-    → ObjectLives (record (place_after_datasets (plain fields numbers heads object ended)) { ending = e })
-after_plain laws fields numbers heads object ended p e tell same is stated many total end' =
-    let ds = plain fields numbers heads object ended in
-    let count = count_of (of_record 8 ds) in
-    let heads_are = tell.heads_are in
-    (possible_like laws p (record (place_after_datasets ds) { ending = e }) is stated (sym same ∙ sym tell.numbers_are) (omega (arith, count, heads_are, many)) (total ∙ sym (ap length tell.object_is) ∙ sym (total_of (of_record 8 ds)))
-    (small_in fields numbers heads object ended tell) end').alive
-
--- alive with plain datasets, as with those that tell the record layer
-alive_with : NumberDatasetsAreGood → (fields : List Dataset) (numbers : Numbers) (heads : ℕ) (object : List ℕ) (ended : Bool) → Fits fields numbers heads object → Octets object → length object ≤ greatest_size → (more : List Dataset)
-    → AreSections (plain fields numbers (one_of_some heads) [] ended ++ more) → AreSections (plain fields numbers heads object ended ++ more)
-alive_with rows fields numbers heads object ended fits octets few more sections =
-    alike rows fields numbers (one_of_some heads) heads [] object ended more (record { kept = fits.kept; fit = fits.fit; room = omega arith }) fits (sym (one_same heads)) octets few sections
-
-within_plain : (fields : List Dataset) (numbers : Numbers) (heads : ℕ) (object : List ℕ) (ended : Bool) → Tell (plain fields numbers heads object ended) fields numbers heads object ended → IsWithin widest (length (joined fields)) (length fields)
-    → heads ≤ max_subfiles → AreWithin widest (plain fields numbers heads object ended)
-within_plain fields numbers heads object ended tell within few = record {
-  kept = subst (λ (ks : List Dataset). IsWithin widest (length (joined ks)) (length ks)) (sym tell.kept_are) within;
-  subfiles = let heads_are = tell.heads_are in omega (arith, heads_are, few);
-}
-
--- The first subfiles of a possible place have these octets, which plain subfiles can have, too.
-record Filling (fields : List Dataset) (numbers : Numbers) (p : objects.Place) (heads : ℕ) (object : List ℕ) : Type 0 where
-  given : Given fields numbers p
+-- Plain datasets with the first subfiles of a possible place, which have these octets.
+record Filling (fields : List Dataset) (numbers : Numbers) (heads : ℕ) (object : List ℕ) (ended : Bool) : Type 0 where
   few : length object ≤ greatest_size
   fits : Fits fields numbers heads object
+  octets : Octets object
+  tell : Tell (plain fields numbers heads object ended) fields numbers heads object ended
+  spellable : AreSpellable fields numbers heads object
+  inside : AreWithin widest (plain fields numbers heads object ended)
 
-filling : ByLayersLaws → (fields : List Dataset) (numbers : Numbers) (p : objects.Place) (heads : ℕ) (object : List ℕ) → AllByRecursion (λ (d : Dataset). is_kept d.rec ≡ true) fields → number_list numbers ≡ stated_numbers p.stated
-    → IsPossible p → (ls ks : List ℕ) → p.lengths ≡ ls ++ ks → heads ≡ length ls → sum ls ≡ length object → Filling fields numbers p heads object
-filling laws fields numbers p heads object keeps same is ls ks parts many total =
+filling : ByLayersLaws → (fields : List Dataset) (numbers : Numbers) (p : objects.Place) (heads : ℕ) (object : List ℕ) (ended : Bool) → AllByRecursion (λ (d : Dataset). is_kept d.rec ≡ true) fields
+    → number_list numbers ≡ stated_numbers p.stated → IsPossible p → (ls ks : List ℕ) → p.lengths ≡ ls ++ ks → heads ≡ length ls → sum ls ≡ length object → Octets object
+    → SectionsLive (plain fields numbers (one_of_some heads) [] ended) → IsWithin widest (length (joined fields)) (length fields) → Filling fields numbers heads object ended
+filling laws fields numbers p heads object ended keeps same is ls ks parts many total octets alive within =
     let most = object_fits p is.alive in
     let sums : sum p.lengths ≡ sum ls + sum ks = ap sum parts ∙ sum_append ls ks in
+    let counts : length p.lengths ≡ length ls + length ks = ap length parts ∙ length-append ls ks in
     let stated = same_stated numbers p.stated same in
     let room : length object ≤ heads * unwrap_or (number_at 20 p.stated) 0 =
     subst (λ (n : ℕ). n ≤ heads * unwrap_or (number_at 20 p.stated) 0) total (subst (λ (k : ℕ). sum ls ≤ k * unwrap_or (number_at 20 p.stated) 0) (sym many) (room_in laws.opens.sizes p is ls ks parts)) in
+    let few : length object ≤ greatest_size = omega (arith, most, sums, total) in
+    let fits : Fits fields numbers heads object = record {
+      kept = keeps;
+      fit = subst (λ (n : Numbers). AllByRecursion IsSize (number_list n)) (sym stated.are) (fit_in_rows p.stated is.stated.each);
+      room = subst (λ (o : Option ℕ). length object ≤ heads * unwrap_or o 0) (sym stated.largest) room;
+    } in
+    let tell = told_by fields numbers heads object ended fits in
     record {
-      given = record { kept = keeps; same = stated; stated = is.stated };
-      few = omega (arith, most, sums, total);
-      fits = record {
+      few = few;
+      fits = fits;
+      octets = octets;
+      tell = tell;
+      spellable = record {
         kept = keeps;
-        fit = subst (λ (n : Numbers). AllByRecursion IsSize (number_list n)) (sym stated.are) (fit_in_rows p.stated is.stated.each);
-        room = subst (λ (o : Option ℕ). length object ≤ heads * unwrap_or o 0) (sym stated.largest) room;
+        spelled = fields_spelled fields numbers (one_of_some heads) [] ended keeps alive (let low = within.octets_in in omega (arith, low));
+        mode = subst (λ (o : Option ℕ). IfSome o IsOctet) (sym stated.mode) (mode_octet (number_at 10 p.stated) (low_mode p.stated is.stated.each));
+        fit = fits.fit;
+        octets = octets;
+        few = few;
+        room = fits.room;
+      };
+      inside = record {
+        kept = subst (λ (ks : List Dataset). IsWithin widest (length (joined ks)) (length ks)) (sym tell.kept_are) within;
+        subfiles = let heads_are = tell.heads_are in let least = is.few in omega (arith, heads_are, many, counts, least);
       };
     }
+
+-- alive with plain datasets, as with those that tell the record layer
+alive_with : NumberDatasetsAreGood → (fields : List Dataset) (numbers : Numbers) (heads : ℕ) (object : List ℕ) (ended : Bool) → Filling fields numbers heads object ended → (more : List Dataset)
+    → AreSections (plain fields numbers (one_of_some heads) [] ended ++ more) → AreSections (plain fields numbers heads object ended ++ more)
+alive_with rows fields numbers heads object ended f more sections =
+    alike rows fields numbers (one_of_some heads) heads [] object ended more (record { kept = f.fits.kept; fit = f.fits.fit; room = omega arith }) f.fits (sym (one_same heads)) f.octets f.few sections
+
+-- the object lives after plain datasets as at the place
+after_plain : ByLayersLaws → (fields : List Dataset) (numbers : Numbers) (heads : ℕ) (object : List ℕ) (ended : Bool) (p : objects.Place) (e : Ending) → Filling fields numbers heads object ended
+    → number_list numbers ≡ stated_numbers p.stated → IsPossible p → SectionsLive (plain fields numbers heads object ended) → heads ≡ length p.lengths → sum p.lengths ≡ length object → p.ending ≡ e
+    → ObjectLives (record (place_after_datasets (plain fields numbers heads object ended)) { ending = e })
+after_plain laws fields numbers heads object ended p e f same is alive many total end' =
+    let ds = plain fields numbers heads object ended in
+    let count = count_of (of_record 8 ds) in
+    let heads_are = f.tell.heads_are in
+    let stated = (stated_after_all laws.opens.answer.follow.objects ds alive f.inside.subfiles).stated in
+    (possible_like laws.opens.sizes p (record (place_after_datasets ds) { ending = e }) is stated (sym same ∙ sym f.tell.numbers_are) (omega (arith, count, heads_are, many))
+    (total ∙ sym (ap length f.tell.object_is) ∙ sym (total_of (of_record 8 ds))) (small_in fields numbers heads object ended f.tell) end').alive
 
 -- ---- between datasets, or in a tag, or at the end
 
@@ -384,10 +365,9 @@ lead_whole : ByLayersLaws → (place : Place) (numbers : Numbers) (p : objects.P
     → LeadsToSaved o text place.message → (place.section ≡ 9 → place.message.part ≡ part.AfterEnd) → SectionsLive (plain place.fields numbers (one_of_some place.heads) [] ended)
     → section_after (plain place.fields numbers (one_of_some place.heads) [] ended) ≡ place.section → IsBegun count_octets (InTag held) held → (ended ≡ true → held ≡ []) → place.phase ≡ (if ended then AllEnded else TagBegun held)
     → IsWithin widest (length (joined place.fields)) (length place.fields) → Possible place
-lead_whole laws place numbers p ended held o text numbers_are keeps same is end' many total taken leads last (more, sections) present is_begun none phase within =
-    finish laws place numbers heads o ended (InTag held) held text (spellable_by fields numbers p base.given heads o base.fits spelled octets (let low = base.few in omega (arith, low)))
-    is_begun (subst (λ (x : List ℕ). LeadsToSaved x text place.message) (sym (append-nil o)) leads) last
-    (record { records = alive; within = inside; object = subst (λ (e : Ending). ObjectLives (record (place_after_datasets ds) { ending = e })) (ending_plain ended o base.few ∙ sym (ap ending_of tell.nines_are)) lives })
+lead_whole laws place numbers p ended held o text numbers_are keeps same is end' many total taken leads last base_alive present is_begun none phase within =
+    finish laws place numbers heads o ended (InTag held) held text base.spellable is_begun (subst (λ (x : List ℕ). LeadsToSaved x text place.message) (sym (append-nil o)) leads) last
+    (record { records = alive; within = base.inside; object = subst (λ (e : Ending). ObjectLives (record (place_after_datasets ds) { ending = e })) (ending_plain ended o base.few ∙ sym (ap ending_of base.tell.nines_are)) lives })
     (λ e. let nil = none e in (ap InTag nil, nil)) place_is
   where
     fields : List Dataset
@@ -396,29 +376,17 @@ lead_whole laws place numbers p ended held o text numbers_are keeps same is end'
     heads : ℕ
     heads = place.heads
 
-    base : Filling fields numbers p heads o
-    base = filling laws fields numbers p heads o keeps same is p.lengths [] (sym (append-nil p.lengths)) many total
-
-    octets : Octets o
-    octets = living_octets o (laws.opens.answer.living o text leads.0 leads.1).0
+    base : Filling fields numbers heads o ended
+    base = filling laws fields numbers p heads o ended keeps same is p.lengths [] (sym (append-nil p.lengths)) many total (living_octets o (laws.opens.answer.living o text leads.0 leads.1).0) base_alive within
 
     ds : List Dataset
     ds = plain fields numbers heads o ended
 
-    tell : Tell ds fields numbers heads o ended
-    tell = told_by fields numbers heads o ended base.fits
-
-    spelled : AllByRecursion HasSpellings fields
-    spelled = fields_spelled fields numbers (one_of_some heads) [] ended more keeps sections (let low = within.octets_in in omega (arith, low))
-
     alive : SectionsLive ds
-    alive = (more, alive_with laws.opens.answer.rows fields numbers heads o ended base.fits octets base.few more sections)
-
-    inside : AreWithin widest ds
-    inside = within_plain fields numbers heads o ended tell within (let most = is.few in omega (arith, many, most))
+    alive = (base_alive.0, alive_with laws.opens.answer.rows fields numbers heads o ended base base_alive.0 base_alive.1)
 
     lives : ObjectLives (record (place_after_datasets ds) { ending = if ended then ConfirmedAs (length o) else NotEnded })
-    lives = after_plain laws.opens.sizes fields numbers heads o ended p (if ended then ConfirmedAs (length o) else NotEnded) tell same is (stated_after_all laws.opens.answer.follow.objects ds alive inside.subfiles).stated many total end'
+    lives = after_plain laws fields numbers heads o ended p (if ended then ConfirmedAs (length o) else NotEnded) base same is alive many total end'
 
     present_is : place.section ≡ section_after ds
     present_is = sym present ∙ present_alike fields numbers (one_of_some heads) heads [] o ended (sym (one_same heads))
@@ -431,6 +399,13 @@ lead_whole laws place numbers p ended held o text numbers_are keeps same is end'
         let heads_are : place.heads ≡ heads + 0 = omega arith in
         λ i. record { section = present_is i; phase = phase_is i; fields = fields; numbers = numbers_are i; taken = taken_is i; heads = heads_are i; message = place.message }
 
+abbrev place_with : (section : ℕ) (phase : Phase) (fields : List Dataset) (nums : List (Option ℕ)) (taken heads : ℕ) (m : MessagePlace) → Place
+place_with section phase fields nums taken heads m = record { section = section; phase = phase; fields = fields; numbers = nums; taken = taken; heads = heads; message = m }
+
+-- the heads of records 1 and 2, a begun one among them, are within the limits
+within_whole : (fields : List Dataset) (more one : ℕ) → IsWithin widest (length (joined fields) + more) (length fields + one) → IsWithin widest (length (joined fields)) (length fields)
+within_whole fields more one within = record { octets_in = let low = within.octets_in in omega (arith, low); fields_in = let low = within.fields_in in omega (arith, low) }
+
 held_begun : (held : List ℕ) → BeginsTag count_octets held → IsBegun count_octets (InTag held) held
 held_begun held b = (refl, b.head, held ++ b.more, b.whole, (b.more, b.some_more, refl))
 
@@ -438,45 +413,39 @@ less_none : (n : ℕ) → n - 0 ≡ n
 less_none n = omega arith
 
 lead_tag : ByLayersLaws → (section : ℕ) (held : List ℕ) (fields : List Dataset) (nums : List (Option ℕ)) (taken heads : ℕ) (m : MessagePlace)
-    → LeadsByLayers (record { section = section; phase = TagBegun held; fields = fields; numbers = nums; taken = taken; heads = heads; message = m })
-    → Possible (record { section = section; phase = TagBegun held; fields = fields; numbers = nums; taken = taken; heads = heads; message = m })
+    → LeadsByLayers (place_with section (TagBegun held) fields nums taken heads m)
+    → Possible (place_with section (TagBegun held) fields nums taken heads m)
 lead_tag laws section held fields nums taken heads m l =
     let at = l.object.1 in
     let octets = at.octets in
     let (o, text, leads, many, last) = l.message in
     let base : List Dataset = plain fields l.numbers (one_of_some heads) [] false in
-    let is : record_datasets (record { section = section; phase = TagBegun held; fields = fields; numbers = nums; taken = taken; heads = heads; message = m }) l.numbers ≡ base =
+    let is : record_datasets (place_with section (TagBegun held) fields nums taken heads m) l.numbers ≡ base =
     λ i. plain fields l.numbers (one_of_some (less_none heads i)) [] false in
-    let within = l.within in
-    lead_whole laws (record { section = section; phase = TagBegun held; fields = fields; numbers = nums; taken = taken; heads = heads; message = m }) l.numbers l.object.0 false held o text l.numbers_are l.kept
+    lead_whole laws (place_with section (TagBegun held) fields nums taken heads m) l.numbers l.object.0 false held o text l.numbers_are l.kept
     (sym l.numbers_are ∙ at.numbers_are) l.object.2 at.not_ended at.subfiles (octets ∙ sym many) many leads last (subst SectionsLive is l.records.1) (ap section_after (sym is) ∙ l.records.0)
     (held_begun held l.tags) (λ bad. absurd (let no' : false ≡ true = bad in cc)) refl
-    (record { octets_in = let low = within.octets_in in omega (arith, low); fields_in = let low = within.fields_in in omega (arith, low) })
+    (within_whole fields 0 0 l.within)
 
 lead_ended : ByLayersLaws → (section : ℕ) (fields : List Dataset) (nums : List (Option ℕ)) (taken heads : ℕ) (m : MessagePlace)
-    → LeadsByLayers (record { section = section; phase = AllEnded; fields = fields; numbers = nums; taken = taken; heads = heads; message = m })
-    → Possible (record { section = section; phase = AllEnded; fields = fields; numbers = nums; taken = taken; heads = heads; message = m })
+    → LeadsByLayers (place_with section AllEnded fields nums taken heads m)
+    → Possible (place_with section AllEnded fields nums taken heads m)
 lead_ended laws section fields nums taken heads m l =
     let p = l.object.0 in
     let at = l.object.1 in
     let octets = at.octets in
     let (o, text, leads, many, last) = l.message in
     let base : List Dataset = plain fields l.numbers (one_of_some heads) [] true in
-    let is : record_datasets (record { section = section; phase = AllEnded; fields = fields; numbers = nums; taken = taken; heads = heads; message = m }) l.numbers ≡ base =
+    let is : record_datasets (place_with section AllEnded fields nums taken heads m) l.numbers ≡ base =
     λ i. plain fields l.numbers (one_of_some (less_none heads i)) [] true in
-    let within = l.within in
     let nine : section_after base ≡ 9 = eqb-true (section_after base) 9 (present_ended fields l.numbers (one_of_some heads) [] true l.kept) in
-    lead_whole laws (record { section = section; phase = AllEnded; fields = fields; numbers = nums; taken = taken; heads = heads; message = m }) l.numbers
+    lead_whole laws (place_with section AllEnded fields nums taken heads m) l.numbers
     (place_after (place_after p ObjectEnded) (Confirmed taken)) true [] o text l.numbers_are l.kept
     (sym l.numbers_are ∙ at.numbers_are) l.object.2 (ap ConfirmedAs (sym many)) at.subfiles (octets ∙ sym many) many leads last (subst SectionsLive is l.records.1) (nine ∙ sym l.records.0)
     nothing_held (λ yes'. refl) refl
-    (record { octets_in = let low = within.octets_in in omega (arith, low); fields_in = let low = within.fields_in in omega (arith, low) })
+    (within_whole fields 0 0 l.within)
 
 -- ---- in data
-
--- the heads of records 1 and 2, a begun one among them, are within the limits
-within_whole : (fields : List Dataset) (more one : ℕ) → IsWithin widest (length (joined fields) + more) (length fields + one) → IsWithin widest (length (joined fields)) (length fields)
-within_whole fields more one within = record { octets_in = let low = within.octets_in in omega (arith, low); fields_in = let low = within.fields_in in omega (arith, low) }
 
 room_kept : (fields ks : List Dataset) (h : Head) → ks ≡ fields → IsWithin widest (length (joined fields) + (if is_kept h.rec then h.count else 0)) (length fields + (if is_kept h.rec then 1 else 0))
     → IsTrue (is_kept h.rec) → IsWithin widest (length (joined ks) + h.count) (length ks + 1)
@@ -485,12 +454,12 @@ room_kept fields ks h same within is =
     (subst (λ (b : Bool). IsWithin widest (length (joined fields) + (if b then h.count else 0)) (length fields + (if b then 1 else 0))) is within)
 
 -- the head that stands after the datasets by which the record layer is told stands after the plain ones
-at_with : NumberDatasetsAreGood → (fields : List Dataset) (numbers : Numbers) (heads : ℕ) (object : List ℕ) → Fits fields numbers heads object → Octets object → length object ≤ greatest_size → (h : Head)
+at_with : NumberDatasetsAreGood → (fields : List Dataset) (numbers : Numbers) (heads : ℕ) (object : List ℕ) → Filling fields numbers heads object false → (h : Head)
     → SectionsLiveAt (plain fields numbers (one_of_some heads) [] false) h → SectionsLiveAt (plain fields numbers heads object false) h
-at_with rows fields numbers heads object fits octets few h (d, is, (more, sections)) =
+at_with rows fields numbers heads object f h (d, is, (more, sections)) =
     let base = plain fields numbers (one_of_some heads) [] false in
     let ds = plain fields numbers heads object false in
-    (d, is, (more, subst AreSections (sym (append_assoc ds (d ∷ []) more)) (alive_with rows fields numbers heads object false fits octets few ((d ∷ []) ++ more) (subst AreSections (append_assoc base (d ∷ []) more) sections))))
+    (d, is, (more, subst AreSections (sym (append_assoc ds (d ∷ []) more)) (alive_with rows fields numbers heads object false f ((d ∷ []) ++ more) (subst AreSections (append_assoc base (d ∷ []) more) sections))))
 
 -- in data that are no subfile's
 lead_other : ByLayersLaws → (place : Place) (numbers : Numbers) (p : objects.Place) (e : Ending) (h : Head) (left : ℕ) (taken o text tag : List ℕ) → place.numbers ≡ number_list numbers
@@ -500,17 +469,17 @@ lead_other : ByLayersLaws → (place : Place) (numbers : Numbers) (p : objects.P
     → ((ds : List Dataset) → ending_of (of_record 9 ds) ≡ NotEnded → ObjectLives (record (place_after_datasets ds) { ending = e }) → ObjectLives (place_at ds h))
     → IsWithin widest (length (joined place.fields) + (if is_kept h.rec then h.count else 0)) (length place.fields + (if is_kept h.rec then 1 else 0)) → Possible place
 lead_other laws place numbers p e h left taken o text tag numbers_are keeps same is end' many total come leads last at section_is not8 spells data_octets counts some phase lives_at within =
-    finish laws place numbers heads o false (InData h taken) (tag ++ taken) text (spellable_by fields numbers p base.given heads o base.fits spelled octets (let low = base.few in omega (arith, low)))
+    finish laws place numbers heads o false (InData h taken) (tag ++ taken) text base.spellable
     (tag, spells, omega (arith, counts, some), data_octets, refl)
     (subst (λ (x : List ℕ). LeadsToSaved x text place.message) (sym (append-nil o) ∙ ap (λ (b : Bool). o ++ (if b then taken else [])) (sym not8)) leads) last
     (record {
       records = alive_at;
-      within = inside;
+      within = base.inside;
       room = record {
-        kept = room_kept fields (kept ds) h tell.kept_are within;
+        kept = room_kept fields (kept ds) h base.tell.kept_are within;
         subfiles = λ eight. absurd (let bad : true ≡ false = ap (λ (n : ℕ). nat_eq n 8) (sym eight) ∙ not8 in cc);
       };
-      object = lives_at ds (ap ending_of tell.nines_are) lives;
+      object = lives_at ds (ap ending_of base.tell.nines_are) lives;
     })
     (λ bad. absurd (let no' : false ≡ true = bad in cc)) place_is
   where
@@ -520,32 +489,18 @@ lead_other laws place numbers p e h left taken o text tag numbers_are keeps same
     heads : ℕ
     heads = place.heads
 
-    base : Filling fields numbers p heads o
-    base = filling laws fields numbers p heads o keeps same is p.lengths [] (sym (append-nil p.lengths)) many total
-
-    octets : Octets o
-    octets = living_octets o (laws.opens.answer.living o text leads.0 leads.1).0
+    base : Filling fields numbers heads o false
+    base = filling laws fields numbers p heads o false keeps same is p.lengths [] (sym (append-nil p.lengths)) many total (living_octets o (laws.opens.answer.living o text leads.0 leads.1).0)
+        (head_alive (plain fields numbers (one_of_some heads) [] false) h at) (within_whole fields _ _ within)
 
     ds : List Dataset
     ds = plain fields numbers heads o false
 
-    tell : Tell ds fields numbers heads o false
-    tell = told_by fields numbers heads o false base.fits
-
-    base_alive : SectionsLive (plain fields numbers (one_of_some heads) [] false)
-    base_alive = head_alive (plain fields numbers (one_of_some heads) [] false) h at
-
-    spelled : AllByRecursion HasSpellings fields
-    spelled = fields_spelled fields numbers (one_of_some heads) [] false base_alive.0 keeps base_alive.1 (let low = within.octets_in in omega (arith, low))
-
     alive_at : SectionsLiveAt ds h
-    alive_at = at_with laws.opens.answer.rows fields numbers heads o base.fits octets base.few h at
-
-    inside : AreWithin widest ds
-    inside = within_plain fields numbers heads o false tell (within_whole fields _ _ within) (let most = is.few in omega (arith, many, most))
+    alive_at = at_with laws.opens.answer.rows fields numbers heads o base h at
 
     lives : ObjectLives (record (place_after_datasets ds) { ending = e })
-    lives = after_plain laws.opens.sizes fields numbers heads o false p e tell same is (stated_after_all laws.opens.answer.follow.objects ds (head_alive ds h alive_at) inside.subfiles).stated many total end'
+    lives = after_plain laws fields numbers heads o false p e base same is (head_alive ds h alive_at) many total end'
 
     place_is : place ≡ plain_place fields numbers heads o false (InData h taken) place.message
     place_is =
@@ -565,13 +520,13 @@ lead_subfile : ByLayersLaws → (place : Place) (numbers : Numbers) (p : objects
     → length o ≡ place.taken → LeadsToSaved o text place.message → SectionsLiveAt (plain place.fields numbers (one_of_some (place.heads - 1)) [] false) (head_of_numbers 8 set count) → place.section ≡ 8
     → SpellsTag count_octets (head_of_numbers 8 set count) tag → place.phase ≡ DataBegun set count left [] → IsWithin widest (length (joined place.fields)) (length place.fields) → Possible place
 lead_subfile laws place numbers p set count left o text tag numbers_are keeps same is end' many last come leads at section_is spells phase within =
-    finish laws place numbers heads object false (InData h begun) (tag ++ begun) text (spellable_by fields numbers p base.given heads object base.fits spelled object_octets (let low = base.few in omega (arith, low)))
+    finish laws place numbers heads object false (InData h begun) (tag ++ begun) text base.spellable
     (tag, spells, omega (arith, begun_length, more), back_octets cut o octets, refl)
     (subst (λ (x : List ℕ). LeadsToSaved x text place.message) (sym (take-append-drop cut o)) leads) (λ nine. absurd (omega (arith, nine, section_is)))
     (record {
       records = alive_at;
-      within = inside;
-      room = record { kept = λ bad. absurd (let no' : false ≡ true = bad in cc); subfiles = λ eight. let few' = is.few in let told = tell.heads_are in omega (arith, few', many, lengths_many, told) };
+      within = base.inside;
+      room = record { kept = λ bad. absurd (let no' : false ≡ true = bad in cc); subfiles = λ eight. let few' = is.few in let told = base.tell.heads_are in omega (arith, few', many, lengths_many, told) };
       object = lives;
     })
     (λ bad. absurd (let no' : false ≡ true = bad in cc)) place_is
@@ -618,58 +573,41 @@ lead_subfile laws place numbers p set count left o text tag numbers_are keeps sa
     heads_are : heads ≡ length last.finished
     heads_are = omega (arith, many, lengths_many)
 
-    base : Filling fields numbers p heads object
-    base = filling laws fields numbers p heads object keeps same is last.finished (count ∷ []) last.lengths_are heads_are (finished_is ∙ sym object_length)
-
     octets : Octets o
     octets = living_octets o (laws.opens.answer.living o text leads.0 leads.1).0
 
-    object_octets : Octets object
-    object_octets = front_are cut o octets
+    base : Filling fields numbers heads object false
+    base = filling laws fields numbers p heads object false keeps same is last.finished (count ∷ []) last.lengths_are heads_are (finished_is ∙ sym object_length) (front_are cut o octets)
+        (head_alive (plain fields numbers (one_of_some heads) [] false) h at) within
 
     ds : List Dataset
     ds = plain fields numbers heads object false
 
-    tell : Tell ds fields numbers heads object false
-    tell = told_by fields numbers heads object false base.fits
-
-    base_alive : SectionsLive (plain fields numbers (one_of_some heads) [] false)
-    base_alive = head_alive (plain fields numbers (one_of_some heads) [] false) h at
-
-    spelled : AllByRecursion HasSpellings fields
-    spelled = fields_spelled fields numbers (one_of_some heads) [] false base_alive.0 keeps base_alive.1 (let low = within.octets_in in omega (arith, low))
-
     alive_at : SectionsLiveAt ds h
-    alive_at = at_with laws.opens.answer.rows fields numbers heads object base.fits object_octets base.few h at
-
-    inside : AreWithin widest ds
-    inside = within_plain fields numbers heads object false tell within (let most = is.few in omega (arith, many, most))
+    alive_at = at_with laws.opens.answer.rows fields numbers heads object base h at
 
     stated : AreStated (numbers_of (of_record 7 ds))
-    stated = (stated_after_all laws.opens.answer.follow.objects ds (head_alive ds h alive_at) inside.subfiles).stated
+    stated = (stated_after_all laws.opens.answer.follow.objects ds (head_alive ds h alive_at) base.inside.subfiles).stated
 
     small : (size : ℕ) → number_at 20 (numbers_of (of_record 7 ds)) ≡ Some size → count ≤ size
     small size e =
-        let told = tell.numbers_are in
-        let largest : number_at 20 p.stated ≡ Some size = let here : number_at 20 (numbers_of (of_record 7 ds)) ≡ numbers.largest = cc in sym base.given.same.largest ∙ sym here ∙ e in
-        last_small size last.finished count (subst (AllByRecursion (λ n. n ≤ size)) last.lengths_are (each_small laws.opens.sizes p is size largest (omega (arith, lengths_many))))
-      where
-        last_small : (size : ℕ) (ls : List ℕ) (c : ℕ) → AllByRecursion (λ n. n ≤ size) (ls ++ c ∷ []) → c ≤ size
-        last_small size [] c all = all.0
-        last_small size (l ∷ ls) c all = last_small size ls c all.1
+        let told = base.tell.numbers_are in
+        let here : number_at 20 (numbers_of (of_record 7 ds)) ≡ numbers.largest = cc in
+        let largest : number_at 20 p.stated ≡ Some size = sym (same_stated numbers p.stated same).largest ∙ sym here ∙ e in
+        (all_back (λ n. n ≤ size) last.finished (count ∷ []) (subst (AllByRecursion (λ n. n ≤ size)) last.lengths_are (each_small laws.opens.sizes p is size largest (omega (arith, lengths_many))))).0
 
     lives : ObjectLives (place_after (place_after_datasets ds) (SubfileBegun count))
     lives =
         let q = place_after (place_after_datasets ds) (SubfileBegun count) in
         let ls = lengths_of (of_record 8 ds) in
         let count_is = count_of (of_record 8 ds) in
-        let told = tell.heads_are in
+        let told = base.tell.heads_are in
         let longer = length-append ls (count ∷ []) in
         let total = total_of (of_record 8 ds) in
-        let object_is = ap length tell.object_is in
+        let object_is = ap length base.tell.object_is in
         let added : sum (ls ++ count ∷ []) ≡ sum ls + count = sum_append ls (count ∷ []) ∙ ap (λ (n : ℕ). sum ls + n) (sum_one count) in
-        (possible_like laws.opens.sizes p q is stated (sym same ∙ sym tell.numbers_are) (omega (arith, count_is, told, longer, heads_are, lengths_many)) (omega (arith, sums, added, total, object_is, object_length, finished_is))
-        (λ size e. all_append (λ (n : ℕ). n ≤ size) ls (count ∷ []) (small_in fields numbers heads object false tell size e) (small size e, tt)) (end' ∙ sym (ap ending_of tell.nines_are))).alive
+        (possible_like laws.opens.sizes p q is stated (sym same ∙ sym base.tell.numbers_are) (omega (arith, count_is, told, longer, heads_are, lengths_many)) (omega (arith, sums, added, total, object_is, object_length, finished_is))
+        (λ size e. all_append (λ n. n ≤ size) ls (count ∷ []) (small_in fields numbers heads object false base.tell size e) (small size e, tt)) (end' ∙ sym (ap ending_of base.tell.nines_are))).alive
 
     place_is : place ≡ plain_place fields numbers heads object false (InData h begun) place.message
     place_is =
@@ -681,16 +619,13 @@ lead_subfile laws place numbers p set count left o text tag numbers_are keeps sa
 
 -- ---- every phase
 
-abbrev DataPlace : (section set count left : ℕ) (given : List ℕ) (fields : List Dataset) (nums : List (Option ℕ)) (taken heads : ℕ) (m : MessagePlace) → Place
-DataPlace section set count left given fields nums taken heads m = record { section = section; phase = DataBegun set count left given; fields = fields; numbers = nums; taken = taken; heads = heads; message = m }
-
-lead_eight : ByLayersLaws → (set count left : ℕ) (given : List ℕ) (fields : List Dataset) (nums : List (Option ℕ)) (taken heads : ℕ) (m : MessagePlace) → LeadsByLayers (DataPlace 8 set count left given fields nums taken heads m)
-    → Possible (DataPlace 8 set count left given fields nums taken heads m)
+lead_eight : ByLayersLaws → (set count left : ℕ) (given : List ℕ) (fields : List Dataset) (nums : List (Option ℕ)) (taken heads : ℕ) (m : MessagePlace) → LeadsByLayers (place_with 8 (DataBegun set count left given) fields nums taken heads m)
+    → Possible (place_with 8 (DataBegun set count left given) fields nums taken heads m)
 lead_eight laws set count left given fields nums taken heads m l =
     let at = l.object.1 in
     let (o, text, leads, many, last) = l.message in
     let nil = nil_from_length given l.tags.1 in
-    lead_subfile laws (DataPlace 8 set count left given fields nums taken heads m) l.numbers l.object.0 set count left o text l.tags.0.2 l.numbers_are l.kept (sym l.numbers_are ∙ at.numbers_are) l.object.2 at.not_ended at.subfiles at.octets many
+    lead_subfile laws (place_with 8 (DataBegun set count left given) fields nums taken heads m) l.numbers l.object.0 set count left o text l.tags.0.2 l.numbers_are l.kept (sym l.numbers_are ∙ at.numbers_are) l.object.2 at.not_ended at.subfiles at.octets many
     leads l.records refl l.tags.0.3 (ap (DataBegun set count left) nil) (within_whole fields 0 0 l.within)
 
 -- where the object stands at a head of another record
@@ -707,7 +642,7 @@ at_others h not8 not9 ds none lives =
     subst ObjectLives (sym is) (subst (λ (e : Ending). ObjectLives (record (place_after_datasets ds) { ending = e })) (sym none) lives)
 
 lead_not_eight : ByLayersLaws → (section set count left : ℕ) (given : List ℕ) (fields : List Dataset) (nums : List (Option ℕ)) (taken heads : ℕ) (m : MessagePlace) → nat_eq section 8 ≡ false
-    → LeadsByLayers (DataPlace section set count left given fields nums taken heads m) → Possible (DataPlace section set count left given fields nums taken heads m)
+    → LeadsByLayers (place_with section (DataBegun set count left given) fields nums taken heads m) → Possible (place_with section (DataBegun set count left given) fields nums taken heads m)
 lead_not_eight laws section set count left given fields nums taken heads m not8 l =
     let h : Head = head_of_numbers section set count in
     let p = l.object.0 in
@@ -721,14 +656,14 @@ lead_not_eight laws section set count left given fields nums taken heads m not8 
     subst (λ (n : ℕ). SectionsLiveAt (plain fields l.numbers (one_of_some n) [] false) h) (less_none heads)
     (subst (λ (b : Bool). SectionsLiveAt (plain fields l.numbers (one_of_some (heads - (if b then 1 else 0))) [] false) h) not8 l.records) in
     let lead : (q : objects.Place) (e : Ending) → number_list l.numbers ≡ stated_numbers q.stated → IsPossible q → q.ending ≡ e → heads ≡ length q.lengths → sum q.lengths ≡ length o → LivesAt e h
-    → Possible (DataPlace section set count left given fields nums taken heads m) =
+    → Possible (place_with section (DataBegun set count left given) fields nums taken heads m) =
     λ q e same is end' count_is total lives.
-    lead_other laws (DataPlace section set count left given fields nums taken heads m) l.numbers q e h left given o text l.tags.0.2 l.numbers_are l.kept same is end' count_is total many leads last alive refl not8
+    lead_other laws (place_with section (DataBegun set count left given) fields nums taken heads m) l.numbers q e h left given o text l.tags.0.2 l.numbers_are l.kept same is end' count_is total many leads last alive refl not8
     l.tags.0.3 l.tags.2 (omega (arith, come, fits)) some refl lives l.within in
     by (nat_eq section 9) refl p lead (sym l.numbers_are ∙ at.numbers_are) at.not_ended at.subfiles (octets ∙ sym many) l.object.2
   where
     Leads : Type 0
-    Leads = Possible (DataPlace section set count left given fields nums taken heads m)
+    Leads = Possible (place_with section (DataBegun set count left given) fields nums taken heads m)
 
     by : (c : Bool) → nat_eq section 9 ≡ c → (p : objects.Place)
         → ((q : objects.Place) (e : Ending) → number_list l.numbers ≡ stated_numbers q.stated → IsPossible q → q.ending ≡ e → heads ≡ length q.lengths → sum q.lengths ≡ length l.message.0 → LivesAt e (head_of_numbers section set count) → Leads)
@@ -736,18 +671,18 @@ lead_not_eight laws section set count left given fields nums taken heads m not8 
     by true nine p lead same end' count_is total is = lead (place_after p ObjectEnded) Ended same is refl count_is total (at_nine (head_of_numbers section set count) nine)
     by false other p lead same end' count_is total is = lead p NotEnded same is end' count_is total (at_others (head_of_numbers section set count) not8 other)
 
-lead_data : ByLayersLaws → (section set count left : ℕ) (given : List ℕ) (fields : List Dataset) (nums : List (Option ℕ)) (taken heads : ℕ) (m : MessagePlace) → LeadsByLayers (DataPlace section set count left given fields nums taken heads m)
-    → Possible (DataPlace section set count left given fields nums taken heads m)
+lead_data : ByLayersLaws → (section set count left : ℕ) (given : List ℕ) (fields : List Dataset) (nums : List (Option ℕ)) (taken heads : ℕ) (m : MessagePlace) → LeadsByLayers (place_with section (DataBegun set count left given) fields nums taken heads m)
+    → Possible (place_with section (DataBegun set count left given) fields nums taken heads m)
 lead_data laws section set count left given fields nums taken heads m l = elim (eqb_tells section 8) [
   | inl eight ↦
-      subst (λ (s : ℕ). LeadsByLayers (DataPlace s set count left given fields nums taken heads m) → Possible (DataPlace s set count left given fields nums taken heads m)) (sym eight.1)
+      subst (λ (s : ℕ). LeadsByLayers (place_with s (DataBegun set count left given) fields nums taken heads m) → Possible (place_with s (DataBegun set count left given) fields nums taken heads m)) (sym eight.1)
       (lead_eight laws set count left given fields nums taken heads m) l
   | inr other ↦ lead_not_eight laws section set count left given fields nums taken heads m other.0 l
 ]
 
 lead_by : ByLayersLaws → (section : ℕ) (phase : Phase) (fields : List Dataset) (nums : List (Option ℕ)) (taken heads : ℕ) (m : MessagePlace)
-    → LeadsByLayers (record { section = section; phase = phase; fields = fields; numbers = nums; taken = taken; heads = heads; message = m })
-    → Possible (record { section = section; phase = phase; fields = fields; numbers = nums; taken = taken; heads = heads; message = m })
+    → LeadsByLayers (place_with section phase fields nums taken heads m)
+    → Possible (place_with section phase fields nums taken heads m)
 lead_by laws section (TagBegun held) fields nums taken heads m l = lead_tag laws section held fields nums taken heads m l
 lead_by laws section (DataBegun set count left given) fields nums taken heads m l = lead_data laws section set count left given fields nums taken heads m l
 lead_by laws section AllEnded fields nums taken heads m l = lead_ended laws section fields nums taken heads m l

@@ -36,39 +36,30 @@ use Rattle.iim_places.specs.Format.Tokens.{ObjectLives, CanContinueAt, MayContin
 use Rattle.iim_places.specs.Laws.Lower.{ByLayersLaws, OpenLaws}
 use Rattle.iim_places.proofs.AfterEnd.{after_end}
 use Rattle.iim_places.proofs.Alike.{Fits, alike, present_alike}
-use Rattle.iim_places.proofs.Bounds.{object_fits}
 use Rattle.iim_places.proofs.Fitting.{Lived, lived}
 use Rattle.iim_places.proofs.Following.{alive_of, object_lives_after}
+use Rattle.iim_places.proofs.Fitting.{begins_tag, given_fits, object_low}
 use Rattle.iim_places.proofs.HeadsWithin.{told_by}
 use Rattle.iim_places.proofs.Lasts.{last_sections, not_all}
-use Rattle.iim_places.proofs.PlainContinues.{plain_on, low_number}
-use Rattle.iim_places.proofs.PlainOpens.{ending_like, possible_of, fit_in_rows}
+use Rattle.iim_places.proofs.PlainContinues.{plain_on, low_number, fit_in_rows}
+use Rattle.iim_places.proofs.PlainOpens.{ending_like, possible_of}
 use Rattle.iim_places.proofs.PlainPlaces.{numbers_in, all_kept, room_for, present_same}
 use Rattle.iim_places.proofs.SameRecords.{IsStated, nines, stated_after_all, stated_at}
 use Rattle.iim_places.proofs.Tickets.{total_of, count_of, sum_one}
 
 -- ---- the dataset layer
 
-tags_tag : (octets : List ℕ) (ds : List Dataset) (held : List ℕ) → Reads count_octets octets ds (InTag held) → BeginsTag count_octets held
-tags_tag octets ds held reads =
-    let part = reads.is_rest.4 in
-    record { head = reads.is_rest.1; more = part.0; some_more = part.1; whole = subst (SpellsTag count_octets reads.is_rest.1) (sym part.2) reads.is_rest.3 }
-
 tags_lead : (octets : List ℕ) (ds : List Dataset) (b : Begun) → Reads count_octets octets ds b → TagsLead (section ds b) (phase_of ds b)
 tags_lead octets ds (InTag held) reads = by (nat_eq (section_after ds) 9)
   where
     by : (b : Bool) → TagsLead (section_after ds) (if b then AllEnded else TagBegun held)
     by true = tt
-    by false = tags_tag octets ds held reads
+    by false = begins_tag count_octets octets ds held reads
 tags_lead octets ds (InData h taken) reads =
-    ((omega (arith, less), omega arith, reads.is_rest.0, reads.is_rest.1), many (nat_eq h.rec 8), octets_by (nat_eq h.rec 8))
+    ((omega (arith, less), omega arith, reads.is_rest.0, reads.is_rest.1), given_fits (nat_eq h.rec 8) h.count taken less, octets_by (nat_eq h.rec 8))
   where
     less : length taken < h.count
     less = reads.is_rest.2
-
-    many : (b : Bool) → length (if b then [] else taken) ≡ (if b then 0 else h.count - (h.count - length taken))
-    many true = refl
-    many false = omega (arith, less)
 
     octets_by : (b : Bool) → Octets (if b then [] else taken)
     octets_by true = tt
@@ -103,9 +94,7 @@ fewer laws ds alive few lives =
     let heads = length (of_record 8 ds) in
     let object = object_of ds in
     let ended = nat_eq (section_after ds) 9 in
-    let total = total_of (of_record 8 ds) in
-    let most = object_fits (place_after_datasets ds) lives in
-    let fits : length object ≤ greatest_size = omega (arith, total, most) in
+    let fits = object_low ds lives in
     record {
       present = present_same laws.answer ds alive stated ∙ present_alike (kept ds) (numbers_in ps) heads (one_of_some heads) object [] ended (one_same heads);
       on = λ more sections.
@@ -181,11 +170,10 @@ whole_at ds taken heads octets many = record { numbers_are = refl; octets = tota
 pub confirmed_at : OpenLaws → (ds : List Dataset) → SectionsLive ds → length (of_record 8 ds) ≤ max_subfiles → ObjectLives (place_after_datasets ds) → nat_eq (section_after ds) 9 ≡ true → ending_of (of_record 9 ds) ≡ ConfirmedAs (length (object_of ds))
 confirmed_at laws ds alive few lives ended =
     let stated = stated_after_all laws.answer.follow.objects ds alive few in
-    let total = total_of (of_record 8 ds) in
-    let most = object_fits (place_after_datasets ds) lives in
+    let fits = object_low ds lives in
     ending_like laws.sizes (numbers_of (of_record 7 ds)) (lengths_of (of_record 8 ds)) (of_record 9 ds) true (object_of ds) stated.stated stated.duties stated.subfiles lives
-    (nines laws.answer.follow ds alive ∙ ap (λ (b : Bool). cond b 1 0) ended) total (omega (arith, total, most))
-    ∙ ap ConfirmedAs (low_number (length (object_of ds)) (omega (arith, total, most)))
+    (nines laws.answer.follow ds alive ∙ ap (λ (b : Bool). cond b 1 0) ended) (total_of (of_record 8 ds)) fits
+    ∙ ap ConfirmedAs (low_number (length (object_of ds)) fits)
 
 object_tag : OpenLaws → (ds : List Dataset) (held : List ℕ) (m : MessagePlace) → MayContinue widest ds (InTag held) → ObjectLeads (place_of ds (InTag held) m)
 object_tag laws ds held m goes = by (nat_eq (section_after ds) 9) refl

@@ -18,6 +18,7 @@ pub mod Admitted
 pub mod Tickets
 pub mod TicketLengths
 pub mod SameRecords
+pub mod SizeRows
 pub mod SamePlace
 pub mod Splitting
 pub mod Fitting

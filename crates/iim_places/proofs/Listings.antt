@@ -4,9 +4,9 @@ use Rattle.std.specs.List.{AllByRecursion}
 use Rattle.std.proofs.lemmas.List.{append-nil, length-take-le, append_cancel_left}
 use Rattle.std.proofs.lemmas.Bool.{false≢true}
 use Rattle.std.proofs.Math.Seq.{take-append_seam}
-use Rattle.iim_dataset.proofs.Lists.{nothing_of_two}
 use Rattle.iim_fields.specs.declared.limits.Limits.{Limits}
 use Rattle.iim_places.specs.Format.Admitted.{Value, Admits}
+use Rattle.iim_places.proofs.Fronts.{empty_front}
 use Rattle.iim_places.specs.Format.Framed.{Framed}
 use Rattle.iim_places.specs.Laws.Streams.{OpenOctetsAreBounded, StreamsHaveOneAnswer, RefusedOctetsWereOpen}
 use Rattle.iim_places.specs.Laws.Admitted.{AdmittedOctetsAreFramed, AdmittedOctetsHaveOneValue, NoAdmittedOctetsBeginOthers, NoEnvelopeIsEmpty}
@@ -162,7 +162,7 @@ refused_begins {limits} laws rest k e f more (inr d) is at =
 -- no octets begin with no envelope
 empty_begins : {limits : Limits} → ListingLaws limits → (rest : List ℕ) (f : Listed) (more : List ℕ) → rest ≡ [] → IsListed limits f → rest ≡ f.octets ++ more → ⊥
 empty_begins {limits} laws rest f more none is at =
-    let empty : f.octets ≡ [] = (nothing_of_two f.octets more (sym at ∙ none)).0 in
+    let empty : f.octets ≡ [] = empty_front f.octets more (sym at ∙ none) in
     laws.some limits (subst (λ (l : List ℕ). Framed limits l) empty (laws.framed limits f.octets f.value is.admits is.within))
 
 -- after a listing no envelope stands, unless it is one too many

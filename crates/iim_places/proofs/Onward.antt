@@ -3,9 +3,11 @@ use Rattle.std.proofs.Common.{◌≡◌, ℕ, ◌<◌, ◌≤◌, ◌&&◌, nat_
 use Rattle.std.proofs.lemmas.List.{append_cancel_left}
 use Rattle.std.specs.List.{AllByRecursion}
 use Rattle.std.proofs.lemmas.Bool.Decides.{eqb_tells}
-use Rattle.iim_dataset.specs.Format.Octets.{Octets, greatest_size, within}
+use Rattle.iim_dataset.specs.Format.Octets.{IsOctet, Octets, greatest_size, within}
 use Rattle.iim_dataset.specs.Format.Languages as languages
 use Rattle.iim_dataset.specs.Format.Datasets.{Dataset, SpellsStream, SpellsTag, head_of, count_octets, of_record}
+use Rattle.iim_dataset.proofs.Each.{all_back}
+use Rattle.iim_dataset.proofs.OctetLists.{octets_append}
 use Rattle.iim_dataset.specs.Format.Splits.{Begun, InTag, InData, Reads}
 use Rattle.iim_dataset.specs.declared.head.Head.{Head}
 use Rattle.iim_tables.specs.Format.Rows.{table, row_of}
@@ -34,13 +36,13 @@ use Rattle.iim_places.proofs.ObjectOctets.{object_of_more}
 use Rattle.iim_places.proofs.Fitting.{each_octets}
 use Rattle.iim_places.proofs.Following.{alive_of, follows, in_front, longer_front, message_of, object_lives_after, objects_append, same_data, story_of, within_of}
 use Rattle.iim_dataset.proofs.Agreeing.{compare}
-use Rattle.iim_dataset.proofs.OctetLists.{octets_append}
 use Rattle.iim_places.proofs.Fronts.{begun_none}
 use Rattle.iim_places.proofs.Limits.{within_front}
 use Rattle.iim_places.proofs.Places.{lives_after}
 use Rattle.iim_places.proofs.PlainOpens.{possible_of}
 use Rattle.iim_places.proofs.SamePlace.{SameBegun, SameMessage}
-use Rattle.iim_places.proofs.SameRecords.{no_other, stated_after_all}
+use Rattle.iim_places.proofs.SameRecords.{stated_after_all}
+use Rattle.iim_places.proofs.SizeRows.{eight_has}
 use Rattle.iim_places.proofs.Tickets.{count_of}
 use Rattle.iim_places.proofs.Twins.{AreBounded, SameTail, Twins, bounded_at, eights, follows_as, goes_as, goes_at_as, present_on, same_tail, sevens, twins_on}
 
@@ -186,7 +188,7 @@ subfile_value set xs ys many none = elim (eqb_tells 10 set) [
   | inl ten ↦ subst (λ (n : ℕ). value_fault (record { rec = 8; set = n; octets = xs }) ≡ None → value_fault (record { rec = 8; set = n; octets = ys }) ≡ None) ten.1 by_ten none
   | inr other ↦
       (let d : Dataset = record { rec = 8; set = set; octets = xs } in
-      let bad : value_fault d ≡ Some (record { rec = 8; set = set; cause = BadValue }) = ap (λ (r : Option Row). fault_by_row r d) (no_other set other.0).0 in
+      let bad : value_fault d ≡ Some (record { rec = 8; set = set; cause = BadValue }) = ap (λ (r : Option Row). fault_by_row r d) (eight_has set other.0) in
       absurd (let no' : None ≡ Some (record { rec = 8; set = set; cause = BadValue }) = sym none ∙ bad in cc))
 ]
   where
@@ -251,10 +253,6 @@ more_object ds h t z = by (nat_eq h.rec 8)
     by : (b : Bool) → object_of ds ++ (if b then t ++ z else []) ≡ (object_of ds ++ (if b then t else [])) ++ (if b then z else [])
     by true = sym (append_assoc (object_of ds) t z)
     by false = sym (append-nil (object_of ds ++ []))
-
-octets_back : (t z : List ℕ) → Octets (t ++ z) → Octets z
-octets_back [] z all = all
-octets_back (x ∷ t) z all = octets_back t z all.1
 
 -- where the last octets of a dataset have come
 closes : (p : List ℕ) (ds : List Dataset) (h : Head) (t z : List ℕ) → Reads count_octets p ds (InData h t) → length (t ++ z) ≡ h.count → Octets z → Reads count_octets (p ++ z) (ds ++ data_of h (t ++ z) ∷ []) (InTag [])
@@ -374,7 +372,7 @@ data_on laws limits p q more ds es h t v r s are pair W c w goes =
           let same : d ≡ data_of h (t ++ z) = same_data d h (t ++ z) head octets_are in
           let many : length (t ++ z) ≡ h.count = sym (ap length octets_are) ∙ count in
           let left : Octets (t ++ z) = subst Octets octets_are (octets_mid ds d ws (subst (AllByRecursion (λ (x : Dataset). Octets x.octets)) is (each_octets W w.front w.is_front))) in
-          let more_octets = octets_back t z left in
+          let more_octets = all_back IsOctet t z left in
           let right : Octets (v ++ z) = octets_append v z s.is_rest.3 more_octets in
           let before = closed_before laws limits ds es ws h t v z W c are pair goes (is ∙ ap (λ (x : Dataset). ds ++ x ∷ ws) same) many left right in
           let many' : length (v ++ z) ≡ h.count = sym (data_more h t v z are).0 ∙ many in
@@ -387,7 +385,7 @@ data_on laws limits p q more ds es h t v r s are pair W c w goes =
       | inr (same, begun, short) ↦
           (let here : AllCanContinue limits ds (InData h (t ++ more)) = subst (AllCanContinue limits ds) begun (subst (λ (zs : List Dataset). AllCanContinue limits zs c) same goes) in
           let read : Reads count_octets (p ++ more) ds (InData h (t ++ more)) = subst (Reads count_octets (p ++ more) ds) begun (subst (λ (zs : List Dataset). Reads count_octets (p ++ more) zs c) same w) in
-          let more_octets = octets_back t more read.is_rest.3 in
+          let more_octets = all_back IsOctet t more read.is_rest.3 in
           let both = data_more h t v more are in
           let short' : length (v ++ more) < h.count = (let many = both.0 in omega (arith, many, short)) in
           record {

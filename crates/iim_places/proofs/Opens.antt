@@ -9,17 +9,16 @@ use Rattle.iim_fields.specs.declared.limits.Limits.{Limits}
 use Rattle.iim_places.specs.Format.Tokens.{MayContinue}
 use Rattle.iim_places.specs.Laws.Streams.{OpenOctetsBeginWithNoEnvelope}
 use Rattle.iim_dataset.proofs.Agreeing.{compare}
-use Rattle.iim_dataset.proofs.Lists.{nothing_of_two}
-use Rattle.iim_places.proofs.Fronts.{begun_none}
+use Rattle.iim_places.proofs.Fronts.{begun_none, empty_front}
 
 not_begun : NoSectionsBeginOthers → (limits : Limits) (ds whole more : List Dataset) (begun : Begun) → MayContinue limits whole begun → AreSections ds → ds ++ more ≡ whole → more ≡ []
 not_begun law limits ds whole more (InTag held) goes sections is =
     let (later, are) = goes.records in
-    (nothing_of_two more later (law ds (more ++ later) sections (subst AreSections (ap (λ (xs : List Dataset). xs ++ later) (sym is) ∙ append_assoc ds more later) are))).0
+    empty_front more later (law ds (more ++ later) sections (subst AreSections (ap (λ (xs : List Dataset). xs ++ later) (sym is) ∙ append_assoc ds more later) are))
 not_begun law limits ds whole more (InData h taken) goes sections is =
     let (d, head, (later, are)) = goes.records in
-    (nothing_of_two more ((d ∷ []) ++ later) (law ds (more ++ ((d ∷ []) ++ later)) sections
-    (subst AreSections (append_assoc whole (d ∷ []) later ∙ ap (λ (xs : List Dataset). xs ++ ((d ∷ []) ++ later)) (sym is) ∙ append_assoc ds more ((d ∷ []) ++ later)) are))).0
+    empty_front more ((d ∷ []) ++ later) (law ds (more ++ ((d ∷ []) ++ later)) sections
+    (subst AreSections (append_assoc whole (d ∷ []) later ∙ ap (λ (xs : List Dataset). xs ++ ((d ∷ []) ++ later)) (sym is) ∙ append_assoc ds more ((d ∷ []) ++ later)) are))
 
 pub no_front : NoTagBeginsAnother → NoDatasetBeginsAnother → NoSectionsBeginOthers → OpenOctetsBeginWithNoEnvelope
 no_front tags one law limits octets front rest v open' parts admits =

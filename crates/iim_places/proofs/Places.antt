@@ -7,7 +7,7 @@ use Rattle.iim_dataset.specs.Format.Octets.{number}
 use Rattle.iim_dataset.specs.Format.Datasets.{Dataset, head_of, of_record}
 use Rattle.iim_dataset.specs.Format.Languages as languages
 use Rattle.iim_dataset.specs.declared.head.Head.{Head}
-use Rattle.iim_dataset.proofs.Each.{all_append}
+use Rattle.iim_dataset.proofs.Each.{all_append, all_front, all_back, all_map}
 use Rattle.iim_fields.specs.Format.Alive.{SectionsLive, SectionsLiveAt}
 use Rattle.iim_fields.specs.Format.Values.{tells_number}
 use Rattle.iim_object.specs.Format.Plans.{max_subfiles}
@@ -27,23 +27,15 @@ use Rattle.iim_places.specs.Laws.Lower.{ObjectLaws}
 abbrev IsOne : ℕ → Type 0
 IsOne r = (r < 7) ⊎ ((r ≡ 7) ⊎ ((r ≡ 8) ⊎ (r ≡ 9)))
 
-all_weaker : {X : Type 0} (P Q : X → Type 0) → ((x : X) → P x → Q x) → (xs : List X) → AllByRecursion P xs → AllByRecursion Q xs
-all_weaker P Q f [] h = tt
-all_weaker P Q f (x ∷ xs) h = (f x h.0, all_weaker P Q f xs h.1)
-
-all_at : (ds : List Dataset) (d : Dataset) (more : List Dataset) → AllByRecursion (λ x. IsOne x.rec) ((ds ++ d ∷ []) ++ more) → IsOne d.rec
-all_at [] d more h = h.0
-all_at (x ∷ ds) d more h = all_at ds d more h.1
-
 all_ones : (ds : List Dataset) → AreObjectRecords ds → AllByRecursion (λ x. IsOne x.rec) ds
 all_ones ds r =
     subst (AllByRecursion (λ (x : Dataset). IsOne x.rec)) (sym r.parts)
-    (all_append _ r.before (r.r7 ++ (r.r8 ++ r.r9)) (all_weaker _ _ (λ x h. inl h) r.before r.others)
-    (all_append _ r.r7 (r.r8 ++ r.r9) (all_weaker _ _ (λ x h. inr (inl h.0)) r.r7 r.descriptor.each)
-    (all_append _ r.r8 r.r9 (all_weaker _ _ (λ x h. inr (inr (inl h.0))) r.r8 r.object.each) (all_weaker _ _ (λ x h. inr (inr (inr h.0))) r.r9 r.confirmation.each))))
+    (all_append _ r.before (r.r7 ++ (r.r8 ++ r.r9)) (all_map _ _ r.before (λ x h. inl h) r.others)
+    (all_append _ r.r7 (r.r8 ++ r.r9) (all_map _ _ r.r7 (λ x h. inr (inl h.0)) r.descriptor.each)
+    (all_append _ r.r8 r.r9 (all_map _ _ r.r8 (λ x h. inr (inr (inl h.0))) r.object.each) (all_map _ _ r.r9 (λ x h. inr (inr (inr h.0))) r.confirmation.each))))
 
 pub is_one : (ds : List Dataset) (d : Dataset) → SectionsLive (ds ++ d ∷ []) → IsOne d.rec
-is_one ds d alive = let r = records_alive (ds ++ d ∷ []) alive in all_at ds d r.0 (all_ones ((ds ++ d ∷ []) ++ r.0) r.1)
+is_one ds d alive = let r = records_alive (ds ++ d ∷ []) alive in (all_back (λ (x : Dataset). IsOne x.rec) ds (d ∷ []) (all_front (λ (x : Dataset). IsOne x.rec) (ds ++ d ∷ []) r.0 (all_ones ((ds ++ d ∷ []) ++ r.0) r.1))).0
 
 -- ---- the place at a head
 

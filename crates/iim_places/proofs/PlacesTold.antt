@@ -27,6 +27,7 @@ use Rattle.iim_places.specs.States.Begins.{IsSizeIn, IsWide}
 use Rattle.iim_places.specs.Format.TicketForm.{HasForm, Split, SplitsTicket, split_octets}
 use Rattle.iim_places.specs.Format.Tickets.{Place, part_number}
 use Rattle.iim_places.specs.declared.ticket.possible.Readers.{Readers}
+use Rattle.iim_places.proofs.AtPlaces.{four_back}
 use Rattle.iim_places.proofs.Fitting.{part_told, spelled}
 use Rattle.iim_places.proofs.Plain.{kept_fields}
 
@@ -118,27 +119,7 @@ abbrev place_told : Split → MessagePlace → Place
 place_told s m = record { section = s.section; phase = s.phase; fields = s.fields; numbers = s.numbers; taken = s.taken; heads = s.heads; message = m }
 
 place_is : (s : Split) (m : MessagePlace) → IsMessageOf s.part s.counter s.flag s.texts m → split_of s.version (place_told s m) ≡ s
-place_is s m is = λ i. record {
-  version = s.version;
-  section = s.section;
-  phase = s.phase;
-  fields = s.fields;
-  numbers = s.numbers;
-  taken = s.taken;
-  heads = s.heads;
-  part = is.part_is i;
-  counter = is.counter_is i;
-  flag = is.flag_is i;
-  texts = is.texts_are i;
-}
-
-four_back : (numbers : List (Option ℕ)) → length numbers ≡ 4 → numbers ≡ number_list (numbers_told numbers)
-four_back [] is = absurd (omega (arith, is))
-four_back (a ∷ []) is = absurd (omega (arith, is))
-four_back (a ∷ b ∷ []) is = absurd (omega (arith, is))
-four_back (a ∷ b ∷ c ∷ []) is = absurd (omega (arith, is))
-four_back (a ∷ b ∷ c ∷ d ∷ []) is = refl
-four_back (a ∷ b ∷ c ∷ d ∷ e ∷ more) is = absurd (omega (arith, is))
+place_is s m is = λ i. record s { part = is.part_is i; counter = is.counter_is i; flag = is.flag_is i; texts = is.texts_are i }
 
 -- what the readers of a ticket's place tell of it
 pub record Reached (s : Split) (r : Readers) (some : Bool) (m : MessagePlace) : Type 0 where

@@ -8,10 +8,10 @@ use Rattle.std.proofs.lemmas.List.Elements.{filter-append}
 use Rattle.iim_dataset.proofs.WrittenNumbers.{few_octets, number_back, number_octets}
 use Rattle.iim_dataset.specs.Format.Octets.{IsOctet, Octets, number, greatest_size}
 use Rattle.iim_dataset.specs.Format.Datasets.{Dataset, canonical_stream, of_record}
-use Rattle.iim_dataset.specs.Format.Splits.{Begun, InTag, InData}
-use Rattle.iim_dataset.specs.Laws.Datasets.{HasSpellings, CanonicalStreamsAreSpelled}
 use Rattle.iim_dataset.proofs.Each.{all_append}
 use Rattle.iim_dataset.proofs.OctetLists.{front_are}
+use Rattle.iim_dataset.specs.Format.Splits.{Begun, InTag, InData}
+use Rattle.iim_dataset.specs.Laws.Datasets.{HasSpellings, CanonicalStreamsAreSpelled}
 use Rattle.iim_fields.specs.Format.Faults.{kept, is_kept, joined}
 use Rattle.iim_object.specs.Format.Records.{numbers_of}
 use Rattle.iim_object.specs.Format.Packing.{number_dataset, subfile_datasets}

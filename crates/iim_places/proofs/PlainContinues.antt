@@ -3,22 +3,21 @@ use Rattle.std.proofs.Common.{◌≡◌, ℕ, zero, suc, ◌+◌, ◌<◌, ◌�
 use Rattle.std.proofs.lemmas.List.{length-take}
 use Rattle.std.specs.List.{AllByRecursion}
 use Rattle.std.specs.Option.{unwrap_or}
-use Rattle.std.proofs.lemmas.Bool.{eqb-true, le-leb}
+use Rattle.std.proofs.lemmas.Bool.{eqb-true, le-leb, ne_eqb}
 use Rattle.std.proofs.lemmas.Bool.Decides.{eqb_tells}
 use Rattle.std.proofs.lemmas.List.Elements.{filter-append}
 use Rattle.std.proofs.lemmas.List.Folds.{list_any-append}
 use Rattle.std.proofs.lemmas.List.Sums.{sum_by-cons, sum_by-append}
 use Rattle.iim_dataset.specs.Format.Octets.{Octets, number, greatest_size}
 use Rattle.iim_dataset.specs.Format.Datasets.{Dataset, of_record}
-use Rattle.iim_dataset.proofs.WrittenNumbers.{number_back}
-use Rattle.iim_dataset.proofs.Each.{all_append}
+use Rattle.iim_dataset.proofs.Each.{all_append, all_back}
 use Rattle.iim_dataset.proofs.OctetLists.{front_are, octets_append}
+use Rattle.iim_dataset.proofs.WrittenNumbers.{number_back}
 use Rattle.iim_tables.specs.Format.Rows.{table, row_of, Meets}
 use Rattle.iim_fields.specs.Format.Alive.{SectionsLive}
 use Rattle.iim_fields.specs.Format.Faults.{joined, kept, is_kept, section_after, last_record}
 use Rattle.iim_fields.specs.Format.Records.{AreSections}
 use Rattle.iim_tables.specs.Format.Records.{IsGoodDataset, IsGoodRecord, occurs, occurrences, repeats, mandatory}
-use Rattle.iim_tables.proofs.GoodDatasets.{occurrences_cons, occurrences_append, none_counts, some_counts, part_meets}
 use Rattle.iim_object.specs.Laws.Packing.{NumberDatasetsAreGood}
 use Rattle.iim_object.specs.Format.Packing.{number_dataset, subfile_datasets}
 use Rattle.iim_object.specs.Format.Records.{numbers_of}
@@ -29,7 +28,9 @@ use Rattle.iim_places.specs.TicketParts.{IsSize}
 use Rattle.iim_places.specs.Laws.Lower.{AnswerLaws}
 use Rattle.iim_places.specs.Plain.{PlainDatasetsContinueAlike}
 use Rattle.iim_places.specs.States.PlainDatasets.{Numbers, number_list, mode_dataset, one_dataset, plain_numbers, filled, plain_end}
+use Rattle.iim_tables.proofs.GoodDatasets.{good_elsewhere, occurrences_cons, part_meets, none_counts, occurrences_append, some_counts}
 use Rattle.iim_places.proofs.Bounds.{IsFive, alive_five}
+use Rattle.iim_places.proofs.SizeRows.{by_number}
 use Rattle.iim_places.proofs.Plain.{AreOf, one_stated, are_told, four_told, filled_count, all_of, none_of, none_in_fields, are_sevens, are_eights, are_nines, back_octets}
 use Rattle.iim_places.proofs.PlainPlaces.{IsOrdered, none_below, sections_ordered, front_ordered, all_kept, numbers_in, end_length, present_same}
 use Rattle.iim_places.proofs.SameRecords.{of_kept, occurs_stated, same_stated, same_numbers, stated_after_all, tens_after, nines}
@@ -55,17 +56,9 @@ pub record MayReplace (r : ℕ) (xs ys : List Dataset) : Type 0 where
   pub seen : (n : ℕ) → occurs n xs ≡ occurs n ys
   pub fewer : (n : ℕ) → repeats r n ≡ false → occurrences n ys ≤ occurrences n xs
 
-good_both : (r : ℕ) (xs ys : List Dataset) → AreGood r xs → AreGood r ys → AreGood r (xs ++ ys)
-good_both r [] ys a b = b
-good_both r (x ∷ xs) ys a b = (a.0, good_both r xs ys a.1 b)
-
-good_back : (r : ℕ) (xs ys : List Dataset) → AreGood r (xs ++ ys) → AreGood r ys
-good_back r [] ys a = a
-good_back r (x ∷ xs) ys a = good_back r xs ys a.1
-
 pub good_with : (r : ℕ) (xs ys more : List Dataset) → MayReplace r xs ys → IsGoodRecord r (xs ++ more) → IsGoodRecord r (ys ++ more)
 good_with r xs ys more may good = record {
-  each = good_both r ys more may.each (good_back r xs more good.each);
+  each = all_append _ ys more may.each (all_back _ xs more good.each);
   mandatory = all_seen (mandatory r) good.mandatory;
   once = λ n no'. let one = good.once n no' in let a = occurrences_append n xs more in let b = occurrences_append n ys more in let less = may.fewer n no' in omega (arith, one, a, b, less);
 }
@@ -233,10 +226,6 @@ three_ordered r a b c le is7 is8 is9 =
 
 -- ---- five records
 
-pub five_back : (xs ys : List Dataset) → AllByRecursion (λ d. IsFive d.rec) (xs ++ ys) → AllByRecursion (λ d. IsFive d.rec) ys
-five_back [] ys a = a
-five_back (x ∷ xs) ys a = five_back xs ys a.1
-
 five_of : (k : ℕ) → IsFive k → (ds : List Dataset) → AreOf k ds → AllByRecursion (λ d. IsFive d.rec) ds
 five_of k is [] all = tt
 five_of k is (d ∷ ds) all = (subst IsFive (sym all.0) is, five_of k is ds all.1)
@@ -251,10 +240,7 @@ five_kept (d ∷ ds) all = (by (nat_eq d.rec 1) (nat_eq d.rec 2) refl refl all.0
     by false false one two bad = absurd (let no' : false ≡ true = bad in cc)
 
 not_same : (s k : ℕ) → k < s → nat_eq s k ≡ false
-not_same s k less = elim (eqb_tells s k) [
-  | inl same ↦ absurd (omega (arith, less, same.1))
-  | inr other ↦ other.0
-]
+not_same s k less = ne_eqb s k (λ same. omega (arith, less, same))
 
 -- ---- the datasets of a place, replaced
 
@@ -277,8 +263,8 @@ sections_continue ds more sevens eights nines five like sections =
     let low = fields_low 0 (kept ds) (omega arith) keeps in
     let first : IsOrdered 0 es = join_ordered 0 (kept ds) (sevens ++ (eights ++ nines)) (kept_ordered 0 ds (front_ordered 0 ds more order)) (three_ordered (last_record 0 (kept ds)) sevens eights nines (omega (arith, low)) like.is7 like.is8 like.is9) in
     let ordered : IsOrdered 0 (es ++ more) = join_ordered 0 es more first (subst (λ (r : ℕ). IsOrdered r more) like.present (back_ordered 0 ds more order)) in
-    let fives = all_append (λ (d : Dataset). IsFive d.rec) es more (all_append (λ (d : Dataset). IsFive d.rec) (kept ds) (sevens ++ (eights ++ nines)) (five_kept (kept ds) keeps) (all_append (λ (d : Dataset). IsFive d.rec) sevens (eights ++ nines) (five_of 7 (inr (inr (inl refl))) sevens like.is7)
-    (all_append (λ (d : Dataset). IsFive d.rec) eights nines (five_of 8 (inr (inr (inr (inl refl)))) eights like.is8) (five_of 9 (inr (inr (inr (inr refl)))) nines like.is9)))) (five_back ds more five) in
+    let fives = all_append _ es more (all_append _ (kept ds) (sevens ++ (eights ++ nines)) (five_kept (kept ds) keeps) (all_append _ sevens (eights ++ nines) (five_of 7 (inr (inr (inl refl))) sevens like.is7)
+    (all_append _ eights nines (five_of 8 (inr (inr (inr (inl refl)))) eights like.is8) (five_of 9 (inr (inr (inr (inr refl)))) nines like.is9)))) (all_back _ ds more five) in
     rebuilt (es ++ more) (ordered_sorted 0 (es ++ more) ordered fives) (record {
       one = subst (IsGoodRecord 1) (low_same 1 refl) good.one;
       two = subst (IsGoodRecord 2) (low_same 2 refl) good.two;
@@ -333,42 +319,29 @@ in_row set (p ∷ ps) all = by (nat_eq p.set set) refl (in_row set ps all.1)
 good_mode : (o : Option ℕ) → InRowAt 10 o → AreGood 7 (one_dataset mode_dataset o)
 good_mode None h = tt
 good_mode (Some n) h = elim h [
-  | inl row ↦ ((refl, record { numbered = omega arith; octets = ((let le = row.1 in omega (arith, le)), tt); meets = mode_meets n row.1; file_format = refl }), tt)
+  | inl row ↦ ((refl, good_elsewhere refl (omega arith) ((let le = row.1 in omega (arith, le)), tt) (mode_meets n row.1)), tt)
   | inr (inl row) ↦ absurd (let bad = row.0 in omega (arith, bad))
   | inr (inr (inl is, le)) ↦ absurd (omega (arith, is))
   | inr (inr (inr is, le)) ↦ absurd (omega (arith, is))
 ]
 
-good_largest : NumberDatasetsAreGood → (o : Option ℕ) → InRowAt 20 o → AreGood 7 (one_dataset (number_dataset 7 20) o)
-good_largest rows None h = tt
-good_largest rows (Some n) h = elim h [
-  | inl row ↦ absurd (let bad = row.0 in omega (arith, bad))
-  | inr (inl row) ↦ ((refl, rows.largest n row.1 row.2), tt)
-  | inr (inr (inl is, le)) ↦ absurd (omega (arith, is))
-  | inr (inr (inr is, le)) ↦ absurd (omega (arith, is))
+good_size : NumberDatasetsAreGood → (set n : ℕ) → (set ≡ 10 → ⊥) → InRow (record { set = set; number = n }) → IsGoodDataset (number_dataset 7 set n)
+good_size rows set n other h = elim h [
+  | inl row ↦ absurd (other row.0)
+  | inr (inl row) ↦ subst (λ (k : ℕ). IsGoodDataset (number_dataset 7 k n)) (sym row.0) (rows.largest n row.1 row.2)
+  | inr (inr (inl is, le)) ↦ subst (λ (k : ℕ). IsGoodDataset (number_dataset 7 k n)) (sym is) (rows.announced n le)
+  | inr (inr (inr is, le)) ↦ subst (λ (k : ℕ). IsGoodDataset (number_dataset 7 k n)) (sym is) (rows.maximum n le)
 ]
 
-good_announced : NumberDatasetsAreGood → (o : Option ℕ) → InRowAt 90 o → AreGood 7 (one_dataset (number_dataset 7 90) o)
-good_announced rows None h = tt
-good_announced rows (Some n) h = elim h [
-  | inl row ↦ absurd (let bad = row.0 in omega (arith, bad))
-  | inr (inl row) ↦ absurd (let bad = row.0 in omega (arith, bad))
-  | inr (inr (is, le)) ↦ ((refl, rows.announced n le), tt)
-]
-
-good_maximum : NumberDatasetsAreGood → (o : Option ℕ) → InRowAt 95 o → AreGood 7 (one_dataset (number_dataset 7 95) o)
-good_maximum rows None h = tt
-good_maximum rows (Some n) h = elim h [
-  | inl row ↦ absurd (let bad = row.0 in omega (arith, bad))
-  | inr (inl row) ↦ absurd (let bad = row.0 in omega (arith, bad))
-  | inr (inr (is, le)) ↦ ((refl, rows.maximum n le), tt)
-]
+good_sizes : NumberDatasetsAreGood → (set : ℕ) → (set ≡ 10 → ⊥) → (o : Option ℕ) → InRowAt set o → AreGood 7 (one_dataset (number_dataset 7 set) o)
+good_sizes rows set other None h = tt
+good_sizes rows set other (Some n) h = ((refl, good_size rows set n other h), tt)
 
 good_sevens : NumberDatasetsAreGood → (ps : List Stated) → AllByRecursion InRow ps → AreGood 7 (plain_numbers (numbers_in ps))
 good_sevens rows ps all =
-    good_both 7 _ _ (good_mode (number_at 10 ps) (in_row 10 ps all))
-    (good_both 7 _ _ (good_largest rows (number_at 20 ps) (in_row 20 ps all))
-    (good_both 7 _ _ (good_announced rows (number_at 90 ps) (in_row 90 ps all)) (good_maximum rows (number_at 95 ps) (in_row 95 ps all))))
+    all_append _ _ _ (good_mode (number_at 10 ps) (in_row 10 ps all))
+    (all_append _ _ _ (good_sizes rows 20 (λ is. omega (arith, is)) (number_at 20 ps) (in_row 20 ps all))
+    (all_append _ _ _ (good_sizes rows 90 (λ is. omega (arith, is)) (number_at 90 ps) (in_row 90 ps all)) (good_sizes rows 95 (λ is. omega (arith, is)) (number_at 95 ps) (in_row 95 ps all))))
 
 -- ---- how often
 
@@ -392,19 +365,9 @@ sevens_once n numbers =
     omega (arith, a, b, c, d, last, more, all, sum)
   where
     apart4 : (n : ℕ) → cond (nat_eq 10 n) 1 0 + (cond (nat_eq 20 n) 1 0 + (cond (nat_eq 90 n) 1 0 + cond (nat_eq 95 n) 1 0)) ≤ 1
-    apart4 n = elim (eqb_tells 10 n) [
-      | inl is ↦ subst (λ (k : ℕ). cond (nat_eq 10 k) 1 0 + (cond (nat_eq 20 k) 1 0 + (cond (nat_eq 90 k) 1 0 + cond (nat_eq 95 k) 1 0)) ≤ 1) is.1 (omega arith)
-      | inr not10 ↦ elim (eqb_tells 20 n) [
-        | inl is ↦ subst (λ (k : ℕ). cond (nat_eq 10 k) 1 0 + (cond (nat_eq 20 k) 1 0 + (cond (nat_eq 90 k) 1 0 + cond (nat_eq 95 k) 1 0)) ≤ 1) is.1 (omega arith)
-        | inr not20 ↦ elim (eqb_tells 90 n) [
-          | inl is ↦ subst (λ (k : ℕ). cond (nat_eq 10 k) 1 0 + (cond (nat_eq 20 k) 1 0 + (cond (nat_eq 90 k) 1 0 + cond (nat_eq 95 k) 1 0)) ≤ 1) is.1 (omega arith)
-          | inr not90 ↦ elim (eqb_tells 95 n) [
-            | inl is ↦ subst (λ (k : ℕ). cond (nat_eq 10 k) 1 0 + (cond (nat_eq 20 k) 1 0 + (cond (nat_eq 90 k) 1 0 + cond (nat_eq 95 k) 1 0)) ≤ 1) is.1 (omega arith)
-            | inr not95 ↦ rw (not10.0, not20.0, not90.0, not95.0) (omega arith)
-          ]
-        ]
-      ]
-    ]
+    apart4 n =
+        by_number (λ (k : ℕ). cond (nat_eq 10 k) 1 0 + (cond (nat_eq 20 k) 1 0 + (cond (nat_eq 90 k) 1 0 + cond (nat_eq 95 k) 1 0)) ≤ 1) (omega arith) (omega arith) (omega arith) (omega arith)
+        (λ k other. rw (other.mode, other.largest, other.announced, other.maximum) (omega arith)) n
 
 -- records 8 and 9, whose one number is 10
 abbrev pub AreTens : List Dataset → Type 0
@@ -443,7 +406,7 @@ good_parts size zero xs all few = tt
 good_parts size (suc count) xs all few =
     let first = length-take size xs in
     let rest = length-drop size xs in (
-      (refl, record { numbered = omega arith; octets = front_are size xs all; meets = part_meets (take size xs) (omega (arith, few, first)); file_format = refl }),
+      (refl, good_elsewhere refl (omega arith) (front_are size xs all) (part_meets (take size xs) (omega (arith, few, first)))),
       good_parts size count (drop size xs) (back_octets size xs all) (omega (arith, few, rest)),
     )
 
@@ -457,17 +420,22 @@ in_one : (set : ℕ) (o : Option ℕ) → InRowAt set o → AllByRecursion InRow
 in_one set None h = tt
 in_one set (Some n) h = (h, tt)
 
-in_both : (xs ys : List Stated) → AllByRecursion InRow xs → AllByRecursion InRow ys → AllByRecursion InRow (xs ++ ys)
-in_both [] ys a b = b
-in_both (x ∷ xs) ys a b = (a.0, in_both xs ys a.1 b)
-
-pub low_in_row : (set : ℕ) (o : Option ℕ) → InRowAt set o → IsSize o
+low_in_row : (set : ℕ) (o : Option ℕ) → InRowAt set o → IsSize o
 low_in_row set None h = tt
 low_in_row set (Some n) h = elim h [
   | inl row ↦ (let le = row.1 in omega (arith, le))
   | inr (inl row) ↦ (let le = row.2 in omega (arith, le))
   | inr (inr (is, le)) ↦ omega (arith, le)
 ]
+
+pub fit_in_rows : (ps : List Stated) → AllByRecursion InRow ps → AllByRecursion IsSize (number_list (numbers_in ps))
+fit_in_rows ps all = (
+  low_in_row 10 (number_at 10 ps) (in_row 10 ps all),
+  (
+    low_in_row 20 (number_at 20 ps) (in_row 20 ps all),
+    (low_in_row 90 (number_at 90 ps) (in_row 90 ps all), (low_in_row 95 (number_at 95 ps) (in_row 95 ps all), tt)),
+  ),
+)
 
 replace_sevens : NumberDatasetsAreGood → (es : List Dataset) → AllByRecursion InRow (numbers_of es) → MayReplace 7 es (plain_numbers (numbers_in (numbers_of es)))
 replace_sevens rows es all = record { each = good_sevens rows ps all; seen = seen; fewer = λ n no'. fewer_by n es sevens (seen n) (sevens_once n numbers) }
@@ -482,19 +450,13 @@ replace_sevens rows es all = record { each = good_sevens rows ps all; seen = see
     sevens = plain_numbers numbers
 
     fit : AllByRecursion IsSize (number_list numbers)
-    fit = (
-      low_in_row 10 (number_at 10 ps) (in_row 10 ps all),
-      (
-        low_in_row 20 (number_at 20 ps) (in_row 20 ps all),
-        (low_in_row 90 (number_at 90 ps) (in_row 90 ps all), (low_in_row 95 (number_at 95 ps) (in_row 95 ps all), tt)),
-      ),
-    )
+    fit = fit_in_rows ps all
 
     stated : AllByRecursion InRow (numbers_of sevens)
     stated =
         subst (AllByRecursion InRow) (sym (are_told numbers fit))
-        (in_both _ _ (in_one 10 (number_at 10 ps) (in_row 10 ps all)) (in_both _ _ (in_one 20 (number_at 20 ps) (in_row 20 ps all))
-        (in_both _ _ (in_one 90 (number_at 90 ps) (in_row 90 ps all)) (in_one 95 (number_at 95 ps) (in_row 95 ps all)))))
+        (all_append InRow _ _ (in_one 10 (number_at 10 ps) (in_row 10 ps all)) (all_append InRow _ _ (in_one 20 (number_at 20 ps) (in_row 20 ps all))
+        (all_append InRow _ _ (in_one 90 (number_at 90 ps) (in_row 90 ps all)) (in_one 95 (number_at 95 ps) (in_row 95 ps all)))))
 
     same : stated_numbers ps ≡ stated_numbers (numbers_of sevens)
     same = sym (ap stated_numbers (are_told numbers fit) ∙ four_told numbers)
@@ -531,7 +493,3 @@ plain_on laws ds more sections few fits =
       present = present_same laws ds alive stated;
     })
     sections
-
-pub good_front : (r : ℕ) (xs ys : List Dataset) → AreGood r (xs ++ ys) → AreGood r xs
-good_front r [] ys all = tt
-good_front r (x ∷ xs) ys all = (all.0, good_front r xs ys all.1)

@@ -6,10 +6,10 @@ use Rattle.std.specs.Option.{unwrap_or}
 use Rattle.std.proofs.lemmas.Bool.{eqb-true}
 use Rattle.iim_dataset.specs.Format.Octets.{number, greatest_size}
 use Rattle.iim_dataset.specs.Format.Datasets.{Dataset, SpellsStream, canonical_stream, count_octets, of_record}
+use Rattle.iim_dataset.proofs.Each.{all_append, all_back}
 use Rattle.iim_dataset.specs.Format.Languages as languages
 use Rattle.iim_dataset.specs.Format.Splits.{Begun, InTag, InData, Reads}
 use Rattle.iim_dataset.specs.declared.head.Head.{Head}
-use Rattle.iim_dataset.proofs.Each.{all_last, all_append}
 use Rattle.iim_dataset.proofs.Lists.{sum_append}
 use Rattle.iim_fields.specs.Format.Alive.{SectionsLive, SectionsLiveAt}
 use Rattle.iim_fields.specs.Format.Faults.{kept, joined, section_after}
@@ -43,12 +43,13 @@ use Rattle.iim_places.specs.Format.Tickets.{Place, IsPlaceOf, place_of}
 use Rattle.iim_places.specs.Format.Tokens.{place_at, ObjectLives, MayContinue}
 use Rattle.iim_places.specs.Laws.Lower.{AnswerLaws, OpenLaws, SizeLaws}
 use Rattle.iim_places.proofs.Answering.{one_reading, reads_envelope, goes_envelope, nothing_held}
-use Rattle.iim_places.proofs.Bounds.{object_fits}
+use Rattle.iim_places.proofs.Fitting.{object_low}
 use Rattle.iim_places.proofs.Fitting.{Lived}
 use Rattle.iim_places.proofs.Following.{alive_of, within_of, object_lives_after}
 use Rattle.iim_places.proofs.Lasts.{sections_last, last_sections}
 use Rattle.iim_places.proofs.Plain.{plain_told, plain_spelled}
-use Rattle.iim_places.proofs.PlainContinues.{plain_on, in_row, low_in_row, low_number}
+use Rattle.iim_places.proofs.PlainContinues.{plain_on, low_number}
+pub use Rattle.iim_places.proofs.PlainContinues.{fit_in_rows}
 use Rattle.iim_places.proofs.PlainPlaces.{plain_by, numbers_in, all_kept, alive_front, room_for, present_same}
 use Rattle.iim_places.proofs.PlainSizes.{duties_of, Lives, possible_like}
 use Rattle.iim_places.proofs.SameRecords.{IsStated, nines, same_numbers, stated_after_all, stated_at}
@@ -85,15 +86,6 @@ ending_like laws ps ls [] false object are both none lives many total fits = ref
 ending_like laws ps ls (r ∷ rs) false object are both none lives many total fits = absurd (omega (arith, many))
 ending_like laws ps ls (r ∷ rs) true object are both none lives many total fits = ap ConfirmedAs (confirmed_by laws ps ls (number r.octets) are both none lives ∙ total ∙ sym (low_number (length object) fits))
 
-pub fit_in_rows : (ps : List Stated) → AllByRecursion InRow ps → AllByRecursion IsSize (number_list (numbers_in ps))
-fit_in_rows ps all = (
-  low_in_row 10 (number_at 10 ps) (in_row 10 ps all),
-  (
-    low_in_row 20 (number_at 20 ps) (in_row 20 ps all),
-    (low_in_row 90 (number_at 90 ps) (in_row 90 ps all), (low_in_row 95 (number_at 95 ps) (in_row 95 ps all), tt)),
-  ),
-)
-
 told : OpenLaws → (ds : List Dataset) → SectionsLive ds → length (of_record 8 ds) ≤ max_subfiles → ObjectLives (place_after_datasets ds) → Told ds (plain_of ds)
 told laws ds alive few lives =
     let stated = stated_after_all laws.answer.follow.objects ds alive few in
@@ -102,9 +94,7 @@ told laws ds alive few lives =
     let heads = length (of_record 8 ds) in
     let object = object_of ds in
     let ended = nat_eq (section_after ds) 9 in
-    let total = total_of (of_record 8 ds) in
-    let most = object_fits (place_after_datasets ds) lives in
-    let fits : length object ≤ greatest_size = omega (arith, total, most) in
+    let fits = object_low ds lives in
     let tell = plain_told (kept ds) numbers heads object ended (all_kept ds) (fit_in_rows ps stated.stated.each) (room_for laws.sizes.fit ds stated lives) in
     record {
       kept_are = tell.kept_are;
@@ -116,7 +106,7 @@ told laws ds alive few lives =
           subst (λ (xs : List Dataset). AllByRecursion (λ n. n ≤ size) (lengths_of xs)) (sym tell.eights_are)
           (subst (λ (o : Option ℕ). AllByRecursion (λ n. n ≤ size) (lengths_of (subfile_datasets (filled (unwrap_or o 0) heads object)))) (sym (same.largest ∙ e)) (part_small size heads object));
       ending =
-          ending_like laws.sizes ps (lengths_of (of_record 8 ds)) (of_record 9 ds) ended object stated.stated stated.duties stated.subfiles lives (nines laws.answer.follow ds alive) total fits ∙ sym (ap ending_of tell.nines_are);
+          ending_like laws.sizes ps (lengths_of (of_record 8 ds)) (of_record 9 ds) ended object stated.stated stated.duties stated.subfiles lives (nines laws.answer.follow ds alive) (total_of (of_record 8 ds)) fits ∙ sym (ap ending_of tell.nines_are);
       nines_are = tell.nines_are;
       present = present_same laws.answer ds alive stated;
       records = λ more sections. plain_on laws.answer ds more sections few fits;
@@ -131,7 +121,7 @@ begun_small laws ps ls c size e are both largest lives =
     let some = length-append ls (c ∷ []) in
     let alive : languages.IsAlive ObjectLanguage (number_tokens ps ++ map SubfileBegun ks) =
     alive_front (number_tokens ps ++ map SubfileBegun ks) (ending_tokens e) (subst (languages.IsAlive ObjectLanguage) (sym (append_assoc (number_tokens ps) (map SubfileBegun ks) (ending_tokens e))) lives) in
-    all_last (λ (n : ℕ). n ≤ size) ls c ((laws.fit d.known size ps ks (record { stated = are; mode = d.mode; largest = largest }) (omega (arith, some))).0 alive).each
+    (all_back (λ n. n ≤ size) ls (c ∷ []) ((laws.fit d.known size ps ks (record { stated = are; mode = d.mode; largest = largest }) (omega (arith, some))).0 alive).each).0
 
 pub possible_of : (p : objects.Place) → IsStated p → length p.lengths ≤ max_subfiles → ObjectLives p → IsPossible p
 possible_of p is few lives = record { stated = is.stated; subfiles = is.subfiles; duties = is.duties; few = few; alive = lives }
@@ -165,7 +155,7 @@ subfile_on laws ds es c t was is few lives =
     let both : HasBoth ps = was.duties (omega (arith, more)) in
     (possible_like laws p q (possible_of p was (omega (arith, count, more, few)) lives) is.stated t.numbers (omega (arith, count, count', heads, more, more'))
     (sum_append ls (c ∷ []) ∙ ap (λ (n : ℕ). n + sum (c ∷ [])) (total_of (of_record 8 ds) ∙ ap length t.object ∙ sym (total_of (of_record 8 es))) ∙ sym (sum_append ks (c ∷ [])))
-    (λ size e. all_append (λ (n : ℕ). n ≤ size) ks (c ∷ []) (t.each size e) (begun_small laws ps ls c size (ending_of (of_record 9 ds)) was.stated both (same.largest ∙ e) lives, tt)) t.ending).alive
+    (λ size e. all_append (λ n. n ≤ size) ks (c ∷ []) (t.each size e) (begun_small laws ps ls c size (ending_of (of_record 9 ds)) was.stated both (same.largest ∙ e) lives, tt)) t.ending).alive
 
 at_on : SizeLaws → (ds es : List Dataset) (h : Head) → Told ds es → IsStated (place_at ds h) → IsStated (place_at es h) → length (of_record 8 ds) ≤ max_subfiles → (h.rec ≡ 8 → length (of_record 8 ds) < max_subfiles)
     → ObjectLives (place_at ds h) → ObjectLives (place_at es h)

@@ -6,11 +6,12 @@ use Rattle.std.proofs.lemmas.Bool.{eqb-true}
 use Rattle.std.proofs.lemmas.List.Sums.{sum_by-cons}
 use Rattle.iim_dataset.specs.Format.Octets.{IsOctet, Octets}
 use Rattle.iim_dataset.specs.Format.Datasets.{Dataset, SpellsStream, count_octets, of_record}
+use Rattle.iim_dataset.proofs.OctetLists.{octets_append}
+use Rattle.iim_dataset.proofs.Counts.{tag-lt}
 use Rattle.iim_dataset.specs.Format.Languages as languages
 use Rattle.iim_dataset.specs.Laws.Datasets.{HasSpellings}
 use Rattle.iim_dataset.specs.Format.Splits.{Begun, InTag, InData}
-use Rattle.iim_dataset.proofs.Lists.{some_of, sum_fits}
-use Rattle.iim_dataset.proofs.OctetLists.{octets_append}
+use Rattle.iim_dataset.proofs.Lists.{sum_fits, some_of}
 use Rattle.iim_fields.specs.Format.Alive.{SectionsLive}
 use Rattle.iim_fields.specs.Format.Faults.{kept, is_kept, joined, section_after, last_record}
 use Rattle.iim_fields.specs.Format.Records.{AreSections}
@@ -23,7 +24,6 @@ use Rattle.iim_object.specs.Format.Records.{lengths_of, numbers_of}
 use Rattle.iim_object.specs.Format.Sizes.{Stated, InRow, number_at, mode_number}
 use Rattle.iim_object.specs.Laws.Living.{SubfilesLiveWhileTheyFit}
 use Rattle.iim_object.specs.Format.Packing.{number_dataset, subfile_datasets}
-use Rattle.iim_object.proofs.Bounded.{mode_known}
 use Rattle.iim_places.specs.Format.Admitted.{object_of}
 use Rattle.iim_places.specs.Laws.Lower.{AnswerLaws}
 use Rattle.wire_message.specs.States.Saved.{LeadsToSaved}
@@ -34,7 +34,8 @@ use Rattle.iim_places.specs.Format.Tokens.{ObjectLives}
 use Rattle.iim_places.specs.States.Possible.{widest}
 use Rattle.iim_places.specs.Plain.{begun_object, begun_heads, IsPlain, PossiblePlacesArePlain}
 use Rattle.iim_places.specs.States.PlainDatasets.{Numbers, plain_numbers, filled, number_list, mode_dataset, one_dataset, plain_end, plain}
-use Rattle.iim_places.proofs.Bounds.{IsFive, alive_five, tag_low}
+use Rattle.iim_object.proofs.Bounded.{mode_known}
+use Rattle.iim_places.proofs.Bounds.{IsFive, alive_five, same_count}
 use Rattle.iim_places.proofs.Fitting.{Lived, lived, each_octets, each_low, numbers_fit, ones_in, taken_fits}
 use Rattle.iim_places.proofs.Following.{alive_of, within_of, object_lives_after}
 use Rattle.iim_places.proofs.Plain.{AreOf, are_sevens, are_eights, are_nines, taken_told, heads_told, filled_count}
@@ -269,7 +270,7 @@ each_spelled [] xs none = tt
 each_spelled (d ∷ ds) xs (first, rest, one, more, parts) = by (is_kept d.rec) (each_spelled ds rest more)
   where
     by : (b : Bool) → AllByRecursion HasSpellings (kept ds) → AllByRecursion HasSpellings (cond b (d ∷ kept ds) (kept ds))
-    by true later = (record { rec = one.is_tag.rec; set = one.is_tag.set; octets = one.data_octets; few = tag_low _ one.tag one.is_tag }, later)
+    by true later = (record { rec = one.is_tag.rec; set = one.is_tag.set; octets = one.data_octets; few = tag-lt _ one.tag one.is_tag }, later)
     by false later = later
 
 pub object_octets : (ds : List Dataset) → AllByRecursion (λ (d : Dataset). Octets d.octets) ds → Octets (object_of ds)
@@ -301,10 +302,6 @@ present_same laws ds alive stated =
     (pick_by (of_record 8 ds) (subfile_datasets (filled size heads object)) 8 (sym (filled_count size heads object))
     (pick_like (of_record 7 ds) (plain_numbers numbers) 7 (λ none. none_plain ps (same_count (of_record 7 ds) ∙ none)) (λ none. sym (same_count (of_record 7 ds)) ∙ none_stated ps stated.stated.each none) refl))
     ∙ sym (picks_plain (kept ds) numbers heads object ended)
-  where
-    same_count : (es : List Dataset) → length (numbers_of es) ≡ length es
-    same_count [] = refl
-    same_count (e ∷ es) = let rest = same_count es in omega (arith, rest)
 
 -- the laws by which it is so
 pub record PlainLaws : Type 0 where
@@ -373,9 +370,9 @@ plain_by laws place l =
       heads = count i;
       message = message;
     }
-    same_place ds es (InData h given) message object heads taken count present = λ i. record {
+    same_place ds es (InData h some_of) message object heads taken count present = λ i. record {
       section = h.rec;
-      phase = phase_of ds (InData h given);
+      phase = phase_of ds (InData h some_of);
       fields = kept ds;
       numbers = number_list (numbers_in (numbers_of (of_record 7 ds)));
       taken = length (taken i);

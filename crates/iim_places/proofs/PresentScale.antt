@@ -5,6 +5,7 @@ use Rattle.std.proofs.lemmas.Bool.{leb-true, and_parts}
 use Rattle.std.proofs.lemmas.Bool.Decides.{eqb_tells}
 use Rattle.iim_dataset.specs.Format.Octets.{Octets, number, within, greatest_size}
 use Rattle.iim_dataset.specs.Format.Datasets.{Dataset, of_record}
+use Rattle.iim_dataset.proofs.Each.{all_map}
 use Rattle.iim_dataset.specs.Format.Languages.{IsAlive}
 use Rattle.iim_dataset.specs.Format.Splits.{Begun, InTag, InData}
 use Rattle.iim_dataset.proofs.Lists.{within_most_and}
@@ -12,13 +13,12 @@ use Rattle.iim_tables.specs.Format.Kinds.{is_mode, is_size_from}
 use Rattle.iim_tables.specs.Format.Numbers.{size_octets}
 use Rattle.iim_tables.specs.Format.Rows.{table, row_of, Meets}
 use Rattle.iim_tables.specs.Format.Records.{IsGoodDataset}
-use Rattle.iim_tables.proofs.GoodDatasets.{none_meets}
 use Rattle.iim_fields.specs.Format.Records.{AreRecords, AreSections, records}
 use Rattle.iim_object.specs.Format.Objects.{ObjectToken, SubfileBegun, ObjectLanguage, number_tokens}
 use Rattle.iim_object.specs.Format.Places as objects
 use Rattle.iim_object.specs.Format.Sizes.{Stated, InRow}
 use Rattle.iim_object.specs.Format.Within.{TokensWithin, LanguageWithin}
-use Rattle.iim_object.proofs.Bounded.{within_append, begun_within, row_low}
+use Rattle.iim_object.proofs.Bounded.{row_low, within_append, begun_within}
 use Rattle.iim_places.specs.States.Possible.{Possible, widest}
 use Rattle.iim_places.specs.States.Scales.{FitsRow, SectionsIn, SectionsLiveIn, HaveRoomIn, PossibleAt, place_in}
 use Rattle.iim_places.specs.Laws.Places.{PresentScaleSaysNothingMore, present_scale}
@@ -26,7 +26,11 @@ use Rattle.iim_places.specs.Format.Tickets.{Place}
 use Rattle.iim_places.specs.Format.Tokens.{MayContinue}
 use Rattle.iim_places.proofs.Following.{within_of}
 use Rattle.iim_places.proofs.SmallPlaces.{may_continue, rows_of}
+use Rattle.iim_places.proofs.Bounds.{low}
+use Rattle.iim_places.proofs.Fitting.{lives_in}
+use Rattle.iim_places.proofs.SizeRows.{by_seven, by_ten, eight_has, nine_has}
 use Rattle.iim_places.proofs.SmallSections.{told_in}
+use Rattle.iim_places.proofs.Taking.{each_good}
 use Rattle.iim_places.proofs.Tickets.{total_of}
 use Rattle.iim_places.proofs.WerePossible.{room_in}
 
@@ -42,39 +46,20 @@ row_size least xs h =
     (within_most_and 1 size_octets (length xs) (is_size_from least xs) h, leb-true (number xs) greatest_size (and_parts (nat_le least (number xs)) (nat_le (number xs) greatest_size) inner.1).1)
 
 one_octet : (xs : List ℕ) → Octets xs → length xs ≤ 1 → IsSized xs
-one_octet [] all few = (omega arith, omega arith)
-one_octet (a ∷ []) all few = let low = all.0 in (omega arith, omega (arith, low))
-one_octet (a ∷ b ∷ xs) all few = absurd (omega (arith, few))
+one_octet xs all few = let less = low 1 xs all few in (omega (arith, few), omega (arith, less))
 
 seven_fits : (set : ℕ) (xs : List ℕ) → Octets xs → Meets 7 set xs → IsSized xs
 unfolding row_of table
-seven_fits set xs all = elim (eqb_tells 10 set) [
-  | inl is ↦ subst (λ (k : ℕ). Meets 7 k xs → IsSized xs) is.1 (λ h. one_octet xs all (within_most_and 1 1 (length xs) (is_mode xs) h))
-  | inr not10 ↦ elim (eqb_tells 20 set) [
-    | inl is ↦ subst (λ (k : ℕ). Meets 7 k xs → IsSized xs) is.1 (λ h. row_size 1 xs h)
-    | inr not20 ↦ elim (eqb_tells 90 set) [
-      | inl is ↦ subst (λ (k : ℕ). Meets 7 k xs → IsSized xs) is.1 (λ h. row_size 0 xs h)
-      | inr not90 ↦ elim (eqb_tells 95 set) [
-        | inl is ↦ subst (λ (k : ℕ). Meets 7 k xs → IsSized xs) is.1 (λ h. row_size 0 xs h)
-        | inr not95 ↦ λ h. absurd (none_meets 7 set xs (rw (not10.0, not20.0, not90.0, not95.0) refl) h)
-      ]
-    ]
-  ]
-]
+seven_fits set xs all =
+    by_seven xs (λ _. IsSized xs) (λ h. one_octet xs all (within_most_and 1 1 (length xs) (is_mode xs) h)) (λ h. row_size 1 xs h) (λ h. row_size 0 xs h) (λ h. row_size 0 xs h) set
 
 nine_fits : (set : ℕ) (xs : List ℕ) → Meets 9 set xs → IsSized xs
 unfolding row_of table
-nine_fits set xs = elim (eqb_tells 10 set) [
-  | inl is ↦ subst (λ (k : ℕ). Meets 9 k xs → IsSized xs) is.1 (λ h. row_size 0 xs h)
-  | inr not10 ↦ λ h. absurd (none_meets 9 set xs (rw not10.0 refl) h)
-]
+nine_fits set xs = by_ten 9 nine_has xs (λ _. IsSized xs) (λ h. row_size 0 xs h) set
 
 eight_fits : (set : ℕ) (xs : List ℕ) → Meets 8 set xs → length xs ≤ greatest_size
 unfolding row_of table
-eight_fits set xs = elim (eqb_tells 10 set) [
-  | inl is ↦ subst (λ (k : ℕ). Meets 8 k xs → length xs ≤ greatest_size) is.1 (λ h. within_most_and 0 greatest_size (length xs) true h)
-  | inr not10 ↦ λ h. absurd (none_meets 8 set xs (rw not10.0 refl) h)
-]
+eight_fits set xs = by_ten 8 eight_has xs (λ _. length xs ≤ greatest_size) (λ h. within_most_and 0 greatest_size (length xs) true h) set
 
 good_fits : (d : Dataset) → IsGoodDataset d → FitsRow present_scale d
 good_fits d good = record {
@@ -85,16 +70,11 @@ good_fits d good = record {
   subfile = λ eight. eight_fits d.set d.octets (subst (λ (k : ℕ). Meets k d.set d.octets) eight good.meets);
 }
 
-run_fits : (r : ℕ) (ds rest : List Dataset) → AllByRecursion (λ (d : Dataset). (d.rec ≡ r) × IsGoodDataset d) ds → AllByRecursion (FitsRow present_scale) rest → AllByRecursion (FitsRow present_scale) (ds ++ rest)
-run_fits r [] rest all more = more
-run_fits r (d ∷ ds) rest all more = (good_fits d all.0.1, run_fits r ds rest all.1 more)
-
-records_fit : (rs : List ℕ) (ds : List Dataset) → AreRecords rs ds → AllByRecursion (FitsRow present_scale) ds
-records_fit [] ds none = subst (AllByRecursion (FitsRow present_scale)) (sym none) tt
-records_fit (r ∷ rs) ds (run, rest, parts, good, more) = subst (AllByRecursion (FitsRow present_scale)) (sym parts) (run_fits r run rest good.each (records_fit rs rest more))
+all_fit : (ds : List Dataset) → AreSections ds → AllByRecursion (FitsRow present_scale) ds
+all_fit ds are = all_map IsGoodDataset (FitsRow present_scale) ds good_fits (each_good ds are)
 
 sections_in : (ds : List Dataset) → IsAlive AreSections ds → IsAlive (SectionsIn present_scale) ds
-sections_in ds (more, are) = (more, (are, records_fit records (ds ++ more) are))
+sections_in ds (more, are) = (more, (are, all_fit (ds ++ more) are))
 
 -- ---- the object
 
@@ -122,8 +102,7 @@ records_at ds (InTag held) goes = sections_in ds goes.records
 records_at ds (InData h taken) goes = let (d, head, alive) = goes.records in (d, head, sections_in (ds ++ d ∷ []) alive)
 
 object_at : (ds : List Dataset) (b : Begun) → MayContinue widest ds b → IsAlive (LanguageWithin greatest_size) (objects.tokens_of (place_in ds b))
-object_at ds (InTag held) goes = alive_in (objects.tokens_of (place_in ds (InTag held))) goes.object
-object_at ds (InData h taken) goes = alive_in (objects.tokens_of (place_in ds (InData h taken))) goes.object
+object_at ds b goes = alive_in (objects.tokens_of (place_in ds b)) (lives_in ds b goes)
 
 still : (place : Place) → PossibleAt present_scale place → Possible place
 still place p = record {
@@ -162,7 +141,7 @@ was place p = record {
       value = v;
       admits = is.admits;
       spelled = is.admits.spelled;
-      rows = records_fit records is.admits.datasets is.admits.sections;
+      rows = all_fit is.admits.datasets is.admits.sections;
       total = let total = total_of (of_record 8 is.admits.datasets) in let sum_is = is.admits.sizes.total in let fits = is.admits.sizes.agree.total_fits in omega (arith, total, sum_is, fits);
       within = is.within;
     })

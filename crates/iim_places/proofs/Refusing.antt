@@ -1,8 +1,8 @@
 -- After octets of one place the same octet is refused, for the same fault.
 use Rattle.std.proofs.Common.{◌≡◌, ℕ, ◌+◌, ◌≤◌, ◌&&◌, ◌||◌, ◌⊎◌, not, nat_lt, nat_eq, if◌then◌else◌, Bool, true, false, List, [], ◌∷◌, ◌++◌, length, sum, Option, Some, None, refl, ap, sym, subst, ◌∙◌, inl, inr, arith, append_assoc}
+use Rattle.std.proofs.lemmas.Bool.{ne_eqb}
 use Rattle.std.specs.Option.{option_or, option_map}
 use Rattle.std.proofs.lemmas.Bool.Decides.{eqb_tells}
-use Rattle.std.proofs.lemmas.Bool.{ne_eqb}
 use Rattle.iim_dataset.specs.Format.Octets.{Octets, number}
 use Rattle.iim_dataset.specs.Format.Completing.{CompletesData}
 use Rattle.iim_dataset.specs.Format.Datasets.{Dataset, head_of, of_record as of_fields, of_record, count_octets}
@@ -43,7 +43,7 @@ use Rattle.iim_places.proofs.Onward.{AreData, Pair, ReadAlike, all_as, given_as,
 use Rattle.iim_places.proofs.PlainOpens.{possible_of}
 use Rattle.iim_places.proofs.SamePlace.{SameData, SameMessage, value_as}
 use Rattle.iim_places.proofs.SameRecords.{SameNumbers, stated_after_all}
-use Rattle.iim_places.proofs.Taking.{each_good, good_at}
+use Rattle.iim_places.proofs.Taking.{good_at}
 use Rattle.iim_places.proofs.Tickets.{count_of}
 use Rattle.iim_places.proofs.Twins.{AreBounded, Twins, at_as, after_as, bounded_at, eights, follows_as, goes_at_as, numbers_on, room_as, same_tail, sevens, twins_on}
 
@@ -195,7 +195,7 @@ value_fault_as ds es d twins =
     λ i. option_or (option_map of_field (value_fault d)) (if tells_number d.rec then option_map (size_on (head_of d)) (cause i) else None)
 
 octets_alive : (ds : List Dataset) (d : Dataset) → SectionsLive (ds ++ d ∷ []) → Octets d.octets
-octets_alive ds d alive = (good_at ds d alive.0 (each_good ((ds ++ d ∷ []) ++ alive.0) alive.1)).octets
+octets_alive ds d alive = (good_at ds d alive).octets
 
 value_lives_as : OnwardLaws → (ds es : List Dataset) (d : Dataset) → SectionsLiveAt es (head_of d) → SectionsLive (ds ++ d ∷ []) → SectionsLive (es ++ d ∷ [])
 value_lives_as laws ds es d there alive = value_as laws.places.values ds es d (octets_alive ds d alive) alive there

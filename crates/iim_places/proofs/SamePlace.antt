@@ -12,7 +12,7 @@ use Rattle.iim_dataset.specs.States.Places.{IsKeptAs}
 use Rattle.iim_dataset.specs.declared.head.Head.{Head}
 use Rattle.iim_dataset.specs.declared.place.DatasetPlace.{DatasetPlace}
 use Rattle.iim_dataset.specs.declared.place.DatasetPlace.TheVariants.{Tag, Inside}
-use Rattle.iim_dataset.proofs.Lists.{sum_cons, sum_append}
+use Rattle.iim_dataset.proofs.Lists.{sum_append}
 use Rattle.iim_fields.specs.Format.Records.{AreSections}
 use Rattle.iim_tables.specs.Format.Records.{occurs}
 use Rattle.iim_fields.specs.States.Orders as orders
@@ -47,8 +47,8 @@ use Rattle.iim_places.specs.States.Counts.{are_some}
 use Rattle.iim_places.specs.Format.Tickets.{Phase, TagBegun, DataBegun, AllEnded, phase_of, heads_of}
 use Rattle.iim_places.proofs.Following.{alive_of}
 use Rattle.iim_places.proofs.Lasts.{SplitLast, split_last, last_sections}
+use Rattle.iim_places.proofs.Tickets.{count_of, total_of}
 use Rattle.iim_places.proofs.SameRecords.{SameRecords, SameFields, SameNumbers, IsStated, same_more, same_numbers, none_other}
-use Rattle.iim_places.proofs.Tickets.{total_of, count_of}
 
 -- ---- what is begun
 

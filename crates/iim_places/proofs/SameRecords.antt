@@ -1,22 +1,20 @@
 -- Datasets of one place have the same numbers in each record.
 use Rattle.std.proofs.Common.{◌≡◌, ℕ, ◌+◌, ◌<◌, ◌≤◌, ◌||◌, Bool, true, false, cond, nat_eq, List, [], ◌∷◌, ◌++◌, length, is_some, Some, None, refl, ap, sym, subst, ◌∙◌, inl, inr, arith, append-nil, append_assoc, length-append}
 use Rattle.std.specs.List.{AllByRecursion}
-use Rattle.std.proofs.lemmas.Bool.{eqb-true}
+use Rattle.std.proofs.lemmas.Bool.{eqb-true, eqb-false, ne_eqb}
 use Rattle.std.proofs.lemmas.Bool.Decides.{eqb_tells}
 use Rattle.std.proofs.lemmas.List.Elements.{filter-append}
 use Rattle.std.proofs.lemmas.List.Folds.{list_any-append}
 use Rattle.iim_dataset.specs.Format.Octets.{number}
 use Rattle.iim_dataset.specs.Format.Datasets.{Dataset, head_of, of_record}
 use Rattle.iim_dataset.specs.declared.head.Head.{Head}
-use Rattle.iim_dataset.proofs.Each.{all_front}
-use Rattle.iim_dataset.proofs.Lists.{nothing_of_two}
-use Rattle.iim_tables.specs.Format.Rows.{table, row_of, Meets}
+use Rattle.iim_dataset.proofs.Each.{all_front, all_map}
+use Rattle.iim_tables.specs.Format.Rows.{Meets}
 use Rattle.iim_fields.specs.Format.Records.{AreSections, AreRecords, records}
 use Rattle.iim_tables.specs.Format.Records.{IsGoodDataset, occurs}
-use Rattle.iim_tables.proofs.GoodDatasets.{none_meets}
 use Rattle.iim_fields.specs.Format.Alive.{SectionsLive, SectionsLiveAt}
 use Rattle.iim_fields.specs.Format.Faults.{section_after, kept, is_kept}
-use Rattle.iim_fields.proofs.Sections.{last_more}
+use Rattle.iim_fields.proofs.Sections.{last_more, by_record}
 use Rattle.iim_object.specs.Format.Plans.{max_subfiles}
 use Rattle.iim_object.specs.Format.Sizes.{Stated, InRow, AreStated, number_at}
 use Rattle.iim_object.specs.Format.Records.{numbers_of}
@@ -28,8 +26,10 @@ use Rattle.iim_object.specs.States.Saved.{stated_numbers}
 use Rattle.iim_places.specs.States.ByLayers.{one_of_some}
 use Rattle.iim_places.specs.Format.Tokens.{place_at}
 use Rattle.iim_places.specs.Laws.Lower.{ObjectLaws, FollowLaws}
+use Rattle.iim_places.proofs.Fronts.{empty_front}
 use Rattle.iim_places.proofs.Lasts.{SplitLast, split_last}
 use Rattle.iim_places.proofs.Objects.{records_alive}
+use Rattle.iim_places.proofs.SizeRows.{HasTen, Unstated, by_number, by_ten, eight_has, nine_has}
 use Rattle.iim_places.proofs.Places.{is_one, at_other, at_number, subfile_leads, end_leads}
 
 -- The datasets have the same numbers in each record.
@@ -141,13 +141,6 @@ occurs_stated n (d ∷ ds) = by (nat_eq d.set n) (occurs_stated n ds)
     by true more = refl
     by false more = more
 
--- a number that no row of record 7 has
-record Unstated (n : ℕ) : Type 0 where
-  mode : nat_eq 10 n ≡ false
-  largest : nat_eq 20 n ≡ false
-  announced : nat_eq 90 n ≡ false
-  maximum : nat_eq 95 n ≡ false
-
 not_stated : (n : ℕ) (ps : List Stated) → Unstated n → AllByRecursion InRow ps → number_at n ps ≡ None
 not_stated n [] other all = refl
 not_stated n (p ∷ ps) other all =
@@ -170,44 +163,17 @@ pub same_numbers : (ps qs : List Stated) → stated_numbers ps ≡ stated_number
 same_numbers ps qs e = record { mode = cc e; largest = cc e; announced = cc e; maximum = cc e }
 
 pub same_stated : (n : ℕ) (ps qs : List Stated) → SameNumbers ps qs → AllByRecursion InRow ps → AllByRecursion InRow qs → number_at n ps ≡ number_at n qs
-same_stated n ps qs same a b = elim (eqb_tells 10 n) [
-  | inl is ↦ subst (λ (k : ℕ). number_at k ps ≡ number_at k qs) is.1 same.mode
-  | inr not10 ↦ elim (eqb_tells 20 n) [
-    | inl is ↦ subst (λ (k : ℕ). number_at k ps ≡ number_at k qs) is.1 same.largest
-    | inr not20 ↦ elim (eqb_tells 90 n) [
-      | inl is ↦ subst (λ (k : ℕ). number_at k ps ≡ number_at k qs) is.1 same.announced
-      | inr not90 ↦ elim (eqb_tells 95 n) [
-        | inl is ↦ subst (λ (k : ℕ). number_at k ps ≡ number_at k qs) is.1 same.maximum
-        | inr not95 ↦
-            (let other : Unstated n = record { mode = not10.0; largest = not20.0; announced = not90.0; maximum = not95.0 } in
-            not_stated n ps other a ∙ sym (not_stated n qs other b))
-      ]
-    ]
-  ]
-]
+same_stated n ps qs same a b =
+    by_number (λ (k : ℕ). number_at k ps ≡ number_at k qs) same.mode same.largest same.announced same.maximum (λ k other. not_stated k ps other a ∙ sym (not_stated k qs other b)) n
 
 -- ---- records 8 and 9, whose one number is 10
-
-pub no_other : (n : ℕ) → nat_eq 10 n ≡ false → (row_of 8 n ≡ None) × (row_of 9 n ≡ None)
-unfolding row_of table
-no_other n e = (rw e refl, rw e refl)
 
 abbrev pub AreTens : List Dataset → Type 0
 AreTens ds = AllByRecursion (λ d. d.set ≡ 10) ds
 
--- a record that has a row for the number 10 alone
-abbrev HasTen : ℕ → Type 0
-HasTen r = (n : ℕ) → nat_eq 10 n ≡ false → row_of r n ≡ None
-
 tens_of : (r : ℕ) → HasTen r → (ds : List Dataset) → AllByRecursion (λ d. (d.rec ≡ r) × IsGoodDataset d) ds → AreTens ds
-tens_of r none [] all = tt
-tens_of r none (d ∷ ds) all = (ten, tens_of r none ds all.1)
-  where
-    ten : d.set ≡ 10
-    ten = elim (eqb_tells 10 d.set) [
-      | inl is ↦ sym is.1
-      | inr other ↦ absurd (none_meets r d.set d.octets (none d.set other.0) (subst (λ (k : ℕ). Meets k d.set d.octets) all.0.0 all.0.1.meets))
-    ]
+tens_of r none ds all =
+    all_map (λ (d : Dataset). (d.rec ≡ r) × IsGoodDataset d) (λ d. d.set ≡ 10) ds (λ d h. by_ten r none d.octets (λ n. n ≡ 10) (λ m. refl) d.set (subst (λ (k : ℕ). Meets k d.set d.octets) h.0 h.1.meets)) all
 
 tens_front : (r : ℕ) (xs ys zs : List Dataset) → of_record r (xs ++ ys) ≡ zs → AreTens zs → AreTens (of_record r xs)
 tens_front r xs ys zs is tens =
@@ -217,8 +183,8 @@ pub tens_after : RecordsAreByNumber → (ds : List Dataset) → SectionsLive ds 
 tens_after numbers ds alive =
     let r = records_alive ds alive in
     let is = numbers (ds ++ r.0) r.1 in (
-      tens_front 8 ds r.0 r.1.r8 is.eights (tens_of 8 (λ n e. (no_other n e).0) r.1.r8 r.1.object.each),
-      tens_front 9 ds r.0 r.1.r9 is.nines (tens_of 9 (λ n e. (no_other n e).1) r.1.r9 r.1.confirmation.each),
+      tens_front 8 ds r.0 r.1.r8 is.eights (tens_of 8 eight_has r.1.r8 r.1.object.each),
+      tens_front 9 ds r.0 r.1.r9 is.nines (tens_of 9 nine_has r.1.r9 r.1.confirmation.each),
     )
 
 -- Datasets of the number 10 have the same numbers as others, where there are some of both or none.
@@ -249,7 +215,7 @@ none_nine laws xs (d ∷ ys) alive open' = elim (eqb_tells d.rec 9) [
       (let sections : AreSections (xs ++ d ∷ []) = (laws.ends xs d (front_alive xs d ys alive)).0 nine.1 in
       let later : ys ++ alive.0 ≡ [] = laws.sections (xs ++ d ∷ []) (ys ++ alive.0) sections
       (subst AreSections (append_assoc xs (d ∷ ys) alive.0 ∙ sym (append_assoc xs (d ∷ []) (ys ++ alive.0))) alive.1) in
-      absurd (open' (subst (λ (zs : List Dataset). AreSections (xs ++ d ∷ zs)) (sym ((nothing_of_two ys alive.0 later).0)) sections)))
+      absurd (open' (subst (λ (zs : List Dataset). AreSections (xs ++ d ∷ zs)) (sym (empty_front ys alive.0 later)) sections)))
   | inr apart ↦
       (let parts = append_assoc xs (d ∷ []) ys in
       ap (λ (b : Bool). cond b (d ∷ of_record 9 ys) (of_record 9 ys)) apart.0
@@ -294,7 +260,7 @@ none_of r (k ∷ rs) ds (run, rest, parts, good, later) apart =
 
 pub none_other : (r : ℕ) → AllByRecursion (λ k. nat_eq k r ≡ false) records → (ds : List Dataset) → SectionsLive ds → of_record r ds ≡ []
 none_other r apart ds alive =
-    (nothing_of_two (of_record r ds) (of_record r alive.0) (sym (filter-append (λ (x : Dataset). nat_eq x.rec r) ds alive.0) ∙ none_of r records (ds ++ alive.0) alive.1 apart)).0
+    empty_front (of_record r ds) (of_record r alive.0) (sym (filter-append (λ (x : Dataset). nat_eq x.rec r) ds alive.0) ∙ none_of r records (ds ++ alive.0) alive.1 apart)
 
 -- ---- all records
 
@@ -348,22 +314,12 @@ same_shape laws numbers ds es a b few less same = record { seen = seen }
     other r apart n = ap (occurs n) (none_other r apart ds a ∙ sym (none_other r apart es b))
 
     seen : (r : ℕ) → SameIn ds es r
-    seen r = elim (eqb_tells 1 r) [
-      | inl is ↦ subst (SameIn ds es) is.1 one
-      | inr not1 ↦ elim (eqb_tells 2 r) [
-        | inl is ↦ subst (SameIn ds es) is.1 two
-        | inr not2 ↦ elim (eqb_tells 7 r) [
-          | inl is ↦ subst (SameIn ds es) is.1 seven
-          | inr not7 ↦ elim (eqb_tells 8 r) [
-            | inl is ↦ subst (SameIn ds es) is.1 eight
-            | inr not8 ↦ elim (eqb_tells 9 r) [
-              | inl is ↦ subst (SameIn ds es) is.1 nine
-              | inr not9 ↦ other r (not1.0, (not2.0, (not7.0, (not8.0, (not9.0, tt)))))
-            ]
-          ]
-        ]
-      ]
-    ]
+    seen r =
+        by_record (SameIn ds es) r one two seven eight nine
+        (λ not1 not2 not7 not8 not9. other r (apart 1 not1, (apart 2 not2, (apart 7 not7, (apart 8 not8, (apart 9 not9, tt))))))
+      where
+        apart : (k : ℕ) → nat_eq r k ≡ false → nat_eq k r ≡ false
+        apart k not = ne_eqb k r (λ same. eqb-false r k not (sym same))
 
 pub same_records : FollowLaws → RecordsAreByNumber → (ds es : List Dataset) → SectionsLive ds → SectionsLive es → length (of_record 8 ds) ≤ max_subfiles → length (of_record 8 es) ≤ max_subfiles → SameFields ds es
     → SameRecords ds es

@@ -8,6 +8,7 @@ use Rattle.iim_dataset.specs.Format.Languages.{IsAlive}
 use Rattle.iim_dataset.specs.Format.Splits.{Begun, InTag, InData, IsBegun, Reads}
 use Rattle.iim_dataset.specs.Format.Tags.{BeginsTag}
 use Rattle.iim_dataset.specs.declared.head.Head.{Head}
+use Rattle.iim_dataset.proofs.Each.{all_front, all_back}
 use Rattle.iim_dataset.proofs.Lists.{sum_append}
 use Rattle.iim_fields.specs.Format.Faults.{section_after}
 use Rattle.iim_fields.specs.Format.Values.{tells_number}
@@ -28,6 +29,7 @@ use Rattle.iim_places.specs.Format.Tickets.{Place, IsPlaceOf, TagBegun, AllEnded
 use Rattle.iim_places.specs.Format.Tokens.{MayContinue}
 use Rattle.iim_places.proofs.Answering.{one_reading, reads_envelope}
 use Rattle.iim_places.proofs.Bounds.{object_total}
+use Rattle.iim_places.proofs.Fitting.{begins_tag, so_far_fits}
 use Rattle.iim_places.proofs.SmallTags.{wider_tag}
 use Rattle.iim_places.proofs.Tickets.{total_of, sum_one}
 
@@ -49,17 +51,9 @@ wider_reads xs ds b r = record { front = r.front; rest = r.rest; is_front = wide
 
 -- ---- what fits
 
-rows_front : (s : Scale) (xs ys : List Dataset) → AllByRecursion (FitsRow s) (xs ++ ys) → AllByRecursion (FitsRow s) xs
-rows_front s [] ys all = tt
-rows_front s (x ∷ xs) ys all = (all.0, rows_front s xs ys all.1)
-
-row_last : (xs : List Dataset) (d : Dataset) → AllByRecursion (FitsRow first_scale) (xs ++ d ∷ []) → FitsRow first_scale d
-row_last [] d all = all.0
-row_last (x ∷ xs) d all = row_last xs d all.1
-
 pub rows_of : (s : Scale) (ds : List Dataset) (b : Begun) → SectionsLiveIn s ds b → AllByRecursion (FitsRow s) ds
-rows_of s ds (InTag held) alive = rows_front s ds alive.0 alive.1.1
-rows_of s ds (InData h taken) (d, head, alive) = rows_front s ds (d ∷ []) (rows_front s (ds ++ d ∷ []) alive.0 alive.1.1)
+rows_of s ds (InTag held) alive = all_front (FitsRow s) ds alive.0 alive.1.1
+rows_of s ds (InData h taken) (d, head, alive) = all_front (FitsRow s) ds (d ∷ []) (all_front (FitsRow s) (ds ++ d ∷ []) alive.0 alive.1.1)
 
 -- ---- open octets
 
@@ -107,21 +101,8 @@ total_low most p (rest, (lang, within)) =
     let same = lang.agree.as_confirmed in
     omega (arith, all, fits, same)
 
-taken_by : (b c : Bool) (ds : List Dataset) (count : ℕ) (taken : List ℕ) → length taken ≤ count
-    → sum (if b then objects.place_after (place_after_datasets ds) (SubfileBegun count) else if c then place_ended ds else place_after_datasets ds).lengths ≤ greatest_size_before
-    → length (object_of ds ++ (if b then taken else [])) ≤ greatest_size_before
-taken_by true c ds count taken few low =
-    let sums = sum_append (lengths_of (of_record 8 ds)) (count ∷ []) in
-    let one = sum_one count in
-    let total = total_of (of_record 8 ds) in
-    let both = length-append (object_of ds) taken in
-    omega (arith, sums, one, total, both, low, few)
-taken_by false true ds count taken few low = let total = total_of (of_record 8 ds) in let same = ap length (append-nil (object_of ds)) in omega (arith, total, same, low)
-taken_by false false ds count taken few low = let total = total_of (of_record 8 ds) in let same = ap length (append-nil (object_of ds)) in omega (arith, total, same, low)
-
 taken_low : (octets : List ℕ) (ds : List Dataset) (b : Begun) → Reads 4 octets ds b → sum (place_in ds b).lengths ≤ greatest_size_before → length (object_so_far ds b) ≤ greatest_size_before
-taken_low octets ds (InTag held) reads low = let total = total_of (of_record 8 ds) in omega (arith, total, low)
-taken_low octets ds (InData h taken) reads low = let less = reads.is_rest.2 in taken_by (nat_eq h.rec 8) (nat_eq h.rec 9) ds h.count taken (omega (arith, less)) low
+taken_low octets ds b reads low = let less = so_far_fits 4 octets ds b reads in omega (arith, less, low)
 
 -- with what is to come of a begun subfile
 left_by : (ds : List Dataset) (count : ℕ) (taken : List ℕ) (b c : Bool) → b ≡ true → length taken < count
@@ -135,20 +116,15 @@ left_by ds count taken true c is few low =
     omega (arith, sums, one, total, both, low, few)
 left_by ds count taken false c is few low = absurd cc
 
-tag_begins : (octets : List ℕ) (ds : List Dataset) (held : List ℕ) → Reads 4 octets ds (InTag held) → BeginsTag 4 held
-tag_begins octets ds held reads =
-    let (same, h, tag, spelled, (more, some, parts)) = reads.is_rest in
-    record { head = h; more = more; some_more = some; whole = subst (SpellsTag 4 h) (sym parts) spelled }
-
 small_phase : (octets : List ℕ) (ds : List Dataset) (b : Begun) → Reads 4 octets ds b → SectionsLiveIn first_scale ds b → sum (place_in ds b).lengths ≤ greatest_size_before
     → IsSmallPhase (section ds b) (length (object_so_far ds b)) (phase_of ds b)
 small_phase octets ds (InTag held) reads alive low = by (nat_eq (section_after ds) 9)
   where
     by : (b : Bool) → IsSmallPhase (section_after ds) (length (object_of ds)) (if b then AllEnded else TagBegun held)
     by true = tt
-    by false = tag_begins octets ds held reads
+    by false = begins_tag 4 octets ds held reads
 small_phase octets ds (InData h taken) reads (d, head, alive) low =
-    let fits = row_last ds d (rows_front first_scale (ds ++ d ∷ []) alive.0 alive.1.1) in
+    let fits = (all_back (FitsRow first_scale) ds (d ∷ []) (all_front (FitsRow first_scale) (ds ++ d ∷ []) alive.0 alive.1.1)).0 in
     let rec : d.rec ≡ h.rec = ap (λ (k : Head). k.rec) head in
     let count : length d.octets ≡ h.count = ap (λ (k : Head). k.count) head in (
       (λ told. let few = (fits.size (ap tells_number rec ∙ told)).0 in omega (arith, few, count)),

@@ -6,13 +6,16 @@ use Rattle.std.proofs.lemmas.Bool.Decides.{eqb_tells, nat_tests}
 use Rattle.std.proofs.lemmas.List.{map-append}
 use Rattle.iim_dataset.specs.Format.Octets.{Octets, IsOctet, number, within}
 use Rattle.iim_dataset.specs.Format.Datasets.{Dataset}
+use Rattle.iim_dataset.proofs.Each.{all_append}
 use Rattle.iim_dataset.specs.Format.Languages.{IsAlive}
 use Rattle.iim_dataset.proofs.Lists.{within_most_and}
 use Rattle.iim_tables.specs.Format.Rows.{table, row_of, Meets}
 use Rattle.iim_tables.specs.Format.Records.{IsGoodDataset, IsGoodRecord, occurs, occurrences, mandatory}
-use Rattle.iim_tables.proofs.GoodDatasets.{none_meets}
 use Rattle.iim_fields.specs.Format.Records.{AreRecords, AreSections, records}
 use Rattle.iim_fields.specs.Format.Values.{tells_number}
+use Rattle.iim_tables.proofs.GoodDatasets.{good_elsewhere}
+use Rattle.iim_places.proofs.Bounds.{low}
+use Rattle.iim_places.proofs.SizeRows.{by_seven, by_ten, eight_has, nine_has}
 use Rattle.iim_places.specs.States.Scales.{FitsRow, SectionsIn, first_scale}
 
 -- ---- data that are too long, replaced by short ones
@@ -36,46 +39,20 @@ told_in r is = elim (or_cases (nat_eq r 7) (nat_eq r 9) is) [ inl seven ↦ inl 
 above : (m n : ℕ) → nat_le m n ≡ false → n < m
 above m n is = grind (arith, nat_tests)
 
+-- the row of a number that is too long takes a short one
 seven_takes : (set : ℕ) (xs : List ℕ) → Meets 7 set xs → 4 < length xs → Meets 7 set short_number
 unfolding row_of table
-seven_takes set xs = elim (eqb_tells 10 set) [
-  | inl is ↦ subst (λ (k : ℕ). Meets 7 k xs → 4 < length xs → Meets 7 k short_number) is.1 (λ h long. absurd (let one = within_most_and 1 1 (length xs) _ h in omega (arith, one, long)))
-  | inr not10 ↦ elim (eqb_tells 20 set) [
-    | inl is ↦ subst (λ (k : ℕ). Meets 7 k xs → 4 < length xs → Meets 7 k short_number) is.1 (λ h long. refl)
-    | inr not20 ↦ elim (eqb_tells 90 set) [
-      | inl is ↦ subst (λ (k : ℕ). Meets 7 k xs → 4 < length xs → Meets 7 k short_number) is.1 (λ h long. refl)
-      | inr not90 ↦ elim (eqb_tells 95 set) [
-        | inl is ↦ subst (λ (k : ℕ). Meets 7 k xs → 4 < length xs → Meets 7 k short_number) is.1 (λ h long. refl)
-        | inr not95 ↦ λ h long. absurd (none_meets 7 set xs (rw (not10.0, not20.0, not90.0, not95.0) refl) h)
-      ]
-    ]
-  ]
-]
+seven_takes set xs =
+    by_seven xs (λ k. 4 < length xs → Meets 7 k short_number) (λ h long. absurd (let one = within_most_and 1 1 (length xs) _ h in omega (arith, one, long)))
+    (λ h long. refl) (λ h long. refl) (λ h long. refl) set
 
 nine_takes : (set : ℕ) (xs : List ℕ) → Meets 9 set xs → Meets 9 set short_number
 unfolding row_of table
-nine_takes set xs = elim (eqb_tells 10 set) [
-  | inl is ↦ subst (λ (k : ℕ). Meets 9 k xs → Meets 9 k short_number) is.1 (λ h. refl)
-  | inr not10 ↦ λ h. absurd (none_meets 9 set xs (rw not10.0 refl) h)
-]
+nine_takes set xs = by_ten 9 nine_has xs (λ k. Meets 9 k short_number) (λ h. refl) set
 
 eight_takes : (set : ℕ) (xs : List ℕ) → Meets 8 set xs → Meets 8 set []
 unfolding row_of table
-eight_takes set xs = elim (eqb_tells 10 set) [
-  | inl is ↦ subst (λ (k : ℕ). Meets 8 k xs → Meets 8 k []) is.1 (λ h. refl)
-  | inr not10 ↦ λ h. absurd (none_meets 8 set xs (rw not10.0 refl) h)
-]
-
-low_four : (xs : List ℕ) → Octets xs → length xs ≤ 4 → number xs ≤ 4294967295
-low_four [] all fits = omega arith
-low_four (a ∷ []) all fits = omega (arith, all.0)
-low_four (a ∷ b ∷ []) all fits = omega (arith, all.0, all.1.0)
-low_four (a ∷ b ∷ c ∷ []) all fits = omega (arith, all.0, all.1.0, all.1.1.0)
-low_four (a ∷ b ∷ c ∷ d ∷ []) all fits = omega (arith, all.0, all.1.0, all.1.1.0, all.1.1.1.0)
-low_four (a ∷ b ∷ c ∷ d ∷ e ∷ xs) all fits = absurd (omega (arith, fits))
-
-same_format : (r s : ℕ) (xs ys : List ℕ) → (nat_eq r 1 ≡ false) → (not (nat_eq r 1 && nat_eq s 20) || (number ys == 2)) ≡ true
-same_format r s xs ys is = rw is refl
+eight_takes set xs = by_ten 8 eight_has xs (λ k. Meets 8 k []) (λ h. refl) set
 
 -- The data of a good dataset may be replaced, and then fit.
 abbrev Fine : Dataset → List ℕ → Type 0
@@ -83,16 +60,16 @@ Fine d xs = IsGoodDataset (record { rec = d.rec; set = d.set; octets = xs }) × 
 
 short_good : (d : Dataset) (r : ℕ) → d.rec ≡ r → nat_eq r 1 ≡ false → nat_eq r 8 ≡ false → IsOctet d.set → Meets r d.set short_number → Fine d short_number
 short_good d r is one eight small meets = (
-  record { numbered = small; octets = (omega arith, (omega arith, (omega arith, (omega arith, tt)))); meets = subst (λ (k : ℕ). Meets k d.set short_number) (sym is) meets; file_format = rw (ap (λ (k : ℕ). nat_eq k 1) is ∙ one) refl },
+  good_elsewhere (ap (λ (k : ℕ). nat_eq k 1) is ∙ one) small (omega arith, (omega arith, (omega arith, (omega arith, tt)))) (subst (λ (k : ℕ). Meets k d.set short_number) (sym is) meets),
   record { size = λ told. (omega arith, omega arith); subfile = λ e. omega arith },
 )
 
 kept_fine : (d : Dataset) → IsGoodDataset d → (tells_number d.rec ≡ true → length d.octets ≤ 4) → (d.rec ≡ 8 → length d.octets ≤ 4294967295) → Fine d d.octets
-kept_fine d good few small = (good, record { size = λ told. (few told, low_four d.octets good.octets (few told)); subfile = small })
+kept_fine d good few small = (good, record { size = λ told. (few told, let less = low 4 d.octets good.octets (few told) in omega (arith, less)); subfile = small })
 
 empty_good : (d : Dataset) → d.rec ≡ 8 → IsGoodDataset d → Fine d []
 empty_good d is good = (
-  record { numbered = good.numbered; octets = tt; meets = subst (λ (k : ℕ). Meets k d.set []) (sym is) (eight_takes d.set d.octets (subst (λ (k : ℕ). Meets k d.set d.octets) is good.meets)); file_format = rw (ap (λ (k : ℕ). nat_eq k 1) is) refl },
+  good_elsewhere (ap (λ (k : ℕ). nat_eq k 1) is) good.numbered tt (subst (λ (k : ℕ). Meets k d.set []) (sym is) (eight_takes d.set d.octets (subst (λ (k : ℕ). Meets k d.set d.octets) is good.meets))),
   record { size = λ told. (omega arith, omega arith); subfile = λ e. omega arith },
 )
 
@@ -162,17 +139,13 @@ good_record r ds good = record {
   once = λ n no'. let most' = good.once n no' in let same = count_same n ds in omega (arith, most', same);
 }
 
-both_fit : (xs ys : List Dataset) → AllByRecursion (FitsRow first_scale) xs → AllByRecursion (FitsRow first_scale) ys → AllByRecursion (FitsRow first_scale) (xs ++ ys)
-both_fit [] ys a b = b
-both_fit (x ∷ xs) ys a b = (a.0, both_fit xs ys a.1 b)
-
 good_records : (rs : List ℕ) (ds : List Dataset) → AreRecords rs ds → AreRecords rs (map shrink ds) × AllByRecursion (FitsRow first_scale) (map shrink ds)
 good_records [] ds none = (ap (map shrink) none, subst (λ (xs : List Dataset). AllByRecursion (FitsRow first_scale) (map shrink xs)) (sym none) tt)
 good_records (r ∷ rs) ds (run, rest, parts, good, more) =
     let joined : map shrink ds ≡ map shrink run ++ map shrink rest = ap (map shrink) parts ∙ map-append shrink run rest in
     let later = good_records rs rest more in (
       (map shrink run, map shrink rest, joined, good_record r run good, later.0),
-      subst (AllByRecursion (FitsRow first_scale)) (sym joined) (both_fit (map shrink run) (map shrink rest) (each_fits r run good.each) later.1),
+      subst (AllByRecursion (FitsRow first_scale)) (sym joined) (all_append (FitsRow first_scale) (map shrink run) (map shrink rest) (each_fits r run good.each) later.1),
     )
 
 -- Datasets that are short, and from which the record layer can continue, fit, and can continue to ones that fit.

@@ -17,9 +17,6 @@ wider_count limit most n (high ∷ low ∷ more) le (inr (h, l, some, few, octet
 pub wider_tag : (limit most : ℕ) (h : Head) (tag : List ℕ) → limit ≤ most → SpellsTag limit h tag → SpellsTag most h tag
 wider_tag limit most h tag le s = record { rec = s.rec; set = s.set; count = s.count; is_count = wider_count limit most h.count s.count le s.is_count; parts = s.parts }
 
-pub wider_begun : (limit most : ℕ) (held : List ℕ) → limit ≤ most → BeginsTag limit held → BeginsTag most held
-wider_begun limit most held le b = record { head = b.head; more = b.more; some_more = b.some_more; whole = wider_tag limit most b.head (held ++ b.more) le b.whole }
-
 -- the fourth and fifth octets of a tag
 fourth : (held more count : List ℕ) (r s : ℕ) → 4 < length held → held ++ more ≡ 28 ∷ r ∷ s ∷ count → (get_or held 3 0 ≡ get_or count 0 0) × (get_or held 4 0 ≡ get_or count 1 0)
 fourth [] more count r s long e = absurd (omega (arith, long))

@@ -1,10 +1,12 @@
 -- What octets begin with is determined: their layout has one reading.
 use Rattle.std.proofs.Common.{◌≡◌, ℕ, ◌+◌, ◌-◌, ◌<◌, ◌≤◌, ◌^◌, ◌==◌, nat_eq, if◌then◌else◌, pred, Bool, true, false, List, [], ◌∷◌, ◌++◌, length, take, drop, Option, Some, None, refl, ap, sym, subst, ◌∙◌, inl, inr, arith, append_assoc, append-nil, length-append}
+use Rattle.std.proofs.lemmas.List.Concat.{flat_map-append}
 use Rattle.std.proofs.lemmas.List.{take-append-drop, length-take}
 use Rattle.std.specs.Int.{w64, from_be_bytes, to_be_bytes}
 use Rattle.std.specs.List.{AllByRecursion, flat_map}
 use Rattle.std.proofs.lemmas.Nat.{from_be_bytes-to_be_bytes_8}
 use Rattle.iim_dataset.specs.Format.Datasets.{Dataset}
+use Rattle.iim_dataset.proofs.Each.{all_append}
 use Rattle.iim_dataset.specs.Parting.{same_front}
 use Rattle.iim_places.specs.Format.Tickets.{Phase, TagBegun, DataBegun, AllEnded, ticket_name, present_version, width, four, wide, phase_octets, field_octets, fields_octets, number_octets, text_octets}
 use Rattle.iim_places.specs.States.Begins.{IsLongField, AreFields, AreNumbersIn, AreTexts, IsSizeIn, IsShort, IsWide}
@@ -110,23 +112,15 @@ none_held octets (d ∷ ds, held) none = absurd (none d (flat_map field_octets d
 
 -- ---- datasets one after another
 
-flat_map-join : (xs ys : List Dataset) → flat_map field_octets (xs ++ ys) ≡ flat_map field_octets xs ++ flat_map field_octets ys
-flat_map-join [] ys = refl
-flat_map-join (x ∷ xs) ys = ap (λ (o : List ℕ). field_octets x ++ o) (flat_map-join xs ys) ∙ sym (append_assoc (field_octets x) (flat_map field_octets xs) (flat_map field_octets ys))
-
-all_join : (xs : List Dataset) (y : Dataset) → AllByRecursion IsLongField xs → IsLongField y → AllByRecursion IsLongField (xs ++ y ∷ [])
-all_join [] y h k = (k, tt)
-all_join (x ∷ xs) y h k = (h.0, all_join xs y h.1 k)
-
 -- One dataset more stands before the rest.
 pub one_more : (count : ℕ) (octets rest after : List ℕ) (d : Dataset) → FieldsBefore count octets rest → IsLongField d → rest ≡ field_octets d ++ after → FieldsBefore (count + 1) octets after
 one_more count octets rest after d before hd e = record {
   datasets = before.datasets ++ d ∷ [];
-  each = all_join before.datasets d before.each hd;
+  each = all_append IsLongField before.datasets (d ∷ []) before.each (hd, tt);
   many = length-append before.datasets (d ∷ []) ∙ ap (λ n. n + 1) before.many;
   spelled = before.spelled ∙ ap (λ (xs : List ℕ). flat_map field_octets before.datasets ++ xs) e
       ∙ sym (append_assoc (flat_map field_octets before.datasets) (field_octets d) after)
-      ∙ ap (λ (xs : List ℕ). xs ++ after) (sym (flat_map-join before.datasets (d ∷ []) ∙ ap (λ (xs : List ℕ). flat_map field_octets before.datasets ++ xs) (append-nil (field_octets d))));
+      ∙ ap (λ (xs : List ℕ). xs ++ after) (sym (flat_map-append field_octets before.datasets (d ∷ []) ∙ ap (λ (xs : List ℕ). flat_map field_octets before.datasets ++ xs) (append-nil (field_octets d))));
 }
 
 one_field_of : HasOne IsLongField field_octets
@@ -360,19 +354,7 @@ whole_ticket s =
 
 -- the same split, told in another version
 abbrev told_in : ℕ → Split → Split
-told_in version s = record {
-  version = version;
-  section = s.section;
-  phase = s.phase;
-  fields = s.fields;
-  numbers = s.numbers;
-  taken = s.taken;
-  heads = s.heads;
-  part = s.part;
-  counter = s.counter;
-  flag = s.flag;
-  texts = s.texts;
-}
+told_in version s = record s { version = version }
 
 one_body_in : (version : ℕ) (s t : Split) → HasForm (told_in version s) → HasForm (told_in version t) → body_octets (told_in version s) ≡ body_octets (told_in version t) → told_in version s ≡ told_in version t
 one_body_in version s t hs ht e =
@@ -409,19 +391,7 @@ one_name m n a b e = rest_same (rest_same (rest_same (rest_same (rest_same e))))
 
 -- told in the version of the other it is itself
 told_again : (version : ℕ) (s : Split) → s.version ≡ version → told_in version s ≡ s
-told_again version s at = λ i. record {
-  version = sym at i;
-  section = s.section;
-  phase = s.phase;
-  fields = s.fields;
-  numbers = s.numbers;
-  taken = s.taken;
-  heads = s.heads;
-  part = s.part;
-  counter = s.counter;
-  flag = s.flag;
-  texts = s.texts;
-}
+told_again version s at = λ i. record s { version = sym at i }
 
 -- A ticket has one split.
 pub one_split : TicketsHaveOneSplit
@@ -451,15 +421,6 @@ no_splits version ticket body is named none = (
 wider : (version n : ℕ) → IsVersion version → IsWide version n → IsWide present_version n
 wider version n (inl one) h = let low = subst (λ (v : ℕ). IsWide v n) one h in omega (arith, low)
 wider version n (inr two) h = subst (λ (v : ℕ). IsWide v n) two h
-
-wider_held : (version n : ℕ) → IsVersion version → n < 5 + width version → n < 5 + width present_version
-wider_held version n (inl one) h = let low = subst (λ (v : ℕ). n < 5 + width v) one h in omega (arith, low)
-wider_held version n (inr two) h = subst (λ (v : ℕ). n < 5 + width v) two h
-
-pub wider_phase : (version section : ℕ) (p : Phase) → IsVersion version → IsPhase version section p → IsPhase present_version section p
-wider_phase version section (TagBegun held) is h = wider_held version (length held) is h
-wider_phase version section (DataBegun set count left taken) is h = (wider version count is h.0, h.1, h.2)
-wider_phase version section AllEnded is h = tt
 
 wider_sizes : (version : ℕ) (ns : List (Option ℕ)) → IsVersion version → AllByRecursion (IsSizeIn version) ns → AllByRecursion (IsSizeIn present_version) ns
 wider_sizes version [] is all = tt

@@ -1,7 +1,7 @@
 -- With which octets the story of an object dies.
 use Rattle.std.proofs.Common.{◌≡◌, ℕ, zero, suc, ◌+◌, ◌<◌, ◌≤◌, ◌⊎◌, Bool, true, false, not, ◌||◌, ◌&&◌, nat_eq, nat_lt, cond, if◌then◌else◌, List, [], ◌∷◌, ◌++◌, length, drop, map, replicate, refl, ap, sym, subst, ◌∙◌, inl, inr, arith, append-nil, append_assoc}
 use Rattle.std.specs.List.{list_any, position_or_len, before_first, after_first}
-use Rattle.std.proofs.lemmas.Bool.{cases_Bool, cases_lt, lt-ltb}
+use Rattle.std.proofs.lemmas.Bool.{cases_Bool, cases_lt, lt-ltb, ne_eqb}
 use Rattle.std.proofs.lemmas.Bool.Decides.{eqb_tells}
 use Rattle.std.proofs.lemmas.List.Folds.{list_any-append, list_all-append}
 use Rattle.std.proofs.Math.Seq.{drop-append-add}
@@ -9,9 +9,9 @@ use Rattle.iim_dataset.specs.Format.Languages as languages
 use Rattle.iim_dataset.specs.Format.Octets.{IsOctet}
 use Rattle.wire_story.specs.Laws.Texts.{StoriesLiveAsTextsSoFar, StoriesEndAsTexts, TextsEndInNoReturn}
 use Rattle.wire_story.specs.States.Reading.{IsLoneReturn}
+use Rattle.wire_story.proofs.SoFar.{so_far_two}
 use Rattle.wire_story.specs.Format.Texts.{IsTextSoFar, Holds, is_line_octet, line_end}
 use Rattle.wire_story.specs.Format.Tokens.{OctetOrEnd, Octet, End, StoryLanguage}
-use Rattle.wire_story.proofs.SoFar.{so_far_two}
 use Rattle.wire_message.specs.Format.Layers.{StoryLivesIn, after_stx, text_so_far}
 use Rattle.wire_message.specs.Format.Causes.{StoryDiesWith}
 use Rattle.iim_places.specs.Format.Conditions.{IsInText}
@@ -87,7 +87,7 @@ no_death : StoryLaws → (o : List ℕ) (b held : ℕ) → StoryDiesWith o b →
 no_death laws o b held dies other holds =
     let is = in_text o b dies in
     let s = after_stx o in
-    let apart : nat_eq b 3 ≡ false = elim (eqb_tells b 3) [ inl same ↦ absurd (other same.1) | inr not_same ↦ not_same.0 ] in
+    let apart : nat_eq b 3 ≡ false = ne_eqb b 3 other in
     let alive : languages.IsAlive StoryLanguage (map Octet (s ++ b ∷ [])) = (laws.live (s ++ b ∷ [])).1 (held, subst (λ (t : List ℕ). Holds (t ++ b ∷ []) held) (text_is o is) holds) in
     dies.1 (lives_by o b (map Octet (s ++ b ∷ [])) is (with_octet s b is.1 apart) alive)
 

@@ -3,11 +3,11 @@ use Rattle.std.proofs.Common.{◌≡◌, ℕ, ◌<◌, ◌≤◌, ◌≢◌, Boo
 use Rattle.std.specs.List.{AllByRecursion}
 use Rattle.iim_dataset.specs.Format.Datasets.{Dataset, head_of}
 use Rattle.iim_dataset.specs.declared.head.Head.{Head}
-use Rattle.iim_dataset.proofs.Each.{all_append}
+use Rattle.iim_dataset.proofs.Each.{all_front, all_back}
 use Rattle.iim_fields.specs.States.Checks.{TakesHead, HasChecked, HasTaken, IsChecking, IsValueFault}
 use Rattle.iim_fields.specs.Format.Alive.{SectionsLive, SectionsLiveAt}
 use Rattle.iim_fields.specs.Format.Faults.{is_kept}
-use Rattle.iim_fields.specs.Format.Records.{AreSections}
+use Rattle.iim_fields.specs.Format.Records.{AreSections, records}
 use Rattle.iim_tables.specs.Format.Records.{IsGoodDataset}
 use Rattle.iim_fields.specs.States.Standing.{FieldsPlace, IsBetween, IsHeadFault, IsOf, StandsAfter, StandsIn, limits_of}
 use Rattle.iim_fields.specs.Format.Values.{data_of, number_told}
@@ -18,8 +18,8 @@ use Rattle.iim_fields.proofs.Sections.{front_alive}
 use Rattle.iim_places.specs.States.PlainDatasets.{mode_dataset}
 use Rattle.iim_places.specs.States.Possible.{widest}
 use Rattle.iim_places.specs.Taking.{CanContinueWithin, TookDatasets}
+use Rattle.iim_places.proofs.Bounds.{each_in}
 use Rattle.iim_places.proofs.Limits.{kept_first, kept_octets_append, kept_length_append}
-use Rattle.iim_places.proofs.Bounds.{all_weaker}
 
 -- ---- datasets that can continue
 
@@ -30,9 +30,6 @@ front_leads_on limits xs ys goes =
     record { alive = front_alive xs ys goes.alive; within = record { octets_in = omega (arith, octets, goes.within.octets_in); fields_in = omega (arith, fields, goes.within.fields_in) } }
 
 -- ---- takes
-
-pub took_nothing : {T : Type 0} (ready : T → Type 0) (stands : T → List Dataset → Type 0) (limits : T → Limits) (a : T) → ready a → TookDatasets ready stands limits a [] a true
-took_nothing ready stands limits a is = (is, refl, λ ds s. subst (stands a) (sym (append-nil ds)) s)
 
 pub took_more : {T : Type 0} (ready : T → Type 0) (stands : T → List Dataset → Type 0) (limits : T → Limits) (a b c : T) (es fs : List Dataset) (all : Bool)
     → TookDatasets ready stands limits a es b true → TookDatasets ready stands limits b fs c all → TookDatasets ready stands limits a (es ++ fs) c all
@@ -63,26 +60,19 @@ took_as {T} ready stands limits a b es fs v w same is took = subst (λ (x : Bool
 
 -- ---- what no datasets can continue with
 
-good_only : (r : ℕ) (d : Dataset) → (d.rec ≡ r) × IsGoodDataset d → IsGoodDataset d
-good_only r d h = h.1
+good_only : (r : ℕ) (d : Dataset) → d.rec ≡ r → IsGoodDataset d → IsGoodDataset d
+good_only r d is good = good
 
 pub each_good : (ds : List Dataset) → AreSections ds → AllByRecursion IsGoodDataset ds
-each_good ds (r1, from2, one, good1, (r2, from7, two, good2, (r7, from8, seven, good7, (r8, from9, eight, good8, (r9, rest, nine, good9, end))))) =
-    let last : AllByRecursion IsGoodDataset rest = subst (AllByRecursion IsGoodDataset) (sym end) tt in
-    let a9 : AllByRecursion IsGoodDataset from9 = subst (AllByRecursion IsGoodDataset) (sym nine) (all_append IsGoodDataset r9 rest (all_weaker _ IsGoodDataset (good_only 9) r9 good9.each) last) in
-    let a8 : AllByRecursion IsGoodDataset from8 = subst (AllByRecursion IsGoodDataset) (sym eight) (all_append IsGoodDataset r8 from9 (all_weaker _ IsGoodDataset (good_only 8) r8 good8.each) a9) in
-    let a7 : AllByRecursion IsGoodDataset from7 = subst (AllByRecursion IsGoodDataset) (sym seven) (all_append IsGoodDataset r7 from8 (all_weaker _ IsGoodDataset (good_only 7) r7 good7.each) a8) in
-    let a2 : AllByRecursion IsGoodDataset from2 = subst (AllByRecursion IsGoodDataset) (sym two) (all_append IsGoodDataset r2 from7 (all_weaker _ IsGoodDataset (good_only 2) r2 good2.each) a7) in
-    subst (AllByRecursion IsGoodDataset) (sym one) (all_append IsGoodDataset r1 from2 (all_weaker _ IsGoodDataset (good_only 1) r1 good1.each) a2)
+each_good ds are = each_in IsGoodDataset records ds (good_only 1, (good_only 2, (good_only 7, (good_only 8, (good_only 9, tt))))) are
 
-pub good_at : (ds : List Dataset) (d : Dataset) (more : List Dataset) → AllByRecursion IsGoodDataset ((ds ++ d ∷ []) ++ more) → IsGoodDataset d
-good_at [] d more h = h.0
-good_at (x ∷ ds) d more h = good_at ds d more h.1
+pub good_at : (ds : List Dataset) (d : Dataset) → SectionsLive (ds ++ d ∷ []) → IsGoodDataset d
+good_at ds d (more, are) = (all_back IsGoodDataset ds (d ∷ []) (all_front IsGoodDataset (ds ++ d ∷ []) more (each_good ((ds ++ d ∷ []) ++ more) are))).0
 
 -- a mode is an octet
 pub no_wide_mode : (limits : Limits) (ds : List Dataset) (n : ℕ) → 256 ≤ n → CanContinueWithin limits (ds ++ mode_dataset n ∷ []) → ⊥
 no_wide_mode limits ds n wide goes =
-    let good = good_at ds (mode_dataset n) goes.alive.0 (each_good ((ds ++ mode_dataset n ∷ []) ++ goes.alive.0) goes.alive.1) in
+    let good = good_at ds (mode_dataset n) goes.alive in
     let low : n < 256 = good.octets.0 in
     omega (arith, wide, low)
 

@@ -11,12 +11,6 @@ use Rattle.iim_places.specs.Format.Tickets.{Place, ticket_in}
 use Rattle.iim_places.specs.declared.ticket.fault.TicketFault.{TicketFault}
 use Rattle.iim_places.specs.declared.ticket.fault.TicketFault.TheVariants.{Form, Version, Impossible, HeaderFull, TooManyFields, OutOfMemory}
 
--- what a fault may be, by the place
-abbrev Due : Limits → Place → TicketFault → Type 0
-Due limits place fault =
-    (limits.octets < octets_told place → fault ≡ HeaderFull) × (octets_told place ≤ limits.octets → limits.fields < fields_told place → fault ≡ TooManyFields)
-    × (AreHeadsWithin limits place → fault ≡ OutOfMemory)
-
 parts_of : TicketsOfPlacesAreSplit → (ticket : List ℕ) (place : Place) → (is : IsTicketAt ticket place) → SplitsTicket ticket (split_of is.version place)
 parts_of split ticket place is = subst (λ (xs : List ℕ). SplitsTicket xs (split_of is.version place)) (sym is.spelled) (split is.version place is.is_version is.possible)
 

@@ -4,7 +4,6 @@ use Rattle.std.specs.List.{flat_map}
 use Rattle.iim_dataset.specs.Format.Datasets.{Dataset, SpellsTag, SpellsCount, count_octets, tag_octets}
 use Rattle.iim_dataset.specs.Format.Splits.{InTag, Reads}
 use Rattle.iim_dataset.specs.declared.head.Head.{Head}
-use Rattle.iim_dataset.proofs.Spelled.{tag_length}
 use Rattle.iim_dataset.proofs.Lists.{nothing_fits}
 use Rattle.iim_fields.specs.Format.Faults.{joined, kept}
 use Rattle.wire_message.specs.States.Saved.{saved, LeadsToSaved}
@@ -128,7 +127,7 @@ tag_length_in limit h tag s = let is = ap length s.parts in let most = count_len
 pub held_length : (p : List ℕ) (ds : List Dataset) (held : List ℕ) → Reads count_octets p ds (InTag held) → length held ≤ 12
 held_length p ds held r =
     let (same, h, tag, spells, (rest, some, is)) = r.is_rest in
-    let most = tag_length h tag spells in
+    let most = tag_length_in count_octets h tag spells in
     let all = sym (length-append held rest) ∙ ap length is in
     omega (arith, most, all, some)
 

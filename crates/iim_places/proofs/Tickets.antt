@@ -1,6 +1,7 @@
 -- The ticket that an unpacker spells is that of the octets on which it stands.
 use Rattle.std.proofs.Common.{◌≡◌, ℕ, ◌+◌, ◌-◌, Bool, true, false, if◌then◌else◌, List, [], ◌∷◌, ◌++◌, length, sum, Option, Some, refl, ap, sym, subst, ◌∙◌, arith, append-nil, length-append}
-use Rattle.std.proofs.lemmas.List.Sums.{sum_by-cons}
+use Rattle.std.proofs.lemmas.Option.{same_Some}
+use Rattle.std.proofs.lemmas.List.Sums.{sum_by-append, sum_by-cons}
 use Rattle.std.proofs.lemmas.List.{length-map}
 use Rattle.iim_dataset.specs.Format.Datasets.{Dataset, of_record}
 use Rattle.iim_dataset.specs.Format.Splits.{Begun}
@@ -66,10 +67,7 @@ taken_by false false ds taken count left e = let total = total_of (of_record 8 d
 
 pub message_at : (reader : Option Message) (octets text : List ℕ) (m : MessagePlace) → wire.StandsAt reader octets text → IsAt reader m → LeadsToSaved octets text m
 message_at reader octets text m (at, is, leads) (place, has, same) =
-    let one : at ≡ place = some-same (sym is ∙ has) in (at, leads, ap saved one ∙ same)
-  where
-    some-same : {x y : Message} → Some x ≡ Some y → x ≡ y
-    some-same e = cc
+    let one : at ≡ place = same_Some _ _ (sym is ∙ has) in (at, leads, ap saved one ∙ same)
 
 -- ---- one ticket
 

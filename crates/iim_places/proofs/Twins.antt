@@ -3,13 +3,13 @@ use Rattle.std.proofs.Common.{◌≡◌, ℕ, ◌+◌, ◌<◌, ◌≤◌, ◌||
 use Rattle.std.specs.List.{AllByRecursion}
 use Rattle.std.specs.Option.{option_or}
 use Rattle.std.proofs.lemmas.List.Elements.{filter-append}
+use Rattle.std.proofs.lemmas.Option.{same_Some}
 use Rattle.std.proofs.lemmas.List.Folds.{list_any-append}
 use Rattle.std.proofs.lemmas.Bool.{eqb-true}
-use Rattle.std.proofs.lemmas.Option.{same_Some}
 use Rattle.iim_dataset.specs.Format.Datasets.{Dataset, of_record}
+use Rattle.iim_dataset.proofs.Each.{all_append, all_front, all_back}
 use Rattle.iim_dataset.specs.declared.head.Head.{Head}
-use Rattle.iim_dataset.proofs.Each.{all_append}
-use Rattle.iim_dataset.proofs.Lists.{sum_append, nothing_of_two}
+use Rattle.iim_dataset.proofs.Lists.{sum_append}
 use Rattle.iim_fields.specs.Format.Alive.{SectionsLive, SectionsLiveAt}
 use Rattle.iim_fields.specs.Format.Faults.{is_kept, joined, kept, last_record, section_after}
 use Rattle.iim_fields.specs.Format.Records.{AreSections}
@@ -17,7 +17,6 @@ use Rattle.iim_tables.specs.Format.Records.{IsGoodRecord, occurs}
 use Rattle.iim_tables.proofs.GoodDatasets.{occurrences_append}
 use Rattle.iim_fields.specs.Format.Bounds.{IsWithin}
 use Rattle.iim_fields.specs.declared.limits.Limits.{Limits}
-use Rattle.iim_fields.proofs.Sections.{last_of_joined}
 use Rattle.iim_object.specs.Format.Numbers.{ending_of, place_after_datasets, place_ended}
 use Rattle.iim_object.specs.Format.Objects.{SubfileBegun}
 use Rattle.iim_object.specs.Format.Places as objects
@@ -28,16 +27,17 @@ use Rattle.iim_object.specs.Format.Sizes.{Stated, number_at}
 use Rattle.iim_places.specs.Format.Framed.{AreWithin}
 use Rattle.iim_places.specs.Laws.Lower.{ObjectLaws, OpenLaws, SizeLaws}
 use Rattle.iim_places.specs.Format.Tokens.{place_at, ObjectLives, HaveRoom, CanContinue, CanContinueAt}
-use Rattle.iim_places.proofs.Bounds.{alive_five, IsFive}
+use Rattle.iim_fields.proofs.Sections.{last_of_joined}
+use Rattle.iim_places.proofs.Bounds.{alive_five}
 use Rattle.iim_places.proofs.LayersLead.{each_small}
+use Rattle.iim_places.proofs.Limits.{kept_append}
 use Rattle.iim_places.proofs.Plain.{numbers_join}
-use Rattle.iim_places.proofs.PlainContinues.{AreGood, MayReplace, all_good, back_ordered, fewer_by, five_back, good_with, join_ordered, ordered_sorted, rebuilt, good_front}
+use Rattle.iim_places.proofs.PlainContinues.{AreGood, MayReplace, all_good, back_ordered, fewer_by, good_with, join_ordered, ordered_sorted, rebuilt}
 use Rattle.iim_places.proofs.PlainOpens.{possible_of}
 use Rattle.iim_places.proofs.PlainPlaces.{IsOrdered, front_ordered, sections_ordered}
 use Rattle.iim_places.proofs.PlainSizes.{duties_of, possible_like}
 use Rattle.iim_places.proofs.SameRecords.{IsStated, SameNumbers, SameRecords, stated_at, stated_after_all}
 use Rattle.iim_places.proofs.Tickets.{count_of}
-use Rattle.iim_places.proofs.Limits.{kept_append}
 
 -- ---- what follows datasets to the sections of an envelope
 
@@ -47,7 +47,7 @@ of_both r xs ys = filter-append (λ (d : Dataset). nat_eq d.rec r) xs ys
 -- a record of datasets that can continue may stand for that of others with the same numbers
 may_replace : (r : ℕ) (xs ys later : List Dataset) → ((n : ℕ) → occurs n xs ≡ occurs n ys) → IsGoodRecord r (ys ++ later) → MayReplace r xs ys
 may_replace r xs ys later seen good = record {
-  each = good_front r ys later good.each;
+  each = all_front _ ys later good.each;
   seen = seen;
   fewer = λ n no'. fewer_by n xs ys (seen n) (let one = good.once n no' in let both = occurrences_append n ys later in omega (arith, one, both));
 }
@@ -64,7 +64,7 @@ follows_as ds es (later, alive) present same more sections =
     let there = all_good (es ++ later) alive in
     let order = subst (λ (r : ℕ). IsOrdered r more) present (back_ordered 0 ds more (sections_ordered (ds ++ more) sections)) in
     let ordered = join_ordered 0 es more (front_ordered 0 es later (sections_ordered (es ++ later) alive)) order in
-    let fives = all_append (λ (d : Dataset). IsFive d.rec) es more (alive_five es (later, alive)) (five_back ds more (alive_five (ds ++ more) ([], subst AreSections (sym (append-nil (ds ++ more))) sections))) in
+    let fives = all_append _ es more (alive_five es (later, alive)) (all_back _ ds more (alive_five (ds ++ more) ([], subst AreSections (sym (append-nil (ds ++ more))) sections))) in
     rebuilt (es ++ more) (ordered_sorted 0 (es ++ more) ordered fives) (record {
       one = replaced 1 ds es later more same there.one here.one;
       two = replaced 2 ds es later more same there.two here.two;
@@ -132,9 +132,9 @@ bounded_at laws p is = by p.lengths refl
         let d = duties_of p.stated is.stated (is.duties many) in
         inr (record { size = d.size; stated = d.largest; each = each_small laws p is d.size d.largest many })
 
-small_back : (size : ℕ) (xs ys : List ℕ) → AllByRecursion (λ n. n ≤ size) (xs ++ ys) → AllByRecursion (λ n. n ≤ size) ys
-small_back size [] ys all = all
-small_back size (x ∷ xs) ys all = small_back size xs ys all.1
+empty_both : (xs ys : List ℕ) → xs ++ ys ≡ [] → (xs ≡ []) × (ys ≡ [])
+empty_both [] ys e = (refl, e)
+empty_both (x ∷ xs) ys e = absurd cc
 
 none_too : (ls ks : List ℕ) → length ls ≡ length ks → ls ≡ [] → ks ≡ []
 none_too ls [] many e = refl
@@ -143,13 +143,13 @@ none_too ls (k ∷ ks) many e = absurd (let none = ap length e in omega (arith, 
 -- Bounds of two joined lists, of which the second stands after another first.
 bounded_on : (ps qs rs : List Stated) (ls ks ms : List ℕ) → SameNumbers ps qs → length ls ≡ length ks → AreBounded qs ks → AreBounded (ps ++ rs) (ls ++ ms) → AreBounded (qs ++ rs) (ks ++ ms)
 bounded_on ps qs rs ls ks ms same many own (inl none) =
-    let (first, last) = nothing_of_two ls ms none in
+    let (first, last) = empty_both ls ms none in
     inl (ap (λ (ns : List ℕ). ns ++ ms) (none_too ls ks many first) ∙ last)
 bounded_on ps qs rs ls ks ms same many (inl none) (inr all) =
     inr (record {
       size = all.size;
       stated = sym (numbers_on ps qs rs same).largest ∙ all.stated;
-      each = subst (λ (ns : List ℕ). AllByRecursion (λ n. n ≤ all.size) (ns ++ ms)) (sym none) (small_back all.size ls ms all.each);
+      each = subst (λ (ns : List ℕ). AllByRecursion (λ n. n ≤ all.size) (ns ++ ms)) (sym none) (all_back (λ n. n ≤ all.size) ls ms all.each);
     })
 bounded_on ps qs rs ls ks ms same many (inr own) (inr all) =
     let here : number_at 20 (qs ++ rs) ≡ Some own.size = at_both 20 qs rs ∙ ap (λ (o : Option ℕ). option_or o (number_at 20 rs)) own.stated in
@@ -157,7 +157,7 @@ bounded_on ps qs rs ls ks ms same many (inr own) (inr all) =
     inr (record {
       size = own.size;
       stated = here;
-      each = all_append (λ (n : ℕ). n ≤ own.size) ks ms own.each (subst (λ (n : ℕ). AllByRecursion (λ m. m ≤ n) ms) (sym size) (small_back all.size ls ms all.each));
+      each = all_append (λ n. n ≤ own.size) ks ms own.each (subst (λ (n : ℕ). AllByRecursion (λ m. m ≤ n) ms) (sym size) (all_back (λ n. n ≤ all.size) ls ms all.each));
     })
 
 -- ---- datasets that tell the same

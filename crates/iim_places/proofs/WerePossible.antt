@@ -7,6 +7,7 @@ use Rattle.std.proofs.lemmas.List.{length-take}
 use Rattle.byteorder.specs.Numbers.{big_number-reads_back}
 use Rattle.iim_dataset.specs.Format.Octets.{IsOctet}
 use Rattle.iim_dataset.specs.Format.Datasets.{Dataset, SpellsCount, SpellsTag, SpellsStream, canonical_count, canonical_tag, canonical_dataset, canonical_stream, count_octets, head_of, of_record, written_number}
+use Rattle.iim_dataset.proofs.Each.{all_append, all_map}
 use Rattle.iim_dataset.specs.Format.Languages.{IsAlive}
 use Rattle.iim_dataset.specs.Laws.Datasets.{HasSpellings}
 use Rattle.iim_dataset.specs.Format.Splits.{Begun, InTag, InData, IsBegun, Reads}
@@ -41,7 +42,6 @@ use Rattle.iim_places.proofs.Following.{within_of}
 use Rattle.iim_places.proofs.Lasts.{last_sections}
 use Rattle.iim_places.proofs.LeadsByLayers.{few_heads, few_with_head}
 use Rattle.iim_dataset.proofs.WrittenNumbers.{number_back}
-use Rattle.iim_dataset.proofs.Each.{all_append}
 use Rattle.iim_dataset.proofs.Lists.{sum_append}
 use Rattle.iim_places.proofs.Plain.{Tell, all_stated, are_told, one_stated, plain_led, plain_spelled, plain_told, taken_told}
 use Rattle.iim_places.proofs.PlainOpens.{plain_open, possible_of}
@@ -132,12 +132,10 @@ low_plain fields numbers heads object ended kept few small low =
     (all_append Low _ _ (low_parts (unwrap_or numbers.largest 0) heads object (size_low numbers.largest small.1.0)) (low_end ended object low)))
 
 shorts : (ds : List Dataset) → AllByRecursion Low ds → AllByRecursion Short ds
-shorts [] all = tt
-shorts (d ∷ ds) all = (all.0.0, shorts ds all.1)
+shorts ds all = all_map Low Short ds (λ d h. h.0) all
 
 fews : (ds : List Dataset) → AllByRecursion Low ds → AllByRecursion Few ds
-fews [] all = tt
-fews (d ∷ ds) all = (all.0.1, fews ds all.1)
+fews ds all = all_map Low Few ds (λ d h. h.1) all
 
 -- ---- the object's tokens
 

@@ -6,14 +6,6 @@ use Rattle.iim_dataset.specs.Format.Octets.{Octets as AreOctets, number}
 use Rattle.iim_dataset.proofs.OctetLists.{number-cons}
 use Rattle.iim_tables.specs.Format.Numbers.{size_octets}
 
--- n octets spell less than 256 ^ n
-pub number-lt : (xs : List ℕ) → AreOctets xs → number xs < 256 ^ length xs
-number-lt [] h = omega arith
-number-lt (b ∷ bs) h =
-    let rest = number-lt bs h.1 in
-    let high : b * 256 ^ length bs ≤ 255 * 256 ^ length bs = mul-le-mul_right (256 ^ length bs) (omega (arith, h.0)) in
-    rw (number-cons b bs, pow-succ' 256 (length bs)) (omega arith)
-
 -- the last octet counts once, and what stands before it 256 times
 pub number-snoc : (xs : List ℕ) (b : ℕ) → number (xs ++ (b ∷ [])) ≡ 256 * number xs + b
 number-snoc [] b = omega (arith, number-cons b [])

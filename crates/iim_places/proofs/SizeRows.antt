@@ -1,0 +1,53 @@
+-- The rows of records 7, 8 and 9, number by number.
+use Rattle.std.proofs.Common.{◌≡◌, ℕ, Bool, true, false, nat_eq, List, None, refl, subst, inl, inr}
+use Rattle.std.proofs.lemmas.Bool.Decides.{eqb_tells}
+use Rattle.iim_tables.specs.Format.Rows.{table, row_of, Meets}
+use Rattle.iim_tables.proofs.GoodDatasets.{none_meets}
+
+-- a number that no row of record 7 has
+pub record Unstated (n : ℕ) : Type 0 where
+  pub mode : nat_eq 10 n ≡ false
+  pub largest : nat_eq 20 n ≡ false
+  pub announced : nat_eq 90 n ≡ false
+  pub maximum : nat_eq 95 n ≡ false
+
+pub by_number : (P : ℕ → Type 0) → P 10 → P 20 → P 90 → P 95 → ((n : ℕ) → Unstated n → P n) → (n : ℕ) → P n
+by_number P mode largest announced maximum other n = elim (eqb_tells 10 n) [
+  | inl is ↦ subst P is.1 mode
+  | inr not10 ↦ elim (eqb_tells 20 n) [
+    | inl is ↦ subst P is.1 largest
+    | inr not20 ↦ elim (eqb_tells 90 n) [
+      | inl is ↦ subst P is.1 announced
+      | inr not90 ↦ elim (eqb_tells 95 n) [
+        | inl is ↦ subst P is.1 maximum
+        | inr not95 ↦ other n (record { mode = not10.0; largest = not20.0; announced = not90.0; maximum = not95.0 })
+      ]
+    ]
+  ]
+]
+
+no_seven : (n : ℕ) → Unstated n → row_of 7 n ≡ None
+unfolding row_of table
+no_seven n other = rw (other.mode, other.largest, other.announced, other.maximum) refl
+
+-- octets that meet a row of record 7
+pub by_seven : (xs : List ℕ) (P : ℕ → Type 0) → (Meets 7 10 xs → P 10) → (Meets 7 20 xs → P 20) → (Meets 7 90 xs → P 90) → (Meets 7 95 xs → P 95) → (n : ℕ) → Meets 7 n xs → P n
+by_seven xs P mode largest announced maximum = by_number (λ (n : ℕ). Meets 7 n xs → P n) mode largest announced maximum (λ n other h. absurd (none_meets 7 n xs (no_seven n other) h))
+
+-- a record that has a row for the number 10 alone
+abbrev pub HasTen : ℕ → Type 0
+HasTen r = (n : ℕ) → nat_eq 10 n ≡ false → row_of r n ≡ None
+
+pub eight_has : HasTen 8
+unfolding row_of table
+eight_has n e = rw e refl
+
+pub nine_has : HasTen 9
+unfolding row_of table
+nine_has n e = rw e refl
+
+pub by_ten : (r : ℕ) → HasTen r → (xs : List ℕ) (P : ℕ → Type 0) → (Meets r 10 xs → P 10) → (n : ℕ) → Meets r n xs → P n
+by_ten r none xs P ten n h = elim (eqb_tells 10 n) [
+  | inl is ↦ subst (λ (k : ℕ). Meets r k xs → P k) is.1 ten h
+  | inr other ↦ absurd (none_meets r n xs (none n other.0) h)
+]
