@@ -18,15 +18,17 @@ use Rattle.iim_places.specs.States.PlainDatasets.{Numbers, number_list, plain}
 use Rattle.iim_places.specs.Laws.Tickets.{TicketsOfPlacesAreSplit, split_of, TicketsHaveOneSplit}
 use Rattle.iim_places.specs.States.Possible.{IsSmall, IsSmallPhase, IsSmallPlace, greatest_size_before, AreHeadsWithin, begun_count, begun_fields, widest}
 use Rattle.iim_places.specs.Laws.Places.{SmallPlacesWerePossible}
-use Rattle.iim_places.specs.States.Readers.{FieldsStand, RecordsStand, AreAt, LeadsNowhereIn, tag_place}
+use Rattle.iim_places.specs.States.Readers.{FieldsStand, RecordsStand, AreAt, LeadsNowhereIn, has_come, tag_place}
 use Rattle.iim_fields.specs.States.Standing.{FieldsPlace}
 use Rattle.iim_places.specs.Restoring.{LeadsNowhere}
-use Rattle.iim_places.specs.States.Restored.{octets_told, IsTicketAt}
+use Rattle.iim_places.specs.States.Restored.{octets_told, IsLimitFault, IsRestoreFault, IsTicketAt}
 use Rattle.iim_places.specs.Taking.{AreKept, IsMessageOf, numbers_told, told_datasets}
 use Rattle.iim_places.specs.States.Begins.{IsSizeIn, IsWide}
 use Rattle.iim_places.specs.Format.TicketForm.{HasForm, Split, SplitsTicket, split_octets}
 use Rattle.iim_places.specs.Format.Tickets.{Place, part_number}
 use Rattle.iim_places.specs.declared.ticket.possible.Readers.{Readers}
+use Rattle.iim_places.specs.declared.ticket.fault.TicketFault.{TicketFault}
+use Rattle.iim_places.specs.declared.ticket.fault.TicketFault.TheVariants.{HeaderFull, TooManyFields}
 use Rattle.iim_places.proofs.AtPlaces.{four_back}
 use Rattle.iim_places.proofs.Fitting.{part_told, spelled}
 use Rattle.iim_places.proofs.Plain.{kept_fields}
@@ -140,6 +142,7 @@ pub record Reached (s : Split) (r : Readers) (some : Bool) (m : MessagePlace) : 
   pub ends : s.section ≡ 9 → s.part ≡ 11
   pub octets_are : r.octets ≡ OctetsIn s
   pub fields_are : r.fields ≡ FieldsIn s
+  pub begun_is : r.begun ≡ has_come s.section s.phase
   pub octets_fit : r.octets < 2 ^ 32
   pub fields_fit : r.fields < 2 ^ 32
 
@@ -174,6 +177,7 @@ are_at s r some m is =
       message_is = is.message_is;
       octets_are = is.octets_are;
       fields_are = is.fields_are;
+      begun_is = is.begun_is;
     }
 
 -- ---- the sizes of version 1
@@ -212,3 +216,9 @@ no_ticket law scales split one ticket s splits nowhere place is =
 pub heads_within : (limits : Limits) (s : Split) (r : Readers) (at : AreAt s r) → IsWithin limits r.octets r.fields → AreHeadsWithin limits at.place
 heads_within limits s r at within =
     subst (λ (n : ℕ). IsWithin limits (octets_told at.place) n) at.fields_are (subst (λ (n : ℕ). IsWithin limits n r.fields) at.octets_are within)
+
+-- A limit that the readers' counts pass is passed by the ticket's place.
+pub limit_told : (limits : Limits) (ticket : List ℕ) (s : Split) (r : Readers) (at : AreAt s r) → IsTicketAt ticket at.place → (fault : TicketFault) → IsLimitFault limits r.octets r.fields fault → IsRestoreFault limits ticket fault
+limit_told limits ticket s r at is HeaderFull bad = (at.place, is, subst (λ (n : ℕ). limits.octets < n) at.octets_are bad)
+limit_told limits ticket s r at is TooManyFields bad = (at.place, is, subst (λ (n : ℕ). n ≤ limits.octets) at.octets_are bad.0, subst (λ (n : ℕ). limits.fields < n) at.fields_are bad.1)
+limit_told limits ticket s r at is other bad = absurd bad

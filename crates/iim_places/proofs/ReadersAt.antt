@@ -1,7 +1,8 @@
 -- Readers of a possible place stand where octets lead there.
-use Rattle.std.proofs.Common.{◌≡◌, ℕ, zero, suc, ◌+◌, ◌-◌, ◌<◌, ◌≤◌, nat_eq, if◌then◌else◌, Bool, true, false, List, [], ◌++◌, length, Option, Some, None, refl, ap, sym, subst, ◌∙◌, arith, append-nil}
+use Rattle.std.proofs.Common.{◌≡◌, ℕ, zero, suc, ◌+◌, ◌-◌, ◌<◌, ◌≤◌, nat_eq, if◌then◌else◌, Bool, true, false, List, [], ◌∷◌, ◌++◌, length, Option, Some, None, refl, ap, sym, subst, ◌∙◌, inl, inr, arith, append-nil}
 use Rattle.std.specs.List.{AllByRecursion}
 use Rattle.std.proofs.lemmas.Bool.{eqb-true}
+use Rattle.std.proofs.lemmas.Bool.Decides.{eqb_tells}
 use Rattle.iim_dataset.specs.Format.Datasets.{Dataset, of_record, count_octets}
 use Rattle.iim_dataset.specs.Format.Splits.{Begun, InTag, InData, Reads}
 use Rattle.iim_dataset.specs.States.Places.{IsKeptAs, between}
@@ -37,13 +38,15 @@ use Rattle.iim_places.specs.States.ByLayers.{RecordsLive, begun_of_object, objec
 use Rattle.iim_places.specs.Laws.Lower.{ByLayersLaws, PlaceLaws, FeedLaws}
 use Rattle.iim_places.specs.Format.Open.{section}
 use Rattle.iim_places.specs.States.PlainDatasets.{Numbers, number_list, plain}
-use Rattle.iim_places.specs.States.Readers.{RecordsStand, MessageStands, tag_place}
+use Rattle.iim_places.specs.States.Readers.{RecordsStand, MessageStands, has_come, tag_place}
+use Rattle.iim_places.specs.States.Counts.{are_some}
 use Rattle.iim_places.specs.Format.Tickets.{Place, Phase, TagBegun, AllEnded, phase_of}
 use Rattle.iim_places.specs.Format.Tokens.{place_at, ObjectLives, CanContinue, CanContinueAt}
 use Rattle.iim_places.proofs.Alike.{Fits, told_by}
 use Rattle.iim_places.proofs.LayersLead.{same_stated, present_ended}
 use Rattle.iim_places.proofs.LeadsByLayers.{whole_at, subfile_at, opened_at, confirmed_at, few_heads, few_with_head, nine_ended, one_same}
 use Rattle.iim_places.proofs.PlainOpens.{fit_in_rows, possible_of}
+use Rattle.iim_places.proofs.SamePlace.{has_begun, none_present}
 use Rattle.iim_places.proofs.SameRecords.{IsStated, SameRecords, same_shape, stated_after_all, stated_at}
 
 -- by which an unpacker is made of readers
@@ -195,6 +198,21 @@ keeps_tag false place section held e is = subst (λ (x : DatasetPlace). IsKeptAs
 pub keeps : (place : DatasetPlace) (p : List ℕ) (ds : List Dataset) (b : Begun) → Reads count_octets p ds b → nat_eq (section_after ds) 9 ≡ false → place ≡ tag_place (section ds b) (phase_of ds b) → IsKeptAs place b
 keeps place p ds (InTag held) reads open' is = keeps_tag (nat_eq (section_after ds) 9) place (section_after ds) held open' is
 keeps place p ds (InData h xs) reads open' is = subst (λ (x : DatasetPlace). IsKeptAs x (InData h xs)) (sym is) (refl, (let less = reads.is_rest.2 in omega (arith, less)))
+
+-- ---- whether an octet has come
+
+come_tag : (b : Bool) (ds : List Dataset) (held : List ℕ) → b ≡ false → SectionsLive ds → has_come (section_after ds) (TagPhase b held) ≡ has_begun ds (InTag held)
+come_tag true ds held e alive = absurd cc
+come_tag false [] held e alive = refl
+come_tag false (d ∷ ds) held e alive = elim (eqb_tells (section_after (d ∷ ds)) 0) [
+  | inl zero' ↦ absurd (let bad : d ∷ ds ≡ [] = none_present (d ∷ ds) alive zero'.1 in cc)
+  | inr other ↦ ap (λ (c : Bool). if c then are_some held else true) other.0
+]
+
+pub come : (p : List ℕ) (ds : List Dataset) (b : Begun) → Reads count_octets p ds b → nat_eq (section_after ds) 9 ≡ false → SectionsLive ds → has_come (section ds b) (phase_of ds b) ≡ has_begun ds b
+come p ds (InTag held) reads open' alive = come_tag (nat_eq (section_after ds) 9) ds held open' alive
+come p [] (InData h xs) reads open' alive = refl
+come p (d ∷ ds) (InData h xs) reads open' alive = refl
 
 -- ---- envelopes
 

@@ -1,6 +1,5 @@
 -- Readers that were made for a possible place stand at all octets that lead there.
 use Rattle.std.proofs.Common.{◌≡◌, ℕ, ◌<◌, nat_eq, if◌then◌else◌, Bool, true, false, List, [], ◌∷◌, length, IsSome, refl, ap, sym, subst, ◌∙◌, inl, inr, arith}
-use Rattle.std.proofs.lemmas.Bool.Decides.{eqb_tells}
 use Rattle.iim_dataset.specs.Format.Octets.{Octets}
 use Rattle.iim_dataset.specs.Format.Datasets.{Dataset, of_record, count_octets}
 use Rattle.iim_dataset.specs.Format.Splits.{Begun, InTag, InData, Reads}
@@ -26,13 +25,12 @@ use Rattle.iim_places.specs.States.ByLayers.{LeadsByLayers, RecordsLive, record_
 use Rattle.iim_places.specs.Format.Open.{object_so_far, section, IsOpen}
 use Rattle.iim_unpack.specs.States.Parts.{AreAfter, Within, StandsFor, has_ended}
 use Rattle.iim_places.specs.States.PlainDatasets.{plain}
-use Rattle.iim_unpack.specs.Restoring.{IsMadeFor, has_come}
+use Rattle.iim_unpack.specs.Restoring.{IsMadeFor}
 use Rattle.iim_places.specs.States.Readers.{RecordsStand}
 use Rattle.iim_places.specs.Format.Streams.{IsEnvelopeWithin}
-use Rattle.iim_places.specs.Format.Tickets.{Place, IsPlaceOf, phase_of, place_of}
+use Rattle.iim_places.specs.Format.Tickets.{Place, IsPlaceOf, place_of}
 use Rattle.iim_places.specs.Format.Tokens.{CanContinue, CanContinueAt, MayContinue}
 use Rattle.iim_unpack.specs.States.Unpacking.{Unpacking, Stands, IsDoneWith}
-use Rattle.iim_places.specs.States.Counts.{are_some}
 use Rattle.iim_unpack.specs.declared.parts.Parts.{Parts}
 use Rattle.iim_places.proofs.Answering.{one_reading, reads_envelope, goes_envelope}
 use Rattle.iim_unpack.proofs.Ended.{ended_by_record, unended_inside}
@@ -42,10 +40,10 @@ use Rattle.iim_places.proofs.Lasts.{sections_last}
 use Rattle.iim_places.proofs.LayersLead.{present_ended}
 use Rattle.iim_places.proofs.LeadsByLayers.{whole_at, begun_same}
 use Rattle.iim_places.proofs.PlainOpens.{possible_of}
-use Rattle.iim_places.proofs.SamePlace.{opened, fields_after, fields_in, some_read, has_begun, none_present}
+use Rattle.iim_places.proofs.SamePlace.{opened, fields_after, fields_in, some_read}
 use Rattle.iim_places.proofs.SameRecords.{stated_after_all}
 use Rattle.iim_places.proofs.Tickets.{count_of}
-use Rattle.iim_places.proofs.ReadersAt.{RestoreLaws, like, ended_reader, text_led, TagPhase, base_tag, live_tag, stand_tag, present_tag, object_tag, ending_tag, object_data, keeps, between_tag}
+use Rattle.iim_places.proofs.ReadersAt.{RestoreLaws, like, ended_reader, text_led, TagPhase, base_tag, live_tag, stand_tag, present_tag, object_tag, ending_tag, object_data, keeps, come, between_tag}
 
 -- ---- between datasets, or in a tag, or at the end
 
@@ -100,21 +98,6 @@ within_data laws limits at u ds h xs m text (l, made) goes open' octets less lea
       message = text_led laws u.parts.message (place_of ds (InData h xs) m) (object_so_far ds (InData h xs)) text made.message leads;
       ended = λ nine. ended_reader laws u.parts.message (place_of ds (InData h xs) m) (object_so_far ds (InData h xs)) text made.message leads (l.message.4 nine);
     }
-
--- ---- whether an octet has come
-
-come_tag : (b : Bool) (ds : List Dataset) (held : List ℕ) → b ≡ false → SectionsLive ds → has_come (section_after ds) (TagPhase b held) ≡ has_begun ds (InTag held)
-come_tag true ds held e alive = absurd cc
-come_tag false [] held e alive = refl
-come_tag false (d ∷ ds) held e alive = elim (eqb_tells (section_after (d ∷ ds)) 0) [
-  | inl zero' ↦ absurd (let bad : d ∷ ds ≡ [] = none_present (d ∷ ds) alive zero'.1 in cc)
-  | inr other ↦ ap (λ (c : Bool). if c then are_some held else true) other.0
-]
-
-come : (p : List ℕ) (ds : List Dataset) (b : Begun) → Reads count_octets p ds b → nat_eq (section_after ds) 9 ≡ false → SectionsLive ds → has_come (section ds b) (phase_of ds b) ≡ has_begun ds b
-come p ds (InTag held) reads open' alive = come_tag (nat_eq (section_after ds) 9) ds held open' alive
-come p [] (InData h xs) reads open' alive = refl
-come p (d ∷ ds) (InData h xs) reads open' alive = refl
 
 -- ---- open octets
 

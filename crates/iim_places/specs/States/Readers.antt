@@ -1,5 +1,5 @@
 -- The readers that a ticket's place has.
-use Rattle.std.specs.Prelude.{ℕ, ◌≡◌, List, Option, IsSome}
+use Rattle.std.specs.Prelude.{ℕ, ◌≡◌, ◌==◌, if◌then◌else◌, Bool, true, List, Option, IsSome}
 use Rattle.iim_dataset.specs.States.Places.{between}
 use Rattle.iim_dataset.specs.declared.place.DatasetPlace.{DatasetPlace}
 use Rattle.iim_dataset.specs.declared.place.DatasetPlace.TheVariants.{Tag, Inside}
@@ -21,12 +21,19 @@ use Rattle.iim_places.specs.Laws.Tickets.{split_of}
 use Rattle.iim_places.specs.Format.TicketForm.{Split}
 use Rattle.iim_places.specs.declared.ticket.possible.Readers.{Readers}
 use Rattle.iim_places.specs.States.Restored.{octets_told, fields_told}
+use Rattle.iim_places.specs.States.Counts.{are_some}
 
 -- where the next octet stands
 abbrev pub tag_place : ℕ → Phase → DatasetPlace
 tag_place section (TagBegun held) = Tag (record { items = held })
 tag_place section (DataBegun set count left taken) = Inside (head_of_numbers section set count) left
 tag_place section AllEnded = between
+
+-- whether an octet has come: there was a head, or a tag is begun
+abbrev pub has_come : ℕ → Phase → Bool
+has_come section (TagBegun held) = if section == 0 then are_some held else true
+has_come section (DataBegun set count left given) = true
+has_come section AllEnded = true
 
 -- ---- the readers of a place
 
@@ -76,6 +83,7 @@ pub record AreAt (s : Split) (r : Readers) : Type 0 where
   pub message_is : MessageStands r.message place
   pub octets_are : r.octets ≡ octets_told place
   pub fields_are : r.fields ≡ fields_told place
+  pub begun_is : r.begun ≡ has_come place.section place.phase
 
 -- So they do, by the sizes of the version.
 pub record AreAtIn (s : Split) (r : Readers) : Type 0 where

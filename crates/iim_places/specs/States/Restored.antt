@@ -23,6 +23,12 @@ octets_told p = length (joined p.fields) + begun_count p.section p.phase
 abbrev pub fields_told : Place → ℕ
 fields_told p = length p.fields + begun_fields p.section p.phase
 
+-- which limit `octets` octets and `fields` datasets pass
+abbrev pub IsLimitFault : Limits → (octets fields : ℕ) → TicketFault → Type 0
+IsLimitFault limits octets fields HeaderFull = limits.octets < octets
+IsLimitFault limits octets fields TooManyFields = (octets ≤ limits.octets) × (limits.fields < fields)
+IsLimitFault limits octets fields _ = ⊥
+
 -- Why no unpacker is made from the octets: they have not the form of a ticket, or are one of another version. Or they have the form,
 -- and are the ticket of no possible place. Or they are that of one, whose heads of records 1 and 2 count more octets than the limits
 -- allow, or else are more datasets. Or all is well but for memory.

@@ -9,17 +9,20 @@ ghost use Rattle.iim_fields.specs.Format.Bounds.{IsWithin};
 ghost use Rattle.iim_places.specs.States.ByLayers.{begun_subfiles, one_of_some, TagsLead};
 ghost use Rattle.iim_places.specs.States.Possible.{widest, begun_count, begun_fields, count_octets_before, greatest_size_before, IsSmallPhase};
 ghost use Rattle.iim_places.specs.States.Readers.{AreAt, AreAtIn, LeadsNowhereIn};
+ghost use Rattle.iim_places.specs.States.Restored.{IsLimitFault};
 ghost use Rattle.iim_places.specs.Restoring.{LeadsNowhere};
 ghost use Rattle.iim_places.specs.Format.TicketForm.{HasForm};
 ghost use Rattle.iim_places.specs.States.TicketsTold.{phase_told, split_told};
 
 use crate::form::FIRST_VERSION;
+use crate::ticket::fault::TicketFault;
 use crate::ticket::fields::TicketFields;
 use crate::ticket::object::object_at;
-use crate::ticket::readers::{message_at, part_number, records_lead, tags_at};
+use crate::ticket::readers::{has_come, message_at, part_number, records_lead, tags_at};
 use crate::ticket::split::{TicketParts, TicketPhase};
 use crate::ticket::taker::is_kept;
 use iim_dataset::{EXTENDED, HeadReader};
+use iim_fields::{FieldCause, Limits};
 use iim_object::ObjectReader;
 use iim_tables::records::{OBJECT, POST_OBJECT, PRE_OBJECT};
 use wire_message::{MessagePart, MessageReader};
@@ -37,6 +40,23 @@ pub struct Readers {
     pub octets: u32,
     /// How many heads those are.
     pub fields: u32,
+    /// Whether an octet has come.
+    pub begun: bool,
+}
+
+impl Readers {
+    /// Which limit the heads of records 1 and 2 pass: that on octets, else that on their number; None where they pass none.
+    pub fn limit_fault(&self, limits: Limits) -> Option<TicketFault>
+        ensures some { IfSome result (IsLimitFault limits self.now.octets self.now.fields) }
+        ensures none { IfNone result (IsWithin limits self.now.octets self.now.fields) }
+    {
+        match limits.passed(u64::from(self.octets), u64::from(self.fields)) {
+            Some(FieldCause::HeaderFull) => Some(TicketFault::HeaderFull),
+            Some(FieldCause::TooManyFields) => Some(TicketFault::TooManyFields),
+            Some(_) => unreachable!(),
+            None => None,
+        }
+    }
 }
 
 /// How many octets the data of the datasets have together, and how many datasets they are; None where either needs more than 32 bits.
@@ -127,6 +147,7 @@ fn readers_by_layers(parts: &TicketParts<'_>) -> Option<Readers>
         message,
         octets,
         fields,
+        begun: has_come(parts.section, &parts.phase),
     })
 }
 

@@ -16,7 +16,7 @@ ghost use Rattle.iim_places.specs.TicketParts.{AreNumbers};
 ghost use Rattle.iim_places.specs.States.ByLayers.{TagsLead, RecordsLive, are_ended};
 ghost use Rattle.iim_places.specs.States.Possible.{widest};
 ghost use Rattle.iim_places.specs.Taking.{AreKept, IsMessageOf, told_datasets};
-ghost use Rattle.iim_places.specs.States.Readers.{tag_place};
+ghost use Rattle.iim_places.specs.States.Readers.{has_come, tag_place};
 ghost use Rattle.iim_places.specs.Format.TicketForm.{IsPhase};
 ghost use Rattle.iim_places.specs.States.TicketsTold.{phase_told};
 ghost use Rattle.iim_places.specs.Format.Tickets.{part_number, present_version};
@@ -77,6 +77,16 @@ pub(crate) fn has_ended(phase: &TicketPhase<'_>) -> bool
     ensures { result ≡ are_ended (phase_told phase.now) }
 {
     matches!(phase, TicketPhase::Ended)
+}
+
+/// Whether an octet has come.
+pub(crate) fn has_come(section: u8, phase: &TicketPhase<'_>) -> bool
+    ensures { result ≡ has_come section (phase_told phase.now) }
+{
+    match phase {
+        TicketPhase::Tag(held) if section == 0 => !held.is_empty(),
+        _ => true,
+    }
 }
 
 /// Whether the record layer can continue with this, which is begun, after the datasets that it stands after.

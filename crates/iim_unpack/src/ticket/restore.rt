@@ -3,49 +3,23 @@
 ghost use Rattle.std.specs.Prelude.{IfSome, IfNone, IfOk, IfErr, ◌≡◌, ℕ, List};
 ghost use Rattle.iim_fields.specs.Format.Bounds.{IsWithin};
 ghost use Rattle.iim_fields.specs.States.Standing.{room_for};
-ghost use Rattle.iim_unpack.specs.Restoring.{IsLimitFault, has_come};
 ghost use Rattle.iim_places.specs.States.Readers.{AreAtIn};
 ghost use Rattle.iim_unpack.specs.States.Restored.{IsRestored};
 ghost use Rattle.iim_places.specs.States.Restored.{IsRestoreFault};
 ghost use Rattle.iim_places.specs.Format.TicketForm.{HasForm, SplitsTicket};
-ghost use Rattle.iim_places.specs.States.TicketsTold.{phase_told, split_told};
+ghost use Rattle.iim_places.specs.States.TicketsTold.{split_told};
 ghost use Rattle.iim_unpack.specs.States.Unpacking.{room_in};
 
 use crate::laws::readers_make_unpackers;
 use crate::parts::Parts;
 use crate::unpacker::Unpacker;
-use iim_fields::{FieldCause, Limits};
+use iim_fields::Limits;
 use iim_places::laws::{
     places_are_possible_by_layers, small_places_were_possible, tickets_have_one_split,
     tickets_of_places_are_split,
 };
-use iim_places::{
-    Readers, TicketFault, TicketParts, TicketPhase, fields_at, readers_at, split_ticket,
-};
+use iim_places::{Readers, TicketFault, TicketParts, fields_at, readers_at, split_ticket};
 use std::alloc::{AllocError, Global};
-
-/// Whether an octet has come.
-fn has_come(section: u8, phase: &TicketPhase<'_>) -> bool
-    ensures { result ≡ has_come section (phase_told phase.now) }
-{
-    match phase {
-        TicketPhase::Tag(held) if section == 0 => !held.is_empty(),
-        _ => true,
-    }
-}
-
-/// Which limit `octets` octets and `fields` datasets pass, None where they pass none.
-fn limit_fault(limits: Limits, octets: u32, fields: u32) -> Option<TicketFault>
-    ensures some { IfSome result (λ fault. IsLimitFault limits octets fields fault) }
-    ensures none { IfNone result (IsWithin limits octets fields) }
-{
-    match limits.passed(u64::from(octets), u64::from(fields)) {
-        Some(FieldCause::HeaderFull) => Some(TicketFault::HeaderFull),
-        Some(FieldCause::TooManyFields) => Some(TicketFault::TooManyFields),
-        Some(_) => unreachable!(),
-        None => None,
-    }
-}
 
 /// The unpacker that these readers and the kept datasets of the ticket make, with memory for just what the limits allow. An error
 /// says that memory was refused.
@@ -67,11 +41,11 @@ fn unpacker_at(
     places_are_possible_by_layers();
     small_places_were_possible();
     let fields = fields_at(alloc, limits, parts)?;
-    let begun = has_come(parts.section, &parts.phase);
     let Readers {
         tags,
         object,
         message,
+        begun,
         ..
     } = readers;
     let parts = Parts {
@@ -111,7 +85,7 @@ impl Unpacker {
         let Some(readers) = readers_at(&parts) else {
             return Err(TicketFault::Impossible);
         };
-        if let Some(fault) = limit_fault(limits, readers.octets, readers.fields) {
+        if let Some(fault) = readers.limit_fault(limits) {
             return Err(fault);
         }
         match unpacker_at(alloc, limits, &parts, readers, at) {

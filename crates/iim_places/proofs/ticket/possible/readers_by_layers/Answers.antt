@@ -27,7 +27,7 @@ pub returns-clause-some : goal.returns-clause-some
 returns-clause-some c =
     let s : Split = split_told c.args.parts.now in
     let some = c.some_ended-some.result in
-    let r : Readers = record { tags = c.in_ok-tags.tags; object = c.in_ok-object.object; message = c.in_ok-message.message; octets = c.in_ok-octets.octets; fields = c.in_ok-octets.fields } in
+    let r : Readers = record { tags = c.in_ok-tags.tags; object = c.in_ok-object.object; message = c.in_ok-message.message; octets = c.in_ok-octets.octets; fields = c.in_ok-octets.fields; begun = c.has_come.result } in
     let message = c.in_ok-message.ensures.some in
     are_at s r some message.0
     (record {
@@ -48,6 +48,7 @@ returns-clause-some c =
       ends = c.ends_together.ensures.ends c.if-not-ends_together.false;
       octets_are = subst (λ (fs : List Dataset). c.in_ok-octets.octets ≡ length (joined fs) + begun_count s.section s.phase) c.again.ensures c.in_ok-octets.ensures.some.0;
       fields_are = subst (λ (fs : List Dataset). c.in_ok-octets.fields ≡ length fs + begun_fields s.section s.phase) c.again.ensures c.in_ok-octets.ensures.some.1;
+      begun_is = c.has_come.ensures;
       octets_fit = omega arith;
       fields_fit = omega arith;
     })

@@ -1,7 +1,6 @@
 use Rattle.iim_places.specs.Format.TicketForm.{Split}
 use Rattle.iim_places.specs.States.TicketsTold.{split_told}
-use Rattle.iim_places.proofs.PlacesTold.{heads_within, no_ticket, ticket_at}
-use Rattle.iim_unpack.proofs.MadeFor.{limit_told}
+use Rattle.iim_places.proofs.PlacesTold.{heads_within, limit_told, no_ticket, ticket_at}
 use Rattle.iim_unpack.proofs.unpacker.Unpacker.restore.Goals as goal
 
 pub returns-in_default-clause-fault : goal.returns-in_default-clause-fault
