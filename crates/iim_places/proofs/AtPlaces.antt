@@ -1,11 +1,8 @@
 -- Readers at a place: the message that a ticket tells, and what the record layer can continue with.
-use Rattle.std.proofs.Common.{◌≡◌, ℕ, zero, suc, ◌≤◌, ◌↔◌, Bool, true, false, cond, IsTrue, IsSome, IfSome, IfNone, OnOk, IfErr, Option, Some, None, Result, Ok, Err, is_ok, List, [], ◌∷◌, length, map, get_or, replicate, refl, ap, sym, subst, ◌∙◌, inl, inr, arith, Bor}
-use Rattle.std.proofs.lemmas.Bool.Decides.{eqb_tells}
-use Rattle.std.proofs.lemmas.List.{length-replicate}
+use Rattle.std.proofs.Common.{◌≡◌, ℕ, ◌≤◌, ◌↔◌, Bool, true, false, cond, IsTrue, IsSome, IfSome, IfNone, OnOk, IfErr, Option, Some, None, Result, Ok, Err, is_ok, List, [], ◌∷◌, length, map, get_or, refl, ap, sym, subst, ◌∙◌, arith, Bor}
 use Rattle.std.proofs.lemmas.Option.{same_Some}
 use Rattle.std.specs.List.{AllByRecursion}
-use Rattle.iim_dataset.specs.Format.Octets.{Octets}
-use Rattle.iim_dataset.specs.Format.Datasets.{Dataset, head_of, count_octets}
+use Rattle.iim_dataset.specs.Format.Datasets.{Dataset, count_octets}
 use Rattle.iim_dataset.specs.States.Events.{DatasetEvent}
 use Rattle.iim_dataset.specs.States.Places.{IsPlace, LeadsTo}
 use Rattle.iim_dataset.specs.declared.head.Head.{Head}
@@ -26,7 +23,6 @@ use Rattle.wire_message.specs.declared.saved.MessagePlace.{MessagePlace}
 use Rattle.iim_places.specs.TicketParts.{AreNumbers, IsSize}
 use Rattle.iim_places.specs.States.ByLayers.{RecordsLive, head_of_numbers}
 use Rattle.iim_places.specs.States.PlainDatasets.{number_list}
-use Rattle.iim_places.specs.Laws.Tickets.{texts_of}
 use Rattle.iim_places.specs.States.Possible.{widest}
 use Rattle.iim_places.specs.Taking.{AreKept, CanContinueWithin, IsMessageOf, numbers_told, told_datasets}
 use Rattle.iim_places.specs.Format.Tickets.{Phase, TagBegun, DataBegun, AllEnded}

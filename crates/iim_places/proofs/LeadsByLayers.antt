@@ -2,11 +2,10 @@
 use Rattle.std.proofs.Common.{◌≡◌, ℕ, zero, suc, ◌+◌, ◌-◌, ◌<◌, ◌≤◌, nat_eq, cond, if◌then◌else◌, Bool, true, false, List, [], ◌∷◌, ◌++◌, length, map, Some, None, refl, ap, sym, subst, ◌∙◌, inl, inr, arith, append_assoc, append-nil, length-append}
 use Rattle.std.proofs.lemmas.Bool.{eqb-true}
 use Rattle.std.proofs.lemmas.Bool.Decides.{eqb_tells}
-use Rattle.iim_dataset.specs.Format.Octets.{Octets, greatest_size}
-use Rattle.iim_dataset.specs.Format.Datasets.{Dataset, SpellsTag, count_octets, of_record}
+use Rattle.iim_dataset.specs.Format.Octets.{Octets}
+use Rattle.iim_dataset.specs.Format.Datasets.{Dataset, count_octets, of_record}
 use Rattle.iim_dataset.specs.Format.Languages as languages
 use Rattle.iim_dataset.specs.Format.Splits.{Begun, InTag, InData, Reads}
-use Rattle.iim_dataset.specs.Format.Tags.{BeginsTag}
 use Rattle.iim_dataset.specs.declared.head.Head.{Head}
 use Rattle.iim_dataset.proofs.Lists.{sum_append}
 use Rattle.iim_fields.specs.Format.Alive.{SectionsLive, SectionsLiveAt}

@@ -1,13 +1,10 @@
 -- Places of the object at its end, and before it.
-use Rattle.std.proofs.Common.{◌≡◌, ℕ, ◌<◌, ◌≤◌, List, [], ◌∷◌, ◌++◌, length, Option, refl, subst, arith}
+use Rattle.std.proofs.Common.{◌≡◌, ℕ, ◌<◌, List, [], ◌∷◌, ◌++◌, length, refl, subst, arith}
 use Rattle.iim_dataset.specs.Format.Languages.{IsAlive}
 use Rattle.iim_object.specs.Laws.Numbers.{TokensFollow}
 use Rattle.iim_object.specs.Format.Objects.{ObjectToken, ObjectEnded, Confirmed, ObjectLanguage}
 use Rattle.iim_object.specs.Format.Places.{Place, NotEnded, Ended, ConfirmedAs, MayFollow, place_after, tokens_of}
-use Rattle.iim_object.specs.Format.Plans.{max_subfiles}
-use Rattle.iim_object.specs.States.Reading.{StandsAt}
 use Rattle.iim_object.specs.States.Saved.{IsPossible}
-use Rattle.iim_object.specs.declared.reading.state.State.{State}
 use Rattle.iim_places.proofs.PlainPlaces.{alive_front}
 
 some_lengths : (p : Place) → (p.lengths ≡ [] → Ended ≡ NotEnded) → 0 < length p.lengths

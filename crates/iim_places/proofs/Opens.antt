@@ -1,5 +1,5 @@
 -- Open octets begin with no admitted ones.
-use Rattle.std.proofs.Common.{◌≡◌, List, [], ◌∷◌, ◌++◌, refl, ap, sym, subst, ◌∙◌, inl, inr, append-nil, append_assoc}
+use Rattle.std.proofs.Common.{◌≡◌, List, [], ◌∷◌, ◌++◌, ap, sym, subst, ◌∙◌, inl, inr, append-nil, append_assoc}
 use Rattle.iim_dataset.specs.Format.Datasets.{Dataset}
 use Rattle.iim_dataset.specs.Format.Splits.{Begun, InTag, InData}
 use Rattle.iim_dataset.specs.Laws.Datasets.{NoTagBeginsAnother, NoDatasetBeginsAnother}

@@ -25,18 +25,17 @@ use Rattle.iim_object.specs.Format.Plans.{max_subfiles}
 use Rattle.iim_object.specs.Format.Records.{HaveSizes, lengths_of, numbers_of}
 use Rattle.iim_object.specs.States.Saved.{IsPossible, stated_numbers}
 use Rattle.iim_object.specs.declared.size.Sizes.{Sizes}
-use Rattle.iim_object.specs.Format.Sizes.{Stated, InRow, AreStated, number_at}
+use Rattle.iim_object.specs.Format.Sizes.{Stated, AreStated, number_at}
 use Rattle.wire_story.specs.Format.Tokens.{Octet, End}
 use Rattle.wire_message.specs.Format.Layers.{MessageLanguage, StoryLivesIn}
 use Rattle.wire_message.specs.Format.Messages.{IsMessage}
 use Rattle.wire_message.specs.States.Saved.{LeadsToSaved}
 use Rattle.wire_message.specs.declared.saved.MessagePlace.{MessagePlace}
 use Rattle.iim_places.specs.Format.Admitted.{Value, object_of}
-use Rattle.iim_places.specs.TicketParts.{IsSize}
 use Rattle.iim_places.specs.Format.Framed.{AreWithin}
 use Rattle.iim_places.specs.Format.Open.{object_so_far, section, AllCanContinue}
 use Rattle.iim_places.specs.Plain.{plain_of, plain_octets, IsPlain, PlainOctetsAreOpenOrWhole}
-use Rattle.iim_places.specs.States.PlainDatasets.{number_list, filled, plain_end}
+use Rattle.iim_places.specs.States.PlainDatasets.{filled, plain_end}
 use Rattle.iim_places.specs.States.Possible.{AreOpenOrWhole, widest}
 use Rattle.iim_places.specs.Format.Streams.{IsEnvelopeWithin}
 use Rattle.iim_places.specs.Format.Tickets.{Place, IsPlaceOf, place_of}

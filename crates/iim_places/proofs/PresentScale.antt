@@ -1,8 +1,7 @@
 -- By the present scale places are possible as they are.
-use Rattle.std.proofs.Common.{◌≡◌, ℕ, ◌≤◌, ◌&&◌, nat_le, true, List, [], ◌∷◌, ◌++◌, length, map, refl, sym, subst, inl, inr, arith}
+use Rattle.std.proofs.Common.{◌≡◌, ℕ, ◌≤◌, ◌&&◌, nat_le, true, List, [], ◌∷◌, ◌++◌, length, map, sym, subst, inl, inr, arith}
 use Rattle.std.specs.List.{AllByRecursion}
 use Rattle.std.proofs.lemmas.Bool.{leb-true, and_parts}
-use Rattle.std.proofs.lemmas.Bool.Decides.{eqb_tells}
 use Rattle.iim_dataset.specs.Format.Octets.{Octets, number, within, greatest_size}
 use Rattle.iim_dataset.specs.Format.Datasets.{Dataset, of_record}
 use Rattle.iim_dataset.proofs.Each.{all_map}
@@ -13,14 +12,14 @@ use Rattle.iim_tables.specs.Format.Kinds.{is_mode, is_size_from}
 use Rattle.iim_tables.specs.Format.Numbers.{size_octets}
 use Rattle.iim_tables.specs.Format.Rows.{table, row_of, Meets}
 use Rattle.iim_tables.specs.Format.Records.{IsGoodDataset}
-use Rattle.iim_fields.specs.Format.Records.{AreRecords, AreSections, records}
+use Rattle.iim_fields.specs.Format.Records.{AreSections}
 use Rattle.iim_object.specs.Format.Objects.{ObjectToken, SubfileBegun, ObjectLanguage, number_tokens}
 use Rattle.iim_object.specs.Format.Places as objects
 use Rattle.iim_object.specs.Format.Sizes.{Stated, InRow}
 use Rattle.iim_object.specs.Format.Within.{TokensWithin, LanguageWithin}
 use Rattle.iim_object.proofs.Bounded.{row_low, within_append, begun_within}
 use Rattle.iim_places.specs.States.Possible.{Possible, widest}
-use Rattle.iim_places.specs.States.Scales.{FitsRow, SectionsIn, SectionsLiveIn, HaveRoomIn, PossibleAt, place_in}
+use Rattle.iim_places.specs.States.Scales.{FitsRow, SectionsIn, SectionsLiveIn, PossibleAt, place_in}
 use Rattle.iim_places.specs.Laws.Places.{PresentScaleSaysNothingMore, present_scale}
 use Rattle.iim_places.specs.Format.Tickets.{Place}
 use Rattle.iim_places.specs.Format.Tokens.{MayContinue}

@@ -1,8 +1,6 @@
 -- Octets of one place: what stands on the one stands on the other.
 use Rattle.std.proofs.Common.{◌≡◌, ℕ, ◌+◌, ◌-◌, ◌<◌, Bool, true, false, cond, if◌then◌else◌, ◌==◌, nat_eq, List, [], ◌∷◌, ◌++◌, length, sum, Option, Some, refl, ap, sym, subst, ◌∙◌, inl, inr, arith, append-nil, append_assoc, length-append}
 use Rattle.std.proofs.lemmas.Bool.Decides.{eqb_tells}
-use Rattle.std.proofs.lemmas.List.Sums.{sum_by-cons}
-use Rattle.std.proofs.lemmas.List.{length-map}
 use Rattle.iim_dataset.specs.Format.Octets.{Octets}
 use Rattle.std.proofs.lemmas.List.Elements.{filter-append}
 use Rattle.iim_dataset.specs.Format.Datasets.{Dataset, head_of, of_record, count_octets}
@@ -29,7 +27,7 @@ use Rattle.iim_fields.proofs.Sections.{last_more}
 use Rattle.iim_object.specs.Format.Objects.{SubfileBegun}
 use Rattle.iim_object.specs.Format.Places as objects
 use Rattle.iim_object.specs.States.Reading as reading
-use Rattle.iim_object.specs.Format.Records.{lengths_of, numbers_of}
+use Rattle.iim_object.specs.Format.Records.{numbers_of}
 use Rattle.iim_object.specs.Format.Numbers.{place_after_datasets, place_ended}
 use Rattle.iim_object.specs.declared.reading.state.State.{State}
 use Rattle.iim_object.specs.States.Saved.{stated_numbers}

@@ -1,6 +1,5 @@
 -- Why the ticket of a possible place is refused.
 use Rattle.std.proofs.Common.{◌≡◌, ℕ, ◌<◌, ◌≤◌, List, ◌∷◌, ◌++◌, codes, get_or, refl, ap, sym, subst, ◌∙◌, arith}
-use Rattle.iim_fields.specs.declared.limits.Limits.{Limits}
 use Rattle.iim_places.specs.States.Possible.{AreHeadsWithin}
 use Rattle.iim_places.specs.States.Scales.{IsPossibleIn}
 use Rattle.iim_places.specs.Laws.Places.{TicketsTellOnePlace, PossiblePlacesAreTaken}
@@ -8,7 +7,6 @@ use Rattle.iim_places.specs.Laws.Tickets.{TicketsOfPlacesAreSplit, split_of}
 use Rattle.iim_places.specs.States.Restored.{IsTicketAt, fields_told, octets_told}
 use Rattle.iim_places.specs.Format.TicketForm.{IsVersion, HasOtherVersion, SplitsTicket}
 use Rattle.iim_places.specs.Format.Tickets.{Place, ticket_in}
-use Rattle.iim_places.specs.declared.ticket.fault.TicketFault.{TicketFault}
 use Rattle.iim_places.specs.declared.ticket.fault.TicketFault.TheVariants.{Form, Version, Impossible, HeaderFull, TooManyFields, OutOfMemory}
 
 parts_of : TicketsOfPlacesAreSplit → (ticket : List ℕ) (place : Place) → (is : IsTicketAt ticket place) → SplitsTicket ticket (split_of is.version place)

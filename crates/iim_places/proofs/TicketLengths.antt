@@ -1,7 +1,7 @@
 -- How long a ticket is at most.
 use Rattle.std.proofs.Common.{◌≡◌, ℕ, ◌+◌, ◌*◌, ◌≤◌, nat_eq, Bool, true, false, if◌then◌else◌, List, [], ◌∷◌, ◌++◌, length, Option, Some, None, refl, ap, sym, subst, ◌∙◌, inl, inr, arith, length-append}
 use Rattle.std.specs.List.{flat_map}
-use Rattle.iim_dataset.specs.Format.Datasets.{Dataset, SpellsTag, SpellsCount, count_octets, tag_octets}
+use Rattle.iim_dataset.specs.Format.Datasets.{Dataset, SpellsTag, SpellsCount, count_octets}
 use Rattle.iim_dataset.specs.Format.Splits.{InTag, Reads}
 use Rattle.iim_dataset.specs.declared.head.Head.{Head}
 use Rattle.iim_dataset.proofs.Lists.{nothing_fits}

@@ -11,7 +11,7 @@ use Rattle.iim_dataset.proofs.Each.{all_append, all_front, all_back}
 use Rattle.iim_dataset.specs.declared.head.Head.{Head}
 use Rattle.iim_dataset.proofs.Lists.{sum_append}
 use Rattle.iim_fields.specs.Format.Alive.{SectionsLive, SectionsLiveAt}
-use Rattle.iim_fields.specs.Format.Faults.{is_kept, joined, kept, last_record, section_after}
+use Rattle.iim_fields.specs.Format.Faults.{joined, kept, last_record, section_after}
 use Rattle.iim_fields.specs.Format.Records.{AreSections}
 use Rattle.iim_tables.specs.Format.Records.{IsGoodRecord, occurs}
 use Rattle.iim_tables.proofs.GoodDatasets.{occurrences_append}
@@ -32,7 +32,7 @@ use Rattle.iim_places.proofs.Bounds.{alive_five}
 use Rattle.iim_places.proofs.LayersLead.{each_small}
 use Rattle.iim_places.proofs.Limits.{kept_append}
 use Rattle.iim_places.proofs.Plain.{numbers_join}
-use Rattle.iim_places.proofs.PlainContinues.{AreGood, MayReplace, all_good, back_ordered, fewer_by, good_with, join_ordered, ordered_sorted, rebuilt}
+use Rattle.iim_places.proofs.PlainContinues.{MayReplace, all_good, back_ordered, fewer_by, good_with, join_ordered, ordered_sorted, rebuilt}
 use Rattle.iim_places.proofs.PlainOpens.{possible_of}
 use Rattle.iim_places.proofs.PlainPlaces.{IsOrdered, front_ordered, sections_ordered}
 use Rattle.iim_places.proofs.PlainSizes.{duties_of, possible_like}

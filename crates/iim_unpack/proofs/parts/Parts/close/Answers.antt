@@ -1,12 +1,12 @@
 use Rattle.std.proofs.Common.{refl, sym, ◌∙◌}
 use Rattle.iim_unpack.proofs.Closing.{closed_number, closed_silent, not_closed_field, not_closed_number}
-use Rattle.iim_places.proofs.Results.{on_ok, err_then}
+use Rattle.std.proofs.lemmas.Result.{IfErr-weaker, on_ok_weaker}
 use Rattle.iim_unpack.proofs.parts.Parts.close.Goals as goal
 
 pub returns-in-Ok-Some-clause-closed : goal.returns-in-Ok-Some-clause-closed
 returns-in-Ok-Some-clause-closed c =
     let laws = c.close_laws.ensures in
-    on_ok _ _ c.tell_number.result
+    on_ok_weaker c.tell_number.result
     (λ goes. closed_number laws c.args.self.now _ c.in-Ok-Some.number c.in-Some.head (sym c.begun_head.ensures.head ∙ c.in-Some.is) c.close.ensures.bounds.limits
     (λ ds h taken stands d is. let both = c.in-Ok-Some.ensures.stands ds h taken stands d is in (both.0, sym c.in-Ok-Some.field-0-is ∙ both.1)) goes refl)
     c.tell_number.ensures.leads_on
@@ -14,9 +14,10 @@ returns-in-Ok-Some-clause-closed c =
 pub returns-in-Ok-Some-clause-refused : goal.returns-in-Ok-Some-clause-refused
 returns-in-Ok-Some-clause-refused c =
     let laws = c.close_laws.ensures in
-    err_then _ _ c.tell_number.result c.tell_number.ensures.refused
+    IfErr-weaker c.tell_number.result _ _
     (λ fault bad. not_closed_number laws c.args.self.now c.close.new.self c.in-Ok-Some.number fault c.in-Some.head (sym c.begun_head.ensures.head ∙ c.in-Some.is)
     (λ ds h taken stands d is. let both = c.in-Ok-Some.ensures.stands ds h taken stands d is in (both.0, sym c.in-Ok-Some.field-0-is ∙ both.1)) bad)
+    c.tell_number.ensures.refused
 
 pub returns-in-Ok-None-clause-closed : goal.returns-in-Ok-None-clause-closed
 returns-in-Ok-None-clause-closed c =

@@ -2,7 +2,8 @@ use Rattle.std.proofs.Common.{[], refl, arith, append-nil}
 use Rattle.iim_places.specs.Format.Admitted.{object_of}
 use Rattle.wire_message.specs.Format.Layers.{text_so_far}
 use Rattle.iim_unpack.proofs.Heading.{tells_parts_head, begins_subfile, begins_end, begins_other, stopped_field, stopped_subfile, stopped_last}
-use Rattle.iim_places.proofs.Results.{on_ok, on_both, err_then}
+use Rattle.iim_places.proofs.Results.{on_both}
+use Rattle.std.proofs.lemmas.Result.{IfErr-weaker, on_ok_weaker}
 use Rattle.iim_unpack.proofs.parts.Parts.head.Goals as goal
 
 pub returns-in-Err-clause-stopped : goal.returns-in-Err-clause-stopped
@@ -14,7 +15,7 @@ pub returns-then-head-eq-OBJECT-clause-went : goal.returns-then-head-eq-OBJECT-c
 returns-then-head-eq-OBJECT-clause-went g c =
     let laws = c.head_laws.ensures in
     let p = c.args.self.now in
-    on_ok _ _ c.subfile.result
+    on_ok_weaker c.subfile.result
     (λ h. tells_parts_head g.S.StorySink.goes g.S.StorySink.failures p _ c.args.sink.now c.subfile.new.sink c.args.head h.1.0.more c.requires.fields c.begin.ensures.bounds.limits h.1.0.told h.1.0.calm
     (λ ds at. begins_subfile g.S.StorySink.goes g.S.StorySink.failures laws p c.args.sink.now c.subfile.new.sink ds c.args.head c.begin.new.self c.subfile.new.object c.subfile.new.message
     (omega (arith, c.if-head-eq-OBJECT.true)) at (c.in_default.ensures.stands ds at.fields) h.0 h.1.0 h.1.1))
@@ -23,14 +24,15 @@ returns-then-head-eq-OBJECT-clause-went g c =
 pub returns-then-head-eq-OBJECT-clause-stopped : goal.returns-then-head-eq-OBJECT-clause-stopped
 returns-then-head-eq-OBJECT-clause-stopped g c =
     let laws = c.head_laws.ensures in
-    err_then _ _ c.subfile.result c.subfile.ensures.refused
+    IfErr-weaker c.subfile.result _ _
     (stopped_subfile g.S.StorySink.goes g.S.StorySink.failures c.args.self.now c.args.sink.now c.subfile.new.sink c.args.head c.begin.new.self laws c.requires.more c.requires.fields (g.met.S.StorySink.nothing c.args.sink.now) c.in_default.ensures.stands (omega (arith, c.if-head-eq-OBJECT.true)))
+    c.subfile.ensures.refused
 
 pub returns-then-head-eq-POST_OBJECT-clause-went : goal.returns-then-head-eq-POST_OBJECT-clause-went
 returns-then-head-eq-POST_OBJECT-clause-went g c =
     let laws = c.head_laws.ensures in
     let p = c.args.self.now in
-    on_ok _ _ c.pass_head.result
+    on_ok_weaker c.pass_head.result
     (λ h. tells_parts_head g.S.StorySink.goes g.S.StorySink.failures p _ c.args.sink.now c.pass_head.new.sink c.args.head h.1.more c.requires.fields c.begin.ensures.bounds.limits h.1.told h.1.calm
     (λ ds at. begins_end g.S.StorySink.goes g.S.StorySink.failures laws p c.args.sink.now c.pass_head.new.sink ds c.args.head c.begin.new.self c.pass_head.new.object c.pass_head.new.message
     (omega (arith, c.if-head-eq-POST_OBJECT.true)) at (c.in_default.ensures.stands ds at.fields) h.0 h.1))
@@ -39,8 +41,9 @@ returns-then-head-eq-POST_OBJECT-clause-went g c =
 pub returns-then-head-eq-POST_OBJECT-clause-stopped : goal.returns-then-head-eq-POST_OBJECT-clause-stopped
 returns-then-head-eq-POST_OBJECT-clause-stopped g c =
     let laws = c.head_laws.ensures in
-    err_then _ _ c.pass_head.result c.pass_head.ensures.refused
+    IfErr-weaker c.pass_head.result _ _
     (stopped_last g.S.StorySink.goes g.S.StorySink.failures c.args.self.now c.args.sink.now c.pass_head.new.sink c.args.head c.begin.new.self laws c.requires.more c.requires.fields c.in_default.ensures.stands (omega (arith, c.if-head-eq-POST_OBJECT.true)))
+    c.pass_head.ensures.refused
 
 pub returns-clause-went : goal.returns-clause-went
 returns-clause-went g c =
