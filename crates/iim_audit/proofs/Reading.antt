@@ -1,10 +1,8 @@
 -- Envelopes that come one after another.
-use Rattle.std.proofs.Common.{◌≡◌, ℕ, ◌+◌, ◌≤◌, ℤ, List, [], ◌∷◌, ◌++◌, length, append-nil, ◌<◌, Option, None, Some, ap, sym, ◌∙◌, refl, subst, arith, inl, inr, ⊎_elim, length-append}
+use Rattle.std.proofs.Common.{◌≡◌, ℕ, ◌+◌, ◌≤◌, ℤ, List, [], ◌∷◌, ◌++◌, length, append-nil, ◌<◌, Option, None, Some, ap, sym, ◌∙◌, refl, subst, arith, inl, inr, length-append}
 use Rattle.std.specs.List.{AllByRecursion}
 use Rattle.std.proofs.lemmas.List.{length-map, map-append}
-use Rattle.std.proofs.KnownBytes.{Consumes-trans}
-use Rattle.iim_dataset.specs.States.Devices.{Device, HasGiven, MissedAfter, BrokeFor}
-use Rattle.iim_dataset.specs.Format.Counts.{Rose}
+use Rattle.iim_dataset.specs.States.Devices.{Device, HasGiven}
 use Rattle.iim_dataset.specs.Laws.Devices.{GiftsJoin}
 use Rattle.iim_dataset.specs.declared.device.IoFault.{IoFault}
 use Rattle.iim_dataset.specs.declared.device.IoFault.TheVariants as io

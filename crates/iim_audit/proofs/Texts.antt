@@ -1,8 +1,8 @@
 -- The text of an envelope, and the words of its lines.
-use Rattle.std.proofs.Common.{◌≡◌, ℕ, List, [], ◌∷◌, length, refl, sym, ap, subst, ◌∙◌, inl, lit<, append-nil, false}
+use Rattle.std.proofs.Common.{◌≡◌, ℕ, List, [], ◌∷◌, length, refl, sym, ap, subst, ◌∙◌, inl, lit<, false}
 use Rattle.iim_dataset.specs.Format.Octets.{number}
-use Rattle.iim_dataset.specs.Format.Datasets.{Dataset, SpellsTag, SpellsStream, count_octets}
-use Rattle.iim_dataset.specs.Format.Splits.{InTag, IsBegun, Reads}
+use Rattle.iim_dataset.specs.Format.Datasets.{Dataset, SpellsTag, count_octets}
+use Rattle.iim_dataset.specs.Format.Splits.{InTag, IsBegun}
 use Rattle.iim_dataset.specs.States.Events.{handed_on}
 use Rattle.iim_dataset.specs.States.Places.{HandsOn}
 use Rattle.iim_dataset.specs.Laws.Datasets.{OctetsAreHandedOnOneWay, EventsTellTheDatasets}

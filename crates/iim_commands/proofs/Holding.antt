@@ -1,12 +1,12 @@
 -- Writers of blocks.
-use Rattle.std.proofs.Common.{◌≡◌, ℕ, zero, suc, ◌+◌, ◌^◌, ◌<◌, ◌≤◌, inl, inr, List, [], ◌∷◌, ◌++◌, length, take, drop, map, refl, sym, ap, subst, ◌∙◌, append-nil, append_assoc, arith, Result, Ok, Err, IfErr, OnOk, OnErr}
+use Rattle.std.proofs.Common.{◌≡◌, ℕ, zero, suc, ◌+◌, ◌^◌, ◌<◌, ◌≤◌, inl, inr, List, [], ◌∷◌, ◌++◌, length, take, drop, map, refl, sym, ap, subst, ◌∙◌, append-nil, append_assoc, arith, Result, Ok, Err, IfErr, OnErr}
 use Rattle.std.proofs.lemmas.List.{take-append-drop}
 use Rattle.std.specs.Borrow.{MutBor}
 use Rattle.std.specs.Io.KnownBytes.{Appends}
 use Rattle.iim_dataset.specs.States.Devices.{Device, Broke, RoseAtLeast, Stopped, Wrote}
 use Rattle.iim_dataset.specs.Format.Counts.{Rose}
 use Rattle.iim_dataset.specs.Laws.Devices.{TextsJoin}
-use Rattle.wire_story.specs.Format.Delivery.{octet_for, LineOctet}
+use Rattle.wire_story.specs.Format.Delivery.{LineOctet}
 use Rattle.wire_story.specs.States.Writing.{HasBroken}
 use Rattle.wire_story.specs.WritingLaws.{octets_of_line}
 use Rattle.iim_commands.specs.States.Holding.{HasPut, HasStuck, HoldsNothing, KeepsWriter, PutsOn, PutsLines, StaysStuck, device_of, held_of, stops_of}

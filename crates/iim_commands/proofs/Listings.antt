@@ -4,12 +4,10 @@ use Rattle.std.specs.List.{AllByRecursion}
 use Rattle.std.proofs.Math.ListN.{get_or-append}
 use Rattle.std.proofs.lemmas.List.{append-nil, take-append-le}
 use Rattle.std.specs.Io.KnownBytes.{Consumes, IsAtEnd}
-use Rattle.iim_dataset.specs.States.Devices.{Device, Wrote, HasGiven, MissedAfter}
+use Rattle.iim_dataset.specs.States.Devices.{Device, Wrote, HasGiven}
 use Rattle.iim_dataset.specs.Format.Counts.{Rose}
 use Rattle.iim_dataset.specs.Laws.Devices.{GiftsJoin, TextsJoin}
-use Rattle.iim_dataset.specs.declared.device.IoFault.{IoFault}
-use Rattle.iim_dataset.proofs.DeviceLaws.{broke_for_later, missed_later}
-use Rattle.iim_dataset.specs.Later.{consumes_consumes}
+use Rattle.iim_dataset.proofs.DeviceLaws.{missed_later}
 use Rattle.wire_story.specs.Format.Delivery.{StoryEvent}
 use Rattle.iim_places.specs.Format.Streams.{Kills}
 use Rattle.iim_places.proofs.Listings.{admitted_more, joined_more}

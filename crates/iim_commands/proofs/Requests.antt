@@ -1,5 +1,5 @@
 -- What the program's command line comes to, by the rules of clap.
-use Rattle.std.proofs.Common.{◌≡◌, ◌⊎◌, inl, inr, Bool, true, false, not, ◌&&◌, List, [], ◌∷◌, Option, Some, None, refl, ap, sym, ◌∙◌, codes, option_map, is_some, subst, ℕ, ℤ, Result, Ok, Err, IsErrAnd, IfErr}
+use Rattle.std.proofs.Common.{◌≡◌, ◌⊎◌, inl, inr, Bool, true, false, not, ◌&&◌, List, [], ◌∷◌, Option, Some, None, refl, ap, sym, ◌∙◌, codes, option_map, is_some, subst, ℕ, ℤ, Ok, Err}
 use Rattle.std.specs.Prelude.{find, option_and_then, cond}
 use Rattle.std.specs.Box.{box_value}
 use Rattle.std.specs.List.{list_any}

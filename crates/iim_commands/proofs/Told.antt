@@ -1,5 +1,5 @@
 -- Faults that `?` hands on, and texts that are made in a buffer.
-use Rattle.std.proofs.Common.{◌≡◌, ℕ, List, [], ◌++◌, ap, ◌∙◌, Result, Ok, Err, IsErrAnd, IfErr}
+use Rattle.std.proofs.Common.{◌≡◌, ℕ, List, [], ◌++◌, ap, ◌∙◌}
 
 -- what was added to an empty buffer is all that stands in it
 pub added : (before after words all : List ℕ) → before ≡ [] → after ≡ before ++ words → all ≡ after → all ≡ words

@@ -1,10 +1,10 @@
 -- Which counts a tag tells.
-use Rattle.std.proofs.Common.{ℕ, ◌*◌, ◌^◌, ◌<◌, ◌≤◌, [], ◌∷◌, List, length, arith, inl, inr}
-use Rattle.std.proofs.Math.Nat.{mul-le-mul_right, pow-succ', pow-le-pow_right}
+use Rattle.std.proofs.Common.{ℕ, ◌^◌, ◌<◌, ◌≤◌, [], ◌∷◌, List, length, arith, inl, inr}
+use Rattle.std.proofs.Math.Nat.{pow-le-pow_right}
 use Rattle.iim_dataset.specs.Format.Octets.{Octets, number}
 use Rattle.iim_dataset.specs.Format.Datasets.{SpellsCount, SpellsTag, count_octets}
 use Rattle.iim_dataset.specs.declared.head.Head.{Head}
-use Rattle.iim_dataset.proofs.OctetLists.{number-cons, number-lt}
+use Rattle.iim_dataset.proofs.OctetLists.{number-lt}
 
 -- n octets or fewer
 few-lt : (xs : List ℕ) (n : ℕ) → Octets xs → length xs ≤ n → number xs < 256 ^ n

@@ -1,5 +1,5 @@
 -- Where octets of datasets can continue, and where they can't.
-use Rattle.std.proofs.Common.{◌≡◌, ℕ, List, [], ◌∷◌, ◌++◌, replicate, refl, ap, sym, subst, ◌∙◌, append_assoc, append-nil}
+use Rattle.std.proofs.Common.{◌≡◌, ℕ, List, [], ◌∷◌, ◌++◌, replicate, ap, sym, subst, ◌∙◌, append_assoc}
 use Rattle.std.proofs.lemmas.List.{length-replicate}
 use Rattle.iim_dataset.specs.Format.Datasets.{Dataset, SpellsTag, SpellsStream, count_octets}
 use Rattle.iim_dataset.specs.Format.Splits.{Begun, InTag, Reads}
@@ -13,7 +13,6 @@ use Rattle.iim_dataset.specs.declared.head.Head.{Head}
 use Rattle.iim_dataset.specs.declared.head.HeadCause.{HeadCause}
 use Rattle.iim_dataset.specs.declared.place.DatasetPlace.{DatasetPlace}
 use Rattle.iim_dataset.proofs.Deaths.{no_octets_continue}
-use Rattle.iim_dataset.proofs.Fronts.{begun_none}
 use Rattle.iim_dataset.proofs.OneHanding.{ends, with_data}
 use Rattle.iim_dataset.proofs.Places.{stream_more, tag_held}
 use Rattle.iim_dataset.proofs.OctetLists.{zeros_are}

@@ -11,7 +11,7 @@ use Rattle.iim_fields.specs.Format.Records.{after, records, AreRecords, AreSecti
 use Rattle.iim_tables.specs.Format.Records.{IsGoodDataset, IsGoodRecord}
 use Rattle.iim_tables.proofs.GoodDatasets.{none_meets}
 use Rattle.iim_fields.specs.Format.Alive.{SectionsLive}
-use Rattle.iim_fields.specs.Format.Faults.{last_record, section_after, section_run}
+use Rattle.iim_fields.specs.Format.Faults.{section_after, section_run}
 use Rattle.iim_fields.proofs.Table.{after_tail, no_row}
 use Rattle.iim_fields.proofs.Runs.{not_empty}
 use Rattle.iim_fields.proofs.Sections.{last_more, by_record}

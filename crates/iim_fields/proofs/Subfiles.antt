@@ -15,7 +15,7 @@ use Rattle.iim_fields.specs.Format.Records.{after}
 use Rattle.iim_fields.specs.Format.Faults.{head_fault, record_fault, limits_fault, first_fault, row_fault, missing_fault, missing_of, is_in_order, is_first, fault_on, is_kept, kept_octets}
 use Rattle.iim_fields.specs.Format.Faults as faults
 use Rattle.iim_fields.specs.States.Orders.{has_seen, IsOrderOf}
-use Rattle.iim_fields.specs.States.Checks.{IsIn, HasChecked, begun_head}
+use Rattle.iim_fields.specs.States.Checks.{HasChecked}
 use Rattle.iim_fields.specs.States.Checks as checks
 use Rattle.iim_fields.specs.States.Standing.{StandsAfter, PassesSubfile}
 use Rattle.iim_fields.specs.OrderChanges.{AddsHead, is_subfile_head, takes_subfile}

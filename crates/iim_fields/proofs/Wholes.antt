@@ -15,7 +15,7 @@ use Rattle.iim_fields.specs.States.Builders.{add_fault}
 use Rattle.iim_fields.specs.States.Orders.{has_seen, IsOrderOf}
 use Rattle.iim_fields.specs.OrderChanges.{AddsHead}
 use Rattle.iim_fields.specs.Format.Values.{data_of, number_told}
-use Rattle.iim_fields.specs.States.Checks.{IsIn, HasChecked, IsChecking, begun_head}
+use Rattle.iim_fields.specs.States.Checks.{HasChecked, IsChecking}
 use Rattle.iim_fields.specs.States.Checks as checks
 use Rattle.iim_fields.specs.States.Standing.{CanTake, StandsAfter, StandsIn}
 use Rattle.iim_fields.specs.Checking.{place_fault, record_layer_fault, IsRecordPlace, TakesWhole, TookWhole}

@@ -3,7 +3,6 @@ use Rattle.std.proofs.Common.{◌≡◌, ℕ, ◌+◌, ◌<◌, ◌≤◌, Bool,
 use Rattle.std.specs.List.{AllByRecursion}
 use Rattle.std.proofs.lemmas.Bool.{and_from, le-leb}
 use Rattle.std.proofs.lemmas.Bool.Decides.{eqb_tells}
-use Rattle.std.proofs.lemmas.List.Sums.{sum_by-cons}
 use Rattle.iim_tables.specs.Format.Kinds.{is_size_from}
 use Rattle.iim_dataset.proofs.WrittenNumbers.{number_back, number_octets, some_octets, few_octets}
 use Rattle.iim_dataset.specs.Format.Octets.{IsOctet, Octets, greatest_size, number, within}

@@ -1,8 +1,8 @@
 -- What is packed carries the fields, the object and the sizes of the plan.
-use Rattle.std.proofs.Common.{◌≡◌, ℕ, ◌≤◌, List, [], ◌∷◌, ◌++◌, length, refl, sym, ap, subst, ◌∙◌, arith, append_assoc, append-nil}
+use Rattle.std.proofs.Common.{◌≡◌, ℕ, ◌≤◌, List, [], ◌++◌, length, refl, sym, ap, subst, ◌∙◌, arith, append_assoc, append-nil}
 use Rattle.std.specs.List.{AllByRecursion}
 use Rattle.iim_dataset.specs.Format.Octets.{Octets, greatest_size}
-use Rattle.iim_dataset.specs.Format.Datasets.{Dataset, SpellsStream, canonical_dataset, canonical_stream, count_octets, of_record}
+use Rattle.iim_dataset.specs.Format.Datasets.{Dataset, SpellsStream, canonical_stream, count_octets, of_record}
 use Rattle.iim_dataset.specs.Laws.Datasets.{HasSpellings, CanonicalStreamsAreSpelled}
 use Rattle.iim_dataset.proofs.Each.{all_append, all_map}
 use Rattle.iim_fields.specs.Format.Records.{AreSections}

@@ -1,14 +1,14 @@
 -- How many octets are open at most.
-use Rattle.std.proofs.Common.{◌≡◌, ℕ, ◌+◌, ◌*◌, ◌<◌, ◌≤◌, ◌⊎◌, ◌||◌, ◌&&◌, ◌^◌, ◌-◌, nat_eq, nat_le, cond, if◌then◌else◌, Bool, true, false, List, [], ◌∷◌, ◌++◌, length, map, sum, Option, Some, None, refl, ap, sym, subst, ◌∙◌, inl, inr, arith, append-nil, append_assoc, length-append}
+use Rattle.std.proofs.Common.{◌≡◌, ℕ, ◌+◌, ◌*◌, ◌<◌, ◌≤◌, ◌⊎◌, ◌||◌, ◌^◌, ◌-◌, nat_eq, cond, if◌then◌else◌, Bool, true, false, List, [], ◌∷◌, ◌++◌, length, map, sum, Option, Some, None, refl, ap, sym, subst, ◌∙◌, inl, inr, arith, append-nil, append_assoc, length-append}
 use Rattle.std.proofs.Math.Nat.{pow-le-pow_right}
 use Rattle.std.specs.List.{AllByRecursion}
-use Rattle.std.proofs.lemmas.Bool.{eqb-true, eq-eqb, and_parts, leb-true}
-use Rattle.std.proofs.lemmas.List.Sums.{sum_by-cons, sum_by-append}
+use Rattle.std.proofs.lemmas.Bool.{eqb-true, eq-eqb}
+use Rattle.std.proofs.lemmas.List.Sums.{sum_by-append}
 use Rattle.iim_dataset.specs.Format.Octets.{Octets, number, greatest_size, within}
 use Rattle.iim_dataset.proofs.Each.{all_append, all_front, all_back, all_map}
 use Rattle.iim_tables.specs.Format.Numbers.{size_octets}
 use Rattle.iim_tables.specs.Format.Rows.{table, row_of, Meets}
-use Rattle.iim_dataset.specs.Format.Datasets.{Dataset, SpellsCount, SpellsTag, SpellsStream, count_octets, of_record, tag_octets}
+use Rattle.iim_dataset.specs.Format.Datasets.{Dataset, SpellsCount, SpellsStream, count_octets, of_record, tag_octets}
 use Rattle.iim_dataset.specs.Format.Splits.{Begun, InTag, InData, IsBegun}
 use Rattle.iim_dataset.specs.declared.head.Head.{Head}
 use Rattle.iim_dataset.proofs.Spelled.{tag_length}

@@ -1,5 +1,5 @@
 -- The octets from which a message can be completed are octets.
-use Rattle.std.proofs.Common.{◌≡◌, ℕ, List, subst}
+use Rattle.std.proofs.Common.{ℕ, List, subst}
 use Rattle.iim_dataset.specs.Format.Octets.{IsOctet, Octets}
 use Rattle.iim_dataset.proofs.Each.{all_front}
 use Rattle.wire_story.proofs.SoFar.{front_of}

@@ -1,5 +1,5 @@
 -- Octets of one place: what stands on the one stands on the other.
-use Rattle.std.proofs.Common.{◌≡◌, ℕ, ◌+◌, ◌-◌, ◌<◌, Bool, true, false, cond, if◌then◌else◌, ◌==◌, nat_eq, List, [], ◌∷◌, ◌++◌, length, sum, Option, Some, refl, ap, sym, subst, ◌∙◌, inl, inr, arith, append-nil, append_assoc, length-append}
+use Rattle.std.proofs.Common.{◌≡◌, ℕ, ◌+◌, ◌-◌, ◌<◌, Bool, true, false, cond, if◌then◌else◌, ◌==◌, nat_eq, List, [], ◌∷◌, ◌++◌, length, sum, Option, Some, refl, ap, sym, subst, ◌∙◌, inl, inr, arith, append-nil, length-append}
 use Rattle.std.proofs.lemmas.Bool.Decides.{eqb_tells}
 use Rattle.iim_dataset.specs.Format.Octets.{Octets}
 use Rattle.std.proofs.lemmas.List.Elements.{filter-append}

@@ -8,7 +8,7 @@ use Rattle.std.proofs.lemmas.Nat.{from_be_bytes-to_be_bytes_8}
 use Rattle.iim_dataset.specs.Format.Datasets.{Dataset}
 use Rattle.iim_dataset.proofs.Each.{all_append}
 use Rattle.iim_dataset.specs.Parting.{same_front}
-use Rattle.iim_places.specs.Format.Tickets.{Phase, TagBegun, DataBegun, AllEnded, ticket_name, present_version, width, four, wide, phase_octets, field_octets, fields_octets, number_octets, text_octets}
+use Rattle.iim_places.specs.Format.Tickets.{Phase, TagBegun, DataBegun, AllEnded, ticket_name, present_version, four, wide, phase_octets, field_octets, fields_octets, number_octets, text_octets}
 use Rattle.iim_places.specs.States.Begins.{IsLongField, AreFields, AreNumbersIn, AreTexts, IsSizeIn, IsShort, IsWide}
 use Rattle.iim_places.specs.TicketFields.{HoldsFields}
 use Rattle.iim_places.specs.Shortfalls.{BeginsWithNone, BeginsWithFewer, FieldsBefore, IsFour}

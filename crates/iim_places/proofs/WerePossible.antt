@@ -16,7 +16,7 @@ use Rattle.iim_fields.specs.Format.Faults.{is_kept, joined, section_after}
 use Rattle.iim_fields.specs.Format.Records.{AreSections}
 use Rattle.iim_fields.specs.Format.Values.{tells_number}
 use Rattle.iim_object.specs.Format.Numbers.{place_after_datasets, place_ended, ending_of}
-use Rattle.iim_object.specs.Format.Objects.{ObjectToken, NumberRead, SubfileBegun, ObjectEnded, Confirmed, number_tokens}
+use Rattle.iim_object.specs.Format.Objects.{SubfileBegun, number_tokens}
 use Rattle.iim_object.specs.Format.Packing.{number_dataset, subfile_datasets}
 use Rattle.iim_object.specs.Format.Places.{ending_tokens}
 use Rattle.iim_object.specs.Format.Places as objects

@@ -1,8 +1,8 @@
 -- The number that octets spell, octet by octet, and its bounds.
 use Rattle.std.proofs.Common.{◌≡◌, refl, take, get_or, add-one, ℕ, ◌+◌, ◌-◌, ◌*◌, ◌^◌, ◌<◌, ◌≤◌, [], ◌∷◌, ◌++◌, List, suc, length, ap, arith, length-append}
 use Rattle.std.proofs.Math.Seq.{take-suc}
-use Rattle.std.proofs.Math.Nat.{mul_left_comm, mul-le-mul_right, pow-succ', pow-le-pow_right}
-use Rattle.iim_dataset.specs.Format.Octets.{Octets as AreOctets, number}
+use Rattle.std.proofs.Math.Nat.{mul_left_comm, pow-succ', pow-le-pow_right}
+use Rattle.iim_dataset.specs.Format.Octets.{number}
 use Rattle.iim_dataset.proofs.OctetLists.{number-cons}
 use Rattle.iim_tables.specs.Format.Numbers.{size_octets}
 

@@ -1,5 +1,5 @@
 -- Readers that were made for a possible place stand at all octets that lead there.
-use Rattle.std.proofs.Common.{◌≡◌, ℕ, ◌<◌, nat_eq, if◌then◌else◌, Bool, true, false, List, [], ◌∷◌, length, IsSome, refl, ap, sym, subst, ◌∙◌, inl, inr, arith}
+use Rattle.std.proofs.Common.{◌≡◌, ℕ, ◌<◌, nat_eq, if◌then◌else◌, true, false, List, [], length, IsSome, refl, ap, sym, subst, ◌∙◌, arith}
 use Rattle.iim_dataset.specs.Format.Octets.{Octets}
 use Rattle.iim_dataset.specs.Format.Datasets.{Dataset, of_record, count_octets}
 use Rattle.iim_dataset.specs.Format.Splits.{Begun, InTag, InData, Reads}
@@ -7,7 +7,7 @@ use Rattle.iim_dataset.specs.States.Events.{handed_on}
 use Rattle.iim_dataset.specs.States.Places.{IsKeptAs, between}
 use Rattle.iim_dataset.specs.declared.head.Head.{Head}
 use Rattle.iim_dataset.specs.declared.place.DatasetPlace.{DatasetPlace}
-use Rattle.iim_fields.specs.Format.Alive.{SectionsLive, SectionsLiveAt}
+use Rattle.iim_fields.specs.Format.Alive.{SectionsLiveAt}
 use Rattle.iim_fields.specs.Format.Faults.{kept, section_after}
 use Rattle.iim_fields.specs.States.Standing as records
 use Rattle.iim_fields.specs.declared.limits.Limits.{Limits}
@@ -22,7 +22,7 @@ use Rattle.wire_message.specs.States.Saved.{LeadsToSaved}
 use Rattle.wire_message.specs.declared.saved.MessagePlace.{MessagePlace}
 use Rattle.iim_places.specs.Format.Admitted.{Value, object_of}
 use Rattle.iim_places.specs.States.ByLayers.{LeadsByLayers, RecordsLive, record_datasets, one_of_some}
-use Rattle.iim_places.specs.Format.Open.{object_so_far, section, IsOpen}
+use Rattle.iim_places.specs.Format.Open.{object_so_far, IsOpen}
 use Rattle.iim_unpack.specs.States.Parts.{AreAfter, Within, StandsFor, has_ended}
 use Rattle.iim_places.specs.States.PlainDatasets.{plain}
 use Rattle.iim_unpack.specs.Restoring.{IsMadeFor}

@@ -1,9 +1,9 @@
 -- A message can continue from octets that spell a place, and not with an octet after which there is no place.
-use Rattle.std.proofs.Common.{◌≡◌, ℕ, ◌+◌, ◌<◌, ◌≤◌, Bool, true, false, ◌||◌, nat_lt, List, [], ◌∷◌, ◌++◌, length, Option, Some, None, refl, sym, ap, subst, ◌∙◌, arith, append_assoc, append-nil, map}
+use Rattle.std.proofs.Common.{◌≡◌, ℕ, ◌+◌, ◌<◌, ◌≤◌, Bool, true, false, ◌||◌, nat_lt, List, [], ◌∷◌, ◌++◌, length, Option, Some, None, refl, sym, ap, subst, ◌∙◌, arith, append_assoc, append-nil}
 use Rattle.std.proofs.lemmas.Bool.{ltb-true, or_right}
 use Rattle.arrayvec.specs.ArrayVec.{ArrayVec}
 use Rattle.iim_dataset.specs.Format.Languages.{IsAlive}
-use Rattle.wire_story.specs.Format.Tokens.{OctetOrEnd, Octet, End, with_end}
+use Rattle.wire_story.specs.Format.Tokens.{Octet, End, with_end}
 use Rattle.wire_story.proofs.SoFar.{with_end-append, map_snoc, front_of, end_of}
 use Rattle.wire_message.specs.Format.Fields.{IsField, is_alphanumeric, is_trailer_octet, max_filler, max_source, max_number, max_category, max_words, max_trailer}
 use Rattle.iim_dataset.specs.Format.Octets.{is_digit, is_letter}

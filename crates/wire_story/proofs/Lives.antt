@@ -3,7 +3,7 @@ use Rattle.std.proofs.Common.{◌≡◌, ℕ, zero, suc, ◌<◌, ◌≤◌, Lis
 use Rattle.std.proofs.lemmas.Option.{same_Some}
 use Rattle.iim_dataset.specs.Format.Languages.{IsAlive}
 use Rattle.wire_story.specs.Format.Texts.{IsLine, line_end, IsText, IsTextSoFar, Holds, AreLines}
-use Rattle.wire_story.specs.Format.Tokens.{OctetOrEnd, Octet, End, with_end, StoryLanguage, LivesWith, StoryDiesAt}
+use Rattle.wire_story.specs.Format.Tokens.{Octet, End, with_end, StoryLanguage, LivesWith, StoryDiesAt}
 use Rattle.wire_story.proofs.HeldReturns.{held_after, after_octet, held_is, so_far, and_then_is}
 use Rattle.wire_story.proofs.SoFar.{with_end-append, map_snoc, front_of, end_of}
 

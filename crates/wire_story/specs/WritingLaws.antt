@@ -3,7 +3,7 @@ use Rattle.std.proofs.Common.{◌≡◌, ℕ, ◌≤◌, inl, inr, List, [], ◌
 use Rattle.std.proofs.lemmas.Bool.{cases_lt}
 use Rattle.std.specs.Io.KnownBytes.{Appends}
 use Rattle.std.proofs.lemmas.List.{map-append}
-use Rattle.iim_dataset.specs.States.Devices.{Device, RoseAtLeast, max_interruptions}
+use Rattle.iim_dataset.specs.States.Devices.{Device, max_interruptions}
 use Rattle.iim_dataset.specs.Appending.{appends_nothing, appends_joined}
 use Rattle.iim_dataset.specs.Rising.{rose_before, rose_after}
 use Rattle.wire_story.specs.Format.Delivery.{StoryEvent, LineOctet, octet_for}

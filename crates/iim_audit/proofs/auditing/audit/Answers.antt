@@ -1,4 +1,4 @@
-use Rattle.std.proofs.Common.{◌≡◌, ◌∙◌, ℕ, None, Some, Option, List, [], length, ap, subst, arith, refl, Result, Ok, ◌+◌, IsErrAnd, sym, IsSome}
+use Rattle.std.proofs.Common.{◌≡◌, ◌∙◌, ℕ, None, Some, List, [], length, ap, subst, arith, refl, Result, Ok, ◌+◌, IsErrAnd, sym}
 use Rattle.iim_dataset.specs.States.Devices.{Device}
 use Rattle.iim_dataset.proofs.Lists.{none_is_none}
 use Rattle.iim_unpack.specs.States.Intakes.{in_line}

@@ -1,4 +1,4 @@
-use Rattle.std.proofs.Common.{rules, ◌≡◌, ◌∙◌, ◌+◌, Option, None, Some, IsSome, [], refl, sym, append-nil}
+use Rattle.std.proofs.Common.{rules, ◌≡◌, ◌∙◌, ◌+◌, [], refl, sym, append-nil}
 use Rattle.iim_dataset.proofs.Lists.{none_is_none, handed_on}
 use Rattle.iim_unpack.specs.States.Intakes.{in_line}
 use Rattle.iim_commands.specs.Format.Lines.{refused_line, too_many_line}

@@ -1,4 +1,4 @@
-use Rattle.std.proofs.Common.{[], ◌++◌, Result, Ok, Err, OnOk}
+use Rattle.std.proofs.Common.{[], ◌++◌}
 use Rattle.iim_object.proofs.Outputs.{on_ok}
 use Rattle.wire_story.specs.Format.Texts.{AreLines}
 use Rattle.layer_tests.proofs.stories.read_in_two.Goals as goal

@@ -1,4 +1,4 @@
-use Rattle.std.proofs.Common.{◌≡◌, Option, None, Some, IsSome, sym, ap, subst, ◌∙◌}
+use Rattle.std.proofs.Common.{sym, ap, subst, ◌∙◌}
 use Rattle.std.specs.Option.{option_map}
 use Rattle.iim_dataset.proofs.Lists.{none_is_none}
 use Rattle.iim_unpack.specs.States.Unpacking.{Unpacking, IsDone, IsDoneWith}
