@@ -40,7 +40,7 @@ use Rattle.iim_places.proofs.Bounds.{low, object_fits, IsOne, alive_ones, is_one
 use Rattle.iim_places.proofs.Following.{alive_of}
 use Rattle.iim_places.proofs.Splitting.{one_split}
 use Rattle.iim_places.proofs.TicketLengths.{tag_length_in, held_length, AreShortIn, texts_led}
-use Rattle.iim_places.proofs.Tickets.{total_of, sum_one}
+use Rattle.iim_places.proofs.Tickets.{total_of, sum_one, so_far_by}
 
 -- ---- what is read
 
@@ -113,21 +113,13 @@ ones_in ds b goes = alive_ones ds (alive_of widest ds b goes)
 
 -- ---- the object
 
-taken_by : (b c : Bool) (ds : List Dataset) (count : ℕ) (taken : List ℕ) → length taken ≤ count
-    → length (object_of ds ++ (if b then taken else [])) ≤ sum (if b then place_after (place_after_datasets ds) (SubfileBegun count) else if c then place_ended ds else place_after_datasets ds).lengths
-taken_by true c ds count taken few =
-    let sums = sum_append (lengths_of (of_record 8 ds)) (count ∷ []) in
-    let one = sum_one count in
-    let total = total_of (of_record 8 ds) in
-    let both = length-append (object_of ds) taken in
-    omega (arith, sums, one, total, both, few)
-taken_by false true ds count taken few = let total = total_of (of_record 8 ds) in let same = ap length (append-nil (object_of ds)) in omega (arith, total, same)
-taken_by false false ds count taken few = let total = total_of (of_record 8 ds) in let same = ap length (append-nil (object_of ds)) in omega (arith, total, same)
-
 -- the octets of the object so far are no more than its subfiles have
 pub so_far_fits : (counts : ℕ) (octets : List ℕ) (ds : List Dataset) (b : Begun) → Reads counts octets ds b → length (object_so_far ds b) ≤ sum (place_in ds b).lengths
 so_far_fits counts octets ds (InTag held) reads = let total = total_of (of_record 8 ds) in omega (arith, total)
-so_far_fits counts octets ds (InData h taken) reads = let less = reads.is_rest.2 in taken_by (nat_eq h.rec 8) (nat_eq h.rec 9) ds h.count taken (omega (arith, less))
+so_far_fits counts octets ds (InData h taken) reads = 
+    let less = reads.is_rest.2 in
+    let all = so_far_by (nat_eq h.rec 8) (nat_eq h.rec 9) ds taken h.count (h.count - length taken) (omega (arith, less)) in
+    omega (arith, all)
 
 pub lives_in : (ds : List Dataset) (b : Begun) → MayContinue widest ds b → ObjectLives (place_in ds b)
 lives_in ds (InTag held) goes = goes.object

@@ -75,9 +75,6 @@ stands_told s some one fields stand place is l =
 pub no_room : (s : Split) → (IsWithin widest (OctetsIn s) (FieldsIn s) → ⊥) → LeadsNowhere s
 no_room s none place is l = none (subst (λ (t : Split). IsWithin widest (OctetsIn t) (FieldsIn t)) is l.within)
 
-pub no_tags : (s : Split) → (TagsLead s.section s.phase → ⊥) → LeadsNowhere s
-no_tags s none place is l = none (subst (λ (t : Split). TagsLead t.section t.phase) is l.tags)
-
 -- what is kept is within the widest limits where it is with what is begun
 within_less : (fields : List Dataset) (octets count : ℕ) → AreKept fields → IsWithin widest (length (joined fields) + octets) (length fields + count) → IsWithin widest (kept_octets fields) (length fields)
 within_less fields octets count each within =

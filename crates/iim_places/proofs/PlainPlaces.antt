@@ -360,24 +360,9 @@ plain_by laws place l =
           heads = heads + begun_heads begun;
           message = message;
         }
-    same_place ds es (InTag held) message object heads taken count present = λ i. record {
-      section = present i;
-      phase = if nat_eq (present i) 9 then AllEnded else TagBegun held;
-      fields = kept ds;
-      numbers = number_list (numbers_in (numbers_of (of_record 7 ds)));
-      taken = length (taken i);
-      heads = count i;
-      message = message;
-    }
-    same_place ds es (InData h some_of) message object heads taken count present = λ i. record {
-      section = h.rec;
-      phase = phase_of ds (InData h some_of);
-      fields = kept ds;
-      numbers = number_list (numbers_in (numbers_of (of_record 7 ds)));
-      taken = length (taken i);
-      heads = count i;
-      message = message;
-    }
+    same_place ds es (InTag held) message object heads taken count present =
+        λ i. record (place_of ds (InTag held) message) { section = present i; phase = if nat_eq (present i) 9 then AllEnded else TagBegun held; taken = length (taken i); heads = count i }
+    same_place ds es (InData h given) message object heads taken count present = λ i. record (place_of ds (InData h given) message) { taken = length (taken i); heads = count i }
 
 -- Each possible place is plain.
 pub possible_plain : PlainLaws → PossiblePlacesArePlain

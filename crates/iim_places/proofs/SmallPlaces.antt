@@ -30,7 +30,7 @@ use Rattle.iim_places.proofs.Answering.{one_reading, reads_envelope}
 use Rattle.iim_places.proofs.Bounds.{object_total}
 use Rattle.iim_places.proofs.Fitting.{begins_tag, so_far_fits}
 use Rattle.iim_places.proofs.SmallTags.{wider_tag}
-use Rattle.iim_places.proofs.Tickets.{total_of, sum_one}
+use Rattle.iim_places.proofs.Tickets.{total_of, sum_one, so_far_by}
 
 -- ---- spellings with shorter counts
 
@@ -103,18 +103,6 @@ total_low most p (rest, (lang, within)) =
 taken_low : (octets : List ℕ) (ds : List Dataset) (b : Begun) → Reads 4 octets ds b → sum (place_in ds b).lengths ≤ greatest_size_before → length (object_so_far ds b) ≤ greatest_size_before
 taken_low octets ds b reads low = let less = so_far_fits 4 octets ds b reads in omega (arith, less, low)
 
--- with what is to come of a begun subfile
-left_by : (ds : List Dataset) (count : ℕ) (taken : List ℕ) (b c : Bool) → b ≡ true → length taken < count
-    → sum (if b then objects.place_after (place_after_datasets ds) (SubfileBegun count) else if c then place_ended ds else place_after_datasets ds).lengths ≤ greatest_size_before
-    → length (object_of ds ++ (if b then taken else [])) + (count - length taken) ≤ greatest_size_before
-left_by ds count taken true c is few low =
-    let sums = sum_append (lengths_of (of_record 8 ds)) (count ∷ []) in
-    let one = sum_one count in
-    let total = total_of (of_record 8 ds) in
-    let both = length-append (object_of ds) taken in
-    omega (arith, sums, one, total, both, low, few)
-left_by ds count taken false c is few low = absurd cc
-
 small_phase : (octets : List ℕ) (ds : List Dataset) (b : Begun) → Reads 4 octets ds b → SectionsLiveIn first_scale ds b → sum (place_in ds b).lengths ≤ greatest_size_before
     → IsSmallPhase (section ds b) (length (object_so_far ds b)) (phase_of ds b)
 small_phase octets ds (InTag held) reads alive low = by (nat_eq (section_after ds) 9)
@@ -129,7 +117,12 @@ small_phase octets ds (InData h taken) reads (d, head, alive) low =
       (λ told. let few = (fits.size (ap tells_number rec ∙ told)).0 in omega (arith, few, count)),
       (λ eight.
           let small = fits.subfile (rec ∙ eight) in
-          (omega (arith, small, count), left_by ds h.count taken (nat_eq h.rec 8) (nat_eq h.rec 9) (eq-eqb h.rec 8 eight) reads.is_rest.2 low)),
+          (omega (arith, small, count), 
+            let less = reads.is_rest.2 in
+            let all = so_far_by (nat_eq h.rec 8) (nat_eq h.rec 9) ds taken h.count (h.count - length taken) (omega (arith, less)) in
+            let left = ap (λ (b : Bool). if b then h.count - length taken else 0) (eq-eqb h.rec 8 eight) in
+            omega (arith, all, left, low)
+          )),
     )
 
 -- ---- places

@@ -30,7 +30,7 @@ abbrev shrunk : Dataset → List ℕ
 shrunk d = shrunk_by (tells_number d.rec) (nat_le (length d.octets) 4) (nat_eq d.rec 8) (nat_le (length d.octets) 4294967295) d.octets
 
 abbrev shrink : Dataset → Dataset
-shrink d = record { rec = d.rec; set = d.set; octets = shrunk d }
+shrink d = record d { octets = shrunk d }
 
 -- records 7 and 9 tell numbers
 pub told_in : (r : ℕ) → tells_number r ≡ true → (r ≡ 7) ⊎ (r ≡ 9)
@@ -56,7 +56,7 @@ eight_takes set xs = by_ten 8 eight_has xs (λ k. Meets 8 k []) (λ h. refl) set
 
 -- The data of a good dataset may be replaced, and then fit.
 abbrev Fine : Dataset → List ℕ → Type 0
-Fine d xs = IsGoodDataset (record { rec = d.rec; set = d.set; octets = xs }) × FitsRow first_scale (record { rec = d.rec; set = d.set; octets = xs })
+Fine d xs = IsGoodDataset (record d { octets = xs }) × FitsRow first_scale (record d { octets = xs })
 
 short_good : (d : Dataset) (r : ℕ) → d.rec ≡ r → nat_eq r 1 ≡ false → nat_eq r 8 ≡ false → IsOctet d.set → Meets r d.set short_number → Fine d short_number
 short_good d r is one eight small meets = (
@@ -95,7 +95,7 @@ Short d = (tells_number d.rec ≡ true → length d.octets ≤ 4) × (d.rec ≡ 
 
 -- what is short stays
 shrink_same : (d : Dataset) → Short d → shrink d ≡ d
-shrink_same d short = let same = by (tells_number d.rec) (nat_eq d.rec 8) refl refl in λ i. record { rec = d.rec; set = d.set; octets = same i }
+shrink_same d short = let same = by (tells_number d.rec) (nat_eq d.rec 8) refl refl in λ i. record d { octets = same i }
   where
     by : (tells subfile : Bool) → tells_number d.rec ≡ tells → nat_eq d.rec 8 ≡ subfile → shrunk_by tells (nat_le (length d.octets) 4) subfile (nat_le (length d.octets) 4294967295) d.octets ≡ d.octets
     by true true told eight = rw (le-leb (length d.octets) 4 (short.0 told), le-leb (length d.octets) 4294967295 (short.1 (eqb-true d.rec 8 eight))) refl

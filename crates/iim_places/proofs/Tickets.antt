@@ -51,16 +51,21 @@ heads_by true c ds count = length-append (lengths_of (of_record 8 ds)) (count �
 heads_by false true ds count = let same = count_of (of_record 8 ds) in omega (arith, same)
 heads_by false false ds count = let same = count_of (of_record 8 ds) in omega (arith, same)
 
-pub taken_by : (b c : Bool) (ds : List Dataset) (taken : List ℕ) (count left : ℕ) → length taken + left ≡ count
-    → sum (at_by b c ds count).lengths - (if b then left else 0) ≡ length (object_of ds ++ (if b then taken else []))
-taken_by true c ds taken count left e =
+-- the octets so far, and what is to come of a begun subfile, are those of the subfiles
+pub so_far_by : (b c : Bool) (ds : List Dataset) (taken : List ℕ) (count left : ℕ) → length taken + left ≡ count
+    → length (object_of ds ++ (if b then taken else [])) + (if b then left else 0) ≡ sum (at_by b c ds count).lengths
+so_far_by true c ds taken count left e =
     let sums = sum_append (lengths_of (of_record 8 ds)) (count ∷ []) in
     let one = sum_one count in
     let total = total_of (of_record 8 ds) in
     let both = length-append (object_of ds) taken in
     omega (arith, sums, one, total, both, e)
-taken_by false true ds taken count left e = let total = total_of (of_record 8 ds) in let same = ap length (append-nil (object_of ds)) in omega (arith, total, same)
-taken_by false false ds taken count left e = let total = total_of (of_record 8 ds) in let same = ap length (append-nil (object_of ds)) in omega (arith, total, same)
+so_far_by false true ds taken count left e = let total = total_of (of_record 8 ds) in let same = ap length (append-nil (object_of ds)) in omega (arith, total, same)
+so_far_by false false ds taken count left e = let total = total_of (of_record 8 ds) in let same = ap length (append-nil (object_of ds)) in omega (arith, total, same)
+
+pub taken_by : (b c : Bool) (ds : List Dataset) (taken : List ℕ) (count left : ℕ) → length taken + left ≡ count
+    → sum (at_by b c ds count).lengths - (if b then left else 0) ≡ length (object_of ds ++ (if b then taken else []))
+taken_by b c ds taken count left e = let all = so_far_by b c ds taken count left e in omega (arith, all)
 
 -- ---- the message
 

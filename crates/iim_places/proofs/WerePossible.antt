@@ -5,6 +5,7 @@ use Rattle.std.specs.Option.{unwrap_or}
 use Rattle.std.proofs.lemmas.Bool.{eqb-true, cases_lt, lt-ltb, le-ltb}
 use Rattle.std.proofs.lemmas.List.{length-take}
 use Rattle.byteorder.specs.Numbers.{big_number-reads_back}
+use Rattle.std.proofs.lemmas.Bool.Decides.{eqb_tells}
 use Rattle.iim_dataset.specs.Format.Octets.{IsOctet}
 use Rattle.iim_dataset.specs.Format.Datasets.{Dataset, SpellsCount, SpellsTag, SpellsStream, canonical_count, canonical_tag, canonical_dataset, canonical_stream, count_octets, head_of, of_record, written_number}
 use Rattle.iim_dataset.proofs.Each.{all_append, all_map}
@@ -48,7 +49,7 @@ use Rattle.iim_places.proofs.PlainOpens.{plain_open, possible_of}
 use Rattle.iim_places.proofs.SameRecords.{IsStated, stated_after_all, stated_at}
 use Rattle.iim_places.proofs.SmallPlaces.{still_possible, wider_rest, wider_stream}
 use Rattle.iim_places.proofs.SmallSections.{Short, told_in, sections_live_small, sections_small}
-use Rattle.iim_places.proofs.Tickets.{total_of, count_of, sum_one}
+use Rattle.iim_places.proofs.Tickets.{total_of, count_of, sum_one, so_far_by}
 
 -- ---- spellings with few count octets
 
@@ -187,21 +188,15 @@ object_in laws law ds (InData h taken) keeps low goes =
     law greatest_size_before (place_at ds h) (omega arith) (possible_at ds h goes (nat_eq h.rec 8) (nat_eq h.rec 9) refl stated goes.object) (within_at ds h.count (nat_eq h.rec 8) (nat_eq h.rec 9) keeps) low
 
 -- how many octets the subfiles have with a begun one
-sum_low : (ds : List Dataset) (n : ℕ) (got : List ℕ) (b c : Bool) → length got < n → length (object_of ds ++ (if b then got else [])) ≤ greatest_size_before
-    → (b ≡ true → length (object_of ds ++ (if b then got else [])) + (n - length got) ≤ greatest_size_before) → sum (at ds n b c).lengths ≤ greatest_size_before
-sum_low ds n got true c less low all =
-    let sums = sum_append (lengths_of (of_record 8 ds)) (n ∷ []) in
-    let one = sum_one n in
-    let total = total_of (of_record 8 ds) in
-    let both = length-append (object_of ds) got in
-    let fits = all refl in
-    omega (arith, sums, one, total, both, less, fits)
-sum_low ds n got false true less low all = let total = total_of (of_record 8 ds) in let both = length-append (object_of ds) [] in omega (arith, total, both, low)
-sum_low ds n got false false less low all = let total = total_of (of_record 8 ds) in let both = length-append (object_of ds) [] in omega (arith, total, both, low)
-
 sum_in : (ds : List Dataset) (b : Begun) (rest : List ℕ) → IsBegun count_octets b rest → length (object_so_far ds b) ≤ greatest_size_before → IsSmallPhase (section ds b) (length (object_so_far ds b)) (phase_of ds b) → sum (place_in ds b).lengths ≤ greatest_size_before
 sum_in ds (InTag held) rest is low small = let total = total_of (of_record 8 ds) in omega (arith, total, low)
-sum_in ds (InData h got) rest is low small = sum_low ds h.count got (nat_eq h.rec 8) (nat_eq h.rec 9) is.2 low (λ eight. (small.1 (eqb-true h.rec 8 eight)).1)
+sum_in ds (InData h got) rest is low small =
+    let less = is.2 in
+    let all = so_far_by (nat_eq h.rec 8) (nat_eq h.rec 9) ds got h.count (h.count - length got) (omega (arith, less)) in
+    elim (eqb_tells h.rec 8) [
+      | inl eight ↦ (let left = ap (λ (b : Bool). if b then h.count - length got else 0) eight.0 in let fits = (small.1 eight.1).1 in omega (arith, all, left, fits))
+      | inr other ↦ (let left = ap (λ (b : Bool). if b then h.count - length got else 0) other.0 in omega (arith, all, left, low))
+    ]
 
 -- ---- what is begun
 
