@@ -11,10 +11,8 @@ use Rattle.iim_fields.specs.Format.Values.{tells_number}
 use Rattle.iim_fields.specs.Format.Alive.{SectionsLiveAt}
 use Rattle.iim_dataset.specs.declared.head.Head.{Head}
 use Rattle.iim_dataset.specs.Format.Tags.{BeginsTag}
-use Rattle.iim_object.specs.Format.Objects.{SubfileBegun}
-use Rattle.iim_object.specs.Format.Places.{place_after}
-use Rattle.iim_object.specs.Format.Numbers.{place_after_datasets, place_ended}
-use Rattle.iim_object.specs.Format.Records.{lengths_of, numbers_of}
+use Rattle.iim_object.specs.Format.Numbers.{place_after_datasets}
+use Rattle.iim_object.specs.Format.Records.{numbers_of}
 use Rattle.iim_object.specs.States.Saved.{stated_numbers}
 use Rattle.iim_object.specs.Format.Sizes.{Stated, number_at}
 use Rattle.wire_message.specs.States.Saved.{LeadsToSaved}
@@ -34,13 +32,12 @@ use Rattle.iim_places.specs.States.Possible.{Possible, IsSmall, IsSmallPhase, Is
 use Rattle.iim_places.specs.Laws.Places.{SmallPlacesWerePossible, TicketsTellOnePlace}
 use Rattle.iim_places.specs.Laws.Tickets.{TicketsOfPlacesAreSplit, texts_of, split_of}
 use Rattle.iim_dataset.proofs.Counts.{tag-lt}
-use Rattle.iim_dataset.proofs.Lists.{sum_append}
 use Rattle.iim_places.proofs.Answering.{Lives, lives_open, lives_envelope, one_reading}
 use Rattle.iim_places.proofs.Bounds.{low, object_fits, IsOne, alive_ones, is_one, few_in_seven, IsFive, alive_five}
 use Rattle.iim_places.proofs.Following.{alive_of}
 use Rattle.iim_places.proofs.Splitting.{one_split}
 use Rattle.iim_places.proofs.TicketLengths.{tag_length_in, held_length, AreShortIn, texts_led}
-use Rattle.iim_places.proofs.Tickets.{total_of, sum_one, so_far_by}
+use Rattle.iim_places.proofs.Tickets.{total_of, so_far_by}
 
 -- ---- what is read
 

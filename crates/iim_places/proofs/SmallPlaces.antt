@@ -1,5 +1,5 @@
 -- Places that were possible by the first sizes are possible, and keep to these sizes.
-use Rattle.std.proofs.Common.{◌≡◌, ℕ, ◌+◌, ◌-◌, ◌<◌, ◌≤◌, nat_eq, cond, if◌then◌else◌, Bool, true, false, List, [], ◌∷◌, ◌++◌, length, map, sum, Some, refl, ap, sym, subst, ◌∙◌, inl, inr, arith, length-append}
+use Rattle.std.proofs.Common.{◌≡◌, ℕ, ◌+◌, ◌-◌, ◌≤◌, nat_eq, cond, if◌then◌else◌, Bool, true, false, List, [], ◌∷◌, ◌++◌, length, map, sum, Some, refl, ap, sym, subst, ◌∙◌, inl, inr, arith}
 use Rattle.std.specs.List.{AllByRecursion}
 use Rattle.std.proofs.lemmas.Bool.{eqb-true, eq-eqb}
 use Rattle.iim_dataset.specs.Format.Octets.{number}
@@ -8,13 +8,11 @@ use Rattle.iim_dataset.specs.Format.Languages.{IsAlive}
 use Rattle.iim_dataset.specs.Format.Splits.{Begun, InTag, InData, IsBegun, Reads}
 use Rattle.iim_dataset.specs.declared.head.Head.{Head}
 use Rattle.iim_dataset.proofs.Each.{all_front, all_back}
-use Rattle.iim_dataset.proofs.Lists.{sum_append}
 use Rattle.iim_fields.specs.Format.Faults.{section_after}
 use Rattle.iim_fields.specs.Format.Values.{tells_number}
-use Rattle.iim_object.specs.Format.Numbers.{place_after_datasets, place_ended}
 use Rattle.iim_object.specs.Format.Objects.{SubfileBegun, ObjectEnded, Confirmed, number_tokens}
 use Rattle.iim_object.specs.Format.Places as objects
-use Rattle.iim_object.specs.Format.Records.{lengths_of, numbers_of}
+use Rattle.iim_object.specs.Format.Records.{numbers_of}
 use Rattle.iim_object.specs.States.Saved.{stated_numbers}
 use Rattle.iim_object.specs.Format.Sizes.{Stated, number_at}
 use Rattle.iim_object.specs.Format.Within.{TokensWithin, LanguageWithin}
@@ -30,7 +28,7 @@ use Rattle.iim_places.proofs.Answering.{one_reading, reads_envelope}
 use Rattle.iim_places.proofs.Bounds.{object_total}
 use Rattle.iim_places.proofs.Fitting.{begins_tag, so_far_fits}
 use Rattle.iim_places.proofs.SmallTags.{wider_tag}
-use Rattle.iim_places.proofs.Tickets.{total_of, sum_one, so_far_by}
+use Rattle.iim_places.proofs.Tickets.{so_far_by}
 
 -- ---- spellings with shorter counts
 
