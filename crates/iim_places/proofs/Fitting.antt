@@ -113,7 +113,7 @@ ones_in ds b goes = alive_ones ds (alive_of widest ds b goes)
 -- the octets of the object so far are no more than its subfiles have
 pub so_far_fits : (counts : ℕ) (octets : List ℕ) (ds : List Dataset) (b : Begun) → Reads counts octets ds b → length (object_so_far ds b) ≤ sum (place_in ds b).lengths
 so_far_fits counts octets ds (InTag held) reads = let total = total_of (of_record 8 ds) in omega (arith, total)
-so_far_fits counts octets ds (InData h taken) reads = 
+so_far_fits counts octets ds (InData h taken) reads =
     let less = reads.is_rest.2 in
     let all = so_far_by (nat_eq h.rec 8) (nat_eq h.rec 9) ds taken h.count (h.count - length taken) (omega (arith, less)) in
     omega (arith, all)

@@ -114,12 +114,12 @@ small_phase octets ds (InData h taken) reads (d, head, alive) low =
     let count : length d.octets ≡ h.count = ap (λ (k : Head). k.count) head in (
       (λ told. let few = (fits.size (ap tells_number rec ∙ told)).0 in omega (arith, few, count)),
       (λ eight.
-          let small = fits.subfile (rec ∙ eight) in
-          (omega (arith, small, count), 
+          let small = fits.subfile (rec ∙ eight) in (
+            omega (arith, small, count),
             let less = reads.is_rest.2 in
-            let all = so_far_by (nat_eq h.rec 8) (nat_eq h.rec 9) ds taken h.count (h.count - length taken) (omega (arith, less)) in
-            let left = ap (λ (b : Bool). if b then h.count - length taken else 0) (eq-eqb h.rec 8 eight) in
-            omega (arith, all, left, low)
+                let all = so_far_by (nat_eq h.rec 8) (nat_eq h.rec 9) ds taken h.count (h.count - length taken) (omega (arith, less)) in
+                let left = ap (λ (b : Bool). if b then h.count - length taken else 0) (eq-eqb h.rec 8 eight) in
+                omega (arith, all, left, low),
           )),
     )
 
