@@ -1,5 +1,5 @@
 -- What `story` writes.
-use Rattle.std.proofs.Common.{◌≡◌, ℕ, ◌+◌, ◌<◌, ◌≤◌, inl, inr, refl, sym, ap, subst, ◌∙◌, arith, List, [], ◌∷◌, ◌++◌, length, map, take, append-nil, append_assoc, Result, Ok, Err, IfErr, OnOk, is_err, false}
+use Rattle.std.proofs.Common.{◌≡◌, ℕ, ◌+◌, ◌<◌, ◌≤◌, inl, inr, refl, sym, ap, subst, ◌∙◌, arith, List, [], ◌∷◌, ◌++◌, length, map, take, append-nil, append_assoc, Option, Some, Result, Ok, Err, IfErr, OnOk, is_err, false}
 use Rattle.std.proofs.Math.Seq.{take-length}
 use Rattle.std.proofs.lemmas.List.{take-append-le}
 use Rattle.std.specs.Io.KnownBytes.{Appends}
@@ -39,8 +39,6 @@ use Rattle.iim_commands.specs.Laws.Narration.{EnvelopesAreDeliveredAsLines}
 use Rattle.iim_commands.specs.Format.Narration.{IsTextIn, IsUnnarrated, LeavesText, Narrated, stories, story_of, text_of}
 use Rattle.iim_commands.specs.NarrationEnds.{IsHeldBack, IsUnended}
 use Rattle.iim_commands.specs.Format.WrittenListings.{IsUnsaid}
-use Rattle.iim_commands.specs.declared.coming.Next.{Next}
-use Rattle.iim_commands.specs.declared.coming.Next.TheVariants as next
 use Rattle.iim_commands.specs.declared.fault.CommandFault.{CommandFault}
 use Rattle.iim_commands.specs.declared.fault.CommandFault.TheVariants.{CannotRead, CannotWrite, OutOfMemory}
 use Rattle.iim_commands.proofs.Listings.{AreTaken, consumes_holds, divides, given_then, none_taken, taken_more, text_after}
@@ -326,8 +324,8 @@ pub record TextIsTaken {W : Type 0} (state : W → Device) (mid rest : Device) (
   pub text : PutsOn state a b (text_of come.envelope)
   pub whole : IsTextIn (take (length come.envelope.octets) come.envelope.octets) (text_of come.envelope)
 
-pub text_taken : {W : Type 0} (state : W → Device) → EnvelopesAreDeliveredAsLines → LinesAreJoinedByLineFeeds → (mid rest : Device) (v : Unpacking) (a b : BlockWriter W) (x : Next) (octets : ℕ)
-    → x ≡ next.Envelope octets → IsNext (PutsLines state) stops_of HoldsNothing (StaysStuck state) (mid, a) (rest, v, b) (Ok x) → TextIsTaken state mid rest v a b octets
+pub text_taken : {W : Type 0} (state : W → Device) → EnvelopesAreDeliveredAsLines → LinesAreJoinedByLineFeeds → (mid rest : Device) (v : Unpacking) (a b : BlockWriter W) (x : Result (Option ℕ) Refusal) (octets : ℕ)
+    → x ≡ Ok (Some octets) → IsNext (PutsLines state) stops_of HoldsNothing (StaysStuck state) (mid, a) (rest, v, b) (Ok x) → TextIsTaken state mid rest v a b octets
 text_taken state law joins mid rest v a b x octets is n =
     let h = come_as (PutsLines state) stops_of HoldsNothing (StaysStuck state) mid rest v a b x octets is n in
     record {

@@ -16,17 +16,6 @@ use wire_story::laws::delivery_may_be_cut;
 /// What the records 1 and 2 of an envelope may have.
 pub const LIMITS: Limits = Limits::WIRE;
 
-/// What an input has next.
-#[derive(Clone, Copy, Debug, PartialEq, Eq)]
-pub enum Next {
-    /// An envelope of so many octets, with which the unpacker is done.
-    Envelope(u64),
-    /// Nothing.
-    End,
-    /// Octets that are refused.
-    Refused(Refusal),
-}
-
 ghost use Rattle.iim_unpack.specs.States.Unpacking.{limits_in};
 ghost use Rattle.iim_commands.specs.Feeding.{IsOfFault, IsOfRefusal};
 ghost use Rattle.iim_commands.specs.Format.Listings.{limits};
@@ -45,17 +34,17 @@ fn let_out_before_read<R: Source, S: Outlet>(intake: &Intake<R>, sink: &mut S) -
 }
 
 /// What octets that are refused come to, which may be a fault of the sink.
-fn next_of_refusal(refusal: Refusal) -> Result<Next, CommandFault>
+fn next_of_refusal(refusal: Refusal) -> Result<Result<Option<u64>, Refusal>, CommandFault>
     ensures { IsOfRefusal refusal result }
 {
     if refusal.cause == Cause::Sink {
         return Err(CommandFault::CannotWrite);
     }
-    Ok(Next::Refused(refusal))
+    Ok(Err(refusal))
 }
 
 /// What a fault of an intake comes to.
-fn next_of_fault(fault: IntakeFault) -> Result<Next, CommandFault>
+fn next_of_fault(fault: IntakeFault) -> Result<Result<Option<u64>, Refusal>, CommandFault>
     ensures { IsOfFault fault result }
 {
     match fault {
@@ -66,12 +55,13 @@ fn next_of_fault(fault: IntakeFault) -> Result<Next, CommandFault>
 }
 
 /// Begins an unpacker again, feeds it what comes next, and tells the sink the text of it. Before the input is read, the sink lets out
-/// what it holds.
+/// what it holds. It answers an envelope of so many octets, with which the unpacker is done; None at the end of the input; or octets that
+/// are refused. A fault is of the devices.
 pub fn take_next<R: Source, S: Outlet>(
     intake: &mut Intake<R>,
     unpacker: &mut Unpacker,
     sink: &mut S,
-) -> Result<Next, CommandFault>
+) -> Result<Result<Option<u64>, Refusal>, CommandFault>
     requires alive { intake.old.failed ≡ None }
     requires limits { limits_in unpacker.old ≡ limits }
     ensures next { IsNext S.goes S.failures S.settled S.stuck (in_line R.state intake.old, sink.old)
@@ -91,8 +81,8 @@ pub fn take_next<R: Source, S: Outlet>(
         }
         match intake.next_piece(unpacker, sink) {
             Ok(Fed::More(_)) => {}
-            Ok(Fed::Done(_)) => return Ok(Next::Envelope(unpacker.octets())),
-            Ok(Fed::End) => return Ok(Next::End),
+            Ok(Fed::Done(_)) => return Ok(Ok(Some(unpacker.octets()))),
+            Ok(Fed::End) => return Ok(Ok(None)),
             Err(fault) => return next_of_fault(fault),
         }
     }

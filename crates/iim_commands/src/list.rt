@@ -10,7 +10,7 @@ ghost use Rattle.iim_commands.specs.States.Holding.{HoldsNothing, KeepsWriter, d
 ghost use Rattle.iim_commands.specs.Listing.{IsUnlisted, Settles};
 
 use crate::block_writer::BlockWriter;
-use crate::coming::{LIMITS, Next, take_next};
+use crate::coming::{LIMITS, take_next};
 use crate::fault::CommandFault;
 use crate::lines::{TOO_MANY, add, add_last, push_refused};
 use crate::silent::Silent;
@@ -44,7 +44,7 @@ fn list_texts<P: EnvelopeLines, R: Source, W: Target>(
     'listing: loop {
         text.clear();
         match take_next(intake, &mut unpacker, silent)? {
-            Next::Envelope(octets) => {
+            Ok(Some(octets)) => {
                 if count == MAX_ENVELOPES {
                     add_last(&mut silent.output, TOO_MANY.as_bytes())?;
                     return Ok(REFUSED);
@@ -56,8 +56,8 @@ fn list_texts<P: EnvelopeLines, R: Source, W: Target>(
                 add(&mut silent.output, text.as_slice())?;
                 count += 1;
             }
-            Next::End => return Ok(ACCEPTED),
-            Next::Refused(refusal) => {
+            Ok(None) => return Ok(ACCEPTED),
+            Err(refusal) => {
                 push_refused(&mut text, count + 1, refusal)?;
                 add_last(&mut silent.output, text.as_slice())?;
                 return Ok(REFUSED);

@@ -10,7 +10,7 @@ ghost use Rattle.wire_story.specs.States.Writing.{device_of, stops_of};
 ghost use Rattle.iim_commands.specs.Format.Narration.{IsUnnarrated, Narrated};
 
 use crate::block_writer::BlockWriter;
-use crate::coming::{LIMITS, Next, take_next};
+use crate::coming::{LIMITS, take_next};
 use crate::fault::CommandFault;
 use crate::laws::envelopes_are_delivered_as_lines;
 use crate::lines::{TOO_MANY, push_accepted, push_refused, say};
@@ -78,7 +78,7 @@ fn tell_stories<R: Source, W: Target, E: Target>(
     'telling: loop {
         line.clear();
         match take_next(intake, &mut unpacker, output)? {
-            Next::Envelope(octets) => {
+            Ok(Some(octets)) => {
                 if count == MAX_ENVELOPES {
                     let_out(output)?;
                     say(errors, TOO_MANY.as_bytes())?;
@@ -92,8 +92,8 @@ fn tell_stories<R: Source, W: Target, E: Target>(
                 say(errors, line.as_slice())?;
                 count += 1;
             }
-            Next::End => return Ok(ACCEPTED),
-            Next::Refused(refusal) => {
+            Ok(None) => return Ok(ACCEPTED),
+            Err(refusal) => {
                 let_out(output)?;
                 push_refused(&mut line, count + 1, refusal)?;
                 say(errors, line.as_slice())?;

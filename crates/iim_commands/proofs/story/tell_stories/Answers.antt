@@ -12,37 +12,37 @@ use Rattle.iim_commands.specs.Format.Narration.{IsUnnarrated, text_of}
 use Rattle.iim_commands.specs.declared.fault.CommandFault.TheVariants.{OutOfMemory}
 use Rattle.iim_commands.proofs.Narration.{TextIsTaken, taken_out, broke_in_line, broke_in_lines, held_back_as, narrated, narrated_more, pushed, refused_within, story_out, text_out, text_refused, text_taken, unended_keeps, unended_text, none_narrated, nothing_told, unfed, unfed_for_memory, wrote_by}
 use Rattle.iim_commands.proofs.Listings.{ends_refused, left_of, none_left}
-use Rattle.iim_commands.proofs.Taken.{end_as, kept_next, lives_as, refusal_as}
+use Rattle.iim_commands.proofs.Taken.{end_as, kept_next, lives_as, refusal_as, found}
 use Rattle.iim_commands.proofs.Told.{added}
 use Rattle.iim_commands.specs.States.Coming.{IsRefusal}
 use Rattle.iim_commands.proofs.story.tell_stories.Given.{Over}
-use Rattle.iim_commands.proofs.story.tell_stories.Goals.{After-take_next, In-Envelope, In-Refused}
+use Rattle.iim_commands.proofs.story.tell_stories.Goals.{After-take_next, In-Ok-Some, In-Err}
 use Rattle.iim_commands.proofs.story.tell_stories.Goals as goal
 
 -- what came of an envelope, or of refused octets
-taken : (g : Over) (c : In-Envelope g) → TextIsTaken g.W.Target.state (in_line g.R.Source.state c.telling.intake) (in_line g.R.Source.state c.take_next.new.intake) c.take_next.new.unpacker c.telling.output c.take_next.new.sink c.in-Envelope.octets
+taken : (g : Over) (c : In-Ok-Some g) → TextIsTaken g.W.Target.state (in_line g.R.Source.state c.telling.intake) (in_line g.R.Source.state c.take_next.new.intake) c.take_next.new.unpacker c.telling.output c.take_next.new.sink c.in-Ok-Some.octets
 taken g c =
     text_taken g.W.Target.state c.envelopes_are_delivered_as_lines.ensures c.lines_are_joined_by_line_feeds.ensures (in_line g.R.Source.state c.telling.intake) (in_line g.R.Source.state c.take_next.new.intake) c.take_next.new.unpacker c.telling.output c.take_next.new.sink
-    c.in_ok-octets.field-0 c.in-Envelope.octets c.in-Envelope.is c.in_ok-octets.ensures.next
+    c.in_ok-octets.field-0 c.in-Ok-Some.octets (found c.in-Ok-Some.is c.in-Ok-Some.field-0-is) c.in_ok-octets.ensures.next
 
-refusal : (g : Over) (c : In-Refused g) → IsRefusal (PutsLines g.W.Target.state) (in_line g.R.Source.state c.telling.intake) (in_line g.R.Source.state c.take_next.new.intake) c.telling.output c.take_next.new.sink c.in-Refused.refusal
+refusal : (g : Over) (c : In-Err g) → IsRefusal (PutsLines g.W.Target.state) (in_line g.R.Source.state c.telling.intake) (in_line g.R.Source.state c.take_next.new.intake) c.telling.output c.take_next.new.sink c.in-Err.refusal
 refusal g c =
     let state = g.W.Target.state in
-    refusal_as (PutsLines state) stops_of HoldsNothing (StaysStuck state) (in_line g.R.Source.state c.telling.intake) (in_line g.R.Source.state c.take_next.new.intake) c.take_next.new.unpacker c.telling.output c.take_next.new.sink c.in_ok-octets.field-0 c.in-Refused.refusal
-    c.in-Refused.is c.in_ok-octets.ensures.next
+    refusal_as (PutsLines state) stops_of HoldsNothing (StaysStuck state) (in_line g.R.Source.state c.telling.intake) (in_line g.R.Source.state c.take_next.new.intake) c.take_next.new.unpacker c.telling.output c.take_next.new.sink c.in_ok-octets.field-0 c.in-Err.refusal
+    c.in-Err.is c.in_ok-octets.ensures.next
 
 -- what came is out, once the writer lets out what it holds
-envelope_out : (g : Over) (c : In-Envelope g) (d : BlockWriter g.row.W.Denot) → PutsOn g.W.Target.state c.take_next.new.sink d [] → HoldsNothing d → stops_of d ≡ stops_of c.take_next.new.sink
+envelope_out : (g : Over) (c : In-Ok-Some g) (d : BlockWriter g.row.W.Denot) → PutsOn g.W.Target.state c.take_next.new.sink d [] → HoldsNothing d → stops_of d ≡ stops_of c.take_next.new.sink
     → Wrote (device_of g.W.Target.state c.telling.output) (device_of g.W.Target.state d) (text_of (taken g c).come.envelope)
 envelope_out g c d = taken_out d (taken g c) c.telling.invariant.held c.telling.invariant.unbroken c.in_ok-octets.ensures.calm
 
-refused_out : (g : Over) (c : In-Refused g) (d : BlockWriter g.row.W.Denot) → PutsOn g.W.Target.state c.take_next.new.sink d [] → HoldsNothing d → stops_of d ≡ stops_of c.take_next.new.sink
+refused_out : (g : Over) (c : In-Err g) (d : BlockWriter g.row.W.Denot) → PutsOn g.W.Target.state c.take_next.new.sink d [] → HoldsNothing d → stops_of d ≡ stops_of c.take_next.new.sink
     → Wrote (device_of g.W.Target.state c.telling.output) (device_of g.W.Target.state d) (map octet_for (refusal g c).more)
 refused_out g c d =
     text_out g.W.Target.state c.telling.output c.take_next.new.sink d (map octet_for (refusal g c).more) c.telling.invariant.held c.telling.invariant.unbroken c.in_ok-octets.ensures.calm (refusal g c).came.told
 
 -- with an LF after it
-story_is_out : (g : Over) (c : In-Envelope g) (d : BlockWriter g.row.W.Denot) → PutsOn g.W.Target.state c.take_next.new.sink d (lf ∷ []) → HoldsNothing d → stops_of d ≡ stops_of c.take_next.new.sink
+story_is_out : (g : Over) (c : In-Ok-Some g) (d : BlockWriter g.row.W.Denot) → PutsOn g.W.Target.state c.take_next.new.sink d (lf ∷ []) → HoldsNothing d → stops_of d ≡ stops_of c.take_next.new.sink
     → Wrote (device_of g.W.Target.state c.telling.output) (device_of g.W.Target.state d) (text_of (taken g c).come.envelope ++ (lf ∷ []))
 story_is_out g c d =
     story_out g.W.Target.state c.telling.output c.take_next.new.sink d (text_of (taken g c).come.envelope) c.telling.invariant.held c.telling.invariant.unbroken c.in_ok-octets.ensures.calm (taken g c).text
@@ -81,85 +81,85 @@ returns-in_err-octets-clause-err g c =
     handed_on _ c.from_residual-in_err-octets.result fault c.from_residual-in_err-octets.ensures.1
     (unfed state c.gifts_join.ensures c.texts_join.ensures rest c.take_next.new.unpacker a b fault r empty none c.in_err-octets.ensures.calm c.in_err-octets.ensures.next)
 
-pub returns-in_err-say-in-Envelope-clause-err : goal.returns-in_err-say-in-Envelope-clause-err
-returns-in_err-say-in-Envelope-clause-err g c =
+pub returns-in_err-say-in-Ok-Some-clause-err : goal.returns-in_err-say-in-Ok-Some-clause-err
+returns-in_err-say-in-Ok-Some-clause-err g c =
     let rest = in_line g.R.Source.state c.take_next.new.intake in
     let state = g.W.Target.state in
     let r = c.telling.invariant.narrated in
-    let at = (goal.at.returns-in_err-say-in-Envelope-clause-err g c).In-Envelope in
+    let at = (goal.at.returns-in_err-say-in-Ok-Some-clause-err g c).In-Ok-Some in
     let h = taken g at in
     let e = h.come.envelope in
     let d = c.let_out.new.output in
-    let out = envelope_out g at d c.in_ok-let_out-in-Envelope.ensures.ok c.in_ok-let_out-in-Envelope.ensures.held c.in_ok-let_out-in-Envelope.ensures.calm in
+    let out = envelope_out g at d c.in_ok-let_out-in-Ok-Some.ensures.ok c.in_ok-let_out-in-Ok-Some.ensures.held c.in_ok-let_out-in-Ok-Some.ensures.calm in
     let full : c.telling.count ≡ max_envelopes = search rules in
     let errors_new = g.E.Target.state c.say.new.output in
-    let fault = c.in_err-say-in-Envelope.field-0.0 in
+    let fault = c.in_err-say-in-Ok-Some.field-0.0 in
     let same : c.as_bytes.result.now ≡ too_many_line = search rules in
-    handed_on _ c.from_residual-in_err-say-in-Envelope.result fault c.from_residual-in_err-say-in-Envelope.ensures.1
+    handed_on _ c.from_residual-in_err-say-in-Ok-Some.result fault c.from_residual-in_err-say-in-Ok-Some.ensures.1
     (broke_in_lines c.gifts_join.ensures c.texts_join.ensures rest (state d.writer.now) errors_new e.octets (text_of e) c.as_bytes.result.now TooMany fault r
-    h.come.came.given (full, e, h.come.is, [], sym (append-nil e.octets)) (e, h.come.is, [], sym (append-nil e.octets), refl) out same c.in_err-say-in-Envelope.ensures.err)
+    h.come.came.given (full, e, h.come.is, [], sym (append-nil e.octets)) (e, h.come.is, [], sym (append-nil e.octets), refl) out same c.in_err-say-in-Ok-Some.ensures.err)
 
 pub returns-then-count-eq-MAX_ENVELOPES-clause-ok : goal.returns-then-count-eq-MAX_ENVELOPES-clause-ok
 returns-then-count-eq-MAX_ENVELOPES-clause-ok g c =
     let rest = in_line g.R.Source.state c.take_next.new.intake in
     let state = g.W.Target.state in
     let r = c.telling.invariant.narrated in
-    let at = (goal.at.returns-then-count-eq-MAX_ENVELOPES-clause-ok g c).In-Envelope in
+    let at = (goal.at.returns-then-count-eq-MAX_ENVELOPES-clause-ok g c).In-Ok-Some in
     let h = taken g at in
     let e = h.come.envelope in
     let d = c.let_out.new.output in
-    let out = envelope_out g at d c.in_ok-let_out-in-Envelope.ensures.ok c.in_ok-let_out-in-Envelope.ensures.held c.in_ok-let_out-in-Envelope.ensures.calm in
+    let out = envelope_out g at d c.in_ok-let_out-in-Ok-Some.ensures.ok c.in_ok-let_out-in-Ok-Some.ensures.held c.in_ok-let_out-in-Ok-Some.ensures.calm in
     let full : c.telling.count ≡ max_envelopes = search rules in
     let errors_new = g.E.Target.state c.say.new.output in
     let same : c.as_bytes.result.now ≡ too_many_line = search rules in
     let more = left_of rest.octets in
     narrated c.gifts_join.ensures c.texts_join.ensures rest (state d.writer.now) errors_new 1 e.octets more.0 (text_of e) c.as_bytes.result.now TooMany r
-    h.come.came.given more.1 (full, e, h.come.is, more.0, refl) (e, h.come.is, more.0, refl, refl) refl out same c.in_ok-say-in-Envelope.ensures.ok
+    h.come.came.given more.1 (full, e, h.come.is, more.0, refl) (e, h.come.is, more.0, refl, refl) refl out same c.in_ok-say-in-Ok-Some.ensures.ok
 
 pub returns-then-is_err-clause-err : goal.returns-then-is_err-clause-err
 returns-then-is_err-clause-err g c =
     let rest = in_line g.R.Source.state c.take_next.new.intake in
     let state = g.W.Target.state in
     let r = c.telling.invariant.narrated in
-    let at = (goal.at.returns-then-is_err-clause-err g c).In-Envelope in
+    let at = (goal.at.returns-then-is_err-clause-err g c).In-Ok-Some in
     let h = taken g at in
     let e = h.come.envelope in
     let d = c.let_out-then-is_err.new.output in
-    let out = envelope_out g at d c.in_ok-let_out-in-Envelope-2.ensures.ok c.in_ok-let_out-in-Envelope-2.ensures.held c.in_ok-let_out-in-Envelope-2.ensures.calm in
+    let out = envelope_out g at d c.in_ok-let_out-in-Ok-Some-2.ensures.ok c.in_ok-let_out-in-Ok-Some-2.ensures.held c.in_ok-let_out-in-Ok-Some-2.ensures.calm in
     unfed_for_memory c.gifts_join.ensures c.texts_join.ensures rest (state d.writer.now) e.octets (length e.octets) (text_of e) r h.come.came.given h.whole out
 
-pub returns-in_err-end_story-in-Envelope-clause-err : goal.returns-in_err-end_story-in-Envelope-clause-err
-returns-in_err-end_story-in-Envelope-clause-err g c =
+pub returns-in_err-end_story-in-Ok-Some-clause-err : goal.returns-in_err-end_story-in-Ok-Some-clause-err
+returns-in_err-end_story-in-Ok-Some-clause-err g c =
     let r = c.telling.invariant.narrated in
     let empty = c.telling.invariant.held in
     let none = c.telling.invariant.unbroken in
-    let h = taken g (goal.at.returns-in_err-end_story-in-Envelope-clause-err g c).In-Envelope in
+    let h = taken g (goal.at.returns-in_err-end_story-in-Ok-Some-clause-err g c).In-Ok-Some in
     let d = c.end_story.new.output in
-    let fault = c.in_err-end_story-in-Envelope.field-0.0 in
-    handed_on _ c.from_residual-in_err-end_story-in-Envelope.result fault c.from_residual-in_err-end_story-in-Envelope.ensures.1
-    (unended_text c.gifts_join.ensures d fault r empty none c.in_ok-octets.ensures.calm h c.in_err-end_story-in-Envelope.ensures.err)
+    let fault = c.in_err-end_story-in-Ok-Some.field-0.0 in
+    handed_on _ c.from_residual-in_err-end_story-in-Ok-Some.result fault c.from_residual-in_err-end_story-in-Ok-Some.ensures.1
+    (unended_text c.gifts_join.ensures d fault r empty none c.in_ok-octets.ensures.calm h c.in_err-end_story-in-Ok-Some.ensures.err)
 
-pub returns-in_err-say-in-Envelope-2-clause-err : goal.returns-in_err-say-in-Envelope-2-clause-err
-returns-in_err-say-in-Envelope-2-clause-err g c =
+pub returns-in_err-say-in-Ok-Some-2-clause-err : goal.returns-in_err-say-in-Ok-Some-2-clause-err
+returns-in_err-say-in-Ok-Some-2-clause-err g c =
     let rest = in_line g.R.Source.state c.take_next.new.intake in
     let state = g.W.Target.state in
     let r = c.telling.invariant.narrated in
-    let at = (goal.at.returns-in_err-say-in-Envelope-2-clause-err g c).In-Envelope in
+    let at = (goal.at.returns-in_err-say-in-Ok-Some-2-clause-err g c).In-Ok-Some in
     let h = taken g at in
     let e = h.come.envelope in
-    let words = added c.clear.new.self.items c.push_accepted.new.text.items (accepted_line (c.telling.count + 1) c.in-Envelope.octets) c.as_slice.result.now c.clear.ensures.items
+    let words = added c.clear.new.self.items c.push_accepted.new.text.items (accepted_line (c.telling.count + 1) c.in-Ok-Some.octets) c.as_slice.result.now c.clear.ensures.items
     (pushed c.push_accepted.result _ (sym c.is_err.ensures.value ∙ c.if-is_err.false) c.push_accepted.ensures) c.as_slice.ensures.value ∙ ap (accepted_line (c.telling.count + 1)) h.come.counts in
     let below : c.telling.count ≡ max_envelopes → ⊥ = search rules in
     let d = c.end_story.new.output in
-    let out = story_is_out g at d c.in_ok-end_story-in-Envelope.ensures.ok c.in_ok-end_story-in-Envelope.ensures.held c.in_ok-end_story-in-Envelope.ensures.calm in
-    let errors_new = g.E.Target.state c.say-in-Envelope.new.output in
-    let fault = c.in_err-say-in-Envelope-2.field-0.0 in
-    handed_on _ c.from_residual-in_err-say-in-Envelope-2.result fault c.from_residual-in_err-say-in-Envelope-2.ensures.1
+    let out = story_is_out g at d c.in_ok-end_story-in-Ok-Some.ensures.ok c.in_ok-end_story-in-Ok-Some.ensures.held c.in_ok-end_story-in-Ok-Some.ensures.calm in
+    let errors_new = g.E.Target.state c.say-in-Ok-Some.new.output in
+    let fault = c.in_err-say-in-Ok-Some-2.field-0.0 in
+    handed_on _ c.from_residual-in_err-say-in-Ok-Some-2.result fault c.from_residual-in_err-say-in-Ok-Some-2.ensures.1
     (broke_in_line c.gifts_join.ensures c.texts_join.ensures rest (state d.writer.now) errors_new c.as_slice.result.now e fault r
-    h.come.is h.come.came.given below out words c.in_err-say-in-Envelope-2.ensures.err)
+    h.come.is h.come.came.given below out words c.in_err-say-in-Ok-Some-2.ensures.err)
 
-pub returns-in-End-clause-ok : goal.returns-in-End-clause-ok
-returns-in-End-clause-ok g c =
+pub returns-in-Ok-None-clause-ok : goal.returns-in-Ok-None-clause-ok
+returns-in-Ok-None-clause-ok g c =
     let mid = in_line g.R.Source.state c.telling.intake in
     let rest = in_line g.R.Source.state c.take_next.new.intake in
     let state = g.W.Target.state in
@@ -170,94 +170,94 @@ returns-in-End-clause-ok g c =
     let texts = c.texts_join.ensures in
     let empty = c.telling.invariant.held in
     let none = c.telling.invariant.unbroken in
-    let h = end_as (PutsLines state) stops_of HoldsNothing (StaysStuck state) mid rest c.take_next.new.unpacker a b c.in_ok-octets.field-0 c.in-End.is c.in_ok-octets.ensures.next in
+    let h = end_as (PutsLines state) stops_of HoldsNothing (StaysStuck state) mid rest c.take_next.new.unpacker a b c.in_ok-octets.field-0 (found c.in-Ok-None.is c.in-Ok-None.field-0-is) c.in_ok-octets.ensures.next in
     let still : Wrote (state a.writer.now) (state b.writer.now) [] = wrote_by state a b [] empty h.3 none c.in_ok-octets.ensures.calm h.2 in
     narrated c.gifts_join.ensures c.texts_join.ensures rest (state b.writer.now) errors_now 0 [] [] [] [] Whole r h.0 (none_left rest.octets h.1) refl refl refl
     still refl (texts.none errors_now)
 
-pub returns-in_err-push_refused-in-Refused-clause-err : goal.returns-in_err-push_refused-in-Refused-clause-err
-returns-in_err-push_refused-in-Refused-clause-err g c =
+pub returns-in_err-push_refused-in-Err-clause-err : goal.returns-in_err-push_refused-in-Err-clause-err
+returns-in_err-push_refused-in-Err-clause-err g c =
     let rest = in_line g.R.Source.state c.take_next.new.intake in
     let state = g.W.Target.state in
     let r = c.telling.invariant.narrated in
-    let at = (goal.at.returns-in_err-push_refused-in-Refused-clause-err g c).In-Refused in
+    let at = (goal.at.returns-in_err-push_refused-in-Err-clause-err g c).In-Err in
     let f = refusal g at in
-    let d = c.let_out-in-Refused.new.output in
-    let out = refused_out g at d c.in_ok-let_out-in-Refused.ensures.ok c.in_ok-let_out-in-Refused.ensures.held c.in_ok-let_out-in-Refused.ensures.calm in
+    let d = c.let_out-in-Err.new.output in
+    let out = refused_out g at d c.in_ok-let_out-in-Err.ensures.ok c.in_ok-let_out-in-Err.ensures.held c.in_ok-let_out-in-Err.ensures.calm in
     let words = map octet_for f.more in
-    handed_on _ c.from_residual-in_err-push_refused-in-Refused.result OutOfMemory c.from_residual-in_err-push_refused-in-Refused.ensures.1
+    handed_on _ c.from_residual-in_err-push_refused-in-Err.result OutOfMemory c.from_residual-in_err-push_refused-in-Err.ensures.1
     (unfed_for_memory c.gifts_join.ensures c.texts_join.ensures rest (state d.writer.now) f.octets f.k words r f.came.given (f.more, f.delivered, refl) out)
 
-pub returns-in_err-say-in-Refused-clause-err : goal.returns-in_err-say-in-Refused-clause-err
-returns-in_err-say-in-Refused-clause-err g c =
+pub returns-in_err-say-in-Err-clause-err : goal.returns-in_err-say-in-Err-clause-err
+returns-in_err-say-in-Err-clause-err g c =
     let rest = in_line g.R.Source.state c.take_next.new.intake in
     let state = g.W.Target.state in
     let r = c.telling.invariant.narrated in
-    let at = (goal.at.returns-in_err-say-in-Refused-clause-err g c).In-Refused in
+    let at = (goal.at.returns-in_err-say-in-Err-clause-err g c).In-Err in
     let f = refusal g at in
-    let d = c.let_out-in-Refused.new.output in
-    let out = refused_out g at d c.in_ok-let_out-in-Refused.ensures.ok c.in_ok-let_out-in-Refused.ensures.held c.in_ok-let_out-in-Refused.ensures.calm in
+    let d = c.let_out-in-Err.new.output in
+    let out = refused_out g at d c.in_ok-let_out-in-Err.ensures.ok c.in_ok-let_out-in-Err.ensures.held c.in_ok-let_out-in-Err.ensures.calm in
     let words = map octet_for f.more in
-    let errors_new = g.E.Target.state c.say-in-Refused.new.output in
-    let same : c.as_slice-in-Refused.result.now ≡ refused_line (c.telling.count + 1) c.in-Refused.refusal = search rules in
-    let fault = c.in_err-say-in-Refused.field-0.0 in
-    handed_on _ c.from_residual-in_err-say-in-Refused.result fault c.from_residual-in_err-say-in-Refused.ensures.1
-    (broke_in_lines c.gifts_join.ensures c.texts_join.ensures rest (state d.writer.now) errors_new f.octets words c.as_slice-in-Refused.result.now
-    (RefusedBy c.in-Refused.refusal) fault r f.came.given (f.k, f.refused) (f.k, f.refused, (f.more, f.delivered, refl)) out same c.in_err-say-in-Refused.ensures.err)
+    let errors_new = g.E.Target.state c.say-in-Err.new.output in
+    let same : c.as_slice-in-Err.result.now ≡ refused_line (c.telling.count + 1) c.in-Err.refusal = search rules in
+    let fault = c.in_err-say-in-Err.field-0.0 in
+    handed_on _ c.from_residual-in_err-say-in-Err.result fault c.from_residual-in_err-say-in-Err.ensures.1
+    (broke_in_lines c.gifts_join.ensures c.texts_join.ensures rest (state d.writer.now) errors_new f.octets words c.as_slice-in-Err.result.now
+    (RefusedBy c.in-Err.refusal) fault r f.came.given (f.k, f.refused) (f.k, f.refused, (f.more, f.delivered, refl)) out same c.in_err-say-in-Err.ensures.err)
 
-pub returns-in-Refused-clause-ok : goal.returns-in-Refused-clause-ok
-returns-in-Refused-clause-ok g c =
+pub returns-in-Err-clause-ok : goal.returns-in-Err-clause-ok
+returns-in-Err-clause-ok g c =
     let mid = in_line g.R.Source.state c.telling.intake in
     let rest = in_line g.R.Source.state c.take_next.new.intake in
     let state = g.W.Target.state in
     let a = c.telling.output in
     let b = c.take_next.new.sink in
     let r = c.telling.invariant.narrated in
-    let at = (goal.at.returns-in-Refused-clause-ok g c).In-Refused in
+    let at = (goal.at.returns-in-Err-clause-ok g c).In-Err in
     let f = refusal g at in
-    let d = c.let_out-in-Refused.new.output in
-    let out = refused_out g at d c.in_ok-let_out-in-Refused.ensures.ok c.in_ok-let_out-in-Refused.ensures.held c.in_ok-let_out-in-Refused.ensures.calm in
+    let d = c.let_out-in-Err.new.output in
+    let out = refused_out g at d c.in_ok-let_out-in-Err.ensures.ok c.in_ok-let_out-in-Err.ensures.held c.in_ok-let_out-in-Err.ensures.calm in
     let words = map octet_for f.more in
-    let errors_new = g.E.Target.state c.say-in-Refused.new.output in
-    let same : c.as_slice-in-Refused.result.now ≡ refused_line (c.telling.count + 1) c.in-Refused.refusal = search rules in
-    let more = ends_refused (PutsLines state) mid rest a b c.in-Refused.refusal f in
-    narrated c.gifts_join.ensures c.texts_join.ensures rest (state d.writer.now) errors_new 1 f.octets more.0 words c.as_slice-in-Refused.result.now
-    (RefusedBy c.in-Refused.refusal) r f.came.given more.1 (f.k, more.2) (text_refused state mid rest a b c.in-Refused.refusal f more.0 more.2) refl out same c.in_ok-say-in-Refused.ensures.ok
+    let errors_new = g.E.Target.state c.say-in-Err.new.output in
+    let same : c.as_slice-in-Err.result.now ≡ refused_line (c.telling.count + 1) c.in-Err.refusal = search rules in
+    let more = ends_refused (PutsLines state) mid rest a b c.in-Err.refusal f in
+    narrated c.gifts_join.ensures c.texts_join.ensures rest (state d.writer.now) errors_new 1 f.octets more.0 words c.as_slice-in-Err.result.now
+    (RefusedBy c.in-Err.refusal) r f.came.given more.1 (f.k, more.2) (text_refused state mid rest a b c.in-Err.refusal f more.0 more.2) refl out same c.in_ok-say-in-Err.ensures.ok
 
 pub telling-preserved : goal.telling-preserved
 telling-preserved g c =
     let rest = in_line g.R.Source.state c.take_next.new.intake in
     let state = g.W.Target.state in
     let r = c.telling.invariant.narrated in
-    let at = (goal.at.telling-preserved g c).In-Envelope in
+    let at = (goal.at.telling-preserved g c).In-Ok-Some in
     let h = taken g at in
     let e = h.come.envelope in
-    let words = added c.clear.new.self.items c.push_accepted.new.text.items (accepted_line (c.telling.count + 1) c.in-Envelope.octets) c.as_slice.result.now c.clear.ensures.items
+    let words = added c.clear.new.self.items c.push_accepted.new.text.items (accepted_line (c.telling.count + 1) c.in-Ok-Some.octets) c.as_slice.result.now c.clear.ensures.items
     (pushed c.push_accepted.result _ (sym c.is_err.ensures.value ∙ c.if-is_err.false) c.push_accepted.ensures) c.as_slice.ensures.value ∙ ap (accepted_line (c.telling.count + 1)) h.come.counts in
     let below : c.telling.count ≡ max_envelopes → ⊥ = search rules in
     let d = c.end_story.new.output in
-    let out = story_is_out g at d c.in_ok-end_story-in-Envelope.ensures.ok c.in_ok-end_story-in-Envelope.ensures.held c.in_ok-end_story-in-Envelope.ensures.calm in
-    let errors_new = g.E.Target.state c.say-in-Envelope.new.output in
+    let out = story_is_out g at d c.in_ok-end_story-in-Ok-Some.ensures.ok c.in_ok-end_story-in-Ok-Some.ensures.held c.in_ok-end_story-in-Ok-Some.ensures.calm in
+    let errors_new = g.E.Target.state c.say-in-Ok-Some.new.output in
     record {
-      alive = lives_as c.take_next.new.intake.failed c.in_ok-octets.field-0 c.in-Envelope.octets c.in-Envelope.is c.in_ok-octets.ensures.lives;
+      alive = lives_as c.take_next.new.intake.failed c.in_ok-octets.field-0 c.in-Ok-Some.octets (found c.in-Ok-Some.is c.in-Ok-Some.field-0-is) c.in_ok-octets.ensures.lives;
       same = h.come.same;
-      held = c.in_ok-end_story-in-Envelope.ensures.held;
-      unbroken = c.in_ok-end_story-in-Envelope.ensures.calm ∙ c.in_ok-octets.ensures.calm ∙ c.telling.invariant.unbroken;
-      keeps = c.in_ok-end_story-in-Envelope.ensures.ok.same ∙ h.come.came.told.same ∙ c.telling.invariant.keeps;
+      held = c.in_ok-end_story-in-Ok-Some.ensures.held;
+      unbroken = c.in_ok-end_story-in-Ok-Some.ensures.calm ∙ c.in_ok-octets.ensures.calm ∙ c.telling.invariant.unbroken;
+      keeps = c.in_ok-end_story-in-Ok-Some.ensures.ok.same ∙ h.come.came.told.same ∙ c.telling.invariant.keeps;
       narrated =
           narrated_more c.gifts_join.ensures c.texts_join.ensures rest (state d.writer.now) errors_new c.as_slice.result.now e r
-          h.come.is h.come.came.given below out words c.in_ok-say-in-Envelope-2.ensures.ok;
+          h.come.is h.come.came.given below out words c.in_ok-say-in-Ok-Some-2.ensures.ok;
       leads = λ last h. c.telling.invariant.leads last (g.met.R.Source.leads_on c.telling.intake.reader c.take_next.new.intake.reader last c.take_next.ensures.leads h);
     }
 
-pub returns-in_err-say-in-Envelope-2-clause-leads : goal.returns-in_err-say-in-Envelope-2-clause-leads
-returns-in_err-say-in-Envelope-2-clause-leads g c = c.telling.invariant.leads c.take_next.new.intake.reader c.take_next.ensures.leads
+pub returns-in_err-say-in-Ok-Some-2-clause-leads : goal.returns-in_err-say-in-Ok-Some-2-clause-leads
+returns-in_err-say-in-Ok-Some-2-clause-leads g c = c.telling.invariant.leads c.take_next.new.intake.reader c.take_next.ensures.leads
 
 pub returns-in_err-octets-clause-leads : goal.returns-in_err-octets-clause-leads
 returns-in_err-octets-clause-leads g c = c.telling.invariant.leads c.take_next.new.intake.reader c.take_next.ensures.leads
 
-pub returns-in_err-say-in-Envelope-clause-leads : goal.returns-in_err-say-in-Envelope-clause-leads
-returns-in_err-say-in-Envelope-clause-leads g c = c.telling.invariant.leads c.take_next.new.intake.reader c.take_next.ensures.leads
+pub returns-in_err-say-in-Ok-Some-clause-leads : goal.returns-in_err-say-in-Ok-Some-clause-leads
+returns-in_err-say-in-Ok-Some-clause-leads g c = c.telling.invariant.leads c.take_next.new.intake.reader c.take_next.ensures.leads
 
 pub returns-then-count-eq-MAX_ENVELOPES-clause-leads : goal.returns-then-count-eq-MAX_ENVELOPES-clause-leads
 returns-then-count-eq-MAX_ENVELOPES-clause-leads g c = c.telling.invariant.leads c.take_next.new.intake.reader c.take_next.ensures.leads
@@ -265,23 +265,23 @@ returns-then-count-eq-MAX_ENVELOPES-clause-leads g c = c.telling.invariant.leads
 pub returns-then-is_err-clause-leads : goal.returns-then-is_err-clause-leads
 returns-then-is_err-clause-leads g c = c.telling.invariant.leads c.take_next.new.intake.reader c.take_next.ensures.leads
 
-pub returns-in_err-end_story-in-Envelope-clause-leads : goal.returns-in_err-end_story-in-Envelope-clause-leads
-returns-in_err-end_story-in-Envelope-clause-leads g c = c.telling.invariant.leads c.take_next.new.intake.reader c.take_next.ensures.leads
+pub returns-in_err-end_story-in-Ok-Some-clause-leads : goal.returns-in_err-end_story-in-Ok-Some-clause-leads
+returns-in_err-end_story-in-Ok-Some-clause-leads g c = c.telling.invariant.leads c.take_next.new.intake.reader c.take_next.ensures.leads
 
-pub returns-in-End-clause-leads : goal.returns-in-End-clause-leads
-returns-in-End-clause-leads g c = c.telling.invariant.leads c.take_next.new.intake.reader c.take_next.ensures.leads
+pub returns-in-Ok-None-clause-leads : goal.returns-in-Ok-None-clause-leads
+returns-in-Ok-None-clause-leads g c = c.telling.invariant.leads c.take_next.new.intake.reader c.take_next.ensures.leads
 
-pub returns-in_err-push_refused-in-Refused-clause-leads : goal.returns-in_err-push_refused-in-Refused-clause-leads
-returns-in_err-push_refused-in-Refused-clause-leads g c = c.telling.invariant.leads c.take_next.new.intake.reader c.take_next.ensures.leads
+pub returns-in_err-push_refused-in-Err-clause-leads : goal.returns-in_err-push_refused-in-Err-clause-leads
+returns-in_err-push_refused-in-Err-clause-leads g c = c.telling.invariant.leads c.take_next.new.intake.reader c.take_next.ensures.leads
 
-pub returns-in_err-say-in-Refused-clause-leads : goal.returns-in_err-say-in-Refused-clause-leads
-returns-in_err-say-in-Refused-clause-leads g c = c.telling.invariant.leads c.take_next.new.intake.reader c.take_next.ensures.leads
+pub returns-in_err-say-in-Err-clause-leads : goal.returns-in_err-say-in-Err-clause-leads
+returns-in_err-say-in-Err-clause-leads g c = c.telling.invariant.leads c.take_next.new.intake.reader c.take_next.ensures.leads
 
-pub returns-in-Refused-clause-leads : goal.returns-in-Refused-clause-leads
-returns-in-Refused-clause-leads g c = c.telling.invariant.leads c.take_next.new.intake.reader c.take_next.ensures.leads
+pub returns-in-Err-clause-leads : goal.returns-in-Err-clause-leads
+returns-in-Err-clause-leads g c = c.telling.invariant.leads c.take_next.new.intake.reader c.take_next.ensures.leads
 
-pub returns-in_err-let_out-in-Envelope-clause-err : goal.returns-in_err-let_out-in-Envelope-clause-err
-returns-in_err-let_out-in-Envelope-clause-err g c =
+pub returns-in_err-let_out-in-Ok-Some-clause-err : goal.returns-in_err-let_out-in-Ok-Some-clause-err
+returns-in_err-let_out-in-Ok-Some-clause-err g c =
     let rest = in_line g.R.Source.state c.take_next.new.intake in
     let state = g.W.Target.state in
     let a = c.telling.output in
@@ -289,15 +289,15 @@ returns-in_err-let_out-in-Envelope-clause-err g c =
     let r = c.telling.invariant.narrated in
     let empty = c.telling.invariant.held in
     let none = c.telling.invariant.unbroken in
-    let h = taken g (goal.at.returns-in_err-let_out-in-Envelope-clause-err g c).In-Envelope in
+    let h = taken g (goal.at.returns-in_err-let_out-in-Ok-Some-clause-err g c).In-Ok-Some in
     let e = h.come.envelope in
     let d = c.let_out.new.output in
-    let fault = c.in_err-let_out-in-Envelope.field-0.0 in
-    handed_on _ c.from_residual-in_err-let_out-in-Envelope.result fault c.from_residual-in_err-let_out-in-Envelope.ensures.1
-    (held_back_as state c.gifts_join.ensures rest a b d e.octets (length e.octets) (text_of e) fault r h.come.came.given (omega arith) h.whole empty none c.in_ok-octets.ensures.calm h.text c.in_err-let_out-in-Envelope.ensures.err)
+    let fault = c.in_err-let_out-in-Ok-Some.field-0.0 in
+    handed_on _ c.from_residual-in_err-let_out-in-Ok-Some.result fault c.from_residual-in_err-let_out-in-Ok-Some.ensures.1
+    (held_back_as state c.gifts_join.ensures rest a b d e.octets (length e.octets) (text_of e) fault r h.come.came.given (omega arith) h.whole empty none c.in_ok-octets.ensures.calm h.text c.in_err-let_out-in-Ok-Some.ensures.err)
 
-pub returns-in_err-let_out-in-Envelope-2-clause-err : goal.returns-in_err-let_out-in-Envelope-2-clause-err
-returns-in_err-let_out-in-Envelope-2-clause-err g c =
+pub returns-in_err-let_out-in-Ok-Some-2-clause-err : goal.returns-in_err-let_out-in-Ok-Some-2-clause-err
+returns-in_err-let_out-in-Ok-Some-2-clause-err g c =
     let rest = in_line g.R.Source.state c.take_next.new.intake in
     let state = g.W.Target.state in
     let a = c.telling.output in
@@ -305,15 +305,15 @@ returns-in_err-let_out-in-Envelope-2-clause-err g c =
     let r = c.telling.invariant.narrated in
     let empty = c.telling.invariant.held in
     let none = c.telling.invariant.unbroken in
-    let h = taken g (goal.at.returns-in_err-let_out-in-Envelope-2-clause-err g c).In-Envelope in
+    let h = taken g (goal.at.returns-in_err-let_out-in-Ok-Some-2-clause-err g c).In-Ok-Some in
     let e = h.come.envelope in
     let d = c.let_out-then-is_err.new.output in
-    let fault = c.in_err-let_out-in-Envelope-2.field-0.0 in
-    handed_on _ c.from_residual-in_err-let_out-in-Envelope-2.result fault c.from_residual-in_err-let_out-in-Envelope-2.ensures.1
-    (held_back_as state c.gifts_join.ensures rest a b d e.octets (length e.octets) (text_of e) fault r h.come.came.given (omega arith) h.whole empty none c.in_ok-octets.ensures.calm h.text c.in_err-let_out-in-Envelope-2.ensures.err)
+    let fault = c.in_err-let_out-in-Ok-Some-2.field-0.0 in
+    handed_on _ c.from_residual-in_err-let_out-in-Ok-Some-2.result fault c.from_residual-in_err-let_out-in-Ok-Some-2.ensures.1
+    (held_back_as state c.gifts_join.ensures rest a b d e.octets (length e.octets) (text_of e) fault r h.come.came.given (omega arith) h.whole empty none c.in_ok-octets.ensures.calm h.text c.in_err-let_out-in-Ok-Some-2.ensures.err)
 
-pub returns-in_err-let_out-in-Refused-clause-err : goal.returns-in_err-let_out-in-Refused-clause-err
-returns-in_err-let_out-in-Refused-clause-err g c =
+pub returns-in_err-let_out-in-Err-clause-err : goal.returns-in_err-let_out-in-Err-clause-err
+returns-in_err-let_out-in-Err-clause-err g c =
     let rest = in_line g.R.Source.state c.take_next.new.intake in
     let state = g.W.Target.state in
     let a = c.telling.output in
@@ -321,20 +321,20 @@ returns-in_err-let_out-in-Refused-clause-err g c =
     let r = c.telling.invariant.narrated in
     let empty = c.telling.invariant.held in
     let none = c.telling.invariant.unbroken in
-    let f = refusal g (goal.at.returns-in_err-let_out-in-Refused-clause-err g c).In-Refused in
-    let d = c.let_out-in-Refused.new.output in
-    let fault = c.in_err-let_out-in-Refused.field-0.0 in
-    handed_on _ c.from_residual-in_err-let_out-in-Refused.result fault c.from_residual-in_err-let_out-in-Refused.ensures.1
-    (held_back_as state c.gifts_join.ensures rest a b d f.octets f.k (map octet_for f.more) fault r f.came.given (refused_within f.octets f.k c.in-Refused.refusal f.refused) (f.more, f.delivered, refl) empty none c.in_ok-octets.ensures.calm f.came.told c.in_err-let_out-in-Refused.ensures.err)
+    let f = refusal g (goal.at.returns-in_err-let_out-in-Err-clause-err g c).In-Err in
+    let d = c.let_out-in-Err.new.output in
+    let fault = c.in_err-let_out-in-Err.field-0.0 in
+    handed_on _ c.from_residual-in_err-let_out-in-Err.result fault c.from_residual-in_err-let_out-in-Err.ensures.1
+    (held_back_as state c.gifts_join.ensures rest a b d f.octets f.k (map octet_for f.more) fault r f.came.given (refused_within f.octets f.k c.in-Err.refusal f.refused) (f.more, f.delivered, refl) empty none c.in_ok-octets.ensures.calm f.came.told c.in_err-let_out-in-Err.ensures.err)
 
-pub returns-in_err-let_out-in-Envelope-clause-leads : goal.returns-in_err-let_out-in-Envelope-clause-leads
-returns-in_err-let_out-in-Envelope-clause-leads g c = c.telling.invariant.leads c.take_next.new.intake.reader c.take_next.ensures.leads
+pub returns-in_err-let_out-in-Ok-Some-clause-leads : goal.returns-in_err-let_out-in-Ok-Some-clause-leads
+returns-in_err-let_out-in-Ok-Some-clause-leads g c = c.telling.invariant.leads c.take_next.new.intake.reader c.take_next.ensures.leads
 
-pub returns-in_err-let_out-in-Envelope-2-clause-leads : goal.returns-in_err-let_out-in-Envelope-2-clause-leads
-returns-in_err-let_out-in-Envelope-2-clause-leads g c = c.telling.invariant.leads c.take_next.new.intake.reader c.take_next.ensures.leads
+pub returns-in_err-let_out-in-Ok-Some-2-clause-leads : goal.returns-in_err-let_out-in-Ok-Some-2-clause-leads
+returns-in_err-let_out-in-Ok-Some-2-clause-leads g c = c.telling.invariant.leads c.take_next.new.intake.reader c.take_next.ensures.leads
 
-pub returns-in_err-let_out-in-Refused-clause-leads : goal.returns-in_err-let_out-in-Refused-clause-leads
-returns-in_err-let_out-in-Refused-clause-leads g c = c.telling.invariant.leads c.take_next.new.intake.reader c.take_next.ensures.leads
+pub returns-in_err-let_out-in-Err-clause-leads : goal.returns-in_err-let_out-in-Err-clause-leads
+returns-in_err-let_out-in-Err-clause-leads g c = c.telling.invariant.leads c.take_next.new.intake.reader c.take_next.ensures.leads
 
 -- ---- the writer is over the same target
 
@@ -347,38 +347,38 @@ keeps_so_far g c =
 pub returns-in_err-octets-clause-same : goal.returns-in_err-octets-clause-same
 returns-in_err-octets-clause-same g c = keeps_so_far g (goal.at.returns-in_err-octets-clause-same g c).After-take_next
 
-pub returns-in_err-let_out-in-Envelope-clause-same : goal.returns-in_err-let_out-in-Envelope-clause-same
-returns-in_err-let_out-in-Envelope-clause-same g c = c.in_err-let_out-in-Envelope.ensures.err.1.0.same ∙ keeps_so_far g (goal.at.returns-in_err-let_out-in-Envelope-clause-same g c).After-take_next
+pub returns-in_err-let_out-in-Ok-Some-clause-same : goal.returns-in_err-let_out-in-Ok-Some-clause-same
+returns-in_err-let_out-in-Ok-Some-clause-same g c = c.in_err-let_out-in-Ok-Some.ensures.err.1.0.same ∙ keeps_so_far g (goal.at.returns-in_err-let_out-in-Ok-Some-clause-same g c).After-take_next
 
-pub returns-in_err-say-in-Envelope-clause-same : goal.returns-in_err-say-in-Envelope-clause-same
-returns-in_err-say-in-Envelope-clause-same g c = c.in_ok-let_out-in-Envelope.ensures.ok.same ∙ keeps_so_far g (goal.at.returns-in_err-say-in-Envelope-clause-same g c).After-take_next
+pub returns-in_err-say-in-Ok-Some-clause-same : goal.returns-in_err-say-in-Ok-Some-clause-same
+returns-in_err-say-in-Ok-Some-clause-same g c = c.in_ok-let_out-in-Ok-Some.ensures.ok.same ∙ keeps_so_far g (goal.at.returns-in_err-say-in-Ok-Some-clause-same g c).After-take_next
 
 pub returns-then-count-eq-MAX_ENVELOPES-clause-same : goal.returns-then-count-eq-MAX_ENVELOPES-clause-same
-returns-then-count-eq-MAX_ENVELOPES-clause-same g c = c.in_ok-let_out-in-Envelope.ensures.ok.same ∙ keeps_so_far g (goal.at.returns-then-count-eq-MAX_ENVELOPES-clause-same g c).After-take_next
+returns-then-count-eq-MAX_ENVELOPES-clause-same g c = c.in_ok-let_out-in-Ok-Some.ensures.ok.same ∙ keeps_so_far g (goal.at.returns-then-count-eq-MAX_ENVELOPES-clause-same g c).After-take_next
 
-pub returns-in_err-let_out-in-Envelope-2-clause-same : goal.returns-in_err-let_out-in-Envelope-2-clause-same
-returns-in_err-let_out-in-Envelope-2-clause-same g c = c.in_err-let_out-in-Envelope-2.ensures.err.1.0.same ∙ keeps_so_far g (goal.at.returns-in_err-let_out-in-Envelope-2-clause-same g c).After-take_next
+pub returns-in_err-let_out-in-Ok-Some-2-clause-same : goal.returns-in_err-let_out-in-Ok-Some-2-clause-same
+returns-in_err-let_out-in-Ok-Some-2-clause-same g c = c.in_err-let_out-in-Ok-Some-2.ensures.err.1.0.same ∙ keeps_so_far g (goal.at.returns-in_err-let_out-in-Ok-Some-2-clause-same g c).After-take_next
 
 pub returns-then-is_err-clause-same : goal.returns-then-is_err-clause-same
-returns-then-is_err-clause-same g c = c.in_ok-let_out-in-Envelope-2.ensures.ok.same ∙ keeps_so_far g (goal.at.returns-then-is_err-clause-same g c).After-take_next
+returns-then-is_err-clause-same g c = c.in_ok-let_out-in-Ok-Some-2.ensures.ok.same ∙ keeps_so_far g (goal.at.returns-then-is_err-clause-same g c).After-take_next
 
-pub returns-in_err-end_story-in-Envelope-clause-same : goal.returns-in_err-end_story-in-Envelope-clause-same
-returns-in_err-end_story-in-Envelope-clause-same g c = unended_keeps g.W.Target.state c.take_next.new.sink c.end_story.new.output c.in_err-end_story-in-Envelope.field-0.0 c.in_err-end_story-in-Envelope.ensures.err ∙ keeps_so_far g (goal.at.returns-in_err-end_story-in-Envelope-clause-same g c).After-take_next
+pub returns-in_err-end_story-in-Ok-Some-clause-same : goal.returns-in_err-end_story-in-Ok-Some-clause-same
+returns-in_err-end_story-in-Ok-Some-clause-same g c = unended_keeps g.W.Target.state c.take_next.new.sink c.end_story.new.output c.in_err-end_story-in-Ok-Some.field-0.0 c.in_err-end_story-in-Ok-Some.ensures.err ∙ keeps_so_far g (goal.at.returns-in_err-end_story-in-Ok-Some-clause-same g c).After-take_next
 
-pub returns-in_err-say-in-Envelope-2-clause-same : goal.returns-in_err-say-in-Envelope-2-clause-same
-returns-in_err-say-in-Envelope-2-clause-same g c = c.in_ok-end_story-in-Envelope.ensures.ok.same ∙ keeps_so_far g (goal.at.returns-in_err-say-in-Envelope-2-clause-same g c).After-take_next
+pub returns-in_err-say-in-Ok-Some-2-clause-same : goal.returns-in_err-say-in-Ok-Some-2-clause-same
+returns-in_err-say-in-Ok-Some-2-clause-same g c = c.in_ok-end_story-in-Ok-Some.ensures.ok.same ∙ keeps_so_far g (goal.at.returns-in_err-say-in-Ok-Some-2-clause-same g c).After-take_next
 
-pub returns-in-End-clause-same : goal.returns-in-End-clause-same
-returns-in-End-clause-same g c = keeps_so_far g (goal.at.returns-in-End-clause-same g c).After-take_next
+pub returns-in-Ok-None-clause-same : goal.returns-in-Ok-None-clause-same
+returns-in-Ok-None-clause-same g c = keeps_so_far g (goal.at.returns-in-Ok-None-clause-same g c).After-take_next
 
-pub returns-in_err-let_out-in-Refused-clause-same : goal.returns-in_err-let_out-in-Refused-clause-same
-returns-in_err-let_out-in-Refused-clause-same g c = c.in_err-let_out-in-Refused.ensures.err.1.0.same ∙ keeps_so_far g (goal.at.returns-in_err-let_out-in-Refused-clause-same g c).After-take_next
+pub returns-in_err-let_out-in-Err-clause-same : goal.returns-in_err-let_out-in-Err-clause-same
+returns-in_err-let_out-in-Err-clause-same g c = c.in_err-let_out-in-Err.ensures.err.1.0.same ∙ keeps_so_far g (goal.at.returns-in_err-let_out-in-Err-clause-same g c).After-take_next
 
-pub returns-in_err-push_refused-in-Refused-clause-same : goal.returns-in_err-push_refused-in-Refused-clause-same
-returns-in_err-push_refused-in-Refused-clause-same g c = c.in_ok-let_out-in-Refused.ensures.ok.same ∙ keeps_so_far g (goal.at.returns-in_err-push_refused-in-Refused-clause-same g c).After-take_next
+pub returns-in_err-push_refused-in-Err-clause-same : goal.returns-in_err-push_refused-in-Err-clause-same
+returns-in_err-push_refused-in-Err-clause-same g c = c.in_ok-let_out-in-Err.ensures.ok.same ∙ keeps_so_far g (goal.at.returns-in_err-push_refused-in-Err-clause-same g c).After-take_next
 
-pub returns-in_err-say-in-Refused-clause-same : goal.returns-in_err-say-in-Refused-clause-same
-returns-in_err-say-in-Refused-clause-same g c = c.in_ok-let_out-in-Refused.ensures.ok.same ∙ keeps_so_far g (goal.at.returns-in_err-say-in-Refused-clause-same g c).After-take_next
+pub returns-in_err-say-in-Err-clause-same : goal.returns-in_err-say-in-Err-clause-same
+returns-in_err-say-in-Err-clause-same g c = c.in_ok-let_out-in-Err.ensures.ok.same ∙ keeps_so_far g (goal.at.returns-in_err-say-in-Err-clause-same g c).After-take_next
 
-pub returns-in-Refused-clause-same : goal.returns-in-Refused-clause-same
-returns-in-Refused-clause-same g c = c.in_ok-let_out-in-Refused.ensures.ok.same ∙ keeps_so_far g (goal.at.returns-in-Refused-clause-same g c).After-take_next
+pub returns-in-Err-clause-same : goal.returns-in-Err-clause-same
+returns-in-Err-clause-same g c = c.in_ok-let_out-in-Err.ensures.ok.same ∙ keeps_so_far g (goal.at.returns-in-Err-clause-same g c).After-take_next
