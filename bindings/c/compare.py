@@ -12,6 +12,7 @@ import os
 import re
 import subprocess
 import sys
+from concurrent.futures import ThreadPoolExecutor
 
 TOP = os.path.dirname(os.path.dirname(os.path.dirname(os.path.realpath(__file__))))
 sys.path.insert(0, f"{TOP}/tests")
@@ -84,33 +85,33 @@ def lines_of(octets):
     return run(COMMAND, "check", octets=octets)
 
 
+def tells_as_the_command(word, command, pieces):
+    """Holds what the C program tells of each sample, in pieces of each size, to what the command prints: the samples side by side."""
+
+    def hold(path):
+        want = run(COMMAND, command, path)
+        for program in PROGRAMS:
+            for piece in pieces:
+                same((path, piece, run(program, word, str(piece), path)), (path, piece, want))
+
+    with ThreadPoolExecutor(os.cpu_count()) as pool:
+        list(pool.map(hold, ALL))
+
+
 @test
 def lists_the_samples_as_the_command_does():
-    for path in ALL:
-        want = run(COMMAND, "check", path)
-        for program in PROGRAMS:
-            for piece in [*range(1, 65), 4096]:
-                same((path, piece, run(program, "list", str(piece), path)), (path, piece, want))
+    tells_as_the_command("list", "check", [*range(1, 65), 4096])
 
 
 @test
 def shows_the_samples_as_the_command_does():
-    for path in ALL:
-        want = run(COMMAND, "show", path)
-        for program in PROGRAMS:
-            for piece in (1, 7, 64, 4096):
-                status, out, errors = run(program, "show", str(piece), path)
-                # (the command tells a refusal as `check` does)
-                same((path, piece, status, out, errors), (path, piece, *want))
+    # (the command tells a refusal as `check` does)
+    tells_as_the_command("show", "show", (1, 7, 64, 4096))
 
 
 @test
 def tells_the_stories_of_the_samples_as_the_command_does():
-    for path in ALL:
-        want = run(COMMAND, "story", path)
-        for program in PROGRAMS:
-            for piece in [*range(1, 65), 4096]:
-                same((path, piece, run(program, "story", str(piece), path)), (path, piece, want))
+    tells_as_the_command("story", "story", [*range(1, 65), 4096])
 
 
 @test
