@@ -86,16 +86,15 @@ def lines_of(octets):
 
 
 def tells_as_the_command(word, command, pieces):
-    """Holds what the C program tells of each sample, in pieces of each size, to what the command prints: the samples side by side."""
+    """Holds what the C program tells of each sample, in pieces of each size, to what the command prints, some side by side."""
 
-    def hold(path):
-        want = run(COMMAND, command, path)
-        for program in PROGRAMS:
-            for piece in pieces:
-                same((path, piece, run(program, word, str(piece), path)), (path, piece, want))
+    def hold(asked):
+        path, program, piece = asked
+        same((asked, run(program, word, str(piece), path)), (asked, wanted[path]))
 
+    wanted = {path: run(COMMAND, command, path) for path in ALL}
     with ThreadPoolExecutor(os.cpu_count()) as pool:
-        list(pool.map(hold, ALL))
+        list(pool.map(hold, [(path, program, piece) for piece in pieces for path in ALL for program in PROGRAMS]))
 
 
 @test
