@@ -3,7 +3,7 @@ _iimwire() {
   local word=${COMP_WORDS[COMP_CWORD]} before=${COMP_WORDS[COMP_CWORD - 1]} options='-h --help'
   COMPREPLY=()
   if [ "$COMP_CWORD" -eq 1 ]; then
-    mapfile -t COMPREPLY < <(compgen -W "check show story pack audit $options" -- "$word")
+    mapfile -t COMPREPLY < <(compgen -W "check show story pack audit $options -V --version" -- "$word")
     return
   fi
   case $before in

@@ -182,7 +182,8 @@ def tells_the_tables():
                 kind = kinds.index(row.kind) + 1
                 name = names.get((record, number), "")
                 want.append(f"row {record}:{number:02} {row.least} {row.most} {kind} {duty} {int(row.repeats)} {name}")
-    causes = {**rules.CAUSES, **rules.OTHER_CAUSES, 100: "Form", 101: "Version", 102: "Impossible"}
+    around = {71: "Read", 72: "Interrupted", 90: "TooManyEnvelopes", 100: "TicketForm", 101: "TicketVersion", 102: "Impossible"}
+    causes = {**rules.CAUSES, **rules.OTHER_CAUSES, **around}
     listed = [f"cause {number} {causes[number]}" for number in sorted(causes)]
     for program in PROGRAMS:
         status, out, errors = run(program, "tables")
@@ -250,10 +251,10 @@ def struct_of(name):
 
 def exports():
     """The exports of the crate: of each its name, its result, and what C hands in."""
-    for path in sorted(glob.glob(f"{TOP}/crates/iim_c/src/*.rt")):
-        for name, words, result in re.findall(r'#\[unsafe\(no_mangle\)\]\npub extern "C" fn (\w+)\((.*?)\)(?: -> (\w+))?\s', open(path).read(), re.S):
-            kinds = [plain(each).partition(": ")[2] for each in words.split(",") if each.strip()]
-            yield name, WORDS[result] if result else "void", [part for kind in kinds for part in of_c(kind)]
+    source = open(f"{TOP}/crates/iim_exports/src/lib.rt").read()
+    for name, words, result in re.findall(r'#\[unsafe\(no_mangle\)\]\npub extern "C" fn (\w+)\((.*?)\)(?: -> (\w+))?\s', source, re.S):
+        kinds = [plain(each).partition(": ")[2] for each in words.split(",") if each.strip()]
+        yield name, WORDS[result] if result else "void", [part for kind in kinds for part in of_c(kind)]
 
 
 def declared():

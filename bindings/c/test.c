@@ -13,18 +13,20 @@
  *
  * A batch is a number of four octets, low octet first, and so many octets.
  */
+#define _DEFAULT_SOURCE
 #include "iim.h"
 
 #include <inttypes.h>
 #include <stdio.h>
 #include <stdlib.h>
 #include <string.h>
+#include <sys/mman.h>
 
 enum { TICKET = 65536 + 6 * 512 + 256 };
 
 static const iim_limits DEFAULTS = {0, 0};
 
-/* ---- Memory that is refused: malloc and realloc of the library are these */
+/* ---- Memory: malloc, realloc and free of the library are these */
 
 static long allowed = -1;
 
@@ -42,7 +44,40 @@ static bool is_refused(void) {
     return false;
 }
 
-void *__wrap_malloc(size_t size) { return is_refused() ? NULL : __real_malloc(size); }
+/* Requests of more than GREAT octets get addresses alone: a page of them takes memory once it is written. */
+static const size_t GREAT = (size_t)1 << 30;
+
+static struct {
+    void *at;
+    size_t size;
+} great[8];
+
+static void *great_room(size_t size) {
+    for (size_t i = 0; i < sizeof great / sizeof great[0]; i++) {
+        if (great[i].at == NULL) {
+            void *at = mmap(NULL, size, PROT_READ | PROT_WRITE, MAP_PRIVATE | MAP_ANONYMOUS | MAP_NORESERVE, -1, 0);
+            great[i].size = size;
+            return great[i].at = at == MAP_FAILED ? NULL : at;
+        }
+    }
+    return NULL;
+}
+
+void __real_free(void *at);
+void __wrap_free(void *at);
+
+void *__wrap_malloc(size_t size) { return is_refused() ? NULL : size > GREAT ? great_room(size) : __real_malloc(size); }
+
+void __wrap_free(void *at) {
+    for (size_t i = 0; at != NULL && i < sizeof great / sizeof great[0]; i++) {
+        if (great[i].at == at) {
+            munmap(at, great[i].size);
+            great[i].at = NULL;
+            return;
+        }
+    }
+    __real_free(at);
+}
 
 void *__wrap_realloc(void *old, size_t size) { return is_refused() ? NULL : __real_realloc(old, size); }
 
@@ -480,6 +515,22 @@ static void try_memory(octets file) {
     free(text.octets), free(next.octets);
 }
 
+/* The greatest limits: memory for them is asked for, and the answers are as ever. */
+static void try_great_limits(octets file) {
+    const iim_limits greatest[3] = {{UINT32_MAX, 0}, {0, UINT32_MAX}, {UINT32_MAX, UINT32_MAX}};
+    octets text = room_for(file.count), next = room_for(TICKET);
+    for (int i = 0; i < 3; i++) {
+        iim_answer answer;
+        iim_check(greatest[i], file.octets, file.count, &answer);
+        expect(answer.status == IIM_DONE && answer.octet == file.count, "octets under the greatest limits");
+        iim_feed(greatest[i], NULL, 0, 0, file.octets, file.count, text.octets, text.count, next.octets, TICKET, &answer);
+        expect(answer.status == IIM_DONE && answer.used == file.count, "a piece under the greatest limits");
+        iim_end(greatest[i], next.octets, answer.ticket, file.count, &answer);
+        expect(answer.status == IIM_DONE && answer.octet == file.count, "a ticket under the greatest limits");
+    }
+    free(text.octets), free(next.octets);
+}
+
 /* Names in buffers of each length. */
 static void try_names(void) {
     char name[64];
@@ -542,6 +593,7 @@ static int try_buffers(char **words) {
     try_tickets(smallest);
     try_tickets(story);
     try_memory(story);
+    try_great_limits(story);
     try_names();
     try_packing(script, packed);
     free(smallest.octets), free(story.octets), free(script.octets), free(packed.octets);

@@ -12,22 +12,24 @@ set is known here, so their `text(encoding)` has to be told one. Octets that are
 dataset, the octet and the cause; where the input ends too early that is `Truncated`.
 
 The library is the one that IIM_LIBRARY names, or else that beside this file, or where bindings/build puts it, or where the system
-looks. docs/CAUSES.md has the causes, docs/FORMAT.md the format, docs/USE.md a whole program.
+looks; it is loaded at the first call. docs/CAUSES.md has the causes, docs/FORMAT.md the format, docs/USE.md a whole program.
 """
 from __future__ import annotations
 
 import argparse
 import ctypes
+import datetime
 import functools
 import json
 import os
 import re
 import sys
-from typing import Any, BinaryIO, Callable, Dict, Iterable, Iterator, List, NamedTuple, Optional, Tuple, Union
+from typing import Any, BinaryIO, Callable, Dict, Iterable, Iterator, List, NamedTuple, Optional, Tuple, Type, Union
 
 __all__ = [
-    "Envelope", "Fed", "Field", "Header", "Id", "Limits", "Octets", "Receiver", "Refused", "Rule", "ScriptRefused", "Sizes",
-    "TicketRefused", "Truncated", "WIRE", "admits", "cause_name", "check", "dataset_name", "layer_name", "pack", "read", "row", "script",
+    "AuditRow", "Envelope", "Fed", "Field", "Header", "Id", "Limits", "Octets", "PartId", "Receiver", "Refused", "Rule", "ScriptRefused",
+    "Sizes", "TicketRefused", "Truncated", "WIRE", "admits", "audit", "audit_blocks", "cause_name", "check", "dataset_name", "layer_name",
+    "pack", "read", "row", "script",
 ]  # fmt: skip
 
 # How many octets of an input are read at a time.
@@ -114,7 +116,7 @@ def _load() -> ctypes.CDLL:
     """The library, from the first place that has it."""
     here = os.path.dirname(os.path.realpath(__file__))
     built = [f"{here}/libiim.so", f"{os.path.dirname(here)}/out/libiim.so"]
-    place = os.environ.get("IIM_LIBRARY") or next(filter(os.path.exists, built), "libiim.so")
+    place = os.environ.get("IIM_LIBRARY") or next((path for path in built if os.path.exists(path)), "libiim.so.1")
     try:
         library = ctypes.CDLL(place)
         for name, (answers, takes) in _FUNCTIONS.items():
@@ -127,7 +129,17 @@ def _load() -> ctypes.CDLL:
     return library
 
 
-_library = _load()
+class _Library:
+    """The library. It is loaded at the first call, so that this module can be imported, and can tell how it is used, without it."""
+
+    def __getattr__(self, name: str) -> Any:
+        library = _load()
+        for each in ("_name", *_FUNCTIONS):
+            setattr(self, each, getattr(library, each))
+        return getattr(library, name)
+
+
+_library = _Library()
 
 
 def _name(function: Callable[..., int], *numbers: int) -> Optional[str]:
@@ -173,6 +185,18 @@ class Octets(bytes):
         return self.decode(encoding, errors)
 
 
+# What octets are taken as. Text is none of these, since its encoding would have to be guessed.
+AnyOctets = Union[bytes, bytearray, memoryview]
+
+# What a file is taken as: its path, or anything that has `read` and gives octets.
+AnyFile = Union[str, bytes, "os.PathLike[str]", BinaryIO]
+
+
+def _bytes(octets: AnyOctets) -> bytes:
+    """The octets as `bytes`. Raises `TypeError` for all that holds no octets: for text, and for a number, too."""
+    return octets if isinstance(octets, bytes) else bytes(memoryview(octets))
+
+
 class Limits(NamedTuple):
     """The most that records 1 and 2 of an envelope may have together."""
 
@@ -212,6 +236,10 @@ class Field(NamedTuple):
         """Its name in the standard, as "Headline", or None."""
         return dataset_name(self.record, self.number)
 
+    def as_json(self) -> Dict[str, Any]:
+        """What is told of it as a value of JSON."""
+        return {"dataset": self.dataset, "name": self.name, "octets": _latin(self.octets)}
+
 
 class Id(NamedTuple):
     """What an envelope is known by. Two of the same id are the same envelope, sent again."""
@@ -219,6 +247,14 @@ class Id(NamedTuple):
     service: Octets
     number: Octets
     date_sent: Octets
+
+
+class PartId(NamedTuple):
+    """What a refused envelope is known by, as far as that had come: what had not is None."""
+
+    service: Optional[Octets]
+    number: Optional[Octets]
+    date_sent: Optional[Octets]
 
 
 class Header(NamedTuple):
@@ -252,9 +288,10 @@ def row(record: int, number: int) -> Optional[Rule]:
     return Rule(rule.min, rule.max, rule.kind, rule.duty, rule.repeats)
 
 
-def admits(record: int, number: int, octets: bytes) -> bool:
+def admits(record: int, number: int, octets: AnyOctets) -> bool:
     """Whether the dataset has a row, and the octets are as it says."""
-    return _library.iim_admits(*_numbers_of(record, number), octets, len(octets))
+    octets = _bytes(octets)
+    return bool(_library.iim_admits(*_numbers_of(record, number), octets, len(octets)))
 
 
 @functools.lru_cache(maxsize=None)
@@ -267,11 +304,10 @@ def _plain_names() -> Dict[str, Tuple[int, int, bool]]:
     names = {}
     for record in (1, 2):
         for number in range(256):
-            name = dataset_name(record, number)
-            if name is not None:
-                repeats = row(record, number).repeats
+            name, rule = dataset_name(record, number), row(record, number)
+            if name is not None and rule is not None:
                 plain = re.sub("[^a-z0-9]+", "_", re.sub("[-.]", "", name.lower())).strip("_")
-                names[_plural(plain) if repeats else plain] = record, number, repeats
+                names[_plural(plain) if rule.repeats else plain] = record, number, rule.repeats
     return names
 
 
@@ -297,6 +333,21 @@ class Refused(Exception):
         self.octet, self.cause = octet, cause
         # What came of the story before it: of `Receiver.feed` in the last piece, else of the whole envelope.
         self.story = Octets(story)
+        # The ticket of the place before it, where it is known.
+        self._ticket = b""
+
+    @functools.cached_property
+    def fields(self) -> List[Field]:
+        """The datasets of records 1 and 2 that came before the refusal, in the order in which they were sent. (`check` tells none.)"""
+        return _fields_of(self._ticket)
+
+    @property
+    def id(self) -> PartId:
+        """What the envelope is known by, as far as that had come."""
+        first: Dict[Tuple[int, int], Octets] = {}
+        for record, number, octets in self.fields:
+            first.setdefault((record, number), octets)
+        return PartId(first.get((1, 30)), first.get((1, 40)), first.get((1, 70)))
 
     @property
     def dataset(self) -> str:
@@ -320,7 +371,13 @@ class Refused(Exception):
     def as_json(self) -> Dict[str, Any]:
         """What is told of it as a value of JSON."""
         told = {name: getattr(self, name) for name in ("layer", "dataset", "octet", "octet_in_file", "cause", "cause_name")}
-        return {"envelope": self.nth, "at": self.at, "refused": {**told, "name": dataset_name(self.record, self.number)}}
+        return {
+            "envelope": self.nth,
+            "at": self.at,
+            "refused": {**told, "name": dataset_name(self.record, self.number)},
+            "id": {name: None if octets is None else _latin(octets) for name, octets in self.id._asdict().items()},
+            "fields": [field.as_json() for field in self.fields],
+        }
 
 
 class Truncated(Refused):
@@ -353,6 +410,18 @@ class ScriptRefused(Exception):
 # --- Envelopes ---
 
 
+def _fields_of(ticket: bytes) -> List[Field]:
+    """The datasets that a ticket tells. (No octets are no ticket, and tell none.)"""
+    fields: List[Field] = []
+    dataset, answer = _Dataset(), _Answer()
+    while True:
+        _library.iim_field(ticket, len(ticket), len(fields), dataset, answer)
+        if answer.status != _DONE:
+            return fields
+        begin, count = dataset.data.offset, dataset.data.count
+        fields.append(Field(dataset.rec, dataset.set, Octets(ticket[begin : begin + count])))
+
+
 class Envelope:
     """An envelope that is whole.
 
@@ -375,13 +444,7 @@ class Envelope:
     @functools.cached_property
     def fields(self) -> List[Field]:
         """All datasets of records 1 and 2, in the order in which they were sent."""
-        fields: List[Field] = []
-        dataset, answer, ticket = _Dataset(), _Answer(), self._ticket
-        while True:
-            _library.iim_field(ticket, len(ticket), len(fields), dataset, answer)
-            if answer.status != _DONE:
-                return fields
-            fields.append(Field(dataset.rec, dataset.set, self._octets(dataset.data)))
+        return _fields_of(self._ticket)
 
     @functools.cached_property
     def _by_number(self) -> Dict[Tuple[int, int], List[Octets]]:
@@ -453,9 +516,9 @@ class Envelope:
 
     def as_json(self) -> Dict[str, Any]:
         """All of it as a value of JSON; octets are told as Latin-1, each as the character of its number."""
-        named = {}
-        for name, (*dataset, repeats) in _plain_names().items():
-            found = self._by_number.get(tuple(dataset))
+        named: Dict[str, Any] = {}
+        for name, (record, number, repeats) in _plain_names().items():
+            found = self._by_number.get((record, number))
             if found:
                 named[name] = [_latin(octets) for octets in found] if repeats else _latin(found[0])
         return {
@@ -463,7 +526,7 @@ class Envelope:
             "at": self.at,
             "length": self.length,
             "named": named,
-            "fields": [{"dataset": field.dataset, "name": field.name, "octets": _latin(field.octets)} for field in self.fields],
+            "fields": [field.as_json() for field in self.fields],
             "header": {name: _latin(octets) for name, octets in self.header._asdict().items()},
             "trailer": _latin(self.trailer),
             "sizes": self.sizes._asdict(),
@@ -514,19 +577,20 @@ class Receiver:
             if not 1 <= limit <= GREATEST_LIMIT:
                 raise ValueError(f"the limit {limit} is not from 1 to {GREATEST_LIMIT}")
         self._limits = _Limits(*limits)
-        self._ticket, self._refusal = b"", None
+        self._ticket = b""
+        self._refusal: Optional[Refused] = None
         self._answer, self._text, self._next = _Answer(), _Room(1_024), _Room(1_024)
         # How many octets of the present envelope have come; which one of the input it is, from 1; where it begins there.
         self.octets, self.nth, self.at = 0, 1, 0
 
     @classmethod
-    def resume(cls, ticket: bytes, octets: int, limits: Limits = WIRE, *, nth: int = 1, at: int = 0) -> Receiver:
+    def resume(cls, ticket: AnyOctets, octets: int, limits: Limits = WIRE, *, nth: int = 1, at: int = 0) -> Receiver:
         """A receiver at the place that a ticket tells, after so many octets of its envelope. `nth` and `at` are those of the receiver
         that gave the ticket: they are told again, and change nothing else."""
         receiver = cls(limits)
         if not 0 <= octets < 2**64:
             raise ValueError(f"{octets} octets")
-        receiver._ticket, receiver.octets, receiver.nth, receiver.at = bytes(ticket), octets, nth, at
+        receiver._ticket, receiver.octets, receiver.nth, receiver.at = _bytes(ticket), octets, nth, at
         receiver._ask_end()
         return receiver
 
@@ -539,17 +603,21 @@ class Receiver:
             return self._next.take(self._answer.ticket)
         return self._ticket
 
-    def feed(self, piece: Union[bytes, bytearray, memoryview], start: int = 0) -> Fed:
+    def feed(self, piece: AnyOctets, start: int = 0) -> Fed:
         """Takes the octets of a piece, from `start` on, up to the end of the present envelope."""
         self._stand()
-        piece = bytes(piece)
+        piece = _bytes(piece)
         if not 0 <= start <= len(piece):
             raise ValueError(f"the piece has no octet {start}")
         self._feed(piece, start)
         answer = self._answer
         story = Octets(self._text.take(answer.written))
         if answer.status == _REFUSED:
-            raise self._refused(Refused, story)
+            refusal = self._refused(Refused, story)
+            # (the octets before the refused one again, for the ticket of its place)
+            self._feed(piece[: start + refusal.octet - self.octets], start)
+            refusal._ticket = self._next.take(answer.ticket)
+            raise refusal
         ticket, self.octets = self._next.take(answer.ticket), answer.octet
         if answer.status == _MORE:
             self._ticket = ticket
@@ -562,12 +630,14 @@ class Receiver:
         """Tells that the input ends here. Raises `Truncated` where that is inside an envelope."""
         self._stand()
         if self.octets and self._ask_end() == _TRUNCATED:
-            raise self._refused(Truncated, b"", keep=False)
+            refusal = self._refused(Truncated, b"", keep=False)
+            refusal._ticket = self._ticket
+            raise refusal
 
     def _feed(self, piece: bytes, start: int) -> None:
         """Asks the library, with more room where there is too little."""
         count = len(piece) - start
-        begin = ctypes.cast(piece, ctypes.c_void_p).value + start
+        begin = (ctypes.cast(ctypes.c_char_p(piece), ctypes.c_void_p).value or 0) + start
         while True:
             text, room, answer = self._text, self._next, self._answer
             place = self._limits, self._ticket, len(self._ticket), self.octets
@@ -584,7 +654,8 @@ class Receiver:
         """What the library says of the end of the input here."""
         _library.iim_end(self._limits, self._ticket, len(self._ticket), self.octets, self._answer)
         self._expect(_DONE, _TRUNCATED)
-        return self._answer.status
+        status: int = self._answer.status
+        return status
 
     def _expect(self, *statuses: int) -> None:
         """Raises what a status says that is none of these."""
@@ -596,7 +667,7 @@ class Receiver:
         if status not in statuses:
             raise RuntimeError(f"the library answers {status}")
 
-    def _refused(self, kind: type, story: bytes, keep: bool = True) -> Refused:
+    def _refused(self, kind: Type[Refused], story: bytes, keep: bool = True) -> Refused:
         """The refusal that the library has answered."""
         answer = self._answer
         place = layer_name(answer.layer) or "", answer.rec, answer.set, answer.octet, answer.cause
@@ -611,9 +682,7 @@ class Receiver:
             raise Refused(self.nth, self.at, "outside", 0, 0, self._refusal.octet, 61)
 
 
-def read(
-    file: Union[str, bytes, os.PathLike, BinaryIO], limits: Limits = WIRE, *, on_text: Optional[Callable[[bytes], Any]] = None
-) -> Iterator[Envelope]:
+def read(file: AnyFile, limits: Limits = WIRE, *, on_text: Optional[Callable[[bytes], Any]] = None) -> Iterator[Envelope]:
     """Gives the envelopes of a file one after another: of a path, or of anything that has `read` and gives octets.
 
     It reads a block at a time, and gives each envelope when its last octet has come. It raises `Refused` at the first octet that is
@@ -653,50 +722,171 @@ def read(
         raise
 
 
-def check(octets: bytes, limits: Limits = WIRE) -> int:
+def check(octets: AnyOctets, limits: Limits = WIRE) -> int:
     """How many octets the envelope has that these octets begin with. Raises `Refused` or `Truncated` where they begin with none."""
+    octets = _bytes(octets)
     receiver = Receiver(limits)
     answer = receiver._answer
     _library.iim_check(receiver._limits, octets, len(octets), answer)
     receiver._expect(_DONE, _REFUSED, _TRUNCATED)
     if answer.status == _DONE:
-        return answer.octet
+        return int(answer.octet)
     raise receiver._refused(Refused if answer.status == _REFUSED else Truncated, b"")
+
+
+# --- Auditing ---
+
+
+class AuditRow(NamedTuple):
+    """What an audit tells of an envelope: where its first octet stands in the input, and how many octets it has; its id and its priority;
+    the octets and the subfiles of its object; the words that its message announces, and those of its story; how many whole seconds ago it
+    was sent, or None; whether its copy is "held", "expired" or "free"; and the instants of its release and its expiration, in seconds
+    from 1970 on, or None."""
+
+    at: int
+    length: int
+    service: Octets
+    number: Octets
+    date_sent: Octets
+    priority: Optional[Octets]
+    size: int
+    subfiles: int
+    announced: int
+    counted: int
+    age: Optional[int]
+    copy: str
+    release: Optional[int]
+    expires: Optional[int]
+
+
+# The instants that there are, in seconds from 1970 on: up to 9999-12-30T22:00:00Z.
+_LAST_SECOND = 253_402_207_200
+_EPOCH = datetime.datetime(1970, 1, 1, tzinfo=datetime.timezone.utc)
+
+
+class _Words:
+    """Counts the words of a story that comes in pieces: runs, inside one line, of octets other than SP and TAB."""
+
+    # Each octet: 0 where it parts words, else 1.
+    MARKS = bytes(octet not in b" \t\n" for octet in range(256))
+
+    def __init__(self) -> None:
+        self.count = self._inside = 0
+
+    def add(self, text: bytes) -> None:
+        """Takes the next octets of the story."""
+        if text:
+            marks = text.translate(self.MARKS)
+            self.count += marks.count(b"\0\1") + (marks[0] > self._inside)
+            self._inside = marks[-1]
+
+    def take(self) -> int:
+        """The words so far; the next story begins with none."""
+        count = self.count
+        self.count = self._inside = 0
+        return count
+
+
+def _instant_of(date: Optional[bytes], time: Optional[bytes]) -> Optional[int]:
+    """The instant of a date and a time that the library has admitted, in seconds from 1970 on: the local time less its offset."""
+    if date is None or time is None:
+        return None
+    day = datetime.date(int(date[:4]), int(date[4:6]), int(date[6:])).toordinal() - _EPOCH.toordinal()
+    clock = (int(time[:2]) * 60 + int(time[2:4])) * 60 + int(time[4:6])
+    offset = (int(time[7:9]) * 60 + int(time[9:])) * 60
+    seconds = day * 86_400 + clock + (offset if time[6:7] == b"-" else -offset)
+    return seconds if seconds <= _LAST_SECOND else None
+
+
+def _audit_row(envelope: Envelope, words: int, now: datetime.datetime) -> AuditRow:
+    """The row of an envelope whose story has so many words."""
+    second = (now - _EPOCH) // datetime.timedelta(seconds=1)
+    sent = _instant_of(envelope.date_sent, envelope.time_sent)
+    release = _instant_of(envelope.release_date, envelope.release_time or b"000000+0000")
+    expires = _instant_of(envelope.expiration_date, envelope.expiration_time or b"235959+0000")
+    copy = "free"
+    if release is not None and release > second:
+        copy = "held"
+    elif expires is not None and (second, now.microsecond) > (expires, 0):
+        copy = "expired"
+    sizes, announced = envelope.sizes, int(envelope.header.words)
+    age = None if sent is None else second - sent
+    of_envelope = envelope.at, envelope.length, *envelope.id, envelope.envelope_priority
+    return AuditRow(*of_envelope, sizes.total, sizes.subfiles, announced, words, age, copy, release, expires)
+
+
+def audit_blocks(file: AnyFile, limits: Limits = WIRE, *, now: Optional[datetime.datetime] = None) -> Iterator[List[AuditRow]]:
+    """The rows of `audit`, many at a time."""
+    now = datetime.datetime.now(datetime.timezone.utc) if now is None else now
+    words = _Words()
+    rows: List[AuditRow] = []
+    try:
+        for envelope in read(file, limits, on_text=words.add):
+            rows.append(_audit_row(envelope, words.take(), now))
+            if len(rows) == 4_096:
+                yield rows
+                rows = []
+    except Refused as refused:
+        if rows:
+            yield rows
+        raise refused
+    if rows:
+        yield rows
+
+
+def audit(file: AnyFile, limits: Limits = WIRE, *, now: Optional[datetime.datetime] = None) -> Iterator[AuditRow]:
+    """Gives a row for each envelope of a file, at an instant, or else the present one: what `iimwire audit` prints of it, but for the
+    envelope that it repeats. It reads as `read` does, and raises what that does; of a refusal it tells no story."""
+    for rows in audit_blocks(file, limits, now=now):
+        yield from rows
 
 
 # --- Packing ---
 
 
+# What each part of a header is, in their order, as docs/FORMAT.md has it.
+_PARTS = (rb"[A-Za-z]{1,8}", rb"[0-9]{1,8}", rb"[0-9]", rb"[A-Za-z0-9]{1,8}", rb"[0-9]{1,6}", rb"[\x20-\x7E\x80-\xFF]{0,64}")
+
+
 def script(
-    fields: Iterable[Tuple[int, int, bytes]], header: Iterable[bytes], lines: Iterable[bytes], trailer: bytes = b""
+    fields: Iterable[Tuple[int, int, AnyOctets]], header: Iterable[AnyOctets], lines: Iterable[AnyOctets], trailer: AnyOctets = b""
 ) -> bytes:
     """The script of an envelope, which `pack` takes: its datasets of records 1 and 2, each with its record and number; the source,
-    number, priority, category, words and info of its message; its lines; and its trailer."""
-    made = [b"%d:%d %s" % (record, number, _shown(octets)) if octets else b"%d:%d" % (record, number) for record, number, octets in fields]
-    *parts, info = header
-    made.append(b" ".join([b"message", *parts, *([_shown(info)] if info else [])]))
-    if trailer:
-        made.append(b"trailer " + _shown(trailer))
+    number, priority, category, words and info of its message; its lines; and its trailer. Raises `ValueError` where a part of the
+    header, or a line, can't be one; all else is for `pack` to say."""
+    made = [_with_shown(b"%d:%d" % (record, number), octets) for record, number, octets in fields]
+    parts = [_bytes(part) for part in header]
+    if len(parts) != len(_PARTS):
+        raise ValueError(f"a header has {len(_PARTS)} parts, and not {len(parts)}")
+    for name, kind, part in zip(Header._fields, _PARTS, parts):
+        if not re.fullmatch(kind, part):
+            raise ValueError(f"{name} of the header can't be {part!r}")
+    *parts, info = parts
+    made.append(_with_shown(b" ".join([b"message", *parts]), info))
+    if _bytes(trailer):
+        made.append(_with_shown(b"trailer", trailer))
     made.append(b"text")
-    for line in lines:
+    for line in map(_bytes, lines):
         if b"\n" in line or b"\r" in line:
             raise ValueError("a line has no line end in it")
         made.append(line)
     return b"\n".join([*made, b""])
 
 
-def _shown(octets: bytes) -> bytes:
-    """Octets as a script has them."""
-    return b"".join(bytes([octet]) if 0x20 <= octet <= 0x7E and octet != 0x5C else b"\\x%02X" % octet for octet in octets)
+def _with_shown(word: bytes, octets: AnyOctets) -> bytes:
+    """A line of a script: a word and, where there are any, a space and the octets as a script has them."""
+    shown = (bytes([octet]) if 0x20 <= octet <= 0x7E and octet != 0x5C else b"\\x%02X" % octet for octet in _bytes(octets))
+    return b" ".join([word, *filter(None, [b"".join(shown)])])
 
 
-def pack(script: bytes, *, subfile: int = 1_024, unknown: bool = False, maximum: Optional[int] = None) -> bytes:
+def pack(script: AnyOctets, *, subfile: int = 1_024, unknown: bool = False, maximum: Optional[int] = None) -> bytes:
     """The envelope that a script tells, in subfiles of at most so many octets; its size is announced, unless it is to be unknown, when
     a maximum may be told. Raises `ScriptRefused`. docs/FORMAT.md has the form of a script, `script` makes one."""
     if not 1 <= subfile <= GREATEST or maximum is not None and not 0 <= maximum <= GREATEST:
         raise ValueError(f"a subfile has 1 to {GREATEST} octets, a maximum 0 to {GREATEST}")
     if maximum is not None and not unknown:
         raise ValueError("a maximum is told of an unknown size")
+    script = _bytes(script)
     packing = _Packing(subfile, unknown, maximum is not None, maximum or 0)
     out, answer = _Room(len(script) + 256), _Answer()
     while True:
@@ -776,6 +966,8 @@ def main(words: Optional[List[str]] = None) -> int:
         sys.stderr.write("out of memory\n")
     except CannotWrite:
         sys.stderr.write("cannot write\n")
+    except ImportError as fault:
+        sys.stderr.write(f"{fault}\n")
     return 3
 
 

@@ -1,12 +1,15 @@
 #!/usr/bin/env python3
-"""Measures archive.py on generated files: files and envelopes a second for 1, 2 and 4 workers. It is no part of the gate.
+"""Measures archive.py on generated files, beside `iimwire audit` in the same run. It is no part of the gate.
 
-  bindings/python/measure.py [TURNS]    3 turns where no number is given
+  bindings/python/measure.py [TURNS [PROGRAM]]    3 turns and crates/iimwire/out/iimwire where nothing is given
 
-There are two trees: 4,000 files of one envelope, and 40 files of 200 envelopes, which are a task each. Each envelope has 22 datasets and a story of 4 KB. A
-turn is a run of archive.py, its start and its output counted. The line has the best turn, and the fewest processor seconds that a turn
-took, of all its processes together: they tell what it costs where a machine has other work too. `processes` is how GNU parallel would
-do it: one `iimwire check` for each file, four at a time (of crates/iimwire/out/iimwire, where that is built).
+There are two trees: 4,000 files of one envelope, and 40 files of 200 envelopes, which are a task each. Each envelope has 22 datasets and a
+story of 4 KB. A turn is a run, its start and its output counted. A line has the best turn, and the fewest processor seconds that a turn
+took, of all its processes together: these tell what it costs where a machine has other work too. `iimwire audit` is one process for each
+file. `again` is a second run over the same tree, which has not changed.
+
+  bindings/python/measure.py --rows N     so many made rows through the process that writes: rows a second, and its memory
+  bindings/python/measure.py --files N    so many files of one envelope, of three sizes: an index of them, and a second run
 """
 import contextlib
 import os
@@ -24,6 +27,9 @@ sys.path[:0] = [HERE, f"{TOP}/tests"]
 import rules
 
 WORKERS = 1, 2, 4
+NOW = "2024-03-01T12:00:00Z"
+SMALL = [(1, 0, b"\0\4"), (1, 20, b"\0\2"), (1, 22, b"\0\1"), (1, 30, b"TST"), (1, 40, b"00000001"), (1, 70, b"20240301"), (2, 0, b"\0\4")]
+HEAD = [b"TST", b"0007", b"4", b"ECO", b"910", b""]
 
 
 def envelope(number):
@@ -42,10 +48,12 @@ def make(folder, files, envelopes):
             to.writelines(envelope(at * envelopes + each) for each in range(envelopes))
 
 
-def seconds(words, turns):
-    """The least seconds that the words take, and the least of a processor."""
+def seconds(words, turns, before=None):
+    """The least seconds that the words take, and the least of a processor; before each turn something is done."""
     taken, used = [], []
     for _ in range(turns):
+        if before is not None:
+            before()
         began = time.monotonic()
         process = subprocess.Popen(words, stdout=subprocess.DEVNULL)
         _, status, usage = os.wait4(process.pid, 0)
@@ -56,21 +64,109 @@ def seconds(words, turns):
     return min(taken), min(used)
 
 
-def main():
-    turns = int(sys.argv[1]) if len(sys.argv) > 1 else 3
-    ways = [("this process", []), *((f"--workers {count}", ["--workers", str(count)]) for count in WORKERS)]
-    print(f"{'files':>6} {'envelopes':>9} {'way':<14} {'seconds':>8} {'processor':>9} {'files/s':>8} {'envelopes/s':>12}")
+def remove(index):
+    """Removes an index."""
+    for end in "", "-wal", "-shm", ".lock":
+        with contextlib.suppress(FileNotFoundError):
+            os.remove(index + end)
+
+
+def compare(turns, command):
+    """Runs both trees in each way."""
+    print(f"{'files':>6} {'envelopes':>9} {'way':<22} {'seconds':>8} {'processor':>9} {'us a file':>9} {'us an envelope':>14} {'ratio':>6}")
     for files, envelopes, batch in (4_000, 1, 32), (40, 200, 1):
         with tempfile.TemporaryDirectory() as folder:
-            make(folder, files, envelopes)
-            archive = [sys.executable, f"{HERE}/archive.py", "--now", "2024-03-01T12:00:00Z", "--batch", str(batch)]
-            runs = [(way, [*archive, *words, folder]) for way, words in ways]
-            if os.access(COMMAND, os.X_OK):
-                runs.append(("processes", ["sh", "-c", f"find {folder} -type f -print0 | xargs -0 -n 1 -P 4 {COMMAND} check"]))
-            for way, words in runs:
-                took, used = seconds(words, turns)
-                count = files * envelopes
-                print(f"{files:6} {count:9} {way:<14} {took:8.2f} {used:9.2f} {files / took:8.0f} {count / took:12.0f}", flush=True)
+            tree, index = f"{folder}/tree", f"{folder}/index"
+            make(tree, files, envelopes)
+            archive = [sys.executable, f"{HERE}/archive.py", "--now", NOW, "--batch", str(batch)]
+            into = [*archive, "--into", index]
+            runs = [
+                ("iimwire audit", ["sh", "-c", f"find {tree} -type f -print0 | xargs -0 -n 1 {command} audit --now {NOW}"], None),
+                ("rows printed", [*archive, tree], None),
+                ("index", [*into, tree], lambda: remove(index)),
+                ("again", [*into, tree], None),
+                *((f"index, --workers {count}", [*into, "--workers", str(count), tree], lambda: remove(index)) for count in WORKERS),
+            ]
+            least = None
+            for way, words, before in runs:
+                took, used = seconds(words, turns, before)
+                least = least or used
+                a_file, an_envelope = used / files * 1e6, used / files / envelopes * 1e6
+                print(f"{files:6} {files * envelopes:9} {way:<22} {took:8.2f} {used:9.3f} {a_file:9.1f} {an_envelope:14.1f} {used / least:6.2f}", flush=True)
+
+
+# The process that writes: made rows through it. Each hundredth has the id of one before it.
+WRITER = """
+import argparse, marshal, random, re, sys, time
+import archive, archive_index
+path, rows = sys.argv[1], int(sys.argv[2])
+index = archive_index.Index(path)
+kept = archive.Kept(index, argparse.Namespace(name="*", into=path), archive.Silence())
+chance, wrote = random.Random(1), 0.0
+for first in range(0, rows, 2_000):
+    files = []
+    for file in range(first // 200 + 1, first // 200 + 11):
+        of_file = []
+        for nth in range(200):
+            at = (file - 1) * 200 + nth
+            at = at if at % 100 else chance.randrange(at + 1)
+            date = f"2024{at // 3_000_000 % 12 + 1:02}{at // 100_000 % 28 + 1:02}"
+            of_file.append((file, nth + 1, nth * 4700, 4700, "TST", "%08d" % (at % 10**8), date, "5", 4200, 2, 910, 905, 1_709_290_800, None, None))
+        files.append((file, b"/archive/%06d/%02d.iim" % (file // 100, file % 100), 940_000, 1, 940_000, "accepted", None, of_file, None))
+    block = marshal.dumps(files, archive.FORM)
+    began = time.process_time()
+    kept.add(block)
+    wrote += time.process_time() - began
+print(f"{rows:,} rows: {rows / wrote:,.0f} a second of a processor", flush=True)
+began = time.monotonic()
+sums = index.end(0)
+again = time.monotonic()
+print(f"indexes and sums: {again - began:.1f} seconds, {sums}")
+with open("/proc/self/status") as status:
+    print("memory:", re.search(r"VmHWM:\\s+(\\d+ kB)", status.read())[1])
+"""
+
+
+def write_rows(rows):
+    """Made rows through the process that writes, and then the repeats of the index."""
+    with tempfile.TemporaryDirectory() as folder:
+        index = f"{folder}/index"
+        subprocess.run([sys.executable, "-c", WRITER, index, str(rows)], check=True, env={**os.environ, "PYTHONPATH": HERE})
+        print(f"size: {os.path.getsize(index) / 1e6:,.0f} MB")
+        began = time.monotonic()
+        words = [sys.executable, f"{HERE}/archive.py", "query", "--repeats", "--csv", index]
+        with subprocess.Popen(words, stdout=subprocess.PIPE) as query:
+            count = sum(1 for _ in query.stdout) - 1
+            _, _, usage = os.wait4(query.pid, 0)
+        print(f"repeats told: {count:,} in {time.monotonic() - began:.1f} seconds, memory {usage.ru_maxrss / 1000:.0f} MB")
+
+
+def index_files(files):
+    """Real files of three sizes: an index, and a second run."""
+    with tempfile.TemporaryDirectory() as folder:
+        tree, index = f"{folder}/tree", f"{folder}/index"
+        sizes = [envelope(1), rules.packed(SMALL, rules.object_of(HEAD, [b""], b""), 1024), rules.packed(SMALL, rules.object_of(HEAD, [b"a line of copy"] * 1400, b""), 32_768)]
+        for at in range(files):
+            os.makedirs(f"{tree}/{at // 1000:04}", exist_ok=True)
+            with open(f"{tree}/{at // 1000:04}/{at % 1000:03}.iim", "wb") as to:
+                to.write(sizes[at % 3].replace(b"00000001", b"%08d" % (at - at % 50)))
+        for way in "index", "again":
+            words = [sys.executable, f"{HERE}/archive.py", "--now", NOW, "--into", index, tree]
+            began = time.monotonic()
+            process = subprocess.Popen(words)
+            _, status, usage = os.wait4(process.pid, 0)
+            used = usage.ru_utime + usage.ru_stime
+            print(f"{way}: {time.monotonic() - began:.1f} seconds, {used / files * 1e6:.1f} us of a processor a file, {usage.ru_maxrss / 1000:.0f} MB", flush=True)
+
+
+def main():
+    words = sys.argv[1:]
+    if words[:1] == ["--rows"]:
+        write_rows(int(words[1]))
+    elif words[:1] == ["--files"]:
+        index_files(int(words[1]))
+    else:
+        compare(int(words[0]) if words else 3, words[1] if len(words) > 1 else COMMAND)
 
 
 if __name__ == "__main__":

@@ -4,14 +4,17 @@ in tests/rules.py, and with values that were worked out by hand.
 
   bindings/python/test.py [PROGRAM]    PROGRAM: crates/iimwire/out/iimwire of this repository where none is named
 
-It needs the library, which bindings/build makes, and the built command. The parts on Dask distributed and GNU parallel are run where
-these are installed, and else said to be not run. With TIMES in the environment it tells the seconds of each test.
+It needs the library, which bindings/build makes, and the built command. Tests on Dask distributed, GNU parallel and a C compiler are
+run where these are installed, and else named. With TIMES in the environment it tells the seconds of each test.
 
-Prints each failure, and then 'N passed, M failed'. The status is 1 where something failed.
+Prints each failure, and then 'N passed, M failed', and ', K skipped' where tests were not run. The status is 1 where something
+failed.
 """
+import array
 import concurrent.futures
 import contextlib
 import ctypes
+import datetime
 import functools
 import io
 import itertools
@@ -42,7 +45,6 @@ os.environ["PYTHONDONTWRITEBYTECODE"] = "1"
 MODULES = {**os.environ, "PYTHONPATH": os.pathsep.join(filter(None, [HERE, os.environ.get("PYTHONPATH")]))}
 
 
-import archive as archive_module
 import envelopes
 import iim
 import rules
@@ -349,7 +351,57 @@ def takes_pieces_of_each_kind():
     same(receiver.feed(SMALLEST, 114), (0, b"", None))
     for start in -1, 115:
         raised(ValueError, receiver.feed, SMALLEST, start)
-    raised(TypeError, receiver.feed, "text")
+
+
+# Each kind of octets, the last one with others between them.
+KINDS = [bytes, bytearray, memoryview, iim.Octets, lambda octets: array.array("B", octets), lambda octets: memoryview(spread(octets))[::2]]
+
+
+def spread(octets):
+    return bytes(each for octet in octets for each in (octet, 0))
+
+
+def made_with(fields, head, lines, trailer, kind=bytes, how=list):
+    """The script of these, each as octets of this kind."""
+    fields = how((record, number, kind(octets)) for record, number, octets in fields)
+    return iim.script(fields, how(map(kind, head)), how(map(kind, lines)), kind(trailer))
+
+
+@test
+def takes_octets_of_each_kind():
+    text = made_with(STORY_FIELDS, STORY_HEAD, STORY_LINES, b"tail \\")
+    receiver = iim.Receiver()
+    receiver.feed(STORY[:200])
+    for kind in KINDS:
+        same((iim.check(kind(SMALLEST)), iim.admits(2, 105, kind(b"a")), iim.admits(2, 105, kind(b"\0"))), (114, True, False))
+        fed = iim.Receiver().feed(kind(STORY + SMALLEST))
+        same((fed.used, fed.story, fed.envelope.headline), (246, b"Rates stay.\nNo change.", b"Rates held"))
+        same(iim.Receiver.resume(kind(receiver.ticket), 200).feed(kind(STORY[200:])).envelope.headline, b"Rates held")
+        for how in list, iter:
+            same(made_with(STORY_FIELDS, STORY_HEAD, STORY_LINES, b"tail \\", kind, how), text)
+        same(iim.pack(kind(text)), iim.pack(text))
+
+
+@test
+def takes_no_text_and_no_number_for_octets():
+    receiver = iim.Receiver()
+    for other in "", "a", "中文", 0, 5, None, [1, 2]:
+        for call in [
+            lambda: iim.check(other),
+            lambda: iim.admits(2, 105, other),
+            lambda: receiver.feed(other),
+            lambda: iim.Receiver.resume(other, 0),
+            lambda: iim.pack(other),
+            lambda: iim.script([(2, 105, other)], STORY_HEAD, []),
+            lambda: iim.script([], [*STORY_HEAD[:5], other], []),
+            lambda: iim.script([], [other, *STORY_HEAD[1:]], []),
+            lambda: iim.script([], STORY_HEAD, [other]),
+            lambda: iim.script([], STORY_HEAD, [], other),
+        ]:
+            raised(TypeError, call)
+    for head in b"X14N0i", "X14N0i":
+        raised(TypeError, iim.script, [], head, [])
+    same((receiver.octets, receiver.feed(SMALLEST).used), (0, 114))
 
 
 @test
@@ -375,6 +427,30 @@ def answers_nothing_more_after_a_refusal():
     same(str(raised(iim.Refused, receiver.feed, b"\x1c\x01\0\x81")), "2 refused at octet 3 by layer dataset on 1:00, cause 2 CountForm")
     for call in (lambda: receiver.feed(b""), receiver.end, lambda: receiver.ticket):
         same(str(raised(iim.Refused, call)), "2 refused at octet 3 by layer outside on 0:00, cause 61 Failed")
+
+
+@test
+def tells_what_came_before_a_refusal():
+    named = 0
+    for name, octets in samples().items():
+        for size in 7, 65_536:
+            try:
+                list(iim.read(OnlyRead(octets, size)))
+                continue
+            except iim.Refused as caught:
+                refused = pickle.loads(pickle.dumps(caught))
+            # (the datasets that have ended in the octets before the refused one)
+            before = rules.read(octets[refused.at : refused.octet_in_file])
+            same((name, [tuple(field) for field in refused.fields]), (name, [tuple(field) for field in before.fields]))
+            firsts = [rules.first(before.fields, 1, number) for number in (30, 40, 70)]
+            same((name, list(refused.id)), (name, firsts))
+            named += None not in firsts
+    # (of 30, each in two ways)
+    same(named, 2 * 22)
+    try:
+        iim.check(SMALLEST[:90])
+    except iim.Refused as refused:
+        same((refused.fields, refused.id), ([], (None, None, None)))
 
 
 @test
@@ -404,12 +480,10 @@ def keeps_to_limits():
         ((77, 16), "refused at octet 155 by layer limits on 2:250, cause 50 HeaderFull"),
         ((78, 15), "refused at octet 155 by layer limits on 2:250, cause 51 TooManyFields"),
         ((77, 15), "refused at octet 155 by layer limits on 2:250, cause 50 HeaderFull"),
-        ((2**32 - 1, 2**32 - 1), "done 246"),
     ]:
-        if max(limits) < 2**32 - 1:
-            same(by_check(STORY, iim.Limits(*limits)), want)
-            same(by_feed(STORY, iim.Limits(*limits)), want)
-            same(read_under(limits), want)
+        same(by_check(STORY, iim.Limits(*limits)), want)
+        same(by_feed(STORY, iim.Limits(*limits)), want)
+        same(read_under(limits), want)
     for limits in (0, 1), (1, 0), (-1, 1), (2**32, 1), (1, 2**32):
         raised(ValueError, iim.Receiver, iim.Limits(*limits))
         raised(ValueError, iim.check, STORY, iim.Limits(*limits))
@@ -424,10 +498,10 @@ def keeps_to_limits():
 def takes_just_the_tickets_of_places():
     new = iim.Receiver().ticket
     for ticket, cause in [
-        (b"X" + new[1:], "100 Form"),
-        (new[:4] + b"\x09" + new[5:], "101 Version"),
-        (new + b"\0", "100 Form"),
-        (new[:-1], "100 Form"),
+        (b"X" + new[1:], "100 TicketForm"),
+        (new[:4] + b"\x09" + new[5:], "101 TicketVersion"),
+        (new + b"\0", "100 TicketForm"),
+        (new[:-1], "100 TicketForm"),
         (new[:5] + b"\x02" + new[6:], "102 Impossible"),
     ]:
         same(str(raised(iim.TicketRefused, iim.Receiver.resume, ticket, 0)), f"no ticket: cause {cause}")
@@ -514,10 +588,9 @@ def knows_the_names_of_causes_and_layers():
     with open(f"{TOP}/docs/CAUSES.md") as page:
         named = re.findall(r"(?<=[|,] )(\d+) ([A-Z]\w+)(?= \||,)", page.read())
     holds(len(named) > 35, f"{len(named)} causes")
-    # (a reader that fails, and too many envelopes of one run: the library answers neither)
-    others = {"71": "Read", "72": "Interrupted", "90": "TooManyEnvelopes"}
-    same({number: name for number, name in named if number in others}, others)
-    listed = {**known, **{int(number): name for number, name in named if number not in others}}
+    around = {71: "Read", 72: "Interrupted", 90: "TooManyEnvelopes", 100: "TicketForm", 101: "TicketVersion", 102: "Impossible"}
+    listed = {**known, **around}
+    same({int(number): name for number, name in named}, listed)
     same({number: iim.cause_name(number) for number in range(256) if iim.cause_name(number)}, listed)
     same([iim.layer_name(number) for number in range(9)], [None, *rules.LAYERS, None])
     same(iim.layer_name(255), None)
@@ -673,6 +746,35 @@ def packs_what_was_read():
         raised(ValueError, iim.script, STORY_FIELDS, STORY_HEAD, [line])
 
 
+def is_header(head):
+    """Whether a message has just this header, by the rules."""
+    message = rules.Message()
+    causes = {message.take(octet) for octet in rules.object_of(head, [b""], b"")}
+    return causes == {0} and message.part == rules.Message.AFTER and message.head() == head
+
+
+@test
+def makes_no_script_of_parts_that_can_t_be_in_a_header():
+    names = "source", "number", "priority", "category", "words", "info"
+    # (a line more, a story in place of another, and parts that move)
+    for name, part in ("words", b"0\ntext\nforged"), ("category", b"N 7 info"), ("source", b"X\nmessage Y"), ("info", b"a\ntext\nb"):
+        head = [part if each == name else octets for each, octets in zip(names, STORY_HEAD)]
+        same(str(raised(ValueError, iim.script, [], head, [])), f"{name} of the header can't be {part!r}")
+    for head in STORY_HEAD[:5], [*STORY_HEAD, b""], []:
+        same(str(raised(ValueError, iim.script, [], head, [])), f"a header has 6 parts, and not {len(head)}")
+    parts = [bytes([octet]) for octet in range(256)] + [octet * count for octet in (b"a", b"1", b" ", b"\xff") for count in (2, 6, 7, 8, 9, 64, 65)]
+    parts += [b"", b"a1", b"1a", b"a\n", b"1\n", b"\na", b"a b", b"1 2"]
+    taken = dict.fromkeys(names, 0)
+    for at, part in itertools.product(range(6), parts):
+        head = [*STORY_HEAD[:at], part, *STORY_HEAD[at + 1 :]]
+        if is_header(head):
+            taken[names[at]] += 1
+            same(iim.pack(iim.script(STORY_FIELDS, head, [b"a"])), rules.packed(STORY_FIELDS, rules.object_of(head, [b"a"], b""), 1024))
+        else:
+            raised(ValueError, iim.script, STORY_FIELDS, head, [b"a"])
+    same(list(taken.values()), [52 + 4, 10 + 4, 10, 62 + 10, 10 + 2, 223 + 29])
+
+
 # --- Files ---
 
 
@@ -694,13 +796,13 @@ def reads_files_of_each_kind():
 
 
 class OnlyRead:
-    """A file that has `read` alone, and gives three octets at a time."""
+    """A file that has `read` alone, and gives so many octets at a time."""
 
-    def __init__(self, octets):
-        self.octets = io.BytesIO(octets)
+    def __init__(self, octets, most=3):
+        self.octets, self.most = io.BytesIO(octets), most
 
     def read(self, count):
-        return self.octets.read(min(3, count))
+        return self.octets.read(min(self.most, count))
 
 
 @test
@@ -820,6 +922,16 @@ TRUNCATED_AS_JSON = {
 }  # fmt: skip
 
 
+# What is known of the smallest envelope where it ends too early.
+SMALLEST_AS_KNOWN = {
+    "id": {"service": "TST", "number": "00000001", "date_sent": "20240301"},
+    "fields": [
+        {"dataset": f"{record}:{number:02}", "name": tables().get((record, number), (None,))[0], "octets": octets.decode("latin-1")}
+        for record, number, octets in envelopes.SMALLEST_FIELDS
+    ],
+}
+
+
 @test
 def prints_envelopes_as_json():
     same(module([], STORY), (0, [STORY_AS_JSON], ""))
@@ -828,7 +940,7 @@ def prints_envelopes_as_json():
     status, lines, errors = module([], SMALLEST + STORY + SMALLEST[:100])
     same((status, errors, len(lines)), (1, "", 3))
     same(lines[1], {**STORY_AS_JSON, "envelope": 2, "at": 114})
-    same(lines[2], {"envelope": 3, "at": 360, "refused": TRUNCATED_AS_JSON})
+    same(lines[2], {"envelope": 3, "at": 360, "refused": TRUNCATED_AS_JSON, **SMALLEST_AS_KNOWN})
 
 
 @test
@@ -840,7 +952,7 @@ def prints_many_files_with_their_names():
         same((status, errors), (3, ""))
         same([line["file"] for line in lines], ["b.iim", "a b.iim", "absent", "é\n", ".", "-c"])
         same(lines[0], {"file": "b.iim", **STORY_AS_JSON})
-        same(lines[1], {"file": "a b.iim", "envelope": 1, "at": 0, "refused": {**TRUNCATED_AS_JSON, "octet_in_file": 100}})
+        same(lines[1], {"file": "a b.iim", "envelope": 1, "at": 0, "refused": {**TRUNCATED_AS_JSON, "octet_in_file": 100}, **SMALLEST_AS_KNOWN})
         same((lines[2]["failed"], lines[4]["failed"]), ("cannot open: No such file or directory", "cannot open: Is a directory"))
         same((lines[3]["length"], lines[5]["length"]), (114, 114))
         same(module(["a b.iim", "b.iim"], cwd=folder)[0], 1)
@@ -860,9 +972,10 @@ def takes_the_words_of_the_command():
 def tells_a_pipe_that_closed():
     reader, writer = os.pipe()
     os.close(reader)
-    for words in [["-m", "iim", f"{SAMPLES}/story.iim"], [f"{HERE}/archive.py", SAMPLES]]:
+    # (archive.py ends quietly where nobody reads)
+    for words, told in [["-m", "iim", f"{SAMPLES}/story.iim"], b"cannot write\n"], [[f"{HERE}/archive.py", SAMPLES], b""]:
         ran = subprocess.run([sys.executable, *words], stdout=writer, stderr=subprocess.PIPE, env=MODULES, timeout=SECONDS)
-        same((words, ran.returncode, ran.stderr), (words, 3, b"cannot write\n"))
+        same((words, ran.returncode, ran.stderr), (words, 3, told))
     os.close(writer)
     with open("/dev/full", "wb") as full:
         for words in [["-m", "iim", f"{SAMPLES}/story.iim"], [f"{HERE}/archive.py", SAMPLES]]:
@@ -873,17 +986,103 @@ def tells_a_pipe_that_closed():
 @test
 def says_where_the_library_is_missing():
     with tempfile.TemporaryDirectory() as folder:
-        shutil.copy(f"{HERE}/iim.py", folder)
+        for name in "iim.py", "archive.py", "archive_rows.py", "archive_index.py", "archive_query.py":
+            shutil.copy(f"{HERE}/{name}", folder)
         plain = {name: value for name, value in os.environ.items() if name not in ("IIM_LIBRARY", "LD_LIBRARY_PATH", "PYTHONPATH")}
         # (one that is named has to be there; libm is a library, but another one)
         for env in plain, {**plain, "IIM_LIBRARY": f"{folder}/absent.so"}, {**plain, "IIM_LIBRARY": "libm.so.6"}:
-            status, _, errors = run([sys.executable, "-c", "import iim"], cwd=folder, env=env)
-            same((status, b"ImportError: no libiim.so: bindings/build makes it" in errors), (1, True))
+            # (at the first call, and not before)
+            status, output, errors = run([sys.executable, "-c", "import iim; print(1, flush=True); iim.row(1, 0)"], cwd=folder, env=env)
+            same((status, output, b"ImportError: no libiim.so: bindings/build makes it" in errors), (1, b"1\n", True))
+            for words in ["-m", "iim"], ["archive.py"], ["archive.py", "query"]:
+                status, output, errors = run([sys.executable, *words, "--help"], cwd=folder, env=env)
+                same((words, status, errors, output[:6]), (words, 0, b"", b"usage:"))
+            for words in ["-m", "iim", f"{SAMPLES}/story.iim"], ["archive.py", SAMPLES], ["archive.py", "--workers", "1", SAMPLES]:
+                status, output, errors = run([sys.executable, *words], cwd=folder, env=env)
+                same((words, status, errors[:16], output), (words, 3, b"no libiim.so: bi", b""))
         for env, cwd in ({**plain, "IIM_LIBRARY": iim._library._name}, folder), ({**plain, "PYTHONPATH": HERE}, TOP):
-            same(run([sys.executable, "-c", "import iim"], cwd=cwd, env=env), (0, b"", b""))
+            same(run([sys.executable, "-c", "import iim; iim.row(1, 0)"], cwd=cwd, env=env), (0, b"", b""))
         shutil.copy(iim._library._name, f"{folder}/libiim.so")
         words = [sys.executable, "-c", "import iim; print(iim._library._name)"]
         same(run(words, cwd=folder, env=plain), (0, f"{folder}/libiim.so\n".encode(), b""))
+
+
+# --- Audits ---
+
+
+def audited(octets, now=NOW):
+    """What `audit` prints of the envelopes that octets begin with, but for what they repeat; and the line of the refusal, or None."""
+    at, refused = 0, None
+    for line in run([PROGRAM, "check"], octets)[1].decode("latin-1").splitlines():
+        accepted = re.fullmatch(r"\d+ accepted (\d+) octets", line)
+        if accepted:
+            at += int(accepted[1])
+        else:
+            refused = line
+    status, output, errors = run([PROGRAM, "audit", "--now", now], octets[:at])
+    same((status, errors), (0, b""))
+    return [re.sub(" repeats \\S+", "", line) for line in output.decode("latin-1").splitlines()[:-1]], refused
+
+
+def audit_text(nth, row):
+    """The same line of a row of `iim.audit`."""
+    text = lambda octets: "-" if octets is None else octets.decode("latin-1")
+    return (
+        f"{nth} {rules.shown(row.service)} {text(row.number)} {text(row.date_sent)} priority {text(row.priority)} size {row.size}"
+        f" subfiles {row.subfiles} words {row.announced}/{row.counted} age {or_dash(row.age)} copy {row.copy}"
+    )
+
+
+def audit_lines(file):
+    """The lines of the rows, and that of the refusal, or None."""
+    lines, at = [], 0
+    try:
+        for row in iim.audit(file, now=datetime.datetime.fromisoformat(NOW.replace("Z", "+00:00"))):
+            same(row.at, at)
+            at += row.length
+            lines.append(audit_text(len(lines) + 1, row))
+    except iim.Refused as refused:
+        same((refused.at, refused.nth), (at, len(lines) + 1))
+        return lines, str(refused)
+    return lines, None
+
+
+@test
+def audits_each_sample_as_the_command_in_pieces():
+    for name, octets in samples().items():
+        want = audited(octets)
+        for size in (*range(1, 65), 4096):
+            same((name, size, audit_lines(OnlyRead(octets, size))), (name, size, want))
+
+
+@test
+def audits_made_streams_as_the_command():
+    chance = random.Random(11)
+    streams = list(made(12, 2000))
+    for at in range(0, 2000, 4):
+        octets = b"".join(streams[at : at + 4])
+        same((octets.hex(), audit_lines(io.BytesIO(octets))), (octets.hex(), audited(octets)))
+        same((octets.hex(), audit_lines(OnlyRead(octets, chance.randrange(1, 65)))), (octets.hex(), audited(octets)))
+
+
+@test
+def audits_blocks_with_more_envelopes_than_rows():
+    with tempfile.TemporaryDirectory() as folder:
+        path = file(folder, "many.iim", SMALLEST * 30_000 + STORY[:200])
+        blocks = []
+        try:
+            for block in iim.audit_blocks(path):
+                blocks.append(len(block))
+                last = block[-1]
+            raise AssertionError("not refused")
+        except iim.Truncated as refused:
+            same((refused.nth, refused.at, refused.id), (30_001, 30_000 * 114, (b"TST", b"00000002", b"20240301")))
+        same((sum(blocks), last.at, last.length), (30_000, 29_999 * 114, 114))
+        holds(len(blocks) > 3, f"only {blocks} blocks")
+        same([row.at for row in iim.audit(io.BytesIO(SMALLEST * 2))], [0, 114])
+        for now in datetime.datetime(2024, 3, 1), "2024":
+            holds(isinstance(raised((TypeError, ValueError), lambda now: list(iim.audit(path, now=now)), now), Exception), "taken")
+        same(raised(iim.Refused, lambda: list(iim.audit(path, iim.Limits(20, 512)))).cause_name, "HeaderFull")
 
 
 # --- The archive ---
@@ -918,13 +1117,8 @@ def tree_of(folder, count=60):
 
 
 def files_in(folder):
-    """All files of a folder, in the order of their names, each folder's where it stands."""
-    for name in sorted(os.listdir(folder)):
-        path = f"{folder}/{name}"
-        if os.path.isdir(path):
-            yield from files_in(path)
-        else:
-            yield path
+    """All files of a folder, in the order of their names' octets."""
+    return sorted((f"{at}/{name}" for at, _, names in os.walk(folder) for name in names), key=os.fsencode)
 
 
 def audit_line(at, row, repeats):
@@ -958,6 +1152,9 @@ def expect_audit(rows, sums, folder):
         while at < len(rows) and rows[at]["file"] == path:
             mine.append(rows[at])
             at += 1
+        if not octets:
+            same((checked, mine), ([], [{"file": path, "empty": True}]))
+            mine = []
         begin = 0
         for row, line in itertools.zip_longest(mine, checked):
             want, end = check_line(row)
@@ -1022,14 +1219,11 @@ def tells_release_and_age_as_the_command():
 @test
 def counts_words_in_pieces():
     chance = random.Random(7)
-    for _ in range(3000):
-        text = bytes(chance.choices(b"ab\xff \t\n", k=chance.randrange(12)))
-        words, at = archive_module.Words(), 0
-        while at < len(text):
-            size = chance.randrange(4)
-            words.add(text[at : at + size])
-            at += size
-        same((text, words.take(), words.take()), (text, rules.words_of(text.split(b"\n")), 0))
+    for _ in range(300):
+        lines = bytes(chance.choices(b"ab\xff \t\n", k=chance.randrange(12))).split(b"\n")
+        octets = rules.packed(STORY_FIELDS, rules.object_of(STORY_HEAD, lines, b""), chance.randrange(1, 9)) * 2
+        rows = list(iim.audit(OnlyRead(octets, chance.randrange(1, 9))))
+        same((lines, [row.counted for row in rows]), (lines, 2 * [rules.words_of(lines)]))
     with tempfile.TemporaryDirectory() as folder:
         # (far more than a block)
         lines = [b"a word of copy " * 20_000, b"b" * 200_000, b"", b"\tc \t" * 50_000]
@@ -1050,7 +1244,7 @@ def reports_what_can_t_be_read_and_goes_on():
         for words in [], ["--workers", "2"]:
             status, rows, sums, errors = archive([*words, "--name", "*.iim", folder, f"{folder}/absent"])
             same((status, errors), (3, ""))
-            same(sums, {"files": 6, "envelopes": 2, "repeated": 1, "held": 0, "refused": 2, "failed": 3})
+            same(sums, {"files": 6, "envelopes": 2, "repeated": 1, "held": 0, "refused": 2, "empty": 0, "failed": 3})
             short = lambda row: row.get("failed") or row.get("refused", {}).get("cause_name") or row["length"]
             told = [(os.path.relpath(row["file"], folder), short(row)) for row in rows]
             missing = "No such file or directory"
@@ -1067,7 +1261,7 @@ def takes_the_words_of_the_archive():
         wrong = ["--workers", "0"], ["--workers", "2", "--scheduler", "x"], ["--batch", "0"], ["--now", "soon"], ["--now", "2024-03-01"]
         for words in [[], *([*words, folder] for words in wrong)]:
             same((words, archive(words)[:2]), (words, (2, [])))
-        sums = {"files": 0, "envelopes": 0, "repeated": 0, "held": 0, "refused": 0, "failed": 0}
+        sums = {"files": 0, "envelopes": 0, "repeated": 0, "held": 0, "refused": 0, "empty": 0, "failed": 0}
         same(archive([folder]), (0, [], sums, ""))
 
 
@@ -1135,13 +1329,13 @@ def goes_on_where_a_process_of_the_pool_dies():
 KILLER = """
 import os, archive, iim
 # (a worker runs this twice)
-if not hasattr(iim, "read_whole"):
-    iim.read_whole = iim.read
+if not hasattr(iim, "audit_whole"):
+    iim.audit_whole = iim.audit_blocks
 def dies(file, *words, **named):
-    if str(file).endswith("poison.iim"):
+    if file.endswith(b"poison.iim"):
         os.kill(os.getpid(), 9)
-    return iim.read_whole(file, *words, **named)
-iim.read = dies
+    return iim.audit_whole(file, *words, **named)
+iim.audit_blocks = dies
 """
 
 
@@ -1156,7 +1350,7 @@ def expect_one_lost(got, folder):
     same(status, 3)
     same([row["file"] for row in rows], list(files_in(folder)))
     same([row for row in rows if "failed" in row], [{"file": f"{folder}/0017poison.iim", "failed": "its worker was lost"}])
-    same(sums, {"files": 40, "envelopes": 39, "repeated": 38, "held": 0, "refused": 0, "failed": 1})
+    same(sums, {"files": 40, "envelopes": 39, "repeated": 38, "held": 0, "refused": 0, "empty": 0, "failed": 1})
 
 
 @test
@@ -1286,7 +1480,7 @@ def has_the_structs_of_the_header():
     same(sorted(name for name, _ in declared), sorted(STRUCTS))
     want, lines = [], []
     for name, members in declared:
-        names = re.findall(r"(\w+);", members)
+        names = re.findall(r"(\w+)(?:\[\d+\])?;", members)
         kind = STRUCTS[name]
         same((name, names), (name, [each for each, _ in kind._fields_]))
         lines.append(f'printf("{name} %zu\\n", sizeof({name}));')
@@ -1404,6 +1598,15 @@ def runs_the_archive_of_the_page():
         words, output = block("sh", "archive.py --workers 2")
         status, lines, errors = shell(words, folder)
         same((status, lines.splitlines()[-1], errors), (1, output.rstrip("\n"), ""))
+        status, lines, errors = shell(block("sh", "--into samples.index")[0], folder)
+        same((status, errors, json.loads(lines)), (1, "", {**json.loads(output), "unchanged": 0, "gone": 0}))
+        same(shell("bindings/python/archive.py --into others.index samples/story.iim", folder)[0], 0)
+        status, lines, errors = shell(block("sh", "query --cause")[0], folder)
+        same((status, errors, {json.loads(line)["refused"]["cause_name"] for line in lines.splitlines()}), (0, "", {"CountForm"}))
+        status, lines, errors = shell(block("sh", "samples.index others.index")[0], folder)
+        rows = [json.loads(line) for line in lines.splitlines()]
+        same((status, errors, [row for row in rows if not row["repeats"]]), (0, "", []))
+        same(len(rows), json.loads(output)["repeated"] + 1)
 
 
 @test
@@ -1412,19 +1615,19 @@ def runs_the_recipes_of_the_page():
         raise NotHere("GNU parallel is not installed")
     with clone() as folder:
         tree = tree_of(f"{folder}/TREE", 30)
-        check, refused, audit = (block("sh", words)[0] for words in ("check {} > checked", "accepted/' checked", "audit --now"))
-        # (its status is how many files are refused)
-        many = sum(run([PROGRAM, "check", path])[0] for path in files_in(tree))
-        same(shell(check, folder)[0], min(many, 101))
-        paths = sorted((os.path.relpath(path, folder) for path in files_in(tree)), key=os.fsencode)
-        lines = [(path, line) for path in paths for line in run([PROGRAM, "check", f"{folder}/{path}"])[1].decode().splitlines()]
+        check, refused, audit = (block("sh", words)[0] for words in ("each check {} > checked", "accepted/' checked", "Z {} > audited"))
+        file(folder, "each", block("sh", "# Runs `iimwire check`")[0].encode())
+        same(shell(check, folder)[0], 1)
+        paths = [os.path.relpath(path, folder) for path in files_in(tree)]
+        told = lambda path: run([PROGRAM, "check", f"{folder}/{path}"])[1].decode().splitlines() if os.path.getsize(f"{folder}/{path}") else ["empty"]
+        lines = [(path, line) for path in paths for line in told(path)]
         with open(f"{folder}/checked") as checked:
-            same(sorted(checked.read().splitlines()), sorted(f"{path}\t{line}" for path, line in lines))
-        same(sorted(shell(refused, folder)[1].splitlines()), sorted(f"{path}\t{line}" for path, line in lines if " refused " in line))
+            same(checked.read().splitlines(), [f"{path}\t{line}" for path, line in lines])
+        same(shell(refused, folder)[1].splitlines(), [f"{path}\t{line}" for path, line in lines if " accepted " not in line])
         # Repeats as archive.py finds them in the files that are accepted as a whole.
         whole = [path for path in paths if not run([PROGRAM, "check", f"{folder}/{path}"])[0]]
         rows = run([sys.executable, f"{HERE}/archive.py", "--now", NOW, *whole], cwd=folder)[1].splitlines()[:-1]
-        repeats = [(row["file"], row["envelope"], row["repeats"]) for row in map(json.loads, rows) if row["repeats"]]
+        repeats = [(row["file"], row["envelope"], row["repeats"]) for row in map(json.loads, rows) if row.get("repeats")]
         want = [f"{path} {number} repeats {first['file']} {first['envelope']}" for path, number, first in repeats]
         same(sorted(run(["sh", "-c", audit], cwd=folder)[1].decode().splitlines()), sorted(want))
         holds(len(want) > 10, f"only {len(want)} repeats")
@@ -1435,7 +1638,7 @@ def too_long(*_):
 
 
 def main():
-    passed = failed = 0
+    passed = failed = skipped = 0
     signal.signal(signal.SIGALRM, too_long)
     for function in TESTS:
         began = time.monotonic()
@@ -1443,6 +1646,7 @@ def main():
         try:
             function()
         except NotHere as why:
+            skipped += 1
             print(f"not run: {function.__name__}: {why}")
             continue
         except BaseException as fault:
@@ -1456,7 +1660,7 @@ def main():
             if "TIMES" in os.environ:
                 print(f"{time.monotonic() - began:6.1f} s {function.__name__}")
         passed += 1
-    print(f"{passed} passed, {failed} failed")
+    print(f"{passed} passed, {failed} failed" + (f", {skipped} skipped" if skipped else ""))
     return 1 if failed else 0
 
 

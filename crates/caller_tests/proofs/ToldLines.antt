@@ -1,6 +1,6 @@
 -- What is delivered of an envelope from its first octet on.
 use Rattle.std.proofs.Common.{◌≡◌, ℕ, List, [], ◌∷◌, length, refl, ap, subst, arith, length-append}
-use Rattle.iim_commands.specs.Format.Listings.{IsDelivered}
+use Rattle.iim_listing.specs.Format.Listings.{IsDelivered}
 use Rattle.iim_dataset.specs.Format.Datasets.{Dataset, count_octets}
 use Rattle.iim_dataset.specs.Format.Splits.{Begun, InTag, InData, Reads}
 use Rattle.iim_places.specs.Format.Open.{Delivers, IsTextOf, object_so_far}

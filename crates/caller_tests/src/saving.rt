@@ -13,20 +13,22 @@ ghost use Rattle.wire_story.specs.Format.Delivery.{StoryEvent};
 use iim_fields::Limits;
 use iim_unpack::laws::{
     limits_are_told_by_place, octets_have_one_place, octets_have_one_ticket,
-    possible_places_are_taken, restored_unpackers_stand_as_saved,
+    possible_places_are_taken, restored_unpackers_stand_as_saved, saved_places_continue,
     the_present_scale_says_nothing_more, unpackers_stand_by_place, unpackers_stand_somewhere,
 };
 use iim_unpack::{Progress, Refusal, TicketFault, Unpacker};
 use std::alloc::Global;
 use wire_story::StorySink;
 
-/// An unpacker in the place of another, by a ticket, as for another process: it stands on the same octets, or is done with them.
+/// An unpacker in the place of another, by a ticket, as for another process: it stands on the same octets, or is done with them. So it
+/// answers each list of pieces as the other.
 pub fn moved(alloc: Global, unpacker: &Unpacker, limits: Limits) -> Option<Unpacker>
     requires { limits_in unpacker.now ≡ limits }
     ensures stands { IfSome result (λ other. (p : List ℕ) (a : ℕ) → Stands unpacker.now p a → Stands other p a) }
     ensures done { IfSome result (λ other. (p : List ℕ) (a : ℕ) → IsDoneWith unpacker.now p a → IsDoneWith other p a) }
 {
     restored_unpackers_stand_as_saved();
+    saved_places_continue();
     let Ok(ticket) = unpacker.save(alloc) else {
         return None;
     };

@@ -1,9 +1,9 @@
 //! Callers of `iim_commands`: what its commands print of an envelope, read again.
 
 ghost use Rattle.std.specs.Prelude.{◌≡◌, ◌≤◌, ◌++◌, [], ℕ, List, length, take, codes, IfSome};
-ghost use Rattle.iim_commands.specs.Format.Listings.{limits};
-ghost use Rattle.iim_commands.specs.Format.Narration.{story_of};
-ghost use Rattle.iim_commands.specs.Format.Texts.{number_line, sizes_line, shown_of};
+ghost use Rattle.iim_output.specs.Format.Limits.{limits};
+ghost use Rattle.iim_listing.specs.Format.Narration.{story_of};
+ghost use Rattle.iim_listing.specs.Format.Texts.{number_line, sizes_line, shown_of};
 ghost use Rattle.iim_places.specs.Format.Admitted.{Value, Admits};
 ghost use Rattle.iim_places.specs.Format.Listing.{Listed, IsListed};
 ghost use Rattle.iim_script.specs.Format.Scripts.{max_script};

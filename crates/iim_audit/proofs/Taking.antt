@@ -43,7 +43,7 @@ pub took_end : (limits : Limits) (old new : Device) (u v : Unpacking) (a b : Wor
     → TookEnvelope limits old new v used None
 took_end limits old new u v a b used whole is fed =
     let (none, was) = subst (λ (x : Bool). FedEnvelope CountsWords (old, u, a) (new, v, b) used x) is fed in
-    (was.given, was.at_end, none)
+    (was.1.given, was.1.at_end, none)
 
 -- A sink that counts no failure refused nothing.
 unsunk : (cause : Cause) (n : ℕ) → n ≡ 0 → CountsFor cause n n → cause ≢ Sink
@@ -51,10 +51,10 @@ unsunk cause n zero counts same =
     let P : Cause → Type 0 = λ c. CountsFor c n n in
     ⊎_elim (λ rose. omega arith) (λ full. omega arith) (subst P same counts)
 
-refused_fresh : {S : Type 0} (goes : S → List StoryEvent → S → Type 0) (failures : S → ℕ) (old new : Device) (u : Unpacking) (a b : S) (e : Refusal)
-    → failures a ≡ 0 → failures b ≡ 0 → Stands u [] 0 → WasRefused goes failures old new u a b e ⊎ WasTruncated goes failures old new u a b e
+refused_fresh : {S : Type 0} (goes : S → List StoryEvent → S → Type 0) (failures : S → ℕ) (old new : Device) (u v : Unpacking) (a b : S) (e : Refusal)
+    → failures a ≡ 0 → failures b ≡ 0 → Stands u [] 0 → WasRefused goes failures old new u v a b e ⊎ WasTruncated goes failures old new u v a b e
     → IsRefusal (limits_in u) old new e
-refused_fresh goes failures old new u a b e before after stands (inl was) =
+refused_fresh goes failures old new u v a b e before after stands (inl was) =
     let of = was.refuses [] 0 stands in
     let P : ℕ → Type 0 = λ n. CountsFor e.cause n (failures b) in
     let Q : ℕ → Type 0 = λ n. CountsFor e.cause 0 n in
@@ -73,7 +73,7 @@ refused_fresh goes failures old new u a b e before after stands (inl was) =
       });
       at_end = λ all. absurd (omega (arith, all, of.within));
     }
-refused_fresh goes failures old new u a b e before after stands (inr was) =
+refused_fresh goes failures old new u v a b e before after stands (inr was) =
     let in_it = was.truncated [] 0 stands in
     record {
       rest = was.octets;
@@ -93,7 +93,7 @@ none_fresh : {S : Type 0} (goes : S → List StoryEvent → S → Type 0) (failu
     → failures a ≡ 0 → failures b ≡ 0 → kept ≡ Some octet → told ≡ 0 → Stands u [] 0 → Faults goes failures old new u v a b octet fault
     → TookNone (limits_in u) old new before kept told (cause_of fault)
 none_fresh goes failures old new u v a b octet before kept told (intakes.Refused e) at_first at_last keeps none stands faults =
-    (refused_fresh goes failures old new u a b e at_first at_last stands faults.1, keeps ∙ ap Some faults.0, none)
+    (refused_fresh goes failures old new u v a b e at_first at_last stands faults.1, keeps ∙ ap Some faults.0, none)
 none_fresh goes failures old new u v a b octet before kept told intakes.Read at_first at_last keeps none stands faults =
     (cut_off goes failures old new u v a b octet kept io.Failed keeps stands faults, none)
 none_fresh goes failures old new u v a b octet before kept told intakes.Interrupted at_first at_last keeps none stands faults =

@@ -1,9 +1,9 @@
 -- The steps of a call that packs.
 use Rattle.std.specs.Prelude.{◌≡◌, ℕ, ◌<◌, ◌≤◌, ◌⊎◌, List, [], ◌++◌, length, drop}
-use Rattle.iim_commands.specs.Format.Packing.{asked}
-use Rattle.iim_commands.specs.declared.packing.PackFault.{PackFault}
-use Rattle.iim_commands.specs.declared.packing.PackFault.TheVariants.{Refused, Around}
-use Rattle.iim_commands.specs.declared.packing.PackRequest.{PackRequest}
+use Rattle.iim_pack_script.specs.Format.Packing.{asked}
+use Rattle.iim_pack_script.specs.declared.packing.PackFault.{PackFault}
+use Rattle.iim_pack_script.specs.declared.packing.PackFault.TheVariants.{Refused, Around}
+use Rattle.iim_request.specs.declared.pack_request.PackRequest.{PackRequest}
 use Rattle.iim_c.specs.declared.answer.IimAnswer.{IimAnswer}
 use Rattle.iim_c.specs.declared.packing.IimPacking.{IimPacking}
 use Rattle.iim_c.specs.Format.Answers.{status_answer}

@@ -43,8 +43,7 @@ fn checked(alloc: Global, limits: Limits, octets: &[u8]) -> IimAnswer
 }
 
 /// Tells what the octets begin with: an envelope, or why there is none.
-#[unsafe(no_mangle)]
-pub extern "C" fn iim_check(alloc: Global, limits: IimLimits, octets: &[u8], answer: &mut IimAnswer)
+pub fn iim_check(alloc: Global, limits: IimLimits, octets: &[u8], answer: &mut IimAnswer)
     ensures answer { IsChecked (limits_for limits) octets.now answer.new }
     ensures only { IsOnly (limits_for limits) octets.now answer.new }
 {

@@ -87,8 +87,7 @@ fn dataset_named(rec: u8, set: u8) -> Option<&'static str>
 }
 
 /// Writes the name of a dataset of the tables with a NUL after it, where there is room for both, and answers how many octets it has.
-#[unsafe(no_mangle)]
-pub extern "C" fn iim_dataset_name(rec: u8, set: u8, out: &mut [u8]) -> usize
+pub fn iim_dataset_name(rec: u8, set: u8, out: &mut [u8]) -> usize
     ensures { IsNamed (name_or_none (dataset_named rec set)) out.old out.new result }
 {
     put_name(dataset_named(rec, set), out)

@@ -32,14 +32,7 @@ fn ended(alloc: Global, limits: Limits, ticket: &[u8], at: u64) -> IimAnswer
 }
 
 /// Tells what it means that the input ends after the octets that have led to a ticket: the envelope has ended, or is truncated.
-#[unsafe(no_mangle)]
-pub extern "C" fn iim_end(
-    alloc: Global,
-    limits: IimLimits,
-    ticket: &[u8],
-    at: u64,
-    answer: &mut IimAnswer,
-)
+pub fn iim_end(alloc: Global, limits: IimLimits, ticket: &[u8], at: u64, answer: &mut IimAnswer)
     ensures { IsEnd (limits_for limits) ticket.now at answer.new }
 {
     *answer = ended(alloc, limits.told(), ticket, at);

@@ -167,8 +167,7 @@ fn fed(
 /// Takes the next octets of an envelope, from the place of a ticket on, or of a new one where there is none: writes what is delivered
 /// of the text among them and the ticket of the place that they lead to, and tells how many were used. A ticket of an ended envelope
 /// tells its fields. Where a buffer is too short the answer tells the lengths that are needed, and the same call can be made again.
-#[unsafe(no_mangle)]
-pub extern "C" fn iim_feed(
+pub fn iim_feed(
     alloc: Global,
     limits: IimLimits,
     ticket: &[u8],

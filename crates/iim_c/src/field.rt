@@ -79,13 +79,7 @@ fn field_in(ticket: &[u8], parts: TicketParts<'_>, n: usize) -> Option<IimDatase
 }
 
 /// Tells the dataset with the index `n` of those of records 1 and 2 that a ticket tells.
-#[unsafe(no_mangle)]
-pub extern "C" fn iim_field(
-    ticket: &[u8],
-    n: usize,
-    dataset: &mut IimDataset,
-    answer: &mut IimAnswer,
-)
+pub fn iim_field(ticket: &[u8], n: usize, dataset: &mut IimDataset, answer: &mut IimAnswer)
     ensures { IsField ticket.now n dataset.new answer.new }
 {
     let (found, told) = match split_ticket(ticket) {

@@ -88,8 +88,7 @@ fn message_in(ticket: &[u8], parts: &TicketParts<'_>) -> IimMessage
 }
 
 /// Tells the header and the trailer of the message, as far as they have come.
-#[unsafe(no_mangle)]
-pub extern "C" fn iim_header(ticket: &[u8], message: &mut IimMessage, answer: &mut IimAnswer)
+pub fn iim_header(ticket: &[u8], message: &mut IimMessage, answer: &mut IimAnswer)
     ensures { IsHeader ticket.now message.new answer.new }
 {
     let (found, told) = match split_ticket(ticket) {

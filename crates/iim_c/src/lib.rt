@@ -1,7 +1,7 @@
-//! The interface for C: a static library, whose header is `bindings/c/iim.h`.
+//! What C calls: answers, structs, and the library's calls over octets and buffers of the caller's.
 //!
-//! Stands on the unpacker, the packer, scripts and tables, and says of each export again what the library's call says. The state
-//! between two calls is a ticket, octets that the caller keeps: nothing lasts from one call to the next.
+//! Stands on the unpacker, the packer, scripts and tables, and says of each call again what the library's call says. The state between
+//! two calls is a ticket, octets that the caller keeps: nothing lasts from one call to the next. `iim_exports` hands the calls to C.
 #![tactic(auto)]
 
 mod answer;
@@ -23,3 +23,19 @@ mod span;
 mod status;
 mod text_out;
 mod version;
+
+pub use answer::IimAnswer;
+pub use check::iim_check;
+pub use dataset_names::iim_dataset_name;
+pub use end::iim_end;
+pub use feed::iim_feed;
+pub use field::{IimDataset, iim_field};
+pub use header::{IimMessage, iim_header};
+pub use limits::IimLimits;
+pub use names::{iim_cause_name, iim_layer_name};
+pub use pack::{iim_pack, iim_pack_size};
+pub use packing::IimPacking;
+pub use rule::{IimRule, iim_admits, iim_row};
+pub use sizes::{IimObject, iim_sizes};
+pub use span::IimSpan;
+pub use version::{VERSION, iim_version};

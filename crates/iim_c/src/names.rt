@@ -47,26 +47,29 @@ macro_rules! cause_in_table {
             60 "Sink"
             61 "Failed"
 
-            // Memory, packing and scripts
+            // Memory, readers, packing, audits and scripts
             70 "OutOfMemory"
+            71 "Read"
+            72 "Interrupted"
             80 "PastAnnounced"
             81 "ShortOfAnnounced"
             82 "BadTextOctet"
             83 "BadTrailer"
             84 "Write"
             85 "Failed"
+            90 "TooManyEnvelopes"
             91 "ScriptLine"
             92 "ScriptTooLong"
 
             // Tickets
-            100 "Form"
-            101 "Version"
+            100 "TicketForm"
+            101 "TicketVersion"
             102 "Impossible"
         }
     };
 }
 
-/// The name of a cause by its number: those of octets, of packing, of scripts and of tickets.
+/// The name of a cause by its number: those of octets, of memory and readers, of packing, of audits, of scripts and of tickets.
 #[tactic(auto, unfolding(crate::specs::Format::Names::cause_named, crate::specs::Format::Names::cause_names))]
 fn cause_named(number: u8) -> Option<&'static str>
     ensures { MatchOption result (cause_named number ≡ None) (λ name. cause_named number ≡ Some name.now) }
@@ -103,16 +106,14 @@ pub(crate) fn put_name(name: Option<&str>, out: &mut [u8]) -> usize
 }
 
 /// Writes the name of a cause with a NUL after it, where there is room for both, and answers how many octets it has.
-#[unsafe(no_mangle)]
-pub extern "C" fn iim_cause_name(cause: u8, out: &mut [u8]) -> usize
+pub fn iim_cause_name(cause: u8, out: &mut [u8]) -> usize
     ensures { IsNamed (name_or_none (cause_named cause)) out.old out.new result }
 {
     put_name(cause_named(cause), out)
 }
 
 /// Writes the name of a layer with a NUL after it, where there is room for both, and answers how many octets it has.
-#[unsafe(no_mangle)]
-pub extern "C" fn iim_layer_name(layer: u8, out: &mut [u8]) -> usize
+pub fn iim_layer_name(layer: u8, out: &mut [u8]) -> usize
     ensures { IsNamed (name_or_none (layer_named layer)) out.old out.new result }
 {
     put_name(layer_named(layer), out)

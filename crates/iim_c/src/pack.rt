@@ -8,8 +8,8 @@ use crate::answer::{IimAnswer, status_answer};
 use crate::bytes::put_front;
 use crate::packing::{IimPacking, request_for};
 use crate::status::{BAD_PACKING, DONE, NO_MEMORY, REFUSED, SHORT};
-use iim_commands::packing::{PackFault, pack_octets};
 use iim_dataset::FromWrite;
+use iim_pack_script::packing::{PackFault, pack_octets};
 use std::alloc::Global;
 
 /// The answer for what keeps an envelope from being packed. A write into memory fails for want of memory alone.
@@ -63,8 +63,7 @@ fn put_form(form: &[u8], out: &mut [u8]) -> IimAnswer
 }
 
 /// Writes the packed form of what a script tells into a buffer, where it has room for it.
-#[unsafe(no_mangle)]
-pub extern "C" fn iim_pack(
+pub fn iim_pack(
     alloc: Global,
     packing: IimPacking,
     script: &[u8],
@@ -80,13 +79,7 @@ pub extern "C" fn iim_pack(
 }
 
 /// Tells how many octets the packed form of what a script tells has.
-#[unsafe(no_mangle)]
-pub extern "C" fn iim_pack_size(
-    alloc: Global,
-    packing: IimPacking,
-    script: &[u8],
-    answer: &mut IimAnswer,
-)
+pub fn iim_pack_size(alloc: Global, packing: IimPacking, script: &[u8], answer: &mut IimAnswer)
     ensures { IsSized packing script.now answer.new }
 {
     match packed(alloc, packing, script) {

@@ -4,9 +4,9 @@ ghost use Rattle.std.specs.Prelude.{IfSome, IfNone};
 ghost use Rattle.iim_c.specs.Format.Packing.{AsksNothing};
 ghost use Rattle.iim_c.specs.PackSteps.{Asks};
 
-use iim_commands::packing::PackRequest;
-use iim_commands::request::DEFAULT_SUBFILE;
 use iim_object::{Plan, Size};
+use iim_pack_script::packing::PackRequest;
+use iim_request::request::DEFAULT_SUBFILE;
 
 /// How an envelope is packed. A subfile of 0 octets stands for one of 1,024.
 #[repr(C)]

@@ -77,8 +77,7 @@ fn rule_of(row: Row) -> IimRule
 }
 
 /// Tells the row of a dataset: true where it has one.
-#[unsafe(no_mangle)]
-pub extern "C" fn iim_row(rec: u8, set: u8, rule: &mut IimRule) -> bool
+pub fn iim_row(rec: u8, set: u8, rule: &mut IimRule) -> bool
     ensures has { result ≡ is_some (row_of rec set) }
     ensures rule { rule.new ≡ rule_for (row_of rec set) }
 {
@@ -95,8 +94,7 @@ pub extern "C" fn iim_row(rec: u8, set: u8, rule: &mut IimRule) -> bool
 }
 
 /// Whether the octets may be those of a dataset: it has a row, and they are as that says.
-#[unsafe(no_mangle)]
-pub extern "C" fn iim_admits(rec: u8, set: u8, octets: &[u8]) -> bool
+pub fn iim_admits(rec: u8, set: u8, octets: &[u8]) -> bool
     ensures { IsTrue result ↔ Meets rec set octets.now }
 {
     match row(rec, set) {

@@ -69,8 +69,7 @@ fn object_in(parts: &TicketParts<'_>) -> IimObject
 }
 
 /// Tells the sizes of the object, as far as they have come.
-#[unsafe(no_mangle)]
-pub extern "C" fn iim_sizes(ticket: &[u8], object: &mut IimObject, answer: &mut IimAnswer)
+pub fn iim_sizes(ticket: &[u8], object: &mut IimObject, answer: &mut IimAnswer)
     ensures { AreSizes ticket.now object.new answer.new }
 {
     let (found, told) = match split_ticket(ticket) {

@@ -10,14 +10,14 @@ use Rattle.iim_audit.specs.Format.Texts.{lines_from, printed_report, row_line, s
 use Rattle.iim_audit.specs.declared.row.AuditRow.{AuditRow}
 use Rattle.iim_commands.specs.Format.Audits.{IsAuditAnswer, IsUnaudited}
 use Rattle.iim_commands.specs.Untold.{CannotTell}
-use Rattle.iim_commands.specs.States.Holding.{HasPut, HoldsNothing, device_of}
-use Rattle.iim_commands.specs.Listing.{IsCutShort, IsUnadded}
-use Rattle.iim_commands.specs.Format.Listings.{limits}
-use Rattle.iim_commands.specs.Format.WrittenListings.{IsUnsaid}
-use Rattle.iim_commands.specs.HoldingLaws.{put_on}
-use Rattle.iim_commands.specs.declared.block_writer.BlockWriter.{BlockWriter}
-use Rattle.iim_commands.proofs.Holding.{cut_on, stopped_in}
-use Rattle.iim_commands.specs.declared.fault.CommandFault.{CommandFault}
+use Rattle.iim_output.specs.States.Holding.{HasPut, HoldsNothing, device_of}
+use Rattle.iim_output.specs.States.Holding.{IsCutShort, IsUnadded}
+use Rattle.iim_output.specs.Format.Limits.{limits}
+use Rattle.iim_output.specs.Format.Said.{IsUnsaid}
+use Rattle.iim_output.specs.HoldingLaws.{put_on}
+use Rattle.iim_output.specs.declared.block_writer.BlockWriter.{BlockWriter}
+use Rattle.iim_output.proofs.Holding.{cut_on, stopped_in}
+use Rattle.iim_output.specs.declared.fault.CommandFault.{CommandFault}
 
 -- the output broke inside the answer
 pub unsaid : (now : ℤ) (source rest old new : Device) (words : List ℕ) (status : ℕ) (fault : CommandFault) → IsAuditAnswer now source rest words status

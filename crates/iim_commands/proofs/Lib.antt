@@ -1,12 +1,3 @@
 pub mod Audits
-pub mod Feeding
-pub mod HeldOctets
-pub mod Holding
-pub mod Narration
-pub mod Packings
-pub mod Listings
-pub mod Requests
 pub mod Runs
 pub mod Scripts
-pub mod Taken
-pub mod Told

@@ -2,8 +2,8 @@
 use Rattle.std.specs.Prelude.{◌≡◌, ℕ, Result, Ok, Err}
 use Rattle.iim_dataset.specs.States.Devices.{Device}
 use Rattle.iim_commands.specs.Format.Outcomes.{Complained}
-use Rattle.iim_commands.specs.Format.Statuses.{status_failed}
-use Rattle.iim_commands.specs.declared.fault.CommandFault.{CommandFault}
+use Rattle.iim_output.specs.Format.Statuses.{status_failed}
+use Rattle.iim_output.specs.declared.fault.CommandFault.{CommandFault}
 
 -- With the status, or with the fault, which is told, and status 3. (The errors before and after.)
 abbrev pub EndsRun : Device → Device → Result ℕ CommandFault → ℕ → Type 0

@@ -1,11 +1,2 @@
 pub mod Audits
-pub mod Lines
-pub mod Listings
-pub mod Narration
 pub mod Outcomes
-pub mod Packing
-pub mod WrittenListings
-pub mod Requests
-pub mod Shown
-pub mod Statuses
-pub mod Texts

@@ -1,2 +1,1 @@
-pub mod Narration
 pub mod Scripts

@@ -1,16 +1,7 @@
 -- What octets are, and what is said of them.
 pub mod Format
--- Where readers and writers stand.
-pub mod States
 -- What holds of these: statements, each the contract of a law.
 pub mod Laws
 -- What only proofs and private clauses cite.
-pub mod Listing
 pub mod Endings
-pub mod Faults
-pub mod Feeding
-pub mod HoldingLaws
-pub mod NarrationEnds
-pub mod PackSteps
 pub mod Untold
-pub mod Verbs

@@ -2,8 +2,8 @@
 use Rattle.std.specs.Prelude.{◌≡◌}
 use Rattle.iim_audit.specs.declared.fault.AuditCause.{AuditCause}
 use Rattle.iim_audit.specs.declared.fault.AuditCause.TheVariants as causes
-use Rattle.iim_commands.specs.declared.fault.CommandFault.{CommandFault}
-use Rattle.iim_commands.specs.declared.fault.CommandFault.TheVariants.{CannotRead, OutOfMemory}
+use Rattle.iim_output.specs.declared.fault.CommandFault.{CommandFault}
+use Rattle.iim_output.specs.declared.fault.CommandFault.TheVariants.{CannotRead, OutOfMemory}
 
 -- A failed reader is told as that. Memory may be short for any line.
 abbrev pub CannotTell : AuditCause → CommandFault → Type 0

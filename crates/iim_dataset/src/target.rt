@@ -1,6 +1,6 @@
 //! Where octets go.
 
-ghost use Rattle.std.specs.Prelude.{◌≡◌, ◌<◌, length, IfOk, IfErr, OnOk, OnErr};
+ghost use Rattle.std.specs.Prelude.{◌≡◌, ◌+◌, ◌<◌, length, IfOk, IfErr, OnOk, OnErr};
 ghost use Rattle.iim_dataset.specs.Format.Datasets.{canonical_dataset};
 ghost use Rattle.iim_dataset.specs.States.Devices.{Device, Accepted, Faulted, Wrote, Stopped, WithinInterruptionLimit, unbroken, writer_device};
 ghost use Rattle.iim_dataset.specs.Calls.{Sent};
@@ -43,6 +43,9 @@ pub fn put<W: Target>(writer: &mut W, piece: &[u8]) -> Result<(), usize>
     ensures ok { OnOk result (Wrote (W.state writer.old) (W.state writer.new) piece.now) }
     ensures err { IfErr result (Stopped (W.state writer.old) (W.state writer.new) piece.now) }
     ensures patience { WithinInterruptionLimit (length piece.now) (W.state writer.old) (W.state writer.new) }
+    // One million more than those before the octets that are out.
+    ensures given_up { IfErr result (λ out.
+        WithinInterruptionLimit (out + 1) (W.state writer.old) (W.state writer.new)) }
 {
     let mut at = 0;
     while at < piece.len() {
@@ -66,6 +69,8 @@ pub fn put_dataset<W: Target>(writer: &mut W, rec: u8, set: u8, octets: &[u8]) -
     ensures patience { WithinInterruptionLimit
         (length (canonical_dataset record { rec = rec; set = set; octets = octets.now })) (W.state writer.old)
         (W.state writer.new) }
+    ensures given_up { IfErr result (λ out.
+        WithinInterruptionLimit (out + 1) (W.state writer.old) (W.state writer.new)) }
 {
     texts_join();
     let count = octets.len() as u64;

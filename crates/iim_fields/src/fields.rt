@@ -75,10 +75,8 @@ impl Model for Fields {
 impl Fields {
     ghost use Rattle.iim_fields.specs.Format.Faults.{section_after};
     ghost use Rattle.iim_fields.specs.States.Walks.{rest_of};
-    ghost use Rattle.iim_fields.specs.States.Standing.{limits_of, room_of, section_of, begun_head_of, room_for, IsEnough, IsFailed, IsBetween, IsInside, CanTake, CanClose, StandsAfter, StandsIn, TookDataset, PassesSubfile, SameBounds, IsHeadFault, IsOf, IsEnded};
+    ghost use Rattle.iim_fields.specs.States.Standing.{limits_of, room_of, section_of, begun_head_of, room_for, IsFailed, IsBetween, IsInside, CanTake, CanClose, StandsAfter, StandsIn, TookDataset, PassesSubfile, SameBounds, IsHeadFault, IsOf, IsEnded};
     ghost use Rattle.iim_fields.specs.States.Builders.{add_fault};
-    ghost use Rattle.iim_fields.specs.StoreLayout.{store_room};
-    ghost use Rattle.std.specs.Prelude.{vec_capacity};
 
     /// At the beginning of an envelope, with memory for just what the limits allow: no later call takes any. An error says that
     /// memory was refused.
@@ -88,42 +86,12 @@ impl Fields {
         ensures room { IfOk result (λ fields. room_of fields ≡ room_for limits) }
     {
         let store = Store::new(alloc, limits.octets as usize, limits.fields as usize)?;
-        Ok(Fields::starting(store, limits))
-    }
-
-    /// At the beginning of an envelope, with the memory of one that is no longer wanted, where that is enough for the limits: it
-    /// takes none. Else that envelope is handed back.
-    pub fn over(envelope: Envelope, limits: Limits) -> Result<Fields, Envelope>
-        ensures stands { IfOk result (λ fields. StandsAfter fields []) }
-        ensures limits { IfOk result (λ fields. limits_of fields ≡ limits) }
-        ensures room { IfOk result (λ fields. IsEnough (room_of fields) limits) }
-        ensures handed_back { IfErr result (λ same. same ≡ envelope) }
-    {
-        match envelope
-            .store
-            .emptied(limits.octets as usize, limits.fields as usize)
-        {
-            Ok(store) => Ok(Fields::starting(store, limits)),
-            Err(store) => Err(Envelope { store }),
-        }
-    }
-
-    /// At the beginning of an envelope, over a store that has nothing in it, and room for all that the limits allow.
-    fn starting(store: Store, limits: Limits) -> Fields
-        requires octets { store.octets.items ≡ [] }
-        requires entries { store.entries.items ≡ [] }
-        requires octets_room { limits.octets ≤ store.octets.room }
-        requires entries_room { limits.fields ≤ vec_capacity store.entries }
-        ensures stands { StandsAfter result [] }
-        ensures limits { limits_of result ≡ limits }
-        ensures room { room_of result ≡ store_room store }
-    {
-        Fields {
+        Ok(Fields {
             check: RecordCheck::new(),
             limits,
             store,
             size: ArrayVec::new(),
-        }
+        })
     }
 
     /// Begins again, on the same memory and within the same limits: whatever was read or refused before, it is at the beginning of an

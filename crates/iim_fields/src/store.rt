@@ -1,7 +1,7 @@
 //! The kept datasets: their octets in one store, and an entry for each.
 
-ghost use Rattle.std.specs.Prelude.{◌≡◌, ◌+◌, ◌≤◌, ◌<◌, ◌++◌, ◌∷◌, [], IfOk, IfErr, length, vec_len, vec_capacity};
-ghost use Rattle.iim_fields.specs.StoreLayout.{store_room, ends_at, begun_octets};
+ghost use Rattle.std.specs.Prelude.{◌≡◌, ◌+◌, ◌≤◌, ◌<◌, ◌++◌, ◌∷◌, [], IfOk, length, vec_len, vec_capacity};
+ghost use Rattle.iim_fields.specs.StoreLayout.{ends_at, begun_octets};
 
 use iim_dataset::ReservedOctets;
 use std::alloc::{AllocError, Global};
@@ -39,23 +39,6 @@ impl Store {
             octets: ReservedOctets::new(alloc, octets)?,
             entries: Vec::with_capacity(alloc, entries)?,
         };
-        Ok(store)
-    }
-
-    /// The same room with nothing in it, where it is enough for `octets` octets and `entries` entries. Else the store as it was.
-    pub(crate) fn emptied(self, octets: usize, entries: usize) -> Result<Store, Store>
-        ensures octets { IfOk result (λ store. store.octets.items ≡ []) }
-        ensures entries { IfOk result (λ store. store.entries.items ≡ []) }
-        ensures octets_room { IfOk result (λ store. octets ≤ store.octets.room) }
-        ensures entries_room { IfOk result (λ store. entries ≤ vec_capacity store.entries) }
-        ensures room { IfOk result (λ store. store_room store ≡ store_room self) }
-        ensures handed_back { IfErr result (λ store. store ≡ self) }
-    {
-        if self.octets.room() < octets || self.entries.capacity() < entries {
-            return Err(self);
-        }
-        let mut store = self;
-        store.empty();
         Ok(store)
     }
 

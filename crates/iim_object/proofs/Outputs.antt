@@ -9,12 +9,13 @@ use Rattle.iim_object.specs.Outputs.{Puts, Cuts}
 use Rattle.iim_object.specs.declared.writing.output.Output.{Output}
 
 pub puts_nothing : {W : Type 0} (state : W → Device) (a : Output W) → TextsJoin → Puts state a a []
-puts_nothing state a join = record { wrote = join.none (state a.writer); counted = omega arith }
+puts_nothing state a join = record { wrote = join.none (state a.writer); counted = omega arith; patience = omega arith }
 
 pub puts_more : {W : Type 0} (state : W → Device) (a b c : Output W) (xs ys : List ℕ) → TextsJoin → Puts state a b xs → Puts state b c ys → Puts state a c (xs ++ ys)
 puts_more state a b c xs ys join p q = record {
   wrote = join.more (state a.writer) (state b.writer) (state c.writer) xs ys p.wrote q.wrote;
   counted = omega (arith, p.counted, q.counted, length-append xs ys);
+  patience = omega (arith, p.patience, q.patience, length-append xs ys);
 }
 
 pub cuts_later : {W : Type 0} (state : W → Device) (a b c : Output W) (xs ys : List ℕ) → TextsJoin → Puts state a b xs → Cuts state b c ys → Cuts state a c (xs ++ ys)
@@ -22,6 +23,7 @@ cuts_later state a b c xs ys join p q = record {
   out = length xs + q.out;
   stopped = join.stopped (state a.writer) (state b.writer) (state c.writer) xs ys q.out p.wrote q.stopped;
   counted = omega (arith, p.counted, q.counted);
+  patience = omega (arith, p.patience, q.patience);
 }
 
 pub cuts_more : {W : Type 0} (state : W → Device) (a b : Output W) (xs ys : List ℕ) → Cuts state a b xs → Cuts state a b (xs ++ ys)
@@ -31,6 +33,7 @@ cuts_more state a b xs ys q =
       out = q.out;
       stopped = (omega (arith, q.stopped.0, length-append xs ys), subst (Appends (state a.writer).octets (state b.writer).octets) (sym front) q.stopped.1, q.stopped.2);
       counted = q.counted;
+      patience = q.patience;
     }
 
 -- ---- results

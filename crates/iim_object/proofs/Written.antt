@@ -2,7 +2,7 @@
 use Rattle.std.proofs.Common.{◌≡◌, ℕ, ◌<◌, ◌≤◌, Bool, true, false, cond, Option, Some, None, List, [], ◌∷◌, ◌++◌, length, take, drop, refl, sym, ap, subst, ◌∙◌, arith, append_assoc, append-nil, length-append, length-take}
 use Rattle.std.specs.Prelude.{IfNone}
 use Rattle.std.proofs.lemmas.List.{take-append-drop}
-use Rattle.iim_dataset.specs.States.Devices.{Device, Wrote}
+use Rattle.iim_dataset.specs.States.Devices.{Device, Wrote, WithinInterruptionLimit}
 use Rattle.iim_dataset.specs.Laws.Devices.{TextsJoin}
 use Rattle.iim_dataset.specs.Format.Datasets.{Dataset, canonical_dataset, canonical_stream}
 use Rattle.iim_dataset.specs.Parting.{same_front}
@@ -81,6 +81,7 @@ pub goes_nowhere : {W : Type 0} (state : W → Device) (w : Writing W) → Texts
 goes_nowhere state w join unfailed = record {
   more = [];
   wrote = join.none (state w.writer);
+  patience = omega arith;
   plan = refl;
   unfailed = unfailed;
   counted = omega arith;
@@ -92,6 +93,7 @@ pub leads_on : {W : Type 0} (state : W → Device) (a b c : Writing W) (xs ys : 
 leads_on state a b c xs ys join l m = record {
   more = l.more ++ m.more;
   wrote = join.more (state a.writer) (state b.writer) (state c.writer) l.more m.more l.wrote m.wrote;
+  patience = omega (arith, l.patience, m.patience, length-append l.more m.more);
   plan = m.plan ∙ l.plan;
   unfailed = m.unfailed;
   counted = omega (arith, l.counted, m.counted, length-append l.more m.more);
@@ -111,6 +113,7 @@ filled state old new xs join unfailed some f room =
     record {
       more = [];
       wrote = subst (λ w. Wrote (state old.output.writer) (state w) []) (sym same) (join.none (state old.output.writer));
+      patience = subst (λ w. WithinInterruptionLimit 0 (state old.output.writer) (state w)) (sym same) (omega arith);
       plan = f.plan;
       unfailed = f.failed ∙ unfailed;
       counted = let o = ap (λ p. p.written) f.output in omega (arith, o);
@@ -142,6 +145,7 @@ flushed state old mid new xs join unfailed full some f h room =
     record {
       more = text;
       wrote = subst (λ w. Wrote (state old.output.writer) (state w) text) (sym same) f.put.wrote;
+      patience = subst (λ w. WithinInterruptionLimit (length text) (state old.output.writer) (state w)) (sym same) f.put.patience;
       plan = plans;
       unfailed = still;
       counted = let o = ap (λ p. p.written) h.output in omega (arith, o, f.put.counted);
@@ -193,6 +197,7 @@ halted state old new octets full some h =
       more = take h.cut.out text;
       appends = h.cut.stopped.1;
       broke = h.cut.stopped.2;
+      patience = omega (arith, h.cut.patience, front_length h.cut.out text h.cut.stopped.0);
       plan = h.plan;
       failed = h.failed;
       counted = omega (arith, h.cut.counted, front_length h.cut.out text h.cut.stopped.0);
@@ -219,6 +224,7 @@ breaks_on state Now May a b c xs join l may k = record {
   more = l.more ++ k.more;
   appends = (join.broke (state a.writer) (state b.writer) (state c.writer) l.more k.more l.wrote (k.appends, k.broke)).0;
   broke = (join.broke (state a.writer) (state b.writer) (state c.writer) l.more k.more l.wrote (k.appends, k.broke)).1;
+  patience = omega (arith, l.patience, k.patience, length-append l.more k.more);
   plan = k.plan ∙ l.plan;
   failed = k.failed;
   counted = omega (arith, k.counted, l.counted, length-append l.more k.more);
@@ -260,6 +266,7 @@ pub finished : {W : Type 0} (state : W → Device) (old : Cutter W) (last : Outp
 finished state old last p = record {
   more = ending_of (writing_of old);
   wrote = p.wrote;
+  patience = p.patience;
   whole = λ object out s. record { parts = s.parts ++ old.held.items ∷ []; cut = cut_here (writing_of old) object out s; octets_are = sym (ended (writing_of old) object out s) };
 }
 
@@ -271,6 +278,7 @@ unfinished state old new one plan failed q =
       more = take q.out text;
       appends = q.stopped.1;
       broke = q.stopped.2;
+      patience = omega (arith, q.patience, front_length q.out text q.stopped.0);
       plan = plan;
       failed = failed;
       counted = omega (arith, q.counted, front_length q.out text q.stopped.0);

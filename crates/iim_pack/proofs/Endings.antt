@@ -25,6 +25,7 @@ tail_broke state old new tail k = record {
   more = k.more;
   appends = k.appends;
   broke = k.broke;
+  patience = k.patience;
   plan = k.plan;
   failed = k.failed;
   counted = k.counted;

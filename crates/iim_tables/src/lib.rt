@@ -4,7 +4,7 @@
 //!
 //! The crates above ask two questions: `row`, what the table says of a dataset, and `admits`, whether
 //! octets are as a row says. Nothing here takes memory. It stands on `iim_dataset` for octets and datasets, on
-//! `jiff` for days and instants, and on a definition of `byteorder` for numbers.
+//! `jiff` for days and instants, and on `byteorder` for numbers.
 #![tactic(auto)]
 
 mod dates;

@@ -5,6 +5,7 @@ ghost use Rattle.std.specs.Int.{IsInRange};
 ghost use Rattle.iim_tables.specs.Format.Numbers.{size_octets};
 ghost use Rattle.iim_dataset.specs.Format.Octets.{number};
 
+use byteorder::{BigEndian, ByteOrder};
 use iim_dataset::COUNT_OCTETS;
 
 /// The most octets of a size.
@@ -22,9 +23,5 @@ pub fn number_of(octets: &[u8]) -> Option<u64>
     if octets.is_empty() || octets.len() > SIZE_OCTETS {
         return None;
     }
-    let mut number = 0;
-    for octet in octets {
-        number = 256 * number + u64::from(*octet);
-    }
-    Some(number)
+    Some(BigEndian::read_uint(octets, octets.len()))
 }

@@ -16,7 +16,7 @@ use Rattle.wire_story.specs.Format.Delivery as story
 use Rattle.wire_story.specs.Laws.Texts.{DeliveryMayBeCut}
 use Rattle.iim_unpack.specs.States.Parts.{CountsFor}
 use Rattle.iim_places.specs.Format.Refusals.{refusal_at}
-use Rattle.iim_unpack.specs.States.Unpacking.{Unpacking, Stands, IsDoneWith, Goes, IsRefusedIn, limits_in}
+use Rattle.iim_unpack.specs.States.Unpacking.{Unpacking, Stands, IsDoneWith, Goes, IsRefusedIn, LeftAs, limits_in}
 use Rattle.iim_places.specs.States.Counts.{raised}
 use Rattle.iim_unpack.specs.UnpackerInside.{Stood}
 use Rattle.iim_places.specs.Format.Open.{IsOpen, IsTextOf, Delivers, IsTruncatedAt, RefusesNext}
@@ -101,13 +101,14 @@ piece_done goes old new u v a b used last piece given fit count same progress is
           (subst (λ k. IsDoneWith v (p ++ take last piece) (raised n k)) (sym len) then_, adds);
     }
 
-pub piece_refused : {S : Type 0} (goes : S → List story.StoryEvent → S → Type 0) (failures : S → ℕ) (old new : Device) (u : Unpacking) (a b : S) (piece : List ℕ) (e : Refusal) → HasGiven old new piece → CountsFor e.cause (failures a) (failures b)
-    → ((more : List story.StoryEvent) × goes a more b × ((p : List ℕ) (n : ℕ) → Stands u p n → IsRefusedIn (limits_in u) p n piece more e)) → WasRefused goes failures old new u a b e
-piece_refused goes failures old new u a b piece e given counts (more, told, refuses) = record {
+pub piece_refused : {S : Type 0} (goes : S → List story.StoryEvent → S → Type 0) (failures : S → ℕ) (old new : Device) (u v : Unpacking) (a b : S) (piece : List ℕ) (e : Refusal) → HasGiven old new piece → CountsFor e.cause (failures a) (failures b)
+    → v.refused ≡ Some e.octet → ((more : List story.StoryEvent) × goes a more b × ((p : List ℕ) (n : ℕ) → Stands u p n → IsRefusedIn (limits_in u) p n piece more e)) → WasRefused goes failures old new u v a b e
+piece_refused goes failures old new u v a b piece e given counts refused (more, told, refuses) = record {
   octets = piece;
   more = more;
   came = record { given = given; told = told };
   counts = counts;
+  refused = refused;
   refuses = λ p n at.
       let is = refuses p n at in
       record { k = is.k; within = is.within; fault = is.fault; refusal = is.refusal; adds = λ text t. (is.added, is.adds text t, is.delivers); refuses = is.refuses };
@@ -116,13 +117,15 @@ piece_refused goes failures old new u a b piece e given counts (more, told, refu
 -- ---- nothing came
 
 pub none_truncated : {S : Type 0} (goes : S → List story.StoryEvent → S → Type 0) (failures : S → ℕ) (old new : Device) (u : Unpacking) (a : S) (e : Refusal) → u.octets < 2 ^ 64 → goes a [] a → HasGiven old new [] → IsAtEnd new.octets
-    → ((p : List ℕ) (n : ℕ) → Stands u p n → (p ≡ [] → ⊥) × IsTruncatedAt p n e) → WasTruncated goes failures old new u a a e
+    → ((p : List ℕ) (n : ℕ) → Stands u p n → (p ≡ [] → ⊥) × IsTruncatedAt p n e) → WasTruncated goes failures old new u u a a e
 none_truncated goes failures old new u a e low nothing given end is = record {
   octets = [];
   more = [];
   came = record { given = given; told = nothing };
   at_end = end;
   calm = refl;
+  limits = refl;
+  stands = stands_still u low;
   truncated = λ p n at.
       let here = (stands_still u low p n at).0 in
       let (some, truncated) = is (p ++ []) (raised n 0) here in
@@ -259,16 +262,19 @@ pub fed_nothing : {S : Type 0} {goes : S → List story.StoryEvent → S → Typ
 fed_nothing fed p n at ended =
     (nothing_of_two p fed.octets (ended.none (p ++ fed.octets) (raised n (length fed.octets)) (fed.stands p n at).0)).1
 
-pub fed_and_ended : {S : Type 0} {goes : S → List story.StoryEvent → S → Type 0} {old mid new : Device} {u v : Unpacking} {a b c : S} {used : ℕ} → GiftsJoin → (one : HasFed goes old mid u v a b used)
-    → (one.octets ≡ [] → b ≡ a) → WasEnded mid new v b c → (p : List ℕ) (n : ℕ) → Stands u p n → WasEnded old new u a c
-fed_and_ended {old = old} {mid = mid} {new = new} joins one same ended p n at =
+pub fed_and_ended : {S : Type 0} {goes : S → List story.StoryEvent → S → Type 0} {old mid new : Device} {u v : Unpacking} (w : Unpacking) {a b c : S} {used : ℕ} → GiftsJoin → (one : HasFed goes old mid u v a b used)
+    → (one.octets ≡ [] → LeftAs u a v b) → (w ≡ v) × WasEnded mid new v b c → (p : List ℕ) (n : ℕ) → Stands u p n → (w ≡ u) × WasEnded old new u a c
+fed_and_ended {old = old} {mid = mid} {new = new} w joins one left (as_then, ended) p n at =
     let empty : one.octets ≡ [] = fed_nothing one p n at ended in
-    record {
-      given = subst (λ (ys : List ℕ). HasGiven old new ys) empty (given_none joins old mid new one.octets one.came.given ended.given);
-      at_end = ended.at_end;
-      still = ended.still ∙ same empty;
-      none = λ q k is. (nothing_of_two q one.octets (ended.none (q ++ one.octets) (raised k (length one.octets)) (one.stands q k is).0)).0;
-    }
+    let same = left empty in (
+      as_then ∙ same.0,
+      record {
+        given = subst (λ (ys : List ℕ). HasGiven old new ys) empty (given_none joins old mid new one.octets one.came.given ended.given);
+        at_end = ended.at_end;
+        still = ended.still ∙ same.1;
+        none = λ q k is. (nothing_of_two q one.octets (ended.none (q ++ one.octets) (raised k (length one.octets)) (one.stands q k is).0)).0;
+      },
+    )
 
 refused_then : DeliveryMayBeCut → (limits : Limits) (p : List ℕ) (n : ℕ) (xs ys : List ℕ) (first more : List story.StoryEvent) (e : Refusal) → Delivers p xs first
     → IsRefusedOf limits (p ++ xs) (raised n (length xs)) ys more e → IsRefusedOf limits p n (xs ++ ys) (first ++ more) e
@@ -326,6 +332,7 @@ fed_and_faults {old = old} {mid = mid} {u = u} {v = v} {a = a} {b = b} failures 
     more = one.more ++ was.more;
     came = record { given = joins.more old mid new one.octets was.octets one.came.given was.came.given; told = joined a b c one.more was.more one.came.told was.came.told };
     counts = subst (λ k. CountsFor e.cause k (failures c)) calm was.counts;
+    refused = was.refused;
     refuses = λ p n at.
         let (there, adds) = one.stands p n at in
         subst (λ (l : Limits). IsRefusedOf l p n (one.octets ++ was.octets) (one.more ++ was.more) e) one.limits
@@ -340,6 +347,8 @@ fed_and_faults {old = old} {mid = mid} {u = u} {v = v} {a = a} {b = b} failures 
     came = record { given = joins.more old mid new one.octets was.octets one.came.given was.came.given; told = joined a b c one.more was.more one.came.told was.came.told };
     at_end = was.at_end;
     calm = was.calm ∙ calm;
+    limits = was.limits ∙ one.limits;
+    stands = stands_then cut u v w one.octets was.octets one.more was.more one.stands was.stands;
     truncated = λ p n at.
         let (there, adds) = one.stands p n at in
         subst (λ (l : Limits). IsTruncatedIn l p n (one.octets ++ was.octets) (one.more ++ was.more) e) one.limits
@@ -368,7 +377,7 @@ more_of {goes = goes} {old = old} {new = new} {u = u} {v = v} {a = a} {b = b} is
 pub done_of : {S : Type 0} {goes : S → List story.StoryEvent → S → Type 0} {old new : Device} {u v : Unpacking} {a b : S} {used : ℕ} {fed : Fed} → fed ≡ piece.Done used → FedPiece goes (old, u, a) (new, v, b) fed → WasDone goes old new u v a b used
 done_of {goes = goes} {old = old} {new = new} {u = u} {v = v} {a = a} {b = b} is f = subst (λ (x : Fed). FedPiece goes (old, u, a) (new, v, b) x) is f
 
-pub end_of : {S : Type 0} (goes : S → List story.StoryEvent → S → Type 0) {old new : Device} {u : Unpacking} (v : Unpacking) {a b : S} {fed : Fed} → fed ≡ piece.End → FedPiece goes (old, u, a) (new, v, b) fed → WasEnded old new u a b
+pub end_of : {S : Type 0} (goes : S → List story.StoryEvent → S → Type 0) {old new : Device} {u : Unpacking} (v : Unpacking) {a b : S} {fed : Fed} → fed ≡ piece.End → FedPiece goes (old, u, a) (new, v, b) fed → (v ≡ u) × WasEnded old new u a b
 end_of goes {old = old} {new = new} {u = u} v {a = a} {b = b} is f = subst (λ (x : Fed). FedPiece goes (old, u, a) (new, v, b) x) is f
 
 pub raised_some : (now k : ℕ) → now ≡ raised 0 k → 0 < k → 0 < now

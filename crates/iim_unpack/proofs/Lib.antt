@@ -19,6 +19,7 @@ pub mod Restored
 pub mod Made
 pub mod MadeFor
 pub mod Saved
+pub mod Alike
 mod Wholes
 mod WholeSubfiles
 -- What proofs of other crates cite.

@@ -151,7 +151,7 @@ impl<R: Source> Intake<R> {
         ensures not_end { IfOk result (λ fed. fed ≡ Fed.End → ⊥) }
         ensures calm { OnOk result ((self.new.failed ≡ self.old.failed) × (S.failures sink.new ≡ S.failures sink.old)) }
         ensures refused { IfErr result (IsRefusedPiece S.goes S.failures R.state (self.old, unpacker.old, sink.old)
-            (self.new, sink.new)) }
+            (self.new, unpacker.new, sink.new)) }
         ensures keeps { (self.new.reader ≡ self.old.reader) × (self.new.octets ≡ self.old.octets) }
     {
         unpacker.stands_somewhere();

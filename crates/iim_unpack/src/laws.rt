@@ -3,6 +3,7 @@
 ghost use Rattle.std.specs.Prelude.{◌≡◌, ℕ, List, None};
 ghost use Rattle.iim_unpack.specs.States.Held.{HoldsFew};
 ghost use Rattle.iim_unpack.specs.States.Unpacking.{IsDone, IsDoneWith, Stands};
+ghost use Rattle.iim_unpack.specs.Laws.Alike.{PieceIsAnsweredAlike, PiecesAreAnsweredAlike, RestoredStandAlike};
 ghost use Rattle.iim_unpack.specs.Laws.Places.{RestoredStandAsSaved};
 ghost use Rattle.iim_unpack.specs.PartLaws.{CloseLaws, HeadLaws, MessageLaws};
 ghost use Rattle.iim_unpack.specs.Laws.Tickets.{UnpackersStandByPlace};
@@ -75,6 +76,17 @@ pub fn restored_unpackers_stand_as_saved()
     ensures { RestoredStandAsSaved }
 {
     tickets_tell_one_place();
+}
+
+/// Saved places continue: unpackers that stand on the same octets under the same limits answer each list of pieces alike, where no sink
+/// stops; and an unpacker that is restored from another's ticket, under its limits and with its count of octets, stands as the other.
+pub fn saved_places_continue()
+    ensures piece { PieceIsAnsweredAlike }
+    ensures pieces { PiecesAreAnsweredAlike }
+    ensures restored { RestoredStandAlike }
+{
+    streams_have_one_answer();
+    restored_unpackers_stand_as_saved();
 }
 
 /// An unpacker that is made of the readers of a possible place is sound, and restored from its ticket.

@@ -227,49 +227,6 @@ impl Unpacker {
         Ok(Unpacker::begin(Fields::new(alloc, limits)?))
     }
 
-    /// An unpacker that stands on no octets, with the memory of an envelope that is no longer wanted, where one is given that has
-    /// enough for the limits; else with memory of its own, for just what the limits allow. No later call takes any.
-    pub fn reusing(
-        alloc: Global,
-        spare: Option<Unpacked>,
-        limits: Limits,
-    ) -> Result<Unpacker, AllocError>
-        ensures stands { IfOk result (λ u. Stands u [] 0) }
-        ensures limits { IfOk result (λ u. limits_in u ≡ limits) }
-    {
-        let Some(unpacked) = spare else {
-            return Unpacker::new(alloc, limits);
-        };
-        match Unpacker::over(unpacked, limits) {
-            Ok(unpacker) => Ok(unpacker),
-            Err(_) => Unpacker::new(alloc, limits),
-        }
-    }
-
-    /// An unpacker that stands on no octets, with the memory of an envelope that is no longer wanted, where that is enough for the
-    /// limits: it takes none, as no later call does. Else what was handed in is handed back.
-    pub fn over(unpacked: Unpacked, limits: Limits) -> Result<Unpacker, Unpacked>
-        ensures stands { IfOk result (λ u. Stands u [] 0) }
-        ensures limits { IfOk result (λ u. limits_in u ≡ limits) }
-        ensures handed_back { IfErr result (λ same. same ≡ unpacked) }
-    {
-        let Unpacked {
-            envelope,
-            head,
-            trailer,
-            sizes,
-        } = unpacked;
-        match Fields::over(envelope, limits) {
-            Ok(fields) => Ok(Unpacker::begin(fields)),
-            Err(envelope) => Err(Unpacked {
-                envelope,
-                head,
-                trailer,
-                sizes,
-            }),
-        }
-    }
-
     /// An unpacker that stands on no octets.
     fn begin(fields: Fields) -> Unpacker
         requires { StandsAfter fields [] }

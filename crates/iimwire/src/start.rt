@@ -1,6 +1,6 @@
 //! Why a run can't begin.
 
-ghost use Rattle.std.specs.Prelude.{◌≡◌, IfOk};
+ghost use Rattle.std.specs.Prelude.{◌≡◌, ◌++◌, IfOk, codes};
 
 use iim_commands::fault::CommandFault;
 use iim_commands::lines::tell;
@@ -23,7 +23,8 @@ pub enum RunFault<'a> {
     OutOfMemory,
 }
 
-ghost use Rattle.iimwire.specs.Format.Starts.{status_of_usage, status_of_start, IsHindered, TellsRunFault};
+ghost use Rattle.iim_request.specs.Format.Shown.{shown_name};
+ghost use Rattle.iimwire.specs.Format.Starts.{status_of_usage, status_of_start, IsHindered, IsUsageText, TellsRunFault};
 
 /// The status for a fault of the words.
 fn usage_status(fault: &UsageFault) -> u8
@@ -46,31 +47,45 @@ fn status(fault: &RunFault<'_>) -> u8
     }
 }
 
+/// The text that tells a fault of the words.
+fn usage_text(alloc: Global, fault: &UsageFault) -> Result<Vec<u8>, AllocError>
+    ensures { IfOk result (λ text. IsUsageText fault.now text.items) }
+{
+    match fault {
+        UsageFault::Words(error) => {
+            let words = format!(in alloc; "{error}")?;
+            Vec::from_slice(alloc, words.as_bytes())
+        }
+        UsageFault::MaxNeedsUnknown => Vec::from_slice(alloc, b"--max needs --unknown\n"),
+        UsageFault::BadNow => Vec::from_slice(alloc, b"bad --now\n"),
+        UsageFault::OutOfMemory => {
+            Vec::from_slice(alloc, CommandFault::OutOfMemory.line().as_bytes())
+        }
+    }
+}
+
+/// The text that tells that the file of this name can't be opened.
+fn cannot_open(alloc: Global, name: &str) -> Result<Vec<u8>, AllocError>
+    ensures { IfOk result (λ text. text.items ≡ codes "cannot open " ++ (shown_name name.now ++ codes "\n")) }
+{
+    let mut text = Vec::from_slice(alloc, b"cannot open ")?;
+    push_name(&mut text, name)?;
+    text.push(b'\n')?;
+    Ok(text)
+}
+
 /// The text that tells it.
 fn text(alloc: Global, fault: &RunFault<'_>) -> Result<Vec<u8>, AllocError>
     ensures { IfOk result (λ text. TellsRunFault fault.now text.items) }
 {
-    let mut text = Vec::new(alloc);
     match fault {
-        RunFault::Usage(UsageFault::Words(error)) => {
-            let words = format!(in alloc; "{error}")?;
-            text.extend_from_slice(words.as_bytes())?;
-        }
-        RunFault::Usage(UsageFault::MaxNeedsUnknown) => {
-            text.extend_from_slice(b"--max needs --unknown\n")?;
-        }
-        RunFault::Usage(UsageFault::BadNow) => text.extend_from_slice(b"bad --now\n")?,
-        RunFault::NoText => text.extend_from_slice(b"arguments are no text\n")?,
-        RunFault::CannotOpen(name) => {
-            text.extend_from_slice(b"cannot open ")?;
-            push_name(&mut text, name)?;
-            text.push(b'\n')?;
-        }
-        RunFault::Usage(UsageFault::OutOfMemory) | RunFault::OutOfMemory => {
-            text.extend_from_slice(CommandFault::OutOfMemory.line().as_bytes())?;
+        RunFault::Usage(fault) => usage_text(alloc, fault),
+        RunFault::NoText => Vec::from_slice(alloc, b"arguments are no text\n"),
+        RunFault::CannotOpen(name) => cannot_open(alloc, name),
+        RunFault::OutOfMemory => {
+            Vec::from_slice(alloc, CommandFault::OutOfMemory.line().as_bytes())
         }
     }
-    Ok(text)
 }
 
 /// Tells why a run can't begin, and answers the status.

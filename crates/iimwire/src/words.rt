@@ -1,7 +1,7 @@
 //! The words of the command line, as what `clap` says of them is printed.
 
 ghost use Rattle.std.specs.Prelude.{◌≡◌, IfOk, IsUtf8, string_bytes};
-ghost use Rattle.iim_commands.specs.Format.Shown.{shown_name};
+ghost use Rattle.iim_request.specs.Format.Shown.{shown_name};
 ghost use Rattle.iimwire.specs.Format.Starts.{IsPrintedAs};
 
 use iim_commands::request::{UsageFault, parse};

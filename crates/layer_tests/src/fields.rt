@@ -3,24 +3,27 @@
 ghost use Rattle.std.specs.Prelude.{◌≢◌, length, OnOk};
 ghost use Rattle.iim_fields.specs.States.Standing.{IsBetween, IsInside};
 
+use arrayvec::ArrayVec;
 use iim_dataset::Head;
-use iim_fields::{CopyFault, Envelope, EnvelopeBuilder, FieldCause, FieldFault, Fields, Limits};
-use std::process::Abort;
-use std::rt::HostRuntime;
-use std::test::Fail;
+use iim_fields::{CopyFault, Envelope, EnvelopeBuilder, FieldFault, Fields, Limits};
+use std::alloc::Global;
+use std::io;
 use worked::STORY_FIELDS;
 
 /// What the command allows.
 const LIMITS: Limits = Limits::WIRE;
 
-/// Those of records 7, 8 and 9, and the number that each tells.
-const SIZES: [(u8, u8, &[u8], Option<u64>); 5] = [
-    (7, 10, b"\x01", Some(1)),
-    (7, 20, b"\0\0\x04\0", Some(1024)),
-    (7, 90, b"\0\0\0\x32", Some(50)),
-    (8, 10, &[b'a'; 50], None),
-    (9, 10, b"\0\0\0\x32", Some(50)),
+/// The datasets of records 7, 8 and 9.
+const SIZES: [(u8, u8, &[u8]); 5] = [
+    (7, 10, b"\x01"),
+    (7, 20, b"\0\0\x04\0"),
+    (7, 90, b"\0\0\0\x32"),
+    (8, 10, &[b'a'; 50]),
+    (9, 10, b"\0\0\0\x32"),
 ];
+
+/// The number that each dataset tells.
+type Told = ArrayVec<Option<u64>, 5>;
 
 /// Gives all octets of the begun dataset, in one piece or one by one.
 fn give(fields: &mut Fields, head: Head, octets: &[u8], one_by_one: bool)
@@ -77,206 +80,175 @@ fn pass_fields(fields: &mut Fields, one_by_one: bool) -> Result<(), FieldFault>
     Ok(())
 }
 
-/// Passes the datasets of records 7, 8 and 9, each of which tells its number, and answers the first fault.
-fn pass_sizes(rt: &impl Abort, fields: &mut Fields, one_by_one: bool) -> Result<(), FieldFault>
+/// Passes the datasets of records 7, 8 and 9, and answers the number that each tells, or the first fault.
+fn pass_sizes(fields: &mut Fields, one_by_one: bool) -> Result<Told, FieldFault>
     requires { IsBetween fields.old }
     ensures { OnOk result (IsBetween fields.new) }
 {
-    for (rec, set, octets, number) in SIZES {
+    let mut told = ArrayVec::new();
+    for (rec, set, octets) in SIZES {
         match pass(fields, rec, set, octets, one_by_one) {
-            Ok(told) => assert_eq!(rt; told, number),
+            Ok(number) => {
+                let _ = told.try_push(number);
+            }
             Err(fault) => return Err(fault),
         }
     }
-    Ok(())
+    Ok(told)
 }
 
 /// Passes all datasets of the longer worked envelope.
-fn pass_all(rt: &impl Abort, fields: &mut Fields, one_by_one: bool) -> Result<(), FieldFault>
+fn pass_all(fields: &mut Fields, one_by_one: bool) -> Result<Told, FieldFault>
     requires { IsBetween fields.old }
     ensures { OnOk result (IsBetween fields.new) }
 {
     match pass_fields(fields, one_by_one) {
-        Ok(()) => pass_sizes(rt, fields, one_by_one),
+        Ok(()) => pass_sizes(fields, one_by_one),
         Err(fault) => Err(fault),
     }
 }
 
-/// The envelope that was kept.
-fn handed_over(rt: &impl Abort, fields: Fields) -> Option<Envelope> {
-    match fields.into_envelope() {
-        Ok(envelope) => Some(envelope),
-        Err(_) => {
-            assert!(rt; false);
-            None
+/// Prints the number that each dataset tells, or the fault.
+fn tell_told(rt: &impl Print, trial: &str, told: Result<Told, FieldFault>) -> io::Result<()> {
+    match told {
+        Ok(told) => {
+            let numbers = told.as_slice();
+            println!(rt; "{trial}: told {numbers:?}")
         }
+        Err(fault) => println!(rt; "{trial}: {fault}"),
     }
 }
 
-#[test]
-fn the_memory_of_an_envelope_serves_the_next(rt: HostRuntime) -> Result<(), Fail> {
-    let mut fields = Fields::new(rt.alloc(), LIMITS)?;
-    assert_eq!(rt; pass_all(&rt, &mut fields, false), Ok(()));
-    let Some(envelope) = handed_over(&rt, fields) else {
-        return Ok(());
-    };
-    // More than there is room for is not taken, and nothing is lost.
-    let more = Limits {
-        octets: 4_000_000_000,
-        fields: LIMITS.fields,
-    };
-    let Err(envelope) = Fields::over(envelope, more) else {
-        assert!(rt; false, "there is no such room");
-        return Ok(());
-    };
-    expect_fields(&rt, &envelope);
-    let Ok(mut fields) = Fields::over(envelope, LIMITS) else {
-        assert!(rt; false, "there is room");
-        return Ok(());
-    };
-    assert_eq!(rt; pass_all(&rt, &mut fields, true), Ok(()));
-    if let Some(envelope) = handed_over(&rt, fields) {
-        expect_fields(&rt, &envelope);
-        expect_titles(&rt, &envelope);
+/// Prints each dataset of the envelope.
+fn tell_fields(rt: &impl Print, trial: &str, envelope: &Envelope) -> io::Result<()> {
+    for (rec, set, octets) in envelope.fields() {
+        let octets = octets.escape_ascii();
+        println!(rt; "{trial}: {rec}:{set} {octets}")?;
     }
     Ok(())
 }
 
-#[test]
-fn the_reader_continues_where_nothing_is_handed_over(rt: HostRuntime) -> Result<(), Fail> {
-    let mut fields = Fields::new(rt.alloc(), LIMITS)?;
-    if let Err(fault) = pass_fields(&mut fields, false) {
-        assert!(rt; false, "{fault:?}");
-        return Ok(());
-    }
-    // After record 2 there is no envelope yet.
-    let Err(mut fields) = fields.into_envelope() else {
-        assert!(rt; false);
-        return Ok(());
-    };
-    assert_eq!(rt; pass_sizes(&rt, &mut fields, false), Ok(()));
-    let Some(read) = handed_over(&rt, fields) else {
-        return Ok(());
-    };
-    let mut builder = EnvelopeBuilder::new(rt.alloc(), LIMITS)?;
-    assert_eq!(rt; add_fields(&mut builder), Ok(()));
-    if let Some(built) = finished(&rt, builder) {
-        assert!(rt; read.same(&built));
-    }
-    Ok(())
-}
-
-/// Adds the fields, and answers the first fault.
-fn add_fields(builder: &mut EnvelopeBuilder) -> Result<(), FieldFault> {
-    for (rec, set, octets) in STORY_FIELDS {
-        if let Err(fault) = builder.add(rec, set, octets) {
-            return Err(fault);
-        }
-    }
-    Ok(())
-}
-
-/// The envelope of the builder's datasets.
-fn finished(rt: &impl Abort, builder: EnvelopeBuilder) -> Option<Envelope> {
-    match builder.finish() {
-        Ok(envelope) => Some(envelope),
-        Err((_, fault)) => {
-            assert!(rt; false, "{fault:?}");
-            None
-        }
-    }
-}
-
-/// The envelope has all fields of the longer worked one, in order.
-fn expect_fields(rt: &impl Abort, envelope: &Envelope) {
-    let mut fields = envelope.fields();
-    for (want_rec, want_set, want) in STORY_FIELDS {
-        match fields.next() {
-            Some((rec, set, octets)) => {
-                assert_eq!(rt; (rec, set), (want_rec, want_set));
-                assert_eq!(rt; octets, want);
-            }
-            None => assert!(rt; false),
-        }
-    }
-    assert!(rt; fields.next().is_none());
-}
-
-/// The envelope has the titles of the longer worked one, in order.
-fn expect_titles(rt: &impl Abort, envelope: &Envelope) {
+/// Prints the first four answers of the walk over the envelope's titles.
+fn tell_titles(rt: &impl Print, trial: &str, envelope: &Envelope) -> io::Result<()> {
     let mut titles = envelope.byline_titles();
-    for want in [b"Editor", b"Writer"] {
+    for _ in 0..4 {
         match titles.next() {
-            Some(octets) => assert_eq!(rt; octets, want.as_slice()),
-            None => assert!(rt; false),
+            Some(title) => {
+                let title = title.escape_ascii();
+                println!(rt; "{trial}: title {title}")?;
+            }
+            None => println!(rt; "{trial}: no further title")?,
         }
     }
-    assert!(rt; titles.next().is_none());
-    assert!(rt; titles.next().is_none());
+    Ok(())
+}
+
+fn the_memory_of_an_envelope_serves_the_next(rt: &impl Print, alloc: Global) -> io::Result<()> {
+    let trial = "the_memory_of_an_envelope_serves_the_next";
+    let mut fields = Fields::new(alloc, LIMITS)?;
+    tell_told(rt, trial, pass_all(&mut fields, false))?;
+    fields.again();
+    tell_told(rt, trial, pass_all(&mut fields, true))?;
+    let Ok(envelope) = fields.into_envelope() else {
+        return println!(rt; "{trial}: no envelope");
+    };
+    tell_fields(rt, trial, &envelope)?;
+    tell_titles(rt, trial, &envelope)
 }
 
 /// The longer worked envelope, built.
-fn worked<R: Abort + AllocGlobal>(rt: &R) -> Result<Envelope, Fail> {
-    let mut builder = EnvelopeBuilder::new(rt.alloc(), LIMITS)?;
+fn built(alloc: Global) -> Option<Envelope> {
+    let mut builder = EnvelopeBuilder::new(alloc, LIMITS).ok()?;
     for (rec, set, octets) in STORY_FIELDS {
-        expect(rt, builder.add(rec, set, octets).ok());
+        builder.add(rec, set, octets).ok()?;
     }
-    Ok(expect(rt, builder.finish().ok()))
+    builder.finish().ok()
 }
 
-/// The value that is there.
-fn expect<T: Drop, R: Abort>(rt: &R, value: Option<T>) -> T {
-    value.expect(rt, "a value")
+fn the_reader_continues_where_nothing_is_handed_over(
+    rt: &impl Print,
+    alloc: Global,
+) -> io::Result<()> {
+    let trial = "the_reader_continues_where_nothing_is_handed_over";
+    let mut fields = Fields::new(alloc, LIMITS)?;
+    if let Err(fault) = pass_fields(&mut fields, false) {
+        return println!(rt; "{trial}: {fault}");
+    }
+    // After record 2 there is no envelope yet.
+    let Err(mut fields) = fields.into_envelope() else {
+        return println!(rt; "{trial}: an envelope after record 2");
+    };
+    tell_told(rt, trial, pass_sizes(&mut fields, false))?;
+    let Ok(read) = fields.into_envelope() else {
+        return println!(rt; "{trial}: no envelope");
+    };
+    let Some(built) = built(alloc) else {
+        return println!(rt; "{trial}: not built");
+    };
+    let same = read.same(&built);
+    println!(rt; "{trial}: the same as the one that was built: {same}")
 }
 
 /// Why the envelope is not copied into a builder of these limits.
-fn fault_of_copy<R: Abort + AllocGlobal>(
-    rt: &R,
-    octets: u32,
-    fields: u32,
-) -> Result<Option<CopyFault>, Fail> {
-    let limits = Limits { octets, fields };
-    Ok(EnvelopeBuilder::from(rt.alloc(), limits, &worked(rt)?).err())
+fn fault_of_copy(alloc: Global, limits: Limits, envelope: &Envelope) -> Option<CopyFault> {
+    EnvelopeBuilder::from(alloc, limits, envelope).err()
 }
 
-#[test]
-fn envelopes_are_copied_within_other_limits(rt: HostRuntime) -> Result<(), Fail> {
-    // It has 78 octets in 16 datasets.
-    assert_eq!(rt; fault_of_copy(&rt, 78, 16)?, None);
-    let full = Some(CopyFault::Passed(FieldCause::HeaderFull));
-    assert_eq!(rt; fault_of_copy(&rt, 77, 16)?, full);
-    assert_eq!(rt; fault_of_copy(&rt, 77, 15)?, full);
-    let many = Some(CopyFault::Passed(FieldCause::TooManyFields));
-    assert_eq!(rt; fault_of_copy(&rt, 78, 15)?, many);
+/// The envelope has 78 octets in 16 datasets.
+fn envelopes_are_copied_within_other_limits(
+    rt: &impl Print,
+    alloc: Global,
+    envelope: &Envelope,
+) -> io::Result<()> {
+    for (octets, fields) in [(78, 16), (77, 16), (77, 15), (78, 15)] {
+        let fault = fault_of_copy(alloc, Limits { octets, fields }, envelope);
+        println!(rt;
+            "envelopes_are_copied_within_other_limits: {octets} octets, {fields} fields: {fault:?}"
+        )?;
+    }
     Ok(())
 }
 
-#[test]
-fn copied_envelopes_take_a_dataset_more(rt: HostRuntime) -> Result<(), Fail> {
-    let envelope = worked(&rt)?;
+/// A builder that has the envelope's datasets, with room for five octets and a dataset more.
+fn copied(alloc: Global, envelope: &Envelope) -> Option<EnvelopeBuilder> {
     let limits = Limits {
         octets: 83,
         fields: 17,
     };
-    let mut builder = expect(
-        &rt,
-        EnvelopeBuilder::from(rt.alloc(), limits, &envelope).ok(),
-    );
-    let headline = builder.add(2, 105, b"Rates held").err();
-    assert_eq!(rt;
-        headline.map(|fault| fault.cause),
-        Some(FieldCause::Repeated)
-    );
-    let desk = builder.add(2, 122, b"RELAYS").err();
-    assert_eq!(rt; desk.map(|fault| fault.cause), Some(FieldCause::HeaderFull));
-    assert_eq!(rt; builder.add(2, 122, b"RELAY").err(), None);
-    let sent = expect(&rt, builder.finish().ok());
-    assert_eq!(rt; sent.fields().count(), 17);
-    assert_eq!(rt; sent.first(2, 122), Some(b"RELAY".as_slice()));
-    let same = envelope
-        .fields()
-        .zip(sent.fields())
-        .all(|(one, other)| one == other);
-    assert!(rt; same);
-    Ok(())
+    EnvelopeBuilder::from(alloc, limits, envelope).ok()
+}
+
+fn copied_envelopes_take_a_dataset_more(
+    rt: &impl Print,
+    alloc: Global,
+    envelope: &Envelope,
+) -> io::Result<()> {
+    let trial = "copied_envelopes_take_a_dataset_more";
+    let Some(mut builder) = copied(alloc, envelope) else {
+        return println!(rt; "{trial}: not copied");
+    };
+    for (set, octets) in [
+        (105, b"Rates held".as_slice()),
+        (122, b"RELAYS"),
+        (122, b"RELAY"),
+    ] {
+        let cause = builder.add(2, set, octets).err().map(|fault| fault.cause);
+        println!(rt; "{trial}: add 2:{set}: {cause:?}")?;
+    }
+    let Ok(sent) = builder.finish() else {
+        return println!(rt; "{trial}: not finished");
+    };
+    tell_fields(rt, trial, &sent)?;
+    let desk = sent.first(2, 122).unwrap_or(b"").escape_ascii();
+    println!(rt; "{trial}: the first 2:122 {desk}")
+}
+
+pub(crate) fn tell<R: Print + AllocGlobal>(rt: &R) -> io::Result<()> {
+    the_memory_of_an_envelope_serves_the_next(rt, rt.alloc())?;
+    the_reader_continues_where_nothing_is_handed_over(rt, rt.alloc())?;
+    let Some(envelope) = built(rt.alloc()) else {
+        return println!(rt; "no envelope is built");
+    };
+    envelopes_are_copied_within_other_limits(rt, rt.alloc(), &envelope)?;
+    copied_envelopes_take_a_dataset_more(rt, rt.alloc(), &envelope)
 }

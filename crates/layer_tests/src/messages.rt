@@ -1,8 +1,9 @@
 //! Sinks of messages that count calls and stop, and a long line.
 
+use crate::stories::tell_lines;
 use iim_dataset::Stop;
 use std::alloc::Global;
-use std::process::Abort;
+use std::io;
 use trials::{TrialWriter, Trouble};
 use wire_message::{MessageCause, MessageReader};
 use wire_story::{LineWriter, Lines, StorySink};
@@ -80,37 +81,19 @@ fn read<S: StorySink>(
     }
 }
 
-/// Reads an object each way into a writer that fails after `good` octets, and compares what is written then.
-fn expect_lines(
-    rt: &impl Abort,
-    object: &[u8],
-    good: u64,
-    lines: &[u8],
-    want: Option<(usize, MessageCause)>,
-) {
-    for by_octets in [false, true] {
-        let target: TrialWriter<32> = TrialWriter::new(good, Trouble::Failure);
-        let mut sink = LineWriter::new(target);
-        assert_eq!(rt; read(object, by_octets, &mut sink), want);
-        assert_eq!(rt; sink.into_writer().octets(), lines);
-    }
+/// Prints what a sink was told first of an object in one piece, and where and why the object is refused.
+fn tell_calls(rt: &impl Print, object: &[u8]) -> io::Result<()> {
+    let mut sink = Calls {
+        first: arrayvec::ArrayVec::new(),
+    };
+    let answer = read(object, false, &mut sink);
+    let calls = sink.first.as_slice();
+    println!(rt; "runs_of_messages_are_passed_on_whole: {answer:?} {calls:?}")
 }
 
-#[test]
-fn runs_are_passed_on_whole(rt: HostRuntime) {
-    let mut calls = Calls {
-        first: arrayvec::ArrayVec::new(),
-    };
-    assert_eq!(rt; read(STORY_OBJECT, false, &mut calls), None);
-    assert_eq!(rt;
-        calls.first.as_slice(),
-        [Call::Text(11), Call::LineEnd, Call::Text(10)].as_slice()
-    );
-    let mut calls = Calls {
-        first: arrayvec::ArrayVec::new(),
-    };
-    assert_eq!(rt; read(&long_object(), false, &mut calls), None);
-    assert_eq!(rt; calls.first.as_slice(), [Call::Text(32_754)].as_slice());
+fn runs_of_messages_are_passed_on_whole(rt: &impl Print) -> io::Result<()> {
+    tell_calls(rt, STORY_OBJECT)?;
+    tell_calls(rt, &long_object())
 }
 
 /// Reads an object in one piece into lines, and once more where memory was refused.
@@ -124,28 +107,36 @@ fn read_lines(alloc: Global, object: &[u8]) -> (Lines, Option<(usize, MessageCau
     (lines, answer)
 }
 
-#[test]
-fn a_long_line_is_kept(rt: HostRuntime) {
+fn a_long_line_is_kept(rt: &impl Print, alloc: Global) -> io::Result<()> {
     let object = long_object();
-    assert_eq!(rt; object.len(), 32_768);
-    let (lines, answer) = read_lines(rt.alloc(), &object);
-    assert_eq!(rt; answer, None);
-    let mut left = lines.iter();
-    assert!(rt; left.next() == Some(&object[12..32_766]));
-    assert!(rt; left.next().is_none());
+    let octets = object.len();
+    let (lines, answer) = read_lines(alloc, &object);
+    println!(rt; "a_long_line_is_kept: {octets} octets, {answer:?}")?;
+    tell_lines(rt, "a_long_line_is_kept", &lines)
 }
 
-#[test]
-fn sinks_that_stop(rt: HostRuntime) {
-    // what is written before a write fails, and how many octets of the object stand before the refused one then
-    let written = [
-        (b"".as_slice(), 25),
-        (b"Rate".as_slice(), 29),
-        (b"Rates stay.".as_slice(), 37),
-        (b"Rates stay.\n".as_slice(), 38),
-    ];
-    for (lines, taken) in written {
-        let fault = Some((taken, MessageCause::Sink));
-        expect_lines(&rt, STORY_OBJECT, lines.len() as u64, lines, fault);
+/// Reads an object each way into a writer that fails after `good` octets, and prints the answer and what is written then.
+fn tell_stop(rt: &impl Print, good: u64) -> io::Result<()> {
+    for by_octets in [false, true] {
+        let target: TrialWriter<32> = TrialWriter::new(good, Trouble::Failure);
+        let mut sink = LineWriter::new(target);
+        let answer = read(STORY_OBJECT, by_octets, &mut sink);
+        let target = sink.into_writer();
+        let octets = target.octets().escape_ascii();
+        println!(rt; "sinks_of_messages_that_stop: {good} good: {answer:?} {octets}")?;
     }
+    Ok(())
+}
+
+fn sinks_of_messages_that_stop(rt: &impl Print) -> io::Result<()> {
+    for good in [0, 4, 11, 12] {
+        tell_stop(rt, good)?;
+    }
+    Ok(())
+}
+
+pub(crate) fn tell<R: Print + AllocGlobal>(rt: &R) -> io::Result<()> {
+    runs_of_messages_are_passed_on_whole(rt)?;
+    a_long_line_is_kept(rt, rt.alloc())?;
+    sinks_of_messages_that_stop(rt)
 }

@@ -1,16 +1,14 @@
 //! Sinks of stories that count calls, stop, and write to devices that fail.
 
 ghost use Rattle.std.specs.Prelude.{◌≡◌, ◌++◌, OnOk};
-ghost use Rattle.wire_story.specs.Format.Texts.{AreLines};
+ghost use Rattle.wire_story.specs.Format.Texts.{AreLines, IsLine};
 ghost use Rattle.wire_story.specs.Format.Delivery.{delivered};
 
 use iim_dataset::Stop;
 use std::alloc::Global;
-use std::process::Abort;
+use std::io;
 use trials::{TrialSink, TrialWriter, Trouble};
-use wire_story::{
-    LineWriter, Lines, StorySink, TextCause, TextFault, TextReader, is_text, text_len,
-};
+use wire_story::{LineWriter, Lines, StorySink, TextCause, TextFault, TextReader, text_len};
 
 /// A story of two lines.
 const RATES: &[u8] = b"Rates stay.\r\nNo change.";
@@ -86,160 +84,158 @@ fn read_lines(alloc: Global, text: &[u8]) -> (Lines, Result<(), TextFault>) {
     (lines, answer)
 }
 
-/// Whether the lines are those.
-fn has_lines(lines: &Lines, want: &[&[u8]]) -> bool {
-    let mut left = lines.iter();
-    for line in want {
-        match left.next() {
-            Some(found) if found == *line => {}
-            _ => return false,
-        }
+/// Prints how many octets each line has, and how many of them are an a.
+pub(crate) fn tell_lines(rt: &impl Print, trial: &str, lines: &Lines) -> io::Result<()> {
+    for line in lines.iter() {
+        let octets = line.len();
+        let right = line.iter().filter(|octet| **octet == b'a').count();
+        println!(rt; "{trial}: a line of {octets} octets, {right} of them a")?;
     }
-    left.next().is_none()
+    Ok(())
 }
 
-#[test]
-fn runs_are_passed_on_whole(rt: HostRuntime) {
-    let mut calls = Calls {
+/// Prints what a sink counts of a text in one run, and how the text is answered.
+fn tell_calls(rt: &impl Print, trial: &str, text: &[u8]) -> io::Result<()> {
+    let mut sink = Calls {
         calls: 0,
         octets: 0,
     };
-    assert_eq!(rt; read_in_two(RATES, b"", &mut calls), Ok(()));
-    assert_eq!(rt; (calls.calls, calls.octets), (3, 21));
-    let Calls {
-        calls: _,
-        octets: _,
-    } = calls;
+    let answer = read_in_two(text, b"", &mut sink);
+    let Calls { calls, octets } = sink;
+    println!(rt; "{trial}: {answer:?}, {calls} calls, {octets} octets")
 }
 
-#[test]
-fn a_long_run_is_passed_on_whole(rt: HostRuntime) {
-    let mut calls = Calls {
-        calls: 0,
-        octets: 0,
-    };
+fn runs_of_texts_are_passed_on_whole(rt: &impl Print) -> io::Result<()> {
+    tell_calls(rt, "runs_of_texts_are_passed_on_whole", RATES)
+}
+
+fn a_long_run_is_passed_on_whole(rt: &impl Print, alloc: Global) -> io::Result<()> {
+    let trial = "a_long_run_is_passed_on_whole";
     let line = long_line();
-    assert_eq!(rt; read_in_two(&line, b"", &mut calls), Ok(()));
-    assert_eq!(rt; (calls.calls, calls.octets), (1, 32_754));
-    let Calls {
-        calls: _,
-        octets: _,
-    } = calls;
-    let (lines, answer) = read_lines(rt.alloc(), &line);
-    assert_eq!(rt; answer, Ok(()));
-    assert!(rt; has_lines(&lines, &[line.as_slice()]));
+    tell_calls(rt, trial, &line)?;
+    let (lines, answer) = read_lines(alloc, &line);
+    println!(rt; "{trial}: {answer:?}")?;
+    tell_lines(rt, trial, &lines)
 }
 
-/// Tells the lines a line and its end. A refused growth must leave them as they were, and is asked once more.
-fn insist(rt: &impl Abort, lines: &mut Lines, line: &[u8]) {
+/// Tells the lines octets. A refused growth has to leave them as they were, and is asked once more: whether all was so.
+fn insists_on_text(lines: &mut Lines, line: &[u8]) -> bool
+    requires { IsLine line.now }
+{
     let before = text_len(lines);
-    if is_text(line) {
-        if let Err(stop) = lines.text(line) {
-            assert_eq!(rt; stop.taken, 0);
-            assert_eq!(rt; text_len(lines), before);
-            assert_eq!(rt; lines.text(line), Ok(()));
-        }
-    }
-    let before = text_len(lines);
-    if let Err(stop) = lines.line_end() {
-        assert_eq!(rt; stop.taken, 0);
-        assert_eq!(rt; text_len(lines), before);
-        assert_eq!(rt; lines.line_end(), Ok(()));
+    match lines.text(line) {
+        Ok(()) => true,
+        Err(stop) => stop.taken == 0 && text_len(lines) == before && lines.text(line).is_ok(),
     }
 }
 
-#[test]
-fn lines_bear_refused_growths(rt: HostRuntime) {
-    let mut lines = Lines::new(rt.alloc());
+/// Tells the lines the end of one, in the same way.
+fn insists_on_line_end(lines: &mut Lines) -> bool {
+    let before = text_len(lines);
+    match lines.line_end() {
+        Ok(()) => true,
+        Err(stop) => stop.taken == 0 && text_len(lines) == before && lines.line_end().is_ok(),
+    }
+}
+
+fn lines_bear_refused_growths(rt: &impl Print, alloc: Global) -> io::Result<()> {
+    let mut lines = Lines::new(alloc);
+    let mut borne = true;
     for _ in 0..100 {
-        insist(&rt, &mut lines, b"0123456789");
+        borne &= insists_on_text(&mut lines, b"0123456789");
+        borne &= insists_on_line_end(&mut lines);
     }
-    assert_eq!(rt; text_len(&lines), Some(1200));
+    let octets = text_len(&lines);
     let full = lines
         .iter()
-        .filter(|line| *line == b"0123456789".as_slice());
-    assert_eq!(rt; full.take(200).count(), 100);
+        .filter(|line| *line == b"0123456789".as_slice())
+        .take(200)
+        .count();
+    println!(rt; "lines_bear_refused_growths: {octets:?} octets, {full} full lines, borne: {borne}")
 }
 
-#[test]
-fn lines_are_written_past_interruptions(rt: HostRuntime) {
+fn lines_are_written_past_interruptions(rt: &impl Print) -> io::Result<()> {
     let target: TrialWriter<32> = TrialWriter::new(5, Trouble::Interruptions(3));
     let mut sink = LineWriter::new(target);
-    assert_eq!(rt; read_by_octets(RATES, &mut sink), Ok(()));
-    assert_eq!(rt;
-        sink.into_writer().octets(),
-        b"Rates stay.\nNo change.".as_slice()
-    );
+    let answer = read_by_octets(RATES, &mut sink);
+    let target = sink.into_writer();
+    let octets = target.octets().escape_ascii();
+    println!(rt; "lines_are_written_past_interruptions: {answer:?} {octets}")
 }
 
-#[test]
-fn writes_that_fail(rt: HostRuntime) {
-    // what is written before a write fails, and where the text is refused then
-    let written = [
-        (b"".as_slice(), 0),
-        (b"Rate".as_slice(), 4),
-        (b"Rates stay.".as_slice(), 12),
-        (b"Rates stay.\n".as_slice(), 13),
-        (b"Rates stay.\nNo change".as_slice(), 22),
-    ];
-    for (octets, taken) in written {
-        let good = octets.len() as u64;
+/// A target takes `good` octets, one a call, and then fails.
+fn writes_that_fail(rt: &impl Print) -> io::Result<()> {
+    for good in [0, 4, 11, 12, 21] {
         let target: TrialWriter<32> = TrialWriter::new(good, Trouble::Failure);
         let mut sink = LineWriter::new(target);
-        let fault = TextFault {
-            taken,
-            cause: TextCause::Sink,
-        };
-        assert_eq!(rt; read_in_two(RATES, b"", &mut sink), Err(fault), "at {good}");
-        assert_eq!(rt; sink.into_writer().octets(), octets);
+        let answer = read_in_two(RATES, b"", &mut sink);
+        let target = sink.into_writer();
+        let octets = target.octets().escape_ascii();
+        println!(rt; "writes_that_fail: {good} good: {answer:?} {octets}")?;
     }
     let full: TrialWriter<3> = TrialWriter::new(100, Trouble::Failure);
     let mut sink = LineWriter::new(full);
-    assert_eq!(rt; sink.text(b"abcd"), Err(Stop { taken: 3 }));
-    assert_eq!(rt; sink.line_end(), Err(Stop { taken: 0 }));
-    assert_eq!(rt; sink.into_writer().octets(), b"abc".as_slice());
+    let text = sink.text(b"abcd");
+    let end = sink.line_end();
+    let target = sink.into_writer();
+    let octets = target.octets().escape_ascii();
+    println!(rt; "writes_that_fail: full: {text:?} {end:?} {octets}")
 }
 
-#[test]
-fn sinks_that_stop_at_a_call(rt: HostRuntime) {
-    // good calls, octets of a later one that are passed on, what is written then, and where the text is refused
-    let stops = [
-        (0, 4, b"Rate".as_slice(), 4),
-        (1, 4, b"Rates stay.".as_slice(), 12),
-        (2, 0, b"Rates stay.\n".as_slice(), 13),
-        (2, 99, b"Rates stay.\nNo change".as_slice(), 22),
-    ];
-    for (good, front, octets, taken) in stops {
-        let target: TrialWriter<32> = TrialWriter::new(100, Trouble::Failure);
-        let mut sink = TrialSink::new(LineWriter::new(target), good, front);
-        let fault = TextFault {
-            taken,
-            cause: TextCause::Sink,
-        };
-        assert_eq!(rt; read_in_two(RATES, b"", &mut sink), Err(fault), "at {good}");
-        assert_eq!(rt; sink.failures(), 1);
-        assert_eq!(rt; sink.into_sink().into_writer().octets(), octets);
+/// A sink that stops after so many good calls, before a writer that doesn't fail.
+fn trial_sink(good: u64, front: usize) -> TrialSink<LineWriter<TrialWriter<32>>> {
+    let target = TrialWriter::new(100, Trouble::Failure);
+    TrialSink::new(LineWriter::new(target), good, front)
+}
+
+/// Prints how often a sink has stopped, and the octets that it passed on.
+fn tell_passed(
+    rt: &impl Print,
+    trial: &str,
+    sink: TrialSink<LineWriter<TrialWriter<32>>>,
+) -> io::Result<()> {
+    let failures = sink.failures();
+    let target = sink.into_sink().into_writer();
+    let octets = target.octets().escape_ascii();
+    println!(rt; "{trial}: {failures} stops, {octets}")
+}
+
+/// Good calls, and the octets of a later one that are passed on.
+fn sinks_that_stop_at_a_call(rt: &impl Print) -> io::Result<()> {
+    let trial = "sinks_that_stop_at_a_call";
+    for (good, front) in [(0, 4), (1, 4), (2, 0), (2, 99)] {
+        let mut sink = trial_sink(good, front);
+        let answer = read_in_two(RATES, b"", &mut sink);
+        println!(rt; "{trial}: {good} good, {front}: {answer:?}")?;
+        tell_passed(rt, trial, sink)?;
     }
-    let target: TrialWriter<32> = TrialWriter::new(100, Trouble::Failure);
-    let mut sink = TrialSink::new(LineWriter::new(target), 3, 0);
-    assert_eq!(rt; read_in_two(RATES, b"", &mut sink), Ok(()));
-    assert_eq!(rt; sink.failures(), 0);
-    assert_eq!(rt; sink.text(b"ab"), Err(Stop { taken: 0 }));
-    assert_eq!(rt; sink.line_end(), Err(Stop { taken: 0 }));
-    assert_eq!(rt; sink.text(b""), Ok(()));
-    assert_eq!(rt; sink.failures(), 2);
-    assert_eq!(rt;
-        sink.into_sink().into_writer().octets(),
-        b"Rates stay.\nNo change.".as_slice()
-    );
+    let mut sink = trial_sink(3, 0);
+    let answer = read_in_two(RATES, b"", &mut sink);
+    let failures = sink.failures();
+    println!(rt; "{trial}: 3 good, 0: {answer:?}, {failures} stops")?;
+    let text = sink.text(b"ab");
+    let end = sink.line_end();
+    let nothing = sink.text(b"");
+    println!(rt; "{trial}: then {text:?} {end:?} {nothing:?}")?;
+    tell_passed(rt, trial, sink)
 }
 
-#[test]
-fn stops_of_the_other_sink_are_counted(rt: HostRuntime) {
+fn stops_of_the_other_sink_are_counted(rt: &impl Print) -> io::Result<()> {
+    let trial = "stops_of_the_other_sink_are_counted";
     let target: TrialWriter<32> = TrialWriter::new(2, Trouble::Failure);
     let mut sink = TrialSink::new(LineWriter::new(target), 9, 9);
-    assert_eq!(rt; sink.text(b"abc"), Err(Stop { taken: 2 }));
-    assert_eq!(rt; sink.line_end(), Err(Stop { taken: 0 }));
-    assert_eq!(rt; sink.failures(), 2);
-    assert_eq!(rt; sink.into_sink().into_writer().octets(), b"ab".as_slice());
+    let text = sink.text(b"abc");
+    let end = sink.line_end();
+    println!(rt; "{trial}: {text:?} {end:?}")?;
+    tell_passed(rt, trial, sink)
+}
+
+pub(crate) fn tell<R: Print + AllocGlobal>(rt: &R) -> io::Result<()> {
+    runs_of_texts_are_passed_on_whole(rt)?;
+    a_long_run_is_passed_on_whole(rt, rt.alloc())?;
+    lines_bear_refused_growths(rt, rt.alloc())?;
+    lines_are_written_past_interruptions(rt)?;
+    writes_that_fail(rt)?;
+    sinks_that_stop_at_a_call(rt)?;
+    stops_of_the_other_sink_are_counted(rt)
 }

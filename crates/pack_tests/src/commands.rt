@@ -1,11 +1,11 @@
 //! What the commands leave where devices are interrupted, and where an output takes nothing more.
 
-use iim_commands::check::Check;
-use iim_commands::fault::CommandFault;
-use iim_commands::list::list;
-use iim_commands::packing::{PackRequest, pack_script};
-use iim_commands::status::ACCEPTED;
-use iim_commands::story::narrate;
+use iim_listing::check::Check;
+use iim_listing::list::list;
+use iim_listing::story::narrate;
+use iim_output::fault::CommandFault;
+use iim_output::status::ACCEPTED;
+use iim_pack_script::packing::{PackRequest, pack_script};
 use iim_unpack::Intake;
 use std::alloc::Global;
 use std::test::Fail;

@@ -16,7 +16,8 @@ use wire_story::{LineWriter, StorySink};
 /// The most that records 1 and 2 of an envelope may have, the same in each run.
 const LIMITS: Limits = Limits::WIRE;
 
-/// Receives a part. Where it is refused or something fails, the file stays as it was, and the part can be sent again.
+/// Receives a part. Where it is refused or something fails, the file stays as it was, and the part can be sent again: the text that came
+/// of it before is out already, and then comes once more.
 fn main(rt: HostRuntime) -> Result<ExitCode> {
     let Some(name) = env::args(&rt)?.nth(1) else {
         bail!("usage: resume_copy PLACE");

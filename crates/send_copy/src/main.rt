@@ -1,4 +1,5 @@
-//! Sends copy: builds an envelope from a few values, and packs it to standard output with the lines of standard input.
+//! Sends copy: builds an envelope from a few values, and packs it to standard output with the lines of standard input, which are read as
+//! UTF-8 and have to be that.
 #![tactic(auto)]
 
 ghost use Rattle.std.specs.Prelude.{◌≡◌, map, IfOk};

@@ -1,7 +1,7 @@
 //! A story that is packed.
 
-use iim_commands::coming::LIMITS;
 use iim_fields::{Envelope, EnvelopeBuilder};
+use iim_output::limits::LIMITS;
 use std::alloc::Global;
 use wire_message::MessageHead;
 use wire_story::{Lines, TextReader};

@@ -4,8 +4,8 @@ ghost use Rattle.std.specs.Prelude.{◌≡◌, ◌+◌, ⊤};
 ghost use Rattle.iim_dataset.specs.States.Devices.{unbroken};
 ghost use Rattle.wire_story.specs.Format.Words.{capped};
 
-use iim_commands::outlet::Outlet;
 use iim_dataset::{DatasetSink, Head, IoFault, Step, Stop, Target};
+use iim_output::outlet::Outlet;
 use wire_story::StorySink;
 
 /// What a run counts: it takes everything and keeps nothing. Each count stays at the greatest number of 64 bits once there.

@@ -1,21 +1,17 @@
 //! Streams of envelopes, audited.
 
-use crate::answers::Answers;
-use crate::octets::{Names, Words};
-use crate::unpacking::LIMITS;
 use anyhow::{Result, bail};
 use iim_audit::{AuditCause, audit, report_text};
 use iim_dataset::FromRead;
+use iim_fields::Limits;
 use iim_unpack::Intake;
 use jiff::Timestamp;
 use std::alloc::Global;
+use vectors_questions::{Answers, Names, Words};
 
 /// The instant that a word tells, as jiff reads it.
-fn instant(word: &[u8]) -> Result<Timestamp> {
-    let Ok(text) = str::from_utf8(word) else {
-        bail!("an instant is text");
-    };
-    match text.parse() {
+fn instant(word: &str) -> Result<Timestamp> {
+    match word.parse() {
         Ok(instant) => Ok(instant),
         Err(_) => bail!("no instant"),
     }
@@ -28,7 +24,7 @@ fn print_audit(
     intake: &mut Intake<FromRead<&[u8]>>,
     now: Timestamp,
 ) -> Result<()> {
-    match audit(alloc, intake, LIMITS, now) {
+    match audit(alloc, intake, Limits::WIRE, now) {
         Ok(report) => {
             let text = report_text(alloc, &report)?;
             let Ok(text) = str::from_utf8(text.as_slice()) else {
@@ -50,21 +46,21 @@ fn print_audit(
 }
 
 /// Answers the words of audits; false where the word is none of them.
-pub fn answer(
+pub(crate) fn answer(
     out: &mut Answers,
     alloc: Global,
     names: &Names,
-    word: &[u8],
+    word: &str,
     words: &mut Words,
 ) -> Result<bool> {
-    if !matches!(word, b"audit" | b"audits") {
+    if !matches!(word, "audit" | "audits") {
         return Ok(false);
     }
-    let now = instant(words.word())?;
+    let now = instant(words.text())?;
     let octets = words.octets(names);
     let mut intake = Intake::new(FromRead::new(octets.as_slice()));
     print_audit(out, alloc, &mut intake, now)?;
-    if matches!(word, b"audits") {
+    if matches!(word, "audits") {
         print_audit(out, alloc, &mut intake, now)?;
     }
     Ok(true)

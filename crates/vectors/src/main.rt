@@ -5,35 +5,15 @@
 //! them with their answers, which are worked out from the format.
 #![tactic(auto)]
 
-mod answers;
 mod auditing;
-mod causes;
-mod cuts;
-mod datasets;
-mod intakes;
-mod messages;
-mod objects;
-mod octets;
-mod packing;
-mod readings;
-mod records;
-mod scripts;
-mod stories;
-mod streams;
-mod tables;
-mod tickets;
-mod unpacking;
-mod values;
-mod views;
 
-use answers::Answers;
 use anyhow::{Result, bail};
-use octets::{Names, Words};
-use packing::Packing;
-use records::Envelopes;
 use std::alloc::Global;
 use std::io::{self, BufRead, BufReader, BufWriter, Write};
-use unpacking::Bench;
+use vectors_packing::Packing;
+use vectors_questions::{Answers, Names, Words};
+use vectors_records::Envelopes;
+use vectors_unpacking::Bench;
 
 /// What the questions so far have made.
 #[derive(Drop)]
@@ -59,17 +39,15 @@ impl Vectors {
     /// Answers a question.
     fn answer(&mut self, answers: &mut Answers, question: &[u8]) -> Result<()> {
         let mut words = Words::new(question);
-        let word = words.word();
+        let word = words.text();
         let is_known = match word {
-            b"let" => {
+            "let" => {
                 self.names.name(&mut words);
                 true
             }
             _ => {
                 self.answer_layers(answers, word, &mut words)?
-                    || self.bench.answer(answers, &self.names, word, &mut words)?
-                    || auditing::answer(answers, self.alloc, &self.names, word, &mut words)?
-                    || self.packing.answer(answers, &self.names, word, &mut words)?
+                    || self.answer_envelopes(answers, word, &mut words)?
             }
         };
         if !is_known {
@@ -85,17 +63,33 @@ impl Vectors {
     fn answer_layers(
         &mut self,
         answers: &mut Answers,
-        word: &[u8],
+        word: &str,
         words: &mut Words,
     ) -> Result<bool> {
         let names = &self.names;
         Ok(
-            tables::answer(answers, self.alloc, names, word, words)?
-                || datasets::answer(answers, self.alloc, names, word, words)
+            vectors_tables::answer(answers, self.alloc, names, word, words)?
+                || vectors_datasets::answer(answers, self.alloc, names, word, words)
                 || self.records.answer(answers, names, word, words)?
-                || objects::answer(answers, self.alloc, names, word, words)?
-                || stories::answer(answers, self.alloc, names, word, words)
-                || messages::answer(answers, self.alloc, names, word, words)?,
+                || vectors_objects::answer(answers, self.alloc, names, word, words)?
+                || vectors_stories::answer(answers, self.alloc, names, word, words)
+                || vectors_messages::answer(answers, self.alloc, names, word, words)?,
+        )
+    }
+
+    /// Answers the words of whole envelopes, taken apart, audited and packed; false where the word is none of them.
+    fn answer_envelopes(
+        &mut self,
+        answers: &mut Answers,
+        word: &str,
+        words: &mut Words,
+    ) -> Result<bool> {
+        let names = &self.names;
+        Ok(
+            self.bench.answer(answers, names, word, words)?
+                || vectors_streams::answer(answers, self.alloc, names, word, words)?
+                || auditing::answer(answers, self.alloc, names, word, words)?
+                || self.packing.answer(answers, names, word, words)?,
         )
     }
 }

@@ -1,6 +1,6 @@
 //! A sink that collects the lines.
 
-ghost use Rattle.std.specs.Prelude.{◌≡◌, ◌<◌, [], ◌∷◌, length, map, take, refl, IfErr, OnOk, OnErr};
+ghost use Rattle.std.specs.Prelude.{◌≡◌, ◌<◌, [], ◌∷◌, length, map, take, refl, vec_capacity, IfErr, OnOk, OnErr};
 ghost use Rattle.iim_dataset.specs.Format.Counts.{Rose};
 ghost use Rattle.wire_story.specs.Format.Texts.{IsLine, MakeText};
 ghost use Rattle.wire_story.specs.Format.Delivery.{LineOctet};
@@ -16,7 +16,7 @@ use std::marker::Model;
 
 /// Lines that grow as they are told. A refused growth leaves them unchanged.
 ///
-/// Contracts see them as the list of lines, one at least, and the number of refusals.
+/// Contracts see them as the list of lines, one at least, the number of refusals, and for how many octets there is memory.
 #[derive(Drop)]
 pub struct Lines {
     // The lines joined by LF, which stands in none of them.
@@ -27,7 +27,8 @@ pub struct Lines {
 impl Model for Lines {
     ghost Value = { Collected };
 
-    ghost view = { λ lines. record { lines = lines_in lines.octets.items; failures = lines.failures } };
+    ghost view = { λ lines. record
+        { lines = lines_in lines.octets.items; failures = lines.failures; room = vec_capacity lines.octets } };
 
     ghost invariant = { λ lines. MakeText (lines_in lines.octets.items) };
 }
@@ -37,6 +38,7 @@ impl Lines {
     pub fn new(alloc: Global) -> Lines
         ensures lines { result.lines ≡ [] ∷ [] }
         ensures failures { result.failures ≡ 0 }
+        ensures room { result.room ≡ 0 }
     {
         Lines {
             octets: Vec::new(alloc),

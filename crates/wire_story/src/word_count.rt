@@ -45,6 +45,22 @@ impl WordCount {
         }
     }
 
+    /// A count that goes on from so many words, inside a word of the present line or not.
+    pub fn resume(words: u64, inside: bool) -> WordCount
+        ensures words { result.words ≡ words }
+        ensures inside { result.inside ≡ inside }
+    {
+        WordCount { words, inside }
+    }
+
+    /// The number of words so far, and whether the present line ends inside a word: from there a count can be resumed.
+    pub fn so_far(&self) -> (u64, bool)
+        ensures words { result.0 ≡ self.now.words }
+        ensures inside { result.1 ≡ self.now.inside }
+    {
+        (self.words, self.inside)
+    }
+
     /// The number of words so far.
     pub fn words(&self) -> u64
         ensures { result ≡ self.now.words }

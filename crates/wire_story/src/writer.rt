@@ -3,7 +3,7 @@
 ghost use Rattle.std.specs.Prelude.{◌≡◌, ◌<◌, [], ◌∷◌, length, map, take, IfErr, OnOk, OnErr};
 ghost use Rattle.iim_dataset.specs.Format.Characters.{lf};
 ghost use Rattle.iim_dataset.specs.Format.Counts.{Rose};
-ghost use Rattle.iim_dataset.specs.States.Devices.{Wrote, Stopped};
+ghost use Rattle.iim_dataset.specs.States.Devices.{Wrote, Stopped, WithinInterruptionLimit};
 ghost use Rattle.wire_story.specs.Format.Texts.{IsLine};
 ghost use Rattle.wire_story.specs.Format.Delivery.{LineOctet, LineEnd};
 
@@ -46,6 +46,8 @@ impl<W: Target> LineWriter<W> {
         ensures wrote { OnOk result (Wrote (device_of W.state self.old) (device_of W.state self.new) octets.now) }
         ensures stopped { IfErr result (λ stop.
             Stopped (device_of W.state self.old) (device_of W.state self.new) octets.now stop.taken) }
+        ensures patience { WithinInterruptionLimit (length octets.now) (device_of W.state self.old)
+            (device_of W.state self.new) }
         ensures counted { OnErr result (Rose (stops_of self.old) (stops_of self.new)) }
     {
         match put(&mut self.writer, octets) {
@@ -86,6 +88,8 @@ impl<W: Target> StorySink for LineWriter<W> {
         ensures wrote { OnOk result (Wrote (device_of W.state self.old) (device_of W.state self.new) run.now) }
         ensures stopped { IfErr result (λ stop.
             Stopped (device_of W.state self.old) (device_of W.state self.new) run.now stop.taken) }
+        ensures patience { WithinInterruptionLimit (length run.now) (device_of W.state self.old)
+            (device_of W.state self.new) }
     {
         self.write(run)
     }
@@ -100,6 +104,7 @@ impl<W: Target> StorySink for LineWriter<W> {
         // The same of the LF.
         ensures wrote { OnOk result (Wrote (device_of W.state self.old) (device_of W.state self.new) (lf ∷ [])) }
         ensures stopped { OnErr result (Stopped (device_of W.state self.old) (device_of W.state self.new) (lf ∷ []) 0) }
+        ensures patience { WithinInterruptionLimit 1 (device_of W.state self.old) (device_of W.state self.new) }
     {
         self.write(&[LF])
     }

@@ -39,7 +39,7 @@ of_script cause = named (script_words.cause_number cause) (script_words.cause_na
 abbrev pub of_layer : Layer → Named
 of_layer layer = named (layer_number layer) (layer_name layer)
 
--- the causes of octets, of packing, of scripts and of tickets
+-- the causes of octets, of memory and readers, of packing, of audits, of scripts and of tickets
 unfoldable pub cause_names : List Named
 cause_names =
     of_octets causes.Marker
@@ -68,16 +68,19 @@ cause_names =
     ∷ of_octets causes.Sink
     ∷ of_octets causes.Failed
     ∷ of_script script.OutOfMemory
+    ∷ named 71 (codes "Read")
+    ∷ named 72 (codes "Interrupted")
     ∷ named (pack_number packs.PastAnnounced) (codes "PastAnnounced")
     ∷ named (pack_number packs.ShortOfAnnounced) (codes "ShortOfAnnounced")
     ∷ of_script script.BadTextOctet
     ∷ of_script script.BadTrailer
     ∷ named (pack_number packs.Write) (codes "Write")
     ∷ named (pack_number packs.Failed) (codes "Failed")
+    ∷ named 90 (codes "TooManyEnvelopes")
     ∷ of_script script.ScriptLine
     ∷ of_script script.ScriptTooLong
-    ∷ named (ticket_number tickets.Form) (codes "Form")
-    ∷ named (ticket_number tickets.Version) (codes "Version")
+    ∷ named (ticket_number tickets.Form) (codes "TicketForm")
+    ∷ named (ticket_number tickets.Version) (codes "TicketVersion")
     ∷ named (ticket_number tickets.Impossible) (codes "Impossible")
     ∷ []
 

@@ -6,11 +6,11 @@ use Rattle.iim_audit.specs.Format.Texts.{printed_report}
 use Rattle.iim_audit.specs.declared.fault.AuditCause.{AuditCause}
 use Rattle.iim_audit.specs.declared.fault.AuditCause.TheVariants as causes
 use Rattle.iim_audit.specs.declared.row.AuditRow.{AuditRow}
-use Rattle.iim_commands.specs.Format.Lines.{refused_line, too_many_line}
-use Rattle.iim_commands.specs.Format.Listings.{limits}
-use Rattle.iim_commands.specs.declared.fault.CommandFault.{CommandFault}
-use Rattle.iim_commands.specs.declared.fault.CommandFault.TheVariants.{CannotRead, CannotWrite, OutOfMemory}
-use Rattle.iim_commands.specs.Format.Statuses.{status_accepted, status_refused}
+use Rattle.iim_output.specs.Format.Lines.{refused_line, too_many_line}
+use Rattle.iim_output.specs.Format.Limits.{limits}
+use Rattle.iim_output.specs.declared.fault.CommandFault.{CommandFault}
+use Rattle.iim_output.specs.declared.fault.CommandFault.TheVariants.{CannotRead, CannotWrite, OutOfMemory}
+use Rattle.iim_output.specs.Format.Statuses.{status_accepted, status_refused}
 
 -- The line tells why there is no report, at the envelope of this number: its octets are refused, or it is one too many.
 abbrev pub TellsWhy : ℕ → AuditCause → List ℕ → Type 0

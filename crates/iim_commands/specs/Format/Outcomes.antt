@@ -1,18 +1,19 @@
 -- What a run leaves.
 use Rattle.std.specs.Prelude.{◌≡◌, ℕ, ℤ, ◌⊎◌, List}
 use Rattle.iim_dataset.specs.States.Devices.{Device, Wrote, Stopped}
-use Rattle.iim_commands.specs.declared.request.Job.{Job}
-use Rattle.iim_commands.specs.declared.request.Job.TheVariants.{Check, Show, Story, Pack, Audit}
-use Rattle.iim_commands.specs.declared.fault.CommandFault.{CommandFault}
+use Rattle.iim_request.specs.declared.request.Job.{Job}
+use Rattle.iim_request.specs.declared.request.Job.TheVariants.{Check, Show, Story, Pack, Audit}
+use Rattle.iim_output.specs.declared.fault.CommandFault.{CommandFault}
 use Rattle.iim_commands.specs.Format.Audits.{Audited, IsUnaudited}
-use Rattle.iim_commands.specs.States.Devices.{Devices}
+use Rattle.iim_output.specs.States.Devices.{Devices}
 use Rattle.iim_places.specs.Format.Listing.{Listed}
-use Rattle.iim_commands.specs.Format.Lines.{fault_line, line_of}
-use Rattle.iim_commands.specs.Format.Narration.{IsUnnarrated, Narrated}
-use Rattle.iim_commands.specs.Format.Packing.{Answered, Asked, IsUnanswered, asked}
-use Rattle.iim_commands.specs.Format.WrittenListings.{WritesListing, FailsListing}
-use Rattle.iim_commands.specs.Format.Texts.{shown_of}
-use Rattle.iim_commands.specs.Format.Statuses.{status_failed}
+use Rattle.iim_output.specs.Format.Lines.{fault_line}
+use Rattle.iim_listing.specs.Format.Listings.{line_of}
+use Rattle.iim_listing.specs.Format.Narration.{IsUnnarrated, Narrated}
+use Rattle.iim_pack_script.specs.Format.Packing.{Answered, Asked, IsUnanswered, asked}
+use Rattle.iim_listing.specs.Format.WrittenListings.{WritesListing, FailsListing}
+use Rattle.iim_listing.specs.Format.Texts.{shown_of}
+use Rattle.iim_output.specs.Format.Statuses.{status_failed}
 
 -- The line of the fault is out, or the device broke inside it.
 abbrev pub Complained : Device → Device → CommandFault → Type 0

@@ -5,11 +5,11 @@ use Rattle.iim_script.specs.Format.Scripts.{max_script}
 use Rattle.iim_script.specs.declared.fault.ScriptCause.{ScriptCause}
 use Rattle.iim_script.specs.declared.fault.ScriptCause.TheVariants.{OutOfMemory}
 use Rattle.iim_places.specs.Format.Admitted.{Value}
-use Rattle.iim_commands.specs.Format.Listings.{limits}
+use Rattle.iim_output.specs.Format.Limits.{limits}
 use Rattle.iim_places.specs.Format.Listing.{Listed, IsListed}
-use Rattle.iim_commands.specs.Format.Narration.{story_of}
-use Rattle.iim_commands.specs.Format.Packing.{ScriptContent, IsScriptOf}
-use Rattle.iim_commands.specs.Format.Texts.{number_line, sizes_line, shown_of}
+use Rattle.iim_listing.specs.Format.Narration.{story_of}
+use Rattle.iim_pack_script.specs.Format.Packing.{ScriptContent, IsScriptOf}
+use Rattle.iim_listing.specs.Format.Texts.{number_line, sizes_line, shown_of}
 
 -- what a script tells of these values, where each dataset, the header and the trailer has a line
 abbrev pub told_of : Value → ScriptContent

@@ -37,10 +37,6 @@ room_of fields = fields.room
 abbrev pub room_for : Limits → Room
 room_for limits = record { octets = limits.octets; entries = limits.fields }
 
--- The room is enough for the limits.
-abbrev pub IsEnough : Room → Limits → Type 0
-IsEnough room limits = (limits.octets ≤ room.octets) × (limits.fields ≤ room.entries)
-
 -- What a reader may hold stays as it was.
 pub record SameBounds (old new : FieldsPlace) : Type 0 where
   pub limits : limits_of new ≡ limits_of old

@@ -1,6 +1,6 @@
 -- A writer of subfiles: what it has taken, what is out, and how a call ends.
 use Rattle.std.specs.Prelude.{◌≡◌, ℕ, ◌+◌, ◌<◌, ◌≤◌, ◌⊎◌, min, nat_le, not, Bool, true, false, if◌then◌else◌, List, [], ◌++◌, length, Option, Some, None}
-use Rattle.iim_dataset.specs.States.Devices.{Device, Wrote, Broke}
+use Rattle.iim_dataset.specs.States.Devices.{Device, Wrote, Broke, WithinInterruptionLimit}
 use Rattle.std.specs.Io.KnownBytes.{Appends}
 use Rattle.iim_dataset.specs.Format.Datasets.{canonical_stream}
 use Rattle.iim_object.specs.Format.Plans.{bound_of, is_short}
@@ -55,10 +55,11 @@ pub record HasWritten {W : Type 0} (w : Writing W) (object out : List ℕ) : Typ
   pub out_is : out ≡ octets_out w.plan parts
   pub written : w.written ≡ length out
 
--- Octets led from one writer to the other, wherever it stood: some more octets are out.
+-- Octets led from one writer to the other, wherever it stood: some more octets are out. A million interruptions at most came for each.
 pub record Lengthens {W : Type 0} (state : W → Device) (old new : Writing W) (octets : List ℕ) : Type 0 where
   pub more : List ℕ
   pub wrote : Wrote (state old.writer) (state new.writer) more
+  pub patience : WithinInterruptionLimit (length more) (state old.writer) (state new.writer)
   pub plan : new.plan ≡ old.plan
   pub unfailed : new.failed ≡ false
   pub counted : new.written ≡ old.written + length more
@@ -69,12 +70,13 @@ pub record Lengthens {W : Type 0} (state : W → Device) (old new : Writing W) (
 abbrev pub Begins : List ℕ → List ℕ → Type 0
 Begins xs ys = (rest : List ℕ) × (xs ++ rest ≡ ys)
 
--- A write failed: some more octets are out, and they were counted. Wherever the writer stood, what is out begins all that may be
--- written: `May object whole` says what.
+-- A write failed: some more octets are out, and they were counted. A million interruptions at most came for each, and for the next.
+-- Wherever the writer stood, what is out begins all that may be written: `May object whole` says what.
 pub record BreaksOff {W : Type 0} (state : W → Device) (May : List ℕ → List ℕ → Type 0) (old new : Writing W) : Type 0 where
   pub more : List ℕ
   pub appends : Appends (state old.writer).octets (state new.writer).octets more
   pub broke : Broke (state old.writer) (state new.writer)
+  pub patience : WithinInterruptionLimit (length more + 1) (state old.writer) (state new.writer)
   pub plan : new.plan ≡ old.plan
   pub failed : new.failed ≡ true
   pub counted : new.written ≡ old.written + length more
@@ -92,10 +94,11 @@ ContinuesWith plan octets object whole = IsWrittenFrom plan (object ++ octets) w
 abbrev pub IsTheWhole : Plan → List ℕ → List ℕ → Type 0
 IsTheWhole plan object whole = IsWritten plan.subfile plan.size object whole
 
--- The object is out, as the plan says.
+-- The object is out, as the plan says. A million interruptions at most came for each octet that was not out before.
 pub record Finishes {W : Type 0} (state : W → Device) (old : Writing W) (writer : W) : Type 0 where
   pub more : List ℕ
   pub wrote : Wrote (state old.writer) (state writer) more
+  pub patience : WithinInterruptionLimit (length more) (state old.writer) (state writer)
   pub whole : (object out : List ℕ) → HasWritten old object out → IsWritten old.plan.subfile old.plan.size object (out ++ more)
 
 -- ---- causes

@@ -1,7 +1,7 @@
 //! A writer of an object in subfiles.
 
 ghost use Rattle.std.specs.Prelude.{◌≡◌, ◌⊎◌, ◌+◌, ◌<◌, ◌≤◌, ◌^◌, [], length, IfOk, IfErr, OnOk, OnErr, IfSome, IfNone, Err};
-ghost use Rattle.iim_dataset.specs.States.Devices.{Wrote, Stopped};
+ghost use Rattle.iim_dataset.specs.States.Devices.{Wrote, Stopped, WithinInterruptionLimit};
 ghost use Rattle.iim_object.specs.Format.Plans.{most_out};
 ghost use Rattle.iim_object.specs.States.Writing.{HasWritten, Lengthens, BreaksOff, ContinuesWith, IsTheWhole, Finishes, write_cause, finish_cause, RefusesOctets, RefusesEnd, plan_octets, total_of, most_of, room_of};
 ghost use Rattle.iim_object.specs.declared.writing.cause.PackCause.{PackCause as PackCauseValue};
@@ -48,6 +48,10 @@ impl<W: Target> SubfileWriter<W> {
         ensures cause { IfErr result (λ fault. fault.cause ≡ causes.Write) }
         ensures stopped { IfErr result (λ fault.
             Stopped (W.state writer) (W.state fault.writer) (plan_octets buffer) fault.written) }
+        ensures patience { IfOk result (λ w.
+            WithinInterruptionLimit (length (plan_octets buffer)) (W.state writer) (W.state w.writer)) }
+        ensures given_up { IfErr result (λ fault.
+            WithinInterruptionLimit (fault.written + 1) (W.state writer) (W.state fault.writer)) }
     {
         let SubfileBuffer { plan, octets } = buffer;
         let mut output = Output { writer, written: 0 };

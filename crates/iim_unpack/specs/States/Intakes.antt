@@ -66,20 +66,20 @@ pub record WasDone {S : Type 0} (goes : S → List story.StoryEvent → S → Ty
   pub counts : used ≡ raised 0 (length octets)
   pub done : (p : List ℕ) (n : ℕ) → Stands u p n → IsDoneWith v (p ++ octets) (raised n (length octets)) × Delivers p octets more
 
--- What one piece came to: octets came, some, and the unpacker takes more; or it is done with them; or there are none, and it stands
--- on none. (What is next in line, the unpacker and the sink, before and after.)
+-- What one piece came to: octets came, some, and the unpacker takes more; or it is done with them; or there are none, and it is as it
+-- was, on none. (What is next in line, the unpacker and the sink, before and after.)
 abbrev pub FedPiece : {S : Type 0} → (S → List story.StoryEvent → S → Type 0) → Device × Unpacking × S → Device × Unpacking × S
     → Fed → Type 0
 FedPiece goes (old, u, a) (new, v, b) (piece.More used) = (0 < used) × IsReady v × HasFed goes old new u v a b used
 FedPiece goes (old, u, a) (new, v, b) (piece.Done used) = WasDone goes old new u v a b used
-FedPiece goes (old, u, a) (new, v, b) piece.End = WasEnded old new u a b
+FedPiece goes (old, u, a) (new, v, b) piece.End = (v ≡ u) × WasEnded old new u a b
 
--- What feeding up to the end of an envelope came to: the unpacker is done with the octets that came, or there are none, and it stands
--- on none. (What is next in line, the unpacker and the sink, before and after; and how many octets were used.)
+-- What feeding up to the end of an envelope came to: the unpacker is done with the octets that came, or there are none, and it is as it
+-- was, on none. (What is next in line, the unpacker and the sink, before and after; and how many octets were used.)
 abbrev pub FedEnvelope : {S : Type 0} → (S → List story.StoryEvent → S → Type 0) → Device × Unpacking × S → Device × Unpacking × S
     → ℕ → Bool → Type 0
 FedEnvelope goes (old, u, a) (new, v, b) used true = WasDone goes old new u v a b used
-FedEnvelope goes (old, u, a) (new, v, b) used false = (used ≡ 0) × WasEnded old new u a b
+FedEnvelope goes (old, u, a) (new, v, b) used false = (used ≡ 0) × ((v ≡ u) × WasEnded old new u a b)
 
 -- Octet k of those that came is refused, and of the octets before it this is delivered.
 pub record IsRefusedOf (limits : Limits) (p : List ℕ) (a : ℕ) (octets : List ℕ) (more : List story.StoryEvent) (e : Refusal) : Type 0 where
@@ -90,12 +90,13 @@ pub record IsRefusedOf (limits : Limits) (p : List ℕ) (a : ℕ) (octets : List
   pub adds : Delivers p (take k octets) more
   pub refuses : RefusesNext limits (p ++ take k octets) (slice_index octets k) fault
 
--- Octets came, of which one is refused.
-pub record WasRefused {S : Type 0} (goes : S → List story.StoryEvent → S → Type 0) (failures : S → ℕ) (old new : Device) (u : Unpacking) (a b : S) (e : Refusal) : Type 0 where
+-- Octets came, of which one is refused, and the unpacker has refused it.
+pub record WasRefused {S : Type 0} (goes : S → List story.StoryEvent → S → Type 0) (failures : S → ℕ) (old new : Device) (u v : Unpacking) (a b : S) (e : Refusal) : Type 0 where
   pub octets : List ℕ
   pub more : List story.StoryEvent
   pub came : Came goes old new a b octets more
   pub counts : CountsFor e.cause (failures a) (failures b)
+  pub refused : v.refused ≡ Some e.octet
   pub refuses : (p : List ℕ) (n : ℕ) → Stands u p n → IsRefusedOf (limits_in u) p n octets more e
 
 -- Octets that are open and not none, and that are told to be truncated.
@@ -105,13 +106,15 @@ pub record IsTruncatedIn (limits : Limits) (p : List ℕ) (a : ℕ) (octets : Li
   pub adds : Delivers p octets more
   pub truncated : IsTruncatedAt (p ++ octets) (raised a (length octets)) e
 
--- Octets came, nothing is next in line, and they are truncated.
-pub record WasTruncated {S : Type 0} (goes : S → List story.StoryEvent → S → Type 0) (failures : S → ℕ) (old new : Device) (u : Unpacking) (a b : S) (e : Refusal) : Type 0 where
+-- Octets came, on which the unpacker stands now; nothing is next in line, and they are truncated.
+pub record WasTruncated {S : Type 0} (goes : S → List story.StoryEvent → S → Type 0) (failures : S → ℕ) (old new : Device) (u v : Unpacking) (a b : S) (e : Refusal) : Type 0 where
   pub octets : List ℕ
   pub more : List story.StoryEvent
   pub came : Came goes old new a b octets more
   pub at_end : IsAtEnd new.octets
   pub calm : failures b ≡ failures a
+  pub limits : limits_in v ≡ limits_in u
+  pub stands : StandsOn u v octets more
   pub truncated : (p : List ℕ) (n : ℕ) → Stands u p n → IsTruncatedIn (limits_in u) p n octets more e
 
 -- Octets came, on which the unpacker stands now, and then this fault; the number is what the unpacker counts.
@@ -127,7 +130,7 @@ pub record WasMissed {S : Type 0} (goes : S → List story.StoryEvent → S → 
 
 -- why an intake gives nothing, and the octet that it keeps for later calls (of the unpacker before and after)
 abbrev pub Faults : {S : Type 0} → (S → List story.StoryEvent → S → Type 0) → (S → ℕ) → Device → Device → Unpacking → Unpacking → S → S → ℕ → IntakeFault → Type 0
-Faults goes failures old new u v a b kept (Refused e) = (kept ≡ e.octet) × (WasRefused goes failures old new u a b e ⊎ WasTruncated goes failures old new u a b e)
+Faults goes failures old new u v a b kept (Refused e) = (kept ≡ e.octet) × (WasRefused goes failures old new u v a b e ⊎ WasTruncated goes failures old new u v a b e)
 Faults goes failures old new u v a b kept Read = WasMissed goes failures old new u v a b kept io.Failed
 Faults goes failures old new u v a b kept Interrupted = WasMissed goes failures old new u v a b kept io.Interrupted
 

@@ -1,10 +1,10 @@
 -- What the program leaves.
 use Rattle.std.specs.Prelude.{◌≡◌, ℕ, List, Result, Ok, Err}
 use Rattle.iim_dataset.specs.States.Devices.{Device}
-use Rattle.iim_commands.specs.declared.request.Request.{Request}
+use Rattle.iim_request.specs.declared.request.Request.{Request}
 use Rattle.iimwire.specs.declared.start.RunFault.{RunFault}
 use Rattle.iim_unpack.specs.States.Blocks.{with_held}
-use Rattle.iim_commands.specs.States.Devices.{devices}
+use Rattle.iim_output.specs.States.Devices.{devices}
 use Rattle.iim_commands.specs.Format.Outcomes.{Ran}
 use Rattle.iimwire.specs.Format.Starts.{IsHindered}
 

@@ -1,13 +1,13 @@
 -- Why a run can't begin, and what is left of it then.
 use Rattle.std.specs.Prelude.{◌≡◌, ℕ, ◌⊎◌, ⊤, List, ◌++◌, codes}
 use Rattle.iim_dataset.specs.States.Devices.{Device}
-use Rattle.iim_commands.specs.declared.request.UsageFault.{UsageFault}
-use Rattle.iim_commands.specs.declared.request.UsageFault.TheVariants as usage
+use Rattle.iim_request.specs.declared.request.UsageFault.{UsageFault}
+use Rattle.iim_request.specs.declared.request.UsageFault.TheVariants as usage
 use Rattle.iimwire.specs.declared.start.RunFault.{RunFault}
 use Rattle.iimwire.specs.declared.start.RunFault.TheVariants.{Usage, NoText, CannotOpen, OutOfMemory}
-use Rattle.iim_commands.specs.Format.WrittenListings.{IsSaid}
-use Rattle.iim_commands.specs.Format.Shown.{shown_name}
-use Rattle.iim_commands.specs.Format.Statuses.{status_usage, status_failed}
+use Rattle.iim_output.specs.Format.Said.{IsSaid}
+use Rattle.iim_request.specs.Format.Shown.{shown_name}
+use Rattle.iim_output.specs.Format.Statuses.{status_usage, status_failed}
 
 -- the line that tells that memory was refused
 abbrev pub no_memory_line : List ℕ

@@ -4,23 +4,11 @@ ghost use Rattle.std.specs.Prelude.{◌≡◌, ◌≢◌, ⊤};
 ghost use Rattle.iim_dataset.specs.States.Reading.{TakesCalls};
 
 use arrayvec::ArrayVec;
-use iim_dataset::{DatasetSink, Fault, FaultCause, Head, HeadReader, Step, Stop};
-use std::process::Abort;
+use iim_dataset::{DatasetSink, Fault, Head, HeadReader, Step, Stop};
+use std::io;
 
 /// Three datasets: a standard count, an extended one, and no data; and an octet after them.
 const STREAM: &[u8] = b"\x1c\x01\x1e\x00\x03TST\x1c\x02\x05\x80\x01\x02ab\x1c\x07\x0a\x00\x00x";
-
-/// The octets of the three.
-const LENGTH: usize = 21;
-
-/// What a recorder writes of them: `<`, the two numbers and the count, the data, and `>`.
-const RECORD: &[u8] = b"<\x01\x1e\x03TST><\x02\x05\x02ab><\x07\x0a\x00>";
-
-/// The octet that completes each event: a head, octets of data, or an end.
-const COMPLETED_AT: [usize; 11] = [4, 5, 6, 7, 7, 13, 14, 15, 15, 20, 20];
-
-/// How much of the record stands before each event.
-const RECORDED: [usize; 11] = [0, 4, 5, 6, 7, 8, 12, 13, 14, 15, 19];
 
 /// Writes down what it takes. The third dataset is the last one, and after it nothing is taken until it goes on.
 #[derive(Drop)]
@@ -112,9 +100,14 @@ impl DatasetSink for Recorder {
     }
 }
 
-/// Feeds octets one by one up to the end of the last dataset, and answers how many were used.
+pub(crate) fn tell(rt: &impl Print) -> io::Result<()> {
+    a_dataset_after_the_last(rt)?;
+    octets_after_the_last_dataset(rt)?;
+    sinks_of_datasets_that_stop(rt)
+}
+
+/// Feeds octets one by one up to the end of the last dataset, and answers how many were used. A call that uses no octet ends it too.
 fn feed_by_octets(
-    rt: &impl Abort,
     reader: &mut HeadReader,
     octets: &[u8],
     sink: &mut Recorder,
@@ -126,12 +119,12 @@ fn feed_by_octets(
             return Ok(at);
         }
         match reader.feed(&[*octet], sink) {
-            Ok(used) => assert_eq!(rt; used, 1),
+            Ok(1) => {}
+            Ok(_) => return Ok(at),
             Err(fault) => {
-                assert_eq!(rt; fault.taken, 0);
                 return Err(Fault {
                     cause: fault.cause,
-                    taken: at,
+                    taken: at.saturating_add(fault.taken),
                 });
             }
         }
@@ -140,80 +133,70 @@ fn feed_by_octets(
 }
 
 /// Reads octets in one piece, or one by one, and answers the reader, and how many octets were used or the fault.
-fn read(
-    rt: &impl Abort,
-    octets: &[u8],
-    one_by_one: bool,
-    sink: &mut Recorder,
-) -> (HeadReader, Result<usize, Fault>)
+fn read(octets: &[u8], one_by_one: bool, sink: &mut Recorder) -> (HeadReader, Result<usize, Fault>)
     requires { sink.old.ended ≡ 0 }
 {
     let mut reader = HeadReader::new();
     let answer = if one_by_one {
-        feed_by_octets(rt, &mut reader, octets, sink)
+        feed_by_octets(&mut reader, octets, sink)
     } else {
         reader.feed(octets, sink)
     };
     (reader, answer)
 }
 
-/// No tag begins with the octet after these.
-const fn no_tag_after(used: usize) -> Result<usize, Fault> {
-    Err(Fault {
-        cause: FaultCause::Marker,
-        taken: used,
-    })
-}
-
 /// After the last dataset a reader continues where its sink does: what comes then is the next dataset.
-#[test]
-fn a_dataset_after_the_last(rt: HostRuntime) {
+fn a_dataset_after_the_last(rt: &impl Print) -> io::Result<()> {
+    let trial = "a_dataset_after_the_last";
     let mut reader = HeadReader::new();
     let mut sink = Recorder::new(16);
-    assert_eq!(rt; reader.feed(STREAM, &mut sink), Ok(LENGTH));
+    let Ok(three) = reader.feed(STREAM, &mut sink) else {
+        return println!(rt; "{trial}: refused at once");
+    };
     sink.go_on();
-    assert_eq!(rt; reader.feed(b"", &mut sink), Ok(0));
+    let Ok(none) = reader.feed(b"", &mut sink) else {
+        return println!(rt; "{trial}: nothing is refused");
+    };
     sink.go_on();
-    assert_eq!(rt; reader.feed(b"\x1c\x01\x1e\x00\x03TS", &mut sink), Ok(7));
-    assert_eq!(rt; reader.named(), (1, 30));
-    assert_eq!(rt; reader.feed(b"Tx", &mut sink), no_tag_after(1));
-    assert_eq!(rt;
-        sink.record.as_slice(),
-        b"<\x01\x1e\x03TST><\x02\x05\x02ab><\x07\x0a\x00><\x01\x1e\x03TST>".as_slice()
-    );
+    let Ok(fourth) = reader.feed(b"\x1c\x01\x1e\x00\x03TS", &mut sink) else {
+        return println!(rt; "{trial}: another dataset is refused");
+    };
+    let (rec, set) = reader.named();
+    println!(rt; "{trial}: used {three}, {none} and {fourth}, named {rec}:{set}")?;
+    sink.go_on();
+    let answer = reader.feed(b"Tx", &mut sink);
+    let record = sink.record.as_slice().escape_ascii();
+    println!(rt; "{trial}: {answer:?} {record}")
 }
 
 /// An octet after the last dataset that begins no tag is refused.
-#[test]
-fn octets_after_the_last_dataset(rt: HostRuntime) {
+fn octets_after_the_last_dataset(rt: &impl Print) -> io::Result<()> {
+    let trial = "octets_after_the_last_dataset";
     let mut reader = HeadReader::new();
     let mut sink = Recorder::new(11);
-    assert_eq!(rt; reader.feed(STREAM, &mut sink), Ok(LENGTH));
+    let Ok(three) = reader.feed(STREAM, &mut sink) else {
+        return println!(rt; "{trial}: refused at once");
+    };
     sink.go_on();
-    assert_eq!(rt; reader.feed(&STREAM[LENGTH..], &mut sink), no_tag_after(0));
-    assert_eq!(rt; sink.record.as_slice(), RECORD);
-    assert!(rt; reader.is_failed());
+    let answer = reader.feed(b"x", &mut sink);
+    let record = sink.record.as_slice().escape_ascii();
+    let failed = reader.is_failed();
+    println!(rt; "{trial}: used {three}, {answer:?} {record}, failed: {failed}")
 }
 
-/// The sink stops at this event, which octet `used` completes, after this much of the record.
-fn expect_stop(rt: &impl Abort, event: usize, used: usize, recorded: usize) {
-    let stop = Err(Fault {
-        cause: FaultCause::Stopped,
-        taken: used,
-    });
-    let (front, _) = RECORD.split_at(recorded.min(RECORD.len()));
-    for one_by_one in [false, true] {
-        let mut sink = Recorder::new(event);
-        let (reader, answer) = read(rt, STREAM, one_by_one, &mut sink);
-        assert_eq!(rt; answer, stop, "event {event}");
-        assert_eq!(rt; sink.record.as_slice(), front, "event {event}");
-        assert_eq!(rt; (reader.is_failed(), reader.named()), (true, (0, 0)));
+/// A sink that stops at an event: a head, octets of data, or an end.
+fn sinks_of_datasets_that_stop(rt: &impl Print) -> io::Result<()> {
+    for event in 0..11 {
+        for one_by_one in [false, true] {
+            let mut sink = Recorder::new(event);
+            let (reader, answer) = read(STREAM, one_by_one, &mut sink);
+            let record = sink.record.as_slice().escape_ascii();
+            let failed = reader.is_failed();
+            let (rec, set) = reader.named();
+            println!(rt;
+                "sinks_of_datasets_that_stop: event {event}: {answer:?} {record}, failed: {failed}, named {rec}:{set}"
+            )?;
+        }
     }
-}
-
-#[test]
-fn sinks_that_stop(rt: HostRuntime) {
-    for (event, (used, recorded)) in COMPLETED_AT.into_iter().zip(RECORDED).enumerate() {
-        expect_stop(&rt, event, used, recorded);
-    }
+    Ok(())
 }

@@ -1,9 +1,8 @@
 //! Objects written at worked sizes, and to a target that fails at each call.
 
-use iim_dataset::Target;
 use iim_object::{PackCause, Plan, Size, SubfileBuffer, SubfileWriter};
 use std::alloc::Global;
-use std::process::Abort;
+use std::io;
 use trials::{TrialWriter, Trouble};
 
 /// Three octets in subfiles of two, where no size is known but a maximum.
@@ -14,154 +13,195 @@ const SMALL_OUT: &[u8] = b"\x1C\x07\x0A\x00\x01\x00\
 \x1C\x08\x0A\x00\x01c\
 \x1C\x09\x0A\x00\x04\x00\x00\x00\x03";
 
-fn plan(rt: &impl Abort, subfile: u64, size: Size) -> Plan {
-    match Plan::new(subfile, size) {
-        Some(plan) => plan,
-        None => panic!(rt; "plan"),
-    }
+/// The target of these trials.
+type Sink = TrialWriter<600>;
+
+/// The room of a plan.
+fn buffer(alloc: Global, subfile: u64, size: Size) -> Option<SubfileBuffer> {
+    SubfileBuffer::reserve(alloc, Plan::new(subfile, size)?).ok()
 }
 
-fn buffer(rt: &impl Abort, alloc: Global, subfile: u64, size: Size) -> SubfileBuffer {
-    match SubfileBuffer::reserve(alloc, plan(rt, subfile, size)) {
-        Ok(buffer) => buffer,
-        Err(_) => panic!(rt; "memory"),
-    }
-}
-
-/// A target that takes `good` octets, one a call, and then fails.
-fn target(good: u64) -> TrialWriter<600> {
-    TrialWriter::new(good, Trouble::Failure)
-}
-
-/// The writer of a plan to a target that doesn't fail.
-fn started(
-    rt: &impl Abort,
+fn buffers_have_room_for_the_lesser_of_subfile_and_bound(
+    rt: &impl Print,
     alloc: Global,
-    subfile: u64,
-    size: Size,
-) -> SubfileWriter<TrialWriter<600>> {
-    match SubfileWriter::start(buffer(rt, alloc, subfile, size), target(1000)) {
-        Ok(writer) => writer,
-        Err(_) => panic!(rt; "start"),
+) -> io::Result<()> {
+    for (subfile, size) in [
+        (1, Size::Known(50)),
+        (7, Size::Known(50)),
+        (1024, Size::Known(50)),
+        (1024, Size::Known(0)),
+        (1024, Size::Unknown(Some(20))),
+        (16, Size::Unknown(Some(20))),
+        (1024, Size::Unknown(None)),
+    ] {
+        let room = buffer(alloc, subfile, size).map(|buffer| buffer.room());
+        println!(rt;
+            "buffers_have_room_for_the_lesser_of_subfile_and_bound: {subfile} {size:?}: {room:?}"
+        )?;
     }
+    Ok(())
 }
 
-#[test]
-fn buffers_have_room_for_the_lesser_of_subfile_and_bound(rt: HostRuntime) {
-    let rows = [
-        (1, Size::Known(50), 1),
-        (7, Size::Known(50), 7),
-        (1024, Size::Known(50), 50),
-        (1024, Size::Known(0), 0),
-        (1024, Size::Unknown(Some(20)), 20),
-        (16, Size::Unknown(Some(20)), 16),
-        (1024, Size::Unknown(None), 1024),
-    ];
-    for (subfile, size, room) in rows {
-        let buffer = buffer(&rt, rt.alloc(), subfile, size);
-        assert_eq!(&rt; buffer.room(), room, "{subfile}, {size:?}");
-    }
+/// A writer of three octets in subfiles of two, to a target that doesn't fail.
+fn writer_of_three(alloc: Global) -> Option<SubfileWriter<Sink>> {
+    let buffer = buffer(alloc, 2, Size::Known(3))?;
+    SubfileWriter::start(buffer, TrialWriter::new(1000, Trouble::Failure)).ok()
 }
 
-#[test]
-fn causes_and_their_order(rt: HostRuntime) {
-    let mut known = started(&rt, rt.alloc(), 2, Size::Known(3));
-    let before = known.written();
-    assert_eq!(&rt; known.write(b"abcd"), Err(PackCause::PastAnnounced));
-    assert_eq!(&rt; (known.written(), known.total()), (before, 0));
-    assert_eq!(&rt; known.write(b"ab"), Ok(()));
-    let mut known = match known.finish() {
-        Ok(_) => panic!(&rt; "too short"),
-        Err((writer, cause)) => {
-            assert_eq!(&rt; cause, PackCause::ShortOfAnnounced);
-            writer
-        }
-    };
-    assert_eq!(&rt;
-        (known.written(), known.total(), known.is_failed()),
-        (before, 2, false)
-    );
-    let past = Err(PackCause::PastAnnounced);
-    for (piece, answer) in [(b"cd".as_slice(), past), (b"c", Ok(())), (b"d", past)] {
-        assert_eq!(&rt; known.write(piece), answer);
-    }
-    assert_eq!(&rt; known.written(), before + 7);
-    assert!(&rt; known.finish().is_ok());
-}
-
-/// A writer after a failure takes nothing more: what is out stays, and so does its count.
-fn expect_failed(
-    rt: &impl Abort,
-    mut writer: SubfileWriter<TrialWriter<600>>,
-) -> (TrialWriter<600>, u64) {
-    assert!(rt; writer.is_failed());
+/// Prints how many octets are out, and how many the object has so far.
+fn tell_counts(rt: &impl Print, trial: &str, writer: &SubfileWriter<Sink>) -> io::Result<()> {
     let written = writer.written();
-    for piece in [b"abcdef".as_slice(), b""] {
-        assert_eq!(rt; writer.write(piece), Err(PackCause::Failed));
-    }
-    let writer = match writer.finish() {
-        Ok(_) => panic!(rt; "finished after a failure"),
-        Err((writer, cause)) => {
-            assert_eq!(rt; cause, PackCause::Failed);
-            writer
-        }
-    };
-    assert_eq!(rt; writer.written(), written);
-    (writer.into_writer(), written)
+    let total = writer.total();
+    let failed = writer.is_failed();
+    println!(rt; "{trial}: {written} out, {total} taken, failed: {failed}")
 }
 
-/// Writes three octets in subfiles of two to a target that takes `good` octets and then fails: what is out, and how many the
-/// writer or the fault counts.
-fn broken(rt: &impl Abort, alloc: Global, good: u64) -> (TrialWriter<600>, u64) {
-    let buffer = buffer(rt, alloc, 2, Size::Unknown(Some(5)));
-    let mut writer = match SubfileWriter::start(buffer, target(good)) {
+/// Writes pieces, and prints each answer.
+fn tell_writes(
+    rt: &impl Print,
+    trial: &str,
+    writer: &mut SubfileWriter<Sink>,
+    pieces: &[&[u8]],
+) -> io::Result<()> {
+    for piece in pieces {
+        let answer = writer.write(piece);
+        let octets = piece.escape_ascii();
+        println!(rt; "{trial}: write '{octets}': {answer:?}")?;
+    }
+    Ok(())
+}
+
+fn causes_and_their_order(rt: &impl Print, alloc: Global) -> io::Result<()> {
+    let trial = "causes_and_their_order";
+    let Some(mut writer) = writer_of_three(alloc) else {
+        return println!(rt; "{trial}: not started");
+    };
+    tell_writes(rt, trial, &mut writer, &[b"abcd"])?;
+    tell_counts(rt, trial, &writer)?;
+    tell_writes(rt, trial, &mut writer, &[b"ab"])?;
+    let Err((mut writer, cause)) = writer.finish() else {
+        return println!(rt; "{trial}: finished too early");
+    };
+    println!(rt; "{trial}: finish: {cause:?}")?;
+    tell_counts(rt, trial, &writer)?;
+    tell_writes(rt, trial, &mut writer, &[b"cd", b"c", b"d"])?;
+    tell_counts(rt, trial, &writer)?;
+    let finished = writer.finish().is_ok();
+    println!(rt; "{trial}: finished: {finished}")
+}
+
+/// How writing ended: in which call, with which cause, what the target has, and how many octets the writer or the fault counts.
+#[derive(Drop)]
+struct End {
+    call: &'static str,
+    cause: Option<PackCause>,
+    target: Sink,
+    written: u64,
+    /// What each of three later calls answers, where there is a writer left: two pieces and the end.
+    later: [Option<PackCause>; 3],
+}
+
+/// The end at a call of a writer that failed there. It takes nothing more.
+fn failed(call: &'static str, cause: PackCause, writer: SubfileWriter<Sink>) -> End {
+    let mut writer = writer;
+    let some = writer.write(b"abcdef").err();
+    let none = writer.write(b"").err();
+    match writer.finish() {
+        Ok(target) => End {
+            call: "finish after a failure",
+            cause: Some(cause),
+            target,
+            written: 0,
+            later: [some, none, None],
+        },
+        Err((writer, last)) => End {
+            call,
+            cause: Some(cause),
+            written: writer.written(),
+            target: writer.into_writer(),
+            later: [some, none, Some(last)],
+        },
+    }
+}
+
+/// Writes three octets to a target by a plan, and answers how that ended.
+fn end_of(buffer: SubfileBuffer, target: Sink) -> End {
+    let mut writer = match SubfileWriter::start(buffer, target) {
         Ok(writer) => writer,
         Err(fault) => {
-            assert!(rt; good < 24);
-            assert_eq!(rt; fault.cause, PackCause::Write);
-            return (fault.writer, fault.written);
+            return End {
+                call: "start",
+                cause: Some(fault.cause),
+                target: fault.writer,
+                written: fault.written,
+                later: [None; 3],
+            };
         }
     };
     if let Err(cause) = writer.write(b"abc") {
-        assert!(rt; good >= 24 && good < 31);
-        assert_eq!(rt; cause, PackCause::Write);
-        return expect_failed(rt, writer);
+        return failed("write", cause, writer);
     }
-    assert!(rt; good >= 31);
     match writer.finish() {
-        Ok(target) => {
-            assert!(rt; good >= 46);
-            (target, 46)
-        }
-        Err((writer, cause)) => {
-            assert!(rt; good < 46);
-            assert_eq!(rt; cause, PackCause::Write);
-            expect_failed(rt, writer)
-        }
+        Ok(target) => End {
+            call: "none",
+            cause: None,
+            target,
+            written: 46,
+            later: [None; 3],
+        },
+        Err((writer, cause)) => failed("finish", cause, writer),
     }
 }
 
-#[test]
-fn writes_that_fail_at_each_call(rt: HostRuntime) {
-    assert_eq!(&rt; SMALL_OUT.len(), 46);
+/// Prints an end: the octets that are out are a front of the worked ones.
+fn tell_end(rt: &impl Print, good: u64, end: &End) -> io::Result<()> {
+    let call = end.call;
+    let cause = end.cause;
+    let written = end.written;
+    let octets = end.target.octets();
+    let out = octets.len();
+    let right = SMALL_OUT.starts_with(octets);
+    println!(rt;
+        "writes_that_fail_at_each_call: {good} good: in {call} {cause:?}, {written} counted, {out} out, as worked: {right}"
+    )?;
+    let later = end.later;
+    println!(rt; "writes_that_fail_at_each_call: then {later:?}")
+}
+
+/// A target takes `good` octets, one a call, and then fails.
+fn writes_that_fail_at_each_call(rt: &impl Print, alloc: Global) -> io::Result<()> {
+    let all = SMALL_OUT.len();
+    println!(rt; "writes_that_fail_at_each_call: {all} octets")?;
     for good in 0..48 {
-        let (target, written) = broken(&rt, rt.alloc(), good);
-        let out = good.min(46) as usize;
-        assert!(&rt; target.octets() == &SMALL_OUT[..out], "{good}");
-        assert_eq!(&rt; written, out as u64);
+        let Some(buffer) = buffer(alloc, 2, Size::Unknown(Some(5))) else {
+            return println!(rt; "writes_that_fail_at_each_call: no buffer");
+        };
+        let end = end_of(buffer, TrialWriter::new(good, Trouble::Failure));
+        tell_end(rt, good, &end)?;
     }
+    Ok(())
 }
 
-#[test]
-fn a_million_interruptions_are_a_failure(rt: HostRuntime) {
-    for (interruptions, leads_on) in [(999_999, true), (1_000_000, false)] {
-        let target: TrialWriter<600> = TrialWriter::new(30, Trouble::Interruptions(interruptions));
-        let buffer = buffer(&rt, rt.alloc(), 2, Size::Unknown(Some(5)));
-        let Ok(mut writer) = SubfileWriter::start(buffer, target) else {
-            panic!(&rt; "start");
-        };
-        let answer = writer.write(b"abc");
-        assert_eq!(&rt; answer.is_ok(), leads_on);
-        assert_eq!(&rt; writer.written(), if leads_on { 31 } else { 30 });
+/// A writer of three octets whose target is interrupted so often after 30 octets: whether it takes them, and how many are out.
+fn interrupted(alloc: Global, interruptions: u32) -> Option<(bool, u64)> {
+    let buffer = buffer(alloc, 2, Size::Unknown(Some(5)))?;
+    let target: Sink = TrialWriter::new(30, Trouble::Interruptions(interruptions));
+    let mut writer = SubfileWriter::start(buffer, target).ok()?;
+    let leads_on = writer.write(b"abc").is_ok();
+    Some((leads_on, writer.written()))
+}
+
+fn a_million_interruptions_are_a_failure(rt: &impl Print, alloc: Global) -> io::Result<()> {
+    for interruptions in [999_999, 1_000_000] {
+        let answer = interrupted(alloc, interruptions);
+        println!(rt; "a_million_interruptions_are_a_failure: {interruptions}: {answer:?}")?;
     }
+    Ok(())
+}
+
+pub(crate) fn tell<R: Print + AllocGlobal>(rt: &R) -> io::Result<()> {
+    buffers_have_room_for_the_lesser_of_subfile_and_bound(rt, rt.alloc())?;
+    causes_and_their_order(rt, rt.alloc())?;
+    writes_that_fail_at_each_call(rt, rt.alloc())?;
+    a_million_interruptions_are_a_failure(rt, rt.alloc())
 }

@@ -2,10 +2,11 @@
 use Rattle.std.specs.Prelude.{ℕ, List, [], ◌∷◌, ◌++◌}
 use Rattle.wire_story.specs.Format.Delivery.{StoryEvent, LineOctet, LineEnd}
 
--- collected lines, and how often their growth was refused
+-- collected lines, how often their growth was refused, and for how many octets there is memory
 pub record Collected : Type 0 where
   pub lines : List (List ℕ)
   pub failures : ℕ
+  pub room : ℕ
 
 -- the lines with one octet more, at the end of the last
 abbrev pub add_octet : List (List ℕ) → ℕ → List (List ℕ)

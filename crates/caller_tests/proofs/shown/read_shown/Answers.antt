@@ -1,9 +1,9 @@
 use Rattle.std.proofs.Common.{◌≡◌, ◌≤◌, ℕ, List, ◌++◌, length, codes, sym, subst, ap, ◌∙◌}
 use Rattle.std.proofs.lemmas.List.{append_cancel_left, append_cancel_right}
 use Rattle.iim_script.specs.Format.Scripts.{max_script}
-use Rattle.iim_commands.specs.Format.Narration.{story_of}
-use Rattle.iim_commands.specs.Format.Packing.{ScriptContent}
-use Rattle.iim_commands.specs.Format.Texts.{number_line, sizes_line}
+use Rattle.iim_listing.specs.Format.Narration.{story_of}
+use Rattle.iim_pack_script.specs.Format.Packing.{ScriptContent}
+use Rattle.iim_listing.specs.Format.Texts.{number_line, sizes_line}
 use Rattle.iim_commands.specs.Laws.Scripts.{TellsJust, told_of}
 use Rattle.caller_tests.proofs.shown.read_shown.Goals as goal
 

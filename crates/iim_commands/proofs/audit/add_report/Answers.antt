@@ -4,9 +4,9 @@ use Rattle.iim_dataset.proofs.Lists.{handed_on}
 use Rattle.iim_audit.specs.Format.Texts.{lines_from, printed_report}
 use Rattle.iim_audit.specs.declared.row.AuditRow.{AuditRow}
 use Rattle.iim_audit.proofs.Lines.{lines_more}
-use Rattle.iim_commands.specs.States.Holding.{HasPut}
-use Rattle.iim_commands.specs.HoldingLaws.{put_nothing, put_on}
-use Rattle.iim_commands.specs.Listing.{IsUnadded}
+use Rattle.iim_output.specs.States.Holding.{HasPut}
+use Rattle.iim_output.specs.HoldingLaws.{put_nothing, put_on}
+use Rattle.iim_output.specs.States.Holding.{IsUnadded}
 use Rattle.iim_commands.proofs.Audits.{cut_in_last, cut_in_line, lines_out}
 use Rattle.iim_commands.proofs.audit.add_report.Goals as goal
 

@@ -4,10 +4,10 @@ use Rattle.iim_audit.specs.Format.Auditing.{FailsAt, IsAudited}
 use Rattle.iim_audit.specs.Format.Texts.{printed_report}
 use Rattle.iim_unpack.specs.States.Intakes.{in_line}
 use Rattle.iim_commands.specs.Format.Audits.{IsUnaudited}
-use Rattle.iim_commands.specs.States.Holding.{device_of}
-use Rattle.iim_commands.specs.Format.Listings.{limits}
+use Rattle.iim_output.specs.States.Holding.{device_of}
+use Rattle.iim_output.specs.Format.Limits.{limits}
 use Rattle.iim_commands.proofs.Audits.{unsaid, unsaid_in, untold}
-use Rattle.iim_commands.proofs.Holding.{all_out}
+use Rattle.iim_output.proofs.Holding.{all_out}
 use Rattle.iim_commands.proofs.audit.report_input.Goals as goal
 
 pub returns-in_err-add_report-in-Ok-clause-err : goal.returns-in_err-add_report-in-Ok-clause-err

@@ -1,11 +1,11 @@
 use Rattle.std.proofs.Common.{◌≡◌, ℕ, Result, Ok, Err, IfOk, IfErr, OnErr, ap, sym, inl, inr, subst}
 use Rattle.iim_dataset.specs.States.Devices.{Device}
-use Rattle.iim_commands.specs.States.Devices.{devices}
+use Rattle.iim_output.specs.States.Devices.{devices}
 use Rattle.iim_commands.specs.Endings.{EndsRun}
 use Rattle.iim_commands.specs.Format.Outcomes.{Complained, EndsPacking}
-use Rattle.iim_commands.specs.Format.Packing.{Answered, Asked, IsUnanswered, asked}
-use Rattle.iim_commands.specs.declared.fault.CommandFault.{CommandFault}
-use Rattle.iim_commands.specs.declared.fault.CommandFault.TheVariants.{CannotRead, CannotWrite, OutOfMemory}
+use Rattle.iim_pack_script.specs.Format.Packing.{Answered, Asked, IsUnanswered, asked}
+use Rattle.iim_output.specs.declared.fault.CommandFault.{CommandFault}
+use Rattle.iim_output.specs.declared.fault.CommandFault.TheVariants.{CannotRead, CannotWrite, OutOfMemory}
 use Rattle.iim_commands.proofs.run.pack.Goals as goal
 
 -- what is told on the errors makes no difference

@@ -2,10 +2,10 @@ use Rattle.std.proofs.Common.{◌≡◌, ℕ, ℤ, Result, Ok, Err, IfOk, IfErr,
 use Rattle.iim_dataset.specs.States.Devices.{Device}
 use Rattle.iim_unpack.specs.States.Intakes.{in_line}
 use Rattle.iim_commands.specs.Format.Audits.{Audited, IsUnaudited}
-use Rattle.iim_commands.specs.States.Devices.{devices}
+use Rattle.iim_output.specs.States.Devices.{devices}
 use Rattle.iim_commands.specs.Endings.{EndsRun}
 use Rattle.iim_commands.specs.Format.Outcomes.{Reviewed}
-use Rattle.iim_commands.specs.declared.fault.CommandFault.{CommandFault}
+use Rattle.iim_output.specs.declared.fault.CommandFault.{CommandFault}
 use Rattle.iim_commands.proofs.Runs.{with_none_held}
 use Rattle.iim_commands.proofs.run.review.Goals as goal
 

@@ -2,11 +2,11 @@ use Rattle.std.proofs.Common.{◌≡◌, ℕ, Result, Ok, Err, IfOk, IfErr, ap, 
 use Rattle.iim_dataset.specs.States.Devices.{Device}
 use Rattle.iim_unpack.specs.States.Intakes.{in_line}
 use Rattle.wire_story.specs.States.Writing.{device_of}
-use Rattle.iim_commands.specs.States.Devices.{devices}
-use Rattle.iim_commands.specs.Format.Narration.{IsUnnarrated, Narrated}
+use Rattle.iim_output.specs.States.Devices.{devices}
+use Rattle.iim_listing.specs.Format.Narration.{IsUnnarrated, Narrated}
 use Rattle.iim_commands.specs.Endings.{EndsRun}
 use Rattle.iim_commands.specs.Format.Outcomes.{ToldAsStory}
-use Rattle.iim_commands.specs.declared.fault.CommandFault.{CommandFault}
+use Rattle.iim_output.specs.declared.fault.CommandFault.{CommandFault}
 use Rattle.iim_commands.proofs.Runs.{with_none_held}
 use Rattle.iim_commands.proofs.run.tell.Goals as goal
 

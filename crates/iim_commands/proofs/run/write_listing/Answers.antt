@@ -1,12 +1,12 @@
 use Rattle.std.proofs.Common.{◌≡◌, ℕ, List, Result, Ok, Err, IfOk, IfErr, ap, sym, ◌∙◌, inl, inr, subst}
 use Rattle.iim_dataset.specs.States.Devices.{Device}
 use Rattle.iim_unpack.specs.States.Intakes.{in_line}
-use Rattle.iim_commands.specs.States.Devices.{devices}
+use Rattle.iim_output.specs.States.Devices.{devices}
 use Rattle.iim_places.specs.Format.Listing.{Listed}
 use Rattle.iim_commands.specs.Endings.{EndsRun}
 use Rattle.iim_commands.specs.Format.Outcomes.{EndsListing}
-use Rattle.iim_commands.specs.Format.WrittenListings.{WritesListing, FailsListing}
-use Rattle.iim_commands.specs.declared.fault.CommandFault.{CommandFault}
+use Rattle.iim_listing.specs.Format.WrittenListings.{WritesListing, FailsListing}
+use Rattle.iim_output.specs.declared.fault.CommandFault.{CommandFault}
 use Rattle.iim_commands.proofs.Runs.{with_none_held}
 use Rattle.iim_commands.proofs.run.write_listing.Goals as goal
 

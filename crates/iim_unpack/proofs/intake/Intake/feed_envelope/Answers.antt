@@ -12,7 +12,7 @@ feeding-init g c =
       octets = refl;
       fed = (
         fed_none g.S.StorySink.goes c.gifts_join.ensures (in_line g.R.Source.state c.args.self.now) c.args.unpacker.now a c.stands_somewhere.ensures.counts (g.met.S.StorySink.nothing a),
-        λ none. refl,
+        λ none. (refl, refl),
       );
       ready = c.requires.ready;
       calm = refl;
@@ -51,7 +51,7 @@ pub returns-in-Ok-End-clause-fed : goal.returns-in-Ok-End-clause-fed
 returns-in-Ok-End-clause-fed g c =
     let here = somewhere c.args.unpacker.now c.requires.ready c.stands_somewhere.ensures.stood in
     let ended = end_of g.S.StorySink.goes c.next_piece.new.unpacker c.in-Ok-End.field-0-is (c.in-Ok-End.ensures.fed c.feeding.invariant.alive) in
-    (c.next_piece.ensures.octets ∙ c.feeding.invariant.octets, fed_and_ended c.gifts_join.ensures c.feeding.invariant.fed.0 c.feeding.invariant.fed.1 ended here.0 here.1 here.2)
+    (c.next_piece.ensures.octets ∙ c.feeding.invariant.octets, fed_and_ended c.next_piece.new.unpacker c.gifts_join.ensures c.feeding.invariant.fed.0 c.feeding.invariant.fed.1 ended here.0 here.1 here.2)
 
 pub returns-in-Err-clause-faults : goal.returns-in-Err-clause-faults
 returns-in-Err-clause-faults g c =

@@ -1,5 +1,6 @@
 use Rattle.std.proofs.Common.{◌≡◌, ◌-◌, ◌^◌, [], None}
 use Rattle.iim_unpack.specs.States.Intakes.{HasFed, IsReady, in_line}
+use Rattle.iim_unpack.specs.States.Unpacking.{LeftAs}
 use Rattle.iim_unpack.proofs.intake.Intake.feed_envelope.Given as goal
 
 abbrev pub invariant-feeding : goal.invariant-feeding
@@ -8,7 +9,7 @@ invariant-feeding g l = record {
   octets : l.self.octets ≡ 0;
   fed :
       (fed : HasFed g.S.StorySink.goes (in_line g.R.Source.state l.fn.self) (in_line g.R.Source.state l.self) l.fn.unpacker l.unpacker l.fn.sink l.sink l.used)
-      × (fed.octets ≡ [] → l.sink ≡ l.fn.sink);
+      × (fed.octets ≡ [] → LeftAs l.fn.unpacker l.fn.sink l.unpacker l.sink);
   ready : IsReady l.unpacker;
   calm : g.S.StorySink.failures l.sink ≡ g.S.StorySink.failures l.fn.sink;
   leads : g.R.Source.leads l.fn.self.reader l.self.reader;

@@ -55,5 +55,6 @@ returns-in-Err-clause-refused g c =
       e,
       refl,
       refl,
-      piece_refused g.S.StorySink.goes g.S.StorySink.failures old new c.args.unpacker.now c.args.sink.now c.feed.new.sink piece e given c.in-Err.ensures.counted c.in-Err.ensures.refused,
+      piece_refused g.S.StorySink.goes g.S.StorySink.failures old new c.args.unpacker.now c.feed.new.self c.args.sink.now c.feed.new.sink piece e given c.in-Err.ensures.counted c.in-Err.ensures.failed
+          c.in-Err.ensures.refused,
     )

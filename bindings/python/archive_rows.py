@@ -1,0 +1,143 @@
+"""What archive.py tells of a file of envelopes: its rows, as the index keeps them, and the lines that are printed of them."""
+from __future__ import annotations
+
+import datetime
+import json
+import os
+from typing import Callable, List, NamedTuple, Optional, Tuple
+
+import iim
+
+EPOCH = datetime.datetime(1970, 1, 1, tzinfo=datetime.timezone.utc)
+
+
+# A text as JSON has it.
+quoted: Callable[[str], str] = json.JSONEncoder().encode
+
+# The rows of the tables `files` (but for whether a file is gone), `envelopes` and `refusals` of the index, each with its columns in order.
+FileRow = Tuple[int, bytes, int, int, int, str, Optional[str]]
+EnvelopeRow = Tuple[int, int, int, int, str, str, str, Optional[str], int, int, int, int, Optional[int], Optional[int], Optional[int]]
+RefusalRow = Tuple[int, int, int, int, str, Optional[str], Optional[str], Optional[str], str]
+
+
+class NoIndex(Exception):
+    """Why a file can't be used as an index."""
+
+
+class Asked(NamedTuple):
+    """A file that is to be read: its number in the run or in the index, its name, its size and the time of its change; or why it can't
+    be read."""
+
+    file: int
+    path: bytes
+    size: int
+    changed: int
+    reason: Optional[str]
+
+
+class FileRows(NamedTuple):
+    """What was read of a file: the octets of its envelopes; its state, 'accepted', 'refused', 'empty' or 'failed'; why it failed; a row
+    for each envelope; and the row of its refusal, or None."""
+
+    file: int
+    path: bytes
+    size: int
+    changed: int
+    read: int
+    state: str
+    reason: Optional[str]
+    envelopes: List[EnvelopeRow]
+    refusal: Optional[RefusalRow]
+
+
+def seconds(now: datetime.datetime) -> int:
+    """The seconds from 1970 on, rounded down."""
+    return (now - EPOCH) // datetime.timedelta(seconds=1)
+
+
+def copy_of(release: Optional[int], expires: Optional[int], now: datetime.datetime) -> str:
+    """Whether copy is held, expired or free."""
+    second = seconds(now)
+    if release is not None and release > second:
+        return "held"
+    if expires is not None and (second, now.microsecond) > (expires, 0):
+        return "expired"
+    return "free"
+
+
+def read_file(asked: Asked, limits: iim.Limits, now: datetime.datetime) -> FileRows:
+    """Reads a file."""
+    file, path, size, changed, fault_before = asked
+    if fault_before is not None:
+        return FileRows(file, path, size, changed, 0, "failed", fault_before, [], None)
+    rows: List[EnvelopeRow] = []
+    second = seconds(now)
+    read = 0
+    state, reason, refusal = "accepted", None, None
+    try:
+        for block in iim.audit_blocks(path, limits, now=now):
+            for at, length, service, number, date, priority, of_object, subfiles, announced, counted, age, _, release, expires in block:
+                rows.append((
+                    file, len(rows) + 1, at, length, service.decode("latin-1"), number.decode("ascii"), date.decode("ascii"),
+                    None if priority is None else priority.decode("ascii"), of_object, subfiles, announced, counted, None if age is None else second - age,
+                    release, expires,
+                ))  # fmt: skip
+                read = at + length
+    except iim.Refused as refused:
+        state, refusal = "refused", refusal_row(file, refused)
+    except OSError as fault:
+        state, reason = "failed", fault.strerror or str(fault)
+    except MemoryError:
+        state, reason = "failed", "out of memory"
+    except Exception as fault:
+        # (a mistake of ours, say: it is told, and the other files go on)
+        state, reason = "failed", f"{type(fault).__name__}: {fault}"
+    if state == "accepted" and not rows:
+        state = "empty"
+    return FileRows(file, path, size, changed, read, state, reason, rows, refusal)
+
+
+def refusal_row(file: int, refused: iim.Refused) -> RefusalRow:
+    """The row of a refusal."""
+    told = refused.as_json()
+    known = told["id"]
+    return (
+        file, refused.nth, refused.at, refused.cause, refused.cause_name, known["service"], known["number"], known["date_sent"],
+        json.dumps(told),
+    )  # fmt: skip
+
+
+# --- Lines ---
+
+
+def name_of(path: bytes) -> str:
+    """The name of a file as a text of JSON."""
+    return quoted(os.fsdecode(path))
+
+
+def file_line(name: str, state: str, reason: Optional[str]) -> str:
+    """The line of a file that has no octets, or is gone, or could not be read, for a reason."""
+    if reason is not None:
+        return f'{{"file": {name}, "failed": {quoted(reason)}}}\n'
+    return f'{{"file": {name}, "{state}": true}}\n'
+
+
+def refusal_line(name: str, told: str) -> str:
+    """The line of a refusal."""
+    return f'{{"file": {name}, {told[1:]}\n'
+
+
+def envelope_front(name: str, row: EnvelopeRow, now: datetime.datetime, second: int) -> str:
+    """The line of an envelope up to what it repeats."""
+    _, nth, at, length, service, number, date, priority, size, subfiles, announced, counted, sent, release, expires = row
+    copy = "free" if release is None and expires is None else copy_of(release, expires, now)
+    return (
+        f'{{"file": {name}, "envelope": {nth}, "at": {at}, "length": {length}, "service": {quoted(service)}, "number": "{number}", '
+        f'"date_sent": "{date}", "priority": {"null" if priority is None else quoted(priority)}, "size": {size}, "subfiles": {subfiles}, '
+        f'"announced": {announced}, "counted": {counted}, "age": {"null" if sent is None else second - sent}, "copy": "{copy}", "repeats": '
+    )
+
+
+def repeats_end(first: Optional[Tuple[str, int]]) -> str:
+    """The end of the line of an envelope: which earlier one it repeats, by its file's name and its number."""
+    return "null}\n" if first is None else f'{{"file": {first[0]}, "envelope": {first[1]}}}}}\n'

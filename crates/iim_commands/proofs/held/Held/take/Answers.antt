@@ -1,8 +1,0 @@
-use Rattle.std.proofs.Common.{ap}
-use Rattle.iim_commands.specs.States.Held.{Holding}
-use Rattle.iim_commands.proofs.HeldOctets.{takes}
-use Rattle.iim_commands.proofs.held.Held.take.Goals as goal
-
-pub returns : goal.returns
-returns c =
-    takes c.self.inside.out c.self.inside.block.items c.take.new.self.items c.args.more.now c.args.self.now.octets (ap (λ (h : Holding). h.octets) c.self.view_is) c.take.ensures.items c.self.invariant.0

@@ -1,5 +1,0 @@
-pub mod Coming
-pub mod Devices
-pub mod Held
-pub mod Holding
-pub mod Silence

@@ -1,0 +1,5 @@
+pub mod Feeding
+pub mod Listings
+pub mod Narration
+pub mod Taken
+pub mod Told

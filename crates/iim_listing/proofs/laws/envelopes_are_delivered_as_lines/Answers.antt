@@ -1,0 +1,7 @@
+use Rattle.iim_listing.proofs.Narration.{delivered_lines}
+use Rattle.iim_listing.proofs.laws.envelopes_are_delivered_as_lines.Goals as goal
+
+pub returns : goal.returns
+returns c =
+    delivered_lines c.octets_are_handed_on_one_way.ensures c.events_tell_the_datasets.ensures c.texts_stand_between_stx_and_etx.ensures
+    c.texts_are_delivered_as_lines.ensures

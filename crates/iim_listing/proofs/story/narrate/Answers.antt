@@ -1,0 +1,31 @@
+use Rattle.std.proofs.Common.{rules, IfErr, ap, ◌∙◌}
+use Rattle.iim_dataset.specs.States.Devices.{Device}
+use Rattle.iim_unpack.specs.States.Intakes.{in_line}
+use Rattle.wire_story.specs.States.Writing.{device_of}
+use Rattle.iim_listing.specs.Format.Narration.{IsUnnarrated}
+use Rattle.iim_output.specs.declared.fault.CommandFault.TheVariants.{OutOfMemory}
+use Rattle.iim_output.proofs.Holding.{between}
+use Rattle.iim_listing.proofs.Narration.{nothing_told}
+use Rattle.iim_listing.proofs.story.narrate.Goals as goal
+
+pub returns-in-Err-clause-err : goal.returns-in-Err-clause-err
+returns-in-Err-clause-err g c =
+    let state = device_of g.W.Target.state in
+    let source = in_line g.R.Source.state c.args.intake.now in
+    let errors = g.E.Target.state c.args.errors.now in
+    let name = ap (λ r. r.ghost_name) c.in-Err.ensures.handed_back in
+    let out : IsUnnarrated source source (state c.args.output.now) (state c.in-Err.same.now) errors errors OutOfMemory =
+    nothing_told c.gifts_join.ensures c.texts_join.ensures source (state c.args.output.now) (state c.in-Err.same.now) errors (ap (λ r. state r.now) c.in-Err.ensures.handed_back) in
+    search rules
+
+pub returns-in-Ok-clause-err : goal.returns-in-Ok-clause-err
+returns-in-Ok-clause-err g c =
+    let state = device_of g.W.Target.state in
+    let source = in_line g.R.Source.state c.args.intake.now in
+    let rest = in_line g.R.Source.state c.tell_stories-answer.new.intake in
+    let errors_old = g.E.Target.state c.args.errors.now in
+    let errors_new = g.E.Target.state c.tell_stories-answer.new.errors in
+    let answer = c.tell_stories-answer.result in
+    let name = ap (λ r. r.ghost_name) c.into_writer.ensures ∙ c.tell_stories-answer.ensures.same ∙ ap (λ r. r.ghost_name) c.in-Ok.ensures.writer in
+    between state (λ (d e : Device). IfErr answer (IsUnnarrated source rest d e errors_old errors_new)) c.in-Ok.made c.tell_stories-answer.new.output _ c.into_writer.result
+    c.in-Ok.ensures.writer c.into_writer.ensures (search rules) c.tell_stories-answer.ensures.err

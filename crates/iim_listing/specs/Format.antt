@@ -1,0 +1,4 @@
+pub mod Listings
+pub mod Narration
+pub mod Texts
+pub mod WrittenListings

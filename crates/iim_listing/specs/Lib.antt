@@ -1,0 +1,10 @@
+-- What octets are, and what is said of them.
+pub mod Format
+-- Where readers and writers stand.
+pub mod States
+-- What holds of these: statements, each the contract of a law.
+pub mod Laws
+-- What only proofs and private clauses cite.
+pub mod Feeding
+pub mod Listing
+pub mod NarrationEnds

@@ -1,0 +1,26 @@
+//! `check`: a line for each envelope.
+
+ghost use Rattle.iim_listing.specs.Format.Listings.{line_of};
+
+use crate::list::EnvelopeLines;
+use iim_output::lines::push_accepted;
+use iim_unpack::UnpackedRef;
+use std::alloc::AllocError;
+
+/// Tells how many octets each envelope has.
+#[derive(Clone, Copy)]
+pub struct Check;
+
+impl EnvelopeLines for Check {
+    ghost written = { line_of };
+
+    fn push_text(
+        &self,
+        text: &mut Vec<u8>,
+        number: u64,
+        octets: u64,
+        _got: &UnpackedRef<'_>,
+    ) -> Result<(), AllocError> {
+        push_accepted(text, number, octets)
+    }
+}

@@ -1,0 +1,139 @@
+//! Listings of inputs: a text for each envelope, and a last line.
+
+ghost use Rattle.std.specs.Prelude.{◌≡◌, ◌++◌, ℕ, List, length, None, IfOk, IfErr, OnOk};
+ghost use Rattle.iim_unpack.specs.States.Intakes.{in_line};
+ghost use Rattle.iim_unpack.specs.Format.Value.{ShowsParts};
+ghost use Rattle.iim_places.specs.Format.Listing.{Listed};
+ghost use Rattle.iim_listing.specs.Format.Listings.{told};
+ghost use Rattle.iim_listing.specs.Format.WrittenListings.{WritesListing, FailsListing};
+ghost use Rattle.iim_output.specs.States.Holding.{HoldsNothing, KeepsWriter, device_of};
+ghost use Rattle.iim_listing.specs.Listing.{IsUnlisted, Settles};
+
+use crate::coming::{LIMITS, take_next};
+use iim_dataset::device_laws::{gifts_join, texts_join};
+use iim_dataset::{Source, Target};
+use iim_output::block_writer::BlockWriter;
+use iim_output::fault::CommandFault;
+use iim_output::lines::{TOO_MANY, add, add_last, push_refused};
+use iim_output::silent::Silent;
+use iim_output::status::{ACCEPTED, REFUSED};
+use iim_unpack::{Intake, MAX_ENVELOPES, UnpackedRef, Unpacker};
+use std::alloc::{AllocError, Global};
+
+/// Lists the envelopes of an input. Where memory is short, some of the listing may be held.
+fn list_texts<P: EnvelopeLines, R: Source, W: Target>(
+    alloc: Global,
+    texts: &P,
+    intake: &mut Intake<R>,
+    silent: &mut Silent<'_, W>,
+) -> Result<u8, CommandFault>
+    requires alive { intake.old.failed ≡ None }
+    requires held { HoldsNothing silent.old.output }
+    ensures ok { IfOk result (WritesListing P.written (in_line R.state intake.old) (in_line R.state intake.new)
+        (device_of W.state silent.old.output) (device_of W.state silent.new.output)) }
+    ensures err { IfErr result (IsUnlisted W.state P.written (in_line R.state intake.old) (in_line R.state intake.new)
+        silent.old.output silent.new.output) }
+    ensures same { KeepsWriter silent.old.output silent.new.output }
+    ensures leads { R.leads intake.old.reader intake.new.reader }
+{
+    gifts_join();
+    texts_join();
+    let mut count = 0;
+    let mut unpacker = Unpacker::new(alloc, LIMITS)?;
+    let mut text = Vec::new(alloc);
+    'listing: loop {
+        text.clear();
+        match take_next(intake, &mut unpacker, silent)? {
+            Ok(Some(octets)) => {
+                if count == MAX_ENVELOPES {
+                    add_last(&mut silent.output, TOO_MANY.as_bytes())?;
+                    return Ok(REFUSED);
+                }
+                let Some(got) = unpacker.unpacked() else {
+                    unreachable!()
+                };
+                texts.push_text(&mut text, count + 1, octets, &got)?;
+                add(&mut silent.output, text.as_slice())?;
+                count += 1;
+            }
+            Ok(None) => return Ok(ACCEPTED),
+            Err(refusal) => {
+                push_refused(&mut text, count + 1, refusal)?;
+                add_last(&mut silent.output, text.as_slice())?;
+                return Ok(REFUSED);
+            }
+        }
+    }
+}
+
+/// Lets out what is held where memory was short, and hands on the answer.
+fn settle<W: Target>(
+    output: &mut BlockWriter<'_, W>,
+    answer: Result<u8, CommandFault>,
+) -> Result<u8, CommandFault>
+    ensures settles { Settles W.state output.old output.new answer result }
+    ensures same { KeepsWriter output.old output.new }
+{
+    match answer {
+        Err(CommandFault::OutOfMemory) => match output.flush() {
+            Ok(()) => Err(CommandFault::OutOfMemory),
+            Err(_) => Err(CommandFault::CannotWrite),
+        },
+        answer => answer,
+    }
+}
+
+/// Lists an input: each envelope, up to the end, to octets that are refused or to one envelope too many. The texts of the envelopes that
+/// came are out before the input is read again. At a fault that is not of the output they are out too; where a write fails, those of
+/// them that are not out are lost.
+pub fn list<P: EnvelopeLines, R: Source, W: Target>(
+    alloc: Global,
+    texts: &P,
+    intake: &mut Intake<R>,
+    output: &mut W,
+) -> Result<u8, CommandFault>
+    requires { intake.old.failed ≡ None }
+    ensures ok { IfOk result
+        (WritesListing P.written (in_line R.state intake.old) (in_line R.state intake.new) (W.state output.old)
+        (W.state output.new)) }
+    ensures err { IfErr result
+        (FailsListing P.written (in_line R.state intake.old) (in_line R.state intake.new) (W.state output.old)
+        (W.state output.new)) }
+    ensures leads { R.leads intake.old.reader intake.new.reader }
+{
+    gifts_join();
+    texts_join();
+    match BlockWriter::new(alloc, output) {
+        Ok(made) => {
+            let mut silent = Silent { output: made };
+            let answer = list_texts(alloc, texts, intake, &mut silent);
+            let Silent { mut output } = silent;
+            let answer = settle(&mut output, answer);
+            // No effect at run time. The proof reads what the output holds from this use of what is handed back.
+            let _ = &*output.into_writer();
+            answer
+        }
+        Err(same) => {
+            // The same for what is handed back where memory was refused.
+            let _ = &*same;
+            Err(CommandFault::OutOfMemory)
+        }
+    }
+}
+
+/// What a command writes of each envelope.
+pub trait EnvelopeLines {
+    /// The text of the envelope with this number.
+    ghost written: { ℕ → Listed → List ℕ };
+
+    /// Adds the text of an envelope with this number, which has `octets` octets.
+    fn push_text(
+        &self,
+        text: &mut Vec<u8>,
+        number: u64,
+        octets: u64,
+        got: &UnpackedRef<'_>,
+    ) -> Result<(), AllocError>
+        ensures { (e : Listed) → octets ≡ told (length e.octets) → ShowsParts got.now e.value
+            → OnOk result (text.new.items ≡ text.old.items ++ written number e) };
+}

@@ -1,0 +1,3 @@
+pub mod HeldOctets
+-- What proofs of other crates cite.
+pub mod Holding

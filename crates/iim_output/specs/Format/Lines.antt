@@ -1,0 +1,24 @@
+-- The lines of the commands.
+use Rattle.std.specs.Prelude.{ℕ, List, ◌++◌, codes, decimal}
+use Rattle.iim_places.specs.Format.Names.{refusal_text}
+use Rattle.iim_places.specs.declared.refusal.Refusal.{Refusal}
+use Rattle.iim_output.specs.declared.fault.CommandFault.{CommandFault}
+use Rattle.iim_output.specs.declared.fault.CommandFault.TheVariants.{CannotRead, CannotWrite, OutOfMemory}
+
+-- the line of an accepted envelope: its number, and how many octets it has
+abbrev pub accepted_line : ℕ → ℕ → List ℕ
+accepted_line number used = decimal number ++ (codes " accepted " ++ (decimal used ++ codes " octets\n"))
+
+-- the line of octets that are refused: its number, and the octet, the layer, the dataset and the cause
+abbrev pub refused_line : ℕ → Refusal → List ℕ
+refused_line number e = decimal number ++ (codes " " ++ (refusal_text e ++ codes "\n"))
+
+-- the line in place of that of one envelope too many
+abbrev pub too_many_line : List ℕ
+too_many_line = codes "too many envelopes\n"
+
+-- the line that tells a fault
+abbrev pub fault_line : CommandFault → List ℕ
+fault_line CannotRead = codes "cannot read\n"
+fault_line CannotWrite = codes "cannot write\n"
+fault_line OutOfMemory = codes "out of memory\n"

@@ -1,0 +1,4 @@
+pub mod Devices
+pub mod Held
+pub mod Holding
+pub mod Silence

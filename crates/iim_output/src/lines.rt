@@ -1,0 +1,80 @@
+//! The lines of `check`.
+
+ghost use Rattle.std.specs.Prelude.{◌≡◌, ◌++◌, IfErr, OnOk};
+ghost use Rattle.iim_dataset.specs.States.Devices.{Wrote};
+ghost use Rattle.iim_output.specs.Format.Said.{IsSaid, IsUnsaid};
+ghost use Rattle.iim_output.specs.States.Holding.{HasPut, HoldsNothing};
+ghost use Rattle.iim_output.specs.States.Holding.{IsUnadded};
+ghost use Rattle.iim_output.specs.Format.Lines.{accepted_line, refused_line};
+
+use crate::block_writer::BlockWriter;
+use crate::fault::CommandFault;
+use crate::status::FAILED;
+use iim_dataset::device_laws::texts_join;
+use iim_dataset::{Target, put};
+use iim_places::Refusal;
+use iim_script::push_printed;
+use std::alloc::AllocError;
+
+/// The line in place of that of one envelope too many.
+pub const TOO_MANY: &str = "too many envelopes\n";
+
+/// Writes a text.
+pub fn say<W: Target>(output: &mut W, text: &[u8]) -> Result<(), CommandFault>
+    ensures ok { OnOk result (Wrote (W.state output.old) (W.state output.new) text.now) }
+    ensures err { IfErr result (IsUnsaid (W.state output.old) (W.state output.new) text.now) }
+{
+    match put(output, text) {
+        Ok(()) => Ok(()),
+        Err(_) => Err(CommandFault::CannotWrite),
+    }
+}
+
+/// Adds a text to what is written in blocks.
+pub fn add<W: Target>(output: &mut BlockWriter<'_, W>, text: &[u8]) -> Result<(), CommandFault>
+    ensures ok { OnOk result (HasPut W.state output.old output.new text.now) }
+    ensures err { IfErr result (IsUnadded W.state output.old output.new text.now) }
+{
+    match output.put(text) {
+        Ok(()) => Ok(()),
+        Err(_) => Err(CommandFault::CannotWrite),
+    }
+}
+
+/// Adds a text to what is written in blocks, and lets out all.
+pub fn add_last<W: Target>(output: &mut BlockWriter<'_, W>, text: &[u8]) -> Result<(), CommandFault>
+    ensures ok { OnOk result (HasPut W.state output.old output.new text.now) }
+    ensures held { OnOk result (HoldsNothing output.new) }
+    ensures err { IfErr result (IsUnadded W.state output.old output.new text.now) }
+{
+    texts_join();
+    add(output, text)?;
+    match output.flush() {
+        Ok(()) => Ok(()),
+        Err(_) => Err(CommandFault::CannotWrite),
+    }
+}
+
+/// Writes a text, and answers the status, or that of a fault where it can't be written.
+pub fn tell<E: Target>(errors: &mut E, text: &[u8], status: u8) -> u8
+    ensures { IsSaid (E.state errors.old) (E.state errors.new) text.now status result }
+{
+    match put(errors, text) {
+        Ok(()) => status,
+        Err(_) => FAILED,
+    }
+}
+
+/// Adds the line of an accepted envelope.
+pub fn push_accepted(text: &mut Vec<u8>, number: u64, used: u64) -> Result<(), AllocError>
+    ensures { OnOk result (text.new.items ≡ text.old.items ++ accepted_line number used) }
+{
+    push_printed(text, format_args!("{number} accepted {used} octets\n"))
+}
+
+/// Adds the line of octets that are refused.
+pub fn push_refused(text: &mut Vec<u8>, number: u64, refusal: Refusal) -> Result<(), AllocError>
+    ensures { OnOk result (text.new.items ≡ text.old.items ++ refused_line number refusal) }
+{
+    push_printed(text, format_args!("{number} {refusal}\n"))
+}

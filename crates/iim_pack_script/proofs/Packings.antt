@@ -1,0 +1,198 @@
+-- `pack`: what its parts leave comes to what it leaves.
+use Rattle.std.proofs.Common.{◌≡◌, ℕ, ◌+◌, ap, length-append, IfOk, ◌&&◌, min, nat_le, ◌<◌, ◌≤◌, ◌++◌, List, [], ◌∷◌, length, inl, inr, sym, subst, ◌∙◌, arith, Bool, true, false, Option, Some, None, Result, Ok, Err, IfErr, IfSome, IfNone, IsTrue}
+use Rattle.std.proofs.lemmas.Bool.{and_parts, leb-true}
+use Rattle.iim_dataset.specs.Format.Octets.{greatest_size}
+use Rattle.iim_dataset.specs.States.Devices.{Device, BrokeAfter, HasGiven}
+use Rattle.iim_dataset.specs.Laws.Devices.{GiftsJoin}
+use Rattle.iim_object.specs.Format.Plans.{bound_of, fits, is_plan, most_in}
+use Rattle.iim_object.specs.States.Writing.{Begins, most_of, IsBelowKnown}
+use Rattle.iim_object.specs.declared.writing.cause.PackCause.{PackCause}
+use Rattle.iim_object.specs.declared.writing.cause.PackCause.TheVariants as causes
+use Rattle.iim_object.specs.declared.writing.cause.StartFault.{StartFault}
+use Rattle.iim_object.specs.declared.plan.Plan.{Plan}
+use Rattle.iim_object.specs.declared.size.Size.{Size}
+use Rattle.iim_object.specs.declared.size.Size.TheVariants.{Known}
+use Rattle.wire_message.specs.Format.Messages.{IsTrailer}
+use Rattle.iim_object.proofs.PlanParts.{plan_parts}
+use Rattle.iim_pack.specs.States.Packing.{pack_cause}
+use Rattle.iim_pack.specs.Format.Orders.{IsFirstOf, AgainstPack}
+use Rattle.iim_pack.specs.Format.Packed.{Packed}
+use Rattle.iim_pack.specs.States.Starting.{StartIsRefused, StartBreaksOff}
+use Rattle.iim_pack.specs.States.Whole.{IsPackFault, Packs}
+use Rattle.iim_script.specs.Format.Scripts.{max_script}
+use Rattle.iim_output.specs.States.Devices.{devices}
+use Rattle.iim_output.specs.Format.Said.{IsSaid}
+use Rattle.iim_pack_script.specs.Format.Packing.{Answered, Asked, FitsAsked, IsBrokenOff, IsNotPacked, IsPast, IsPlanOf, IsRead, IsScriptRefusal, IsScriptOf, IsUnanswered, IsUnread, ScriptContent, most_asked, most_for, object_of, refusal_line, said_size}
+use Rattle.iim_pack_script.specs.PackSteps.{ComesTo, IsFailedRead, PacksTold, UnpacksTold}
+use Rattle.iim_output.specs.declared.fault.CommandFault.{CommandFault}
+use Rattle.iim_output.specs.declared.fault.CommandFault.TheVariants.{CannotRead, CannotWrite, OutOfMemory}
+use Rattle.iim_pack_script.specs.declared.packing.PackFault.{PackFault}
+use Rattle.iim_pack_script.specs.declared.packing.PackFault.TheVariants.{Refused, Around}
+
+pub packs_told : {W : Type 0} (state : W → Device) (a : Asked) (t : ScriptContent) (trailer : List ℕ) (plan : Plan) (old new : W) → trailer ≡ t.trailer
+    → IsPlanOf a (object_of t) plan → Packs state old t.fields t.head t.lines trailer plan new → PacksTold a t (state old) (state new)
+packs_told state a t trailer plan old new is is_plan p = (
+  p.out,
+  record { plan = plan; is_plan = is_plan; packed = subst (λ (x : List ℕ). Packed t.fields t.head t.lines x plan p.out) is p.packed },
+  p.wrote,
+)
+
+-- ---- the bound of a plan
+
+known_fits : (subfile n : ℕ) → IsTrue (fits subfile (Known n)) → bound_of subfile (Known n) < n → ⊥
+known_fits subfile n h over =
+    let parts = and_parts (nat_le n greatest_size) (nat_le n (most_in subfile)) h in
+    let within : n ≤ most_in subfile = leb-true n (most_in subfile) parts.1 in
+    omega (arith, within, over)
+
+plan_fits : (subfile : ℕ) (size : Size) → IsTrue (is_plan subfile size) → IsTrue (fits subfile size)
+plan_fits subfile size h = (and_parts (nat_le 1 subfile && nat_le subfile greatest_size) (fits subfile size) h).1
+
+past_by : (unknown : Bool) (max : Option ℕ) (subfile : ℕ) (object : List ℕ) → IsTrue (is_plan subfile (said_size unknown max object))
+    → bound_of subfile (said_size unknown max object) < length object → min (most_asked unknown max) (most_in subfile) < length object
+past_by false max subfile object plan over = absurd (known_fits subfile (length object) (plan_fits subfile (Known (length object)) plan) over)
+past_by true None subfile object plan over = over
+past_by true (Some m) subfile object plan over = over
+
+past_of : (a : Asked) (object : List ℕ) (plan : Plan) → IsPlanOf a object plan → most_of plan < length object → most_for a < length object
+past_of a object plan is over =
+    subst (λ (n : ℕ). min (most_asked a.unknown a.max) (most_in n) < length object) is.subfile_is
+    (past_by a.unknown a.max plan.subfile object (subst (λ (s : Size). IsTrue (is_plan plan.subfile s)) is.size_is plan.valid)
+    (subst (λ (s : Size). bound_of plan.subfile s < length object) is.size_is over))
+
+-- within the bound of the plan there is no more than is asked for
+within_by : (unknown : Bool) (max : Option ℕ) (subfile : ℕ) (object : List ℕ) → IsTrue (is_plan subfile (said_size unknown max object))
+    → length object ≤ bound_of subfile (said_size unknown max object) → length object ≤ min (most_asked unknown max) (most_in subfile)
+within_by false max subfile object plan within =
+    let parts = plan_parts subfile (Known (length object)) plan in
+    let limit : length object ≤ greatest_size = parts.limit in
+    omega (arith, limit, within)
+within_by true None subfile object plan within = within
+within_by true (Some m) subfile object plan within = within
+
+room_of : (a : Asked) (t : ScriptContent) (plan : Plan) → IsPlanOf a (object_of t) plan → (most_of plan < length (object_of t) → ⊥) → FitsAsked a t
+room_of a t plan is fits =
+    let within : length (object_of t) ≤ most_of plan = omega (arith, fits) in
+    subst (λ (n : ℕ). length (object_of t) ≤ min (most_asked a.unknown a.max) (most_in n)) is.subfile_is
+    (within_by a.unknown a.max plan.subfile (object_of t) (subst (λ (s : Size). IsTrue (is_plan plan.subfile s)) is.size_is plan.valid)
+    (subst (λ (s : Size). length (object_of t) ≤ bound_of plan.subfile s) is.size_is within))
+
+below_by : (unknown : Bool) (max : Option ℕ) (object : List ℕ) (n : ℕ) → said_size unknown max object ≡ Known n → length object < n → ⊥
+below_by false max object n e below = let same : length object ≡ n = cc in omega (arith, same, below)
+below_by true max object n e below = cc
+
+not_below : (a : Asked) (object : List ℕ) (plan : Plan) → IsPlanOf a object plan → IsBelowKnown plan (length object) → ⊥
+not_below a object plan is h = below_by a.unknown a.max object h.0 (sym is.size_is ∙ h.1) h.2
+
+-- ---- what the causes of a packer come to
+
+for_memory : (a : Asked) (t : ScriptContent) (old new : Device) (why : PackFault) → ComesTo causes.OutOfMemory t.text_line why → new ≡ old → UnpacksTold a t old new why
+for_memory a t old new (Refused line number name) h same = absurd h
+for_memory a t old new (Around CannotRead) h same = absurd h
+for_memory a t old new (Around CannotWrite) h same = absurd h
+for_memory a t old new (Around OutOfMemory) h same = same
+
+for_past : (a : Asked) (t : ScriptContent) (old new : Device) (why : PackFault) → ComesTo causes.PastAnnounced t.text_line why → new ≡ old → IsPast a t → UnpacksTold a t old new why
+for_past a t old new (Refused line number name) h same past = (same, past, h.0, h.1, h.2)
+for_past a t old new (Around CannotRead) h same past = absurd h
+for_past a t old new (Around CannotWrite) h same past = absurd h
+for_past a t old new (Around OutOfMemory) h same past = absurd h
+
+-- each form of the plan begins with what is out
+pub record IsFront (a : Asked) (t : ScriptContent) (old new : Device) : Type 0 where
+  pub plan : Plan
+  pub out : List ℕ
+  pub room : FitsAsked a t
+  pub is_plan : IsPlanOf a (object_of t) plan
+  pub broke : BrokeAfter old new out
+  pub begins : (form : List ℕ) → Packed t.fields t.head t.lines t.trailer plan form → Begins out form
+
+for_write : (a : Asked) (t : ScriptContent) (old new : Device) (why : PackFault) → ComesTo causes.Write t.text_line why → IsFront a t old new → UnpacksTold a t old new why
+for_write a t old new (Refused line number name) h front = absurd h
+for_write a t old new (Around CannotRead) h front = absurd h
+for_write a t old new (Around CannotWrite) h front = (front.plan, front.out, front.room, front.is_plan, front.broke, front.begins)
+for_write a t old new (Around OutOfMemory) h front = absurd h
+
+front_of : {W : Type 0} (state : W → Device) (a : Asked) (t : ScriptContent) (plan : Plan) (old : W) (fault : StartFault W) → IsPlanOf a (object_of t) plan → FitsAsked a t
+    → StartBreaksOff state (Packed t.fields t.head t.lines t.trailer plan) old fault → IsFront a t (state old) (state fault.writer)
+front_of state a t plan old fault is room h = record { plan = plan; out = h.out; room = room; is_plan = is; broke = (h.appends, h.broke); begins = h.begins }
+
+-- a cause that is refused before anything is written
+refused_as : {W : Type 0} (state : W → Device) (a : Asked) (t : ScriptContent) (plan : Plan) (old : W) (fault : StartFault W) (why : PackFault) (cause : PackCause)
+    → IsTrailer t.trailer → IsPlanOf a (object_of t) plan → StartIsRefused cause old fault → AgainstPack t.head t.lines t.trailer plan cause
+    → ComesTo cause t.text_line why → UnpacksTold a t (state old) (state fault.writer) why
+refused_as state a t plan old fault why causes.OutOfMemory good is r h to = absurd h
+refused_as state a t plan old fault why causes.PastAnnounced good is r h to =
+    for_past a t (state old) (state fault.writer) why to (ap state r.writer_is) (past_of a (object_of t) plan is h)
+refused_as state a t plan old fault why causes.ShortOfAnnounced good is r h to = absurd (not_below a (object_of t) plan is h)
+refused_as state a t plan old fault why causes.BadTextOctet good is r h to = absurd h
+refused_as state a t plan old fault why causes.BadTrailer good is r h to = absurd (h good)
+refused_as state a t plan old fault why causes.Write good is r h to = absurd h
+refused_as state a t plan old fault why causes.Failed good is r h to = absurd h
+
+unpacks_for : {W : Type 0} (state : W → Device) (a : Asked) (t : ScriptContent) (plan : Plan) (old : W) (fault : StartFault W) (why : PackFault) (cause : Option PackCause)
+    → IsTrailer t.trailer → IsPlanOf a (object_of t) plan → IfSome cause (λ x. StartIsRefused x old fault)
+    → IsFirstOf (AgainstPack t.head t.lines t.trailer plan) (causes.BadTrailer ∷ causes.PastAnnounced ∷ causes.ShortOfAnnounced ∷ []) cause
+    → IfNone cause (IsPackFault state t.fields t.head t.lines t.trailer plan old fault)
+    → ComesTo fault.cause t.text_line why → UnpacksTold a t (state old) (state fault.writer) why
+unpacks_for state a t plan old fault why (Some cause) good is r first f to =
+    refused_as state a t plan old fault why cause good is r first.holds (subst (λ (c : PackCause). ComesTo c t.text_line why) r.cause_is to)
+unpacks_for state a t plan old fault why None good is r first f to =
+    elim f as (λ _. UnpacksTold a t (state old) (state fault.writer) why) [
+      | inl m ↦ for_memory a t (state old) (state fault.writer) why (subst (λ (c : PackCause). ComesTo c t.text_line why) m.cause_is to) (ap state m.writer_is)
+      | inr h ↦ for_write a t (state old) (state fault.writer) why (subst (λ (c : PackCause). ComesTo c t.text_line why) h.cause_is to) (front_of state a t plan old fault is (room_of a t plan is first.1.0) h)
+    ]
+
+pub unpacks_told : {W : Type 0} (state : W → Device) (a : Asked) (t : ScriptContent) (trailer : List ℕ) (plan : Plan) (old : W) (fault : StartFault W) (why : PackFault)
+    → trailer ≡ t.trailer → IsTrailer t.trailer → IsPlanOf a (object_of t) plan
+    → IfSome (pack_cause t.head t.lines trailer plan) (λ x. StartIsRefused x old fault)
+    → IsFirstOf (AgainstPack t.head t.lines trailer plan) (causes.BadTrailer ∷ causes.PastAnnounced ∷ causes.ShortOfAnnounced ∷ []) (pack_cause t.head t.lines trailer plan)
+    → IfNone (pack_cause t.head t.lines trailer plan) (IsPackFault state t.fields t.head t.lines trailer plan old fault)
+    → ComesTo fault.cause t.text_line why → UnpacksTold a t (state old) (state fault.writer) why
+unpacks_told state a t trailer plan old fault why e good is r first f to =
+    unpacks_for state a t plan old fault why (pack_cause t.head t.lines t.trailer plan) good is
+    (subst (λ (x : List ℕ). IfSome (pack_cause t.head t.lines x plan) (λ c. StartIsRefused c old fault)) e r)
+    (subst (λ (x : List ℕ). IsFirstOf (AgainstPack t.head t.lines x plan) (causes.BadTrailer ∷ causes.PastAnnounced ∷ causes.ShortOfAnnounced ∷ []) (pack_cause t.head t.lines x plan)) e first)
+    (subst (λ (x : List ℕ). IfNone (pack_cause t.head t.lines x plan) (IsPackFault state t.fields t.head t.lines x plan old fault)) e f)
+    to
+
+-- ---- octets
+
+pub if_err_map : {T E : Type 0} (r : Result T E) (P Q : E → Type 0) → ((e : E) → P e → Q e) → IfErr r P → IfErr r Q
+if_err_map (Ok x) P Q f h = tt
+if_err_map (Err e) P Q f h = f e h
+
+pub unpacked_of : (a : Asked) (octets : List ℕ) (t : ScriptContent) (old new : Device) (why : PackFault) → IsScriptOf octets t → UnpacksTold a t old new why → IsNotPacked a octets old new why
+unpacked_of a octets t old new (Refused line number name) tells h =
+    (h.0, inr (t, tells, h.1, (λ i. refusal_line (h.2 i) (h.3 i) (h.4 i))))
+unpacked_of a octets t old new (Around CannotRead) tells h = absurd h
+unpacked_of a octets t old new (Around CannotWrite) tells h = (t, h.0, h.1, tells, h.2, h.3, h.4, h.5)
+unpacked_of a octets t old new (Around OutOfMemory) tells h = h
+
+-- ---- the input
+
+pub unread : GiftsJoin → (first mid new : Device) (script : List ℕ) (room : ℕ) (fault : CommandFault) → length script ≤ max_script → length script + room ≤ max_script + 1
+    → HasGiven first mid script → IsFailedRead mid new room fault → IsUnread first new fault
+unread joins first mid new script room CannotRead few fits given h = (script, h.0, few, joins.missed first mid new script h.0 given h.1)
+unread joins first mid new script room CannotWrite few fits given h = absurd h
+unread joins first mid new script room OutOfMemory few fits given h =
+    let long = length-append script h.0 in
+    let within : length h.0 ≤ room = h.1 in
+    (script ++ h.0, omega (arith, long, within, fits), joins.more first mid new script h.0 given h.2)
+
+-- ---- answers
+
+pub told_refused : (a : Asked) (octets slice text : List ℕ) (first rest old new errors said : Device) (result : Result ℕ CommandFault) → slice ≡ octets → IsRead first rest octets
+    → new ≡ old → IsScriptRefusal a slice text → IfOk result (IsSaid errors said text 1) → IfOk result (Answered a (devices first old errors) (devices rest new said))
+told_refused a octets slice text first rest old new errors said (Ok status) is read same refusal told =
+    (octets, read, inr (text, subst (λ (o : List ℕ). IsScriptRefusal a o text) is refusal, same, told))
+told_refused a octets slice text first rest old new errors said (Err e) is read same refusal told = tt
+
+few_read : (old new : Device) (octets : List ℕ) → IsRead old new octets → length octets ≤ max_script + 1
+few_read old new octets read = elim read.1 [ inl h ↦ (let within : length octets ≤ max_script = h.1 in omega (arith, within)) | inr h ↦ omega (arith, h) ]
+
+pub unanswered_as : (a : Asked) (octets slice : List ℕ) (first rest old new errors said : Device) (fault : CommandFault) → slice ≡ octets → IsRead first rest octets
+    → IsNotPacked a slice old new (Around fault) → IsUnanswered a (devices first old errors) (devices rest new said) fault
+unanswered_as a octets slice first rest old new errors said CannotRead is read h = absurd h
+unanswered_as a octets slice first rest old new errors said CannotWrite is read h = (octets, read, subst (λ (o : List ℕ). IsBrokenOff a o old new) is h)
+unanswered_as a octets slice first rest old new errors said OutOfMemory is read h = ((octets, few_read first rest octets read, read.0), h)

@@ -1,0 +1,236 @@
+//! `pack`: the envelope that a script tells.
+
+ghost use Rattle.std.specs.Prelude.{◌≡◌, ◌<◌, ◌≤◌, length, IfOk, IfErr, IfSome, IfNone, OnErr};
+ghost use Rattle.wire_message.specs.Format.Messages.{IsTrailer};
+ghost use Rattle.iim_output.specs.States.Devices.{devices};
+ghost use Rattle.iim_pack_script.specs.Format.Packing.{Answered, IsNotPacked, IsPacked, IsPast, IsPlanOf, IsRead, IsUnanswered, IsUnread, asked, object_of, refusal_line};
+ghost use Rattle.iim_pack_script.specs.PackSteps.{ComesTo, GotSome, IsFailedRead, MayComeOf, PacksTold, TellsFault, UnpacksTold, told_by};
+ghost use Rattle.iim_output.specs.Format.Said.{IsSaid};
+ghost use Rattle.iim_output.specs.declared.fault.CommandFault.TheVariants.{OutOfMemory};
+ghost use Rattle.iim_output.specs.Format.Statuses.{status_refused};
+
+use crate::script::read_script;
+use iim_dataset::device_laws::gifts_join;
+use iim_dataset::{BLOCK, Source, Target, take};
+use iim_object::{PackCause, Plan, Size};
+use iim_output::fault::CommandFault;
+use iim_output::lines::tell;
+use iim_output::status::{ACCEPTED, REFUSED};
+use iim_pack::{pack, packed_size};
+pub use iim_request::pack_request::PackRequest;
+use iim_script::{MAX_SCRIPT, Script, ScriptCause, ScriptFault};
+use std::alloc::Global;
+
+/// What keeps an envelope from being packed.
+#[derive(Drop)]
+pub enum PackFault {
+    /// The script is refused.
+    Refused {
+        /// The number of the line that is told, from 1; 0 where the script is too long.
+        line: u64,
+        /// The cause's number.
+        number: u8,
+        /// The cause's name.
+        name: &'static str,
+    },
+    /// Something went wrong around it.
+    Around(CommandFault),
+}
+
+/// Reads once, past interruptions, and adds what came to a script: answers how many octets, none only at the end.
+fn read_some<R: Source>(
+    reader: &mut R,
+    block: &mut [u8],
+    script: &mut Vec<u8>,
+) -> Result<usize, CommandFault>
+    requires { 0 < length block.old }
+    ensures got { IfOk result (GotSome (R.state reader.old) (R.state reader.new) script.old.items script.new.items) }
+    ensures within { IfOk result (λ count. count ≤ length block.old) }
+    ensures failed { IfErr result (IsFailedRead (R.state reader.old) (R.state reader.new) (length block.old)) }
+    ensures leads { R.leads reader.old reader.new }
+{
+    match take(reader, block) {
+        Ok(count) => match script.extend_from_slice(&block[..count]) {
+            Ok(()) => Ok(count),
+            Err(_) => Err(CommandFault::OutOfMemory),
+        },
+        Err(_) => Err(CommandFault::CannotRead),
+    }
+}
+
+/// Reads an input whole, but for what stands after the first octet too many for a script.
+fn read_input<R: Source>(alloc: Global, reader: &mut R) -> Result<Vec<u8>, CommandFault>
+    ensures read { IfOk result (λ script. IsRead (R.state reader.old) (R.state reader.new) script.items) }
+    ensures unread { IfErr result (IsUnread (R.state reader.old) (R.state reader.new)) }
+    ensures leads { R.leads reader.old reader.new }
+{
+    gifts_join();
+    let mut script = Vec::new(alloc);
+    let mut block = [0u8; BLOCK];
+    while script.len() <= MAX_SCRIPT {
+        let room = BLOCK.min(MAX_SCRIPT + 1 - script.len());
+        match read_some(reader, &mut block[..room], &mut script) {
+            Ok(0) => return Ok(script),
+            Ok(_) => {}
+            Err(fault) => return Err(fault),
+        }
+    }
+    Ok(script)
+}
+
+/// The plan that is asked for. None where the size of the object is to be known, and is above the greatest or needs more
+/// subfiles than there may be.
+fn plan_of(request: PackRequest, told: &Script) -> Option<Plan>
+    requires { IsTrailer told.now.trailer.items }
+    ensures plan { IfSome result (IsPlanOf (asked request.subfile request.unknown request.max)
+        (object_of (told_by told.now))) }
+    ensures past { IfNone result (IsPast (asked request.subfile request.unknown request.max) (told_by told.now)) }
+{
+    let size = if request.unknown {
+        Size::Unknown(request.max)
+    } else {
+        Size::Known(packed_size(&told.head, &told.lines, told.trailer.as_slice())?)
+    };
+    Plan::new(request.subfile, size)
+}
+
+/// What a packer's cause comes to, of a script whose line `text` has this number.
+fn fault_for(cause: PackCause, text_line: u64) -> PackFault
+    requires { MayComeOf cause }
+    ensures { ComesTo cause text_line result }
+{
+    match cause {
+        PackCause::PastAnnounced => PackFault::Refused {
+            line: text_line,
+            number: cause.number(),
+            name: cause.name(),
+        },
+        PackCause::OutOfMemory => PackFault::Around(CommandFault::OutOfMemory),
+        PackCause::Write => PackFault::Around(CommandFault::CannotWrite),
+        _ => unreachable!(),
+    }
+}
+
+/// Packs what a script tells, and hands back the output.
+fn pack_told<W: Target>(
+    alloc: Global,
+    request: PackRequest,
+    told: &Script,
+    output: W,
+) -> Result<W, (PackFault, W)>
+    requires { IsTrailer told.now.trailer.items }
+    ensures packed { IfOk result (λ last.
+        PacksTold (asked request.subfile request.unknown request.max) (told_by told.now) (W.state output)
+        (W.state last)) }
+    ensures unpacked { IfErr result (λ left.
+        UnpacksTold (asked request.subfile request.unknown request.max) (told_by told.now) (W.state output)
+        (W.state left.1) left.0) }
+{
+    let Some(plan) = plan_of(request, told) else {
+        return Err((fault_for(PackCause::PastAnnounced, told.text_line), output));
+    };
+    match pack(
+        alloc,
+        &told.envelope,
+        &told.head,
+        &told.lines,
+        told.trailer.as_slice(),
+        plan,
+        output,
+    ) {
+        Ok(output) => Ok(output),
+        Err(fault) => Err((fault_for(fault.cause, told.text_line), fault.writer)),
+    }
+}
+
+/// What a script's fault comes to.
+fn fault_of(fault: ScriptFault) -> PackFault
+    ensures { TellsFault fault result }
+{
+    match fault.cause {
+        ScriptCause::OutOfMemory => PackFault::Around(CommandFault::OutOfMemory),
+        cause => PackFault::Refused {
+            line: fault.line,
+            number: cause.number(),
+            name: cause.name(),
+        },
+    }
+}
+
+/// Packs the envelope that the octets tell, where they are a script, and hands back the output: the packed form is out.
+///
+/// A fault is told with the output as it is: a refusal of the script by its first fault, or by `80 PastAnnounced` at the line `text`;
+/// `CannotWrite` where a write failed, and then a front of the packed form is out; `OutOfMemory`. Else nothing is written.
+pub fn pack_octets<W: Target>(
+    alloc: Global,
+    request: PackRequest,
+    octets: &[u8],
+    output: W,
+) -> Result<W, (PackFault, W)>
+    ensures packed { IfOk result (λ last.
+        IsPacked (asked request.subfile request.unknown request.max) octets.now (W.state output) (W.state last)) }
+    ensures unpacked { IfErr result (λ left.
+        IsNotPacked (asked request.subfile request.unknown request.max) octets.now (W.state output) (W.state left.1)
+        left.0) }
+{
+    match read_script(alloc, octets) {
+        Ok(told) => pack_told(alloc, request, &told, output),
+        Err(fault) => Err((fault_of(fault), output)),
+    }
+}
+
+/// Tells a refusal of a line, and answers the status.
+fn tell_refusal<E: Target>(
+    alloc: Global,
+    errors: &mut E,
+    line: u64,
+    number: u8,
+    name: &str,
+) -> Result<u8, CommandFault>
+    ensures told { IfOk result (IsSaid (E.state errors.old) (E.state errors.new) (refusal_line line number name.now)
+        status_refused) }
+    ensures memory { IfErr result (λ fault. fault ≡ OutOfMemory) }
+    ensures nothing { OnErr result (errors.new ≡ errors.old) }
+{
+    match format!(in alloc; "refused: script line {line} cause {number} {name}\n") {
+        Ok(text) => Ok(tell(errors, text.as_bytes(), REFUSED)),
+        Err(_) => Err(CommandFault::OutOfMemory),
+    }
+}
+
+/// Packs the envelope that a script tells: reads the script from the reader, whole, but no more than one octet past the most that a
+/// script may have, and writes the packed form to the output. Answers the status, and hands back the output.
+///
+/// The status is 0 where the packed form is out. It is 1 where the script is refused, which a line on the errors tells, as
+/// `refused: script line 4 cause 13 CountRange`: by its first fault, or by `80 PastAnnounced` at the line `text` where its object has
+/// more octets than are asked for. It is 3 where that line can't be written. A fault is not told yet: `CannotRead` where a read
+/// failed, `CannotWrite` where a write to the output did, and then a front of the packed form is out, `OutOfMemory` where memory was
+/// refused. In all other cases nothing is written to the output.
+pub fn pack_script<R: Source, W: Target, E: Target>(
+    alloc: Global,
+    request: PackRequest,
+    reader: &mut R,
+    output: W,
+    errors: &mut E,
+) -> (Result<u8, CommandFault>, W)
+    ensures answered { IfOk result.0 (Answered (asked request.subfile request.unknown request.max)
+        (devices (R.state reader.old) (W.state output) (E.state errors.old))
+        (devices (R.state reader.new) (W.state result.1) (E.state errors.new))) }
+    ensures unanswered { IfErr result.0 (IsUnanswered (asked request.subfile request.unknown request.max)
+        (devices (R.state reader.old) (W.state output) (E.state errors.old))
+        (devices (R.state reader.new) (W.state result.1) (E.state errors.new))) }
+    ensures untold { OnErr result.0 (errors.new ≡ errors.old) }
+    ensures leads { R.leads reader.old reader.new }
+{
+    let octets = match read_input(alloc, reader) {
+        Ok(octets) => octets,
+        Err(fault) => return (Err(fault), output),
+    };
+    match pack_octets(alloc, request, octets.as_slice(), output) {
+        Ok(output) => (Ok(ACCEPTED), output),
+        Err((PackFault::Refused { line, number, name }, output)) => {
+            (tell_refusal(alloc, errors, line, number, name), output)
+        }
+        Err((PackFault::Around(fault), output)) => (Err(fault), output),
+    }
+}

@@ -1,0 +1,196 @@
+-- What the program's command line comes to, by the rules of clap.
+use Rattle.std.proofs.Common.{◌≡◌, ◌⊎◌, inl, inr, Bool, true, false, not, ◌&&◌, List, [], ◌∷◌, Option, Some, None, refl, ap, sym, ◌∙◌, codes, option_map, is_some, subst, ℕ, ℤ, Ok, Err}
+use Rattle.std.specs.Prelude.{find, option_and_then, cond}
+use Rattle.std.specs.Box.{box_value}
+use Rattle.std.specs.List.{list_any}
+use Rattle.clap.specs.Facts.{explicit_source}
+use Rattle.clap.specs.Faults.{check_fault, defaults_fault, entered_fault, settle_fault, walk_fault}
+use Rattle.clap.specs.Kinds.{Kinds, or_else, check_kinds}
+use Rattle.clap.specs.Matches.{first_value, one_text, subcommand_name_of}
+use Rattle.clap.specs.Simple.{Shape, argument_words, built, entered, label_of, names_of, rows_at, subcommand_rows, subcommand_rows_of}
+use Rattle.clap.specs.Takes.{is_given}
+use Rattle.clap.specs.Walk.{Row, Text, answers_to, finished, first_of, nothing_held, rows_of, settled, walk, walk_from}
+use Rattle.clap.specs.Words.{fault_of, is_simple, is_simple_and_free, subcommand_of}
+use Rattle.clap.specs.declared.parser.matches.ArgMatches.{ArgMatches}
+use Rattle.clap.specs.declared.parser.matches.ArgMatches.TheViews.{out-ArgMatches, out-SubCommand}
+use Rattle.clap.specs.declared.parser.matches.Found.{Found}
+use Rattle.clap.proofs.OnLiterals.{clap_on_literals}
+use Rattle.clap.proofs.WalkLemmas.{first_value-rows, one_text-rows}
+use Rattle.jiff.specs.Words.{parse_timestamp}
+use Rattle.jiff.specs.Words.{Error as InstantError}
+use Rattle.std.specs.Borrow.{Bor}
+use Rattle.iim_request.specs.declared.request.Verb.{Verb}
+use Rattle.iim_request.specs.declared.request.Verb.TheVariants.{Check, Show, Story, Pack, Audit}
+use Rattle.iim_request.specs.declared.request.UsageFault.{UsageFault}
+use Rattle.iim_request.specs.declared.request.UsageFault.TheVariants as usage
+use Rattle.iim_request.specs.Format.Requests.{GivesNumber, IsFaultOf, IsFlag, IsInstant, IsNoInstant, IsSubfile, NamesCommand, TellsPacking, program, text_given}
+use Rattle.iim_request.specs.Verbs.{IsJobFault, verb_name}
+
+pub program_simple : is_simple program ≡ true
+unfolding clap_on_literals
+program_simple = refl
+
+pub program_free : is_simple_and_free program ≡ true
+unfolding clap_on_literals
+program_free = refl
+
+-- ---- words without a fault name the command
+
+-- no kind comes of two steps only where none comes of the second
+second_none : (x y : Kinds) → or_else x y ≡ [] → y ≡ []
+second_none [] y e = e
+second_none (k ∷ ks) y e = cc
+
+-- where no kind comes of the last checks, a subcommand that is wanted is there
+wanted_there : (help there argument : Bool) → check_kinds help (not there && true) argument ≡ [] → there ≡ true
+wanted_there true there argument e = cc
+wanted_there false true argument e = refl
+wanted_there false false argument e = cc
+
+pub command_named : (words : List Text) → fault_of program words ≡ [] → is_some (subcommand_of program words) ≡ true
+command_named words e =
+    let top = (built program).top in
+    let names = names_of (built program) in
+    let after = argument_words program words in
+    let ending = walk top.rules names nothing_held after in
+    let there = is_some (entered (built program) ending.stopped) in
+    let rows = finished top.rules ending.held in
+    let checks = check_fault top rows there in
+    let defaults = defaults_fault (settled top.rules ending.held).rows top.rules in
+    let settles = settle_fault top.rules top.args_override_self ending.held in
+    let below = entered_fault (built program) ending.stopped in
+    let walks = walk_fault top names (walk_from nothing_held) after in
+    wanted_there (not there && (top.arg_required_else_help && not (list_any (λ r. explicit_source r.source) rows))) there
+    (not (top.subcommand_negates_reqs && there) && list_any (λ a. a.required && not (is_given a.id rows)) top.rules)
+    (second_none defaults checks (second_none settles (or_else defaults checks) (second_none below (or_else settles (or_else defaults checks))
+    (second_none walks (or_else below (or_else settles (or_else defaults checks))) e))))
+
+-- It is the name of one of these.
+abbrev NamedIn : List Shape → Text → Type 0
+NamedIn [] name = ⊥
+NamedIn (s ∷ subs) name = (name ≡ s.name) ⊎ NamedIn subs name
+
+-- the first that answers is this one, or one of the others
+first_or_other : (s : Shape) (subs : List Shape) (b : Bool) (words : List Text) (rest : Option Shape) (found : Text × List Row)
+    → (option_map (λ t. rows_at t words) rest ≡ Some found → NamedIn subs found.0)
+    → option_map (λ t. rows_at t words) (cond b (Some s) rest) ≡ Some found → NamedIn (s ∷ subs) found.0
+first_or_other s subs true words rest found others e =
+    let same : rows_at s words ≡ found = cc in
+    inl (ap (λ (r : Text × List Row). r.0) (sym same))
+first_or_other s subs false words rest found others e = inr (others e)
+
+-- the subcommand that is entered is one of them
+found_in : (subs : List Shape) (word : Text) (words : List Text) (found : Text × List Row)
+    → option_map (λ t. rows_at t words) (find (λ t. answers_to word (label_of t)) subs) ≡ Some found → NamedIn subs found.0
+found_in [] word words found e = cc
+found_in (s ∷ subs) word words found e =
+    first_or_other s subs (answers_to word (label_of s)) words (find (λ t. answers_to word (label_of t)) subs) found (found_in subs word words found) e
+
+entered_in : (subs : List Shape) (stop : Option (Text × List Text)) (found : Text × List Row)
+    → option_and_then (λ p. option_map (λ t. rows_at t p.1) (find (λ t. answers_to p.0 (label_of t)) subs)) stop ≡ Some found → NamedIn subs found.0
+entered_in subs None found e = cc
+entered_in subs (Some p) found e = found_in subs p.0 p.1 found e
+
+-- a name of one of the program's commands is that of a verb
+verb_of : (name : Text) → NamedIn (built program).subs name → (verb : Verb) × (name ≡ verb_name verb)
+verb_of name (inl is) = (Check, is)
+verb_of name (inr (inl is)) = (Show, is)
+verb_of name (inr (inr (inl is))) = (Story, is)
+verb_of name (inr (inr (inr (inl is)))) = (Pack, is)
+verb_of name (inr (inr (inr (inr (inl is))))) = (Audit, is)
+verb_of name (inr (inr (inr (inr (inr none))))) = absurd none
+
+named_verb : (words : List Text) (found : Text × List Row) → subcommand_of program words ≡ Some found → (verb : Verb) × (found.0 ≡ verb_name verb)
+named_verb words found e =
+    verb_of found.0 (entered_in (built program).subs (walk (built program).top.rules (names_of (built program)) nothing_held (argument_words program words)).stopped found e)
+
+-- a command that was found, of a verb, with its rows
+abbrev pub FoundVerb : Option (Text × List Row) → Type 0
+FoundVerb found = (verb : Verb) × (rows : List Row) × (found ≡ Some (verb_name verb, rows))
+
+met : (words : List Text) (found : Option (Text × List Row)) → subcommand_of program words ≡ found → is_some found ≡ true → FoundVerb found
+met words None e some = cc
+met words (Some p) e some =
+    let named = named_verb words p e in
+    (named.0, p.1, ap (λ (name : Text). let q : Text × List Row = (name, p.1) in Some q) named.1)
+
+-- ---- what a parse found
+
+name_in_rows : (m : ArgMatches) → subcommand_name_of m ≡ option_map (λ p. p.0) (subcommand_rows_of m)
+name_in_rows m = elim (out-ArgMatches m).subcommand as (λ o. option_map (λ b. (out-SubCommand (box_value b)).name.now) o ≡ option_map (λ p. p.0) (subcommand_rows o)) [
+  | None ↦ refl
+  | Some b ↦ refl
+]
+
+-- a parse of words without a fault found the command of a verb, and its rows
+found_verb : (words : List Text) (m : ArgMatches) → fault_of program words ≡ [] → subcommand_rows_of m ≡ subcommand_of program words
+    → FoundVerb (subcommand_of program words)
+found_verb words m none same = met words (subcommand_of program words) refl (command_named words none)
+
+pub names_verb : (words : List Text) (m : ArgMatches) → fault_of program words ≡ [] → subcommand_rows_of m ≡ subcommand_of program words
+    → (verb : Verb) × (subcommand_name_of m ≡ Some (verb_name verb))
+names_verb words m none same =
+    let found = found_verb words m none same in
+    (found.0, name_in_rows m ∙ ap (option_map (λ p. p.0)) (same ∙ found.2))
+
+-- the words name the command that was found, with its rows
+pub names : (words : List Text) (m : ArgMatches) (f : Found) (name : Text) → fault_of program words ≡ []
+    → subcommand_rows_of m ≡ subcommand_of program words → option_map (λ p. p.1) (subcommand_rows_of m) ≡ Some (rows_of f)
+    → subcommand_name_of m ≡ Some name → NamesCommand words name (rows_of f)
+names words m f name none same rows named =
+    let found = found_verb words m none same in
+    let read : Some found.1 ≡ Some (rows_of f) = sym (ap (option_map (λ p. p.1)) (same ∙ found.2)) ∙ rows in
+    let same_rows : found.1 ≡ rows_of f = cc in
+    let told : Some (verb_name found.0) ≡ Some name = sym (name_in_rows m ∙ ap (option_map (λ p. p.0)) (same ∙ found.2)) ∙ named in
+    let same_name : verb_name found.0 ≡ name = cc in
+    record {
+      faultless = none;
+      named = found.2
+          ∙ ap (λ (r : List Row). let q : Text × List Row = (verb_name found.0, r) in Some q) same_rows
+          ∙ ap (λ (n : Text). let q : Text × List Row = (n, rows_of f) in Some q) same_name;
+    }
+
+-- ---- what a command's options tell
+
+-- the text that a getter reads
+reads : (f : Found) (id : Text) (given : Option (Bor Text)) → option_map (λ s. s.now) given ≡ first_value f id → text_given given ≡ first_of id (rows_of f)
+reads f id given is = is ∙ first_value-rows f id
+
+pub none_of : (f : Found) (given : Option (Bor Text)) → given ≡ None → option_map (λ s. s.now) given ≡ first_value f (codes "now")
+    → IsNoInstant (first_of (codes "now") (rows_of f))
+none_of f given none is = subst IsNoInstant (ap text_given (sym none) ∙ reads f (codes "now") given is) tt
+
+pub instant_of : (f : Found) (given : Option (Bor Text)) (text : Bor Text) (now same : ℤ) → given ≡ Some text
+    → option_map (λ s. s.now) given ≡ first_value f (codes "now") → Ok now ≡ parse_timestamp text.now → same ≡ now
+    → IsInstant (first_of (codes "now") (rows_of f)) same
+instant_of f given text now same some is parsed e =
+    subst (λ (t : Option Text). IsInstant t same) (ap text_given (sym some) ∙ reads f (codes "now") given is) (sym parsed ∙ ap (λ (n : ℤ). Ok n) (sym e))
+
+pub no_instant_of : (f : Found) (given : Option (Bor Text)) (text : Bor Text) (error : InstantError) → given ≡ Some text
+    → option_map (λ s. s.now) given ≡ first_value f (codes "now") → Err error ≡ parse_timestamp text.now
+    → IsNoInstant (first_of (codes "now") (rows_of f))
+no_instant_of f given text error some is parsed =
+    subst IsNoInstant (ap text_given (sym some) ∙ reads f (codes "now") given is) (error, sym parsed)
+
+flag : (o : Option Text) (u : Bool) → (o ≡ None → u ≡ false) → (o ≡ Some (codes "true") → u ≡ true) → (o ≡ Some (codes "false") → u ≡ false) → IsFlag o u
+flag None u none value other = none refl
+flag (Some t) u none value other = (λ e. value (ap (λ (x : Text). Some x) e), λ e. other (ap (λ (x : Text). Some x) e))
+
+pub tells_packing : (f : Found) (a b : Option (Bor Text)) (subfile : ℕ) (unknown : Bool) (max : Option ℕ)
+    → option_map (λ s. s.now) a ≡ first_value f (codes "subfile") → option_map (λ s. s.now) b ≡ first_value f (codes "max")
+    → IsSubfile (text_given a) subfile → (one_text f (codes "unknown") ≡ None → unknown ≡ false)
+    → (one_text f (codes "unknown") ≡ Some (codes "true") → unknown ≡ true) → (one_text f (codes "unknown") ≡ Some (codes "false") → unknown ≡ false)
+    → GivesNumber 0 (text_given b) max → TellsPacking (rows_of f) subfile unknown max
+tells_packing f a b subfile unknown max of_a of_b subfile_is none value other max_is = record {
+  subfile_is = subst (λ (o : Option Text). IsSubfile o subfile) (reads f (codes "subfile") a of_a) subfile_is;
+  unknown_is = subst (λ (o : Option Text). IsFlag o unknown) (one_text-rows f (codes "unknown")) (flag (one_text f (codes "unknown")) unknown none value other);
+  max_is = subst (λ (o : Option Text). GivesNumber 0 o max) (reads f (codes "max") b of_b) max_is;
+}
+
+-- the fault of a command's values is one of the words
+pub fault_of_job : (words : List Text) (verb : Verb) (name : Text) (rows : List Row) (fault : UsageFault) → NamesCommand words name rows → name ≡ verb_name verb
+    → IsJobFault (verb_name verb) rows fault → IsFaultOf words fault
+fault_of_job words verb name rows (usage.Words error) names is h = absurd h
+fault_of_job words verb name rows usage.MaxNeedsUnknown names is h = (name, rows, names, (is ∙ h.0, h.1))
+fault_of_job words verb name rows usage.BadNow names is h = (name, rows, names, is ∙ h.0, h.1)
+fault_of_job words verb name rows usage.OutOfMemory names is h = absurd h

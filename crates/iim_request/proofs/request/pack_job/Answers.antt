@@ -1,0 +1,32 @@
+use Rattle.std.proofs.Common.{Bool, refl, subst}
+use Rattle.clap.specs.Matches.{found_of}
+use Rattle.clap.specs.Walk.{rows_of}
+use Rattle.iim_request.specs.Format.Requests.{TellsPacking}
+use Rattle.iim_request.proofs.Requests.{tells_packing}
+use Rattle.iim_request.proofs.request.pack_job.Goals as goal
+
+pub returns-then-is_max_alone-clause-err : goal.returns-then-is_max_alone-clause-err
+returns-then-is_max_alone-clause-err c =
+    let f = found_of c.args.found.now in
+    let alone = c.is_max_alone.ensures.yes c.if-is_max_alone.true in
+    let told = tells_packing f c.get_str.result c.get_str-2.result c.subfile_given-subfile.result c.get_flag-unknown.result c.number_given-max.result
+    c.get_str.ensures c.get_str-2.ensures c.subfile_given-subfile.ensures.given c.get_flag-unknown.ensures.none c.get_flag-unknown.ensures.value
+    c.get_flag-unknown.ensures.other c.number_given-max.ensures.given in (
+      refl,
+      (
+        c.subfile_given-subfile.result,
+        c.number_given-max.result,
+        subst (λ (u : Bool). TellsPacking (rows_of f) c.subfile_given-subfile.result u c.number_given-max.result) alone.1 told,
+        alone.0,
+      ),
+    )
+
+pub returns-clause-ok : goal.returns-clause-ok
+returns-clause-ok c =
+    let f = found_of c.args.found.now in (
+      refl,
+      tells_packing f c.get_str.result c.get_str-2.result c.subfile_given-subfile.result c.get_flag-unknown.result c.number_given-max.result
+          c.get_str.ensures c.get_str-2.ensures c.subfile_given-subfile.ensures.given c.get_flag-unknown.ensures.none c.get_flag-unknown.ensures.value
+          c.get_flag-unknown.ensures.other c.number_given-max.ensures.given,
+      c.is_max_alone.ensures.no c.if-is_max_alone.false,
+    )

@@ -1,0 +1,5 @@
+-- What octets are, and what is said of them.
+pub mod Format
+-- What only proofs and private clauses cite.
+pub mod Faults
+pub mod Verbs

@@ -1,0 +1,229 @@
+//! The commands of the program, as `clap` is told of them.
+
+ghost use Rattle.std.specs.Prelude.{◌≡◌, codes, false, IfOk};
+ghost use Rattle.clap.specs.Words.{app_of, new_app, rule_of};
+ghost use Rattle.clap.specs.declared.builder.command.Command.TheViews.{out-Command as fields_of};
+ghost use Rattle.iim_request.specs.Format.Requests.{audit_command, file_command, number_rule, pack_command, program, unknown_rule, wanting};
+
+use clap::builder::ValueParser;
+use clap::{Arg, ArgAction, Command};
+use iim_dataset::GREATEST_SIZE;
+use std::alloc::{AllocError, Global};
+
+/// What `--version` tells: the release has the number of the tickets that it writes.
+const RELEASE: &str = "2";
+
+/// What help says of the file.
+const FILE_HELP: &str =
+    "The file to read, or else standard input, which is /dev/stdin, too; - is a file of that name";
+
+/// What help says at the end of `check`.
+const CHECK_HELP: &str = "\
+Example:
+  iimwire check samples/smallest.iim
+prints: 1 accepted 114 octets
+
+Status: 0 all accepted, 1 refused, 2 a mistake in the words, 3 a file, output or memory fault.
+The causes of a refusal stand in the manual page, iimwire(1), and in docs/CAUSES.md.
+An input of no octets is accepted, and prints nothing.";
+
+/// What help says at the end of `show`.
+const SHOW_HELP: &str = "\
+Example:
+  iimwire show samples/smallest.iim
+prints: envelope 1, the datasets as 1:30 TST, the lines message and trailer, and the sizes.
+Octets other than 20 to 7E, and the backslash, are shown as \\x and two digits.
+
+Status: 0 all accepted, 1 refused, 2 a mistake in the words, 3 a file, output or memory fault.
+The causes of a refusal stand in the manual page, iimwire(1), and in docs/CAUSES.md.";
+
+/// What help says at the end of `story`.
+const STORY_HELP: &str = "\
+Example:
+  iimwire story samples/story.iim 2>/dev/null
+prints the lines of the story, each ended by LF. The lines of check go to standard error.
+The octets of a line are those of the copy: on a terminal read them through cat -v.
+
+Status: 0 all accepted, 1 refused, 2 a mistake in the words, 3 a file, output or memory fault.
+The causes of a refusal stand in the manual page, iimwire(1), and in docs/CAUSES.md.";
+
+/// What help says at the end of `pack`.
+const PACK_HELP: &str = "\
+FILE is a script: what show prints between its first and its last line, then a line text, and the story.
+  1:00 \\x00\\x04
+  1:20 \\x00\\x02
+  1:22 \\x00\\x01
+  1:30 TST
+  1:40 00000001
+  1:70 20240301
+  2:00 \\x00\\x04
+  2:105 Rates held
+  message TST 0007 4 ECO 2 rates
+  text
+  Rates stay.
+The line message has the source, number, priority, category, words and info of the message.
+
+Example:
+  iimwire pack samples/story.script > story.iim
+
+Status: 0 packed, 1 the script is refused, 2 a mistake in the words, 3 a file, output or memory fault.
+The causes of a refusal stand in the manual page, iimwire(1), and in docs/CAUSES.md.";
+
+/// What help says at the end of `audit`.
+const AUDIT_HELP: &str = "\
+INSTANT is a date, T, a time, and Z or an offset: 2024-03-01T12:00:00Z, 2024-03-01T13:00:00.5+01:00.
+One with no Z or offset is none. The present instant is that of date -u:
+  iimwire audit --now \"$(date -u +%FT%TZ)\" samples/audit.iim
+prints a row for each envelope, and a last line: 3 envelopes, 1 repeated, 0 held
+
+Status: 0 all accepted, 1 refused, 2 a mistake in the words, 3 a file, output or memory fault.
+The causes of a refusal stand in the manual page, iimwire(1), and in docs/CAUSES.md.";
+
+/// What help says at the end of the program.
+const PROGRAM_HELP: &str = "\
+Example:
+  iimwire check samples/smallest.iim
+prints: 1 accepted 114 octets
+
+Status: 0 all accepted, 1 refused, 2 a mistake in the words, 3 a file, output or memory fault.
+The causes of a refusal stand in the manual page, iimwire(1), and in docs/CAUSES.md.
+iimwire COMMAND --help has an example of each command.";
+
+/// A command that takes a FILE, with what help says at its top and at its end.
+fn with_file<'a>(
+    alloc: Global,
+    name: &'a str,
+    about: &'a str,
+    after: &'a str,
+) -> Result<Command<'a>, AllocError>
+    ensures app { IfOk result (λ command. app_of command ≡ file_command name.entry.now) }
+    ensures local { IfOk result (λ command. (fields_of command).has_globals ≡ false) }
+{
+    Command::new(alloc, name)
+        .about(about)
+        .after_help(after)
+        .arg(Arg::new(alloc, "FILE").help(FILE_HELP))
+}
+
+/// An option that takes a number, from the least one to the greatest size.
+fn number_arg<'a>(
+    alloc: Global,
+    name: &'a str,
+    least: u64,
+    value: &'a str,
+    help: &'a str,
+) -> Arg<'a>
+    ensures rule { rule_of result ≡ number_rule name.entry.now least }
+    ensures local { result.global ≡ false }
+{
+    Arg::new(alloc, name)
+        .long(name)
+        .value_name(value)
+        .value_parser(ValueParser::unsigned(least, GREATEST_SIZE))
+        .help(help)
+}
+
+/// The option that leaves the size of the object unknown.
+fn unknown_arg<'a>(alloc: Global) -> Arg<'a>
+    ensures rule { rule_of result ≡ unknown_rule }
+    ensures local { result.global ≡ false }
+{
+    Arg::new(alloc, "unknown")
+        .long("unknown")
+        .action(ArgAction::SetTrue)
+        .help(
+            "Announce no size of the object; takes memory for N octets, or for M where that is less",
+        )
+}
+
+/// The command that packs.
+fn pack<'a>(alloc: Global) -> Result<Command<'a>, AllocError>
+    ensures app { IfOk result (λ command. app_of command ≡ pack_command) }
+    ensures local { IfOk result (λ command. (fields_of command).has_globals ≡ false) }
+{
+    let subfile = number_arg(
+        alloc,
+        "subfile",
+        1,
+        "N",
+        "The most octets of a subfile; 1024 where this is not given",
+    );
+    let unknown = unknown_arg(alloc);
+    let max = number_arg(
+        alloc,
+        "max",
+        0,
+        "M",
+        "The most octets of an object of unknown size",
+    );
+    with_file(
+        alloc,
+        "pack",
+        "Packs the envelope that a script tells",
+        PACK_HELP,
+    )?
+    .arg(subfile)?
+    .arg(unknown)?
+    .arg(max)
+}
+
+/// The command that audits.
+fn audit<'a>(alloc: Global) -> Result<Command<'a>, AllocError>
+    ensures app { IfOk result (λ command. app_of command ≡ audit_command) }
+    ensures local { IfOk result (λ command. (fields_of command).has_globals ≡ false) }
+{
+    let now = Arg::new(alloc, "now")
+        .long("now")
+        .value_name("INSTANT")
+        .required(true)
+        .help("The present instant, as 2024-03-01T12:00:00Z");
+    with_file(
+        alloc,
+        "audit",
+        "Tells id, sizes, words and age of each envelope, which of them repeat others, and whether their copy is held",
+        AUDIT_HELP,
+    )?
+    .arg(now)
+}
+
+/// The program, as yet without commands.
+fn bare<'a>(alloc: Global) -> Command<'a>
+    ensures { app_of result ≡ wanting (new_app (codes "iimwire")) }
+{
+    Command::new(alloc, "iimwire")
+        .version(RELEASE)
+        .about("Reads and packs envelopes of the IPTC-NAA Information Interchange Model")
+        .after_help(PROGRAM_HELP)
+        .subcommand_required(true)
+        .disable_help_subcommand(true)
+}
+
+/// The program's commands.
+pub fn command<'a>(alloc: Global) -> Result<Command<'a>, AllocError>
+    ensures { IfOk result (λ command. app_of command ≡ program) }
+{
+    let check = with_file(
+        alloc,
+        "check",
+        "Lists the envelopes, up to the first refusal",
+        CHECK_HELP,
+    )?;
+    let show = with_file(
+        alloc,
+        "show",
+        "Shows the fields, the message's header and the sizes of each envelope",
+        SHOW_HELP,
+    )?;
+    let story = with_file(
+        alloc,
+        "story",
+        "Writes the story of each envelope",
+        STORY_HELP,
+    )?;
+    bare(alloc)
+        .subcommand(check)?
+        .subcommand(show)?
+        .subcommand(story)?
+        .subcommand(pack(alloc)?)?
+        .subcommand(audit(alloc)?)
+}

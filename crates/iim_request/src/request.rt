@@ -1,0 +1,206 @@
+//! What the arguments ask for.
+
+ghost use Rattle.std.specs.Prelude.{◌≡◌, ◌≤◌, IfOk, IfErr, IfSome, IsNone, IsSome, true, false, map, string_bytes};
+ghost use Rattle.clap.specs.Words.{found_of, rows_of};
+ghost use Rattle.iim_dataset.specs.Format.Octets.{greatest_size};
+
+use crate::commands::command;
+use crate::instant::Instant;
+use crate::pack_request::PackRequest;
+use clap::error::ErrorKind;
+use clap::{ArgMatches, Error};
+use iim_dataset::GREATEST_SIZE;
+use jiff::Timestamp;
+use std::alloc::{AllocError, Global};
+
+/// The most octets of a subfile where no number is given.
+pub const DEFAULT_SUBFILE: u64 = 1_024;
+
+/// What is to be done.
+#[derive(Clone, Copy, Debug, PartialEq, Eq)]
+pub enum Job {
+    /// List the envelopes of the input.
+    Check,
+    /// Show the parts of each envelope but its story.
+    Show,
+    /// Write the story of each envelope.
+    Story,
+    /// Pack the envelope that a script tells.
+    Pack(PackRequest),
+    /// Tell id, sizes, words and age of each envelope, which of them repeat others, and whether their copy may be used.
+    Audit {
+        /// The present instant.
+        now: Instant,
+    },
+}
+
+/// A file, or else standard input, and what is to be done with it.
+#[derive(Clone, Copy, Debug, PartialEq, Eq)]
+pub struct Request<'a> {
+    /// The path of the file, or None for standard input.
+    pub file: Option<&'a str>,
+    /// What is to be done.
+    pub job: Job,
+}
+
+/// Why arguments ask for nothing.
+#[derive(Drop)]
+pub enum UsageFault {
+    /// The words are none that the program takes. The error tells it.
+    Words(Error),
+    /// `--max` is given without `--unknown`.
+    MaxNeedsUnknown,
+    /// What `--now` gives is no instant.
+    BadNow,
+    /// Memory was refused.
+    OutOfMemory,
+}
+
+impl From<AllocError> for UsageFault {
+    ghost use Rattle.iim_request.specs.declared.request.UsageFault.TheVariants.{OutOfMemory};
+
+    ghost from_gives = { λ _ fault. fault ≡ OutOfMemory };
+
+    fn from(_error: AllocError) -> UsageFault {
+        UsageFault::OutOfMemory
+    }
+}
+
+impl From<Error> for UsageFault {
+    ghost use Rattle.iim_request.specs.Faults.{IsUsageOf};
+
+    ghost from_gives = { IsUsageOf };
+
+    fn from(error: Error) -> UsageFault {
+        match error.kind() {
+            ErrorKind::OutOfMemory => UsageFault::OutOfMemory,
+            _ => UsageFault::Words(error),
+        }
+    }
+}
+
+ghost use Rattle.iim_request.specs.declared.request.Verb.{Verb as VerbValue};
+ghost use Rattle.iim_request.specs.Format.Requests.{AsksFor, AsksJob, GivesNumber, IsFaultOf, IsSubfile, text_given};
+ghost use Rattle.iim_request.specs.Verbs.{verb_name, IsJobFault};
+
+/// A command's name.
+#[derive(Clone, Copy)]
+enum Verb {
+    Check,
+    Show,
+    Story,
+    Pack,
+    Audit,
+}
+
+/// The command of a name.
+fn verb_named(name: &str) -> Option<Verb>
+    ensures named { IfSome result (λ verb. name.now ≡ verb_name verb) }
+    ensures other { IsNone result → (verb : VerbValue) → name.now ≡ verb_name verb → ⊥ }
+{
+    match name {
+        "check" => Some(Verb::Check),
+        "show" => Some(Verb::Show),
+        "story" => Some(Verb::Story),
+        "pack" => Some(Verb::Pack),
+        "audit" => Some(Verb::Audit),
+        _ => None,
+    }
+}
+
+/// The number that an option was given, from the least one to the greatest size.
+fn number_given(text: Option<&str>, least: u64) -> Option<u64>
+    ensures given { GivesNumber least (text_given text.entry) result }
+    ensures within { IfSome result (λ number. (least ≤ number) × (number ≤ greatest_size)) }
+{
+    let number = text?.parse::<u64>().ok()?;
+    if number < least || number > GREATEST_SIZE {
+        return None;
+    }
+    Some(number)
+}
+
+/// The octets of a full subfile: the number that was given, or 1,024.
+fn subfile_given(text: Option<&str>) -> u64
+    ensures given { IsSubfile (text_given text.entry) result }
+    ensures within { (1 ≤ result) × (result ≤ greatest_size) }
+{
+    match number_given(text, 1) {
+        Some(number) => number,
+        None => DEFAULT_SUBFILE,
+    }
+}
+
+/// Whether a maximum is given of a known size.
+fn is_max_alone(unknown: bool, max: Option<u64>) -> bool
+    ensures yes { result ≡ true → IsSome max × (unknown ≡ false) }
+    ensures no { result ≡ false → IsSome max → unknown ≡ true }
+{
+    max.is_some() && !unknown
+}
+
+/// What `pack` is asked for.
+fn pack_job(found: &ArgMatches<'_>) -> Result<Job, UsageFault>
+    ensures ok { IfOk result (AsksJob (verb_name VerbValue.Pack) (rows_of (found_of found.now))) }
+    ensures err { IfErr result (IsJobFault (verb_name VerbValue.Pack) (rows_of (found_of found.now))) }
+{
+    let subfile = subfile_given(found.get_str("subfile"));
+    let unknown = found.get_flag("unknown");
+    let max = number_given(found.get_str("max"), 0);
+    if is_max_alone(unknown, max) {
+        return Err(UsageFault::MaxNeedsUnknown);
+    }
+    Ok(Job::Pack(PackRequest {
+        subfile,
+        unknown,
+        max,
+    }))
+}
+
+/// What `audit` is asked for.
+fn audit_job(found: &ArgMatches<'_>) -> Result<Job, UsageFault>
+    ensures ok { IfOk result (AsksJob (verb_name VerbValue.Audit) (rows_of (found_of found.now))) }
+    ensures err { IfErr result (IsJobFault (verb_name VerbValue.Audit) (rows_of (found_of found.now))) }
+{
+    let Some(text) = found.get_str("now") else {
+        return Err(UsageFault::BadNow);
+    };
+    match text.parse::<Timestamp>() {
+        Ok(now) => Ok(Job::Audit {
+            now: Instant::new(now),
+        }),
+        Err(_) => Err(UsageFault::BadNow),
+    }
+}
+
+/// What a command is asked for.
+fn job_of(verb: Verb, found: &ArgMatches<'_>) -> Result<Job, UsageFault>
+    ensures ok { IfOk result (AsksJob (verb_name verb) (rows_of (found_of found.now))) }
+    ensures err { IfErr result (IsJobFault (verb_name verb) (rows_of (found_of found.now))) }
+{
+    match verb {
+        Verb::Check => Ok(Job::Check),
+        Verb::Show => Ok(Job::Show),
+        Verb::Story => Ok(Job::Story),
+        Verb::Pack => pack_job(found),
+        Verb::Audit => audit_job(found),
+    }
+}
+
+/// Reads the words, of which the first is the program's name.
+pub fn parse<'a>(alloc: Global, words: &'a [String]) -> Result<Request<'a>, UsageFault>
+    ensures ok { IfOk result (AsksFor (map string_bytes words.entry.now)) }
+    ensures err { IfErr result (IsFaultOf (map string_bytes words.entry.now)) }
+{
+    let matches = command(alloc)?.try_get_matches_from(words)?;
+    let Some((name, found)) = matches.subcommand() else {
+        unreachable!()
+    };
+    let Some(verb) = verb_named(name) else {
+        unreachable!()
+    };
+    Ok(Request {
+        file: found.get_str("FILE"),
+        job: job_of(verb, found)?,
+    })
+}

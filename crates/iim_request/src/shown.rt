@@ -1,0 +1,60 @@
+//! Octets as text that can be printed.
+
+ghost use Rattle.std.specs.Prelude.{◌≡◌, ◌++◌, [], ◌∷◌, if◌then◌else◌, OnOk};
+ghost use Rattle.iim_dataset.specs.Format.Shown.{escape};
+ghost use Rattle.iim_request.specs.Format.Shown.{is_hidden, next_of, shown_name, spell_control};
+
+use iim_dataset::push_escape;
+use std::alloc::AllocError;
+
+/// Whether these two octets are a control character from U+0080 to U+009F.
+fn spell_control(first: u8, second: u8) -> bool
+    ensures { result ≡ spell_control first second }
+{
+    first == 0xC2 && (0x80 <= second && second <= 0x9F)
+}
+
+/// Whether an octet between these is a control character, or one of the two of such, or a backslash.
+fn is_hidden(before: u8, octet: u8, next: u8) -> bool
+    ensures { result ≡ is_hidden before octet next }
+{
+    octet.is_ascii_control()
+        || (octet == b'\\' || (spell_control(before, octet) || spell_control(octet, next)))
+}
+
+/// The first of some octets, or 0.
+fn next_of(octets: &[u8]) -> u8
+    ensures { result ≡ next_of octets.now }
+{
+    match octets {
+        [octet, ..] => *octet,
+        [] => 0,
+    }
+}
+
+/// Adds an octet as it is, or as `\x` and two digits.
+fn push_octet(text: &mut Vec<u8>, hidden: bool, octet: u8) -> Result<(), AllocError>
+    ensures { OnOk result (text.new.items ≡ text.old.items ++ (if hidden then escape octet else octet ∷ [])) }
+{
+    if hidden {
+        push_escape(text, octet)
+    } else {
+        text.push(octet)?;
+        Ok(())
+    }
+}
+
+/// Adds a name: of its control characters (U+0000 to U+001F and U+007F to U+009F) and backslashes each octet as `\x` and two digits, all
+/// else as it is.
+pub fn push_name(text: &mut Vec<u8>, name: &str) -> Result<(), AllocError>
+    ensures { OnOk result (text.new.items ≡ text.old.items ++ shown_name name.now) }
+{
+    let mut before = 0;
+    let mut rest = name.as_bytes();
+    while let Some((octet, after)) = rest.split_first() {
+        push_octet(text, is_hidden(before, *octet, next_of(after)), *octet)?;
+        before = *octet;
+        rest = after;
+    }
+    Ok(())
+}

@@ -1,0 +1,177 @@
+-- What unpackers that stand alike answer.
+use Rattle.std.proofs.Common.{◌≡◌, ℕ, ◌+◌, ◌≤◌, ◌⊎◌, List, [], ◌∷◌, ◌++◌, length, take, slice_index, Result, Ok, Err, refl, ap, sym, subst, ◌∙◌, inl, inr, arith, length-append}
+use Rattle.std.proofs.lemmas.List.{get_or-append-add}
+use Rattle.std.proofs.Math.Seq.{take-append-add}
+use Rattle.iim_fields.specs.declared.limits.Limits.{Limits}
+use Rattle.iim_places.specs.Format.Framed.{AreWithin}
+use Rattle.iim_places.specs.Format.Open.{IsOpen, RefusesNext}
+use Rattle.iim_places.specs.Format.Open as opens
+use Rattle.iim_places.specs.Format.Refusals.{refusal_at, begun_record, begun_number}
+use Rattle.iim_places.specs.Format.Streams.{Answer, Answers, Finished, Refused, Truncated, IsFinished, IsRefused, IsTruncated, IsEnvelopeWithin}
+use Rattle.iim_places.specs.Laws.Streams.{StreamsHaveOneAnswer}
+use Rattle.iim_places.specs.States.Counts.{raised}
+use Rattle.iim_places.specs.declared.fault.TokenFault.{TokenFault}
+use Rattle.iim_places.specs.declared.refusal.Refusal.{Refusal}
+use Rattle.iim_unpack.specs.Laws.Alike.{AnswersPiece, IsOfNoSink, StandAlike, StandOnSame, PieceIsAnsweredAlike, PiecesAreAnsweredAlike, RestoredStandAlike}
+use Rattle.iim_unpack.specs.Laws.Places.{RestoredStandAsSaved}
+use Rattle.iim_unpack.specs.States.Unpacking.{Unpacking, Stands, IsDoneWith, IsRefusedIn, limits_in}
+use Rattle.iim_unpack.specs.declared.unpacker.Progress.{Progress}
+use Rattle.iim_unpack.specs.declared.unpacker.Progress.TheVariants.{More, Done}
+
+-- ---- an answer to a piece as the answer to all octets
+
+-- The answer of octets, of which n came before, tells the same as that of the piece, before which `a` were counted.
+abbrev Matches : ℕ → ℕ → Result Progress Refusal → Answer → Type 0
+Matches n a (Ok More) (Truncated e) = Unit {0}
+Matches n a (Ok (Done used)) (Finished all value) = all ≡ n + used
+Matches n a (Err e) (Refused f) = (k : ℕ) × (fault : TokenFault) × (f ≡ refusal_at (n + k) fault) × (e ≡ refusal_at (raised a k) fault)
+Matches n a _ _ = ⊥
+
+-- a refusal at another octet
+abbrev at_octet : ℕ → Refusal → Refusal
+at_octet octet e = record { layer = e.layer; rec = e.rec; set = e.set; octet = octet; cause = e.cause }
+
+moved : (m n : ℕ) (fault : TokenFault) (f : Refusal) → f ≡ refusal_at m fault → refusal_at n fault ≡ at_octet n f
+moved m n fault f is = ap (at_octet n) (sym is)
+
+same_refusal : (n a : ℕ) (e e' f : Refusal) → Matches n a (Err e) (Refused f) → Matches n a (Err e') (Refused f) → e ≡ e'
+same_refusal n a e e' f (k, fault, all, is) (k', fault', all', is') =
+    let where_ : n + k ≡ n + k' = ap (λ (x : Refusal). x.octet) (sym all ∙ all') in
+    let same : k ≡ k' = omega (arith, where_) in
+    is ∙ (moved (n + k) (raised a k) fault f all ∙ (ap (λ (j : ℕ). at_octet (raised a j) f) same ∙ (sym (moved (n + k') (raised a k') fault' f all') ∙ sym is')))
+
+same_used : (n used used' all : ℕ) → all ≡ n + used → all ≡ n + used' → used ≡ used'
+same_used n used used' all one other = omega (arith, one, other)
+
+-- one answer to all octets is told by one answer to the piece
+one_answer : (n a : ℕ) (one other : Result Progress Refusal) (all : Answer) → Matches n a one all → Matches n a other all → one ≡ other
+one_answer n a (Ok More) other (Finished all value) h k = absurd h
+one_answer n a (Ok More) other (Refused f) h k = absurd h
+one_answer n a (Ok More) (Ok More) (Truncated e) h k = refl
+one_answer n a (Ok More) (Ok (Done used)) (Truncated e) h k = absurd k
+one_answer n a (Ok More) (Err e') (Truncated e) h k = absurd k
+one_answer n a (Ok (Done used)) (Ok More) (Finished all value) h k = absurd k
+one_answer n a (Ok (Done used)) (Ok (Done used')) (Finished all value) h k = ap (λ (m : ℕ). Ok (Done m)) (same_used n used used' all h k)
+one_answer n a (Ok (Done used)) (Err e) (Finished all value) h k = absurd k
+one_answer n a (Ok (Done used)) other (Refused f) h k = absurd h
+one_answer n a (Ok (Done used)) other (Truncated e) h k = absurd h
+one_answer n a (Err e) other (Finished all value) h k = absurd h
+one_answer n a (Err e) (Ok More) (Refused f) h k = absurd k
+one_answer n a (Err e) (Ok (Done used)) (Refused f) h k = absurd k
+one_answer n a (Err e) (Err e') (Refused f) h k = ap Err (same_refusal n a e e' f h k)
+one_answer n a (Err e) other (Truncated f) h k = absurd h
+
+-- what all octets are answered
+abbrev AnswersAll : Limits → List ℕ → ℕ → ℕ → Result Progress Refusal → Type 0
+AnswersAll limits stream n a answer = (all : Answer) × Answers limits stream all × Matches n a answer all
+
+answers_all : (u u' : Unpacking) (p piece : List ℕ) (a : ℕ) (answer : Result Progress Refusal) → Stands u p a → AnswersPiece u u' piece answer → IsOfNoSink answer → AnswersAll (limits_in u) (p ++ piece) (length p) a answer
+answers_all u u' p piece a (Ok More) at w calm =
+    let stands : Stands u' (p ++ piece) (raised a (length piece)) = (w.goes.1 p a at).0 in
+    let is : IsOpen (limits_in u) (p ++ piece) = subst (λ (l : Limits). IsOpen l (p ++ piece)) (w.limits at.taking) stands.is_open in
+    let e : Refusal = opens.truncated_in (length (p ++ piece)) (begun_record is.begun, begun_number is.begun) in
+    let short : IsTruncated (limits_in u) (p ++ piece) e = record { is_open = is; refusal = record { whole = is.whole; begun = is.begun; reads = is.reads; refusal = refl } } in
+    (Truncated e, short, tt)
+answers_all u u' p piece a (Ok (Done used)) at w calm =
+    let goes = w.goes.1 p a at in
+    let fits : used ≤ length piece = goes.0 in
+    let done : IsDoneWith u' (p ++ take used piece) (raised a used) = goes.1 in
+    let within : IsEnvelopeWithin (limits_in u) (p ++ take used piece) done.value =
+    record { admits = done.admits; within = subst (λ (l : Limits). AreWithin l done.admits.datasets) (w.limits at.taking) done.within } in
+    let whole : IsFinished (limits_in u) (p ++ piece) (length p + used) done.value = record {
+      fits = omega (arith, fits, length-append p piece);
+      envelope = subst (λ (octets : List ℕ). IsEnvelopeWithin (limits_in u) octets done.value) (sym (take-append-add p piece used)) within;
+    } in
+    (Finished (length p + used) done.value, whole, refl)
+answers_all u u' p piece a (Err e) at w calm =
+    let r : IsRefusedIn (limits_in u) p a piece w.refused.0 e = w.refused.1 p a at in
+    let stream : List ℕ = p ++ piece in
+    let refuses : RefusesNext (limits_in u) (take (length p + r.k) stream) (slice_index stream (length p + r.k)) r.fault =
+    subst (λ (octets : List ℕ). RefusesNext (limits_in u) octets (slice_index stream (length p + r.k)) r.fault) (sym (take-append-add p piece r.k))
+    (subst (λ (octet : ℕ). RefusesNext (limits_in u) (p ++ take r.k piece) octet r.fault) (sym (get_or-append-add p piece r.k 0)) r.refuses) in
+    let was : IsRefused (limits_in u) stream (refusal_at (length p + r.k) r.fault) = record {
+      fits = omega (arith, r.within, length-append p piece);
+      fault = r.fault;
+      refusal = refl;
+      kills = record { refuses = refuses; by_octets = λ is. calm (ap (λ (x : Refusal). x.cause) r.refusal ∙ is) };
+    } in
+    (Refused (refusal_at (length p + r.k) r.fault), was, (r.k, r.fault, refl, r.refusal))
+
+-- ---- after a piece
+
+-- two answers of the same octets are one
+same_answers : StreamsHaveOneAnswer → (limits : Limits) (stream : List ℕ) (n a : ℕ) (one other : Result Progress Refusal) → AnswersAll limits stream n a one → AnswersAll limits stream n a other → one ≡ other
+same_answers law limits stream n a one other (all, is, h) (all', is', k) =
+    one_answer n a one other all' (subst (λ (x : Answer). Matches n a one x) (law limits stream all all' is is') h) k
+
+then_alike : (u v u' v' : Unpacking) (p piece : List ℕ) (a : ℕ) (answer : Result Progress Refusal) → limits_in v ≡ limits_in u → Stands u p a → Stands v p a → AnswersPiece u u' piece answer → AnswersPiece v v' piece answer → StandAlike u' v'
+then_alike u v u' v' p piece a (Ok More) same at at' w w' = inl (record {
+  limits = w'.limits at'.taking ∙ (same ∙ sym (w.limits at.taking));
+  octets = p ++ piece;
+  count = raised a (length piece);
+  both = inl ((w.goes.1 p a at).0, (w'.goes.1 p a at').0);
+})
+then_alike u v u' v' p piece a (Ok (Done used)) same at at' w w' = inl (record {
+  limits = w'.limits at'.taking ∙ (same ∙ sym (w.limits at.taking));
+  octets = p ++ take used piece;
+  count = raised a used;
+  both = inr ((w.goes.1 p a at).1, (w'.goes.1 p a at').1);
+})
+then_alike u v u' v' p piece a (Err e) same at at' w w' = inr (record { octet = e.octet; one = w.failed; other = w'.failed })
+
+-- they stood on the same octets
+of_stands : StreamsHaveOneAnswer → (u v u' v' : Unpacking) (p piece : List ℕ) (a : ℕ) (one other : Result Progress Refusal) → limits_in v ≡ limits_in u → Stands u p a → Stands v p a → AnswersPiece u u' piece one
+    → AnswersPiece v v' piece other → IsOfNoSink one → IsOfNoSink other → (one ≡ other) × StandAlike u' v'
+of_stands law u v u' v' p piece a one other same at at' w w' calm calm' =
+    let mine : AnswersAll (limits_in u) (p ++ piece) (length p) a one = answers_all u u' p piece a one at w calm in
+    let its : AnswersAll (limits_in u) (p ++ piece) (length p) a other =
+    subst (λ (l : Limits). AnswersAll l (p ++ piece) (length p) a other) same (answers_all v v' p piece a other at' w' calm') in
+    let is : one ≡ other = same_answers law (limits_in u) (p ++ piece) (length p) a one other mine its in
+    (is, then_alike u v u' v' p piece a one same at at' w (subst (λ (x : Result Progress Refusal). AnswersPiece v v' piece x) (sym is) w'))
+
+-- nothing changes after an envelope, and after a refusal
+left_alike : (u v u' v' : Unpacking) → u' ≡ u → v' ≡ v → StandAlike u v → StandAlike u' v'
+left_alike u v u' v' one other alike =
+    subst (λ (x : Unpacking). StandAlike x v') (sym one) (subst (λ (x : Unpacking). StandAlike u x) (sym other) alike)
+
+pub piece_alike : StreamsHaveOneAnswer → PieceIsAnsweredAlike
+piece_alike law u v u' v' piece one other alike w w' calm calm' = by alike
+  where
+    on_same : (s : StandOnSame u v) → (Stands u s.octets s.count × Stands v s.octets s.count) ⊎ (IsDoneWith u s.octets s.count × IsDoneWith v s.octets s.count) → (one ≡ other) × StandAlike u' v'
+    on_same s (inl (at, at')) = of_stands law u v u' v' s.octets piece s.count one other s.limits at at' w w' calm calm'
+    on_same s (inr (d, d')) =
+        let mine = w.done (d.taking, d.ended) in
+        let its = w'.done (d'.taking, d'.ended) in
+        (mine.0 ∙ sym its.0, left_alike u v u' v' mine.1 its.1 (inl s))
+
+    by : StandAlike u v → (one ≡ other) × StandAlike u' v'
+    by (inl s) = on_same s s.both
+    by (inr r) =
+        let mine = w.again r.octet r.one in
+        let its = w'.again r.octet r.other in
+        (mine.0 ∙ sym its.0, left_alike u v u' v' mine.1 its.1 (inr r))
+
+-- ---- piece after piece
+
+pub pieces_alike : StreamsHaveOneAnswer → PiecesAreAnsweredAlike
+pieces_alike law u v [] [] [] alike w w' = refl
+pieces_alike law u v [] [] (other ∷ others) alike w w' = absurd w'
+pieces_alike law u v [] (one ∷ ones) others alike w w' = absurd w
+pieces_alike law u v (piece ∷ pieces) [] others alike w w' = absurd w
+pieces_alike law u v (piece ∷ pieces) (one ∷ ones) [] alike w w' = absurd w'
+pieces_alike law u v (piece ∷ pieces) (one ∷ ones) (other ∷ others) alike (u', w, calm, rest) (v', w', calm', rest') =
+    let (same, then_) = piece_alike law u v u' v' piece one other alike w w' calm calm' in
+    let more = pieces_alike law u' v' pieces ones others then_ rest rest' in
+    λ i. same i ∷ more i
+
+-- ---- a restored unpacker
+
+pub restored_alike : RestoredStandAsSaved → RestoredStandAlike
+restored_alike law u v p ticket a octets fields stood is restored =
+    let stands = law u v p ticket a octets fields is restored in
+    inl (record {
+      limits = restored.limits_are;
+      octets = p;
+      count = a;
+      both = elim stood [ inl at ↦ inl (at, stands.0 at) | inr d ↦ inr (d, stands.1 d) ];
+    })

@@ -1,0 +1,74 @@
+//! Octets in pieces.
+
+use iim_unpack::{Progress, Refusal, Unpacker};
+use wire_story::StorySink;
+
+/// The longest of the pieces.
+pub(crate) const LONGEST: usize = 64;
+
+/// How long the pieces are: all alike, or random numbers by a linear congruence modulo 2^64, with Knuth's factor.
+#[derive(Clone, Copy)]
+pub struct Cuts {
+    least: usize,
+    span: u64,
+    state: u64,
+}
+
+impl Cuts {
+    /// Pieces of `size` octets.
+    pub fn of(size: usize) -> Cuts {
+        Cuts {
+            least: size,
+            span: 1,
+            state: 0,
+        }
+    }
+
+    /// Pieces of 1 to 64 octets, the same for the same seed.
+    pub fn random(seed: u64) -> Cuts {
+        Cuts {
+            least: 1,
+            span: LONGEST as u64,
+            state: seed,
+        }
+    }
+
+    /// The length of the next piece.
+    fn next(&mut self) -> usize {
+        let next = self.state.wrapping_mul(6_364_136_223_846_793_005);
+        self.state = next.wrapping_add(1_442_695_040_888_963_407);
+        let more = (self.state >> 33) % self.span.max(1);
+        self.least.saturating_add(more as usize)
+    }
+}
+
+/// Feeds octets in pieces, with an empty one before each, up to the first answer that is not More: Done with the sum of the octets
+/// that were used.
+pub fn feed_cut<S: StorySink>(
+    unpacker: &mut Unpacker,
+    octets: &[u8],
+    mut cuts: Cuts,
+    sink: &mut S,
+) -> Result<Progress, Refusal> {
+    let mut sum = 0usize;
+    let mut rest = octets;
+    for _ in 0..=octets.len() {
+        if let Progress::Done { used } = unpacker.feed(&[], sink)? {
+            return Ok(Progress::Done {
+                used: sum.saturating_add(used),
+            });
+        }
+        let (piece, more) = rest.split_at(rest.len().min(cuts.next()));
+        if let Progress::Done { used } = unpacker.feed(piece, sink)? {
+            return Ok(Progress::Done {
+                used: sum.saturating_add(used),
+            });
+        }
+        if more.is_empty() {
+            break;
+        }
+        sum = sum.saturating_add(piece.len());
+        rest = more;
+    }
+    Ok(Progress::More)
+}

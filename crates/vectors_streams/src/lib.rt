@@ -1,0 +1,54 @@
+//! Answers questions about whole streams: an envelope at once, in pieces and from its tickets, and one envelope after another.
+//!
+//! Stands on `vectors_questions`, the parts on records, objects and messages, `iim_unpack`, `iim_fields`, `iim_dataset`, `wire_story` and
+//! `anyhow`. The program `vectors` asks it, and the part on unpacking feeds its unpacker in pieces and prints values as it does.
+#![tactic(auto)]
+
+mod cuts;
+mod intakes;
+mod lines;
+mod pieces;
+mod streams;
+mod values;
+
+use anyhow::Result;
+pub use cuts::{Cuts, feed_cut};
+use intakes::print_envelopes;
+pub use intakes::print_next;
+pub use lines::print_lines;
+use pieces::print_pieces;
+use std::alloc::Global;
+use streams::Stream;
+pub use values::print_value;
+use vectors_questions::{Answers, Names, Words};
+use vectors_records::limits_of;
+
+/// Answers the words of streams; false where the word is none of them.
+pub fn answer(
+    out: &mut Answers,
+    alloc: Global,
+    names: &Names,
+    word: &str,
+    words: &mut Words,
+) -> Result<bool> {
+    match word {
+        "stream" => {
+            let limits = limits_of(words);
+            let octets = words.octets(names);
+            let octets = octets.as_slice();
+            Stream {
+                alloc,
+                limits,
+                octets,
+            }
+            .print(out)?;
+        }
+        "pieces" => print_pieces(out, alloc, names, words)?,
+        "intake" => {
+            let limits = limits_of(words);
+            print_envelopes(out, alloc, limits, words.octets(names).as_slice())?;
+        }
+        _ => return Ok(false),
+    }
+    Ok(true)
+}
