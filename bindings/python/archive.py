@@ -330,7 +330,7 @@ class Progress:
         with contextlib.suppress(ImportError):
             from tqdm import tqdm
 
-            self._bar = tqdm(total=octets, unit="B", unit_scale=True, leave=False)
+            self._bar = tqdm(total=octets, unit="B", unit_scale=True, leave=False, mininterval=min(self.EVERY, 0.1))
 
     def add(self, files: int, octets: int, envelopes: int, refused: int) -> None:
         """So many more were done."""

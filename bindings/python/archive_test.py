@@ -382,7 +382,9 @@ def tells_its_progress_by_tqdm():
         raise NotHere("no Python here has tqdm (Debian: python3-tqdm)")
     with tempfile.TemporaryDirectory() as folder:
         tree = tree_of(f"{folder}/tree")
-        told = told_at_terminal([python, f"{HERE}/archive.py", "--now", NOW, "--batch", "5", tree], subprocess.DEVNULL)
+        # (at each batch: left to itself it tells nothing of what is done within a tenth of a second)
+        program = [python, "-c", "import archive, sys\narchive.Progress.EVERY = 0\nsys.exit(archive.main())", "--now", NOW, "--batch", "5", tree]
+        told = told_at_terminal(program, subprocess.DEVNULL)
         holds(b"% " in told and b"B/s" in told and b" files, " in told, repr(told[-300:]))
 
 
