@@ -198,7 +198,7 @@ def tells_the_tables():
 @test
 def names_the_kinds_and_duties_as_the_header_does():
     text = open(HEADER).read()
-    words = dict(re.findall(r"IIM_((?:KIND|DUTY|LAYER|PART)_\w+) = (\d+)", text))
+    words = dict(re.findall(r"IIM_((?:KIND|DUTY|LAYER|PART|BEGUN)_\w+) = (\d+)", text))
     source = open(f"{TOP}/crates/iim_tables/src/shape.rt").read()
     upper = lambda name: re.sub(r"(?<!^)(?=[A-Z])", "_", name).upper()
     for kind in ("Kind", "Duty"):
@@ -209,8 +209,134 @@ def names_the_kinds_and_duties_as_the_header_does():
     saved = open(f"{TOP}/crates/wire_message/src/saved.rt").read()
     parts = re.findall(r"^    (\w+),", re.search(r"pub enum MessagePart \{\n(.*?)^\}", saved, re.M | re.S)[1], re.M)
     same({f"PART_{upper(name)}": str(n) for n, name in enumerate(parts)}, {w: n for w, n in words.items() if w.startswith("PART")})
+    begun = re.findall(r"^pub const (\w+): u8 = (\d+);", open(f"{TOP}/crates/iim_c_places/src/begun.rt").read(), re.M)
+    same({f"BEGUN_{name}": number for name, number in begun}, {w: n for w, n in words.items() if w.startswith("BEGUN")})
+    same(words["BEGUN_NOTHING"] + words["BEGUN_TAG"] + words["BEGUN_DATA"] + words["BEGUN_ENDED"], "0123")
     status = open(f"{TOP}/crates/iim_c/src/status.rt").read()
     same({name: number for name, number in re.findall(r"pub const (\w+): u8 = (\d+);", status)}, {w: n for w, n in STATUSES.items() if "_" not in w or w in ("NO_MEMORY", "BAD_TICKET", "BAD_PACKING")})
+
+
+# Answers to the smallest envelope, of 114 octets, written out from docs/FORMAT.md and the header: status, layer, cause, record, number,
+# octet, used, written and ticket. Its 27th octet is in the data of 1:30. Its ticket there has 79 octets; at its end 135, of which 69 are
+# its seven datasets (six each, and 27 of data), 28 the numbers of record 7, and 12 the texts of the message (seven, and five octets).
+VALUES = """\
+done 0 0 0 0 0 114 114 0 0
+more 1 0 0 0 0 27 27 0 79
+short 5 0 0 0 0 0 0 0 135
+fed 0 0 0 0 0 114 114 0 135
+ended 0 0 0 0 0 114 0 0 0
+refused 2 1 1 0 0 0 0 0 0
+truncated 3 1 3 1 30 27 0 0 0
+octets 2 3 50 1 0 4 0 0 0
+datasets 2 3 51 1 20 11 0 0 0
+memory 6 0 0 0 0 0 0 0 0
+packing 8 0 0 0 0 0 0 0 0
+size 0 0 0 0 0 0 0 114 0
+none 4 0 0 0 0 0 0 0 0
+ticket octets 7 0 50 0 0 0 0 0 0
+ticket datasets 7 0 51 0 0 0 0 0 0
+ticket form 7 0 100 0 0 0 0 0 0
+ticket version 7 0 101 0 0 0 0 0 0
+ticket impossible 7 0 102 0 0 0 0 0 0
+rule 1:70 8 8 6 1 0
+rule 2:55 8 8 7 2 0
+rule 2:105 0 256 2 2 0
+rule 7:90 1 8 12 3 0
+"""
+
+
+@test
+def tells_each_value_as_it_is_written():
+    for program in PROGRAMS:
+        status, out, errors = run(program, "values", f"{SAMPLES}/smallest.iim", f"{SAMPLES}/smallest.script")
+        same((status, out.decode().split("\n"), errors), (0, VALUES.split("\n"), b""))
+
+
+# --- Places ---
+
+# The parts of a message after its filler, as the format numbers them from 1 on: what has come of each, in the worked envelopes. The
+# info alone may be absent.
+PARTS = [rb"\x01[A-Z]*", rb"[0-9]+", rb" ", rb"[0-9]", rb" [A-Z]*", rb" [0-9]*", rb"(?: [a-z]*)", rb"([\r\n]+)", rb"\x02([^\x03]*)", rb"\x03", rb"\x04"]
+
+
+def part_of(octets):
+    """The part, the counter and the flag of a message of which these octets have come."""
+    fronts = [b"".join(part + b"?" * (part == PARTS[6]) for part in PARTS[:number]) for number in range(7)]
+    patterns = [*fronts, *(b"".join([*PARTS[:6], PARTS[6] + b"?" * (number > 7), *PARTS[7:number]]) for number in range(7, 12))]
+    part = max(number for number, pattern in enumerate(patterns) if re.fullmatch(pattern, octets))
+    found = re.fullmatch(patterns[part], octets)
+    if part == 8:
+        return part, len(found[1]), int(b"\n" in found[1])
+    return part, 0, len(found[2]) - len(found[2].rstrip(b"\r")) if part == 9 else 0
+
+
+def place_of(front, whole):
+    """What is begun after a front of a worked envelope, whose tags have five octets each: the numbers that the C program prints, and
+    the octets that a ticket keeps of it."""
+    at, section, told = 0, 0, b""
+    while len(rest := front[at:]) >= 5 and len(rest) >= 5 + int.from_bytes(rest[3:5], "big"):
+        section, count = rest[1], int.from_bytes(rest[3:5], "big")
+        told += rest[5 : 5 + count] if section == 8 else b""
+        at += 5 + count
+    if len(rest) < 5:
+        kind = 3 if front == whole else 1 if rest else 0
+        numbers = [*(rest + bytes(3))[1:3], *part_of(told), 0, len(rest), 0, at, at]
+        return [kind, section, *numbers], rest
+    section, number, count, taken = rest[1], rest[2], int.from_bytes(rest[3:5], "big"), rest[5:]
+    told += taken if section == 8 else b""
+    token = len(front) if section == 8 else at + 5
+    return [2, section, section, number, *part_of(told), count, len(taken), count - len(taken), at + 5, token], b"" if section == 8 else taken
+
+
+def set_of(octets):
+    """A set of octets in hexadecimal digits, as the C program prints it."""
+    return sum(1 << octet for octet in octets).to_bytes(32, "little").hex()
+
+
+def told_places(program, name):
+    """The lines of the C program after each front of a sample, and its octets."""
+    status, out, errors = run(program, "places", f"{SAMPLES}/{name}")
+    same((status, errors), (0, b""))
+    return [line.split(" ") for line in out.decode().split("\n")[:-1]], octets_of(f"{SAMPLES}/{name}")
+
+
+@test
+def tells_the_place_after_each_front_of_both_worked_envelopes():
+    for program in PROGRAMS:
+        for name in ("smallest.iim", "story.iim"):
+            lines, whole = told_places(program, name)
+            same(len(lines), len(whole) + 1)
+            for count, line in enumerate(lines):
+                numbers, kept = place_of(whole[:count], whole)
+                same((name, line[:13], line[15]), (name, [str(number) for number in [count, *numbers]], kept.hex()))
+
+
+@test
+def tells_the_octets_that_can_come_next():
+    for program in PROGRAMS:
+        lines, whole = told_places(program, "smallest.iim")
+        for count, line in enumerate(lines):
+            fits = [octet for octet in range(256) if rules.read(whole[:count] + bytes([octet])).refusal is None] if count < len(whole) else []
+            same((count, line[13:15]), (count, ["1" if count < len(whole) else "0", set_of(fits)]))
+        # (a tag begins with 1C alone, the priority is a digit, and in the text all but SOH, STX, ETX and EOT can stand, and the end)
+        same([lines[at][14] for at in (0, 55, 95)], [set_of([0x1C]), set_of([0x1C]), set_of(range(0x30, 0x3A))])
+        same(lines[103][14], set_of([octet for octet in range(256) if octet not in (1, 2, 4)]))
+
+
+@test
+def tells_what_each_cause_means():
+    # (a cause that stands in two tables means what the first says)
+    want, column = {}, 0
+    for line in open(f"{TOP}/docs/CAUSES.md").read().split("\n"):
+        cells = [cell.strip() for cell in line.strip("| ").split(" | ")]
+        column = cells.index("What it means") if cells[0] == "Cause" else column
+        if line.startswith("| ") and (number := re.match(r"(\d+) \w", cells[0])):
+            want.setdefault(int(number[1]), cells[column])
+    same(len(want), 40)
+    for program in PROGRAMS:
+        status, out, errors = run(program, "texts")
+        same((status, errors), (0, b""))
+        same(out.decode().split("\n")[:-1], [f"{number} {len(want[number])} {want[number]}" for number in sorted(want)])
 
 
 @test
@@ -268,10 +394,10 @@ def declared():
 @test
 def declares_each_export_with_its_arguments():
     # (a name is text for C, whose octets are `char`)
-    as_text = lambda name, words: [word.replace("uint8_t *", "char *") if name.endswith("_name") else word for word in words]
+    as_text = lambda name, words: [word.replace("uint8_t *", "char *") if name.endswith(("_name", "_text")) else word for word in words]
     want = sorted((name, result, as_text(name, words)) for name, result, words in exports())
     same(sorted(declared()), want)
-    same(len(want) >= 14, True)
+    same(len(want) >= 17, True)
 
 
 @test
@@ -279,9 +405,11 @@ def declares_each_struct_with_its_members():
     code = re.sub(r"/\*.*?\*/", "", open(HEADER).read(), flags=re.S)
     found = {name: [tuple(plain(each).rsplit(" ", 1)) for each in body.split(";") if each.strip()] for body, name in re.findall(r"typedef struct iim_\w+ \{(.*?)\} (iim_\w+);", code, re.S)}
     want = {}
-    for path in sorted(glob.glob(f"{TOP}/crates/iim_c/src/*.rt")):
+    for path in sorted(glob.glob(f"{TOP}/crates/iim_c/src/*.rt") + glob.glob(f"{TOP}/crates/iim_c_places/src/*.rt")):
         for name, body in re.findall(r"#\[repr\(C\)\]\n#\[derive\([^)]*\)\]\npub struct (\w+) \{\n(.*?)^\}", open(path).read(), re.M | re.S):
-            want[struct_of(name)] = [(WORDS.get(kind) or struct_of(kind), member) for member, kind in re.findall(r"^    pub (\w+): (\w+),", body, re.M)]
+            # (an array stands with its length after the name)
+            members = re.findall(r"^    pub (\w+): \[?(\w+)(?:; (\d+)\])?,", body, re.M)
+            want[struct_of(name)] = [(WORDS.get(kind) or struct_of(kind), f"{member}[{count}]" if count else member) for member, kind, count in members]
     same(found, want)
 
 

@@ -267,6 +267,81 @@ typedef struct iim_object {
  */
 void iim_sizes(const uint8_t *ticket, size_t ticket_len, iim_object *object, iim_answer *answer);
 
+/* ---- What stands at a ticket, and what can come next */
+
+/*
+ * A set of octets, as a map of 256 bits: the octet o is in it where bit o % 8 of
+ * bits[o / 8] is set, bit 0 being the lowest.
+ */
+typedef struct iim_octet_set {
+    uint8_t bits[32];
+} iim_octet_set;
+
+/*
+ * Tells which octets can come next after the octets that have led to a ticket,
+ * or, with no ticket, at the beginning of an envelope. Arguments as in iim_feed.
+ *
+ * IIM_MORE: the octet o is in *next exactly where iim_feed from that ticket
+ * would take it, and every layer could continue or the envelope would end; each
+ * other octet would be refused. So it is whichever octets have led there.
+ * IIM_DONE: the envelope has ended, and takes no octet: *next has none.
+ * IIM_BAD_TICKET, with the cause. IIM_NO_MEMORY. *next has none.
+ *
+ * Each of the 256 octets is tried from the ticket: it takes the time of so many
+ * calls of iim_feed.
+ */
+void iim_next(iim_limits limits, const uint8_t *ticket, size_t ticket_len, iim_octet_set *next,
+              iim_answer *answer);
+
+/* What is begun at a place. */
+enum {
+    IIM_BEGUN_NOTHING = 0, /* nothing: it is between datasets */
+    IIM_BEGUN_TAG = 1,     /* a tag, of which some octets have come */
+    IIM_BEGUN_DATA = 2,    /* the data of a dataset, of which some octets are to come */
+    IIM_BEGUN_ENDED = 3    /* nothing: the envelope has ended */
+};
+
+/*
+ * What is begun at a place, and where in the message it is. A member that is not
+ * spoken of is 0.
+ */
+typedef struct iim_begun {
+    uint8_t kind;    /* IIM_BEGUN_NOTHING, .. */
+    uint8_t section; /* the record of the last whole head, or 0 before the first */
+    uint8_t rec;     /* IIM_BEGUN_TAG, IIM_BEGUN_DATA: the record of the dataset, or 0 where it isn't read */
+    uint8_t set;     /* and its number in that record, or 0 */
+    uint8_t part;    /* the part of the message: IIM_PART_TEXT, .. */
+    uint8_t counter; /* IIM_PART_FILLER, IIM_PART_AFTER_END: the octets of filler so far; IIM_PART_GAP: those of the gap */
+    uint8_t flag;    /* IIM_PART_GAP: 1 once an LF was read; IIM_PART_TEXT: how many CR are held, 0 to 2 */
+    uint64_t count;  /* IIM_BEGUN_DATA: how many octets the data have */
+    uint64_t came;   /* IIM_BEGUN_TAG, IIM_BEGUN_DATA: how many octets of the tag, or of the data, have come */
+    uint64_t left;   /* IIM_BEGUN_DATA: how many are to come */
+    uint64_t first;  /* the offset of the first octet of the tag, or of the data, from the envelope's first octet */
+    uint64_t token;  /* the offset of the first octet of what the next octet belongs to, see below */
+    iim_span octets; /* where the octets that have come of it stand in the ticket: of a subfile, 8:10, none do */
+} iim_begun;
+
+/*
+ * Tells what is begun at the place of a ticket, at octets being those that came
+ * before, as in iim_feed.
+ *
+ * The layers look at a tag, at a value and at an octet of a subfile as a whole:
+ * these are the tokens. The token that the next octet belongs to begins at
+ * begun->token. So where iim_feed refuses an octet, and the ticket is that of the
+ * place just before it, the refused token begins there: it is the tag, the value
+ * of a dataset or, in a subfile, the octet itself. A value of no octets is looked
+ * at with the last octet of its tag, and stands for that.
+ *
+ * The tag of data that have begun is not kept in a ticket, and how many octets
+ * it had isn't told: a count can be written in several ways.
+ *
+ * IIM_DONE: *begun is written.
+ * IIM_BAD_TICKET: cause 100 or 101; all members of *begun are 0. No memory is
+ * taken, and it is not asked whether an envelope can be at the ticket's place.
+ */
+void iim_place(const uint8_t *ticket, size_t ticket_len, uint64_t at, iim_begun *begun,
+               iim_answer *answer);
+
 /* ---- Packing */
 
 /* How an envelope is packed. `(iim_packing){0}` is what the command does where it is told nothing. */
@@ -365,6 +440,12 @@ bool iim_admits(uint8_t rec, uint8_t set, const uint8_t *octets, size_t len);
 
 /* The name of a cause by its number, as `CountRange` for 13. */
 size_t iim_cause_name(uint8_t cause, char *out, size_t len);
+
+/*
+ * What a cause means, by its number, in a sentence with no point, as it stands in
+ * docs/CAUSES.md. 128 octets are enough for each. Else as for a name.
+ */
+size_t iim_cause_text(uint8_t cause, char *out, size_t len);
 
 /* The name of a layer by its number, as `dataset` for IIM_LAYER_DATASET. */
 size_t iim_layer_name(uint8_t layer, char *out, size_t len);

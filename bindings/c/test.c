@@ -7,8 +7,11 @@
  *   test show PIECE FILE         what `iimwire show FILE` prints
  *   test story PIECE FILE        what `iimwire story FILE` prints
  *   test pack S U H M FILE       what `iimwire pack` writes, by these members of an iim_packing
+ *   test places FILE             what iim_place and iim_next tell after each front of FILE, which is an envelope
+ *   test texts                   the causes, each with what it means
  *   test admits                  answers of iim_admits to batches: record, number and octets
  *   test tables                  rows and names by their numbers
+ *   test values FILE SCRIPT      answers of each kind, by their numbers: FILE is the smallest envelope, SCRIPT its script
  *   test buffers FILE            tries buffers that are too short, tickets that are none, and memory that is refused
  *
  * A batch is a number of four octets, low octet first, and so many octets.
@@ -356,6 +359,93 @@ static int pack(char **words) {
     return answer.status;
 }
 
+/* ---- Values */
+
+static void tell(const char *what, const iim_answer *answer) {
+    printf("%s ", what);
+    print_answer(answer);
+}
+
+/* The answers of calls that are done, or can go on, and of a buffer that is too short. Leaves the ticket of the whole envelope. */
+static octets tell_progress(octets file) {
+    octets ticket = room_for(TICKET), other = room_for(TICKET);
+    iim_answer answer;
+    iim_check(DEFAULTS, file.octets, file.count, &answer);
+    tell("done", &answer);
+    iim_feed(DEFAULTS, NULL, 0, 0, file.octets, 27, NULL, 0, other.octets, other.count, &answer);
+    tell("more", &answer);
+    iim_feed(DEFAULTS, NULL, 0, 0, file.octets, file.count, NULL, 0, NULL, 0, &answer);
+    tell("short", &answer);
+    iim_feed(DEFAULTS, NULL, 0, 0, file.octets, file.count, NULL, 0, ticket.octets, ticket.count, &answer);
+    tell("fed", &answer);
+    ticket.count = answer.ticket;
+    iim_end(DEFAULTS, ticket.octets, ticket.count, file.count, &answer);
+    tell("ended", &answer);
+    free(other.octets);
+    return ticket;
+}
+
+/* The answers of calls whose octets, whose memory or whose way of packing will not do. */
+static void tell_refusals(octets file, octets script) {
+    const iim_packing wrong = {0, false, true, 5}, plain = {0, false, false, 0};
+    iim_answer answer;
+    iim_check(DEFAULTS, (const uint8_t *)"A", 1, &answer);
+    tell("refused", &answer);
+    iim_check(DEFAULTS, file.octets, 27, &answer);
+    tell("truncated", &answer);
+    iim_check((iim_limits){1, 0}, file.octets, file.count, &answer);
+    tell("octets", &answer);
+    iim_check((iim_limits){0, 1}, file.octets, file.count, &answer);
+    tell("datasets", &answer);
+    allowed = 0;
+    iim_check(DEFAULTS, file.octets, file.count, &answer);
+    allowed = -1;
+    tell("memory", &answer);
+    iim_pack_size(wrong, script.octets, script.count, &answer);
+    tell("packing", &answer);
+    iim_pack_size(plain, script.octets, script.count, &answer);
+    tell("size", &answer);
+}
+
+/* The answers to tickets that will not do, by the ticket of the whole envelope. */
+static void tell_tickets(octets ticket, uint64_t at) {
+    iim_answer answer;
+    iim_dataset d;
+    iim_field(ticket.octets, ticket.count, 7, &d, &answer);
+    tell("none", &answer);
+    iim_end((iim_limits){1, 0}, ticket.octets, ticket.count, at, &answer);
+    tell("ticket octets", &answer);
+    iim_end((iim_limits){0, 1}, ticket.octets, ticket.count, at, &answer);
+    tell("ticket datasets", &answer);
+    iim_field(ticket.octets, ticket.count - 1, 0, &d, &answer);
+    tell("ticket form", &answer);
+    ticket.octets[4] = 9;
+    iim_field(ticket.octets, ticket.count, 0, &d, &answer);
+    tell("ticket version", &answer);
+    ticket.octets[4] = 2;
+    ticket.octets[5] = 7;
+    iim_end(DEFAULTS, ticket.octets, ticket.count, at, &answer);
+    tell("ticket impossible", &answer);
+}
+
+static void tell_row(uint8_t rec, uint8_t set) {
+    iim_rule rule;
+    iim_row(rec, set, &rule);
+    printf("rule %d:%02d %" PRIu64 " %" PRIu64 " %d %d %d\n", rec, set, rule.min, rule.max, rule.kind, rule.duty, rule.repeats);
+}
+
+static int tell_values(char **words) {
+    octets file = file_of(words[0]), script = file_of(words[1]), ticket = tell_progress(file);
+    tell_refusals(file, script);
+    tell_tickets(ticket, file.count);
+    tell_row(1, 70);
+    tell_row(2, 55);
+    tell_row(2, 105);
+    tell_row(7, 90);
+    free(file.octets), free(script.octets), free(ticket.octets);
+    return 0;
+}
+
 /* ---- Buffers, tickets, memory */
 
 static int passed, failed;
@@ -488,6 +578,108 @@ static void try_tickets(octets file) {
     free(ended.octets), free(next.octets), free(r);
 }
 
+/* The octets that iim_feed takes next from a ticket, as a set: each of them tried. */
+static iim_octet_set tried(octets ticket, uint64_t at, octets next) {
+    iim_octet_set set = {{0}};
+    for (int o = 0; o < 256; o++) {
+        uint8_t octet = (uint8_t)o, text;
+        iim_answer answer;
+        iim_feed(DEFAULTS, ticket.octets, ticket.count, at, &octet, 1, &text, 1, next.octets, next.count, &answer);
+        if (answer.status == IIM_MORE || (answer.status == IIM_DONE && answer.used == 1))
+            set.bits[o / 8] |= (uint8_t)(1 << o % 8);
+    }
+    return set;
+}
+
+/* What is told of the place after each front of an envelope: a line for each, with the set in hexadecimal digits. */
+static int print_places(const char *path) {
+    octets file = file_of(path), text = room_for(file.count), ticket = room_for(TICKET), next = room_for(TICKET);
+    for (size_t count = 0; count <= file.count; count++) {
+        iim_answer fed, placed, asked;
+        iim_begun b;
+        iim_octet_set set, none;
+        iim_feed(DEFAULTS, NULL, 0, 0, file.octets, count, text.octets, text.count, ticket.octets, TICKET, &fed);
+        octets there = {ticket.octets, fed.ticket};
+        iim_place(there.octets, there.count, count, &b, &placed);
+        iim_next(DEFAULTS, there.octets, there.count, &set, &asked);
+        iim_octet_set feeds = tried(there, count, next);
+        if (count == 0) {
+            iim_next(DEFAULTS, NULL, 0, &none, &asked);
+            if (memcmp(&none, &set, sizeof set) != 0)
+                return 1;
+        }
+        if (memcmp(&feeds, &set, sizeof set) != 0 || placed.status != IIM_DONE)
+            return 1;
+        printf("%zu %d %d %d %d %d %d %d %" PRIu64 " %" PRIu64 " %" PRIu64 " %" PRIu64 " %" PRIu64 " %d ", count, b.kind, b.section, b.rec, b.set, b.part,
+               b.counter, b.flag, b.count, b.came, b.left, b.first, b.token, asked.status);
+        for (size_t i = 0; i < sizeof set.bits; i++)
+            printf("%02x", set.bits[i]);
+        putchar(' ');
+        for (size_t i = 0; i < b.octets.count; i++)
+            printf("%02x", there.octets[b.octets.offset + i]);
+        putchar('\n');
+    }
+    free(file.octets), free(text.octets), free(ticket.octets), free(next.octets);
+    return 0;
+}
+
+/* What each cause means. */
+static int print_texts(void) {
+    char text[128];
+    for (int cause = 0; cause < 256; cause++) {
+        size_t count = iim_cause_text((uint8_t)cause, text, sizeof text);
+        if (count > 0)
+            printf("%d %zu %s\n", cause, count, text);
+    }
+    return 0;
+}
+
+/* Places of tickets that are none, of other limits, and under memory that is refused. */
+static void try_places(octets file) {
+    octets text = room_for(file.count), ticket = room_for(TICKET);
+    iim_answer answer;
+    iim_begun b;
+    iim_octet_set set;
+    iim_feed(DEFAULTS, NULL, 0, 0, file.octets, file.count, text.octets, text.count, ticket.octets, TICKET, &answer);
+    size_t ended = answer.ticket;
+    iim_next(DEFAULTS, ticket.octets, ended, &set, &answer);
+    expect(is_plain(&answer, IIM_DONE, 0) && is_all(set.bits, sizeof set.bits, 0), "an ended envelope takes no octet");
+    iim_next((iim_limits){1, 512}, ticket.octets, ended, &set, &answer);
+    expect(is_plain(&answer, IIM_BAD_TICKET, 50) && is_all(set.bits, sizeof set.bits, 0), "a ticket that passes the limit on octets takes none");
+    iim_next((iim_limits){65536, 1}, ticket.octets, ended, &set, &answer);
+    expect(is_plain(&answer, IIM_BAD_TICKET, 51) && is_all(set.bits, sizeof set.bits, 0), "a ticket that passes the limit on datasets takes none");
+    iim_place(NULL, 0, 7, &b, &answer);
+    expect(is_plain(&answer, IIM_BAD_TICKET, 100) && is_all((uint8_t *)&b.count, sizeof b - offsetof(iim_begun, count), 0), "no ticket has no place");
+    for (size_t count = 1; count < ended; count++) {
+        octets front = room_for(count);
+        memcpy(front.octets, ticket.octets, count);
+        iim_place(front.octets, count, 7, &b, &answer);
+        bool bad = is_plain(&answer, IIM_BAD_TICKET, 100) && b.kind == 0 && b.first == 0 && b.token == 0;
+        iim_next(DEFAULTS, front.octets, count, &set, &answer);
+        expect(bad && is_plain(&answer, IIM_BAD_TICKET, 100) && is_all(set.bits, sizeof set.bits, 0), "a ticket that is cut short has no place");
+        free(front.octets);
+    }
+    ticket.octets[4] = 9;
+    iim_place(ticket.octets, ended, 7, &b, &answer);
+    expect(is_plain(&answer, IIM_BAD_TICKET, 101) && b.kind == 0, "a ticket of another version has no place");
+    ticket.octets[4] = 2;
+    ticket.octets[5] = 7;
+    iim_next(DEFAULTS, ticket.octets, ended, &set, &answer);
+    expect(is_plain(&answer, IIM_BAD_TICKET, 102) && is_all(set.bits, sizeof set.bits, 0), "a place where no envelope can be takes none");
+    long refused = 0;
+    for (long n = 0;; n += 1 + n / 8) {
+        allowed = n;
+        iim_next(DEFAULTS, NULL, 0, &set, &answer);
+        allowed = -1;
+        if (answer.status != IIM_NO_MEMORY)
+            break;
+        refused++;
+        expect(is_plain(&answer, IIM_NO_MEMORY, 0) && is_all(set.bits, sizeof set.bits, 0), "memory is refused to the octets that come next");
+    }
+    expect(answer.status == IIM_MORE && refused > 0 && set.bits[3] == 1 << 4, "with all memory they are told");
+    free(text.octets), free(ticket.octets);
+}
+
 /* Each request for memory refused in turn: a status, and then the same call answers as ever. */
 static void try_memory(octets file) {
     octets text = room_for(file.count), next = room_for(TICKET);
@@ -548,6 +740,11 @@ static void try_names(void) {
                    && (len > 5 ? strcmp(name, "story") == 0 && is_all((uint8_t *)name + 6, 58, '*') : is_all((uint8_t *)name, 64, '*')),
                "the name of a layer");
     }
+    char means[128];
+    memset(means, '*', sizeof means);
+    expect(iim_cause_text(25, means, 21) == 21 && is_all((uint8_t *)means, 128, '*'), "a sentence that has no room");
+    expect(iim_cause_text(25, means, 22) == 21 && strcmp(means, "9:10 is not the total") == 0, "a sentence that has just room");
+    expect(iim_cause_text(4, means, sizeof means) == 0 && means[0] == 0, "a number that is no cause");
     expect(iim_dataset_name(3, 1, name, sizeof name) == 0 && name[0] == 0, "a dataset without a name");
     expect(iim_cause_name(0, NULL, 0) == 0 && iim_layer_name(0, NULL, 0) == 0 && iim_dataset_name(1, 1, NULL, 0) == 0, "no buffer for no name");
     expect(iim_version() == IIM_VERSION, "the version");
@@ -592,6 +789,8 @@ static int try_buffers(char **words) {
     try_short_refusal(story);
     try_tickets(smallest);
     try_tickets(story);
+    try_places(smallest);
+    try_places(story);
     try_memory(story);
     try_great_limits(story);
     try_names();
@@ -610,10 +809,16 @@ int main(int count, char **words) {
         return stream(words[1], (size_t)atol(words[2]), words[3]);
     if (count == 7 && strcmp(words[1], "pack") == 0)
         return pack(words + 2);
+    if (count == 3 && strcmp(words[1], "places") == 0)
+        return print_places(words[2]);
+    if (count == 2 && strcmp(words[1], "texts") == 0)
+        return print_texts();
     if (count == 2 && strcmp(words[1], "admits") == 0)
         return admit_batches();
     if (count == 2 && strcmp(words[1], "tables") == 0)
         return print_tables();
+    if (count == 4 && strcmp(words[1], "values") == 0)
+        return tell_values(words + 2);
     if (count == 6 && strcmp(words[1], "buffers") == 0)
         return try_buffers(words + 2);
     return 2;

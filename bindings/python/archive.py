@@ -3,6 +3,7 @@
 
     archive.py [--workers N | --scheduler ADDRESS] [--now INSTANT] [--name PATTERN] [--batch N] [--limits OCTETS FIELDS] TREE..
     archive.py --into INDEX [the same words] TREE..
+    archive.py report [--html OUT] [--now INSTANT] [--limits OCTETS FIELDS] INDEX
     archive.py query [--date DATE[..DATE]] [--service SERVICE] [--cause CAUSE] [--repeats] [--only KIND] [--now INSTANT] [--csv] INDEX..
 
 TREE is a folder, of which all files are read, or a file. Each line that is printed is a value of JSON. There is one for each
@@ -12,7 +13,8 @@ Octets that are refused get a line that names the place, the cause and what is k
 files that can't be read: none stops anything. The last line has the sums.
 
 With --into the rows go to INDEX, a database of SQLite, and the sums alone are printed. A second run reads only what is new or has
-changed, and marks what is gone; so does a run after one that was stopped. `query` prints the rows that an index has, or several.
+changed, and marks what is gone; so does a run after one that was stopped. `query` prints the rows that an index has, or several. `report`
+tells how the archive stands, as text or as a page with pictures, which leads to what explain.py tells of the damaged files.
 
 --workers N runs N processes of this machine. --scheduler ADDRESS runs on Dask distributed, where each worker finds the same files
 under the same names, and this folder on its PYTHONPATH. Without either it runs in this process.
@@ -600,6 +602,32 @@ def print_query(words: argparse.Namespace, interrupt: Interrupt) -> int:
     return 130
 
 
+def print_report(words: argparse.Namespace, interrupt: Interrupt) -> int:
+    """Tells how the archive of an index stands: prints it, or writes it as a page."""
+    import archive_report
+
+    found: Dict[str, Any] = {}
+    try:
+        found.update(interrupt.each(archive_report.parts(words)))
+    except KeyboardInterrupt:
+        return 130
+    told = archive_report.told_of(found)
+    if words.html is not None and archive_report.can_draw():
+        import archive_page
+
+        text = archive_page.page(told)
+        try:
+            with open(words.html, "w", encoding="utf-8") as to:
+                to.write(text)
+        except OSError:
+            raise iim.CannotWrite from None
+        return 0
+    if words.html is not None:
+        sys.stderr.write("no page is made: python3-matplotlib or python3-jinja2 is not here\n")
+    write("\n".join([*archive_report.lines(told), ""]))
+    return 0
+
+
 # --- Words ---
 
 
@@ -631,7 +659,7 @@ def parse(words: List[str]) -> argparse.Namespace:
     """What the words ask for."""
     parser = argparse.ArgumentParser(
         description="Checks and audits a tree of files of envelopes, as lines of JSON.",
-        epilog="`%(prog)s query --help` tells how an index is asked.",
+        epilog="`%(prog)s query --help` tells how an index is asked, and `%(prog)s report --help` how the archive is shown.",
     )
     parser.add_argument("tree", metavar="TREE", nargs="+", help="a folder or a file")
     parser.add_argument("--into", metavar="INDEX", help="keep the rows in this database, and read only what is new or changed")
@@ -666,10 +694,24 @@ def parse_query(words: List[str]) -> argparse.Namespace:
     return asked
 
 
+def parse_report(words: List[str]) -> argparse.Namespace:
+    """What the words after `report` ask for."""
+    parser = argparse.ArgumentParser(description="Tells how an archive stands, by its index.")
+    parser.prog += " report"
+    parser.add_argument("index", metavar="INDEX", help="what a run with --into has written")
+    parser.add_argument("--html", metavar="OUT", help="write it as a page, and the pages of damaged files into a folder beside that")
+    parser.add_argument("--now", metavar="INSTANT", type=instant, help="for ages, and for copy that is held or expired")
+    parser.add_argument("--limits", metavar=("OCTETS", "FIELDS"), type=int, nargs=2, default=iim.WIRE, help="of records 1 and 2")
+    asked = parser.parse_args(words)
+    asked.run = print_report
+    return asked
+
+
 def main(words: Optional[List[str]] = None) -> int:
     """Runs the command, and answers its status."""
     words = sys.argv[1:] if words is None else words
-    asked = parse_query(words[1:]) if words[:1] == ["query"] else parse(words)
+    parsers = {"query": parse_query, "report": parse_report}
+    asked = parsers[words[0]](words[1:]) if words[:1] and words[0] in parsers else parse(words)
     asked.now = asked.now or datetime.datetime.now(datetime.timezone.utc)
     try:
         status: int = asked.run(asked, Interrupt())

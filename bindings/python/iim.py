@@ -5,7 +5,8 @@
     for envelope in iim.read("copy.iim"):
         print(envelope.id.service, envelope.headline, envelope.bylines, envelope.lines)
 
-    $ python3 -m iim FILE..        prints a line of JSON for each envelope
+    $ python3 -m iim FILE..           prints a line of JSON for each envelope
+    $ python3 -m iim explain FILE     tells what a file is, and what is wrong with it
 
 What is read is handed to the library block by block, and never held as a whole. Octets are `Octets`, which are `bytes`: no character
 set is known here, so their `text(encoding)` has to be told one. Octets that are refused raise `Refused`, which names the layer, the
@@ -24,12 +25,12 @@ import json
 import os
 import re
 import sys
-from typing import Any, BinaryIO, Callable, Dict, Iterable, Iterator, List, NamedTuple, Optional, Tuple, Type, Union
+from typing import Any, BinaryIO, Callable, Dict, FrozenSet, Iterable, Iterator, List, NamedTuple, Optional, Tuple, Type, Union
 
 __all__ = [
-    "AuditRow", "Envelope", "Fed", "Field", "Header", "Id", "Limits", "Octets", "PartId", "Receiver", "Refused", "Rule", "ScriptRefused",
-    "Sizes", "TicketRefused", "Truncated", "WIRE", "admits", "audit", "audit_blocks", "cause_name", "check", "dataset_name", "layer_name",
-    "pack", "read", "row", "script",
+    "AuditRow", "Envelope", "Fed", "Field", "Header", "Id", "Limits", "Octets", "PartId", "Place", "Receiver", "Refused", "Rule",
+    "ScriptRefused", "Sizes", "TicketRefused", "Truncated", "WIRE", "admits", "audit", "audit_blocks", "cause_name", "cause_text", "check",
+    "dataset_name", "layer_name", "pack", "read", "row", "script",
 ]  # fmt: skip
 
 # How many octets of an input are read at a time.
@@ -87,9 +88,24 @@ class _Rule(ctypes.Structure):
     ]
 
 
+class _OctetSet(ctypes.Structure):
+    _fields_ = [("bits", ctypes.c_uint8 * 32)]
+
+
+class _Begun(ctypes.Structure):
+    _fields_ = [
+        *((name, ctypes.c_uint8) for name in ("kind", "section", "rec", "set", "part", "counter", "flag")),
+        *((name, ctypes.c_uint64) for name in ("count", "came", "left", "first", "token")),
+        ("octets", _Span),
+    ]
+
+
 _DONE, _MORE, _REFUSED, _TRUNCATED, _NONE, _SHORT, _NO_MEMORY, _BAD_TICKET, _BAD_PACKING = range(9)
 
 _VERSION = 1
+
+# What iim_place tells of begun data.
+_DATA = 2
 
 # Each function of iim.h: what it answers, and what it takes. Octets come as a pointer and a length.
 _OCTETS = [ctypes.c_void_p, ctypes.c_size_t]
@@ -101,11 +117,14 @@ _FUNCTIONS: Dict[str, Tuple[Any, List[Any]]] = {
     "iim_field": (None, [*_OCTETS, ctypes.c_size_t, ctypes.POINTER(_Dataset), _TO_ANSWER]),
     "iim_header": (None, [*_OCTETS, ctypes.POINTER(_Message), _TO_ANSWER]),
     "iim_sizes": (None, [*_OCTETS, ctypes.POINTER(_Object), _TO_ANSWER]),
+    "iim_next": (None, [_Limits, *_OCTETS, ctypes.POINTER(_OctetSet), _TO_ANSWER]),
+    "iim_place": (None, [*_OCTETS, ctypes.c_uint64, ctypes.POINTER(_Begun), _TO_ANSWER]),
     "iim_pack": (None, [_Packing, *_OCTETS, *_OCTETS, _TO_ANSWER]),
     "iim_pack_size": (None, [_Packing, *_OCTETS, _TO_ANSWER]),
     "iim_row": (ctypes.c_bool, [ctypes.c_uint8, ctypes.c_uint8, ctypes.POINTER(_Rule)]),
     "iim_admits": (ctypes.c_bool, [ctypes.c_uint8, ctypes.c_uint8, *_OCTETS]),
     "iim_cause_name": (ctypes.c_size_t, [ctypes.c_uint8, *_OCTETS]),
+    "iim_cause_text": (ctypes.c_size_t, [ctypes.c_uint8, *_OCTETS]),
     "iim_layer_name": (ctypes.c_size_t, [ctypes.c_uint8, *_OCTETS]),
     "iim_dataset_name": (ctypes.c_size_t, [ctypes.c_uint8, ctypes.c_uint8, *_OCTETS]),
     "iim_version": (ctypes.c_uint32, []),
@@ -144,7 +163,7 @@ _library = _Library()
 
 def _name(function: Callable[..., int], *numbers: int) -> Optional[str]:
     """A name that the library tells of some numbers, or None."""
-    out = ctypes.create_string_buffer(64)
+    out = ctypes.create_string_buffer(128)
     return out.value.decode("ascii") if function(*numbers, out, len(out)) else None
 
 
@@ -158,6 +177,12 @@ def dataset_name(record: int, number: int) -> Optional[str]:
 def cause_name(cause: int) -> Optional[str]:
     """The name of a cause, as "CountRange" for 13, or None."""
     return _name(_library.iim_cause_name, *_numbers_of(cause))
+
+
+@functools.lru_cache(maxsize=None)
+def cause_text(cause: int) -> Optional[str]:
+    """What a cause means, as docs/CAUSES.md has it: "9:10 is not the total" for 25. Or None."""
+    return _name(_library.iim_cause_text, *_numbers_of(cause))
 
 
 @functools.lru_cache(maxsize=None)
@@ -335,6 +360,11 @@ class Refused(Exception):
         self.story = Octets(story)
         # The ticket of the place before it, where it is known.
         self._ticket = b""
+
+    @property
+    def ticket(self) -> bytes:
+        """The ticket of the place before the refused octet, from which `Receiver.resume` goes on with others. (`check` tells none.)"""
+        return self._ticket
 
     @functools.cached_property
     def fields(self) -> List[Field]:
@@ -550,6 +580,35 @@ class Fed(NamedTuple):
     envelope: Optional[Envelope]
 
 
+class Place(NamedTuple):
+    """Where a receiver stands in an envelope.
+
+    `begun` is "nothing" between datasets, or "tag", "data" or "end". `record` is that of the last whole head, `number` that of the dataset
+    whose data are begun, and `size` how many octets it has; of a tag there are none yet. `first` is the offset of the first octet of what is
+    begun, `came` how many of its octets have come, and `to_come` how many are to come, which isn't known of a tag. `part` is the part of the
+    message as iim.h numbers it, `counter` how many octets of its filler or gap have come, and `flag` is 1 in a gap that has an LF, and in the
+    text how many CR are held at its end.
+    """
+
+    begun: str
+    record: int
+    number: Optional[int]
+    size: Optional[int]
+    first: int
+    came: int
+    to_come: Optional[int]
+    part: int
+    counter: int
+    flag: int
+
+
+def _place_of(told: _Begun) -> Place:
+    """The place that the library tells."""
+    in_data, kind = told.kind == _DATA, ("nothing", "tag", "data", "end")[told.kind]
+    number, size, to_come = (told.set, told.count, told.left) if in_data else (None, None, 0 if kind == "end" else None)
+    return Place(kind, told.section, number, size, told.first, told.came, to_come, told.part, told.counter, told.flag)
+
+
 class _Room:
     """A buffer that grows."""
 
@@ -602,6 +661,34 @@ class Receiver:
             self._feed(b"", 0)
             return self._next.take(self._answer.ticket)
         return self._ticket
+
+    @property
+    def place(self) -> Place:
+        """Where it stands: what is begun, how much of that has come and is to come, and the part of the message."""
+        ticket, begun = self.ticket, _Begun()
+        _library.iim_place(ticket, len(ticket), self.octets, begun, self._answer)
+        self._expect(_DONE)
+        return _place_of(begun)
+
+    @property
+    def next(self) -> FrozenSet[int]:
+        """The octets of which each could come next. All others are refused."""
+        self._stand()
+        found = _OctetSet()
+        _library.iim_next(self._limits, self._ticket, len(self._ticket), found, self._answer)
+        self._expect(_MORE, _DONE)
+        return frozenset(octet for octet in range(256) if found.bits[octet // 8] >> octet % 8 & 1)
+
+    def tries(self, octets: AnyOctets) -> Tuple[int, bool]:
+        """How many of the octets would be taken from here on, and whether the envelope ends with them. It stays where it is."""
+        self._stand()
+        octets, answer = _bytes(octets), self._answer
+        if self.octets:
+            self._feed(octets, 0)
+        else:
+            _library.iim_check(self._limits, octets, len(octets), answer)
+            self._expect(_DONE, _REFUSED, _TRUNCATED)
+        return answer.octet - self.octets, answer.status == _DONE
 
     def feed(self, piece: AnyOctets, start: int = 0) -> Fed:
         """Takes the octets of a piece, from `start` on, up to the end of the present envelope."""
@@ -948,20 +1035,37 @@ def _print_named(name: str, limits: Limits) -> int:
         return _print_file({"file": name}, file, limits)
 
 
-def main(words: Optional[List[str]] = None) -> int:
-    """Prints a line of JSON for each envelope of the files, or else of standard input, and one for each refusal. Answers the status: 0
-    all accepted, 1 refused, 2 a mistake in the words, 3 a file, output or memory fault."""
-    parser = argparse.ArgumentParser("python3 -m iim", description="Prints a line of JSON for each envelope. Octets are told as Latin-1.")
+def _explain(words: List[str]) -> int:
+    """Explains a file, and answers the status."""
+    import explain
+
+    return explain.main(explain.parse(words))
+
+
+def _print_files(words: List[str]) -> int:
+    """Prints the lines of the files that the words name, or else of standard input, and answers the status."""
+    parser = argparse.ArgumentParser(
+        "python3 -m iim",
+        description="Prints a line of JSON for each envelope. Octets are told as Latin-1.",
+        epilog="`%(prog)s explain --help` tells how a file is explained.",
+    )
     parser.add_argument("files", metavar="FILE", nargs="*", help="a file to read, or else standard input")
     parser.add_argument("--limits", metavar=("OCTETS", "FIELDS"), type=int, nargs=2, default=WIRE, help="of records 1 and 2 together")
     asked = parser.parse_args(words)
     limits = Limits(*asked.limits)
     if not all(1 <= limit <= GREATEST_LIMIT for limit in limits):
         parser.error(f"a limit is from 1 to {GREATEST_LIMIT}")
+    if asked.files:
+        return max([_print_named(name, limits) for name in asked.files])
+    return _print_file({}, sys.stdin.buffer, limits)
+
+
+def main(words: Optional[List[str]] = None) -> int:
+    """Prints a line of JSON for each envelope of the files, or else of standard input, and one for each refusal; after the word `explain` it
+    explains a file. Answers the status: 0 all accepted, 1 refused, 2 a mistake in the words, 3 a file, output or memory fault."""
+    words = sys.argv[1:] if words is None else words
     try:
-        if asked.files:
-            return max([_print_named(name, limits) for name in asked.files])
-        return _print_file({}, sys.stdin.buffer, limits)
+        return _explain(words[1:]) if words[:1] == ["explain"] else _print_files(words)
     except MemoryError:
         sys.stderr.write("out of memory\n")
     except CannotWrite:

@@ -3,7 +3,7 @@ from __future__ import annotations
 import datetime
 import functools
 import os
-from typing import Any, BinaryIO, Callable, Dict, Iterable, Iterator, List, NamedTuple, Optional, Tuple, Type, Union
+from typing import Any, BinaryIO, Callable, Dict, FrozenSet, Iterable, Iterator, List, NamedTuple, Optional, Tuple, Type, Union
 
 __all__ = [
     "AuditRow",
@@ -15,6 +15,7 @@ __all__ = [
     "Limits",
     "Octets",
     "PartId",
+    "Place",
     "Receiver",
     "Refused",
     "Rule",
@@ -27,6 +28,7 @@ __all__ = [
     "audit",
     "audit_blocks",
     "cause_name",
+    "cause_text",
     "check",
     "dataset_name",
     "layer_name",
@@ -41,6 +43,7 @@ GREATEST: int
 GREATEST_LIMIT: int
 def dataset_name(record: int, number: int) -> Optional[str]: ...
 def cause_name(cause: int) -> Optional[str]: ...
+def cause_text(cause: int) -> Optional[str]: ...
 def layer_name(layer: int) -> Optional[str]: ...
 
 class Octets(bytes):
@@ -108,6 +111,8 @@ class Refused(Exception):
     cause: int
     story: Octets
     def __init__(self, nth: int, at: int, layer: str, record: int, number: int, octet: int, cause: int, story: bytes=...) -> None: ...
+    @property
+    def ticket(self) -> bytes: ...
     @functools.cached_property
     def fields(self) -> List[Field]: ...
     @property
@@ -199,6 +204,18 @@ class Fed(NamedTuple):
     story: Octets
     envelope: Optional[Envelope]
 
+class Place(NamedTuple):
+    begun: str
+    record: int
+    number: Optional[int]
+    size: Optional[int]
+    first: int
+    came: int
+    to_come: Optional[int]
+    part: int
+    counter: int
+    flag: int
+
 class Receiver:
     octets: int
     nth: int
@@ -208,6 +225,11 @@ class Receiver:
     def resume(cls, ticket: AnyOctets, octets: int, limits: Limits=..., *, nth: int=..., at: int=...) -> Receiver: ...
     @property
     def ticket(self) -> bytes: ...
+    @property
+    def place(self) -> Place: ...
+    @property
+    def next(self) -> FrozenSet[int]: ...
+    def tries(self, octets: AnyOctets) -> Tuple[int, bool]: ...
     def feed(self, piece: AnyOctets, start: int=...) -> Fed: ...
     def end(self) -> None: ...
 def read(file: AnyFile, limits: Limits=..., *, on_text: Optional[Callable[[bytes], Any]]=...) -> Iterator[Envelope]: ...

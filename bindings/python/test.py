@@ -597,6 +597,46 @@ def knows_the_names_of_causes_and_layers():
 
 
 @test
+def knows_what_the_causes_mean():
+    # (a cause that stands in two tables means what the first says)
+    want, column = {}, 0
+    with open(f"{TOP}/docs/CAUSES.md") as page:
+        for line in page:
+            cells = [cell.strip() for cell in line.strip().strip("|").split(" | ")]
+            column = cells.index("What it means") if cells[0] == "Cause" else column
+            if line.startswith("|") and (number := re.match(r"(\d+) \w", cells[0])):
+                want.setdefault(int(number[1]), cells[column])
+    same(len(want), 40)
+    same({number: iim.cause_text(number) for number in range(256) if iim.cause_text(number)}, want)
+    raised(ValueError, iim.cause_text, 256)
+
+
+@test
+def tells_the_octets_that_can_come_next():
+    for whole in (SMALLEST, STORY):
+        for count in range(0, len(whole), 7):
+            receiver, next_ones, answer = iim.Receiver(), iim._OctetSet(), iim._Answer()
+            receiver.feed(whole[:count])
+            ticket = receiver.ticket if count else b""
+            iim._library.iim_next(receiver._limits, ticket, len(ticket), next_ones, answer)
+            told = [octet for octet in range(256) if next_ones.bits[octet // 8] >> octet % 8 & 1]
+            fits = [octet for octet in range(256) if rules.read(whole[:count] + bytes([octet])).refusal is None]
+            same((count, answer.status, told), (count, iim._MORE, fits))
+
+
+@test
+def tells_where_the_refused_token_begins():
+    # An octet in the head of 1:70 at 42, in its value, in the text and in the head of 9:10 at 105.
+    for octet, bad, kind, began in [(42, 0x1D, 0, 42), (44, 0x14, 1, 42), (50, 0x41, 2, 47), (54, 0x41, 2, 47), (103, 0x04, 2, 103), (107, 0x0B, 1, 105)]:
+        front, rest = iim.Receiver(), SMALLEST[:octet] + bytes([bad]) + SMALLEST[octet + 1 :]
+        refused = raised(iim.Refused, lambda: list(iim.read(io.BytesIO(rest))))
+        front.feed(rest[: refused.octet])
+        begun, answer, ticket = iim._Begun(), iim._Answer(), front.ticket
+        iim._library.iim_place(ticket, len(ticket), front.octets, begun, answer)
+        same((octet, answer.status, begun.kind, begun.token), (octet, iim._DONE, kind if refused.octet == octet else begun.kind, began))
+
+
+@test
 def knows_the_rows():
     kinds = {}
     for record, number in itertools.product(range(256), repeat=2):
@@ -1458,7 +1498,7 @@ def header():
 # Each struct of iim.h, and its part in iim.py.
 STRUCTS = {
     "iim_limits": iim._Limits, "iim_answer": iim._Answer, "iim_span": iim._Span, "iim_dataset": iim._Dataset, "iim_message": iim._Message,
-    "iim_object": iim._Object, "iim_packing": iim._Packing, "iim_rule": iim._Rule,
+    "iim_object": iim._Object, "iim_packing": iim._Packing, "iim_rule": iim._Rule, "iim_octet_set": iim._OctetSet, "iim_begun": iim._Begun,
 }  # fmt: skip
 
 
@@ -1574,14 +1614,14 @@ def runs_the_c_program_of_the_page():
 @test
 def runs_the_python_programs_of_the_page():
     with clone() as folder:
-        text, _ = block("python", "iim.read")
+        text, _ = block("python", "envelope.headline")
         file(folder, "receive.py", text.encode())
         words, output = block("sh", "receive.py")
         same(shell(words, folder), (0, output, ""))
         told = "octet 54 of the file: 1 refused at octet 54 by layer record on 1:70, cause 15 BadValue\n"
         same(shell(words.replace("stream", "damaged/bad_value"), folder), (1, "", told))
         same(shell(words.replace("stream", "damaged/truncated"), folder), (1, "", "the file ends in envelope 1\n"))
-        words, output = block("sh", "python3 -m iim")
+        words, output = block("sh", "python3 -m iim samples")
         status, lines, errors = shell(words, folder)
         same((status, errors), (1, ""))
         # (the page breaks the lines, and leaves out what `..` stands for)

@@ -4,10 +4,8 @@ use Rattle.std.proofs.lemmas.List.{take-append-drop, drop_more}
 use Rattle.iim_fields.specs.declared.limits.Limits.{Limits}
 use Rattle.caller_tests.specs.Missing.{IsMissedAlone}
 use Rattle.iim_dataset.specs.Format.Datasets.{Dataset}
-use Rattle.iim_dataset.specs.Format.Octets.{IsOctet}
 use Rattle.iim_places.specs.Format.Admitted.{Value}
-use Rattle.iim_places.specs.Format.Conditions.{Token, rule_of}
-use Rattle.iim_places.specs.Laws.Conditions.{RefusalsTellTheLowestCause, TellsTheLowest}
+use Rattle.iim_places.specs.Format.Conditions.{Token, TellsTheLowest, rule_of}
 use Rattle.iim_places.specs.declared.refusal.Cause.{Cause}
 use Rattle.iim_places.specs.declared.refusal.Layer.TheVariants as layers
 use Rattle.iim_places.specs.Format.Open.{IsOpen, RefusesNext}
@@ -79,8 +77,8 @@ alone limits ds token fault t e =
       single = t.lowest causes.Repeated layer (subst (λ (cause : Cause). 12 < (rule_of cause).number) (sym e) (lit< tt));
     }
 
-pub missed : RefusalsTellTheLowestCause → (limits : Limits) (p : List ℕ) (a octet : ℕ) (told : List StoryEvent) (e : Refusal) → IsOctet octet → IsRefusedIn limits p a (octet ∷ []) told e → e.cause ≡ causes.Missing
+pub missed : (limits : Limits) (p : List ℕ) (a octet : ℕ) (told : List StoryEvent) (e : Refusal) → IsRefusedIn limits p a (octet ∷ []) told e → e.cause ≡ causes.Missing
     → (ds : List Dataset) × (token : Token) × IsMissedAlone limits ds token
-missed law limits p a octet told e is r cause =
-    let (ds, token, completes, tells) = law limits p octet r.fault is (first limits p a octet told e r) in
-    (ds, token, alone limits ds token r.fault tells (sym (ap (λ (f : Refusal). f.cause) r.refusal) ∙ cause))
+missed limits p a octet told e r cause =
+    let refused = first limits p a octet told e r in
+    (refused.before.whole, refused.token, alone limits refused.before.whole refused.token r.fault refused.tells (sym (ap (λ (f : Refusal). f.cause) r.refusal) ∙ cause))

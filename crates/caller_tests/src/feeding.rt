@@ -13,7 +13,7 @@ ghost use Rattle.iim_unpack.specs.States.Unpacking.{Stands, limits_in};
 
 use iim_unpack::laws::{
     living_octets_are_open, nothing_continues_from_refused_octets,
-    open_octets_begin_with_no_envelope, refusals_are_determined, refusals_tell_the_lowest_cause,
+    open_octets_begin_with_no_envelope, refusals_are_determined,
 };
 use iim_unpack::{Cause, Progress, Refusal, Unpacker};
 use wire_story::{Discard, StorySink};
@@ -91,7 +91,6 @@ pub fn misses_a_dataset(unpacker: &mut Unpacker, octet: u8) -> bool
     ensures { IsTrue result → (p : List ℕ) (a : ℕ) → Stands unpacker.old p a → (ds : List Dataset) × (token : Token)
         × IsMissedAlone (limits_in unpacker.old) ds token }
 {
-    refusals_tell_the_lowest_cause();
     let piece = [octet];
     match unpacker.feed(&piece, &mut Discard) {
         Ok(_) => false,

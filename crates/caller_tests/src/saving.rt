@@ -18,7 +18,7 @@ use iim_unpack::laws::{
 };
 use iim_unpack::{Progress, Refusal, TicketFault, Unpacker};
 use std::alloc::Global;
-use wire_story::StorySink;
+use wire_story::{Discard, StorySink};
 
 /// An unpacker in the place of another, by a ticket, as for another process: it stands on the same octets, or is done with them. So it
 /// answers each list of pieces as the other.
@@ -28,7 +28,6 @@ pub fn moved(alloc: Global, unpacker: &Unpacker, limits: Limits) -> Option<Unpac
     ensures done { IfSome result (λ other. (p : List ℕ) (a : ℕ) → IsDoneWith unpacker.now p a → IsDoneWith other p a) }
 {
     restored_unpackers_stand_as_saved();
-    saved_places_continue();
     let Ok(ticket) = unpacker.save(alloc) else {
         return None;
     };
@@ -99,6 +98,30 @@ pub fn missing(unpacker: &Unpacker) -> Option<Refusal>
         Some(refusal) => Some(refusal),
         None => None,
     }
+}
+
+/// Feeds a piece to an unpacker, and to another that was made of its ticket: both give one answer.
+pub fn feed_both(
+    alloc: Global,
+    unpacker: &mut Unpacker,
+    limits: Limits,
+    piece: &[u8],
+) -> Option<(Result<Progress, Refusal>, Result<Progress, Refusal>)>
+    requires { limits_in unpacker.old ≡ limits }
+    ensures { IfSome result (λ both. (p : List ℕ) (a : ℕ) → Stands unpacker.old p a ⊎ IsDoneWith unpacker.old p a
+        → both.0 ≡ both.1) }
+{
+    saved_places_continue();
+    let Ok(ticket) = unpacker.save(alloc) else {
+        return None;
+    };
+    let Ok(mut other) = Unpacker::restore(alloc, limits, ticket.as_slice(), unpacker.octets())
+    else {
+        return None;
+    };
+    let first = unpacker.feed(piece, &mut Discard);
+    let second = other.feed(piece, &mut Discard);
+    Some((first, second))
 }
 
 /// Feeds an unpacker that was made from the ticket of other octets: what it refuses, it refuses after these octets and after all that

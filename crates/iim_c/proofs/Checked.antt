@@ -58,14 +58,13 @@ pub refused_for : StreamsHaveOneAnswer → (limits : Limits) (octets : List ℕ)
 refused_for law limits octets more e told few r by_octets is =
     let at : raised 0 r.k ≡ r.k = exact r.k (let w = r.within in omega (arith, w, few)) in
     let octet : e.octet ≡ r.k = ap (λ (f : Refusal). f.octet) r.refusal ∙ at in
-    answered law limits octets told (Refused e)
-    (record {
-      fits = (let w = r.within in omega (arith, octet, w));
-      fault = r.fault;
-      refusal = r.refusal ∙ ap (λ (n : ℕ). refusal_at n r.fault) (at ∙ sym octet);
-      kills = record {
+    answered law limits octets told (Refused e) (
+      record {
+        fits = (let w = r.within in omega (arith, octet, w));
+        fault = r.fault;
+        refusal = r.refusal ∙ ap (λ (n : ℕ). refusal_at n r.fault) (at ∙ sym octet);
         refuses = subst (λ (n : ℕ). RefusesNext limits (take n octets) (slice_index octets n) r.fault) (sym octet) r.refuses;
-        by_octets = λ sink. by_octets (ap (λ (f : Refusal). f.cause) r.refusal ∙ sink);
-      };
-    })
+      },
+      by_octets,
+    )
     is

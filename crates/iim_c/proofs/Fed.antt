@@ -2,24 +2,27 @@
 use Rattle.std.proofs.Common.{◌≡◌, ◌≢◌, ℕ, ◌<◌, ◌≤◌, ◌^◌, List, [], ◌∷◌, ◌++◌, ◌⊎◌, inl, inr, length, take, Bool, true, false, nat_lt, Some, None, refl, sym, ap, subst, ◌∙◌, arith}
 use Rattle.std.proofs.lemmas.Bool.{ltb-true, ltb-false}
 use Rattle.iim_fields.specs.declared.limits.Limits.{Limits}
-use Rattle.iim_places.specs.Format.Open.{IsOpen, IsTruncatedAt}
+use Rattle.wire_story.specs.Format.Delivery.{StoryEvent}
+use Rattle.wire_message.specs.Format.Layers.{text_so_far}
+use Rattle.iim_places.specs.Format.Open.{IsOpen, IsTextOf, IsTruncatedAt, object_so_far}
 use Rattle.iim_places.specs.Laws.Admitted.{AdmittedOctetsAreFramed, NoEnvelopeIsEmpty}
 use Rattle.iim_places.specs.Laws.Places.{TicketsTellOnePlace}
 use Rattle.iim_places.specs.States.Restored.{IsRestoreFault}
 use Rattle.iim_places.specs.Format.Streams.{IsEnvelopeWithin}
 use Rattle.iim_places.specs.Format.Tickets.{IsTicketOf}
-use Rattle.iim_unpack.specs.States.Unpacking.{Unpacking, Stands, IsDone, IsDoneWith, IsRefusedIn, limits_in}
+use Rattle.iim_unpack.specs.States.Unpacking.{Unpacking, Stands, Goes, IsDone, IsDoneWith, IsRefusedIn, limits_in}
 use Rattle.iim_unpack.specs.declared.unpacker.Progress.{Progress}
 use Rattle.iim_unpack.specs.declared.unpacker.Progress.TheVariants as progress
 use Rattle.iim_places.specs.declared.refusal.Refusal.{Refusal}
 use Rattle.iim_places.specs.declared.ticket.fault.TicketFault.{TicketFault}
 use Rattle.iim_c.specs.declared.answer.IimAnswer.{IimAnswer}
-use Rattle.iim_c.specs.Beginning.{IsBegun, IsNotBegun}
+use Rattle.iim_c.specs.Format.Beginning.{IsBegun, IsNotBegun}
 use Rattle.iim_c.specs.Steps.{HasFedText, HasRefusedText, IsSaved, saved_with, short_with, refused_with, used_in}
 use Rattle.iim_c.specs.Format.Answers.{status_answer, refusal_answer, ticket_answer}
 use Rattle.iim_c.specs.Format.Statuses as status
-use Rattle.iim_c.specs.Format.Feeding.{Outcome, More, Done, Refused, BadTicket, NoMemory, IsOutcome, IsAnswered, IsFed, IsEnd, text_for, text_of, next_of, answer_of, short_answer}
+use Rattle.iim_c.specs.Format.Feeding.{Outcome, More, Done, Refused, BadTicket, NoMemory, IsOutcome, IsAnswered, IsFed, IsEnd, most_of_ticket, text_for, text_of, next_of, answer_of, short_answer}
 use Rattle.iim_c.specs.Format.Writing.{HasTaken, StandIn, counted}
+use Rattle.iim_c.proofs.TextLengths.{CutLaws, delivers_few, events_few, take_few}
 use Rattle.iim_c.proofs.Places.{PlaceLaws, stands_at, ends_at, place_of, begun_limits}
 
 -- ---- what it comes to
@@ -100,6 +103,41 @@ refused_outcome limits ticket at u piece out count e b fed open_yet = record {
   envelopes = λ p a ends. open_yet (is_done u p a (ends_at b.laws limits ticket at u p a b.is_begun ends));
 }
 
+-- ---- how much of the text it brings
+
+-- octets that the unpacker stands on have a text
+text_there : (u : Unpacking) (p : List ℕ) (a : ℕ) → (s : Stands u p a) → IsTextOf p (text_so_far (object_so_far s.is_open.whole s.is_open.begun))
+text_there u p a s = (s.is_open.whole, s.is_open.begun, s.is_open.reads, refl)
+
+goes_few : CutLaws → (q : Progress) (u v : Unpacking) (p piece : List ℕ) (a : ℕ) (more : List StoryEvent) → Stands u p a → Goes v p a piece more q → length (text_for more) ≤ length piece
+goes_few cuts progress.More u v p piece a more s goes = delivers_few cuts p piece _ more (text_there u p a s) goes.1
+goes_few cuts (progress.Done used) u v p piece a more s goes =
+    let few = delivers_few cuts p (take used piece) _ more (text_there u p a s) goes.2 in
+    let front = take_few used piece in
+    omega (arith, few, front)
+
+refuses_few : CutLaws → (limits : Limits) (u : Unpacking) (p piece : List ℕ) (a : ℕ) (more : List StoryEvent) (e : Refusal) → Stands u p a → IsRefusedIn limits p a piece more e
+    → length (text_for more) ≤ length piece
+refuses_few cuts limits u p piece a more e s r =
+    let few = events_few cuts p (take r.k piece) _ r.added more (text_there u p a s) (r.adds _ (text_there u p a s)) r.delivers in
+    let front = take_few r.k piece in
+    omega (arith, few, front)
+
+-- what holds of a place holds of the unpacker that stands there
+at_place : (P : Type 0) (limits : Limits) (ticket : List ℕ) (at : ℕ) (u : Unpacking) → Begun limits ticket at u → ((p : List ℕ) (a : ℕ) → Stands u p a → P) → ((p : List ℕ) (a : ℕ) → IsDoneWith u p a → P) → P
+at_place P limits ticket at u b open' done =
+    let place = place_of limits ticket at u b.is_begun in
+    elim place.2 as (λ _. P) [
+      | inl stands ↦ open' place.0 place.1 (stands_at b.laws.one_place limits ticket at u place.0 place.1 b.is_begun stands)
+      | inr ends ↦ done place.0 place.1 (ends_at b.laws limits ticket at u place.0 place.1 b.is_begun ends)
+    ]
+
+none_few : (text piece : List ℕ) → text ≡ [] → length text ≤ length piece
+none_few text piece is = let none = ap length is in omega (arith, none)
+
+ticket_few : (limits : Limits) (u v : Unpacking) (next : List ℕ) → limits_in v ≡ limits_in u → limits_in u ≡ limits → length next ≤ most_of_ticket (limits_in v) → length next ≤ most_of_ticket limits
+ticket_few limits u v next same told few = subst (λ (l : Limits). length next ≤ most_of_ticket l) (same ∙ told) few
+
 -- ---- how it is answered
 
 all_counted : (text out : List ℕ) (written room : ℕ) → written ≡ counted text → room ≡ length out → room < 2 ^ 63 → written ≤ room → written ≡ length text
@@ -144,29 +182,41 @@ told_for o u status used written room text_out ticket_out told taken of_out few 
 fed_nothing : (limits : Limits) (ticket : List ℕ) (at : ℕ) (piece text_out ticket_out : List ℕ) (told : IimAnswer) → told ≡ status_answer status.no_memory
     → IsFed limits ticket at piece text_out ticket_out told
 fed_nothing limits ticket at piece text_out ticket_out told is =
-    (NoMemory, tt, inl (record { text_fits = omega arith; ticket_fits = omega arith; answer = is; text = refl; ticket = refl }))
+    (NoMemory, tt, record { text = omega arith; ticket = omega arith }, inl (record { text_fits = omega arith; ticket_fits = omega arith; answer = is; text = refl; ticket = refl }))
 
-pub fed_more : (limits : Limits) (ticket : List ℕ) (at : ℕ) (u v : Unpacking) (piece text_out ticket_out : List ℕ) (count room : ℕ) (told : IimAnswer) → Begun limits ticket at u
+pub fed_more : CutLaws → (limits : Limits) (ticket : List ℕ) (at : ℕ) (u v : Unpacking) (piece text_out ticket_out : List ℕ) (count room : ℕ) (told : IimAnswer) → Begun limits ticket at u
     → HasFedText u v piece text_out count progress.More → limits_in v ≡ limits_in u → (IsDone u → ⊥) → room ≡ length text_out → room < 2 ^ 63
     → IsSaved v (used_in progress.More (length piece)) count room ticket_out told → IsFed limits ticket at piece text_out ticket_out told
-fed_more limits ticket at u v piece text_out ticket_out count room told b fed same open_yet of_out few (inl s) =
+fed_more cuts limits ticket at u v piece text_out ticket_out count room told b fed same open_yet of_out few (inl s) =
     let o = More v.octets (length piece) (text_for fed.more) s.next in (
       o,
       more_outcome limits ticket at u v piece text_out s.next count b fed same open_yet s.is_ticket,
+      record {
+        text = at_place (length (text_for fed.more) ≤ length piece) limits ticket at u b (λ p a stands. goes_few cuts progress.More u v p piece a fed.more stands (fed.goes p a stands))
+            (λ p a done. absurd (open_yet (is_done u p a done)));
+        ticket = ticket_few limits u v s.next same (begun_limits limits ticket at u b.is_begun) s.few;
+      },
       told_for o v status.more (length piece) count room text_out ticket_out told fed.taken of_out few refl s.stands s.fits,
     )
-fed_more limits ticket at u v piece text_out ticket_out count room told b fed same open_yet of_out few (inr e) = fed_nothing limits ticket at piece text_out ticket_out told e
+fed_more cuts limits ticket at u v piece text_out ticket_out count room told b fed same open_yet of_out few (inr e) = fed_nothing limits ticket at piece text_out ticket_out told e
 
-pub fed_done : (limits : Limits) (ticket : List ℕ) (at : ℕ) (u v : Unpacking) (piece text_out ticket_out : List ℕ) (count room used : ℕ) (told : IimAnswer) → Begun limits ticket at u
+pub fed_done : CutLaws → (limits : Limits) (ticket : List ℕ) (at : ℕ) (u v : Unpacking) (piece text_out ticket_out : List ℕ) (count room used : ℕ) (told : IimAnswer) → Begun limits ticket at u
     → HasFedText u v piece text_out count (progress.Done used) → limits_in v ≡ limits_in u → (IsDone u → (used ≡ 0) × (v ≡ u) × (count ≡ 0)) → room ≡ length text_out → room < 2 ^ 63
     → IsSaved v (used_in (progress.Done used) (length piece)) count room ticket_out told → IsFed limits ticket at piece text_out ticket_out told
-fed_done limits ticket at u v piece text_out ticket_out count room used told b fed same again of_out few (inl s) =
+fed_done cuts limits ticket at u v piece text_out ticket_out count room used told b fed same again of_out few (inl s) =
     let o = Done v.octets used (text_for fed.more) s.next in (
       o,
       done_outcome limits ticket at u v piece text_out s.next count used b fed same again s.is_ticket,
+      record {
+        text =
+            at_place (length (text_for fed.more) ≤ length piece) limits ticket at u b
+            (λ p a stands. goes_few cuts (progress.Done used) u v p piece a fed.more stands (fed.goes p a stands))
+            (λ p a done. none_few (text_for fed.more) piece (no_text (text_for fed.more) (sym fed.taken.0 ∙ (again (is_done u p a done)).2)));
+        ticket = ticket_few limits u v s.next same (begun_limits limits ticket at u b.is_begun) s.few;
+      },
       told_for o v status.done used count room text_out ticket_out told fed.taken of_out few refl s.stands s.fits,
     )
-fed_done limits ticket at u v piece text_out ticket_out count room used told b fed same again of_out few (inr e) = fed_nothing limits ticket at piece text_out ticket_out told e
+fed_done cuts limits ticket at u v piece text_out ticket_out count room used told b fed same again of_out few (inr e) = fed_nothing limits ticket at piece text_out ticket_out told e
 
 refused_told : (e : Refusal) (text text_out ticket_out : List ℕ) (written room : ℕ) (told : IimAnswer) → HasTaken text_out written text → room ≡ length text_out → room < 2 ^ 63
     → told ≡ refused_with e written room → IsAnswered (Refused e text) text_out ticket_out told
@@ -191,12 +241,17 @@ refused_told e text text_out ticket_out written room told taken of_out few is = 
           ticket = refl;
         })
 
-pub fed_refused : (limits : Limits) (ticket : List ℕ) (at : ℕ) (u : Unpacking) (piece text_out ticket_out : List ℕ) (count room : ℕ) (e : Refusal) (told : IimAnswer) → Begun limits ticket at u
+pub fed_refused : CutLaws → (limits : Limits) (ticket : List ℕ) (at : ℕ) (u : Unpacking) (piece text_out ticket_out : List ℕ) (count room : ℕ) (e : Refusal) (told : IimAnswer) → Begun limits ticket at u
     → HasRefusedText u piece text_out count e → (IsDone u → ⊥) → room ≡ length text_out → room < 2 ^ 63
     → told ≡ refused_with e count room → IsFed limits ticket at piece text_out ticket_out told
-fed_refused limits ticket at u piece text_out ticket_out count room e told b fed open_yet of_out few is = (
+fed_refused cuts limits ticket at u piece text_out ticket_out count room e told b fed open_yet of_out few is = (
   Refused e (text_for fed.more),
   refused_outcome limits ticket at u piece text_out count e b fed open_yet,
+  record {
+    text = at_place (length (text_for fed.more) ≤ length piece) limits ticket at u b (λ p a stands. refuses_few cuts (limits_in u) u p piece a fed.more e stands (fed.refuses p a stands))
+        (λ p a done. absurd (open_yet (is_done u p a done)));
+    ticket = omega arith;
+  },
   refused_told e (text_for fed.more) text_out ticket_out count room told fed.taken of_out few is,
 )
 
@@ -215,14 +270,14 @@ alive_after q limits ticket at u v piece out count b fed same =
           ap (λ (w : Unpacking). w.refused) (same (is_done u place.0 place.1 done)) ∙ done.taking)
     ]
 
-pub fed_ok : (q : Progress) (limits : Limits) (ticket : List ℕ) (at : ℕ) (u v : Unpacking) (piece text_out ticket_out : List ℕ) (count room : ℕ) (pair : ℕ × ℕ) (told : IimAnswer) → Begun limits ticket at u
+pub fed_ok : CutLaws → (q : Progress) (limits : Limits) (ticket : List ℕ) (at : ℕ) (u v : Unpacking) (piece text_out ticket_out : List ℕ) (count room : ℕ) (pair : ℕ × ℕ) (told : IimAnswer) → Begun limits ticket at u
     → HasFedText u v piece text_out count q → limits_in v ≡ limits_in u → (IsDone u → (q ≡ progress.Done 0) × (v ≡ u) × (count ≡ 0)) → room ≡ length text_out → room < 2 ^ 63
     → pair ≡ used_in q (length piece) → IsSaved v pair count room ticket_out told → IsFed limits ticket at piece text_out ticket_out told
-fed_ok progress.More limits ticket at u v piece text_out ticket_out count room pair told b fed same again of_out few is saved =
-    fed_more limits ticket at u v piece text_out ticket_out count room told b fed same (λ done. let h = (again done).0 in cc) of_out few
+fed_ok cuts progress.More limits ticket at u v piece text_out ticket_out count room pair told b fed same again of_out few is saved =
+    fed_more cuts limits ticket at u v piece text_out ticket_out count room told b fed same (λ done. let h = (again done).0 in cc) of_out few
     (subst (λ (x : ℕ × ℕ). IsSaved v x count room ticket_out told) is saved)
-fed_ok (progress.Done used) limits ticket at u v piece text_out ticket_out count room pair told b fed same again of_out few is saved =
-    fed_done limits ticket at u v piece text_out ticket_out count room used told b fed same (λ done. let h = again done in ((let e = h.0 in cc), h.1, h.2)) of_out few
+fed_ok cuts (progress.Done used) limits ticket at u v piece text_out ticket_out count room pair told b fed same again of_out few is saved =
+    fed_done cuts limits ticket at u v piece text_out ticket_out count room used told b fed same (λ done. let h = again done in ((let e = h.0 in cc), h.1, h.2)) of_out few
     (subst (λ (x : ℕ × ℕ). IsSaved v x count room ticket_out told) is saved)
 
 -- ---- no unpacker
@@ -230,7 +285,7 @@ fed_ok (progress.Done used) limits ticket at u v piece text_out ticket_out count
 bad_ticket : (limits : Limits) (ticket : List ℕ) (at : ℕ) (piece text_out ticket_out : List ℕ) (fault : TicketFault) (told : IimAnswer) → (ticket ≢ []) → IsRestoreFault limits ticket fault
     → told ≡ ticket_answer fault → IsFed limits ticket at piece text_out ticket_out told
 bad_ticket limits ticket at piece text_out ticket_out fault told some why is =
-    (BadTicket fault, (some, why), inl (record { text_fits = omega arith; ticket_fits = omega arith; answer = is; text = refl; ticket = refl }))
+    (BadTicket fault, (some, why), record { text = omega arith; ticket = omega arith }, inl (record { text_fits = omega arith; ticket_fits = omega arith; answer = is; text = refl; ticket = refl }))
 
 pub fed_not_begun : (limits : Limits) (ticket : List ℕ) (at : ℕ) (piece text_out ticket_out : List ℕ) (fault : TicketFault) (told : IimAnswer) → IsNotBegun limits ticket fault
     → told ≡ ticket_answer fault → IsFed limits ticket at piece text_out ticket_out told

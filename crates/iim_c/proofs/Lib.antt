@@ -1,9 +1,11 @@
 pub mod Checked
-pub mod Fed
 pub mod Headers
 pub mod Packs
-pub mod Places
+pub mod TextLengths
 pub mod TextOuts
 pub mod TicketFields
 pub mod TicketNumbers
 pub mod TicketTexts
+-- What proofs of other crates cite.
+pub mod Fed
+pub mod Places

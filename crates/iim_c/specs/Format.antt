@@ -1,4 +1,5 @@
 pub mod Answers
+pub mod Beginning
 pub mod Checking
 pub mod Feeding
 pub mod Names

@@ -1,8 +1,6 @@
 -- What octets are, and what is said of them.
 pub mod Format
 -- What only proofs and private clauses cite.
-pub mod Beginning
-pub mod NameSteps
 pub mod PackSteps
 pub mod Steps
 pub mod TextOutLaws

@@ -7,13 +7,13 @@ use Rattle.iim_request.specs.declared.pack_request.PackRequest.{PackRequest}
 use Rattle.iim_c.specs.declared.answer.IimAnswer.{IimAnswer}
 use Rattle.iim_c.specs.declared.packing.IimPacking.{IimPacking}
 use Rattle.iim_c.specs.Format.Answers.{status_answer}
-use Rattle.iim_c.specs.Format.Packing.{PackOutcome, IsPackOutcome, asked_for, form_of, pack_answer}
+use Rattle.iim_c.specs.Format.Packing.{AsksSomething, PackOutcome, IsPackOutcome, asked_for, form_of, pack_answer}
 use Rattle.iim_c.specs.Format.Packing as packing
 use Rattle.iim_c.specs.Format.Statuses as status
 
--- The request is that of the command for what is asked.
+-- Something that can be is asked for, and the request is that of the command for it.
 abbrev pub Asks : IimPacking → PackRequest → Type 0
-Asks p request = asked request.subfile request.unknown request.max ≡ asked_for p
+Asks p request = (asked request.subfile request.unknown request.max ≡ asked_for p) × AsksSomething p
 
 -- The answer is that for the fault.
 abbrev pub IsUnpackedFault : PackFault → IimAnswer → Type 0

@@ -9,6 +9,7 @@ use Rattle.iim_unpack.specs.declared.unpacker.Progress.TheVariants.{More, Done}
 use Rattle.iim_places.specs.Format.Tickets.{IsTicketOf}
 use Rattle.iim_c.specs.declared.answer.IimAnswer.{IimAnswer}
 use Rattle.iim_c.specs.Format.Answers.{status_answer, refusal_answer}
+use Rattle.iim_c.specs.Format.Feeding.{most_of_ticket}
 use Rattle.iim_c.specs.Format.Statuses as status
 use Rattle.iim_c.specs.Format.Writing.{HasTaken, StandIn}
 
@@ -49,6 +50,7 @@ pub record HasSaved (u : Unpacking) (told : ℕ × ℕ) (written room : ℕ) (ou
   pub next : List ℕ
   pub is_ticket : (p : List ℕ) (a : ℕ) → Stands u p a ⊎ IsDoneWith u p a → IsTicketOf p next
   pub stands : StandIn out next
+  pub few : length next ≤ most_of_ticket (limits_in u)
   pub fits : (written ≤ room) × (length next ≤ length out) × (answer ≡ saved_with u told written (length next))
       ⊎ (((room < written) ⊎ (length out < length next)) × (answer ≡ short_with written (length next)))
 

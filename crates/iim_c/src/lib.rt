@@ -5,7 +5,7 @@
 #![tactic(auto)]
 
 mod answer;
-mod begin;
+pub mod begin;
 mod bytes;
 mod check;
 mod dataset_names;
@@ -20,11 +20,11 @@ mod packing;
 mod rule;
 mod sizes;
 mod span;
-mod status;
+pub mod status;
 mod text_out;
 mod version;
 
-pub use answer::IimAnswer;
+pub use answer::{IimAnswer, status_answer, ticket_answer};
 pub use check::iim_check;
 pub use dataset_names::iim_dataset_name;
 pub use end::iim_end;
@@ -32,7 +32,7 @@ pub use feed::iim_feed;
 pub use field::{IimDataset, iim_field};
 pub use header::{IimMessage, iim_header};
 pub use limits::IimLimits;
-pub use names::{iim_cause_name, iim_layer_name};
+pub use names::{iim_cause_name, iim_layer_name, put_name};
 pub use pack::{iim_pack, iim_pack_size};
 pub use packing::IimPacking;
 pub use rule::{IimRule, iim_admits, iim_row};

@@ -1,8 +1,7 @@
 //! The names of causes and layers.
 
 ghost use Rattle.std.specs.Prelude.{◌≡◌, ◌+◌, Some, None, MatchOption};
-ghost use Rattle.iim_c.specs.Format.Names.{IsNamed, cause_named, layer_named, name_or_none};
-ghost use Rattle.iim_c.specs.NameSteps.{name_told};
+ghost use Rattle.iim_c.specs.Format.Names.{IsNamed, cause_named, layer_named, name_or_none, name_told};
 
 use crate::bytes::put_text;
 
@@ -95,7 +94,7 @@ fn layer_named(number: u8) -> Option<&'static str>
 }
 
 /// Writes a name with a NUL after it, where there is room for both, and answers how many octets it has: 0 where there is none.
-pub(crate) fn put_name(name: Option<&str>, out: &mut [u8]) -> usize
+pub fn put_name(name: Option<&str>, out: &mut [u8]) -> usize
     ensures { IsNamed (name_told name.entry) out.old out.new result }
 {
     let name = name.unwrap_or("").as_bytes();

@@ -1,7 +1,7 @@
 //! Scripts, packed.
 
 ghost use Rattle.std.specs.Prelude.{◌≡◌, IfOk, IfErr};
-ghost use Rattle.iim_c.specs.Format.Packing.{IsPacked, IsSized, IsFormFor, asked_for};
+ghost use Rattle.iim_c.specs.Format.Packing.{IsPacked, IsPackOutcome, IsSized, Packed};
 ghost use Rattle.iim_c.specs.PackSteps.{IsPut, IsUnpacked, IsUnpackedFault, sized};
 
 use crate::answer::{IimAnswer, status_answer};
@@ -28,7 +28,7 @@ fn fault_answer(fault: PackFault) -> IimAnswer
 
 /// The packed form of what a script tells; or the answer why there is none.
 fn packed(alloc: Global, packing: IimPacking, script: &[u8]) -> Result<Vec<u8>, IimAnswer>
-    ensures packed { IfOk result (λ form. IsFormFor (asked_for packing) script.now form.items) }
+    ensures packed { IfOk result (λ form. IsPackOutcome packing script.now (Packed form.items)) }
     ensures unpacked { IfErr result (IsUnpacked packing script.now) }
 {
     let Some(request) = request_for(packing) else {

@@ -1,10 +1,13 @@
 //! The interface for C: a static library, whose header is `bindings/c/iim.h`.
 //!
-//! Each export is the call of `iim_c` of the same name, and says again what that says. The toolchain exports the functions of a static
-//! library alone, and nothing can stand on one: so what the calls do stands in `iim_c`, which is proved once and kept.
+//! Each export is the call of `iim_c` or `iim_c_places` of the same name, and says again what that says. The toolchain exports the
+//! functions of a static library alone, and nothing can stand on one: so what the calls do stands in those, which are proved once and
+//! kept.
 #![tactic(auto)]
 
-ghost use Rattle.std.specs.Prelude.{◌≡◌, ◌↔◌, IsTrue, is_some};
+ghost use Rattle.std.specs.Prelude.{◌≡◌, ◌↔◌, ℕ, List, IsTrue, is_some};
+ghost use Rattle.iim_places.specs.Format.Tickets.{IsPlaceOf, Place};
+ghost use Rattle.iim_places.specs.States.Restored.{IsTicketAt};
 ghost use Rattle.iim_tables.specs.Format.Rows.{Meets, row_of};
 ghost use Rattle.iim_c.specs.Format.Checking.{IsChecked, IsOnly, limits_for};
 ghost use Rattle.iim_c.specs.Format.Feeding.{IsEnd, IsFed};
@@ -12,10 +15,14 @@ ghost use Rattle.iim_c.specs.Format.Names.{IsNamed, cause_named, dataset_named, 
 ghost use Rattle.iim_c.specs.Format.Packing.{IsPacked, IsSized};
 ghost use Rattle.iim_c.specs.Format.Tables.{rule_for};
 ghost use Rattle.iim_c.specs.Format.TicketAnswers.{AreSizes, IsField, IsHeader};
+ghost use Rattle.iim_c_places.specs.Format.Begun.{IsBegunTold, TellsOctets};
+ghost use Rattle.iim_c_places.specs.Format.Next.{IsNext};
+ghost use Rattle.iim_c_places.specs.Format.Texts.{cause_text};
 
 use iim_c::{
     IimAnswer, IimDataset, IimLimits, IimMessage, IimObject, IimPacking, IimRule, VERSION,
 };
+use iim_c_places::{IimBegun, IimOctetSet};
 use std::alloc::Global;
 
 /// Tells what the octets begin with: an envelope, or why there is none.
@@ -91,6 +98,30 @@ pub extern "C" fn iim_sizes(ticket: &[u8], object: &mut IimObject, answer: &mut 
     iim_c::iim_sizes(ticket, object, answer);
 }
 
+/// Tells which octets every layer takes next, after the octets that have led to a ticket, or of a new envelope where there is none.
+#[unsafe(no_mangle)]
+pub extern "C" fn iim_next(
+    alloc: Global,
+    limits: IimLimits,
+    ticket: &[u8],
+    next: &mut IimOctetSet,
+    answer: &mut IimAnswer,
+)
+    ensures { IsNext (limits_for limits) ticket.now next.new.bits answer.new }
+{
+    iim_c_places::iim_next(alloc, limits, ticket, next, answer);
+}
+
+/// Tells what is begun after the `at` octets that have led to a ticket, and the part of the message that they have led to.
+#[unsafe(no_mangle)]
+pub extern "C" fn iim_place(ticket: &[u8], at: u64, begun: &mut IimBegun, answer: &mut IimAnswer)
+    ensures told { IsBegunTold ticket.now at begun.new answer.new }
+    ensures octets { (p : List ℕ) (place : Place) → IsTicketAt ticket.now place → IsPlaceOf p place
+        → TellsOctets p at begun.new }
+{
+    iim_c_places::iim_place(ticket, at, begun, answer);
+}
+
 /// Writes the packed form of what a script tells into a buffer, where it has room for it.
 #[unsafe(no_mangle)]
 pub extern "C" fn iim_pack(
@@ -141,6 +172,14 @@ pub extern "C" fn iim_cause_name(cause: u8, out: &mut [u8]) -> usize
     ensures { IsNamed (name_or_none (cause_named cause)) out.old out.new result }
 {
     iim_c::iim_cause_name(cause, out)
+}
+
+/// Writes what a cause means with a NUL after it, where there is room for both, and answers how many octets it has.
+#[unsafe(no_mangle)]
+pub extern "C" fn iim_cause_text(cause: u8, out: &mut [u8]) -> usize
+    ensures { IsNamed (name_or_none (cause_text cause)) out.old out.new result }
+{
+    iim_c_places::iim_cause_text(cause, out)
 }
 
 /// Writes the name of a layer with a NUL after it, where there is room for both, and answers how many octets it has.

@@ -29,9 +29,10 @@ use Rattle.wire_message.specs.declared.fault.MessageCause.TheVariants as message
 use Rattle.iim_places.specs.Format.Admitted.{Value, Admits, object_of}
 use Rattle.iim_places.specs.Format.Refusals.{begun_record, begun_number, tag_cause, refusal_at, message_on}
 use Rattle.iim_places.specs.Laws.Admitted.{AdmittedOctetsHaveOneValue, NoAdmittedOctetsBeginOthers}
-use Rattle.iim_places.specs.Format.Open.{IsTextOf, object_so_far, AllCanContinue, IsUnfinished, IsOpen, IsBadTagAt, IsBadHeadAt, IsBadOctetAt, IsBadValueAt, RefusesNext, truncated_in}
+use Rattle.iim_places.specs.Format.Open.{IsTextOf, object_so_far, AllCanContinue, IsUnfinished, IsOpen, IsBadTagAt, IsBadHeadAt, IsBadOctetAt, IsBadValueAt, RefusesByTests, RefusesNext, truncated_in}
 use Rattle.iim_places.specs.Format.Tokens.{IsRefusedHead, IsRefusedValue}
-use Rattle.iim_places.specs.Laws.Streams.{OpenOctetsBeginWithNoEnvelope, EnvelopesAreBounded, RefusedOctetsWereOpen, NothingContinuesFromRefusedOctets, RefusalsAreDetermined, StreamsHaveOneAnswer}
+use Rattle.iim_places.specs.Laws.Conditions.{RefusalsTellTheLowestCause}
+use Rattle.iim_places.specs.Laws.Streams.{OpenOctetsBeginWithNoEnvelope, EnvelopesAreBounded, NothingContinuesFromRefusedOctets, RefusalsAreDetermined, StreamsHaveOneAnswer}
 use Rattle.iim_places.specs.Format.Streams.{IsEnvelopeWithin, Finished, Refused, Truncated, IsFinished, IsRefused, IsTruncated}
 use Rattle.iim_places.specs.declared.fault.TokenFault.{TokenFault}
 use Rattle.iim_places.specs.declared.refusal.Refusal.{Refusal}
@@ -151,7 +152,7 @@ value_dead laws limits octets more next W c r all whole h given fault (inr (held
     no_value laws limits W c all whole h more given more fault (tag_follows laws octets more next W c r whole held h reads tag)
     (ap (λ (l : List ℕ). l ++ more) (sym is)) (ap length is ∙ sym none) refused
 
-none_lives : AnswerLaws → (limits : Limits) (octets more : List ℕ) (next : ℕ) (fault : TokenFault) → RefusesNext limits octets next fault → fault.cause ≢ causes.Sink → Lives limits (octets ++ next ∷ more) → ⊥
+none_lives : AnswerLaws → (limits : Limits) (octets more : List ℕ) (next : ℕ) (fault : TokenFault) → RefusesByTests limits octets next fault → fault.cause ≢ causes.Sink → Lives limits (octets ++ next ∷ more) → ⊥
 none_lives laws limits octets more next fault (inl bad) other lives =
     laws.stuck octets more next bad.whole bad.held lives.whole lives.begun bad.reads bad.dead lives.reads
 none_lives laws limits octets more next fault (inr (inl bad)) other lives =
@@ -165,11 +166,14 @@ none_lives laws limits octets more next fault (inr (inr (inl bad))) other lives 
 none_lives laws limits octets more next fault (inr (inr (inr bad))) other lives =
     value_dead laws limits octets more next lives.whole lives.begun lives.reads lives.leads_on bad.whole bad.head bad.given fault bad.completes bad.refuses
 
-pub nothing_continues : AnswerLaws → NothingContinuesFromRefusedOctets
-nothing_continues laws limits octets more next fault kills = (
-  λ is. none_lives laws limits octets more next fault kills.refuses kills.by_octets (lives_open limits (octets ++ next ∷ more) is),
-  λ v is. none_lives laws limits octets more next fault kills.refuses kills.by_octets (lives_envelope laws limits (octets ++ next ∷ more) v is),
+pub nothing_continues : AnswerLaws → RefusalsTellTheLowestCause → NothingContinuesFromRefusedOctets
+nothing_continues laws tests limits octets more next fault kills = (
+  λ is. none_lives laws limits octets more next fault found kills.by_octets (lives_open limits (octets ++ next ∷ more) is),
+  λ v is. none_lives laws limits octets more next fault found kills.by_octets (lives_envelope laws limits (octets ++ next ∷ more) v is),
 )
+  where
+    found : RefusesByTests limits octets next fault
+    found = ((tests limits octets next fault).0 kills.refuses).1
 
 -- ---- an envelope is bounded
 
@@ -208,7 +212,7 @@ envelope_bounded laws limits octets v low few is = by (split_last is.admits.data
         let s = one.is_last in
         omega (arith, front, ap length one.parts, length-append one.front one.last, ap length s.parts, length-append s.tag d.octets, tag_length (head_of d) s.tag s.is_tag)
 
--- ---- refused octets were open
+-- ---- before a head or a value that is refused
 
 no_object : (ds : List Dataset) (h : Head) (x y : List ℕ) → (h.rec ≡ 8 → ⊥) → object_so_far ds (InData h x) ≡ object_so_far ds (InData h y)
 no_object ds h x y other = ap (λ (b : Bool). object_of ds ++ (if b then x else [])) (ne_eqb h.rec 8 other) ∙ sym (ap (λ (b : Bool). object_of ds ++ (if b then y else [])) (ne_eqb h.rec 8 other))
@@ -234,28 +238,6 @@ before_it laws limits ds h held other unfinished all =
       message = subst (λ (b : Bool). languages.IsAlive MessageLanguage (map Octet (object_of ds) ++ (if b then End ∷ [] else []))) (sym not_nine)
           (subst (languages.IsAlive MessageLanguage) (sym (append-nil (map Octet (object_of ds)))) message);
       story = subst StoryLivesIn object all.story;
-    }
-
-pub was_open : AnswerLaws → RefusedOctetsWereOpen
-was_open laws limits octets next fault (inl bad) = record { whole = bad.whole; begun = InTag bad.held; reads = bad.reads; leads_on = bad.leads_on; unfinished = bad.unfinished }
-was_open laws limits octets next fault (inr (inl bad)) = record { whole = bad.whole; begun = InTag bad.held; reads = bad.reads; leads_on = bad.leads_on; unfinished = bad.unfinished }
-was_open laws limits octets next fault (inr (inr (inl bad))) = record { whole = bad.whole; begun = InData bad.head bad.taken; reads = bad.reads; leads_on = bad.leads_on; unfinished = bad.unfinished }
-was_open laws limits octets next fault (inr (inr (inr bad))) = by bad.completes
-  where
-    by : CompletesData octets next bad.whole bad.head bad.given → IsOpen limits octets
-    by (inl (taken, reads, parts, many)) = record {
-      whole = bad.whole;
-      begun = InData bad.head taken;
-      reads = reads;
-      leads_on = fewer_data limits bad.whole bad.head bad.given taken bad.is_value bad.leads_on;
-      unfinished = bad.unfinished;
-    }
-    by (inr (held, reads, tag, none, is)) = record {
-      whole = bad.whole;
-      begun = InTag held;
-      reads = reads;
-      leads_on = before_it laws limits bad.whole bad.head held bad.is_value bad.unfinished (fewer_data limits bad.whole bad.head bad.given [] bad.is_value bad.leads_on);
-      unfinished = bad.unfinished;
     }
 
 -- ---- the refusal is determined
@@ -426,23 +408,26 @@ values_agree laws limits octets next f g a b =
     (subst (λ (h : Head). IsRefusedValue b.whole (data_of h a.given) f) same.head_is (subst (λ (ds : List Dataset). IsRefusedValue ds (data_of a.head a.given) f) same.whole_is a.refuses)) in
     same_Some _ _ (sym refused.first ∙ b.refuses.first)
 
-pub one_refusal : AnswerLaws → RefusalsAreDetermined
-one_refusal laws limits octets next f g (inl a) (inl b) = tags_agree laws limits octets next f g a b
-one_refusal laws limits octets next f g (inl a) (inr (inl b)) = tag_not_head laws limits octets next f g a b
-one_refusal laws limits octets next f g (inl a) (inr (inr (inl b))) = tag_not_octet laws limits octets next f g a b
-one_refusal laws limits octets next f g (inl a) (inr (inr (inr b))) = tag_not_value laws limits octets next f g a b
-one_refusal laws limits octets next f g (inr (inl a)) (inl b) = tag_not_head laws limits octets next g f b a
-one_refusal laws limits octets next f g (inr (inl a)) (inr (inl b)) = heads_agree laws limits octets next f g a b
-one_refusal laws limits octets next f g (inr (inl a)) (inr (inr (inl b))) = head_not_octet laws limits octets next f g a b
-one_refusal laws limits octets next f g (inr (inl a)) (inr (inr (inr b))) = head_not_value laws limits octets next f g a b
-one_refusal laws limits octets next f g (inr (inr (inl a))) (inl b) = tag_not_octet laws limits octets next g f b a
-one_refusal laws limits octets next f g (inr (inr (inl a))) (inr (inl b)) = head_not_octet laws limits octets next g f b a
-one_refusal laws limits octets next f g (inr (inr (inl a))) (inr (inr (inl b))) = octets_agree laws limits octets next f g a b
-one_refusal laws limits octets next f g (inr (inr (inl a))) (inr (inr (inr b))) = octet_not_value laws limits octets next f g a b
-one_refusal laws limits octets next f g (inr (inr (inr a))) (inl b) = tag_not_value laws limits octets next g f b a
-one_refusal laws limits octets next f g (inr (inr (inr a))) (inr (inl b)) = head_not_value laws limits octets next g f b a
-one_refusal laws limits octets next f g (inr (inr (inr a))) (inr (inr (inl b))) = octet_not_value laws limits octets next g f b a
-one_refusal laws limits octets next f g (inr (inr (inr a))) (inr (inr (inr b))) = values_agree laws limits octets next f g a b
+one_by_tests : AnswerLaws → (limits : Limits) (octets : List ℕ) (next : ℕ) (f g : TokenFault) → RefusesByTests limits octets next f → RefusesByTests limits octets next g → f ≡ g
+one_by_tests laws limits octets next f g (inl a) (inl b) = tags_agree laws limits octets next f g a b
+one_by_tests laws limits octets next f g (inl a) (inr (inl b)) = tag_not_head laws limits octets next f g a b
+one_by_tests laws limits octets next f g (inl a) (inr (inr (inl b))) = tag_not_octet laws limits octets next f g a b
+one_by_tests laws limits octets next f g (inl a) (inr (inr (inr b))) = tag_not_value laws limits octets next f g a b
+one_by_tests laws limits octets next f g (inr (inl a)) (inl b) = tag_not_head laws limits octets next g f b a
+one_by_tests laws limits octets next f g (inr (inl a)) (inr (inl b)) = heads_agree laws limits octets next f g a b
+one_by_tests laws limits octets next f g (inr (inl a)) (inr (inr (inl b))) = head_not_octet laws limits octets next f g a b
+one_by_tests laws limits octets next f g (inr (inl a)) (inr (inr (inr b))) = head_not_value laws limits octets next f g a b
+one_by_tests laws limits octets next f g (inr (inr (inl a))) (inl b) = tag_not_octet laws limits octets next g f b a
+one_by_tests laws limits octets next f g (inr (inr (inl a))) (inr (inl b)) = head_not_octet laws limits octets next g f b a
+one_by_tests laws limits octets next f g (inr (inr (inl a))) (inr (inr (inl b))) = octets_agree laws limits octets next f g a b
+one_by_tests laws limits octets next f g (inr (inr (inl a))) (inr (inr (inr b))) = octet_not_value laws limits octets next f g a b
+one_by_tests laws limits octets next f g (inr (inr (inr a))) (inl b) = tag_not_value laws limits octets next g f b a
+one_by_tests laws limits octets next f g (inr (inr (inr a))) (inr (inl b)) = head_not_value laws limits octets next g f b a
+one_by_tests laws limits octets next f g (inr (inr (inr a))) (inr (inr (inl b))) = octet_not_value laws limits octets next g f b a
+one_by_tests laws limits octets next f g (inr (inr (inr a))) (inr (inr (inr b))) = values_agree laws limits octets next f g a b
+
+pub one_refusal : AnswerLaws → RefusalsTellTheLowestCause → RefusalsAreDetermined
+one_refusal laws tests limits octets next f g a b = one_by_tests laws limits octets next f g ((tests limits octets next f).0 a).1 ((tests limits octets next g).0 b).1
 
 -- ---- one answer
 
@@ -464,6 +449,7 @@ front_at (b ∷ stream) (suc k) (suc n) less fits =
 -- what the laws say of one stream
 pub record StreamLaws : Type 0 where
   pub answer : AnswerLaws
+  pub tests : RefusalsTellTheLowestCause
   pub value : AdmittedOctetsHaveOneValue
   pub others : NoAdmittedOctetsBeginOthers
   pub none : OpenOctetsBeginWithNoEnvelope
@@ -473,38 +459,45 @@ same_length laws stream n m v w short long a b less =
     let (more, is) = front_at stream n m less long in
     let bad : slice_index stream n ∷ more ≡ [] = laws.others (take n stream) (slice_index stream n ∷ more) v w a (subst (λ (o : List ℕ). Admits o w) is b) in absurd cc
 
+-- an octet that is refused, and no sink
+abbrev IsDead : Limits → List ℕ → Refusal → Type 0
+IsDead limits stream e = IsRefused limits stream e × (e.cause ≢ causes.Sink)
+
+-- no octets continue from it
+none_after : StreamLaws → (limits : Limits) (stream : List ℕ) (e : Refusal) → IsDead limits stream e → (more : List ℕ)
+    → (IsOpen limits (take e.octet stream ++ slice_index stream e.octet ∷ more) → ⊥) × ((v : Value) → IsEnvelopeWithin limits (take e.octet stream ++ slice_index stream e.octet ∷ more) v → ⊥)
+none_after laws limits stream e (is, calm) more =
+    nothing_continues laws.answer laws.tests limits (take e.octet stream) more (slice_index stream e.octet) is.fault
+    (record { refuses = is.refuses; by_octets = λ sink. calm (ap (λ (x : Refusal). x.cause) is.refusal ∙ sink) })
+
 -- an envelope, and a refusal
-ends_or_dies : {A : Type 0} → StreamLaws → (limits : Limits) (stream : List ℕ) (used : ℕ) (v : Value) (e : Refusal) → IsFinished limits stream used v → IsRefused limits stream e → A
+ends_or_dies : {A : Type 0} → StreamLaws → (limits : Limits) (stream : List ℕ) (used : ℕ) (v : Value) (e : Refusal) → IsFinished limits stream used v → IsDead limits stream e → A
 ends_or_dies laws limits stream used v e a b = elim (cases_lt e.octet used) [
   | inl later ↦
       let (more, is) = front_at stream e.octet used later a.fits in
-      absurd ((nothing_continues laws.answer limits (take e.octet stream) more (slice_index stream e.octet) b.fault b.kills).1 v (subst (λ (o : List ℕ). IsEnvelopeWithin limits o v) is a.envelope))
+      absurd ((none_after laws limits stream e b more).1 v (subst (λ (o : List ℕ). IsEnvelopeWithin limits o v) is a.envelope))
   | inr earlier ↦
-      absurd (laws.none limits (take e.octet stream) (take used stream) (drop used (take e.octet stream)) v
-      (was_open laws.answer limits (take e.octet stream) (slice_index stream e.octet) b.fault b.kills.refuses)
+      absurd (laws.none limits (take e.octet stream) (take used stream) (drop used (take e.octet stream)) v b.0.refuses.before
       (sym (take-append-drop used (take e.octet stream)) ∙ ap (λ (l : List ℕ). l ++ drop used (take e.octet stream)) (take-take used e.octet stream (omega (arith, earlier)))) a.envelope.admits)
 ]
 
 ends_or_breaks : {A : Type 0} → StreamLaws → (limits : Limits) (stream : List ℕ) (used : ℕ) (v : Value) (e : Refusal) → IsFinished limits stream used v → IsTruncated limits stream e → A
 ends_or_breaks laws limits stream used v e a b = absurd (laws.none limits stream (take used stream) (drop used stream) v b.is_open (sym (take-append-drop used stream)) a.envelope.admits)
 
-dies_or_breaks : {A : Type 0} → StreamLaws → (limits : Limits) (stream : List ℕ) (e f : Refusal) → IsRefused limits stream e → IsTruncated limits stream f → A
+dies_or_breaks : {A : Type 0} → StreamLaws → (limits : Limits) (stream : List ℕ) (e f : Refusal) → IsDead limits stream e → IsTruncated limits stream f → A
 dies_or_breaks laws limits stream e f a b =
-    let (more, is) = cut_at stream e.octet a.fits in
-    absurd ((nothing_continues laws.answer limits (take e.octet stream) more (slice_index stream e.octet) a.fault a.kills).0 (subst (IsOpen limits) is b.is_open))
+    let (more, is) = cut_at stream e.octet a.0.fits in absurd ((none_after laws limits stream e a more).0 (subst (IsOpen limits) is b.is_open))
 
-dies_before : StreamLaws → (limits : Limits) (stream : List ℕ) (e f : Refusal) → IsRefused limits stream e → IsRefused limits stream f → e.octet < f.octet → ⊥
+dies_before : StreamLaws → (limits : Limits) (stream : List ℕ) (e f : Refusal) → IsDead limits stream e → IsRefused limits stream f → e.octet < f.octet → ⊥
 dies_before laws limits stream e f a b less =
     let fits = b.fits in
     let (more, is) = front_at stream e.octet f.octet less (omega (arith, fits)) in
-    (nothing_continues laws.answer limits (take e.octet stream) more (slice_index stream e.octet) a.fault a.kills).0
-    (subst (IsOpen limits) is (was_open laws.answer limits (take f.octet stream) (slice_index stream f.octet) b.fault b.kills.refuses))
+    (none_after laws limits stream e a more).0 (subst (IsOpen limits) is b.refuses.before)
 
 same_death : StreamLaws → (limits : Limits) (stream : List ℕ) (e f : Refusal) → IsRefused limits stream e → IsRefused limits stream f → e.octet ≡ f.octet → e ≡ f
 same_death laws limits stream e f a b same =
-    let refuses : RefusesNext limits (take f.octet stream) (slice_index stream f.octet) a.fault =
-    subst (λ (k : ℕ). RefusesNext limits (take k stream) (slice_index stream k) a.fault) same a.kills.refuses in
-    let fault = one_refusal laws.answer limits (take f.octet stream) (slice_index stream f.octet) a.fault b.fault refuses b.kills.refuses in
+    let refuses : RefusesNext limits (take f.octet stream) (slice_index stream f.octet) a.fault = subst (λ (k : ℕ). RefusesNext limits (take k stream) (slice_index stream k) a.fault) same a.refuses in
+    let fault = one_refusal laws.answer laws.tests limits (take f.octet stream) (slice_index stream f.octet) a.fault b.fault refuses b.refuses in
     a.refusal ∙ ap (λ (k : ℕ). refusal_at k a.fault) same ∙ ap (refusal_at f.octet) fault ∙ sym b.refusal
 
 one_end : StreamLaws → (limits : Limits) (stream : List ℕ) (n m : ℕ) (v w : Value) → IsFinished limits stream n v → IsFinished limits stream m w → n ≡ m → Finished n v ≡ Finished m w
@@ -531,10 +524,10 @@ one_answer laws limits stream (Finished n v) (Refused e) a b = ends_or_dies laws
 one_answer laws limits stream (Finished n v) (Truncated e) a b = ends_or_breaks laws limits stream n v e a b
 one_answer laws limits stream (Refused e) (Finished n v) a b = ends_or_dies laws limits stream n v e b a
 one_answer laws limits stream (Refused e) (Refused f) a b = elim (cases_lt e.octet f.octet) [
-  | inl less ↦ absurd (dies_before laws limits stream e f a b less)
+  | inl less ↦ absurd (dies_before laws limits stream e f a b.0 less)
   | inr ge ↦ elim (cases_lt f.octet e.octet) [
-    | inl less ↦ absurd (dies_before laws limits stream f e b a less)
-    | inr le ↦ ap Refused (same_death laws limits stream e f a b (omega (arith, ge, le)))
+    | inl less ↦ absurd (dies_before laws limits stream f e b a.0 less)
+    | inr le ↦ ap Refused (same_death laws limits stream e f a.0 b.0 (omega (arith, ge, le)))
   ]
 ]
 one_answer laws limits stream (Refused e) (Truncated f) a b = dies_or_breaks laws limits stream e f a b

@@ -8,7 +8,9 @@ pub mod Places
 pub mod Frames
 pub mod Limits
 pub mod Refused
+pub mod SizeConditions
 pub mod Lowest
+pub mod ByTable
 pub mod Results
 pub mod Lasts
 pub mod Opens

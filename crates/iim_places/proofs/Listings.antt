@@ -112,13 +112,15 @@ refused_answer {limits} laws rest k e d =
     let front : length (take k rest) ≡ k = length-take-le k rest (omega (arith, d.within)) in
     let short : length (take k rest) < 2 ^ 64 - 1 = laws.bounded limits (take k rest) laws.octets laws.fields (laws.opened limits (take k rest) (slice_index rest k) d.fault d.kills.refuses) in
     let is : raised 0 k ≡ k = told_short k (omega (arith, front, short)) in
-    let octet : e.octet ≡ k = ap (λ (f : Refusal). f.octet) d.refusal ∙ is in
-    record {
-      fits = subst (λ (n : ℕ). n < length rest) (sym octet) d.within;
-      fault = d.fault;
-      refusal = d.refusal ∙ ap (λ (n : ℕ). refusal_at n d.fault) (is ∙ sym octet);
-      kills = subst (λ (n : ℕ). Kills limits (take n rest) (slice_index rest n) d.fault) (sym octet) d.kills;
-    }
+    let octet : e.octet ≡ k = ap (λ (f : Refusal). f.octet) d.refusal ∙ is in (
+      record {
+        fits = subst (λ (n : ℕ). n < length rest) (sym octet) d.within;
+        fault = d.fault;
+        refusal = d.refusal ∙ ap (λ (n : ℕ). refusal_at n d.fault) (is ∙ sym octet);
+        refuses = (subst (λ (n : ℕ). Kills limits (take n rest) (slice_index rest n) d.fault) (sym octet) d.kills).refuses;
+      },
+      λ sink. d.kills.by_octets (sym (ap (λ (f : Refusal). f.cause) d.refusal) ∙ sink),
+    )
 
 truncated_answer : {limits : Limits} → ListingLaws limits → (rest : List ℕ) (e : Refusal) → EndsTruncated limits rest e → Answers limits rest (Truncated e)
 truncated_answer {limits} laws rest e t =

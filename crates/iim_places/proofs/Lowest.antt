@@ -1,19 +1,23 @@
--- The cause of a refusal is the one of the lowest number in its layer whose condition holds.
-use Rattle.std.proofs.Common.{◌≡◌, ◌≢◌, ℕ, zero, suc, ◌<◌, ◌≤◌, ◌⊎◌, Bool, true, false, not, ◌&&◌, ◌||◌, nat_eq, nat_lt, if◌then◌else◌, List, [], ◌∷◌, ◌++◌, length, replicate, Option, Some, None, refl, ap, sym, subst, ◌∙◌, inl, inr, arith, length-append}
+-- What tests find is what the table of the causes tells: the cause of the lowest number in its layer whose condition holds.
+use Rattle.std.proofs.Common.{◌≡◌, ◌≢◌, ℕ, zero, suc, ◌<◌, ◌≤◌, ◌⊎◌, Bool, true, false, not, ◌&&◌, ◌||◌, nat_eq, nat_lt, if◌then◌else◌, List, [], ◌∷◌, ◌++◌, length, map, replicate, Option, Some, None, refl, ap, sym, subst, ◌∙◌, inl, inr, arith, length-append}
 use Rattle.std.specs.Option.{option_or, option_map}
 use Rattle.std.proofs.lemmas.Bool.{cases_lt, eqb-true, lt-ltb, or_cases}
 use Rattle.std.proofs.lemmas.Option.{same_Some}
-use Rattle.std.proofs.lemmas.List.{length-replicate}
+use Rattle.std.proofs.lemmas.List.{length-replicate, map-append}
+use Rattle.iim_dataset.specs.Format.Languages.{IsAlive}
 use Rattle.iim_dataset.specs.Format.Octets.{IsOctet, Octets, IsProperPrefix, number}
 use Rattle.iim_dataset.proofs.OctetLists.{zeros_are}
 use Rattle.iim_dataset.specs.Format.Datasets.{Dataset, SpellsTag, SpellsCount, head_of, of_record, count_octets}
-use Rattle.iim_dataset.specs.Format.Splits.{InTag}
+use Rattle.iim_dataset.specs.Format.Completing.{CompletesData}
+use Rattle.iim_dataset.specs.Format.Splits.{InTag, InData}
 use Rattle.iim_dataset.specs.Format.Tags.{BeginsNoTag}
 use Rattle.iim_dataset.specs.declared.head.Head.{Head}
 use Rattle.iim_fields.specs.Format.Alive.{SectionsLive, SectionsLiveAt}
+use Rattle.iim_fields.specs.Format.Causes as records
 use Rattle.iim_fields.specs.Format.Causes.{number_of_cause}
+use Rattle.iim_fields.specs.Format.Causes.Token.{AtHead as HeadToken, AtValue as ValueToken}
 use Rattle.iim_fields.specs.Format.Faults.{first_fault, value_fault}
-use Rattle.iim_fields.specs.Laws.Records.{HeadsTellTheLowestCause, ValuesTellTheLowestCause}
+use Rattle.iim_fields.specs.Laws.Records.{HeadsDieWithTheirFault, HeadsTellTheLowestCause, ValuesDieWithTheirFault, ValuesTellTheLowestCause}
 use Rattle.iim_fields.specs.Format.Values.{data_of, tells_number}
 use Rattle.iim_fields.specs.declared.limits.Limits.{Limits}
 use Rattle.iim_fields.specs.declared.fault.FieldFault.{FieldFault}
@@ -29,16 +33,16 @@ use Rattle.iim_object.specs.Format.Plans.{max_subfiles}
 use Rattle.iim_object.specs.declared.reading.fault.SizeCause.{SizeCause}
 use Rattle.iim_object.specs.declared.reading.fault.SizeCause.TheVariants as sizes
 use Rattle.wire_story.specs.Format.Texts.{Holds}
-use Rattle.wire_message.specs.Format.Layers.{text_so_far}
+use Rattle.wire_story.specs.Format.Tokens.{Octet}
+use Rattle.wire_message.specs.Format.Layers.{MessageLanguage, text_so_far}
 use Rattle.wire_message.specs.Format.Causes.{HasCause}
 use Rattle.wire_message.specs.declared.fault.MessageCause.{MessageCause}
 use Rattle.wire_message.specs.declared.fault.MessageCause.TheVariants as messages
 use Rattle.iim_places.specs.Format.Admitted.{object_of}
-use Rattle.iim_places.specs.Format.Conditions.{Token, TagOctet, AtHead, AtValue, SubfileOctet, IsNoCount, OfField, OfSize, rule_of}
-use Rattle.iim_places.specs.Laws.Conditions.{TellsTheLowest, RefusalsTellTheLowestCause}
+use Rattle.iim_places.specs.Format.Conditions.{Token, AtOctet, AtHead, AtValue, IsNoCount, Names, TellsTheLowest, rule_of}
 use Rattle.iim_places.specs.Format.Framed.{AreWithin}
-use Rattle.iim_places.specs.Format.Open.{IsUnfinished}
-use Rattle.iim_places.specs.Format.Refusals.{cause_of, layer_of, cause_of_size, of_field, size_on, too_many_on, message_on, tag_cause, begun_record, begun_number}
+use Rattle.iim_places.specs.Format.Open.{AllCanContinue, Dies, IsBadTagAt, IsBadHeadAt, IsBadOctetAt, IsBadValueAt, IsUnfinished, RefusesByTests, RefusesNext}
+use Rattle.iim_places.specs.Format.Refusals.{cause_of, layer_of, cause_of_size, cause_of_message, layer_of_message, of_field, size_on, too_many_on, message_on, tag_cause, begun_record, begun_number}
 use Rattle.iim_places.specs.Format.Tokens.{DiesAtHead, DiesAtValue, IsRefusedHead, IsRefusedValue, place_at, subfile_fault, object_fault, number_fault}
 use Rattle.iim_places.specs.Laws.Lower.{AnswerLaws}
 use Rattle.iim_places.specs.declared.fault.TokenFault.{TokenFault}
@@ -46,22 +50,25 @@ use Rattle.iim_places.specs.declared.refusal.Layer.{Layer}
 use Rattle.iim_places.specs.declared.refusal.Layer.TheVariants as layers
 use Rattle.iim_places.specs.declared.refusal.Cause.{Cause}
 use Rattle.iim_places.specs.declared.refusal.Cause.TheVariants as causes
-use Rattle.iim_places.proofs.Answering.{not_held}
+use Rattle.iim_places.proofs.Answering.{before_it, fewer_data, not_held}
 use Rattle.iim_places.proofs.Places.{HeadLeads, subfile_leads, end_leads, number_leads}
 use Rattle.iim_places.proofs.SameRecords.{stated_after_all, stated_at}
+use Rattle.iim_places.proofs.SizeConditions.{OfSize, size_holds}
 use Rattle.iim_places.proofs.StoryDies.{StoryLaws, in_text, lone_return, control}
 
 -- the laws by which a refusal tells the lowest cause
 pub record LowestLaws : Type 0 where
   pub answer : AnswerLaws
   pub heads : HeadsTellTheLowestCause
+  pub heads_die : HeadsDieWithTheirFault
   pub values : ValuesTellTheLowestCause
+  pub values_die : ValuesDieWithTheirFault
   pub objects : objects.CausesAreTheFirst
   pub story : StoryLaws
 
 -- ---- the causes of a layer
 
-abbrev InLayer : Layer → Cause → Type 0
+abbrev pub InLayer : Layer → Cause → Type 0
 InLayer layers.Dataset c = (c ≡ causes.Marker) ⊎ ((c ≡ causes.CountForm) ⊎ (c ≡ causes.Truncated))
 InLayer layers.Record c = (f : FieldCause) × (c ≡ cause_of f)
 InLayer layers.Limits c = ((f : FieldCause) × (c ≡ cause_of f)) ⊎ (c ≡ causes.TooManySubfiles)
@@ -97,29 +104,61 @@ in_layer causes.TooManySubfiles = inr refl
 in_layer causes.Sink = inl refl
 in_layer causes.Failed = inr refl
 
-one_of : (l : Layer) (c : Cause) → (rule_of c).layer ≡ l → InLayer l c
+pub one_of : (l : Layer) (c : Cause) → (rule_of c).layer ≡ l → InLayer l c
 one_of l c same = subst (λ (k : Layer). InLayer k c) same (in_layer c)
 
-numbered : (c d : Cause) → c ≡ d → (rule_of c).number ≡ (rule_of d).number
+pub numbered : (c d : Cause) → c ≡ d → (rule_of c).number ≡ (rule_of d).number
 numbered c d is = ap (λ (x : Cause). (rule_of x).number) is
 
 -- the condition of a cause, at a token
-abbrev Holds' : Limits → List Dataset → Token → Cause → Type 0
+abbrev pub Holds' : Limits → List Dataset → Token → Cause → Type 0
 Holds' limits ds token c = (rule_of c).holds limits ds token
 
 -- ---- the record layer and the limits
 
-field_layer : (f : FieldCause) → (rule_of (cause_of f)).layer ≡ layer_of f
+pub field_layer : (f : FieldCause) → (rule_of (cause_of f)).layer ≡ layer_of f
 field_layer fields.RecordOrder = refl
 field_layer other = refl
 
-field_number : (f : FieldCause) → (rule_of (cause_of f)).number ≡ number_of_cause f
+pub field_number : (f : FieldCause) → (rule_of (cause_of f)).number ≡ number_of_cause f
 field_number fields.RecordOrder = refl
 field_number other = refl
 
-field_holds : (f : FieldCause) (limits : Limits) (ds : List Dataset) (token : Token) → (Holds' limits ds token (cause_of f) → OfField f limits ds token) × (OfField f limits ds token → Holds' limits ds token (cause_of f))
-field_holds fields.RecordOrder limits ds token = (λ h. h, λ h. h)
-field_holds other limits ds token = (λ h. h, λ h. h)
+-- as the record layer and the limits have it
+abbrev pub OfField : FieldCause → Limits → List Dataset → Token → Type 0
+OfField cause limits ds (AtOctet begun octet) = ⊥
+OfField cause limits ds (AtHead h) = records.HasCause cause limits ds (HeadToken h)
+OfField cause limits ds (AtValue d) = records.HasCause cause limits ds (ValueToken d)
+
+pub field_holds : (f : FieldCause) (limits : Limits) (ds : List Dataset) (token : Token) → (Holds' limits ds token (cause_of f) → OfField f limits ds token) × (OfField f limits ds token → Holds' limits ds token (cause_of f))
+field_holds fields.RecordOrder limits ds (AtOctet begun octet) = (λ h. h, λ h. h)
+field_holds other limits ds (AtOctet begun octet) = (λ h. h, λ h. h)
+field_holds fields.RecordOrder limits ds (AtHead h) = (λ h. h, λ h. h)
+field_holds other limits ds (AtHead h) = (λ h. h, λ h. h)
+field_holds fields.RecordOrder limits ds (AtValue d) = (λ h. h, λ h. h)
+field_holds other limits ds (AtValue d) = (λ h. h, λ h. h)
+
+-- the dataset that is named
+pub head_names : (f : FieldCause) (ds : List Dataset) (h : Head) (rec set : ℕ) → (records.Names f ds (HeadToken h) rec set → Names (cause_of f) ds (AtHead h) rec set) × (Names (cause_of f) ds (AtHead h) rec set → records.Names f ds (HeadToken h) rec set)
+head_names fields.Missing ds h rec set = (λ n. n, λ n. n)
+head_names other ds h rec set = (λ n. n, λ n. n)
+
+pub value_names : (f : FieldCause) (ds : List Dataset) (d : Dataset) (rec set : ℕ) → (records.Names f ds (ValueToken d) rec set → Names (cause_of f) ds (AtValue d) rec set) × (Names (cause_of f) ds (AtValue d) rec set → records.Names f ds (ValueToken d) rec set)
+value_names fields.Missing ds d rec set = (λ n. n, λ n. n)
+value_names other ds d rec set = (λ n. n, λ n. n)
+
+size_names : (s : SizeCause) (ds : List Dataset) (h : Head) → Names (cause_of_size s) ds (AtHead h) h.rec h.set
+size_names sizes.ModeClash ds h = (refl, refl)
+size_names other ds h = (refl, refl)
+
+size_value_names : (s : SizeCause) (ds : List Dataset) (d : Dataset) → Names (cause_of_size s) ds (AtValue d) d.rec d.set
+size_value_names sizes.ModeClash ds d = (refl, refl)
+size_value_names other ds d = (refl, refl)
+
+-- what is told of a token
+pub record IsTold (limits : Limits) (ds : List Dataset) (token : Token) (fault : TokenFault) : Type 0 where
+  pub tells : TellsTheLowest limits ds token fault
+  pub names : Names fault.cause ds token fault.rec fault.set
 
 -- of the limits a lower number than 52 is a cause of fields
 few_limits : (c : Cause) (n : ℕ) → InLayer layers.Limits c → (rule_of c).number < n → n ≤ 52 → (g : FieldCause) × (c ≡ cause_of g)
@@ -146,17 +185,13 @@ field_lowest limits ds token f holds lowest = record {
 
 -- ---- the object layer
 
-size_layer : (s : SizeCause) → (rule_of (cause_of_size s)).layer ≡ layers.Object
+pub size_layer : (s : SizeCause) → (rule_of (cause_of_size s)).layer ≡ layers.Object
 size_layer sizes.ModeClash = refl
 size_layer other = refl
 
-size_number : (s : SizeCause) → (rule_of (cause_of_size s)).number ≡ objects_format.number_of s
+pub size_number : (s : SizeCause) → (rule_of (cause_of_size s)).number ≡ objects_format.number_of s
 size_number sizes.ModeClash = refl
 size_number other = refl
-
-size_holds : (s : SizeCause) (limits : Limits) (ds : List Dataset) (token : Token) → (Holds' limits ds token (cause_of_size s) → OfSize s ds token) × (OfSize s ds token → Holds' limits ds token (cause_of_size s))
-size_holds sizes.ModeClash limits ds token = (λ h. h, λ h. h)
-size_holds other limits ds token = (λ h. h, λ h. h)
 
 size_lowest : (limits : Limits) (ds : List Dataset) (token : Token) (h : Head) (p : Place) (t : ObjectToken) (s : SizeCause) → objects.IsFirstCause p t s
     → OfSize s ds token → ((r : SizeCause) → OfSize r ds token → objects_format.HasCause r p t) → TellsTheLowest limits ds token (size_on h s)
@@ -191,10 +226,10 @@ mapped_if true (Some c) f s e = record { on = refl; cause = c; is = refl; fault 
 mapped_if true None f s e = absurd cc
 mapped_if false o f s e = absurd cc
 
-not_less : (a b : ℕ) → nat_lt a b ≡ false → b ≤ a
+pub not_less : (a b : ℕ) → nat_lt a b ≡ false → b ≤ a
 not_less a b is = elim (cases_lt a b) [ inl less ↦ absurd (let bad : true ≡ false = sym (lt-ltb a b less) ∙ is in cc) | inr more ↦ more ]
 
-either : (r a b : ℕ) → (nat_eq r a || nat_eq r b) ≡ true → (r ≡ a) ⊎ (r ≡ b)
+pub either : (r a b : ℕ) → (nat_eq r a || nat_eq r b) ≡ true → (r ≡ a) ⊎ (r ≡ b)
 either r a b is = elim (or_cases (nat_eq r a) (nat_eq r b) is) [ inl same ↦ inl (eqb-true r a same) | inr same ↦ inr (eqb-true r b same) ]
 
 too_many_lowest : (limits : Limits) (ds : List Dataset) (h : Head) → h.rec ≡ 8 → max_subfiles ≤ length (of_record 8 ds)
@@ -207,63 +242,70 @@ too_many_lowest limits ds h eight many none = record {
       none g ((field_holds g limits ds (AtHead h)).0 (subst (Holds' limits ds (AtHead h)) is has));
 }
 
-leads_at : LowestLaws → (ds : List Dataset) (h : Head) → SectionsLiveAt ds h → (h.rec ≡ 8 → length (of_record 8 ds) < max_subfiles) → (h.rec ≡ 8) ⊎ (h.rec ≡ 9) → HeadLeads ds h
+pub leads_at : LowestLaws → (ds : List Dataset) (h : Head) → SectionsLiveAt ds h → (h.rec ≡ 8 → length (of_record 8 ds) < max_subfiles) → (h.rec ≡ 8) ⊎ (h.rec ≡ 9) → HeadLeads ds h
 leads_at laws ds h at room (inl eight) = subfile_leads laws.answer.follow.objects ds h at eight (room eight)
 leads_at laws ds h at room (inr nine) = end_leads laws.answer.follow.objects ds h at nine
 
-head_lowest : LowestLaws → (limits : Limits) (ds : List Dataset) (h : Head) (fault : TokenFault) → SectionsLive ds → AreWithin limits ds → IsRefusedHead limits ds h fault → TellsTheLowest limits ds (AtHead h) fault
+head_lowest : LowestLaws → (limits : Limits) (ds : List Dataset) (h : Head) (fault : TokenFault) → SectionsLive ds → AreWithin limits ds → IsRefusedHead limits ds h fault → IsTold limits ds (AtHead h) fault
 head_lowest laws limits ds h fault alive within refused = by (first_fault limits ds h) (subfile_fault ds h) (object_fault ds h) refl refl refl refused.first
   where
-    by_object : Mapped (nat_eq h.rec 8 || nat_eq h.rec 9) (cause_at (place_after_datasets ds) (head_token h.rec h.count)) (size_on h) fault → TellsTheLowest limits ds (AtHead h) fault
+    by_object : Mapped (nat_eq h.rec 8 || nat_eq h.rec 9) (cause_at (place_after_datasets ds) (head_token h.rec h.count)) (size_on h) fault → IsTold limits ds (AtHead h) fault
     by_object m =
         let dead = subst (λ (f : TokenFault). DiesAtHead f.layer limits ds h) (sym m.fault) refused.dead in
         let is = either h.rec 8 9 m.on in
         let leads = leads_at laws ds h dead.0 dead.1.subfiles is in
         let stated = (stated_after_all laws.answer.follow.objects ds alive within.subfiles).stated in
         let first = (laws.objects (place_after_datasets ds) (head_token h.rec h.count) m.cause stated leads.0).0 m.is in
-        subst (TellsTheLowest limits ds (AtHead h)) m.fault (size_lowest limits ds (AtHead h) h (place_after_datasets ds) (head_token h.rec h.count) m.cause first (is, first.holds) (λ r has. has.1))
+        subst (IsTold limits ds (AtHead h)) m.fault (record { tells = size_lowest limits ds (AtHead h) h (place_after_datasets ds) (head_token h.rec h.count) m.cause first (is, first.holds) (λ r has. has.1); names = size_names m.cause ds h })
 
     by : (o : Option FieldFault) (p q : Option TokenFault) → first_fault limits ds h ≡ o → subfile_fault ds h ≡ p → object_fault ds h ≡ q
-        → option_or (option_map of_field o) (option_or p q) ≡ Some fault → TellsTheLowest limits ds (AtHead h) fault
+        → option_or (option_map of_field o) (option_or p q) ≡ Some fault → IsTold limits ds (AtHead h) fault
     by (Some f) p q first second third e =
         let is = ((laws.heads limits ds h).0 f).0 first in
-        subst (TellsTheLowest limits ds (AtHead h)) (same_Some _ _ e) (field_lowest limits ds (AtHead h) f is.holds is.lowest)
+        subst (IsTold limits ds (AtHead h)) (same_Some _ _ e) (record { tells = field_lowest limits ds (AtHead h) f is.holds is.lowest; names = (head_names f.cause ds h f.rec f.set).0 is.names })
     by None (Some s) q first second third e =
         let many = taken_if (nat_eq h.rec 8) (nat_lt (length (of_record 8 ds)) max_subfiles) (too_many_on h) s second in
-        subst (TellsTheLowest limits ds (AtHead h)) (many.0 ∙ same_Some _ _ e)
-        (too_many_lowest limits ds h (eqb-true h.rec 8 many.1) (not_less (length (of_record 8 ds)) max_subfiles many.2) ((laws.heads limits ds h).1.0 first))
+        subst (IsTold limits ds (AtHead h)) (many.0 ∙ same_Some _ _ e)
+        (record { tells = too_many_lowest limits ds h (eqb-true h.rec 8 many.1) (not_less (length (of_record 8 ds)) max_subfiles many.2) ((laws.heads limits ds h).1.0 first); names = (refl, refl) })
     by None None (Some s) first second third e =
         by_object (mapped_if (nat_eq h.rec 8 || nat_eq h.rec 9) (cause_at (place_after_datasets ds) (head_token h.rec h.count)) (size_on h) fault (third ∙ e))
     by None None None first second third e = absurd cc
 
 -- ---- values
 
-value_lowest : LowestLaws → (limits : Limits) (ds : List Dataset) (d : Dataset) (fault : TokenFault) → AreWithin limits ds → IsRefusedValue ds d fault → TellsTheLowest limits ds (AtValue d) fault
+value_lowest : LowestLaws → (limits : Limits) (ds : List Dataset) (d : Dataset) (fault : TokenFault) → AreWithin limits ds → IsRefusedValue ds d fault → IsTold limits ds (AtValue d) fault
 value_lowest laws limits ds d fault within refused = by (value_fault d) (number_fault ds d) refl refl refused.first
   where
     not_eight : (d.rec ≡ 7) ⊎ (d.rec ≡ 9) → d.rec ≡ 8 → length (of_record 8 ds) < max_subfiles
     not_eight (inl seven) eight = absurd (omega (arith, seven, eight))
     not_eight (inr nine) eight = absurd (omega (arith, nine, eight))
 
-    by_object : Mapped (tells_number d.rec) (cause_at (place_at ds (head_of d)) (value_token d.rec d.set (number d.octets))) (size_on (head_of d)) fault → TellsTheLowest limits ds (AtValue d) fault
+    by_object : Mapped (tells_number d.rec) (cause_at (place_at ds (head_of d)) (value_token d.rec d.set (number d.octets))) (size_on (head_of d)) fault → IsTold limits ds (AtValue d) fault
     by_object m =
         let dead = subst (λ (f : TokenFault). DiesAtValue f.layer ds d) (sym m.fault) refused.dead in
         let is = either d.rec 7 9 m.on in
         let leads = number_leads laws.answer.follow.objects ds d dead.0 m.on in
         let stated = (stated_at laws.answer.follow.objects ds (head_of d) (d, refl, dead.0) within.subfiles (not_eight is)).stated in
         let first = (laws.objects (place_at ds (head_of d)) (value_token d.rec d.set (number d.octets)) m.cause stated leads.0).0 m.is in
-        subst (TellsTheLowest limits ds (AtValue d)) m.fault (size_lowest limits ds (AtValue d) (head_of d) (place_at ds (head_of d)) (value_token d.rec d.set (number d.octets)) m.cause first (is, first.holds) (λ r has. has.1))
+        subst (IsTold limits ds (AtValue d)) m.fault (record {
+          tells = size_lowest limits ds (AtValue d) (head_of d) (place_at ds (head_of d)) (value_token d.rec d.set (number d.octets)) m.cause first (is, first.holds) (λ r has. has.1);
+          names = size_value_names m.cause ds d;
+        })
 
-    by : (o : Option FieldFault) (q : Option TokenFault) → value_fault d ≡ o → number_fault ds d ≡ q → option_or (option_map of_field o) q ≡ Some fault → TellsTheLowest limits ds (AtValue d) fault
+    by : (o : Option FieldFault) (q : Option TokenFault) → value_fault d ≡ o → number_fault ds d ≡ q → option_or (option_map of_field o) q ≡ Some fault → IsTold limits ds (AtValue d) fault
     by (Some f) q first second e =
         let is = ((laws.values limits ds d).0 f).0 first in
-        subst (TellsTheLowest limits ds (AtValue d)) (same_Some _ _ e) (field_lowest limits ds (AtValue d) f is.holds is.lowest)
+        subst (IsTold limits ds (AtValue d)) (same_Some _ _ e) (record { tells = field_lowest limits ds (AtValue d) f is.holds is.lowest; names = (value_names f.cause ds d f.rec f.set).0 is.names })
     by None q first second e = by_object (mapped_if (tells_number d.rec) (cause_at (place_at ds (head_of d)) (value_token d.rec d.set (number d.octets))) (size_on (head_of d)) fault (second ∙ e))
 
 -- ---- octets of the object, and its end
 
-end_lowest : (limits : Limits) (ds : List Dataset) (h : Head) (fault : TokenFault) → IsUnfinished limits ds h fault → TellsTheLowest limits ds (AtHead h) fault
-end_lowest limits ds h fault is = subst (TellsTheLowest limits ds (AtHead h)) (sym is.is_fault) (record { layer = refl; holds = (is.last, is.dies); lowest = λ other same less has. by other (one_of layers.Message other same) less has })
+end_lowest : (limits : Limits) (ds : List Dataset) (h : Head) (fault : TokenFault) → IsUnfinished limits ds h fault → IsTold limits ds (AtHead h) fault
+end_lowest limits ds h fault is =
+    subst (IsTold limits ds (AtHead h)) (sym is.is_fault) (record {
+      tells = record { layer = refl; holds = (is.last, is.dies.1); lowest = λ other same less has. by other (one_of layers.Message other same) less has };
+      names = (refl, refl);
+    })
   where
     by : (other : Cause) → InLayer layers.Message other → (rule_of other).number < 32 → Holds' limits ds (AtHead h) other → ⊥
     by other (inl bad) less has = subst (Holds' limits ds (AtHead h)) bad has
@@ -275,27 +317,45 @@ first_of_two other c d (inl is) order less = let n = numbered other c is in omeg
 first_of_two other c d (inr is) order less = let n = numbered other d is in omega (arith, n, order, less)
 
 -- where no CR is held, the octet is no lone return
-no_return : LowestLaws → (limits : Limits) (ds : List Dataset) (o : List ℕ) (b : ℕ) → Holds (text_so_far o) 0 → (other : Cause) → InLayer layers.Story other → (rule_of other).number < 41 → Holds' limits ds (SubfileOctet o b) other → ⊥
-no_return laws limits ds o b none other (inl is) less it =
-    let (text, (held, holds, lone)) = subst (Holds' limits ds (SubfileOctet o b)) is it in not_held laws.answer (text_so_far o) held lone.0 holds none
-no_return laws limits ds o b none other (inr is) less it = let n = numbered other causes.ControlOctet is in omega (arith, n, less)
+no_return : LowestLaws → (limits : Limits) (ds : List Dataset) (h : Head) (taken : List ℕ) (b : ℕ) → Holds (text_so_far (object_of ds ++ taken)) 0 → (other : Cause) → InLayer layers.Story other → (rule_of other).number < 41
+    → Holds' limits ds (AtOctet (InData h taken) b) other → ⊥
+no_return laws limits ds h taken b none other (inl is) less it =
+    let (eight, (text, (held, holds, some, feed, second))) = subst (Holds' limits ds (AtOctet (InData h taken) b)) is it in not_held laws.answer (text_so_far (object_of ds ++ taken)) held some holds none
+no_return laws limits ds h taken b none other (inr is) less it = let n = numbered other causes.ControlOctet is in omega (arith, n, less)
 
-octet_lowest : LowestLaws → (limits : Limits) (ds : List Dataset) (h : Head) (o : List ℕ) (b : ℕ) → IsOctet b → (cause : MessageCause) → HasCause cause o b → TellsTheLowest limits ds (SubfileOctet o b) (message_on h cause)
-octet_lowest laws limits ds h o b low messages.BadOctet has =
-    record { layer = refl; holds = has; lowest = λ other same less it. first_of_two other causes.BadOctet causes.Unfinished (one_of layers.Message other same) (omega arith) less }
-octet_lowest laws limits ds h o b low messages.Unfinished has = absurd has
-octet_lowest laws limits ds h o b low messages.LoneReturn (lives, dies, (held, some, holds)) = record {
+-- an octet more, as octets and as tokens
+pub one_token : (o : List ℕ) (b : ℕ) → map Octet (o ++ b ∷ []) ≡ map Octet o ++ Octet b ∷ []
+one_token o b = map-append Octet o (b ∷ [])
+
+octet_lowest : LowestLaws → (limits : Limits) (ds : List Dataset) (h : Head) (taken : List ℕ) (b : ℕ) → h.rec ≡ 8 → IsOctet b → (cause : MessageCause) → HasCause cause (object_of ds ++ taken) b
+    → TellsTheLowest limits ds (AtOctet (InData h taken) b) (message_on h cause)
+octet_lowest laws limits ds h taken b eight low messages.BadOctet has = record {
   layer = refl;
-  holds = (in_text o b dies, (held, holds, lone_return laws.story o b held dies some holds));
+  holds = (eight, λ lives. has.1 (subst (IsAlive MessageLanguage) (one_token (object_of ds ++ taken) b) lives));
+  lowest = λ other same less it. first_of_two other causes.BadOctet causes.Unfinished (one_of layers.Message other same) (omega arith) less;
+}
+octet_lowest laws limits ds h taken b eight low messages.Unfinished has = absurd has
+octet_lowest laws limits ds h taken b eight low messages.LoneReturn (lives, dies, (held, some, holds)) = record {
+  layer = refl;
+  holds =
+      let lone = lone_return laws.story (object_of ds ++ taken) b held dies some holds in
+      (eight, (in_text (object_of ds ++ taken) b dies, (held, holds, lone.0, lone.1, lone.2)));
   lowest = λ other same less it. first_of_two other causes.LoneReturn causes.ControlOctet (one_of layers.Story other same) (omega arith) less;
 }
-octet_lowest laws limits ds h o b low messages.ControlOctet (lives, dies, none) = record {
+octet_lowest laws limits ds h taken b eight low messages.ControlOctet (lives, dies, none) = record {
   layer = refl;
-  holds = (in_text o b dies, control laws.story o b low dies none);
-  lowest = λ other same less it. no_return laws limits ds o b none other (one_of layers.Story other same) less it;
+  holds = (eight, (in_text (object_of ds ++ taken) b dies, control laws.story (object_of ds ++ taken) b low dies none));
+  lowest = λ other same less it. no_return laws limits ds h taken b none other (one_of layers.Story other same) less it;
 }
-octet_lowest laws limits ds h o b low messages.Sink has =
-    record { layer = refl; holds = has; lowest = λ other same less it. first_of_two other causes.Sink causes.Failed (one_of layers.Outside other same) (omega arith) less }
+octet_lowest laws limits ds h taken b eight low messages.Sink (lives, story, told, apart) = record {
+  layer = refl;
+  holds = (eight, (told, apart));
+  lowest = λ other same less it. first_of_two other causes.Sink causes.Failed (one_of layers.Outside other same) (omega arith) less;
+}
+
+octet_names : (cause : MessageCause) (ds : List Dataset) (h : Head) (taken : List ℕ) (b : ℕ) → Names (cause_of_message cause) ds (AtOctet (InData h taken) b) h.rec h.set
+octet_names messages.BadOctet ds h taken b = (refl, refl)
+octet_names other ds h taken b = (refl, refl)
 
 -- ---- tags
 
@@ -392,42 +452,144 @@ below_marker other (inl is) less = let n = numbered other causes.Marker is in om
 below_marker other (inr (inl is)) less = let n = numbered other causes.CountForm is in omega (arith, n, less)
 below_marker other (inr (inr is)) less = let n = numbered other causes.Truncated is in omega (arith, n, less)
 
-below_count : (limits : Limits) (ds : List Dataset) (a : ℕ) (held : List ℕ) (next : ℕ) (other : Cause) → InLayer layers.Dataset other → (rule_of other).number < 2 → Holds' limits ds (TagOctet (a ∷ held) next) other → ⊥
+below_count : (limits : Limits) (ds : List Dataset) (a : ℕ) (held : List ℕ) (next : ℕ) (other : Cause) → InLayer layers.Dataset other → (rule_of other).number < 2 → Holds' limits ds (AtOctet (InTag (a ∷ held)) next) other → ⊥
 below_count limits ds a held next other (inl is) less has =
-    let both = subst (Holds' limits ds (TagOctet (a ∷ held) next)) is has in let none = ap length both.0 in omega (arith, none)
+    let both = subst (Holds' limits ds (AtOctet (InTag (a ∷ held)) next)) is has in let none = ap length both.0 in omega (arith, none)
 below_count limits ds a held next other (inr (inl is)) less has = let n = numbered other causes.CountForm is in omega (arith, n, less)
 below_count limits ds a held next other (inr (inr is)) less has = let n = numbered other causes.Truncated is in omega (arith, n, less)
 
+abbrev tag_fault : List ℕ → TokenFault
+tag_fault held = record { layer = layers.Dataset; rec = begun_record (InTag held); set = begun_number (InTag held); cause = tag_cause held }
+
 tag_lowest : (limits : Limits) (ds : List Dataset) (held : List ℕ) (next : ℕ) → IsOctet next → (h : Head) (tag : List ℕ) → SpellsTag count_octets h tag → IsProperPrefix held tag → BeginsNoTag count_octets (held ++ next ∷ [])
-    → TellsTheLowest limits ds (TagOctet held next) (record { layer = layers.Dataset; rec = begun_record (InTag held); set = begun_number (InTag held); cause = tag_cause held })
-tag_lowest limits ds [] next low h tag s part dead = record { layer = refl; holds = (refl, no_marker next dead); lowest = λ other same less has. below_marker other (one_of layers.Dataset other same) less }
-tag_lowest limits ds (a ∷ held) next low h tag s part dead = record { layer = refl; holds = no_count a next held low h tag s part dead; lowest = λ other same less has. below_count limits ds a held next other (one_of layers.Dataset other same) less has }
+    → IsTold limits ds (AtOctet (InTag held) next) (tag_fault held)
+tag_lowest limits ds [] next low h tag s part dead = record {
+  tells = record { layer = refl; holds = (refl, no_marker next dead); lowest = λ other same less has. below_marker other (one_of layers.Dataset other same) less };
+  names = (refl, refl);
+}
+tag_lowest limits ds (a ∷ held) next low h tag s part dead = record {
+  tells = record { layer = refl; holds = no_count a next held low h tag s part dead; lowest = λ other same less has. below_count limits ds a held next other (one_of layers.Dataset other same) less has };
+  names = (refl, refl);
+}
 
--- ---- the law
+-- ---- layers that are dead
 
-pub lowest_cause : LowestLaws → RefusalsTellTheLowestCause
-lowest_cause laws limits octets next fault low (inl bad) =
-    let (rest_is, h, tag, s, part) = bad.reads.is_rest in (
-      bad.whole,
-      TagOctet bad.held next,
-      (bad.reads, refl),
-      subst (TellsTheLowest limits bad.whole (TagOctet bad.held next)) (sym bad.is_fault) (tag_lowest limits bad.whole bad.held next low h tag s part bad.dead),
-    )
-lowest_cause laws limits octets next fault low (inr (inl bad)) = (bad.whole, AtHead bad.head, (bad.held, bad.reads, bad.tag), by bad.refuses)
+head_dies : (l : Layer) (limits : Limits) (ds : List Dataset) (h : Head) → DiesAtHead l limits ds h → Dies l limits ds (AtHead h)
+head_dies layers.Record limits ds h dead = dead
+head_dies layers.Limits limits ds h dead = dead
+head_dies layers.Object limits ds h dead = dead
+head_dies other limits ds h dead = absurd dead
+
+value_dies : (l : Layer) (limits : Limits) (ds : List Dataset) (d : Dataset) → DiesAtValue l ds d → Dies l limits ds (AtValue d)
+value_dies layers.Record limits ds d dead = dead
+value_dies layers.Object limits ds d dead = dead
+value_dies other limits ds d dead = absurd dead
+
+octet_dies : (cause : MessageCause) (limits : Limits) (ds : List Dataset) (h : Head) (taken : List ℕ) (b : ℕ) → HasCause cause (object_of ds ++ taken) b → Dies (layer_of_message cause) limits ds (AtOctet (InData h taken) b)
+octet_dies messages.BadOctet limits ds h taken b has = λ lives. has.1 (subst (IsAlive MessageLanguage) (one_token (object_of ds ++ taken) b) lives)
+octet_dies messages.Unfinished limits ds h taken b has = absurd has
+octet_dies messages.LoneReturn limits ds h taken b (lives, dies, held) = (lives, dies.1)
+octet_dies messages.ControlOctet limits ds h taken b (lives, dies, held) = (lives, dies.1)
+octet_dies messages.Sink limits ds h taken b (lives, story, told, apart) = (lives, story)
+
+-- ---- what tests find is told
+
+by_tag : LowestLaws → (limits : Limits) (octets : List ℕ) (next : ℕ) (fault : TokenFault) → IsOctet next → IsBadTagAt limits octets next fault → RefusesNext limits octets next fault
+by_tag laws limits octets next fault low bad =
+    let (rest_is, h, tag, s, part) = bad.reads.is_rest in
+    let told = tag_lowest limits bad.whole bad.held next low h tag s part bad.dead in
+    subst (RefusesNext limits octets next) (sym bad.is_fault) (record {
+      before = record { whole = bad.whole; begun = InTag bad.held; reads = bad.reads; leads_on = bad.leads_on; unfinished = bad.unfinished };
+      is_octet = low;
+      token = AtOctet (InTag bad.held) next;
+      completes = (refl, refl);
+      dies = bad.dead;
+      tells = told.tells;
+      names = told.names;
+    })
+
+by_head : LowestLaws → (limits : Limits) (octets : List ℕ) (next : ℕ) (fault : TokenFault) → IsOctet next → IsBadHeadAt limits octets next fault → RefusesNext limits octets next fault
+by_head laws limits octets next fault low bad = by bad.refuses
   where
-    by : IsRefusedHead limits bad.whole bad.head fault ⊎ IsUnfinished limits bad.whole bad.head fault → TellsTheLowest limits bad.whole (AtHead bad.head) fault
-    by (inl refused) = head_lowest laws limits bad.whole bad.head fault bad.leads_on.sizes.records bad.leads_on.sizes.within refused
-    by (inr unfinished) = end_lowest limits bad.whole bad.head fault unfinished
-lowest_cause laws limits octets next fault low (inr (inr (inl bad))) =
-    let o : List ℕ = object_of bad.whole ++ bad.taken in (
-      bad.whole,
-      SubfileOctet o next,
-      (bad.head, bad.taken, bad.reads, bad.subfile, refl, refl),
-      subst (TellsTheLowest limits bad.whole (SubfileOctet o next)) (sym bad.is_fault) (octet_lowest laws limits bad.whole bad.head o next low bad.cause bad.has_cause),
-    )
-lowest_cause laws limits octets next fault low (inr (inr (inr bad))) = (
-  bad.whole,
-  AtValue (data_of bad.head bad.given),
-  (bad.head, bad.is_value, bad.completes, refl),
-  value_lowest laws limits bad.whole (data_of bad.head bad.given) fault bad.leads_on.sizes.within bad.refuses,
-)
+    made : IsTold limits bad.whole (AtHead bad.head) fault → Dies fault.layer limits bad.whole (AtHead bad.head) → RefusesNext limits octets next fault
+    made told dies = record {
+      before = record { whole = bad.whole; begun = InTag bad.held; reads = bad.reads; leads_on = bad.leads_on; unfinished = bad.unfinished };
+      is_octet = low;
+      token = AtHead bad.head;
+      completes = bad.tag;
+      dies = dies;
+      tells = told.tells;
+      names = told.names;
+    }
+
+    by : IsRefusedHead limits bad.whole bad.head fault ⊎ IsUnfinished limits bad.whole bad.head fault → RefusesNext limits octets next fault
+    by (inl refused) = made (head_lowest laws limits bad.whole bad.head fault bad.leads_on.sizes.records bad.leads_on.sizes.within refused) (head_dies fault.layer limits bad.whole bad.head refused.dead)
+    by (inr is) = made (end_lowest limits bad.whole bad.head fault is) (subst (λ (f : TokenFault). Dies f.layer limits bad.whole (AtHead bad.head)) (sym is.is_fault) (is.leads_on, (is.last, is.dies.1)))
+
+by_octet : LowestLaws → (limits : Limits) (octets : List ℕ) (next : ℕ) (fault : TokenFault) → IsOctet next → IsBadOctetAt limits octets next fault → RefusesNext limits octets next fault
+by_octet laws limits octets next fault low bad =
+    subst (RefusesNext limits octets next) (sym bad.is_fault) (record {
+      before = record { whole = bad.whole; begun = InData bad.head bad.taken; reads = bad.reads; leads_on = bad.leads_on; unfinished = bad.unfinished };
+      is_octet = low;
+      token = AtOctet (InData bad.head bad.taken) next;
+      completes = (refl, refl);
+      dies = octet_dies bad.cause limits bad.whole bad.head bad.taken next bad.has_cause;
+      tells = octet_lowest laws limits bad.whole bad.head bad.taken next bad.subfile low bad.cause bad.has_cause;
+      names = octet_names bad.cause bad.whole bad.head bad.taken next;
+    })
+
+-- a head is that of a dataset with as many octets
+pub same_head : (h : Head) (xs : List ℕ) → length xs ≡ h.count → h ≡ head_of (data_of h xs)
+same_head h xs many = λ i. record { rec = h.rec; set = h.set; count = sym many i }
+
+by_value : LowestLaws → (limits : Limits) (octets : List ℕ) (next : ℕ) (fault : TokenFault) → IsOctet next → IsBadValueAt limits octets next fault → RefusesNext limits octets next fault
+by_value laws limits octets next fault low bad = by bad.completes
+  where
+    value : Dataset
+    value = data_of bad.head bad.given
+
+    told : IsTold limits bad.whole (AtValue value) fault
+    told = value_lowest laws limits bad.whole value fault bad.leads_on.sizes.within bad.refuses
+
+    by : CompletesData octets next bad.whole bad.head bad.given → RefusesNext limits octets next fault
+    by (inl (taken, reads, parts, many)) = record {
+      before = record {
+        whole = bad.whole;
+        begun = InData bad.head taken;
+        reads = reads;
+        leads_on = fewer_data limits bad.whole bad.head bad.given taken bad.is_value bad.leads_on;
+        unfinished = bad.unfinished;
+      };
+      is_octet = low;
+      token = AtValue value;
+      completes = (bad.is_value, ap (data_of bad.head) parts, many);
+      dies = value_dies fault.layer limits bad.whole value bad.refuses.dead;
+      tells = told.tells;
+      names = told.names;
+    }
+    by (inr (held, reads, tag, none, is)) = record {
+      before = record {
+        whole = bad.whole;
+        begun = InTag held;
+        reads = reads;
+        leads_on = before_it laws.answer limits bad.whole bad.head held bad.is_value bad.unfinished (fewer_data limits bad.whole bad.head bad.given [] bad.is_value bad.leads_on);
+        unfinished = bad.unfinished;
+      };
+      is_octet = low;
+      token = AtValue value;
+      completes = (
+        bad.is_value,
+        subst (λ (h : Head). SpellsTag count_octets h (held ++ next ∷ [])) (same_head bad.head bad.given (ap length is ∙ sym none)) tag,
+        is,
+        subst (λ (h : Head). AllCanContinue limits bad.whole (InData h [])) (same_head bad.head bad.given (ap length is ∙ sym none)) (fewer_data limits bad.whole bad.head bad.given [] bad.is_value bad.leads_on),
+      );
+      dies = value_dies fault.layer limits bad.whole value bad.refuses.dead;
+      tells = told.tells;
+      names = told.names;
+    }
+
+pub told_by_table : LowestLaws → (limits : Limits) (octets : List ℕ) (next : ℕ) (fault : TokenFault) → IsOctet next → RefusesByTests limits octets next fault → RefusesNext limits octets next fault
+told_by_table laws limits octets next fault low (inl bad) = by_tag laws limits octets next fault low bad
+told_by_table laws limits octets next fault low (inr (inl bad)) = by_head laws limits octets next fault low bad
+told_by_table laws limits octets next fault low (inr (inr (inl bad))) = by_octet laws limits octets next fault low bad
+told_by_table laws limits octets next fault low (inr (inr (inr bad))) = by_value laws limits octets next fault low bad

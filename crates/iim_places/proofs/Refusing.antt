@@ -25,8 +25,9 @@ use Rattle.wire_message.specs.Format.Layers.{MessageDiesAt}
 use Rattle.wire_message.specs.Format.Causes.{HasCause}
 use Rattle.wire_story.specs.Format.Tokens.{End}
 use Rattle.iim_places.specs.Format.Admitted.{object_of}
+use Rattle.iim_places.specs.Laws.Conditions.{RefusalsTellTheLowestCause}
 use Rattle.iim_places.specs.Laws.Places.{PlacesRefuseAlike}
-use Rattle.iim_places.specs.Format.Open.{AllCanContinue, IsUnfinished, object_so_far, IsBadHeadAt, IsBadOctetAt, IsBadTagAt, IsBadValueAt, RefusesNext}
+use Rattle.iim_places.specs.Format.Open.{AllCanContinue, IsUnfinished, object_so_far, IsBadHeadAt, IsBadOctetAt, IsBadTagAt, IsBadValueAt, RefusesByTests}
 use Rattle.iim_places.specs.Format.Refusals.{of_field, size_on, too_many_on}
 use Rattle.iim_places.specs.Laws.Streams.{RefusedOctetsWereOpen, OpenOctetsBeginWithNoEnvelope}
 use Rattle.iim_places.specs.Format.Tokens.{DiesAtHead, DiesAtValue, CanContinueAt, HaveRoom, IsRefusedHead, IsRefusedValue, ObjectLives, fault_at_head, fault_at_value, place_at}
@@ -369,7 +370,7 @@ bad_value laws limits p q o r on next fault bad = by bad.completes
         let many : length bad.given ≡ h.count = ap length is ∙ sym none in
         value_at laws limits q next fault bad.whole es h bad.given bad.is_value many (inr (held, read.reads, tag, none, is)) bad.leads_on there t.twins unfinished bad.refuses
 
-refuses_as : OnwardLaws → (limits : Limits) (p q o r : List ℕ) → OnTo limits p q o r → (next : ℕ) (fault : TokenFault) → RefusesNext limits p next fault → RefusesNext limits q next fault
+refuses_as : OnwardLaws → (limits : Limits) (p q o r : List ℕ) → OnTo limits p q o r → (next : ℕ) (fault : TokenFault) → RefusesByTests limits p next fault → RefusesByTests limits q next fault
 refuses_as laws limits p q o r on next fault (inl bad) = inl (bad_tag laws limits p q o r on next fault bad)
 refuses_as laws limits p q o r on next fault (inr (inl bad)) = inr (inl (bad_head laws limits p q o r on next fault bad))
 refuses_as laws limits p q o r on next fault (inr (inr (inl bad))) = inr (inr (inl (bad_octet laws limits p q o r on next fault bad)))
@@ -377,9 +378,13 @@ refuses_as laws limits p q o r on next fault (inr (inr (inr bad))) = inr (inr (i
 
 -- ---- both
 
-pub refuse_alike : OnwardLaws → OpenOctetsBeginWithNoEnvelope → RefusedOctetsWereOpen → PlacesRefuseAlike
-refuse_alike laws no_front was_open limits p q place is are (inl opens) (inl goes) more next fault bad =
-    refuses_as laws limits (p ++ more) (q ++ more) (object_so_far is.whole is.begun) (object_so_far are.whole are.begun) (on_open laws limits p q place is are opens goes more) next fault bad
-refuse_alike laws no_front was_open limits p q place is are (inl opens) (inr (w, other)) more next fault bad = absurd (not_both laws limits p q place is are opens w other)
-refuse_alike laws no_front was_open limits p q place is are (inr (v, whole)) comes more next fault bad =
+pub refuse_alike : OnwardLaws → RefusalsTellTheLowestCause → OpenOctetsBeginWithNoEnvelope → RefusedOctetsWereOpen → PlacesRefuseAlike
+refuse_alike laws tests no_front was_open limits p q place is are (inl opens) (inl goes) more next fault bad =
+    let (low, found) = (tests limits (p ++ more) next fault).0 bad in
+    (tests limits (q ++ more) next fault).1 (
+      low,
+      refuses_as laws limits (p ++ more) (q ++ more) (object_so_far is.whole is.begun) (object_so_far are.whole are.begun) (on_open laws limits p q place is are opens goes more) next fault found,
+    )
+refuse_alike laws tests no_front was_open limits p q place is are (inl opens) (inr (w, other)) more next fault bad = absurd (not_both laws limits p q place is are opens w other)
+refuse_alike laws tests no_front was_open limits p q place is are (inr (v, whole)) comes more next fault bad =
     absurd (no_front limits (p ++ more) p more v (was_open limits (p ++ more) next fault bad) refl whole.admits)

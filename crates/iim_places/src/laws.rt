@@ -17,8 +17,8 @@ use iim_dataset::laws::{
     what_an_octet_completes,
 };
 use iim_fields::laws::{
-    envelopes_end_with_the_last_record, heads_tell_the_lowest_cause, no_sections_begin_others,
-    values_die_with_their_fault, values_tell_the_lowest_cause,
+    envelopes_end_with_the_last_record, heads_die_with_their_fault, heads_tell_the_lowest_cause,
+    no_sections_begin_others, values_die_with_their_fault, values_tell_the_lowest_cause,
 };
 use iim_object::laws::{
     causes_are_the_first, datasets_lead_from_place_to_place, datasets_live_with_their_tokens,
@@ -185,15 +185,14 @@ pub fn envelopes_are_bounded()
 /// Octets of which the next one is refused are open.
 pub fn refused_octets_were_open()
     ensures { RefusedOctetsWereOpen }
-{
-    answer_laws();
-}
+{}
 
 /// With a refused octet, and whatever follows it, octets are neither open nor an envelope within the limits.
 pub fn nothing_continues_from_refused_octets()
     ensures { NothingContinuesFromRefusedOctets }
 {
     answer_laws();
+    refusals_tell_the_lowest_cause();
 }
 
 /// The refusal of an octet after others is determined: its layer, its dataset and its cause.
@@ -201,15 +200,18 @@ pub fn refusals_are_determined()
     ensures { RefusalsAreDetermined }
 {
     answer_laws();
+    refusals_tell_the_lowest_cause();
 }
 
-/// An octet that is refused completes a token, and the cause that is told is the one of the lowest number in its layer whose condition
-/// holds there.
+/// An octet is refused for the cause of the lowest number in its layer whose condition holds at the token that it completes exactly
+/// where tests, made one after the other, find that fault first.
 pub fn refusals_tell_the_lowest_cause()
     ensures { RefusalsTellTheLowestCause }
 {
     answer_laws();
+    heads_die_with_their_fault();
     heads_tell_the_lowest_cause();
+    values_die_with_their_fault();
     values_tell_the_lowest_cause();
     causes_are_the_first();
     stories_live_as_texts_so_far();
@@ -222,6 +224,7 @@ pub fn streams_have_one_answer()
     ensures { StreamsHaveOneAnswer }
 {
     answer_laws();
+    refusals_tell_the_lowest_cause();
     admitted_octets_have_one_value();
     no_admitted_octets_begin_others();
     open_octets_begin_with_no_envelope();
@@ -355,6 +358,7 @@ pub fn places_refuse_alike()
     ensures { PlacesRefuseAlike }
 {
     onward_laws();
+    refusals_tell_the_lowest_cause();
     open_octets_begin_with_no_envelope();
     refused_octets_were_open();
 }

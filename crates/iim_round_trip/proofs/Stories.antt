@@ -59,8 +59,8 @@ one_story one limits stream got is answer h =
 
 pub no_story : (limits : Limits) (stream : List ℕ) (old new : Collected) (fault : UnpackFault) → IsTurnedDown gathers limits stream old new fault → HasNoStory limits stream fault
 no_story limits stream old new OutOfMemory h = tt
-no_story limits stream old new (Refused e) (inl s) = inl (record { fits = s.fits; fault = s.fault; refusal = s.refusal; refuses = s.refuses; told = (s.told.0, tt, s.told.2) })
-no_story limits stream old new (Refused e) (inr s) = inr (record { truncated = s.truncated; told = (s.told.0, tt, s.told.2) })
+no_story limits stream old new (Refused e) (inl (refused, told)) = inl (refused, (told.0, tt, told.2))
+no_story limits stream old new (Refused e) (inr (short, told)) = inr (short, (told.0, tt, told.2))
 
 pub same_fault : (fault : UnpackFault) (answer : Answer) → IsAnswer (Err fault) answer → IsStoryAnswer (Err fault) answer
 same_fault OutOfMemory answer h = absurd h

@@ -93,9 +93,9 @@ answers_all u u' p piece a (Err e) at w calm =
       fits = omega (arith, r.within, length-append p piece);
       fault = r.fault;
       refusal = refl;
-      kills = record { refuses = refuses; by_octets = λ is. calm (ap (λ (x : Refusal). x.cause) r.refusal ∙ is) };
+      refuses = refuses;
     } in
-    (Refused (refusal_at (length p + r.k) r.fault), was, (r.k, r.fault, refl, r.refusal))
+    (Refused (refusal_at (length p + r.k) r.fault), (was, λ is. calm (ap (λ (x : Refusal). x.cause) r.refusal ∙ is)), (r.k, r.fault, refl, r.refusal))
 
 -- ---- after a piece
 

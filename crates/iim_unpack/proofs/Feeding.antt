@@ -2,6 +2,7 @@
 use Rattle.std.proofs.Common.{◌≡◌, ℕ, ◌<◌, ◌≤◌, ◌⊎◌, Bool, true, false, nat_eq, get_or, List, [], ◌∷◌, ◌++◌, length, take, slice_index, Option, Some, None, IsSome, refl, ap, sym, subst, ◌∙◌, inl, inr, arith, append-nil, append_assoc}
 use Rattle.std.proofs.lemmas.List.{take_all}
 use Rattle.std.proofs.lemmas.Bool.{eqb-true, true≢false}
+use Rattle.iim_dataset.specs.Format.Octets.{IsOctet}
 use Rattle.iim_dataset.specs.Format.Datasets.{Dataset, SpellsStream, count_octets, of_record}
 use Rattle.iim_dataset.specs.Format.Splits.{Begun, InTag, InData, Reads}
 use Rattle.iim_dataset.specs.Format.Tags.{Concerns}
@@ -39,7 +40,7 @@ use Rattle.iim_places.specs.Format.Refusals.{begun_record, begun_number, tag_cau
 use Rattle.iim_places.specs.Format.Tokens.{IsRefusedHead, IsRefusedValue}
 use Rattle.iim_fields.specs.Format.Values.{data_of}
 use Rattle.iim_unpack.specs.UnpackerInside.{cause_of_tag, Advanced, FailsAs, IsOnward, tag_fault, begins, Stood, IsUnpacking}
-use Rattle.iim_places.specs.Format.Open.{object_so_far, AllCanContinue, IsUnfinished, IsTextOf, Delivers, IsOpen, IsBadTagAt, RefusesNext, IsTruncatedAt, truncated_in}
+use Rattle.iim_places.specs.Format.Open.{object_so_far, AllCanContinue, IsUnfinished, IsTextOf, Delivers, IsOpen, IsBadTagAt, RefusesByTests, IsTruncatedAt, truncated_in}
 use Rattle.iim_unpack.specs.States.Parts.{AreAfter, StandsFor, AreLed, has_ended}
 use Rattle.iim_unpack.specs.PartSteps.{Refused, RefusesAt}
 use Rattle.iim_unpack.specs.Sequence.{AreInOrder}
@@ -57,6 +58,7 @@ use Rattle.iim_unpack.proofs.Carrying.{all_after, all_within}
 use Rattle.iim_places.proofs.Lasts.{sections_last, last_sections, not_all}
 use Rattle.iim_unpack.proofs.Ended.{ended_by_record, unended_inside}
 use Rattle.iim_unpack.proofs.Sequences.{handed_in_order}
+use Rattle.iim_places.specs.Laws.Conditions.{RefusalsTellTheLowestCause}
 use Rattle.iim_places.specs.Laws.Lower.{FeedLaws}
 use Rattle.iim_places.proofs.ObjectOctets.{no_object}
 
@@ -378,7 +380,7 @@ bad_tag laws limits parts p events text place next cause fault same leads led mo
 -- What the octets are and what the parts say of them.
 record Told (limits : Limits) (octets text : List ℕ) (next : ℕ) (fault : TokenFault) : Type 0 where
   pub text_is : IsTextOf octets text
-  pub refuses : RefusesNext limits octets next fault
+  pub refuses : RefusesByTests limits octets next fault
 
 head_refused : FeedLaws → (limits : Limits) (octets : List ℕ) (next : ℕ) (events : List DatasetEvent) (text : List ℕ) (h : Head) (fault : TokenFault) → CompletesHead octets next events h
     → Refused limits events text (HeadRead h) fault → Told limits octets text next fault
@@ -481,10 +483,10 @@ token_refused laws limits octets next events text (DataOctet b) fault c r =
 token_refused laws limits octets next events text DatasetEnd fault c r = end_refused laws limits octets next events text fault c r
 
 -- the sink's answer at a refusal
-pub refused_in : {S : Type 0} (goes : S → List story.StoryEvent → S → Type 0) (failures : S → ℕ) → FeedLaws → (u : Unpacking) (piece : List ℕ) (k : ℕ) (fault : TokenFault) (a b : S) (e : Refusal)
-    → k < length piece → e ≡ refusal_at (raised u.octets k) fault → FailsAs goes failures (u.reader.place, u.parts, a) piece k fault b
+pub refused_in : {S : Type 0} (goes : S → List story.StoryEvent → S → Type 0) (failures : S → ℕ) → FeedLaws → RefusalsTellTheLowestCause → (u : Unpacking) (piece : List ℕ) (k : ℕ) (fault : TokenFault) (a b : S) (e : Refusal)
+    → k < length piece → IsOctet (slice_index piece k) → e ≡ refusal_at (raised u.octets k) fault → FailsAs goes failures (u.reader.place, u.parts, a) piece k fault b
     → (more : List story.StoryEvent) × goes a more b × ((p : List ℕ) (n : ℕ) → Stands u p n → IsRefusedIn (limits_in u) p n piece more e)
-refused_in goes failures laws u piece k fault a b e within is (inl (cause, new, stuck, is_fault)) =
+refused_in goes failures laws tests u piece k fault a b e within low is (inl (cause, new, stuck, is_fault)) =
     let w = stuck.advanced.went in (
       story.delivered w.more,
       w.told,
@@ -503,10 +505,10 @@ refused_in goes failures laws u piece k fault a b e within is (inl (cause, new, 
                 let same = one_text laws p text led.text is_text (text_of laws u.parts p led.events led.text u.reader.place led.leads led.led) in
                 subst (λ (t : List ℕ). IsTextOf (p ++ take k piece) (t ++ w.more)) (sym same)
                 (text_of laws stuck.parts (p ++ take k piece) (led.events ++ stuck.advanced.more) (led.text ++ w.more) new leads then_led);
-            refuses = inl (bad_tag laws (limits_in u) stuck.parts (p ++ take k piece) (led.events ++ stuck.advanced.more) (led.text ++ w.more) new (slice_index piece k) cause fault w.limits leads then_led (open_parts stuck.parts (to_come new) stuck.takes) stuck.dies is_fault);
+            refuses = (tests (limits_in u) (p ++ take k piece) (slice_index piece k) fault).1 (low, inl (bad_tag laws (limits_in u) stuck.parts (p ++ take k piece) (led.events ++ stuck.advanced.more) (led.text ++ w.more) new (slice_index piece k) cause fault w.limits leads then_led (open_parts stuck.parts (to_come new) stuck.takes) stuck.dies is_fault));
           },
     )
-refused_in goes failures laws u piece k fault a b e within is (inr stop) =
+refused_in goes failures laws tests u piece k fault a b e within low is (inr stop) =
     let s = stop.stopped in
     let same_fault : s.fault ≡ fault = sym (some-same s.is_fault) in (
       story.delivered s.more,
@@ -528,7 +530,7 @@ refused_in goes failures laws u piece k fault a b e within is (inr stop) =
             adds = λ text is_text.
                 let same = one_text laws p text led.text is_text (text_of laws u.parts p led.events led.text u.reader.place led.leads led.led) in
                 subst (λ (t : List ℕ). IsTextOf (p ++ take k piece) (t ++ s.more)) (sym same) told.text_is;
-            refuses = told.refuses;
+            refuses = (tests (limits_in u) (p ++ take k piece) (slice_index piece k) fault).1 (low, told.refuses);
           },
     )
   where

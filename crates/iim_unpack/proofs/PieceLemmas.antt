@@ -17,7 +17,7 @@ use Rattle.iim_places.specs.Laws.Lower.{FeedLaws}
 use Rattle.iim_unpack.specs.Format.Pieces.{stream_of, IsUnpacked, IsTurnedDown, IsAnswer}
 use Rattle.iim_unpack.specs.PiecesSoFar.{DoneIn, HasFedPieces}
 use Rattle.iim_places.specs.Format.Refusals.{refusal_at}
-use Rattle.iim_places.specs.Format.Streams.{Answer, Answers, Finished, Refused, Truncated, IsEnvelopeWithin, IsFinished, IsRefused}
+use Rattle.iim_places.specs.Format.Streams.{Answer, Answers, Finished, Refused, Truncated, IsEnvelopeWithin, IsFinished}
 use Rattle.iim_unpack.specs.States.Unpacking.{Unpacking, Stands, IsDone, IsDoneWith, Goes, IsRefusedIn, limits_in}
 use Rattle.iim_places.specs.States.Counts.{raised}
 use Rattle.iim_places.specs.Format.Open.{IsOpen, Delivers, IsTruncatedAt, RefusesNext}
@@ -135,17 +135,16 @@ was_refused goes joined laws limits low a b c o piece rest more next e told then
     let octet : slice_index stream e.octet ≡ slice_index piece r.k =
     ap (slice_index stream) at ∙ get_or-append-add o (piece ++ rest) r.k 0 ∙ get_or_append_left piece rest 0 r.k within in
     let delivered : Delivers o (take r.k piece) next = λ text is. (r.added, r.adds text is, r.delivers) in
-    inl (record {
-      fits = omega (arith, within, at, length-append o (piece ++ rest), length-append piece rest);
-      fault = r.fault;
-      refusal = r.refusal ∙ ap (λ (n : ℕ). refusal_at n r.fault) (sym (ap (λ (x : Refusal). x.octet) r.refusal));
-      refuses = subst (λ (x : List ℕ). RefusesNext limits x (slice_index stream e.octet) r.fault) (sym front) (subst (λ (n : ℕ). RefusesNext limits (o ++ take r.k piece) n r.fault) (sym octet) r.refuses);
-      told = (
-        more ++ next,
-        joined a b c more next told then',
-        subst (λ (x : List ℕ). Delivers [] x (more ++ next)) (sym front) (adds_more laws.cut [] o (take r.k piece) more next adds delivered),
-      );
-    })
+    inl (
+      record {
+        fits = omega (arith, within, at, length-append o (piece ++ rest), length-append piece rest);
+        fault = r.fault;
+        refusal = r.refusal ∙ ap (λ (n : ℕ). refusal_at n r.fault) (sym (ap (λ (x : Refusal). x.octet) r.refusal));
+        refuses = subst (λ (x : List ℕ). RefusesNext limits x (slice_index stream e.octet) r.fault) (sym front)
+            (subst (λ (n : ℕ). RefusesNext limits (o ++ take r.k piece) n r.fault) (sym octet) r.refuses);
+      },
+      (more ++ next, joined a b c more next told then', subst (λ (x : List ℕ). Delivers [] x (more ++ next)) (sym front) (adds_more laws.cut [] o (take r.k piece) more next adds delivered)),
+    )
 
 -- ---- the end
 
@@ -174,7 +173,7 @@ is_unpacked goes laws between delivered limits v a b stream more got used same t
 pub cut_short : {S : Type 0} (goes : S → List story.StoryEvent → S → Type 0) → (limits : Limits) (v : Unpacking) (a b : S) (stream : List ℕ) (more : List story.StoryEvent) (e : Refusal) → limits_in v ≡ limits → goes a more b
     → Stands v stream (length stream) → Delivers [] stream more → IsTruncatedAt stream (length stream) e → IsTurnedDown goes limits stream a b e
 cut_short goes limits v a b stream more e same told at adds truncated =
-    inr (record { truncated = record { is_open = subst (λ (l : Limits). IsOpen l stream) same at.is_open; refusal = truncated }; told = (more, told, adds) })
+    inr (record { is_open = subst (λ (l : Limits). IsOpen l stream) same at.is_open; refusal = truncated }, (more, told, adds))
 
 -- ---- pieces, one after another
 
@@ -206,15 +205,8 @@ turned_down goes joined laws limits low u a b c o piece rest answer e fed is ste
 
 pub only_down : {S : Type 0} (goes : S → List story.StoryEvent → S → Type 0) → StreamsHaveOneAnswer → (limits : Limits) (stream : List ℕ) (a b : S) (e : Refusal) → IsTurnedDown goes limits stream a b e → (answer : Answer) → Answers limits stream answer
     → (e.cause ≡ Sink → ⊥) → IsAnswer (Err e) answer
-only_down goes one limits stream a b e (inl stopped) answer is other =
-    let mine : IsRefused limits stream e = record {
-      fits = stopped.fits;
-      fault = stopped.fault;
-      refusal = stopped.refusal;
-      kills = record { refuses = stopped.refuses; by_octets = λ sink. other (ap (λ (x : Refusal). x.cause) stopped.refusal ∙ sink) };
-    } in
-    subst (λ (x : Answer). IsAnswer (Err e) x) (one limits stream (Refused e) answer mine is) refl
-only_down goes one limits stream a b e (inr short) answer is other = subst (λ (x : Answer). IsAnswer (Err e) x) (one limits stream (Truncated e) answer short.truncated is) refl
+only_down goes one limits stream a b e (inl (refused, told)) answer is other = subst (λ (x : Answer). IsAnswer (Err e) x) (one limits stream (Refused e) answer (refused, other) is) refl
+only_down goes one limits stream a b e (inr (short, told)) answer is other = subst (λ (x : Answer). IsAnswer (Err e) x) (one limits stream (Truncated e) answer short is) refl
 
 pub only_up : {S : Type 0} (goes : S → List story.StoryEvent → S → Type 0) → StreamsHaveOneAnswer → (limits : Limits) (stream : List ℕ) (a b : S) (got : Unpacked) (used : ℕ) → IsUnpacked goes limits stream a b got used → (answer : Answer) → Answers limits stream answer
     → IsAnswer (Ok (got, used)) answer

@@ -27,7 +27,7 @@ use iim_dataset::{Fault as TagFault, FaultCause, HeadReader};
 use iim_fields::{Envelope, EnvelopeRef, Fields, Limits};
 use iim_object::laws::readers_tell_sizes;
 use iim_object::{ObjectReader, Sizes};
-use iim_places::laws::{admitted_octets_have_one_value, feed_laws};
+use iim_places::laws::{admitted_octets_have_one_value, feed_laws, refusals_tell_the_lowest_cause};
 use iim_places::{Cause, Layer, Refusal, TokenFault};
 use std::alloc::{AllocError, Global};
 use std::marker::Model;
@@ -347,6 +347,7 @@ impl Unpacker {
     {
         feed_laws();
         readers_tell_sizes();
+        refusals_tell_the_lowest_cause();
         if let Some(octet) = self.refused {
             return Err(failed_at(octet));
         }

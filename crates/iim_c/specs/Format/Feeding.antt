@@ -1,5 +1,5 @@
 -- What a piece comes to that is fed from the place of a ticket.
-use Rattle.std.specs.Prelude.{◌≡◌, ◌≢◌, ℕ, ◌<◌, ◌≤◌, ◌⊎◌, List, [], ◌∷◌, ◌++◌, length, take, map}
+use Rattle.std.specs.Prelude.{◌≡◌, ◌≢◌, ℕ, ◌+◌, ◌*◌, ◌<◌, ◌≤◌, ◌⊎◌, List, [], ◌∷◌, ◌++◌, length, take, map}
 use Rattle.iim_fields.specs.declared.limits.Limits.{Limits}
 use Rattle.wire_story.specs.Format.Delivery.{StoryEvent, octet_for}
 use Rattle.iim_places.specs.Format.Admitted.{Value}
@@ -121,6 +121,15 @@ next_of (Refused e text) = []
 next_of (BadTicket fault) = []
 next_of NoMemory = []
 
+-- the most octets of a ticket, by the limits
+abbrev pub most_of_ticket : Limits → ℕ
+most_of_ticket limits = limits.octets + 6 * limits.fields + 256
+
+-- No more octets than the header tells are for the buffers: of the text as many as the piece has, of the ticket what the limits allow.
+pub record AreFew (limits : Limits) (piece : List ℕ) (o : Outcome) : Type 0 where
+  pub text : length (text_of o) ≤ length piece
+  pub ticket : length (next_of o) ≤ most_of_ticket limits
+
 -- the answer that tells it
 abbrev pub answer_of : Outcome → IimAnswer
 answer_of (More octet used text next) = record (status_answer status.more) { octet = octet; used = used; written = length text; ticket = length next }
@@ -149,9 +158,10 @@ pub record IsShort (o : Outcome) (text_out ticket_out : List ℕ) (told : IimAns
 abbrev pub IsAnswered : Outcome → List ℕ → List ℕ → IimAnswer → Type 0
 IsAnswered o text_out ticket_out told = IsTold o text_out ticket_out told ⊎ IsShort o text_out ticket_out told
 
--- The piece is fed from the place of the ticket on, and what it comes to is answered.
+-- The piece is fed from the place of the ticket on, and what it comes to is answered. So buffers of these lengths are never too short.
 abbrev pub IsFed : Limits → List ℕ → ℕ → List ℕ → List ℕ → List ℕ → IimAnswer → Type 0
-IsFed limits ticket at piece text_out ticket_out told = (o : Outcome) × IsOutcome limits ticket at piece o × IsAnswered o text_out ticket_out told
+IsFed limits ticket at piece text_out ticket_out told =
+    (o : Outcome) × IsOutcome limits ticket at piece o × AreFew limits piece o × IsAnswered o text_out ticket_out told
 
 -- ---- the end of the input
 

@@ -1,5 +1,6 @@
 -- The names that are told by numbers.
 use Rattle.std.specs.Prelude.{◌≡◌, ℕ, ◌+◌, ◌<◌, ◌≤◌, ◌==◌, ◌&&◌, ◌⊎◌, Bool, List, [], ◌∷◌, ◌++◌, length, drop, codes, Option, Some, None}
+use Rattle.std.specs.Borrow.{Bor}
 use Rattle.std.specs.List.{find}
 use Rattle.std.specs.Option.{option_map}
 use Rattle.iim_places.specs.Format.Names.{cause_name, cause_number, layer_name}
@@ -164,6 +165,11 @@ unfoldable pub dataset_named : ℕ → ℕ → Option (List ℕ)
 dataset_named rec set = option_map (λ e. e.name) (find (is_for rec set) dataset_names)
 
 -- ---- what is written
+
+-- the name that is told, or no octets
+abbrev pub name_told : Option (Bor (List ℕ)) → List ℕ
+name_told (Some name) = name.now
+name_told None = []
 
 -- the name, or no octets
 abbrev pub name_or_none : Option (List ℕ) → List ℕ

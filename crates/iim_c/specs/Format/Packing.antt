@@ -36,6 +36,10 @@ HasNoPlan p = IsTrue (is_plan (subfile_for p.subfile) (Unknown (max_for p.has_ma
 abbrev pub AsksNothing : IimPacking → Type 0
 AsksNothing p = TellsMaxOfKnown p ⊎ HasNoPlan p
 
+-- Something that can be is.
+abbrev pub AsksSomething : IimPacking → Type 0
+AsksSomething p = AsksNothing p → ⊥
+
 -- ---- what packing comes to
 
 -- the packed form; or a line that is wrong, and the cause; or nothing was asked for, or memory was refused
@@ -53,11 +57,12 @@ IsFormFor a octets form = (t : ScriptContent) × IsScriptOf octets t × IsFormOf
 abbrev pub IsRefusedFor : Asked → List ℕ → ℕ → ℕ → Type 0
 IsRefusedFor a octets line cause = (name : List ℕ) × IsScriptRefusal a octets (refusal_line line cause name)
 
+-- Where nothing that can be is asked for, it comes to that alone, whatever the script is.
 abbrev pub IsPackOutcome : IimPacking → List ℕ → PackOutcome → Type 0
-IsPackOutcome p octets (Packed form) = IsFormFor (asked_for p) octets form
-IsPackOutcome p octets (Refused line cause) = IsRefusedFor (asked_for p) octets line cause
+IsPackOutcome p octets (Packed form) = AsksSomething p × IsFormFor (asked_for p) octets form
+IsPackOutcome p octets (Refused line cause) = AsksSomething p × IsRefusedFor (asked_for p) octets line cause
 IsPackOutcome p octets BadPacking = AsksNothing p
-IsPackOutcome p octets NoMemory = Unit {0}
+IsPackOutcome p octets NoMemory = AsksSomething p
 
 -- the answer that tells it
 abbrev pub pack_answer : PackOutcome → IimAnswer

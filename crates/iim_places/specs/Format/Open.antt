@@ -1,27 +1,32 @@
 -- Octets from which every layer can continue, what they say of the text, and the refusal of the next one.
-use Rattle.std.specs.Prelude.{◌≡◌, ℕ, ◌==◌, ◌⊎◌, if◌then◌else◌, List, [], ◌∷◌, ◌++◌, map}
-use Rattle.iim_dataset.specs.Format.Datasets.{Dataset, SpellsTag, count_octets}
+use Rattle.std.specs.Prelude.{◌≡◌, ◌≢◌, ℕ, ◌==◌, ◌⊎◌, if◌then◌else◌, List, [], ◌∷◌, ◌++◌, length, map}
+use Rattle.iim_dataset.specs.Format.Octets.{IsOctet}
+use Rattle.iim_dataset.specs.Format.Datasets.{Dataset, SpellsTag, head_of, count_octets}
 use Rattle.iim_dataset.specs.Format.Splits.{Begun, InTag, InData, Reads}
 use Rattle.iim_dataset.specs.Format.Languages as languages
 use Rattle.iim_dataset.specs.declared.head.Head.{Head}
+use Rattle.iim_fields.specs.Format.Alive.{SectionsLive, SectionsLiveAt}
 use Rattle.iim_fields.specs.Format.Records.{AreSections}
 use Rattle.iim_fields.specs.Format.Faults.{section_after}
 use Rattle.iim_fields.specs.Format.Values.{data_of}
 use Rattle.iim_fields.specs.declared.limits.Limits.{Limits}
+use Rattle.iim_object.specs.Format.Numbers.{place_after_datasets}
 use Rattle.wire_story.specs.Format.Delivery as story
 use Rattle.wire_story.specs.Format.Tokens.{OctetOrEnd, End, Octet}
-use Rattle.wire_message.specs.Format.Layers.{MessageLanguage, MessageDiesAt, text_so_far, StoryLivesIn}
+use Rattle.wire_message.specs.Format.Layers.{MessageLanguage, MessageLivesWith, MessageDiesAt, text_so_far, StoryLivesIn}
 use Rattle.wire_message.specs.Format.Causes as wire
 use Rattle.wire_message.specs.declared.fault.MessageCause.{MessageCause}
 use Rattle.wire_message.specs.declared.fault.MessageCause.TheVariants.{Unfinished}
 use Rattle.iim_places.specs.Format.Admitted.{object_of}
-use Rattle.iim_places.specs.Format.Tokens.{CanContinueAt, IsRefusedHead, IsRefusedValue, MayContinue}
+use Rattle.iim_places.specs.Format.Conditions.{Token, AtOctet, AtHead, AtValue, IsNoOctet, IsNoEnd, TellsTheLowest, Names}
+use Rattle.iim_places.specs.Format.Tokens.{CanContinueAt, HaveRoom, IsRefusedHead, IsRefusedValue, MayContinue, ObjectLives, place_at}
 use Rattle.iim_places.specs.Format.Refusals.{message_on, begun_record, begun_number, tag_cause}
 use Rattle.iim_places.specs.declared.fault.TokenFault.{TokenFault}
 use Rattle.iim_places.specs.declared.refusal.Cause.TheVariants.{Truncated}
 use Rattle.iim_dataset.specs.Format.Tags.{BeginsNoTag}
 use Rattle.iim_dataset.specs.Format.Completing.{CompletesData}
 use Rattle.iim_places.specs.declared.refusal.Refusal.{Refusal}
+use Rattle.iim_places.specs.declared.refusal.Layer.{Layer}
 use Rattle.iim_places.specs.declared.refusal.Layer.TheVariants as layers
 
 -- ---- what octets so far say
@@ -116,11 +121,48 @@ pub record IsBadValueAt (limits : Limits) (octets : List ℕ) (next : ℕ) (faul
   pub unfinished : AreSections whole → ⊥
   pub refuses : IsRefusedValue whole (data_of head given) fault
 
--- Every layer can continue from the octets, within the limits. With the first token that the next octet completes and that is
--- refused the layer of the fault is dead, and the layers that are asked before are not.
-abbrev pub RefusesNext : Limits → List ℕ → ℕ → TokenFault → Type 0
-RefusesNext limits octets next fault =
+-- One of these: the next octet is refused, as tests find it.
+abbrev pub RefusesByTests : Limits → List ℕ → ℕ → TokenFault → Type 0
+RefusesByTests limits octets next fault =
     IsBadTagAt limits octets next fault ⊎ (IsBadHeadAt limits octets next fault ⊎ (IsBadOctetAt limits octets next fault ⊎ IsBadValueAt limits octets next fault))
+
+-- ---- the refusal of the next octet
+
+-- The next octet completes the token: it is an octet itself; a head with the last octet of its tag; a value, which is no subfile's,
+-- with its last octet, or with a head that has none, where all layers can continue with that.
+abbrev pub Completes : Limits → List Dataset → Begun → ℕ → Token → Type 0
+Completes limits ds begun next (AtOctet b octet) = (b ≡ begun) × (octet ≡ next)
+Completes limits ds (InTag held) next (AtHead h) = SpellsTag count_octets h (held ++ next ∷ [])
+Completes limits ds (InTag held) next (AtValue d) =
+    (d.rec ≢ 8) × SpellsTag count_octets (head_of d) (held ++ next ∷ []) × (d.octets ≡ []) × AllCanContinue limits ds (InData (head_of d) [])
+Completes limits ds (InData h taken) next (AtValue d) = (d.rec ≢ 8) × (d ≡ data_of h (taken ++ next ∷ [])) × (length d.octets ≡ h.count)
+Completes limits ds (InData h taken) next (AtHead g) = ⊥
+
+-- With the token the layer is dead, and those that are asked before are alive.
+abbrev pub Dies : Layer → Limits → List Dataset → Token → Type 0
+Dies layers.Dataset limits ds (AtOctet (InTag held) octet) = BeginsNoTag count_octets (held ++ octet ∷ [])
+Dies layers.Record limits ds (AtHead h) = SectionsLiveAt ds h → ⊥
+Dies layers.Record limits ds (AtValue d) = SectionsLive (ds ++ d ∷ []) → ⊥
+Dies layers.Limits limits ds (AtHead h) = SectionsLiveAt ds h × (HaveRoom limits ds h → ⊥)
+Dies layers.Object limits ds (AtHead h) = SectionsLiveAt ds h × HaveRoom limits ds h × (ObjectLives (place_at ds h) → ⊥)
+Dies layers.Object limits ds (AtValue d) = SectionsLive (ds ++ d ∷ []) × (ObjectLives (place_after_datasets (ds ++ d ∷ [])) → ⊥)
+Dies layers.Message limits ds (AtHead h) = CanContinueAt limits ds h × IsNoEnd ds h
+Dies layers.Message limits ds (AtOctet (InData h taken) octet) = IsNoOctet (object_of ds ++ taken) octet
+Dies layers.Story limits ds (AtOctet (InData h taken) octet) = MessageLivesWith ((object_of ds ++ taken) ++ octet ∷ []) × (StoryLivesIn ((object_of ds ++ taken) ++ octet ∷ []) → ⊥)
+Dies layers.Outside limits ds (AtOctet (InData h taken) octet) = MessageLivesWith ((object_of ds ++ taken) ++ octet ∷ []) × StoryLivesIn ((object_of ds ++ taken) ++ octet ∷ [])
+Dies layer limits ds token = ⊥
+
+-- Every layer can continue from the octets, within the limits, and they are no envelope. The next octet completes a token with which the
+-- layer of the fault is dead, and those that are asked before are not. Of its causes the one of the lowest number is told, and the
+-- dataset that it is about.
+pub record RefusesNext (limits : Limits) (octets : List ℕ) (next : ℕ) (fault : TokenFault) : Type 0 where
+  pub before : IsOpen limits octets
+  pub is_octet : IsOctet next
+  pub token : Token
+  pub completes : Completes limits before.whole before.begun next token
+  pub dies : Dies fault.layer limits before.whole token
+  pub tells : TellsTheLowest limits before.whole token fault
+  pub names : Names fault.cause before.whole token fault.rec fault.set
 
 -- the refusal of octets that end here, of which this dataset is begun
 abbrev pub truncated_in : ℕ → ℕ × ℕ → Refusal

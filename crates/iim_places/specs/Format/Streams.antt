@@ -30,20 +30,21 @@ pub record IsFinished (limits : Limits) (stream : List ℕ) (used : ℕ) (value 
   pub fits : used ≤ length stream
   pub envelope : IsEnvelopeWithin limits (take used stream) value
 
--- Every layer can continue from the octets before the named one, and with that one the named layer is dead.
+-- Every layer can continue from the octets before the named one, and that one is refused: the named layer is dead with it, or the sink
+-- stopped.
 pub record IsRefused (limits : Limits) (stream : List ℕ) (e : Refusal) : Type 0 where
   pub fits : e.octet < length stream
   pub fault : TokenFault
   pub refusal : e ≡ refusal_at e.octet fault
-  pub kills : Kills limits (take e.octet stream) (slice_index stream e.octet) fault
+  pub refuses : RefusesNext limits (take e.octet stream) (slice_index stream e.octet) fault
 
 -- Every layer can continue from all octets of the stream, and they begin with no envelope.
 pub record IsTruncated (limits : Limits) (stream : List ℕ) (e : Refusal) : Type 0 where
   pub is_open : IsOpen limits stream
   pub refusal : IsTruncatedAt stream (length stream) e
 
--- what the stream is answered
+-- what the stream is answered, whatever a sink does
 abbrev pub Answers : Limits → List ℕ → Answer → Type 0
 Answers limits stream (Finished used value) = IsFinished limits stream used value
-Answers limits stream (Refused e) = IsRefused limits stream e
+Answers limits stream (Refused e) = IsRefused limits stream e × (e.cause ≢ Sink)
 Answers limits stream (Truncated e) = IsTruncated limits stream e

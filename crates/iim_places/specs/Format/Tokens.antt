@@ -12,9 +12,10 @@ use Rattle.iim_fields.specs.Format.Bounds.{IsWithin}
 use Rattle.iim_fields.specs.Format.Values.{tells_number}
 use Rattle.iim_fields.specs.declared.limits.Limits.{Limits}
 use Rattle.iim_object.specs.Format.Plans.{max_subfiles}
-use Rattle.iim_object.specs.Format.Objects.{SubfileBegun, ObjectLanguage}
-use Rattle.iim_object.specs.Format.Places.{Place, place_after, tokens_of, head_token, value_token}
+use Rattle.iim_object.specs.Format.Objects.{ObjectLanguage}
+use Rattle.iim_object.specs.Format.Places.{Place, tokens_of, head_token, value_token}
 use Rattle.iim_object.specs.Format.Causes.{cause_at}
+use Rattle.iim_object.specs.Format.Records.{lengths_of}
 use Rattle.iim_object.specs.Format.Numbers.{place_after_datasets, place_ended}
 use Rattle.iim_places.specs.Format.Framed.{AreWithin}
 use Rattle.iim_places.specs.Format.Refusals.{of_field, size_on, too_many_on}
@@ -25,7 +26,7 @@ use Rattle.iim_places.specs.declared.refusal.Layer.TheVariants as layers
 -- the place of the object after datasets and a head: a subfile more, or the end
 abbrev pub place_at : List Dataset → Head → Place
 place_at ds h =
-    if h.rec == 8 then place_after (place_after_datasets ds) (SubfileBegun h.count)
+    if h.rec == 8 then record (place_after_datasets ds) { lengths = lengths_of (of_record 8 ds) ++ h.count ∷ [] }
     else if h.rec == 9 then place_ended ds
     else place_after_datasets ds
 

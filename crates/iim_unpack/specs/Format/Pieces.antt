@@ -1,14 +1,12 @@
 -- What a stream that comes in pieces is answered.
-use Rattle.std.specs.Prelude.{◌≡◌, ℕ, ◌<◌, ◌⊎◌, List, [], length, take, slice_index, flat_map, Result, Ok, Err}
+use Rattle.std.specs.Prelude.{◌≡◌, ℕ, ◌⊎◌, List, [], take, flat_map, Result, Ok, Err}
 use Rattle.std.specs.Borrow.{Bor}
 use Rattle.iim_fields.specs.declared.limits.Limits.{Limits}
 use Rattle.wire_story.specs.Format.Delivery as story
 use Rattle.iim_places.specs.Format.Admitted.{Value}
-use Rattle.iim_places.specs.Format.Refusals.{refusal_at}
-use Rattle.iim_places.specs.Format.Streams.{Answer, Finished, Refused, Truncated, IsFinished, IsTruncated}
-use Rattle.iim_places.specs.Format.Open.{Delivers, RefusesNext}
+use Rattle.iim_places.specs.Format.Streams.{Answer, Finished, Refused, Truncated, IsFinished, IsRefused, IsTruncated}
+use Rattle.iim_places.specs.Format.Open.{Delivers}
 use Rattle.iim_unpack.specs.Format.Value.{HasParts}
-use Rattle.iim_places.specs.declared.fault.TokenFault.{TokenFault}
 use Rattle.iim_places.specs.declared.refusal.Refusal.{Refusal}
 use Rattle.iim_unpack.specs.declared.unpacker.Unpacked.{Unpacked}
 
@@ -27,22 +25,11 @@ pub record IsUnpacked {S : Type 0} (goes : S → List story.StoryEvent → S →
   pub parts : HasParts got value
   pub told : goes a (story.events_of_lines value.lines) b
 
--- The octets before the named one are open, and that one is refused; the sink was told what is delivered of those.
-pub record IsStopped {S : Type 0} (goes : S → List story.StoryEvent → S → Type 0) (limits : Limits) (stream : List ℕ) (a b : S) (e : Refusal) : Type 0 where
-  pub fits : e.octet < length stream
-  pub fault : TokenFault
-  pub refusal : e ≡ refusal_at e.octet fault
-  pub refuses : RefusesNext limits (take e.octet stream) (slice_index stream e.octet) fault
-  pub told : TellsText goes a (take e.octet stream) b
-
--- All octets are open and there are no more; the sink was told what is delivered of them.
-pub record IsCutShort {S : Type 0} (goes : S → List story.StoryEvent → S → Type 0) (limits : Limits) (stream : List ℕ) (a b : S) (e : Refusal) : Type 0 where
-  pub truncated : IsTruncated limits stream e
-  pub told : TellsText goes a stream b
-
--- why a stream has no envelope at its front
+-- Why a stream has no envelope at its front: an octet is refused, and the sink was told what is delivered of those before it; or all
+-- octets are open and there are no more, and it was told what is delivered of them.
 abbrev pub IsTurnedDown : {S : Type 0} → (S → List story.StoryEvent → S → Type 0) → Limits → List ℕ → S → S → Refusal → Type 0
-IsTurnedDown goes limits stream a b e = IsStopped goes limits stream a b e ⊎ IsCutShort goes limits stream a b e
+IsTurnedDown goes limits stream a b e =
+    (IsRefused limits stream e × TellsText goes a (take e.octet stream) b) ⊎ (IsTruncated limits stream e × TellsText goes a stream b)
 
 -- The result is the answer.
 abbrev pub IsAnswer : Result (Unpacked × ℕ) Refusal → Answer → Type 0

@@ -1,4 +1,3 @@
-use Rattle.std.proofs.Common.{◌<◌, rules}
 use Rattle.iim_unpack.specs.States.Unpacking.{limits_in}
 use Rattle.caller_tests.proofs.FedPieces.{missed}
 use Rattle.caller_tests.proofs.feeding.misses_a_dataset.Goals as goal
@@ -6,6 +5,4 @@ use Rattle.caller_tests.proofs.feeding.misses_a_dataset.Goals as goal
 pub returns-in-Missing : goal.returns-in-Missing
 returns-in-Missing c =
     λ _ p a stands.
-    let (more, told, refused) = c.in-Err.ensures.refused in
-    let octet : c.args.octet < 256 = search rules in
-    missed c.refusals_tell_the_lowest_cause.ensures (limits_in c.args.unpacker.now) p a c.args.octet more c.in-Err.refusal octet (refused p a stands) c.in-Missing.is
+    let (more, told, refused) = c.in-Err.ensures.refused in missed (limits_in c.args.unpacker.now) p a c.args.octet more c.in-Err.refusal (refused p a stands) c.in-Missing.is

@@ -1,4 +1,5 @@
-use Rattle.std.proofs.Common.{◌≡◌, ℕ, [], true, false, None, refl, ap, sym, subst, ◌∙◌}
+use Rattle.std.proofs.Common.{◌≡◌, ℕ, [], true, false, None, slice_index, refl, ap, sym, subst, ◌∙◌, arith}
+use Rattle.iim_dataset.specs.Format.Octets.{IsOctet}
 use Rattle.iim_places.specs.Format.Refusals.{refusal_at}
 use Rattle.iim_unpack.specs.States.Unpacking.{Unpacking, Stands, IsRefusedIn, limits_in, room_in}
 use Rattle.iim_unpack.specs.States.Parts.{has_ended}
@@ -65,7 +66,8 @@ returns-in-Err-clause-refused g c =
     let u : Unpacking = record { reader = i.reader; parts = i.parts; octets = i.octets; begun = i.begun; refused = i.refused } in
     let h = c.in-Err.ensures in
     let halt = c.in-Err.halt in
-    let r = refused_in g.S.StorySink.goes g.S.StorySink.failures laws u c.args.piece.now halt.taken halt.fault c.args.sink.now c.advance.new.sink c.refusal_at.result h.before
+    let octet : IsOctet (slice_index c.args.piece.now halt.taken) = omega (arith, c.type_inv.piece halt.taken) in
+    let r = refused_in g.S.StorySink.goes g.S.StorySink.failures laws c.refusals_tell_the_lowest_cause.ensures u c.args.piece.now halt.taken halt.fault c.args.sink.now c.advance.new.sink c.refusal_at.result h.before octet
     (c.refusal_at.ensures ∙ ap (λ (n : ℕ). refusal_at n halt.fault) c.raised-octet.ensures) h.fails in
     (r.0, r.1, λ p a at. subst (λ (w : Unpacking). IsRefusedIn (limits_in w) p a c.args.piece.now r.0 c.refusal_at.result) c.self.view_is (r.2 p a (subst (λ (w : Unpacking). Stands w p a) (sym c.self.view_is) at)))
 

@@ -1,0 +1,122 @@
+"""The page of archive.py's report: its pictures by matplotlib, within it, and the page by jinja2. It has no script, and asks for nothing."""
+from __future__ import annotations
+
+import contextlib
+import io
+import os
+import re
+from typing import List, Optional, Tuple
+
+import jinja2
+import matplotlib
+from markupsafe import Markup
+
+import archive_report
+import explain
+import explain_page
+import iim
+from archive_report import Bars, Told
+from explain_walk import Source
+
+# Damaged files that have a page of their own.
+PAGES = 50
+
+matplotlib.use("svg")
+matplotlib.rcParams.update({"svg.fonttype": "none", "svg.hashsalt": "report", "text.parse_math": False, "font.size": 10, "text.usetex": False})
+
+TEMPLATE = """<!doctype html>
+<html lang="en"><head><meta charset="utf-8"><title>{{ told.name }}</title>
+<meta http-equiv="Content-Security-Policy" content="default-src 'none'; style-src 'unsafe-inline'"><meta name="viewport" content="width=device-width">
+<style>
+:root { color-scheme: light dark; --back: #f1f3f5; --card: #fff; --text: #1d2530; --dim: #5d6874; --line: #ccd3da }
+@media (prefers-color-scheme: dark) { :root { --back: #14181d; --card: #1d232a; --text: #e6eaee; --dim: #9aa5b1; --line: #3a444f } }
+body { margin: 0; padding: 0 20px 20px; font: 15px/1.45 system-ui, sans-serif; color: var(--text); background: var(--back) }
+h1 { font-size: 20px; margin: 16px 0 0 } h2 { font-size: 16px; margin: 0 0 6px } h1 + p { margin: 0 0 12px; color: var(--dim) }
+section, figure { background: var(--card); border: 1px solid var(--line); border-radius: 6px; padding: 12px 16px; margin: 0 0 14px; overflow-x: auto }
+dl { display: flex; flex-wrap: wrap; gap: 4px 32px; margin: 0 } dt { color: var(--dim) } dd { margin: 0; font-size: 20px; font-weight: 600 }
+.pictures { display: grid; grid-template-columns: repeat(auto-fit, minmax(440px, 1fr)); gap: 0 14px; align-items: start }
+svg { width: 100%; height: auto } svg text { fill: var(--text) } svg path { stroke: none }
+table { border-collapse: collapse; font-size: 14px } td, th { padding: 2px 14px 2px 0; text-align: left; vertical-align: top } th { color: var(--dim); font-weight: 400 }
+.no { color: var(--dim) } a { color: inherit }
+@media print { body { background: none; padding: 0 } section, figure { border: none; break-inside: avoid } }
+</style></head>
+<body><header><h1>{{ told.name }}</h1><p>at {{ told.now }}</p></header><main>
+<section><h2>Sums</h2><dl>{% for name, count in told.sums %}<div><dt>{{ name }}</dt><dd>{{ "{:,}".format(count) }}</dd></div>{% endfor %}</dl></section>
+<div class=pictures>{% for bars in told.bars %}<figure><h2>{{ bars.title }}</h2>
+{% if bars.rows %}<div role="img" aria-label="{{ bars.title }}, as bars">{{ picture(bars) }}</div>
+<details><summary>as numbers</summary><table>{% for name, count in bars.rows %}<tr><th>{{ name }}</th><td>{{ "{:,}".format(count) }}</td></tr>{% endfor %}</table></details>
+{% else %}<p class=no>none</p>{% endif %}</figure>{% endfor %}</div>
+{% for table in told.tables %}<section><h2>{{ table.title }}</h2>{% if table.rows %}<table>
+<tr>{% for name in table.names %}<th>{{ name }}</th>{% endfor %}</tr>
+{% for row in table.rows %}<tr>{% for cell in row %}<td>{{ cell }}</td>{% endfor %}</tr>
+{% endfor %}</table>{% else %}<p class=no>none</p>{% endif %}</section>{% endfor %}
+<section><h2>Damaged files</h2>{% if told.damaged %}<table>
+<tr><th>file</th><th>envelope</th><th>octet of the file</th><th>dataset</th><th>cause</th><th>id</th></tr>
+{% for each in told.damaged %}<tr><td>{% if each.page %}<a href="{{ each.page }}">{{ named(each.path) }}</a>{% else %}{{ named(each.path) }}{% endif %}</td>
+<td>{{ each.envelope }}</td><td>{{ "{:,}".format(each.at) }}</td><td>{{ each.dataset }}</td><td>{{ each.cause }}</td><td>{{ each.id }}</td></tr>
+{% endfor %}</table><p class=no>A file's name leads to what explain tells of it. Where it leads nowhere, <code>python3 -m iim explain FILE --html OUT</code> makes that page.</p>
+{% else %}<p class=no>none</p>{% endif %}</section>
+</main></body></html>
+"""
+
+
+class Pages:
+    """The pages of damaged files: they are written into a folder beside the report."""
+
+    def __init__(self, report: str, limits: Tuple[int, int]) -> None:
+        self._folder = f"{re.sub('[.]html?$', '', report)}.files"
+        self._limits, self._count = iim.Limits(*limits), 0
+
+    def page_of(self, path: bytes) -> Optional[str]:
+        """Writes the page of a file, and answers where it is, as the report names it; or None where there is none."""
+        if self._count == PAGES:
+            return None
+        with contextlib.suppress(OSError):
+            text = explain_page.page(explain.Case(Source(os.fsdecode(path)), self._limits))
+            os.makedirs(self._folder, exist_ok=True)
+            name = f"{self._count + 1}.html"
+            with open(os.path.join(self._folder, name), "w", encoding="utf-8") as to:
+                to.write(text)
+            self._count += 1
+            return f"{quoted(os.path.basename(self._folder))}/{name}"
+        return None
+
+
+def quoted(name: str) -> str:
+    """A name as a part of a link."""
+    import urllib.parse
+
+    return urllib.parse.quote(os.fsencode(name))
+
+
+def picture(bars: Bars) -> Markup:
+    """The picture of some bars, as SVG."""
+    from matplotlib.figure import Figure
+
+    names: List[str] = [name if len(name) <= 30 else name[:28] + ".." for name, _ in bars.rows]
+    counts = [count for _, count in bars.rows]
+    figure = Figure(figsize=(6.4, 0.5 + 0.24 * len(names)))
+    axes = figure.add_subplot()
+    drawn = axes.barh(range(len(names)), counts, color="#2f6f9f", height=0.75)
+    axes.bar_label(drawn, labels=[f"{count:,}" for count in counts], padding=3)
+    axes.set_yticks(range(len(names)), names)
+    axes.invert_yaxis()
+    axes.set_xlim(0, 1.15 * (max(counts) or 1))
+    axes.xaxis.set_visible(False)
+    axes.tick_params(length=0)
+    for side in axes.spines.values():
+        side.set_visible(False)
+    figure.patch.set_visible(False)
+    axes.patch.set_visible(False)
+    figure.tight_layout()
+    out = io.StringIO()
+    figure.savefig(out, format="svg", metadata={"Date": None, "Creator": None})
+    # (what stands before the element is for files, and tells where the form of it is described)
+    drawn_as = re.sub(r"<metadata>.*?</metadata>", "", out.getvalue()[out.getvalue().index("<svg") :], flags=re.S)
+    return Markup(drawn_as)
+
+
+def page(told: Told) -> str:
+    """The page of a report."""
+    template = jinja2.Environment(autoescape=True).from_string(TEMPLATE)
+    return template.render(told=told, picture=picture, named=archive_report.named)

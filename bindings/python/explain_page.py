@@ -1,0 +1,227 @@
+"""The page of explain.py: octets on the left, what they are on the right. It has no script, and asks for nothing from anywhere."""
+from __future__ import annotations
+
+import html
+import itertools
+from typing import Dict, Iterator, List, NamedTuple, Optional, Tuple
+
+import explain
+import iim
+from explain_walk import Item
+from explain_words import counted, plain, printable
+
+# Items that are shown at each end of all envelopes together, lines of their stories, and octets; and octets of a dataset.
+ITEMS, LINES, OCTETS, DATA = 1_500, 1_000, 115_000, 1_024
+# Octets that are shown before the refused one and after it.
+BEFORE, AFTER = 64, 48
+
+STYLE = """
+:root { color-scheme: light dark; --back: #f1f3f5; --card: #fff; --text: #1d2530; --dim: #5d6874; --line: #ccd3da; --lit: #ffe08a; --tag: #dde6ef }
+@media (prefers-color-scheme: dark) {
+  :root { --back: #14181d; --card: #1d232a; --text: #e6eaee; --dim: #9aa5b1; --line: #3a444f; --lit: #6b5600; --tag: #2b3846 } }
+body { margin: 0; padding: 0 20px 20px; font: 15px/1.45 system-ui, sans-serif; color: var(--text); background: var(--back) }
+h1 { font-size: 20px; margin: 16px 0 0 } h2 { font-size: 16px; margin: 0 0 6px } h1 + p { margin: 0 0 12px; color: var(--dim) }
+section, article { background: var(--card); border: 1px solid var(--line); border-radius: 6px; padding: 12px 16px; margin: 0 0 14px }
+.told { columns: 2 420px; column-gap: 32px } .told > div { break-inside: avoid; margin: 0 0 12px } .told p { margin: 0 0 6px } ul { margin: 0; padding-left: 18px }
+.bar { font-size: 13px; color: var(--dim) } .bar b { color: var(--text); text-decoration: underline }
+article { display: grid; grid-template-columns: minmax(0, 41em) minmax(22em, 1fr); gap: 0 24px; align-items: start } article > h2, article > footer { grid-column: 1 / -1 }
+pre { font: 13px/1.6 ui-monospace, "DejaVu Sans Mono", monospace; margin: 0; overflow-x: auto } pre b, pre .no { color: var(--dim); font-weight: 400 }
+ol { list-style: none; margin: 0; padding: 0; font-size: 14px; line-height: 1.49 } ol ol { padding-left: 22px }
+ol a { display: flex; gap: 8px; align-items: baseline; color: inherit; text-decoration: none; padding: 0 4px; white-space: nowrap } ol a:focus { outline: 2px solid }
+ol small { color: var(--dim); min-width: 5.5em; text-align: right } ol i { font: 13px ui-monospace, "DejaVu Sans Mono", monospace; overflow: hidden; text-overflow: ellipsis }
+ol .cut, pre .cut { color: var(--dim); font-style: italic } .t { background: var(--tag) } .later { color: var(--dim) } .here { font-weight: 700; text-decoration: underline }
+mark { background: #c62828; color: #fff; font-weight: 700 } .vh { position: absolute; width: 1px; height: 1px; overflow: hidden; clip-path: inset(50%) }
+:target { outline: 2px solid var(--text) } footer p { margin: 6px 0 0; color: var(--dim) } table { border-collapse: collapse } td { padding: 0 14px 0 0 }
+@media (max-width: 1050px) { article { display: block } pre { margin-bottom: 12px } }
+@media print { body { background: none; padding: 0 } section, article { border: none; padding: 4px 0 } article { grid-template-columns: 40em 1fr; font-size: 12px } mark { border: 2px solid } }
+"""
+LIGHT = "{ background: var(--lit) }"
+
+
+class Span(NamedTuple):
+    """Octets of an envelope that are shown: the class of the item that they belong to, and whether they are of a tag."""
+
+    begin: int
+    end: int
+    key: str
+    tag: bool
+
+
+def page(case: explain.Case) -> str:
+    """The page of a file."""
+    say = html.escape
+    name, keys = printable(case.source.name), Keys()
+    told = "".join(card(section) for section in explain.sections(case))
+    near = f"<section><h2>The octets around it</h2><pre>{around(case)}</pre></section>" if case.refusal else ""
+    wholes = "".join(article(case, whole, keys) for whole in case.wholes)
+    lit = ",".join(f"body:has(.{key}:hover) .{key}" for key in keys.used)
+    policy = "default-src 'none'; style-src 'unsafe-inline'"
+    return (
+        f'<!doctype html>\n<html lang="en"><head><meta charset="utf-8"><title>{say(name)}</title>'
+        f'<meta http-equiv="Content-Security-Policy" content="{policy}"><meta name="viewport" content="width=device-width">'
+        f"<style>{STYLE}{lit + LIGHT if lit else ''}</style></head>\n<body><header><h1>{say(name)}</h1><p>{say(case.verdict())}</p></header>\n<main>"
+        f"{near}{f'<section class=told>{told}</section>' if told else ''}{listing(case)}{wholes}</main></body></html>\n"
+    )
+
+
+class Keys:
+    """The classes that join octets to what they are."""
+
+    def __init__(self) -> None:
+        self.used: List[str] = []
+
+    def new(self) -> str:
+        self.used.append(f"k{len(self.used)}")
+        return self.used[-1]
+
+
+def card(section: explain.Section) -> str:
+    """A section of what is told of a refusal."""
+    parts: List[str] = []
+    for line in section.lines:
+        text = html.escape(line[2:] if line[:2] == "* " else line)
+        if "&gt;" in text and "&lt;" in text and line.count(">") == 1:
+            parts.append(f"<p class=bar>{text.replace('&gt;', '<b>&gt;').replace('&lt;', '&lt;</b>')}</p>")
+        else:
+            parts.append(f"<ul><li>{text}</li></ul>" if line[:2] == "* " else f"<p>{text}</p>")
+    return f"<div><h2>{html.escape(section.title)}</h2>{''.join(parts).replace('</ul><ul>', '')}</div>"
+
+
+def listing(case: explain.Case) -> str:
+    """The envelopes of a file that has several."""
+    rows = list(explain.listing(case))
+    return f"<section><h2>Envelopes</h2><pre>{html.escape(chr(10).join(rows))}</pre></section>" if rows else ""
+
+
+def around(case: explain.Case) -> str:
+    """The octets around the refused one."""
+    refusal = case.refusal
+    if refusal is None:
+        return ""
+    begin, end = max(0, refusal.octet_in_file - BEFORE), min(case.source.size, refusal.octet_in_file + AFTER)
+    return "".join(rows(case, 0, [Span(begin, refusal.octet_in_file, "", False), Span(refusal.octet_in_file, end, "later", False)], "around"))
+
+
+# --- An envelope
+
+
+def article(case: explain.Case, whole: explain.Whole, keys: Keys) -> str:
+    """An envelope: its octets, and what they are."""
+    of_all = max(1, len(case.wholes))
+    items = list(whole.items(ITEMS // of_all, LINES // of_all))
+    key_of = {item: keys.new() for item in items if item is not None}
+    texts = [*whole.instants(), *whole.sizes()]
+    nth, at = whole.found.nth, whole.found.at
+    octets = "".join(rows(case, at, within(list(spans(whole, items, key_of)), OCTETS // of_all), f"e{nth}"))
+    return (
+        f"<article id=envelope{nth}><h2>Envelope {nth:,}, at octet {at:,} of the file</h2>"
+        f'<pre tabindex=0 aria-label="Octets; the list after them tells what they are">{octets}</pre>'
+        f'<ol aria-label="What the octets are">{"".join(meaning(whole, items, key_of, f"e{nth}", at))}</ol>'
+        f"<footer>{''.join(f'<p>{html.escape(text)}</p>' for text in texts)}</footer></article>\n"
+    )
+
+
+def spans(whole: explain.Whole, items: List[Optional[Item]], key_of: Dict[Item, str]) -> Iterator[Span]:
+    """The octets that are shown, in order."""
+    for item in items:
+        if item is None:
+            continue
+        key, begin, end = key_of[item], item.at, item.at + item.length
+        if item.kind == "dataset":
+            begin = item.at + item.head
+            yield Span(item.at, begin, key, True)
+            end = begin if item.record == 8 else min(end, begin + DATA)
+        yield Span(begin, min(end, whole.found.length), key, False)
+    if whole.refusal is not None and whole.tries is not None and not whole.tries.ends:
+        yield Span(whole.found.length, whole.found.length + AFTER, "later", False)
+
+
+def within(parts: List[Span], most: int) -> List[Span]:
+    """The spans with no more than so many octets: those at both ends."""
+    sizes = [part.end - part.begin for part in parts]
+    if sum(sizes) <= most:
+        return parts
+    front = [part for part, come in zip(parts, itertools.accumulate(sizes)) if come <= most // 2]
+    back = [part for part, come in zip(reversed(parts), itertools.accumulate(reversed(sizes))) if come <= most // 2]
+    # (one alone may be longer)
+    front = front or [parts[0]._replace(end=min(parts[0].end, parts[0].begin + most // 2))]
+    return [*front, *reversed(back or [parts[-1]._replace(begin=max(parts[-1].begin, parts[-1].end - most // 2))])]
+
+
+def joined(parts: List[Span]) -> Iterator[List[Span]]:
+    """The spans that follow one another without a gap; none has an octet of those before it."""
+    last = 0
+    group: List[Span] = []
+    for part in parts:
+        part = part._replace(begin=max(part.begin, last))
+        if part.begin >= part.end:
+            continue
+        if group and part.begin > last:
+            yield group
+            group = []
+        group.append(part)
+        last = part.end
+    if group:
+        yield group
+
+
+def rows(case: explain.Case, at: int, parts: List[Span], prefix: str) -> Iterator[str]:
+    """The rows of sixteen octets, and what is said of those that are left out."""
+    before = 0
+    mark = case.refusal.octet_in_file - at if case.refusal else -1
+    for group in joined(parts):
+        begin, end = group[0].begin, min(group[-1].end, case.source.size - at)
+        if begin > before and prefix != "around":
+            yield f'<span class=cut>... {counted(begin - before, "octet")} are left out</span>\n'
+        before = end
+        octets = case.source.take(at + begin, end - begin)
+        owners = [part for part in group for _ in range(part.begin, min(part.end, end))]
+        owned = list(zip(octets, owners))
+        for row in range((at + begin) // 16 * 16, at + end, 16):
+            yield row_of(row - at, at, begin, owned, mark, prefix)
+    if case.refusal and isinstance(case.refusal, iim.Truncated) and mark >= 0 and before == mark:
+        yield "         [<mark>the file ends here</mark>]\n"
+
+
+def row_of(row: int, at: int, begin: int, owned: List[Tuple[int, Span]], mark: int, prefix: str) -> str:
+    """A row from an octet on: its address, its octets, each run of which has the class of what it is, and the same as text."""
+    cells: List[str] = []
+    texts: List[str] = []
+    last = ""
+    for octet in range(row, row + 16):
+        value, part = owned[octet - begin] if begin <= octet < begin + len(owned) else (0, None)
+        names = "" if part is None else f"{part.key}{' t' if part.tag else ''}".strip()
+        cell, text = (f"{value:02X}", html.escape(plain(bytes([value])))) if part else ("  ", " ")
+        between = "]" if octet == mark + 1 and mark >= begin else "[" if octet == mark and part else " "
+        if octet == mark and part:
+            cell, text = f"<mark id={prefix}r><span class=vh>refused: </span>{cell}</mark>", f"<mark>{text}</mark>"
+        anchor = f"<a id={prefix}o{octet}></a>" if part and octet == part.begin and prefix != "around" else ""
+        if names != last:
+            cells.append("</span>" * bool(last) + between + anchor + f'<span class="{names}">' * bool(names) + cell)
+        else:
+            cells.append(between + anchor + cell)
+        texts.append(text)
+        last = names
+    close = "</span>" * bool(last) + ("]" if mark == row + 15 and begin <= mark < begin + len(owned) else " ")
+    return f"<b>{at + row:08X}</b>{''.join(cells)}{close} {''.join(texts)}\n"
+
+
+def meaning(whole: explain.Whole, items: List[Optional[Item]], key_of: Dict[Item, str], prefix: str, at: int) -> Iterator[str]:
+    """What the octets are, as items of a list; those of a message are one in the midst."""
+    inside = False
+    for nth, item in enumerate(items):
+        if item is None:
+            yield "<li class=cut>... some are left out</li>"
+            continue
+        if (item.kind != "dataset") != inside:
+            yield "</ol></li>" if inside else "<li><ol>"
+            inside = not inside
+        here = whole.tries is not None and item is whole.tries.here
+        label = f"{item.label}, {counted(item.size, 'octet')}" if item.size is not None else item.label
+        refused = " <b class=here>refused here</b>" if here else ""
+        yield (
+            f'<li class="{key_of[item]}"><a href=#{prefix}o{item.at}><small>{item.at:,}</small>'
+            f"<span>{html.escape(label)}</span><i>{html.escape(item.value)}</i>{refused}</a></li>"
+        )
+    if inside:
+        yield "</ol></li>"

@@ -1,0 +1,833 @@
+#!/usr/bin/env python3
+"""Holds explain.py to what the library answers, to the second reading of the rules in tests/rules.py, and to docs/CAUSES.md; opens its pages
+in a browser.
+
+  bindings/python/explain_test.py [--picture OUT]
+
+It needs the library, which bindings/build makes, and Chromium (Debian: chromium). With --picture it writes the picture of README.md, and tests
+nothing. With TIMES in the environment it tells the seconds of each test.
+
+Prints each failure, and then 'N passed, M failed', and ', K skipped' where tests were not run. The status is 1 where something failed.
+"""
+import concurrent.futures
+import contextlib
+import functools
+import html
+import html.parser
+import os
+import pty
+import random
+import re
+import resource
+import select
+import shutil
+import socket
+import subprocess
+import sys
+import tempfile
+import threading
+import time
+
+HERE = os.path.dirname(os.path.realpath(__file__))
+TOP = os.path.dirname(os.path.dirname(HERE))
+SAMPLES = f"{TOP}/samples"
+SECONDS = 120
+sys.path[:0] = [HERE, f"{TOP}/tests"]
+sys.dont_write_bytecode = True
+os.environ["PYTHONDONTWRITEBYTECODE"] = "1"
+MODULES = {**os.environ, "PYTHONPATH": os.pathsep.join(filter(None, [HERE, os.environ.get("PYTHONPATH")]))}
+
+import envelopes
+import explain
+import explain_causes
+import explain_page
+import explain_words
+import iim
+import rules
+import tickets
+from envelopes import SMALLEST, STORY, VARIED
+
+# How many changes of one octet are tried, and the seconds that they may take.
+SAMPLE, MOST_SECONDS = 3_000, 60
+# The colour of the marked octet, which nothing else on a page has.
+MARK = (0xC6, 0x28, 0x28)
+
+TESTS = []
+
+
+class NotHere(Exception):
+    """Why a test can't be run on this machine."""
+
+
+def test(function):
+    TESTS.append(function)
+    return function
+
+
+def same(got, want):
+    if got != want:
+        raise AssertionError(f"got {got!r}\n    want {want!r}")
+
+
+def holds(fact, words):
+    if not fact:
+        raise AssertionError(words)
+
+
+def file(folder, name, octets):
+    path = os.path.join(folder, name)
+    with open(path, "wb") as to:
+        to.write(octets)
+    return path
+
+
+def text_of(path):
+    with open(path) as text:
+        return text.read()
+
+
+def run(*words, octets=b"", **env):
+    ran = subprocess.run([sys.executable, "-m", "iim", *words], input=octets, capture_output=True, timeout=SECONDS, env={**MODULES, **env})
+    return ran.returncode, ran.stdout.decode(), ran.stderr.decode()
+
+
+class Held:
+    """Octets in memory, read as a file is."""
+
+    def __init__(self, octets, name="held.iim"):
+        self._octets, self.name, self.size = octets, name, len(octets)
+
+    def take(self, at, count):
+        return self._octets[at : at + count]
+
+
+def case_of(octets, limits=iim.WIRE, wanted=None):
+    return explain.Case(Held(octets), limits, wanted)
+
+
+def text_told(case):
+    return "\n".join(explain.lines(case, explain.Paint(False)))
+
+
+def unwrapped(text):
+    return re.sub(r"\s+", " ", text)
+
+
+@functools.lru_cache(maxsize=None)
+def samples():
+    """The octets of each sample, by its path below samples/, and the lines that `check` prints of it."""
+    found = {}
+    for name, lines in re.findall(r"^\| `([\w/.]+\.iim)` \|.*\| (`\d.*`) \|$", text_of(f"{SAMPLES}/README.md"), re.M):
+        with open(f"{SAMPLES}/{name}", "rb") as octets:
+            found[name] = octets.read(), re.findall("`(.*?)`", lines)
+    holds(len(found) > 35, f"{len(found)} samples")
+    return found
+
+
+# --- What it names, and what could stand there
+
+
+def by_check(octets):
+    """What the library says of an envelope at one go: how far it goes, and whether it is whole."""
+    try:
+        return iim.check(octets), True
+    except iim.Refused as refusal:
+        return refusal.octet, False
+
+
+def names_the_place(octets, case, text):
+    """That the explained refusal is that of `check`, and its part that of the second reading."""
+    at = case.refusal.at
+    refused = case.refusal
+    want = rules.read(octets[at:])
+    answer = want.answer() if want.answer() != "more" else want.end()
+    same(str(refused).partition(" ")[2], answer)
+    plain = unwrapped(text)
+    named = f"{refused.record}:{refused.number:02}"
+    holds(f"ctet {refused.octet:,} of envelope {refused.nth:,}, which is octet {refused.octet_in_file:,} of the file" in plain, text)
+    holds(re.search(rf"\(Cause {refused.cause} {refused.cause_name} on {named}\b.*?, layer {refused.layer}\.\)", plain), text)
+    holds(explain_causes.sentence(refused.cause) in plain, text)
+    tries = case.wholes[-1].tries
+    before = rules.read(octets[at : at + refused.octet])
+    part = ticket_part(tickets.ticket(before))
+    same(tries.place.part, part)
+    if tries.place.begun == "data" and tries.here.record == 8:
+        holds(f"In the message: {explain_words.PARTS[part]}." in plain, text)
+
+
+def ticket_part(ticket):
+    """The part of the message that a ticket tells, by docs/FORMAT.md: it stands before the texts, which end it."""
+    message = iim._Message()
+    iim._library.iim_header(ticket, len(ticket), message, iim._Answer())
+    return message.part
+
+
+def could_stand(octets, case):
+    """That what could stand at the refused octet is what the library takes there, by trying each from the beginning on."""
+    at, octet, tries = case.refusal.at, case.refusal.octet, case.wholes[-1].tries
+    front = octets[at : at + octet]
+    taken = {value for value in range(256) if (reach := by_check(front + bytes([value])))[0] > octet or reach[1]}
+    same(set(tries.could), taken)
+
+
+def explained(octets):
+    """What octets come to, tested; or None where they are accepted."""
+    case = case_of(octets)
+    text = text_told(case)
+    holds(all(len(line) <= 80 for line in text.splitlines()), max(text.splitlines(), key=len))
+    if case.refusal is None:
+        return None
+    names_the_place(octets, case, text)
+    could_stand(octets, case)
+    return case, text
+
+
+def all_explained(many):
+    """How many of some octets are refused."""
+    return sum(explained(octets) is not None for octets in many)
+
+
+def side_by_side(function, things, *more):
+    """What a function gives of parts of some things, by as many processes as there are processors."""
+    parts = [things[at :: 4 * (os.cpu_count() or 1)] for at in range(4 * (os.cpu_count() or 1))]
+    with concurrent.futures.ProcessPoolExecutor() as pool:
+        return list(pool.map(function, [part for part in parts if part]))
+
+
+@test
+def names_the_octet_of_each_sample(folder):
+    for name, (octets, lines) in samples().items():
+        case = case_of(octets)
+        text = text_told(case)
+        accepted = [f"{found.nth} accepted {found.length} octets" for found in case.listed() if not case.refusal or found.nth < case.refusal.nth]
+        same((name, accepted + ([str(case.refusal)] if case.refusal else [])), (name, lines))
+        if case.refusal:
+            explained(octets)
+        holds(all(len(line) <= 80 for line in text.splitlines()), name)
+
+
+@test
+def names_the_octet_of_each_front(folder):
+    fronts = [whole[:count] for whole in (SMALLEST, STORY) for count in range(1, len(whole))]
+    same(sum(side_by_side(all_explained, fronts)), len(fronts))
+
+
+@test
+def names_the_octet_of_each_change(folder):
+    changes = [SMALLEST[:at] + bytes([octet ^ bit]) + SMALLEST[at + 1 :] for at, octet in enumerate(SMALLEST) for bit in (1, 0x10, 0x80, 0xFF)]
+    holds(sum(side_by_side(all_explained, changes)) > 200, "few are refused")
+
+
+def change_explained(changes):
+    """Of changes of one octet those whose octet is not among those told; and how many are refused, and how many told are false."""
+    lost, refused, false = [], 0, 0
+    for whole, at, value in changes:
+        octets = whole[:at] + bytes([value]) + whole[at + 1 :]
+        case = case_of(octets)
+        if case.refusal is None:
+            continue
+        refused += 1
+        tries = case.wholes[-1].tries
+        told = tries.told_mends()[: explain.CHANGES]
+        there = any(each.first <= at <= each.last and whole[at] in each.octets for each in told)
+        if not there and not (at == case.refusal.octet and whole[at] in tries.could):
+            lost.append((len(whole), at, value, str(case.refusal)))
+        for each in told:
+            for octet in random.Random(at).sample(sorted(each.octets), min(3, len(each.octets))):
+                reach, ended = by_check(octets[: each.first] + bytes([octet]) + octets[each.first + 1 :])
+                false += ended != each.whole or not ended and reach <= case.refusal.octet
+    return lost, refused, false
+
+
+def processor_seconds():
+    """The seconds of a processor that the processes started here have taken so far: others run beside them."""
+    used = resource.getrusage(resource.RUSAGE_CHILDREN)
+    return used.ru_utime + used.ru_stime
+
+
+@test
+def tells_the_octet_that_was_there(folder):
+    chance = random.Random(7)
+    changes = []
+    while len(changes) < SAMPLE:
+        whole = chance.choice([SMALLEST, STORY])
+        at = chance.randrange(len(whole))
+        changes.append((whole, at, chance.choice([value for value in range(256) if value != whole[at]])))
+    begun = processor_seconds()
+    found = side_by_side(change_explained, changes)
+    seconds = processor_seconds() - begun
+    same([each for lost, _, _ in found for each in lost], [])
+    same(sum(false for _, _, false in found), 0)
+    holds(sum(refused for _, refused, _ in found) > SAMPLE // 2, "few are refused")
+    holds(seconds <= MOST_SECONDS, f"{seconds:.0f} seconds of a processor")
+
+
+# --- Hints
+
+
+BLOCK_OF_PICTURE = b"\x1c\x02\x00\x00\x02\x00\x04" + rules.dataset_of(2, 105, b"Rates held") + rules.dataset_of(2, 25, b"bank")
+LATIN = rules.packed([*envelopes.SMALLEST_FIELDS, (2, 105, b"Caf\xe9 \xfcber"), (2, 90, b"Gen\xe8ve")], envelopes.STORY_OBJECT, 1024)
+BAD_DATE = STORY.replace(b"20240301", b"20230229")
+
+# Each hint by words of it: octets that ask for it, and octets that must not.
+HINTS = {
+    "With each CR LF made LF: the envelope is accepted": ([STORY.replace(b"\n", b"\r\n"), SMALLEST.replace(b"\n", b"\r\n")], [BAD_DATE]),
+    "With each LF of the object that stands alone made CR LF: the": ([STORY.replace(b"\r\n", b"\n")], [STORY.replace(b"\r\n", b"\r")]),
+    "and then each LF of the object CR LF: the envelope is accepted": ([re.sub(rb"(?<!\r)\n", b"\r\n", STORY)], [STORY.replace(b"\n", b"\r\n")]),
+    "With UTF-8 made Latin-1: the envelope is accepted": (
+        [LATIN.decode("latin-1").encode("utf-8"), STORY.decode("latin-1").encode("utf-8")],
+        [LATIN.replace(b"20240301", b"20230229"), LATIN[:70].decode("latin-1").encode("utf-8")[:60] + b"\xff" * 9],
+    ),
+    "whole: without the last": ([SMALLEST + b"\n", STORY + SMALLEST + b"\0" * 400, SMALLEST + b"junk"], [b"\n" + SMALLEST, SMALLEST + SMALLEST[:50]]),
+    "this is a block of record 2 alone": (
+        [BLOCK_OF_PICTURE, b"\xff\xed\0\x60Photoshop 3.0\x008BIM\x04\x04\0\0\0\0\0\x24" + BLOCK_OF_PICTURE],
+        [b"\x1d" + SMALLEST[1:], SMALLEST[:46] + b"\x1d" + SMALLEST[47:], b"\x1c\x02", b"no wire copy"],
+    ),
+    "The file has no octets": ([b""], [b"\x1c", SMALLEST, b"\0"]),
+    "which is more than the file has": ([SMALLEST[:100], STORY[:230], SMALLEST[:50]], [SMALLEST[:105], SMALLEST[:44], STORY[:62]]),
+    "Without this dataset 2:105 Headline: the envelope is accepted": ([STORY[:62] + STORY[62:77] * 2 + STORY[77:]], [BAD_DATE]),
+    "1:70 Date Sent put in before it": ([SMALLEST[:42] + SMALLEST[55:]], [SMALLEST[:21] + SMALLEST[29:]]),
+    "one octet may be lost": ([SMALLEST[:92] + SMALLEST[93:]], [BAD_DATE]),
+}
+
+
+@test
+def gives_each_hint_where_it_serves(folder):
+    for words, (asking, others) in HINTS.items():
+        for octets in asking:
+            text = unwrapped(text_told(case_of(octets)))
+            holds(words in text, f"{words!r} is not told of {octets!r}: {text}")
+        for octets in others:
+            holds(words not in unwrapped(text_told(case_of(octets))), f"{words!r} is told of {octets!r}")
+
+
+@test
+def gives_no_hint_of_a_transfer_to_other_samples(folder):
+    for name, (octets, _) in samples().items():
+        text = unwrapped(text_told(case_of(octets)))
+        for words in ("made LF", "made CR LF", "made Latin-1", "block of record 2", "without the last", "no octets"):
+            holds(words not in text, f"{words!r} is told of {name}")
+
+
+@test
+def says_that_nothing_was_repaired(folder):
+    for name, (octets, _) in samples().items():
+        case = case_of(octets)
+        told = [unwrapped(text_told(case)), unwrapped(explain_page.page(case))]
+        same((name, [explain.NOTE in each for each in told]), (name, [case.refusal is not None] * 2))
+
+
+# --- Sentences
+
+
+@test
+def has_the_sentences_of_the_page_of_causes(folder):
+    table = text_of(f"{TOP}/docs/CAUSES.md").split("## Causes of an envelope")[1].split("\n## ")[0]
+    rows = [[cell.strip() for cell in line.strip().strip("|").split(" | ")] for line in table.splitlines() if re.match(r"\| \d", line)]
+    same({int(row[0].split()[0]): (row[4], row[5]) for row in rows}, {number: tuple(cause) for number, cause in explain_causes.CAUSES.items()})
+    same({int(row[0].split()[0]): row[2] for row in rows}, {number: iim.cause_text(number) for number in explain_causes.CAUSES})
+    same(sorted(explain_causes.CAUSES), [number for number in sorted(rules.CAUSES) if number < 60])
+
+
+@test
+def tells_values_in_words(folder):
+    words = explain_words
+    same(words.value_in_words(2, 55, b"20240012", 8), "day 12 of a month that isn't told, 2024")
+    same(words.value_in_words(2, 55, b"20240300", 8), "March 2024")
+    same(words.value_in_words(1, 70, b"20240301", 8), "1 March 2024")
+    same(words.value_in_words(1, 80, b"235959-2359", 11), "23:59:59, 23:59 behind universal time")
+    same([words.value_in_words(1, 60, digit, 1) for digit in (b"1", b"5", b"8", b"3")], ["1, most urgent", "5, normal", "8, least urgent", "3"])
+    same(words.value_in_words(7, 10, b"\1", 1), "1, the size is announced")
+    same(words.value_in_words(7, 20, b"\0\0\4\0", 4), "1,024")
+    same(words.instant_in_words(b"20240301", b"120000-0100"), "2024-03-01T13:00:00Z")
+    same(words.instant_in_words(b"99991231", b"235959-0100"), None)
+    same(words.names(b"0123456789 "), "a digit or SP")
+    same(words.names(b"0123456789abcdefghijklmnopqrstuvwxyzABCDEFGHIJKLMNOPQRSTUVWXYZ"), "a digit or a letter")
+    same(words.names(set(range(256)) - {3}), "any octet but ETX")
+    same(words.names([]), "no octet")
+    release = samples()["release.iim"][0]
+    holds("Held until 2024-03-01T13:00:00Z." in text_told(case_of(release)), "the release")
+
+
+@test
+def tells_each_part_of_an_envelope(folder):
+    for octets in SMALLEST, STORY, VARIED:
+        whole = case_of(octets).wholes[0]
+        items = whole.walk.items
+        datasets = [item for item in items if item.kind == "dataset"]
+        same(b"".join(octets[item.at : item.at + item.length] for item in datasets), octets)
+        told = [octets[item.at : item.at + item.length] for item in items if item.kind != "dataset"]
+        same(b"".join(told), b"".join(octets[item.at + item.head : item.at + item.length] for item in datasets if item.record == 8))
+        lines = b"".join(octets[item.at : item.at + item.length] for item in items if item.kind == "line")
+        same(re.split(rb"\r{0,2}\n", lines), [bytes(line) for line in rules.read(octets).message.lines])
+        order = [item.label for item in items if item.kind == "part"]
+        same([label for label in order if label in ("SOH", "STX", "ETX", "EOT")], ["SOH", "STX", "ETX", "EOT"])
+        header = {name: b"".join(octets[item.at : item.at + item.length] for item in items if item.label == name) for name in iim.Header._fields}
+        same([header[name] for name in iim.Header._fields], list(rules.read(octets).message.head()))
+
+
+@test
+def tells_the_place_and_what_comes_next(folder):
+    for octets in SMALLEST, STORY, VARIED:
+        receiver = iim.Receiver()
+        for at, octet in enumerate(octets):
+            want = rules.read(octets[:at])
+            ticket = tickets.ticket(want)
+            place = receiver.place
+            same((ticket, place.first + place.came), (receiver.ticket, at))
+            holds(octet in receiver.next, f"{at} of {octets!r}")
+            if at % 16 == 3:
+                same(receiver.next, {value for value in range(256) if (reach := by_check(octets[:at] + bytes([value])))[0] > at or reach[1]})
+            same(receiver.tries(octets[at:]), (len(octets) - at, True))
+            receiver.feed(octets[at : at + 1])
+    refusal = case_of(BAD_DATE).refusal
+    again = iim.Receiver.resume(refusal.ticket, refusal.octet)
+    same((again.place.begun, again.place.record, again.place.number, again.place.came, again.place.to_come), ("data", 1, 70, 7, 1))
+    same(again.next, frozenset(b"012345678"))
+
+
+# --- The command
+
+
+@test
+def prints_and_writes_what_is_asked(folder):
+    damaged = f"{SAMPLES}/damaged/bad_value.iim"
+    status, out, errors = run("explain", damaged)
+    same((status, errors, "Octet 54 of envelope 1" in out, "\033" in out), (1, "", True, False))
+    status, out, errors = run("explain", f"{SAMPLES}/story.iim", "--html", f"{folder}/page.html")
+    same((status, errors, "Rates stay." in out, "Rates stay." in text_of(f"{folder}/page.html")), (0, "", True, True))
+    with open(damaged, "rb") as octets:
+        same(run("explain", "-", octets=octets.read())[0], 1)
+    status, out, _ = run("explain", f"{SAMPLES}/stream.iim", "--envelope", "2")
+    same((status, "ENVELOPE 2" in out, "ENVELOPE 1" in out), (0, True, False))
+    same(run("explain", f"{SAMPLES}/stream.iim", "--envelope", "3")[::2], (2, "there is no envelope 3: the file has 2\n"))
+    same(run("explain", f"{folder}/none")[::2], (3, "cannot read: No such file or directory\n"))
+    same(run("explain", damaged, "--html", f"{folder}/none/page.html")[::2], (3, "cannot write\n"))
+    same([run("explain", *words)[0] for words in ([], [damaged, "--envelope", "0"], [damaged, "--limits", "0", "1"])], [2, 2, 2])
+    same(run("explain", f"{SAMPLES}/damaged/too_many_fields.iim", "--limits", "65536", "600")[0], 0)
+
+
+@test
+def prints_what_the_pages_show(folder):
+    use, readme = text_of(f"{TOP}/docs/USE.md"), text_of(f"{TOP}/README.md")
+    words = next(block for block in re.findall(r"^```sh\n(.*?)^```$", use, re.M | re.S) if "iim explain" in block)
+    ran = subprocess.run(["sh", "-e", "-c", words.replace("page.html", f"{folder}/page.html")], cwd=TOP, capture_output=True, text=True, timeout=SECONDS)
+    begins = use.partition(words)[2].partition("\n```\n")[2].partition("```")[0]
+    same((ran.returncode, ran.stdout[: len(begins)], ran.stderr), (1, begins, ""))
+    holds(os.path.getsize(f"{folder}/page.html") > 1_000, "no page")
+    holds(words.partition("python3")[2] in readme.replace("$ ", ""), "README.md has other words")
+    program = next(block for block in re.findall(r"^```python\n(.*?)^```$", use, re.M | re.S) if "before.next" in block)
+    file(folder, "next.py", program.encode())
+    ran = subprocess.run([sys.executable, f"{folder}/next.py", f"{SAMPLES}/damaged/bad_value.iim"], capture_output=True, text=True, env=MODULES, timeout=SECONDS)
+    same((ran.returncode, ran.stdout, ran.stderr), (0, "54 data b'012345678'\n", ""))
+    words = next(block for block in re.findall(r"^```sh\n(.*?)^```$", use, re.M | re.S) if "archive.py report" in block)
+    index = indexed(folder)
+    words = words.replace("samples.index", index).replace("report.html", f"{folder}/report.html")
+    ran = subprocess.run(["sh", "-e", "-c", words], cwd=TOP, capture_output=True, text=True, timeout=SECONDS)
+    same(ran.returncode, 0)
+    picture = re.search(r"!\[[^]]*\]\((.*?)\)", readme)[1]
+    with open(f"{TOP}/{picture}", "rb") as octets:
+        same(octets.read(8), b"\x89PNG\r\n\x1a\n")
+
+
+def on_a_terminal(words, **env):
+    """What the command prints on a terminal."""
+    ours, theirs = pty.openpty()
+    with subprocess.Popen([sys.executable, "-m", "iim", *words], stdout=theirs, stderr=theirs, stdin=subprocess.DEVNULL, env={**MODULES, **env}) as ran:
+        os.close(theirs)
+        parts = []
+        with contextlib.suppress(OSError):
+            while select.select([ours], [], [], SECONDS)[0] and (part := os.read(ours, 65_536)):
+                parts.append(part)
+        ran.wait(SECONDS)
+    os.close(ours)
+    return b"".join(parts)
+
+
+@test
+def has_colours_on_a_terminal_alone(folder):
+    words = ["explain", f"{SAMPLES}/damaged/bad_value.iim"]
+    plain = dict(NO_COLOR="1")
+    same(b"\033[1;31m39\033[0m" in on_a_terminal(words), True)
+    same(b"\033" in on_a_terminal(words, **plain), False)
+
+
+@test
+def escapes_hostile_octets(folder):
+    evil = b"\xe2\x80\xae<script>alert(1)</script>"
+    fields = [*envelopes.SMALLEST_FIELDS, (2, 105, evil), (2, 250, b"\x1b[31m" + evil)]
+    whole = rules.packed(fields, rules.object_of(envelopes.STORY_HEAD, [b"\x1b]0;x\7" + evil, evil], b""), 1024)
+    named = f"{folder}/<script>\u202e\x1b.iim"
+    for octets in whole, whole[:-1], whole.replace(b"\3\4", b"\2\4"):
+        file(folder, os.path.basename(named), octets)
+        status, out, errors = run("explain", named, "--html", f"{folder}/page.html")
+        page = text_of(f"{folder}/page.html")
+        same((status, errors), (int(octets is not whole), ""))
+        for text in out, page:
+            same([each in text for each in ("\x1b", "\u202e", "\x07")], [False] * 3)
+            holds("\\x1B" in text and "\\xE2\\x80\\xAE" in text and "\\u202E" in text, text)
+        same("<script" in page, False)
+        holds("&lt;script&gt;alert(1)" in page, page)
+        same(sorted(tags_of(page) - KNOWN_TAGS), [])
+
+
+KNOWN_TAGS = set("html head meta title style body header h1 h2 p main section div article pre span b u a mark ol li i small ul footer".split())
+
+
+class Tags(html.parser.HTMLParser):
+    """The elements of a page, each with its attributes."""
+
+    def __init__(self):
+        super().__init__()
+        self.found = []
+
+    def handle_starttag(self, tag, attributes):
+        self.found.append((tag, dict(attributes)))
+
+
+def elements(page):
+    parser = Tags()
+    parser.feed(page)
+    return parser.found
+
+
+def tags_of(page):
+    return {tag for tag, _ in elements(page)}
+
+
+# --- Long files
+
+
+@test
+def makes_a_page_of_bounded_size(folder):
+    line = b"A line of the story that has some eighty octets, as those of the wire mostly have. \r\n"
+    story = rules.object_of(envelopes.STORY_HEAD, [line[:-2]] * 1_150, b"")
+    long = rules.packed(envelopes.STORY_FIELDS, story, 32_000)
+    tiny = rules.packed(envelopes.STORY_FIELDS, rules.object_of(envelopes.STORY_HEAD, [line[:-2]] * 190, b""), 1)
+    many = rules.packed([*envelopes.SMALLEST_FIELDS, *([(2, 25, b"x" * 50)] * 500), *([(2, 200, b"\1" * 8000)] * 4)], story[:0] + envelopes.STORY_OBJECT, 9)
+    for octets in long, tiny, many, STORY * 400, SMALLEST * 850 + b"\n", long[:-1] + b"\0", tiny[:-1] + b"\0":
+        page = explain_page.page(case_of(octets))
+        holds(50_000 < len(octets) <= 115_000, f"{len(octets)} octets")
+        holds(len(page.encode()) <= 2 << 20, f"{len(page):,} octets of a page of {len(octets):,}")
+        holds(octets is not long or page.count("A line of the story that has some eighty") >= 1_140, "lines are left out")
+    same("left out" in explain_page.page(case_of(long)), False)
+    longer = rules.packed(envelopes.STORY_FIELDS, rules.object_of(envelopes.STORY_HEAD, [line[:-2]] * 20_000, b""), 32_000)
+    cut = explain_page.page(case_of(longer[:-1] + b"\0"))
+    holds("left out" in cut and "<mark" in cut and len(cut) <= 2 << 20, f"{len(cut):,} octets")
+    text = text_told(case_of(longer))
+    holds("are left out" in text and len(text.splitlines()) < 200, f"{len(text.splitlines())} lines")
+
+
+MEASURED = """
+import resource, subprocess, sys
+status = subprocess.run([sys.executable, "-m", "iim", "explain", sys.argv[1], "--html", sys.argv[2]]).returncode
+print("used", resource.getrusage(resource.RUSAGE_CHILDREN).ru_maxrss)
+sys.exit(status)
+"""
+
+
+@test
+def explains_a_long_file_by_blocks(folder):
+    line = b"A line of the story that has some eighty octets, as those of the wire mostly have."
+    story = rules.object_of(envelopes.STORY_HEAD, [line] * 1_000, b"")
+    whole = rules.packed(envelopes.STORY_FIELDS, story, 32_000)
+    one = rules.packed(envelopes.STORY_FIELDS, rules.object_of(envelopes.STORY_HEAD, [line] * 600_000, b""), 1 << 25)
+    for octets, count, end in (whole, 600, whole[:-1] + b"\0"), (one[:-1] + b"\0", 1, b""):
+        path = f"{folder}/long.iim"
+        with open(path, "wb") as to:
+            for _ in range(count):
+                to.write(octets)
+            to.write(end)
+        # (in a process of its own, since a process begins with what the one that starts it has)
+        ran = subprocess.run([sys.executable, "-c", MEASURED, path, f"{folder}/page.html"], capture_output=True, text=True, env=MODULES, timeout=SECONDS)
+        told, _, used = ran.stdout.rpartition("used ")
+        same((ran.returncode, ran.stderr, "Cause 25" in unwrapped(told)), (1, "", True))
+        holds(int(used) < 48 << 10, f"{int(used) >> 10} MB for {os.path.getsize(path) >> 20} MB")
+        holds(len(told.splitlines()) < 900, f"{len(told.splitlines())} lines")
+        holds(os.path.getsize(f"{folder}/page.html") <= 2 << 20, "the page is long")
+
+
+# --- The page in a browser
+
+
+def browser():
+    found = shutil.which("chromium")
+    if not found:
+        raise NotHere("no chromium is there")
+    return found
+
+
+class Listener:
+    """A proxy that answers nothing, and keeps what it is asked for."""
+
+    def __enter__(self):
+        self._socket = socket.create_server(("127.0.0.1", 0))
+        self.port, self.asked = self._socket.getsockname()[1], []
+        threading.Thread(target=self._serve, daemon=True).start()
+        return self
+
+    def _serve(self):
+        with contextlib.suppress(OSError):
+            while True:
+                asking, _ = self._socket.accept()
+                asking.settimeout(5)
+                with asking, contextlib.suppress(OSError):
+                    self.asked.append(asking.recv(4_096).partition(b"\r\n")[0].decode("latin-1"))
+
+    def __exit__(self, *_):
+        self._socket.close()
+
+
+# What the browser itself may ask for, whatever page it shows.
+ITS_OWN = re.compile(r"(google|googleapis|gvt1|gstatic|chromium)\.(com|org)\b")
+
+
+def opened(folder, page, size=(1400, 1000), picture=None, more=()):
+    """Opens a page in a browser: what its console says, what it asks for from anywhere, and its picture. Where the browser has ended with a
+    connection on which nothing was asked yet, it isn't known for what that was, and the page is opened again."""
+    for _ in range(3):
+        console, asked, shown = opened_once(folder, page, size, picture, more)
+        if "" not in asked:
+            break
+    return console, asked, shown
+
+
+def opened_once(folder, page, size, picture, more):
+    path, picture = file(folder, "opened.html", page.encode("utf-8")), picture or f"{folder}/picture.png"
+    with Listener() as proxy:
+        words = [
+            browser(), "--headless", "--disable-gpu", "--disable-dev-shm-usage", "--hide-scrollbars", "--no-first-run", "--disable-extensions", "--disable-sync",
+            "--disable-background-networking", "--disable-component-update", "--disable-default-apps", f"--user-data-dir={folder}/profile",
+            "--enable-logging=stderr", "--v=0", f"--proxy-server=127.0.0.1:{proxy.port}", "--proxy-bypass-list=<-loopback>", f"--screenshot={picture}",
+            f"--window-size={size[0]},{size[1]}", *(["--no-sandbox"] * (os.getuid() == 0)), *more, f"file://{path}",
+        ]  # fmt: skip
+        ran = subprocess.run(words, capture_output=True, text=True, stdin=subprocess.DEVNULL, timeout=SECONDS)
+        asked = [each for each in proxy.asked if not ITS_OWN.search(each)]
+    holds(os.path.exists(picture), f"no picture: {ran.stderr[-1000:]}")
+    return [line for line in ran.stderr.splitlines() if "CONSOLE" in line], asked, picture
+
+
+COUNT = """
+import sys
+from PIL import Image
+picture = Image.open(sys.argv[1]).convert("RGB")
+for colour in sys.argv[2:]:
+    wanted = tuple(bytes.fromhex(colour))
+    at = [nth % picture.width for nth, each in enumerate(picture.getdata()) if each == wanted]
+    print(len(at), min(at, default=0), max(at, default=0))
+"""
+
+
+def pixels(picture, *colours):
+    """Of each colour how many points of a picture have it, and where the first and the last column of these are."""
+    python = next((path for path in ("/usr/bin/python3", sys.executable) if subprocess.run([path, "-c", "import PIL"], stderr=subprocess.DEVNULL).returncode == 0), None)
+    if python is None:
+        raise NotHere("no python3-pil is there")
+    ran = subprocess.run([python, "-c", COUNT, picture, *(bytes(colour).hex() for colour in colours)], capture_output=True, text=True, timeout=SECONDS)
+    same((ran.returncode, ran.stderr), (0, ""))
+    return [tuple(map(int, line.split())) for line in ran.stdout.splitlines()]
+
+
+@test
+def opens_in_a_browser(folder):
+    shown = [samples()[f"damaged/{name}.iim"][0] for name in ("bad_value", "control_octet", "marker", "header_full")]
+    for octets in *shown, STORY * 30 + BAD_DATE, samples()["damaged/truncated.iim"][0]:
+        console, asked, picture = opened(folder, explain_page.page(case_of(octets)))
+        same((console, asked), ([], []))
+        ((count, _, _),) = pixels(picture, MARK)
+        holds(count > 60, f"{count} points of the marked octet")
+    console, asked, picture = opened(folder, explain_page.page(case_of(STORY)))
+    same((console, asked, pixels(picture, MARK)[0][0]), ([], [], 0))
+
+
+@test
+def is_read_in_the_dark_on_paper_and_without_colours(folder):
+    page = explain_page.page(case_of(BAD_DATE))
+    _, _, picture = opened(folder, page, more=["--blink-settings=preferredColorScheme=0"])
+    (mark, _, _), (dark, _, _), (light, _, _) = pixels(picture, MARK, (0x14, 0x18, 0x1D), (0xF1, 0xF3, 0xF5))
+    holds(mark > 60 and dark > 10_000 and light == 0, f"{mark}, {dark} and {light} points")
+    # (what holds for paper, on a screen)
+    _, _, picture = opened(folder, page.replace("@media print", "@media screen"))
+    holds(pixels(picture, MARK)[0][0] > 60, "no mark on paper")
+    plain = re.sub("<style>.*?</style>", "", page, flags=re.S)
+    words = html.unescape(re.sub("<[^>]*>", "", plain))
+    holds("32[refused: 39]1C" in words and "refused here" in words, words)
+    found = elements(page)
+    same([attributes.get("lang") for tag, attributes in found if tag == "html"], ["en"])
+    same([bool(attributes.get("aria-label")) for tag, attributes in found if tag == "pre" and "tabindex" in attributes], [True])
+    same(all(attributes.get("aria-label") for tag, attributes in found if tag == "ol" and attributes), True)
+    same([tag for tag, _ in found if tag in ("h1", "main", "header")], ["header", "h1", "main"])
+
+
+@test
+def finds_what_a_page_must_not_do(folder):
+    page = explain_page.page(case_of(BAD_DATE))
+    open_page = page.replace("default-src 'none'; style-src 'unsafe-inline'", "")
+    console, _, _ = opened(folder, open_page.replace("</main>", "<script>nothing.at.all</script></main>"))
+    holds(console, "an error in the console is not found")
+    _, asked, _ = opened(folder, open_page.replace("</main>", "<img src=http://planted.example/x.png></main>"))
+    holds(any("planted.example" in each for each in asked), f"a request is not found: {asked}")
+    _, asked, _ = opened(folder, page.replace("</main>", "<img src=http://planted.example/x.png></main>"))
+    same(asked, [])
+    _, _, picture = opened(folder, re.sub("<mark.*?</mark>", "", page))
+    same(pixels(picture, MARK)[0][0], 0)
+
+
+@test
+def lights_up_both_sides(folder):
+    page = explain_page.page(case_of(STORY))
+    found = elements(page)
+    at_octets = {attributes.get("class", "").split(" ")[0] for tag, attributes in found if tag == "span" and "class" in attributes}
+    of_meanings = {attributes.get("class") for tag, attributes in found if tag == "li"}
+    keys = {each for each in of_meanings if each and each != "cut"}
+    same(sorted(keys - at_octets), [])
+    holds(len(keys) > 30, f"{len(keys)} items")
+    for key in keys:
+        holds(f"body:has(.{key}:hover) .{key}" in page, key)
+    anchors = {attributes.get("id") for _, attributes in found}
+    same([attributes["href"] for tag, attributes in found if "href" in attributes and attributes["href"][1:] not in anchors], [])
+    # (what the pointer does is done by a class here, which a browser can be told)
+    key = re.search(r'<li class="(k\d+)"><a[^>]*><small>62</small>', page).group(1)
+    for marked in f'<li class="{key}', f'<span class="{key} t':
+        lit = page.replace(f"{key}:hover", f"{key}.lit").replace(marked, marked + " lit", 1)
+        console, _, picture = opened(folder, lit)
+        ((count, first, last),) = pixels(picture, (0xFF, 0xE0, 0x8A))
+        holds(count > 500 and first < 500 and last > 700, f"{count} points from {first} to {last}")
+        same(console, [])
+
+
+# --- The report of an archive
+
+
+NOW = "2024-03-01T12:00:00Z"
+
+
+def drawing():
+    """A Python that has what pictures are made by."""
+    for path in "/usr/bin/python3", sys.executable:
+        if subprocess.run([path, "-c", "import jinja2, matplotlib"], stderr=subprocess.DEVNULL).returncode == 0:
+            return path
+    raise NotHere("no python3-matplotlib and python3-jinja2 are there")
+
+
+def archive(*words, python=sys.executable, **env):
+    ran = subprocess.run([python, f"{HERE}/archive.py", *words], capture_output=True, text=True, timeout=SECONDS, env={**MODULES, **env})
+    return ran.returncode, ran.stdout, ran.stderr
+
+
+def indexed(folder, tree=SAMPLES):
+    """The index of a tree."""
+    index = f"{folder}/tree.index"
+    status, _, errors = archive("--into", index, "--now", NOW, "--name", "*.iim", tree)
+    same((status in (0, 1), errors), (True, ""))
+    return index
+
+
+@test
+def reports_an_archive_as_text(folder):
+    status, out, errors = archive("report", indexed(folder), "--now", NOW)
+    same((status, errors), (0, ""))
+    lines = out.splitlines()
+    octets = sum(len(octets) for octets, _ in samples().values())
+    same(lines[0].endswith(f"tree.index at {NOW}"), True)
+    same(lines[1], f"38 files, {octets:,} octets, 11 envelopes, 9 repeated, 1 held, 0 expired, 30 refused, 0 empty, 0 failed, 0 gone")
+    counts = re.findall(r"^  (\d+ \w+) +(\d+) #", out.partition("REFUSALS BY CAUSE")[2].partition("\n\n")[0], re.M)
+    want = [line.partition("cause ")[2] for _, lines in samples().values() for line in lines if " refused " in line]
+    same(sorted(counts), sorted((cause, str(want.count(cause))) for cause in set(want)))
+    for line in ("  2024-03-01                            11 #", "  11                                     1 #", "  TST 00000001 20240301  7"):
+        holds(line in out, f"{line!r} is not in {out}")
+    holds(re.search(r"release.iim  1  TST 00000001 20240301  2024-03-01T13:00:00Z", out), out)
+    holds("bad_value.iim: envelope 1, octet 54 of the file, 1:70, cause 15 BadValue (TST 00000001 ?)" in out, out)
+    # (once released, nothing is held)
+    later = archive("report", indexed(folder), "--now", "2024-03-01T13:00:00Z")[1]
+    same("0 held" in later and "13:00:00Z\n" not in later.partition("HELD, AND")[2], True)
+    same(archive("report", f"{folder}/none")[::2], (3, f"{folder}/none: there is no index\n"))
+
+
+@test
+def reports_as_text_where_nothing_can_be_drawn(folder):
+    index = indexed(folder)
+    os.mkdir(f"{folder}/without")
+    for module in "matplotlib", "jinja2":
+        file(folder, f"without/{module}.py", b"raise ImportError\n")
+        told = archive("report", index, "--now", NOW, "--html", f"{folder}/out.html", PYTHONPATH=f"{folder}/without")
+        same(told[::2], (0, "no page is made: python3-matplotlib or python3-jinja2 is not here\n"))
+        same(told[1], archive("report", index, "--now", NOW)[1])
+        same(os.path.exists(f"{folder}/out.html"), False)
+
+
+@test
+def reports_an_archive_as_a_page(folder):
+    python = drawing()
+    evil = b"\x1b<script>$x$\xe2\x80\xae"
+    os.mkdir(f"{folder}/tree")
+    for nth, name in enumerate(("plain", "<script>\u202e", "a b#c?")):
+        fields = [(record, number, b"<$x$>\xe2" if (record, number) == (1, 30) else octets) for record, number, octets in envelopes.SMALLEST_FIELDS]
+        octets = rules.packed([*fields, (2, 250, evil)], rules.object_of(envelopes.SMALLEST_HEAD, [evil], b""), 1024)
+        file(folder, f"tree/{name}.iim", SMALLEST + octets + octets[: -nth or None] + (b"\n" if nth == 0 else b""))
+    index = indexed(folder, f"{folder}/tree")
+    status, out, errors = archive("report", index, "--now", NOW, "--html", f"{folder}/out.html", python=python)
+    same((status, out, errors), (0, "", ""))
+    page = text_of(f"{folder}/out.html")
+    same([each in page for each in ("<script", "\x1b", "\u202e")], [False] * 3)
+    holds("&lt;script&gt;\\u202E.iim" in page and "&lt;$x$&gt;\\xE2" in page, page)
+    links = [attributes["href"] for tag, attributes in elements(page) if tag == "a"]
+    same(sorted(links), [f"out.files/{nth}.html" for nth in (1, 2, 3)])
+    for link in links:
+        holds("<mark" in text_of(f"{folder}/{link}"), link)
+    console, asked, picture = opened(folder, page)
+    same((console, asked), ([], []))
+    ((count, _, _),) = pixels(picture, (0x2F, 0x6F, 0x9F))
+    holds(count > 1_000, f"{count} points of the bars")
+
+
+@test
+def draws_each_bar(folder):
+    drawn = subprocess.run([drawing(), "-c", DRAWN], capture_output=True, text=True, timeout=SECONDS, env=MODULES)
+    same((drawn.returncode, drawn.stdout, drawn.stderr), (0, "1 True True\n0 False True\n", ""))
+
+
+DRAWN = """
+import re
+import archive_page, archive_report
+bars = archive_report.Bars("Bars", [("one", 1), ("two & <three>", 1234567)])
+told = archive_report.Told("name", "now", [], [bars], [], [])
+for each in told, told._replace(bars=[bars._replace(rows=[])]):
+    page = archive_page.page(each)
+    print(page.count("<svg"), "1,234,567</text>" in page, "<three>" not in page)
+"""
+
+
+def make_picture(path):
+    """Writes the picture of README.md: the page of a damaged sample."""
+    with open(f"{SAMPLES}/damaged/bad_value.iim", "rb") as octets:
+        page = explain_page.page(explain.Case(Held(octets.read(), "bad_value.iim"), iim.WIRE))
+    with tempfile.TemporaryDirectory() as folder:
+        opened(folder, page, (1180, 900), os.path.abspath(path))
+
+
+def main():
+    failed = skipped = 0
+    if sys.argv[1:2] == ["--picture"]:
+        return make_picture(sys.argv[2])
+    tests = [each for each in TESTS if len(sys.argv) < 2 or each.__name__ in sys.argv[1:]]
+    for each in tests:
+        begun = time.monotonic()
+        try:
+            with tempfile.TemporaryDirectory() as folder:
+                each(folder)
+        except NotHere as why:
+            skipped += 1
+            print(f"not run: {each.__name__}: {why}")
+        except (AssertionError, OSError, StopIteration, subprocess.SubprocessError) as why:
+            failed += 1
+            print(f"FAILED {each.__name__}: {why}")
+        if os.environ.get("TIMES"):
+            print(f"{time.monotonic() - begun:6.1f} s {each.__name__}")
+    more = f", {skipped} skipped" if skipped else ""
+    print(f"{len(tests) - failed - skipped} passed, {failed} failed{more}")
+    return 1 if failed else 0
+
+
+if __name__ == "__main__":
+    sys.exit(main())

@@ -1,0 +1,169 @@
+"""The words of explain.py: octets, places, datasets and their values."""
+from __future__ import annotations
+
+import datetime
+import re
+from typing import AbstractSet, Iterable, List, Optional, Tuple
+
+import iim
+
+NAMED = {0: "NUL", 1: "SOH", 2: "STX", 3: "ETX", 4: "EOT", 10: "LF", 13: "CR", 22: "SYN (16)", 27: "ESC (1B)", 32: "SP"}
+
+# The parts of a message, as iim.h numbers them, and what is named of them in a row.
+PARTS = [
+    "the filler before SOH", "the source", "the number", "the priority", "the SP after the priority", "the category", "the words",
+    "the info", "the gap", "the text", "the trailer", "the filler after EOT",
+]  # fmt: skip
+ROW = ["filler", "SOH", "source", "number", "priority", "category", "words", "info", "gap", "STX", "text", "ETX", "trailer", "EOT", "filler"]
+OF_ROW = [0, 2, 3, 4, 4, 5, 6, 7, 8, 10, 12, 14]
+
+# What a dataset may have, by the number of its kind.
+KINDS = [
+    "", "graphic octets (21 to 7E, 80 to FF)", "graphic octets and spaces", "graphic octets, spaces and line ends", "letters", "digits",
+    "a date CCYYMMDD", "a date CCYYMMDD, whose month or day may be 00", "a time HHMMSS, + or -, HHMM", "a binary number", "any octets",
+    "00 or 01", "a binary number below 2^63", "a binary number from 1 to 2^63 - 1",
+]  # fmt: skip
+DIGITS = 5
+TEXTS = range(1, DIGITS + 1)
+DATE, PART_DATE, TIME, BINARY, OCTETS, MODE, SIZE, SIZE_FROM_ONE = range(6, 14)
+
+MONTHS = "January February March April May June July August September October November December".split()
+PRIORITIES = {1: "most urgent", 5: "normal", 8: "least urgent"}
+FORMATS = {2: "IPTC 7901 message"}
+MODES = {0: "the size is not announced", 1: "the size is announced"}
+
+# Octets that stand in for one another where a message has them: each class, but no octet of two of them.
+CLASSES = [bytes(range(48, 58)), bytes([*range(65, 91), *range(97, 123)]), b"\x1c", b"\0\x16", b"\n", b"\r", b" ", b"\1", b"\2", b"\3", b"\4"]
+_NAMED = {octet for each in CLASSES for octet in each}
+CLASSES += [
+    bytes(octet for octet in range(33, 127) if octet not in _NAMED), bytes(range(128, 256)),
+    bytes(octet for octet in (*range(32), 127) if octet not in _NAMED),
+]  # fmt: skip
+
+
+def shown(octets: bytes, most: int = 40) -> str:
+    """Octets as the command shows them, and no more than so many."""
+    told = "".join(chr(octet) if 32 <= octet < 127 and octet != 92 else f"\\x{octet:02X}" for octet in octets[:most])
+    return told + ("..." if len(octets) > most else "")
+
+
+def plain(octets: bytes) -> str:
+    """Octets as text of one column each: points for what can't be printed."""
+    return "".join(chr(octet) if 32 <= octet < 127 else "." for octet in octets)
+
+
+def printable(name: str) -> str:
+    """The name of a file, with escapes for what would move, hide or turn what stands beside it."""
+    return "".join(each if each.isprintable() and each != "\\" else escaped(each) for each in name)
+
+
+def escaped(character: str) -> str:
+    """A character by its number: of a name that is no UTF-8 by that of its octet."""
+    number = ord(character)
+    if 0xDC80 <= number <= 0xDCFF:
+        return f"\\x{number - 0xDC00:02X}"
+    return f"\\x{number:02X}" if number < 256 else f"\\u{number:04X}" if number < 65_536 else f"\\U{number:08X}"
+
+
+def name(octet: int, raw: bool = False) -> str:
+    """One octet in words; raw is one of a tag or of a number."""
+    if raw:
+        return f"{octet:02X}"
+    return NAMED.get(octet) or (f"'{chr(octet)}'" if 32 < octet < 127 else f"{octet:02X}")
+
+
+def runs(octets: AbstractSet[int]) -> List[Tuple[int, int]]:
+    """The octets as runs of numbers, each by its first and its last."""
+    told = "".join("01"[octet in octets] for octet in range(256))
+    return [(found.start(), found.end() - 1) for found in re.finditer("1+", told)]
+
+
+def names(octets: Iterable[int], raw: bool = False) -> str:
+    """A set of octets in words."""
+    octets = frozenset(octets)
+    if not octets:
+        return "no octet"
+    if len(octets) > 240:
+        return "any octet" + (f" but {names(frozenset(range(256)) - octets, raw)}" if len(octets) < 256 else "")
+    spans = runs(octets)
+    told: List[str] = []
+    letters = (65, 90) in spans and (97, 122) in spans
+    for what, low, high in ("a digit", 48, 57), ("a capital letter", 65, 90), ("a small letter", 97, 122):
+        if (low, high) in spans and not raw:
+            spans.remove((low, high))
+            told.append("a letter" if letters and low > 57 else what)
+    told = list(dict.fromkeys(told)) + [part for low, high in spans for part in span(low, high, raw)]
+    return " or ".join([", ".join(told[:-1])] * (len(told) > 1) + told[-1:])
+
+
+def span(low: int, high: int, raw: bool) -> List[str]:
+    """A run of octets in words."""
+    if high - low < 3:
+        return [name(octet, raw) for octet in range(low, high + 1)]
+    if 48 <= low and high <= 57 and not raw:
+        return [f"the digits {chr(low)} to {chr(high)}"]
+    return [f"octets {low:02X} to {high:02X}"]
+
+
+def titled(record: int, number: Optional[int]) -> str:
+    """A dataset by its numbers and its name."""
+    if number is None:
+        return f"{record}:?"
+    return f"{record}:{number:02} {iim.dataset_name(record, number) or '(kept unread)' * (record in (1, 2))}".strip()
+
+
+def counted(number: int, what: str) -> str:
+    """So many of something."""
+    return f"{number:,} {what}{'s' * (number != 1)}"
+
+
+# --- Values ---
+
+
+def date_in_words(octets: bytes) -> str:
+    """A date that the library admits, in words; what is missing of it is left out."""
+    year, month, day = int(octets[:4]), int(octets[4:6]), int(octets[6:])
+    if day and not month:
+        return f"day {day} of a month that isn't told, {year}"
+    return " ".join([str(day)] * (day > 0) + [MONTHS[month - 1]] * (month > 0) + [str(year)])
+
+
+def time_in_words(octets: bytes) -> str:
+    """A time that the library admits, in words."""
+    told = octets.decode("ascii")
+    offset = "universal time" if told[7:] == "0000" else f"{told[7:9]}:{told[9:]} {'ahead of' if told[6] == '+' else 'behind'} universal time"
+    return f"{told[:2]}:{told[2:4]}:{told[4:6]}, {offset}"
+
+
+def instant_in_words(date: Optional[bytes], time: Optional[bytes]) -> Optional[str]:
+    """The instant of a date and a time that the library admits, at universal time, or None where there is none."""
+    if date is None or time is None:
+        return None
+    clock = datetime.datetime.strptime((date + time[:6]).decode("ascii"), "%Y%m%d%H%M%S").replace(tzinfo=datetime.timezone.utc)
+    offset = datetime.timedelta(hours=int(time[7:9]), minutes=int(time[9:]))
+    try:
+        instant = clock + offset if time[6:7] == b"-" else clock - offset
+    except OverflowError:
+        return None
+    return f"{instant.year:04}-{instant:%m-%dT%H:%M:%SZ}"
+
+
+def value_in_words(record: int, number: int, octets: bytes, count: int) -> str:
+    """The value of a dataset, of which these are the first octets."""
+    rule = iim.row(record, number)
+    kind = rule.kind if rule and iim.dataset_name(record, number) else OCTETS
+    admitted = count == len(octets) and iim.admits(record, number, octets)
+    if admitted and kind in (DATE, PART_DATE):
+        return date_in_words(octets)
+    if admitted and kind == TIME:
+        return time_in_words(octets)
+    if admitted and kind in (BINARY, MODE, SIZE, SIZE_FROM_ONE):
+        value = int.from_bytes(octets, "big")
+        known = FORMATS if (record, number) == (1, 20) else MODES if kind == MODE else {}
+        return f"{value:,}" + (f", {known[value]}" if value in known else "")
+    if admitted and (record, number) in ((1, 60), (2, 10)):
+        digit = int(octets)
+        return f"{digit}" + (f", {PRIORITIES[digit]}" if digit in PRIORITIES else "")
+    if kind in (BINARY, MODE, SIZE, SIZE_FROM_ONE):
+        return octets[:13].hex(" ").upper() + " ..." * (count > 13)
+    return shown(octets, 64)

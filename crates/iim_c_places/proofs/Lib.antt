@@ -1,0 +1,3 @@
+pub mod BegunThere
+pub mod Bits
+pub mod Tried

@@ -1,0 +1,133 @@
+-- What is begun at the place of a ticket, as C sees it.
+use Rattle.std.specs.Prelude.{◌≡◌, ℕ, ◌-◌, ◌==◌, ◌⊎◌, if◌then◌else◌, List, [], ◌∷◌, length, get_or}
+use Rattle.iim_dataset.specs.Format.Datasets.{Dataset, count_octets}
+use Rattle.iim_dataset.specs.Format.Splits.{Begun, InTag, InData, Reads}
+use Rattle.iim_places.specs.Format.Refusals.{begun_record, begun_number}
+use Rattle.iim_places.specs.Format.TicketForm.{Split, SplitsTicket}
+use Rattle.iim_places.specs.Format.Tickets.{Phase, TagBegun, DataBegun, AllEnded}
+use Rattle.iim_c.specs.declared.answer.IimAnswer.{IimAnswer}
+use Rattle.iim_c.specs.declared.span.IimSpan.{IimSpan}
+use Rattle.iim_c.specs.Format.Answers.{status_answer}
+use Rattle.iim_c.specs.Format.Statuses as status
+use Rattle.iim_c.specs.Format.TicketAnswers.{StandAt, IsNoTicket, no_span}
+use Rattle.iim_c_places.specs.declared.begun.IimBegun.{IimBegun}
+
+-- ---- what is begun, by its number
+
+-- nothing, between datasets
+abbrev pub nothing : ℕ
+nothing = 0
+
+-- a tag, of which some octets have come
+abbrev pub tag : ℕ
+tag = 1
+
+-- the data of a dataset
+abbrev pub in_data : ℕ
+in_data = 2
+
+-- nothing any more: the last dataset has ended
+abbrev pub ended : ℕ
+ended = 3
+
+abbrev pub kind_of_tag : List ℕ → ℕ
+kind_of_tag [] = nothing
+kind_of_tag (x ∷ held) = tag
+
+-- ---- what a ticket tells of it
+
+-- the octets of it that the ticket keeps
+abbrev pub kept_of : Phase → List ℕ
+kept_of (TagBegun held) = held
+kept_of (DataBegun set count left taken) = taken
+kept_of AllEnded = []
+
+abbrev pub no_begun : IimBegun
+no_begun = record {
+  kind = 0;
+  section = 0;
+  rec = 0;
+  set = 0;
+  part = 0;
+  counter = 0;
+  flag = 0;
+  count = 0;
+  came = 0;
+  left = 0;
+  first = 0;
+  token = 0;
+  octets = no_span;
+}
+
+-- What is begun in the record `section` after `at` octets, where those that the ticket keeps of it stand in this span. The first
+-- octet of a tag or of data lies as many octets back as have come of it. What the next octet belongs to begins there, too, but in a
+-- subfile, where each octet is looked at alone.
+abbrev pub begun_by : (at section : ℕ) → Phase → IimSpan → IimBegun
+begun_by at section (TagBegun held) span =
+    record no_begun {
+      kind = kind_of_tag held;
+      rec = get_or held 1 0;
+      set = get_or held 2 0;
+      came = length held;
+      first = at - length held;
+      token = at - length held;
+      octets = span;
+    }
+begun_by at section (DataBegun set count left taken) span =
+    record no_begun {
+      kind = in_data;
+      rec = section;
+      set = set;
+      count = count;
+      came = count - left;
+      left = left;
+      first = at - (count - left);
+      token = if section == 8 then at else at - (count - left);
+      octets = span;
+    }
+begun_by at section AllEnded span = record no_begun { kind = ended; first = at; token = at; octets = span }
+
+-- the same with the record of the last head, and with the part of the message that has come, its counter and its flag
+abbrev pub begun_of : ℕ → Split → IimSpan → IimBegun
+begun_of at s span = record (begun_by at s.section s.phase span) { section = s.section; part = s.part; counter = s.counter; flag = s.flag }
+
+pub record IsBegunOf (ticket : List ℕ) (at : ℕ) (s : Split) (found : IimBegun) : Type 0 where
+  pub stand : StandAt ticket found.octets (kept_of s.phase)
+  pub is : found ≡ begun_of at s found.octets
+
+-- The ticket tells this of what is begun; or it is none.
+abbrev pub IsBegunTold : List ℕ → ℕ → IimBegun → IimAnswer → Type 0
+IsBegunTold ticket at found told =
+    ((s : Split) × SplitsTicket ticket s × IsBegunOf ticket at s found × (told ≡ status_answer status.done)) ⊎ (IsNoTicket ticket told × (found ≡ no_begun))
+
+-- ---- what octets have begun that have led there
+
+-- how many octets have come of it, and how many are to come: of a tag this isn't known
+abbrev pub came_of : Begun → ℕ
+came_of (InTag held) = length held
+came_of (InData h taken) = length taken
+
+abbrev pub left_of : Begun → ℕ
+left_of (InTag held) = 0
+left_of (InData h taken) = h.count - length taken
+
+-- the first octet of the token that the next octet belongs to, after `at` octets: of a tag, of a value, and of the object each octet
+-- by itself
+abbrev pub token_of : ℕ → Begun → ℕ
+token_of at (InTag held) = at - length held
+token_of at (InData h taken) = if h.rec == 8 then at else at - length taken
+
+pub record TellsBegun (at : ℕ) (begun : Begun) (found : IimBegun) : Type 0 where
+  pub rec : found.rec ≡ begun_record begun
+  pub set : found.set ≡ begun_number begun
+  pub came : found.came ≡ came_of begun
+  pub left : found.left ≡ left_of begun
+  pub first : found.first ≡ at - came_of begun
+  pub token : found.token ≡ token_of at begun
+
+-- The octets so far have begun this, or have ended.
+pub record TellsOctets (p : List ℕ) (at : ℕ) (found : IimBegun) : Type 0 where
+  pub whole : List Dataset
+  pub begun : Begun
+  pub reads : Reads count_octets p whole begun
+  pub tells : (found.kind ≡ ended) ⊎ TellsBegun at begun found

@@ -1,0 +1,81 @@
+"""The functions of a source file, and what of them a wrong body changes."""
+import functools
+import re
+
+# What may stand between a function's signature and its body.
+CLAUSE = re.compile(r"(requires|ensures|ghost|decreases|where|\{)")
+WORDS = re.compile(r"//[^\n]*|\"(?:\\.|[^\"\\])*\"|b?'(?:\\.[^']*|[^'\\])'", re.S)
+
+
+def end_of_group(text, at):
+    """Where the group that a brace begins ends."""
+    depth = 0
+    for brace in re.finditer(r"[{}]", text[at:]):
+        depth += 1 if brace[0] == "{" else -1
+        if depth == 0:
+            return at + brace.end()
+    return len(text)
+
+
+def body_of(text, at):
+    """The span of a function's body: the last of its brace groups. None where it has none."""
+    found = None
+    while True:
+        brace = re.compile(r"[{;}]").search(text, at)
+        if not brace or brace[0] != "{":
+            return found
+        at = end_of_group(text, brace.start())
+        found = brace.start(), at
+        if not CLAUSE.match(text, at + len(text[at:]) - len(text[at:].lstrip())):
+            return found
+
+
+def hidden(words):
+    """Blanks in the place of words that hold no brace and no end of a function: of a comment, of a literal, of an array's type."""
+    return " " * len(words[0])
+
+
+@functools.lru_cache(maxsize=4096)
+def functions(text):
+    """Of each function of a source its name, where it begins, and the span of its body."""
+    blank = re.sub(r"\[(?:[^\[\]{}]|\[[^\[\]]*\])*;[^\[\]{}]*\]", hidden, WORDS.sub(hidden, text))
+    found = []
+    for start in re.finditer(r"\bfn (\w+)", blank):
+        body = body_of(blank, start.end())
+        if body:
+            found.append((start[1], start.start(), *body))
+    return found
+
+
+def place(path, text, old, new):
+    """The function whose body alone a pair changes: its file, its name, and how many before it have that name. None where it is more."""
+    at = text.find(old)
+    first, last = at + len(old) - len(old.lstrip()), at + len(old.rstrip())
+    found = functions(text)
+    for number, (name, start, body, end) in reversed([*enumerate(found)]):
+        # (after a contract that stays as it is a body may be put in front of the one that stands there)
+        if body <= first and last <= end or start <= first and last <= body and new.startswith(old):
+            return path, name, sum(each[0] == name for each in found[:number])
+    return None
+
+
+def span(text, name, number):
+    """Where a function stands with its attributes, of those of its name the one after so many."""
+    _, start, _, end = [each for each in functions(text) if each[0] == name][number]
+    lines = text[:start].split("\n")
+    first = len(lines) - 1
+    while lines[first - 1].lstrip().startswith("#["):
+        first -= 1
+    return len("\n".join(lines[:first])) + 1, end
+
+
+def places(texts, body):
+    """The functions that a wrong body changes; None where it changes something outside of their bodies."""
+    found, texts = set(), dict(texts)
+    for path, old, new in body.pairs:
+        at = place(path, texts[path], old, new) if path.startswith("src/") and texts[path].count(old) == 1 else None
+        if at is None:
+            return None
+        found.add(at)
+        texts[path] = texts[path].replace(old, new)
+    return found

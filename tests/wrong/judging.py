@@ -1,0 +1,124 @@
+"""Judges wrong bodies: rounds of many side by side, and again alone what a round does not plainly refuse."""
+import os
+import re
+import shutil
+import tempfile
+from concurrent.futures import FIRST_COMPLETED, ThreadPoolExecutor, wait
+
+from wrong import prover, rounds, sources, verdicts
+
+ENDED = re.compile(r"^only=\d+ proved=\d+$", re.M)
+
+
+class Crate:
+    """A crate's wrong bodies while they are judged: what each came to, and what that took."""
+
+    def __init__(self, name, bodies, room):
+        self.name, self.bodies, self.room = name, bodies, room
+        self.planned = rounds.plan(name, bodies)
+        self.verdicts, self.seconds, self.checks, self.open = {}, 0, 0, len(self.planned)
+
+    def size(self):
+        """How much the prover has to read of it."""
+        walked = os.walk(f"{sources.TOP}/crates/{self.name}")
+        return sum(os.path.getsize(f"{at}/{file}") for at, _, files in walked if "/out" not in at for file in files)
+
+    def sums(self):
+        """A line that tells how its wrong bodies were judged, and what it took."""
+        counts = {}
+        for verdict, _ in self.verdicts.values():
+            counts[verdict] = counts.get(verdict, 0) + 1
+        told = ", ".join(f"{count} {verdict}" for verdict, count in counts.items())
+        return f"{self.name}: {len(self.bodies)} wrong bodies: {told}; {self.checks} checks, {self.seconds:.0f} seconds of a processor"
+
+
+def first_error(text):
+    """The first line that tells why a check came to nothing."""
+    lines = [line for line in text.splitlines() if "error" in line] or text.splitlines()[-1:] or ["it said nothing"]
+    return lines[0][:160]
+
+
+def tried(these, kept):
+    """Checks a round: of each of its wrong bodies what it comes to, or None where the check came to nothing; and the seconds that it took."""
+    said = prover.check(these.crate, these.texts, these.asked(), kept)
+    if folder := os.environ.get("WRONG_LOGS"):
+        with open(f"{folder}/{these.crate}.{these.bodies[0].word}.{len(these.bodies)}", "w", encoding="utf-8") as file:
+            file.write(said.text)
+    if ENDED.search(said.text):
+        found = verdicts.hear(said.text)
+        return [(body, verdicts.judge(body, these.functions[body.name], found)) for body in these.bodies], said.seconds
+    if len(these.bodies) == 1:
+        return [(these.bodies[0], (verdicts.UNHEARD, first_error(said.text)))], said.seconds
+    return None, said.seconds
+
+
+class Judging:
+    """All of it: the tasks that wait, those that run, and the crates."""
+
+    def __init__(self, crates, jobs):
+        self.pool, self.running, self.waiting, self.crates = ThreadPoolExecutor(jobs), {}, [], crates
+        self.jobs = jobs
+        # (what takes longest begins first)
+        for crate in sorted(crates, key=lambda crate: -crate.size()):
+            self.waiting.append((crate, crate.planned[0], None))
+
+    def begin(self):
+        """Begins what waits, as long as there is a processor."""
+        while self.waiting and len(self.running) < self.jobs:
+            crate, these, start = self.waiting.pop(0)
+            kept = tempfile.mkdtemp(dir=crate.room)
+            prover.linked(start or "", f"{kept}/work")
+            self.running[self.pool.submit(tried, these, f"{kept}/work")] = crate, these, start, f"{kept}/work"
+
+    def again(self, crate, these, kept):
+        """Adds rounds of a crate, before those of other crates."""
+        crate.open += len(these)
+        self.waiting[:0] = [(crate, each, kept) for each in these]
+
+    def end(self, future):
+        """Takes what a round came to: what is not plainly refused beside others is tried again alone."""
+        crate, these, start, kept = self.running.pop(future)
+        judged, seconds = future.result()
+        crate.seconds, crate.checks, crate.open = crate.seconds + seconds, crate.checks + 1, crate.open - 1
+        if these is crate.planned[0]:
+            self.waiting[:0] = [(crate, each, kept) for each in crate.planned[1:]]
+        if judged is None:
+            half = len(these.bodies) // 2
+            self.again(crate, [each for part in (these.bodies[:half], these.bodies[half:]) for each in rounds.plan(crate.name, part)], kept)
+        for body, verdict in judged or []:
+            if verdict[0] in verdicts.PASSED or len(these.bodies) == 1:
+                self.decide(crate, body, verdict)
+            else:
+                self.again(crate, [rounds.Round(crate.name, [body])], kept)
+        if crate.open == 0:
+            print(crate.sums(), flush=True)
+            shutil.rmtree(crate.room)
+
+    def decide(self, crate, body, verdict):
+        """Notes what a wrong body comes to, and tells it unless it is plainly refused."""
+        crate.verdicts[body.name] = verdict
+        if verdict[0] != verdicts.REFUSED:
+            print(f"{crate.name}: {body.name} ({body.function}, {body.clause}): {verdict[0]}{': ' if verdict[1] else ''}{verdict[1]}", flush=True)
+
+    def run(self):
+        """Judges all."""
+        with self.pool:
+            self.begin()
+            while self.running:
+                for future in wait(self.running, return_when=FIRST_COMPLETED).done:
+                    self.end(future)
+                self.begin()
+
+
+def judge(names, words, jobs):
+    """Judges the wrong bodies of crates, those alone whose names hold one of the words where there are any, and returns what all came to."""
+    with tempfile.TemporaryDirectory(prefix="wrong-bodies-kept-") as room:
+        crates = []
+        for name in names:
+            prover.words_of(name)
+            bodies = [body for body in sources.bodies(name) if not words or any(word in body.name for word in words)]
+            if bodies:
+                os.mkdir(f"{room}/{name}")
+                crates.append(Crate(name, bodies, f"{room}/{name}"))
+        Judging(crates, jobs).run()
+    return [verdict for crate in crates for verdict, _ in crate.verdicts.values()]

@@ -1,0 +1,87 @@
+"""Asks the prover for the functions of a round."""
+import os
+import shutil
+import subprocess
+import tempfile
+from dataclasses import dataclass
+
+from wrong import sources
+
+PARTS = "src", "specs", "proofs"
+
+
+class Missing(Exception):
+    """What a check stands on and isn't there."""
+
+
+@dataclass
+class Said:
+    """What the prover says, its status, and the seconds of processors that it took."""
+
+    text: str
+    status: int
+    seconds: float
+
+
+def kit():
+    """The folder of the toolchain."""
+    rt = shutil.which("rt")
+    if not rt:
+        raise Missing("rt, the command of Rattle's toolchain, is not on the path")
+    return os.path.dirname(os.path.dirname(os.path.realpath(rt)))
+
+
+def words_of(crate):
+    """The words of a check of a crate, without the functions that are asked for: the libraries below it are those that `rt ci` has proved."""
+    at, listed = kit(), sources.order_of_crates()
+    below, is_static = listed[crate]
+    root = "src/main.rt" if os.path.exists(f"{sources.TOP}/crates/{crate}/src/main.rt") else "src/lib.rt"
+    words = [f"{at}/bin/rattle", "check", "--crate-name", crate, root]
+    for name in ["std", *below]:
+        folder = f"{sources.TOP}/crates/{name}/out/rlib" if name in listed else f"{at}/rlibs"
+        words += ["--extern", f"{name}={folder}/{name}.rlib"]
+        if not os.path.exists(f"{folder}/{name}.rlib"):
+            raise Missing(f"{crate}: the library {name} is not built: run `rt ci {crate}` first, or `rt lib` in the folders of those below it")
+    own = [f"{sources.TOP}/crates/{name}/out/rlib" for name in listed]
+    for folder in [f"{at}/rlibs", *filter(os.path.isdir, own)]:
+        words += ["-L", f"dependency={folder}"]
+    words += ["--crate-type", "staticlib"] if is_static else []
+    return [*words, "--antt-project", f"{at}/rattle/logic/antt-project.json", "--logic-built", f"{at}/logic_built", "--jobs", "1"]
+
+
+def linked(start, to):
+    """Begins a folder of kept work with that of another check, by links: the prover replaces such a file, and never writes into it."""
+    def link(one, other):
+        try:
+            os.link(one, other)
+        except OSError:
+            shutil.copy2(one, other)
+
+    if os.path.isdir(start):
+        shutil.copytree(start, to, copy_function=link)
+    else:
+        os.makedirs(to)
+
+
+def run(words, room):
+    """Runs the words in a folder."""
+    with tempfile.TemporaryFile("w+", errors="replace") as out:
+        ran = subprocess.Popen(words, cwd=room, stdin=subprocess.DEVNULL, stdout=out, stderr=subprocess.STDOUT)
+        _, status, used = os.wait4(ran.pid, 0)
+        ran.returncode = os.waitstatus_to_exitcode(status)
+        out.seek(0)
+        return Said(out.read(), ran.returncode, used.ru_utime + used.ru_stime)
+
+
+def check(crate, texts, functions, kept):
+    """What the prover says of the functions of a crate with these texts in the place of its own; `kept` is the folder of its kept work."""
+    with tempfile.TemporaryDirectory(prefix="wrong-bodies-") as room:
+        for part in PARTS:
+            if os.path.isdir(f"{sources.TOP}/crates/{crate}/{part}"):
+                shutil.copytree(f"{sources.TOP}/crates/{crate}/{part}", f"{room}/{part}")
+        for path, text in texts.items():
+            os.makedirs(os.path.dirname(f"{room}/{path}"), exist_ok=True)
+            with open(f"{room}/{path}", "w", encoding="utf-8") as file:
+                file.write(text)
+        asked = [word for function in functions for word in ("--only", function)]
+        return run([*words_of(crate), "--incremental", kept, *asked], room)

@@ -1,0 +1,141 @@
+"""The wrong bodies as they are committed: crates/CRATE/wrong-bodies/*.edits.
+
+A file has many, each with lines in front of what it changes:
+
+  # name: its name, a few words
+  # function: whose proof is asked, by its path below the crate
+  # clause: what has to fail there, one of the forms below
+  # means: a sentence, where the name doesn't say enough
+  # must-fail: yes         of one in each crate: `rt ci` tries it too. The prover refuses it soon, since much rests on its function
+  file: src/x.rt         what it changes: a text that stands there once, and what takes its place; each is one line,
+  old: TEXT              and further pairs apply to what the earlier ones made
+  new: TEXT
+
+A clause is `ensures` (one without a name, or where the prover doesn't say which of them fails), `ensures NAME`, `requires of CALLEE`, `loop` (what holds at each turn),
+`invariant` (its type's), `ensures of std's METHOD`, or `lemma NAME in FILE.antt` (a lemma on which the function's proof stands).
+"""
+import glob
+import os
+import re
+from dataclasses import dataclass, field
+
+TOP = os.path.dirname(os.path.dirname(os.path.dirname(os.path.realpath(__file__))))
+FORMS = re.compile(r"ensures( \w+| of std's \w+)?|requires of \w+|loop|invariant|lemma [\w']+ in \w+\.antt")
+WORDS = "name", "function", "clause", "means", "must-fail"
+
+# Texts that stand in the place of a crate's own, by the crate and the file.
+CHANGED = {}
+
+
+class Unread(Exception):
+    """What is wrong with a file of wrong bodies."""
+
+
+@dataclass
+class Body:
+    """A wrong body: what it is, and its pairs of a file, the text there, and what takes its place."""
+
+    crate: str
+    file: str
+    said: dict = field(default_factory=dict)
+    pairs: list = field(default_factory=list)
+
+    @property
+    def name(self):
+        return self.said["name"]
+
+    @property
+    def function(self):
+        return self.said["function"]
+
+    @property
+    def clause(self):
+        return self.said["clause"]
+
+    @property
+    def word(self):
+        """Its name as one word, by which pages cite it."""
+        return self.name.replace(" ", "_")
+
+
+def text_of(path):
+    with open(path, encoding="utf-8") as text:
+        return text.read()
+
+
+def read_line(body, line, changing):
+    """Adds a line of a file of wrong bodies to its body; `changing` holds the file and the text that the next `new:` is for."""
+    if said := re.fullmatch(r"# ([\w-]+): (.+)", line):
+        if said[1] not in WORDS or said[1] in body.said:
+            raise Unread(f"{body.file}: {line}")
+        body.said[said[1]] = said[2]
+    elif line.startswith("new:") and changing.get("old"):
+        body.pairs.append((changing["file"], changing.pop("old"), line[4:].removeprefix(" ")))
+    elif said := re.fullmatch(r"(file|old): (.+)", line):
+        changing[said[1]] = said[2]
+    else:
+        raise Unread(f"{body.file}: a line that is not read: {line}")
+
+
+def read(crate, path):
+    """The wrong bodies of a file."""
+    found, changing = [], {}
+    for line in text_of(path).split("\n"):
+        if line.startswith("# name: "):
+            found.append(Body(crate, os.path.relpath(path, TOP)))
+            changing = {}
+        if line and not found:
+            raise Unread(f"{path} has no `# name:` before its first line")
+        if line:
+            read_line(found[-1], line, changing)
+    for body in found:
+        if not ("function" in body.said and body.pairs and FORMS.fullmatch(body.said.get("clause", ""))):
+            raise Unread(f"{body.file}: {body.name}: it lacks its function or what it changes, or its clause has no form that is known")
+    return found
+
+
+def bodies(crate):
+    """The wrong bodies of a crate, in the order of their names."""
+    paths = sorted(glob.glob(f"{TOP}/crates/{crate}/wrong-bodies/*.edits"))
+    return sorted((body for path in paths for body in read(crate, path)), key=lambda body: body.name)
+
+
+def order_of_crates():
+    """The crates in the order of crates.txt, lowest first: of each the libraries that it stands on, and whether C links it."""
+    found = {}
+    for line in text_of(f"{TOP}/crates.txt").splitlines():
+        if line.strip() and not line.startswith("#"):
+            front, _, below = line.partition(":")
+            name, *kind = front.split()
+            found[name] = below.split(), "staticlib" in kind
+    return found
+
+
+def crates():
+    """The crates that have wrong bodies, lowest first."""
+    return [crate for crate in order_of_crates() if glob.glob(f"{TOP}/crates/{crate}/wrong-bodies/*.edits")]
+
+
+def text_in(crate, path):
+    """The text of a file of a crate."""
+    return CHANGED.get((crate, path)) or text_of(f"{TOP}/crates/{crate}/{path}")
+
+
+def is_there(crate, path):
+    """Whether a crate has a file."""
+    return os.path.exists(f"{TOP}/crates/{crate}/{path}")
+
+
+def original(body):
+    """The texts of the files that a wrong body changes."""
+    return {path: text_in(body.crate, path) for path, *_ in body.pairs}
+
+
+def applied(texts, body):
+    """The texts with the wrong body in them, or None where a text that it replaces doesn't stand there once."""
+    texts = {**original(body), **texts}
+    for path, old, new in body.pairs:
+        if texts[path].count(old) != 1:
+            return None
+        texts[path] = texts[path].replace(old, new)
+    return texts
