@@ -12,8 +12,8 @@ OPEN = re.compile(r"note: \S+?:\d+:\d+: .*? \(`([^`]+)`\)(.*)")
 ERROR = re.compile(r"(?:note: )?\./proofs/(\S+?)\.antt:\d+:\d+: error: (?:`([^`]+)`: )?(.*)")
 LINE = re.compile(r"fn \w+?::(\S+): (.*)")
 WAITS = re.compile(r"note: `search` has not tried the goals of `\w+?::(\S+?)`")
-# An answer by hand names what the edit took away; it rests on a lemma that is refused; or its goal does not hold.
-NAME_IS_GONE = re.compile(r"is not in scope|has no field|has no `|is no name|no goal|names no")
+# An answer by hand names what the edit took away (that a printed goal can't be pasted says nothing of this); it rests on a lemma that is refused; or its goal does not hold.
+NAME_IS_GONE = re.compile(r"is not in scope(?! here, so what is shown)|has no field|has no `|is no name|no goal|names no")
 RESTS = re.compile(r"depends on `([^`]+)`, which was not admitted")
 NOT_FOUND = re.compile(r"`(?:search|omega|grind|simp|cc|arith)`|no proof of|the goal fails, at")
 ANSWERS = "Answers", "Invariants", "Proof"
