@@ -198,7 +198,7 @@ def tells_the_tables():
 @test
 def names_the_kinds_and_duties_as_the_header_does():
     text = open(HEADER).read()
-    words = dict(re.findall(r"IIM_((?:KIND|DUTY|LAYER|PART|BEGUN)_\w+) = (\d+)", text))
+    words = dict(re.findall(r"IIM_((?:KIND|DUTY|LAYER|PART|BEGUN|COPY)_\w+) = (\d+)", text))
     source = open(f"{TOP}/crates/iim_tables/src/shape.rt").read()
     upper = lambda name: re.sub(r"(?<!^)(?=[A-Z])", "_", name).upper()
     for kind in ("Kind", "Duty"):
@@ -212,8 +212,11 @@ def names_the_kinds_and_duties_as_the_header_does():
     begun = re.findall(r"^pub const (\w+): u8 = (\d+);", open(f"{TOP}/crates/iim_c_places/src/begun.rt").read(), re.M)
     same({f"BEGUN_{name}": number for name, number in begun}, {w: n for w, n in words.items() if w.startswith("BEGUN")})
     same(words["BEGUN_NOTHING"] + words["BEGUN_TAG"] + words["BEGUN_DATA"] + words["BEGUN_ENDED"], "0123")
+    copies = re.findall(r"^pub const (\w+): u8 = (\d+);", open(f"{TOP}/crates/iim_c_audit/src/row.rt").read(), re.M)
+    same({f"COPY_{name}": number for name, number in copies}, {w: n for w, n in words.items() if w.startswith("COPY")})
+    same(words["COPY_FREE"] + words["COPY_HELD"] + words["COPY_EXPIRED"], "012")
     status = open(f"{TOP}/crates/iim_c/src/status.rt").read()
-    same({name: number for name, number in re.findall(r"pub const (\w+): u8 = (\d+);", status)}, {w: n for w, n in STATUSES.items() if "_" not in w or w in ("NO_MEMORY", "BAD_TICKET", "BAD_PACKING")})
+    same({name: number for name, number in re.findall(r"pub const (\w+): u8 = (\d+);", status)}, {w: n for w, n in STATUSES.items() if "_" not in w or w in ("NO_MEMORY", "BAD_TICKET", "BAD_PACKING", "BAD_INSTANT")})
 
 
 # Answers to the smallest envelope, of 114 octets, written out from docs/FORMAT.md and the header: status, layer, cause, record, number,
@@ -323,6 +326,64 @@ def tells_the_octets_that_can_come_next():
         same(lines[103][14], set_of([octet for octet in range(256) if octet not in (1, 2, 4)]))
 
 
+# --- Audits ---
+
+# The rows of samples at 12:00 on 2024-03-01, written out: where the envelope begins and how many octets it has, service, number and date
+# sent, the octet of the priority, octets and subfiles of the object, words announced and counted; whether there is an age, and that;
+# whether the copy may be used; and of release and expiration whether there is one, its second and its nanosecond. Then where a refused
+# envelope begins, and its status, layer, cause, record, number and octet.
+ROWS = {
+    "audit.iim": """\
+0 136 TST 00000001 20240301 53 14 1 0 0 1 3600 0 0 0 0 0 0 0
+136 246 TST 00000002 20240301 0 50 1 5 4 0 0 0 0 0 0 0 0 0
+382 114 TST 00000001 20240301 0 14 1 0 0 0 0 0 0 0 0 0 0 0
+""",
+    "stream.iim": """\
+0 114 TST 00000001 20240301 0 14 1 0 0 0 0 0 0 0 0 0 0 0
+114 246 TST 00000002 20240301 0 50 1 5 4 0 0 0 0 0 0 0 0 0
+""",
+    "release.iim": "0 143 TST 00000001 20240301 0 14 1 0 0 0 0 1 1 1709298000 0 0 0 0\n",
+    "subfiles.iim": "0 281 TST 00000002 20240301 0 50 8 5 4 0 0 0 0 0 0 0 0 0\n",
+    "damaged/control_octet.iim": "at 0: 2 6 41 8 10 104\n",
+    "damaged/truncated.iim": "at 0: 3 1 3 8 10 100\n",
+}
+NOON = 1709294400
+
+
+def audits(asked):
+    """Holds the rows of a file, by pieces and room of some size, to what is written out."""
+    program, piece, room, second, path, want = asked
+    same((asked, run(program, "audit", str(piece), str(room), str(second), path)), (asked, (int("at" in want), want.encode(), b"")))
+
+
+@test
+def tells_the_rows_of_the_samples_whatever_the_pieces():
+    ways = [(piece, room) for piece in (*range(1, 65), 4096) for room in (1, 2, 5)]
+    with ThreadPoolExecutor(os.cpu_count()) as pool:
+        list(pool.map(audits, [(program, *way, NOON, f"{SAMPLES}/{name}", want) for name, want in ROWS.items() for way in ways for program in PROGRAMS]))
+
+
+@test
+def tells_the_rows_before_a_refused_envelope():
+    path = f"{TOP}/bindings/out/refused.iim"
+    with open(path, "wb") as file:
+        file.write(b"".join(octets_of(f"{SAMPLES}/{name}") for name in ("stream.iim", "damaged/missing.iim")))
+    want = f"{ROWS['stream.iim']}at 360: 2 2 14 1 70 46\n"
+    for program in PROGRAMS:
+        for piece in (1, 7, 64, 4096):
+            audits((program, piece, 5, NOON, path, want))
+
+
+@test
+def tells_ages_rounded_down():
+    # (the first of the sample was sent at 11:00)
+    first = ROWS["audit.iim"].splitlines()[0]
+    for second, age in ((NOON - 3600, 0), (NOON - 3601, -1), (NOON + 1, 3601)):
+        for program in PROGRAMS:
+            status, out, errors = run(program, "audit", "64", "5", str(second), f"{SAMPLES}/audit.iim")
+            same((status, out.decode().splitlines()[0], errors), (0, first.replace(" 1 3600 ", f" 1 {age} "), b""))
+
+
 @test
 def tells_what_each_cause_means():
     # (a cause that stands in two tables means what the first says)
@@ -353,7 +414,7 @@ def admits_as_the_rules_do():
 # --- The header and the sources ---
 
 # A number or a struct of the sources, as C has it.
-WORDS = {"u8": "uint8_t", "u32": "uint32_t", "u64": "uint64_t", "usize": "size_t", "bool": "bool"}
+WORDS = {"u8": "uint8_t", "u32": "uint32_t", "u64": "uint64_t", "i64": "int64_t", "usize": "size_t", "bool": "bool"}
 
 
 def plain(text):
@@ -366,6 +427,8 @@ def of_c(kind):
         return []
     if slice_of := re.fullmatch(r"&(mut )?\[u8\]", kind):
         return ["uint8_t *" if slice_of[1] else "const uint8_t *", "size_t "]
+    if array_of := re.fullmatch(r"&mut \[(\w+)\]", kind):
+        return [f"{struct_of(array_of[1])} *", "size_t "]
     if struct := re.fullmatch(r"&mut (\w+)", kind):
         return [f"{struct_of(struct[1])} *"]
     return [f"{WORDS.get(kind) or struct_of(kind)} "]
@@ -397,7 +460,7 @@ def declares_each_export_with_its_arguments():
     as_text = lambda name, words: [word.replace("uint8_t *", "char *") if name.endswith(("_name", "_text")) else word for word in words]
     want = sorted((name, result, as_text(name, words)) for name, result, words in exports())
     same(sorted(declared()), want)
-    same(len(want) >= 17, True)
+    same(len(want) >= 18, True)
 
 
 @test
@@ -405,7 +468,7 @@ def declares_each_struct_with_its_members():
     code = re.sub(r"/\*.*?\*/", "", open(HEADER).read(), flags=re.S)
     found = {name: [tuple(plain(each).rsplit(" ", 1)) for each in body.split(";") if each.strip()] for body, name in re.findall(r"typedef struct iim_\w+ \{(.*?)\} (iim_\w+);", code, re.S)}
     want = {}
-    for path in sorted(glob.glob(f"{TOP}/crates/iim_c/src/*.rt") + glob.glob(f"{TOP}/crates/iim_c_places/src/*.rt")):
+    for path in sorted(path for crate in ("iim_c", "iim_c_places", "iim_c_audit") for path in glob.glob(f"{TOP}/crates/{crate}/src/*.rt")):
         for name, body in re.findall(r"#\[repr\(C\)\]\n#\[derive\([^)]*\)\]\npub struct (\w+) \{\n(.*?)^\}", open(path).read(), re.M | re.S):
             # (an array stands with its length after the name)
             members = re.findall(r"^    pub (\w+): \[?(\w+)(?:; (\d+)\])?,", body, re.M)

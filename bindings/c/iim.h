@@ -64,7 +64,8 @@ enum {
     IIM_SHORT = 5,      /* a buffer is too short: the answer tells what is needed */
     IIM_NO_MEMORY = 6,  /* malloc refused */
     IIM_BAD_TICKET = 7, /* the octets are no ticket from which the call can go on: the cause tells why */
-    IIM_BAD_PACKING = 8 /* the members of an iim_packing ask for nothing that can be */
+    IIM_BAD_PACKING = 8, /* the members of an iim_packing ask for nothing that can be */
+    IIM_BAD_INSTANT = 9 /* the members of an iim_instant tell none */
 };
 
 /* The layer that refuses an octet. 0 where none does. */
@@ -90,7 +91,7 @@ typedef struct iim_answer {
     uint8_t set;     /* and its number in that record, or 0 */
     uint64_t octet;  /* how many octets the envelope has so far; IIM_REFUSED: the offset of the octet, or a script's line */
     size_t used;     /* how many octets of the piece were used */
-    size_t written;  /* how many octets of text or of a packed form were written; IIM_SHORT: how many there are */
+    size_t written;  /* how many octets of text or of a packed form, or how many rows, were written; IIM_SHORT: how many there are */
     size_t ticket;   /* how many octets of a ticket were written; IIM_SHORT: how many there are */
 } iim_answer;
 
@@ -341,6 +342,105 @@ typedef struct iim_begun {
  */
 void iim_place(const uint8_t *ticket, size_t ticket_len, uint64_t at, iim_begun *begun,
                iim_answer *answer);
+
+/* ---- Audits */
+
+/* An instant, from 1970-01-01T00:00:00Z on. */
+typedef struct iim_instant {
+    int64_t second;      /* the whole seconds, rounded down: below zero before then */
+    uint32_t nanosecond; /* the nanoseconds after that second, below 1,000,000,000 */
+} iim_instant;
+
+/*
+ * What is kept beside a ticket of iim_audit, of the envelope in hand. With no
+ * ticket only at is looked at. `(iim_so_far){0}` begins an input.
+ */
+typedef struct iim_so_far {
+    uint64_t at;     /* the offset in the input at which the envelope begins */
+    uint64_t octets; /* how many octets of it have come: 0 where none is begun */
+    uint64_t words;  /* how many words were counted in them */
+    bool inside;     /* whether they end inside a word */
+} iim_so_far;
+
+/* Whether the copy of an envelope may be used. */
+enum {
+    IIM_COPY_FREE = 0,   /* it may */
+    IIM_COPY_HELD = 1,   /* its release is after the instant of the audit */
+    IIM_COPY_EXPIRED = 2 /* it is not held, and that instant is after its expiration */
+};
+
+/*
+ * What is told of an envelope, as in a row of `iimwire audit`, but which earlier
+ * one it repeats. A member that is not spoken of is 0.
+ */
+typedef struct iim_audit_row {
+    uint64_t at;            /* the offset in the input at which it begins */
+    uint64_t octets;        /* how many octets it has */
+    uint64_t size;          /* the octets of its object */
+    uint64_t subfiles;      /* the subfiles of its object */
+    uint64_t announced;     /* the words that its message announces */
+    uint64_t counted;       /* the words of its story: the longest runs, inside one line, of octets other than SP and TAB */
+    int64_t age;            /* has_age: how many whole seconds ago it was sent, rounded down, below zero for the future */
+    iim_instant release;    /* has_release: the instant from which on its copy may be used */
+    iim_instant expires;    /* has_expires: the last instant at which its copy may be used */
+    bool has_age;           /* whether it names the instant at which it was sent */
+    bool has_release;       /* whether it names a release */
+    bool has_expires;       /* whether it names an expiration */
+    uint8_t copy;           /* IIM_COPY_FREE, .. */
+    uint8_t priority;       /* the digit of 1:60, an ASCII character, or 0 where it was not sent */
+    uint8_t service_octets; /* how many octets 1:30 has */
+    uint8_t service[10];    /* 1:30 Service Identifier, and zeros after it */
+    uint8_t number[8];      /* 1:40 Envelope Number, eight digits */
+    uint8_t date_sent[8];   /* 1:70 Date Sent, eight digits */
+} iim_audit_row;
+
+/*
+ * Tells a row for each envelope that ends in a piece of an input: one envelope
+ * after the other, with nothing between them. The pieces may be cut anywhere,
+ * and the rows are the same for all cuts.
+ *
+ *   limits      the limits under which they are read: for each piece of an
+ *               input the same
+ *   ticket      the ticket of the place that the octets so far have led to,
+ *               ticket_len octets; none (length 0) begins a new envelope
+ *   so_far      what came with the ticket; it is written
+ *   piece       the next octets, piece_len of them; they may be none
+ *   now         the instant at which ages and copies are looked at
+ *   rows        where the rows go, rows_len of them at most
+ *   ticket_out  where the next ticket goes: at most limits.octets +
+ *               6 * limits.fields + 256 octets
+ *   answer      is written
+ *
+ * IIM_MORE: all octets of the piece were used. The rows of the envelopes that
+ * end in it stand in rows, answer->written of them, fewer than rows_len. The next
+ * ticket, of answer->ticket octets, stands in ticket_out, *so_far is what is kept
+ * beside it, and octet is so_far->octets. Where that is 0 no envelope is begun,
+ * and the input may end there; else iim_end tells how it is truncated.
+ * IIM_DONE: the same, but that rows is full: answer->written is rows_len. Only
+ * the octets of these envelopes were used, answer->used of them, so that no
+ * envelope is begun. The call goes on with the others, and the next ticket. With
+ * rows_len 0 no octet is used.
+ * IIM_REFUSED: octet tells the offset of the refused one, counted from the first
+ * octet of its envelope, with layer, cause, rec and set. The rows of the
+ * envelopes before it stand in rows, answer->written of them, and used tells how
+ * many octets of the piece these had. so_far->at is the offset at which the
+ * refused one begins, and its other members are 0. There is no next ticket.
+ * IIM_SHORT: ticket_out is too short. ticket tells how many octets the next
+ * ticket has. *so_far is as it was, and the same call can be made again.
+ * IIM_BAD_TICKET: as for iim_feed; cause 0: the envelope has ended with the
+ * octets of the ticket, which iim_feed gave.
+ * IIM_BAD_INSTANT: now has more nanoseconds than a second, or lies outside the
+ * years -9999 to 9999.
+ * IIM_NO_MEMORY: nothing of the piece counts as used.
+ * After these *so_far is as it was. Rows that are not spoken of are as they
+ * were, but after IIM_NO_MEMORY and IIM_SHORT.
+ *
+ * Each call takes memory for what the limits allow and for the next ticket, once
+ * for all envelopes of the piece, and frees it.
+ */
+void iim_audit(iim_limits limits, const uint8_t *ticket, size_t ticket_len, iim_so_far *so_far,
+               const uint8_t *piece, size_t piece_len, iim_instant now, iim_audit_row *rows,
+               size_t rows_len, uint8_t *ticket_out, size_t ticket_out_len, iim_answer *answer);
 
 /* ---- Packing */
 

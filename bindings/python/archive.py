@@ -42,26 +42,17 @@ from typing import TYPE_CHECKING, Any, Callable, Dict, Iterable, Iterator, List,
 
 import archive_rows
 import iim
-from archive_rows import Asked, EnvelopeRow, FileRow, FileRows, RefusalRow
+from archive_rows import AHEAD, Asked, Blocks, Cells, FileRow, FileRows, Reader, RefusalRow, lost
 
 if TYPE_CHECKING:
-    from concurrent.futures import Future, ProcessPoolExecutor
-
     from archive_index import Index, Known
-
-# What reads a batch of files, and gives a block: the files' rows, by marshal. And what runs that for many batches.
-Reader = Callable[[List[Asked]], bytes]
-Blocks = Iterator[bytes]
 
 # What a block has of a file at an instant: `lines_of` or `kept_rows`.
 Form = Callable[[FileRows, datetime.datetime], Tuple[object, ...]]
 Lines = Tuple[str, List[Tuple[str, str]], Optional[str], str, int, int]
-KeptRows = Tuple[int, bytes, int, int, int, str, Optional[str], List[EnvelopeRow], Optional[RefusalRow]]
+KeptRows = Tuple[int, bytes, int, int, int, str, Optional[str], Cells, Optional[RefusalRow]]
 
 Thing = TypeVar("Thing")
-
-# How many batches are handed out for each worker before the oldest of them has been taken.
-AHEAD = 4
 
 # A batch has no further file once it has so many octets.
 BATCH_OCTETS = 2 << 20
@@ -104,7 +95,7 @@ def files_of(tree: bytes, pattern: str) -> Iterator[Found]:
         yield found_at(tree, lambda: os.stat(tree))
         return
     # (links to folders are passed over; and `/` stands after a folder's name, where it will stand in the names of its files)
-    matches = re.compile(fnmatch.translate(pattern)).match
+    matches = None if pattern == "*" else re.compile(fnmatch.translate(pattern)).match
     try:
         with os.scandir(tree) as entries:
             named = sorted((entry.name + b"/" if entry.is_dir(follow_symlinks=False) else entry.name, entry) for entry in entries)
@@ -114,7 +105,7 @@ def files_of(tree: bytes, pattern: str) -> Iterator[Found]:
     for name, entry in named:
         if name.endswith(b"/"):
             yield from files_of(entry.path, pattern)
-        elif matches(os.fsdecode(name)) and not (entry.is_symlink() and entry.is_dir()):
+        elif (matches is None or matches(os.fsdecode(name))) and not (entry.is_symlink() and entry.is_dir()):
             yield found_at(entry.path, entry.stat)
 
 
@@ -132,94 +123,14 @@ def batches_of(files: Iterable[Asked], most: int) -> Iterator[List[Asked]]:
         yield batch
 
 
+def read_files(files: List[Asked], limits: iim.Limits, now: datetime.datetime, form: Form) -> List[Tuple[object, ...]]:
+    """What is told of some files."""
+    return [form(archive_rows.read_file(file, limits, now), now) for file in files]
+
+
 def read_batch(files: List[Asked], limits: iim.Limits, now: datetime.datetime, form: Form) -> bytes:
-    """The block of some files. A worker runs this."""
-    return marshal.dumps([form(archive_rows.read_file(file, limits, now), now) for file in files], FORM)
-
-
-def lost(file: Asked, reader: Reader) -> bytes:
-    """The block of a file whose worker died each time."""
-    return reader([file._replace(reason="its worker was lost")])
-
-
-def by_itself(batches: Iterable[List[Asked]], reader: Reader) -> Blocks:
-    """Runs the batches one after another in this process."""
-    return map(reader, batches)
-
-
-def begin_worker() -> None:
-    """Has a process of the pool end where Ctrl-C is pressed, and where the process that started it ends."""
-    import ctypes
-
-    signal.signal(signal.SIGINT, signal.SIG_DFL)
-    with contextlib.suppress(OSError, AttributeError):
-        # PR_SET_PDEATHSIG, on Linux
-        ctypes.CDLL(None).prctl(1, signal.SIGKILL)
-
-
-def pool_of(workers: int) -> ProcessPoolExecutor:
-    import concurrent.futures
-
-    return concurrent.futures.ProcessPoolExecutor(workers, initializer=begin_worker)
-
-
-def by_processes(batches: Iterable[List[Asked]], reader: Reader, workers: int) -> Blocks:
-    """Runs the batches on processes of this machine, and gives their blocks in order. Where a process dies, what was handed out is
-    run again."""
-    from concurrent.futures.process import BrokenProcessPool
-
-    pool = pool_of(workers)
-    waiting: collections.deque[Tuple[List[Asked], Future[bytes]]] = collections.deque()
-
-    def oldest() -> Blocks:
-        batch, future = waiting.popleft()
-        try:
-            yield future.result()
-        except BrokenProcessPool:
-            yield from again(batch, reader)
-
-    try:
-        for batch in batches:
-            try:
-                future = pool.submit(reader, batch)
-            except BrokenProcessPool:
-                pool.shutdown()
-                pool = pool_of(workers)
-                future = pool.submit(reader, batch)
-            waiting.append((batch, future))
-            if len(waiting) >= AHEAD * workers:
-                yield from oldest()
-        while waiting:
-            yield from oldest()
-    except BaseException:
-        end_children()
-        raise
-    pool.shutdown()
-
-
-def end_children() -> None:
-    """Ends the processes of a pool that nobody waits for."""
-    import multiprocessing
-
-    for child in multiprocessing.active_children():
-        child.terminate()
-
-
-def again(batch: List[Asked], reader: Reader) -> Blocks:
-    """Runs a batch in a process of its own, and where that dies too each of its files alone: so only the file at fault is lost."""
-    from concurrent.futures.process import BrokenProcessPool
-
-    with pool_of(1) as pool:
-        try:
-            yield pool.submit(reader, batch).result()
-            return
-        except BrokenProcessPool:
-            pass
-    if len(batch) == 1:
-        yield lost(batch[0], reader)
-        return
-    for file in batch:
-        yield from again([file], reader)
+    """The same as a block. A worker runs this."""
+    return marshal.dumps(read_files(files, limits, now, form), FORM)
 
 
 def by_distributed(batches: Iterable[List[Asked]], reader: Reader, address: str) -> Blocks:
@@ -258,17 +169,20 @@ def by_distributed(batches: Iterable[List[Asked]], reader: Reader, address: str)
             yield from oldest()
 
 
-def blocks_of(files: Iterable[Asked], words: argparse.Namespace, form: Form) -> Blocks:
-    """The blocks of the files, read as the words ask."""
-    reader = functools.partial(read_batch, limits=iim.Limits(*words.limits), now=words.now, form=form)
+def told_of(files: Iterable[Asked], words: argparse.Namespace, form: Form) -> Iterator[List[Any]]:
+    """What is told of the files, batch by batch, read as the words ask."""
+    of_run = {"limits": iim.Limits(*words.limits), "now": words.now, "form": form}
+    reader = functools.partial(read_batch, **of_run)
     batches = batches_of(files, words.batch)
     if words.scheduler is not None:
-        return by_distributed(batches, reader, words.scheduler)
+        return map(marshal.loads, by_distributed(batches, reader, words.scheduler))
     # (where the library isn't there, that is said once, and not of each file)
     iim.cause_name(1)
     if words.workers is not None:
-        return by_processes(batches, reader, words.workers)
-    return by_itself(batches, reader)
+        import archive_workers
+
+        return map(marshal.loads, archive_workers.by_processes(batches, reader, words.workers))
+    return map(functools.partial(read_files, **of_run), batches)
 
 
 # --- Manners ---
@@ -399,8 +313,9 @@ def lines_of(rows: FileRows, now: datetime.datetime) -> Lines:
     after those, or None; the file's state, how many octets it has, and how many of its envelopes are held."""
     name = archive_rows.name_of(rows.path)
     second = archive_rows.seconds(now)
-    fronts = [(row[5] + row[6] + row[4], archive_rows.envelope_front(name, row, now, second)) for row in rows.envelopes]
-    held = sum(row[13] is not None and row[13] > second for row in rows.envelopes)
+    envelopes = archive_rows.rows_in(rows.envelopes)
+    fronts = [(row[5] + row[6] + row[4], archive_rows.envelope_front(name, row, now, second)) for row in envelopes]
+    held = sum(row[13] is not None and row[13] > second for row in envelopes)
     last = None
     if rows.refusal is not None:
         last = archive_rows.refusal_line(name, rows.refusal[-1])
@@ -416,11 +331,10 @@ class Report:
         self.sums = dict.fromkeys(("files", "envelopes", "repeated", "held", "refused", "empty", "failed"), 0)
         self._first: Dict[str, Tuple[str, int]] = {}
 
-    def add(self, block: bytes, progress: Teller) -> None:
-        """Prints the rows of a block."""
+    def add(self, files: List[Lines], progress: Teller) -> None:
+        """Prints the rows of some files."""
         text: List[str] = []
         sums = self.sums
-        files: List[Lines] = marshal.loads(block)
         for name, fronts, last, state, size, held in files:
             for nth, (key, front) in enumerate(fronts, 1):
                 here = name, nth
@@ -454,8 +368,8 @@ def print_trees(words: argparse.Namespace, interrupt: Interrupt) -> int:
     progress = progress_over(trees, words.name)
     status = 130
     with contextlib.suppress(KeyboardInterrupt):
-        for block in interrupt.each(blocks_of(files(), words, lines_of)):
-            report.add(block, progress)
+        for told in interrupt.each(told_of(files(), words, lines_of)):
+            report.add(told, progress)
         status = report.status()
     progress.end()
     write(json.dumps(report.sums) + "\n")
@@ -555,18 +469,17 @@ class Kept:
             self._index.mark(self._marks[gone], gone)
             self._marks[gone].clear()
 
-    def add(self, block: bytes) -> None:
-        """Writes the rows of a block."""
+    def add(self, kept: List[KeptRows]) -> None:
+        """Writes the rows of some files."""
         files: List[FileRow] = []
-        envelopes: List[EnvelopeRow] = []
+        envelopes: Cells = []
         refusals: List[RefusalRow] = []
-        kept: List[KeptRows] = marshal.loads(block)
         for file, path, size, changed, read, state, reason, rows, refusal in kept:
             files.append((file, path, size, changed, read, state, reason))
             envelopes += rows
             if refusal is not None:
                 refusals.append(refusal)
-            self._progress.add(1, size, len(rows), state == "refused")
+            self._progress.add(1, size, len(rows) // archive_rows.COLUMNS, state == "refused")
         self._index.write(files, envelopes, refusals)
 
 
@@ -580,8 +493,8 @@ def write_index(words: argparse.Namespace, interrupt: Interrupt) -> int:
         kept = Kept(index, words, progress)
         stopped = True
         with contextlib.suppress(KeyboardInterrupt):
-            for block in interrupt.each(blocks_of(kept.files(trees), words, kept_rows)):
-                kept.add(block)
+            for told in interrupt.each(told_of(kept.files(trees), words, kept_rows)):
+                kept.add(told)
             stopped = False
         progress.end()
         sums = index.end(archive_rows.seconds(words.now))
@@ -636,6 +549,8 @@ def instant(word: str) -> datetime.datetime:
     read = datetime.datetime.fromisoformat(re.sub("[zZ]$", "+00:00", word))
     if read.tzinfo is None:
         raise argparse.ArgumentTypeError("an instant has an offset, or Z")
+    if archive_rows.seconds(read) > iim.LAST_SECOND:
+        raise argparse.ArgumentTypeError("the last instant is 9999-12-30T22:00:00Z")
     return read
 
 
@@ -668,7 +583,7 @@ def parse(words: List[str]) -> argparse.Namespace:
     engine.add_argument("--scheduler", metavar="ADDRESS", help="run on the workers of this Dask scheduler, as tcp://host:8786")
     parser.add_argument("--now", metavar="INSTANT", type=instant, help="as 2024-03-01T12:00:00Z; the present where it isn't given")
     parser.add_argument("--name", metavar="PATTERN", default="*", help="the names of files to read in a folder, as '*.iim'")
-    parser.add_argument("--batch", metavar="N", type=at_least_one, default=32, help="most files of one task; 32 where it isn't given")
+    parser.add_argument("--batch", metavar="N", type=at_least_one, default=128, help="most files of one task; 128 where it isn't given")
     parser.add_argument("--limits", metavar=("OCTETS", "FIELDS"), type=int, nargs=2, default=iim.WIRE, help="of records 1 and 2")
     asked = parser.parse_args(words)
     if not all(1 <= limit <= iim.GREATEST_LIMIT for limit in asked.limits):

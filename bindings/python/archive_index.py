@@ -9,9 +9,9 @@ from __future__ import annotations
 import contextlib
 import fcntl
 import sqlite3
-from typing import Dict, Iterable, Iterator, NamedTuple, Sequence, Tuple
+from typing import Dict, Iterator, NamedTuple, Sequence, Tuple
 
-from archive_rows import EnvelopeRow, FileRow, NoIndex, RefusalRow
+from archive_rows import COLUMNS, Cells, FileRow, NoIndex, RefusalRow
 
 # The form of the tables. An index of another one is refused.
 FORM = 1
@@ -86,6 +86,13 @@ CHECKPOINT = 8_192
 # How many files' rows are looked up at a time.
 PAGE = 4_096
 
+# How many cells of rows of envelopes go in by one statement. (An SQLite from before 3.32 takes at most 999.)
+AT_ONCE = 60 * COLUMNS
+
+
+INSERT = "INSERT INTO envelopes VALUES "
+ROW = f"({', '.join('?' * COLUMNS)})"
+
 
 class Known(NamedTuple):
     """What is known of a file: its number, and its size and the time of its change when it was read."""
@@ -147,7 +154,7 @@ class Index:
                 return
             first = page[-1][0] + b"\0"
 
-    def write(self, files: Sequence[FileRow], envelopes: Iterable[EnvelopeRow], refusals: Sequence[RefusalRow]) -> None:
+    def write(self, files: Sequence[FileRow], envelopes: Cells, refusals: Sequence[RefusalRow]) -> None:
         """Writes what was read of some files, in the place of what was known of them."""
         with self._transaction() as run:
             again = [(file[0],) for file in files if file[0] < self._first]
@@ -155,7 +162,9 @@ class Index:
                 for table in "envelopes", "refusals":
                     run.executemany(f"DELETE FROM {table} WHERE file = ?", again)
             run.executemany("INSERT OR REPLACE INTO files VALUES (?, ?, ?, ?, ?, ?, ?, 0)", files)
-            run.executemany("INSERT INTO envelopes VALUES (?, ?, ?, ?, ?, ?, ?, ?, ?, ?, ?, ?, ?, ?, ?)", envelopes)
+            whole = len(envelopes) // AT_ONCE * AT_ONCE
+            run.executemany(INSERT + ROW + f", {ROW}" * (AT_ONCE // COLUMNS - 1), (envelopes[at : at + AT_ONCE] for at in range(0, whole, AT_ONCE)))
+            run.executemany(INSERT + ROW, (envelopes[at : at + COLUMNS] for at in range(whole, len(envelopes), COLUMNS)))
             if refusals:
                 run.executemany("INSERT INTO refusals VALUES (?, ?, ?, ?, ?, ?, ?, ?, ?)", refusals)
 

@@ -2,9 +2,10 @@
 from __future__ import annotations
 
 import datetime
+import functools
 import json
 import os
-from typing import Callable, List, NamedTuple, Optional, Tuple
+from typing import Callable, Iterator, List, NamedTuple, Optional, Tuple, Union, cast
 
 import iim
 
@@ -18,6 +19,15 @@ quoted: Callable[[str], str] = json.JSONEncoder().encode
 FileRow = Tuple[int, bytes, int, int, int, str, Optional[str]]
 EnvelopeRow = Tuple[int, int, int, int, str, str, str, Optional[str], int, int, int, int, Optional[int], Optional[int], Optional[int]]
 RefusalRow = Tuple[int, int, int, int, str, Optional[str], Optional[str], Optional[str], str]
+
+# The rows of envelopes as one list: the columns of the first, then those of the second. So they come and go quickest.
+Cells = List[Union[int, str, None]]
+COLUMNS = 15
+
+
+def rows_in(cells: Cells) -> List[EnvelopeRow]:
+    """The rows."""
+    return cast("List[EnvelopeRow]", [*zip(*[iter(cells)] * COLUMNS)])
 
 
 class NoIndex(Exception):
@@ -35,9 +45,22 @@ class Asked(NamedTuple):
     reason: Optional[str]
 
 
+# What reads a batch of files, and gives a block: the files' rows, by marshal. And what runs that for many batches.
+Reader = Callable[[List[Asked]], bytes]
+Blocks = Iterator[bytes]
+
+# How many batches are handed out for each worker before the oldest of them has been taken.
+AHEAD = 4
+
+
+def lost(file: Asked, reader: Reader) -> bytes:
+    """The block of a file whose worker died each time."""
+    return reader([file._replace(reason="its worker was lost")])
+
+
 class FileRows(NamedTuple):
-    """What was read of a file: the octets of its envelopes; its state, 'accepted', 'refused', 'empty' or 'failed'; why it failed; a row
-    for each envelope; and the row of its refusal, or None."""
+    """What was read of a file: the octets of its envelopes; its state, 'accepted', 'refused', 'empty' or 'failed'; why it failed; the
+    rows of its envelopes; and the row of its refusal, or None."""
 
     file: int
     path: bytes
@@ -46,10 +69,11 @@ class FileRows(NamedTuple):
     read: int
     state: str
     reason: Optional[str]
-    envelopes: List[EnvelopeRow]
+    envelopes: Cells
     refusal: Optional[RefusalRow]
 
 
+@functools.lru_cache(maxsize=1)
 def seconds(now: datetime.datetime) -> int:
     """The seconds from 1970 on, rounded down."""
     return (now - EPOCH) // datetime.timedelta(seconds=1)
@@ -65,24 +89,45 @@ def copy_of(release: Optional[int], expires: Optional[int], now: datetime.dateti
     return "free"
 
 
+@functools.lru_cache(maxsize=1)
+def auditor_of(limits: iim.Limits, now: datetime.datetime) -> iim.Auditor:
+    """What audits the files of a run, one after another."""
+    return iim.Auditor(limits, now=now)
+
+
+def blocks_of(path: bytes, limits: iim.Limits, now: datetime.datetime) -> Iterator[List[iim.RawRow]]:
+    """The rows of a file, many at a time."""
+    file = os.open(path, os.O_RDONLY | os.O_CLOEXEC)
+    try:
+        yield from auditor_of(limits, now).raw_blocks(lambda room: os.readv(file, [room]))
+    finally:
+        os.close(file)
+
+
+def envelope_row(file: int, nth: int, second: int, raw: iim.RawRow) -> EnvelopeRow:
+    """The row of an envelope of a file, at a second."""
+    at, length, size, subfiles, announced, counted, age, release, expires, has_age, has_release, has_expires, _, priority, count, service, number, date = raw
+    return (
+        file, nth, at, length, service[:count].decode("latin-1"), number.decode("ascii"), date.decode("ascii"), chr(priority) if priority else None, size,
+        subfiles, announced, counted, second - age if has_age else None, release if has_release else None, expires if has_expires else None,
+    )  # fmt: skip
+
+
 def read_file(asked: Asked, limits: iim.Limits, now: datetime.datetime) -> FileRows:
     """Reads a file."""
     file, path, size, changed, fault_before = asked
     if fault_before is not None:
         return FileRows(file, path, size, changed, 0, "failed", fault_before, [], None)
-    rows: List[EnvelopeRow] = []
+    rows: Cells = []
+    nth = 0
     second = seconds(now)
     read = 0
     state, reason, refusal = "accepted", None, None
     try:
-        for block in iim.audit_blocks(path, limits, now=now):
-            for at, length, service, number, date, priority, of_object, subfiles, announced, counted, age, _, release, expires in block:
-                rows.append((
-                    file, len(rows) + 1, at, length, service.decode("latin-1"), number.decode("ascii"), date.decode("ascii"),
-                    None if priority is None else priority.decode("ascii"), of_object, subfiles, announced, counted, None if age is None else second - age,
-                    release, expires,
-                ))  # fmt: skip
-                read = at + length
+        for block in blocks_of(path, limits, now):
+            for nth, raw in enumerate(block, nth + 1):
+                rows += envelope_row(file, nth, second, raw)
+            read = block[-1][0] + block[-1][1]
     except iim.Refused as refused:
         state, refusal = "refused", refusal_row(file, refused)
     except OSError as fault:

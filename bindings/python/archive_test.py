@@ -167,7 +167,7 @@ def reads_again_what_failed():
     with tempfile.TemporaryDirectory() as folder:
         tree, index = f"{folder}/tree", f"{folder}/index"
         path = file(tree, "a.iim", SMALLEST)
-        fails = "import archive, iim\ndef fails(*words, **named):\n    raise OSError(5, 'Input/output error')\niim.audit_blocks = fails"
+        fails = "import archive, archive_rows\ndef fails(*words, **named):\n    raise OSError(5, 'Input/output error')\narchive_rows.blocks_of = fails"
         status, lines, errors = in_program(fails, ["--into", index, tree])
         same((status, errors, lines[-1]["failed"]), (3, "", 1))
         same(query([index])[1], [{"file": path, "failed": "Input/output error"}])
@@ -331,6 +331,51 @@ def ends_quietly_where_a_reader_stops():
             same((words, process.stderr.read(), process.wait(SECONDS)), (words, b"", 3))
 
 
+# Takes some of the blocks of 64 batches, each of 3 MB, kills a worker after the first one, or all, and stops.
+LONG_BLOCKS = """
+import os, signal, sys
+import archive_rows, archive_workers, kills
+def long_block(batch):
+    return bytes(3_000_000)
+batches = [[archive_rows.Asked(number, b"", 0, 0, None)] for number in range(64)]
+blocks = archive_workers.by_processes(batches, long_block, 2)
+taken = [len(next(blocks))]
+for worker in kills.children(os.getpid())[: int(sys.argv[1])]:
+    os.kill(worker, signal.SIGKILL)
+for _ in range(int(sys.argv[2])):
+    taken.append(len(next(blocks)))
+blocks.close()
+print(len(taken), set(taken), kills.children(os.getpid()))
+"""
+
+
+@test
+def ends_where_long_blocks_are_handed_back():
+    for killed, more in (0, 0), (0, 5), (1, 0), (1, 63), (2, 2), (2, 63):
+        for turn in range(4):
+            program = [sys.executable, "-c", LONG_BLOCKS, str(killed), str(more)]
+            ran = subprocess.run(program, stdout=subprocess.PIPE, stderr=subprocess.PIPE, env=MODULES, timeout=60)
+            told = f"{1 + more} {{3000000}} []\n".encode()
+            same((killed, more, turn, ran.returncode, ran.stdout, ran.stderr), (killed, more, turn, 0, told, b""))
+
+
+# Begins workers, and is killed before they have come far.
+KILLED_AT_ONCE = """
+import os, signal
+import archive_workers
+workers = [archive_workers.Worker(len) for _ in range(3)]
+os.kill(os.getpid(), signal.SIGKILL)
+"""
+
+
+@test
+def ends_its_workers_where_it_is_killed_at_once():
+    for turn in range(20):
+        # (the worker that goes on holds the pipes that are read here)
+        ran = subprocess.run([sys.executable, "-c", KILLED_AT_ONCE], stdout=subprocess.PIPE, stderr=subprocess.PIPE, env=MODULES, timeout=60)
+        same((turn, ran.returncode, ran.stdout, ran.stderr), (turn, -signal.SIGKILL, b"", b""))
+
+
 # --- A terminal ---
 
 
@@ -392,13 +437,15 @@ def tells_its_progress_by_tqdm():
 
 # The process that writes: made rows through it, and the most memory that it had.
 MADE = """
-import argparse, json, marshal, re, sys
+import argparse, json, re, sys
 import archive, archive_index
 index = archive_index.Index(sys.argv[1])
 kept = archive.Kept(index, argparse.Namespace(name="*", into=sys.argv[1]), archive.Silence())
 for file in range(1, int(sys.argv[2]) // 1000 + 1):
-    rows = [(file, e + 1, e * 100, 100, "TST", "%08d" % ((file * 1000 + e) % 79_999), "20240301", "5", 50, 1, 9, 9, 1, None, None) for e in range(1000)]
-    kept.add(marshal.dumps([(file, b"/made/%06d" % file, 100_000, 1, 100_000, "accepted", None, rows, None)], archive.FORM))
+    rows = []
+    for e in range(1000):
+        rows += file, e + 1, e * 100, 100, "TST", "%08d" % ((file * 1000 + e) % 79_999), "20240301", "5", 50, 1, 9, 9, 1, None, None
+    kept.add([(file, b"/made/%06d" % file, 100_000, 1, 100_000, "accepted", None, rows, None)])
 sums = index.end(0)
 index.close()
 with open("/proc/self/status") as status:

@@ -13,6 +13,7 @@ from __future__ import annotations
 import argparse
 import collections
 import contextlib
+import functools
 import os
 import sys
 import textwrap
@@ -97,7 +98,11 @@ class Case:
         except iim.Refused as refusal:
             self.refusal = refusal
             self._add(Found(refusal.nth, refusal.at, refusal.octet, refusal.id))
-        self.wholes = [Whole(source, found, self._refusal_of(found), limits) for found in self.told()]
+
+    @functools.cached_property
+    def wholes(self) -> List[Whole]:
+        """The envelopes that are told octet by octet."""
+        return [Whole(self.source, found, self._refusal_of(found), self.limits) for found in self.told()]
 
     def _read(self) -> None:
         """Reads the file by blocks, up to the envelope that is asked for."""
@@ -366,10 +371,11 @@ def main(asked: argparse.Namespace) -> int:
     """Explains the file that the words name, and answers the status."""
     try:
         case = Case(Source(asked.file), iim.Limits(*asked.limits), asked.envelope)
+        wholes = case.wholes
     except OSError as fault:
         sys.stderr.write(f"cannot read: {fault.strerror}\n")
         return 3
-    if asked.envelope is not None and not case.wholes:
+    if asked.envelope is not None and not wholes:
         sys.stderr.write(f"there is no envelope {asked.envelope}: the file has {case.count}\n")
         return 2
     colours = sys.stdout.isatty() and not os.environ.get("NO_COLOR")
@@ -391,7 +397,8 @@ def main(asked: argparse.Namespace) -> int:
 
 def parse(given: List[str]) -> argparse.Namespace:
     """What the words after `explain` ask for."""
-    parser = argparse.ArgumentParser("python3 -m iim explain", description="Explains a file of envelopes, and what is refused in it.")
+    installed = os.path.basename(sys.argv[0]) == "iim-explain"
+    parser = argparse.ArgumentParser("iim-explain" if installed else "python3 -m iim explain", description="Explains a file of envelopes, and what is refused in it.")
     parser.add_argument("file", metavar="FILE", help="the file; - is standard input")
     parser.add_argument("--envelope", metavar="N", type=int, help="tell this envelope octet by octet")
     parser.add_argument("--html", metavar="OUT", help="write it as a page, too")

@@ -3,7 +3,7 @@ from __future__ import annotations
 
 import html
 import itertools
-from typing import Dict, Iterator, List, NamedTuple, Optional, Tuple
+from typing import Iterable, Iterator, List, NamedTuple, Optional, Tuple
 
 import explain
 import iim
@@ -12,6 +12,8 @@ from explain_words import counted, plain, printable
 
 # Items that are shown at each end of all envelopes together, lines of their stories, and octets; and octets of a dataset.
 ITEMS, LINES, OCTETS, DATA = 1_500, 1_000, 115_000, 1_024
+# Items that stand together, octets beside what they are: only within these a browser looks for what lights up.
+TOGETHER = 64
 # Octets that are shown before the refused one and after it.
 BEFORE, AFTER = 64, 48
 
@@ -24,7 +26,8 @@ h1 { font-size: 20px; margin: 16px 0 0 } h2 { font-size: 16px; margin: 0 0 6px }
 section, article { background: var(--card); border: 1px solid var(--line); border-radius: 6px; padding: 12px 16px; margin: 0 0 14px }
 .told { columns: 2 420px; column-gap: 32px } .told > div { break-inside: avoid; margin: 0 0 12px } .told p { margin: 0 0 6px } ul { margin: 0; padding-left: 18px }
 .bar { font-size: 13px; color: var(--dim) } .bar b { color: var(--text); text-decoration: underline }
-article { display: grid; grid-template-columns: minmax(0, 41em) minmax(22em, 1fr); gap: 0 24px; align-items: start } article > h2, article > footer { grid-column: 1 / -1 }
+.part { display: grid; grid-template-columns: minmax(0, 41em) minmax(22em, 1fr); gap: 0 24px; align-items: start }
+.part { content-visibility: auto; contain-intrinsic-size: auto 1300px }
 pre { font: 13px/1.6 ui-monospace, "DejaVu Sans Mono", monospace; margin: 0; overflow-x: auto } pre b, pre .no { color: var(--dim); font-weight: 400 }
 ol { list-style: none; margin: 0; padding: 0; font-size: 14px; line-height: 1.49 } ol ol { padding-left: 22px }
 ol a { display: flex; gap: 8px; align-items: baseline; color: inherit; text-decoration: none; padding: 0 4px; white-space: nowrap } ol a:focus { outline: 2px solid }
@@ -32,47 +35,51 @@ ol small { color: var(--dim); min-width: 5.5em; text-align: right } ol i { font:
 ol .cut, pre .cut { color: var(--dim); font-style: italic } .t { background: var(--tag) } .later { color: var(--dim) } .here { font-weight: 700; text-decoration: underline }
 mark { background: #c62828; color: #fff; font-weight: 700 } .vh { position: absolute; width: 1px; height: 1px; overflow: hidden; clip-path: inset(50%) }
 :target { outline: 2px solid var(--text) } footer p { margin: 6px 0 0; color: var(--dim) } table { border-collapse: collapse } td { padding: 0 14px 0 0 }
-@media (max-width: 1050px) { article { display: block } pre { margin-bottom: 12px } }
-@media print { body { background: none; padding: 0 } section, article { border: none; padding: 4px 0 } article { grid-template-columns: 40em 1fr; font-size: 12px } mark { border: 2px solid } }
+@media (max-width: 1050px) { .part { display: block } pre { margin-bottom: 12px } }
+@media print { body { background: none; padding: 0 } section, article { border: none; padding: 4px 0 } mark { border: 2px solid }
+  .part { grid-template-columns: 40em 1fr; font-size: 12px; content-visibility: visible } }
 """
 LIGHT = "{ background: var(--lit) }"
 
 
 class Span(NamedTuple):
-    """Octets of an envelope that are shown: the class of the item that they belong to, and whether they are of a tag."""
+    """Octets of an envelope that are shown: the class of the item that they belong to, whether they are of a tag, and with which others they
+    stand together."""
 
     begin: int
     end: int
     key: str
     tag: bool
+    part: int
+
+
+class Group(NamedTuple):
+    """Spans of one part that follow one another without a gap, and the end of those that are shown before them."""
+
+    before: int
+    spans: List[Span]
 
 
 def page(case: explain.Case) -> str:
     """The page of a file."""
     say = html.escape
-    name, keys = printable(case.source.name), Keys()
+    name = printable(case.source.name)
     told = "".join(card(section) for section in explain.sections(case))
     near = f"<section><h2>The octets around it</h2><pre>{around(case)}</pre></section>" if case.refusal else ""
-    wholes = "".join(article(case, whole, keys) for whole in case.wholes)
-    lit = ",".join(f"body:has(.{key}:hover) .{key}" for key in keys.used)
+    wholes = "".join(article(case, whole) for whole in case.wholes)
+    lit = ",".join(f".part:has(.{key}:hover) .{key}" for key in map(key_of, range(TOGETHER)))
     policy = "default-src 'none'; style-src 'unsafe-inline'"
     return (
         f'<!doctype html>\n<html lang="en"><head><meta charset="utf-8"><title>{say(name)}</title>'
         f'<meta http-equiv="Content-Security-Policy" content="{policy}"><meta name="viewport" content="width=device-width">'
-        f"<style>{STYLE}{lit + LIGHT if lit else ''}</style></head>\n<body><header><h1>{say(name)}</h1><p>{say(case.verdict())}</p></header>\n<main>"
+        f"<style>{STYLE}{lit}{LIGHT}</style></head>\n<body><header><h1>{say(name)}</h1><p>{say(case.verdict())}</p></header>\n<main>"
         f"{near}{f'<section class=told>{told}</section>' if told else ''}{listing(case)}{wholes}</main></body></html>\n"
     )
 
 
-class Keys:
-    """The classes that join octets to what they are."""
-
-    def __init__(self) -> None:
-        self.used: List[str] = []
-
-    def new(self) -> str:
-        self.used.append(f"k{len(self.used)}")
-        return self.used[-1]
+def key_of(nth: int) -> str:
+    """The class that joins the octets of an item to what they are, within their part."""
+    return f"k{nth % TOGETHER}"
 
 
 def card(section: explain.Section) -> str:
@@ -99,41 +106,50 @@ def around(case: explain.Case) -> str:
     if refusal is None:
         return ""
     begin, end = max(0, refusal.octet_in_file - BEFORE), min(case.source.size, refusal.octet_in_file + AFTER)
-    return "".join(rows(case, 0, [Span(begin, refusal.octet_in_file, "", False), Span(refusal.octet_in_file, end, "later", False)], "around"))
+    spans = [Span(begin, refusal.octet_in_file, "", False, 0), Span(refusal.octet_in_file, end, "later", False, 0)]
+    return "".join(rows(case, 0, joined(spans), "around"))
 
 
 # --- An envelope
 
 
-def article(case: explain.Case, whole: explain.Whole, keys: Keys) -> str:
+def article(case: explain.Case, whole: explain.Whole) -> str:
     """An envelope: its octets, and what they are."""
     of_all = max(1, len(case.wholes))
     items = list(whole.items(ITEMS // of_all, LINES // of_all))
-    key_of = {item: keys.new() for item in items if item is not None}
+    groups = list(joined(within(list(spans(whole, items)), OCTETS // of_all)))
     texts = [*whole.instants(), *whole.sizes()]
     nth, at = whole.found.nth, whole.found.at
-    octets = "".join(rows(case, at, within(list(spans(whole, items, key_of)), OCTETS // of_all), f"e{nth}"))
+    parts = "".join(part_of(case, whole, items, groups, part) for part in range(1 + max(0, len(items) - 1) // TOGETHER))
     return (
-        f"<article id=envelope{nth}><h2>Envelope {nth:,}, at octet {at:,} of the file</h2>"
-        f'<pre tabindex=0 aria-label="Octets; the list after them tells what they are">{octets}</pre>'
-        f'<ol aria-label="What the octets are">{"".join(meaning(whole, items, key_of, f"e{nth}", at))}</ol>'
+        f"<article id=envelope{nth}><h2>Envelope {nth:,}, at octet {at:,} of the file</h2>{parts}"
         f"<footer>{''.join(f'<p>{html.escape(text)}</p>' for text in texts)}</footer></article>\n"
     )
 
 
-def spans(whole: explain.Whole, items: List[Optional[Item]], key_of: Dict[Item, str]) -> Iterator[Span]:
+def part_of(case: explain.Case, whole: explain.Whole, items: List[Optional[Item]], groups: List[Group], part: int) -> str:
+    """Some items of an envelope: their octets, and what they are."""
+    prefix, together = f"e{whole.found.nth}", items[part * TOGETHER : (part + 1) * TOGETHER]
+    octets = "".join(rows(case, whole.found.at, (group for group in groups if group.spans[0].part == part), prefix))
+    return (
+        f'<div class=part><pre tabindex=0 aria-label="Octets; the list after them tells what they are">{octets}</pre>'
+        f'<ol aria-label="What the octets are">{"".join(meaning(whole, together, prefix))}</ol></div>'
+    )
+
+
+def spans(whole: explain.Whole, items: List[Optional[Item]]) -> Iterator[Span]:
     """The octets that are shown, in order."""
-    for item in items:
+    for nth, item in enumerate(items):
         if item is None:
             continue
-        key, begin, end = key_of[item], item.at, item.at + item.length
+        key, part, begin, end = key_of(nth), nth // TOGETHER, item.at, item.at + item.length
         if item.kind == "dataset":
             begin = item.at + item.head
-            yield Span(item.at, begin, key, True)
+            yield Span(item.at, begin, key, True, part)
             end = begin if item.record == 8 else min(end, begin + DATA)
-        yield Span(begin, min(end, whole.found.length), key, False)
+        yield Span(begin, min(end, whole.found.length), key, False, part)
     if whole.refusal is not None and whole.tries is not None and not whole.tries.ends:
-        yield Span(whole.found.length, whole.found.length + AFTER, "later", False)
+        yield Span(whole.found.length, whole.found.length + AFTER, "later", False, max(0, len(items) - 1) // TOGETHER)
 
 
 def within(parts: List[Span], most: int) -> List[Span]:
@@ -148,39 +164,37 @@ def within(parts: List[Span], most: int) -> List[Span]:
     return [*front, *reversed(back or [parts[-1]._replace(begin=max(parts[-1].begin, parts[-1].end - most // 2))])]
 
 
-def joined(parts: List[Span]) -> Iterator[List[Span]]:
+def joined(spans: List[Span]) -> Iterator[Group]:
     """The spans that follow one another without a gap; none has an octet of those before it."""
     last = 0
-    group: List[Span] = []
-    for part in parts:
-        part = part._replace(begin=max(part.begin, last))
-        if part.begin >= part.end:
+    group = Group(0, [])
+    for span in spans:
+        span = span._replace(begin=max(span.begin, last))
+        if span.begin >= span.end:
             continue
-        if group and part.begin > last:
+        if group.spans and (span.begin > last or span.part != group.spans[-1].part):
             yield group
-            group = []
-        group.append(part)
-        last = part.end
-    if group:
+            group = Group(last, [])
+        group.spans.append(span)
+        last = span.end
+    if group.spans:
         yield group
 
 
-def rows(case: explain.Case, at: int, parts: List[Span], prefix: str) -> Iterator[str]:
+def rows(case: explain.Case, at: int, groups: Iterable[Group], prefix: str) -> Iterator[str]:
     """The rows of sixteen octets, and what is said of those that are left out."""
-    before = 0
     mark = case.refusal.octet_in_file - at if case.refusal else -1
-    for group in joined(parts):
-        begin, end = group[0].begin, min(group[-1].end, case.source.size - at)
+    for before, spans in groups:
+        begin, end = spans[0].begin, min(spans[-1].end, case.source.size - at)
         if begin > before and prefix != "around":
             yield f'<span class=cut>... {counted(begin - before, "octet")} are left out</span>\n'
-        before = end
         octets = case.source.take(at + begin, end - begin)
-        owners = [part for part in group for _ in range(part.begin, min(part.end, end))]
+        owners = [span for span in spans for _ in range(span.begin, min(span.end, end))]
         owned = list(zip(octets, owners))
         for row in range((at + begin) // 16 * 16, at + end, 16):
             yield row_of(row - at, at, begin, owned, mark, prefix)
-    if case.refusal and isinstance(case.refusal, iim.Truncated) and mark >= 0 and before == mark:
-        yield "         [<mark>the file ends here</mark>]\n"
+        if isinstance(case.refusal, iim.Truncated) and end == mark:
+            yield "         [<mark>the file ends here</mark>]\n"
 
 
 def row_of(row: int, at: int, begin: int, owned: List[Tuple[int, Span]], mark: int, prefix: str) -> str:
@@ -206,7 +220,7 @@ def row_of(row: int, at: int, begin: int, owned: List[Tuple[int, Span]], mark: i
     return f"<b>{at + row:08X}</b>{''.join(cells)}{close} {''.join(texts)}\n"
 
 
-def meaning(whole: explain.Whole, items: List[Optional[Item]], key_of: Dict[Item, str], prefix: str, at: int) -> Iterator[str]:
+def meaning(whole: explain.Whole, items: List[Optional[Item]], prefix: str) -> Iterator[str]:
     """What the octets are, as items of a list; those of a message are one in the midst."""
     inside = False
     for nth, item in enumerate(items):
@@ -220,7 +234,7 @@ def meaning(whole: explain.Whole, items: List[Optional[Item]], key_of: Dict[Item
         label = f"{item.label}, {counted(item.size, 'octet')}" if item.size is not None else item.label
         refused = " <b class=here>refused here</b>" if here else ""
         yield (
-            f'<li class="{key_of[item]}"><a href=#{prefix}o{item.at}><small>{item.at:,}</small>'
+            f'<li class="{key_of(nth)}"><a href=#{prefix}o{item.at}><small>{item.at:,}</small>'
             f"<span>{html.escape(label)}</span><i>{html.escape(item.value)}</i>{refused}</a></li>"
         )
     if inside:

@@ -14,6 +14,7 @@ import contextlib
 import functools
 import html
 import html.parser
+import json
 import os
 import pty
 import random
@@ -47,8 +48,10 @@ import rules
 import tickets
 from envelopes import SMALLEST, STORY, VARIED
 
-# How many changes of one octet are tried, and the seconds that they may take.
-SAMPLE, MOST_SECONDS = 3_000, 60
+# How many changes of one octet are tried, and the seconds that they may take; and of how many all that is printed is read.
+SAMPLE, MOST_SECONDS, PRINTED = 3_000, 60, 456
+# The seconds in which a long page is there, at the best of so many openings, since others run beside it.
+AT_ONCE, OPENINGS = 2.0, 5
 # The colour of the marked octet, which nothing else on a page has.
 MARK = (0xC6, 0x28, 0x28)
 
@@ -135,13 +138,22 @@ def by_check(octets):
         return refusal.octet, False
 
 
+def by_rules(octets):
+    """What the second reading says of an envelope."""
+    want = rules.read(octets)
+    return want.answer() if want.answer() != "more" else want.end()
+
+
+def refused_by_rules(many):
+    """How many of some octets the second reading refuses."""
+    return sum(by_rules(octets).startswith("refused ") for octets in many)
+
+
 def names_the_place(octets, case, text):
     """That the explained refusal is that of `check`, and its part that of the second reading."""
     at = case.refusal.at
     refused = case.refusal
-    want = rules.read(octets[at:])
-    answer = want.answer() if want.answer() != "more" else want.end()
-    same(str(refused).partition(" ")[2], answer)
+    same(str(refused).partition(" ")[2], by_rules(octets[at:]))
     plain = unwrapped(text)
     named = f"{refused.record}:{refused.number:02}"
     holds(f"ctet {refused.octet:,} of envelope {refused.nth:,}, which is octet {refused.octet_in_file:,} of the file" in plain, text)
@@ -168,6 +180,29 @@ def could_stand(octets, case):
     front = octets[at : at + octet]
     taken = {value for value in range(256) if (reach := by_check(front + bytes([value])))[0] > octet or reach[1]}
     same(set(tries.could), taken)
+
+
+@functools.lru_cache(maxsize=None)
+def part_after(front):
+    """The part of the message in which the first octets of an envelope end, by the second reading."""
+    return ticket_part(tickets.ticket(rules.read(front)))
+
+
+def named(many):
+    """How many of some octets are refused, each with its octet, dataset, cause and part held to `check` and to the second reading, but
+    nothing tried and no word printed."""
+    count = 0
+    for octets in many:
+        refusal = case_of(octets).refusal
+        try:
+            iim.check(octets)
+            same(refusal, None)
+        except iim.Refused as checked:
+            same(str(refusal), str(checked))
+            part = iim.Receiver.resume(refusal.ticket, refusal.octet).place.part
+            same((str(refusal), part), (str(checked), part_after(octets[: checked.octet])))
+            count += 1
+    return count
 
 
 def explained(octets):
@@ -214,8 +249,13 @@ def names_the_octet_of_each_front(folder):
 
 @test
 def names_the_octet_of_each_change(folder):
-    changes = [SMALLEST[:at] + bytes([octet ^ bit]) + SMALLEST[at + 1 :] for at, octet in enumerate(SMALLEST) for bit in (1, 0x10, 0x80, 0xFF)]
-    holds(sum(side_by_side(all_explained, changes)) > 200, "few are refused")
+    changes = [SMALLEST[:at] + bytes([value]) + SMALLEST[at + 1 :] for at in range(len(SMALLEST)) for value in range(256) if value != SMALLEST[at]]
+    same(len(changes), 114 * 255)
+    refused = sum(side_by_side(named, changes))
+    same(refused, sum(side_by_side(refused_by_rules, changes)))
+    # (and all that is tried and printed of some)
+    some = random.Random(11).sample(changes, PRINTED)
+    same(sum(side_by_side(all_explained, some)), refused_by_rules(some))
 
 
 def change_explained(changes):
@@ -260,6 +300,38 @@ def tells_the_octet_that_was_there(folder):
     same(sum(false for _, _, false in found), 0)
     holds(sum(refused for _, refused, _ in found) > SAMPLE // 2, "few are refused")
     holds(seconds <= MOST_SECONDS, f"{seconds:.0f} seconds of a processor")
+
+
+# A release time with no sign, after a dataset of three octets and one of eight.
+UNSIGNED = rules.packed(
+    [*envelopes.SMALLEST_FIELDS, (2, 201, b"\1" * 8), (2, 200, b"abc"), (2, 35, b"120000x0000")], rules.object_of(envelopes.SMALLEST_HEAD, [b""], b""), 1024
+)
+# What alone mends it, in the order in which it is told: one bit of the count before it, by which the time is data of that dataset; the octet
+# that is no sign; one octet of the count before that; and the number of the dataset.
+MENDING = [79, 94, 66, 85]
+
+
+@test
+def tells_the_likeliest_mend_first(folder):
+    case = case_of(UNSIGNED)
+    same(str(case.refusal), "1 refused at octet 98 by layer record on 2:35, cause 15 BadValue")
+    whole = {}
+    for at in range(case.refusal.octet + 1):
+        for value in range(256):
+            if value != UNSIGNED[at] and by_check(UNSIGNED[:at] + bytes([value]) + UNSIGNED[at + 1 :])[1]:
+                whole.setdefault(at, set()).add(value)
+    same(sorted(whole), sorted(MENDING))
+    same((whole[79], whole[94], whole[66]), ({UNSIGNED[79] ^ 0x10}, set(b"+-"), {0x20}))
+    told = case.wholes[-1].tries.told_mends()
+    same([(each.first, each.last, each.octets, each.whole) for each in told], [(at, at, whole[at], True) for at in MENDING])
+    printed = text_told(case).partition("WHAT ALONE MENDS IT\n")[2].partition("\n\n")[0]
+    same(re.findall(r"\* Octet (\d+) ", printed), [str(at) for at in MENDING])
+    # (where none leads to the end, those that lead further have the same order)
+    further = case_of(UNSIGNED[:-1] + bytes([UNSIGNED[-1] ^ 1])).wholes[-1].tries.told_mends()
+    bits = [min(bin(UNSIGNED[each.first] ^ octet).count("1") for octet in each.octets) for each in further]
+    kinds = [2 if each.first == 85 else int(least > 1) for each, least in zip(further, bits)]
+    same((kinds, {each.whole for each in further}), (sorted(kinds), {False}))
+    same(set(kinds), {0, 1, 2})
 
 
 # --- Hints
@@ -498,20 +570,29 @@ def tags_of(page):
 # --- Long files
 
 
+LINE = b"A line of the story that has some eighty octets, as those of the wire mostly have. "
+
+
+def of_lines(count, subfile=32_000):
+    """An envelope with a story of so many lines."""
+    return rules.packed(envelopes.STORY_FIELDS, rules.object_of(envelopes.STORY_HEAD, [LINE] * count, b""), subfile)
+
+
+# The longest of which a page leaves nothing out.
+LONG = of_lines(1_150)
+
+
 @test
 def makes_a_page_of_bounded_size(folder):
-    line = b"A line of the story that has some eighty octets, as those of the wire mostly have. \r\n"
-    story = rules.object_of(envelopes.STORY_HEAD, [line[:-2]] * 1_150, b"")
-    long = rules.packed(envelopes.STORY_FIELDS, story, 32_000)
-    tiny = rules.packed(envelopes.STORY_FIELDS, rules.object_of(envelopes.STORY_HEAD, [line[:-2]] * 190, b""), 1)
-    many = rules.packed([*envelopes.SMALLEST_FIELDS, *([(2, 25, b"x" * 50)] * 500), *([(2, 200, b"\1" * 8000)] * 4)], story[:0] + envelopes.STORY_OBJECT, 9)
+    long, tiny = LONG, of_lines(190, 1)
+    many = rules.packed([*envelopes.SMALLEST_FIELDS, *([(2, 25, b"x" * 50)] * 500), *([(2, 200, b"\1" * 8000)] * 4)], envelopes.STORY_OBJECT, 9)
     for octets in long, tiny, many, STORY * 400, SMALLEST * 850 + b"\n", long[:-1] + b"\0", tiny[:-1] + b"\0":
         page = explain_page.page(case_of(octets))
         holds(50_000 < len(octets) <= 115_000, f"{len(octets)} octets")
         holds(len(page.encode()) <= 2 << 20, f"{len(page):,} octets of a page of {len(octets):,}")
         holds(octets is not long or page.count("A line of the story that has some eighty") >= 1_140, "lines are left out")
     same("left out" in explain_page.page(case_of(long)), False)
-    longer = rules.packed(envelopes.STORY_FIELDS, rules.object_of(envelopes.STORY_HEAD, [line[:-2]] * 20_000, b""), 32_000)
+    longer = of_lines(20_000)
     cut = explain_page.page(case_of(longer[:-1] + b"\0"))
     holds("left out" in cut and "<mark" in cut and len(cut) <= 2 << 20, f"{len(cut):,} octets")
     text = text_told(case_of(longer))
@@ -528,10 +609,7 @@ sys.exit(status)
 
 @test
 def explains_a_long_file_by_blocks(folder):
-    line = b"A line of the story that has some eighty octets, as those of the wire mostly have."
-    story = rules.object_of(envelopes.STORY_HEAD, [line] * 1_000, b"")
-    whole = rules.packed(envelopes.STORY_FIELDS, story, 32_000)
-    one = rules.packed(envelopes.STORY_FIELDS, rules.object_of(envelopes.STORY_HEAD, [line] * 600_000, b""), 1 << 25)
+    whole, one = of_lines(1_000), of_lines(600_000, 1 << 25)
     for octets, count, end in (whole, 600, whole[:-1] + b"\0"), (one[:-1] + b"\0", 1, b""):
         path = f"{folder}/long.iim"
         with open(path, "wb") as to:
@@ -582,6 +660,15 @@ class Listener:
 ITS_OWN = re.compile(r"(google|googleapis|gvt1|gstatic|chromium)\.(com|org)\b")
 
 
+def browsing(folder, size=(1400, 1000)):
+    """The words that start a browser in which nothing was done before."""
+    return [
+        browser(), "--headless", "--disable-gpu", "--disable-dev-shm-usage", "--no-first-run", "--disable-extensions", "--disable-sync",
+        "--disable-background-networking", "--disable-component-update", "--disable-default-apps", f"--user-data-dir={folder}/profile",
+        f"--window-size={size[0]},{size[1]}", *(["--no-sandbox"] * (os.getuid() == 0)),
+    ]  # fmt: skip
+
+
 def opened(folder, page, size=(1400, 1000), picture=None, more=()):
     """Opens a page in a browser: what its console says, what it asks for from anywhere, and its picture. Where the browser has ended with a
     connection on which nothing was asked yet, it isn't known for what that was, and the page is opened again."""
@@ -596,10 +683,8 @@ def opened_once(folder, page, size, picture, more):
     path, picture = file(folder, "opened.html", page.encode("utf-8")), picture or f"{folder}/picture.png"
     with Listener() as proxy:
         words = [
-            browser(), "--headless", "--disable-gpu", "--disable-dev-shm-usage", "--hide-scrollbars", "--no-first-run", "--disable-extensions", "--disable-sync",
-            "--disable-background-networking", "--disable-component-update", "--disable-default-apps", f"--user-data-dir={folder}/profile",
-            "--enable-logging=stderr", "--v=0", f"--proxy-server=127.0.0.1:{proxy.port}", "--proxy-bypass-list=<-loopback>", f"--screenshot={picture}",
-            f"--window-size={size[0]},{size[1]}", *(["--no-sandbox"] * (os.getuid() == 0)), *more, f"file://{path}",
+            *browsing(folder, size), "--hide-scrollbars", "--enable-logging=stderr", "--v=0", f"--proxy-server=127.0.0.1:{proxy.port}",
+            "--proxy-bypass-list=<-loopback>", f"--screenshot={picture}", *more, f"file://{path}",
         ]  # fmt: skip
         ran = subprocess.run(words, capture_output=True, text=True, stdin=subprocess.DEVNULL, timeout=SECONDS)
         asked = [each for each in proxy.asked if not ITS_OWN.search(each)]
@@ -626,6 +711,75 @@ def pixels(picture, *colours):
     ran = subprocess.run([python, "-c", COUNT, picture, *(bytes(colour).hex() for colour in colours)], capture_output=True, text=True, timeout=SECONDS)
     same((ran.returncode, ran.stderr), (0, ""))
     return [tuple(map(int, line.split())) for line in ran.stdout.splitlines()]
+
+
+class Asked:
+    """A browser that is asked by messages, and tells by messages what happens in it."""
+
+    def __init__(self, folder):
+        (theirs, to), (came, ours) = os.pipe(), os.pipe()
+        words = ["sh", "-c", f'exec "$0" "$@" 3</dev/fd/{theirs} 4>/dev/fd/{ours}', *browsing(folder), "--remote-debugging-pipe"]
+        self._browser = subprocess.Popen(words, pass_fds=(theirs, ours), stdin=subprocess.DEVNULL, stderr=subprocess.DEVNULL)
+        os.close(theirs)
+        os.close(ours)
+        self._to, self._from = os.fdopen(to, "wb", buffering=0), os.fdopen(came, "rb", buffering=0)
+        self._count, self._session, self._come, self._events = 0, None, b"", []
+
+    def __enter__(self):
+        target = self.ask("Target.createTarget", url="about:blank")["targetId"]
+        self._session = self.ask("Target.attachToTarget", targetId=target, flatten=True)["sessionId"]
+        self.ask("Page.enable")
+        self.ask("Page.setLifecycleEventsEnabled", enabled=True)
+        return self
+
+    def __exit__(self, *_):
+        self._browser.kill()
+        self._browser.wait()
+        self._to.close()
+        self._from.close()
+
+    def _message(self):
+        while b"\0" not in self._come:
+            ready = select.select([self._from], [], [], SECONDS)[0]
+            part = self._from.read(1 << 16) if ready else b""
+            if not part:
+                raise OSError("the browser tells no more")
+            self._come += part
+        message, _, self._come = self._come.partition(b"\0")
+        return json.loads(message)
+
+    def ask(self, method, **words):
+        """What it answers; what happens before that is kept."""
+        self._count += 1
+        message = {"id": self._count, "method": method, "params": words, **({"sessionId": self._session} if self._session else {})}
+        self._to.write(json.dumps(message).encode() + b"\0")
+        while (answer := self._message()).get("id") != self._count:
+            self._events.append(answer)
+        return answer["result"]
+
+    def seconds(self, path):
+        """The seconds until a page shows something, and until all of it is there."""
+        self._events.clear()
+        begun, seen = time.monotonic(), {}
+        self.ask("Page.navigate", url=f"file://{path}")
+        while not {"firstContentfulPaint", "load"} <= seen.keys():
+            event = self._events.pop(0) if self._events else self._message()
+            if event.get("method") == "Page.lifecycleEvent":
+                seen.setdefault(event["params"]["name"], event["params"]["timestamp"] - begun)
+        return seen["firstContentfulPaint"], seen["load"]
+
+
+@test
+def opens_at_once(folder):
+    page = explain_page.page(case_of(LONG[:-1] + b"\0"))
+    holds("left out" not in page and page.count("<li") > 1_150, "lines are left out")
+    path = file(folder, "long.html", page.encode())
+    with Asked(folder) as asked:
+        took = [asked.seconds(path) for _ in range(OPENINGS)]
+    shown, whole = (min(each) for each in zip(*took))
+    if os.environ.get("TIMES"):
+        print(f"       a page of {len(page):,} octets is shown in {shown:.2f} s, and whole in {whole:.2f} s")
+    holds(shown <= whole <= AT_ONCE, f"it is shown in {shown:.2f} seconds, and whole in {whole:.2f}")
 
 
 @test
@@ -683,7 +837,7 @@ def lights_up_both_sides(folder):
     same(sorted(keys - at_octets), [])
     holds(len(keys) > 30, f"{len(keys)} items")
     for key in keys:
-        holds(f"body:has(.{key}:hover) .{key}" in page, key)
+        holds(f".part:has(.{key}:hover) .{key}" in page, key)
     anchors = {attributes.get("id") for _, attributes in found}
     same([attributes["href"] for tag, attributes in found if "href" in attributes and attributes["href"][1:] not in anchors], [])
     # (what the pointer does is done by a class here, which a browser can be told)
@@ -779,6 +933,14 @@ def reports_an_archive_as_a_page(folder):
     same((console, asked), ([], []))
     ((count, _, _),) = pixels(picture, (0x2F, 0x6F, 0x9F))
     holds(count > 1_000, f"{count} points of the bars")
+    # (a page that it leads to, and what the report would ask for if it were let)
+    console, asked, picture = opened(folder, text_of(f"{folder}/{links[0]}"))
+    same((console, asked), ([], []))
+    holds(pixels(picture, MARK)[0][0] > 60, "no mark on the page of a damaged file")
+    planted = page.replace("</main>", "<img src=http://planted.example/x.png></main>")
+    same(opened(folder, planted)[1], [])
+    _, asked, _ = opened(folder, planted.replace("default-src 'none'; style-src 'unsafe-inline'", ""))
+    holds(any("planted.example" in each for each in asked), f"a request is not found: {asked}")
 
 
 @test

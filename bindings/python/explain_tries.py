@@ -2,6 +2,7 @@
 handed to the library from the place before the change on."""
 from __future__ import annotations
 
+import functools
 import re
 from typing import Dict, FrozenSet, Iterable, Iterator, List, NamedTuple, Optional, Set, Tuple
 
@@ -68,7 +69,6 @@ class Tries:
         self.place, self.could = before.place, before.next
         self.here = self.datasets[-1] if self.place.begun in ("tag", "data") else None
         self.begin = self._token()
-        self.mends = self._mends()
 
     def take(self, octet: int, count: int) -> bytes:
         """Octets of the envelope."""
@@ -129,7 +129,8 @@ class Tries:
     def _is_of_message(self) -> bool:
         return self.refusal.layer in (MESSAGE, STORY)
 
-    def _mends(self) -> Dict[int, Mend]:
+    @functools.cached_property
+    def mends(self) -> Dict[int, Mend]:
         """What could stand at each octet that is changed, where something could."""
         if self.ends:
             found = range(self.here.at, min(self.here.at + self.here.head, self.octet)) if self.here and self.here.number is not None else range(0)

@@ -24,11 +24,12 @@ import functools
 import json
 import os
 import re
+import struct
 import sys
-from typing import Any, BinaryIO, Callable, Dict, FrozenSet, Iterable, Iterator, List, NamedTuple, Optional, Tuple, Type, Union
+from typing import Any, BinaryIO, Callable, Dict, FrozenSet, Iterable, Iterator, List, NamedTuple, Optional, Tuple, Type, Union, cast
 
 __all__ = [
-    "AuditRow", "Envelope", "Fed", "Field", "Header", "Id", "Limits", "Octets", "PartId", "Place", "Receiver", "Refused", "Rule",
+    "AuditRow", "Auditor", "Envelope", "Fed", "Field", "Header", "Id", "Limits", "Octets", "PartId", "Place", "Receiver", "Refused", "Rule",
     "ScriptRefused", "Sizes", "TicketRefused", "Truncated", "WIRE", "admits", "audit", "audit_blocks", "cause_name", "cause_text", "check",
     "dataset_name", "layer_name", "pack", "read", "row", "script",
 ]  # fmt: skip
@@ -100,7 +101,26 @@ class _Begun(ctypes.Structure):
     ]
 
 
-_DONE, _MORE, _REFUSED, _TRUNCATED, _NONE, _SHORT, _NO_MEMORY, _BAD_TICKET, _BAD_PACKING = range(9)
+class _Instant(ctypes.Structure):
+    _fields_ = [("second", ctypes.c_int64), ("nanosecond", ctypes.c_uint32)]
+
+
+class _SoFar(ctypes.Structure):
+    _fields_ = [*((name, ctypes.c_uint64) for name in ("at", "octets", "words")), ("inside", ctypes.c_bool)]
+
+
+class _AuditRow(ctypes.Structure):
+    _fields_ = [
+        *((name, ctypes.c_uint64) for name in ("at", "octets", "size", "subfiles", "announced", "counted")),
+        ("age", ctypes.c_int64),
+        *((name, _Instant) for name in ("release", "expires")),
+        *((name, ctypes.c_bool) for name in ("has_age", "has_release", "has_expires")),
+        *((name, ctypes.c_uint8) for name in ("copy", "priority", "service_octets")),
+        *((name, ctypes.c_uint8 * count) for name, count in (("service", 10), ("number", 8), ("date_sent", 8))),
+    ]
+
+
+_DONE, _MORE, _REFUSED, _TRUNCATED, _NONE, _SHORT, _NO_MEMORY, _BAD_TICKET, _BAD_PACKING, _BAD_INSTANT = range(10)
 
 _VERSION = 1
 
@@ -119,6 +139,10 @@ _FUNCTIONS: Dict[str, Tuple[Any, List[Any]]] = {
     "iim_sizes": (None, [*_OCTETS, ctypes.POINTER(_Object), _TO_ANSWER]),
     "iim_next": (None, [_Limits, *_OCTETS, ctypes.POINTER(_OctetSet), _TO_ANSWER]),
     "iim_place": (None, [*_OCTETS, ctypes.c_uint64, ctypes.POINTER(_Begun), _TO_ANSWER]),
+    "iim_audit": (
+        None,
+        [_Limits, *_OCTETS, ctypes.POINTER(_SoFar), *_OCTETS, _Instant, ctypes.POINTER(_AuditRow), ctypes.c_size_t, *_OCTETS, _TO_ANSWER],
+    ),
     "iim_pack": (None, [_Packing, *_OCTETS, *_OCTETS, _TO_ANSWER]),
     "iim_pack_size": (None, [_Packing, *_OCTETS, _TO_ANSWER]),
     "iim_row": (ctypes.c_bool, [ctypes.c_uint8, ctypes.c_uint8, ctypes.POINTER(_Rule)]),
@@ -619,6 +643,11 @@ class _Room:
         self.size = size
         self.octets = ctypes.create_string_buffer(max(1, size))
 
+    def reserve(self, size: int) -> None:
+        """Makes room for so many octets."""
+        if size > self.size:
+            self.grow(size)
+
     def take(self, count: int) -> bytes:
         return ctypes.string_at(self.octets, count)
 
@@ -641,6 +670,10 @@ class Receiver:
         self._answer, self._text, self._next = _Answer(), _Room(1_024), _Room(1_024)
         # How many octets of the present envelope have come; which one of the input it is, from 1; where it begins there.
         self.octets, self.nth, self.at = 0, 1, 0
+
+    def _begin(self) -> None:
+        """Begins with another input, with the same room."""
+        self._ticket, self._refusal, self.octets, self.nth, self.at = b"", None, 0, 1, 0
 
     @classmethod
     def resume(cls, ticket: AnyOctets, octets: int, limits: Limits = WIRE, *, nth: int = 1, at: int = 0) -> Receiver:
@@ -846,79 +879,138 @@ class AuditRow(NamedTuple):
     expires: Optional[int]
 
 
-# The instants that there are, in seconds from 1970 on: up to 9999-12-30T22:00:00Z.
-_LAST_SECOND = 253_402_207_200
 _EPOCH = datetime.datetime(1970, 1, 1, tzinfo=datetime.timezone.utc)
 
+# The last instant that there is, in seconds from then on: 9999-12-30T22:00:00Z.
+LAST_SECOND = 253_402_207_200
 
-class _Words:
-    """Counts the words of a story that comes in pieces: runs, inside one line, of octets other than SP and TAB."""
+# The members of a row, as the library writes them: of an instant its second alone.
+RawRow = Tuple[int, int, int, int, int, int, int, int, int, bool, bool, bool, int, int, int, bytes, bytes, bytes]
+_ROW = struct.Struct("6Qqq8xq8x3?3B10s8s8s")
 
-    # Each octet: 0 where it parts words, else 1.
-    MARKS = bytes(octet not in b" \t\n" for octet in range(256))
+_COPY = "free", "held", "expired"
 
-    def __init__(self) -> None:
-        self.count = self._inside = 0
-
-    def add(self, text: bytes) -> None:
-        """Takes the next octets of the story."""
-        if text:
-            marks = text.translate(self.MARKS)
-            self.count += marks.count(b"\0\1") + (marks[0] > self._inside)
-            self._inside = marks[-1]
-
-    def take(self) -> int:
-        """The words so far; the next story begins with none."""
-        count = self.count
-        self.count = self._inside = 0
-        return count
+# The most rows of a block.
+_ROWS = 1_024
 
 
-def _instant_of(date: Optional[bytes], time: Optional[bytes]) -> Optional[int]:
-    """The instant of a date and a time that the library has admitted, in seconds from 1970 on: the local time less its offset."""
-    if date is None or time is None:
-        return None
-    day = datetime.date(int(date[:4]), int(date[4:6]), int(date[6:])).toordinal() - _EPOCH.toordinal()
-    clock = (int(time[:2]) * 60 + int(time[2:4])) * 60 + int(time[4:6])
-    offset = (int(time[7:9]) * 60 + int(time[9:])) * 60
-    seconds = day * 86_400 + clock + (offset if time[6:7] == b"-" else -offset)
-    return seconds if seconds <= _LAST_SECOND else None
+def _row_of(raw: RawRow) -> AuditRow:
+    """A row, as the library writes it."""
+    at, length, size, subfiles, announced, counted, age, release, expires, has_age, has_release, has_expires, copy, priority, count, service, number, date = raw
+    return AuditRow(
+        at, length, Octets(service[:count]), Octets(number), Octets(date), Octets((priority,)) if priority else None, size, subfiles, announced, counted,
+        age if has_age else None, _COPY[copy], release if has_release else None, expires if has_expires else None,
+    )  # fmt: skip
 
 
-def _audit_row(envelope: Envelope, words: int, now: datetime.datetime) -> AuditRow:
-    """The row of an envelope whose story has so many words."""
-    second = (now - _EPOCH) // datetime.timedelta(seconds=1)
-    sent = _instant_of(envelope.date_sent, envelope.time_sent)
-    release = _instant_of(envelope.release_date, envelope.release_time or b"000000+0000")
-    expires = _instant_of(envelope.expiration_date, envelope.expiration_time or b"235959+0000")
-    copy = "free"
-    if release is not None and release > second:
-        copy = "held"
-    elif expires is not None and (second, now.microsecond) > (expires, 0):
-        copy = "expired"
-    sizes, announced = envelope.sizes, int(envelope.header.words)
-    age = None if sent is None else second - sent
-    of_envelope = envelope.at, envelope.length, *envelope.id, envelope.envelope_priority
-    return AuditRow(*of_envelope, sizes.total, sizes.subfiles, announced, words, age, copy, release, expires)
+class Auditor:
+    """Audits one input after another, at an instant, or else the present one. It reads each as `read` does."""
+
+    def __init__(self, limits: Limits = WIRE, *, now: Optional[datetime.datetime] = None) -> None:
+        since = (datetime.datetime.now(datetime.timezone.utc) if now is None else now) - _EPOCH
+        second = since // datetime.timedelta(seconds=1)
+        if second > LAST_SECOND:
+            raise ValueError("the last instant is 9999-12-30T22:00:00Z")
+        self._now = _Instant(second, since.microseconds * 1_000)
+        self._receiver, self._so_far = Receiver(limits), _SoFar()
+        piece = bytearray(BLOCK)
+        self._piece, self._begin = memoryview(piece), ctypes.addressof(ctypes.c_char.from_buffer(piece))
+        self._array = (_AuditRow * _ROWS)()
+        self._rows = memoryview(self._array).cast("B")
+        # (the ticket of the place, how many octets it has, and room for that of the next one)
+        self._ticket, self._count, self._next = _Room(1_024), 0, _Room(1_024)
+
+    def blocks(self, fill: Callable[[memoryview], Optional[int]]) -> Iterator[List[AuditRow]]:
+        """The rows of an input, many at a time. `fill` puts its next octets into a buffer, and answers how many: 0 at its end. Raises
+        `Refused` after the rows before the refusal."""
+        for rows in self.raw_blocks(fill):
+            yield [*map(_row_of, rows)]
+
+    def raw_blocks(self, fill: Callable[[memoryview], Optional[int]]) -> Iterator[List[RawRow]]:
+        """The rows as the library writes them: what comes quickest."""
+        so_far, answer = self._so_far, self._receiver._answer
+        so_far.at = so_far.octets = self._count = 0
+        nth = 1
+        while count := fill(self._piece):
+            at, status = 0, _DONE
+            while status == _DONE:
+                octets = so_far.octets
+                status = self._ask(at, count - at)
+                at, written = at + answer.used, answer.written
+                if written:
+                    nth, octets = nth + written, 0
+                    yield cast("List[RawRow]", [*_ROW.iter_unpack(self._rows[: written * _ROW.size])])
+                if status == _REFUSED:
+                    self._refuse(bytes(self._piece[at:count]), nth, octets)
+        if count is None:
+            raise BlockingIOError("the file has no octets now")
+        if so_far.octets:
+            self._receiver_at(nth, so_far.octets).end()
+
+    def _ask(self, at: int, count: int) -> int:
+        """The status that the library answers for so many octets of the piece, from `at` on. It is asked with more room where a ticket has
+        too little."""
+        receiver, ticket, room = self._receiver, self._ticket, self._next
+        answer = receiver._answer
+        while True:
+            _library.iim_audit(
+                receiver._limits, ticket.octets, self._count, self._so_far, self._begin + at, count, self._now, self._array, _ROWS, room.octets, room.size,
+                answer,
+            )  # fmt: skip
+            status: int = answer.status
+            if status != _SHORT:
+                break
+            if answer.ticket <= room.size:
+                raise RuntimeError("the library asks for no more room than it has")
+            room.grow(2 * answer.ticket)
+        if status == _DONE or status == _MORE:
+            # (where no envelope is begun, there is no ticket)
+            self._ticket, self._next, self._count = room, ticket, answer.ticket if answer.octet else 0
+        elif status != _REFUSED:
+            receiver._expect()
+        return status
+
+    def _receiver_at(self, nth: int, octets: int) -> Receiver:
+        """A receiver of the envelope in hand, after so many octets of it."""
+        receiver = self._receiver
+        receiver._refusal, receiver._ticket = None, self._ticket.take(self._count) if octets else b""
+        receiver.nth, receiver.at, receiver.octets = nth, self._so_far.at, octets
+        return receiver
+
+    def _refuse(self, piece: bytes, nth: int, octets: int) -> None:
+        """Raises the refusal of an octet of a piece, as a receiver tells it, but for what came of the story."""
+        try:
+            self._receiver_at(nth, octets).feed(piece)
+        except Refused as refusal:
+            refusal.story = Octets(b"")
+            raise
+
+
+def _filler_of(file: BinaryIO) -> Callable[[memoryview], Optional[int]]:
+    """What puts the next octets of a file into a buffer."""
+    for name in "readinto1", "readinto":
+        if hasattr(file, name):
+            filler: Callable[[memoryview], Optional[int]] = getattr(file, name)
+            return filler
+    take = getattr(file, "read1", file.read)
+
+    def fill(room: memoryview) -> Optional[int]:
+        piece = take(len(room))
+        if piece is None:
+            return None
+        room[: len(piece)] = piece
+        return len(piece)
+
+    return fill
 
 
 def audit_blocks(file: AnyFile, limits: Limits = WIRE, *, now: Optional[datetime.datetime] = None) -> Iterator[List[AuditRow]]:
     """The rows of `audit`, many at a time."""
-    now = datetime.datetime.now(datetime.timezone.utc) if now is None else now
-    words = _Words()
-    rows: List[AuditRow] = []
-    try:
-        for envelope in read(file, limits, on_text=words.add):
-            rows.append(_audit_row(envelope, words.take(), now))
-            if len(rows) == 4_096:
-                yield rows
-                rows = []
-    except Refused as refused:
-        if rows:
-            yield rows
-        raise refused
-    if rows:
-        yield rows
+    if isinstance(file, (str, bytes, os.PathLike)):
+        with open(file, "rb", buffering=0) as opened:
+            yield from audit_blocks(opened, limits, now=now)
+        return
+    yield from Auditor(limits, now=now).blocks(_filler_of(file))
 
 
 def audit(file: AnyFile, limits: Limits = WIRE, *, now: Optional[datetime.datetime] = None) -> Iterator[AuditRow]:

@@ -3,10 +3,11 @@ from __future__ import annotations
 import datetime
 import functools
 import os
-from typing import Any, BinaryIO, Callable, Dict, FrozenSet, Iterable, Iterator, List, NamedTuple, Optional, Tuple, Type, Union
+from typing import Any, BinaryIO, Callable, Dict, FrozenSet, Iterable, Iterator, List, NamedTuple, Optional, Tuple, Type, Union, cast
 
 __all__ = [
     "AuditRow",
+    "Auditor",
     "Envelope",
     "Fed",
     "Field",
@@ -250,6 +251,13 @@ class AuditRow(NamedTuple):
     copy: str
     release: Optional[int]
     expires: Optional[int]
+LAST_SECOND: int
+RawRow = Tuple[int, int, int, int, int, int, int, int, int, bool, bool, bool, int, int, int, bytes, bytes, bytes]
+
+class Auditor:
+    def __init__(self, limits: Limits=..., *, now: Optional[datetime.datetime]=...) -> None: ...
+    def blocks(self, fill: Callable[[memoryview], Optional[int]]) -> Iterator[List[AuditRow]]: ...
+    def raw_blocks(self, fill: Callable[[memoryview], Optional[int]]) -> Iterator[List[RawRow]]: ...
 def audit_blocks(file: AnyFile, limits: Limits=..., *, now: Optional[datetime.datetime]=...) -> Iterator[List[AuditRow]]: ...
 def audit(file: AnyFile, limits: Limits=..., *, now: Optional[datetime.datetime]=...) -> Iterator[AuditRow]: ...
 def script(fields: Iterable[Tuple[int, int, AnyOctets]], header: Iterable[AnyOctets], lines: Iterable[AnyOctets], trailer: AnyOctets=...) -> bytes: ...

@@ -74,7 +74,7 @@ def remove(index):
 def compare(turns, command):
     """Runs both trees in each way."""
     print(f"{'files':>6} {'envelopes':>9} {'way':<22} {'seconds':>8} {'processor':>9} {'us a file':>9} {'us an envelope':>14} {'ratio':>6}")
-    for files, envelopes, batch in (4_000, 1, 32), (40, 200, 1):
+    for files, envelopes, batch in (4_000, 1, 128), (40, 200, 1):
         with tempfile.TemporaryDirectory() as folder:
             tree, index = f"{folder}/tree", f"{folder}/index"
             make(tree, files, envelopes)
@@ -111,11 +111,11 @@ for first in range(0, rows, 2_000):
             at = (file - 1) * 200 + nth
             at = at if at % 100 else chance.randrange(at + 1)
             date = f"2024{at // 3_000_000 % 12 + 1:02}{at // 100_000 % 28 + 1:02}"
-            of_file.append((file, nth + 1, nth * 4700, 4700, "TST", "%08d" % (at % 10**8), date, "5", 4200, 2, 910, 905, 1_709_290_800, None, None))
+            of_file += file, nth + 1, nth * 4700, 4700, "TST", "%08d" % (at % 10**8), date, "5", 4200, 2, 910, 905, 1_709_290_800, None, None
         files.append((file, b"/archive/%06d/%02d.iim" % (file // 100, file % 100), 940_000, 1, 940_000, "accepted", None, of_file, None))
     block = marshal.dumps(files, archive.FORM)
     began = time.process_time()
-    kept.add(block)
+    kept.add(marshal.loads(block))
     wrote += time.process_time() - began
 print(f"{rows:,} rows: {rows / wrote:,.0f} a second of a processor", flush=True)
 began = time.monotonic()

@@ -1120,7 +1120,7 @@ def audits_blocks_with_more_envelopes_than_rows():
         same((sum(blocks), last.at, last.length), (30_000, 29_999 * 114, 114))
         holds(len(blocks) > 3, f"only {blocks} blocks")
         same([row.at for row in iim.audit(io.BytesIO(SMALLEST * 2))], [0, 114])
-        for now in datetime.datetime(2024, 3, 1), "2024":
+        for now in datetime.datetime(2024, 3, 1), "2024", datetime.datetime(9999, 12, 30, 22, 0, 1, tzinfo=datetime.timezone.utc):
             holds(isinstance(raised((TypeError, ValueError), lambda now: list(iim.audit(path, now=now)), now), Exception), "taken")
         same(raised(iim.Refused, lambda: list(iim.audit(path, iim.Limits(20, 512)))).cause_name, "HeaderFull")
 
@@ -1299,6 +1299,7 @@ def reports_what_can_t_be_read_and_goes_on():
 def takes_the_words_of_the_archive():
     with tempfile.TemporaryDirectory() as folder:
         wrong = ["--workers", "0"], ["--workers", "2", "--scheduler", "x"], ["--batch", "0"], ["--now", "soon"], ["--now", "2024-03-01"]
+        wrong += (["--now", "9999-12-30T22:00:01Z"],)
         for words in [[], *([*words, folder] for words in wrong)]:
             same((words, archive(words)[:2]), (words, (2, [])))
         sums = {"files": 0, "envelopes": 0, "repeated": 0, "held": 0, "refused": 0, "empty": 0, "failed": 0}
@@ -1367,15 +1368,15 @@ def goes_on_where_a_process_of_the_pool_dies():
 
 # What kills the process that reads a file named so, as a fault of the library would.
 KILLER = """
-import os, archive, iim
+import os, archive, archive_rows
 # (a worker runs this twice)
-if not hasattr(iim, "audit_whole"):
-    iim.audit_whole = iim.audit_blocks
-def dies(file, *words, **named):
-    if file.endswith(b"poison.iim"):
+if not hasattr(archive_rows, "blocks_of_all"):
+    archive_rows.blocks_of_all = archive_rows.blocks_of
+def dies(path, *words):
+    if path.endswith(b"poison.iim"):
         os.kill(os.getpid(), 9)
-    return iim.audit_whole(file, *words, **named)
-iim.audit_blocks = dies
+    return archive_rows.blocks_of_all(path, *words)
+archive_rows.blocks_of = dies
 """
 
 
@@ -1499,6 +1500,7 @@ def header():
 STRUCTS = {
     "iim_limits": iim._Limits, "iim_answer": iim._Answer, "iim_span": iim._Span, "iim_dataset": iim._Dataset, "iim_message": iim._Message,
     "iim_object": iim._Object, "iim_packing": iim._Packing, "iim_rule": iim._Rule, "iim_octet_set": iim._OctetSet, "iim_begun": iim._Begun,
+    "iim_instant": iim._Instant, "iim_so_far": iim._SoFar, "iim_audit_row": iim._AuditRow,
 }  # fmt: skip
 
 
@@ -1537,7 +1539,7 @@ def has_the_functions_and_statuses_of_the_header():
     kinds = {"void": None, "bool": ctypes.c_bool, "size_t": ctypes.c_size_t, "uint32_t": ctypes.c_uint32}
     got = {name: (answers, len(takes)) for name, (answers, takes) in iim._FUNCTIONS.items()}
     same(got, {name: (kinds[answers], 0 if takes == "void" else takes.count(",") + 1) for answers, name, takes in functions})
-    statuses = "DONE MORE REFUSED TRUNCATED NONE SHORT NO_MEMORY BAD_TICKET BAD_PACKING".split()
+    statuses = "DONE MORE REFUSED TRUNCATED NONE SHORT NO_MEMORY BAD_TICKET BAD_PACKING BAD_INSTANT".split()
     names = [*(f"IIM_{name}" for name in statuses), "IIM_VERSION"]
     got = [*(getattr(iim, f"_{name}") for name in statuses), iim._VERSION]
     same(told_by_a_compiler([f'printf("%d\\n", (int){name});' for name in names]), list(map(str, got)))

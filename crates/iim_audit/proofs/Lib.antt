@@ -3,6 +3,7 @@ pub mod Filling
 pub mod Firsts
 pub mod Reading
 pub mod Rows
+pub mod PieceRows
 pub mod ShortIds
 pub mod Taking
 pub mod Texts

@@ -46,7 +46,7 @@ took_end limits old new u v a b used whole is fed =
     (was.1.given, was.1.at_end, none)
 
 -- A sink that counts no failure refused nothing.
-unsunk : (cause : Cause) (n : ℕ) → n ≡ 0 → CountsFor cause n n → cause ≢ Sink
+pub unsunk : (cause : Cause) (n : ℕ) → n ≡ 0 → CountsFor cause n n → cause ≢ Sink
 unsunk cause n zero counts same =
     let P : Cause → Type 0 = λ c. CountsFor c n n in
     ⊎_elim (λ rose. omega arith) (λ full. omega arith) (subst P same counts)

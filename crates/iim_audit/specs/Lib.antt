@@ -1,6 +1,7 @@
 -- What octets are, and what is said of them.
 pub mod Format
 -- What only proofs and private clauses cite.
+pub mod Counting
 pub mod Faults
 pub mod Ledgers
 pub mod Lines

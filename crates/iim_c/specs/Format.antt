@@ -4,6 +4,7 @@ pub mod Checking
 pub mod Feeding
 pub mod Names
 pub mod Packing
+pub mod Saving
 pub mod Statuses
 pub mod Tables
 pub mod TicketAnswers

@@ -63,7 +63,7 @@ fn layer_number(layer: Layer) -> u8
 }
 
 /// The answer for a refusal.
-pub(crate) fn refusal_answer(status: u8, refusal: Refusal) -> IimAnswer
+pub fn refusal_answer(status: u8, refusal: Refusal) -> IimAnswer
     ensures { result ≡ refusal_answer status refusal }
 {
     IimAnswer {

@@ -24,11 +24,11 @@ pub mod status;
 mod text_out;
 mod version;
 
-pub use answer::{IimAnswer, status_answer, ticket_answer};
+pub use answer::{IimAnswer, refusal_answer, status_answer, ticket_answer};
 pub use check::iim_check;
 pub use dataset_names::iim_dataset_name;
 pub use end::iim_end;
-pub use feed::iim_feed;
+pub use feed::{iim_feed, saved};
 pub use field::{IimDataset, iim_field};
 pub use header::{IimMessage, iim_header};
 pub use limits::IimLimits;

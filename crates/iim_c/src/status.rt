@@ -26,3 +26,6 @@ pub const BAD_TICKET: u8 = 7;
 
 /// What is asked of a packer can't be.
 pub const BAD_PACKING: u8 = 8;
+
+/// What is given as an instant is none.
+pub const BAD_INSTANT: u8 = 9;

@@ -3,6 +3,7 @@ use Rattle.std.proofs.Common.{◌≡◌, ℕ, ◌-◌, ◌<◌, ◌==◌, Bool, 
 use Rattle.std.specs.Int.{w64, to_be_bytes}
 use Rattle.std.specs.List.{flat_map}
 use Rattle.std.proofs.lemmas.List.{drop_at, take_at}
+use Rattle.std.proofs.lemmas.Bool.{eqb-true}
 use Rattle.iim_dataset.specs.Format.Datasets.{Dataset, count_octets}
 use Rattle.iim_dataset.specs.Format.Splits.{Begun, InTag, InData, Reads}
 use Rattle.iim_dataset.specs.declared.head.Head.{Head}
@@ -97,14 +98,14 @@ begun_is ticket at s found h is =
 -- ---- what octets have begun
 
 tells_by : (b : Bool) (p : List ℕ) (at : ℕ) (whole : List Dataset) (held : List ℕ) (found : IimBegun) (s : Split) (span : IimSpan) → Reads count_octets p whole (InTag held)
-    → s.phase ≡ (if b then AllEnded else TagBegun held) → found ≡ begun_of at s span → TellsOctets p at found
-tells_by true p at whole held found s span reads phase is = record {
+    → (section_after whole == 9) ≡ b → s.phase ≡ (if b then AllEnded else TagBegun held) → found ≡ begun_of at s span → TellsOctets p at found
+tells_by true p at whole held found s span reads nine phase is = record {
   whole = whole;
   begun = InTag held;
   reads = reads;
-  tells = inl (ap (λ (b : IimBegun). b.kind) is ∙ ap (λ (x : Phase). (begun_by at s.section x span).kind) phase);
+  tells = inl (ap (λ (b : IimBegun). b.kind) is ∙ ap (λ (x : Phase). (begun_by at s.section x span).kind) phase, eqb-true (section_after whole) 9 nine);
 }
-tells_by false p at whole held found s span reads phase is =
+tells_by false p at whole held found s span reads nine phase is =
     let all : found ≡ record (begun_by at s.section (TagBegun held) span) { section = s.section; part = s.part; counter = s.counter; flag = s.flag } =
     is ∙ ap (λ (x : Phase). record (begun_by at s.section x span) { section = s.section; part = s.part; counter = s.counter; flag = s.flag }) phase in
     record {
@@ -147,7 +148,7 @@ tells_data p at whole h taken kept found s span reads section phase is =
 
 tells_at : (p : List ℕ) (at : ℕ) (whole : List Dataset) (begun : Begun) (message : MessagePlace) (found : IimBegun) (s : Split) (span : IimSpan) → Reads count_octets p whole begun
     → s.section ≡ (place_of whole begun message).section → s.phase ≡ (place_of whole begun message).phase → found ≡ begun_of at s span → TellsOctets p at found
-tells_at p at whole (InTag held) message found s span reads section phase is = tells_by (section_after whole == 9) p at whole held found s span reads phase is
+tells_at p at whole (InTag held) message found s span reads section phase is = tells_by (section_after whole == 9) p at whole held found s span reads refl phase is
 tells_at p at whole (InData h taken) message found s span reads section phase is = tells_data p at whole h taken (if h.rec == 8 then [] else taken) found s span reads section phase is
 
 split_at : TicketsOfPlacesAreSplit → (ticket : List ℕ) (place : Place) (t : IsTicketAt ticket place) → SplitsTicket ticket (split_of t.version place)

@@ -1,3 +1,4 @@
 pub mod BegunThere
 pub mod Bits
+pub mod RefusedTokens
 pub mod Tried

@@ -5,11 +5,13 @@ ghost use Rattle.iim_places.specs.Format.TicketForm.{SplitsTicket};
 ghost use Rattle.iim_places.specs.Format.Tickets.{DataBegun, IsPlaceOf, Place, TagBegun};
 ghost use Rattle.iim_places.specs.States.Restored.{IsTicketAt};
 ghost use Rattle.iim_places.specs.States.TicketsTold.{phase_told, split_told};
-ghost use Rattle.iim_c_places.specs.Format.Begun.{IsBegunOf, IsBegunTold, TellsOctets, begun_by};
+ghost use Rattle.iim_c_places.specs.Format.Begun.{IsBegunOf, IsBegunTold, TellsOctets, TellsToken, begun_by};
 ghost use Rattle.iim_c_places.specs.Steps.{span_of, taken_offset};
 
 use iim_c::status::DONE;
 use iim_c::{IimAnswer, IimSpan, status_answer, ticket_answer};
+use iim_dataset::laws::{events_tell_the_datasets, octets_are_handed_on_one_way};
+use iim_fields::laws::envelopes_end_with_the_last_record;
 use iim_places::form::FIRST_VERSION;
 use iim_tables::records::OBJECT;
 use iim_unpack::laws::{tickets_have_one_split, tickets_of_places_are_split};
@@ -184,7 +186,12 @@ fn place_told(ticket: &[u8], at: u64) -> (IimBegun, IimAnswer)
     ensures told { IsBegunTold ticket.now at result.0 result.1 }
     ensures octets { (p : List ℕ) (place : Place) → IsTicketAt ticket.now place → IsPlaceOf p place
         → TellsOctets p at result.0 }
+    ensures token { (p : List ℕ) (place : Place) → IsTicketAt ticket.now place → IsPlaceOf p place
+        → TellsToken p at result.0 }
 {
+    octets_are_handed_on_one_way();
+    events_tell_the_datasets();
+    envelopes_end_with_the_last_record();
     tickets_of_places_are_split();
     tickets_have_one_split();
     match split_ticket(ticket) {
@@ -198,6 +205,9 @@ pub fn iim_place(ticket: &[u8], at: u64, begun: &mut IimBegun, answer: &mut IimA
     ensures told { IsBegunTold ticket.now at begun.new answer.new }
     ensures octets { (p : List ℕ) (place : Place) → IsTicketAt ticket.now place → IsPlaceOf p place
         → TellsOctets p at begun.new }
+    // Whichever octet is refused next: the refused token begins at `token`, and ends with that octet.
+    ensures token { (p : List ℕ) (place : Place) → IsTicketAt ticket.now place → IsPlaceOf p place
+        → TellsToken p at begun.new }
 {
     let (found, told) = place_told(ticket, at);
     *begun = found;

@@ -68,6 +68,7 @@ cut_sooner state a b xs ys cut = record {
   parts = sym (append_assoc a.held.octets xs ys) ∙ ap (λ (t : List ℕ). t ++ ys) cut.parts ∙ append_assoc cut.out cut.rest ys;
   some = some_more cut.rest ys cut.some;
   broke = cut.broke;
+  patience = cut.patience;
 }
 
 -- the output broke inside the line of a row

@@ -1,6 +1,6 @@
 //! The interface for C: a static library, whose header is `bindings/c/iim.h`.
 //!
-//! Each export is the call of `iim_c` or `iim_c_places` of the same name, and says again what that says. The toolchain exports the
+//! Each export is the call of `iim_c`, `iim_c_places` or `iim_c_audit` of the same name, and says again what that says. The toolchain exports the
 //! functions of a static library alone, and nothing can stand on one: so what the calls do stands in those, which are proved once and
 //! kept.
 #![tactic(auto)]
@@ -15,13 +15,15 @@ ghost use Rattle.iim_c.specs.Format.Names.{IsNamed, cause_named, dataset_named, 
 ghost use Rattle.iim_c.specs.Format.Packing.{IsPacked, IsSized};
 ghost use Rattle.iim_c.specs.Format.Tables.{rule_for};
 ghost use Rattle.iim_c.specs.Format.TicketAnswers.{AreSizes, IsField, IsHeader};
-ghost use Rattle.iim_c_places.specs.Format.Begun.{IsBegunTold, TellsOctets};
+ghost use Rattle.iim_c_audit.specs.Format.Auditing.{IsAudited};
+ghost use Rattle.iim_c_places.specs.Format.Begun.{IsBegunTold, TellsOctets, TellsToken};
 ghost use Rattle.iim_c_places.specs.Format.Next.{IsNext};
 ghost use Rattle.iim_c_places.specs.Format.Texts.{cause_text};
 
 use iim_c::{
     IimAnswer, IimDataset, IimLimits, IimMessage, IimObject, IimPacking, IimRule, VERSION,
 };
+use iim_c_audit::{IimAuditRow, IimInstant, IimSoFar};
 use iim_c_places::{IimBegun, IimOctetSet};
 use std::alloc::Global;
 
@@ -118,8 +120,35 @@ pub extern "C" fn iim_place(ticket: &[u8], at: u64, begun: &mut IimBegun, answer
     ensures told { IsBegunTold ticket.now at begun.new answer.new }
     ensures octets { (p : List ℕ) (place : Place) → IsTicketAt ticket.now place → IsPlaceOf p place
         → TellsOctets p at begun.new }
+    ensures token { (p : List ℕ) (place : Place) → IsTicketAt ticket.now place → IsPlaceOf p place
+        → TellsToken p at begun.new }
 {
     iim_c_places::iim_place(ticket, at, begun, answer);
+}
+
+/// Tells a row for each envelope that ends in a piece of an input, at the instant `now`: from the place of a ticket on, or of a new
+/// envelope where there is none. It writes the ticket of the place that the piece leads to, and what is kept beside it for the next
+/// call. Where there is no room for another row it stops, and tells how many octets were used. Where an octet is refused, the rows of
+/// the envelopes before it are told. Where the buffer of the ticket is too short, what is kept stays, and the same call can be made
+/// again.
+#[unsafe(no_mangle)]
+pub extern "C" fn iim_audit(
+    alloc: Global,
+    limits: IimLimits,
+    ticket: &[u8],
+    so_far: &mut IimSoFar,
+    piece: &[u8],
+    now: IimInstant,
+    rows: &mut [IimAuditRow],
+    ticket_out: &mut [u8],
+    answer: &mut IimAnswer,
+)
+    ensures { IsAudited (limits_for limits) ticket.now so_far.old piece.now now rows.old rows.new ticket_out.new
+        so_far.new answer.new }
+{
+    iim_c_audit::iim_audit(
+        alloc, limits, ticket, so_far, piece, now, rows, ticket_out, answer,
+    );
 }
 
 /// Writes the packed form of what a script tells into a buffer, where it has room for it.

@@ -1,9 +1,9 @@
 -- Writers of blocks.
-use Rattle.std.proofs.Common.{◌≡◌, ℕ, zero, suc, ◌+◌, ◌^◌, ◌<◌, ◌≤◌, inl, inr, List, [], ◌∷◌, ◌++◌, length, take, drop, map, refl, sym, ap, subst, ◌∙◌, append-nil, append_assoc, arith, Result, Ok, Err, IfErr, OnErr}
+use Rattle.std.proofs.Common.{◌≡◌, ℕ, zero, suc, ◌+◌, ◌^◌, ◌<◌, ◌≤◌, inl, inr, List, [], ◌∷◌, ◌++◌, length, take, drop, map, refl, sym, ap, subst, ◌∙◌, append-nil, append_assoc, length-append, length-take, arith, Result, Ok, Err, IfErr, OnErr}
 use Rattle.std.proofs.lemmas.List.{take-append-drop}
 use Rattle.std.specs.Borrow.{MutBor}
 use Rattle.std.specs.Io.KnownBytes.{Appends}
-use Rattle.iim_dataset.specs.States.Devices.{Device, Broke, RoseAtLeast, Stopped, Wrote}
+use Rattle.iim_dataset.specs.States.Devices.{Device, Broke, RoseAtLeast, Stopped, WithinInterruptionLimit, Wrote}
 use Rattle.iim_dataset.specs.Format.Counts.{Rose}
 use Rattle.iim_dataset.specs.Laws.Devices.{TextsJoin}
 use Rattle.wire_story.specs.Format.Delivery.{LineOctet}
@@ -85,14 +85,17 @@ holds state texts a b text keeps is same = record {
   same = keeps;
   parts = sym is;
   wrote = subst (λ (d : Device). Wrote (device_of state a) d []) (sym same) (texts.none (device_of state a));
+  patience = subst (λ (d : Device). WithinInterruptionLimit 0 (device_of state a) d) (sym same) (omega arith);
 }
 
-pub lets_out : {W : Type 0} (state : W → Device) (a b : BlockWriter W) (octets : List ℕ) → KeepsWriter a b → octets ≡ held_of a → held_of b ≡ [] → Wrote (device_of state a) (device_of state b) octets → HasPut state a b []
-lets_out state a b octets same is none wrote = record {
+pub lets_out : {W : Type 0} (state : W → Device) (a b : BlockWriter W) (octets : List ℕ) → KeepsWriter a b → octets ≡ held_of a → held_of b ≡ [] → Wrote (device_of state a) (device_of state b) octets
+    → WithinInterruptionLimit (length octets) (device_of state a) (device_of state b) → HasPut state a b []
+lets_out state a b octets same is none wrote limit = record {
   out = octets;
   same = same;
   parts = append-nil (held_of a) ∙ sym is ∙ sym (ap (λ (t : List ℕ). octets ++ t) none ∙ append-nil octets);
   wrote = wrote;
+  patience = limit;
 }
 
 some_left : (n : ℕ) (xs : List ℕ) → n < length xs → 0 < length (drop n xs)
@@ -101,33 +104,39 @@ some_left zero (x ∷ xs) le = omega arith
 some_left (suc n) [] le = absurd (omega (arith, le))
 some_left (suc n) (x ∷ xs) le = some_left n xs (omega (arith, le))
 
-pub stays_stuck : {W : Type 0} (state : W → Device) (a b : BlockWriter W) (octets : List ℕ) (n : ℕ) → KeepsWriter a b → octets ≡ held_of a → held_of b ≡ drop n (held_of a) → Stopped (device_of state a) (device_of state b) octets n → Rose (stops_of a) (stops_of b) → StaysStuck state a b
-stays_stuck state a b octets n same is rest stopped rose = (
+pub stays_stuck : {W : Type 0} (state : W → Device) (a b : BlockWriter W) (octets : List ℕ) (n : ℕ) → KeepsWriter a b → octets ≡ held_of a → held_of b ≡ drop n (held_of a) → Stopped (device_of state a) (device_of state b) octets n
+    → WithinInterruptionLimit (n + 1) (device_of state a) (device_of state b) → Rose (stops_of a) (stops_of b) → StaysStuck state a b
+stays_stuck state a b octets n same is rest stopped limit rose = (
   record {
     out = take n octets;
     same = same;
     parts = append-nil (held_of a) ∙ sym is ∙ sym (ap (λ (t : List ℕ). take n octets ++ t) (rest ∙ ap (drop n) (sym is)) ∙ take-append-drop n octets);
     broke = (stopped.1, stopped.2);
+    patience = omega (arith, limit, stopped.0, length-take n octets);
   },
   subst (λ (t : List ℕ). 0 < length t) (sym (rest ∙ ap (drop n) (sym is))) (some_left n octets stopped.0),
   rose,
 )
 
 -- a text that is longer than a block, where nothing is held
-pub passes_through : {W : Type 0} (state : W → Device) (a b : BlockWriter W) (text : List ℕ) → KeepsWriter a b → HoldsNothing a → held_of b ≡ held_of a → Wrote (device_of state a) (device_of state b) text → HasPut state a b text
-passes_through state a b text keeps none same wrote = record {
+pub passes_through : {W : Type 0} (state : W → Device) (a b : BlockWriter W) (text : List ℕ) → KeepsWriter a b → HoldsNothing a → held_of b ≡ held_of a → Wrote (device_of state a) (device_of state b) text
+    → WithinInterruptionLimit (length text) (device_of state a) (device_of state b) → HasPut state a b text
+passes_through state a b text keeps none same wrote limit = record {
   out = text;
   same = keeps;
   parts = ap (λ (t : List ℕ). t ++ text) none ∙ sym (ap (λ (t : List ℕ). text ++ t) (same ∙ none) ∙ append-nil text);
   wrote = wrote;
+  patience = limit;
 }
 
-pub breaks_through : {W : Type 0} (state : W → Device) (a b : BlockWriter W) (text : List ℕ) (n : ℕ) → KeepsWriter a b → HoldsNothing a → held_of b ≡ held_of a → Stopped (device_of state a) (device_of state b) text n → HasStuck state a b (take n text)
-breaks_through state a b text n keeps none same stopped = record {
+pub breaks_through : {W : Type 0} (state : W → Device) (a b : BlockWriter W) (text : List ℕ) (n : ℕ) → KeepsWriter a b → HoldsNothing a → held_of b ≡ held_of a → Stopped (device_of state a) (device_of state b) text n
+    → WithinInterruptionLimit (n + 1) (device_of state a) (device_of state b) → HasStuck state a b (take n text)
+breaks_through state a b text n keeps none same stopped limit = record {
   out = take n text;
   same = keeps;
   parts = ap (λ (t : List ℕ). t ++ take n text) none ∙ sym (ap (λ (t : List ℕ). take n text ++ t) (same ∙ none) ∙ append-nil (take n text));
   broke = (stopped.1, stopped.2);
+  patience = omega (arith, limit, stopped.0, length-take n text);
 }
 
 pub stuck_on : {W : Type 0} (state : W → Device) → TextsJoin → (a b c : BlockWriter W) (xs ys : List ℕ) → HasPut state a b xs → HasStuck state b c ys → HasStuck state a c (xs ++ ys)
@@ -136,6 +145,7 @@ stuck_on state texts a b c xs ys first then = record {
   same = then.same ∙ first.same;
   parts = parts_on (held_of a) (held_of b) (held_of c) xs ys first.out then.out first.parts then.parts;
   broke = texts.broke (device_of state a) (device_of state b) (device_of state c) first.out then.out first.wrote then.broke;
+  patience = omega (arith, first.patience, then.patience, length-append first.out then.out);
 }
 
 -- ---- texts that are out, or cut short
@@ -172,6 +182,7 @@ cut_by_stuck state texts a b c text put stuck =
       parts = sym (ap (λ (t : List ℕ). held_of a ++ t) (append-nil text)) ∙ both.parts;
       some = stuck.1;
       broke = both.broke;
+      patience = both.patience;
     }
 
 -- a text was taken in part
@@ -185,6 +196,7 @@ cut_by_put state a b text n within stuck = record {
       ∙ append_assoc stuck.out (held_of b) (drop n text);
   some = longer (held_of b) (drop n text) (some_left n text within);
   broke = stuck.broke;
+  patience = stuck.patience;
 }
   where
     longer : (xs ys : List ℕ) → 0 < length ys → 0 < length (xs ++ ys)
@@ -200,6 +212,7 @@ cut_on state texts a b c xs ys put cut = record {
   parts = parts_on (held_of a) (held_of b) cut.rest xs ys put.out cut.out put.parts cut.parts;
   some = cut.some;
   broke = texts.broke (device_of state a) (device_of state b) (device_of state c) put.out cut.out put.wrote cut.broke;
+  patience = omega (arith, put.patience, cut.patience, length-append put.out cut.out);
 }
 
 -- ---- of answers

@@ -1,5 +1,5 @@
 -- The laws of writers of blocks, handed in by their impls.
-use Rattle.std.proofs.Common.{◌≡◌, ℕ, List, [], ◌++◌, map, refl, sym, ap, subst, ◌∙◌, append-nil, append_assoc, arith}
+use Rattle.std.proofs.Common.{◌≡◌, ℕ, List, [], ◌++◌, map, refl, sym, ap, subst, ◌∙◌, append-nil, append_assoc, length-append, arith}
 use Rattle.std.proofs.lemmas.List.{map-append}
 use Rattle.iim_dataset.specs.States.Devices.{Device}
 use Rattle.iim_dataset.specs.Appending.{appends_nothing, appends_joined}
@@ -38,7 +38,7 @@ puts_joined state a b c xs ys first then =
 -- ---- where no write failed
 
 pub put_nothing : {W : Type 0} (state : W → Device) (b : BlockWriter W) → HasPut state b b []
-put_nothing state b = record { out = []; same = refl; parts = append-nil (held_of b); wrote = (appends_nothing (device_of state b).octets, (refl, omega arith)) }
+put_nothing state b = record { out = []; same = refl; parts = append-nil (held_of b); wrote = (appends_nothing (device_of state b).octets, (refl, omega arith)); patience = omega arith }
 
 pub put_on : {W : Type 0} (state : W → Device) (a b c : BlockWriter W) (xs ys : List ℕ) → HasPut state a b xs → HasPut state b c ys → HasPut state a c (xs ++ ys)
 put_on state a b c xs ys first then = record {
@@ -49,4 +49,5 @@ put_on state a b c xs ys first then = record {
     appends_joined (device_of state a).octets (device_of state b).octets (device_of state c).octets first.out then.out first.wrote.0 then.wrote.0,
     (then.wrote.1.0 ∙ first.wrote.1.0, omega (arith, first.wrote.1.1, then.wrote.1.1)),
   );
+  patience = omega (arith, first.patience, then.patience, length-append first.out then.out);
 }

@@ -1,7 +1,7 @@
 //! The lines of `check`.
 
-ghost use Rattle.std.specs.Prelude.{◌≡◌, ◌++◌, IfErr, OnOk};
-ghost use Rattle.iim_dataset.specs.States.Devices.{Wrote};
+ghost use Rattle.std.specs.Prelude.{◌≡◌, ◌++◌, length, IfErr, OnOk};
+ghost use Rattle.iim_dataset.specs.States.Devices.{Wrote, WithinInterruptionLimit};
 ghost use Rattle.iim_output.specs.Format.Said.{IsSaid, IsUnsaid};
 ghost use Rattle.iim_output.specs.States.Holding.{HasPut, HoldsNothing};
 ghost use Rattle.iim_output.specs.States.Holding.{IsUnadded};
@@ -23,6 +23,8 @@ pub const TOO_MANY: &str = "too many envelopes\n";
 pub fn say<W: Target>(output: &mut W, text: &[u8]) -> Result<(), CommandFault>
     ensures ok { OnOk result (Wrote (W.state output.old) (W.state output.new) text.now) }
     ensures err { IfErr result (IsUnsaid (W.state output.old) (W.state output.new) text.now) }
+    // A million interruptions at most for each octet of the text.
+    ensures patience { WithinInterruptionLimit (length text.now) (W.state output.old) (W.state output.new) }
 {
     match put(output, text) {
         Ok(()) => Ok(()),
@@ -57,7 +59,9 @@ pub fn add_last<W: Target>(output: &mut BlockWriter<'_, W>, text: &[u8]) -> Resu
 
 /// Writes a text, and answers the status, or that of a fault where it can't be written.
 pub fn tell<E: Target>(errors: &mut E, text: &[u8], status: u8) -> u8
-    ensures { IsSaid (E.state errors.old) (E.state errors.new) text.now status result }
+    ensures said { IsSaid (E.state errors.old) (E.state errors.new) text.now status result }
+    // As of `say`.
+    ensures patience { WithinInterruptionLimit (length text.now) (E.state errors.old) (E.state errors.new) }
 {
     match put(errors, text) {
         Ok(()) => status,

@@ -1,5 +1,5 @@
 -- How the end of an object is written.
-use Rattle.std.proofs.Common.{◌≡◌, ℕ, ◌+◌, ◌≤◌, false, None, List, [], ◌++◌, length, refl, sym, subst, append_assoc, append-nil}
+use Rattle.std.proofs.Common.{◌≡◌, ℕ, ◌+◌, ◌≤◌, false, None, List, [], ◌++◌, length, refl, sym, subst, append_assoc, append-nil, arith, length-append}
 use Rattle.std.proofs.lemmas.Bool.{le-leb}
 use Rattle.iim_dataset.specs.States.Devices.{Device}
 use Rattle.iim_dataset.specs.Laws.Devices.{TextsJoin}
@@ -14,6 +14,7 @@ pub ends : {W : Type 0} (state : W → Device) (old mid : Writing W) (tail : Lis
 ends state old mid tail writer join l f = record {
   more = l.more ++ f.more;
   wrote = join.more (state old.writer) (state mid.writer) (state writer) l.more f.more l.wrote f.wrote;
+  patience = omega (arith, l.patience, f.patience, length-append l.more f.more);
   whole = λ object out s.
       subst (λ (p : Plan). IsWritten p.subfile p.size (object ++ tail) (out ++ (l.more ++ f.more))) l.plan
       (subst (λ (t : List ℕ). IsWritten mid.plan.subfile mid.plan.size (object ++ tail) t) (append_assoc out l.more f.more) (f.whole (object ++ tail) (out ++ l.more) (l.stands object out s)));

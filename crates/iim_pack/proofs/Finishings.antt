@@ -67,6 +67,7 @@ pub finished : {W : Type 0} (state : W → Device) (before : ℕ) (old : Writing
 finished state before old trailer writer lines messages may ends = record {
   more = ends.more;
   wrote = ends.wrote;
+  patience = ends.patience;
   whole = λ fields head events plan out s.
       let lined = lines events s.events_are in
       let message = messages head (lines_of events) trailer s.header lined.make may.trailer_is in

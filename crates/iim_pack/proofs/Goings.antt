@@ -41,6 +41,7 @@ pub lengthened : {W : Type 0} (state : W → Device) (before : ℕ) (old new : W
 lengthened state before old new events are l = record {
   more = l.more;
   wrote = l.wrote;
+  patience = l.patience;
   counted = omega (arith, l.counted);
   total = l.total;
   unfailed = l.unfailed;
@@ -84,6 +85,7 @@ breaks state before May Form old new parts k = record {
   more = k.more;
   appends = k.appends;
   broke = k.broke;
+  patience = k.patience;
   failed = k.failed;
   counted = omega (arith, k.counted);
   begins = λ fields head evs plan out whole s form.

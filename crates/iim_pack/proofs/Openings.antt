@@ -3,7 +3,7 @@ use Rattle.std.proofs.Common.{◌≡◌, ℕ, ◌+◌, ◌≤◌, None, List, []
 use Rattle.std.proofs.lemmas.List.{take-append-drop}
 use Rattle.std.proofs.lemmas.Bool.{le-leb}
 use Rattle.std.specs.Io.KnownBytes.{Appends}
-use Rattle.iim_dataset.specs.States.Devices.{Device, Wrote, Stopped, Broke}
+use Rattle.iim_dataset.specs.States.Devices.{Device, Wrote, Stopped, Broke, WithinInterruptionLimit}
 use Rattle.iim_dataset.specs.Laws.Devices.{TextsJoin}
 use Rattle.iim_dataset.specs.Format.Datasets.{canonical_stream}
 use Rattle.iim_object.specs.Format.Packing.{IsWritten, plan_datasets, subfile_datasets, confirmed_datasets}
@@ -32,21 +32,23 @@ whole_begins plan xs whole w = w.octets_are ∙ stream_append (plan_datasets pla
 
 -- record 7 could not be written
 pub not_begun : {W : Type 0} (state : W → Device) (writer : W) (plan : Plan) (front : List ℕ) (fault : StartFault W) → fault.cause ≡ causes.Write → Stopped (state writer) (state fault.writer) (plan_octets plan) fault.written
-    → StartBreaksOff state (IsWrittenFrom plan front) writer fault
-not_begun state writer plan front fault cause s = record {
+    → WithinInterruptionLimit (fault.written + 1) (state writer) (state fault.writer) → StartBreaksOff state (IsWrittenFrom plan front) writer fault
+not_begun state writer plan front fault cause s limit = record {
   cause_is = cause;
   out = take fault.written (plan_octets plan);
   appends = s.1;
   broke = s.2;
+  patience = omega (arith, limit, front_length fault.written (plan_octets plan) s.0);
   counted = sym (front_length fault.written (plan_octets plan) s.0);
   begins = λ whole w. begins_by (plan_octets plan) (canonical_stream (subfile_datasets w.1.parts ++ confirmed_datasets (front ++ w.0))) whole fault.written (whole_begins plan (front ++ w.0) whole w.1);
 }
 
 pub opened : {W : Type 0} (state : W → Device) (writer : W) (plan : Plan) (front : List ℕ) (first new : Writing W) → TextsJoin → first.plan ≡ plan → HasWritten first [] (plan_octets plan) → Wrote (state writer) (state first.writer) (plan_octets plan)
-    → Lengthens state first new front → Opens state writer plan front new
-opened state writer plan front first new join is_plan s wrote l = record {
+    → WithinInterruptionLimit (length (plan_octets plan)) (state writer) (state first.writer) → Lengthens state first new front → Opens state writer plan front new
+opened state writer plan front first new join is_plan s wrote limit l = record {
   out = plan_octets plan ++ l.more;
   wrote = join.more (state writer) (state first.writer) (state new.writer) (plan_octets plan) l.more wrote l.wrote;
+  patience = omega (arith, limit, l.patience, length-append (plan_octets plan) l.more);
   is_plan = l.plan ∙ is_plan;
   stands = l.stands [] (plan_octets plan) s;
   counted = omega (arith, l.counted, s.written, length-append (plan_octets plan) l.more);
@@ -55,14 +57,15 @@ opened state writer plan front first new join is_plan s wrote l = record {
 
 -- the octets of the beginning could not be written
 pub opening_broke : {W : Type 0} (state : W → Device) (writer : W) (plan : Plan) (front : List ℕ) (first new : Writing W) (fault : StartFault W) → TextsJoin → first.plan ≡ plan → HasWritten first [] (plan_octets plan)
-    → Wrote (state writer) (state first.writer) (plan_octets plan) → BreaksOff state (ContinuesWith first.plan front) first new → fault.cause ≡ causes.Write → fault.writer ≡ new.writer → fault.written ≡ new.written
+    → Wrote (state writer) (state first.writer) (plan_octets plan) → WithinInterruptionLimit (length (plan_octets plan)) (state writer) (state first.writer) → BreaksOff state (ContinuesWith first.plan front) first new → fault.cause ≡ causes.Write → fault.writer ≡ new.writer → fault.written ≡ new.written
     → StartBreaksOff state (IsWrittenFrom plan front) writer fault
-opening_broke state writer plan front first new fault join is_plan s wrote k cause handed written = record {
+opening_broke state writer plan front first new fault join is_plan s wrote limit k cause handed written = record {
   cause_is = cause;
   out = plan_octets plan ++ k.more;
   appends = subst (λ w. Appends (state writer).octets (state w).octets (plan_octets plan ++ k.more)) (sym handed)
       (join.broke (state writer) (state first.writer) (state new.writer) (plan_octets plan) k.more wrote (k.appends, k.broke)).0;
   broke = subst (λ w. Broke (state writer) (state w)) (sym handed) (join.broke (state writer) (state first.writer) (state new.writer) (plan_octets plan) k.more wrote (k.appends, k.broke)).1;
+  patience = subst (λ w. WithinInterruptionLimit (length (plan_octets plan ++ k.more) + 1) (state writer) (state w)) (sym handed) (omega (arith, limit, k.patience, length-append (plan_octets plan) k.more));
   counted = omega (arith, written, k.counted, s.written, length-append (plan_octets plan) k.more);
   begins = λ whole w. k.begins [] (plan_octets plan) whole s (w.0, subst (λ (p : Plan). IsWritten p.subfile p.size (front ++ w.0) whole) (sym is_plan) w.1);
 }

@@ -1,6 +1,6 @@
 -- How a packer begins.
 use Rattle.std.proofs.Common.{◌≡◌, ℕ, ◌+◌, List, [], ◌++◌, length, take, refl, sym, subst, ◌∙◌, arith, append-nil, length-append, length-take}
-use Rattle.iim_dataset.specs.States.Devices.{Device, Wrote, Stopped, Broke}
+use Rattle.iim_dataset.specs.States.Devices.{Device, Wrote, Stopped, Broke, WithinInterruptionLimit}
 use Rattle.std.specs.Io.KnownBytes.{Appends}
 use Rattle.iim_dataset.specs.Laws.Devices.{TextsJoin}
 use Rattle.iim_dataset.specs.Format.Datasets.{Dataset, canonical_stream}
@@ -21,26 +21,29 @@ use Rattle.iim_pack.proofs.Openings.{begins_by}
 
 -- records 1 and 2 could not be written
 pub fields_broke : {W : Type 0} (state : W → Device) (writer : W) (fields : List Dataset) (head : Header) (plan : Plan) (fault : StartFault W) → fault.cause ≡ causes.Write
-    → Stopped (state writer) (state fault.writer) (canonical_stream fields) fault.written → StartBreaksOff state (FormWith fields head plan []) writer fault
-fields_broke state writer fields head plan fault cause s = record {
+    → Stopped (state writer) (state fault.writer) (canonical_stream fields) fault.written
+    → WithinInterruptionLimit (fault.written + 1) (state writer) (state fault.writer) → StartBreaksOff state (FormWith fields head plan []) writer fault
+fields_broke state writer fields head plan fault cause s limit = record {
   cause_is = cause;
   out = take fault.written (canonical_stream fields);
   appends = s.1;
   broke = s.2;
+  patience = omega (arith, limit, s.0, length-take fault.written (canonical_stream fields));
   counted = omega (arith, s.0, length-take fault.written (canonical_stream fields));
   begins = λ whole form. begins_by (canonical_stream fields) form.packed.object whole fault.written form.packed.octets_are;
 }
 
 -- the object could not be begun after them
 pub object_broke : {W : Type 0} (state : W → Device) (writer first : W) (fields : List Dataset) (head : Header) (plan : Plan) (before : ℕ) (fault new : StartFault W) → TextsJoin → Wrote (state writer) (state first) (canonical_stream fields)
-    → before ≡ length (canonical_stream fields) → StartBreaksOff state (IsWrittenFrom plan (packed_head head)) first fault → new.cause ≡ fault.cause → new.writer ≡ fault.writer → new.written ≡ before + fault.written
+    → before ≡ length (canonical_stream fields) → WithinInterruptionLimit before (state writer) (state first) → StartBreaksOff state (IsWrittenFrom plan (packed_head head)) first fault → new.cause ≡ fault.cause → new.writer ≡ fault.writer → new.written ≡ before + fault.written
     → StartBreaksOff state (FormWith fields head plan []) writer new
-object_broke state writer first fields head plan before fault new join wrote counted h cause handed written = record {
+object_broke state writer first fields head plan before fault new join wrote counted limit h cause handed written = record {
   cause_is = cause ∙ h.cause_is;
   out = canonical_stream fields ++ h.out;
   appends = subst (λ w. Appends (state writer).octets (state w).octets (canonical_stream fields ++ h.out)) (sym handed)
       (join.broke (state writer) (state first) (state fault.writer) (canonical_stream fields) h.out wrote (h.appends, h.broke)).0;
   broke = subst (λ w. Broke (state writer) (state w)) (sym handed) (join.broke (state writer) (state first) (state fault.writer) (canonical_stream fields) h.out wrote (h.appends, h.broke)).1;
+  patience = subst (λ w. WithinInterruptionLimit (length (canonical_stream fields ++ h.out) + 1) (state writer) (state w)) (sym handed) (omega (arith, limit, counted, h.patience, length-append (canonical_stream fields) h.out));
   counted = omega (arith, written, counted, h.counted, length-append (canonical_stream fields) h.out);
   begins = λ whole form.
       subst (λ (w : List ℕ). Begins (canonical_stream fields ++ h.out) w) (sym form.packed.octets_are)
@@ -48,11 +51,13 @@ object_broke state writer first fields head plan before fault new join wrote cou
 }
 
 pub started : {W : Type 0} (state : W → Device) (writer first : W) (fields : List Dataset) (head : Header) (plan : Plan) (before : ℕ) (new : Writing W) → TextsJoin → IsEnvelope fields → IsHeader head
-    → Wrote (state writer) (state first) (canonical_stream fields) → before ≡ length (canonical_stream fields) → Opens state first plan (packed_head head) new
+    → Wrote (state writer) (state first) (canonical_stream fields) → before ≡ length (canonical_stream fields)
+    → WithinInterruptionLimit before (state writer) (state first) → Opens state first plan (packed_head head) new
     → Starts state writer fields head plan (record { before = before; object = new })
-started state writer first fields head plan before new join envelope header wrote counted o = record {
+started state writer first fields head plan before new join envelope header wrote counted limit o = record {
   out = canonical_stream fields ++ o.out;
   wrote = join.more (state writer) (state first) (state new.writer) (canonical_stream fields) o.out wrote o.wrote;
+  patience = omega (arith, limit, counted, o.patience, length-append (canonical_stream fields) o.out);
   counted = omega (arith, counted, o.counted, length-append (canonical_stream fields) o.out);
   total = o.total;
   stands = record {

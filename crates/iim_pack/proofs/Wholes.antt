@@ -1,7 +1,7 @@
 -- A whole envelope packed in one call.
 use Rattle.std.proofs.Common.{◌≡◌, ℕ, ◌+◌, ◌≤◌, true, false, not, nat_le, None, inl, inr, List, [], ◌∷◌, ◌++◌, length, refl, sym, ap, subst, ◌∙◌, arith, append-nil, length-append}
 use Rattle.std.proofs.lemmas.Bool.{leb-true, le-leb, not-false}
-use Rattle.iim_dataset.specs.States.Devices.{Device, Wrote, BrokeAfter}
+use Rattle.iim_dataset.specs.States.Devices.{Device, Wrote, BrokeAfter, WithinInterruptionLimit}
 use Rattle.iim_dataset.specs.Laws.Devices.{TextsJoin}
 use Rattle.iim_dataset.specs.Format.Datasets.{Dataset}
 use Rattle.iim_object.specs.Format.Plans.{is_short}
@@ -34,6 +34,7 @@ pub packs : {W : Type 0} (state : W → Device) (writer last : W) (fields : List
 packs state writer last fields head lines trailer plan a b join again s l f = record {
   out = (s.out ++ l.more) ++ f.more;
   wrote = join.more (state writer) (state b.object.writer) (state last) (s.out ++ l.more) f.more (join.more (state writer) (state a.object.writer) (state b.object.writer) s.out l.more s.wrote l.wrote) f.wrote;
+  patience = omega (arith, s.patience, l.patience, f.patience, length-append s.out l.more, length-append (s.out ++ l.more) f.more);
   packed = subst (λ (ls : List (List ℕ)). Packed fields head ls trailer plan ((s.out ++ l.more) ++ f.more)) again
       (f.whole fields head (events_of_lines lines) plan (s.out ++ l.more) (l.stands fields head [] plan s.out s.stands));
 }
@@ -41,12 +42,14 @@ packs state writer last fields head lines trailer plan a b join again s l f = re
 -- a write failed after a beginning
 pub halts_after : {W : Type 0} (state : W → Device) (Form : List ℕ → Type 0) (writer middle : W) (fault : StartFault W) (out more : List ℕ) (before : ℕ) → TextsJoin → Wrote (state writer) (state middle) out
     → BrokeAfter (state middle) (state fault.writer) more → fault.cause ≡ causes.Write → fault.written ≡ before + length more → before ≡ length out
+    → WithinInterruptionLimit (length out) (state writer) (state middle) → WithinInterruptionLimit (length more + 1) (state middle) (state fault.writer)
     → ((whole : List ℕ) → Form whole → Begins (out ++ more) whole) → StartBreaksOff state Form writer fault
-halts_after state Form writer middle fault out more before join wrote broke cause written counted begins = record {
+halts_after state Form writer middle fault out more before join wrote broke cause written counted limit rest begins = record {
   cause_is = cause;
   out = out ++ more;
   appends = (join.broke (state writer) (state middle) (state fault.writer) out more wrote broke).0;
   broke = (join.broke (state writer) (state middle) (state fault.writer) out more wrote broke).1;
+  patience = omega (arith, limit, rest, length-append out more);
   counted = omega (arith, written, counted, length-append out more);
   begins = begins;
 }
@@ -57,6 +60,7 @@ pub lines_broke : {W : Type 0} (state : W → Device) (writer : W) (fields : Lis
 lines_broke state writer fields head lines trailer plan a b fault join s k cause handed written =
     halts_after state (Packed fields head lines trailer plan) writer a.object.writer fault s.out k.more (written_of a) join s.wrote
     (subst (λ w. BrokeAfter (state a.object.writer) (state w) k.more) (sym handed) (k.appends, k.broke)) cause (written ∙ k.counted) s.counted
+    s.patience (subst (λ w. WithinInterruptionLimit (length k.more + 1) (state a.object.writer) (state w)) (sym handed) k.patience)
     (λ whole p. k.begins fields head [] plan s.out whole s.stands (record { lines = lines; trailer = trailer; packed = p; rest = []; begins = sym (append-nil (events_of_lines lines)) }))
 
 pub finish_broke : {W : Type 0} (state : W → Device) (writer : W) (fields : List Dataset) (head : Header) (lines : List (List ℕ)) (trailer : List ℕ) (plan : Plan) (a b d : Packing W) (fault : StartFault W) → TextsJoin → lines_of (events_of_lines lines) ≡ lines
@@ -66,6 +70,8 @@ finish_broke state writer fields head lines trailer plan a b d fault join again 
     let wrote = join.more (state writer) (state a.object.writer) (state b.object.writer) s.out l.more s.wrote l.wrote in
     halts_after state (Packed fields head lines trailer plan) writer b.object.writer fault (s.out ++ l.more) k.more (written_of b) join wrote
     (subst (λ w. BrokeAfter (state b.object.writer) (state w) k.more) (sym handed) (k.appends, k.broke)) cause (written ∙ k.counted) (omega (arith, l.counted, s.counted, length-append s.out l.more))
+    (omega (arith, s.patience, l.patience, length-append s.out l.more))
+    (subst (λ w. WithinInterruptionLimit (length k.more + 1) (state b.object.writer) (state w)) (sym handed) k.patience)
     (λ whole p. k.begins fields head (events_of_lines lines) plan (s.out ++ l.more) whole (l.stands fields head [] plan s.out s.stands)
     (subst (λ (ls : List (List ℕ)). Packed fields head ls trailer plan whole) (sym again) p))
 
@@ -78,6 +84,7 @@ not_started state writer fields head lines trailer plan fault (inr h) = inr (rec
   out = h.out;
   appends = h.appends;
   broke = h.broke;
+  patience = h.patience;
   counted = h.counted;
   begins = λ whole p. h.begins whole (record { lines = lines; trailer = trailer; packed = p; rest = events_of_lines lines; begins = refl });
 })

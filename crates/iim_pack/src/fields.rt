@@ -2,7 +2,7 @@
 
 ghost use Rattle.std.specs.Prelude.{◌≡◌, ◌+◌, ◌<◌, ◌^◌, length, IfOk, IfErr, OnOk};
 ghost use Rattle.iim_dataset.specs.Format.Datasets.{canonical_stream};
-ghost use Rattle.iim_dataset.specs.States.Devices.{Wrote, Stopped};
+ghost use Rattle.iim_dataset.specs.States.Devices.{Wrote, Stopped, WithinInterruptionLimit};
 ghost use Rattle.iim_fields.specs.Format.Envelopes.{IsEnvelope};
 
 use iim_dataset::device_laws::texts_join;
@@ -16,6 +16,10 @@ pub(crate) fn put_fields<W: Target>(writer: &mut W, envelope: &Envelope) -> Resu
     ensures small { IfOk result (λ out. out < 2 ^ 40) }
     ensures envelope { IsEnvelope envelope.now }
     ensures err { IfErr result (Stopped (W.state writer.old) (W.state writer.new) (canonical_stream envelope.now)) }
+    // A million interruptions at most for each octet that is out, and one million more where a write failed.
+    ensures patience { IfOk result (λ out. WithinInterruptionLimit out (W.state writer.old) (W.state writer.new)) }
+    ensures given_up { IfErr result (λ out.
+        WithinInterruptionLimit (out + 1) (W.state writer.old) (W.state writer.new)) }
 {
     texts_join();
     let mut fields = envelope.fields();

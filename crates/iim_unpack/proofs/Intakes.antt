@@ -4,7 +4,7 @@ use Rattle.std.specs.Prelude.{IsTrue, ◌↔◌, IfNone, IfSome}
 use Rattle.std.proofs.lemmas.List.{get_or-append-add, length-take-le}
 use Rattle.std.proofs.Math.Seq.{take-append-add}
 use Rattle.std.specs.Io.KnownBytes.{IsAtEnd}
-use Rattle.iim_dataset.specs.States.Devices.{Device, HasGiven, MissedAfter}
+use Rattle.iim_dataset.specs.States.Devices.{Device, HasGiven, MissedAfter, WithinInterruptionLimit}
 use Rattle.iim_dataset.specs.Laws.Devices.{GiftsJoin}
 use Rattle.iim_dataset.specs.declared.device.IoFault.{IoFault}
 use Rattle.iim_dataset.specs.declared.device.IoFault.TheVariants as io
@@ -20,11 +20,12 @@ use Rattle.iim_unpack.specs.States.Unpacking.{Unpacking, Stands, IsDoneWith, Goe
 use Rattle.iim_places.specs.States.Counts.{raised}
 use Rattle.iim_unpack.specs.UnpackerInside.{Stood}
 use Rattle.iim_places.specs.Format.Open.{IsOpen, IsTextOf, Delivers, IsTruncatedAt, RefusesNext}
-use Rattle.iim_unpack.specs.IntakeSteps.{read_fault}
-use Rattle.iim_unpack.specs.States.Intakes.{FedEnvelope, FedPiece, HasFed, StandsOn, WasDone, WasEnded, IsRefusedOf, IsTruncatedIn, WasRefused, WasTruncated, WasMissed, WasGiven, IsReady, Faults}
+use Rattle.iim_unpack.specs.IntakeSteps.{IsRefusedPiece, read_fault}
+use Rattle.iim_unpack.specs.States.Intakes.{FedEnvelope, FedPiece, HasFed, StandsOn, WasDone, WasEnded, IsRefusedOf, IsTruncatedIn, WasRefused, WasTruncated, WasMissed, WasGiven, IsReady, Faults, GivesNothing, in_line}
 use Rattle.iim_places.specs.Laws.Streams.{OpenOctetsAreBounded}
 use Rattle.iim_unpack.specs.declared.intake.Fed.{Fed}
 use Rattle.iim_unpack.specs.declared.intake.Fed.TheVariants as piece
+use Rattle.iim_unpack.specs.declared.intake.Intake.{Intake}
 use Rattle.iim_unpack.specs.declared.intake.IntakeFault.{IntakeFault}
 use Rattle.iim_unpack.specs.declared.intake.IntakeFault.TheVariants.{Refused, Read, Interrupted}
 use Rattle.iim_unpack.proofs.Feeding.{stood_stands}
@@ -75,25 +76,26 @@ stands_still u low p n at = (subst (λ (q : List ℕ). Stands u q (raised n 0)) 
 
 -- ---- one piece
 
-pub piece_more : {S : Type 0} (goes : S → List story.StoryEvent → S → Type 0) (old new : Device) (u v : Unpacking) (a b : S) (used : ℕ) (piece : List ℕ) → HasGiven old new piece → used ≡ raised 0 (length piece) → limits_in v ≡ limits_in u
+pub piece_more : {S : Type 0} (goes : S → List story.StoryEvent → S → Type 0) (old new : Device) (u v : Unpacking) (a b : S) (used : ℕ) (piece : List ℕ) → HasGiven old new piece → new.interruptions ≡ old.interruptions → used ≡ raised 0 (length piece) → limits_in v ≡ limits_in u
     → (progress : Progress) → progress ≡ More → ((more : List story.StoryEvent) × goes a more b × ((p : List ℕ) (n : ℕ) → Stands u p n → Goes v p n piece more progress)) → HasFed goes old new u v a b used
-piece_more goes old new u v a b used piece given count same progress is (more, told, onward) = record {
+piece_more goes old new u v a b used piece given still count same progress is (more, told, onward) = record {
   octets = piece;
   more = more;
-  came = record { given = given; told = told };
+  came = record { given = given; told = told; patience = omega (arith, still) };
+  patience = omega (arith, still);
   counts = count;
   limits = same;
   stands = λ p n at. subst (λ (x : Progress). Goes v p n piece more x) is (onward p n at);
 }
 
-pub piece_done : {S : Type 0} (goes : S → List story.StoryEvent → S → Type 0) (old new : Device) (u v : Unpacking) (a b : S) (used last : ℕ) (piece : List ℕ) → HasGiven old new (take last piece) → last ≤ length piece → used ≡ raised 0 last
+pub piece_done : {S : Type 0} (goes : S → List story.StoryEvent → S → Type 0) (old new : Device) (u v : Unpacking) (a b : S) (used last : ℕ) (piece : List ℕ) → HasGiven old new (take last piece) → new.interruptions ≡ old.interruptions → last ≤ length piece → used ≡ raised 0 last
     → limits_in v ≡ limits_in u → (progress : Progress) → progress ≡ Done last → ((more : List story.StoryEvent) × goes a more b × ((p : List ℕ) (n : ℕ) → Stands u p n → Goes v p n piece more progress)) → WasDone goes old new u v a b used
-piece_done goes old new u v a b used last piece given fit count same progress is (more, told, onward) =
+piece_done goes old new u v a b used last piece given still fit count same progress is (more, told, onward) =
     let len : length (take last piece) ≡ last = length-take-le last piece fit in
     record {
       octets = take last piece;
       more = more;
-      came = record { given = given; told = told };
+      came = record { given = given; told = told; patience = omega (arith, still) };
       limits = same;
       counts = count ∙ ap (raised 0) (sym len);
       done = λ p n at.
@@ -101,12 +103,12 @@ piece_done goes old new u v a b used last piece given fit count same progress is
           (subst (λ k. IsDoneWith v (p ++ take last piece) (raised n k)) (sym len) then_, adds);
     }
 
-pub piece_refused : {S : Type 0} (goes : S → List story.StoryEvent → S → Type 0) (failures : S → ℕ) (old new : Device) (u v : Unpacking) (a b : S) (piece : List ℕ) (e : Refusal) → HasGiven old new piece → CountsFor e.cause (failures a) (failures b)
+pub piece_refused : {S : Type 0} (goes : S → List story.StoryEvent → S → Type 0) (failures : S → ℕ) (old new : Device) (u v : Unpacking) (a b : S) (piece : List ℕ) (e : Refusal) → HasGiven old new piece → new.interruptions ≡ old.interruptions → CountsFor e.cause (failures a) (failures b)
     → v.refused ≡ Some e.octet → ((more : List story.StoryEvent) × goes a more b × ((p : List ℕ) (n : ℕ) → Stands u p n → IsRefusedIn (limits_in u) p n piece more e)) → WasRefused goes failures old new u v a b e
-piece_refused goes failures old new u v a b piece e given counts refused (more, told, refuses) = record {
+piece_refused goes failures old new u v a b piece e given still counts refused (more, told, refuses) = record {
   octets = piece;
   more = more;
-  came = record { given = given; told = told };
+  came = record { given = given; told = told; patience = omega (arith, still) };
   counts = counts;
   refused = refused;
   refuses = λ p n at.
@@ -114,14 +116,65 @@ piece_refused goes failures old new u v a b piece e given counts refused (more, 
       record { k = is.k; within = is.within; fault = is.fault; refusal = is.refusal; adds = λ text t. (is.added, is.adds text t, is.delivers); refuses = is.refuses };
 }
 
+-- ---- one piece, after a read
+
+pub read_and_fed : {S : Type 0} (goes : S → List story.StoryEvent → S → Type 0) (old mid new : Device) (u v : Unpacking) (a b : S) → GiftsJoin → HasGiven old mid [] → WithinInterruptionLimit 1 old mid → new.interruptions ≡ mid.interruptions → (fed : Fed)
+    → FedPiece goes (mid, u, a) (new, v, b) fed → FedPiece goes (old, u, a) (new, v, b) fed
+read_and_fed goes old mid new u v a b joins none limit still (piece.More used) (some, ready, h) = (
+  some,
+  ready,
+  record {
+    octets = h.octets;
+    more = h.more;
+    came = record { given = joins.more old mid new [] h.octets none h.came.given; told = h.came.told; patience = omega (arith, limit, still) };
+    patience = omega (arith, limit, still, some, h.counts);
+    counts = h.counts;
+    limits = h.limits;
+    stands = h.stands;
+  },
+)
+read_and_fed goes old mid new u v a b joins none limit still (piece.Done used) h = record {
+  octets = h.octets;
+  more = h.more;
+  came = record { given = joins.more old mid new [] h.octets none h.came.given; told = h.came.told; patience = omega (arith, limit, still) };
+  limits = h.limits;
+  counts = h.counts;
+  done = h.done;
+}
+read_and_fed goes old mid new u v a b joins none limit still piece.End (same, h) = (
+  same,
+  record { given = joins.more old mid new [] [] none h.given; at_end = h.at_end; patience = omega (arith, limit, still); still = h.still; none = h.none },
+)
+
+read_and_was_refused : {S : Type 0} (goes : S → List story.StoryEvent → S → Type 0) (failures : S → ℕ) (old mid new : Device) (u v : Unpacking) (a b : S) (e : Refusal) → GiftsJoin → HasGiven old mid [] → WithinInterruptionLimit 1 old mid
+    → new.interruptions ≡ mid.interruptions → WasRefused goes failures mid new u v a b e → WasRefused goes failures old new u v a b e
+read_and_was_refused goes failures old mid new u v a b e joins none limit still h = record {
+  octets = h.octets;
+  more = h.more;
+  came = record { given = joins.more old mid new [] h.octets none h.came.given; told = h.came.told; patience = omega (arith, limit, still) };
+  counts = h.counts;
+  refused = h.refused;
+  refuses = h.refuses;
+}
+
+pub read_and_refused : {R S : Type 0} (goes : S → List story.StoryEvent → S → Type 0) (failures : S → ℕ) (state : R → Device) (old mid new : Intake R) (u v : Unpacking) (a b : S) → GiftsJoin → HasGiven (in_line state old) (in_line state mid) []
+    → WithinInterruptionLimit 1 (in_line state old) (in_line state mid) → (state new.reader).interruptions ≡ (state mid.reader).interruptions → (fault : IntakeFault) → IsRefusedPiece goes failures state (mid, u, a) (new, v, b) fault
+    → GivesNothing goes failures state (old, u, a) (new, v, b) fault
+read_and_refused goes failures state old mid new u v a b joins none limit still fault (e, is, failed, was) = (
+  e.octet,
+  failed,
+  subst (λ (f : IntakeFault). Faults goes failures (in_line state old) (in_line state new) u v a b e.octet f) (sym is)
+      (refl, inl (read_and_was_refused goes failures (in_line state old) (in_line state mid) (in_line state new) u v a b e joins none limit still was)),
+)
+
 -- ---- nothing came
 
-pub none_truncated : {S : Type 0} (goes : S → List story.StoryEvent → S → Type 0) (failures : S → ℕ) (old new : Device) (u : Unpacking) (a : S) (e : Refusal) → u.octets < 2 ^ 64 → goes a [] a → HasGiven old new [] → IsAtEnd new.octets
+pub none_truncated : {S : Type 0} (goes : S → List story.StoryEvent → S → Type 0) (failures : S → ℕ) (old new : Device) (u : Unpacking) (a : S) (e : Refusal) → u.octets < 2 ^ 64 → goes a [] a → HasGiven old new [] → WithinInterruptionLimit 1 old new → IsAtEnd new.octets
     → ((p : List ℕ) (n : ℕ) → Stands u p n → (p ≡ [] → ⊥) × IsTruncatedAt p n e) → WasTruncated goes failures old new u u a a e
-none_truncated goes failures old new u a e low nothing given end is = record {
+none_truncated goes failures old new u a e low nothing given limit end is = record {
   octets = [];
   more = [];
-  came = record { given = given; told = nothing };
+  came = record { given = given; told = nothing; patience = limit };
   at_end = end;
   calm = refl;
   limits = refl;
@@ -133,11 +186,11 @@ none_truncated goes failures old new u a e low nothing given end is = record {
 }
 
 pub none_missed : {S : Type 0} (goes : S → List story.StoryEvent → S → Type 0) (failures : S → ℕ) (old new : Device) (u : Unpacking) (a : S) (kept : ℕ) (fault : IoFault) (answer : IntakeFault) → u.octets < 2 ^ 64 → goes a [] a
-    → MissedAfter old new [] fault → kept ≡ u.octets → answer ≡ read_fault fault → Faults goes failures old new u u a a kept answer
-none_missed goes failures old new u a kept fault answer low nothing missed counts is = subst (λ (x : IntakeFault). Faults goes failures old new u u a a kept x) (sym is) (by fault missed)
+    → MissedAfter old new [] fault → WithinInterruptionLimit 1 old new → kept ≡ u.octets → answer ≡ read_fault fault → Faults goes failures old new u u a a kept answer
+none_missed goes failures old new u a kept fault answer low nothing missed limit counts is = subst (λ (x : IntakeFault). Faults goes failures old new u u a a kept x) (sym is) (by fault missed)
   where
     was : (fault' : IoFault) → MissedAfter old new [] fault' → WasMissed goes failures old new u u a a kept fault'
-    was fault' missed' = record { octets = []; more = []; missed = missed'; told = nothing; calm = refl; counts = counts; limits = refl; stands = stands_still u low }
+    was fault' missed' = record { octets = []; more = []; missed = missed'; patience = limit; told = nothing; calm = refl; counts = counts; limits = refl; stands = stands_still u low }
 
     by : (fault' : IoFault) → MissedAfter old new [] fault' → Faults goes failures old new u u a a kept (read_fault fault')
     by io.Failed missed' = was io.Failed missed'
@@ -209,14 +262,15 @@ given_by goes old new u v a b used got done' parts = record {
 -- ---- pieces, one after another
 
 pub fed_none : {S : Type 0} (goes : S → List story.StoryEvent → S → Type 0) → GiftsJoin → (d : Device) (u : Unpacking) (a : S) → u.octets < 2 ^ 64 → goes a [] a → HasFed goes d d u u a a 0
-fed_none goes joins d u a low nothing = record { octets = []; more = []; came = record { given = joins.none d; told = nothing }; counts = refl; limits = refl; stands = stands_still u low }
+fed_none goes joins d u a low nothing = record { octets = []; more = []; came = record { given = joins.none d; told = nothing; patience = omega arith }; patience = omega arith; counts = refl; limits = refl; stands = stands_still u low }
 
 -- the sink was told nothing in between
 pub fed_on : {S : Type 0} {goes : S → List story.StoryEvent → S → Type 0} {old new : Device} {u v : Unpacking} {a b c : S} {used : ℕ} → Joined goes → HasFed goes old new u v a b used → goes b [] c → HasFed goes old new u v a c used
 fed_on {goes = goes} {a = a} {b = b} {c = c} joined fed still = record {
   octets = fed.octets;
   more = fed.more;
-  came = record { given = fed.came.given; told = subst (λ (es : List story.StoryEvent). goes a es c) (append-nil fed.more) (joined a b c fed.more [] fed.came.told still) };
+  came = record { given = fed.came.given; told = subst (λ (es : List story.StoryEvent). goes a es c) (append-nil fed.more) (joined a b c fed.more [] fed.came.told still); patience = fed.came.patience };
+  patience = fed.patience;
   counts = fed.counts;
   limits = fed.limits;
   stands = fed.stands;
@@ -236,7 +290,8 @@ pub fed_then : {S : Type 0} {goes : S → List story.StoryEvent → S → Type 0
 fed_then {old = old} {mid = mid} {new = new} {u = u} {v = v} {w = w} {a = a} {b = b} {c = c} {used = used} {k = k} {now = now} joined joins cut one two is = record {
   octets = one.octets ++ two.octets;
   more = one.more ++ two.more;
-  came = record { given = joins.more old mid new one.octets two.octets one.came.given two.came.given; told = joined a b c one.more two.more one.came.told two.came.told };
+  came = record { given = joins.more old mid new one.octets two.octets one.came.given two.came.given; told = joined a b c one.more two.more one.came.told two.came.told; patience = omega (arith, one.patience, two.patience, length-append one.octets two.octets) };
+  patience = omega (arith, one.patience, two.patience, length-append one.octets two.octets);
   counts = counts_then used k now one.octets two.octets one.counts two.counts is;
   limits = two.limits ∙ one.limits;
   stands = stands_then cut u v w one.octets two.octets one.more two.more one.stands two.stands;
@@ -247,7 +302,7 @@ pub fed_and_done : {S : Type 0} {goes : S → List story.StoryEvent → S → Ty
 fed_and_done {old = old} {mid = mid} {new = new} {u = u} {v = v} {w = w} {a = a} {b = b} {c = c} {used = used} {k = k} {now = now} joined joins cut one two is = record {
   octets = one.octets ++ two.octets;
   more = one.more ++ two.more;
-  came = record { given = joins.more old mid new one.octets two.octets one.came.given two.came.given; told = joined a b c one.more two.more one.came.told two.came.told };
+  came = record { given = joins.more old mid new one.octets two.octets one.came.given two.came.given; told = joined a b c one.more two.more one.came.told two.came.told; patience = omega (arith, one.patience, two.came.patience, length-append one.octets two.octets) };
   limits = two.limits ∙ one.limits;
   counts = counts_then used k now one.octets two.octets one.counts two.counts is;
   done = λ p n at.
@@ -271,6 +326,7 @@ fed_and_ended {old = old} {mid = mid} {new = new} w joins one left (as_then, end
       record {
         given = subst (λ (ys : List ℕ). HasGiven old new ys) empty (given_none joins old mid new one.octets one.came.given ended.given);
         at_end = ended.at_end;
+        patience = omega (arith, one.patience, ended.patience, ap length empty);
         still = ended.still ∙ same.1;
         none = λ q k is. (nothing_of_two q one.octets (ended.none (q ++ one.octets) (raised k (length one.octets)) (one.stands q k is).0)).0;
       },
@@ -309,6 +365,7 @@ missed_then {old = old} {mid = mid} {new = new} {u = u} {v = v} {w = w} {a = a} 
     consumes_consumes old.octets mid.octets new.octets one.octets was.octets one.came.given.0 was.missed.0,
     broke_for_later old mid new fault one.came.given.1 was.missed.1,
   );
+  patience = omega (arith, one.patience, was.patience, length-append one.octets was.octets);
   told = joined a b c one.more was.more one.came.told was.told;
   calm = was.calm ∙ calm;
   counts = was.counts;
@@ -330,7 +387,7 @@ fed_and_faults {old = old} {mid = mid} {u = u} {v = v} {a = a} {b = b} failures 
   inl (record {
     octets = one.octets ++ was.octets;
     more = one.more ++ was.more;
-    came = record { given = joins.more old mid new one.octets was.octets one.came.given was.came.given; told = joined a b c one.more was.more one.came.told was.came.told };
+    came = record { given = joins.more old mid new one.octets was.octets one.came.given was.came.given; told = joined a b c one.more was.more one.came.told was.came.told; patience = omega (arith, one.patience, was.came.patience, length-append one.octets was.octets) };
     counts = subst (λ k. CountsFor e.cause k (failures c)) calm was.counts;
     refused = was.refused;
     refuses = λ p n at.
@@ -344,7 +401,7 @@ fed_and_faults {old = old} {mid = mid} {u = u} {v = v} {a = a} {b = b} failures 
   inr (record {
     octets = one.octets ++ was.octets;
     more = one.more ++ was.more;
-    came = record { given = joins.more old mid new one.octets was.octets one.came.given was.came.given; told = joined a b c one.more was.more one.came.told was.came.told };
+    came = record { given = joins.more old mid new one.octets was.octets one.came.given was.came.given; told = joined a b c one.more was.more one.came.told was.came.told; patience = omega (arith, one.patience, was.came.patience, length-append one.octets was.octets) };
     at_end = was.at_end;
     calm = was.calm ∙ calm;
     limits = was.limits ∙ one.limits;

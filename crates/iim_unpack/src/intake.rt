@@ -2,7 +2,7 @@
 
 ghost use Rattle.std.specs.Prelude.{◌≡◌, ◌<◌, [], ℕ, List, Option, Some, None, Ok, Err, true, false, length, IfSome, IfNone, IfOk, IfErr, IsTrue, OnOk, OnErr, ◌↔◌};
 ghost use Rattle.std.specs.Io.KnownBytes.{IsAtEnd};
-ghost use Rattle.iim_dataset.specs.States.Devices.{HasGiven, MissedAfter};
+ghost use Rattle.iim_dataset.specs.States.Devices.{HasGiven, MissedAfter, WithinInterruptionLimit};
 ghost use Rattle.iim_unpack.specs.States.Blocks.{with_held};
 ghost use Rattle.iim_unpack.specs.States.Intakes.{in_line, IsReady, GivesNothing, FedEnvelope, FedPiece, Gives, ReadsWhereEmpty};
 ghost use Rattle.iim_unpack.specs.IntakeSteps.{IsRefusedPiece, read_fault};
@@ -48,6 +48,7 @@ fn next_piece<R: Source>(block: &mut Block, reader: &mut R) -> Result<bool, IoFa
     ensures ended { IfOk result (λ more. more ≡ false → block.old ≡ []) }
     ensures empty { OnErr result (block.old ≡ []) }
     ensures held { 0 < length block.old → reader.new ≡ reader.old }
+    ensures patience { WithinInterruptionLimit 1 (R.state reader.old) (R.state reader.new) }
     ensures leads { R.leads reader.old reader.new }
 {
     gifts_join();
@@ -188,6 +189,8 @@ impl<R: Source> Intake<R> {
             (self.old, unpacker.old, sink.old) (self.new, unpacker.new, sink.new)) }
         // Where octets were held, nothing is read: so no fault of the reader comes, and no end. At such a fault nothing was fed.
         ensures reads { ReadsWhereEmpty self.old self.new unpacker.old unpacker.new sink.old sink.new result }
+        // A million interruptions at most came.
+        ensures patience { WithinInterruptionLimit 1 (R.state self.old.reader) (R.state self.new.reader) }
         ensures octets { self.new.octets ≡ self.old.octets }
         ensures again { (octet : ℕ) → self.old.failed ≡ Some octet → (result ≡ Err (RefusedFault (failed_at octet)))
             × (unpacker.new ≡ unpacker.old) × (sink.new ≡ sink.old) × (self.new ≡ self.old) }

@@ -8,7 +8,6 @@ use iim_output::status::ACCEPTED;
 use iim_pack_script::packing::{PackRequest, pack_script};
 use iim_unpack::Intake;
 use std::alloc::Global;
-use std::test::Fail;
 use trials::{TrialReader, TrialWriter, Trouble};
 use wire_story::LineWriter;
 use worked::STORY;
@@ -25,98 +24,142 @@ const LINE: &[u8] = b"1 accepted 246 octets\n";
 /// The least number of interruptions in a row that is a fault.
 const TOO_MANY: u32 = 1_000_000;
 
-fn reader(octets: &[u8]) -> TrialReader<'_> {
-    TrialReader::new(octets, 0, Trouble::Interruptions(0))
+/// As many interruptions as are no fault.
+const BORNE: Trouble = Trouble::Interruptions(TOO_MANY - 1);
+
+/// So many that they are one.
+const FAULT: Trouble = Trouble::Interruptions(TOO_MANY);
+
+/// What a command answers and writes.
+#[derive(Clone, Copy)]
+struct Want {
+    answer: Result<u8, CommandFault>,
+    octets: &'static [u8],
+}
+
+/// Nothing is written, since the input can't be read.
+const UNREAD: Want = Want {
+    answer: Err(CommandFault::CannotRead),
+    octets: b"",
+};
+
+const CHECKED: Want = Want {
+    answer: Ok(ACCEPTED),
+    octets: LINE,
+};
+
+/// These octets are written, and then the output can't be written.
+const fn cut(octets: &'static [u8]) -> Want {
+    Want {
+        answer: Err(CommandFault::CannotWrite),
+        octets,
+    }
+}
+
+fn reader() -> TrialReader<'static> {
+    TrialReader::new(STORY, 0, Trouble::Interruptions(0))
 }
 
 fn writer() -> TrialWriter<256> {
     TrialWriter::new(0, Trouble::Interruptions(0))
 }
 
-/// What `check` of the envelope answers over a reader, and what it writes.
-fn checked(
+/// Whether `check` of the envelope over a reader answers and writes this.
+fn is_checked<const N: usize>(
     alloc: Global,
     source: TrialReader<'_>,
-    output: TrialWriter<256>,
-) -> (Result<u8, CommandFault>, TrialWriter<256>) {
-    let mut output = output;
+    mut output: TrialWriter<N>,
+    want: Want,
+) -> bool {
     let answer = list(alloc, &Check, &mut Intake::new(source), &mut output);
-    (answer, output)
+    answer == want.answer && output.octets() == want.octets
 }
 
-/// What `story` of the envelope answers, and what it writes on both outputs.
-fn told(
+/// Whether `story` of the envelope answers and writes this, and such lines beside it.
+fn is_told(
     alloc: Global,
     output: TrialWriter<256>,
-    errors: TrialWriter<256>,
-) -> (Result<u8, CommandFault>, TrialWriter<256>, TrialWriter<256>) {
+    mut errors: TrialWriter<256>,
+    want: Want,
+    line: &[u8],
+) -> bool {
     let mut lines = LineWriter::new(output);
-    let mut errors = errors;
-    let mut intake = Intake::new(reader(STORY));
-    let answer = narrate(alloc, &mut intake, &mut lines, &mut errors);
-    (answer, lines.into_writer(), errors)
+    let answer = narrate(alloc, &mut Intake::new(reader()), &mut lines, &mut errors);
+    let output = lines.into_writer();
+    answer == want.answer && output.octets() == want.octets && errors.octets() == line
 }
 
-#[test]
-fn reads_past_interruptions(rt: HostRuntime) {
-    let alloc = rt.alloc();
+/// Whether `pack` of the script over a reader answers this, and writes so many octets and no fault.
+fn is_packed(
+    alloc: Global,
+    mut source: TrialReader<'_>,
+    want: Result<u8, CommandFault>,
+    octets: usize,
+) -> bool {
     let request = PackRequest {
         subfile: 1024,
         unknown: false,
         max: None,
     };
-    let broken = Err(CommandFault::CannotRead);
-    for (running, want, line, octets) in [
-        (TOO_MANY - 1, Ok(ACCEPTED), LINE, 114),
-        (TOO_MANY, broken, b"".as_slice(), 0),
-    ] {
-        let source = TrialReader::new(STORY, 50, Trouble::Interruptions(running));
-        let (answer, output) = checked(alloc, source, writer());
-        assert_eq!(rt; answer, want, "check at {running}");
-        assert_eq!(rt; output.octets(), line, "at {running}");
+    let mut errors = writer();
+    let (answer, output) = pack_script(alloc, request, &mut source, writer(), &mut errors);
+    answer == want && output.octets().len() == octets && errors.octets().is_empty()
+}
 
-        let mut source = TrialReader::new(SCRIPT, 50, Trouble::Interruptions(running));
-        let mut errors = writer();
-        let (answer, output) = pack_script(alloc, request, &mut source, writer(), &mut errors);
-        assert_eq!(rt; answer, want, "pack at {running}");
-        assert_eq!(rt; output.octets().len(), octets, "at {running}");
-        assert!(rt; errors.octets().is_empty(), "at {running}");
+#[test]
+fn reads_past_interruptions(rt: HostRuntime) {
+    for (trouble, want, octets) in [(BORNE, CHECKED, 114), (FAULT, UNREAD, 0)] {
+        let source = TrialReader::new(STORY, 50, trouble);
+        assert!(rt;
+            is_checked(rt.alloc(), source, writer(), want),
+            "check at {trouble:?}"
+        );
+        let source = TrialReader::new(SCRIPT, 50, trouble);
+        assert!(rt;
+            is_packed(rt.alloc(), source, want.answer, octets),
+            "pack at {trouble:?}"
+        );
     }
 }
 
 #[test]
-fn writes_past_interruptions(rt: HostRuntime) -> Result<(), Fail> {
-    let alloc = rt.alloc();
-    let broken = Err(CommandFault::CannotWrite);
+fn tells_past_interruptions(rt: HostRuntime) {
     for good in [0, 1, 7, 11, 12, 21, 22] {
-        let output = TrialWriter::new(good, Trouble::Interruptions(TOO_MANY));
-        let (answer, output, errors) = told(alloc, output, writer());
-        assert_eq!(rt; answer, broken, "story at {good}");
-        let front = TEXT.get(..good as usize).ok_or("a front of the text")?;
-        assert_eq!(rt; output.octets(), front, "at {good}");
-        assert!(rt; errors.octets().is_empty(), "at {good}");
+        let output = TrialWriter::new(good, FAULT);
+        let (front, _) = TEXT.split_at(TEXT.len().min(good as usize));
+        assert!(rt;
+            is_told(rt.alloc(), output, writer(), cut(front), b""),
+            "story at {good}"
+        );
     }
+}
+
+#[test]
+fn writes_past_interruptions(rt: HostRuntime) {
     for good in [0, 1, 7, 21] {
-        let output = TrialWriter::new(good, Trouble::Interruptions(TOO_MANY));
-        let (answer, output) = checked(alloc, reader(STORY), output);
-        assert_eq!(rt; answer, broken, "check at {good}");
-        let front = LINE.get(..good as usize).ok_or("a front of the line")?;
-        assert_eq!(rt; output.octets(), front, "at {good}");
+        let output: TrialWriter<256> = TrialWriter::new(good, FAULT);
+        let (front, _) = LINE.split_at(LINE.len().min(good as usize));
+        assert!(rt;
+            is_checked(rt.alloc(), reader(), output, cut(front)),
+            "check at {good}"
+        );
     }
-    let slow = || TrialWriter::new(4, Trouble::Interruptions(TOO_MANY - 1));
-    let (answer, output) = checked(alloc, reader(STORY), slow());
-    assert_eq!(rt; (answer, output.octets()), (Ok(ACCEPTED), LINE));
-    let (answer, output, errors) = told(alloc, slow(), slow());
-    assert_eq!(rt; (answer, output.octets()), (Ok(ACCEPTED), TEXT));
-    assert_eq!(rt; errors.octets(), LINE);
-    Ok(())
+}
+
+#[test]
+fn bears_interruptions(rt: HostRuntime) {
+    let slow: TrialWriter<256> = TrialWriter::new(4, BORNE);
+    assert!(rt; is_checked(rt.alloc(), reader(), slow, CHECKED));
+    let told = Want {
+        answer: Ok(ACCEPTED),
+        octets: TEXT,
+    };
+    let slow = TrialWriter::new(4, BORNE);
+    assert!(rt; is_told(rt.alloc(), slow, TrialWriter::new(4, BORNE), told, LINE));
 }
 
 #[test]
 fn a_full_output_takes_nothing(rt: HostRuntime) {
-    let mut output: TrialWriter<3> = TrialWriter::new(0, Trouble::Interruptions(0));
-    let mut intake = Intake::new(reader(STORY));
-    let answer = list(rt.alloc(), &Check, &mut intake, &mut output);
-    assert_eq!(rt; answer, Err(CommandFault::CannotWrite));
-    assert_eq!(rt; output.octets(), b"1 a".as_slice());
+    let output: TrialWriter<3> = TrialWriter::new(0, Trouble::Interruptions(0));
+    assert!(rt; is_checked(rt.alloc(), reader(), output, cut(b"1 a")));
 }

@@ -13,21 +13,30 @@ use iim_pack::laws::{
 use std::alloc::{AllocError, Global};
 use std::process::Abort;
 use wire_message::MessageHead;
-use wire_story::{Lines, StorySink};
+use worked::{STORY_FIELDS, STORY_FRONT, STORY_OBJECT};
 
 /// Those of the program.
 const LIMITS: Limits = Limits::WIRE;
 
-fn envelope(rt: &impl Abort, alloc: Global, fields: &[(u8, u8, &[u8])]) -> Envelope {
-    let Ok(mut builder) = EnvelopeBuilder::new(alloc, LIMITS) else {
-        panic!(rt; "memory");
-    };
+/// A dataset's record, number and data.
+type Field<'o> = (u8, u8, &'o [u8]);
+
+/// The envelope of these datasets.
+fn built(alloc: Global, fields: &[Field<'_>]) -> Option<Envelope> {
+    let mut builder = EnvelopeBuilder::new(alloc, LIMITS).ok()?;
     for (rec, set, octets) in fields {
-        assert!(rt; builder.add(*rec, *set, octets).is_ok());
+        if builder.add(*rec, *set, octets).is_err() {
+            return None;
+        }
     }
-    match builder.finish() {
-        Ok(envelope) => envelope,
-        Err(_) => panic!(rt; "a dataset is missing"),
+    builder.finish().ok()
+}
+
+/// The worked story's envelope.
+fn story(rt: &impl Abort, alloc: Global) -> Envelope {
+    match built(alloc, &STORY_FIELDS) {
+        Some(envelope) => envelope,
+        None => panic!(rt; "no envelope"),
     }
 }
 
@@ -38,21 +47,6 @@ fn story_head(rt: &impl Abort) -> MessageHead {
     }
 }
 
-/// These lines, of which there is one at least.
-fn lines(rt: &impl Abort, alloc: Global, texts: &[&[u8]]) -> Lines {
-    let mut lines = Lines::new(alloc);
-    let mut is_first = true;
-    for text in texts {
-        if !is_first {
-            assert!(rt; lines.line_end().is_ok());
-        }
-        assert!(rt; wire_story::is_text(text));
-        assert!(rt; lines.text(text).is_ok());
-        is_first = false;
-    }
-    lines
-}
-
 fn plan(rt: &impl Abort, subfile: u64, size: Size) -> Plan {
     match Plan::new(subfile, size) {
         Some(plan) => plan,
@@ -61,7 +55,7 @@ fn plan(rt: &impl Abort, subfile: u64, size: Size) -> Plan {
 }
 
 /// A dataset of fewer than 256 octets, as it is written.
-fn put_dataset(all: &mut Vec<u8>, rec: u8, set: u8, data: &[u8]) -> Result<(), AllocError> {
+fn put_dataset(all: &mut Vec<u8>, (rec, set, data): Field<'_>) -> Result<(), AllocError> {
     let count = u8::try_from(data.len()).unwrap_or(0);
     all.extend_from_slice(&[0x1c, rec, set, 0, count])?;
     all.extend_from_slice(data)
@@ -71,26 +65,35 @@ fn four_octets(number: u64) -> [u8; 4] {
     u32::try_from(number).unwrap_or(0).to_be_bytes()
 }
 
-/// What is written of the fields and the object by a plan.
-fn expected(alloc: Global, front: &[u8], object: &[u8], plan: Plan) -> Result<Vec<u8>, AllocError> {
-    let mut all = Vec::new(alloc);
-    all.extend_from_slice(front)?;
-    let is_known = match plan.size {
-        Size::Known(_) => 1,
-        Size::Unknown(_) => 0,
+/// Record 7 by a plan.
+fn put_sizes(all: &mut Vec<u8>, plan: Plan) -> Result<(), AllocError> {
+    let (is_known, set, octets) = match plan.size {
+        Size::Known(octets) => (1, 90, octets),
+        Size::Unknown(Some(most)) => (0, 95, most),
+        Size::Unknown(None) => (0, 0, 0),
     };
-    put_dataset(&mut all, 7, 10, &[is_known])?;
-    put_dataset(&mut all, 7, 20, &four_octets(plan.subfile))?;
-    match plan.size {
-        Size::Known(octets) => put_dataset(&mut all, 7, 90, &four_octets(octets))?,
-        Size::Unknown(Some(most)) => put_dataset(&mut all, 7, 95, &four_octets(most))?,
-        Size::Unknown(None) => {}
+    put_dataset(all, (7, 10, &[is_known]))?;
+    put_dataset(all, (7, 20, &four_octets(plan.subfile)))?;
+    if set == 0 {
+        return Ok(());
     }
-    let most = (plan.subfile as usize).max(1);
+    put_dataset(all, (7, set, &four_octets(octets)))
+}
+
+/// Records 8 and 9 by the size of subfiles.
+fn put_object(all: &mut Vec<u8>, object: &[u8], subfile: u64) -> Result<(), AllocError> {
+    let most = (subfile as usize).max(1);
     for part in object.chunks(most) {
-        put_dataset(&mut all, 8, 10, part)?;
+        put_dataset(all, (8, 10, part))?;
     }
-    put_dataset(&mut all, 9, 10, &four_octets(object.len() as u64))?;
+    put_dataset(all, (9, 10, &four_octets(object.len() as u64)))
+}
+
+/// What is written of the worked story by a plan.
+fn expected(alloc: Global, plan: Plan) -> Result<Vec<u8>, AllocError> {
+    let mut all = Vec::from_slice(alloc, STORY_FRONT)?;
+    put_sizes(&mut all, plan)?;
+    put_object(&mut all, STORY_OBJECT, plan.subfile)?;
     Ok(all)
 }
 

@@ -1,152 +1,205 @@
 //! Envelopes packed, cut anywhere, and unpacked again. What is expected is worked out from the format.
 
+ghost use Rattle.std.specs.Prelude.{◌<◌};
+
 use iim_dataset::FromWrite;
 use iim_fields::Limits;
-use iim_object::{Plan, Size};
+use iim_object::{Plan, Size, Sizes};
 use iim_pack::{pack, packed_size};
-use iim_round_trip::{UnpackFault, unpack_packed, unpack_story};
+use iim_round_trip::{Story, UnpackFault, unpack_packed, unpack_story};
 use iim_unpack::{Cause, Unpacked};
 use std::alloc::Global;
 use std::process::Abort;
-use std::test::Fail;
 use wire_message::MessageHead;
-use wire_story::{Lines, StorySink};
-use worked::{SMALLEST, STORY};
+use wire_story::Lines;
+use worked::{FIRST_LINE, LAST_LINE, SMALLEST, STORY};
 
 /// Those of the program.
 const LIMITS: Limits = Limits::WIRE;
 
-/// What the stream of these pieces unpacks to, its lines, and how many octets of it were used.
-fn unpacked(rt: &impl Abort, alloc: Global, pieces: &[&[u8]]) -> (Unpacked, Lines, u64) {
-    let mut lines = Lines::new(alloc);
-    match unpack_packed(alloc, LIMITS, pieces, &mut lines) {
-        Ok((got, used)) => (got, lines, used),
-        Err(UnpackFault::Refused(refusal)) => panic!(rt; "refused at octet {}", refusal.octet),
-        Err(UnpackFault::OutOfMemory) => panic!(rt; "memory"),
+/// An envelope that was unpacked, and its lines.
+#[derive(Drop)]
+struct Got {
+    unpacked: Unpacked,
+    lines: Lines,
+    /// How many octets of the stream were used.
+    used: u64,
+}
+
+impl Got {
+    /// What the stream of these pieces unpacks to.
+    fn of(alloc: Global, pieces: &[&[u8]]) -> Option<Got> {
+        let mut lines = Lines::new(alloc);
+        match unpack_packed(alloc, LIMITS, pieces, &mut lines) {
+            Ok((unpacked, used)) => Some(Got {
+                unpacked,
+                lines,
+                used,
+            }),
+            Err(_) => None,
+        }
     }
-}
 
-fn packed(
-    rt: &impl Abort,
-    alloc: Global,
-    got: &Unpacked,
-    lines: &Lines,
-    subfile: u64,
-    size: Size,
-) -> Vec<u8> {
-    let Some(plan) = Plan::new(subfile, size) else {
-        panic!(rt; "plan");
-    };
-    let writer = FromWrite::new(Vec::new(alloc));
-    match pack(
-        alloc,
-        &got.envelope,
-        &got.head,
-        lines,
-        &got.trailer,
-        plan,
-        writer,
-    ) {
-        Ok(writer) => writer.into_inner(),
-        Err(_) => panic!(rt; "not packed"),
+    /// The octets that it is packed to in subfiles of up to so many octets.
+    fn packed(&self, alloc: Global, subfile: u64, size: Size) -> Option<Vec<u8>> {
+        let plan = Plan::new(subfile, size)?;
+        let Unpacked {
+            envelope,
+            head,
+            trailer,
+            ..
+        } = &self.unpacked;
+        let writer = FromWrite::new(Vec::new(alloc));
+        match pack(alloc, envelope, head, &self.lines, trailer, plan, writer) {
+            Ok(writer) => Some(writer.into_inner()),
+            Err(_) => None,
+        }
     }
-}
 
-fn are_same(got: &Unpacked, lines: &Lines, other: &Unpacked, others: &Lines) -> bool {
-    got.envelope.same(&other.envelope)
-        && got.head.source() == other.head.source()
-        && got.head.number() == other.head.number()
-        && got.head.priority() == other.head.priority()
-        && got.head.category() == other.head.category()
-        && got.head.words() == other.head.words()
-        && got.head.info() == other.head.info()
-        && got.trailer.as_slice() == other.trailer.as_slice()
-        && lines.iter().eq(others.iter())
-}
+    /// Whether another has the same datasets, header, trailer and lines.
+    fn is_same(&self, other: &Got) -> bool {
+        let (one, other_one) = (&self.unpacked, &other.unpacked);
+        one.envelope.same(&other_one.envelope)
+            && parts_of(&one.head) == parts_of(&other_one.head)
+            && one.trailer.as_slice() == other_one.trailer.as_slice()
+            && self.lines.iter().eq(other.lines.iter())
+    }
 
-#[test]
-fn every_small_plan_comes_back(rt: HostRuntime) {
-    let alloc = rt.alloc();
-    for (octets, object) in [(SMALLEST.as_slice(), 14), (STORY.as_slice(), 50)] {
-        let (first, lines, _) = unpacked(&rt, alloc, &[octets]);
-        assert_eq!(rt;
-            packed_size(&first.head, &lines, &first.trailer),
-            Some(object)
-        );
+    /// Whether these octets, cut at a place and followed by others, unpack to the same, with an object of so many octets in so many
+    /// subfiles.
+    fn comes_back(&self, alloc: Global, octets: &[u8], cut: usize, object: (u64, u64)) -> bool {
+        let (front, back) = octets.split_at(cut.min(octets.len()));
+        let Some(got) = Got::of(alloc, &[front, b"", back, b"\x1d and more"]) else {
+            return false;
+        };
+        let sizes = got.unpacked.sizes;
+        got.used == octets.len() as u64
+            && (sizes.total, sizes.subfiles) == object
+            && got.is_same(self)
+    }
+
+    /// Whether it comes back, packed in subfiles of up to so many octets, as an object of so many.
+    fn comes_back_from(&self, alloc: Global, subfile: u64, size: Size, object: u64) -> bool
+        requires { 0 < subfile }
+    {
+        match self.packed(alloc, subfile, size) {
+            Some(octets) => {
+                let cut = (subfile as usize).saturating_mul(5);
+                self.comes_back(alloc, &octets, cut, (object, object.div_ceil(subfile)))
+            }
+            None => false,
+        }
+    }
+
+    /// Whether its object has so many octets.
+    fn has_size(&self, object: u64) -> bool {
+        let Unpacked { head, trailer, .. } = &self.unpacked;
+        packed_size(head, &self.lines, trailer) == Some(object)
+    }
+
+    /// Packs it by every small plan, as an object of so many octets, and unpacks it.
+    fn expect_each_plan(&self, rt: &impl Abort, alloc: Global, object: u64) {
+        assert!(rt; self.has_size(object));
         for subfile in 1..61 {
             for size in [
                 Size::Known(object),
                 Size::Unknown(None),
                 Size::Unknown(Some(1000)),
             ] {
-                let again = packed(&rt, alloc, &first, &lines, subfile, size);
-                let cut = (subfile as usize * 5).min(again.len());
-                let pieces = [&again[..cut], b"", &again[cut..], b"\x1d and more"];
-                let (got, others, used) = unpacked(&rt, alloc, &pieces);
-                assert_eq!(rt; used, again.len() as u64);
-                assert!(rt; are_same(&got, &others, &first, &lines));
-                assert_eq!(rt; got.sizes.total, object);
-                assert_eq!(rt; got.sizes.subfiles, object.div_ceil(subfile));
+                assert!(rt;
+                    self.comes_back_from(alloc, subfile, size, object),
+                    "{subfile}, {size:?}"
+                );
             }
         }
+    }
+}
+
+/// The parts of a message's header.
+fn parts_of(head: &MessageHead) -> [&[u8]; 6] {
+    [
+        head.source(),
+        head.number(),
+        head.priority(),
+        head.category(),
+        head.words(),
+        head.info(),
+    ]
+}
+
+#[test]
+fn every_small_plan_comes_back(rt: HostRuntime) {
+    for (octets, object) in [(SMALLEST.as_slice(), 14), (STORY.as_slice(), 50)] {
+        match Got::of(rt.alloc(), &[octets]) {
+            Some(got) => got.expect_each_plan(&rt, rt.alloc(), object),
+            None => panic!(rt; "refused"),
+        }
+    }
+}
+
+/// The first so many octets of the worked envelope.
+fn front(count: usize) -> &'static [u8] {
+    STORY.get(..count).unwrap_or(&[])
+}
+
+/// Whether these are refused so at this octet.
+fn is_refused(answer: Result<Story, UnpackFault>, cause: Cause, octet: u64) -> bool {
+    match answer {
+        Err(UnpackFault::Refused(refusal)) => refusal.cause == cause && refusal.octet == octet,
+        _ => false,
+    }
+}
+
+/// Whether so many octets of the worked envelope are too few.
+fn is_truncated(alloc: Global, count: usize) -> bool {
+    let mut lines = Lines::new(alloc);
+    match unpack_packed(alloc, LIMITS, &[front(count)], &mut lines) {
+        Err(UnpackFault::Refused(refusal)) => {
+            refusal.cause == Cause::Truncated && refusal.octet == count as u64
+        }
+        _ => false,
     }
 }
 
 #[test]
 fn a_packed_front_alone_is_truncated(rt: HostRuntime) {
-    let alloc = rt.alloc();
-    let story = *STORY;
-    for length in 0..story.len() {
-        let mut lines = Lines::new(alloc);
-        match unpack_packed(alloc, LIMITS, &[&story[..length]], &mut lines) {
-            Err(UnpackFault::Refused(refusal)) => {
-                assert!(rt; refusal.cause == Cause::Truncated);
-                assert_eq!(rt; refusal.octet, length as u64);
-            }
-            _ => panic!(rt; "nothing ends there"),
-        }
+    for count in 0..246 {
+        assert!(rt; is_truncated(rt.alloc(), count), "{count} octets");
     }
+}
+
+/// The sizes of the worked envelope.
+const SIZES: Sizes = Sizes {
+    known: true,
+    subfile: 1024,
+    announced: Some(50),
+    maximum: None,
+    subfiles: 1,
+    total: 50,
+};
+
+/// Whether it is the worked story.
+fn is_worked(story: &Story) -> bool {
+    story.used == 246
+        && story.unpacked.sizes == SIZES
+        && story.unpacked.envelope.service() == b"TST".as_slice()
+        && story.lines.iter().eq([FIRST_LINE, LAST_LINE])
 }
 
 #[test]
 fn a_story_comes_back_before_others(rt: HostRuntime) {
-    let alloc = rt.alloc();
-    let octets = *STORY;
-    let (front, back) = octets.split_at(200);
-    let Ok(story) = unpack_story(alloc, LIMITS, &[front, b"", back, SMALLEST]) else {
-        panic!(rt; "no story");
-    };
-    assert_eq!(rt; story.used, 246);
-    assert_eq!(rt; story.unpacked.sizes.total, 50);
-    assert_eq!(rt; story.unpacked.sizes.subfiles, 1);
-    assert_eq!(rt; story.unpacked.sizes.subfile, 1024);
-    assert_eq!(rt; story.unpacked.sizes.announced, Some(50));
-    assert_eq!(rt; story.unpacked.sizes.maximum, None);
-    assert_eq!(rt; story.unpacked.envelope.service(), b"TST".as_slice());
-    let mut lines = Lines::new(alloc);
-    assert!(rt; lines.text(b"Rates stay.").is_ok());
-    assert!(rt; lines.line_end().is_ok());
-    assert!(rt; lines.text(b"No change.").is_ok());
-    assert!(rt; story.lines.iter().eq(lines.iter()));
+    let (first, back) = STORY.split_at(200.min(STORY.len()));
+    match unpack_story(rt.alloc(), LIMITS, &[first, b"", back, SMALLEST]) {
+        Ok(story) => assert!(rt; is_worked(&story)),
+        Err(_) => panic!(rt; "no story"),
+    }
 }
 
+/// The last octet of the first says 49 in place of 50.
 #[test]
 fn a_story_is_refused_at_its_octet(rt: HostRuntime) {
-    let alloc = rt.alloc();
-    let story = *STORY;
-    // The last octet says 49 in place of 50.
-    match unpack_story(alloc, LIMITS, &[&story[..245], b"\x31"]) {
-        Err(UnpackFault::Refused(refusal)) => {
-            assert!(rt; refusal.cause == Cause::ConfirmedWrong);
-            assert_eq!(rt; refusal.octet, 245);
-        }
-        _ => panic!(rt; "another total is confirmed"),
-    }
-    match unpack_story(alloc, LIMITS, &[&story[..200]]) {
-        Err(UnpackFault::Refused(refusal)) => {
-            assert!(rt; refusal.cause == Cause::Truncated);
-            assert_eq!(rt; refusal.octet, 200);
-        }
-        _ => panic!(rt; "nothing ends there"),
-    }
+    let answer = unpack_story(rt.alloc(), LIMITS, &[front(245), b"\x31"]);
+    assert!(rt; is_refused(answer, Cause::ConfirmedWrong, 245));
+    let answer = unpack_story(rt.alloc(), LIMITS, &[front(200)]);
+    assert!(rt; is_refused(answer, Cause::Truncated, 200));
 }

@@ -35,14 +35,19 @@ fn trouble_of<R: Source>(alloc: Global, fault: AuditFault, intake: &mut Intake<R
     }
 }
 
+/// The report, where it has six rows.
+fn six_rows(report: Report) -> Result<Report, Trouble> {
+    if report.rows().len() == 6 {
+        return Ok(report);
+    }
+    Err(Trouble::Wrong)
+}
+
 /// Audits the stream and the stream again: the fifth row needs more room than the first has taken.
 pub(crate) fn audited(alloc: Global) -> Result<Report, Trouble> {
     let mut intake = Intake::new(FromRead::new(STREAM.chain(STREAM)));
     match audit(alloc, &mut intake, LIMITS, Timestamp::UNIX_EPOCH) {
-        Ok(report) => {
-            right(report.rows().len() == 6)?;
-            Ok(report)
-        }
+        Ok(report) => six_rows(report),
         Err(fault) => Err(trouble_of(alloc, fault, &mut intake)),
     }
 }

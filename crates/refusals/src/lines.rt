@@ -1,6 +1,6 @@
 //! Calls of lines: octets and line ends taken.
 
-use crate::outcome::{Trouble, right};
+use crate::outcome::{Trouble, right, right_after};
 use std::alloc::Global;
 use wire_story::{Lines, StorySink, is_text};
 use worked::FIRST_LINE;
@@ -19,42 +19,59 @@ pub(crate) fn size_of(lines: &Lines) -> (usize, usize) {
     (count, octets)
 }
 
-/// Tells one line and its end, and each again that is refused: whether one was. A refusal changes nothing.
-fn take_line(lines: &mut Lines) -> Result<bool, Trouble> {
+/// Tells the octets of a line, and again where they are refused: whether they were. A refusal changes nothing.
+fn take_text(lines: &mut Lines) -> Result<bool, Trouble> {
     if !is_text(FIRST_LINE) {
         return Err(Trouble::Wrong);
     }
     let before = size_of(lines);
-    let text = lines.text(FIRST_LINE);
-    if let Err(stop) = text {
-        right(stop.taken == 0 && size_of(lines) == before)?;
-        lines.text(FIRST_LINE).map_err(|_| Trouble::OutOfMemory)?;
+    let Err(stop) = lines.text(FIRST_LINE) else {
+        return Ok(false);
+    };
+    right(stop.taken == 0 && size_of(lines) == before)?;
+    match lines.text(FIRST_LINE) {
+        Ok(()) => Ok(true),
+        Err(_) => Err(Trouble::OutOfMemory),
     }
+}
+
+/// Tells the end of a line, in the same way.
+fn take_line_end(lines: &mut Lines) -> Result<bool, Trouble> {
     let before = size_of(lines);
-    let end = lines.line_end();
-    if let Err(stop) = end {
-        right(stop.taken == 0 && size_of(lines) == before)?;
-        lines.line_end().map_err(|_| Trouble::OutOfMemory)?;
+    let Err(stop) = lines.line_end() else {
+        return Ok(false);
+    };
+    right(stop.taken == 0 && size_of(lines) == before)?;
+    match lines.line_end() {
+        Ok(()) => Ok(true),
+        Err(_) => Err(Trouble::OutOfMemory),
     }
-    Ok(text.is_err() || end.is_err())
+}
+
+/// Tells lines again and again: whether one was refused.
+fn take_lines(lines: &mut Lines) -> Result<bool, Trouble> {
+    let mut was_refused = false;
+    for _ in 0..TIMES {
+        was_refused |= take_text(lines)?;
+        was_refused |= take_line_end(lines)?;
+    }
+    Ok(was_refused)
+}
+
+/// Tells the end of the first line, while there are no octets.
+fn end_first(lines: &mut Lines) -> Result<(), Trouble> {
+    right(size_of(lines) == (1, 0))?;
+    match lines.line_end() {
+        Ok(()) => right(size_of(lines) == (2, 0)),
+        Err(_) => right(size_of(lines) == (1, 0)).and(Err(Trouble::OutOfMemory)),
+    }
 }
 
 /// Grows lines again and again, beginning with a line's end.
 pub(crate) fn grown(alloc: Global) -> Result<(), Trouble> {
-    let mut ended = Lines::new(alloc);
-    right(size_of(&ended) == (1, 0))?;
-    if ended.line_end().is_err() {
-        return right(size_of(&ended) == (1, 0)).and(Err(Trouble::OutOfMemory));
-    }
-    right(size_of(&ended) == (2, 0))?;
+    end_first(&mut Lines::new(alloc))?;
     let mut lines = Lines::new(alloc);
-    let mut was_refused = false;
-    for _ in 0..TIMES {
-        was_refused |= take_line(&mut lines)?;
-    }
-    right(size_of(&lines) == (TIMES + 1, TIMES * FIRST_LINE.len()))?;
-    if was_refused {
-        return Err(Trouble::OutOfMemory);
-    }
-    Ok(())
+    let was_refused = take_lines(&mut lines)?;
+    let is_right = size_of(&lines) == (TIMES + 1, TIMES * FIRST_LINE.len());
+    right_after(is_right, was_refused)
 }

@@ -32,10 +32,17 @@ pub(crate) fn subfiles(alloc: Global, subfile: u64, octets: usize) -> Result<(),
 /// What the worked object is written to.
 fn written(alloc: Global, subfile: u64) -> Result<TrialWriter<512>, Trouble> {
     let buffer = SubfileBuffer::reserve(alloc, plan(subfile)?)?;
-    let Ok(mut subfiles) = SubfileWriter::start(buffer, writer()) else {
+    match SubfileWriter::start(buffer, writer()) {
+        Ok(subfiles) => finished(subfiles),
+        Err(_) => Err(Trouble::Wrong),
+    }
+}
+
+/// Writes the worked object, and gives back what it is written to.
+fn finished(mut subfiles: SubfileWriter<TrialWriter<512>>) -> Result<TrialWriter<512>, Trouble> {
+    if subfiles.write(STORY_OBJECT).is_err() {
         return Err(Trouble::Wrong);
-    };
-    right(subfiles.write(STORY_OBJECT).is_ok())?;
+    }
     let Ok(writer) = subfiles.finish() else {
         return Err(Trouble::Wrong);
     };

@@ -1,10 +1,10 @@
-//! What calls answer, and the lines that tell it.
+//! What calls answer, and why no further call is made.
 
 use std::alloc::AllocError;
 use std::{fmt, io};
 
 /// Why a call didn't answer as worked.
-#[derive(Clone, Copy, Debug, PartialEq, Eq)]
+#[derive(Clone, Copy)]
 pub enum Trouble {
     /// Memory was refused, and nothing else changed.
     OutOfMemory,
@@ -19,7 +19,7 @@ pub enum Trouble {
 impl fmt::Display for Trouble {
     fn fmt<W: fmt::Write>(&self, f: &mut fmt::Formatter<W>) -> fmt::Result {
         match self {
-            Trouble::OutOfMemory => write!(f, "out of memory"),
+            Trouble::OutOfMemory => f.write_str("out of memory"),
             Trouble::OutOfMemoryAt(envelope) => write!(f, "out of memory at envelope {envelope}"),
             Trouble::StoppedAt(octet, lines, octets) => {
                 write!(
@@ -27,7 +27,7 @@ impl fmt::Display for Trouble {
                     "stopped at octet {octet}, lines {lines}, octets {octets}"
                 )
             }
-            Trouble::Wrong => write!(f, "wrong"),
+            Trouble::Wrong => f.write_str("wrong"),
         }
     }
 }
@@ -47,8 +47,17 @@ pub(crate) fn right(is_right: bool) -> Result<(), Trouble> {
     }
 }
 
+/// Whether an answer is as worked, of a call that was perhaps refused memory before.
+pub(crate) fn right_after(is_right: bool, was_refused: bool) -> Result<(), Trouble> {
+    match (is_right, was_refused) {
+        (true, false) => Ok(()),
+        (true, true) => Err(Trouble::OutOfMemory),
+        (false, _) => Err(Trouble::Wrong),
+    }
+}
+
 /// Why no further call is made.
-#[derive(Clone, Copy, Debug, PartialEq, Eq)]
+#[derive(Clone, Copy)]
 pub enum End {
     /// A call was refused twice.
     Refused,
@@ -59,32 +68,5 @@ pub enum End {
 impl From<io::Error> for End {
     fn from(_: io::Error) -> End {
         End::CannotWrite
-    }
-}
-
-/// Makes a call, and once more where it was refused, and prints what it answered.
-pub(crate) fn tell<T: Drop, F: Fn() -> Result<T, Trouble>>(
-    rt: &impl Print,
-    name: &str,
-    call: F,
-) -> Result<T, End>
-    requires { F.IsAlwaysCallable call }
-{
-    let first = match call() {
-        Ok(value) => {
-            println!(rt; "{name}: as worked")?;
-            return Ok(value);
-        }
-        Err(trouble) => trouble,
-    };
-    match call() {
-        Ok(value) => {
-            println!(rt; "{name}: {first}, then as worked")?;
-            Ok(value)
-        }
-        Err(second) => {
-            println!(rt; "{name}: {first}, then {second}")?;
-            Err(End::Refused)
-        }
     }
 }

@@ -40,13 +40,22 @@ pub(crate) fn in_subfiles(
 
 /// What the worked envelope is packed to, call by call.
 fn packed(alloc: Global, envelope: &Envelope, subfile: u64) -> Result<TrialWriter<512>, Trouble> {
-    let mut packer = match Packer::start(alloc, envelope, &head()?, plan(subfile)?, writer()) {
-        Ok(packer) => packer,
-        Err(fault) => return Err(trouble_of(&fault)),
-    };
-    right(packer.text(FIRST_LINE).is_ok())?;
-    right(packer.line_end().is_ok())?;
-    right(packer.text(LAST_LINE).is_ok())?;
+    match Packer::start(alloc, envelope, &head()?, plan(subfile)?, writer()) {
+        Ok(packer) => finished(packer),
+        Err(fault) => Err(trouble_of(&fault)),
+    }
+}
+
+/// Whether a packer takes both lines of the worked envelope.
+fn takes_lines(packer: &mut Packer<TrialWriter<512>>) -> bool {
+    packer.text(FIRST_LINE).is_ok() && packer.line_end().is_ok() && packer.text(LAST_LINE).is_ok()
+}
+
+/// Packs the lines, and gives back what they are packed to.
+fn finished(mut packer: Packer<TrialWriter<512>>) -> Result<TrialWriter<512>, Trouble> {
+    if !takes_lines(&mut packer) {
+        return Err(Trouble::Wrong);
+    }
     let Ok(writer) = packer.finish(b"") else {
         return Err(Trouble::Wrong);
     };

@@ -4,7 +4,7 @@ ghost use Rattle.std.specs.Prelude.{◌≢◌, length, OnOk};
 ghost use Rattle.iim_fields.specs.States.Standing.{IsBetween, IsInside};
 
 use crate::given::LIMITS;
-use crate::outcome::{Trouble, right};
+use crate::outcome::Trouble;
 use iim_dataset::Head;
 use iim_fields::{CopyFault, Envelope, EnvelopeBuilder, FieldFault, Fields};
 use std::alloc::Global;
@@ -45,8 +45,8 @@ fn pass(fields: &mut Fields, rec: u8, set: u8, octets: &[u8]) -> Result<(), Fiel
 /// Checks the worked fields: after `new` nothing takes memory.
 pub(crate) fn fields(alloc: Global) -> Result<(), Trouble> {
     let mut fields = Fields::new(alloc, LIMITS)?;
-    for (rec, set, octets) in STORY_FIELDS {
-        if rec == 8 || pass(&mut fields, rec, set, octets).is_err() {
+    for (rec, set, octets) in &STORY_FIELDS {
+        if *rec == 8 || pass(&mut fields, *rec, *set, octets).is_err() {
             return Err(Trouble::Wrong);
         }
     }
@@ -55,8 +55,8 @@ pub(crate) fn fields(alloc: Global) -> Result<(), Trouble> {
 
 /// Adds the worked fields, and whether each was taken.
 fn add_all(builder: &mut EnvelopeBuilder) -> bool {
-    for (rec, set, octets) in STORY_FIELDS {
-        if builder.add(rec, set, octets).is_err() {
+    for (rec, set, octets) in &STORY_FIELDS {
+        if builder.add(*rec, *set, octets).is_err() {
             return false;
         }
     }
@@ -65,7 +65,7 @@ fn add_all(builder: &mut EnvelopeBuilder) -> bool {
 
 /// Whether an envelope has the worked fields.
 pub(crate) fn is_worked(envelope: &Envelope) -> bool {
-    for ((rec, set, octets), want) in envelope.fields().zip(STORY_FIELDS) {
+    for ((rec, set, octets), want) in envelope.fields().zip(&STORY_FIELDS) {
         if (rec, set) != (want.0, want.1) || octets != want.2 {
             return false;
         }
@@ -76,23 +76,31 @@ pub(crate) fn is_worked(envelope: &Envelope) -> bool {
 /// Builds the worked envelope: after `new` nothing takes memory.
 pub(crate) fn built(alloc: Global) -> Result<Envelope, Trouble> {
     let mut builder = EnvelopeBuilder::new(alloc, LIMITS)?;
-    right(add_all(&mut builder))?;
+    if !add_all(&mut builder) {
+        return Err(Trouble::Wrong);
+    }
+    worked_of(builder)
+}
+
+/// The envelope of a builder, where it is the worked one.
+fn worked_of(builder: EnvelopeBuilder) -> Result<Envelope, Trouble> {
     let Ok(envelope) = builder.finish() else {
         return Err(Trouble::Wrong);
     };
-    right(is_worked(&envelope))?;
+    if !is_worked(&envelope) {
+        return Err(Trouble::Wrong);
+    }
     Ok(envelope)
 }
 
 /// Copies the worked envelope: after `from` nothing takes memory.
 pub(crate) fn copied(alloc: Global, envelope: &Envelope) -> Result<(), Trouble> {
-    let builder = match EnvelopeBuilder::from(alloc, LIMITS, envelope) {
-        Ok(builder) => builder,
-        Err(CopyFault::OutOfMemory) => return Err(Trouble::OutOfMemory),
-        Err(CopyFault::Passed(_)) => return Err(Trouble::Wrong),
-    };
-    match builder.finish() {
-        Ok(copy) => right(is_worked(&copy)),
-        Err(_) => Err(Trouble::Wrong),
+    match EnvelopeBuilder::from(alloc, LIMITS, envelope) {
+        Ok(builder) => match worked_of(builder) {
+            Ok(_) => Ok(()),
+            Err(trouble) => Err(trouble),
+        },
+        Err(CopyFault::OutOfMemory) => Err(Trouble::OutOfMemory),
+        Err(CopyFault::Passed(_)) => Err(Trouble::Wrong),
     }
 }

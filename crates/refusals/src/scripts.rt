@@ -1,10 +1,9 @@
 //! Calls of scripts.
 
 use crate::given::LIMITS;
-use crate::lines::size_of;
-use crate::outcome::{Trouble, right};
+use crate::outcome::Trouble;
 use iim_fields::Envelope;
-use iim_script::{ScriptCause, ScriptFault, read_script};
+use iim_script::{Script, ScriptCause, ScriptFault, read_script};
 use std::alloc::Global;
 use wire_story::Lines;
 use worked::{FIRST_LINE, LAST_LINE};
@@ -34,22 +33,22 @@ No change.
 
 /// Whether lines are the worked ones.
 fn are_worked(lines: &Lines) -> bool {
-    for (line, want) in lines.iter().zip([FIRST_LINE, LAST_LINE]) {
-        if line != want {
-            return false;
-        }
+    lines.iter().eq([FIRST_LINE, LAST_LINE])
+}
+
+/// The lines of a script, where it tells this envelope and the worked lines.
+fn lines_of(script: Script, envelope: &Envelope) -> Result<Lines, Trouble> {
+    let is_same = script.envelope.same(envelope) && script.text_line == 18;
+    if is_same && are_worked(&script.lines) {
+        return Ok(script.lines);
     }
-    size_of(lines).0 == 2
+    Err(Trouble::Wrong)
 }
 
 /// Reads the script, and gives its lines.
 pub(crate) fn told(alloc: Global, envelope: &Envelope) -> Result<Lines, Trouble> {
     match read_script(alloc, LIMITS, SCRIPT) {
-        Ok(script) => {
-            right(script.envelope.same(envelope) && script.text_line == 18)?;
-            right(are_worked(&script.lines))?;
-            Ok(script.lines)
-        }
+        Ok(script) => lines_of(script, envelope),
         Err(
             ScriptFault {
                 line: 0,

@@ -10,7 +10,7 @@ use std::io;
 use std::time::CpuClock;
 
 /// The least times so far, in nanoseconds.
-#[derive(Clone, Copy, Debug, PartialEq, Eq)]
+#[derive(Clone, Copy)]
 pub struct Times {
     /// Of a plain copy.
     pub copy: u64,

@@ -8,33 +8,23 @@
 mod clock;
 mod datasets;
 mod row;
+mod rows;
 mod shapes;
 mod story;
 mod tally;
 mod work;
 
 use row::Table;
-use shapes::{
-    keywords, long_keywords, long_text, message_of, numbered_envelopes, prose, script, short_lines,
-    shortest_lines, single_subfiles, small_envelopes, stories, story_envelopes,
-};
+use rows::{ROWS, Row, SCRIPT};
+use shapes::prose;
 use std::process::ExitCode;
 use std::time::CpuClock;
 use std::{env, io};
 use story::Story;
-use work::{Reading, Work};
+use work::Work;
 
 /// The turns where no number is given.
 const TURNS: u32 = 20;
-
-/// What reads a stream of envelopes.
-const STREAM: [Work<'static>; 5] = [
-    Work::Read(Reading::Heads),
-    Work::Read(Reading::Unpack),
-    Work::Read(Reading::Check),
-    Work::Read(Reading::Show),
-    Work::Read(Reading::Story),
-];
 
 fn main(rt: HostRuntime) -> io::Result<ExitCode> {
     let words: Vec<String> = env::args(&rt)?.collect(rt.alloc())?;
@@ -42,13 +32,7 @@ fn main(rt: HostRuntime) -> io::Result<ExitCode> {
         eprintln!(rt; "usage: speed [TURNS]")?;
         return Ok(ExitCode::from(2));
     };
-    let table = Table::new(&rt, rt.alloc(), turns);
-    table.print_heading()?;
-    print_streams(&table)?;
-    print_long_texts(&table)?;
-    print_texts(&table)?;
-    print_packing(&table)?;
-    print_script(&table)?;
+    print_all(&Table::new(&rt, rt.alloc(), turns))?;
     Ok(ExitCode::from(0))
 }
 
@@ -61,88 +45,43 @@ fn turns_in(words: &[String]) -> Option<u32> {
     }
 }
 
-/// Streams of many envelopes.
-fn print_streams<R: Print + CpuClock>(table: &Table<'_, R>) -> io::Result<()> {
-    let alloc = table.alloc();
-    let octets = small_envelopes(alloc)?;
-    table.print("envelopes of 114 octets", &octets, &STREAM)?;
-    table.print(
-        "envelopes of 114 octets",
-        &octets,
-        &[Work::Read(Reading::UnpackOctets)],
-    )?;
-    let octets = story_envelopes(alloc)?;
-    table.print("envelopes of 246 octets", &octets, &STREAM)?;
-    let octets = stories(alloc)?;
-    table.print("stories of 4 KB, 22 datasets", &octets, &STREAM)?;
-    let octets = keywords(alloc)?;
-    table.print("400 keywords of 8 octets", &octets, &STREAM)?;
-    let octets = long_keywords(alloc)?;
-    table.print("400 keywords of 64 octets", &octets, &STREAM)?;
-    let octets = numbered_envelopes(alloc)?;
-    table.print("numbered envelopes", &octets, &[Work::Read(Reading::Audit)])
+/// The whole table.
+fn print_all<R: Print + CpuClock>(table: &Table<'_, R>) -> io::Result<()> {
+    table.print_heading()?;
+    for row in &ROWS {
+        print_row(table, row)?;
+    }
+    print_packing(table)?;
+    print_row(table, &SCRIPT)
 }
 
-/// One envelope with a long text.
-fn print_long_texts<R: Print + CpuClock>(table: &Table<'_, R>) -> io::Result<()> {
-    let alloc = table.alloc();
-    let octets = long_text(alloc, &prose(alloc)?)?;
-    table.print("long text, subfiles of 32 KB", &octets, &STREAM)?;
-    let octets = long_text(alloc, &short_lines(alloc)?)?;
-    table.print("lines of one octet, CR LF", &octets, &STREAM)?;
-    let octets = long_text(alloc, &shortest_lines(alloc)?)?;
-    table.print("lines of one octet, LF", &octets, &STREAM)?;
-    let octets = single_subfiles(alloc)?;
-    table.print("subfiles of one octet", &octets, &STREAM)
-}
-
-/// Texts and messages alone.
-fn print_texts<R: Print + CpuClock>(table: &Table<'_, R>) -> io::Result<()> {
-    let alloc = table.alloc();
-    let text = prose(alloc)?;
-    table.print("prose", &text, &[Work::Read(Reading::Text)])?;
-    let object = message_of(alloc, &text)?;
-    let works = [
-        Work::Read(Reading::Message),
-        Work::Read(Reading::MessageOctets),
-    ];
-    table.print("a message of prose", &object, &works)?;
-    let text = short_lines(alloc)?;
-    table.print(
-        "lines of one octet, alone",
-        &text,
-        &[Work::Read(Reading::Text)],
-    )?;
-    let object = message_of(alloc, &text)?;
-    table.print(
-        "a message of such lines",
-        &object,
-        &[Work::Read(Reading::Message)],
-    )
+/// The lines of a shape that is read.
+fn print_row<R: Print + CpuClock>(table: &Table<'_, R>, row: &Row) -> io::Result<()> {
+    let Row(name, shape, readings) = row;
+    let octets = shape.octets(table.alloc())?;
+    for reading in *readings {
+        table.print(name, &octets, Work::Read(*reading))?;
+    }
+    Ok(())
 }
 
 /// Prose that is packed.
 fn print_packing<R: Print + CpuClock>(table: &Table<'_, R>) -> io::Result<()> {
-    let alloc = table.alloc();
-    let text = prose(alloc)?;
-    let Some(story) = Story::new(alloc, &text) else {
-        return table.print_refused("prose");
-    };
-    let works = [
-        Work::Pack {
-            story: &story,
-            subfile: 1024,
-        },
-        Work::Pack {
-            story: &story,
-            subfile: 32_768,
-        },
-    ];
-    table.print("prose", &text, &works)
+    let text = prose(table.alloc())?;
+    match Story::new(table.alloc(), &text) {
+        Some(story) => print_packed(table, &text, &story),
+        None => table.print_refused("prose"),
+    }
 }
 
-/// A script that is packed.
-fn print_script<R: Print + CpuClock>(table: &Table<'_, R>) -> io::Result<()> {
-    let octets = script(table.alloc())?;
-    table.print("a script of prose", &octets, &[Work::Read(Reading::Script)])
+/// The story of a text, packed in short subfiles and in long ones.
+fn print_packed<R: Print + CpuClock>(
+    table: &Table<'_, R>,
+    text: &[u8],
+    story: &Story,
+) -> io::Result<()> {
+    for subfile in [1024, 32_768] {
+        table.print("prose", text, Work::Pack { story, subfile })?;
+    }
+    Ok(())
 }

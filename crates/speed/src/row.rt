@@ -56,15 +56,12 @@ impl<'a, R: Print + CpuClock> Table<'a, R> {
         println!(self.rt; "{shape} | refused")
     }
 
-    /// A line for each work over the octets of a shape.
-    pub(crate) fn print(&self, shape: &str, octets: &[u8], works: &[Work<'_>]) -> io::Result<()> {
-        for work in works {
-            match work.run(self.alloc, octets) {
-                Some(tally) => self.print_work(shape, octets, *work, tally)?,
-                None => self.print_refused(shape)?,
-            }
+    /// A line for a work over the octets of a shape.
+    pub(crate) fn print(&self, shape: &str, octets: &[u8], work: Work<'_>) -> io::Result<()> {
+        match work.run(self.alloc, octets) {
+            Some(tally) => self.print_work(shape, octets, work, tally),
+            None => self.print_refused(shape),
         }
-        Ok(())
     }
 
     /// The line of a work that counted this: its counts, or its times.

@@ -60,7 +60,7 @@ pub(crate) fn short_lines(alloc: Global) -> Result<Vec<u8>, AllocError>
 }
 
 /// 340,000 lines of one octet, ended by LF, and an empty last one.
-pub(crate) fn shortest_lines(alloc: Global) -> Result<Vec<u8>, AllocError>
+fn shortest_lines(alloc: Global) -> Result<Vec<u8>, AllocError>
     ensures { IfOk result (λ text. vec_len text ≡ 680000) }
 {
     repeated(alloc, SHORTEST_LINE, 340_000)
@@ -74,7 +74,7 @@ pub(crate) fn script(alloc: Global) -> Result<Vec<u8>, AllocError> {
 }
 
 /// A message with this text.
-pub(crate) fn message_of(alloc: Global, text: &[u8]) -> Result<Vec<u8>, AllocError>
+fn message_of(alloc: Global, text: &[u8]) -> Result<Vec<u8>, AllocError>
     ensures octets { IfOk result (λ message. message.items ≡ message_of text.now) }
     ensures len { IfOk result (λ message. vec_len message ≡ length text.now + 27) }
 {
@@ -145,10 +145,35 @@ pub(crate) fn long_keywords(alloc: Global) -> Result<Vec<u8>, AllocError> {
 }
 
 /// One envelope with this text, in subfiles of 32,768 octets.
-pub(crate) fn long_text(alloc: Global, text: &[u8]) -> Result<Vec<u8>, AllocError>
+fn long_text(alloc: Global, text: &[u8]) -> Result<Vec<u8>, AllocError>
     requires { length text.now < 2 ^ 31 }
 {
     envelope(alloc, SMALLEST_FRONT, &message_of(alloc, text)?, SUBFILE)
+}
+
+/// One envelope with prose.
+pub(crate) fn long_prose(alloc: Global) -> Result<Vec<u8>, AllocError> {
+    long_text(alloc, &prose(alloc)?)
+}
+
+/// One envelope with lines of one octet, ended by CR LF.
+pub(crate) fn short_text(alloc: Global) -> Result<Vec<u8>, AllocError> {
+    long_text(alloc, &short_lines(alloc)?)
+}
+
+/// One envelope with lines of one octet, ended by LF.
+pub(crate) fn shortest_text(alloc: Global) -> Result<Vec<u8>, AllocError> {
+    long_text(alloc, &shortest_lines(alloc)?)
+}
+
+/// A message of prose.
+pub(crate) fn message_of_prose(alloc: Global) -> Result<Vec<u8>, AllocError> {
+    message_of(alloc, &prose(alloc)?)
+}
+
+/// A message of lines of one octet.
+pub(crate) fn message_of_short_lines(alloc: Global) -> Result<Vec<u8>, AllocError> {
+    message_of(alloc, &short_lines(alloc)?)
 }
 
 /// One envelope with 2,560 lines of prose, in 163,867 subfiles of one octet.
@@ -157,14 +182,19 @@ pub(crate) fn single_subfiles(alloc: Global) -> Result<Vec<u8>, AllocError> {
     envelope(alloc, SMALLEST_FRONT, &object, 1)
 }
 
+/// Adds the smallest envelope with another number.
+fn push_numbered(alloc: Global, all: &mut Vec<u8>, number: u32) -> Result<(), AllocError> {
+    let digits = format!(in alloc; "{number:08}")?;
+    all.extend_from_slice(SMALLEST.get(..34).unwrap_or(&[]))?;
+    all.extend_from_slice(digits.as_bytes())?;
+    all.extend_from_slice(SMALLEST.get(42..).unwrap_or(&[]))
+}
+
 /// 9,000 envelopes of 114 octets, each with a number of its own, from 0 on.
 pub(crate) fn numbered_envelopes(alloc: Global) -> Result<Vec<u8>, AllocError> {
     let mut all = Vec::new(alloc);
     for number in 0..9000u32 {
-        let digits = format!(in alloc; "{number:08}")?;
-        all.extend_from_slice(SMALLEST.get(..34).unwrap_or(&[]))?;
-        all.extend_from_slice(digits.as_bytes())?;
-        all.extend_from_slice(SMALLEST.get(42..).unwrap_or(&[]))?;
+        push_numbered(alloc, &mut all, number)?;
     }
     Ok(all)
 }

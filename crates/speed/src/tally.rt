@@ -9,7 +9,7 @@ use iim_output::outlet::Outlet;
 use wire_story::StorySink;
 
 /// What a run counts: it takes everything and keeps nothing. Each count stays at the greatest number of 64 bits once there.
-#[derive(Clone, Copy, Debug, PartialEq, Eq)]
+#[derive(Clone, Copy, PartialEq, Eq)]
 pub struct Tally {
     /// Datasets, envelopes, messages or rows of a report.
     pub whole: u64,

@@ -23,7 +23,7 @@ use wire_message::MessageReader;
 use wire_story::{LineWriter, TextReader};
 
 /// A reader of octets.
-#[derive(Clone, Copy, Debug, PartialEq, Eq)]
+#[derive(Clone, Copy)]
 pub enum Reading {
     /// Datasets, by `HeadReader`.
     Heads,
@@ -58,21 +58,47 @@ pub enum Work<'a> {
     Pack { story: &'a Story, subfile: u64 },
 }
 
+impl Reading {
+    /// What it is called in the table.
+    fn name(self) -> &'static str {
+        match self {
+            Reading::Heads => "heads",
+            Reading::Unpack => "unpack",
+            Reading::UnpackOctets => "unpack, octet by octet",
+            Reading::Check => "check",
+            Reading::Show => "show",
+            Reading::Story => "story",
+            Reading::Audit => "audit",
+            Reading::Text => "text",
+            Reading::Message => "message",
+            Reading::MessageOctets => "message, octet by octet",
+            Reading::Script => "pack by 1,024",
+        }
+    }
+
+    /// Runs once over the octets of a shape: what it counted, or None where something was refused.
+    fn run(self, alloc: Global, octets: &[u8]) -> Option<Tally> {
+        match self {
+            Reading::Heads => heads(octets),
+            Reading::Unpack => unpack(alloc, octets),
+            Reading::UnpackOctets => unpack_octets(alloc, octets),
+            Reading::Check => listed(alloc, &Check, octets),
+            Reading::Show => listed(alloc, &Show, octets),
+            Reading::Story => narrated(alloc, octets),
+            Reading::Audit => audited(alloc, octets),
+            Reading::Text => text(octets),
+            Reading::Message => message(octets),
+            Reading::MessageOctets => message_octets(octets),
+            Reading::Script => script(alloc, octets),
+        }
+    }
+}
+
 impl Work<'_> {
     /// What it is called in the table.
     pub(crate) fn name(self) -> &'static str {
         match self {
-            Work::Read(Reading::Heads) => "heads",
-            Work::Read(Reading::Unpack) => "unpack",
-            Work::Read(Reading::UnpackOctets) => "unpack, octet by octet",
-            Work::Read(Reading::Check) => "check",
-            Work::Read(Reading::Show) => "show",
-            Work::Read(Reading::Story) => "story",
-            Work::Read(Reading::Audit) => "audit",
-            Work::Read(Reading::Text) => "text",
-            Work::Read(Reading::Message) => "message",
-            Work::Read(Reading::MessageOctets) => "message, octet by octet",
-            Work::Read(Reading::Script) => "pack by 1,024",
+            Work::Read(reading) => reading.name(),
             Work::Pack { subfile: 1024, .. } => "pack by 1,024",
             Work::Pack { .. } => "pack by 32,768",
         }
@@ -81,17 +107,7 @@ impl Work<'_> {
     /// Runs once over the octets of a shape: what it counted, or None where something was refused.
     pub(crate) fn run(self, alloc: Global, octets: &[u8]) -> Option<Tally> {
         match self {
-            Work::Read(Reading::Heads) => heads(octets),
-            Work::Read(Reading::Unpack) => unpack(alloc, octets),
-            Work::Read(Reading::UnpackOctets) => unpack_octets(alloc, octets),
-            Work::Read(Reading::Check) => listed(alloc, &Check, octets),
-            Work::Read(Reading::Show) => listed(alloc, &Show, octets),
-            Work::Read(Reading::Story) => narrated(alloc, octets),
-            Work::Read(Reading::Audit) => audited(alloc, octets),
-            Work::Read(Reading::Text) => text(octets),
-            Work::Read(Reading::Message) => message(octets),
-            Work::Read(Reading::MessageOctets) => message_octets(octets),
-            Work::Read(Reading::Script) => script(alloc, octets),
+            Work::Read(reading) => reading.run(alloc, octets),
             Work::Pack { story, subfile } => packed(alloc, story, subfile),
         }
     }

@@ -36,3 +36,7 @@ bad_ticket = 7
 -- what is asked of a packer can't be
 abbrev pub bad_packing : ℕ
 bad_packing = 8
+
+-- what is given as an instant is none
+abbrev pub bad_instant : ℕ
+bad_instant = 9

@@ -1,8 +1,13 @@
 -- What is begun at the place of a ticket, as C sees it.
-use Rattle.std.specs.Prelude.{◌≡◌, ℕ, ◌-◌, ◌==◌, ◌⊎◌, if◌then◌else◌, List, [], ◌∷◌, length, get_or}
-use Rattle.iim_dataset.specs.Format.Datasets.{Dataset, count_octets}
+use Rattle.std.specs.Prelude.{◌≡◌, ◌≢◌, ℕ, ◌-◌, ◌==◌, ◌⊎◌, if◌then◌else◌, List, [], ◌∷◌, ◌++◌, length, drop, get_or}
+use Rattle.iim_dataset.specs.Format.Datasets.{Dataset, SpellsTag, count_octets, head_of}
 use Rattle.iim_dataset.specs.Format.Splits.{Begun, InTag, InData, Reads}
+use Rattle.iim_fields.specs.Format.Faults.{section_after}
+use Rattle.iim_fields.specs.declared.limits.Limits.{Limits}
+use Rattle.iim_places.specs.Format.Conditions.{Token, AtOctet, AtHead, AtValue}
+use Rattle.iim_places.specs.Format.Open.{RefusesNext}
 use Rattle.iim_places.specs.Format.Refusals.{begun_record, begun_number}
+use Rattle.iim_places.specs.declared.fault.TokenFault.{TokenFault}
 use Rattle.iim_places.specs.Format.TicketForm.{Split, SplitsTicket}
 use Rattle.iim_places.specs.Format.Tickets.{Phase, TagBegun, DataBegun, AllEnded}
 use Rattle.iim_c.specs.declared.answer.IimAnswer.{IimAnswer}
@@ -125,9 +130,30 @@ pub record TellsBegun (at : ℕ) (begun : Begun) (found : IimBegun) : Type 0 whe
   pub first : found.first ≡ at - came_of begun
   pub token : found.token ≡ token_of at begun
 
+-- The last dataset has ended: it is of record 9, and no other is begun.
+abbrev pub HaveEnded : List Dataset → Begun → Type 0
+HaveEnded whole (InTag held) = section_after whole ≡ 9
+HaveEnded whole (InData h taken) = ⊥
+
 -- The octets so far have begun this, or have ended.
 pub record TellsOctets (p : List ℕ) (at : ℕ) (found : IimBegun) : Type 0 where
   pub whole : List Dataset
   pub begun : Begun
   pub reads : Reads count_octets p whole begun
-  pub tells : (found.kind ≡ ended) ⊎ TellsBegun at begun found
+  pub tells : ((found.kind ≡ ended) × HaveEnded whole begun) ⊎ TellsBegun at begun found
+
+-- ---- the refused token
+
+-- The octets of a token: of a tag that no octet continues those up to that octet; of a head its tag; of an octet of the object that
+-- octet; of a value its data, or where it has none the tag that says so.
+abbrev pub AreOctetsOf : Token → List ℕ → Type 0
+AreOctetsOf (AtOctet (InTag held) octet) xs = xs ≡ held ++ octet ∷ []
+AreOctetsOf (AtOctet (InData h taken) octet) xs = xs ≡ octet ∷ []
+AreOctetsOf (AtHead h) xs = SpellsTag count_octets h xs
+AreOctetsOf (AtValue d) xs = ((d.octets ≢ []) × (xs ≡ d.octets)) ⊎ ((d.octets ≡ []) × SpellsTag count_octets (head_of d) xs)
+
+-- Whichever octet is refused after those, of whichever layer: from `token` on, up to the refused one, they are the octets of the
+-- refused token.
+abbrev pub TellsToken : List ℕ → ℕ → IimBegun → Type 0
+TellsToken p at found = (limits : Limits) (next : ℕ) (fault : TokenFault) → (refused : RefusesNext limits p next fault) → at ≡ length p
+    → AreOctetsOf refused.token (drop found.token (p ++ next ∷ []))

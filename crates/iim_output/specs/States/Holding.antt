@@ -1,6 +1,6 @@
 -- A writer of blocks: what it holds, and what is out.
-use Rattle.std.specs.Prelude.{◌≡◌, ℕ, ◌<◌, List, [], ◌++◌, length, map}
-use Rattle.iim_dataset.specs.States.Devices.{Device, Wrote, BrokeAfter}
+use Rattle.std.specs.Prelude.{◌≡◌, ℕ, ◌+◌, ◌<◌, List, [], ◌++◌, length, map}
+use Rattle.iim_dataset.specs.States.Devices.{Device, Wrote, BrokeAfter, WithinInterruptionLimit}
 use Rattle.iim_dataset.specs.Format.Counts.{Rose}
 use Rattle.wire_story.specs.Format.Delivery.{StoryEvent, octet_for}
 use Rattle.wire_story.specs.States.Writing.{WritesOn}
@@ -24,19 +24,23 @@ stops_of b = b.stops
 abbrev pub KeepsWriter : {W : Type 0} → BlockWriter W → BlockWriter W → Type 0
 KeepsWriter old new = new.writer.ghost_name ≡ old.writer.ghost_name
 
--- A text was taken, and no write failed: of what was held and the text a front is out, and the rest is held.
+-- A text was taken, and no write failed: of what was held and the text a front is out, and the rest is held. A million interruptions at
+-- most came for each octet that is out.
 pub record HasPut {W : Type 0} (state : W → Device) (old new : BlockWriter W) (text : List ℕ) : Type 0 where
   pub out : List ℕ
   pub same : KeepsWriter old new
   pub parts : held_of old ++ text ≡ out ++ held_of new
   pub wrote : Wrote (device_of state old) (device_of state new) out
+  pub patience : WithinInterruptionLimit (length out) (device_of state old) (device_of state new)
 
--- A text was taken, and a write failed: of what was held and the text a front is out, and the rest is held.
+-- A text was taken, and a write failed: of what was held and the text a front is out, and the rest is held. A million interruptions at
+-- most came for each octet that is out, and for the next.
 pub record HasStuck {W : Type 0} (state : W → Device) (old new : BlockWriter W) (text : List ℕ) : Type 0 where
   pub out : List ℕ
   pub same : KeepsWriter old new
   pub parts : held_of old ++ text ≡ out ++ held_of new
   pub broke : BrokeAfter (device_of state old) (device_of state new) out
+  pub patience : WithinInterruptionLimit (length out + 1) (device_of state old) (device_of state new)
 
 -- A failure to let out what is held leaves some of it, and is counted.
 abbrev pub StaysStuck : {W : Type 0} → (W → Device) → BlockWriter W → BlockWriter W → Type 0
@@ -57,7 +61,8 @@ PutsLines state old events new = PutsOn state old new (map octet_for events)
 abbrev pub HoldsNothing : {W : Type 0} → BlockWriter W → Type 0
 HoldsNothing b = held_of b ≡ []
 
--- Of what was held and a text a front is out, and not all, since a write failed.
+-- Of what was held and a text a front is out, and not all, since a write failed. A million interruptions at most came for each octet that
+-- is out, and for the next.
 pub record IsCutShort {W : Type 0} (state : W → Device) (old new : BlockWriter W) (text : List ℕ) : Type 0 where
   pub out : List ℕ
   pub rest : List ℕ
@@ -65,6 +70,7 @@ pub record IsCutShort {W : Type 0} (state : W → Device) (old new : BlockWriter
   pub parts : held_of old ++ text ≡ out ++ rest
   pub some : 0 < length rest
   pub broke : BrokeAfter (device_of state old) (device_of state new) out
+  pub patience : WithinInterruptionLimit (length out + 1) (device_of state old) (device_of state new)
 
 -- The output broke inside the text.
 abbrev pub IsUnadded : {W : Type 0} → (W → Device) → BlockWriter W → BlockWriter W → List ℕ → CommandFault → Type 0

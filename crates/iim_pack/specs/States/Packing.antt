@@ -2,7 +2,7 @@
 use Rattle.std.specs.Prelude.{◌≡◌, ℕ, ◌+◌, ◌&&◌, not, nat_le, Bool, false, if◌then◌else◌, IsTrue, List, ◌++◌, length, Option, Some, None}
 use Rattle.std.specs.List.{list_all}
 use Rattle.std.specs.Io.KnownBytes.{Appends}
-use Rattle.iim_dataset.specs.States.Devices.{Device, Wrote, Broke}
+use Rattle.iim_dataset.specs.States.Devices.{Device, Wrote, Broke, WithinInterruptionLimit}
 use Rattle.iim_dataset.specs.Format.Datasets.{Dataset, canonical_stream}
 use Rattle.iim_fields.specs.Format.Envelopes.{IsEnvelope}
 use Rattle.iim_object.specs.Format.Plans.{is_short}
@@ -44,10 +44,12 @@ pub record HasPacked {W : Type 0} (k : Packing W) (fields : List Dataset) (head 
   pub stands : object.HasWritten k.object (packed_head head ++ packed_events events) object_out
   pub out_is : out ≡ canonical_stream fields ++ object_out
 
--- A text in these events led from one packer to the other, wherever it stood: some more octets are out.
+-- A text in these events led from one packer to the other, wherever it stood: some more octets are out. A million interruptions at
+-- most came for each.
 pub record Lengthens {W : Type 0} (state : W → Device) (old new : Packing W) (events : List StoryEvent) : Type 0 where
   pub more : List ℕ
   pub wrote : Wrote (state old.object.writer) (state new.object.writer) more
+  pub patience : WithinInterruptionLimit (length more) (state old.object.writer) (state new.object.writer)
   pub counted : written_of new ≡ written_of old + length more
   pub total : total_of new.object ≡ total_of old.object + length (packed_events events)
   pub unfailed : new.object.failed ≡ false
@@ -63,12 +65,13 @@ pub record FormWith (fields : List Dataset) (head : Header) (plan : Plan) (event
   pub rest : List StoryEvent
   pub begins : events_of_lines lines ≡ events ++ rest
 
--- A write failed: some more octets are out and counted, and later calls are refused. Wherever the packer stood, what is out begins
--- every form that `Form` says.
+-- A write failed: some more octets are out and counted, and later calls are refused. A million interruptions at most came for each,
+-- and for the next. Wherever the packer stood, what is out begins every form that `Form` says.
 pub record BreaksOff {W : Type 0} (state : W → Device) (Form : List Dataset → Header → List StoryEvent → Plan → List ℕ → Type 0) (old new : Packing W) : Type 0 where
   pub more : List ℕ
   pub appends : Appends (state old.object.writer).octets (state new.object.writer).octets more
   pub broke : Broke (state old.object.writer) (state new.object.writer)
+  pub patience : WithinInterruptionLimit (length more + 1) (state old.object.writer) (state new.object.writer)
   pub failed : IsTrue new.object.failed
   pub counted : written_of new ≡ written_of old + length more
   pub begins : (fields : List Dataset) (head : Header) (before : List StoryEvent) (plan : Plan) (out whole : List ℕ)
@@ -82,10 +85,11 @@ ContinuesWith events fields head before plan whole = FormWith fields head plan (
 abbrev pub EndsIn : List ℕ → List Dataset → Header → List StoryEvent → Plan → List ℕ → Type 0
 EndsIn trailer fields head before plan whole = Packed fields head (lines_of before) trailer plan whole
 
--- The form is out.
+-- The form is out. A million interruptions at most came for each octet that was not out before.
 pub record Finishes {W : Type 0} (state : W → Device) (old : Packing W) (trailer : List ℕ) (writer : W) : Type 0 where
   pub more : List ℕ
   pub wrote : Wrote (state old.object.writer) (state writer) more
+  pub patience : WithinInterruptionLimit (length more) (state old.object.writer) (state writer)
   pub whole : (fields : List Dataset) (head : Header) (before : List StoryEvent) (plan : Plan) (out : List ℕ)
       → HasPacked old fields head before plan out → Packed fields head (lines_of before) trailer plan (out ++ more)
 

@@ -1,7 +1,7 @@
 -- What an intake has next in line.
-use Rattle.std.specs.Prelude.{◌≡◌, ℕ, ◌<◌, ◌⊎◌, ⊤, false, List, [], ◌++◌, length, take, slice_index, Option, None, Some, Bool, true, Result, IfOk, IfErr}
+use Rattle.std.specs.Prelude.{◌≡◌, ℕ, ◌+◌, ◌<◌, ◌⊎◌, ⊤, false, List, [], ◌++◌, length, take, slice_index, Option, None, Some, Bool, true, Result, IfOk, IfErr}
 use Rattle.std.specs.Io.KnownBytes.{IsAtEnd}
-use Rattle.iim_dataset.specs.States.Devices.{Device, HasGiven, MissedAfter}
+use Rattle.iim_dataset.specs.States.Devices.{Device, HasGiven, MissedAfter, WithinInterruptionLimit}
 use Rattle.iim_dataset.specs.declared.device.IoFault.{IoFault}
 use Rattle.iim_dataset.specs.declared.device.IoFault.TheVariants as io
 use Rattle.iim_fields.specs.declared.limits.Limits.{Limits}
@@ -32,15 +32,18 @@ in_line state i = with_held i.block (state i.reader)
 abbrev pub IsReady : Unpacking → Type 0
 IsReady u = (u.refused ≡ None) × (has_ended u.parts ≡ false)
 
--- Just these octets came from the line, and the sink was told this.
+-- Just these octets came from the line, and the sink was told this. A million interruptions at most came for each octet, and a million
+-- more.
 pub record Came {S : Type 0} (goes : S → List story.StoryEvent → S → Type 0) (old new : Device) (a b : S) (octets : List ℕ) (more : List story.StoryEvent) : Type 0 where
   pub given : HasGiven old new octets
   pub told : goes a more b
+  pub patience : WithinInterruptionLimit (length octets + 1) old new
 
--- Nothing came, nothing is next in line, and the unpacker stands on no octets.
+-- Nothing came, nothing is next in line, and the unpacker stands on no octets. A million interruptions at most came.
 pub record WasEnded {S : Type 0} (old new : Device) (u : Unpacking) (a b : S) : Type 0 where
   pub given : HasGiven old new []
   pub at_end : IsAtEnd new.octets
+  pub patience : WithinInterruptionLimit 1 old new
   pub still : b ≡ a
   pub none : (p : List ℕ) (n : ℕ) → Stands u p n → p ≡ []
 
@@ -48,11 +51,12 @@ pub record WasEnded {S : Type 0} (old new : Device) (u : Unpacking) (a b : S) : 
 abbrev pub StandsOn : Unpacking → Unpacking → List ℕ → List story.StoryEvent → Type 0
 StandsOn u v octets more = (p : List ℕ) (a : ℕ) → Stands u p a → Stands v (p ++ octets) (raised a (length octets)) × Delivers p octets more
 
--- Octets came, on which the unpacker stands now; `used` tells how many.
+-- Octets came, on which the unpacker stands now; `used` tells how many. A million interruptions at most came for each.
 pub record HasFed {S : Type 0} (goes : S → List story.StoryEvent → S → Type 0) (old new : Device) (u v : Unpacking) (a b : S) (used : ℕ) : Type 0 where
   pub octets : List ℕ
   pub more : List story.StoryEvent
   pub came : Came goes old new a b octets more
+  pub patience : WithinInterruptionLimit (length octets) old new
   pub counts : used ≡ raised 0 (length octets)
   pub limits : limits_in v ≡ limits_in u
   pub stands : StandsOn u v octets more
@@ -117,11 +121,13 @@ pub record WasTruncated {S : Type 0} (goes : S → List story.StoryEvent → S �
   pub stands : StandsOn u v octets more
   pub truncated : (p : List ℕ) (n : ℕ) → Stands u p n → IsTruncatedIn (limits_in u) p n octets more e
 
--- Octets came, on which the unpacker stands now, and then this fault; the number is what the unpacker counts.
+-- Octets came, on which the unpacker stands now, and then this fault; the number is what the unpacker counts. A million interruptions
+-- at most came for each octet, and a million more.
 pub record WasMissed {S : Type 0} (goes : S → List story.StoryEvent → S → Type 0) (failures : S → ℕ) (old new : Device) (u v : Unpacking) (a b : S) (kept : ℕ) (fault : IoFault) : Type 0 where
   pub octets : List ℕ
   pub more : List story.StoryEvent
   pub missed : MissedAfter old new octets fault
+  pub patience : WithinInterruptionLimit (length octets + 1) old new
   pub told : goes a more b
   pub calm : failures b ≡ failures a
   pub counts : kept ≡ v.octets

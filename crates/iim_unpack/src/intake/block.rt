@@ -2,7 +2,7 @@
 
 ghost use Rattle.std.specs.Prelude.{◌≡◌, ◌≤◌, [], ℕ, length, drop, IfOk, IfErr, OnErr};
 ghost use Rattle.std.specs.Io.KnownBytes.{IsAtEnd};
-ghost use Rattle.iim_dataset.specs.States.Devices.{Missed, HasGiven};
+ghost use Rattle.iim_dataset.specs.States.Devices.{Missed, HasGiven, WithinInterruptionLimit};
 
 use iim_dataset::{BLOCK, IoFault, Source, take};
 use std::marker::Model;
@@ -60,6 +60,7 @@ impl Block {
         ensures end { IfOk result (λ count. count ≡ 0 → IsAtEnd (R.state reader.new).octets) }
         ensures missed { IfErr result (Missed (R.state reader.old) (R.state reader.new)) }
         ensures empty { OnErr result (self.new ≡ []) }
+        ensures patience { WithinInterruptionLimit 1 (R.state reader.old) (R.state reader.new) }
         ensures leads { R.leads reader.old reader.new }
     {
         self.from = 0;

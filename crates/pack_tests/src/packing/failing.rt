@@ -1,12 +1,12 @@
 //! A packer whose writer fails.
 
-use super::{envelope, plan, story_head};
-use iim_object::{PackCause, Size};
+use super::{plan, story, story_head};
+use iim_object::{PackCause, Size, StartFault};
 use iim_pack::Packer;
 use std::alloc::Global;
 use std::process::Abort;
 use trials::{TrialWriter, Trouble};
-use worked::{STORY_FIELDS, STORY_FRONT, STORY_REST};
+use worked::{FIRST_LINE, LAST_LINE, STORY_FRONT, STORY_REST};
 
 /// Whether these octets begin the worked envelope.
 fn begins_the_story(octets: &[u8]) -> bool {
@@ -28,46 +28,74 @@ enum End {
     Whole,
     InStart(u64),
     InFinish(u64),
+    /// In another way than is worked out.
+    Wrong,
+}
+
+/// How it ended where a call of `start` failed.
+fn end_in_start<const N: usize>(fault: &StartFault<TrialWriter<N>>) -> End {
+    if fault.cause == PackCause::Write && holds_front(&fault.writer, fault.written) {
+        End::InStart(fault.written)
+    } else {
+        End::Wrong
+    }
 }
 
 /// Packs the worked envelope. After a failed write, later calls are asked too.
 fn pack_story<const N: usize>(rt: &impl Abort, alloc: Global, writer: TrialWriter<N>) -> End {
-    let envelope = envelope(rt, alloc, &STORY_FIELDS);
+    let story = story(rt, alloc);
     let plan = plan(rt, 1024, Size::Known(50));
-    let mut packer = match Packer::start(alloc, &envelope, &story_head(rt), plan, writer) {
-        Ok(packer) => packer,
-        Err(fault) => {
-            assert!(rt; fault.cause == PackCause::Write);
-            assert!(rt; holds_front(&fault.writer, fault.written));
-            return End::InStart(fault.written);
-        }
-    };
+    match Packer::start(alloc, &story, &story_head(rt), plan, writer) {
+        Ok(packer) => end_of(packer),
+        Err(fault) => end_in_start(&fault),
+    }
+}
+
+/// How it ends with a packer that has begun.
+fn end_of<const N: usize>(mut packer: Packer<TrialWriter<N>>) -> End {
     let lines = [
-        packer.text(b"Rates stay."),
+        packer.text(FIRST_LINE),
         packer.line_end(),
-        packer.text(b"No change."),
+        packer.text(LAST_LINE),
     ];
-    assert!(rt; lines == [Ok(()); 3]);
-    let mut packer = match packer.finish(b"") {
-        Ok(writer) => {
-            assert!(rt; holds_front(&writer, 246));
-            return End::Whole;
-        }
-        Err((packer, cause)) => {
-            assert!(rt; cause == PackCause::Write);
-            packer
-        }
-    };
+    if lines != [Ok(()); 3] {
+        return End::Wrong;
+    }
+    match packer.finish(b"") {
+        Ok(writer) => end_of_writer(&writer),
+        Err((packer, cause)) => end_in_finish(packer, cause),
+    }
+}
+
+/// How it ended where no call failed.
+fn end_of_writer<const N: usize>(writer: &TrialWriter<N>) -> End {
+    if holds_front(writer, 246) {
+        End::Whole
+    } else {
+        End::Wrong
+    }
+}
+
+/// How it ended where `finish` failed: later calls fail too.
+fn end_in_finish<const N: usize>(mut packer: Packer<TrialWriter<N>>, cause: PackCause) -> End {
     let written = packer.written();
     let answers = [packer.text(b""), packer.text(b"\n"), packer.line_end()];
-    assert!(rt; answers == [Err(PackCause::Failed); 3]);
-    let packer = match packer.finish(&[b'x'; 65]) {
-        Err((packer, PackCause::Failed)) => packer,
-        _ => panic!(rt; "finished after a failed write"),
-    };
-    assert_eq!(rt; packer.written(), written);
-    assert!(rt; holds_front(&packer.into_writer(), written));
-    End::InFinish(written)
+    if cause != PackCause::Write || answers != [Err(PackCause::Failed); 3] {
+        return End::Wrong;
+    }
+    match packer.finish(&[b'x'; 65]) {
+        Err((packer, PackCause::Failed)) => end_after(packer, written),
+        _ => End::Wrong,
+    }
+}
+
+/// How it ended where so many octets were out before the later calls: nothing was written by these.
+fn end_after<const N: usize>(packer: Packer<TrialWriter<N>>, written: u64) -> End {
+    if packer.written() == written && holds_front(&packer.into_writer(), written) {
+        End::InFinish(written)
+    } else {
+        End::Wrong
+    }
 }
 
 #[test]

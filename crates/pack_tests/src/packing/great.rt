@@ -3,12 +3,11 @@
 ghost use Rattle.std.specs.Prelude.{None};
 ghost use Rattle.iim_dataset.specs.States.Devices.{unbroken};
 
-use super::{envelope, plan, story_head};
+use super::{plan, story, story_head};
 use iim_dataset::{IoFault, Target};
 use iim_object::{PackCause, Size};
 use iim_pack::Packer;
 use std::test::Fail;
-use worked::STORY_FIELDS;
 
 /// A target that counts octets.
 #[derive(Drop)]
@@ -30,37 +29,49 @@ fn front(piece: &[u8], count: usize) -> &[u8] {
     piece.get(..count).unwrap_or(&[])
 }
 
+/// Whether a packer takes so many pieces.
+fn takes_pieces(packer: &mut Packer<Count>, piece: &[u8], count: usize) -> bool {
+    for _ in 0..count {
+        if packer.text(piece).is_err() {
+            return false;
+        }
+    }
+    true
+}
+
+/// Whether a packer takes 65,535 pieces and 65,513 octets more, and then has no room.
+fn is_filled(packer: &mut Packer<Count>, piece: &[u8]) -> bool {
+    let taken = takes_pieces(packer, piece, 65_535) && packer.written() == 4_295_491_761;
+    let answers = [
+        packer.text(front(piece, 65_514)),
+        packer.text(front(piece, 65_513)),
+        packer.line_end(),
+    ];
+    let past = Err(PackCause::PastAnnounced);
+    taken && answers == [past, Ok(()), past]
+}
+
+/// How many octets are out at the end.
+fn count_of(packer: Packer<Count>) -> Option<u64> {
+    let Ok(writer) = packer.finish(b"") else {
+        return None;
+    };
+    Some(writer.octets)
+}
+
 /// The header has 25 octets and the least ending 2. After 65,535 pieces the text may have 65,513 more. Records 1 and 2 have 158 octets,
 /// record 7 has 28, since 7:90 has eight octets of data; the tag of a full subfile has 9; the last subfile has 4 octets.
 #[test]
 fn an_object_above_four_octets_of_size(rt: HostRuntime) -> Result<(), Fail> {
-    let envelope = envelope(&rt, rt.alloc(), &STORY_FIELDS);
-    let plan = plan(&rt, 65_536, Size::Known(4_294_967_300));
     let piece = vec![in rt.alloc(); b'a'; 65_536]?;
-    let piece = piece.as_slice();
-    let started = Packer::start(
-        rt.alloc(),
-        &envelope,
-        &story_head(&rt),
-        plan,
-        Count { octets: 0 },
-    );
-    let Ok(mut packer) = started else {
-        return Err(Fail::from("not begun"));
-    };
-    for _ in 0..65_535 {
-        assert!(rt; packer.text(piece).is_ok());
+    let plan = plan(&rt, 65_536, Size::Known(4_294_967_300));
+    let (story, head) = (story(&rt, rt.alloc()), story_head(&rt));
+    match Packer::start(rt.alloc(), &story, &head, plan, Count { octets: 0 }) {
+        Ok(mut packer) => {
+            assert!(rt; is_filled(&mut packer, &piece));
+            assert_eq!(rt; count_of(packer), Some(4_295_557_328));
+        }
+        Err(_) => panic!(&rt; "not begun"),
     }
-    assert_eq!(rt; packer.written(), 4_295_491_761);
-    assert_eq!(rt;
-        packer.text(front(piece, 65_514)),
-        Err(PackCause::PastAnnounced)
-    );
-    assert_eq!(rt; packer.text(front(piece, 65_513)), Ok(()));
-    assert_eq!(rt; packer.line_end(), Err(PackCause::PastAnnounced));
-    let Ok(writer) = packer.finish(b"") else {
-        return Err(Fail::from("not finished"));
-    };
-    assert_eq!(rt; writer.octets, 4_295_557_328);
     Ok(())
 }

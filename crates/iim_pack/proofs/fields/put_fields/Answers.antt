@@ -23,6 +23,7 @@ loop-rec-preserved g c =
       parts = c.loop-rec.invariant.parts ∙ (ap (λ (t : List Dataset). done ++ t) c.in-Some.ensures.steps ∙ sym (append_assoc done (d ∷ []) rest));
       wrote = subst (Wrote (state c.args.writer.now) (state c.put_dataset.new.writer)) (sym more)
           (c.texts_join.ensures.more (state c.args.writer.now) (state c.loop-rec.writer) (state c.put_dataset.new.writer) (canonical_stream done) (canonical_dataset d) c.loop-rec.invariant.wrote c.in-Ok.ensures.ok);
+      patience = omega (arith, c.loop-rec.invariant.patience, c.in-Ok.ensures.patience, c.in-Ok.ensures.all);
       counted = omega (arith, c.loop-rec.invariant.counted, c.in-Ok.ensures.all, ap length more, length-append (canonical_stream done) (canonical_dataset d));
     }
 
@@ -41,6 +42,9 @@ returns-in-Err-clause-err g c =
     subst (λ (n : ℕ). Stopped (state c.args.writer.now) (state c.put_dataset.new.writer) (canonical_stream c.args.envelope.now) (n + c.in-Err.out)) (sym c.loop-rec.invariant.counted)
     (part_stopped (state c.args.writer.now) (state c.loop-rec.writer) (state c.put_dataset.new.writer) c.args.envelope.now done rest d c.in-Err.out c.texts_join.ensures
     (c.loop-rec.invariant.parts ∙ ap (λ (t : List Dataset). done ++ t) c.in-Some.ensures.steps) c.loop-rec.invariant.wrote c.in-Err.ensures.err)
+
+pub returns-in-Err-clause-given_up : goal.returns-in-Err-clause-given_up
+returns-in-Err-clause-given_up g c = omega (arith, c.loop-rec.invariant.patience, c.in-Err.ensures.given_up)
 
 pub returns-clause-small : goal.returns-clause-small
 returns-clause-small g c =

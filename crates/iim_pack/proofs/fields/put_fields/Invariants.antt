@@ -1,6 +1,6 @@
 use Rattle.std.proofs.Common.{◌≡◌, List, ◌++◌, length}
 use Rattle.iim_dataset.specs.Format.Datasets.{Dataset, canonical_stream}
-use Rattle.iim_dataset.specs.States.Devices.{Wrote}
+use Rattle.iim_dataset.specs.States.Devices.{Wrote, WithinInterruptionLimit}
 use Rattle.iim_fields.specs.States.Walks.{rest_of}
 use Rattle.iim_pack.proofs.fields.put_fields.Given as goal
 
@@ -10,6 +10,7 @@ invariant-loop-rec g l = record {
   done : List Dataset;
   parts : l.fn.envelope ≡ done ++ rest_of l.fields;
   wrote : Wrote (g.W.Target.state l.fn.writer) (g.W.Target.state l.writer) (canonical_stream done);
+  patience : WithinInterruptionLimit l.written (g.W.Target.state l.fn.writer) (g.W.Target.state l.writer);
   counted : l.written ≡ length (canonical_stream done);
 }
 

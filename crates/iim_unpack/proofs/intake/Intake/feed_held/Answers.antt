@@ -16,7 +16,7 @@ returns-in-Ok-More-clause-fed g c =
     let some : 0 < length piece = subst (λ (xs : List ℕ). 0 < length xs) (sym c.held.ensures) c.requires.some in
     let count : c.raised.result ≡ raised 0 (length piece) = subst (λ n. c.raised.result ≡ raised 0 n) all c.raised.ensures in
     let given = line_used (length c.held-count.result.now) c.args.self.now.block c.pass.new.self piece (st c.args.self.now.reader) (ap length c.held-count.ensures) c.held.ensures c.pass.ensures in
-    let fed = piece_more g.S.StorySink.goes old new u c.feed.new.self c.args.sink.now c.feed.new.sink c.raised.result piece given count (c.in-Ok-More.ensures.limits c.requires.ready.0)
+    let fed = piece_more g.S.StorySink.goes old new u c.feed.new.self c.args.sink.now c.feed.new.sink c.raised.result piece given refl count (c.in-Ok-More.ensures.limits c.requires.ready.0)
     c.in-Ok-More.field-0 c.in-Ok-More.field-0-is c.in-Ok-More.ensures.goes.1 in
     let here = somewhere u c.requires.ready c.stands_somewhere.ensures.stood in
     let then_ = (fed.stands here.0 here.1 here.2).0 in
@@ -34,7 +34,7 @@ returns-in-Ok-Done-clause-fed g c =
     let here = somewhere u c.requires.ready c.stands_somewhere.ensures.stood in
     piece_done g.S.StorySink.goes old new u c.feed.new.self c.args.sink.now c.feed.new.sink c.raised-in-Ok-Done.result last piece
     (line_front last c.args.self.now.block c.pass-in-Ok-Done.new.self piece (st c.args.self.now.reader) c.held.ensures c.pass-in-Ok-Done.ensures)
-    (used_within c.feed.new.self piece goes.0 last c.in-Ok-Done.field-0 _ _ c.in-Ok-Done.field-0-is (goes.2 _ _ here.2))
+    refl (used_within c.feed.new.self piece goes.0 last c.in-Ok-Done.field-0 _ _ c.in-Ok-Done.field-0-is (goes.2 _ _ here.2))
     c.raised-in-Ok-Done.ensures (c.in-Ok-Done.ensures.limits c.requires.ready.0) c.in-Ok-Done.field-0 c.in-Ok-Done.field-0-is goes
 
 pub pass-requires-in-Ok-Done : goal.pass-requires-in-Ok-Done
@@ -55,6 +55,6 @@ returns-in-Err-clause-refused g c =
       e,
       refl,
       refl,
-      piece_refused g.S.StorySink.goes g.S.StorySink.failures old new c.args.unpacker.now c.feed.new.self c.args.sink.now c.feed.new.sink piece e given c.in-Err.ensures.counted c.in-Err.ensures.failed
+      piece_refused g.S.StorySink.goes g.S.StorySink.failures old new c.args.unpacker.now c.feed.new.self c.args.sink.now c.feed.new.sink piece e given refl c.in-Err.ensures.counted c.in-Err.ensures.failed
           c.in-Err.ensures.refused,
     )

@@ -1,0 +1,4 @@
+pub mod Auditing
+pub mod Instants
+pub mod Rows
+pub mod SoFar
