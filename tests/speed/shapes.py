@@ -1,17 +1,11 @@
-"""The shapes of envelopes that the scripts of this folder measure with, and the reader that they compare with."""
+"""The shapes of envelopes and of scripts that are measured."""
 import os
-import subprocess
-import sys
+import random
 
-# (what is imported leaves no files in the repository)
-sys.dont_write_bytecode = True
-HERE = os.path.dirname(os.path.realpath(__file__))
-TESTS = os.path.dirname(HERE)
-TOP = os.path.dirname(TESTS)
-sys.path.insert(0, TESTS)
 import rules
 from envelopes import SMALLEST, SMALLEST_FIELDS, SMALLEST_HEAD, STORY, STORY_FIELDS, STORY_HEAD
 
+TOP = os.path.dirname(os.path.dirname(os.path.dirname(os.path.realpath(__file__))))
 PROSE = b"The bank kept its rates where they were, as it had said it may"
 PLACES = [(2, 5, b"Rates"), (2, 15, b"ECO"), (2, 90, b"Frankfurt"), (2, 101, b"Germany"), (2, 110, b"TST"), (2, 120, b"Rates stay.")]
 OBJECT = rules.object_of(SMALLEST_HEAD, [b""], b"")
@@ -44,46 +38,34 @@ SHAPES = {
     "lines of one octet, LF": short_lines(b"\n"),
     "subfiles of one octet": prose(2560, SMALLEST_FIELDS, 1),
 }
-
-
-LONGEST_SCRIPT = 16_777_216
+# Of each script the line of its story, how often it stands there, and the words that `pack` is given.
+SCRIPTS = {
+    "a script of prose": (PROSE, 16_384, []),
+    "a script of lines of one octet": (b"x", 340_000, []),
+    "a script of prose, subfiles of one octet": (PROSE, 2600, ["--subfile", "1"]),
+}
+# So many envelopes are audited, their ids in this order.
+AUDITS = {
+    "10,000, by their ids": (10_000, False),
+    "100,000, by their ids": (100_000, False),
+    "1,000,000, by their ids": (1_000_000, False),
+    "1,000,000, in no order": (1_000_000, True),
+}
 NUMBER = slice(34, 42)
 
 
-def longest_script():
-    """A script whose story is prose, as long as a script may be."""
-    with open(os.path.join(TOP, "samples", "smallest.script"), "rb") as sample:
-        head = sample.read().partition(b"text\n")[0] + b"text\n"
-    return head + (PROSE + b"\n") * ((LONGEST_SCRIPT - len(head)) // (len(PROSE) + 1))
+def script(line, lines):
+    """The smallest script, its story so many of this line."""
+    with open(f"{TOP}/samples/smallest.script", "rb") as sample:
+        return sample.read() + (line + b"\n") * lines
 
 
-def write_numbered(path, envelopes):
-    """Writes so many of the smallest envelope, numbered from 0."""
-    octets = bytearray(SMALLEST)
+def write_numbered(path, envelopes, is_mixed):
+    """Writes so many of the smallest envelope, numbered from 0, in the order of their numbers or, always the same way, in none."""
+    octets, numbers = bytearray(SMALLEST), list(range(envelopes))
+    if is_mixed:
+        random.Random(envelopes).shuffle(numbers)
     with open(path, "wb") as to:
-        for number in range(envelopes):
+        for number in numbers:
             octets[NUMBER] = b"%08d" % number
             to.write(octets)
-
-
-def command(words):
-    """The program that the words of a command line name: this repository's own, built, where they name none. An option tells how it is used."""
-    if len(words) > 1 and words[1].startswith("-"):
-        sys.exit(sys.modules["__main__"].__doc__)
-    if len(words) > 1:
-        return os.path.abspath(words[1])
-    # (`./iimwire` is a script, which builds the program where it is not there or is of older sources)
-    subprocess.run([f"{TOP}/iimwire", "check"], stdin=subprocess.DEVNULL, check=True)
-    return f"{TOP}/crates/iimwire/out/iimwire"
-
-
-def reader(folder):
-    """Builds the reader in plain Rust in the folder, for the same kind of processor as the command: the program, or None without rustc."""
-    program = os.path.join(folder, "reader")
-    words = ["rustc", "-O", "-C", "target-cpu=x86-64-v2", "-o", program, os.path.join(HERE, "reader.rs")]
-    try:
-        subprocess.run(words, check=True)
-    except FileNotFoundError:
-        print("rustc is not there: nothing is compared with the reader in plain Rust", file=sys.stderr)
-        return None
-    return program

@@ -1,5 +1,5 @@
 -- What the octets at the front say of a tag.
-use Rattle.std.proofs.Common.{◌≡◌, ◌≢◌, ℕ, suc, ◌+◌, ◌-◌, ◌<◌, ◌≤◌, ◌⊎◌, List, [], ◌∷◌, ◌++◌, length, take, drop, get_or, replicate, refl, ap, sym, subst, ◌∙◌, inl, inr, arith, length-append}
+use Rattle.std.proofs.Common.{◌≡◌, ◌≢◌, ℕ, suc, ◌+◌, ◌*◌, ◌-◌, ◌<◌, ◌≤◌, ◌⊎◌, List, [], ◌∷◌, ◌++◌, length, take, drop, get_or, replicate, refl, ap, sym, subst, ◌∙◌, inl, inr, arith, length-append}
 use Rattle.std.proofs.lemmas.List.{length-replicate, length-take-le}
 use Rattle.std.proofs.Math.Seq.{take-append-add}
 use Rattle.byteorder.specs.Endian.{big_number}
@@ -135,6 +135,29 @@ no_length (a ∷ b ∷ c ∷ d ∷ e ∷ o) n long form is none h more tag = bad
         let low : y ≡ e = cc in
         let moved : SpellsCount count_octets h.count (128 ∷ e ∷ xs) = subst (λ (u : ℕ). SpellsCount count_octets h.count (u ∷ e ∷ xs)) high (subst (λ (u : ℕ). SpellsCount count_octets h.count (x ∷ u ∷ xs)) low spelled) in
         lengths (count_length h.count e xs moved)
+
+number_of_two : (high low : ℕ) → number (high ∷ low ∷ []) ≡ high * 256 + low
+number_of_two high low = omega arith
+
+-- five octets of which the last two are a standard count are a tag
+pub whole_standard : (o : List ℕ) → Fit o → 5 ≤ length o → get_or o 0 0 ≡ 28 → get_or o 3 0 < 128 → (count : ℕ) → count ≡ get_or o 3 0 * 256 + get_or o 4 0
+    → HasTag o (record { rec = get_or o 1 0; set = get_or o 2 0; count = count }) 5
+whole_standard [] fits long marker form count is = absurd (omega arith)
+whole_standard (a ∷ []) fits long marker form count is = absurd (omega arith)
+whole_standard (a ∷ b ∷ []) fits long marker form count is = absurd (omega arith)
+whole_standard (a ∷ b ∷ c ∷ []) fits long marker form count is = absurd (omega arith)
+whole_standard (a ∷ b ∷ c ∷ d ∷ []) fits long marker form count is = absurd (omega arith)
+whole_standard (a ∷ b ∷ c ∷ d ∷ e ∷ o) fits long marker form count is = record {
+  some = omega arith;
+  within = long;
+  tag = record {
+    rec = fits 1;
+    set = fits 2;
+    count = d ∷ e ∷ [];
+    is_count = inl (form, fits 4, refl, number_of_two d e ∙ sym is);
+    parts = ap (λ (x : ℕ). x ∷ b ∷ c ∷ d ∷ e ∷ []) marker;
+  };
+}
 
 -- the number in the octets of a count
 number_front : (n : ℕ) (xs : List ℕ) → n ≤ length xs → number (take n xs) ≡ big_number n xs

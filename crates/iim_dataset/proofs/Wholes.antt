@@ -1,12 +1,12 @@
 -- Whole datasets at the front.
-use Rattle.std.proofs.Common.{◌≡◌, ℕ, ◌+◌, ◌-◌, ◌<◌, ◌≤◌, List, [], ◌∷◌, ◌++◌, length, take, drop, slice_index, ap, refl, sym, subst, ◌∙◌, arith, append_assoc, append-nil, length-append, map, Option, Some}
+use Rattle.std.proofs.Common.{◌≡◌, ℕ, ◌+◌, ◌*◌, ◌-◌, ◌<◌, ◌≤◌, List, [], ◌∷◌, ◌++◌, length, take, drop, get_or, length-drop, slice_index, ap, refl, sym, subst, ◌∙◌, arith, append_assoc, append-nil, length-append, map, Option, Some}
 use Rattle.std.specs.Prelude.{MatchOption, IfSome}
 use Rattle.std.proofs.Math.Seq.{take-add, take-append-add}
 use Rattle.std.proofs.lemmas.List.{take-take, length-take-le, get_or-take, get_or-append-add}
 use Rattle.iim_dataset.specs.Format.Octets.{IsOctet, Octets}
 use Rattle.iim_dataset.specs.Format.Datasets.{SpellsTag, count_octets}
 use Rattle.iim_dataset.specs.States.Events.{DatasetEvent, HeadRead, DataOctet, DatasetEnd}
-use Rattle.iim_dataset.specs.Format.Tags.{BeginsTag, HasTag}
+use Rattle.iim_dataset.specs.Format.Tags.{HasTag}
 use Rattle.iim_dataset.specs.States.Places.{Brings, LeadsTo, TellsSink, between}
 use Rattle.iim_dataset.specs.States.Reading.{AfterStep, Stops}
 use Rattle.iim_dataset.specs.Fronts.{WholeFront}
@@ -15,13 +15,11 @@ use Rattle.iim_dataset.specs.declared.sink.Step.{Step}
 use Rattle.iim_dataset.specs.declared.place.DatasetPlace.TheVariants.{Inside}
 use Rattle.iim_dataset.proofs.Places.{whole_on, head_on, data_on, octet_on, stops_at}
 use Rattle.iim_dataset.proofs.Stopping.{octet_at}
-use Rattle.iim_dataset.proofs.OctetLists.{front_are}
+use Rattle.iim_dataset.proofs.OctetLists.{Fit, are_octets, front_are}
+use Rattle.iim_dataset.proofs.Fronts.{whole_standard}
 use Rattle.iim_dataset.proofs.Each.{all_back}
 
-pub found_tag : (xs : List ℕ) (found : Option (Head × ℕ)) (h : Head) (n : ℕ) → found ≡ Some (h, n) → MatchOption found (BeginsTag count_octets xs) (λ f. HasTag xs f.0 f.1) → HasTag xs h n
-found_tag xs found h n is t = subst (λ (o : Option (Head × ℕ)). MatchOption o (BeginsTag count_octets xs) (λ f. HasTag xs f.0 f.1)) is t
-
-pub whole_front : (rest : List ℕ) (h : Head) (n : ℕ) (tag after xs : List ℕ) → Octets rest → HasTag rest h n → after ≡ drop n rest → length tag ≡ n → xs ≡ take h.count after → length xs ≡ h.count
+whole_front : (rest : List ℕ) (h : Head) (n : ℕ) (tag after xs : List ℕ) → Octets rest → HasTag rest h n → after ≡ drop n rest → length tag ≡ n → xs ≡ take h.count after → length xs ≡ h.count
     → n + h.count ≤ length rest → WholeFront rest h xs (length tag + length xs)
 whole_front rest h n tag after xs o t back tag_len are data_len within =
     let parts : take (length tag + length xs) rest ≡ take n rest ++ xs =
@@ -35,6 +33,19 @@ whole_front rest h n tag after xs o t back tag_len are data_len within =
       within = omega (arith, tag_len, data_len, within);
       parts = parts;
     }
+
+-- the same of a tag with a standard count
+pub standard_front : (rest : List ℕ) (high low : ℕ) (xs : List ℕ) → Fit rest → 5 + (high * 256 + low) ≤ length rest → get_or rest 0 0 ≡ 28 → get_or rest 3 0 < 128
+    → high ≡ get_or rest 3 0 → low ≡ get_or rest 4 0 → xs ≡ take (high * 256 + low) (drop 5 rest)
+    → WholeFront rest (record { rec = get_or rest 1 0; set = get_or rest 2 0; count = high * 256 + low }) xs (5 + (high * 256 + low))
+standard_front rest high low xs fits within marker form is_high is_low are =
+    let n = high * 256 + low in
+    let h : Head = record { rec = get_or rest 1 0; set = get_or rest 2 0; count = n } in
+    let five : length (take 5 rest) ≡ 5 = length-take-le 5 rest (omega (arith, within)) in
+    let long : length xs ≡ n = ap length are ∙ length-take-le n (drop 5 rest) (omega (arith, within, length-drop 5 rest)) in
+    let is : n ≡ get_or rest 3 0 * 256 + get_or rest 4 0 = omega (arith, is_high, is_low) in
+    subst (λ (k : ℕ). WholeFront rest h xs k) (omega (arith, five, long))
+    (whole_front rest h 5 (take 5 rest) (drop 5 rest) xs (are_octets rest fits) (whole_standard rest fits (omega (arith, within)) marker form n is) refl five are long within)
 
 -- the sink was told of a whole dataset
 pub tells_whole : {D : Type 0} (goes : D → List DatasetEvent → D → Type 0) (rest xs : List ℕ) (h : Head) (used : ℕ) (a b : D) → WholeFront rest h xs used → goes a (HeadRead h ∷ (map DataOctet xs ++ DatasetEnd ∷ [])) b

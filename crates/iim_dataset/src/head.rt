@@ -47,7 +47,7 @@ pub const TAG_MARKER: u8 = 0x1c;
 pub const EXTENDED: u8 = 0x80;
 
 /// The octets of a tag up to the end of a standard count.
-const TAG_LENGTH: usize = 5;
+pub(crate) const TAG_LENGTH: usize = 5;
 
 /// The most octets of a tag.
 pub const TAG_OCTETS: usize = TAG_LENGTH + COUNT_OCTETS as usize;

@@ -12,7 +12,7 @@ ghost use Rattle.iim_dataset.specs.States.Reading.{TakesPiece, RefusesOne, Stops
 ghost use Rattle.iim_dataset.specs.TagEnds.{StopsAmong, head_events, place_after_head};
 
 use crate::fault::{Fault, FaultCause, tag_fault};
-use crate::head::{Head, read_head};
+use crate::head::{EXTENDED, Head, TAG_LENGTH, TAG_MARKER};
 use crate::place::{DatasetPlace, HELD_OCTETS, lengthen, read_tag};
 use crate::sink::{DatasetSink, Step};
 use crate::stop::Stop;
@@ -143,19 +143,25 @@ fn take_data<D: DatasetSink>(
     }
 }
 
-/// The dataset that lies at the front whole: its head, its data, and how many octets it has.
+/// The dataset that lies at the front whole, its count a standard one: its head, its data, and how many octets it has. One with an
+/// extended count comes as a head, data and an end.
 #[inline(always)]
 fn whole_dataset(rest: &[u8]) -> Option<(Head, &[u8], usize)>
     ensures { IfSome result (λ front. WholeFront rest.now front.0 front.1.now front.2) }
 {
-    match read_head(rest) {
-        Ok(Some((head, length))) => {
-            let (tag, after) = rest.split_at(length);
-            if (after.len() as u64) < head.count {
+    match rest {
+        [marker, rec, set, high, low, after @ ..] if *marker == TAG_MARKER && *high < EXTENDED => {
+            let count = usize::from(*high) * 256 + usize::from(*low);
+            if after.len() < count {
                 return None;
             }
-            let (data, _) = after.split_at(head.count as usize);
-            Some((head, data, tag.len() + data.len()))
+            let (data, _) = after.split_at(count);
+            let head = Head {
+                rec: *rec,
+                set: *set,
+                count: count as u64,
+            };
+            Some((head, data, TAG_LENGTH + count))
         }
         _ => None,
     }

@@ -49,6 +49,7 @@ fn overwrite(places: &mut Vec<u8>, from: usize, octets: &[u8])
 }
 
 /// Writes octets from a place on: over earlier ones, as far as those go, and then after them.
+#[inline(always)]
 fn write(places: &mut Vec<u8>, from: usize, octets: &[u8])
     requires within { from ≤ vec_len places.old }
     requires fits { from + length octets.now ≤ vec_capacity places.old }
@@ -56,12 +57,24 @@ fn write(places: &mut Vec<u8>, from: usize, octets: &[u8])
     ensures len { from + length octets.now ≤ vec_len places.new }
     ensures room { vec_capacity places.new ≡ vec_capacity places.old }
 {
-    let earlier = places.len() - from;
-    if octets.len() <= earlier {
+    if octets.len() <= places.len() - from {
         overwrite(places, from, octets);
         return;
     }
-    let (over, after) = octets.split_at(earlier);
+    lengthen(places, from, octets);
+}
+
+/// The same of octets that go on after all earlier ones.
+#[inline(never)]
+fn lengthen(places: &mut Vec<u8>, from: usize, octets: &[u8])
+    requires within { from ≤ vec_len places.old }
+    requires longer { vec_len places.old ≤ from + length octets.now }
+    requires fits { from + length octets.now ≤ vec_capacity places.old }
+    ensures items { take (from + length octets.now) places.new.items ≡ take from places.old.items ++ octets.now }
+    ensures len { vec_len places.new ≡ from + length octets.now }
+    ensures room { vec_capacity places.new ≡ vec_capacity places.old }
+{
+    let (over, after) = octets.split_at(places.len() - from);
     overwrite(places, from, over);
     append(places, after);
 }
@@ -109,6 +122,7 @@ impl ReservedOctets {
     }
 
     /// Takes octets, for which there is room.
+    #[inline(always)]
     pub fn take(&mut self, octets: &[u8])
         requires { length self.old.items + length octets.now ≤ self.old.room }
         ensures items { self.new.items ≡ self.old.items ++ octets.now }

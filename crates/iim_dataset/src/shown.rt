@@ -1,9 +1,11 @@
 //! Octets as text that can be printed.
 
-ghost use Rattle.std.specs.Prelude.{◌≡◌, ◌++◌, ◌<◌, OnOk};
+ghost use Rattle.std.specs.Prelude.{◌≡◌, ◌++◌, ◌<◌, ◌≤◌, length, slice_index, take, true, false, OnOk};
+ghost use Rattle.std.specs.List.{list_all};
 ghost use Rattle.iim_dataset.specs.Format.Shown.{escape, hex_digit, is_plain, shown};
 
 use std::alloc::AllocError;
+use std::simd::prelude::*;
 
 /// The digit of a number below 16: `0` to `9`, `A` to `F`.
 fn hex_digit(number: u8) -> u8
@@ -38,17 +40,56 @@ pub fn is_plain(octet: u8) -> bool
     octet >= b' ' && octet <= b'~' && octet != b'\\'
 }
 
+/// Whether the first 16 octets stand for themselves.
+#[inline(always)]
+fn are_plain_16(octets: &[u8]) -> bool
+    requires { 16 ≤ length octets.now }
+    ensures { result ≡ list_all is_plain (take 16 octets.now) }
+{
+    let x = u8x16::from_slice(octets);
+    (x.simd_ge(u8x16::splat(b' '))
+        & x.simd_le(u8x16::splat(b'~'))
+        & x.simd_ne(u8x16::splat(b'\\'))).all()
+}
+
+/// How many octets stand for themselves before the first sixteen of which one doesn't, by sixteen at a time.
+fn plain_blocks(octets: &[u8]) -> usize
+    ensures within { result ≤ length octets.now }
+    ensures plain { list_all is_plain (take result octets.now) ≡ true }
+{
+    let mut at = 0;
+    while octets.len() - at >= 16 && are_plain_16(&octets[at..]) {
+        at += 16;
+    }
+    at
+}
+
+/// How many octets stand for themselves before the first that doesn't.
+fn plain_run(octets: &[u8]) -> usize
+    ensures within { result ≤ length octets.now }
+    ensures plain { list_all is_plain (take result octets.now) ≡ true }
+    ensures end { result < length octets.now → is_plain (slice_index octets.now result) ≡ false }
+{
+    let mut at = plain_blocks(octets);
+    while at < octets.len() && is_plain(octets[at]) {
+        at += 1;
+    }
+    at
+}
+
 /// Adds octets as they are shown: those from 20 to 7E hexadecimal but the backslash as they are, all others as `\x` and two
 /// digits. An error says that memory was refused.
 pub fn push_shown(text: &mut Vec<u8>, octets: &[u8]) -> Result<(), AllocError>
     ensures { OnOk result (text.new.items ≡ text.old.items ++ shown octets.now) }
 {
-    for octet in octets {
-        if is_plain(*octet) {
-            text.push(*octet)?;
-        } else {
-            push_escape(text, *octet)?;
-        }
+    let mut rest = octets;
+    'showing: loop {
+        let (plain, others) = rest.split_at(plain_run(rest));
+        text.extend_from_slice(plain)?;
+        let Some((octet, after)) = others.split_first() else {
+            return Ok(());
+        };
+        push_escape(text, *octet)?;
+        rest = after;
     }
-    Ok(())
 }

@@ -2,6 +2,7 @@ pub mod NumberSets
 pub mod Tested
 pub mod Entries
 pub mod Table
+pub mod Heads
 pub mod Runs
 pub mod Follows
 pub mod Dies

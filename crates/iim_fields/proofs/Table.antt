@@ -1,12 +1,13 @@
 -- What the table says of the records of an envelope.
-use Rattle.std.proofs.Common.{◌≡◌, ◌≢◌, ℕ, ◌<◌, ◌≤◌, ◌⊎◌, Bool, true, false, ◌&&◌, ◌||◌, cond, nat_eq, nat_le, List, [], ◌∷◌, length, map, Option, Some, None, refl, ap, sym, ◌∙◌, inl, inr, arith, subst}
+use Rattle.std.proofs.Common.{◌≡◌, ◌≢◌, ℕ, ◌<◌, ◌≤◌, ◌⊎◌, Bool, true, false, not, if◌then◌else◌, ◌&&◌, ◌||◌, cond, nat_eq, nat_le, List, [], ◌∷◌, length, map, Option, Some, None, refl, ap, sym, ◌∙◌, inl, inr, arith, subst}
 use Rattle.std.specs.List.{AllByRecursion, list_all, filter, find}
 use Rattle.std.specs.Option.{option_or, option_map}
-use Rattle.iim_fields.specs.Format.Faults.{is_kept, value_fault, fault_by_row, missing_fault}
+use Rattle.iim_fields.specs.Format.Faults.{is_kept, is_first, value_fault, fault_by_row, missing_fault}
 use Rattle.iim_fields.specs.OrderChanges.{no_application}
 use Rattle.iim_fields.specs.declared.fault.FieldCause.TheVariants as causes
 use Rattle.iim_tables.specs.declared.shape.Kind.TheVariants as kinds
-use Rattle.std.proofs.lemmas.Bool.{and_parts, or_cases, or_parts, leb-true, eqb-true, and_left, or_right}
+use Rattle.std.proofs.lemmas.Bool.{and_parts, and_from, or_cases, or_parts, le-leb, leb-true, eqb-true, and_left, or_right}
+use Rattle.std.specs.Prelude.{is_none}
 use Rattle.std.proofs.lemmas.Bool.Decides.{eqb_tells}
 use Rattle.iim_dataset.specs.Format.Octets.{IsOctet, within}
 use Rattle.iim_dataset.specs.Format.Datasets.{Dataset, head_of}
@@ -15,7 +16,8 @@ use Rattle.iim_tables.specs.Format.Numbers.{size_octets}
 use Rattle.iim_tables.specs.Format.Kinds.{has_kind}
 use Rattle.iim_fields.specs.Format.Values.{tells_number, data_of}
 use Rattle.iim_tables.specs.Format.Rows.{table, row_of, row_of_others, Meets, is_admitted}
-use Rattle.iim_tables.specs.Format.Records.{HasValue, mandatory, has_to_occur, IsGoodDataset}
+use Rattle.iim_tables.specs.Format.Records.{HasValue, mandatory, has_to_occur, has_file_format, IsGoodDataset}
+use Rattle.iim_fields.specs.declared.fault.FieldFault.{FieldFault}
 use Rattle.iim_tables.specs.declared.shape.Row.{Row}
 use Rattle.iim_fields.specs.Format.Records.{after}
 use Rattle.iim_tables.proofs.GoodDatasets.{good_elsewhere}
@@ -240,10 +242,24 @@ admitted_length row xs h =
     let parts = and_parts (nat_le row.min (length xs)) (nat_le (length xs) row.max) in_bounds in
     (leb-true row.min (length xs) parts.0, leb-true (length xs) row.max parts.1)
 
-pub file_format_length : (h : Head) (row : Row) (xs : List ℕ) → row_of h.rec h.set ≡ Some row → is_admitted row xs ≡ true → h.rec ≡ 1 → h.set ≡ 20 → length xs ≡ 2
-file_format_length h row xs known admitted first format =
-    let bounds = file_format_bounds row (known_at 1 20 h row known first format) in
-    let long = admitted_length row xs admitted in omega arith
+pub file_format_length : (h : Head) (row : Row) (xs : List ℕ) → row_of h.rec h.set ≡ Some row → (row.min ≤ length xs) × (length xs ≤ row.max) → h.rec ≡ 1 → h.set ≡ 20 → length xs ≡ 2
+file_format_length h row xs known long first format =
+    let bounds = file_format_bounds row (known_at 1 20 h row known first format) in omega arith
+
+-- two tests tell nothing where both are passed
+none_of_both : (a b c : Bool) (f g : FieldFault) → a ≡ true → (b && c) ≡ is_none (if not (a && b) then Some f else if not c then Some g else None)
+none_of_both true true true f g is = refl
+none_of_both true true false f g is = refl
+none_of_both true false c f g is = refl
+none_of_both false b c f g is = absurd cc
+
+-- a value in the row's bounds has a fault of its kind, or one of its file format
+pub fault_in_bounds : (h : Head) (row : Row) (xs : List ℕ) → row_of h.rec h.set ≡ Some row → (row.min ≤ length xs) × (length xs ≤ row.max)
+    → (has_kind row.kind xs && has_file_format (data_of h xs)) ≡ is_none (value_fault (data_of h xs))
+fault_in_bounds h row xs known (low, high) =
+    subst (λ (o : Option Row). (has_kind row.kind xs && has_file_format (data_of h xs)) ≡ is_none (fault_by_row o (data_of h xs))) (sym known)
+    (none_of_both (within row.min row.max (length xs)) (has_kind row.kind xs) (has_file_format (data_of h xs)) _ _
+    (and_from (nat_le row.min (length xs)) (nat_le (length xs) row.max) (le-leb row.min (length xs) low) (le-leb (length xs) row.max high)))
 
 -- ---- which records have rows
 
@@ -274,6 +290,21 @@ no_other_row r n other =
 five_by : (r n : ℕ) (row : Row) (b : Bool) → in_five r ≡ b → row_of r n ≡ Some row → in_five r ≡ true
 five_by r n row true is known = is
 five_by r n row false is known = absurd (let none = no_other_row r n is in cc)
+
+-- no row is of record 0
+pub not_record0 : (r n : ℕ) (row : Row) → row_of r n ≡ Some row → nat_eq r 0 ≡ false
+unfolding in_five
+not_record0 r n row known = elim (eqb_tells r 0) [
+  | inl is ↦ absurd (let five : in_five 0 ≡ true = subst (λ (m : ℕ). in_five m ≡ true) is.1 (five_by r n row (in_five r) refl known) in cc)
+  | inr not0 ↦ not0.0
+]
+
+-- no record comes first of those after itself
+pub first_self : (r : ℕ) → is_first r (after r) ≡ false
+first_self r = elim (eqb_tells r 0) [
+  | inl is ↦ subst (λ (m : ℕ). is_first m (after m) ≡ false) (sym is.1) refl
+  | inr not0 ↦ by_record (λ m. is_first m (after m) ≡ false) r refl refl refl refl refl (λ not1 not2 not7 not8 not9. rw (not0.0, not1, not2, not7, not8, not9) refl)
+]
 
 -- a record with a row is kept, is the object's, or tells numbers
 pub kept_or_tells : (r n : ℕ) (row : Row) → row_of r n ≡ Some row → (r ≢ 8) → is_kept r ≡ false → tells_number r ≡ true

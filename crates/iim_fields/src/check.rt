@@ -18,7 +18,7 @@ use crate::value::{check_value, is_value};
 use iim_dataset::Head;
 use iim_tables::laws::each_row_has_values;
 use iim_tables::records::POST_OBJECT;
-use iim_tables::{Row, row};
+use iim_tables::{Row, line};
 use std::marker::Model;
 
 /// A begun dataset.
@@ -58,16 +58,26 @@ impl RecordPlace {
         ensures took { IsTrue result → TakesWhole self.old head octets.now self.new }
         ensures left { result ≡ false → self.new ≡ self.old }
     {
-        let Some(row) = row(head.rec, head.set) else {
+        let Some(row) = line(head.rec, head.set) else {
             return false;
         };
-        if !self.order.admits(head, &row) {
+        if head.rec == self.order.present() {
+            if !self.order.admits_more(head, row) {
+                return false;
+            }
+            if !is_value(head, row, octets) {
+                return false;
+            }
+            self.order.add(head);
+            return true;
+        }
+        if !self.order.admits_next(head, row) {
             return false;
         }
-        if !is_value(head, &row, octets) {
+        if !is_value(head, row, octets) {
             return false;
         }
-        self.order.take(head);
+        self.order.begin(head);
         true
     }
 

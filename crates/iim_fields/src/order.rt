@@ -1,6 +1,8 @@
 //! Where a head may stand: the order of the records, and the rows of their datasets.
 
-ghost use Rattle.std.specs.Prelude.{◌≡◌, is_none, Some, None, IfOk, IfErr, OnOk};
+ghost use Rattle.std.specs.Prelude.{◌≡◌, ◌≢◌, ◌&&◌, is_none, Some, None, IfOk, IfErr, OnOk, IsTrue};
+ghost use Rattle.std.specs.Int.{IsInRange};
+ghost use Rattle.iim_dataset.specs.Format.Octets.{within};
 ghost use Rattle.iim_tables.specs.Format.Rows.{row_of};
 ghost use Rattle.iim_fields.specs.Format.Faults.{head_fault, row_fault, missing_of, missing_fault, is_in_order, is_first};
 ghost use Rattle.iim_fields.specs.Format.Records.{after};
@@ -11,7 +13,7 @@ use crate::fault::{FieldCause, FieldFault};
 use crate::number_set::NumberSet;
 use crate::records::{mandatory, next_record};
 use iim_dataset::{GREATEST_SIZE, Head};
-use iim_tables::records::{APPLICATION, ENVELOPE, OBJECT, PRE_OBJECT, SUBFILE};
+use iim_tables::records::{APPLICATION, ENVELOPE, OBJECT, POST_OBJECT, PRE_OBJECT, SUBFILE};
 use iim_tables::{Row, row};
 
 /// What the heads so far leave open: the present record, 0 before the first, and the numbers that occurred in it.
@@ -65,6 +67,15 @@ fn row_fault(again: bool, row: &Row, head: Head) -> Option<FieldFault>
     None
 }
 
+/// Whether the count of a head lies within its row's bounds.
+#[inline(always)]
+fn is_counted(head: Head, row: &Row) -> bool
+    ensures exactly { result ≡ within row.now.min row.now.max head.count }
+    ensures bounds { IsTrue result → IsInRange row.now.min row.now.max head.count }
+{
+    row.min <= head.count && head.count <= row.max
+}
+
 /// Whether the number of a head is that of a subfile, and its count one that a size can be: what the row of 8:10 asks.
 #[inline(always)]
 fn is_subfile(head: Head) -> bool
@@ -103,6 +114,7 @@ impl Order {
     }
 
     /// The lowest mandatory number of the record that has not occurred.
+    #[inline(always)]
     fn missing(&self, rec: u8) -> Option<u8>
         ensures { result ≡ missing_of rec (has_seen self.now) }
     {
@@ -180,20 +192,43 @@ impl Order {
         Ok(row)
     }
 
-    /// Whether a head may stand next, which has this row: it has no fault for `check` to tell.
-    #[inline(always)]
-    pub(crate) fn admits(&self, head: Head, row: &Row) -> bool
-        requires { row_of head.rec head.set ≡ Some row.now }
-        ensures { result ≡ is_none (head_fault self.now.rec (has_seen self.now) head) }
+    /// Whether a record may begin: it follows the present one, which lacks nothing. Each record has an arm of its own, so that
+    /// its mandatory numbers are constants there.
+    #[inline(never)]
+    #[tactic(auto, using(crate::proofs::Table::mandatory_is))]
+    fn may_begin(&self, rec: u8) -> bool
+        ensures { result ≡ is_first rec (after self.now.rec) && is_none (missing_of self.now.rec (has_seen self.now)) }
     {
-        if !self.is_in_order(head.rec) {
-            return false;
+        match self.rec {
+            0 => rec == ENVELOPE,
+            ENVELOPE => rec == APPLICATION && self.missing(ENVELOPE).is_none(),
+            APPLICATION => rec == PRE_OBJECT && self.missing(APPLICATION).is_none(),
+            PRE_OBJECT => rec == OBJECT && self.missing(PRE_OBJECT).is_none(),
+            OBJECT => rec == POST_OBJECT && self.missing(OBJECT).is_none(),
+            _ => false,
         }
-        let again = head.rec == self.rec && self.seen.contains(head.set);
-        if row_fault(again, row, head).is_some() {
-            return false;
-        }
-        !self.begins(head.rec) || self.missing(self.rec).is_none()
+    }
+
+    /// Whether a head of the present record may stand next, which has this row: it has no fault for `check` to tell.
+    #[inline(always)]
+    pub(crate) fn admits_more(&self, head: Head, row: &Row) -> bool
+        requires row { row_of head.rec head.set ≡ Some row.now }
+        requires present { head.rec ≡ self.now.rec }
+        ensures exactly { result ≡ is_none (head_fault self.now.rec (has_seen self.now) head) }
+        ensures bounds { IsTrue result → IsInRange row.now.min row.now.max head.count }
+    {
+        is_counted(head, row) && (row.repeats || !self.seen.contains(head.set))
+    }
+
+    /// Whether a head of another record may stand next, which has this row: it has no fault for `check` to tell.
+    #[inline(always)]
+    pub(crate) fn admits_next(&self, head: Head, row: &Row) -> bool
+        requires row { row_of head.rec head.set ≡ Some row.now }
+        requires other { head.rec ≢ self.now.rec }
+        ensures exactly { result ≡ is_none (head_fault self.now.rec (has_seen self.now) head) }
+        ensures bounds { IsTrue result → IsInRange row.now.min row.now.max head.count }
+    {
+        is_counted(head, row) && self.may_begin(head.rec)
     }
 
     /// Whether a subfile may come next.
@@ -208,7 +243,7 @@ impl Order {
         }
     }
 
-    /// Whether the head of a subfile may stand next, as `admits` tells by its row.
+    /// Whether the head of a subfile may stand next, as `admits_more` and `admits_next` tell by its row.
     #[inline(always)]
     pub(crate) fn admits_subfile(&self, head: Head) -> bool
         requires { head.rec ≡ 8 }
@@ -217,17 +252,35 @@ impl Order {
         is_subfile(head) && self.takes_subfile()
     }
 
+    /// Takes a head of the present record that may stand next.
+    #[inline(always)]
+    pub(crate) fn add(&mut self, head: Head)
+        requires { head.rec ≡ self.old.rec }
+        ensures { AddsHead self.old head self.new }
+    {
+        self.seen.insert(head.set);
+    }
+
+    /// Takes a head of another record that may stand next.
+    #[inline(always)]
+    pub(crate) fn begin(&mut self, head: Head)
+        requires { head.rec ≢ self.old.rec }
+        ensures { AddsHead self.old head self.new }
+    {
+        self.rec = head.rec;
+        self.seen = NumberSet::new();
+        self.seen.insert(head.set);
+    }
+
     /// Takes a head that may stand next.
     #[inline(always)]
     pub(crate) fn take(&mut self, head: Head)
         ensures { AddsHead self.old head self.new }
     {
         if head.rec == self.rec {
-            self.seen.insert(head.set);
-            return;
+            self.add(head);
+        } else {
+            self.begin(head);
         }
-        self.rec = head.rec;
-        self.seen = NumberSet::new();
-        self.seen.insert(head.set);
     }
 }

@@ -13,7 +13,7 @@ use crate::fault::{FieldCause, FieldFault};
 use crate::order::fault_on;
 use iim_dataset::Head;
 use iim_tables::records::{ENVELOPE, FILE_FORMAT, POST_OBJECT, PRE_OBJECT};
-use iim_tables::{Row, admits, number_of};
+use iim_tables::{Row, admits, has_kind, number_of};
 
 /// The file format of a text for wire services, which the profile asks for.
 const WIRE_FORMAT: u64 = 2;
@@ -45,13 +45,14 @@ fn value_fault(head: Head, row: &Row, octets: &[u8]) -> Option<FieldFault>
     None
 }
 
-/// Whether a value has no fault for `value_fault` to tell.
+/// Whether a value that is as long as its row allows has no fault for `value_fault` to tell.
 #[inline(always)]
 pub(crate) fn is_value(head: Head, row: &Row, octets: &[u8]) -> bool
-    requires { row_of head.rec head.set ≡ Some row.now }
+    requires row { row_of head.rec head.set ≡ Some row.now }
+    requires bounds { IsInRange row.now.min row.now.max (length octets.now) }
     ensures { result ≡ is_none (value_fault (data_of head octets.now)) }
 {
-    admits(row, octets) && has_file_format(head, octets)
+    has_kind(row.kind, octets) && has_file_format(head, octets)
 }
 
 /// The number that a value of record 7 or 9 tells.

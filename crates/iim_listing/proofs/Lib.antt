@@ -1,5 +1,7 @@
 pub mod Feeding
 pub mod Listings
 pub mod Narration
+pub mod Narrators
 pub mod Taken
 pub mod Told
+pub mod Counted

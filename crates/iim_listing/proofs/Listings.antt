@@ -30,19 +30,20 @@ use Rattle.iim_listing.specs.Format.WrittenListings.{FailsListing, WritesListing
 use Rattle.iim_output.specs.declared.fault.CommandFault.{CommandFault}
 use Rattle.iim_output.specs.declared.fault.CommandFault.TheVariants.{CannotRead, CannotWrite, OutOfMemory}
 
--- ---- one envelope more
+-- ---- texts of envelopes
 
-texts_more : (text : ℕ → Listed → List ℕ) (es : List Listed) (e : Listed) (n : ℕ) → texts_from text n (es ++ e ∷ []) ≡ texts_from text n es ++ text (n + length es) e
-texts_more text [] e n = append-nil (text n e) ∙ ap (λ (k : ℕ). text k e) (let is : n ≡ n + 0 = omega arith in is)
-texts_more text (f ∷ es) e n =
-    let is : n + 1 + length es ≡ n + length (f ∷ es) = omega arith in
-    ap (λ (l : List ℕ). text n f ++ l) (texts_more text es e (n + 1) ∙ ap (λ (k : ℕ). texts_from text (n + 1) es ++ text k e) is)
-    ∙ sym (append_assoc (text n f) (texts_from text (n + 1) es) (text (n + length (f ∷ es)) e))
+pub texts_parts : (text : ℕ → Listed → List ℕ) (es fs : List Listed) (n : ℕ) → texts_from text n (es ++ fs) ≡ texts_from text n es ++ texts_from text (n + length es) fs
+texts_parts text [] fs n = ap (λ (k : ℕ). texts_from text k fs) (let is : n ≡ n + 0 = omega arith in is)
+texts_parts text (e ∷ es) fs n =
+    let is : n + 1 + length es ≡ n + length (e ∷ es) = omega arith in
+    ap (λ (l : List ℕ). text n e ++ l) (texts_parts text es fs (n + 1) ∙ ap (λ (k : ℕ). texts_from text (n + 1) es ++ texts_from text k fs) is)
+    ∙ sym (append_assoc (text n e) (texts_from text (n + 1) es) (texts_from text (n + length (e ∷ es)) fs))
 
 pub text_after : (text : ℕ → Listed → List ℕ) (es : List Listed) (e : Listed) (count : ℕ) → count ≡ length es
     → texts_from text 1 es ++ text (count + 1) e ≡ texts_from text 1 (es ++ e ∷ [])
 text_after text es e count is =
-    ap (λ (k : ℕ). texts_from text 1 es ++ text k e) (let same : count + 1 ≡ 1 + length es = omega (arith, is) in same) ∙ sym (texts_more text es e 1)
+    let same : count + 1 ≡ 1 + length es = omega (arith, is) in
+    ap (λ (l : List ℕ). texts_from text 1 es ++ l) (ap (λ (k : ℕ). text k e) same ∙ sym (append-nil (text (1 + length es) e))) ∙ sym (texts_parts text es (e ∷ []) 1)
 
 -- ---- the envelopes so far
 

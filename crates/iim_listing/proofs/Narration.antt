@@ -1,7 +1,9 @@
 -- What `story` writes.
-use Rattle.std.proofs.Common.{◌≡◌, ℕ, ◌+◌, ◌<◌, ◌≤◌, inl, inr, refl, sym, ap, subst, ◌∙◌, arith, List, [], ◌∷◌, ◌++◌, length, map, take, append-nil, append_assoc, Option, Some, Result, Ok, Err, IfErr, OnOk, is_err, false}
-use Rattle.std.proofs.Math.Seq.{take-length}
-use Rattle.std.proofs.lemmas.List.{take-append-le}
+use Rattle.std.proofs.Common.{◌≡◌, ℕ, ◌+◌, ◌<◌, ◌≤◌, ◌⊎◌, inl, inr, refl, sym, ap, subst, ◌∙◌, arith, List, [], ◌∷◌, ◌++◌, length, map, take, append-nil, append_assoc, length-append, Option, Some, Result, Ok, Err}
+use Rattle.std.specs.List.{AllByRecursion}
+use Rattle.std.specs.Borrow.{MutBor}
+use Rattle.std.proofs.Math.Seq.{take-length, take-append_seam}
+use Rattle.std.proofs.lemmas.List.{map-append, take-append-le}
 use Rattle.std.specs.Io.KnownBytes.{Appends}
 use Rattle.iim_dataset.specs.States.Devices.{Device, Wrote, HasGiven}
 use Rattle.iim_dataset.specs.Format.Counts.{Rose}
@@ -12,6 +14,7 @@ use Rattle.iim_dataset.specs.Laws.Datasets.{OctetsAreHandedOnOneWay, EventsTellT
 use Rattle.iim_dataset.specs.States.Places.{HandsOn}
 use Rattle.iim_dataset.specs.Format.Splits.{InTag}
 use Rattle.iim_dataset.specs.Appending.{appends_joined}
+use Rattle.iim_dataset.proofs.Each.{all_append, all_back, all_front}
 use Rattle.iim_dataset.proofs.Lists.{some_none}
 use Rattle.iim_dataset.proofs.DeviceLaws.{missed_later}
 use Rattle.wire_message.specs.Laws.Messages.{TextsStandBetweenStxAndEtx}
@@ -19,10 +22,9 @@ use Rattle.wire_message.specs.Format.Layers.{text_so_far}
 use Rattle.wire_message.specs.declared.place.Place.TheVariants.{AfterEnd}
 use Rattle.wire_story.specs.Format.Delivery.{StoryEvent, delivered, octet_for}
 use Rattle.wire_story.specs.Laws.Texts.{LinesAreJoinedByLineFeeds, TextsAreDeliveredAsLines}
-use Rattle.wire_story.specs.States.Writing.{HasBroken}
-use Rattle.wire_story.specs.WritingLaws.{broken_after}
-use Rattle.iim_output.specs.States.Holding.{HoldsNothing, KeepsWriter, PutsLines, PutsOn, StaysStuck, device_of, held_of, stops_of}
-use Rattle.iim_output.specs.HoldingLaws.{puts_on}
+use Rattle.iim_output.specs.States.Holding.{HoldsNothing, KeepsWriter, PutsOn, device_of, held_of}
+use Rattle.iim_output.specs.States.Holding as blocks
+use Rattle.iim_output.specs.HoldingLaws.{puts_nothing, puts_on}
 use Rattle.iim_output.proofs.Holding.{puts_of_stuck}
 use Rattle.iim_output.specs.declared.block_writer.BlockWriter.{BlockWriter}
 use Rattle.iim_places.specs.Format.Admitted.{object_of}
@@ -35,14 +37,14 @@ use Rattle.iim_output.specs.States.Devices.{HasOctets}
 use Rattle.iim_listing.specs.Format.Listings.{ending_line, line_of, status_of, texts_from}
 use Rattle.iim_output.specs.Format.Limits.{limits}
 use Rattle.iim_listing.specs.Format.Listings.{IsDelivered}
-use Rattle.iim_places.specs.Format.Listing.{joined, max_envelopes, InputEnding, EndsBy, Listed, IsListed, IsRefusedAfter, RefusedBy}
+use Rattle.iim_places.specs.Format.Listing.{joined, max_envelopes, Divides, InputEnding, EndsBy, Listed, IsListed, IsRefusedAfter, RefusedBy}
 use Rattle.iim_listing.specs.Laws.Narration.{EnvelopesAreDeliveredAsLines}
-use Rattle.iim_listing.specs.Format.Narration.{IsTextIn, IsUnnarrated, LeavesText, Narrated, stories, story_of, text_of}
-use Rattle.iim_listing.specs.NarrationEnds.{IsHeldBack, IsUnended}
-use Rattle.iim_output.specs.Format.Said.{IsUnsaid}
+use Rattle.iim_listing.specs.Format.Narration.{AreEnvelope, AreToldWith, IsTextIn, IsUnnarrated, LeavesText, Narrated, stories, story_of, text_of}
+use Rattle.iim_listing.specs.Narrating.{EndsStory, HoldsLines, IsLost, IsSettled, IsStuck, IsUnended, IsUntold, KeepsTargets, LetsOut, TellsOn, errors_of, output_of, stops_of}
+use Rattle.iim_listing.specs.declared.narrator.Narrator.{Narrator}
 use Rattle.iim_output.specs.declared.fault.CommandFault.{CommandFault}
 use Rattle.iim_output.specs.declared.fault.CommandFault.TheVariants.{CannotRead, CannotWrite, OutOfMemory}
-use Rattle.iim_listing.proofs.Listings.{AreTaken, consumes_holds, divides, given_then, none_taken, taken_more, text_after}
+use Rattle.iim_listing.proofs.Listings.{AreTaken, consumes_holds, divides, given_then, none_taken, taken_more, texts_parts}
 use Rattle.iim_places.proofs.Answering.{no_text}
 use Rattle.iim_listing.proofs.Taken.{come_as}
 
@@ -68,289 +70,24 @@ envelope_text law joins e more is d = ap (λ (events : List StoryEvent). map oct
 -- ---- what a writer of lines leaves
 
 -- nothing was held before nor is after, so the text is out
-pub wrote_by : {W : Type 0} (state : W → Device) (a d : BlockWriter W) (text : List ℕ) → HoldsNothing a → HoldsNothing d → stops_of a ≡ 0 → stops_of d ≡ stops_of a → PutsOn state a d text
+pub wrote_by : {W : Type 0} (state : W → Device) (a d : BlockWriter W) (text : List ℕ) → HoldsNothing a → HoldsNothing d → blocks.stops_of a ≡ 0 → blocks.stops_of d ≡ blocks.stops_of a → PutsOn state a d text
     → Wrote (device_of state a) (device_of state d) text
 wrote_by state a d text before after none same w =
     let is : text ≡ w.out = sym (ap (λ (t : List ℕ). t ++ text) before) ∙ w.parts ∙ ap (λ (t : List ℕ). w.out ++ t) after ∙ append-nil w.out in
     subst (Wrote (device_of state a) (device_of state d)) (sym is) (w.writes.octets, (w.writes.unbroken same (omega (arith, none, same)), w.writes.interruptions))
 
--- nothing was held before: a front of the text is out
-pub front_of : {W : Type 0} (state : W → Device) (a d : BlockWriter W) (text : List ℕ) → HoldsNothing a → (w : PutsOn state a d text) → text ≡ w.out ++ held_of d
-front_of state a d text before w = sym (ap (λ (t : List ℕ). t ++ text) before) ∙ w.parts
+-- ---- where octets end among stories
 
-rises : (i j : ℕ) → i ≡ 0 → Rose i j → i < j
-rises i j none (inl h) = omega (arith, h)
-rises i j none (inr h) = absurd (omega (arith, none, h.0, h.2))
-
--- more is out, and then the device has broken
-broke_on : {W : Type 0} (state : W → Device) (old : Device) (a d : BlockWriter W) (xs text : List ℕ) → Wrote old (device_of state a) xs → (w : PutsOn state a d text) → stops_of a ≡ 0 → Rose (stops_of a) (stops_of d)
-    → Appends old.octets (device_of state d).octets (xs ++ w.out) × HasBroken old (device_of state d)
-broke_on state old a d xs text out w none rose = (
-  appends_joined old.octets (device_of state a).octets (device_of state d).octets xs w.out out.0 w.writes.octets,
-  broken_after old (device_of state a) (device_of state d) (omega (arith, out.1.0)) (omega (arith, out.1.1)) (w.writes.broken (rises (stops_of a) (stops_of d) none rose)),
-)
-
--- ---- the envelopes so far
-
--- Some envelopes, `count` of them, came from the input, and nothing else; their stories and their lines are out.
-pub record AreNarrated (source rest old new errors_old errors_new : Device) (count : ℕ) : Type 0 where
-  pub envelopes : List Listed
-  pub taken : AreTaken source rest count envelopes
-  pub out : Wrote old new (stories envelopes)
-  pub told : Wrote errors_old errors_new (texts_from line_of 1 envelopes)
-
-pub none_narrated : GiftsJoin → TextsJoin → (source old errors : Device) → AreNarrated source source old old errors errors 0
-none_narrated joins texts source old errors = record { envelopes = []; taken = none_taken joins source; out = texts.none old; told = texts.none errors }
-
--- the stories with that of an envelope more
-story_after : (es : List Listed) (e : Listed) (count : ℕ) → count ≡ length es → stories es ++ (text_of e ++ (10 ∷ [])) ≡ stories (es ++ e ∷ [])
-story_after es e count is = text_after story_of es e count is
-
-pub narrated_more : {source mid old now errors_old errors_now : Device} {count : ℕ} → GiftsJoin → TextsJoin → (rest new errors_new : Device) (line : List ℕ) (e : Listed)
-    → AreNarrated source mid old now errors_old errors_now count → IsListed limits e → HasGiven mid rest e.octets → (count ≡ max_envelopes → ⊥)
-    → Wrote now new (text_of e ++ (10 ∷ [])) → line ≡ line_of (count + 1) e → Wrote errors_now errors_new line
-    → AreNarrated source rest old new errors_old errors_new (count + 1)
-narrated_more {source = source} {mid = mid} {old = old} {now = now} {errors_old = errors_old} {errors_now = errors_now} {count = count} joins texts rest new errors_new line e r is given below out words told = record {
-  envelopes = r.envelopes ++ e ∷ [];
-  taken = taken_more joins source mid rest count r.envelopes e r.taken is given below;
-  out =
-      subst (Wrote old new) (story_after r.envelopes e count r.taken.counted)
-      (texts.more old now new (stories r.envelopes) (text_of e ++ (10 ∷ [])) r.out out);
-  told =
-      subst (Wrote errors_old errors_new) (ap (λ (w : List ℕ). texts_from line_of 1 r.envelopes ++ w) words ∙ text_after line_of r.envelopes e count r.taken.counted)
-      (texts.more errors_old errors_now errors_new (texts_from line_of 1 r.envelopes) line r.told told);
-}
-
--- ---- all is told
-
-pub narrated : {source mid old now errors_old errors_now : Device} {count : ℕ} → GiftsJoin → TextsJoin → (rest new errors_new : Device) (status : ℕ) (begun more words line : List ℕ) (ending : InputEnding)
-    → AreNarrated source mid old now errors_old errors_now count → HasGiven mid rest begun → HasOctets rest.octets more → EndsBy limits count (begun ++ more) ending
-    → LeavesText (begun ++ more) ending words → status ≡ status_of ending → Wrote now new words → line ≡ ending_line count ending → Wrote errors_now errors_new line
-    → Narrated source rest old new errors_old errors_new status
-narrated {source = source} {mid = mid} {old = old} {now = now} {errors_old = errors_old} {errors_now = errors_now} {count = count} joins texts rest new errors_new status begun more words line ending r given holds ends leaves is out same told =
-    let es = r.envelopes in
-    let all = given_then joins source mid rest count es begun r.taken given in (
-      joined es ++ (begun ++ more),
-      es,
-      ending,
-      words,
-      subst (HasOctets source.octets) (append_assoc (joined es) begun more) (consumes_holds source.octets rest.octets (joined es ++ begun) more all.0 holds),
-      all.1,
-      record {
-        listing = record {
-          rest = begun ++ more;
-          divides = divides source mid count es (begun ++ more) r.taken;
-          ends = subst (λ (n : ℕ). EndsBy limits n (begun ++ more) ending) r.taken.counted ends;
-        };
-        leaves = leaves;
-      },
-      is,
-      texts.more old now new (stories es) words r.out out,
-      subst (λ (w : List ℕ). Wrote errors_old errors_new (texts_from line_of 1 es ++ w)) (same ∙ ap (λ (n : ℕ). ending_line n ending) r.taken.counted)
-          (texts.more errors_old errors_now errors_new (texts_from line_of 1 es) line r.told told),
-    )
-
--- ---- memory was short
-
-pub unfed_for_memory : {source mid old now errors_old errors_new : Device} {count : ℕ} → GiftsJoin → TextsJoin → (rest new : Device) (begun : List ℕ) (k : ℕ) (words : List ℕ)
-    → AreNarrated source mid old now errors_old errors_new count → HasGiven mid rest begun → IsTextIn (take k begun) words → Wrote now new words
-    → IsUnnarrated source rest old new errors_old errors_new OutOfMemory
-unfed_for_memory {source = source} {mid = mid} {old = old} {now = now} {count = count} joins texts rest new begun k words r given is out = (
-  joined r.envelopes ++ begun,
-  r.envelopes,
-  begun,
-  k,
-  words,
-  divides source mid count r.envelopes begun r.taken,
-  given_then joins source mid rest count r.envelopes begun r.taken given,
-  is,
-  texts.more old now new (stories r.envelopes) words r.out out,
-  r.told,
-)
-
--- all octets of an envelope have its text
-pub whole_text : EnvelopesAreDeliveredAsLines → LinesAreJoinedByLineFeeds → (e : Listed) (more : List StoryEvent) → IsListed limits e → IsDelivered e.octets more
-    → IsTextIn (take (length e.octets) e.octets) (text_of e)
-whole_text law joins e more is d =
-    subst (λ (octets : List ℕ). IsTextIn octets (text_of e)) (sym (take-length e.octets)) (more, d, sym (envelope_text law joins e more is d))
-
--- ---- the output broke
-
-pub broke_in_text : {W : Type 0} (state : W → Device) → GiftsJoin → (source mid rest old errors_old errors_new : Device) (a d : BlockWriter W) (count : ℕ) (begun : List ℕ) (k : ℕ) (text more left : List ℕ)
-    → AreNarrated source mid old (device_of state a) errors_old errors_new count → HasGiven mid rest begun → k ≤ length begun → (k ≡ length begun → left ≡ [] → (e : Listed) × IsListed limits e × (e.octets ≡ begun))
-    → IsTextIn (take k begun) text → (w : PutsOn state a d more) → text ≡ w.out ++ left → stops_of a ≡ 0 → Rose (stops_of a) (stops_of d)
-    → IsUnnarrated source rest old (device_of state d) errors_old errors_new CannotWrite
-broke_in_text state joins source mid rest old errors_old errors_new a d count begun k text more left r given within all is w parts none rose =
-    let es = r.envelopes in
-    let broke = broke_on state old a d (stories es) more r.out w none rose in (
-      joined es ++ begun,
-      es,
-      begun,
-      divides source mid count es begun r.taken,
-      given_then joins source mid rest count es begun r.taken given,
-      inl (
-        (
-          k,
-          w.out,
-          left,
-          within,
-          all,
-          subst (IsTextIn (take k begun)) parts is,
-          broke.0,
-          broke.1,
-        ),
-        r.told,
-      ),
-    )
-
-rose_from : (i j k : ℕ) → j ≡ i → Rose j k → Rose i k
-rose_from i j k same rose = subst (λ (n : ℕ). Rose n k) same rose
-
--- an LF was taken, and could not be let out
-pub unended_by : {W T : Type 0} (state : W → Device) (a b d : BlockWriter W) (r : Result T CommandFault) → PutsOn state a b (10 ∷ []) → stops_of b ≡ stops_of a → IfErr r (IsHeldBack state b d) → IfErr r (IsUnended state a d)
-unended_by state a b d (Ok x) puts same err = tt
-unended_by state a b d (Err fault) puts same (is, stuck) = (
-  is,
-  rose_from (stops_of a) (stops_of b) (stops_of d) same stuck.2,
-  inr (puts_on state a b d (10 ∷ []) [] puts (puts_of_stuck state b d [] stuck.0 stuck.2), stuck.1),
-)
-
--- what was held of a text could not be let out
-pub held_back : {W : Type 0} (state : W → Device) → GiftsJoin → (source mid rest old errors_old errors_new : Device) (a b d : BlockWriter W) (count : ℕ) (begun : List ℕ) (k : ℕ) (text : List ℕ)
-    → AreNarrated source mid old (device_of state a) errors_old errors_new count → HasGiven mid rest begun → k ≤ length begun → IsTextIn (take k begun) text
-    → HoldsNothing a → stops_of a ≡ 0 → stops_of b ≡ stops_of a → PutsOn state a b text → StaysStuck state b d → IsUnnarrated source rest old (device_of state d) errors_old errors_new CannotWrite
-held_back state joins source mid rest old errors_old errors_new a b d count begun k text r given within is empty none same w stuck =
-    let all : PutsOn state a d text = subst (PutsOn state a d) (append-nil text) (puts_on state a b d text [] w (puts_of_stuck state b d [] stuck.0 stuck.2)) in
-    broke_in_text state joins source mid rest old errors_old errors_new a d count begun k text text (held_of d) r given within (λ whole nothing. absurd (some_none (held_of d) stuck.1 nothing)) is all
-    (front_of state a d text empty all) none (rose_from (stops_of a) (stops_of b) (stops_of d) same stuck.2)
-
--- ---- the errors broke
-
-pub broke_in_lines : {source mid old now errors_old errors_now : Device} {count : ℕ} → GiftsJoin → TextsJoin → (rest new errors_new : Device) (begun words line : List ℕ) (ending : InputEnding) (fault : CommandFault)
-    → AreNarrated source mid old now errors_old errors_now count → HasGiven mid rest begun → EndsBy limits count begun ending → LeavesText begun ending words
-    → Wrote now new words → line ≡ ending_line count ending → IsUnsaid errors_now errors_new line fault → IsUnnarrated source rest old new errors_old errors_new fault
-broke_in_lines {source = source} {mid = mid} {old = old} {now = now} {errors_old = errors_old} {errors_now = errors_now} {count = count} joins texts rest new errors_new begun words line ending fault r given ends leaves out same unsaid =
-    let es = r.envelopes in
-    let lines = texts_from line_of 1 es in
-    let is : line ≡ ending_line (length es) ending = same ∙ ap (λ (n : ℕ). ending_line n ending) r.taken.counted in
-    rw unsaid.0 (
-      joined es ++ begun,
-      es,
-      begun,
-      divides source mid count es begun r.taken,
-      given_then joins source mid rest count es begun r.taken given,
-      inr (
-        lines ++ line,
-        words,
-        length lines + unsaid.1,
-        inr (ending, subst (λ (n : ℕ). EndsBy limits n begun ending) r.taken.counted ends, leaves, ap (λ (w : List ℕ). lines ++ w) is),
-        texts.more old now new (stories es) words r.out out,
-        texts.stopped errors_old errors_now errors_new lines line unsaid.1 r.told unsaid.2,
-      ),
-    )
-
--- inside the line of an envelope whose story is out
-pub broke_in_line : {source mid old now errors_old errors_now : Device} {count : ℕ} → GiftsJoin → TextsJoin → (rest new errors_new : Device) (line : List ℕ) (e : Listed) (fault : CommandFault)
-    → AreNarrated source mid old now errors_old errors_now count → IsListed limits e → HasGiven mid rest e.octets → (count ≡ max_envelopes → ⊥)
-    → Wrote now new (text_of e ++ (10 ∷ [])) → line ≡ line_of (count + 1) e → IsUnsaid errors_now errors_new line fault
-    → IsUnnarrated source rest old new errors_old errors_new fault
-broke_in_line {source = source} {mid = mid} {old = old} {now = now} {errors_old = errors_old} {errors_now = errors_now} {count = count} joins texts rest new errors_new line e fault r is given below out words unsaid =
-    let es = r.envelopes ++ e ∷ [] in
-    let lines = texts_from line_of 1 r.envelopes in
-    let t = taken_more joins source mid rest count r.envelopes e r.taken is given below in
-    let all = texts.more old now new (stories r.envelopes) (text_of e ++ (10 ∷ [])) r.out out in
-    rw unsaid.0 (
-      joined es ++ [],
-      es,
-      [],
-      divides source rest (count + 1) es [] t,
-      subst (HasGiven source rest) (sym (append-nil (joined es))) t.given,
-      inr (
-        lines ++ line,
-        [],
-        length lines + unsaid.1,
-        inl (ap (λ (w : List ℕ). lines ++ w) words ∙ text_after line_of r.envelopes e count r.taken.counted, refl),
-        subst (Wrote old new) (story_after r.envelopes e count r.taken.counted ∙ sym (append-nil (stories es))) all,
-        texts.stopped errors_old errors_now errors_new lines line unsaid.1 r.told unsaid.2,
-      ),
-    )
-
--- ---- nothing comes next
-
-pub unfed : {W : Type 0} {source mid old errors_old errors_new : Device} {count : ℕ} (state : W → Device) → GiftsJoin → TextsJoin → (rest : Device) (v : Unpacking) (a b : BlockWriter W) (fault : CommandFault)
-    → AreNarrated source mid old (device_of state a) errors_old errors_new count → HoldsNothing a → stops_of a ≡ 0 → IsCalm (stops_of a) (stops_of b) (Err fault)
-    → IsNext (PutsLines state) stops_of HoldsNothing (StaysStuck state) (mid, a) (rest, v, b) (Err fault) → IsUnnarrated source rest old (device_of state b) errors_old errors_new fault
-unfed {source = source} {mid = mid} {old = old} {errors_old = errors_old} {errors_new = errors_new} {count = count} state joins texts rest v a b CannotRead r empty none calm (c, settled) = (
-  joined r.envelopes ++ c.octets,
-  r.envelopes,
-  c.octets,
-  c.fault,
-  map octet_for c.more,
-  divides source mid count r.envelopes c.octets r.taken,
-  c.is_open,
-  missed_later source mid rest (joined r.envelopes) c.octets c.fault r.taken.given c.missed,
-  (c.more, c.delivered, refl),
-  texts.more old (device_of state a) (device_of state b) (stories r.envelopes) (map octet_for c.more) r.out (wrote_by state a b (map octet_for c.more) empty settled none calm c.told),
-  r.told,
-)
-unfed {source = source} {mid = mid} {old = old} {errors_old = errors_old} {errors_new = errors_new} {count = count} state joins texts rest v a b CannotWrite r empty none calm (inl u) =
-    broke_in_text state joins source mid rest old errors_old errors_new a b count u.octets u.k (map octet_for u.more) (map octet_for u.more) (held_of b)
-    r u.came.given (omega (arith, u.within)) (λ all nothing. absurd (omega (arith, all, u.within))) (u.more, u.delivered, refl) u.came.told (front_of state a b (map octet_for u.more) empty u.came.told) none u.rose
-unfed {source = source} {mid = mid} {old = old} {errors_old = errors_old} {errors_new = errors_new} {count = count} state joins texts rest v a b CannotWrite r empty none calm (inr u) =
-    let w : PutsOn state a b (map octet_for u.more) =
-    subst (PutsOn state a b) (append-nil (map octet_for u.more)) (puts_on state a u.told b (map octet_for u.more) [] u.came.told (puts_of_stuck state u.told b [] u.holds_back.0 u.holds_back.2)) in
-    broke_in_text state joins source mid rest old errors_old errors_new a b count u.octets (length u.octets) (map octet_for u.more) (map octet_for u.more) (held_of b)
-    r u.came.given (omega arith) (λ all nothing. absurd (some_none (held_of b) u.holds_back.1 nothing))
-    (subst (λ (octets : List ℕ). IsTextIn octets (map octet_for u.more)) (sym (take-length u.octets)) (u.more, u.delivered, refl)) w (front_of state a b (map octet_for u.more) empty w) none
-    (rose_from (stops_of a) (stops_of u.told) (stops_of b) u.calm u.holds_back.2)
-unfed {source = source} {mid = mid} {old = old} {errors_old = errors_old} {errors_new = errors_new} {count = count} state joins texts rest v a b OutOfMemory r empty none calm c = absurd c
-
--- ---- refused octets
-
-pub refused_within : (octets : List ℕ) (k : ℕ) (f : Refusal) → IsRefusedAfter limits octets k f → k ≤ length octets
-refused_within octets k f (inl t) = omega (arith, t.1)
-refused_within octets k f (inr d) = omega (arith, d.within)
-
--- what is written of refused octets that came, and of all that stands after the envelopes
-pub text_refused : {W : Type 0} (state : W → Device) (mid rest : Device) (a b : BlockWriter W) (e : Refusal) (r : IsRefusal (PutsLines state) mid rest a b e) (more : List ℕ)
-    → IsRefusedAfter limits (r.octets ++ more) r.k e → LeavesText (r.octets ++ more) (RefusedBy e) (map octet_for r.more)
-text_refused state mid rest a b e r more is =
-    (r.k, is, subst (λ (octets : List ℕ). IsTextIn octets (map octet_for r.more)) (sym (take-append-le r.k r.octets more (refused_within r.octets r.k e r.refused))) (r.more, r.delivered, refl))
-
--- ---- what came, and is taken
-
--- An envelope came, its text is taken, and the writer has not stopped.
-pub record TextIsTaken {W : Type 0} (state : W → Device) (mid rest : Device) (v : Unpacking) (a b : BlockWriter W) (octets : ℕ) : Type 0 where
-  pub come : EnvelopeHasCome (PutsLines state) mid rest v a b octets
-  pub text : PutsOn state a b (text_of come.envelope)
-  pub whole : IsTextIn (take (length come.envelope.octets) come.envelope.octets) (text_of come.envelope)
-
-pub text_taken : {W : Type 0} (state : W → Device) → EnvelopesAreDeliveredAsLines → LinesAreJoinedByLineFeeds → (mid rest : Device) (v : Unpacking) (a b : BlockWriter W) (x : Result (Option ℕ) Refusal) (octets : ℕ)
-    → x ≡ Ok (Some octets) → IsNext (PutsLines state) stops_of HoldsNothing (StaysStuck state) (mid, a) (rest, v, b) (Ok x) → TextIsTaken state mid rest v a b octets
-text_taken state law joins mid rest v a b x octets is n =
-    let h = come_as (PutsLines state) stops_of HoldsNothing (StaysStuck state) mid rest v a b x octets is n in
-    record {
-      come = h;
-      text = subst (PutsOn state a b) (envelope_text law joins h.envelope h.more h.is h.delivered) h.came.told;
-      whole = whole_text law joins h.envelope h.more h.is h.delivered;
-    }
-
--- and then all that was held is let out
-pub text_out : {W : Type 0} (state : W → Device) (a b d : BlockWriter W) (text : List ℕ) → HoldsNothing a → stops_of a ≡ 0 → stops_of b ≡ stops_of a → PutsOn state a b text
-    → PutsOn state b d [] → HoldsNothing d → stops_of d ≡ stops_of b → Wrote (device_of state a) (device_of state d) text
-text_out state a b d text empty none calm w out nothing same =
-    wrote_by state a d text empty nothing none (same ∙ calm) (subst (PutsOn state a d) (append-nil text) (puts_on state a b d text [] w out))
-
--- the same of the text of an envelope
-pub taken_out : {W : Type 0} {state : W → Device} {mid rest : Device} {v : Unpacking} {a b : BlockWriter W} {octets : ℕ} (d : BlockWriter W) (h : TextIsTaken state mid rest v a b octets) → HoldsNothing a → stops_of a ≡ 0 → stops_of b ≡ stops_of a
-    → PutsOn state b d [] → HoldsNothing d → stops_of d ≡ stops_of b → Wrote (device_of state a) (device_of state d) (text_of h.come.envelope)
-taken_out {state = state} {a = a} {b = b} d h empty none calm = text_out state a b d (text_of h.come.envelope) empty none calm h.text
-
--- with an LF after it
-pub story_out : {W : Type 0} (state : W → Device) (a b d : BlockWriter W) (text : List ℕ) → HoldsNothing a → stops_of a ≡ 0 → stops_of b ≡ stops_of a → PutsOn state a b text
-    → PutsOn state b d (10 ∷ []) → HoldsNothing d → stops_of d ≡ stops_of b → Wrote (device_of state a) (device_of state d) (text ++ (10 ∷ []))
-story_out state a b d text empty none calm w out nothing same =
-    wrote_by state a d (text ++ (10 ∷ [])) empty nothing none (same ∙ calm) (puts_on state a b d text (10 ∷ []) w out)
+-- Of two texts the first is out whole, or only a front of it.
+meets : (xs out more left : List ℕ) → xs ++ more ≡ out ++ left → ((r : List ℕ) × (out ≡ xs ++ r) × (more ≡ r ++ left)) ⊎ ((r : List ℕ) × (xs ≡ out ++ r) × (0 < length r))
+meets [] out more left is = inl (out, refl, is)
+meets (x ∷ xs) [] more left is = inr (x ∷ xs, refl, omega arith)
+meets (x ∷ xs) (o ∷ out) more left is =
+    let head : x ≡ o = cc in
+    elim (meets xs out more left (let tail : xs ++ more ≡ out ++ left = cc in tail)) [
+      | inl h ↦ inl (h.0, (let p = h.1 in cc), h.2)
+      | inr h ↦ inr (h.0, (let p = h.1 in cc), h.2)
+    ]
 
 -- all of a list but its last, where some is left
 but_last : (xs out rest : List ℕ) (x : ℕ) → xs ++ (x ∷ []) ≡ out ++ rest → 0 < length rest → (left : List ℕ) × (xs ≡ out ++ left)
@@ -363,31 +100,518 @@ but_last (y ∷ xs) (o ∷ out) rest x is some =
     let less = but_last xs out rest x tail some in
     (less.0, (let head : y ≡ o = cc in ap (λ (z : ℕ). z ∷ xs) head ∙ ap (λ (t : List ℕ). o ∷ t) less.1))
 
--- the LF after the text of an envelope is not out
-pub unended_text : {W : Type 0} {state : W → Device} {source mid rest old errors_old errors_new : Device} {v : Unpacking} {a b : BlockWriter W} {count octets : ℕ} → GiftsJoin → (d : BlockWriter W) (fault : CommandFault)
-    → AreNarrated source mid old (device_of state a) errors_old errors_new count → HoldsNothing a → stops_of a ≡ 0 → stops_of b ≡ stops_of a → TextIsTaken state mid rest v a b octets → IsUnended state b d fault
-    → IsUnnarrated source rest old (device_of state d) errors_old errors_new fault
-unended_text {state = state} {source = source} {mid = mid} {rest = rest} {old = old} {errors_old = errors_old} {errors_new = errors_new} {a = a} {b = b} {count = count} joins d fault r empty none calm t (is, rose, inl u) =
-    let e = t.come.envelope in
-    let w : PutsOn state a d (text_of e) = subst (PutsOn state a d) (append-nil (text_of e)) (puts_on state a b d (text_of e) [] t.text u) in
-    rw is (broke_in_text state joins source mid rest old errors_old errors_new a d count e.octets (length e.octets) (text_of e) (text_of e) (held_of d)
-    r t.come.came.given (omega arith) (λ all nothing. (e, t.come.is, refl)) t.whole w (front_of state a d (text_of e) empty w) none (rose_from (stops_of a) (stops_of b) (stops_of d) calm rose))
-unended_text {state = state} {source = source} {mid = mid} {rest = rest} {old = old} {errors_old = errors_old} {errors_new = errors_new} {a = a} {b = b} {count = count} joins d fault r empty none calm t (is, rose, inr u) =
-    let e = t.come.envelope in
-    let w : PutsOn state a d (text_of e ++ (10 ∷ [])) = puts_on state a b d (text_of e) (10 ∷ []) t.text u.0 in
-    let less = but_last (text_of e) w.out (held_of d) 10 (front_of state a d (text_of e ++ (10 ∷ [])) empty w) u.1 in
-    rw is (broke_in_text state joins source mid rest old errors_old errors_new a d count e.octets (length e.octets) (text_of e) (text_of e ++ (10 ∷ [])) less.0
-    r t.come.came.given (omega arith) (λ all nothing. (e, t.come.is, refl)) t.whole w less.1 none (rose_from (stops_of a) (stops_of b) (stops_of d) calm rose))
+-- Of stories and words all stories are out and a front of the words; or the stories of some, and a front of the next one's text.
+abbrev Reach : List Listed → ℕ → List ℕ → List ℕ → List ℕ → Type 0
+Reach es n words out left = ((w : List ℕ) × (out ≡ texts_from story_of n es ++ w) × (words ≡ w ++ left))
+    ⊎ ((f : List Listed) × (e : Listed) × (g : List Listed) × (w : List ℕ) × (rest : List ℕ) × (es ≡ f ++ e ∷ g) × (out ≡ texts_from story_of n f ++ w) × (text_of e ≡ w ++ rest))
 
--- where the LF is not out, the writer is over the same target
-pub unended_keeps : {W : Type 0} (state : W → Device) (b d : BlockWriter W) (fault : CommandFault) → IsUnended state b d fault → KeepsWriter b d
-unended_keeps state b d fault (is, rose, inl u) = u.same
-unended_keeps state b d fault (is, rose, inr u) = u.0.same
+reach : (es : List Listed) (n : ℕ) (words out left : List ℕ) → texts_from story_of n es ++ words ≡ out ++ left → Reach es n words out left
+reach [] n words out left is = inl (out, refl, is)
+reach (e ∷ es) n words out left is = elim (meets (story_of n e) out (texts_from story_of (n + 1) es ++ words) left (sym (append_assoc (story_of n e) (texts_from story_of (n + 1) es) words) ∙ is)) [
+  | inl (r, at, then) ↦ elim (reach es (n + 1) words r left then) [
+    | inl (w, all, front) ↦ inl (w, at ∙ ap (λ (l : List ℕ). story_of n e ++ l) all ∙ sym (append_assoc (story_of n e) (texts_from story_of (n + 1) es) w), front)
+    | inr (f, x, g, w, rest, parts, some, text) ↦
+        inr (e ∷ f, x, g, w, rest, ap (λ (l : List Listed). e ∷ l) parts, at ∙ ap (λ (l : List ℕ). story_of n e ++ l) some ∙ sym (append_assoc (story_of n e) (texts_from story_of (n + 1) f) w), text)
+  ]
+  | inr (r, at, some) ↦
+      let less = but_last (text_of e) out r 10 at some in
+      inr ([], e, es, out, less.0, refl, refl, less.1)
+]
 
--- what was added where memory was not refused
-pub pushed : {E : Type 0} (r : Result (Unit {0}) E) (P : Type 0) → is_err r ≡ false → OnOk r P → P
-pushed (Ok x) P fine is = is
-pushed (Err e) P fine is = absurd cc
+-- ---- what was told
+
+-- the text of an envelope is its lines, joined
+abbrev pub HasText : Listed → Type 0
+HasText e = IsTextIn e.octets (text_of e)
+
+-- all octets of an envelope have its text
+pub whole_text : (e : Listed) → HasText e → IsTextIn (take (length e.octets) e.octets) (text_of e)
+whole_text e text = subst (λ (l : List ℕ). IsTextIn l (text_of e)) (sym (take-length e.octets)) text
+
+-- Of these envelopes, and of words after them, the first ones are told; when they were, their stories and some words were out, and nothing
+-- was held. The writer has taken the rest since, and the lines of the other envelopes are held.
+pub record Stands {W : Type 0} (ws : W → Device) (first : BlockWriter W) (errors_old : Device) (es : List Listed) (words : List ℕ) (output : BlockWriter W) (errors : Device) (lines : List ℕ) : Type 0 where
+  pub fresh : HoldsNothing first × (blocks.stops_of first ≡ 0)
+  pub told : List Listed
+  pub others : List Listed
+  pub parts : es ≡ told ++ others
+  pub mark : BlockWriter W
+  pub begun : List ℕ
+  pub before : PutsOn ws first mark (stories told ++ begun)
+  pub settled : HoldsNothing mark
+  pub rest : List ℕ
+  pub after : PutsOn ws mark output rest
+  pub texts : texts_from story_of (1 + length told) others ++ words ≡ begun ++ rest
+  pub said : Wrote errors_old errors (texts_from line_of 1 told)
+  pub held : lines ≡ texts_from line_of (1 + length told) others
+
+stands_first : {W : Type 0} (ws : W → Device) → TextsJoin → (first : BlockWriter W) (errors : Device) (lines : List ℕ) → HoldsNothing first → blocks.stops_of first ≡ 0 → lines ≡ []
+    → Stands ws first errors [] [] first errors lines
+stands_first ws texts first errors lines empty none is = record {
+  fresh = (empty, none);
+  told = [];
+  others = [];
+  parts = refl;
+  mark = first;
+  begun = [];
+  before = puts_nothing ws first;
+  settled = empty;
+  rest = [];
+  after = puts_nothing ws first;
+  texts = refl;
+  said = texts.none errors;
+  held = is;
+}
+
+-- the writer took more
+stands_on : {W : Type 0} {ws : W → Device} {first output : BlockWriter W} {errors_old errors : Device} {es : List Listed} {words lines : List ℕ} → Stands ws first errors_old es words output errors lines → (next : BlockWriter W) (more : List ℕ)
+    → PutsOn ws output next more → Stands ws first errors_old es (words ++ more) next errors lines
+stands_on {ws = ws} {output = output} {words = words} s next more put = record {
+  fresh = s.fresh;
+  told = s.told;
+  others = s.others;
+  parts = s.parts;
+  mark = s.mark;
+  begun = s.begun;
+  before = s.before;
+  settled = s.settled;
+  rest = s.rest ++ more;
+  after = puts_on ws s.mark output next s.rest more s.after put;
+  texts = sym (append_assoc (texts_from story_of (1 + length s.told) s.others) words more) ∙ ap (λ (l : List ℕ). l ++ more) s.texts ∙ append_assoc s.begun s.rest more;
+  said = s.said;
+  held = s.held;
+}
+
+-- or nothing more
+stands_still : {W : Type 0} {ws : W → Device} {first output : BlockWriter W} {errors_old errors : Device} {es : List Listed} {words lines : List ℕ} → Stands ws first errors_old es words output errors lines → (next : BlockWriter W)
+    → PutsOn ws output next [] → Stands ws first errors_old es words next errors lines
+stands_still {ws = ws} {first = first} {errors_old = errors_old} {errors = errors} {es = es} {words = words} {lines = lines} s next put =
+    subst (λ (l : List ℕ). Stands ws first errors_old es l next errors lines) (append-nil words) (stands_on s next [] put)
+
+parts_of : (text : ℕ → Listed → List ℕ) (told others es : List Listed) → es ≡ told ++ others → texts_from text 1 told ++ texts_from text (1 + length told) others ≡ texts_from text 1 es
+parts_of text told others es is = sym (texts_parts text told others 1) ∙ ap (texts_from text 1) (sym is)
+
+-- all that it took
+all_put : {W : Type 0} {ws : W → Device} {first output : BlockWriter W} {errors_old errors : Device} {es : List Listed} {words lines : List ℕ} → Stands ws first errors_old es words output errors lines → PutsOn ws first output (stories es ++ words)
+all_put {ws = ws} {first = first} {output = output} {es = es} {words = words} s =
+    let later = texts_from story_of (1 + length s.told) s.others in
+    subst (PutsOn ws first output) (append_assoc (stories s.told) s.begun s.rest ∙ ap (λ (l : List ℕ). stories s.told ++ l) (sym s.texts) ∙ sym (append_assoc (stories s.told) later words)
+    ∙ ap (λ (l : List ℕ). l ++ words) (parts_of story_of s.told s.others es s.parts)) (puts_on ws first s.mark output (stories s.told ++ s.begun) s.rest s.before s.after)
+
+-- and all lines, with one more
+all_said : {W : Type 0} {ws : W → Device} {first output : BlockWriter W} {errors_old errors : Device} {es : List Listed} {words lines : List ℕ} → (s : Stands ws first errors_old es words output errors lines) (line : List ℕ)
+    → texts_from line_of 1 s.told ++ (lines ++ line) ≡ texts_from line_of 1 es ++ line
+all_said {es = es} {lines = lines} s line =
+    sym (append_assoc (texts_from line_of 1 s.told) lines line)
+    ∙ ap (λ (l : List ℕ). l ++ line) (ap (λ (l : List ℕ). texts_from line_of 1 s.told ++ l) s.held ∙ parts_of line_of s.told s.others es s.parts)
+
+-- the lines went out when nothing was held
+stands_marked : {W : Type 0} {ws : W → Device} {first mark : BlockWriter W} {errors_old errors : Device} {es : List Listed} {words lines : List ℕ} → TextsJoin → Stands ws first errors_old es words mark errors lines → HoldsNothing mark → (now : Device) (left : List ℕ)
+    → Wrote errors now lines → left ≡ [] → Stands ws first errors_old es words mark now left
+stands_marked {ws = ws} {mark = mark} {errors_old = errors_old} {errors = errors} {es = es} {words = words} {lines = lines} texts s empty now left wrote none = record {
+  fresh = s.fresh;
+  told = es;
+  others = [];
+  parts = sym (append-nil es);
+  mark = mark;
+  begun = words;
+  before = all_put s;
+  settled = empty;
+  rest = [];
+  after = puts_nothing ws mark;
+  texts = sym (append-nil words);
+  said =
+      subst (Wrote errors_old now) (ap (λ (l : List ℕ). texts_from line_of 1 s.told ++ l) (sym (append-nil lines)) ∙ all_said s [] ∙ append-nil (texts_from line_of 1 es))
+      (texts.more errors_old errors now (texts_from line_of 1 s.told) lines s.said wrote);
+  held = none;
+}
+
+-- lines that are held as before, and a line more
+stands_held : {W E : Type 0} {ws : W → Device} {first output : BlockWriter W} {errors_old : Device} {envelopes : List Listed} {words : List ℕ} (es : E → Device) (a b : Narrator W E) → HoldsLines a b [] → Stands ws first errors_old envelopes words output (errors_of es a) a.lines.items
+    → Stands ws first errors_old envelopes words output (errors_of es b) b.lines.items
+stands_held {ws = ws} {first = first} {output = output} {errors_old = errors_old} {envelopes = envelopes} {words = words} es a b h s =
+    subst (Stands ws first errors_old envelopes words output (errors_of es b)) (sym (append-nil a.lines.items) ∙ sym h.0)
+    (subst (λ (r : MutBor _). Stands ws first errors_old envelopes words output (es r.now) a.lines.items) (sym h.1) s)
+
+-- a narrator was told more
+pub stands_told : {W E : Type 0} {ws : W → Device} {es : E → Device} {first : BlockWriter W} {errors_old : Device} {envelopes : List Listed} {words : List ℕ} {a b : Narrator W E} {events : List StoryEvent} → TextsJoin
+    → Stands ws first errors_old envelopes words a.output (errors_of es a) a.lines.items → TellsOn ws es a events b → Stands ws first errors_old envelopes (words ++ map octet_for events) b.output (errors_of es b) b.lines.items
+stands_told {ws = ws} {es = es} {first = first} {errors_old = errors_old} {envelopes = envelopes} {words = words} {a = a} {b = b} {events = events} texts s t = elim t.lines [
+  | inl h ↦ stands_held es a b h (stands_on s b.output (map octet_for events) t.put)
+  | inr u ↦
+      let marked = stands_marked texts (stands_on s u.mark (map octet_for u.first) u.before) u.settled (errors_of es b) b.lines.items u.told u.none in
+      subst (λ (l : List ℕ). Stands ws first errors_old envelopes l b.output (errors_of es b) b.lines.items)
+      (append_assoc words (map octet_for u.first) (map octet_for u.then) ∙ ap (λ (l : List ℕ). words ++ l) (sym (map-append octet_for u.first u.then) ∙ ap (map octet_for) u.all)) (stands_on marked b.output (map octet_for u.then) u.after)
+]
+
+-- the story of an envelope is taken, and its line held
+stands_ended : {W : Type 0} {ws : W → Device} {first output : BlockWriter W} {errors_old errors : Device} {es : List Listed} {lines : List ℕ} (e : Listed) (line : List ℕ) → Stands ws first errors_old es (text_of e ++ 10 ∷ []) output errors lines
+    → line ≡ line_of (length es + 1) e → Stands ws first errors_old (es ++ e ∷ []) [] output errors (lines ++ line)
+stands_ended {es = es} {lines = lines} e line s is =
+    let n = 1 + length s.told in
+    let number : length es + 1 ≡ n + length s.others = omega (arith, ap length s.parts, length-append s.told s.others) in
+    record {
+      fresh = s.fresh;
+      told = s.told;
+      others = s.others ++ e ∷ [];
+      parts = ap (λ (l : List Listed). l ++ e ∷ []) s.parts ∙ append_assoc s.told s.others (e ∷ []);
+      mark = s.mark;
+      begun = s.begun;
+      before = s.before;
+      settled = s.settled;
+      rest = s.rest;
+      after = s.after;
+      texts =
+          append-nil (texts_from story_of n (s.others ++ e ∷ [])) ∙ texts_parts story_of s.others (e ∷ []) n
+          ∙ ap (λ (l : List ℕ). texts_from story_of n s.others ++ l) (append-nil (text_of e ++ 10 ∷ [])) ∙ s.texts;
+      said = s.said;
+      held =
+          ap (λ (l : List ℕ). l ++ line) s.held
+          ∙ ap (λ (l : List ℕ). texts_from line_of n s.others ++ l) (is ∙ ap (λ (k : ℕ). line_of k e) number ∙ sym (append-nil (line_of (n + length s.others) e)))
+          ∙ sym (texts_parts line_of s.others (e ∷ []) n);
+    }
+
+-- ---- what is out
+
+-- nothing is held, so all is out on both
+stories_out : {W : Type 0} {ws : W → Device} {first output : BlockWriter W} {errors_old errors : Device} {es : List Listed} {words lines : List ℕ} → Stands ws first errors_old es words output errors lines → HoldsNothing output → blocks.stops_of output ≡ 0
+    → Wrote (device_of ws first) (device_of ws output) (stories es ++ words)
+stories_out {ws = ws} {first = first} {output = output} {es = es} {words = words} s empty none =
+    wrote_by ws first output (stories es ++ words) s.fresh.0 empty s.fresh.1 (none ∙ sym s.fresh.1) (all_put s)
+
+lines_out : {W : Type 0} {ws : W → Device} {first output : BlockWriter W} {errors_old errors : Device} {es : List Listed} {words lines : List ℕ} → Stands ws first errors_old es words output errors lines → lines ≡ []
+    → Wrote errors_old errors (texts_from line_of 1 es)
+lines_out {errors_old = errors_old} {errors = errors} {es = es} {lines = lines} s none =
+    let told = texts_from line_of 1 s.told in
+    subst (Wrote errors_old errors) (sym (append-nil told) ∙ ap (λ (l : List ℕ). told ++ (l ++ [])) (sym none) ∙ all_said s [] ∙ append-nil (texts_from line_of 1 es)) s.said
+
+pub all_settled : {W E : Type 0} {ws : W → Device} {first : BlockWriter W} {errors_old : Device} {envelopes : List Listed} {words : List ℕ} (es : E → Device) (b : Narrator W E) → Stands ws first errors_old envelopes words b.output (errors_of es b) b.lines.items → stops_of b ≡ 0 → IsSettled b
+    → Wrote (device_of ws first) (output_of ws b) (stories envelopes ++ words) × Wrote errors_old (errors_of es b) (texts_from line_of 1 envelopes ++ [])
+all_settled {errors_old = errors_old} {envelopes = envelopes} es b s none settled =
+    (stories_out s settled.0 none, subst (Wrote errors_old (errors_of es b)) (sym (append-nil (texts_from line_of 1 envelopes))) (lines_out s settled.1))
+
+-- all that was held was let out, and a line after it
+pub all_out : {W E : Type 0} {ws : W → Device} {es : E → Device} {first : BlockWriter W} {errors_old : Device} {envelopes : List Listed} {words line : List ℕ} {b d : Narrator W E} → TextsJoin
+    → Stands ws first errors_old envelopes words b.output (errors_of es b) b.lines.items → stops_of b ≡ 0 → LetsOut ws es b d line
+    → Wrote (device_of ws first) (output_of ws d) (stories envelopes ++ words) × Wrote errors_old (errors_of es d) (texts_from line_of 1 envelopes ++ line)
+all_out {es = es} {errors_old = errors_old} {line = line} {b = b} {d = d} texts s none l = (
+  stories_out (stands_still s d.output l.text.0) l.text.1 (l.text.2 ∙ none),
+  subst (Wrote errors_old (errors_of es d)) (all_said s line) (texts.more errors_old (errors_of es b) (errors_of es d) (texts_from line_of 1 s.told) (b.lines.items ++ line) s.said l.told),
+)
+
+-- ---- the envelopes so far
+
+-- Some envelopes, `count` of them, came from the input, and nothing else; the narrator took their stories, and was told no words after them.
+pub record AreNarrated {W E : Type 0} (ws : W → Device) (es : E → Device) (first : Narrator W E) (source rest : Device) (n : Narrator W E) (count : ℕ) : Type 0 where
+  pub envelopes : List Listed
+  pub taken : AreTaken source rest count envelopes
+  pub texts : AllByRecursion HasText envelopes
+  pub stands : Stands ws first.output (errors_of es first) envelopes [] n.output (errors_of es n) n.lines.items
+
+pub none_narrated : {W E : Type 0} (ws : W → Device) (es : E → Device) → GiftsJoin → TextsJoin → (source : Device) (n : Narrator W E) → IsSettled n → stops_of n ≡ 0 → AreNarrated ws es n source source n 0
+none_narrated ws es joins texts source n settled none = record {
+  envelopes = [];
+  taken = none_taken joins source;
+  texts = tt;
+  stands = stands_first ws texts n.output (errors_of es n) n.lines.items settled.0 none settled.1;
+}
+
+-- An envelope came, and the narrator was told its text.
+pub record TextIsTaken {W E : Type 0} {ws : W → Device} {es : E → Device} {first : Narrator W E} {source mid : Device} {a : Narrator W E} {count : ℕ} (r : AreNarrated ws es first source mid a count) (rest : Device) (v : Unpacking) (b : Narrator W E) (octets : ℕ) : Type 0 where
+  pub come : EnvelopeHasCome (TellsOn ws es) mid rest v a b octets
+  pub text : HasText come.envelope
+  pub stands : Stands ws first.output (errors_of es first) r.envelopes (text_of come.envelope) b.output (errors_of es b) b.lines.items
+
+pub text_taken : {W E : Type 0} {ws : W → Device} {es : E → Device} {first : Narrator W E} {source mid : Device} {a : Narrator W E} {count : ℕ} → EnvelopesAreDeliveredAsLines → LinesAreJoinedByLineFeeds → TextsJoin → (r : AreNarrated ws es first source mid a count)
+    (rest : Device) (v : Unpacking) (b : Narrator W E) (x : Result (Option ℕ) Refusal) (octets : ℕ) → x ≡ Ok (Some octets) → IsNext (TellsOn ws es) stops_of IsSettled (IsStuck ws es) (mid, a) (rest, v, b) (Ok x) → TextIsTaken r rest v b octets
+text_taken {ws = ws} {es = es} {first = first} {mid = mid} {a = a} law joins texts r rest v b x octets is n =
+    let h = come_as (TellsOn ws es) stops_of IsSettled (IsStuck ws es) mid rest v a b x octets is n in
+    let text = envelope_text law joins h.envelope h.more h.is h.delivered in
+    record {
+      come = h;
+      text = (h.more, h.delivered, sym text);
+      stands = subst (λ (l : List ℕ). Stands ws first.output (errors_of es first) r.envelopes l b.output (errors_of es b) b.lines.items) text (stands_told texts r.stands h.came.told);
+    }
+
+-- its story is ended
+pub narrated_more : {W E : Type 0} {ws : W → Device} {es : E → Device} {first : Narrator W E} {source mid rest : Device} {a b : Narrator W E} {v : Unpacking} {count octets : ℕ} {r : AreNarrated ws es first source mid a count} → GiftsJoin
+    → (t : TextIsTaken r rest v b octets) (d : Narrator W E) (line : List ℕ) → (count ≡ max_envelopes → ⊥) → line ≡ line_of (count + 1) t.come.envelope → EndsStory ws b d line → AreNarrated ws es first source rest d (count + 1)
+narrated_more {ws = ws} {es = es} {first = first} {source = source} {mid = mid} {rest = rest} {b = b} {count = count} {r = r} joins t d line below words ended =
+    let e = t.come.envelope in
+    let all = r.envelopes ++ e ∷ [] in
+    let s = stands_ended e line (stands_on t.stands d.output (10 ∷ []) ended.put) (words ∙ ap (λ (n : ℕ). line_of (n + 1) e) r.taken.counted) in
+    record {
+      envelopes = all;
+      taken = taken_more joins source mid rest count r.envelopes e r.taken t.come.is t.come.came.given below;
+      texts = all_append HasText r.envelopes (e ∷ []) r.texts (t.text, tt);
+      stands =
+          subst (Stands ws first.output (errors_of es first) all [] d.output (errors_of es d)) (sym ended.lines.0)
+          (subst (λ (m : MutBor _). Stands ws first.output (errors_of es first) all [] d.output (es m.now) (b.lines.items ++ line)) (sym ended.lines.1) s);
+    }
+
+-- ---- all is told
+
+pub narrated : {source mid : Device} {count : ℕ} {envelopes : List Listed} → GiftsJoin → (rest old new errors_old errors_new : Device) (status : ℕ) (begun more words line : List ℕ) (ending : InputEnding)
+    → AreTaken source mid count envelopes → HasGiven mid rest begun → HasOctets rest.octets more → EndsBy limits count (begun ++ more) ending
+    → LeavesText (begun ++ more) ending words → status ≡ status_of ending → line ≡ ending_line count ending → Wrote old new (stories envelopes ++ words) × Wrote errors_old errors_new (texts_from line_of 1 envelopes ++ line)
+    → Narrated source rest old new errors_old errors_new status
+narrated {source = source} {mid = mid} {count = count} {envelopes = envelopes} joins rest old new errors_old errors_new status begun more words line ending taken given holds ends leaves is same out =
+    let all = given_then joins source mid rest count envelopes begun taken given in (
+      joined envelopes ++ (begun ++ more),
+      envelopes,
+      ending,
+      words,
+      subst (HasOctets source.octets) (append_assoc (joined envelopes) begun more) (consumes_holds source.octets rest.octets (joined envelopes ++ begun) more all.0 holds),
+      all.1,
+      record {
+        listing = record {
+          rest = begun ++ more;
+          divides = divides source mid count envelopes (begun ++ more) taken;
+          ends = subst (λ (n : ℕ). EndsBy limits n (begun ++ more) ending) taken.counted ends;
+        };
+        leaves = leaves;
+      },
+      is,
+      out.0,
+      subst (λ (w : List ℕ). Wrote errors_old errors_new (texts_from line_of 1 envelopes ++ w)) (same ∙ ap (λ (n : ℕ). ending_line n ending) taken.counted) out.1,
+    )
+
+-- ---- the output broke
+
+joined_parts : (es fs : List Listed) → joined (es ++ fs) ≡ joined es ++ joined fs
+joined_parts [] fs = refl
+joined_parts (e ∷ es) fs = ap (λ (l : List ℕ). e.octets ++ l) (joined_parts es fs) ∙ sym (append_assoc e.octets (joined es) (joined fs))
+
+-- what stands after some of the envelopes that came
+divides_before : (source mid : Device) (count : ℕ) (es front : List Listed) (e : Listed) (g : List Listed) (begun : List ℕ) → AreTaken source mid count es → es ≡ front ++ e ∷ g
+    → Divides limits (joined es ++ begun) front (e.octets ++ (joined g ++ begun)) × IsListed limits e
+divides_before source mid count es front e g begun taken is =
+    let admitted = subst (AllByRecursion (IsListed limits)) is taken.admitted in (
+      record {
+        admitted = all_front (IsListed limits) front (e ∷ g) admitted;
+        parts =
+            ap (λ (l : List Listed). joined l ++ begun) is ∙ ap (λ (l : List ℕ). l ++ begun) (joined_parts front (e ∷ g)) ∙ append_assoc (joined front) (e.octets ++ joined g) begun
+            ∙ ap (λ (l : List ℕ). joined front ++ l) (append_assoc e.octets (joined g) begun);
+        few = omega (arith, taken.counted, taken.few, ap length is, length-append front (e ∷ g));
+      },
+      (all_back (IsListed limits) front (e ∷ g) admitted).0,
+    )
+
+nothing_more : (xs more : List ℕ) → length xs ≡ length (xs ++ more) → xs ≡ xs ++ more
+nothing_more xs [] is = sym (append-nil xs)
+nothing_more xs (y ∷ more) is = absurd (omega (arith, is, length-append xs (y ∷ more)))
+
+-- nothing was held before: a front of the text is out
+front_of : {W : Type 0} (state : W → Device) (a d : BlockWriter W) (text : List ℕ) → HoldsNothing a → (w : PutsOn state a d text) → text ≡ w.out ++ held_of d
+front_of state a d text before w = sym (ap (λ (t : List ℕ). t ++ text) before) ∙ w.parts
+
+pub broke_in_text : {W : Type 0} {ws : W → Device} {first output : BlockWriter W} {source mid errors_old errors : Device} {es : List Listed} {words lines : List ℕ} {count : ℕ} → GiftsJoin → (rest : Device) (begun : List ℕ) (k : ℕ)
+    → AreTaken source mid count es → AllByRecursion HasText es → Stands ws first errors_old es words output errors lines → HasGiven mid rest begun → k ≤ length begun → (k ≡ length begun → held_of output ≡ [] → AreEnvelope begun)
+    → IsTextIn (take k begun) words → 0 < blocks.stops_of output → IsUnnarrated source rest (device_of ws first) (device_of ws output) errors_old errors CannotWrite
+broke_in_text {ws = ws} {first = first} {output = output} {source = source} {mid = mid} {es = es} {words = words} {count = count} joins rest begun k taken texts s given within all is rose =
+    let told = stories s.told in
+    let out = s.begun ++ s.after.out in
+    let broken = (puts_on ws first s.mark output (told ++ s.begun) s.rest s.before s.after).writes.broken (omega (arith, s.fresh.1, rose)) in
+    let left : texts_from story_of (1 + length s.told) s.others ++ words ≡ out ++ held_of output =
+    s.texts ∙ ap (λ (l : List ℕ). s.begun ++ l) (front_of ws s.mark output s.rest s.settled s.after) ∙ sym (append_assoc s.begun s.after.out (held_of output)) in
+    let before : told ++ s.begun ≡ s.before.out =
+    front_of ws first s.mark (told ++ s.begun) s.fresh.0 s.before ∙ ap (λ (l : List ℕ). s.before.out ++ l) s.settled ∙ append-nil s.before.out in
+    let octets : Appends (device_of ws first).octets (device_of ws output).octets (told ++ out) =
+    subst (Appends (device_of ws first).octets (device_of ws output).octets) (ap (λ (l : List ℕ). l ++ s.after.out) (sym before) ∙ append_assoc told s.begun s.after.out)
+    (appends_joined (device_of ws first).octets (device_of ws s.mark).octets (device_of ws output).octets s.before.out s.after.out s.before.writes.octets s.after.writes.octets) in
+    let after = λ (front more : List Listed) (w : List ℕ) (parts : front ≡ s.told ++ more) (at : out ≡ texts_from story_of (1 + length s.told) more ++ w).
+    subst (Appends (device_of ws first).octets (device_of ws output).octets) (ap (λ (l : List ℕ). told ++ l) at ∙ sym (append_assoc told (texts_from story_of (1 + length s.told) more) w)
+    ∙ ap (λ (l : List ℕ). l ++ w) (parts_of story_of s.told more front parts)) octets in
+    let came = given_then joins source mid rest count es begun taken given in
+    elim (reach s.others (1 + length s.told) words out (held_of output) left) [
+      | inl (w, at, front) ↦ (
+        joined es ++ begun,
+        es,
+        begun,
+        divides source mid count es begun taken,
+        came,
+        inl ((k, w, held_of output, within, all, subst (IsTextIn (take k begun)) front is, after es s.others w s.parts at, broken), (s.told, s.others, s.parts, s.said)),
+      )
+      | inr (f, e, g, w, more, parts, at, text) ↦
+          let es-is : es ≡ (s.told ++ f) ++ e ∷ g = s.parts ∙ ap (λ (l : List Listed). s.told ++ l) parts ∙ sym (append_assoc s.told f (e ∷ g)) in
+          let divided = divides_before source mid count es (s.told ++ f) e g begun taken es-is in
+          let has = (all_back HasText (s.told ++ f) (e ∷ g) (subst (AllByRecursion HasText) es-is texts)).0 in
+          let later = joined g ++ begun in (
+            joined es ++ begun,
+            s.told ++ f,
+            e.octets ++ later,
+            divided.0,
+            came,
+            inl (
+              (
+                length e.octets,
+                w,
+                more,
+                omega (arith, length-append e.octets later),
+                λ whole none. (e, divided.1, nothing_more e.octets later whole),
+                subst (λ (l : List ℕ). IsTextIn l (w ++ more)) (sym (take-append_seam e.octets later)) (subst (IsTextIn e.octets) text has),
+                after (s.told ++ f) f w refl at,
+                broken,
+              ),
+              (s.told, f, refl, s.said),
+            ),
+          )
+    ]
+
+-- ---- what was held is lost
+
+-- The line is the one for what follows the envelopes, of which the words are written.
+abbrev pub TellsEnd : ℕ → List ℕ → List ℕ → List ℕ → Type 0
+TellsEnd count begun words line = (ending : InputEnding) × EndsBy limits count begun ending × LeavesText begun ending words × (line ≡ ending_line count ending)
+
+rises : (i j : ℕ) → i ≡ 0 → Rose i j → 0 < j
+rises i j none (inl h) = omega (arith, none, h)
+rises i j none (inr h) = absurd (omega (arith, none, h.0, h.2))
+
+pub lost : {W E : Type 0} {ws : W → Device} {es : E → Device} {first : BlockWriter W} {source mid errors_old : Device} {envelopes : List Listed} {b d : Narrator W E} {words line : List ℕ} {count : ℕ} → GiftsJoin → TextsJoin → (rest : Device) (begun : List ℕ) (k : ℕ)
+    → AreTaken source mid count envelopes → AllByRecursion HasText envelopes → Stands ws first errors_old envelopes words b.output (errors_of es b) b.lines.items → stops_of b ≡ 0 → HasGiven mid rest begun → k ≤ length begun → IsTextIn (take k begun) words
+    → (line ≡ []) ⊎ TellsEnd count begun words line → IsLost ws es b d line → IsUnnarrated source rest (device_of ws first) (output_of ws d) errors_old (errors_of es d) CannotWrite
+lost {ws = ws} {es = es} {first = first} {source = source} {mid = mid} {errors_old = errors_old} {envelopes = envelopes} {b = b} {d = d} {words = words} {line = line} {count = count} joins texts rest begun k taken has s none given within is why l = elim l.broke [
+  | inl (stuck, same) ↦
+      let now = stands_still s d.output (puts_of_stuck ws b.output d.output [] stuck.0 stuck.2) in
+      broke_in_text joins rest begun k taken has (subst (λ (e : Device). Stands ws first errors_old envelopes words d.output e b.lines.items) (sym same) now) given within
+      (λ whole nothing. absurd (some_none (held_of d.output) stuck.1 nothing)) is (rises (stops_of b) (stops_of d) none stuck.2)
+  | inr (text, n, stopped) ↦ (
+    joined envelopes ++ begun,
+    envelopes,
+    begun,
+    divides source mid count envelopes begun taken,
+    given_then joins source mid rest count envelopes begun taken given,
+    inr (
+      texts_from line_of 1 s.told ++ (b.lines.items ++ line),
+      words,
+      length (texts_from line_of 1 s.told) + n,
+      told_with why,
+      stories_out (stands_still s d.output text.0) text.1 (text.2 ∙ none),
+      texts.stopped errors_old (errors_of es b) (errors_of es d) (texts_from line_of 1 s.told) (b.lines.items ++ line) n s.said stopped,
+    ),
+  )
+]
+  where
+    told_with : (line ≡ []) ⊎ TellsEnd count begun words line → AreToldWith envelopes begun (texts_from line_of 1 s.told ++ (b.lines.items ++ line)) words
+    told_with (inl nothing) = inl (all_said s line ∙ ap (λ (l : List ℕ). texts_from line_of 1 envelopes ++ l) nothing ∙ append-nil (texts_from line_of 1 envelopes), k, is)
+    told_with (inr (ending, ends, leaves, same)) = inr (
+      ending,
+      subst (λ (n : ℕ). EndsBy limits n begun ending) taken.counted ends,
+      leaves,
+      all_said s line ∙ ap (λ (l : List ℕ). texts_from line_of 1 envelopes ++ l) (same ∙ ap (λ (n : ℕ). ending_line n ending) taken.counted),
+    )
+
+-- memory was short, and all that was held is out
+starved : {W E : Type 0} {ws : W → Device} {es : E → Device} {first : BlockWriter W} {source mid errors_old : Device} {envelopes : List Listed} {b d : Narrator W E} {words : List ℕ} {count : ℕ} → GiftsJoin → TextsJoin → (rest : Device) (begun : List ℕ) (k : ℕ)
+    → AreTaken source mid count envelopes → Stands ws first errors_old envelopes words b.output (errors_of es b) b.lines.items → stops_of b ≡ 0 → HasGiven mid rest begun → IsTextIn (take k begun) words → LetsOut ws es b d []
+    → IsUnnarrated source rest (device_of ws first) (output_of ws d) errors_old (errors_of es d) OutOfMemory
+starved {es = es} {source = source} {mid = mid} {errors_old = errors_old} {envelopes = envelopes} {d = d} {words = words} {count = count} joins texts rest begun k taken s none given is l =
+    let out = all_out texts s none l in (
+      joined envelopes ++ begun,
+      envelopes,
+      begun,
+      k,
+      words,
+      divides source mid count envelopes begun taken,
+      given_then joins source mid rest count envelopes begun taken given,
+      is,
+      out.0,
+      subst (Wrote errors_old (errors_of es d)) (append-nil (texts_from line_of 1 envelopes)) out.1,
+    )
+
+-- a last line was not told
+pub untold : {W E : Type 0} {ws : W → Device} {first : BlockWriter W} {source mid errors_old : Device} {envelopes : List Listed} {words : List ℕ} {count : ℕ} (es : E → Device) → GiftsJoin → TextsJoin → (rest : Device) (b d : Narrator W E) (line : List ℕ) (begun : List ℕ) (k : ℕ)
+    → AreTaken source mid count envelopes → AllByRecursion HasText envelopes → Stands ws first errors_old envelopes words b.output (errors_of es b) b.lines.items → stops_of b ≡ 0 → HasGiven mid rest begun → k ≤ length begun → IsTextIn (take k begun) words
+    → TellsEnd count begun words line → (fault : CommandFault) → IsUntold ws es b d line fault → IsUnnarrated source rest (device_of ws first) (output_of ws d) errors_old (errors_of es d) fault
+untold es joins texts rest b d line begun k taken has s none given within is end CannotRead l = absurd l
+untold es joins texts rest b d line begun k taken has s none given within is end CannotWrite l = lost joins texts rest begun k taken has s none given within is (inr end) l
+untold es joins texts rest b d line begun k taken has s none given within is end OutOfMemory l = starved joins texts rest begun k taken s none given is l
+
+-- the story of an envelope that came was not ended
+pub unended : {W E : Type 0} {ws : W → Device} {es : E → Device} {first : Narrator W E} {source mid rest : Device} {a b : Narrator W E} {v : Unpacking} {count octets : ℕ} {r : AreNarrated ws es first source mid a count} → GiftsJoin → TextsJoin
+    → (t : TextIsTaken r rest v b octets) (d : Narrator W E) → stops_of b ≡ 0 → (fault : CommandFault) → IsUnended ws es b d fault
+    → IsUnnarrated source rest (output_of ws first) (output_of ws d) (errors_of es first) (errors_of es d) fault
+unended {ws = ws} {es = es} {first = first} {source = source} {rest = rest} {b = b} {r = r} joins texts t d none fault u = by_fault fault u
+  where
+    e : Listed
+    e = t.come.envelope
+
+    by_fault : (fault : CommandFault) → IsUnended ws es b d fault → IsUnnarrated source rest (output_of ws first) (output_of ws d) (errors_of es first) (errors_of es d) fault
+    by_fault CannotRead u = absurd u
+    by_fault OutOfMemory u = starved joins texts rest e.octets (length e.octets) r.taken t.stands none t.come.came.given (whole_text e t.text) u
+    by_fault CannotWrite (inl u) = lost joins texts rest e.octets (length e.octets) r.taken r.texts t.stands none t.come.came.given (omega arith) (whole_text e t.text) (inl refl) u
+    by_fault CannotWrite (inr u) =
+        let now = stands_still t.stands d.output u.put in
+        broke_in_text joins rest e.octets (length e.octets) r.taken r.texts
+        (subst (λ (m : MutBor _). Stands ws first.output (errors_of es first) r.envelopes (text_of e) d.output (es m.now) b.lines.items) (sym u.same) now) t.come.came.given (omega arith) (λ whole nothing. (e, t.come.is, refl)) (whole_text e t.text)
+        (rises (stops_of b) (stops_of d) none u.rose)
+
+-- ---- nothing comes next
+
+pub unfed : {W E : Type 0} {ws : W → Device} {es : E → Device} {first : Narrator W E} {source mid : Device} {a : Narrator W E} {count : ℕ} → GiftsJoin → TextsJoin → (rest : Device) (v : Unpacking) (b : Narrator W E) (fault : CommandFault)
+    → AreNarrated ws es first source mid a count → stops_of a ≡ 0 → IsCalm (stops_of a) (stops_of b) (Err fault)
+    → IsNext (TellsOn ws es) stops_of IsSettled (IsStuck ws es) (mid, a) (rest, v, b) (Err fault) → IsUnnarrated source rest (output_of ws first) (output_of ws b) (errors_of es first) (errors_of es b) fault
+unfed {source = source} {mid = mid} {a = a} {count = count} joins texts rest v b CannotRead r none calm (c, settled) =
+    let s = stands_told texts r.stands c.told in (
+      joined r.envelopes ++ c.octets,
+      r.envelopes,
+      c.octets,
+      c.fault,
+      map octet_for c.more,
+      divides source mid count r.envelopes c.octets r.taken,
+      c.is_open,
+      missed_later source mid rest (joined r.envelopes) c.octets c.fault r.taken.given c.missed,
+      (c.more, c.delivered, refl),
+      stories_out s settled.0 (calm ∙ none),
+      lines_out s settled.1,
+    )
+unfed {a = a} joins texts rest v b CannotWrite r none calm (inl u) =
+    broke_in_text joins rest u.octets u.k r.taken r.texts (stands_told texts r.stands u.came.told) u.came.given (omega (arith, u.within)) (λ whole nothing. absurd (omega (arith, whole, u.within))) (u.more, u.delivered, refl)
+    (rises (stops_of a) (stops_of b) none u.rose)
+unfed joins texts rest v b CannotWrite r none calm (inr u) =
+    lost joins texts rest u.octets (length u.octets) r.taken r.texts (stands_told texts r.stands u.came.told) (u.calm ∙ none) u.came.given (omega arith)
+    (subst (λ (l : List ℕ). IsTextIn l (map octet_for u.more)) (sym (take-length u.octets)) (u.more, u.delivered, refl)) (inl refl) u.holds_back
+unfed joins texts rest v b OutOfMemory r none calm c = absurd c
+
+-- ---- refused octets
+
+pub refused_within : (octets : List ℕ) (k : ℕ) (f : Refusal) → IsRefusedAfter limits octets k f → k ≤ length octets
+refused_within octets k f (inl t) = omega (arith, t.1)
+refused_within octets k f (inr d) = omega (arith, d.within)
+
+-- what is written of refused octets that came, and of all that stands after the envelopes
+pub text_refused : {S : Type 0} {goes : S → List StoryEvent → S → Type 0} {mid rest : Device} {a b : S} {e : Refusal} (r : IsRefusal goes mid rest a b e) (more : List ℕ)
+    → IsRefusedAfter limits (r.octets ++ more) r.k e → LeavesText (r.octets ++ more) (RefusedBy e) (map octet_for r.more)
+text_refused {e = e} r more is =
+    (r.k, is, subst (λ (octets : List ℕ). IsTextIn octets (map octet_for r.more)) (sym (take-append-le r.k r.octets more (refused_within r.octets r.k e r.refused))) (r.more, r.delivered, refl))
+
+-- ---- the targets stay the same
+
+pub keeps_on : {W E : Type 0} (a b c : Narrator W E) → KeepsTargets a b → KeepsTargets b c → KeepsTargets a c
+keeps_on a b c first then = (then.0 ∙ first.0, then.1 ∙ first.1)
+
+pub told_keeps : {W E : Type 0} (ws : W → Device) (es : E → Device) (a b : Narrator W E) (events : List StoryEvent) → TellsOn ws es a events b → KeepsTargets a b
+told_keeps ws es a b events t = (t.put.same, t.keeps)
+
+let_out_keeps : {W E : Type 0} (ws : W → Device) (es : E → Device) (a b : Narrator W E) (line : List ℕ) → LetsOut ws es a b line → KeepsTargets a b
+let_out_keeps ws es a b line l = (l.text.0.same, l.keeps)
+
+pub ended_keeps : {W E : Type 0} (ws : W → Device) (a b : Narrator W E) (line : List ℕ) → EndsStory ws a b line → KeepsTargets a b
+ended_keeps ws a b line ended = (ended.put.same, ap (λ (m : MutBor _). m.ghost_name) ended.lines.1)
+
+pub untold_keeps : {W E : Type 0} (ws : W → Device) (es : E → Device) (a b : Narrator W E) (line : List ℕ) (fault : CommandFault) → IsUntold ws es a b line fault → KeepsTargets a b
+untold_keeps ws es a b line CannotRead l = absurd l
+untold_keeps ws es a b line CannotWrite l = l.keeps
+untold_keeps ws es a b line OutOfMemory l = let_out_keeps ws es a b [] l
+
+pub unended_keeps : {W E : Type 0} (ws : W → Device) (es : E → Device) (a b : Narrator W E) (fault : CommandFault) → IsUnended ws es a b fault → KeepsTargets a b
+unended_keeps ws es a b CannotRead u = absurd u
+unended_keeps ws es a b CannotWrite (inl u) = u.keeps
+unended_keeps ws es a b CannotWrite (inr u) = (u.put.same, ap (λ (m : MutBor _). m.ghost_name) u.same)
+unended_keeps ws es a b OutOfMemory u = let_out_keeps ws es a b [] u
+
+-- ---- before anything was read
 
 -- memory was short before anything was read
 pub nothing_told : GiftsJoin → TextsJoin → (source old new errors : Device) → new ≡ old → IsUnnarrated source source old new errors errors OutOfMemory
@@ -403,10 +627,3 @@ nothing_told joins texts source old new errors same = (
   subst (λ (d : Device). Wrote old d []) (sym same) (texts.none old),
   texts.none errors,
 )
-
--- what was held could not be let out, as it is answered
-pub held_back_as : {W : Type 0} {source mid old errors_old errors_new : Device} {count : ℕ} (state : W → Device) → GiftsJoin → (rest : Device) (a b d : BlockWriter W) (begun : List ℕ) (k : ℕ) (text : List ℕ) (fault : CommandFault)
-    → AreNarrated source mid old (device_of state a) errors_old errors_new count → HasGiven mid rest begun → k ≤ length begun → IsTextIn (take k begun) text
-    → HoldsNothing a → stops_of a ≡ 0 → stops_of b ≡ stops_of a → PutsOn state a b text → IsHeldBack state b d fault → IsUnnarrated source rest old (device_of state d) errors_old errors_new fault
-held_back_as {source = source} {mid = mid} {old = old} {errors_old = errors_old} {errors_new = errors_new} {count = count} state joins rest a b d begun k text fault r given within is empty none same w back =
-    rw back.0 (held_back state joins source mid rest old errors_old errors_new a b d count begun k text r given within is empty none same w back.1)

@@ -7,4 +7,5 @@ pub mod Laws
 -- What only proofs and private clauses cite.
 pub mod Feeding
 pub mod Listing
-pub mod NarrationEnds
+pub mod Narrating
+pub mod NarratingLaws

@@ -11,5 +11,6 @@ pub mod check;
 pub mod coming;
 pub mod laws;
 pub mod list;
+mod narrator;
 pub mod show;
 pub mod story;

@@ -6,9 +6,8 @@ ghost use Rattle.iim_object.specs.Format.Sizes.{mode_number};
 ghost use Rattle.iim_listing.specs.Format.Texts.{number_line, shown_of, sizes_line};
 
 use crate::list::EnvelopeLines;
-use iim_dataset::NumberOrDash;
 use iim_object::Sizes;
-use iim_script::{push_fields, push_message, push_printed, push_trailer};
+use iim_script::{push_decimal, push_fields, push_message, push_trailer};
 use iim_unpack::UnpackedRef;
 use std::alloc::AllocError;
 
@@ -38,11 +37,33 @@ impl EnvelopeLines for Show {
 fn push_number(text: &mut Vec<u8>, number: u64) -> Result<(), AllocError>
     ensures { OnOk result (text.new.items ≡ text.old.items ++ number_line number) }
 {
-    push_printed(text, format_args!("envelope {number}\n"))
+    push_counted(text, b"envelope ", number)?;
+    text.push(b'\n')?;
+    Ok(())
+}
+
+/// Adds a word and a number after it.
+fn push_counted(text: &mut Vec<u8>, word: &[u8], number: u64) -> Result<(), AllocError>
+    ensures { OnOk result (text.new.items ≡ text.old.items ++ (word.now ++ decimal number)) }
+{
+    text.extend_from_slice(word)?;
+    push_decimal(text, number)
+}
+
+/// Adds a word, and after it a number, or `-` where there is none.
+fn push_stated(text: &mut Vec<u8>, word: &[u8], number: Option<u64>) -> Result<(), AllocError>
+    ensures { OnOk result (text.new.items ≡ text.old.items ++ (word.now ++ number_or_dash number)) }
+{
+    let Some(number) = number else {
+        text.extend_from_slice(word)?;
+        text.push(b'-')?;
+        return Ok(());
+    };
+    push_counted(text, word, number)
 }
 
 /// The size mode: 1 where the size is known at the start.
-fn mode(known: bool) -> u8
+fn mode(known: bool) -> u64
     ensures { result ≡ mode_number known }
 {
     if known { 1 } else { 0 }
@@ -55,13 +76,9 @@ fn push_counts(text: &mut Vec<u8>, sizes: Sizes) -> Result<(), AllocError>
         ++ (codes " octets, " ++ (decimal sizes.subfiles
         ++ (codes " subfiles, mode " ++ decimal (mode_number sizes.known))))))) }
 {
-    let total = sizes.total;
-    let subfiles = sizes.subfiles;
-    let mode = mode(sizes.known);
-    push_printed(
-        text,
-        format_args!("object {total} octets, {subfiles} subfiles, mode {mode}"),
-    )
+    push_counted(text, b"object ", sizes.total)?;
+    push_counted(text, b" octets, ", sizes.subfiles)?;
+    push_counted(text, b" subfiles, mode ", mode(sizes.known))
 }
 
 /// Adds the second half of it.
@@ -71,13 +88,11 @@ fn push_bounds(text: &mut Vec<u8>, sizes: Sizes) -> Result<(), AllocError>
         ++ (codes ", announced " ++ (number_or_dash sizes.announced
         ++ (codes ", maximum " ++ (number_or_dash sizes.maximum ++ codes "\n"))))))) }
 {
-    let limit = sizes.subfile;
-    let announced = NumberOrDash(sizes.announced);
-    let maximum = NumberOrDash(sizes.maximum);
-    push_printed(
-        text,
-        format_args!(", limit {limit}, announced {announced}, maximum {maximum}\n"),
-    )
+    push_counted(text, b", limit ", sizes.subfile)?;
+    push_stated(text, b", announced ", sizes.announced)?;
+    push_stated(text, b", maximum ", sizes.maximum)?;
+    text.push(b'\n')?;
+    Ok(())
 }
 
 /// Adds the line of the object's sizes.

@@ -1,71 +1,42 @@
 //! `story`: the text of each envelope, as it comes.
 
-ghost use Rattle.std.specs.Prelude.{◌≡◌, [], ◌∷◌, None, IfOk, IfErr, OnOk};
-ghost use Rattle.iim_dataset.specs.Format.Characters.{lf};
+ghost use Rattle.std.specs.Prelude.{◌≡◌, None, IfOk, IfErr};
 ghost use Rattle.iim_unpack.specs.States.Intakes.{in_line};
-ghost use Rattle.iim_listing.specs.NarrationEnds.{IsHeldBack, IsUnended};
-ghost use Rattle.iim_output.specs.States.Holding.{HoldsNothing, KeepsWriter, PutsOn};
-ghost use Rattle.iim_output.specs.States.Holding as blocks;
+ghost use Rattle.iim_listing.specs.Narrating.{IsSettled, KeepsTargets, errors_of, output_of};
+ghost use Rattle.iim_listing.specs.Narrating as narrators;
 ghost use Rattle.wire_story.specs.States.Writing.{device_of, stops_of};
 ghost use Rattle.iim_listing.specs.Format.Narration.{IsUnnarrated, Narrated};
 
 use crate::coming::{LIMITS, take_next};
 use crate::laws::envelopes_are_delivered_as_lines;
+use crate::narrator::Narrator;
 use iim_dataset::device_laws::{gifts_join, texts_join};
-use iim_dataset::octets::LF;
 use iim_dataset::{Source, Target};
 use iim_output::block_writer::BlockWriter;
 use iim_output::fault::CommandFault;
-use iim_output::lines::{TOO_MANY, push_accepted, push_refused, say};
+use iim_output::lines::TOO_MANY;
 use iim_output::status::{ACCEPTED, REFUSED};
 use iim_unpack::{Intake, MAX_ENVELOPES, Unpacker};
 use std::alloc::Global;
 use wire_story::LineWriter;
 use wire_story::laws::lines_are_joined_by_line_feeds;
 
-/// Lets out what is held.
-fn let_out<W: Target>(output: &mut BlockWriter<'_, W>) -> Result<(), CommandFault>
-    ensures ok { OnOk result (PutsOn W.state output.old output.new []) }
-    ensures held { OnOk result (HoldsNothing output.new) }
-    ensures calm { OnOk result (blocks.stops_of output.new ≡ blocks.stops_of output.old) }
-    ensures err { IfErr result (IsHeldBack W.state output.old output.new) }
-{
-    match output.flush() {
-        Ok(()) => Ok(()),
-        Err(_) => Err(CommandFault::CannotWrite),
-    }
-}
-
-/// Takes an LF after the text of an envelope, and lets out what is held.
-fn end_story<W: Target>(output: &mut BlockWriter<'_, W>) -> Result<(), CommandFault>
-    ensures ok { OnOk result (PutsOn W.state output.old output.new (lf ∷ [])) }
-    ensures held { OnOk result (HoldsNothing output.new) }
-    ensures calm { OnOk result (blocks.stops_of output.new ≡ blocks.stops_of output.old) }
-    ensures err { IfErr result (IsUnended W.state output.old output.new) }
-{
-    match output.put(&[LF]) {
-        Ok(()) => let_out(output),
-        Err(_) => Err(CommandFault::CannotWrite),
-    }
-}
-
-/// Writes the text of each envelope as it comes, where nothing is held before. Nothing is held afterwards, but where a write failed.
+/// Tells the text of each envelope as it comes, and its line, where nothing is held before. All is out afterwards, but where a write failed.
 fn tell_stories<R: Source, W: Target, E: Target>(
     alloc: Global,
     intake: &mut Intake<R>,
-    output: &mut BlockWriter<'_, W>,
-    errors: &mut E,
+    narrator: &mut Narrator<'_, '_, W, E>,
 ) -> Result<u8, CommandFault>
     requires alive { intake.old.failed ≡ None }
-    requires held { HoldsNothing output.old }
-    requires unbroken { blocks.stops_of output.old ≡ 0 }
+    requires settled { IsSettled narrator.old }
+    requires unbroken { narrators.stops_of narrator.old ≡ 0 }
     ensures ok { IfOk result (Narrated (in_line R.state intake.old) (in_line R.state intake.new)
-        (blocks.device_of W.state output.old) (blocks.device_of W.state output.new)
-        (E.state errors.old) (E.state errors.new)) }
+        (output_of W.state narrator.old) (output_of W.state narrator.new)
+        (errors_of E.state narrator.old) (errors_of E.state narrator.new)) }
     ensures err { IfErr result (IsUnnarrated (in_line R.state intake.old) (in_line R.state intake.new)
-        (blocks.device_of W.state output.old) (blocks.device_of W.state output.new)
-        (E.state errors.old) (E.state errors.new)) }
-    ensures same { KeepsWriter output.old output.new }
+        (output_of W.state narrator.old) (output_of W.state narrator.new)
+        (errors_of E.state narrator.old) (errors_of E.state narrator.new)) }
+    ensures same { KeepsTargets narrator.old narrator.new }
     ensures leads { R.leads intake.old.reader intake.new.reader }
 {
     gifts_join();
@@ -74,29 +45,19 @@ fn tell_stories<R: Source, W: Target, E: Target>(
     lines_are_joined_by_line_feeds();
     let mut count = 0;
     let mut unpacker = Unpacker::new(alloc, LIMITS)?;
-    let mut line = Vec::new(alloc);
     'telling: loop {
-        line.clear();
-        match take_next(intake, &mut unpacker, output)? {
+        match take_next(intake, &mut unpacker, narrator)? {
             Ok(Some(octets)) => {
                 if count == MAX_ENVELOPES {
-                    let_out(output)?;
-                    say(errors, TOO_MANY.as_bytes())?;
+                    narrator.tell_last(TOO_MANY.as_bytes())?;
                     return Ok(REFUSED);
                 }
-                if push_accepted(&mut line, count + 1, octets).is_err() {
-                    let_out(output)?;
-                    return Err(CommandFault::OutOfMemory);
-                }
-                end_story(output)?;
-                say(errors, line.as_slice())?;
+                narrator.end_story(count + 1, octets)?;
                 count += 1;
             }
             Ok(None) => return Ok(ACCEPTED),
             Err(refusal) => {
-                let_out(output)?;
-                push_refused(&mut line, count + 1, refusal)?;
-                say(errors, line.as_slice())?;
+                narrator.tell_refusal(count + 1, refusal)?;
                 return Ok(REFUSED);
             }
         }
@@ -104,8 +65,9 @@ fn tell_stories<R: Source, W: Target, E: Target>(
 }
 
 /// Writes the text of each envelope as it comes, its lines joined by LF, and an LF after each envelope. The errors are told what
-/// `check` tells: each envelope, up to the end, to octets that are refused or to one envelope too many. The text that came is out before
-/// the input is read again, and before a line is told to the errors; where a write fails, what of it is not out is lost.
+/// `check` tells: each envelope, up to the end, to octets that are refused or to one envelope too many. What came is out on both before
+/// the input is read again, and no line is told before the text of its envelope is out. Where a write fails, what is not out is lost on
+/// both.
 pub fn narrate<R: Source, W: Target, E: Target>(
     alloc: Global,
     intake: &mut Intake<R>,
@@ -126,10 +88,12 @@ pub fn narrate<R: Source, W: Target, E: Target>(
     texts_join();
     match BlockWriter::new(alloc, output) {
         Ok(made) => {
-            let mut lines = made;
-            let answer = tell_stories(alloc, intake, &mut lines, errors);
-            // No effect at run time. The proof reads what the output holds from this use of what is handed back.
-            let _ = &*lines.into_writer();
+            let mut narrator = Narrator::new(alloc, made, errors);
+            let answer = tell_stories(alloc, intake, &mut narrator);
+            // No effect at run time. The proof reads what both hold from this use of what is handed back.
+            let (output, errors) = narrator.into_targets();
+            let _ = &*output;
+            let _ = &*errors;
             answer
         }
         Err(same) => {

@@ -8,7 +8,7 @@ use Rattle.iim_object.specs.Format.Sizes.{Stated, InRow, number_at}
 use Rattle.iim_object.specs.Format.Objects.{ObjectToken, NumberRead, SubfileBegun, ObjectEnded, Confirmed, ObjectLanguage}
 use Rattle.iim_object.specs.Format.Places.{Place, MayFollow, place_after, tokens_of}
 use Rattle.iim_object.specs.Format.Causes.{number_cause, subfile_cause, end_cause, confirmed_cause}
-use Rattle.iim_object.specs.StateChanges.{state_with}
+use Rattle.iim_object.specs.States.Changes.{state_with}
 use Rattle.iim_object.specs.States.Reading.{IsStateAt, StandsAt, LeadsOn, Refuses}
 use Rattle.iim_object.specs.Laws.Places.{TokensLead, TokensLeadOnAlike}
 use Rattle.iim_object.proofs.Numbers.{each-append, once-append}

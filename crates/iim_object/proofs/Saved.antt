@@ -13,7 +13,7 @@ use Rattle.iim_object.specs.Format.Objects.{ObjectToken, SubfileBegun, ObjectLan
 use Rattle.iim_object.specs.Format.Places.{Place, HasBoth, MayFollow, place_after, tokens_of}
 use Rattle.iim_object.specs.Format.Causes.{is_given, bound}
 use Rattle.iim_object.specs.States.KeptNumbers.{HasNumbers, HasSubfiles, IsState, state_numbers}
-use Rattle.iim_object.specs.StateChanges.{TakesSubfile}
+use Rattle.iim_object.specs.States.Changes.{TakesSubfile}
 use Rattle.iim_object.specs.States.Reading.{IsStateAt, StandsAt, LeadsOn, Refuses}
 use Rattle.iim_object.specs.States.Saved.{IsAt, LastIsBegun, IsPossible, stated_numbers}
 use Rattle.iim_object.specs.Laws.Places.{PlacesHaveOneReader}

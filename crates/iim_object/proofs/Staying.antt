@@ -1,19 +1,21 @@
 -- From state to state: each token leads from a state to which tokens lead to another.
-use Rattle.std.proofs.Common.{◌≡◌, ℕ, ◌+◌, ◌≤◌, ◌==◌, List, [], ◌∷◌, ◌++◌, length, Option, Some, None, is_some, IfSome, refl, sym, ap, subst, ◌∙◌, arith, inl, inr, length-append}
+use Rattle.std.proofs.Common.{◌≡◌, ℕ, ◌+◌, ◌≤◌, ◌==◌, List, [], ◌∷◌, ◌++◌, length, Option, Some, None, is_some, true, false, IfSome, refl, sym, ap, subst, ◌∙◌, arith, inl, inr, length-append}
 use Rattle.std.specs.List.{AllByRecursion}
 use Rattle.std.proofs.lemmas.Bool.{cases_Bool, eqb-true, ltb-false}
 use Rattle.iim_dataset.specs.Format.Octets.{greatest_size}
 use Rattle.iim_object.specs.declared.reading.state.State.{State}
+use Rattle.iim_object.specs.declared.reading.fault.SizeCause.{SizeCause}
+use Rattle.iim_object.specs.declared.reading.fault.SizeCause.TheVariants.{ModeClash, PastSize}
 use Rattle.iim_object.specs.Format.Sizes.{Stated, InRow, number_at}
 use Rattle.iim_object.specs.Format.Objects.{NumberRead, SubfileBegun}
 use Rattle.iim_object.specs.Format.Places.{Place, MayFollow, place_after}
 use Rattle.iim_object.specs.Laws.Living.{NoClash}
-use Rattle.iim_object.specs.Format.Causes.{number_cause, subfile_cause, bound}
+use Rattle.iim_object.specs.Format.Causes.{number_cause, subfile_cause, bound, end_cause, confirmed_cause}
 use Rattle.iim_object.specs.States.KeptNumbers.{IsState}
-use Rattle.iim_object.specs.StateChanges.{TakesNumber, TakesSubfile, set_where, state_with}
-use Rattle.iim_object.specs.States.Reading.{StandsAt, LeadsOn}
+use Rattle.iim_object.specs.States.Changes.{FitsNumber, FitsSubfile, TakesNumber, TakesSubfile, set_where, state_with}
+use Rattle.iim_object.specs.States.Reading.{StandsAt, LeadsOn, Refuses, EndsAs, RefusesToEnd}
 use Rattle.iim_object.proofs.Numbers.{mode_at_most_one, at_least_one, at_most_size, largest_at_most}
-use Rattle.iim_object.proofs.Steps.{tells_of, clear_numbers, clear_of, announced_small, subfile_leads_on}
+use Rattle.iim_object.proofs.Steps.{tells_of, clear_numbers, clear_of, announced_small, number_refused, subfile_leads_on, subfile_refused, end_leads_on, end_refused, confirmed_leads_on, confirmed_refused}
 use Rattle.iim_object.proofs.Reached.{numbers_in, mode_in, largest_in, announced_in, maximum_in, are_stated, maximum_at_most, place_in, tells_in, stands_in, state_of}
 
 -- ---- tokens that may not come
@@ -22,9 +24,12 @@ pub last_row : (ps : List Stated) (q : Stated) → AllByRecursion InRow (ps ++ q
 last_row [] q each = each.0
 last_row (p ∷ ps) q each = last_row ps q each.1
 
+-- where a number may follow, the state takes one
+number_takes : (s : State) (set number : ℕ) (p : Place) → StandsAt (Some s) p → MayFollow p (NumberRead set number) → TakesNumber s set number
+number_takes s set number p st (not_ended, none, stated) = ((tells_of s p st).subfiles ∙ ap length none, last_row p.stated (record { set = set; number = number }) stated.each)
+
 pub number_not_taken : (s : State) (set number : ℕ) → (TakesNumber s set number → ⊥) → LeadsOn (Some s) (NumberRead set number) (Some s)
-number_not_taken s set number out p st (not_ended, none, stated) =
-    absurd (out ((tells_of s p st).subfiles ∙ ap length none, last_row p.stated (record { set = set; number = number }) stated.each))
+number_not_taken s set number out p st follows = absurd (out (number_takes s set number p st follows))
 
 -- where a subfile may follow, the state takes one
 pub takes_of : (s : State) (count : ℕ) (p : Place) → StandsAt (Some s) p → MayFollow p (SubfileBegun count) → TakesSubfile s
@@ -91,3 +96,45 @@ subfile_state s count is takes no_cause =
     let next = subfile_leads_on s count no_cause p (stands_in s is) (may_take s count is takes) in
     state_of (record s { subfiles = s.subfiles + 1; total = s.total + count }) (place_after p (SubfileBegun count)) next
     (omega (arith, (tells_in s is).subfiles, takes.2, length-append p.lengths (count ∷ [])))
+
+-- ---- what a state accepts
+
+pub number_refuses : (s : State) (set number : ℕ) → (FitsNumber s set number → ⊥) → (cause : SizeCause) × Refuses (Some s) (NumberRead set number) cause
+number_refuses s set number out = by_cause (number_cause (state_with s set number).mode (state_with s set number).announced (state_with s set number).maximum) refl
+  where
+    by_cause : (o : Option SizeCause) → number_cause (state_with s set number).mode (state_with s set number).announced (state_with s set number).maximum ≡ o
+        → (cause : SizeCause) × Refuses (Some s) (NumberRead set number) cause
+    by_cause None e = (ModeClash, λ p st follows. absurd (out (number_takes s set number p st follows, e)))
+    by_cause (Some c) e = (c, number_refused s set number c e)
+
+pub subfile_refuses : (s : State) (count : ℕ) → (FitsSubfile s count → ⊥) → (cause : SizeCause) × Refuses (Some s) (SubfileBegun count) cause
+subfile_refuses s count out = by_cause (subfile_cause s.mode s.subfile s.announced s.maximum s.total count) refl
+  where
+    by_cause : (o : Option SizeCause) → subfile_cause s.mode s.subfile s.announced s.maximum s.total count ≡ o → (cause : SizeCause) × Refuses (Some s) (SubfileBegun count) cause
+    by_cause None e = (PastSize, λ p st follows. absurd (out (takes_of s count p st follows, e)))
+    by_cause (Some c) e = (c, subfile_refused s count c e)
+
+none_of : (o : Option SizeCause) → is_some o ≡ false → o ≡ None
+none_of None e = refl
+none_of (Some c) e = absurd cc
+
+pub ends_as : (s : State) (number : ℕ) → is_some (end_cause s.announced s.total) ≡ false → is_some (confirmed_cause s.total number) ≡ false → EndsAs (Some s) number (Some s)
+ends_as s number e f = record {
+  ended = Some s;
+  at_end = end_leads_on s (none_of (end_cause s.announced s.total) e);
+  at_number = confirmed_leads_on s number (none_of (confirmed_cause s.total number) f);
+}
+
+pub no_end : (s : State) (number : ℕ) → is_some (end_cause s.announced s.total) ≡ true → RefusesToEnd (Some s) number
+no_end s number e = by_cause (end_cause s.announced s.total) refl e
+  where
+    by_cause : (o : Option SizeCause) → end_cause s.announced s.total ≡ o → is_some o ≡ true → RefusesToEnd (Some s) number
+    by_cause None is e = absurd cc
+    by_cause (Some c) is e = inl (c, end_refused s c is)
+
+pub not_confirmed : (s : State) (number : ℕ) → is_some (end_cause s.announced s.total) ≡ false → is_some (confirmed_cause s.total number) ≡ true → RefusesToEnd (Some s) number
+not_confirmed s number e f = by_cause (confirmed_cause s.total number) refl f
+  where
+    by_cause : (o : Option SizeCause) → confirmed_cause s.total number ≡ o → is_some o ≡ true → RefusesToEnd (Some s) number
+    by_cause None is f = absurd cc
+    by_cause (Some c) is f = inr (Some s, end_leads_on s (none_of (end_cause s.announced s.total) e), (c, confirmed_refused s number c is))

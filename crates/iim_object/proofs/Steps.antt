@@ -18,7 +18,7 @@ use Rattle.iim_object.specs.Format.Places.{Place, Ending, NotEnded, Ended, Confi
 use Rattle.iim_object.specs.Laws.Numbers.{TokensFollow}
 use Rattle.iim_object.specs.Format.Causes.{is_given, is_above, number_cause, bound, is_past, subfile_cause, end_cause, confirmed_cause, cause_at}
 use Rattle.iim_object.specs.States.Reading.{IsStateAt, StandsAt, LeadsOn, LivesWith, Refuses, IsSizes}
-use Rattle.iim_object.specs.StateChanges.{set_where, state_start, state_with}
+use Rattle.iim_object.specs.States.Changes.{set_where, state_start, state_with}
 use Rattle.iim_object.proofs.Numbers.{at-append, at_most_size, in_row_at, mode_at_most_one, none-append, read-append}
 use Rattle.iim_object.proofs.Subfiles.{numbers_law, subfiles_law, ends_law, confirmed_law}
 use Rattle.iim_object.proofs.Bounded.{mode_known}

@@ -5,7 +5,6 @@ pub mod States
 -- What holds of these: statements, each the contract of a law.
 pub mod Laws
 -- What only proofs and private clauses cite.
-pub mod StateChanges
 pub mod Outputs
 pub mod Finding
 pub mod Cutting

@@ -1,3 +1,4 @@
+pub mod Changes
 pub mod KeptNumbers
 pub mod Reading
 pub mod Saved

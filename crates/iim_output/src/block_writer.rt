@@ -83,6 +83,7 @@ impl<'w, W: Target> BlockWriter<'w, W> {
     }
 
     /// Takes a text whole, or only the octets before the one at which a write failed.
+    #[inline(always)]
     pub fn put(&mut self, text: &[u8]) -> Result<(), Stop>
         ensures put { OnOk result (HasPut W.state self.old self.new text.now) }
         ensures puts { OnOk result (PutsOn W.state self.old self.new text.now) }
@@ -95,11 +96,28 @@ impl<'w, W: Target> BlockWriter<'w, W> {
         ensures patience { WithinInterruptionLimit (length (held_of self.old) + length text.now)
             (device_of W.state self.old) (device_of W.state self.new) }
     {
-        texts_join();
         if text.len() <= self.held.room() {
             self.hold(text);
             return Ok(());
         }
+        self.put_after_flush(text)
+    }
+
+    /// The same of a text for which there is no room.
+    #[inline(never)]
+    fn put_after_flush(&mut self, text: &[u8]) -> Result<(), Stop>
+        requires { self.old.held.room < length text.now }
+        ensures put { OnOk result (HasPut W.state self.old self.new text.now) }
+        ensures puts { OnOk result (PutsOn W.state self.old self.new text.now) }
+        ensures calm { OnOk result (stops_of self.new ≡ stops_of self.old) }
+        ensures refused { IfErr result (λ stop. stop.taken < length text.now) }
+        ensures stuck { IfErr result (λ stop. HasStuck W.state self.old self.new (take stop.taken text.now)) }
+        ensures front { IfErr result (λ stop. PutsOn W.state self.old self.new (take stop.taken text.now)) }
+        ensures counted { OnErr result (Rose (stops_of self.old) (stops_of self.new)) }
+        ensures patience { WithinInterruptionLimit (length (held_of self.old) + length text.now)
+            (device_of W.state self.old) (device_of W.state self.new) }
+    {
+        texts_join();
         match self.flush() {
             Ok(()) => self.put_first(text),
             Err(stop) => Err(stop),
@@ -133,6 +151,7 @@ impl<'w, W: Target> BlockWriter<'w, W> {
     }
 
     /// Holds a text for which there is room.
+    #[inline(always)]
     fn hold(&mut self, text: &[u8])
         requires { length text.now ≤ self.old.held.room }
         ensures put { HasPut W.state self.old self.new text.now }

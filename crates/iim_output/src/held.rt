@@ -55,6 +55,7 @@ impl Held {
     }
 
     /// Takes octets, for which there is room.
+    #[inline(always)]
     pub(crate) fn take(&mut self, more: &[u8])
         requires { length more.now ≤ self.old.room }
         ensures { self.new.octets ≡ self.old.octets ++ more.now }

@@ -13,7 +13,8 @@ use crate::status::FAILED;
 use iim_dataset::device_laws::texts_join;
 use iim_dataset::{Target, put};
 use iim_places::Refusal;
-use iim_script::push_printed;
+use iim_script::{push_printed, write_word};
+use itoa::write_digits;
 use std::alloc::AllocError;
 
 /// The line in place of that of one envelope too many.
@@ -69,11 +70,19 @@ pub fn tell<E: Target>(errors: &mut E, text: &[u8], status: u8) -> u8
     }
 }
 
+/// The most octets of the line of an accepted envelope, or more: two numbers of up to 20 digits, and 18 octets.
+const LINE: usize = 64;
+
 /// Adds the line of an accepted envelope.
 pub fn push_accepted(text: &mut Vec<u8>, number: u64, used: u64) -> Result<(), AllocError>
     ensures { OnOk result (text.new.items ≡ text.old.items ++ accepted_line number used) }
 {
-    push_printed(text, format_args!("{number} accepted {used} octets\n"))
+    let mut line = [0; LINE];
+    let octets = write_word(b" octets\n", &mut line, LINE);
+    let used_at = write_digits(used, &mut line, octets);
+    let accepted = write_word(b" accepted ", &mut line, used_at);
+    let number_at = write_digits(number, &mut line, accepted);
+    text.extend_from_slice(&line[number_at..])
 }
 
 /// Adds the line of octets that are refused.

@@ -1,1 +1,2 @@
+pub mod BlockSteps
 pub mod Packings

@@ -1,8 +1,9 @@
 -- `pack`: what its parts leave comes to what it leaves.
-use Rattle.std.proofs.Common.{◌≡◌, ℕ, ◌+◌, ap, length-append, IfOk, ◌&&◌, min, nat_le, ◌<◌, ◌≤◌, ◌++◌, List, [], ◌∷◌, length, inl, inr, sym, subst, ◌∙◌, arith, Bool, true, false, Option, Some, None, Result, Ok, Err, IfErr, IfSome, IfNone, IsTrue}
+use Rattle.std.proofs.Common.{◌≡◌, ℕ, ◌+◌, ap, length-append, IfOk, ◌&&◌, min, nat_le, ◌<◌, ◌≤◌, ◌++◌, List, [], ◌∷◌, length, inl, inr, refl, take, drop, append_assoc, take-append-drop, sym, subst, ◌∙◌, arith, Bool, true, false, Option, Some, None, Result, Ok, Err, IfErr, IfSome, IfNone, IsTrue}
 use Rattle.std.proofs.lemmas.Bool.{and_parts, leb-true}
 use Rattle.iim_dataset.specs.Format.Octets.{greatest_size}
-use Rattle.iim_dataset.specs.States.Devices.{Device, BrokeAfter, HasGiven}
+use Rattle.iim_dataset.specs.Appending.{appends_nothing}
+use Rattle.iim_dataset.specs.States.Devices.{Device, BrokeAfter, HasGiven, Stopped, Wrote}
 use Rattle.iim_dataset.specs.Laws.Devices.{GiftsJoin}
 use Rattle.iim_object.specs.Format.Plans.{bound_of, fits, is_plan, most_in}
 use Rattle.iim_object.specs.States.Writing.{Begins, most_of, IsBelowKnown}
@@ -14,28 +15,54 @@ use Rattle.iim_object.specs.declared.size.Size.{Size}
 use Rattle.iim_object.specs.declared.size.Size.TheVariants.{Known}
 use Rattle.wire_message.specs.Format.Messages.{IsTrailer}
 use Rattle.iim_object.proofs.PlanParts.{plan_parts}
+use Rattle.iim_dataset.proofs.DeviceLaws.{broke_later}
 use Rattle.iim_pack.specs.States.Packing.{pack_cause}
 use Rattle.iim_pack.specs.Format.Orders.{IsFirstOf, AgainstPack}
 use Rattle.iim_pack.specs.Format.Packed.{Packed}
+use Rattle.iim_pack.specs.Laws.Packed.{PackedOctetsAreOne}
 use Rattle.iim_pack.specs.States.Starting.{StartIsRefused, StartBreaksOff}
 use Rattle.iim_pack.specs.States.Whole.{IsPackFault, Packs}
 use Rattle.iim_script.specs.Format.Scripts.{max_script}
 use Rattle.iim_output.specs.States.Devices.{devices}
 use Rattle.iim_output.specs.Format.Said.{IsSaid}
 use Rattle.iim_pack_script.specs.Format.Packing.{Answered, Asked, FitsAsked, IsBrokenOff, IsNotPacked, IsPast, IsPlanOf, IsRead, IsScriptRefusal, IsScriptOf, IsUnanswered, IsUnread, ScriptContent, most_asked, most_for, object_of, refusal_line, said_size}
+use Rattle.iim_pack_script.specs.Blocks.{IsFresh, block_device, held_in, octets_behind}
+use Rattle.iim_pack_script.specs.declared.blocks.BlockTarget.{BlockTarget}
+use Rattle.iim_pack_script.proofs.BlockSteps.{broken_off, finished}
 use Rattle.iim_pack_script.specs.PackSteps.{ComesTo, IsFailedRead, PacksTold, UnpacksTold}
 use Rattle.iim_output.specs.declared.fault.CommandFault.{CommandFault}
 use Rattle.iim_output.specs.declared.fault.CommandFault.TheVariants.{CannotRead, CannotWrite, OutOfMemory}
 use Rattle.iim_pack_script.specs.declared.packing.PackFault.{PackFault}
 use Rattle.iim_pack_script.specs.declared.packing.PackFault.TheVariants.{Refused, Around}
 
-pub packs_told : {W : Type 0} (state : W → Device) (a : Asked) (t : ScriptContent) (trailer : List ℕ) (plan : Plan) (old new : W) → trailer ≡ t.trailer
-    → IsPlanOf a (object_of t) plan → Packs state old t.fields t.head t.lines trailer plan new → PacksTold a t (state old) (state new)
-packs_told state a t trailer plan old new is is_plan p = (
-  p.out,
-  record { plan = plan; is_plan = is_plan; packed = subst (λ (x : List ℕ). Packed t.fields t.head t.lines x plan p.out) is p.packed },
-  p.wrote,
-)
+-- ---- a fresh target of blocks
+
+-- the device that it is, of the target's own
+abbrev begun : Device → Device
+begun d = record { octets = octets_behind d.octets [] d.octets; failures = d.failures; interruptions = d.interruptions }
+
+fresh_device : {W : Type 0} (state : W → Device) (old : W) (fresh : BlockTarget W) → fresh.writer ≡ old → IsFresh fresh → block_device state fresh ≡ begun (state old)
+fresh_device state old fresh is h =
+    let first : fresh.first.value ≡ old = h.first_is ∙ is in
+    let empty : held_in fresh ≡ [] = ap (λ (n : ℕ). take n fresh.block.now) h.empty in
+    λ i. record {
+      octets = octets_behind (state (first i)).octets (empty i) (state (is i)).octets;
+      failures = (state (is i)).failures;
+      interruptions = (state (is i)).interruptions;
+    }
+
+pub packs_told : {W : Type 0} (state : W → Device) (a : Asked) (t : ScriptContent) (trailer : List ℕ) (plan : Plan) (old last : W) (fresh new : BlockTarget W) → trailer ≡ t.trailer
+    → IsPlanOf a (object_of t) plan → fresh.writer ≡ old → IsFresh fresh → Packs (block_device state) fresh t.fields t.head t.lines trailer plan new
+    → Wrote (state new.writer) (state last) (held_in new) → PacksTold a t (state old) (state last)
+packs_told state a t trailer plan old last fresh new is is_plan same is_fresh p out =
+    let h = subst (λ (d : Device). Wrote d (block_device state new) p.out) (fresh_device state old fresh same is_fresh) p.wrote in (
+      p.out,
+      record { plan = plan; is_plan = is_plan; packed = subst (λ (x : List ℕ). Packed t.fields t.head t.lines x plan p.out) is p.packed },
+      (
+        finished (state old).octets (state new.first.value).octets (state new.writer).octets (state last).octets (held_in new) p.out h.0 out.0,
+        (omega (arith, h.1.0, out.1.0), omega (arith, h.1.1, out.1.1)),
+      ),
+    )
 
 -- ---- the bound of a plan
 
@@ -113,48 +140,87 @@ for_write a t old new (Around CannotRead) h front = absurd h
 for_write a t old new (Around CannotWrite) h front = (front.plan, front.out, front.room, front.is_plan, front.broke, front.begins)
 for_write a t old new (Around OutOfMemory) h front = absurd h
 
-front_of : {W : Type 0} (state : W → Device) (a : Asked) (t : ScriptContent) (plan : Plan) (old : W) (fault : StartFault W) → IsPlanOf a (object_of t) plan → FitsAsked a t
-    → StartBreaksOff state (Packed t.fields t.head t.lines t.trailer plan) old fault → IsFront a t (state old) (state fault.writer)
-front_of state a t plan old fault is room h = record { plan = plan; out = h.out; room = room; is_plan = is; broke = (h.appends, h.broke); begins = h.begins }
+begins_later : (xs ys zs : List ℕ) → Begins xs ys → Begins ys zs → Begins xs zs
+begins_later xs ys zs h k = (h.0 ++ k.0, sym (append_assoc xs h.0 k.0) ∙ ap (λ (l : List ℕ). l ++ k.0) h.1 ∙ k.1)
+
+front_of : {W : Type 0} (state : W → Device) (a : Asked) (t : ScriptContent) (plan : Plan) (old : W) (fresh : BlockTarget W) (fault : StartFault (BlockTarget W)) → fresh.writer ≡ old → IsFresh fresh
+    → IsPlanOf a (object_of t) plan → FitsAsked a t → StartBreaksOff (block_device state) (Packed t.fields t.head t.lines t.trailer plan) fresh fault → IsFront a t (state old) (state fault.writer.writer)
+front_of state a t plan old fresh fault same is_fresh is room h =
+    let new = fault.writer in
+    let k = subst (λ (d : Device). BrokeAfter d (block_device state new) h.out) (fresh_device state old fresh same is_fresh) (h.appends, h.broke) in
+    let b = broken_off (state old).octets (state new.first.value).octets (state new.writer).octets (state new.writer).octets (held_in new) [] (held_in new) h.out k.0 refl
+    (appends_nothing (state new.writer).octets) in
+    record { plan = plan; out = b.0; room = room; is_plan = is; broke = (b.1, k.1); begins = λ form packed. begins_later b.0 h.out form b.2 (h.begins form packed) }
 
 -- a cause that is refused before anything is written
-refused_as : {W : Type 0} (state : W → Device) (a : Asked) (t : ScriptContent) (plan : Plan) (old : W) (fault : StartFault W) (why : PackFault) (cause : PackCause)
-    → IsTrailer t.trailer → IsPlanOf a (object_of t) plan → StartIsRefused cause old fault → AgainstPack t.head t.lines t.trailer plan cause
-    → ComesTo cause t.text_line why → UnpacksTold a t (state old) (state fault.writer) why
-refused_as state a t plan old fault why causes.OutOfMemory good is r h to = absurd h
-refused_as state a t plan old fault why causes.PastAnnounced good is r h to =
-    for_past a t (state old) (state fault.writer) why to (ap state r.writer_is) (past_of a (object_of t) plan is h)
-refused_as state a t plan old fault why causes.ShortOfAnnounced good is r h to = absurd (not_below a (object_of t) plan is h)
-refused_as state a t plan old fault why causes.BadTextOctet good is r h to = absurd h
-refused_as state a t plan old fault why causes.BadTrailer good is r h to = absurd (h good)
-refused_as state a t plan old fault why causes.Write good is r h to = absurd h
-refused_as state a t plan old fault why causes.Failed good is r h to = absurd h
+refused_as : (a : Asked) (t : ScriptContent) (plan : Plan) (old new : Device) (why : PackFault) (cause : PackCause)
+    → IsTrailer t.trailer → IsPlanOf a (object_of t) plan → new ≡ old → AgainstPack t.head t.lines t.trailer plan cause
+    → ComesTo cause t.text_line why → UnpacksTold a t old new why
+refused_as a t plan old new why causes.OutOfMemory good is same h to = absurd h
+refused_as a t plan old new why causes.PastAnnounced good is same h to = for_past a t old new why to same (past_of a (object_of t) plan is h)
+refused_as a t plan old new why causes.ShortOfAnnounced good is same h to = absurd (not_below a (object_of t) plan is h)
+refused_as a t plan old new why causes.BadTextOctet good is same h to = absurd h
+refused_as a t plan old new why causes.BadTrailer good is same h to = absurd (h good)
+refused_as a t plan old new why causes.Write good is same h to = absurd h
+refused_as a t plan old new why causes.Failed good is same h to = absurd h
 
-unpacks_for : {W : Type 0} (state : W → Device) (a : Asked) (t : ScriptContent) (plan : Plan) (old : W) (fault : StartFault W) (why : PackFault) (cause : Option PackCause)
-    → IsTrailer t.trailer → IsPlanOf a (object_of t) plan → IfSome cause (λ x. StartIsRefused x old fault)
-    → IsFirstOf (AgainstPack t.head t.lines t.trailer plan) (causes.BadTrailer ∷ causes.PastAnnounced ∷ causes.ShortOfAnnounced ∷ []) cause
-    → IfNone cause (IsPackFault state t.fields t.head t.lines t.trailer plan old fault)
-    → ComesTo fault.cause t.text_line why → UnpacksTold a t (state old) (state fault.writer) why
-unpacks_for state a t plan old fault why (Some cause) good is r first f to =
-    refused_as state a t plan old fault why cause good is r first.holds (subst (λ (c : PackCause). ComesTo c t.text_line why) r.cause_is to)
-unpacks_for state a t plan old fault why None good is r first f to =
-    elim f as (λ _. UnpacksTold a t (state old) (state fault.writer) why) [
-      | inl m ↦ for_memory a t (state old) (state fault.writer) why (subst (λ (c : PackCause). ComesTo c t.text_line why) m.cause_is to) (ap state m.writer_is)
-      | inr h ↦ for_write a t (state old) (state fault.writer) why (subst (λ (c : PackCause). ComesTo c t.text_line why) h.cause_is to) (front_of state a t plan old fault is (room_of a t plan is first.1.0) h)
+-- the causes that are found before anything is written, in their order
+abbrev IsCauseOf : ScriptContent → List ℕ → Plan → Option PackCause → Type 0
+IsCauseOf t trailer plan = IsFirstOf (AgainstPack t.head t.lines trailer plan) (causes.BadTrailer ∷ causes.PastAnnounced ∷ causes.ShortOfAnnounced ∷ [])
+
+unpacks_for : {W : Type 0} (state : W → Device) (a : Asked) (t : ScriptContent) (plan : Plan) (old : W) (fresh : BlockTarget W) (fault : StartFault (BlockTarget W)) (why : PackFault) (cause : Option PackCause)
+    → IsTrailer t.trailer → IsPlanOf a (object_of t) plan → fresh.writer ≡ old → IsFresh fresh → IfSome cause (λ x. StartIsRefused x fresh fault)
+    → IsCauseOf t t.trailer plan cause
+    → IfNone cause (IsPackFault (block_device state) t.fields t.head t.lines t.trailer plan fresh fault)
+    → ComesTo fault.cause t.text_line why → UnpacksTold a t (state old) (state fault.writer.writer) why
+unpacks_for state a t plan old fresh fault why (Some cause) good is same is_fresh r first f to =
+    refused_as a t plan (state old) (state fault.writer.writer) why cause good is (ap (λ b. state b.writer) r.writer_is ∙ ap state same) first.holds
+    (subst (λ (c : PackCause). ComesTo c t.text_line why) r.cause_is to)
+unpacks_for state a t plan old fresh fault why None good is same is_fresh r first f to =
+    elim f as (λ _. UnpacksTold a t (state old) (state fault.writer.writer) why) [
+      | inl m ↦ for_memory a t (state old) (state fault.writer.writer) why (subst (λ (c : PackCause). ComesTo c t.text_line why) m.cause_is to) (ap (λ b. state b.writer) m.writer_is ∙ ap state same)
+      | inr h ↦ for_write a t (state old) (state fault.writer.writer) why (subst (λ (c : PackCause). ComesTo c t.text_line why) h.cause_is to)
+          (front_of state a t plan old fresh fault same is_fresh is (room_of a t plan is first.1.0) h)
     ]
 
-pub unpacks_told : {W : Type 0} (state : W → Device) (a : Asked) (t : ScriptContent) (trailer : List ℕ) (plan : Plan) (old : W) (fault : StartFault W) (why : PackFault)
-    → trailer ≡ t.trailer → IsTrailer t.trailer → IsPlanOf a (object_of t) plan
-    → IfSome (pack_cause t.head t.lines trailer plan) (λ x. StartIsRefused x old fault)
-    → IsFirstOf (AgainstPack t.head t.lines trailer plan) (causes.BadTrailer ∷ causes.PastAnnounced ∷ causes.ShortOfAnnounced ∷ []) (pack_cause t.head t.lines trailer plan)
-    → IfNone (pack_cause t.head t.lines trailer plan) (IsPackFault state t.fields t.head t.lines trailer plan old fault)
-    → ComesTo fault.cause t.text_line why → UnpacksTold a t (state old) (state fault.writer) why
-unpacks_told state a t trailer plan old fault why e good is r first f to =
-    unpacks_for state a t plan old fault why (pack_cause t.head t.lines t.trailer plan) good is
-    (subst (λ (x : List ℕ). IfSome (pack_cause t.head t.lines x plan) (λ c. StartIsRefused c old fault)) e r)
-    (subst (λ (x : List ℕ). IsFirstOf (AgainstPack t.head t.lines x plan) (causes.BadTrailer ∷ causes.PastAnnounced ∷ causes.ShortOfAnnounced ∷ []) (pack_cause t.head t.lines x plan)) e first)
-    (subst (λ (x : List ℕ). IfNone (pack_cause t.head t.lines x plan) (IsPackFault state t.fields t.head t.lines x plan old fault)) e f)
-    to
+pub unpacks_told : {W : Type 0} (state : W → Device) (a : Asked) (t : ScriptContent) (trailer : List ℕ) (plan : Plan) (old last : W) (fresh : BlockTarget W) (fault : StartFault (BlockTarget W)) (why : PackFault)
+    → trailer ≡ t.trailer → IsTrailer t.trailer → IsPlanOf a (object_of t) plan → fresh.writer ≡ old → IsFresh fresh → last ≡ fault.writer.writer
+    → IfSome (pack_cause t.head t.lines trailer plan) (λ x. StartIsRefused x fresh fault)
+    → IsCauseOf t trailer plan (pack_cause t.head t.lines trailer plan)
+    → IfNone (pack_cause t.head t.lines trailer plan) (IsPackFault (block_device state) t.fields t.head t.lines trailer plan fresh fault)
+    → ComesTo fault.cause t.text_line why → UnpacksTold a t (state old) (state last) why
+unpacks_told state a t trailer plan old last fresh fault why e good is same is_fresh back r first f to =
+    subst (λ x. UnpacksTold a t (state old) (state x) why) (sym back)
+    (unpacks_for state a t plan old fresh fault why (pack_cause t.head t.lines t.trailer plan) good is same is_fresh
+    (subst (λ (x : List ℕ). IfSome (pack_cause t.head t.lines x plan) (λ c. StartIsRefused c fresh fault)) e r)
+    (subst (λ (x : List ℕ). IsCauseOf t x plan (pack_cause t.head t.lines x plan)) e first)
+    (subst (λ (x : List ℕ). IfNone (pack_cause t.head t.lines x plan) (IsPackFault (block_device state) t.fields t.head t.lines x plan fresh fault)) e f)
+    to)
+
+room_for : (a : Asked) (t : ScriptContent) (plan : Plan) (cause : Option PackCause) → IsPlanOf a (object_of t) plan → IfSome cause (λ _. ⊥) → IsCauseOf t t.trailer plan cause → FitsAsked a t
+room_for a t plan None is free first = room_of a t plan is first.1.0
+room_for a t plan (Some cause) is free first = absurd free
+
+-- The form was packed, and what was held of it at last did not go out whole.
+pub breaks_last : {W : Type 0} (state : W → Device) (a : Asked) (t : ScriptContent) (trailer : List ℕ) (plan : Plan) (old last : W) (fresh new : BlockTarget W) → PackedOctetsAreOne → trailer ≡ t.trailer
+    → IsPlanOf a (object_of t) plan → fresh.writer ≡ old → IsFresh fresh → IfSome (pack_cause t.head t.lines trailer plan) (λ _. ⊥)
+    → IsCauseOf t trailer plan (pack_cause t.head t.lines trailer plan) → Packs (block_device state) fresh t.fields t.head t.lines trailer plan new
+    → (out : ℕ) × Stopped (state new.writer) (state last) (held_in new) out → UnpacksTold a t (state old) (state last) (Around CannotWrite)
+breaks_last state a t trailer plan old last fresh new one e is same is_fresh free first p stop =
+    let h = subst (λ (d : Device). Wrote d (block_device state new) p.out) (fresh_device state old fresh same is_fresh) p.wrote in
+    let b = broken_off (state old).octets (state new.first.value).octets (state new.writer).octets (state last).octets (held_in new) (take stop.0 (held_in new)) (drop stop.0 (held_in new)) p.out h.0
+    (sym (take-append-drop stop.0 (held_in new))) stop.1.1 in
+    let packed = subst (λ (x : List ℕ). Packed t.fields t.head t.lines x plan p.out) e p.packed in
+    let room = room_for a t plan (pack_cause t.head t.lines t.trailer plan) is
+    (subst (λ (x : List ℕ). IfSome (pack_cause t.head t.lines x plan) (λ _. ⊥)) e free)
+    (subst (λ (x : List ℕ). IsCauseOf t x plan (pack_cause t.head t.lines x plan)) e first) in (
+      plan,
+      b.0,
+      room,
+      is,
+      (b.1, broke_later (state old) (state new.writer) (state last) h.1 stop.1.2),
+      λ form other. subst (λ (f : List ℕ). Begins b.0 f) (one t.fields t.head t.lines t.trailer plan p.out form packed other) b.2,
+    )
 
 -- ---- octets
 

@@ -7,5 +7,6 @@
 //! below them; it knows no unpacker. `iim_commands` stands on it, and the interface for C.
 #![tactic(auto)]
 
+mod blocks;
 pub mod packing;
 pub mod script;

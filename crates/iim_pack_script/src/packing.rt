@@ -9,6 +9,7 @@ ghost use Rattle.iim_output.specs.Format.Said.{IsSaid};
 ghost use Rattle.iim_output.specs.declared.fault.CommandFault.TheVariants.{OutOfMemory};
 ghost use Rattle.iim_output.specs.Format.Statuses.{status_refused};
 
+use crate::blocks::BlockTarget;
 use crate::script::read_script;
 use iim_dataset::device_laws::gifts_join;
 use iim_dataset::{BLOCK, Source, Target, take};
@@ -16,6 +17,7 @@ use iim_object::{PackCause, Plan, Size};
 use iim_output::fault::CommandFault;
 use iim_output::lines::tell;
 use iim_output::status::{ACCEPTED, REFUSED};
+use iim_pack::laws::packed_octets_are_one;
 use iim_pack::{pack, packed_size};
 pub use iim_request::pack_request::PackRequest;
 use iim_script::{MAX_SCRIPT, Script, ScriptCause, ScriptFault};
@@ -111,7 +113,7 @@ fn fault_for(cause: PackCause, text_line: u64) -> PackFault
     }
 }
 
-/// Packs what a script tells, and hands back the output.
+/// Packs what a script tells, in blocks, and hands back the output.
 fn pack_told<W: Target>(
     alloc: Global,
     request: PackRequest,
@@ -129,6 +131,8 @@ fn pack_told<W: Target>(
     let Some(plan) = plan_of(request, told) else {
         return Err((fault_for(PackCause::PastAnnounced, told.text_line), output));
     };
+    packed_octets_are_one();
+    let mut block = [0u8; BLOCK];
     match pack(
         alloc,
         &told.envelope,
@@ -136,10 +140,16 @@ fn pack_told<W: Target>(
         &told.lines,
         told.trailer.as_slice(),
         plan,
-        output,
+        BlockTarget::new(&mut block, output),
     ) {
-        Ok(output) => Ok(output),
-        Err(fault) => Err((fault_for(fault.cause, told.text_line), fault.writer)),
+        Ok(packed) => match packed.finish() {
+            Ok(output) => Ok(output),
+            Err(output) => Err((PackFault::Around(CommandFault::CannotWrite), output)),
+        },
+        Err(fault) => Err((
+            fault_for(fault.cause, told.text_line),
+            fault.writer.into_writer(),
+        )),
     }
 }
 

@@ -3,7 +3,7 @@
 //!
 //! Stands on `iim_fields`, `wire_message` and `wire_story`, which check what the lines tell. The crate above uses
 //! [`read_script`]: it answers what a script tells, or the first fault by line; and [`push_fields`], [`push_message`] and
-//! [`push_trailer`], which print the lines of one.
+//! [`push_trailer`], which print the lines of one, out of [`push_decimal`], [`push_printed`] and [`write_word`].
 #![tactic(auto)]
 
 mod fault;
@@ -20,6 +20,8 @@ mod shown;
 mod story;
 
 pub use fault::{ScriptCause, ScriptFault};
-pub use printer::{push_fields, push_message, push_printed, push_trailer};
+pub use printer::{
+    push_decimal, push_fields, push_message, push_printed, push_trailer, write_word,
+};
 pub use reading::{MAX_SCRIPT, read_script};
 pub use script::Script;

@@ -1,12 +1,14 @@
 //! The lines of a script, printed: those that `show` prints.
 
-ghost use Rattle.std.specs.Prelude.{◌≡◌, ◌++◌, ◌∷◌, IfSome, OnOk, codes};
+ghost use Rattle.std.specs.Prelude.{◌≡◌, ◌+◌, ◌≤◌, ◌++◌, ◌∷◌, length, drop, IfSome, OnOk, codes, decimal};
 ghost use Rattle.std.specs.List.{flat_map};
 ghost use Rattle.iim_dataset.specs.Format.Characters.{sp};
+ghost use Rattle.iim_dataset.specs.Format.Shown.{dataset_name};
 ghost use Rattle.iim_script.specs.Format.Printed.{after_space, field_line, message_line, trailer_line};
 
 use iim_dataset::{DatasetName, push_shown};
 use iim_fields::EnvelopeRef;
+use itoa::{Buffer, write_digits};
 use std::alloc::AllocError;
 use std::fmt::Display;
 use std::io::Write;
@@ -20,6 +22,44 @@ pub fn push_printed<D: Display + Drop>(text: &mut Vec<u8>, value: D) -> Result<(
         Ok(()) => Ok(()),
         Err(_) => Err(AllocError),
     }
+}
+
+/// Adds a number in decimal digits. An error says that memory was refused.
+pub fn push_decimal(text: &mut Vec<u8>, number: u64) -> Result<(), AllocError>
+    ensures { OnOk result (text.new.items ≡ text.old.items ++ decimal number) }
+{
+    text.extend_from_slice(Buffer::new().format(number).as_bytes())
+}
+
+/// Writes a word before a place of a line, and answers where it begins.
+#[inline(always)]
+pub fn write_word(word: &[u8], line: &mut [u8], end: usize) -> usize
+    requires { length word.now ≤ end × end ≤ length line.old }
+    ensures start { result + length word.now ≡ end }
+    ensures written { drop result line.new ≡ word.now ++ drop end line.old }
+{
+    let start = end - word.len();
+    line[start..end].copy_from_slice(word);
+    start
+}
+
+/// The most octets of the name of a dataset, or more: two numbers of up to three digits, `:` between them and a `0` before one digit.
+const NAME: usize = 8;
+
+/// Adds the name of a dataset: its record, and its number with two digits at least.
+fn push_name(text: &mut Vec<u8>, name: DatasetName) -> Result<(), AllocError>
+    ensures { OnOk result (text.new.items ≡ text.old.items ++ dataset_name name.rec name.set) }
+{
+    let mut line = [0; NAME];
+    let digits = write_digits(u64::from(name.set), &mut line, NAME);
+    let number = if name.set < 10 {
+        write_word(b"0", &mut line, digits)
+    } else {
+        digits
+    };
+    let colon = write_word(b":", &mut line, number);
+    let record = write_digits(u64::from(name.rec), &mut line, colon);
+    text.extend_from_slice(&line[record..])
 }
 
 /// Adds a space and the octets as they are shown, or nothing where there are none.
@@ -38,7 +78,7 @@ fn push_field(text: &mut Vec<u8>, name: DatasetName, octets: &[u8]) -> Result<()
     ensures { OnOk result (text.new.items ≡ text.old.items
         ++ field_line (record { rec = name.rec; set = name.set; octets = octets.now })) }
 {
-    push_printed(text, name)?;
+    push_name(text, name)?;
     push_after_space(text, octets)?;
     text.push(b'\n')?;
     Ok(())

@@ -1,3 +1,4 @@
+pub mod LaneLemmas
 pub mod DateLemmas
 pub mod InstantLemmas
 pub mod RowLemmas

@@ -1,2 +1,3 @@
 -- What octets are, and what is said of them.
 pub mod Format
+pub mod Text

@@ -85,6 +85,7 @@ pub fn date_of(octets: &[u8]) -> Option<Date>
 }
 
 /// Whether the octets are a full date.
+#[inline(never)]
 pub(crate) fn is_date(octets: &[u8]) -> bool
     ensures { result ≡ is_date octets.now }
 {
@@ -92,6 +93,7 @@ pub(crate) fn is_date(octets: &[u8]) -> bool
 }
 
 /// Whether the octets are a date whose month or day may be missing.
+#[inline(never)]
 pub(crate) fn is_part_date(octets: &[u8]) -> bool
     ensures { result ≡ is_part_date octets.now }
 {

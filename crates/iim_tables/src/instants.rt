@@ -28,6 +28,7 @@ fn is_clock(hour: u16, minute: u16, second: u16) -> bool
 }
 
 /// Whether the octets are a time of day with its offset.
+#[inline(never)]
 pub(crate) fn is_time(octets: &[u8]) -> bool
     ensures { result ≡ is_time octets.now }
 {

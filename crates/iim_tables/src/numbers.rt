@@ -20,8 +20,12 @@ pub fn number_of(octets: &[u8]) -> Option<u64>
     ensures exactly { IsSome result ↔ IsInRange 1 size_octets (length octets.now) }
     ensures value { IfSome result (λ n. n ≡ number octets.now) }
 {
-    if octets.is_empty() || octets.len() > SIZE_OCTETS {
-        return None;
+    // Most numbers have one, two or four octets. These are read where they lie, and others from a copy.
+    match octets.len() {
+        1 => Some(u64::from(octets[0])),
+        2 => Some(u64::from(BigEndian::read_u16(octets))),
+        4 => Some(u64::from(BigEndian::read_u32(octets))),
+        count if count == 0 || count > SIZE_OCTETS => None,
+        count => Some(BigEndian::read_uint(octets, count)),
     }
-    Some(BigEndian::read_uint(octets, octets.len()))
 }

@@ -100,7 +100,8 @@ macro_rules! row_in_table {
 
 /// The row of a dataset, where it lies.
 #[tactic(auto, unfolding(crate::specs::Format::Rows::row_of, crate::specs::Format::Rows::table))]
-fn line(rec: u8, set: u8) -> Option<&'static Row>
+#[inline(always)]
+pub fn line(rec: u8, set: u8) -> Option<&'static Row>
     ensures { MatchOption result (row_of rec set ≡ None) (λ row. row_of rec set ≡ Some row.now) }
 {
     row_in_table!((rec, set))

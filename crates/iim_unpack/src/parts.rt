@@ -115,19 +115,17 @@ fn answer(taken: bool, step: Step) -> Option<Step>
     if taken { Some(step) } else { None }
 }
 
-/// The object after its end and the number of 9:10 that these octets spell; or None where the message isn't whole, or the object layer
-/// dies with one of them, or they spell no number.
+/// Whether the message is whole, and the object lives with its end and the number of 9:10 that these octets spell.
 #[inline(always)]
-fn ended(object: &ObjectReader, message: &MessageReader, octets: &[u8]) -> Option<ObjectReader>
+fn may_end(object: &ObjectReader, message: &MessageReader, octets: &[u8]) -> bool
     requires { IsSome object.now }
-    ensures whole { IfSome result (λ reader. IsWhole message.now) }
-    ensures takes_calls { IfSome result IsSome }
-    ensures ends { IfSome result (λ reader. EndsAs object.now (number octets.now) reader) }
+    ensures whole { IsTrue result → IsWhole message.now }
+    ensures ends { IsTrue result → EndsAs object.now (number octets.now) object.now }
 {
-    if !message.is_whole() {
-        return None;
+    match number_of(octets) {
+        Some(number) => message.is_whole() && object.may_end(number),
+        None => false,
     }
-    object.with_end(number_of(octets)?)
 }
 
 impl Parts {
@@ -163,12 +161,13 @@ impl Parts {
     }
 
     /// Takes a whole dataset of record 7; or changes nothing.
-    fn whole_number(&mut self, head: Head, octets: &[u8]) -> bool
+    #[inline(never)]
+    fn whole_number(&mut self, set: u8, count: u64, octets: &[u8]) -> bool
         requires takes { TakesHead self.old }
-        requires number { head.rec ≡ 7 }
-        requires count { head.count ≡ length octets.now }
+        requires count { count ≡ length octets.now }
         ensures takes { TakesHead self.new }
-        ensures whole { IsTrue result → TellsWhole self.old head octets.now self.new }
+        ensures whole { IsTrue result
+            → TellsWhole self.old (record { rec = 7; set = set; count = count }) octets.now self.new }
         ensures left { result ≡ false → self.new ≡ self.old }
         ensures room { room_of self.new.fields ≡ room_of self.old.fields }
     {
@@ -176,35 +175,34 @@ impl Parts {
         let Some(number) = number_of(octets) else {
             return false;
         };
-        let Some(object) = self.object.with_number(head.set, number) else {
-            return false;
-        };
-        if !self.fields.whole_number(head, octets) {
+        if !self.object.accepts_number(set, number) {
             return false;
         }
-        self.object = object;
+        let rec = PRE_OBJECT;
+        if !self.fields.whole_number(Head { rec, set, count }, octets) {
+            return false;
+        }
+        self.object.put_number(set, number);
         true
     }
 
     /// Takes a whole 9:10, with which the envelope ends; or changes nothing.
-    fn whole_end(&mut self, head: Head, octets: &[u8]) -> bool
+    #[inline(never)]
+    fn whole_end(&mut self, set: u8, count: u64, octets: &[u8]) -> bool
         requires takes { TakesHead self.old }
-        requires number { head.rec ≡ 9 }
-        requires count { head.count ≡ length octets.now }
+        requires count { count ≡ length octets.now }
         ensures ended { IsTrue result → HasEnded self.new }
-        ensures whole { IsTrue result → TellsWhole self.old head octets.now self.new }
+        ensures whole { IsTrue result
+            → TellsWhole self.old (record { rec = 9; set = set; count = count }) octets.now self.new }
         ensures left { result ≡ false → self.new ≡ self.old }
         ensures room { room_of self.new.fields ≡ room_of self.old.fields }
     {
         close_laws();
-        let Some(object) = ended(&self.object, &self.message, octets) else {
-            return false;
-        };
-        if !self.fields.whole_number(head, octets) {
+        if !may_end(&self.object, &self.message, octets) {
             return false;
         }
-        self.object = object;
-        true
+        let rec = POST_OBJECT;
+        self.fields.whole_number(Head { rec, set, count }, octets)
     }
 
     /// Takes a whole dataset of record 1 or 2; or changes nothing.
@@ -243,16 +241,13 @@ impl Parts {
         head_laws();
         message_laws();
         close_laws();
-        if !may_begin(self.object.subfiles()) {
+        if !self.object.accepts_subfile(head.count) {
             return Ok(None);
         }
-        let Some(object) = self.object.with_subfile(head.count) else {
-            return Ok(None);
-        };
         if !self.fields.whole_subfile(head) {
             return Ok(None);
         }
-        self.object = object;
+        self.object.put_subfile(head.count);
         match pass_octets(&mut self.object, &mut self.message, octets, sink) {
             Ok(()) => Ok(Some(Step::More)),
             Err(fault) => Err(halt_on(head, fault)),
@@ -281,8 +276,8 @@ impl Parts {
     {
         match head.rec {
             OBJECT => self.whole_subfile(head, octets, sink),
-            POST_OBJECT => Ok(answer(self.whole_end(head, octets), Step::Last)),
-            PRE_OBJECT => Ok(answer(self.whole_number(head, octets), Step::More)),
+            POST_OBJECT => Ok(answer(self.whole_end(head.set, head.count, octets), Step::Last)),
+            PRE_OBJECT => Ok(answer(self.whole_number(head.set, head.count, octets), Step::More)),
             _ => Ok(answer(self.whole_field(head, octets), Step::More)),
         }
     }

@@ -7,6 +7,7 @@ pub mod Pieces
 pub mod MadeTexts
 pub mod Marked
 pub mod Words
+pub mod Blanks
 pub mod Calm
 pub mod Fronts
 pub mod LineEnds

@@ -201,6 +201,22 @@ calm_after xs fits at left le front h more stands s next is digits =
     subst (λ (k : ℕ). (k ≤ length xs) × (list_all is_line_octet (take k xs) ≡ true) × AreMarks (drop k xs) (record { left = next })) e
     (calm_to xs fits (at + 1) (left / 2 ^ 1) (omega (arith, within)) line marks s next is digits)
 
+-- the marks of the last sixteen octets, after those before `at`
+pub marks_last : (xs : List ℕ) (at mask : ℕ) → 16 ≤ length xs → at ≤ length xs → length xs ≤ at + 16
+    → mask ≡ mask_l (map is_low (take 16 (drop (length xs - 16) xs))) → AreMarks (drop at xs) (record { left = (mask + 65536) / 2 ^ (at - (length xs - 16)) })
+marks_last xs at mask room within near is =
+    let start = length xs - 16 in
+    let s = at - start in
+    let e : start + s ≡ at = omega arith in
+    let h : AreMarks (drop start xs) (record { left = mask + 65536 }) = record {
+      many = 16;
+      within = omega (arith, length-drop start xs);
+      few = omega arith;
+      is = ap (λ n. n + 65536) is;
+    } in
+    subst (λ (ys : List ℕ). AreMarks ys (record { left = (mask + 65536) / 2 ^ s })) (drop-drop s start xs ∙ ap (λ n. drop n xs) e)
+    (marks_after (drop start xs) (record { left = mask + 65536 }) h s (omega arith))
+
 -- they tell of no more octets than are tested at once
 pub calm_few : (xs : List ℕ) (m : Marks) (h : AreMarks xs m) → count_trailing_zeros 64 m.left ≤ 16
 calm_few xs m h = omega (arith, (lowest_low xs m h).0, h.few)

@@ -154,7 +154,7 @@ longest_runs line = record {
 
 -- ---- what is told
 
-told_last : (inside : Bool) (line : List ℕ) → words_told inside (map LineOctet line) ≡ words_begun inside line
+pub told_last : (inside : Bool) (line : List ℕ) → words_told inside (map LineOctet line) ≡ words_begun inside line
 told_last inside [] = refl
 told_last inside (b ∷ xs) = let more : words_told (is_word_octet b) (map LineOctet xs) ≡ words_begun (is_word_octet b) xs = told_last (is_word_octet b) xs in omega (arith, more)
 

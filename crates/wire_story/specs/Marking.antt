@@ -1,12 +1,17 @@
 -- Masks of octets: which of those that come next may be marks.
-use Rattle.std.specs.Prelude.{◌≡◌, ℕ, ◌+◌, ◌-◌, ◌^◌, ◌<◌, ◌≤◌, Bool, nat_lt, List, length, take, drop, map}
+use Rattle.std.specs.Prelude.{◌≡◌, ℕ, ◌+◌, ◌-◌, ◌^◌, ◌<◌, ◌≤◌, Bool, not, nat_lt, List, length, take, drop, map}
 use Rattle.std.specs.Simd.Lanes.{mask_l}
 use Rattle.wire_story.specs.declared.marks.Marks.{Marks}
 use Rattle.wire_story.specs.Format.Texts.{max_returns, line_end}
+use Rattle.wire_story.specs.Format.Words.{is_word_octet}
 
 -- It is below the octets that are surely no marks.
 abbrev pub is_low : ℕ → Bool
 is_low b = nat_lt b 14
+
+-- SP or TAB
+abbrev pub is_blank : ℕ → Bool
+is_blank b = not (is_word_octet b)
 
 -- The marks tell of the next octets, `many` of them: a digit for each, and one that is set after those.
 pub record AreMarks (xs : List ℕ) (m : Marks) : Type 0 where

@@ -35,25 +35,6 @@ fn mask_of(block: &[u8]) -> u64
     octets.simd_lt(u8x16::splat(LEAST_CALM)).to_bitmask()
 }
 
-/// The length of the longest front that lies in one line, where the first `from` octets do.
-#[inline(always)]
-fn tail_len(from: usize, octets: &[u8]) -> usize
-    requires within { from ≤ length octets.now }
-    requires line { IsLine (take from octets.now) }
-    ensures within { result ≤ length octets.now }
-    ensures line { IsLine (take result octets.now) }
-    ensures longest { result < length octets.now → is_line_octet (slice_index octets.now result) ≡ false }
-{
-    let mut at = from;
-    while at < octets.len() {
-        if !may_stand(octets[at]) {
-            return at;
-        }
-        at += 1;
-    }
-    at
-}
-
 /// How many octets stand before the lowest digit that is set, and the digits from that one on.
 #[inline(always)]
 fn calm_before(left: u64) -> (usize, u64)
@@ -63,6 +44,44 @@ fn calm_before(left: u64) -> (usize, u64)
 {
     let calm = left.trailing_zeros() as usize;
     (calm, left >> calm)
+}
+
+/// Where the first mark stands after the first `from` octets, by the last block, which overlaps them, or where the octets end.
+#[inline(always)]
+fn tail_calm(from: usize, octets: &[u8]) -> usize
+    requires room { 16 ≤ length octets.now }
+    requires within { from ≤ length octets.now }
+    requires near { length octets.now ≤ from + 16 }
+    requires line { IsLine (take from octets.now) }
+    ensures within { result ≤ length octets.now }
+    ensures line { IsLine (take result octets.now) }
+{
+    let start = octets.len() - BLOCK;
+    let mask = mask_of(&octets[start..]);
+    let (calm, _) = calm_before((mask + END) >> (from - start));
+    from + calm
+}
+
+/// The length of the longest front that lies in one line, where the first `from` octets do.
+#[inline(always)]
+pub(crate) fn tail_len(from: usize, octets: &[u8]) -> usize
+    requires within { from ≤ length octets.now }
+    requires line { IsLine (take from octets.now) }
+    ensures within { result ≤ length octets.now }
+    ensures line { IsLine (take result octets.now) }
+    ensures longest { result < length octets.now → is_line_octet (slice_index octets.now result) ≡ false }
+{
+    let mut at = from;
+    if octets.len() >= BLOCK && octets.len() - from < BLOCK {
+        at = tail_calm(from, octets);
+    }
+    while at < octets.len() {
+        if !may_stand(octets[at]) {
+            return at;
+        }
+        at += 1;
+    }
+    at
 }
 
 /// Where the first mark stands after the first `from` octets, and the digits from it on, or where the last whole block ends.

@@ -7,7 +7,7 @@ ghost use Rattle.wire_story.specs.States.Reading.{TakesPiece, RefusesOne};
 ghost use Rattle.wire_story.specs.Marking.{AreMarks, IsTextFront, StartsLineEnd};
 
 use crate::fault::{TextCause, TextFault};
-use crate::marks::{BLOCK, Marks};
+use crate::marks::{BLOCK, Marks, tail_len};
 use crate::sink::StorySink;
 use iim_dataset::octets::{CR, LF};
 
@@ -319,6 +319,12 @@ pub(crate) fn take_piece<S: StorySink>(
     ensures refused { IfErr result (λ fault.
         RefusesOne S.goes S.failures (Some held) piece.now fault sink.old sink.new) }
 {
+    if held == 0 && piece.len() < BLOCK && tail_len(0, piece) == piece.len() {
+        return match take_run(0, piece.len(), piece, sink) {
+            Ok(()) => Ok(0),
+            Err(fault) => Err(fault),
+        };
+    }
     let mut now = held;
     let mut at = 0;
     let mut marks = Marks::new();

@@ -64,9 +64,15 @@ abbrev pub BreaksInText : Device → Device → List Listed → List ℕ → Typ
 BreaksInText old new envelopes octets = (k : ℕ) × (words : List ℕ) × (rest : List ℕ) × (k ≤ length octets) × (k ≡ length octets → rest ≡ [] → AreEnvelope octets)
     × IsTextIn (take k octets) (words ++ rest) × Appends old.octets new.octets (stories envelopes ++ words) × HasBroken old new
 
--- The errors broke inside these lines, after these words.
+-- Of the envelopes whose stories are out some, from the first on, are told on the errors, each with its whole line.
+abbrev pub TellsFront : Device → Device → List Listed → Type 0
+TellsFront errors_old errors_new envelopes = (front : List Listed) × (others : List Listed) × (envelopes ≡ front ++ others)
+    × Wrote errors_old errors_new (texts_from line_of 1 front)
+
+-- The errors broke inside these lines, after these words, which are the text in the first k of the octets after the envelopes; or the
+-- lines have the one for what follows the envelopes.
 abbrev pub AreToldWith : List Listed → List ℕ → List ℕ → List ℕ → Type 0
-AreToldWith envelopes rest told words = ((told ≡ texts_from line_of 1 envelopes) × (words ≡ []))
+AreToldWith envelopes rest told words = ((told ≡ texts_from line_of 1 envelopes) × (k : ℕ) × IsTextIn (take k rest) words)
     ⊎ ((ending : InputEnding) × EndsBy limits (length envelopes) rest ending × LeavesText rest ending words × (told ≡ listing line_of envelopes ending))
 
 abbrev pub BreaksInLines : Device → Device → Device → Device → List Listed → List ℕ → Type 0
@@ -74,8 +80,9 @@ BreaksInLines old new errors_old errors_new envelopes rest = (told : List ℕ) �
     × Wrote old new (stories envelopes ++ words) × Stopped errors_old errors_new told n
 
 -- Why not all is told. A read failed after envelopes and octets that every layer can continue from. Or the output broke inside a story,
--- or the errors inside their lines. Or memory was short: the stories of some of the envelopes that came are out, and of octets
--- after them the text in the first k.
+-- which may be that of an earlier envelope than the one that came last: the lines that were held are lost then, and no line is told
+-- before its story is out. Or the errors broke inside their lines, when all that came of the stories was out. Or memory was short: the
+-- stories of some of the envelopes that came are out, and of octets after them the text in the first k.
 abbrev pub IsUnnarrated : Device → Device → Device → Device → Device → Device → CommandFault → Type 0
 IsUnnarrated source rest old new errors_old errors_new CannotRead =
     (input : List ℕ) × (envelopes : List Listed) × (begun : List ℕ) × (fault : IoFault) × (words : List ℕ)
@@ -83,7 +90,7 @@ IsUnnarrated source rest old new errors_old errors_new CannotRead =
     × Wrote old new (stories envelopes ++ words) × Wrote errors_old errors_new (texts_from line_of 1 envelopes)
 IsUnnarrated source rest old new errors_old errors_new CannotWrite =
     (input : List ℕ) × (envelopes : List Listed) × (begun : List ℕ) × Divides limits input envelopes begun × HasGiven source rest input
-    × ((BreaksInText old new envelopes begun × Wrote errors_old errors_new (texts_from line_of 1 envelopes))
+    × ((BreaksInText old new envelopes begun × TellsFront errors_old errors_new envelopes)
     ⊎ BreaksInLines old new errors_old errors_new envelopes begun)
 IsUnnarrated source rest old new errors_old errors_new OutOfMemory =
     (input : List ℕ) × (envelopes : List Listed) × (begun : List ℕ) × (k : ℕ) × (words : List ℕ)

@@ -1,10 +1,12 @@
 //! The reader of an object.
 
-ghost use Rattle.std.specs.Prelude.{◌≡◌, ◌↔◌, [], ◌∷◌, ℕ, List, Option, is_none, length, map, sum, Some, None, IsSome, IfSome, IfNone, IfErr, OnOk, OnErr};
+ghost use Rattle.std.specs.Prelude.{◌≡◌, ◌↔◌, ◌<◌, false, IsTrue, [], ◌∷◌, ℕ, List, Option, is_none, length, map, sum, Some, None, IsSome, IfSome, IfNone, IfErr, OnOk, OnErr};
 ghost use Rattle.std.specs.Option.{ForSome};
 ghost use Rattle.iim_dataset.specs.Format.Datasets.{Dataset};
 ghost use Rattle.iim_object.specs.declared.reading.state.State.{State};
 ghost use Rattle.iim_object.specs.States.KeptNumbers.{IsState, state_numbers};
+ghost use Rattle.iim_object.specs.States.Changes.{AcceptsNumber, AcceptsSubfile};
+ghost use Rattle.iim_object.specs.Format.Plans.{max_subfiles};
 ghost use Rattle.iim_object.specs.Format.Events.{ObjectOctet, ObjectEnd};
 ghost use Rattle.iim_object.specs.Format.Objects.{NumberRead, SubfileBegun, ObjectEnded};
 ghost use Rattle.iim_object.specs.Format.Places.{Place, ConfirmedAs, place_start, value_token, head_token};
@@ -153,6 +155,76 @@ impl ObjectReader {
         match take_confirmed(ended, number) {
             Ok(state) => Some(ObjectReader { state: Some(state) }),
             Err(_cause) => None,
+        }
+    }
+
+    /// Whether a number of dataset 7:`set` may come, and the object layer lives with it. The reader has not failed.
+    #[inline(always)]
+    pub fn accepts_number(&self, set: u8, number: u64) -> bool
+        requires { IsSome self.now }
+        ensures exactly { IsTrue result ↔ AcceptsNumber self.now set number }
+        ensures refused { result ≡ false → (cause : SizeCause) × Refuses self.now (NumberRead set number) cause }
+    {
+        match &self.state {
+            Some(state) => state.accepts_number(set, number),
+            None => unreachable!(),
+        }
+    }
+
+    /// Takes a number of dataset 7:`set` that the reader accepts.
+    #[inline(always)]
+    pub fn put_number(&mut self, set: u8, number: u64)
+        requires takes_calls { IsSome self.old }
+        requires accepts { AcceptsNumber self.old set number }
+        ensures takes_calls { IsSome self.new }
+        ensures leads_on { LeadsOn self.old (NumberRead set number) self.new }
+    {
+        match &mut self.state {
+            Some(state) => state.set_number(set, number),
+            None => unreachable!(),
+        }
+    }
+
+    /// Whether the head of a subfile of `count` octets may come, not one too many, and the object layer lives with it. The reader has
+    /// not failed.
+    #[inline(always)]
+    pub fn accepts_subfile(&self, count: u64) -> bool
+        requires { IsSome self.now }
+        ensures exactly { IsTrue result ↔ AcceptsSubfile self.now count }
+        ensures few { IsTrue result → (p : Place) → StandsAt self.now p → length p.lengths < max_subfiles }
+        ensures refused { result ≡ false → (cause : SizeCause) × Refuses self.now (SubfileBegun count) cause }
+    {
+        match &self.state {
+            Some(state) => state.accepts_subfile(count),
+            None => unreachable!(),
+        }
+    }
+
+    /// Takes the head of a subfile of `count` octets that the reader accepts.
+    #[inline(always)]
+    pub fn put_subfile(&mut self, count: u64)
+        requires takes_calls { IsSome self.old }
+        requires accepts { AcceptsSubfile self.old count }
+        ensures takes_calls { IsSome self.new }
+        ensures leads_on { LeadsOn self.old (SubfileBegun count) self.new }
+    {
+        match &mut self.state {
+            Some(state) => state.add_subfile(count),
+            None => unreachable!(),
+        }
+    }
+
+    /// Whether the object layer lives with the end of the object and this number of 9:10 after it, the confirmed size: then both lead
+    /// the reader to where it is. It has not failed.
+    #[inline(always)]
+    pub fn may_end(&self, number: u64) -> bool
+        requires { IsSome self.now }
+        ensures ends { IsTrue result → EndsAs self.now number self.now }
+        ensures refused { result ≡ false → RefusesToEnd self.now number }
+    {
+        match &self.state {
+            Some(state) => state.end_cause().is_none() && state.confirmed_cause(number).is_none(),
+            None => unreachable!(),
         }
     }
 

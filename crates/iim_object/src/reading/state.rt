@@ -4,7 +4,7 @@ ghost use Rattle.std.specs.Prelude.{◌≡◌, ◌↔◌, ◌+◌, ◌^◌, ◌<
 ghost use Rattle.iim_dataset.specs.Format.Octets.{greatest_u64};
 ghost use Rattle.iim_object.specs.Format.Sizes.{mode_number};
 ghost use Rattle.iim_object.specs.States.KeptNumbers.{HasNumbers, HasSubfiles, IsState, state_numbers};
-ghost use Rattle.iim_object.specs.StateChanges.{TakesNumber, TakesSubfile, state_start, state_with};
+ghost use Rattle.iim_object.specs.States.Changes.{FitsNumber, FitsSubfile, TakesNumber, TakesSubfile, state_start, state_with};
 ghost use Rattle.iim_object.specs.Format.Causes.{is_given, is_above, number_cause, bound, is_past, subfile_cause, end_cause, confirmed_cause};
 
 use crate::plan::MAX_SUBFILES;
@@ -160,20 +160,39 @@ impl State {
         self.has_subfiles()
     }
 
+    /// Sets the number of a dataset of record 7.
+    #[inline(always)]
+    pub(crate) fn set_number(&mut self, set: u8, number: u64)
+        ensures { self.new ≡ state_with self.old set number }
+    {
+        match set {
+            SIZE_MODE => self.mode = Some(number),
+            MAX_SUBFILE_SIZE => self.subfile = Some(number),
+            ANNOUNCED_SIZE => self.announced = Some(number),
+            MAXIMUM_SIZE => self.maximum = Some(number),
+            _ => {}
+        }
+    }
+
     /// With the number of a dataset of record 7.
     #[inline(always)]
     pub(crate) fn with_number(self, set: u8, number: u64) -> State
         ensures { result ≡ state_with self set number }
     {
         let mut new = self;
-        match set {
-            SIZE_MODE => new.mode = Some(number),
-            MAX_SUBFILE_SIZE => new.subfile = Some(number),
-            ANNOUNCED_SIZE => new.announced = Some(number),
-            MAXIMUM_SIZE => new.maximum = Some(number),
-            _ => {}
-        }
+        new.set_number(set, number);
         new
+    }
+
+    /// Counts a subfile of `count` octets.
+    #[inline(always)]
+    pub(crate) fn add_subfile(&mut self, count: u64)
+        requires subfiles { self.old.subfiles < greatest_u64 }
+        requires total { self.old.total + count < 2 ^ 64 }
+        ensures { self.new ≡ record self.old { subfiles = self.old.subfiles + 1; total = self.old.total + count } }
+    {
+        self.subfiles += 1;
+        self.total += count;
     }
 
     /// With a subfile of `count` octets.
@@ -183,11 +202,9 @@ impl State {
         requires total { self.total + count < 2 ^ 64 }
         ensures { result ≡ record self { subfiles = self.subfiles + 1; total = self.total + count } }
     {
-        State {
-            subfiles: self.subfiles + 1,
-            total: self.total + count,
-            ..self
-        }
+        let mut new = self;
+        new.add_subfile(count);
+        new
     }
 
     /// Whether a number of record 7 may come: no subfile has come, and its row allows the number.
@@ -276,5 +293,32 @@ impl State {
             return None;
         }
         Some(SizeCause::ConfirmedWrong)
+    }
+
+    /// Whether a number of record 7 may come, and no number clashes with it.
+    #[inline(always)]
+    pub(crate) fn accepts_number(&self, set: u8, number: u64) -> bool
+        requires { HasNumbers self.now }
+        ensures { IsTrue result ↔ FitsNumber self.now set number }
+    {
+        if !self.takes_number(set, number) {
+            return false;
+        }
+        match set {
+            SIZE_MODE => number != UNKNOWN || self.announced.is_none(),
+            ANNOUNCED_SIZE => {
+                !is_given(self.mode, UNKNOWN) && !is_above(Some(number), self.maximum)
+            }
+            MAXIMUM_SIZE => !is_above(self.announced, Some(number)),
+            _ => true,
+        }
+    }
+
+    /// Whether a subfile may come, and nothing is wrong with one of `count` octets.
+    #[inline(always)]
+    pub(crate) fn accepts_subfile(&self, count: u64) -> bool
+        ensures { IsTrue result ↔ FitsSubfile self.now count }
+    {
+        self.takes_subfile() && self.subfile_cause(count).is_none()
     }
 }

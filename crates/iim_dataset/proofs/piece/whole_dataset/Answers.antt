@@ -1,11 +1,12 @@
-use Rattle.std.proofs.Common.{arith}
-use Rattle.iim_dataset.proofs.Wholes.{found_tag, whole_front}
+use Rattle.std.proofs.Common.{◌*◌, ◌+◌, ap, take, ◌∙◌, arith}
+use Rattle.std.proofs.lemmas.List.{take_rest}
+use Rattle.iim_dataset.proofs.Wholes.{standard_front}
 use Rattle.iim_dataset.proofs.piece.whole_dataset.Goals as goal
-use Rattle.iim_dataset.proofs.OctetLists.{are_octets}
 
-pub returns-else-after-head : goal.returns-else-after-head
-returns-else-after-head c =
+pub returns-else-after-count : goal.returns-else-after-count
+returns-else-after-count c =
     let rest = c.args.rest.now in
-    whole_front rest c.in-Ok-Some.head c.in-Ok-Some.length c.split_at.result.0.now c.split_at.result.1.now c.split_at-in-Ok-Some.result.0.now (are_octets rest (λ i. omega (arith, c.type_inv.rest i)))
-    (found_tag rest c.in-Ok-Some.field-0 c.in-Ok-Some.head c.in-Ok-Some.length c.in-Ok-Some.field-0-is c.in-Ok-Some.ensures.found) c.split_at.ensures.back c.split_at.ensures.front_len
-    c.split_at-in-Ok-Some.ensures.front c.split_at-in-Ok-Some.ensures.front_len (omega (arith, c.split_at.ensures.back_len, c.if-after-head.false))
+    let high = c.from.result in
+    let low = c.from-in-len5-up.result in
+    standard_front rest high low c.split_at.result.0.now (λ i. omega (arith, c.type_inv.rest i)) (omega arith) c.if-marker-eq-TAG_MARKER.true c.if-high-lt-EXTENDED.true c.from.ensures
+    c.from-in-len5-up.ensures (c.split_at.ensures.front ∙ ap (take (high * 256 + low)) (take_rest rest 5))

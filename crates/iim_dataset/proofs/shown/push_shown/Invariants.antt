@@ -1,7 +1,10 @@
-use Rattle.std.proofs.Common.{◌≡◌, ◌++◌, take}
-use Rattle.std.specs.List.{flat_map}
-use Rattle.iim_dataset.specs.Format.Shown.{shown_octet}
+use Rattle.std.proofs.Common.{◌≡◌, ◌++◌, length}
+use Rattle.iim_dataset.specs.Format.Shown.{shown}
 use Rattle.iim_dataset.proofs.shown.push_shown.Given as goal
 
-abbrev pub invariant-loop-octet : goal.invariant-loop-octet
-invariant-loop-octet l = l.text.items ≡ l.fn.text.items ++ flat_map shown_octet (take l.octet-index l.octets)
+-- what is there and the rest, shown, are what there was and all, shown
+abbrev pub invariant-showing : goal.invariant-showing
+invariant-showing l = l.text.items ++ shown l.rest ≡ l.fn.text.items ++ shown l.fn.octets
+
+abbrev pub decreases-showing : goal.decreases-showing
+decreases-showing l = length l.rest

@@ -1,6 +1,20 @@
-use Rattle.std.proofs.Common.{sym, ◌∙◌}
-use Rattle.iim_fields.proofs.Table.{file_format_length}
+use Rattle.std.proofs.Common.{Bool, ◌&&◌, ap, sym, ◌∙◌}
+use Rattle.iim_tables.specs.Format.Records.{has_file_format}
+use Rattle.iim_fields.specs.Format.Values.{data_of}
+use Rattle.iim_fields.proofs.Table.{file_format_length, fault_in_bounds}
 use Rattle.iim_fields.proofs.value.is_value.Goals as goal
 
 pub has_file_format-requires : goal.has_file_format-requires
-has_file_format-requires c = file_format_length c.args.head c.args.row.now c.args.octets.now c.requires (sym c.admits.ensures ∙ c.if-admits.true)
+has_file_format-requires c = file_format_length c.args.head c.args.row.now c.args.octets.now c.requires.row c.requires.bounds
+
+pub returns-then-has_kind : goal.returns-then-has_kind
+returns-then-has_kind c =
+    c.has_file_format.ensures
+    ∙ (sym (ap (λ (b : Bool). b && has_file_format (data_of c.args.head c.args.octets.now)) (sym c.has_kind.ensures ∙ c.if-has_kind.true))
+    ∙ fault_in_bounds c.args.head c.args.row.now c.args.octets.now c.requires.row c.requires.bounds)
+
+pub returns-else-has_kind : goal.returns-else-has_kind
+returns-else-has_kind c =
+    c.if-has_kind.false
+    ∙ (sym (ap (λ (b : Bool). b && has_file_format (data_of c.args.head c.args.octets.now)) (sym c.has_kind.ensures ∙ c.if-has_kind.false))
+    ∙ fault_in_bounds c.args.head c.args.row.now c.args.octets.now c.requires.row c.requires.bounds)

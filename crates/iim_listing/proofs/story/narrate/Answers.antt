@@ -4,8 +4,8 @@ use Rattle.iim_unpack.specs.States.Intakes.{in_line}
 use Rattle.wire_story.specs.States.Writing.{device_of}
 use Rattle.iim_listing.specs.Format.Narration.{IsUnnarrated}
 use Rattle.iim_output.specs.declared.fault.CommandFault.TheVariants.{OutOfMemory}
-use Rattle.iim_output.proofs.Holding.{between}
 use Rattle.iim_listing.proofs.Narration.{nothing_told}
+use Rattle.iim_listing.proofs.Narrators.{between}
 use Rattle.iim_listing.proofs.story.narrate.Goals as goal
 
 pub returns-in-Err-clause-err : goal.returns-in-Err-clause-err
@@ -20,12 +20,12 @@ returns-in-Err-clause-err g c =
 
 pub returns-in-Ok-clause-err : goal.returns-in-Ok-clause-err
 returns-in-Ok-clause-err g c =
-    let state = device_of g.W.Target.state in
     let source = in_line g.R.Source.state c.args.intake.now in
     let rest = in_line g.R.Source.state c.tell_stories-answer.new.intake in
-    let errors_old = g.E.Target.state c.args.errors.now in
-    let errors_new = g.E.Target.state c.tell_stories-answer.new.errors in
     let answer = c.tell_stories-answer.result in
-    let name = ap (λ r. r.ghost_name) c.into_writer.ensures ∙ c.tell_stories-answer.ensures.same ∙ ap (λ r. r.ghost_name) c.in-Ok.ensures.writer in
-    between state (λ (d e : Device). IfErr answer (IsUnnarrated source rest d e errors_old errors_new)) c.in-Ok.made c.tell_stories-answer.new.output _ c.into_writer.result
-    c.in-Ok.ensures.writer c.into_writer.ensures (search rules) c.tell_stories-answer.ensures.err
+    let back = c.into_targets-output.result in
+    let lent = c.new-narrator.ensures.output in
+    let name = ap (λ r. r.ghost_name) c.into_targets-output.ensures.output ∙ c.tell_stories-answer.ensures.same.0 ∙ ap (λ b. b.writer.ghost_name) lent ∙ ap (λ r. r.ghost_name) c.in-Ok.ensures.writer in
+    let errors-name = ap (λ r. r.ghost_name) c.into_targets-output.ensures.errors ∙ c.tell_stories-answer.ensures.same.1 ∙ ap (λ r. r.ghost_name) c.new-narrator.ensures.errors in
+    between (device_of g.W.Target.state) g.E.Target.state (λ (d e f h : Device). IfErr answer (IsUnnarrated source rest d e f h)) c.new-narrator.result c.tell_stories-answer.new.narrator _ back.0 _ back.1
+    (ap (λ b. b.writer) lent ∙ c.in-Ok.ensures.writer) c.into_targets-output.ensures.output c.new-narrator.ensures.errors c.into_targets-output.ensures.errors (search rules) (search rules) c.tell_stories-answer.ensures.err

@@ -19,21 +19,21 @@ pub loop-at-preserved : goal.loop-at-preserved
 loop-at-preserved g c =
     let piece = c.args.piece.now in
     let at = c.loop-at.at in
-    let front = c.in-Ok.ensures.front in
-    let k = c.in-Ok.used in
+    let front = c.in-Ok-take_fronts.ensures.front in
+    let k = c.in-Ok-take_fronts.used in
     record {
       few = front.few;
       within = omega (arith, front.within, ap length (take_rest piece at), length-drop at piece);
-      marks = subst (λ (xs : List ℕ). AreMarks xs c.in-Ok.after) (ap (drop k) (take_rest piece at) ∙ drop-drop k at piece) front.next;
+      marks = subst (λ (xs : List ℕ). AreMarks xs c.in-Ok-take_fronts.after) (ap (drop k) (take_rest piece at) ∙ drop-drop k at piece) front.next;
       taken =
-          takes_both g.S.StorySink.goes g.S.StorySink.failures g.met.S.StorySink.joined (Some c.args.held) (Some c.loop-at.now) (Some c.in-Ok.next) piece at k
-          c.args.sink.now c.loop-at.sink c.take_fronts.new.sink c.loop-at.invariant.taken c.in-Ok.ensures.taken;
+          takes_both g.S.StorySink.goes g.S.StorySink.failures g.met.S.StorySink.joined (Some c.args.held) (Some c.loop-at.now) (Some c.in-Ok-take_fronts.next) piece at k
+          c.args.sink.now c.loop-at.sink c.take_fronts.new.sink c.loop-at.invariant.taken c.in-Ok-take_fronts.ensures.taken;
     }
 
-pub returns-in-Err-clause-refused : goal.returns-in-Err-clause-refused
-returns-in-Err-clause-refused g c =
-    refuses_later g.S.StorySink.goes g.S.StorySink.failures g.met.S.StorySink.joined (Some c.args.held) (Some c.loop-at.now) c.args.piece.now c.loop-at.at c.in-Err.fault
-    c.args.sink.now c.loop-at.sink c.take_fronts.new.sink c.loop-at.invariant.taken c.in-Err.ensures.refused
+pub returns-in-Err-take_fronts-clause-refused : goal.returns-in-Err-take_fronts-clause-refused
+returns-in-Err-take_fronts-clause-refused g c =
+    refuses_later g.S.StorySink.goes g.S.StorySink.failures g.met.S.StorySink.joined (Some c.args.held) (Some c.loop-at.now) c.args.piece.now c.loop-at.at c.in-Err-take_fronts.fault
+    c.args.sink.now c.loop-at.sink c.take_fronts.new.sink c.loop-at.invariant.taken c.in-Err-take_fronts.ensures.refused
 
 pub returns-clause-taken : goal.returns-clause-taken
 returns-clause-taken g c =

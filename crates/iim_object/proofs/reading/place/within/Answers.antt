@@ -2,7 +2,7 @@ use Rattle.std.proofs.Common.{◌≡◌, Some, None, IfOk, IfErr, rules, sym, su
 use Rattle.iim_object.specs.declared.reading.state.State.{State}
 use Rattle.iim_object.specs.Format.Objects.{SubfileBegun}
 use Rattle.iim_object.specs.States.KeptNumbers.{IsState, state_numbers}
-use Rattle.iim_object.specs.StateChanges.{TakesSubfile}
+use Rattle.iim_object.specs.States.Changes.{TakesSubfile}
 use Rattle.iim_object.specs.States.Reading.{LeadsOn, Refuses}
 use Rattle.iim_object.specs.States.Saved.{IsAt}
 use Rattle.iim_object.specs.Finding.{Finds}

@@ -3,7 +3,7 @@ use Rattle.iim_object.specs.declared.reading.state.State.{State}
 use Rattle.iim_object.specs.Format.Objects.{NumberRead}
 use Rattle.iim_object.specs.States.Reading.{LeadsOn}
 use Rattle.iim_object.specs.States.KeptNumbers.{IsState}
-use Rattle.iim_object.specs.StateChanges.{state_with}
+use Rattle.iim_object.specs.States.Changes.{state_with}
 use Rattle.iim_object.specs.Format.Causes.{number_cause}
 use Rattle.iim_object.proofs.Steps.{number_leads_on, number_refused}
 use Rattle.iim_object.proofs.Staying.{number_not_taken, number_state}

@@ -1,16 +1,24 @@
+use Rattle.std.proofs.Common.{◌≡◌, ℕ, List, sym, subst}
+use Rattle.iim_dataset.specs.declared.head.Head.{Head}
 use Rattle.iim_dataset.specs.declared.sink.Step.TheVariants.{More, Last}
+use Rattle.iim_unpack.specs.PartSteps.{TellsWhole}
+use Rattle.iim_unpack.specs.declared.parts.Parts.{Parts}
 use Rattle.iim_unpack.proofs.WholeSubfiles.{answered}
 use Rattle.iim_unpack.proofs.parts.Parts.whole.Goals as goal
+
+-- told by its number, set and count
+of_head : (old new : Parts) (h : Head) (xs : List ℕ) (rec : ℕ) → h.rec ≡ rec → TellsWhole old (record { rec = rec; set = h.set; count = h.count }) xs new → TellsWhole old h xs new
+of_head old new h xs rec is t = subst (λ (n : ℕ). TellsWhole old (record { rec = n; set = h.set; count = h.count }) xs new) (sym is) t
 
 pub returns-in-9-clause-taken : goal.returns-in-9-clause-taken
 returns-in-9-clause-taken g c =
     answered g.S.StorySink.goes g.S.StorySink.failures g.met.S.StorySink.nothing c.args.self.now c.whole_end.new.self c.args.sink.now c.args.head c.args.octets.now c.whole_end.result Last c.answer.result
-    c.answer.ensures.took c.answer.ensures.left c.whole_end.ensures.whole c.whole_end.ensures.left c.whole_end.ensures.ended
+    c.answer.ensures.took c.answer.ensures.left (λ is. of_head c.args.self.now c.whole_end.new.self c.args.head c.args.octets.now 9 c.in-9.is (c.whole_end.ensures.whole is)) c.whole_end.ensures.left c.whole_end.ensures.ended
 
 pub returns-in-7-clause-taken : goal.returns-in-7-clause-taken
 returns-in-7-clause-taken g c =
     answered g.S.StorySink.goes g.S.StorySink.failures g.met.S.StorySink.nothing c.args.self.now c.whole_number.new.self c.args.sink.now c.args.head c.args.octets.now c.whole_number.result More c.answer-in-7.result
-    c.answer-in-7.ensures.took c.answer-in-7.ensures.left c.whole_number.ensures.whole c.whole_number.ensures.left (λ _. c.whole_number.ensures.takes)
+    c.answer-in-7.ensures.took c.answer-in-7.ensures.left (λ is. of_head c.args.self.now c.whole_number.new.self c.args.head c.args.octets.now 7 c.in-7.is (c.whole_number.ensures.whole is)) c.whole_number.ensures.left (λ _. c.whole_number.ensures.takes)
 
 pub returns-in_default-clause-taken : goal.returns-in_default-clause-taken
 returns-in_default-clause-taken g c =

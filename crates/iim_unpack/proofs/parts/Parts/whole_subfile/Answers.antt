@@ -1,27 +1,25 @@
-use Rattle.std.proofs.Common.{◌≡◌, ℕ, ◌<◌, Bool, true, nat_lt, Option, take, slice_index, sym, subst, ◌∙◌, arith}
-use Rattle.std.proofs.lemmas.Bool.Decides.{nat_tests}
+use Rattle.std.proofs.Common.{Option, take, slice_index, sym, subst, arith}
 use Rattle.std.specs.Prelude.{IsSome}
-use Rattle.iim_object.specs.Format.Plans.{max_subfiles}
 use Rattle.iim_object.specs.declared.reading.state.State.{State}
 use Rattle.iim_dataset.proofs.OctetLists.{are_octets}
 use Rattle.iim_unpack.proofs.WholeSubfiles.{subfile_went, subfile_stopped, subfile_takes}
 use Rattle.iim_unpack.proofs.parts.Parts.whole_subfile.Goals as goal
 
-few_of : (n m : ℕ) (b : Bool) → b ≡ nat_lt n m → b ≡ true → n < m
-few_of n m b e t = let h : nat_lt n m ≡ true = sym e ∙ t in grind (arith, nat_tests)
+pub put_subfile-requires-clause-accepts : goal.put_subfile-requires-clause-accepts
+put_subfile-requires-clause-accepts g c = c.accepts_subfile.ensures.exactly.0 c.if-not-accepts_subfile.false
 
 pub returns-in-Ok-clause-taken : goal.returns-in-Ok-clause-taken
 returns-in-Ok-clause-taken g c =
     let run = c.args.octets.now in
     let p = c.args.self.now in
-    let some : IsSome c.pass_octets.new.object = subst (λ (o : Option State). IsSome o) (sym c.in-Ok.ensures.same) c.in-Some.ensures.takes_calls in (
+    let some : IsSome c.pass_octets.new.object = subst (λ (o : Option State). IsSome o) (sym c.in-Ok.ensures.same) c.put_subfile.ensures.takes_calls in (
       rw c.in-Ok.ensures.same (subfile_went g.S.StorySink.goes g.S.StorySink.failures g.met.S.StorySink.nothing g.met.S.StorySink.joined c.head_laws.ensures c.message_laws.ensures c.close_laws.ensures p c.args.sink.now c.pass_octets.new.sink
-          c.args.head run c.whole_subfile.new.self c.in-Some.object c.pass_octets.new.message (record {
+          c.args.head run c.whole_subfile.new.self c.put_subfile.new.self c.pass_octets.new.message (record {
             eight = c.requires.subfile;
             takes = c.requires.takes;
             passes = c.whole_subfile.ensures.passes c.if-not-whole_subfile.false;
-            leads = c.in-Some.ensures.leads_on;
-            few = λ q at. omega (arith, c.subfiles.ensures.place q at, few_of c.subfiles.result max_subfiles c.may_begin.result c.may_begin.ensures c.if-not-may_begin.false);
+            leads = c.put_subfile.ensures.leads_on;
+            few = c.accepts_subfile.ensures.few c.if-not-accepts_subfile.false;
           }) (are_octets run (λ i. omega (arith, c.type_inv.octets i))) c.whole_subfile.ensures.bounds.limits c.in-Ok.ensures.told),
       subfile_takes p _ c.args.head c.requires.takes c.requires.subfile c.whole_subfile.ensures.between (c.whole_subfile.ensures.section c.if-not-whole_subfile.false) some c.in-Ok.ensures.told.takes_calls,
     )
@@ -31,10 +29,10 @@ returns-in-Err-clause-stopped g c =
     let run = c.args.octets.now in
     let f = c.in-Err.fault in
     rw c.halt_on.ensures (subfile_stopped g.S.StorySink.goes g.S.StorySink.failures g.met.S.StorySink.nothing g.met.S.StorySink.joined c.head_laws.ensures c.message_laws.ensures c.args.self.now c.args.sink.now c.pass_octets.new.sink
-    c.args.head (take f.taken run) (slice_index run f.taken) f.cause c.whole_subfile.new.self c.in-Some.object (record {
+    c.args.head (take f.taken run) (slice_index run f.taken) f.cause c.whole_subfile.new.self c.put_subfile.new.self (record {
       eight = c.requires.subfile;
       takes = c.requires.takes;
       passes = c.whole_subfile.ensures.passes c.if-not-whole_subfile.false;
-      leads = c.in-Some.ensures.leads_on;
-      few = λ q at. omega (arith, c.subfiles.ensures.place q at, few_of c.subfiles.result max_subfiles c.may_begin.result c.may_begin.ensures c.if-not-may_begin.false);
+      leads = c.put_subfile.ensures.leads_on;
+      few = c.accepts_subfile.ensures.few c.if-not-accepts_subfile.false;
     }) c.in-Err.ensures.refused)

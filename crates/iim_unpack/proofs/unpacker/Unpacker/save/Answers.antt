@@ -1,4 +1,4 @@
-use Rattle.std.proofs.Common.{◌+◌, ◌*◌, ◌≤◌, length, is_some, false, ◌⊎◌, sym, subst, ◌∙◌}
+use Rattle.std.proofs.Common.{◌+◌, ◌*◌, ◌≤◌, length, ◌⊎◌, sym, subst, ◌∙◌}
 use Rattle.iim_dataset.proofs.Lists.{no_some}
 use Rattle.iim_unpack.specs.States.Unpacking.{Unpacking, Stands, IsDoneWith, limits_in}
 use Rattle.iim_unpack.specs.UnpackerInside.{Stood}

@@ -1,0 +1,57 @@
+-- What a narrator loses.
+use Rattle.std.proofs.Common.{◌≡◌, ℕ, ◌+◌, ◌<◌, inl, inr, sym, ap, subst, ◌∙◌, arith, List, [], ◌++◌, length, take, append-nil, length-append, Result, Ok, Err, IfErr}
+use Rattle.std.proofs.lemmas.List.{take-append-le}
+use Rattle.std.specs.Borrow.{MutBor}
+use Rattle.std.specs.Io.KnownBytes.{Appends}
+use Rattle.iim_dataset.specs.States.Devices.{Device, Stopped}
+use Rattle.iim_dataset.specs.Laws.Devices.{TextsJoin}
+use Rattle.iim_output.specs.Format.Said.{IsUnsaid}
+use Rattle.iim_output.specs.declared.fault.CommandFault.{CommandFault}
+use Rattle.iim_listing.specs.Narrating.{IsLost, IsUntold, LetsOut, TextIsOut, errors_of, output_of}
+use Rattle.iim_listing.specs.declared.narrator.Narrator.{Narrator}
+
+stopped_before : (old new : Device) (xs ys : List ℕ) (n : ℕ) → Stopped old new (xs ++ []) n → Stopped old new (xs ++ ys) n
+stopped_before old new xs ys n s =
+    let within : n < length xs = omega (arith, s.0, ap length (append-nil xs)) in (
+      omega (arith, within, length-append xs ys),
+      subst (Appends old.octets new.octets) (ap (take n) (append-nil xs) ∙ sym (take-append-le n xs ys (omega (arith, within)))) s.1,
+      s.2,
+    )
+
+-- a line more is lost
+pub lost_more : {W E : Type 0} (ws : W → Device) (es : E → Device) (a b : Narrator W E) (line : List ℕ) → IsLost ws es a b [] → IsLost ws es a b line
+lost_more ws es a b line l = record {
+  keeps = l.keeps;
+  broke = elim l.broke [
+    | inl stuck ↦ inl stuck
+    | inr (text, n, stopped) ↦ inr (text, n, stopped_before (errors_of es a) (errors_of es b) a.lines.items line n stopped)
+  ];
+}
+
+-- all that was held is out, and a line after it is not
+pub unsaid : {W E T : Type 0} (ws : W → Device) (es : E → Device) → TextsJoin → (a b d : Narrator W E) (said line : List ℕ) (r : Result T CommandFault) → said ≡ line → LetsOut ws es a b [] → TextIsOut ws a d → d.errors.ghost_name ≡ b.errors.ghost_name
+    → IfErr r (IsUnsaid (errors_of es b) (errors_of es d) said) → IfErr r (IsUntold ws es a d line)
+unsaid ws es texts a b d said line (Ok x) whole l text same u = tt
+unsaid ws es texts a b d said line (Err fault) whole l text same (is, n, stopped) =
+    let lines = a.lines.items ++ [] in
+    rw is (record {
+      keeps = (text.0.same, same ∙ l.keeps);
+      broke =
+          inr (
+            text,
+            length lines + n,
+            subst (λ (t : List ℕ). Stopped (errors_of es a) (errors_of es d) t (length lines + n)) (ap (λ (t : List ℕ). t ++ said) (append-nil a.lines.items) ∙ ap (λ (t : List ℕ). a.lines.items ++ t) whole)
+                (texts.stopped (errors_of es a) (errors_of es b) (errors_of es d) lines said n l.told stopped),
+          );
+    })
+
+-- what is so of the devices of a narrator is so of the targets that it was lent, before and after
+pub between : {W E : Type 0} {output errors : Device} (ws : W → Device) (es : E → Device) (P : Device → Device → Device → Device → Type 0) (a b : Narrator W E) (first last : MutBor W) (told then : MutBor E)
+    → a.output.writer ≡ first → last ≡ b.output.writer → a.errors ≡ told → then ≡ b.errors → output ≡ ws last.now → errors ≡ es then.now → P (output_of ws a) (output_of ws b) (errors_of es a) (errors_of es b)
+    → P (ws first.now) output (es told.now) errors
+between ws es P a b first last told then begun ended lent back out said p =
+    let lasts = subst (λ (r : MutBor _). P (output_of ws a) (ws r.now) (errors_of es a) (errors_of es b)) (sym ended) p in
+    let thens = subst (λ (r : MutBor _). P (output_of ws a) (ws last.now) (errors_of es a) (es r.now)) (sym back) lasts in
+    let firsts = subst (λ (r : MutBor _). P (ws r.now) (ws last.now) (errors_of es a) (es then.now)) begun thens in
+    let all = subst (λ (r : MutBor _). P (ws first.now) (ws last.now) (es r.now) (es then.now)) lent firsts in
+    rw out (rw said all)

@@ -1,0 +1,174 @@
+//! What `story` writes with: the text in blocks, and the lines that are told beside it.
+
+ghost use Rattle.std.specs.Prelude.{◌≡◌, [], IfErr, OnOk, OnErr};
+ghost use Rattle.iim_output.specs.Format.Lines.{accepted_line, refused_line};
+
+use iim_dataset::device_laws::texts_join;
+use iim_dataset::octets::LF;
+use iim_dataset::{Stop, Target, put};
+use iim_output::block_writer::BlockWriter;
+use iim_output::fault::CommandFault;
+use iim_output::lines::{push_accepted, push_refused, say};
+use iim_output::outlet::Outlet;
+use iim_places::Refusal;
+use std::alloc::{AllocError, Global};
+use wire_story::StorySink;
+
+/// Writes the text of stories in blocks to one target, and tells another the lines of the envelopes. The lines are held until it is told
+/// to let out what it holds: they go out after all text that it took before.
+#[derive(Drop)]
+pub(crate) struct Narrator<'o, 'e, W, E> {
+    /// What the text goes to.
+    pub output: BlockWriter<'o, W>,
+    /// Who is told the lines.
+    pub errors: &'e mut E,
+    /// The lines that are not told yet.
+    pub lines: Vec<u8>,
+    /// Room for one line more while it is made.
+    line: Vec<u8>,
+}
+
+impl<'o, 'e, W: Target, E: Target> Narrator<'o, 'e, W, E> {
+    ghost use Rattle.iim_listing.specs.Narrating.{EndsStory, HoldsLine, IsUnended, IsUntold, LetsOut};
+
+    /// A narrator that holds no line.
+    pub(crate) fn new(
+        alloc: Global,
+        output: BlockWriter<'o, W>,
+        errors: &'e mut E,
+    ) -> Narrator<'o, 'e, W, E>
+        ensures output { result.output ≡ output.entry }
+        ensures errors { result.errors ≡ errors.entry }
+        ensures lines { result.lines.items ≡ [] }
+    {
+        Narrator {
+            output,
+            errors,
+            lines: Vec::new(alloc),
+            line: Vec::new(alloc),
+        }
+    }
+
+    /// Both targets, handed back. What is still held is lost.
+    pub(crate) fn into_targets(self) -> (&'o mut W, &'e mut E)
+        ensures output { result.0 ≡ self.entry.output.writer }
+        ensures errors { result.1 ≡ self.entry.errors }
+    {
+        let Narrator {
+            output,
+            errors,
+            lines: _,
+            line: _,
+        } = self;
+        (output.into_writer(), errors)
+    }
+
+    /// Lets out all that it holds where memory was refused, and answers which fault it comes to.
+    fn starve(&mut self) -> CommandFault
+        ensures { IsUntold W.state E.state self.old self.new [] result }
+    {
+        match self.let_out() {
+            Ok(()) => CommandFault::OutOfMemory,
+            Err(_) => CommandFault::CannotWrite,
+        }
+    }
+
+    /// Holds the line of an accepted envelope, or nothing more where memory is refused.
+    fn hold_line(&mut self, number: u64, octets: u64) -> Result<(), AllocError>
+        ensures ok { OnOk result (HoldsLine self.old self.new (accepted_line number octets)) }
+        ensures err { OnErr result (HoldsLine self.old self.new []) }
+    {
+        self.line.clear();
+        push_accepted(&mut self.line, number, octets)?;
+        self.lines.extend_from_slice(self.line.as_slice())
+    }
+
+    /// Ends the story of an envelope: takes an LF after its text, and holds its line. Where memory is refused for the line, all that was
+    /// held is let out, and no LF is taken.
+    pub(crate) fn end_story(&mut self, number: u64, octets: u64) -> Result<(), CommandFault>
+        ensures ok { OnOk result (EndsStory W.state self.old self.new (accepted_line number octets)) }
+        ensures err { IfErr result (IsUnended W.state E.state self.old self.new) }
+    {
+        if self.hold_line(number, octets).is_err() {
+            return Err(self.starve());
+        }
+        match self.output.put(&[LF]) {
+            Ok(()) => Ok(()),
+            Err(_) => Err(CommandFault::CannotWrite),
+        }
+    }
+
+    /// Lets out all that it holds, and then tells a last line.
+    pub(crate) fn tell_last(&mut self, line: &[u8]) -> Result<(), CommandFault>
+        ensures ok { OnOk result (LetsOut W.state E.state self.old self.new line.now) }
+        ensures err { IfErr result (IsUntold W.state E.state self.old self.new line.now) }
+    {
+        texts_join();
+        match self.let_out() {
+            Ok(()) => say(&mut *self.errors, line),
+            Err(_) => Err(CommandFault::CannotWrite),
+        }
+    }
+
+    /// Lets out all that it holds, and then tells the line of octets that are refused.
+    pub(crate) fn tell_refusal(&mut self, number: u64, refusal: Refusal) -> Result<(), CommandFault>
+        ensures ok { OnOk result (LetsOut W.state E.state self.old self.new (refused_line number refusal)) }
+        ensures err { IfErr result (IsUntold W.state E.state self.old self.new (refused_line number refusal)) }
+    {
+        texts_join();
+        match self.let_out() {
+            Ok(()) => {
+                push_refused(&mut self.lines, number, refusal)?;
+                say(&mut *self.errors, self.lines.as_slice())
+            }
+            Err(_) => Err(CommandFault::CannotWrite),
+        }
+    }
+}
+
+impl<'o, 'e, W: Target, E: Target> StorySink for Narrator<'o, 'e, W, E> {
+    ghost use Rattle.iim_listing.specs.Narrating.{TellsOn, stops_of};
+
+    ghost goes = { TellsOn W.state E.state };
+
+    ghost failures = { stops_of };
+
+    ghost use Rattle.iim_listing.specs.NarratingLaws.{tells_nothing, tells_joined};
+
+    ghost nothing = { λ sink. tells_nothing W.state E.state sink };
+
+    ghost joined = { λ a b c xs ys first then. tells_joined W.state E.state a b c xs ys first then };
+
+    fn text(&mut self, run: &[u8]) -> Result<(), Stop> {
+        self.output.text(run)
+    }
+
+    fn line_end(&mut self) -> Result<(), Stop> {
+        self.output.line_end()
+    }
+}
+
+impl<'o, 'e, W: Target, E: Target> Outlet for Narrator<'o, 'e, W, E> {
+    ghost use Rattle.iim_listing.specs.Narrating.{IsSettled, IsStuck, LetsOut, TellsOn, stops_of};
+
+    ghost settled = { IsSettled };
+
+    ghost stuck = { IsStuck W.state E.state };
+
+    fn let_out(&mut self) -> Result<(), Stop>
+        ensures told { OnOk result (TellsOn W.state E.state self.old [] self.new) }
+        ensures calm { OnOk result (stops_of self.new ≡ stops_of self.old) }
+        ensures settled { OnOk result (IsSettled self.new) }
+        ensures out { OnOk result (LetsOut W.state E.state self.old self.new []) }
+        ensures stuck { OnErr result (IsStuck W.state E.state self.old self.new) }
+    {
+        self.output.flush()?;
+        match put(&mut *self.errors, self.lines.as_slice()) {
+            Ok(()) => {
+                self.lines.clear();
+                Ok(())
+            }
+            Err(_) => Err(Stop { taken: 0 }),
+        }
+    }
+}

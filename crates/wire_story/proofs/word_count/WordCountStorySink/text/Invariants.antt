@@ -1,8 +1,0 @@
-use Rattle.std.proofs.Common.{take, map}
-use Rattle.wire_story.specs.Format.Delivery.{LineOctet}
-use Rattle.wire_story.specs.Format.Words.{CountsWords}
-use Rattle.wire_story.proofs.word_count.WordCountStorySink.text.Given as goal
-
--- the octets so far were counted
-abbrev pub invariant-loop-octet : goal.invariant-loop-octet
-invariant-loop-octet l = CountsWords l.initial.self (map LineOctet (take l.octet-index l.run)) l.self

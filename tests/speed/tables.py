@@ -1,0 +1,74 @@
+"""The tables of what is measured, as they are printed and as they stand in docs/SPEED.md.
+
+The page has a place for each part that is measured, between two marked lines. There the script writes what was measured, and nobody
+else: `tests/documents` holds each place to its tables, but for the numbers.
+"""
+import re
+
+from speed.shapes import AUDITS, SCRIPTS, SHAPES, TOP
+
+PAGE = f"{TOP}/docs/SPEED.md"
+# How the line begins that says what was measured, and what stands where something wasn't there.
+SAID, NOT_THERE = "Measured of ", "–"
+BESIDE = ["Shape", "check", "plain Rust", "ratio", "story", "plain Rust", "ratio", "show", "audit", "iim_feed"]
+PACKED = ["Script", "pack", "plain Rust", "ratio"]
+# What memory is measured with: the shape or script, and how often it stands in the input.
+MEMORY = {
+    "envelopes of 246 octets, 2 MB": ("envelopes of 246 octets", 2),
+    "envelopes of 246 octets, 200 MB": ("envelopes of 246 octets", 200),
+    "a script of prose, 16 MB": ("a script of prose", 16),
+}
+# Of each part its tables: the names of their columns, and those of their rows.
+PARTS = {
+    "counts": [([*BESIDE, "writes of check", "of story"], SHAPES), ([*PACKED, "writes"], SCRIPTS)],
+    "times": [(BESIDE, SHAPES), (PACKED, SCRIPTS)],
+    "audits": [(["Envelopes", "check", "audit", "ratio", "memory of the audit"], AUDITS)],
+    "memory": [(["Input", "check", "show", "story", "pack"], MEMORY)],
+}
+
+
+def line(cells):
+    return f"| {' | '.join(cells)} |"
+
+
+def heading(columns):
+    """The lines above the rows of a table."""
+    return [line(columns), "|" + "---|" * len(columns)]
+
+
+def row(name, numbers):
+    """A row: of each number the cell, a fraction with two digits."""
+    return line([name, *(NOT_THERE if each is None else f"{each:,.2f}" if isinstance(each, float) else f"{each:,}" for each in numbers)])
+
+
+def marks(part):
+    """The lines between which a part stands in the page."""
+    return f"<!-- tests/speed/measure {part} -->\n", f"<!-- the end of {part} -->\n"
+
+
+def put(part, lines):
+    """Writes the lines of a part into its place in the page."""
+    begin, end = marks(part)
+    with open(PAGE, encoding="utf-8") as file:
+        before, _, rest = file.read().partition(begin)
+    _, _, after = rest.partition(end)
+    with open(PAGE, "w", encoding="utf-8") as file:
+        file.write(before + begin + "\n".join(lines) + "\n" + end + after)
+
+
+def faults(page):
+    """What is wrong with the places of the parts in the text of a page: each has a line of what was measured, and its tables of numbers."""
+    for part, tables in PARTS.items():
+        begin, end = marks(part)
+        if (page.count(begin), page.count(end)) != (1, 1):
+            yield f"{part} has no place"
+            continue
+        said, *found = page.partition(begin)[2].partition(end)[0].rstrip("\n").split("\n\n")
+        if not said.startswith(SAID):
+            yield f"{part}: nothing says how it was measured"
+        wanted = [[*heading(columns), *rows] for columns, rows in tables]
+        there = [[*each.split("\n")[:2], *(row.strip("| ").split(" | ")[0] for row in each.split("\n")[2:])] for each in found]
+        if there != wanted:
+            yield f"{part}: {there} stands in the place of {wanted}"
+        cells = [cell for each in found for row in each.split("\n")[2:] for cell in row.strip("| ").split(" | ")[1:]]
+        yield from (f"{part}: {cell} is no number" for cell in cells if not re.fullmatch(rf"[\d,]+(\.\d\d)?|{NOT_THERE}", cell))
