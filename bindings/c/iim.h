@@ -159,9 +159,9 @@ void iim_check(iim_limits limits, const uint8_t *octets, size_t len, iim_answer 
  * place where no envelope can be), 50 or 51 (it passes the limits).
  * IIM_NO_MEMORY: nothing of the piece counts as used.
  *
- * Each call takes memory for what the limits allow and for the next ticket, and
- * frees it. So small pieces cost more than large ones: blocks of 4,096 octets
- * and more are good.
+ * Each call takes memory for what the limits allow, and for the next ticket where
+ * ticket_out is too short for it, and frees it. So small pieces cost more than
+ * large ones: blocks of 4,096 octets and more are good.
  */
 void iim_feed(iim_limits limits, const uint8_t *ticket, size_t ticket_len, uint64_t at,
               const uint8_t *piece, size_t piece_len, uint8_t *text_out, size_t text_len,
@@ -435,8 +435,8 @@ typedef struct iim_audit_row {
  * After these *so_far is as it was. Rows that are not spoken of are as they
  * were, but after IIM_NO_MEMORY and IIM_SHORT.
  *
- * Each call takes memory for what the limits allow and for the next ticket, once
- * for all envelopes of the piece, and frees it.
+ * Each call takes memory for what the limits allow, once for all envelopes of the
+ * piece, and for the next ticket where ticket_out is too short for it, and frees it.
  */
 void iim_audit(iim_limits limits, const uint8_t *ticket, size_t ticket_len, iim_so_far *so_far,
                const uint8_t *piece, size_t piece_len, iim_instant now, iim_audit_row *rows,

@@ -5,7 +5,7 @@ import shutil
 import tempfile
 from concurrent.futures import FIRST_COMPLETED, ThreadPoolExecutor, wait
 
-from wrong import prover, rounds, sources, verdicts
+from wrong import prover, rounds, sources, store, verdicts
 
 ENDED = re.compile(r"^only=\d+ proved=\d+$", re.M)
 
@@ -13,10 +13,17 @@ ENDED = re.compile(r"^only=\d+ proved=\d+$", re.M)
 class Crate:
     """A crate's wrong bodies while they are judged: what each came to, and what that took."""
 
-    def __init__(self, name, bodies, room):
+    def __init__(self, name, bodies, room, anew):
         self.name, self.bodies, self.room = name, bodies, room
-        self.planned = rounds.plan(name, bodies)
-        self.verdicts, self.seconds, self.checks, self.open = {}, 0, 0, len(self.planned)
+        told = {} if anew else {body.name: store.known(body) for body in bodies}
+        self.verdicts = {name: verdict for name, verdict in told.items() if verdict}
+        self.kept = len(self.verdicts)
+        self.planned = rounds.plan(name, [body for body in bodies if body.name not in self.verdicts])
+        self.seconds, self.checks, self.open = 0, 0, len(self.planned)
+
+    def start(self):
+        """The folder of work with which its first round begins."""
+        return f"{self.room}/proved" if prover.proved(self.name, f"{self.room}/proved") else None
 
     def size(self):
         """How much the prover has to read of it."""
@@ -29,7 +36,8 @@ class Crate:
         for verdict, _ in self.verdicts.values():
             counts[verdict] = counts.get(verdict, 0) + 1
         told = ", ".join(f"{count} {verdict}" for verdict, count in counts.items())
-        return f"{self.name}: {len(self.bodies)} wrong bodies: {told}; {self.checks} checks, {self.seconds:.0f} seconds of a processor"
+        kept = f" ({self.kept} of them in an earlier run)" if self.kept else ""
+        return f"{self.name}: {len(self.bodies)} wrong bodies: {told}{kept}; {self.checks} checks, {self.seconds:.0f} seconds of a processor"
 
 
 def first_error(text):
@@ -60,14 +68,17 @@ class Judging:
         self.jobs = jobs
         # (what takes longest begins first)
         for crate in sorted(crates, key=lambda crate: -crate.size()):
-            self.waiting.append((crate, crate.planned[0], None))
+            if crate.planned:
+                self.waiting.append((crate, crate.planned[0], None))
+            else:
+                print(crate.sums(), flush=True)
 
     def begin(self):
         """Begins what waits, as long as there is a processor."""
         while self.waiting and len(self.running) < self.jobs:
             crate, these, start = self.waiting.pop(0)
             kept = tempfile.mkdtemp(dir=crate.room)
-            prover.linked(start or "", f"{kept}/work")
+            prover.linked(start or crate.start() or "", f"{kept}/work")
             self.running[self.pool.submit(tried, these, f"{kept}/work")] = crate, these, start, f"{kept}/work"
 
     def again(self, crate, these, kept):
@@ -97,6 +108,8 @@ class Judging:
     def decide(self, crate, body, verdict):
         """Notes what a wrong body comes to, and tells it unless it is plainly refused."""
         crate.verdicts[body.name] = verdict
+        if verdict[0] in verdicts.PASSED and not sources.CHANGED:
+            store.keep(body, verdict)
         if verdict[0] != verdicts.REFUSED:
             print(f"{crate.name}: {body.name} ({body.function}, {body.clause}): {verdict[0]}{': ' if verdict[1] else ''}{verdict[1]}", flush=True)
 
@@ -110,8 +123,9 @@ class Judging:
                 self.begin()
 
 
-def judge(names, words, jobs):
-    """Judges the wrong bodies of crates, those alone whose names hold one of the words where there are any, and returns what all came to."""
+def judge(names, words, jobs, anew):
+    """Judges the wrong bodies of crates, those alone whose names hold one of the words where there are any, and returns what all came to:
+    what an earlier run on this machine said of the same stands, unless they are judged anew."""
     with tempfile.TemporaryDirectory(prefix="wrong-bodies-kept-") as room:
         crates = []
         for name in names:
@@ -119,6 +133,6 @@ def judge(names, words, jobs):
             bodies = [body for body in sources.bodies(name) if not words or any(word in body.name for word in words)]
             if bodies:
                 os.mkdir(f"{room}/{name}")
-                crates.append(Crate(name, bodies, f"{room}/{name}"))
+                crates.append(Crate(name, bodies, f"{room}/{name}", anew or bool(sources.CHANGED)))
         Judging(crates, jobs).run()
     return [verdict for crate in crates for verdict, _ in crate.verdicts.values()]

@@ -16,6 +16,8 @@ functions alone. A wrong body passes where the prover does not prove the functio
 the clause that its row names. It fails where the function is proved, where another clause refuses it, and where only a name is gone that
 a written answer cites. What is not plainly refused beside others is tried again alone. *Weak* are those that pass since an answer that
 is written by hand for that clause no longer fits: that says less, as the clause may be true all the same. The run counts and names them.
+One that has passed is not judged again on that machine while nothing changes that its verdict stands on: its crate, those below it, the
+toolchain and the judge (`--anew` judges all).
 
 A clause is `ensures` where a function has one clause without a name, or where the prover doesn't say which of them fails, `ensures x` where
 it is named `x`, `requires of f` where a call of `f` is no longer allowed, `loop` what holds at each turn of a loop, `invariant` that of the function's type, and `lemma x in F.antt` a lemma on

@@ -1,5 +1,7 @@
 """Asks the prover for the functions of a round."""
+import json
 import os
+import re
 import shutil
 import subprocess
 import tempfile
@@ -47,6 +49,25 @@ def words_of(crate):
         words += ["-L", f"dependency={folder}"]
     words += ["--crate-type", "staticlib"] if is_static else []
     return [*words, "--antt-project", f"{at}/rattle/logic/antt-project.json", "--logic-built", f"{at}/logic_built", "--jobs", "1"]
+
+
+def proved(crate, to):
+    """Begins a folder of kept work with the modules that a library holds as they were checked for it: the prover takes those that are up
+    to date. Returns whether there are any: a program holds none."""
+    at = f"{sources.TOP}/crates/{crate}/out/rlib/{crate}.rlib/toolchain"
+    try:
+        with open(f"{at}/checked.a", "rb") as archive, open(f"{at}/checked.json", encoding="utf-8") as index:
+            modules = archive.read()
+            kernel = re.search(rb"^--@ kernel (\S+)", modules, re.M)[1].decode().replace("/", "_")
+            for name, start, size in map(json.loads, index):
+                path = f"{to}/{kernel}/{name}.oantt"
+                os.makedirs(os.path.dirname(path), exist_ok=True)
+                with open(path, "wb") as file:
+                    file.write(modules[start : start + size])
+    except (OSError, ValueError, TypeError):
+        # (a library of another form: all is checked anew)
+        return False
+    return True
 
 
 def linked(start, to):

@@ -1,4 +1,4 @@
-"""Takes away the clause that a wrong body is held to: the runner has to name that one as accepted then."""
+"""Takes away what the clause says that a wrong body is held to: the runner has to name that one as accepted then."""
 import re
 
 from wrong import code, sources, verdicts
@@ -14,11 +14,15 @@ def contract_of(crate, body):
     raise SystemExit(f"{body.name}: its function is in none of the files that it changes")
 
 
+# What a clause says that says nothing: any result is the same as itself. So the clause stands, and the goals keep their names.
+NOTHING = "{ result ≡ result }"
+
+
 def clause_in(contract, clause):
-    """The span of a clause in a contract."""
+    """The span of what a clause of a contract says."""
     name = clause.partition(" ")[2]
-    for head in re.finditer(rf"\n *ensures\*?{' ' + name if name else ''} (?=\{{)", contract):
-        return head.start(), code.end_of_group(contract, head.end())
+    for head in re.finditer(rf"\n *ensures{' ' + name if name else ''} (?=\{{)", contract):
+        return head.end(), code.end_of_group(contract, head.end())
     raise SystemExit(f"the contract has no clause of the form {clause}")
 
 
@@ -29,11 +33,11 @@ def without_answers(text, clause):
 
 
 def take_away(crate, name):
-    """Takes the clause away that the wrong body of this name is held to, and the answers for its goals."""
+    """Takes away what the clause says that the wrong body of this name is held to, and the answers for its goals."""
     body = next(body for body in sources.bodies(crate) if name in (body.name, body.word))
     path, text, start, end = contract_of(crate, body)
     first, last = clause_in(text[start:end], body.clause)
-    sources.CHANGED[crate, path] = text[: start + first] + text[start + last :]
+    sources.CHANGED[crate, path] = text[: start + first] + NOTHING + text[start + last :]
     answers = f"proofs/{body.function.replace('::', '/')}/Answers.antt"
     if sources.is_there(crate, answers):
         sources.CHANGED[crate, answers] = without_answers(sources.text_in(crate, answers), body.clause)

@@ -6,7 +6,7 @@ ghost use Rattle.iim_listing.specs.Format.Narration.{story_of};
 ghost use Rattle.iim_listing.specs.Format.Texts.{number_line, sizes_line, shown_of};
 ghost use Rattle.iim_places.specs.Format.Admitted.{Value, Admits};
 ghost use Rattle.iim_places.specs.Format.Listing.{Listed, IsListed};
-ghost use Rattle.iim_script.specs.Format.Scripts.{max_script};
+ghost use Rattle.iim_script.specs.Format.Scripts.{max_script, text_lines};
 ghost use Rattle.iim_unpack.specs.States.Unpacking.{Stands};
 ghost use Rattle.wire_story.specs.Format.Delivery.{events_of_lines};
 
@@ -19,11 +19,11 @@ use wire_story::StorySink;
 
 /// What a script tells. Where it was put together of what `show` and `story` print of an envelope, it tells the datasets and the lines
 /// of that one.
-pub fn read_shown(alloc: Global, script: &[u8]) -> Option<Script>
+pub fn read_shown<'a>(alloc: Global, script: &'a [u8]) -> Option<Script<'a>>
     ensures { IfSome result (λ got. (number : ℕ) (e : Listed) (lines : List ℕ) → IsListed limits e
         → shown_of number e ≡ number_line number ++ (lines ++ sizes_line e.value.sizes)
         → script.now ≡ lines ++ (codes "text\n" ++ story_of number e) → length script.now ≤ max_script
-        → (got.envelope ≡ e.value.fields) × (got.lines.lines ≡ e.value.lines)) }
+        → (got.envelope ≡ e.value.fields) × (text_lines got.text.now ≡ e.value.lines)) }
 {
     shown_envelopes_are_scripts();
     match read_script(alloc, script) {

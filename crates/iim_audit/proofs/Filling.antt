@@ -5,9 +5,9 @@ use Rattle.std.specs.List.{slice_get}
 use Rattle.std.proofs.lemmas.List.{get_or_default, get_or-set_same, get_or-set_other, length-map, get_or-map}
 use Rattle.std.specs.declared.cmp.Ordering.{Ordering}
 use Rattle.std.specs.declared.cmp.Ordering.TheVariants.{Equal}
-use Rattle.iim_fields.specs.Format.Ids.{Identity, id_eq, id_cmp}
+use Rattle.iim_fields.specs.Format.Ids.{Identity, id_eq}
 use Rattle.iim_audit.specs.Format.Rows.{first_same}
-use Rattle.iim_audit.specs.Repeats.{AreFilled, AreFresh, IsOrder, filled, ids_of}
+use Rattle.iim_audit.specs.Repeats.{AreFilled, AreFresh, IsOrder, filled, ids_of, keyed_cmp}
 use Rattle.iim_audit.specs.declared.row.AuditRow.{AuditRow}
 use Rattle.iim_audit.proofs.Firsts.{AreSame, IsRun, below_or_not, eq_apart, eq_same, first_of_run, get_some, run_more, run_none}
 
@@ -43,15 +43,15 @@ id_there rows i d there =
     get_some (ids_of rows) i (get_or rows i d).id (omega arith) ∙ ap Some (get_or-map id rows i d (get_or rows i d).id there)
 
 -- the ids at two indices of rows, as the order compares them
-same_ids : (rows : List AuditRow) (a b : ℕ) (d : AuditRow) → a < length rows → b < length rows → AreSame (ids_of rows) a b → id_cmp (get_or rows a d).id (get_or rows b d).id ≡ Equal
+same_ids : (rows : List AuditRow) (a b : ℕ) (d : AuditRow) → a < length rows → b < length rows → AreSame (ids_of rows) a b → keyed_cmp (get_or rows a d).id (get_or rows b d).id ≡ Equal
 same_ids rows a b d a_there b_there same =
-    let R : Option Identity → Option Identity → Ordering = option_cmp id_cmp in
+    let R : Option Identity → Option Identity → Ordering = option_cmp keyed_cmp in
     subst (λ (x : Option Identity). R (Some (get_or rows a d).id) x ≡ Equal) (id_there rows b d b_there)
     (subst (λ (x : Option Identity). R x (slice_get (ids_of rows) b) ≡ Equal) (id_there rows a d a_there) same)
 
-ids_same : (rows : List AuditRow) (a b : ℕ) (d : AuditRow) → a < length rows → b < length rows → id_cmp (get_or rows a d).id (get_or rows b d).id ≡ Equal → AreSame (ids_of rows) a b
+ids_same : (rows : List AuditRow) (a b : ℕ) (d : AuditRow) → a < length rows → b < length rows → keyed_cmp (get_or rows a d).id (get_or rows b d).id ≡ Equal → AreSame (ids_of rows) a b
 ids_same rows a b d a_there b_there same =
-    let R : Option Identity → Option Identity → Ordering = option_cmp id_cmp in
+    let R : Option Identity → Option Identity → Ordering = option_cmp keyed_cmp in
     subst (λ (x : Option Identity). R x (slice_get (ids_of rows) b) ≡ Equal) (sym (id_there rows a d a_there))
     (subst (λ (x : Option Identity). R (Some (get_or rows a d).id) x ≡ Equal) (sym (id_there rows b d b_there)) same)
 
@@ -125,6 +125,25 @@ so_far_more old order k group next now new was row is fresh here_k len so_far on
           let last : j ≡ k = omega arith in
           absurd (differs (ap (λ (n : ℕ). get_or order n 0) last))) (below_or_not j k)) (eq_or_not (get_or order j 0) at);
     }
+
+-- the same, where the index is told by something else
+pub so_far_at : (old : List AuditRow) (order : List ℕ) (k group next at : ℕ) (now new : List AuditRow) (was row : AuditRow) → get_or order k 0 ≡ at
+    → IsOrder (ids_of old) order → AreFresh old → k < length order → length now ≡ length old → SoFar old order k group now
+    → ((d : AuditRow) → id_eq (get_or now at d).id (get_or now group d).id ≡ true → next ≡ group)
+    → ((d : AuditRow) → id_eq (get_or now at d).id (get_or now group d).id ≡ false → next ≡ at)
+    → was ≡ get_or now at was
+    → (next < at → row ≡ record was { first = Some (next + 1) }) → ((next < at → ⊥) → row ≡ was)
+    → new ≡ set now at row
+    → SoFar old order (k + 1) next new
+so_far_at old order k group next at now new was row e is fresh here_k len so_far on_same on_other was_is told untold new_is =
+    let back = sym e in
+    so_far_more old order k group next now new was row is fresh here_k len so_far
+    (subst (λ (n : ℕ). (d : AuditRow) → id_eq (get_or now n d).id (get_or now group d).id ≡ true → next ≡ group) back on_same)
+    (subst (λ (n : ℕ). (d : AuditRow) → id_eq (get_or now n d).id (get_or now group d).id ≡ false → next ≡ n) back on_other)
+    (subst (λ (n : ℕ). was ≡ get_or now n was) back was_is)
+    (subst (λ (n : ℕ). next < n → row ≡ record was { first = Some (next + 1) }) back told)
+    (subst (λ (n : ℕ). (next < n → ⊥) → row ≡ was) back untold)
+    (subst (λ (n : ℕ). new ≡ set now n row) back new_is)
 
 -- at the end each row is told
 pub all_filled : (old : List AuditRow) (order : List ℕ) (group : ℕ) (now : List AuditRow) → IsOrder (ids_of old) order → length now ≡ length old

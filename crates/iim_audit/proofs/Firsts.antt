@@ -1,5 +1,5 @@
 -- The first row with each id, by the order of the ids.
-use Rattle.std.proofs.Common.{◌≡◌, ℕ, zero, suc, ◌+◌, ◌-◌, ◌<◌, ◌≤◌, ◌⊎◌, inl, inr, ⊎_elim, Bool, true, false, List, [], ◌∷◌, Option, Some, None, if◌then◌else◌, take, length, get_or, ap, sym, ◌∙◌, refl, subst, arith}
+use Rattle.std.proofs.Common.{◌&&◌, ◌==◌, ◌≡◌, ℕ, zero, suc, ◌+◌, ◌-◌, ◌<◌, ◌≤◌, ◌⊎◌, inl, inr, ⊎_elim, Bool, true, false, List, [], ◌∷◌, Option, Some, None, if◌then◌else◌, take, length, get_or, ap, sym, ◌∙◌, refl, subst, arith}
 use Rattle.std.specs.Option.{option_cmp}
 use Rattle.std.specs.List.{slice_get}
 use Rattle.std.specs.Ordering.{is_lt, is_eq, nat_cmp, ordering_then, ordering_reverse}
@@ -8,32 +8,32 @@ use Rattle.std.specs.Cmp.Lexicographic.{options_total}
 use Rattle.std.specs.declared.cmp.Ordering.{Ordering}
 use Rattle.std.specs.declared.cmp.Ordering.TheVariants.{Less, Equal, Greater}
 use Rattle.std.proofs.lemmas.List.{get_or_default}
-use Rattle.std.proofs.lemmas.Bool.{true≢false}
+use Rattle.std.proofs.lemmas.Bool.{true≢false, and_parts, cases_Bool, eqb-true}
 use Rattle.std.proofs.lemmas.Bool.Decides.{leb_tells}
 use Rattle.std.proofs.lemmas.List.Sorted.{ranks_by, sorted_far}
 use Rattle.std.proofs.lemmas.Cmp.{tied_itself, tied_back}
-use Rattle.iim_fields.specs.Format.Ids.{Identity, id_eq, id_cmp}
+use Rattle.iim_fields.specs.Format.Ids.{Identity, id_eq, id_cmp, text_eq}
 use Rattle.iim_fields.specs.IdLaws.{id_total, id_ties}
 use Rattle.iim_audit.specs.Format.Rows.{first_same}
-use Rattle.iim_audit.specs.Repeats.{IsOrder, by_id, place_cmp}
+use Rattle.iim_audit.specs.Repeats.{IsOrder, by_keyed, key_after, key_of, keyed_cmp, keyed_index_cmp}
 
 pub below_or_not : (a b : ℕ) → (a < b) ⊎ (b ≤ a)
 below_or_not a b = ⊎_elim (λ from. inr from.1) (λ less. inl less.1) (leb_tells b a)
 
 -- ---- the order
 
-pub ids_total : IsTotalOrder (option_cmp id_cmp)
-ids_total = options_total id_total
+ids_total : IsTotalOrder (option_cmp keyed_cmp)
+ids_total = options_total (then_total (on_total key_of nat_cmp_total) id_total)
 
-pub places_total : (ids : List Identity) → IsTotalOrder (place_cmp ids)
-places_total ids = then_total (on_total (slice_get ids) ids_total) nat_cmp_total
+order_total : (ids : List Identity) → IsTotalOrder (keyed_index_cmp ids)
+order_total ids = then_total (on_total (slice_get ids) ids_total) nat_cmp_total
 
-pub places_rank : (ids : List Identity) → IsStrictWeakOrder (λ a b. is_lt (place_cmp ids a b))
-places_rank ids = ranks_by (places_total ids) (λ (i : ℕ). i)
+order_rank : (ids : List Identity) → IsStrictWeakOrder (λ a b. is_lt (keyed_index_cmp ids a b))
+order_rank ids = ranks_by (order_total ids) (λ (i : ℕ). i)
 
 -- the ids at two indices are the same
 abbrev pub AreSame : List Identity → ℕ → ℕ → Type 0
-AreSame ids a b = by_id ids a b ≡ Equal
+AreSame ids a b = by_keyed ids a b ≡ Equal
 
 same_itself : (ids : List Identity) (a : ℕ) → AreSame ids a a
 same_itself ids a = tied_itself ids_total (slice_get ids a)
@@ -87,26 +87,26 @@ pub least : (ids : List Identity) (order : List ℕ) (k group i : ℕ) → IsOrd
 least ids order k group i is run there same =
     let (p, p_within, p_is) = is.each i there in
     let at : get_or order p 0 ≡ i = get_or_default order p 0 i p_within ∙ p_is in
-    let lt : ℕ → ℕ → Bool = λ a b. is_lt (place_cmp ids a b) in
+    let lt : ℕ → ℕ → Bool = λ a b. is_lt (keyed_index_cmp ids a b) in
     let P : ℕ → ℕ → Type 0 = λ a b. lt a b ≡ false in
     ⊎_elim
     (λ before.
     let q = run.m - 1 in
     let x = get_or order q 0 in
-    let far : lt x (get_or order p 0) ≡ false = sorted_far lt (places_rank ids) order is.sorted p q 0 (omega arith) (omega (arith, run.within)) in
+    let far : lt x (get_or order p 0) ≡ false = sorted_far lt (order_rank ids) order is.sorted p q 0 (omega arith) (omega (arith, run.within)) in
     let near : lt (get_or order (q + 1) 0) x ≡ false = is.sorted q 0 (omega arith) (omega (arith, run.within)) in
     let one : q + 1 ≡ run.m = omega arith in
     let far_i : P x i = subst (λ (a : ℕ). P x a) at far in
     let near_group : P group x = subst (λ (a : ℕ). P a x) (ap (λ (n : ℕ). get_or order n 0) one ∙ sym run.begins) near in
-    let flips : by_id ids x i ≡ ordering_reverse (by_id ids i x) = ids_total.antisymm (slice_get ids x) (slice_get ids i) in
-    let like : by_id ids i x ≡ by_id ids group x = ids_total.congr (slice_get ids i) (slice_get ids group) (slice_get ids x) same in
-    let none : is_lt (by_id ids i x) ≡ true → ⊥ = λ less. less_first (by_id ids group x) (nat_cmp group x) near_group (ap is_lt (sym like) ∙ less) in
-    let tied : AreSame ids x i = neither (by_id ids x i) (by_id ids i x) flips (less_first (by_id ids x i) (nat_cmp x i) far_i) none in
+    let flips : by_keyed ids x i ≡ ordering_reverse (by_keyed ids i x) = ids_total.antisymm (slice_get ids x) (slice_get ids i) in
+    let like : by_keyed ids i x ≡ by_keyed ids group x = ids_total.congr (slice_get ids i) (slice_get ids group) (slice_get ids x) same in
+    let none : is_lt (by_keyed ids i x) ≡ true → ⊥ = λ less. less_first (by_keyed ids group x) (nat_cmp group x) near_group (ap is_lt (sym like) ∙ less) in
+    let tied : AreSame ids x i = neither (by_keyed ids x i) (by_keyed ids i x) flips (less_first (by_keyed ids x i) (nat_cmp x i) far_i) none in
     absurd (run.apart q one (same_on ids x i group tied same)))
     (λ after.
-    let far : lt (get_or order p 0) (get_or order run.m 0) ≡ false = sorted_far lt (places_rank ids) order is.sorted run.m p 0 after p_within in
+    let far : lt (get_or order p 0) (get_or order run.m 0) ≡ false = sorted_far lt (order_rank ids) order is.sorted run.m p 0 after p_within in
     let here : P i group = subst (λ (a : ℕ). P i a) (sym run.begins) (subst (λ (a : ℕ). P a (get_or order run.m 0)) at far) in
-    not_less i group (less_second (by_id ids i group) (nat_cmp i group) same here))
+    not_less i group (less_second (by_keyed ids i group) (nat_cmp i group) same here))
     (below_or_not p run.m)
 
 -- a run of one place more: it is the same run, or begins there
@@ -153,7 +153,7 @@ run_more ids order k group now there run keeps begins =
       apart = apart;
     } in
     subst Q (sym (begins differs)) (begun, same_itself ids at))
-    (same_or_not (by_id ids at group))
+    (same_or_not (by_keyed ids at group))
 
 pub run_none : (ids : List Identity) (order : List ℕ) (group : ℕ) → 0 < length order → group ≡ get_or order 0 0 → IsRun ids order 0 group
 run_none ids order group some begins = record {
@@ -168,16 +168,45 @@ run_none ids order group some begins = record {
 
 -- ---- the first one with an id
 
-pub eq_same : (x y : Identity) → id_cmp x y ≡ Equal → id_eq x y ≡ true
-eq_same x y same = id_ties x y ∙ ap is_eq same
+second_tied : (o p : Ordering) → ordering_then o p ≡ Equal → p ≡ Equal
+second_tied Equal p e = e
+second_tied Less p e = absurd (true≢false (sym (ap is_eq e)))
+second_tied Greater p e = absurd (true≢false (sym (ap is_eq e)))
 
-not_equal : (o : Ordering) → (o ≡ Equal → ⊥) → is_eq o ≡ false
-not_equal Equal apart = absurd (apart refl)
-not_equal Less apart = refl
-not_equal Greater apart = refl
+pub eq_same : (x y : Identity) → keyed_cmp x y ≡ Equal → id_eq x y ≡ true
+eq_same x y same = id_ties x y ∙ ap is_eq (second_tied (nat_cmp (key_of x) (key_of y)) (id_cmp x y) same)
 
-pub eq_apart : (x y : Identity) → (id_cmp x y ≡ Equal → ⊥) → id_eq x y ≡ false
-eq_apart x y apart = id_ties x y ∙ not_equal (id_cmp x y) apart
+text_same : (xs ys : List ℕ) → text_eq xs ys ≡ true → xs ≡ ys
+text_same [] [] e = refl
+text_same [] (y ∷ ys) e = absurd (true≢false (sym e))
+text_same (x ∷ xs) [] e = absurd (true≢false (sym e))
+text_same (x ∷ xs) (y ∷ ys) e =
+    let both = and_parts (x == y) (text_eq xs ys) e in
+    let first : x ≡ y = eqb-true x y both.0 in
+    let rest : xs ≡ ys = text_same xs ys both.1 in
+    λ i. first i ∷ rest i
+
+-- the same ids have one key
+pub key_same : (x y : Identity) → id_eq x y ≡ true → key_of x ≡ key_of y
+key_same x y e =
+    let others = and_parts (text_eq x.service y.service) (text_eq x.number y.number && text_eq x.date_sent y.date_sent) e in
+    ap (key_after 0) (text_same x.number y.number (and_parts (text_eq x.number y.number) (text_eq x.date_sent y.date_sent) others.1).0)
+
+is_tied : (o : Ordering) → is_eq o ≡ true → o ≡ Equal
+is_tied Equal e = refl
+is_tied Less e = absurd (true≢false (sym e))
+is_tied Greater e = absurd (true≢false (sym e))
+
+keyed_tied : (x y : Identity) → id_eq x y ≡ true → keyed_cmp x y ≡ Equal
+keyed_tied x y e =
+    let key : nat_cmp (key_of x) (key_of y) ≡ Equal = ap (λ n. nat_cmp (key_of x) n) (sym (key_same x y e)) ∙ tied_itself nat_cmp_total (key_of x) in
+    ap (λ o. ordering_then o (id_cmp x y)) key ∙ is_tied (id_cmp x y) (sym (id_ties x y) ∙ e)
+
+pub eq_apart : (x y : Identity) → (keyed_cmp x y ≡ Equal → ⊥) → id_eq x y ≡ false
+eq_apart x y apart = elim (cases_Bool (id_eq x y)) [
+  | inl same ↦ absurd (apart (keyed_tied x y same))
+  | inr other ↦ other
+]
 
 first_at : (b : Bool) (n : ℕ) (rest : Option ℕ) → b ≡ true → (if b then Some n else rest) ≡ Some n
 first_at true n rest e = refl
@@ -188,8 +217,8 @@ first_later false n rest e = refl
 first_later true n rest e = absurd (true≢false e)
 
 -- the id at an index is not there before it
-found : (n : ℕ) (id : Identity) (ids : List Identity) (at g : ℕ) → g < at → at ≤ length ids → option_cmp id_cmp (Some id) (slice_get ids g) ≡ Equal
-    → ((i : ℕ) → i < g → option_cmp id_cmp (Some id) (slice_get ids i) ≡ Equal → ⊥) → first_same n id (take at ids) ≡ Some (n + g)
+found : (n : ℕ) (id : Identity) (ids : List Identity) (at g : ℕ) → g < at → at ≤ length ids → option_cmp keyed_cmp (Some id) (slice_get ids g) ≡ Equal
+    → ((i : ℕ) → i < g → option_cmp keyed_cmp (Some id) (slice_get ids i) ≡ Equal → ⊥) → first_same n id (take at ids) ≡ Some (n + g)
 found n id [] at g before fits same apart = absurd (omega arith)
 found n id (x ∷ ids) zero g before fits same apart = absurd (omega arith)
 found n id (x ∷ ids) (suc at) zero before fits same apart =
@@ -199,7 +228,7 @@ found n id (x ∷ ids) (suc at) (suc g) before fits same apart =
     ∙ found (n + 1) id ids at g (omega arith) (omega arith) same (λ i less. apart (suc i) (omega arith)) ∙ ap Some (omega arith)
 
 pub missing : (n : ℕ) (id : Identity) (ids : List Identity) (at : ℕ) → at ≤ length ids
-    → ((i : ℕ) → i < at → option_cmp id_cmp (Some id) (slice_get ids i) ≡ Equal → ⊥) → first_same n id (take at ids) ≡ None
+    → ((i : ℕ) → i < at → option_cmp keyed_cmp (Some id) (slice_get ids i) ≡ Equal → ⊥) → first_same n id (take at ids) ≡ None
 missing n id [] zero fits apart = refl
 missing n id [] (suc at) fits apart = absurd (omega arith)
 missing n id (x ∷ ids) zero fits apart = refl
@@ -224,7 +253,7 @@ not_below a b none = ⊎_elim (λ less. absurd (none less)) (λ from. from) (bel
 pub first_of_run : (ids : List Identity) (order : List ℕ) (k group at : ℕ) (id : Identity) → IsOrder ids order → IsRun ids order k group → group < length ids → at < length ids
     → slice_get ids at ≡ Some id → AreSame ids at group → (group < at → first_same 1 id (take at ids) ≡ Some (group + 1)) × ((group < at → ⊥) → first_same 1 id (take at ids) ≡ None)
 first_of_run ids order k group at id is run within there here same =
-    let R : Option Identity → ℕ → Ordering = λ x i. option_cmp id_cmp x (slice_get ids i) in
+    let R : Option Identity → ℕ → Ordering = λ x i. option_cmp keyed_cmp x (slice_get ids i) in
     let at_group : R (Some id) group ≡ Equal = subst (λ (x : Option Identity). R x group ≡ Equal) here same in
     let earlier : (i : ℕ) → i < group → R (Some id) i ≡ Equal → ⊥ = λ i less tied.
     let with_at : AreSame ids at i = subst (λ (x : Option Identity). R x i ≡ Equal) (sym here) tied in

@@ -1,6 +1,7 @@
 pub mod Digits
 pub mod Filling
 pub mod Firsts
+pub mod Places
 pub mod Reading
 pub mod Rows
 pub mod PieceRows

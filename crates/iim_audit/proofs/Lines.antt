@@ -13,15 +13,6 @@ lines_from-push n (x ∷ rows) row =
     ap (λ (more : List ℕ). row_line n x ++ more) (lines_from-push (n + 1) rows row ∙ ap (λ (k : ℕ). lines_from (n + 1) rows ++ row_line k row) count)
     ∙ sym (append_assoc (row_line n x) (lines_from (n + 1) rows) (row_line (n + suc (length rows)) row))
 
--- the parts of a line, joined one after another
-pub row_parts : (text known priority : List ℕ) (digit : ℕ) (sizes ages : List ℕ)
-    → ((((text ++ known) ++ priority) ++ digit ∷ []) ++ sizes) ++ ages ≡ text ++ (known ++ (priority ++ (digit ∷ (sizes ++ ages))))
-row_parts text known priority digit sizes ages = simp append_assoc
-
--- the parts of the last line, joined one after another
-pub sums_parts : (a b c d e f : List ℕ) → ((((([] ++ a) ++ b) ++ c) ++ d) ++ e) ++ f ≡ a ++ (b ++ (c ++ (d ++ (e ++ f))))
-sums_parts a b c d e f = simp append_assoc
-
 some_row : (rows : List AuditRow) → 0 < length rows → AuditRow
 some_row [] some = absurd (omega (arith, some))
 some_row (row ∷ rows) some = row

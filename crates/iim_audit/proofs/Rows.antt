@@ -1,20 +1,14 @@
 -- The rows of envelopes, without and with their first ones.
-use Rattle.std.proofs.Common.{◌≡◌, ℕ, zero, suc, ◌+◌, ◌<◌, ℤ, List, [], ◌∷◌, ◌++◌, length, append_assoc, append-nil, None, Some, map, take, get_or, ap, sym, ◌∙◌, refl, arith, subst, ⊎_elim}
-use Rattle.std.specs.List.{All, Contains}
-use Rattle.std.specs.List.Sorted.{IsPermutation, IsSortedBy}
-use Rattle.std.specs.Ordering.{is_lt}
+use Rattle.std.proofs.Common.{◌≡◌, ℕ, zero, suc, ◌<◌, ℤ, List, [], ◌∷◌, ◌++◌, length, append_assoc, append-nil, None, Some, map, take, get_or, ap, sym, ◌∙◌, refl, arith, subst}
 use Rattle.std.specs.Option.{unwrap_or}
-use Rattle.std.proofs.lemmas.List.{length-map, map-append, same_lists}
-use Rattle.std.proofs.lemmas.List.Elements.{All-push, Contains-push, Contains-append_left}
-use Rattle.std.proofs.lemmas.List.Sorted.{All-permutation, Contains-permutation}
+use Rattle.std.proofs.lemmas.List.{map-append, same_lists}
 use Rattle.iim_dataset.specs.Format.Datasets.{Dataset}
 use Rattle.iim_fields.specs.Format.Ids.{Identity}
 use Rattle.iim_fields.specs.Format.Views.{first_data}
 use Rattle.iim_places.specs.Format.Admitted.{Value}
 use Rattle.iim_audit.specs.Format.Rows.{id_of, first_same, row_with, rows_after, report_of}
-use Rattle.iim_audit.specs.Repeats.{AreFilled, AreFresh, IsOrder, ids_of, place_cmp}
+use Rattle.iim_audit.specs.Repeats.{AreFilled, AreFresh, ids_of}
 use Rattle.iim_audit.specs.declared.row.AuditRow.{AuditRow}
-use Rattle.iim_audit.proofs.Firsts.{below_or_not}
 
 -- the rows of envelopes, none with its first one
 abbrev pub bare_rows : ℤ → List Value → List AuditRow
@@ -68,34 +62,9 @@ told_report now values new are =
     let row = get_or (bare_rows now values) i d in
     are.rows i d (omega arith) ∙ ap (λ (ids : List Identity). with_first (take i ids) row) (ids_bare now values) ∙ sym (row_at now [] values i d here))
 
--- indices of all rows, once they are sorted
-pub order_of : (old : List AuditRow) (order sorted : List ℕ) → All (λ i. i < length old) order → ((i : ℕ) → i < length old → Contains order i) → IsPermutation order sorted
-    → IsSortedBy (λ a b. is_lt (place_cmp (ids_of old) a b)) sorted → IsOrder (ids_of old) sorted
-order_of old order sorted below each moved in_order =
-    let id : AuditRow → Identity = λ row. row.id in
-    let counted : length (ids_of old) ≡ length old = length-map old id in
-    let all : All (λ i. i < length old) sorted = All-permutation (λ i. i < length old) order sorted moved below in
-    record {
-      below = λ k d there. subst (λ (n : ℕ). get_or sorted k d < n) (sym counted) (all k d there);
-      each = λ i there. Contains-permutation order sorted i moved (each i (omega arith));
-      sorted = in_order;
-    }
-
 -- the report of the rows so far
 pub report_told : (now : ℤ) (values : List Value) (old new : List AuditRow) → old ≡ bare_rows now values → AreFilled old new → new ≡ report_of now values
 report_told now values old new same are = told_report now values new (subst (λ (rows : List AuditRow). AreFilled rows new) same are)
-
--- one index more
-pub each_more : (order : List ℕ) (n m : ℕ) → m ≡ n + 1 → ((i : ℕ) → i < n → Contains order i) → (i : ℕ) → i < m → Contains (order ++ n ∷ []) i
-each_more order n m one each i there =
-    ⊎_elim (λ earlier. Contains-append_left order (n ∷ []) i (each i earlier))
-    (λ late.
-    let last : n ≡ i = omega (arith, one) in
-    subst (λ (k : ℕ). Contains (order ++ n ∷ []) k) last (Contains-push order n)) (below_or_not i n)
-
-pub below_more : (order : List ℕ) (n m : ℕ) → m ≡ n + 1 → All (λ i. i < n) order → All (λ i. i < m) (order ++ n ∷ [])
-below_more order n m one below =
-    All-push (λ i. i < m) order n (λ k d there. omega (arith, one, below k d there)) (omega (arith, one))
 
 -- the id that these data tell
 pub id_told : (fields : List Dataset) (id : Identity) (v : Value) → first_data 1 30 fields ≡ Some id.service → first_data 1 40 fields ≡ Some id.number

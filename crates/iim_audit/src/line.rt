@@ -1,11 +1,10 @@
-//! Lines of a report, in a fixed room.
+//! Lines of a report, in a fixed room. They are made from their end on, so that the digits of a number are written where they stay.
 
-ghost use Rattle.std.specs.Prelude.{◌≡◌, ◌+◌, ◌*◌, ◌≤◌, ◌<◌, [], ◌++◌, length};
+ghost use Rattle.std.specs.Prelude.{◌≡◌, ◌+◌, ◌*◌, ◌≤◌, [], ◌++◌, decimal, length};
 ghost use Rattle.iim_dataset.specs.Format.Shown.{shown, shown_octet};
 
-use arrayvec::ArrayVec;
 use iim_dataset::{escaped, is_plain};
-use itoa::{Buffer, Integer};
+use itoa::write_digits;
 use std::marker::Model;
 
 /// The most octets of a line, or more.
@@ -14,15 +13,19 @@ pub(crate) const ROOM: usize = 272;
 /// A line of a report, as it is printed. It takes no memory. Contracts see it as the list of its octets.
 #[derive(Drop)]
 pub struct ReportLine {
-    octets: ArrayVec<u8, ROOM>,
+    room: [u8; ROOM],
+    // Where the octets begin: they stand last in the room.
+    from: usize,
 }
 
 impl Model for ReportLine {
-    ghost use Rattle.std.specs.Prelude.{ℕ, List};
+    ghost use Rattle.std.specs.Prelude.{ℕ, ◌≤◌, List, drop};
 
     ghost Value = { List ℕ };
 
-    ghost view = { λ line. line.octets.items };
+    ghost view = { λ line. drop line.from line.room };
+
+    ghost invariant = { λ line. line.from ≤ 272 };
 }
 
 impl ReportLine {
@@ -31,7 +34,8 @@ impl ReportLine {
         ensures { result ≡ [] }
     {
         ReportLine {
-            octets: ArrayVec::new(),
+            room: [0; ROOM],
+            from: ROOM,
         }
     }
 
@@ -39,49 +43,53 @@ impl ReportLine {
     pub fn as_slice(&self) -> &[u8]
         ensures { result.now ≡ self.now }
     {
-        self.octets.as_slice()
+        &self.room[self.from..]
     }
 
-    /// Adds octets.
-    pub(crate) fn push(&mut self, octets: &[u8])
+    /// Adds octets at the front.
+    #[inline(always)]
+    pub(crate) fn prepend(&mut self, octets: &[u8])
         requires { length self.old + length octets.now ≤ ROOM }
-        ensures octets { self.new ≡ self.old ++ octets.now }
+        ensures octets { self.new ≡ octets.now ++ self.old }
         ensures len { length self.new ≡ length self.old + length octets.now }
     {
-        self.octets.try_extend_from_slice(octets).unwrap();
+        let from = self.from - octets.len();
+        self.room[from..self.from].copy_from_slice(octets);
+        self.from = from;
     }
 
-    /// Adds a number.
-    pub(crate) fn push_number<I: Integer>(&mut self, number: I)
-        requires { length self.old + I.MAX_STR_LEN ≤ ROOM }
-        ensures octets { self.new ≡ self.old ++ I.text number }
-        ensures len { length self.new ≤ length self.old + I.MAX_STR_LEN }
+    /// Adds a number at the front.
+    pub(crate) fn prepend_number(&mut self, number: u64)
+        requires { length self.old + 20 ≤ ROOM }
+        ensures octets { self.new ≡ decimal number ++ self.old }
+        ensures len { length self.new ≤ length self.old + 20 }
     {
-        let mut digits = Buffer::new();
-        self.push(digits.format(number).as_bytes());
+        self.from = write_digits(number, &mut self.room, self.from);
     }
 
-    /// Adds an octet as it is shown.
-    fn push_shown_octet(&mut self, octet: u8)
+    /// Adds an octet at the front, as it is shown.
+    fn prepend_shown_octet(&mut self, octet: u8)
         requires { length self.old + 4 ≤ ROOM }
-        ensures octets { self.new ≡ self.old ++ shown_octet octet }
+        ensures octets { self.new ≡ shown_octet octet ++ self.old }
         ensures len { length self.new ≤ length self.old + 4 }
     {
         if is_plain(octet) {
-            self.push(&[octet]);
+            self.prepend(&[octet]);
         } else {
-            self.push(&escaped(octet));
+            self.prepend(&escaped(octet));
         }
     }
 
-    /// Adds octets as they are shown.
-    pub(crate) fn push_shown(&mut self, octets: &[u8])
+    /// Adds octets at the front, as they are shown.
+    pub(crate) fn prepend_shown(&mut self, octets: &[u8])
         requires { length self.old + 4 * length octets.now ≤ ROOM }
-        ensures octets { self.new ≡ self.old ++ shown octets.now }
+        ensures octets { self.new ≡ shown octets.now ++ self.old }
         ensures len { length self.new ≤ length self.old + 4 * length octets.now }
     {
-        for octet in octets {
-            self.push_shown_octet(*octet);
+        let mut left = octets.len();
+        while left > 0 {
+            left -= 1;
+            self.prepend_shown_octet(octets[left]);
         }
     }
 }

@@ -1,21 +1,59 @@
 //! Which rows repeat an earlier one.
 
-ghost use Rattle.std.specs.Prelude.{◌≡◌, ℕ, ◌<◌, ◌+◌, Some, None, true, false, length, slice_index_or};
-ghost use Rattle.std.specs.List.{All, Contains};
+ghost use Rattle.std.specs.Prelude.{◌≡◌, ℕ, ◌<◌, ◌≤◌, ◌^◌, ◌+◌, Some, None, true, false, length, map, slice_index_or};
+ghost use Rattle.std.specs.List.{All};
 ghost use Rattle.std.specs.List.Sorted.{IsPermutation, IsSortedBy};
 ghost use Rattle.std.specs.Ordering.{is_lt};
 ghost use Rattle.iim_fields.specs.Format.Ids.{id_eq};
-ghost use Rattle.iim_audit.specs.Repeats.{AreFilled, AreFresh, IsOrder, by_id, ids_of, place_cmp};
+ghost use Rattle.iim_audit.specs.Repeats.{AreFilled, AreFresh, IsOrder, IsPlace, by_id, ids_of, index_at, index_cmp, key_at, key_of, place_cmp, place_of, places_of};
 ghost use Rattle.iim_audit.specs.declared.row.AuditRow.{AuditRow as Row};
 
 use crate::row::AuditRow;
+use iim_fields::EnvelopeId;
 use std::cmp::Ordering;
 
+/// How many indices there may be: a place has the index of its row below this, and above it the key of the row's id.
+const INDICES: u64 = 1 << 32;
+
+/// The key of an id: four bits of each octet of its number. So the keys of different numbers differ.
+fn key_of(id: &EnvelopeId) -> u32
+    ensures { result ≡ key_of id.now }
+{
+    let mut key: u32 = 0;
+    for octet in id.number() {
+        key = key.wrapping_mul(16).wrapping_add(u32::from(*octet % 16));
+    }
+    key
+}
+
+/// The place of the row at this index, which has this id.
+pub(crate) fn place_of(id: &EnvelopeId, index: u32) -> u64
+    ensures { result ≡ place_of id.now index }
+{
+    u64::from(key_of(id)) * INDICES + u64::from(index)
+}
+
+/// The key of a place.
+#[inline(always)]
+fn key_at(place: u64) -> u64
+    ensures { result ≡ key_at place }
+{
+    place / INDICES
+}
+
+/// The index of a place.
+#[inline(always)]
+fn index_at(place: u64) -> usize
+    ensures { result ≡ index_at place }
+{
+    (place % INDICES) as usize
+}
+
 /// How two rows stand to each other by their ids; one that is not there comes first.
-fn compare_ids(rows: &[AuditRow], a: u32, b: u32) -> Ordering
+fn compare_ids(rows: &[AuditRow], a: usize, b: usize) -> Ordering
     ensures { result ≡ by_id (ids_of rows.now) a b }
 {
-    match (rows.get(a as usize), rows.get(b as usize)) {
+    match (rows.get(a), rows.get(b)) {
         (None, None) => Ordering::Equal,
         (None, Some(_)) => Ordering::Less,
         (Some(_), None) => Ordering::Greater,
@@ -24,72 +62,90 @@ fn compare_ids(rows: &[AuditRow], a: u32, b: u32) -> Ordering
 }
 
 /// How the indices of two rows stand to each other: by their ids, and by themselves where these are the same.
-fn compare(rows: &[AuditRow], a: u32, b: u32) -> Ordering
-    ensures { result ≡ place_cmp (ids_of rows.now) a b }
+fn compare_indices(rows: &[AuditRow], a: usize, b: usize) -> Ordering
+    ensures { result ≡ index_cmp (ids_of rows.now) a b }
 {
     compare_ids(rows, a, b).then(a.cmp(&b))
 }
 
-/// Sorts the indices of rows by the ids of these, and by themselves where the ids are the same. It takes no memory.
-fn sort_by_id(rows: &[AuditRow], order: &mut [u32])
-    ensures permutation { IsPermutation order.old order.new }
-    ensures sorted { IsSortedBy (λ a b. is_lt (place_cmp (ids_of rows.now) a b)) order.new }
+/// How two places stand to each other: by their keys, and by their rows where these are the same.
+#[inline(always)]
+fn compare(rows: &[AuditRow], a: u64, b: u64) -> Ordering
+    ensures { result ≡ place_cmp (ids_of rows.now) a b }
 {
-    order.sort_unstable_by(|a, b| compare(rows, *a, *b));
+    match key_at(a).cmp(&key_at(b)) {
+        Ordering::Equal => compare_indices(rows, index_at(a), index_at(b)),
+        order => order,
+    }
 }
 
-/// The first row with the id of the row at `at`, where `group` is the first one with the id before it in the order.
-fn group_of(rows: &[AuditRow], group: u32, at: u32) -> u32
-    requires group { group < length rows.now }
-    requires at { at < length rows.now }
-    ensures within { result < length rows.now }
-    ensures same { (d : Row) → id_eq (slice_index_or rows.now at d).id (slice_index_or rows.now group d).id ≡ true
-        → result ≡ group }
-    ensures other { (d : Row) → id_eq (slice_index_or rows.now at d).id (slice_index_or rows.now group d).id ≡ false
-        → result ≡ at }
+/// Sorts the places of rows by their keys, by the ids of the rows where these are the same, and then by the indices. It takes no memory.
+fn sort_places(rows: &[AuditRow], places: &mut [u64])
+    ensures permutation { IsPermutation places.old places.new }
+    ensures sorted { IsSortedBy (λ a b. is_lt (place_cmp (ids_of rows.now) a b)) places.new }
 {
-    if rows[at as usize].id == rows[group as usize].id {
+    places.sort_unstable_by(|a, b| compare(rows, *a, *b));
+}
+
+/// The place of the first row with the id of the row at `place`, where `group` is that of the first one with the id before it in the order.
+/// Rows are looked at only where their keys are the same.
+#[inline(always)]
+fn group_of(rows: &[AuditRow], group: u64, place: u64) -> u64
+    requires group { IsPlace (ids_of rows.now) group }
+    requires place { IsPlace (ids_of rows.now) place }
+    ensures within { IsPlace (ids_of rows.now) result }
+    ensures same { (d : Row) → id_eq (slice_index_or rows.now (index_at place) d).id
+        (slice_index_or rows.now (index_at group) d).id ≡ true → index_at result ≡ index_at group }
+    ensures other { (d : Row) → id_eq (slice_index_or rows.now (index_at place) d).id
+        (slice_index_or rows.now (index_at group) d).id ≡ false → index_at result ≡ index_at place }
+{
+    if key_at(place) != key_at(group) {
+        return place;
+    }
+    if rows[index_at(place)].id == rows[index_at(group)].id {
         group
     } else {
-        at
+        place
     }
 }
 
 /// Tells the row at `at` the number of the row at `group`, where that came before.
-fn tell_first(row: &mut AuditRow, group: u32, at: u32)
+fn tell_first(row: &mut AuditRow, group: usize, at: usize)
     ensures told { group < at → row.new ≡ record (row.old) { first = Some (group + 1) } }
     ensures untold { (group < at → ⊥) → row.new ≡ row.old }
     ensures id { row.new.id ≡ row.old.id }
 {
     if group < at {
-        row.first = Some(u64::from(group) + 1);
+        row.first = Some(group as u64 + 1);
     }
 }
 
-/// Tells each row the number of the first one with its id, where that came before. The indices stand in the order of the ids.
-fn fill_firsts(rows: &mut [AuditRow], order: &[u32])
-    requires { All (λ i. i < length rows.old) order.now }
-    ensures filled { IsOrder (ids_of rows.old) order.now → AreFresh rows.old → AreFilled rows.old rows.new }
-    ensures ids { ids_of rows.new ≡ ids_of rows.old }
-{
-    let Some(first) = order.first() else {
-        return;
-    };
-    let mut group = *first;
-    for at in order {
-        group = group_of(rows, group, *at);
-        tell_first(&mut rows[*at as usize], group, *at);
-    }
-}
-
-/// Tells each row the number of the first one with its id, where that came before. The indices are those of all rows, in any
-/// order. It takes no memory.
-pub(crate) fn tell_repeats(rows: &mut [AuditRow], order: &mut [u32])
-    requires { All (λ i. i < length rows.old) order.old }
-    ensures filled { ((i : ℕ) → i < length rows.old → Contains order.old i) → AreFresh rows.old
+/// Tells each row the number of the first one with its id, where that came before. The places stand in the order of the ids.
+fn fill_firsts(rows: &mut [AuditRow], places: &[u64])
+    requires { All (IsPlace (ids_of rows.old)) places.now }
+    ensures filled { IsOrder (ids_of rows.old) (map index_at places.now) → AreFresh rows.old
         → AreFilled rows.old rows.new }
     ensures ids { ids_of rows.new ≡ ids_of rows.old }
 {
-    sort_by_id(rows, order);
-    fill_firsts(rows, order);
+    let Some(first) = places.first() else {
+        return;
+    };
+    let mut group = *first;
+    for place in places {
+        group = group_of(rows, group, *place);
+        let at = index_at(*place);
+        tell_first(&mut rows[at], index_at(group), at);
+    }
+}
+
+/// Tells each row the number of the first one with its id, where that came before. The places are those of all rows, in any
+/// order. It takes no memory.
+pub(crate) fn tell_repeats(rows: &mut [AuditRow], places: &mut [u64])
+    requires few { length (ids_of rows.old) ≤ 2 ^ 32 }
+    requires places { places.old ≡ places_of 0 (ids_of rows.old) }
+    ensures filled { AreFresh rows.old → AreFilled rows.old rows.new }
+    ensures ids { ids_of rows.new ≡ ids_of rows.old }
+{
+    sort_places(rows, places);
+    fill_firsts(rows, places);
 }

@@ -9,76 +9,77 @@ use crate::copy::CopyState;
 use crate::line::{ROOM, ReportLine};
 use crate::report::Report;
 use crate::row::AuditRow;
+use itoa::Buffer;
 use std::alloc::{AllocError, Global};
 
-/// Adds a number of seconds, or `-` where there is none.
-fn push_seconds(line: &mut ReportLine, seconds: Option<i64>)
+/// Adds a number of seconds at the front, or `-` where there is none.
+fn prepend_seconds(line: &mut ReportLine, seconds: Option<i64>)
     requires { length line.old + 20 ≤ ROOM }
-    ensures octets { line.new ≡ line.old ++ seconds_or_dash seconds }
+    ensures octets { line.new ≡ seconds_or_dash seconds ++ line.old }
     ensures len { length line.new ≤ length line.old + 20 }
 {
     match seconds {
-        None => line.push(b"-"),
-        Some(seconds) => line.push_number(seconds),
+        None => line.prepend(b"-"),
+        Some(seconds) => line.prepend(Buffer::new().format(seconds).as_bytes()),
     }
 }
 
-/// Adds a number, or `-` where there is none.
-fn push_number_or_dash(line: &mut ReportLine, number: Option<u64>)
+/// Adds a number at the front, or `-` where there is none.
+fn prepend_number_or_dash(line: &mut ReportLine, number: Option<u64>)
     requires { length line.old + 20 ≤ ROOM }
-    ensures octets { line.new ≡ line.old ++ number_or_dash number }
+    ensures octets { line.new ≡ number_or_dash number ++ line.old }
     ensures len { length line.new ≤ length line.old + 20 }
 {
     match number {
-        None => line.push(b"-"),
-        Some(number) => line.push_number(number),
+        None => line.prepend(b"-"),
+        Some(number) => line.prepend_number(number),
     }
 }
 
-/// Adds a row's number, and what its envelope is known by.
-fn push_id(line: &mut ReportLine, number: u64, row: &AuditRow)
+/// Adds a row's number at the front, and what its envelope is known by.
+fn prepend_id(line: &mut ReportLine, number: u64, row: &AuditRow)
     requires short { IsShort row.now.id }
-    requires empty { length line.old ≤ 0 }
-    ensures octets { line.new ≡ line.old ++ known_by number row.now }
-    ensures len { length line.new ≤ 79 }
+    requires room { length line.old ≤ 190 }
+    ensures { line.new ≡ known_by number row.now ++ line.old }
 {
-    line.push_number(number);
-    line.push(b" ");
-    line.push_shown(row.id.service());
-    line.push(b" ");
-    line.push(row.id.number());
-    line.push(b" ");
-    line.push(row.id.date_sent());
+    line.prepend(row.id.date_sent());
+    line.prepend(b" ");
+    line.prepend(row.id.number());
+    line.prepend(b" ");
+    line.prepend_shown(row.id.service());
+    line.prepend(b" ");
+    line.prepend_number(number);
 }
 
-/// Adds the sizes of a row, and its words.
-fn push_sizes(line: &mut ReportLine, row: &AuditRow)
-    requires { length line.old ≤ 90 }
-    ensures octets { line.new ≡ line.old ++ sizes_of row.now }
-    ensures len { length line.new ≤ 200 }
+/// Adds the sizes of a row at the front, and its words.
+fn prepend_sizes(line: &mut ReportLine, row: &AuditRow)
+    requires { length line.old ≤ 70 }
+    ensures octets { line.new ≡ sizes_of row.now ++ line.old }
+    ensures len { length line.new ≤ 175 }
 {
-    line.push(b" size ");
-    line.push_number(row.size);
-    line.push(b" subfiles ");
-    line.push_number(row.subfiles);
-    line.push(b" words ");
-    line.push_number(row.announced);
-    line.push(b"/");
-    line.push_number(row.counted);
+    line.prepend_number(row.counted);
+    line.prepend(b"/");
+    line.prepend_number(row.announced);
+    line.prepend(b" words ");
+    line.prepend_number(row.subfiles);
+    line.prepend(b" subfiles ");
+    line.prepend_number(row.size);
+    line.prepend(b" size ");
 }
 
-/// Adds the age of a row, which envelope it repeats, and whether its copy may be used.
-fn push_ages(line: &mut ReportLine, row: &AuditRow)
-    requires { length line.old ≤ 200 }
-    ensures { line.new ≡ line.old ++ ages_of row.now }
+/// Adds the age of a row at the front, which envelope it repeats, and whether its copy may be used.
+fn prepend_ages(line: &mut ReportLine, row: &AuditRow)
+    requires { length line.old ≤ 0 }
+    ensures octets { line.new ≡ ages_of row.now ++ line.old }
+    ensures len { length line.new ≤ 70 }
 {
-    line.push(b" age ");
-    push_seconds(line, row.age);
-    line.push(b" repeats ");
-    push_number_or_dash(line, row.first);
-    line.push(b" copy ");
-    line.push(row.copy.word().as_bytes());
-    line.push(b"\n");
+    line.prepend(b"\n");
+    line.prepend(row.copy.word().as_bytes());
+    line.prepend(b" copy ");
+    prepend_number_or_dash(line, row.first);
+    line.prepend(b" repeats ");
+    prepend_seconds(line, row.age);
+    line.prepend(b" age ");
 }
 
 /// The line of a row.
@@ -87,11 +88,11 @@ fn line_of(number: u64, row: &AuditRow) -> ReportLine
     ensures { result ≡ row_line number row.now }
 {
     let mut line = ReportLine::new();
-    push_id(&mut line, number, row);
-    line.push(b" priority ");
-    line.push(&[row.priority.unwrap_or(b'-')]);
-    push_sizes(&mut line, row);
-    push_ages(&mut line, row);
+    prepend_ages(&mut line, row);
+    prepend_sizes(&mut line, row);
+    line.prepend(&[row.priority.unwrap_or(b'-')]);
+    line.prepend(b" priority ");
+    prepend_id(&mut line, number, row);
     line
 }
 
@@ -137,12 +138,12 @@ impl Report {
     {
         let rows = self.rows();
         let mut line = ReportLine::new();
-        line.push_number(rows.len());
-        line.push(b" envelopes, ");
-        line.push_number(repeated(rows));
-        line.push(b" repeated, ");
-        line.push_number(held(rows));
-        line.push(b" held\n");
+        line.prepend(b" held\n");
+        line.prepend_number(held(rows) as u64);
+        line.prepend(b" repeated, ");
+        line.prepend_number(repeated(rows) as u64);
+        line.prepend(b" envelopes, ");
+        line.prepend_number(rows.len() as u64);
         line
     }
 }

@@ -1,11 +1,10 @@
 //! A piece of an envelope, from the place of a ticket on.
 
-ghost use Rattle.std.specs.Prelude.{◌≡◌, ◌≤◌, ◌↔◌, length, None, Ok, IsTrue, IfOk, IfErr, OnOk};
+ghost use Rattle.std.specs.Prelude.{◌≡◌, None, Ok, IfOk, IfErr, OnOk};
 ghost use Rattle.iim_unpack.specs.States.Unpacking.{IsDone, limits_in};
 ghost use Rattle.iim_c.specs.Format.Checking.{limits_for};
 ghost use Rattle.iim_c.specs.Format.Feeding.{IsFed};
 ghost use Rattle.iim_c.specs.Format.Saving.{IsSaved, short_with};
-ghost use Rattle.iim_c.specs.Format.Writing.{StandIn};
 ghost use Rattle.iim_c.specs.Steps.{HasFedText, HasRefusedText, refused_with, used_in};
 
 use crate::answer::{IimAnswer, refusal_answer, status_answer, ticket_answer};
@@ -94,18 +93,6 @@ fn used_of(progress: Progress, piece: usize) -> (u8, usize)
     }
 }
 
-/// Writes a ticket into a buffer, where it has room.
-fn put_ticket(ticket: &[u8], out: &mut [u8]) -> bool
-    ensures fits { IsTrue result ↔ (length ticket.now ≤ length out.old) }
-    ensures stands { StandIn out.new ticket.now }
-{
-    if ticket.len() > out.len() {
-        return false;
-    }
-    out[..ticket.len()].copy_from_slice(ticket);
-    true
-}
-
 /// The answer for progress, `told` as a status and how many octets of a piece were used: writes the ticket of the place that the
 /// unpacker has come to. Of what else is written it is said how much there is, and for how much there was room. Where either buffer is
 /// too short the answer tells the lengths that are needed; where memory is refused, it tells that.
@@ -120,20 +107,18 @@ pub fn saved(
     requires { unpacker.now.refused ≡ None }
     ensures { IsSaved unpacker.now told written room out.new result }
 {
-    let Ok(ticket) = unpacker.save(alloc) else {
+    let Ok(ticket) = unpacker.save_at(alloc, out) else {
         return status_answer(NO_MEMORY);
     };
-    let ticket = ticket.as_slice();
-    let fits = put_ticket(ticket, out);
-    if !fits || written > room {
-        return short_answer(written, ticket.len());
+    if ticket > out.len() || written > room {
+        return short_answer(written, ticket);
     }
     let (status, used) = told;
     IimAnswer {
         octet: unpacker.octets(),
         used,
         written,
-        ticket: ticket.len(),
+        ticket,
         ..status_answer(status)
     }
 }

@@ -1,5 +1,7 @@
 //! Where the text of a piece goes: a buffer of the caller's.
 
+ghost use Rattle.std.specs.Prelude.{[], ◌∷◌};
+
 use iim_dataset::Stop;
 use iim_dataset::octets::LF;
 use wire_story::StorySink;
@@ -15,14 +17,40 @@ pub struct TextOut<'t> {
 impl<'t> TextOut<'t> {
     ghost use Rattle.iim_c.specs.Format.Writing.{WritesOctets};
 
-    /// Takes octets.
-    fn put(&mut self, octets: &[u8])
+    /// Takes an octet.
+    #[inline(always)]
+    fn put_octet(&mut self, octet: u8)
+        ensures { WritesOctets self.old (octet ∷ []) self.new }
+    {
+        let from = self.count;
+        if from < self.out.len() {
+            self.out[from] = octet;
+            self.count = from + 1;
+            return;
+        }
+        self.count = from.saturating_add(1);
+    }
+
+    /// Takes a run of octets.
+    #[inline(never)]
+    fn put_run(&mut self, octets: &[u8])
         ensures { WritesOctets self.old octets.now self.new }
     {
         let from = self.count;
         self.count = from.saturating_add(octets.len());
         if self.count <= self.out.len() {
             self.out[from..self.count].copy_from_slice(octets);
+        }
+    }
+
+    /// Takes octets. A single one is written where it stands: a call that copies it would take longer.
+    #[inline(always)]
+    fn put(&mut self, octets: &[u8])
+        ensures { WritesOctets self.old octets.now self.new }
+    {
+        match octets {
+            [octet] => self.put_octet(*octet),
+            _ => self.put_run(octets),
         }
     }
 }
@@ -40,13 +68,15 @@ impl<'t> StorySink for TextOut<'t> {
 
     ghost joined = { writes_joined };
 
+    #[inline(always)]
     fn text(&mut self, run: &[u8]) -> Result<(), Stop> {
         self.put(run);
         Ok(())
     }
 
+    #[inline(always)]
     fn line_end(&mut self) -> Result<(), Stop> {
-        self.put(&[LF]);
+        self.put_octet(LF);
         Ok(())
     }
 }

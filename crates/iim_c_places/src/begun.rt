@@ -33,7 +33,7 @@ pub const ENDED: u8 = 3;
 #[repr(C)]
 #[derive(Clone, Copy, Debug, PartialEq, Eq)]
 pub struct IimBegun {
-    /// What is begun: nothing, a tag or data; or all has ended.
+    /// What is begun: 0 nothing, between datasets; 1 a tag; 2 data; 3 all has ended.
     pub kind: u8,
     /// The record of the last whole head, or 0 before the first.
     pub section: u8,
@@ -55,7 +55,7 @@ pub struct IimBegun {
     pub left: u64,
     /// The offset of the first octet of the begun tag or data.
     pub first: u64,
-    /// The offset of the first octet of the token that the next octet belongs to.
+    /// The offset of the first octet of the token that the next octet belongs to: a tag, a value, or in a subfile that octet alone.
     pub token: u64,
     /// Where the octets that have come of it stand in the ticket. Of a subfile none do.
     pub octets: IimSpan,

@@ -98,7 +98,8 @@ fn next_of(alloc: Global, limits: Limits, ticket: &[u8]) -> ([u8; 32], IimAnswer
     }
 }
 
-/// Tells which octets every layer takes next, after the octets that have led to a ticket, or of a new envelope where there is none.
+/// Tells which octets every layer takes next, after the octets that have led to a ticket, or of a new envelope where there is none. An
+/// octet is in the set exactly where the envelope could continue or would end with it.
 pub fn iim_next(
     alloc: Global,
     limits: IimLimits,

@@ -11,7 +11,6 @@ pub mod Lives
 pub mod OneOctet
 pub mod Reached
 pub mod Wholes
-pub mod PlainLanes
 -- What proofs of other crates cite.
 pub mod Telling
 pub mod StoppedTexts
@@ -24,3 +23,4 @@ pub mod OctetLists
 pub mod DeviceLaws
 pub mod Counts
 pub mod Lanes
+pub mod PlainLanes

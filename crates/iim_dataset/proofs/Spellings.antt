@@ -1,6 +1,6 @@
 -- No spelling of a dataset begins another, so octets have one splitting into datasets.
 use Rattle.std.proofs.Common.{◌≡◌, ℕ, ◌<◌, List, [], ◌∷◌, ◌++◌, length, refl, sym, ap, ◌∙◌, arith, inl, inr, append_assoc, append-nil, length-append}
-use Rattle.iim_dataset.specs.Format.Octets.{number, IsProperPrefix}
+use Rattle.iim_dataset.specs.Format.Octets.{number}
 use Rattle.iim_dataset.specs.Format.Datasets.{Dataset, head_of, SpellsCount, SpellsTag, SpellsDataset, SpellsStream}
 use Rattle.iim_dataset.specs.Format.Splits.{SplitsInto}
 use Rattle.iim_dataset.specs.declared.head.Head.{Head}
@@ -61,10 +61,6 @@ one_dataset limit d f o p x y s t e =
     let same : d.octets ≡ f.octets = both.0 in
     let joined : s.tag ++ d.octets ≡ t.tag ++ f.octets = cc in
     (dataset_is d f r n both.0, s.parts ∙ (joined ∙ sym t.parts), both.1)
-
--- less than a whole dataset
-IsPart : ℕ → List ℕ → Type 0
-IsPart limit t = (d : Dataset) × (o : List ℕ) × SpellsDataset limit d o × IsProperPrefix t o
 
 -- no part of a dataset begins with a whole one
 pub no_whole : (limit : ℕ) (d f : Dataset) (o p x more : List ℕ) → SpellsDataset limit d o → SpellsDataset limit f p → 0 < length more → (o ++ x) ++ more ≡ p → ⊥

@@ -95,8 +95,9 @@ impl HeadReader {
 
     /// Takes the next octets, and hands the sink what they complete: each head, the data in the longest runs that the octets
     /// hold, and each end of a dataset. It answers how many it used: all of them, or those up to the end of the dataset that the
-    /// sink called the last one. After that one a further call needs a sink that takes heads again, and reads the next tag. After a
-    /// refusal the reader has failed ([`HeadReader::is_failed`]), and takes no further call.
+    /// sink called the last one. After that one a further call needs a sink that takes heads again, and reads the next tag. A fault
+    /// stands at the first octet with which no tag can continue, or at the octet that completes what the sink refused. Then the
+    /// reader has failed ([`HeadReader::is_failed`]), and takes no further call.
     pub fn feed<D: DatasetSink>(&mut self, octets: &[u8], sink: &mut D) -> Result<usize, Fault>
         requires takes_calls { TakesCalls self.old }
         requires stands { D.stands sink.old (to_come self.old.place) }

@@ -4,6 +4,7 @@ ghost use Rattle.std.specs.Prelude.{◌≡◌, ◌+◌, ◌≤◌, ◌++◌, [],
 
 use std::alloc::{AllocError, Global};
 use std::marker::Model;
+use std::mem::replace;
 
 /// Octets in memory that is taken once, and never more: those that come after it was emptied lie over the earlier ones, and are
 /// copied there at once. Contracts see it as the octets, and how many there is room for.
@@ -26,16 +27,36 @@ impl Model for ReservedOctets {
     ghost invariant = { λ b. b.used ≤ vec_len b.places };
 }
 
-/// Writes octets at the end of all that was written, one by one into the room that there is.
-fn append(places: &mut Vec<u8>, octets: &[u8])
-    requires { vec_len places.old + length octets.now ≤ vec_capacity places.old }
-    ensures items { places.new.items ≡ places.old.items ++ octets.now }
-    ensures len { vec_len places.new ≡ vec_len places.old + length octets.now }
+/// How many places are opened at once, where there is room for them.
+const STEP: usize = 512;
+
+/// The places with so many more after them, each of 0. They are owned here, so that the compiler can write all of them at once.
+#[inline(always)]
+fn with_more(places: Vec<u8>, more: usize) -> Vec<u8>
+    requires { vec_len places + more ≤ vec_capacity places }
+    ensures front { take (vec_len places) result.items ≡ places.items }
+    ensures len { vec_len result ≡ vec_len places + more }
+    ensures room { vec_capacity result ≡ vec_capacity places }
+{
+    let mut places = places;
+    for _ in 0..more {
+        places.push_reserved(0);
+    }
+    places
+}
+
+/// Opens places after those that there are, at least so many: octets that come later find most of them open.
+fn open(places: &mut Vec<u8>, least: usize)
+    requires { vec_len places.old + least ≤ vec_capacity places.old }
+    ensures front { take (vec_len places.old) places.new.items ≡ places.old.items }
+    ensures len { vec_len places.old + least ≤ vec_len places.new }
     ensures room { vec_capacity places.new ≡ vec_capacity places.old }
 {
-    for &octet in octets {
-        places.push_reserved(octet);
-    }
+    let room = places.capacity() - places.len();
+    let more = least.max(STEP).min(room);
+    let none = Vec::new(*places.allocator());
+    let owned = replace(places, none);
+    *places = with_more(owned, more);
 }
 
 /// Copies octets over earlier ones, from a place on.
@@ -71,12 +92,11 @@ fn lengthen(places: &mut Vec<u8>, from: usize, octets: &[u8])
     requires longer { vec_len places.old ≤ from + length octets.now }
     requires fits { from + length octets.now ≤ vec_capacity places.old }
     ensures items { take (from + length octets.now) places.new.items ≡ take from places.old.items ++ octets.now }
-    ensures len { vec_len places.new ≡ from + length octets.now }
+    ensures len { from + length octets.now ≤ vec_len places.new }
     ensures room { vec_capacity places.new ≡ vec_capacity places.old }
 {
-    let (over, after) = octets.split_at(places.len() - from);
-    overwrite(places, from, over);
-    append(places, after);
+    open(places, from + octets.len() - places.len());
+    overwrite(places, from, octets);
 }
 
 impl ReservedOctets {

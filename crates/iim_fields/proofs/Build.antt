@@ -6,7 +6,7 @@ use Rattle.iim_dataset.specs.Format.Datasets.{Dataset, head_of}
 use Rattle.iim_dataset.specs.declared.head.Head.{Head}
 use Rattle.iim_fields.specs.Format.Faults.{record_fault, limits_fault, room_fault, value_fault, first_fault, is_kept, kept, joined, fault_on}
 use Rattle.iim_fields.specs.Format.Values.{data_of, number_told}
-use Rattle.iim_fields.specs.States.Checks.{HasChecked, IsChecking, HasTaken, IsRecordFault, IsValueFault}
+use Rattle.iim_fields.specs.States.Checks.{HasChecked, IsChecking, HasTaken, IsValueFault}
 use Rattle.iim_fields.specs.StoreLayout.{HasStored, fields_of}
 use Rattle.iim_fields.specs.Building.{IsBuilding}
 use Rattle.iim_fields.specs.States.Builders.{add_fault}
@@ -22,11 +22,6 @@ use Rattle.iim_fields.proofs.Sections.{taken_alive}
 -- the fault of a dataset whose record is kept
 pub add_fault_of : (limits : Limits) (ds : List Dataset) (d : Dataset) → is_kept d.rec ≡ true → add_fault limits ds d ≡ option_or (option_or (record_fault ds (head_of d)) (limits_fault limits ds (head_of d))) (value_fault d)
 add_fault_of limits ds d is = ap (λ (b : Bool). cond (not b) (Some (fault_on (head_of d) RecordOrder)) (option_or (first_fault limits ds (head_of d)) (value_fault d))) is
-
--- a fault of the head in the record layer
-pub added_record_fault : (limits : Limits) (ds : List Dataset) (d : Dataset) (fault : FieldFault) → is_kept d.rec ≡ true → IsRecordFault ds (head_of d) fault → add_fault limits ds d ≡ Some fault
-added_record_fault limits ds d fault is f =
-    add_fault_of limits ds d is ∙ ap (λ (o : Option FieldFault). option_or (option_or o (limits_fault limits ds (head_of d))) (value_fault d)) f.first
 
 -- the head was taken
 head_fine : (check : Option RecordPlace) (ds : List Dataset) (d : Dataset) → HasTaken check ds (head_of d) → record_fault ds (head_of d) ≡ None

@@ -124,10 +124,6 @@ checked_start values o first none = record { order = o; begun = None; at = refl;
 
 -- ---- places
 
--- the value of a dataset of this head is to come
-abbrev pub AwaitsValue : Option RecordPlace → Head → Type 0
-AwaitsValue check h = IsIn check h × (h.rec ≢ 8)
-
 -- the order of the place
 pub order_at : (place : RecordPlace) (o : Order) (b : Option Begun) → Some place ≡ Some (record { order = o; begun = b }) → place.order ≡ o
 order_at place o b e = ap (λ (p : RecordPlace). p.order) (same_Some place (record { order = o; begun = b }) e)
@@ -150,9 +146,6 @@ pub not_both : (check : Option RecordPlace) (o p : Order) (a : Option Begun) (be
 not_both check o p a begun e none f other = other (subst AwaitsNone (one_begun check o p a (Some begun) e f) none)
 
 -- ---- a head
-
-pub in_by : (new : RecordPlace) (h : Head) (row : Row) → new.begun ≡ Some (record { head = h; row = row }) → row_of h.rec h.set ≡ Some row → IsIn (Some new) h
-in_by new h row begun known = record { order = new.order; row = row; inside = (λ i. Some (record { order = new.order; begun = begun i })); known = known }
 
 -- the head was taken
 pub taken_by : EachRowHasValues → (old new : RecordPlace) (h : Head) (row : Row) → h.set < 256 → AddsHead old.order h new.order → new.begun ≡ Some (record { head = h; row = row }) → row_of h.rec h.set ≡ Some row
@@ -248,30 +241,9 @@ value_fault_by old begun xs fault is some ds h s =
       dead = λ alive. let none = value_no_fault ds (data_of h xs) alive in cc;
     }
 
--- some datasets and a head led to the place, and the value to the next
-pub place_closed : (old new : RecordPlace) (n : ℕ) (xs : List ℕ) (number : Option ℕ) → (h : Head) → IsIn (Some old) h → h.rec ≢ 8 → IsRecordPlace old
-    → ((ds : List Dataset) (h : Head) → IsChecking (Some old) ds h → HasChecked (Some new) (ds ++ data_of h xs ∷ []) × (number ≡ number_told (data_of h xs))) → IsRecordPlace new
-place_closed old new n xs number h inside other (inl (ds, s)) on = absurd (not_both (Some old) s.order inside.order s.begun (record { head = h; row = inside.row }) s.at s.none inside.inside other)
-place_closed old new n xs number h inside other (inr (ds, g, s)) on = inl (ds ++ data_of g xs ∷ [], (on ds g s).0)
-
 -- the head whose value is awaited is that of the begun dataset
 pub awaited_head : (place : RecordPlace) (begun : Begun) → place.begun ≡ Some begun → (h : Head) → IsIn (Some place) h → begun.head ≡ h
 awaited_head place begun is h s = ap (λ (b : Begun). b.head) (one_awaited place begun is s.order h s.row s.inside).1
 
 pub awaited_count : (place : RecordPlace) (begun : Begun) → place.begun ≡ Some begun → (h : Head) → IsIn (Some place) h → begun.head.count ≡ h.count
 awaited_count place begun is h s = ap (λ (k : Head). k.count) (awaited_head place begun is h s)
-
--- a subfile ended
-pub checked_ended : (old : RecordPlace) → TakesHead (Some old) → (new : RecordPlace) → new.order ≡ old.order → new.begun ≡ None → (ds : List Dataset) → HasChecked (Some old) ds → HasChecked (Some new) ds
-checked_ended old takes new order none ds s = record {
-  order = s.order;
-  begun = None;
-  at = λ i. Some (record { order = (order ∙ order_at old s.order s.begun s.at) i; begun = none i });
-  none = tt;
-  alive = s.alive;
-  tells = s.tells;
-}
-
-pub place_ended : (old : RecordPlace) → TakesHead (Some old) → (new : RecordPlace) → new.order ≡ old.order → new.begun ≡ None → IsRecordPlace old → IsRecordPlace new
-place_ended old takes new order none (inl (ds, s)) = inl (ds, checked_ended old takes new order none ds s)
-place_ended old takes new order none (inr (ds, h, s)) = absurd (not_both (Some old) takes.order s.order takes.begun (record { head = h; row = s.row }) takes.at takes.none s.inside s.value)

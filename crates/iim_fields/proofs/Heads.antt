@@ -1,14 +1,16 @@
 -- Where the head of a whole dataset may stand: in the present record, or as the first of the next one.
-use Rattle.std.proofs.Common.{◌≡◌, ℕ, Bool, true, false, not, ◌&&◌, ◌||◌, if◌then◌else◌, nat_eq, Option, Some, None, refl, ap, sym, ◌∙◌}
+use Rattle.std.proofs.Common.{◌≡◌, ◌≢◌, ℕ, Bool, true, false, not, ◌&&◌, ◌||◌, if◌then◌else◌, nat_eq, Option, Some, None, refl, ap, sym, ◌∙◌, inl, inr, ne_eqb}
 use Rattle.std.specs.Prelude.{is_none}
 use Rattle.std.specs.Option.{option_or, option_map}
 use Rattle.std.proofs.lemmas.Bool.{eq-eqb}
+use Rattle.std.proofs.lemmas.Bool.Decides.{eqb_tells}
 use Rattle.iim_dataset.specs.Format.Octets.{within}
 use Rattle.iim_dataset.specs.declared.head.Head.{Head}
 use Rattle.iim_tables.specs.Format.Rows.{row_of}
 use Rattle.iim_tables.specs.declared.shape.Row.{Row}
 use Rattle.iim_fields.specs.Format.Records.{after}
 use Rattle.iim_fields.specs.Format.Faults.{head_fault, row_fault, missing_fault, missing_of, is_in_order, is_first, fault_on}
+use Rattle.iim_fields.specs.NumberTaking.{admits_once}
 use Rattle.iim_fields.specs.declared.fault.FieldFault.{FieldFault}
 use Rattle.iim_fields.specs.declared.fault.FieldCause.TheVariants.{RecordOrder, Repeated, CountRange}
 use Rattle.iim_fields.proofs.Table.{not_record0, first_self}
@@ -85,3 +87,34 @@ pub more_once : (counted repeats seen b : Bool) → counted ≡ true → repeats
 more_once true true seen b e f is = absurd cc
 more_once true false seen b e f is = is
 more_once false repeats seen b e f is = absurd cc
+
+-- ---- as the first of the next record
+
+next_bits : (first repeats counted none : Bool) → (counted && (first && none)) ≡ none_told first false repeats counted first none
+next_bits true repeats true true = refl
+next_bits true repeats true false = refl
+next_bits true repeats false none = refl
+next_bits false repeats true none = refl
+next_bits false repeats false none = refl
+
+pub next_admitted : (present : ℕ) (has : ℕ → Bool) (h : Head) (row : Row) → row_of h.rec h.set ≡ Some row → h.rec ≢ present
+    → (within row.min row.max h.count && (is_first h.rec (after present) && is_none (missing_of present has))) ≡ is_none (head_fault present has h)
+next_admitted present has h row known other =
+    let none = is_none (missing_of present has) in
+    let counted = within row.min row.max h.count in
+    let first : Bool = is_first h.rec (after present) in
+    let apart : nat_eq h.rec present ≡ false = ne_eqb h.rec present other in
+    next_bits first row.repeats counted none
+    ∙ ((λ i. none_told ((sym apart i && not (nat_eq h.rec 0)) || first) (sym apart i && has h.set) row.repeats counted first none) ∙ sym (head_by present has h row known))
+
+-- ---- of a dataset that doesn't repeat
+
+pub once_admitted : (present : ℕ) (has : ℕ → Bool) (h : Head) (row : Row) → row_of h.rec h.set ≡ Some row → row.repeats ≡ false
+    → (within row.min row.max h.count && admits_once present has h.rec h.set) ≡ is_none (head_fault present has h)
+once_admitted present has h row known once =
+    let counted = within row.min row.max h.count in
+    let next : Bool = is_first h.rec (after present) && is_none (missing_of present has) in
+    elim (eqb_tells h.rec present) [
+      | inl same ↦ (λ i. counted && (if same.0 i then not (has h.set) else next)) ∙ ((λ i. counted && (sym once i || not (has h.set))) ∙ more_admitted present has h row known same.1)
+      | inr apart ↦ (λ i. counted && (if apart.0 i then not (has h.set) else next)) ∙ next_admitted present has h row known apart.1
+    ]

@@ -3,6 +3,7 @@ pub mod Tested
 pub mod Entries
 pub mod Table
 pub mod Heads
+pub mod Numbers
 pub mod Runs
 pub mod Follows
 pub mod Dies
@@ -19,6 +20,7 @@ pub mod Finish
 pub mod Keeping
 pub mod OnePlace
 pub mod Wholes
+pub mod Admitted
 pub mod Subfiles
 -- What proofs of other crates cite.
 pub mod Sections

@@ -23,7 +23,7 @@ use Rattle.iim_fields.specs.StoreLayout.{HasStored, IsStore, entries_of, fields_
 use Rattle.iim_fields.specs.States.Stores.{fields_from}
 use Rattle.iim_fields.specs.States.Standing.{FieldsPlace, IsBetween, IsInside, CanTake, CanClose, StandsAfter, StandsIn, IsHeadFault, IsOf, section_of, begun_head_of}
 use Rattle.iim_fields.specs.Format.Bounds.{IsWithin}
-use Rattle.iim_fields.specs.Reading.{place_of, StandsSomewhere, HasRoom, IsReading}
+use Rattle.iim_fields.specs.Reading.{place_of, StandsSomewhere, IsReading}
 use Rattle.iim_fields.specs.declared.limits.Limits.{Limits}
 use Rattle.iim_fields.specs.declared.store.Store.{Store}
 use Rattle.iim_fields.specs.declared.fault.FieldFault.{FieldFault}
@@ -61,10 +61,6 @@ no_room limits octets fields h fault some in_limits = passes (is_kept h.rec) (na
     passes true true false is low few some = let w = in_limits is in let all = le-leb (fields + 1) limits.fields w.fields_in in cc
     passes true false b is low few some = let w = in_limits is in let all = le-leb (octets + h.count) limits.octets w.octets_in in cc
     passes false a b is low few some = cc
-
-or_none : {X : Type 0} (a b : Option X) → a ≡ None → b ≡ None → option_or a b ≡ None
-or_none None b h k = k
-or_none (Some x) b h k = absurd cc
 
 -- ---- the store
 
@@ -143,29 +139,6 @@ holds_kept store ds is same = subst (λ (ks : List Dataset). HasStored store ks 
 
 -- ---- the start
 
-pub reading_start : (check : Option RecordPlace) (limits : Limits) (store : Store) → checks.AwaitsHead check → HasChecked check [] → store.octets.items ≡ [] → store.entries.items ≡ [] → HasRoom limits store
-    → StandsAfter (place_of check limits store []) [] × IsReading check limits store []
-reading_start check limits store between checked octets entries room =
-    let holds : HasStored store [] [] = record { entries = entries; octets = octets } in
-    let none : begun_octets store ≡ [] = begun_held store [] [] holds in
-    let stands : StandsAfter (place_of check limits store []) [] = record {
-      between = between;
-      checked = checked;
-      alive = checked.alive;
-      within = record { octets_in = omega arith; fields_in = omega arith };
-      kept_are = fields_held store [] [] holds;
-      taken_are = append-nil (begun_octets store) ∙ none;
-    } in (
-      stands,
-      record {
-        room = room;
-        store_is = store_is store [] [] holds;
-        stands = inr (inl ([], stands));
-        in_store = λ _ _ _. refl;
-        in_size = λ _ _ _. none;
-      },
-    )
-
 -- ---- where it stands
 
 -- nothing is begun
@@ -189,9 +162,6 @@ inside_in f h (inr (inr (ds, g, taken, s))) a = (ds, g, taken, s)
 
 pub head_in : (check : Option RecordPlace) (h : Head) → IsIn check h → begun_head check ≡ Some h
 head_in check h a = ap begun_head a.inside
-
-pub head_checking : (check : Option RecordPlace) (ds : List Dataset) (h : Head) → IsChecking check ds h → begun_head check ≡ Some h
-head_checking check ds h a = ap begun_head a.inside
 
 same_head : (g h : Head) (o : Option Head) → o ≡ Some g → o ≡ Some h → g ≡ h
 same_head g h o e f = let both = sym e ∙ f in cc
@@ -393,21 +363,6 @@ size_room values check limits store size k head r t is not_kept =
     let all = inside.to_come other in
     let size_is : begun_octets store ++ size ≡ size = ap (λ (ys : List ℕ). ys ++ size) (r.in_size head is not_kept) in
     omega (arith, all, fits, high, bound.1, ap (λ (ys : List ℕ). length ys) size_is)
-
--- the store has room for the octets
-pub store_room_for : (check : Option RecordPlace) (limits : Limits) (store : Store) (size : List ℕ) (k : ℕ) (head : Head) → IsReading check limits store size → CanTake (place_of check limits store size) k
-    → begun_head check ≡ Some head → is_kept head.rec ≡ true → length store.octets.items + k ≤ store.octets.room
-store_room_for check limits store size k head r t is keeps =
-    let (h, n, inside, other, fits) = t in
-    let a = inside.head in
-    let same : h ≡ head = head_is (place_of check limits store size) k head t is in
-    let (ds, g, taken, s) = inside_in (place_of check limits store size) h r.stands a in
-    let g_is = in_begun (place_of check limits store size) h a ds g taken s in
-    let w = s.within (ap (λ (k : Head). is_kept k.rec) (g_is ∙ same) ∙ keeps) in
-    let all : length (begun_octets store ++ size) + n ≡ g.count = inside.to_come other ∙ ap (λ (k : Head). k.count) (sym g_is) in
-    let alone = ap (λ (ys : List ℕ). length ys) (in_store_alone store size (r.in_store head is keeps)) in
-    let c = counts store (kept ds) (begun_octets store) (holds_kept store ds r.store_is s.kept_are) in
-    omega (arith, c.0, all, alone, w.octets_in, fits, r.room.octets)
 
 -- ---- the end of a dataset
 

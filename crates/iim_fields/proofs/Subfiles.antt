@@ -154,11 +154,6 @@ subfile_took values old new h small between t =
           record { order = s.order; begun = None; at = (λ i. Some (record { order = order i; begun = none i })); none = tt; alive = s.alive; tells = s.tells };
     }
 
-pub between_subfile : (old new : RecordPlace) (h : Head) → checks.AwaitsHead (Some old) → TakesSubfile old h new → checks.AwaitsHead (Some new)
-between_subfile old new h b t =
-    let none : new.begun ≡ None = t.begun ∙ none_begun old b in
-    record { order = new.order; between = λ i. Some (record { order = new.order; begun = none i }) }
-
 pub subfile_exactly : (old : RecordPlace) (h : Head) (b : Bool) → b ≡ is_none (head_fault old.order.rec (has_seen old.order) h) → (ds : List Dataset) → HasChecked (Some old) ds → b ≡ is_none (record_fault ds h)
 subfile_exactly old h b is ds s =
     let told : IsOrderOf old.order ds = subst (λ (o : Order). IsOrderOf o ds) (sym (order_at old s.order s.begun s.at)) s.tells in

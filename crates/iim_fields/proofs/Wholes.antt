@@ -1,6 +1,5 @@
 -- A whole dataset, taken at once.
-use Rattle.std.proofs.Common.{◌≡◌, ◌≢◌, ℕ, ◌+◌, ◌<◌, ◌≤◌, List, [], ◌∷◌, ◌++◌, length, get_or, ◌⊎◌, refl, ap, sym, subst, ◌∙◌, inl, inr, arith, Bool, true, false, not, if◌then◌else◌, nat_le, Option, Some, None}
-use Rattle.std.proofs.lemmas.Option.{same_Some}
+use Rattle.std.proofs.Common.{◌≡◌, ◌≢◌, ℕ, ◌+◌, ◌<◌, ◌≤◌, List, [], ◌∷◌, ◌++◌, length, get_or, ◌⊎◌, refl, ap, sym, subst, ◌∙◌, inl, inr, arith, append-nil, Bool, true, false, not, if◌then◌else◌, nat_le, Option, Some, None}
 use Rattle.std.specs.Prelude.{vec_len, vec_capacity, is_some, is_none}
 use Rattle.std.specs.Option.{option_or}
 use Rattle.iim_dataset.specs.Format.Datasets.{Dataset, head_of}
@@ -31,24 +30,20 @@ use Rattle.iim_fields.proofs.Table.{EachRowHasValues}
 use Rattle.iim_fields.proofs.Checking.{taken_by, checked_value, not_both, order_at, record_fault_is, none_begun}
 use Rattle.iim_fields.proofs.Build.{add_fault_of}
 use Rattle.iim_fields.proofs.Stand.Kept.{Passed}
-use Rattle.iim_fields.proofs.Stand.{taken_in_size, reading_passed, holds_after, room_fault_is, between_after, stands_in, reading_begun, head_in, store_room_for, reading_stored, entry_room, taken_in_store, stands_more, kept_in_store, kept_not_object, stands_closed, reading_kept}
+use Rattle.iim_fields.proofs.Stand.{taken_in_size, reading_passed, holds_after, room_fault_is, between_after, stands_in, reading_begun, head_in, reading_stored, taken_in_store, stands_more, kept_in_store, kept_not_object, stands_closed, reading_kept}
 
 pub none_where : {X : Type 0} (o : Option X) → is_none o ≡ true → o ≡ None
 none_where None e = refl
 none_where (Some x) e = absurd cc
 
+pub some_where : {X : Type 0} (o : Option X) → is_none o ≡ false → is_some o ≡ true
+some_where None e = absurd cc
+some_where (Some x) e = refl
+
 -- of two faults, whether none is told
 pub first_fails : (a b : Option FieldFault) → is_none a ≡ false → false ≡ is_none (option_or a b)
 first_fails None b e = absurd cc
 first_fails (Some f) b e = refl
-
-pub second_fails : (a b : Option FieldFault) → is_none b ≡ false → false ≡ is_none (option_or a b)
-second_fails None b e = sym e
-second_fails (Some f) b e = refl
-
-pub neither_fails : (a b : Option FieldFault) → is_none a ≡ true → is_none b ≡ true → true ≡ is_none (option_or a b)
-neither_fails None b e f = sym f
-neither_fails (Some x) b e f = absurd cc
 
 -- ---- the check
 
@@ -74,11 +69,6 @@ pub took_by : EachRowHasValues → (old new : RecordPlace) (h : Head) (xs : List
     → TookWhole (Some old) (Some new) h xs
 took_by values old new h xs small between count octets t =
     took_whole values old new h t.row xs small t.adds (t.begun ∙ none_begun old between) t.known t.no_fault count octets t.fine
-
-pub between_by : (old new : RecordPlace) (h : Head) (xs : List ℕ) → checks.AwaitsHead (Some old) → TakesWhole old h xs new → checks.AwaitsHead (Some new)
-between_by old new h xs b t =
-    let none : new.begun ≡ None = t.begun ∙ ap (λ (p : RecordPlace). p.begun) (same_Some old (record { order = b.order; begun = None }) b.between) in
-    record { order = new.order; between = λ i. Some (record { order = new.order; begun = none i }) }
 
 pub place_either : (old new : RecordPlace) (h : Head) (xs : List ℕ) (b : Bool) → checks.AwaitsHead (Some old) → h.rec ≢ 8 → IsRecordPlace old → (b ≡ true → TookWhole (Some old) (Some new) h xs) → (b ≡ false → new ≡ old)
     → IsRecordPlace new
@@ -129,6 +119,14 @@ whole_within check limits store size h xs b is count keeps none exactly ds s =
 
 -- ---- the records
 
+-- between datasets, what is kept is within the limits
+pub octets_within : (check : Option RecordPlace) (limits : Limits) (store : Store) (size : List ℕ) → IsReading check limits store size → checks.AwaitsHead check → length store.octets.items ≤ limits.octets
+octets_within check limits store size r between =
+    let (ds, s) = between_after (place_of check limits store size) r.stands between in
+    let same : length store.octets.items ≡ kept_octets ds =
+    ap (λ (ys : List ℕ). length ys) ((holds_after check limits store size ds r.store_is s).octets ∙ append-nil (faults.joined (faults.kept ds))) in
+    omega (arith, same, s.within.octets_in)
+
 -- The check took the dataset, which is one that is kept and within the limits.
 pub record Whole (check new : Option RecordPlace) (limits : Limits) (store : Store) (size : List ℕ) (h : Head) (xs : List ℕ) : Type 0 where
   pub reading : IsReading check limits store size
@@ -153,21 +151,11 @@ mid_takes check new limits store size h xs w =
     let (ds, s) = between_after (place_of check limits store size) w.reading.stands w.between in
     (h, h.count, record { head = w.took.inside; to_come = λ _. omega (arith, ap (λ (ys : List ℕ). length ys) s.taken_are) }, kept_not_object h.rec w.keeps, omega (arith, w.count))
 
-pub whole_room : (check new : Option RecordPlace) (limits : Limits) (store : Store) (size : List ℕ) (h : Head) (xs : List ℕ) → Whole check new limits store size h xs
-    → length store.octets.items + length xs ≤ store.octets.room
-whole_room check new limits store size h xs w =
-    store_room_for w.took.mid limits store size (length xs) h (mid_reading check new limits store size h xs w) (mid_takes check new limits store size h xs w) (head_in w.took.mid h w.took.inside) w.keeps
-
 mid_stored : (check new : Option RecordPlace) (limits : Limits) (store taken : Store) (size : List ℕ) (h : Head) (xs : List ℕ) → (w : Whole check new limits store size h xs)
     → taken.octets.items ≡ store.octets.items ++ xs → taken.entries ≡ store.entries → taken.octets.room ≡ store.octets.room → IsReading w.took.mid limits taken size
 mid_stored check new limits store taken size h xs w octets entries room =
     reading_stored w.took.mid limits store taken size xs h (mid_reading check new limits store size h xs w) (mid_takes check new limits store size h xs w) (head_in w.took.mid h w.took.inside) w.keeps octets entries room
     w.small
-
-pub whole_entry : (check new : Option RecordPlace) (limits : Limits) (store taken : Store) (size : List ℕ) (h : Head) (xs : List ℕ) → Whole check new limits store size h xs
-    → taken.octets.items ≡ store.octets.items ++ xs → taken.entries ≡ store.entries → taken.octets.room ≡ store.octets.room → vec_len taken.entries < vec_capacity taken.entries
-whole_entry check new limits store taken size h xs w octets entries room =
-    entry_room w.took.mid limits taken size h (mid_stored check new limits store taken size h xs w octets entries room) w.took.inside w.keeps
 
 pub whole_stands : (check new : Option RecordPlace) (limits : Limits) (store taken kept : Store) (size : List ℕ) (h : Head) (xs : List ℕ) → (w : Whole check new limits store size h xs)
     → taken.octets.items ≡ store.octets.items ++ xs → taken.entries ≡ store.entries → taken.octets.room ≡ store.octets.room

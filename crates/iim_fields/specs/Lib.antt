@@ -9,6 +9,7 @@ pub mod NumberSets
 pub mod OrderChanges
 pub mod StoreLayout
 pub mod Checking
+pub mod NumberTaking
 pub mod Reading
 pub mod Building
 pub mod IdLaws

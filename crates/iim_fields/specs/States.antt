@@ -4,3 +4,4 @@ pub mod Stores
 pub mod Standing
 pub mod Builders
 pub mod Walks
+pub mod Admitting

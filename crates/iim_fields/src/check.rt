@@ -1,6 +1,6 @@
 //! The record layer alone: the heads and values of an envelope's datasets, one by one.
 
-ghost use Rattle.std.specs.Prelude.{◌≡◌, ◌≢◌, false, List, [], ◌∷◌, ◌++◌, length, Option, is_none, Some, None, IsSome, IfOk, IfErr, OnOk, OnErr, ◌↔◌, IsTrue};
+ghost use Rattle.std.specs.Prelude.{◌≡◌, ◌≢◌, ◌⊎◌, ℕ, false, List, [], ◌∷◌, ◌++◌, length, Option, is_none, Some, None, IsSome, IfOk, IfErr, OnOk, OnErr, ◌↔◌, IsTrue};
 ghost use Rattle.std.specs.Option.{ForSome};
 ghost use Rattle.iim_dataset.specs.Format.Datasets.{Dataset};
 ghost use Rattle.iim_dataset.specs.declared.head.Head.{Head as HeadValue};
@@ -8,13 +8,15 @@ ghost use Rattle.iim_fields.specs.Format.Faults.{head_fault, section_after, reco
 ghost use Rattle.iim_fields.specs.States.Orders.{has_seen};
 ghost use Rattle.iim_fields.specs.OrderChanges.{AddsHead};
 ghost use Rattle.iim_fields.specs.Format.Values.{number_told, data_of};
+ghost use Rattle.iim_fields.specs.States.Admitting.{Spells};
+ghost use Rattle.iim_fields.specs.NumberTaking.{MayTake};
 ghost use Rattle.iim_fields.specs.States.Checks.{begun_head, section_at, TakesHead, TakesValue, AwaitsHead, IsIn, HasChecked, IsChecking, HasTaken, IsRecordFault, IsValueFault, HasEnded};
 ghost use Rattle.iim_fields.specs.Checking.{missing_at, place_fault, record_layer_fault, IsRecordPlace, TakesSubfile, TakesWhole, TookSubfile, TookWhole};
 ghost use Rattle.iim_fields.specs.declared.check.RecordPlace.{RecordPlace as PlaceValue};
 
 use crate::fault::FieldFault;
 use crate::order::Order;
-use crate::value::{check_value, is_value};
+use crate::value::{check_value, is_number, is_value};
 use iim_dataset::Head;
 use iim_tables::laws::each_row_has_values;
 use iim_tables::records::POST_OBJECT;
@@ -237,6 +239,37 @@ impl RecordCheck {
         each_row_has_values();
         match &mut self.place {
             Some(place) => place.whole(head, octets),
+            None => unreachable!(),
+        }
+    }
+
+    /// Whether a whole dataset of record 7 or 9 may come, whose data spell this number.
+    #[inline(always)]
+    pub(crate) fn admits_number(&self, head: Head, number: u64) -> bool
+        requires between { AwaitsHead self.now }
+        requires number { (head.rec ≡ 7) ⊎ (head.rec ≡ 9) }
+        ensures { (place : PlaceValue) (xs : List ℕ) → self.now ≡ Some place → Spells xs head number
+            → result ≡ is_none (place_fault place head xs) }
+    {
+        match &self.place {
+            Some(place) => is_number(head, number) && place.order.admits_once(head),
+            None => unreachable!(),
+        }
+    }
+
+    /// Takes a whole dataset, which is no subfile and may come.
+    #[inline(always)]
+    pub(crate) fn put(&mut self, head: Head)
+        requires between { AwaitsHead self.old }
+        requires value { head.rec ≢ 8 }
+        requires admitted { (xs : List ℕ) × MayTake self.old head xs }
+        ensures took { (xs : List ℕ) → MayTake self.old head xs → TookWhole self.old self.new head xs }
+        ensures section { section_at self.new ≡ head.rec }
+        ensures between { AwaitsHead self.new }
+    {
+        each_row_has_values();
+        match &mut self.place {
+            Some(place) => place.order.take(head),
             None => unreachable!(),
         }
     }

@@ -48,6 +48,18 @@ pub(crate) fn room_fault(
     None
 }
 
+/// Whether a dataset more of this head is kept within the limits, after `octets` kept octets and `fields` kept datasets: `room_fault`
+/// has nothing to tell.
+#[inline(always)]
+fn has_room(limits: Limits, octets: usize, fields: usize, head: Head) -> bool
+    requires kept { IsTrue (is_kept head.rec) }
+    requires within { octets ≤ limits.octets }
+    ensures { result ≡ is_none (room_fault limits octets fields head) }
+{
+    head.count <= u64::from(limits.octets) - octets as u64
+        && (fields as u64) < u64::from(limits.fields)
+}
+
 /// A reader of the datasets of an envelope: it checks them one by one, and keeps those of records 1 and 2. Contracts see it as
 /// where its check stands, its limits, the datasets that it has kept, the octets that it has taken of a begun one, and what it has
 /// room for, which stays as it was made.
@@ -76,6 +88,7 @@ impl Fields {
     ghost use Rattle.iim_fields.specs.Format.Faults.{section_after};
     ghost use Rattle.iim_fields.specs.States.Walks.{rest_of};
     ghost use Rattle.iim_fields.specs.States.Standing.{limits_of, room_of, section_of, begun_head_of, room_for, IsFailed, IsBetween, IsInside, CanTake, CanClose, StandsAfter, StandsIn, TookDataset, PassesSubfile, SameBounds, IsHeadFault, IsOf, IsEnded};
+    ghost use Rattle.iim_fields.specs.States.Admitting.{Spells, Admits};
     ghost use Rattle.iim_fields.specs.States.Builders.{add_fault};
 
     /// At the beginning of an envelope, with memory for just what the limits allow: no later call takes any. An error says that
@@ -203,7 +216,7 @@ impl Fields {
             return false;
         }
         let kept = self.store.octets.len();
-        if room_fault(self.limits, kept, self.store.entries.len(), head).is_some() {
+        if !has_room(self.limits, kept, self.store.entries.len(), head) {
             return false;
         }
         if !self.check.whole(head, octets) {
@@ -214,22 +227,32 @@ impl Fields {
         true
     }
 
-    /// Takes a whole dataset of record 7 or 9, its head and all of its data, as `begin`, `bytes` and `close` take it; or changes
-    /// nothing, and answers false, where its head or its value has a fault. Then these calls tell the fault.
+    /// Whether a whole dataset of record 7 or 9 may come, whose data spell this number: `begin`, `bytes` and `close` would take its head
+    /// and any such data. Else these calls tell the fault.
     #[inline(always)]
-    pub fn whole_number(&mut self, head: Head, octets: &[u8]) -> bool
+    pub fn admits_number(&self, head: Head, number: u64) -> bool
+        requires between { IsBetween self.now }
+        requires number { (head.rec ≡ 7) ⊎ (head.rec ≡ 9) }
+        requires spelled { (octets : List ℕ) × Spells octets head number }
+        ensures exactly { (ds : List Dataset) (octets : List ℕ) → StandsAfter self.now ds → Spells octets head number
+            → result ≡ is_none (option_or (first_fault (limits_of self.now) ds head)
+            (value_fault (data_of head octets))) }
+    {
+        self.check.admits_number(head, number)
+    }
+
+    /// Takes a whole dataset of record 7 or 9, its head and all of its data, as `begin`, `bytes` and `close` take it: one that may come,
+    /// as `admits_number` tells.
+    #[inline(always)]
+    pub fn put_number(&mut self, head: Head)
         requires between { IsBetween self.old }
         requires number { (head.rec ≡ 7) ⊎ (head.rec ≡ 9) }
-        requires count { head.count ≡ length octets.now }
-        ensures exactly { (ds : List Dataset) → StandsAfter self.old ds
-            → result ≡ is_none (option_or (first_fault (limits_of self.old) ds head)
-            (value_fault (data_of head octets.now))) }
-        ensures took { IsTrue result → TookDataset self.old head octets.now self.new }
+        requires admitted { (octets : List ℕ) × Admits self.old head octets }
+        ensures took { (octets : List ℕ) → Admits self.old head octets → TookDataset self.old head octets self.new }
         ensures between { IsBetween self.new }
-        ensures left { result ≡ false → self.new ≡ self.old }
         ensures bounds { SameBounds self.old self.new }
     {
-        self.check.whole(head, octets)
+        self.check.put(head);
     }
 
     /// Takes a whole subfile, its head and its end, as `begin` and `close` take it, whatever it has; or changes nothing, and answers

@@ -7,6 +7,7 @@ ghost use Rattle.iim_tables.specs.Format.Rows.{row_of};
 ghost use Rattle.iim_fields.specs.Format.Faults.{head_fault, row_fault, missing_of, missing_fault, is_in_order, is_first};
 ghost use Rattle.iim_fields.specs.Format.Records.{after};
 ghost use Rattle.iim_fields.specs.States.Orders.{has_seen};
+ghost use Rattle.iim_fields.specs.NumberTaking.{admits_once};
 ghost use Rattle.iim_fields.specs.OrderChanges.{AddsHead, end_fault, is_subfile_head, no_application, nothing, takes_subfile};
 
 use crate::fault::{FieldCause, FieldFault};
@@ -229,6 +230,18 @@ impl Order {
         ensures bounds { IsTrue result → IsInRange row.now.min row.now.max head.count }
     {
         is_counted(head, row) && self.may_begin(head.rec)
+    }
+
+    /// Whether the head of a dataset may stand next that doesn't repeat, and is counted as its row allows: what `admits_more` and
+    /// `admits_next` ask then.
+    #[inline(always)]
+    pub(crate) fn admits_once(&self, head: Head) -> bool
+        ensures { result ≡ admits_once self.now.rec (has_seen self.now) head.rec head.set }
+    {
+        if head.rec == self.rec {
+            return !self.seen.contains(head.set);
+        }
+        self.may_begin(head.rec)
     }
 
     /// Whether a subfile may come next.

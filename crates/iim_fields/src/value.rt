@@ -5,15 +5,20 @@ ghost use Rattle.iim_tables.specs.Format.Rows.{row_of};
 ghost use Rattle.iim_fields.specs.Format.Faults.{value_fault};
 ghost use Rattle.std.specs.Int.{IsInRange};
 ghost use Rattle.iim_tables.specs.Format.Numbers.{size_octets};
+ghost use Rattle.iim_tables.specs.Format.Kinds.{has_kind};
 ghost use Rattle.iim_tables.specs.Format.Records.{has_file_format};
 ghost use Rattle.iim_fields.specs.Format.Values.{data_of, number_told};
 ghost use Rattle.iim_fields.specs.Checking.{HasNumberValues};
+ghost use Rattle.iim_fields.specs.NumberTaking.{is_number};
 
 use crate::fault::{FieldCause, FieldFault};
 use crate::order::fault_on;
-use iim_dataset::Head;
-use iim_tables::records::{ENVELOPE, FILE_FORMAT, POST_OBJECT, PRE_OBJECT};
-use iim_tables::{Row, admits, has_kind, number_of};
+use iim_dataset::{GREATEST_SIZE, Head};
+use iim_tables::records::{
+    ANNOUNCED_SIZE, CONFIRMED_SIZE, ENVELOPE, FILE_FORMAT, MAX_SUBFILE_SIZE, MAXIMUM_SIZE,
+    POST_OBJECT, PRE_OBJECT, SIZE_MODE,
+};
+use iim_tables::{Kind, Row, admits, has_kind, number_of};
 
 /// The file format of a text for wire services, which the profile asks for.
 const WIRE_FORMAT: u64 = 2;
@@ -45,6 +50,17 @@ fn value_fault(head: Head, row: &Row, octets: &[u8]) -> Option<FieldFault>
     None
 }
 
+/// Whether the octets are of the kind. Any octets are a binary number: that is told without a call.
+#[inline(always)]
+fn is_of_kind(kind: Kind, octets: &[u8]) -> bool
+    ensures { result ≡ has_kind kind octets.now }
+{
+    match kind {
+        Kind::Binary => true,
+        _ => has_kind(kind, octets),
+    }
+}
+
 /// Whether a value that is as long as its row allows has no fault for `value_fault` to tell.
 #[inline(always)]
 pub(crate) fn is_value(head: Head, row: &Row, octets: &[u8]) -> bool
@@ -52,7 +68,23 @@ pub(crate) fn is_value(head: Head, row: &Row, octets: &[u8]) -> bool
     requires bounds { IsInRange row.now.min row.now.max (length octets.now) }
     ensures { result ≡ is_none (value_fault (data_of head octets.now)) }
 {
-    has_kind(row.kind, octets) && has_file_format(head, octets)
+    is_of_kind(row.kind, octets) && has_file_format(head, octets)
+}
+
+/// Whether a dataset of record 7 or 9 may have this number, spelled by as many octets as its head counts.
+#[inline(always)]
+pub(crate) fn is_number(head: Head, number: u64) -> bool
+    ensures { result ≡ is_number head number }
+{
+    if head.rec == POST_OBJECT {
+        return head.set == CONFIRMED_SIZE && number <= GREATEST_SIZE;
+    }
+    match head.set {
+        SIZE_MODE => head.count == 1 && number <= 1,
+        MAX_SUBFILE_SIZE => 1 <= number && number <= GREATEST_SIZE,
+        ANNOUNCED_SIZE | MAXIMUM_SIZE => number <= GREATEST_SIZE,
+        _ => false,
+    }
 }
 
 /// The number that a value of record 7 or 9 tells.

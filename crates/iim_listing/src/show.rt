@@ -1,14 +1,15 @@
 //! `show`: all parts of each envelope but its story.
 
-ghost use Rattle.std.specs.Prelude.{◌≡◌, ◌++◌, OnOk, codes, decimal};
+ghost use Rattle.std.specs.Prelude.{◌≡◌, ◌+◌, ◌≤◌, ◌++◌, length, drop, OnOk, codes, decimal};
 ghost use Rattle.iim_dataset.specs.Format.Shown.{number_or_dash};
 ghost use Rattle.iim_object.specs.Format.Sizes.{mode_number};
 ghost use Rattle.iim_listing.specs.Format.Texts.{number_line, shown_of, sizes_line};
 
 use crate::list::EnvelopeLines;
 use iim_object::Sizes;
-use iim_script::{push_decimal, push_fields, push_message, push_trailer};
+use iim_script::{push_decimal, push_fields, push_message, push_trailer, write_word};
 use iim_unpack::UnpackedRef;
+use itoa::write_digits;
 use std::alloc::AllocError;
 
 /// Tells the fields of each envelope, the header and the trailer of its message, and its sizes.
@@ -50,16 +51,27 @@ fn push_counted(text: &mut Vec<u8>, word: &[u8], number: u64) -> Result<(), Allo
     push_decimal(text, number)
 }
 
-/// Adds a word, and after it a number, or `-` where there is none.
-fn push_stated(text: &mut Vec<u8>, word: &[u8], number: Option<u64>) -> Result<(), AllocError>
-    ensures { OnOk result (text.new.items ≡ text.old.items ++ (word.now ++ number_or_dash number)) }
+/// Writes a number before a place of a line, and answers where it begins.
+#[inline(always)]
+fn write_number(number: u64, line: &mut [u8], end: usize) -> usize
+    requires { 20 ≤ end × end ≤ length line.old }
+    ensures room { result ≤ end × end ≤ result + 20 }
+    ensures written { drop result line.new ≡ decimal number ++ drop end line.old }
 {
-    let Some(number) = number else {
-        text.extend_from_slice(word)?;
-        text.push(b'-')?;
-        return Ok(());
-    };
-    push_counted(text, word, number)
+    write_digits(number, line, end)
+}
+
+/// Writes a number before a place of a line, or `-` where there is none, and answers where it begins.
+#[inline(always)]
+fn write_stated(number: Option<u64>, line: &mut [u8], end: usize) -> usize
+    requires { 20 ≤ end × end ≤ length line.old }
+    ensures room { result ≤ end × end ≤ result + 20 }
+    ensures written { drop result line.new ≡ number_or_dash number ++ drop end line.old }
+{
+    match number {
+        Some(number) => write_number(number, line, end),
+        None => write_word(b"-", line, end),
+    }
 }
 
 /// The size mode: 1 where the size is known at the start.
@@ -69,36 +81,47 @@ fn mode(known: bool) -> u64
     if known { 1 } else { 0 }
 }
 
-/// Adds the first half of the line of sizes.
-fn push_counts(text: &mut Vec<u8>, sizes: Sizes) -> Result<(), AllocError>
-    ensures { OnOk result (text.new.items ≡ text.old.items
-        ++ (codes "object " ++ (decimal sizes.total
+/// Writes the first half of the line of sizes before a place of a line, and answers where it begins.
+fn write_counts(sizes: Sizes, line: &mut [u8], end: usize) -> usize
+    requires { 92 ≤ end × end ≤ length line.old }
+    ensures { drop result line.new ≡ codes "object " ++ (decimal sizes.total
         ++ (codes " octets, " ++ (decimal sizes.subfiles
-        ++ (codes " subfiles, mode " ++ decimal (mode_number sizes.known))))))) }
+        ++ (codes " subfiles, mode " ++ (decimal (mode_number sizes.known) ++ drop end line.old))))) }
 {
-    push_counted(text, b"object ", sizes.total)?;
-    push_counted(text, b" octets, ", sizes.subfiles)?;
-    push_counted(text, b" subfiles, mode ", mode(sizes.known))
+    let known = write_number(mode(sizes.known), line, end);
+    let mode = write_word(b" subfiles, mode ", line, known);
+    let subfiles = write_number(sizes.subfiles, line, mode);
+    let octets = write_word(b" octets, ", line, subfiles);
+    let total = write_number(sizes.total, line, octets);
+    write_word(b"object ", line, total)
 }
 
-/// Adds the second half of it.
-fn push_bounds(text: &mut Vec<u8>, sizes: Sizes) -> Result<(), AllocError>
-    ensures { OnOk result (text.new.items ≡ text.old.items
-        ++ (codes ", limit " ++ (decimal sizes.subfile
+/// Writes the second half of it before a place of a line, and answers where it begins.
+fn write_bounds(sizes: Sizes, line: &mut [u8], end: usize) -> usize
+    requires { 91 ≤ end × end ≤ length line.old }
+    ensures start { end ≤ result + 91 }
+    ensures written { drop result line.new ≡ codes ", limit " ++ (decimal sizes.subfile
         ++ (codes ", announced " ++ (number_or_dash sizes.announced
-        ++ (codes ", maximum " ++ (number_or_dash sizes.maximum ++ codes "\n"))))))) }
+        ++ (codes ", maximum " ++ (number_or_dash sizes.maximum ++ (codes "\n" ++ drop end line.old)))))) }
 {
-    push_counted(text, b", limit ", sizes.subfile)?;
-    push_stated(text, b", announced ", sizes.announced)?;
-    push_stated(text, b", maximum ", sizes.maximum)?;
-    text.push(b'\n')?;
-    Ok(())
+    let end_of_line = write_word(b"\n", line, end);
+    let greatest = write_stated(sizes.maximum, line, end_of_line);
+    let maximum = write_word(b", maximum ", line, greatest);
+    let stated = write_stated(sizes.announced, line, maximum);
+    let announced = write_word(b", announced ", line, stated);
+    let subfile = write_number(sizes.subfile, line, announced);
+    write_word(b", limit ", line, subfile)
 }
+
+/// The most octets of the line of sizes, or more: six numbers of up to 20 digits, and 63 octets.
+const SIZES: usize = 192;
 
 /// Adds the line of the object's sizes.
 fn push_sizes(text: &mut Vec<u8>, sizes: Sizes) -> Result<(), AllocError>
     ensures { OnOk result (text.new.items ≡ text.old.items ++ sizes_line sizes) }
 {
-    push_counts(text, sizes)?;
-    push_bounds(text, sizes)
+    let mut line = [0; SIZES];
+    let bounds = write_bounds(sizes, &mut line, SIZES);
+    let counts = write_counts(sizes, &mut line, bounds);
+    text.extend_from_slice(&line[counts..])
 }

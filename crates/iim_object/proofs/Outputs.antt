@@ -8,9 +8,6 @@ use Rattle.iim_dataset.specs.Laws.Devices.{TextsJoin}
 use Rattle.iim_object.specs.Outputs.{Puts, Cuts}
 use Rattle.iim_object.specs.declared.writing.output.Output.{Output}
 
-pub puts_nothing : {W : Type 0} (state : W → Device) (a : Output W) → TextsJoin → Puts state a a []
-puts_nothing state a join = record { wrote = join.none (state a.writer); counted = omega arith; patience = omega arith }
-
 pub puts_more : {W : Type 0} (state : W → Device) (a b c : Output W) (xs ys : List ℕ) → TextsJoin → Puts state a b xs → Puts state b c ys → Puts state a c (xs ++ ys)
 puts_more state a b c xs ys join p q = record {
   wrote = join.more (state a.writer) (state b.writer) (state c.writer) xs ys p.wrote q.wrote;

@@ -3,7 +3,7 @@ use Rattle.std.proofs.Common.{◌≡◌, ℕ, ◌+◌, ◌≤◌, List, [], ◌�
 use Rattle.std.specs.List.{AllByRecursion}
 use Rattle.std.proofs.lemmas.List.Sums.{sum_by-cons}
 use Rattle.iim_dataset.proofs.WrittenNumbers.{number_back}
-use Rattle.iim_dataset.specs.Format.Octets.{number, greatest_size}
+use Rattle.iim_dataset.specs.Format.Octets.{greatest_size}
 use Rattle.iim_object.specs.Format.Sizes.{Agree, number_at, mode_number}
 use Rattle.iim_object.specs.Format.Plans.{fits, announced_of, maximum_of, limit_of, bound_of}
 use Rattle.iim_object.specs.Format.Records.{numbers_of, lengths_of}
@@ -62,10 +62,6 @@ Numbers subfile size = (number_at 10 (numbers_of (plan_datasets subfile size)) �
     × (number_at 20 (numbers_of (plan_datasets subfile size)) ≡ Some subfile)
     × (number_at 90 (numbers_of (plan_datasets subfile size)) ≡ announced_of size)
     × (number_at 95 (numbers_of (plan_datasets subfile size)) ≡ maximum_of size)
-
-mode_of : (size : Size) → number (mode_number (is_known size) ∷ []) ≡ mode_number (is_known size)
-mode_of (Known n) = refl
-mode_of (Unknown m) = refl
 
 numbers : (subfile : ℕ) (size : Size) → subfile ≤ greatest_size → limit_of size ≤ greatest_size → Numbers subfile size
 numbers subfile (Known n) le limit = (refl, ap Some (number_back subfile (omega (arith, le))), ap Some (number_back n (omega (arith, limit))), refl)

@@ -1,51 +1,26 @@
 -- Where numbers are those of a possible place, and the state that stands there.
-use Rattle.std.proofs.Common.{◌≡◌, ℕ, ◌+◌, ◌-◌, ◌*◌, ◌≤◌, true, [], ◌∷◌, ◌++◌, length, sum, Option, Some, None, is_some, IsSome, IfSome, unwrap_or, Result, Ok, Err, IfOk, IfErr, refl, sym, ap, subst, ◌∙◌, arith}
+use Rattle.std.proofs.Common.{◌≡◌, ℕ, ◌+◌, ◌-◌, ◌*◌, ◌≤◌, [], ◌∷◌, ◌++◌, length, sum, Option, Some, None, IsSome, IfSome, Result, Ok, Err, IfOk, IfErr, refl, sym, ap, subst, ◌∙◌, arith}
 use Rattle.std.proofs.lemmas.List.{length_push}
 use Rattle.std.proofs.lemmas.Option.{same_Some}
 use Rattle.std.specs.Result.{result_ok}
 use Rattle.iim_dataset.specs.Format.Languages.{IsAlive}
-use Rattle.iim_dataset.specs.Format.Octets.{greatest_size}
 use Rattle.iim_object.specs.declared.reading.state.State.{State}
 use Rattle.iim_object.specs.declared.reading.fault.SizeCause.{SizeCause}
 use Rattle.iim_object.specs.Format.Plans.{max_subfiles}
-use Rattle.iim_object.specs.Format.Sizes.{mode_number}
 use Rattle.iim_object.specs.Format.Objects.{ObjectToken, SubfileBegun, ObjectLanguage}
 use Rattle.iim_object.specs.Format.Places.{Place, HasBoth, MayFollow, place_after, tokens_of}
-use Rattle.iim_object.specs.Format.Causes.{is_given, bound}
-use Rattle.iim_object.specs.States.KeptNumbers.{HasNumbers, HasSubfiles, IsState, state_numbers}
+use Rattle.iim_object.specs.States.KeptNumbers.{IsState, state_numbers}
 use Rattle.iim_object.specs.States.Changes.{TakesSubfile}
 use Rattle.iim_object.specs.States.Reading.{IsStateAt, StandsAt, LeadsOn, Refuses}
 use Rattle.iim_object.specs.States.Saved.{IsAt, LastIsBegun, IsPossible, stated_numbers}
 use Rattle.iim_object.specs.Laws.Places.{PlacesHaveOneReader}
 use Rattle.iim_object.specs.Finding.{Finds}
-use Rattle.iim_object.proofs.Steps.{given_is, or_less, or_less_right, under_both, sum_more, tokens_follow}
+use Rattle.iim_object.proofs.Steps.{sum_more, tokens_follow}
 use Rattle.iim_object.proofs.Reached.{front_lives, place_in, tells_in, stands_in, few_in, state_of}
-use Rattle.iim_object.proofs.Staying.{takes_of, may_take}
+use Rattle.iim_object.proofs.Staying.{may_take}
 use Rattle.iim_object.proofs.Bounded.{possible_of}
 
 -- ---- the tests of a state
-
-small : (o : Option ℕ) → IfSome o (λ n. n ≤ greatest_size) → unwrap_or o greatest_size ≤ greatest_size
-small None h = omega arith
-small (Some n) h = h
-
-pub subfiles_hold : (s : State) (subfile : ℕ) → HasNumbers s → s.subfile ≡ Some subfile → is_given s.mode (mode_number (is_some s.announced)) ≡ true
-    → s.subfiles ≤ max_subfiles → s.total ≤ s.subfiles * subfile → s.total ≤ bound s.announced s.maximum → HasSubfiles s
-subfiles_hold s subfile h largest mode few held within = record {
-  known = is_some s.announced;
-  subfile = subfile;
-  mode = given_is s.mode (mode_number (is_some s.announced)) mode;
-  largest = largest;
-  by_mode = refl;
-  few = few;
-  held = held;
-  total = omega (arith, within, small s.announced h.announced);
-  announced = or_less s.announced s.total greatest_size (unwrap_or s.maximum greatest_size) within;
-  maximum = or_less_right s.maximum s.total greatest_size (unwrap_or s.announced greatest_size) within;
-}
-
-pub subfiles_within : (s : State) → HasSubfiles s → s.total ≤ bound s.announced s.maximum
-subfiles_within s h = under_both s.announced s.maximum s.total greatest_size h.total h.announced h.maximum
 
 -- ---- a place and its state
 
@@ -145,16 +120,8 @@ before n taken count left heads p is possible =
 finds_none : (IsOne : Place → Type 0) → ((p : Place) → IsOne p → IsPossible p → ⊥) → Finds IsOne None
 finds_none IsOne out = record { exactly = (λ some. absurd cc, λ h. absurd (out h.0 h.1 h.2)); stands = λ s e p is possible. absurd cc }
 
-pub not_begun : (n : State) (taken count left heads : ℕ) → (MayHaveBegun taken count left heads → ⊥) → Finds (IsAt (state_numbers n) taken (Some (count, left)) heads) None
-not_begun n taken count left heads out = finds_none (IsAt (state_numbers n) taken (Some (count, left)) heads) (λ p is possible. out (before n taken count left heads p is possible).begun)
-
 pub no_state_before : (n : State) (taken count left heads : ℕ) → (IsState (state_before n taken count left heads) → ⊥) → Finds (IsAt (state_numbers n) taken (Some (count, left)) heads) None
 no_state_before n taken count left heads out = finds_none (IsAt (state_numbers n) taken (Some (count, left)) heads) (λ p is possible. out (before n taken count left heads p is possible).is_state)
-
-pub no_head : (n : State) (taken count left heads : ℕ) → (TakesSubfile (state_before n taken count left heads) → ⊥) → Finds (IsAt (state_numbers n) taken (Some (count, left)) heads) None
-no_head n taken count left heads out =
-    finds_none (IsAt (state_numbers n) taken (Some (count, left)) heads)
-    (λ p is possible. let b = before n taken count left heads p is possible in out (takes_of (state_before n taken count left heads) count b.place b.stands b.follows))
 
 pub dead_head : (n : State) (taken count left heads : ℕ) (cause : SizeCause) → Refuses (Some (state_before n taken count left heads)) (SubfileBegun count) cause
     → Finds (IsAt (state_numbers n) taken (Some (count, left)) heads) None

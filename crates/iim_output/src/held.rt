@@ -1,6 +1,6 @@
 //! Octets that were taken and are not out yet.
 
-ghost use Rattle.std.specs.Prelude.{◌≡◌, ◌≤◌, [], ◌++◌, length, drop, IfOk};
+ghost use Rattle.std.specs.Prelude.{◌≡◌, ◌≤◌, ◌+◌, [], ◌++◌, length, drop, IfOk};
 
 use iim_dataset::{BLOCK, ReservedOctets};
 use std::alloc::{AllocError, Global};
@@ -26,6 +26,19 @@ impl Model for Held {
 
     ghost invariant = { λ h. (h.out ≤ length h.block.items) × (length h.block.items ≤ h.block.room)
         × (h.block.room ≡ 4096) };
+}
+
+/// Takes octets, for which there is room: a single one without a call.
+#[inline(always)]
+fn take(block: &mut ReservedOctets, more: &[u8])
+    requires { length block.old.items + length more.now ≤ block.old.room }
+    ensures items { block.new.items ≡ block.old.items ++ more.now }
+    ensures room { block.new.room ≡ block.old.room }
+{
+    match more {
+        [octet] => block.take(&[*octet]),
+        _ => block.take(more),
+    }
 }
 
 impl Held {
@@ -60,7 +73,7 @@ impl Held {
         requires { length more.now ≤ self.old.room }
         ensures { self.new.octets ≡ self.old.octets ++ more.now }
     {
-        self.block.take(more);
+        take(&mut self.block, more);
     }
 
     /// Passes over the first of the octets, which are out.

@@ -1,18 +1,13 @@
 -- Records 1 and 2 written one dataset after another.
 use Rattle.std.proofs.Common.{◌≡◌, ℕ, ◌+◌, ◌*◌, ◌^◌, ◌<◌, ◌≤◌, List, [], ◌∷◌, ◌++◌, length, sym, ap, subst, ◌∙◌, arith, append_assoc, append-nil, length-append}
-use Rattle.std.specs.List.{AllByRecursion}
 use Rattle.iim_object.proofs.Written.{stream_append}
 use Rattle.iim_dataset.specs.States.Devices.{Device, Wrote, Stopped}
 use Rattle.iim_dataset.specs.Laws.Devices.{TextsJoin}
-use Rattle.iim_dataset.specs.Format.Datasets.{Dataset, canonical_dataset, canonical_stream, count_octets, tag_octets}
+use Rattle.iim_dataset.specs.Format.Datasets.{Dataset, canonical_dataset, canonical_stream, tag_octets}
 use Rattle.iim_dataset.proofs.StoppedTexts.{stopped_more}
 use Rattle.iim_dataset.proofs.WrittenNumbers.{dataset_length}
-use Rattle.iim_dataset.proofs.Each.{all_append, all_back}
 use Rattle.iim_fields.specs.Format.Faults.{joined}
-use Rattle.iim_tables.specs.Format.Records.{IsGoodDataset}
-use Rattle.iim_fields.specs.Format.Envelopes.{IsEnvelope}
 use Rattle.iim_fields.specs.States.Builders.{AreFew}
-use Rattle.iim_pack.proofs.Spelling.{few}
 
 -- ---- how long datasets are
 
@@ -30,16 +25,6 @@ pub stream_one : (xs : List Dataset) (d : Dataset) → canonical_stream (xs ++ d
 stream_one xs d = stream_append xs (d ∷ []) ∙ ap (λ (t : List ℕ). canonical_stream xs ++ t) (append-nil (canonical_dataset d))
 
 -- ---- the datasets of an envelope
-
-good_each : (rec : ℕ) (ds : List Dataset) → AllByRecursion (λ d. (d.rec ≡ rec) × IsGoodDataset d) ds → AllByRecursion (λ d. length d.octets < 256 ^ count_octets) ds
-good_each rec [] h = tt
-good_each rec (d ∷ ds) h = (few d h.0.1, good_each rec ds h.1)
-
-pub envelope_few : (ds : List Dataset) → IsEnvelope ds → AllByRecursion (λ d. length d.octets < 256 ^ count_octets) ds
-envelope_few ds e = subst (AllByRecursion (λ d. length d.octets < 256 ^ count_octets)) (sym e.parts) (all_append (λ d. length d.octets < 256 ^ count_octets) e.r1 e.r2 (good_each 1 e.r1 e.envelope.each) (good_each 2 e.r2 e.application.each))
-
-pub next_few : (ds front rest : List Dataset) (d : Dataset) → IsEnvelope ds → ds ≡ front ++ d ∷ rest → length d.octets < 256 ^ count_octets
-next_few ds front rest d e is = (all_back (λ d. length d.octets < 256 ^ count_octets) front (d ∷ rest) (subst (AllByRecursion (λ d. length d.octets < 256 ^ count_octets)) is (envelope_few ds e))).0
 
 parted : (ds front rest : List Dataset) (d : Dataset) → ds ≡ front ++ d ∷ rest → canonical_stream ds ≡ (canonical_stream front ++ canonical_dataset d) ++ canonical_stream rest
 parted ds front rest d e = ap canonical_stream e ∙ (stream_append front (d ∷ rest) ∙ sym (append_assoc (canonical_stream front) (canonical_dataset d) (canonical_stream rest)))

@@ -28,10 +28,10 @@ fn put_line<W: Target>(packer: &mut Packer<W>, line: &[u8], is_first: bool) -> R
 {
     texts_join();
     if is_first {
-        return packer.text(line);
+        return packer.known_text(line);
     }
     match packer.line_end() {
-        Ok(()) => packer.text(line),
+        Ok(()) => packer.known_text(line),
         Err(cause) => Err(cause),
     }
 }

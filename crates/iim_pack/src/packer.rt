@@ -2,6 +2,7 @@
 
 ghost use Rattle.std.specs.Prelude.{◌≡◌, ◌<◌, ◌^◌, [], ◌∷◌, map, IfOk, IfErr, OnOk, OnErr, IfSome, IfNone, MatchResult, Err};
 ghost use Rattle.wire_story.specs.Format.Delivery.{LineOctet, LineEnd};
+ghost use Rattle.wire_story.specs.Format.Texts.{IsLine};
 ghost use Rattle.iim_pack.specs.States.Packing.{Lengthens, BreaksOff, ContinuesWith, EndsIn, Finishes, start_cause, text_cause, line_end_cause, finish_cause, written_of};
 ghost use Rattle.iim_pack.specs.States.Starting.{Starts, StartIsRefused, IsStartFault};
 ghost use Rattle.iim_pack.specs.States.Begun.{HasBegun, ContinuesBegun, EndsBegun};
@@ -123,13 +124,36 @@ impl<W: Target> Packer<W> {
             (OnErr result (BreaksOff W.state (ContinuesWith (map LineOctet octets.now)) self.old self.new)) }
         ensures room { self.new.object.room ≡ self.old.object.room }
     {
-        texts_join();
-        lines_are_packed_as_their_events();
         if self.object.is_failed() {
             return Err(PackCause::Failed);
         }
         if !is_text(octets) {
             return Err(PackCause::BadTextOctet);
+        }
+        self.known_text(octets)
+    }
+
+    /// Takes octets of a line as [`Packer::text`] does, where it is known that each may stand in one: they are not tested.
+    ///
+    /// Refuses, in this order: `Failed` after a failed write; `PastAnnounced` where the object so far, these octets and the least
+    /// ending pass the plan's bound; `Write` where a write failed. But for the last, nothing is written and nothing changes.
+    pub fn known_text(&mut self, octets: &[u8]) -> Result<(), PackCause>
+        requires { IsLine octets.now }
+        ensures refused { IfSome (text_cause self.old octets.now)
+            (λ cause. (result ≡ Err cause) × (self.new ≡ self.old)) }
+        ensures order { IsFirstOf (AgainstText self.old octets.now)
+            (causes.Failed ∷ causes.BadTextOctet ∷ causes.PastAnnounced ∷ []) (text_cause self.old octets.now) }
+        ensures ok { OnOk result (Lengthens W.state self.old self.new (map LineOctet octets.now)) }
+        ensures begun { OnOk result (ContinuesBegun W.state self.old self.new (map LineOctet octets.now)) }
+        ensures cause { IfNone (text_cause self.old octets.now) (IfErr result (λ cause. cause ≡ causes.Write)) }
+        ensures broke { IfNone (text_cause self.old octets.now)
+            (OnErr result (BreaksOff W.state (ContinuesWith (map LineOctet octets.now)) self.old self.new)) }
+        ensures room { self.new.object.room ≡ self.old.object.room }
+    {
+        texts_join();
+        lines_are_packed_as_their_events();
+        if self.object.is_failed() {
+            return Err(PackCause::Failed);
         }
         if passes_plan(
             self.object.plan(),

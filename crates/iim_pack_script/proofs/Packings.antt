@@ -81,7 +81,7 @@ past_by false max subfile object plan over = absurd (known_fits subfile (length 
 past_by true None subfile object plan over = over
 past_by true (Some m) subfile object plan over = over
 
-past_of : (a : Asked) (object : List ℕ) (plan : Plan) → IsPlanOf a object plan → most_of plan < length object → most_for a < length object
+pub past_of : (a : Asked) (object : List ℕ) (plan : Plan) → IsPlanOf a object plan → most_of plan < length object → most_for a < length object
 past_of a object plan is over =
     subst (λ (n : ℕ). min (most_asked a.unknown a.max) (most_in n) < length object) is.subfile_is
     (past_by a.unknown a.max plan.subfile object (subst (λ (s : Size). IsTrue (is_plan plan.subfile s)) is.size_is plan.valid)

@@ -9,6 +9,7 @@ use Rattle.iim_object.specs.declared.writing.cause.PackCause.{PackCause}
 use Rattle.iim_object.specs.declared.writing.cause.PackCause.TheVariants as causes
 use Rattle.iim_object.specs.declared.plan.Plan.{Plan}
 use Rattle.iim_pack.specs.Format.Packed.{Packed}
+use Rattle.iim_script.specs.Format.Scripts.{text_lines}
 use Rattle.iim_script.specs.Format.Causes.{cause_name, cause_number}
 use Rattle.iim_script.specs.declared.fault.ScriptFault.{ScriptFault}
 use Rattle.iim_script.specs.declared.fault.ScriptCause.TheVariants as script
@@ -35,7 +36,7 @@ IsFailedRead old new room OutOfMemory = (more : List ℕ) × (length more ≤ ro
 
 -- what a script was read as
 abbrev pub told_by : Script → ScriptContent
-told_by s = record { fields = s.envelope; head = s.head; trailer = s.trailer.items; lines = s.lines.lines; text_line = s.text_line }
+told_by s = record { fields = s.envelope; head = s.head; trailer = s.trailer.items; lines = text_lines s.text.now; text_line = s.text_line }
 
 -- The fault is told by a line of its own, or is that memory was short.
 abbrev pub TellsFault : ScriptFault → PackFault → Type 0

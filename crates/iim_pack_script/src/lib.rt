@@ -10,3 +10,4 @@
 mod blocks;
 pub mod packing;
 pub mod script;
+mod text;

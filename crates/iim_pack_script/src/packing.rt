@@ -1,7 +1,10 @@
 //! `pack`: the envelope that a script tells.
 
-ghost use Rattle.std.specs.Prelude.{◌≡◌, ◌<◌, ◌≤◌, length, IfOk, IfErr, IfSome, IfNone, OnErr};
+ghost use Rattle.std.specs.Prelude.{◌≡◌, ◌<◌, ◌≤◌, None, length, IfOk, IfErr, IfSome, IfNone, OnErr};
 ghost use Rattle.wire_message.specs.Format.Messages.{IsTrailer};
+ghost use Rattle.wire_story.specs.Format.Texts.{IsText, packed_text};
+ghost use Rattle.iim_pack.specs.States.Packing.{pack_cause};
+ghost use Rattle.iim_script.specs.Format.Scripts.{text_lines};
 ghost use Rattle.iim_output.specs.States.Devices.{devices};
 ghost use Rattle.iim_pack_script.specs.Format.Packing.{Answered, IsNotPacked, IsPacked, IsPast, IsPlanOf, IsRead, IsUnanswered, IsUnread, asked, object_of, refusal_line};
 ghost use Rattle.iim_pack_script.specs.PackSteps.{ComesTo, GotSome, IsFailedRead, MayComeOf, PacksTold, TellsFault, UnpacksTold, told_by};
@@ -11,6 +14,7 @@ ghost use Rattle.iim_output.specs.Format.Statuses.{status_refused};
 
 use crate::blocks::BlockTarget;
 use crate::script::read_script;
+use crate::text::{object_len, pack_text};
 use iim_dataset::device_laws::gifts_join;
 use iim_dataset::{BLOCK, Source, Target, take};
 use iim_object::{PackCause, Plan, Size};
@@ -18,7 +22,6 @@ use iim_output::fault::CommandFault;
 use iim_output::lines::tell;
 use iim_output::status::{ACCEPTED, REFUSED};
 use iim_pack::laws::packed_octets_are_one;
-use iim_pack::{pack, packed_size};
 pub use iim_request::pack_request::PackRequest;
 use iim_script::{MAX_SCRIPT, Script, ScriptCause, ScriptFault};
 use std::alloc::Global;
@@ -80,20 +83,32 @@ fn read_input<R: Source>(alloc: Global, reader: &mut R) -> Result<Vec<u8>, Comma
     Ok(script)
 }
 
-/// The plan that is asked for. None where the size of the object is to be known, and is above the greatest or needs more
-/// subfiles than there may be.
-fn plan_of(request: PackRequest, told: &Script) -> Option<Plan>
-    requires { IsTrailer told.now.trailer.items }
+/// The plan that is asked for. None where the object has more octets than the plan has room for.
+fn plan_of(request: PackRequest, told: &Script<'_>) -> Option<Plan>
+    requires trailer { IsTrailer told.now.trailer.items }
+    requires len { told.now.text_len ≡ length (packed_text (text_lines told.now.text.now)) }
     ensures plan { IfSome result (IsPlanOf (asked request.subfile request.unknown request.max)
         (object_of (told_by told.now))) }
+    ensures fits { IfSome result (λ plan. pack_cause told.now.head (text_lines told.now.text.now)
+        told.now.trailer.items plan ≡ None) }
     ensures past { IfNone result (IsPast (asked request.subfile request.unknown request.max) (told_by told.now)) }
 {
+    let len = object_len(
+        &told.head,
+        told.text,
+        told.text_len,
+        told.trailer.as_slice(),
+    )?;
     let size = if request.unknown {
         Size::Unknown(request.max)
     } else {
-        Size::Known(packed_size(&told.head, &told.lines, told.trailer.as_slice())?)
+        Size::Known(len)
     };
-    Plan::new(request.subfile, size)
+    let plan = Plan::new(request.subfile, size)?;
+    if len > plan.bound() {
+        return None;
+    }
+    Some(plan)
 }
 
 /// What a packer's cause comes to, of a script whose line `text` has this number.
@@ -117,10 +132,12 @@ fn fault_for(cause: PackCause, text_line: u64) -> PackFault
 fn pack_told<W: Target>(
     alloc: Global,
     request: PackRequest,
-    told: &Script,
+    told: &Script<'_>,
     output: W,
 ) -> Result<W, (PackFault, W)>
-    requires { IsTrailer told.now.trailer.items }
+    requires trailer { IsTrailer told.now.trailer.items }
+    requires text { IsText told.now.text.now (text_lines told.now.text.now) }
+    requires len { told.now.text_len ≡ length (packed_text (text_lines told.now.text.now)) }
     ensures packed { IfOk result (λ last.
         PacksTold (asked request.subfile request.unknown request.max) (told_by told.now) (W.state output)
         (W.state last)) }
@@ -133,11 +150,11 @@ fn pack_told<W: Target>(
     };
     packed_octets_are_one();
     let mut block = [0u8; BLOCK];
-    match pack(
+    match pack_text(
         alloc,
         &told.envelope,
         &told.head,
-        &told.lines,
+        told.text,
         told.trailer.as_slice(),
         plan,
         BlockTarget::new(&mut block, output),

@@ -1,5 +1,5 @@
 -- Readers at a place: the message that a ticket tells, and what the record layer can continue with.
-use Rattle.std.proofs.Common.{◌≡◌, ℕ, ◌↔◌, Bool, true, false, cond, IsTrue, IsSome, IfSome, IfNone, OnOk, IfErr, Option, Some, None, Result, Ok, Err, is_ok, List, [], ◌∷◌, length, map, get_or, refl, ap, sym, subst, ◌∙◌, arith, Bor}
+use Rattle.std.proofs.Common.{◌≡◌, ℕ, ◌↔◌, Bool, true, false, cond, IsTrue, IsSome, IfSome, IfNone, OnOk, Option, Some, None, Result, Ok, Err, is_ok, List, [], ◌∷◌, length, map, get_or, refl, ap, sym, subst, ◌∙◌, arith, Bor}
 use Rattle.std.proofs.lemmas.Option.{same_Some}
 use Rattle.std.specs.List.{AllByRecursion}
 use Rattle.iim_dataset.specs.Format.Datasets.{Dataset, count_octets}
@@ -9,7 +9,7 @@ use Rattle.iim_dataset.specs.declared.head.Head.{Head}
 use Rattle.iim_dataset.specs.declared.place.DatasetPlace.{DatasetPlace}
 use Rattle.iim_dataset.proofs.Lists.{nothing_fits}
 use Rattle.iim_fields.specs.Format.Alive.{SectionsLive, SectionsLiveAt}
-use Rattle.iim_fields.specs.States.Checks.{HasChecked, HasTaken, IsRecordFault}
+use Rattle.iim_fields.specs.States.Checks.{HasChecked, HasTaken}
 use Rattle.iim_fields.specs.Format.Faults.{joined, kept, kept_octets}
 use Rattle.iim_fields.specs.Format.Bounds.{IsWithin}
 use Rattle.iim_fields.specs.declared.check.RecordPlace.{RecordPlace}
@@ -48,11 +48,6 @@ pub lives_at : (old new : Option RecordPlace) (h : Head) (r : Result (Unit {0}) 
     → (ds : List Dataset) → HasChecked old ds → SectionsLiveAt ds h
 lives_at old new h (Ok u) stands yes' ds s = taken_alive new ds h (stands ds s)
 lives_at old new h (Err e) stands yes' ds s = let bad : false ≡ true = yes' in cc
-
-pub dies_at : (old : Option RecordPlace) (h : Head) (r : Result (Unit {0}) FieldFault) → IfErr r (λ fault. (ds : List Dataset) → HasChecked old ds → IsRecordFault ds h fault) → is_ok r ≡ false
-    → (ds : List Dataset) → HasChecked old ds → SectionsLiveAt ds h → ⊥
-dies_at old h (Ok u) fault no' ds s alive = let bad : true ≡ false = no' in cc
-dies_at old h (Err e) fault no' ds s alive = (fault ds s).dead alive
 
 pub live_alive : (section : ℕ) (phase : Phase) (ds : List Dataset) → RecordsLive section phase ds → SectionsLive ds
 live_alive section (TagBegun held) ds lives = lives.1

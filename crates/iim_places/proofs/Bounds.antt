@@ -8,7 +8,7 @@ use Rattle.iim_dataset.specs.Format.Octets.{Octets, number, greatest_size, withi
 use Rattle.iim_dataset.proofs.Each.{all_append, all_front, all_back, all_map}
 use Rattle.iim_tables.specs.Format.Numbers.{size_octets}
 use Rattle.iim_tables.specs.Format.Rows.{table, row_of, Meets}
-use Rattle.iim_dataset.specs.Format.Datasets.{Dataset, SpellsCount, SpellsStream, count_octets, of_record, tag_octets}
+use Rattle.iim_dataset.specs.Format.Datasets.{Dataset, SpellsStream, count_octets, of_record, tag_octets}
 use Rattle.iim_dataset.specs.Format.Splits.{Begun, InTag, InData, IsBegun}
 use Rattle.iim_dataset.specs.declared.head.Head.{Head}
 use Rattle.iim_dataset.proofs.Spelled.{tag_length}
@@ -37,12 +37,6 @@ weight [] = 0
 weight (d ∷ ds) = (tag_octets + length d.octets) + weight ds
 
 -- ---- tags
-
-count_fits : (n : ℕ) (xs : List ℕ) → SpellsCount count_octets n xs → length xs ≤ 10
-count_fits n [] is = absurd is
-count_fits n (high ∷ []) is = absurd is
-count_fits n (high ∷ low ∷ more) (inl (a, b, none, c)) = omega (arith, ap length none)
-count_fits n (high ∷ low ∷ more) (inr (a, len, b, within_most_and, fits, c)) = omega (arith, len, within_most_and)
 
 pub stream_fits : (ds : List Dataset) (xs : List ℕ) → SpellsStream count_octets ds xs → length xs ≤ weight ds
 stream_fits [] xs none = omega (arith, ap length none)

@@ -19,7 +19,7 @@ use Rattle.iim_object.specs.Format.Places as objects
 use Rattle.iim_object.specs.Format.Plans.{max_subfiles}
 use Rattle.iim_object.specs.Format.Records.{lengths_of, numbers_of}
 use Rattle.iim_object.specs.States.Saved.{IsAt, IsPossible, stated_numbers}
-use Rattle.wire_story.specs.Format.Tokens.{OctetOrEnd, Octet, End, with_end}
+use Rattle.wire_story.specs.Format.Tokens.{Octet, End}
 use Rattle.wire_message.specs.Format.Layers.{MessageLanguage}
 use Rattle.wire_message.specs.Laws.Messages.{MessagesEndAfterEot}
 use Rattle.wire_message.specs.States.Saved.{LeadsToSaved}
@@ -266,17 +266,6 @@ object_leads laws octets ds (InTag held) m reads goes = object_tag laws ds held 
 object_leads laws octets ds (InData h taken) m reads goes = object_data laws ds h taken m goes reads.is_rest.2
 
 -- ---- the message
-
-octets_of_end : (o : List ℕ) (rest : List OctetOrEnd) (other : List ℕ) → (map Octet o ++ End ∷ []) ++ rest ≡ with_end other → o ≡ other
-octets_of_end [] rest [] e = refl
-octets_of_end [] rest (y ∷ other) e = absurd (let bad : End ∷ rest ≡ Octet y ∷ with_end other = e in cc)
-octets_of_end (x ∷ o) rest [] e = absurd (let bad : Octet x ∷ ((map Octet o ++ End ∷ []) ++ rest) ≡ End ∷ [] = e in cc)
-octets_of_end (x ∷ o) rest (y ∷ other) e =
-    let same : Octet x ∷ ((map Octet o ++ End ∷ []) ++ rest) ≡ Octet y ∷ with_end other = e in
-    let first : x ≡ y = cc in
-    let later : (map Octet o ++ End ∷ []) ++ rest ≡ with_end other = cc in
-    let more = octets_of_end o rest other later in
-    λ i. first i ∷ more i
 
 ended_message : MessagesEndAfterEot → (o text : List ℕ) (m : MessagePlace) → LeadsToSaved o text m → languages.IsAlive MessageLanguage (map Octet o ++ End ∷ []) → m.part ≡ part.AfterEnd
 ended_message law o text m (at, leads, saves) alive = sym (ap (λ (x : MessagePlace). x.part) saves) ∙ after_end at ((law o text at leads).0 alive)

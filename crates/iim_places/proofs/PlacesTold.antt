@@ -25,7 +25,7 @@ use Rattle.iim_places.specs.States.Restored.{octets_told, IsLimitFault, IsRestor
 use Rattle.iim_places.specs.Taking.{AreKept, IsMessageOf, numbers_told, told_datasets}
 use Rattle.iim_places.specs.States.Begins.{IsSizeIn, IsWide}
 use Rattle.iim_places.specs.Format.TicketForm.{HasForm, Split, SplitsTicket, split_octets}
-use Rattle.iim_places.specs.Format.Tickets.{Place, part_number}
+use Rattle.iim_places.specs.Format.Tickets.{Place}
 use Rattle.iim_places.specs.declared.ticket.possible.Readers.{Readers}
 use Rattle.iim_places.specs.declared.ticket.fault.TicketFault.{TicketFault}
 use Rattle.iim_places.specs.declared.ticket.fault.TicketFault.TheVariants.{HeaderFull, TooManyFields}
@@ -72,9 +72,6 @@ stands_told s some one fields stand place is l =
 
 -- ---- where no envelope can be
 
-pub no_room : (s : Split) → (IsWithin widest (OctetsIn s) (FieldsIn s) → ⊥) → LeadsNowhere s
-no_room s none place is l = none (subst (λ (t : Split). IsWithin widest (OctetsIn t) (FieldsIn t)) is l.within)
-
 -- what is kept is within the widest limits where it is with what is begun
 within_less : (fields : List Dataset) (octets count : ℕ) → AreKept fields → IsWithin widest (length (joined fields) + octets) (length fields + count) → IsWithin widest (kept_octets fields) (length fields)
 within_less fields octets count each within =
@@ -87,15 +84,6 @@ no_records s some one none place is l =
     let within : IsWithin widest (OctetsIn s) (FieldsIn s) = subst (λ (t : Split). IsWithin widest (OctetsIn t) (FieldsIn t)) is l.within in
     none each (within_less s.fields (begun_count s.section s.phase) (begun_fields s.section s.phase) each within) (lives_at_place s place some is l one)
 
--- the object can be where these parts tell
-abbrev pub ObjectCanBe : Split → objects.Place → Type 0
-ObjectCanBe s p = IsAt s.numbers s.taken (begun_of_object s.section s.phase) s.heads p × IsPossible (object_after s.section s.phase s.taken p)
-
-pub no_object : (s : Split) → ((p : objects.Place) → ObjectCanBe s p → ⊥) → LeadsNowhere s
-no_object s none place is l =
-    let at : ObjectCanBe s l.object.0 = subst (λ (t : Split). ObjectCanBe t l.object.0) is (l.object.1, l.object.2) in
-    none l.object.0 at
-
 -- the message of a place is the one that its parts tell
 message_of : (s : Split) (place : Place) → split_of s.version place ≡ s → IsMessageOf s.part s.counter s.flag s.texts place.message
 message_of s place is = subst (λ (t : Split). IsMessageOf t.part t.counter t.flag t.texts place.message) is (record { part_is = refl; counter_is = refl; flag_is = refl; texts_are = refl })
@@ -104,12 +92,6 @@ pub no_message : (s : Split) → ((m : MessagePlace) (octets text : List ℕ) �
 no_message s none place is l =
     let (octets, text, leads, count, ended) = l.message in
     none place.message octets text (message_of s place is) leads (subst (λ (t : Split). length octets ≡ t.taken) is count)
-
-pub no_end : (s : Split) → s.section ≡ 9 → (s.part ≡ 11 → ⊥) → LeadsNowhere s
-no_end s nine other place is l =
-    let (octets, text, leads, count, ended) = l.message in
-    let last = ended (ap (λ (t : Split). t.section) is ∙ nine) in
-    other (sym (ap (λ (t : Split). t.part) is) ∙ ap part_number last)
 
 -- ---- where one can be
 

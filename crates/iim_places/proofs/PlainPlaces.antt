@@ -31,11 +31,11 @@ use Rattle.iim_places.specs.Format.Open.{section, object_so_far}
 use Rattle.iim_places.specs.Format.Tickets.{Place, AllEnded, TagBegun, phase_of, heads_of, place_of}
 use Rattle.iim_places.specs.Format.Tokens.{ObjectLives}
 use Rattle.iim_places.specs.States.Possible.{widest}
-use Rattle.iim_places.specs.Plain.{begun_object, begun_heads, IsPlain, PossiblePlacesArePlain}
+use Rattle.iim_places.specs.Plain.{begun_object, begun_heads, IsPlain}
 use Rattle.iim_places.specs.States.PlainDatasets.{Numbers, plain_numbers, filled, number_list, mode_dataset, one_dataset, plain_end, plain}
 use Rattle.iim_object.proofs.Bounded.{mode_known}
 use Rattle.iim_places.proofs.Bounds.{IsFive, alive_five, same_count}
-use Rattle.iim_places.proofs.Fitting.{Lived, lived, each_octets, each_low, numbers_fit, ones_in, taken_fits}
+use Rattle.iim_places.proofs.Fitting.{Lived, each_octets, each_low, numbers_fit, ones_in, taken_fits}
 use Rattle.iim_places.proofs.Following.{alive_of, within_of, object_lives_after}
 use Rattle.iim_places.proofs.Plain.{AreOf, are_sevens, are_eights, are_nines, taken_told, heads_told, filled_count}
 use Rattle.iim_places.proofs.SameRecords.{IsStated, stated_after_all, nines}
@@ -363,7 +363,3 @@ plain_by laws place l =
     same_place ds es (InTag held) message object heads taken count present =
         λ i. record (place_of ds (InTag held) message) { section = present i; phase = if nat_eq (present i) 9 then AllEnded else TagBegun held; taken = length (taken i); heads = count i }
     same_place ds es (InData h given) message object heads taken count present = λ i. record (place_of ds (InData h given) message) { taken = length (taken i); heads = count i }
-
--- Each possible place is plain.
-pub possible_plain : PlainLaws → PossiblePlacesArePlain
-possible_plain laws place p = let l = lived laws.answer place p in subst IsPlain (sym l.is_place) (plain_by laws place l)

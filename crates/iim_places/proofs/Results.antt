@@ -1,6 +1,5 @@
 -- Clauses of results that are handed on.
-use Rattle.std.proofs.Common.{◌≡◌, ℕ, List, if◌then◌else◌, Result, Ok, Err, OnOk, Option, Some, None, IfNone}
-use Rattle.std.specs.Result.{is_ok}
+use Rattle.std.proofs.Common.{◌≡◌, if◌then◌else◌, Result, Ok, Err, OnOk, Option, Some, None, IfNone}
 
 pub on_both : {T E : Type 0} (A B : Type 0) (r : Result T E) → OnOk r A → OnOk r B → OnOk r (A × B)
 on_both A B (Ok x) h k = (h, k)
@@ -9,8 +8,3 @@ on_both A B (Err e) h k = tt
 pub if_none : {T : Type 0} (P Q : Type 0) (o : Option T) → (P → Q) → IfNone o P → IfNone o Q
 if_none P Q (Some x) f h = tt
 if_none P Q None f h = f h
-
--- what grows only where all is well
-pub grown : {T E : Type 0} (r : Result T E) (old more new : List ℕ) → new ≡ (if is_ok r then more else old) → OnOk r (new ≡ more)
-grown (Ok x) old more new is = is
-grown (Err e) old more new is = tt

@@ -437,7 +437,3 @@ no_begun version section kind octets rest is one none (TagBegun held) more h e =
 no_begun version section kind octets rest is one none (DataBegun set count left taken) more h e =
     none set count left taken more h (ap (λ (n : ℕ). n ∷ rest) (sym one) ∙ sym is ∙ e)
 no_begun version section kind octets rest is one none AllEnded more h e = absurd (let bad = first_same (sym is ∙ e) in omega (arith, bad, one))
-
--- four pieces after others
-pub four_pieces : (o a b c d e : List ℕ) → ((((o ++ a) ++ b) ++ c) ++ d) ++ e ≡ o ++ (a ++ (b ++ (c ++ (d ++ e))))
-four_pieces o a b c d e = simp append_assoc refl

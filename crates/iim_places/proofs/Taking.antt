@@ -6,10 +6,9 @@ use Rattle.iim_dataset.specs.declared.head.Head.{Head}
 use Rattle.iim_dataset.proofs.Each.{all_front, all_back}
 use Rattle.iim_fields.specs.States.Checks.{TakesHead, HasChecked, HasTaken, IsChecking, IsValueFault}
 use Rattle.iim_fields.specs.Format.Alive.{SectionsLive}
-use Rattle.iim_fields.specs.Format.Faults.{is_kept}
 use Rattle.iim_fields.specs.Format.Records.{AreSections, records}
 use Rattle.iim_tables.specs.Format.Records.{IsGoodDataset}
-use Rattle.iim_fields.specs.States.Standing.{FieldsPlace, IsBetween, IsHeadFault, IsOf, StandsAfter, StandsIn, limits_of}
+use Rattle.iim_fields.specs.States.Standing.{FieldsPlace, IsBetween, IsOf, StandsAfter, StandsIn, limits_of}
 use Rattle.iim_fields.specs.Format.Values.{data_of, number_told}
 use Rattle.iim_fields.specs.declared.check.RecordPlace.{RecordPlace}
 use Rattle.iim_fields.specs.declared.fault.FieldFault.{FieldFault}
@@ -19,7 +18,7 @@ use Rattle.iim_places.specs.States.PlainDatasets.{mode_dataset}
 use Rattle.iim_places.specs.States.Possible.{widest}
 use Rattle.iim_places.specs.Taking.{CanContinueWithin, TookDatasets}
 use Rattle.iim_places.proofs.Bounds.{each_in}
-use Rattle.iim_places.proofs.Limits.{kept_first, kept_octets_append, kept_length_append}
+use Rattle.iim_places.proofs.Limits.{kept_octets_append, kept_length_append}
 
 -- ---- datasets that can continue
 
@@ -87,16 +86,6 @@ value_took a b c d (Ok number) taken other takes stands fault = (takes, refl, λ
 value_took a b c d (Err e) taken other takes stands fault = λ ds s goes. (fault ds (head_of d) ((taken ds s).checking other)).dead goes.alive
 
 -- ---- a reader of records
-
--- with a head that is refused no datasets can continue
-pub head_dead : (limits : Limits) (ds : List Dataset) (d : Dataset) (fault : FieldFault) → IsHeadFault limits ds (head_of d) fault → CanContinueWithin limits (ds ++ d ∷ []) → ⊥
-head_dead limits ds d fault is goes =
-    let octets = kept_octets_append ds (d ∷ []) in
-    let fields = kept_length_append ds (d ∷ []) in
-    is.dead (d, refl, goes.alive)
-    (λ keeps.
-    let first = kept_first (is_kept d.rec) d [] keeps in
-    record { octets_in = omega (arith, octets, first, goes.within.octets_in); fields_in = omega (arith, fields, first, goes.within.fields_in) })
 
 -- a dataset that was taken after its head and its data, or not
 pub closed_took : (a b c : FieldsPlace) (d : Dataset) (taken : List ℕ) (r : Result (Option ℕ) FieldFault) → ((ds : List Dataset) → StandsAfter a ds → StandsIn b ds (head_of d) taken) → IsOf (head_of d) taken d

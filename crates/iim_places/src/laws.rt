@@ -8,7 +8,6 @@ ghost use Rattle.iim_places.specs.Laws.Places.{OctetsHaveOnePlace, PlacesContinu
 ghost use Rattle.iim_places.specs.Laws.Lower.{AnswerLaws, ByLayersLaws, FeedLaws, ObjectLaws, OpenLaws, PlaceLaws, SizeLaws};
 ghost use Rattle.iim_places.specs.Onward.{OnwardLaws};
 ghost use Rattle.iim_places.specs.Laws.Listing.{InputsHaveOneListing, ListingsAreLongest};
-ghost use Rattle.iim_places.specs.Plain.{ObjectsArePossibleAlike, PlainDatasetsContinueAlike, PlainOctetsAreOpenOrWhole, PlainOctetsLeadToTheirPlace, PossiblePlacesArePlain};
 ghost use Rattle.iim_places.specs.Laws.Tickets.{TicketsOfPlacesAreSplit, TicketsHaveOneSplit, OctetsHaveOneTicket};
 
 use iim_dataset::laws::{
@@ -289,43 +288,6 @@ pub fn possible_places_are_taken()
 {
     tickets_of_places_are_split();
     tickets_tell_one_place();
-}
-
-/// Plain octets lead to their place: records 1 and 2 as they are kept, the numbers of record 7 in their order, subfiles that are
-/// filled one after the other, and what is begun after them.
-pub(crate) fn plain_octets_lead_to_their_place()
-    ensures { PlainOctetsLeadToTheirPlace }
-{
-    canonical_streams_are_spelled();
-}
-
-/// Places of an object that tell the same are possible alike.
-pub(crate) fn objects_are_possible_alike()
-    ensures { ObjectsArePossibleAlike }
-{
-    size_laws();
-}
-
-/// What follows datasets to the records of an envelope follows their plain ones to such, too.
-pub(crate) fn plain_datasets_continue_alike()
-    ensures { PlainDatasetsContinueAlike }
-{
-    answer_laws();
-}
-
-/// Each possible place is led to by plain octets.
-pub(crate) fn possible_places_are_plain()
-    ensures { PossiblePlacesArePlain }
-{
-    answer_laws();
-    subfiles_live_while_they_fit();
-}
-
-/// Each possible place is led to by plain octets that are open, or an envelope, under the widest limits.
-pub(crate) fn plain_octets_are_open_or_whole()
-    ensures { PlainOctetsAreOpenOrWhole }
-{
-    open_laws();
 }
 
 /// A place is possible exactly where each layer alone can be there.

@@ -7,7 +7,7 @@ use Rattle.clap.specs.Facts.{explicit_source}
 use Rattle.clap.specs.Faults.{check_fault, defaults_fault, entered_fault, settle_fault, walk_fault}
 use Rattle.clap.specs.Kinds.{Kinds, or_else, check_kinds}
 use Rattle.clap.specs.Matches.{first_value, one_text, subcommand_name_of}
-use Rattle.clap.specs.Simple.{Shape, argument_words, built, entered, label_of, names_of, rows_at, subcommand_rows, subcommand_rows_of}
+use Rattle.clap.specs.Simple.{App, Shape, argument_words, built, entered, label_of, names_of, rows_at, subcommand_rows, subcommand_rows_of}
 use Rattle.clap.specs.Takes.{is_given}
 use Rattle.clap.specs.Walk.{Row, Text, answers_to, finished, first_of, nothing_held, rows_of, settled, walk, walk_from}
 use Rattle.clap.specs.Words.{fault_of, is_simple, is_simple_and_free, subcommand_of}
@@ -24,13 +24,13 @@ use Rattle.iim_request.specs.declared.request.Verb.TheVariants.{Check, Show, Sto
 use Rattle.iim_request.specs.declared.request.UsageFault.{UsageFault}
 use Rattle.iim_request.specs.declared.request.UsageFault.TheVariants as usage
 use Rattle.iim_request.specs.Format.Requests.{GivesNumber, IsFaultOf, IsFlag, IsInstant, IsNoInstant, IsSubfile, NamesCommand, TellsPacking, program, text_given}
-use Rattle.iim_request.specs.Verbs.{IsJobFault, verb_name}
+use Rattle.iim_request.specs.Verbs.{IsFoundOf, IsJobFault, verb_name}
 
-pub program_simple : is_simple program ≡ true
+program_simple : is_simple program ≡ true
 unfolding clap_on_literals
 program_simple = refl
 
-pub program_free : is_simple_and_free program ≡ true
+program_free : is_simple_and_free program ≡ true
 unfolding clap_on_literals
 program_free = refl
 
@@ -133,6 +133,12 @@ names_verb words m none same =
     let found = found_verb words m none same in
     (found.0, name_in_rows m ∙ ap (option_map (λ p. p.0)) (same ∙ found.2))
 
+-- so there is one
+pub names_one : (words : List Text) (m : ArgMatches) → IsFoundOf words m → None ≡ subcommand_name_of m → ⊥
+names_one words m found none =
+    let e : None ≡ Some (verb_name (names_verb words m found.faultless found.command).0) = none ∙ (names_verb words m found.faultless found.command).1 in
+    cc
+
 -- the words name the command that was found, with its rows
 pub names : (words : List Text) (m : ArgMatches) (f : Found) (name : Text) → fault_of program words ≡ []
     → subcommand_rows_of m ≡ subcommand_of program words → option_map (λ p. p.1) (subcommand_rows_of m) ≡ Some (rows_of f)
@@ -149,6 +155,14 @@ names words m f name none same rows named =
           ∙ ap (λ (r : List Row). let q : Text × List Row = (verb_name found.0, r) in Some q) same_rows
           ∙ ap (λ (n : Text). let q : Text × List Row = (n, rows_of f) in Some q) same_name;
     }
+
+-- what clap made of the words by a command that is the program is what they name
+pub were_found : (words : List Text) (a : App) (m : ArgMatches) → a ≡ program → (is_simple_and_free a ≡ true → fault_of a words ≡ [])
+    → (is_simple a ≡ true → subcommand_rows_of m ≡ subcommand_of a words) → IsFoundOf words m
+were_found words a m is none rows = record {
+  faultless = ap (λ (b : App). fault_of b words) (sym is) ∙ none (ap is_simple_and_free is ∙ program_free);
+  command = rows (ap is_simple is ∙ program_simple) ∙ ap (λ (b : App). subcommand_of b words) is;
+}
 
 -- ---- what a command's options tell
 

@@ -1,7 +1,7 @@
 //! What the arguments ask for.
 
-ghost use Rattle.std.specs.Prelude.{◌≡◌, ◌≤◌, IfOk, IfErr, IfSome, IsNone, IsSome, true, false, map, string_bytes};
-ghost use Rattle.clap.specs.Words.{found_of, rows_of};
+ghost use Rattle.std.specs.Prelude.{◌≡◌, ◌≤◌, IfOk, IfErr, IfSome, IsNone, IsSome, List, true, false, map, string_bytes};
+ghost use Rattle.clap.specs.Words.{Text, found_of, rows_of};
 ghost use Rattle.iim_dataset.specs.Format.Octets.{greatest_size};
 
 use crate::commands::command;
@@ -81,7 +81,7 @@ impl From<Error> for UsageFault {
 
 ghost use Rattle.iim_request.specs.declared.request.Verb.{Verb as VerbValue};
 ghost use Rattle.iim_request.specs.Format.Requests.{AsksFor, AsksJob, GivesNumber, IsFaultOf, IsSubfile, text_given};
-ghost use Rattle.iim_request.specs.Verbs.{verb_name, IsJobFault};
+ghost use Rattle.iim_request.specs.Verbs.{verb_name, IsFoundOf, IsJobFault};
 
 /// A command's name.
 #[derive(Clone, Copy)]
@@ -187,12 +187,12 @@ fn job_of(verb: Verb, found: &ArgMatches<'_>) -> Result<Job, UsageFault>
     }
 }
 
-/// Reads the words, of which the first is the program's name.
-pub fn parse<'a>(alloc: Global, words: &'a [String]) -> Result<Request<'a>, UsageFault>
-    ensures ok { IfOk result (AsksFor (map string_bytes words.entry.now)) }
-    ensures err { IfErr result (IsFaultOf (map string_bytes words.entry.now)) }
+/// What the words ask for in which clap found this: they have no fault, and name one of the commands.
+fn request_of<'a>(matches: &ArgMatches<'a>) -> Result<Request<'a>, UsageFault>
+    requires { (words : List Text) × IsFoundOf words matches.now }
+    ensures ok { (words : List Text) → IsFoundOf words matches.now → IfOk result (AsksFor words) }
+    ensures err { (words : List Text) → IsFoundOf words matches.now → IfErr result (IsFaultOf words) }
 {
-    let matches = command(alloc)?.try_get_matches_from(words)?;
     let Some((name, found)) = matches.subcommand() else {
         unreachable!()
     };
@@ -203,4 +203,13 @@ pub fn parse<'a>(alloc: Global, words: &'a [String]) -> Result<Request<'a>, Usag
         file: found.get_str("FILE"),
         job: job_of(verb, found)?,
     })
+}
+
+/// Reads the words, of which the first is the program's name.
+pub fn parse<'a>(alloc: Global, words: &'a [String]) -> Result<Request<'a>, UsageFault>
+    ensures ok { IfOk result (AsksFor (map string_bytes words.entry.now)) }
+    ensures err { IfErr result (IsFaultOf (map string_bytes words.entry.now)) }
+{
+    let matches = command(alloc)?.try_get_matches_from(words)?;
+    request_of(&matches)
 }

@@ -3,7 +3,7 @@ use Rattle.std.proofs.Common.{◌≡◌, ◌⊎◌, inl, inr, ℕ, ◌+◌, List
 use Rattle.iim_script.specs.Format.Lines.{HasNo, EndsInReturn, EndsLine, NextLine, EndLines}
 use Rattle.iim_script.proofs.Cuts.{cut_once, has_no_octet, has_no_append}
 
-snoc_once : (xs ys : List ℕ) (b : ℕ) → xs ++ b ∷ [] ≡ ys ++ b ∷ [] → xs ≡ ys
+pub snoc_once : (xs ys : List ℕ) (b : ℕ) → xs ++ b ∷ [] ≡ ys ++ b ∷ [] → xs ≡ ys
 snoc_once [] [] b e = refl
 snoc_once [] (y ∷ ys) b e = absurd (omega (arith, ap length e, length-append ys (b ∷ [])))
 snoc_once (x ∷ xs) [] b e = absurd (omega (arith, ap length e, length-append xs (b ∷ [])))

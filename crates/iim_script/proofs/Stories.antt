@@ -1,51 +1,71 @@
 -- The lines of a story, one after another.
-use Rattle.std.proofs.Common.{◌≡◌, ◌⊎◌, inl, inr, ℕ, ◌+◌, ◌<◌, List, [], ◌∷◌, ◌++◌, append_assoc, append-nil, length, map, refl, ap, sym, ◌∙◌, subst, arith, Option, Some, None, IfSome, IfNone, Bor}
+use Rattle.std.proofs.Common.{◌≡◌, ◌⊎◌, inl, inr, ℕ, ◌+◌, ◌<◌, ◌≤◌, List, [], ◌∷◌, ◌++◌, append_assoc, append-nil, length, length-append, take, refl, ap, sym, ◌∙◌, subst, arith, Option, Some, None, IfSome, IfNone, Bor}
 use Rattle.std.specs.List.{AllByRecursion}
+use Rattle.std.proofs.Math.Seq.{take-append_seam}
 use Rattle.iim_dataset.proofs.Each.{all_append}
-use Rattle.wire_story.specs.Format.Texts.{IsLine}
-use Rattle.wire_story.specs.Format.Delivery.{LineOctet, LineEnd}
-use Rattle.wire_story.specs.States.Collecting.{collect}
-use Rattle.wire_story.proofs.Collected.{line_collected}
+use Rattle.wire_story.specs.Format.Texts.{IsLine, IsText, packed_text}
 use Rattle.iim_script.specs.Format.Lines.{HasNo, EndsLine, NextLine, EndLines}
 use Rattle.iim_script.specs.Format.Scripts.{IsStory}
-use Rattle.iim_script.specs.Steps.{number_after, IsLastLine, RefusesStory, RefusesStoryLine}
-use Rattle.iim_script.specs.declared.fault.ScriptCause.{ScriptCause}
-use Rattle.iim_script.specs.declared.fault.ScriptCause.TheVariants.{ScriptLine, ScriptTooLong, Field, BadTrailer, BadTextOctet, OutOfMemory}
+use Rattle.iim_script.specs.Plain.{TellsText}
+use Rattle.iim_script.specs.Steps.{IsLastLine, RefusesStory}
+use Rattle.iim_script.specs.declared.fault.ScriptCause.TheVariants.{BadTextOctet}
 use Rattle.iim_script.proofs.Next.{lines_more, count_more}
 
--- The lines of a story so far, what is left of it, and what is collected: the lines, and the empty one that the next goes into.
-pub record StoryStands (story : List ℕ) (before : ℕ) (rest : List ℕ) (count : ℕ) (lines : List (List ℕ)) : Type 0 where
+-- The lines of a story so far, and what is left of it: what makes a text of the rest makes one of all, and so many octets are added
+-- where it is packed.
+pub record StoryStands (story : List ℕ) (before : ℕ) (rest : List ℕ) (count len : ℕ) : Type 0 where
   pub done : List (List ℕ)
   pub front : List ℕ
   pub lined : EndLines done front
   pub parts : story ≡ front ++ rest
   pub texts : AllByRecursion IsLine done
-  pub lines_are : lines ≡ done ++ [] ∷ []
   pub count_is : count ≡ before + length done
   pub more : rest ≡ [] → done ≡ []
+  pub text : (left : List ℕ) (lines : List (List ℕ)) → IsText left lines → IsText (front ++ left) (done ++ lines)
+  pub len_is : (lines : List (List ℕ)) → 0 < length lines → length (packed_text (done ++ lines)) ≡ len + length (packed_text lines)
 
-pub story_start : (story : List ℕ) (before : ℕ) (lines : List (List ℕ)) → lines ≡ [] ∷ [] → StoryStands story before story before lines
-story_start story before lines e =
-    record { done = []; front = []; lined = refl; parts = refl; texts = tt; lines_are = e; count_is = omega arith; more = λ none. refl }
-
-with_line : (done lines added : List (List ℕ)) (line : List ℕ) → lines ≡ done ++ [] ∷ [] → added ≡ collect lines (map LineOctet line) → added ≡ done ++ line ∷ []
-with_line done lines added line e f = f ∙ (ap (λ (m : List (List ℕ)). collect m (map LineOctet line)) e ∙ line_collected done [] line)
+pub story_start : (story : List ℕ) (before : ℕ) → StoryStands story before story before 0
+story_start story before =
+    record { done = []; front = []; lined = refl; parts = refl; texts = tt; count_is = omega arith; more = λ none. refl; text = λ left lines h. h; len_is = λ lines some. omega arith }
 
 some_left : (after : List ℕ) (done : List (List ℕ)) → 0 < length after → after ≡ [] → done ≡ []
 some_left after done some e = absurd (omega (arith, some, ap length e))
 
-pub story_step : (story rest line after : List ℕ) (before count next : ℕ) (lines added ended : List (List ℕ)) → StoryStands story before rest count lines → NextLine rest line after
-    → 0 < length after → IsLine line → added ≡ collect lines (map LineOctet line) → ended ≡ collect added (LineEnd ∷ []) → next ≡ count + 1
-    → StoryStands story before after next ended
-story_step story rest line after before count next lines added ended s n some is f g e = record {
+-- a line with its end goes before a text
+text_more : (line ended left : List ℕ) (lines : List (List ℕ)) → IsLine line → EndsLine line ended → IsText left lines → IsText (ended ++ left) (line ∷ lines)
+text_more line ended left [] is ends h = absurd h
+text_more line ended left (next ∷ lines) is (none, inl e) h =
+    (is, 1, omega arith, left, ap (λ (l : List ℕ). l ++ left) e ∙ append_assoc line (13 ∷ 10 ∷ []) left, h)
+text_more line ended left (next ∷ lines) is (none, inr e) h =
+    (is, 0, omega arith, left, ap (λ (l : List ℕ). l ++ left) e.0 ∙ append_assoc line (10 ∷ []) left, h)
+
+len_more : (line : List ℕ) (lines : List (List ℕ)) → 0 < length lines → length (packed_text (line ∷ lines)) ≡ length line + 2 + length (packed_text lines)
+len_more line [] some = absurd (omega (arith, some))
+len_more line (next ∷ lines) some = omega (arith, length-append line (13 ∷ 10 ∷ packed_text (next ∷ lines)))
+
+-- a line with its end is longer than the line
+pub ended_long : (line ended : List ℕ) → EndsLine line ended → length line < length ended
+ended_long line ended (none, inl e) = omega (arith, ap length e, length-append line (13 ∷ 10 ∷ []))
+ended_long line ended (none, inr e) = omega (arith, ap length e.0, length-append line (10 ∷ []))
+
+pub story_step : (story rest line after : List ℕ) (before count next len longer : ℕ) → StoryStands story before rest count len → NextLine rest line after
+    → 0 < length after → IsLine line → next ≡ count + 1 → longer ≡ len + (length line + 2)
+    → StoryStands story before after next longer
+story_step story rest line after before count next len longer s n some is e f = record {
   done = s.done ++ line ∷ [];
   front = s.front ++ n.ended;
   lined = lines_more s.done s.front line n.ended s.lined n.ends;
   parts = s.parts ∙ (ap (λ (l : List ℕ). s.front ++ l) n.parts ∙ sym (append_assoc s.front n.ended after));
   texts = all_append IsLine s.done (line ∷ []) s.texts (is, tt);
-  lines_are = g ∙ ap (λ (m : List (List ℕ)). m ++ [] ∷ []) (with_line s.done lines added line s.lines_are f);
   count_is = omega (arith, e, s.count_is, count_more s.done line);
   more = some_left after (s.done ++ line ∷ []) some;
+  text = λ left lines h.
+      subst (λ (ls : List (List ℕ)). IsText ((s.front ++ n.ended) ++ left) ls) (sym (append_assoc s.done (line ∷ []) lines))
+      (subst (λ (l : List ℕ). IsText l (s.done ++ line ∷ lines)) (sym (append_assoc s.front n.ended left))
+      (s.text (n.ended ++ left) (line ∷ lines) (text_more line n.ended left lines is n.ends h)));
+  len_is = λ lines some.
+      ap (λ (ls : List (List ℕ)). length (packed_text ls)) (append_assoc s.done (line ∷ []) lines)
+      ∙ omega (arith, f, s.len_is (line ∷ lines) (omega arith), len_more line lines some);
 }
 
 some_lines : (done : List (List ℕ)) (line : List ℕ) → 0 < length (done ++ line ∷ [])
@@ -57,11 +77,11 @@ ended_story story front rest done line ended h e ends f =
     let whole : front ++ ended ≡ story = ap (λ (l : List ℕ). front ++ l) (sym (append-nil ended) ∙ sym f) ∙ sym e in
     subst (λ (l : List ℕ). EndLines (done ++ line ∷ []) l) whole (lines_more done front line ended h ends)
 
-is_whole : (story rest line : List ℕ) (before count : ℕ) (lines : List (List ℕ)) (s : StoryStands story before rest count lines) → IsLastLine rest line
+is_whole : (story rest line : List ℕ) (before count len : ℕ) (s : StoryStands story before rest count len) → IsLastLine rest line
     → IsStory story (s.done ++ line ∷ [])
-is_whole story rest line before count lines s (inl n) =
+is_whole story rest line before count len s (inl n) =
     (some_lines s.done line, inl (ended_story story s.front rest s.done line n.ended s.lined s.parts n.ends n.parts))
-is_whole story rest line before count lines s (inr (none, is)) = (
+is_whole story rest line before count len s (inr (none, is)) = (
   some_lines s.done line,
   inr (
     s.done,
@@ -75,13 +95,38 @@ is_whole story rest line before count lines s (inr (none, is)) = (
   ),
 )
 
-pub story_ends : (story rest line : List ℕ) (before count : ℕ) (lines added : List (List ℕ)) → StoryStands story before rest count lines → IsLastLine rest line → IsLine line
-    → added ≡ collect lines (map LineOctet line) → IsStory story added × AllByRecursion IsLine added
-story_ends story rest line before count lines added s last is f =
-    let added_is = with_line s.done lines added line s.lines_are f in (
-      subst (λ (m : List (List ℕ)). IsStory story m) (sym added_is) (is_whole story rest line before count lines s last),
-      subst (λ (m : List (List ℕ)). AllByRecursion IsLine m) (sym added_is) (all_append IsLine s.done (line ∷ []) s.texts (is, tt)),
-    )
+begins_ended : (rest line ended after : List ℕ) → EndsLine line ended → rest ≡ ended ++ after → (end : List ℕ) × (rest ≡ line ++ end)
+begins_ended rest line ended after (none, inl e) f = (13 ∷ 10 ∷ after, f ∙ (ap (λ (l : List ℕ). l ++ after) e ∙ append_assoc line (13 ∷ 10 ∷ []) after))
+begins_ended rest line ended after (none, inr e) f = (10 ∷ after, f ∙ (ap (λ (l : List ℕ). l ++ after) e.0 ∙ append_assoc line (10 ∷ []) after))
+
+-- the last line begins what is left
+last_begins : (rest line : List ℕ) → IsLastLine rest line → (end : List ℕ) × (rest ≡ line ++ end)
+last_begins rest line (inl n) = begins_ended rest line n.ended [] n.ends n.parts
+last_begins rest line (inr (none, is)) = ([], sym is ∙ sym (append-nil line))
+
+pub last_within : (rest line : List ℕ) → IsLastLine rest line → length line ≤ length rest
+last_within rest line h =
+    let b = last_begins rest line h in
+    omega (arith, ap length b.1, length-append line b.0)
+
+take_parts : (front line end : List ℕ) (n : ℕ) → n ≡ length front + length line → take n (front ++ (line ++ end)) ≡ front ++ line
+take_parts front line end n e =
+    ap (take n) (sym (append_assoc front line end)) ∙ (ap (λ (k : ℕ). take k ((front ++ line) ++ end)) (e ∙ sym (length-append front line)) ∙ take-append_seam (front ++ line) end)
+
+pub story_ends : (story rest line text : List ℕ) (before count len whole at : ℕ) → StoryStands story before rest count len → IsLastLine rest line → IsLine line
+    → text ≡ take at story → at + length rest ≡ length story + length line → whole ≡ len + length line → TellsText story text whole
+story_ends story rest line text before count len whole at s last is cut place f =
+    let b = last_begins rest line last in
+    let begins : story ≡ s.front ++ (line ++ b.0) = s.parts ∙ ap (λ (l : List ℕ). s.front ++ l) b.1 in
+    let at_is : at ≡ length s.front + length line = omega (arith, place, ap length s.parts, length-append s.front rest) in
+    let text_is : text ≡ s.front ++ line = cut ∙ (ap (take at) begins ∙ take_parts s.front line b.0 at at_is) in
+    record {
+      lines = s.done ++ line ∷ [];
+      is_story = is_whole story rest line before count len s last;
+      texts = all_append IsLine s.done (line ∷ []) s.texts (is, tt);
+      is_text = subst (λ (l : List ℕ). IsText l (s.done ++ line ∷ [])) (sym text_is) (s.text line (line ∷ []) (is, refl));
+      len_is = f ∙ sym (s.len_is (line ∷ []) (omega arith));
+    }
 
 next_or_last : (rest line : List ℕ) (after : Option (Bor (List ℕ))) → IfSome after (λ r. NextLine rest line r.now) → IfNone after (IsLastLine rest line)
     → ((after : List ℕ) × NextLine rest line after) ⊎ (HasNo 10 rest × (line ≡ rest))
@@ -89,19 +134,14 @@ next_or_last rest line (Some after) h k = inl (after.now, h)
 next_or_last rest line None h (inl n) = inl ([], n)
 next_or_last rest line None h (inr last) = inr last
 
-pub story_refused : (story rest line : List ℕ) (after : Option (Bor (List ℕ))) (before count number : ℕ) (lines : List (List ℕ)) (cause : ScriptCause)
-    → StoryStands story before rest count lines → IfSome after (λ r. NextLine rest line r.now) → IfNone after (IsLastLine rest line) → RefusesStoryLine line cause
-    → number ≡ number_after count cause → RefusesStory story before number cause
-story_refused story rest line after before count number lines ScriptLine s h k r e = absurd r
-story_refused story rest line after before count number lines ScriptTooLong s h k r e = absurd r
-story_refused story rest line after before count number lines (Field cause) s h k r e = absurd r
-story_refused story rest line after before count number lines BadTrailer s h k r e = absurd r
-story_refused story rest line after before count number lines BadTextOctet s h k r e = record {
+pub story_refused : (story rest line : List ℕ) (after : Option (Bor (List ℕ))) (before count number len : ℕ)
+    → StoryStands story before rest count len → IfSome after (λ r. NextLine rest line r.now) → IfNone after (IsLastLine rest line) → (IsLine line → ⊥)
+    → number ≡ count + 1 → RefusesStory story before number BadTextOctet
+story_refused story rest line after before count number len s h k bad e = record {
   before = s.done;
   line = line;
   has_line = record { front = s.front; rest = rest; lined = s.lined; parts = s.parts; is_next = next_or_last rest line after h k };
   texts = s.texts;
-  bad = r;
+  bad = bad;
   number_is = omega (arith, e, s.count_is);
 }
-story_refused story rest line after before count number lines OutOfMemory s h k r e = e

@@ -4,5 +4,6 @@ pub mod Format
 pub mod Laws
 -- What only proofs and private clauses cite.
 pub mod Adding
+pub mod Plain
 pub mod Steps
 pub mod ThreeDigits

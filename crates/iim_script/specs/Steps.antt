@@ -6,7 +6,6 @@ use Rattle.iim_fields.specs.States.Builders.{finish_fault}
 use Rattle.iim_fields.specs.declared.limits.Limits.{Limits}
 use Rattle.iim_fields.specs.declared.fault.FieldFault.{FieldFault}
 use Rattle.wire_message.specs.Format.Messages.{IsTrailer}
-use Rattle.wire_story.specs.Format.Texts.{IsLine}
 use Rattle.iim_script.specs.Format.Lines.{HasNo, NextLine}
 use Rattle.iim_script.specs.Format.Forms.{TellsTrailer, text_word}
 use Rattle.iim_script.specs.Format.Faults.{IsFrontFault, IsBadStory, TellsNoHead, TellsNoTrailer, TellsBadTrailer}
@@ -69,12 +68,6 @@ abbrev pub RefusesStory : List ℕ → ℕ → ℕ → ScriptCause → Type 0
 RefusesStory story text_line number BadTextOctet = IsBadStory story text_line number
 RefusesStory story text_line number OutOfMemory = number ≡ 0
 RefusesStory story text_line number _ = ⊥
-
--- The line cannot be added to a story: it may not stand in one, or memory is refused.
-abbrev pub RefusesStoryLine : List ℕ → ScriptCause → Type 0
-RefusesStoryLine line BadTextOctet = IsLine line → ⊥
-RefusesStoryLine line OutOfMemory = Unit {0}
-RefusesStoryLine line _ = ⊥
 
 -- The line is the last of a story: with its end, or without one.
 abbrev pub IsLastLine : List ℕ → List ℕ → Type 0

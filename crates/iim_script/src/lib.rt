@@ -10,16 +10,21 @@ mod fault;
 mod field;
 pub mod laws;
 mod line;
+mod lines;
 mod message;
 mod number;
+mod places;
+mod plain;
 mod printer;
 mod reading;
 mod rest;
 mod script;
 mod shown;
 mod story;
+mod text;
 
 pub use fault::{ScriptCause, ScriptFault};
+pub use lines::split_text;
 pub use printer::{
     push_decimal, push_fields, push_message, push_printed, push_trailer, write_word,
 };

@@ -1,6 +1,6 @@
 //! The lines of a script.
 
-ghost use Rattle.std.specs.Prelude.{◌≡◌, ◌==◌, ◌≤◌, ◌<◌, ◌++◌, ◌∷◌, ℕ, List, length, IfSome, IfNone};
+ghost use Rattle.std.specs.Prelude.{◌≡◌, ◌==◌, ◌+◌, ◌≤◌, ◌<◌, ◌++◌, ◌∷◌, ℕ, List, length, IfSome, IfNone};
 ghost use Rattle.std.specs.List.{position_or_len};
 ghost use Rattle.iim_dataset.specs.Format.Characters.{lf};
 ghost use Rattle.iim_script.specs.Format.Lines.{HasNo, NextLine};
@@ -33,7 +33,7 @@ pub(crate) fn cut_at(octets: &[u8], octet: u8) -> Option<(&[u8], &[u8])>
 /// The first line, without its end, and the octets after it. None where no LF ends it.
 pub(crate) fn next_line(octets: &[u8]) -> Option<(&[u8], &[u8])>
     ensures found { IfSome result (λ parts. NextLine octets.now parts.0.now parts.1.now) }
-    ensures shorter { IfSome result (λ parts. length parts.1.now < length octets.now) }
+    ensures shorter { IfSome result (λ parts. length parts.0.now + length parts.1.now < length octets.now) }
     ensures none { IfNone result (HasNo lf octets.now) }
 {
     let (ended, after) = cut_at(octets, LF)?;

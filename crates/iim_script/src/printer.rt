@@ -1,14 +1,14 @@
 //! The lines of a script, printed: those that `show` prints.
 
-ghost use Rattle.std.specs.Prelude.{◌≡◌, ◌+◌, ◌≤◌, ◌++◌, ◌∷◌, length, drop, IfSome, OnOk, codes, decimal};
+ghost use Rattle.std.specs.Prelude.{◌≡◌, ◌+◌, ◌*◌, ◌^◌, ◌<◌, ◌≤◌, ◌++◌, ◌∷◌, length, take, drop, vec_len, IfSome, OnOk, codes, decimal};
 ghost use Rattle.std.specs.List.{flat_map};
 ghost use Rattle.iim_dataset.specs.Format.Characters.{sp};
-ghost use Rattle.iim_dataset.specs.Format.Shown.{dataset_name};
 ghost use Rattle.iim_script.specs.Format.Printed.{after_space, field_line, message_line, trailer_line};
 
+use crate::places::put_field;
 use iim_dataset::{DatasetName, push_shown};
 use iim_fields::EnvelopeRef;
-use itoa::{Buffer, write_digits};
+use itoa::Buffer;
 use std::alloc::AllocError;
 use std::fmt::Display;
 use std::io::Write;
@@ -43,25 +43,6 @@ pub fn write_word(word: &[u8], line: &mut [u8], end: usize) -> usize
     start
 }
 
-/// The most octets of the name of a dataset, or more: two numbers of up to three digits, `:` between them and a `0` before one digit.
-const NAME: usize = 8;
-
-/// Adds the name of a dataset: its record, and its number with two digits at least.
-fn push_name(text: &mut Vec<u8>, name: DatasetName) -> Result<(), AllocError>
-    ensures { OnOk result (text.new.items ≡ text.old.items ++ dataset_name name.rec name.set) }
-{
-    let mut line = [0; NAME];
-    let digits = write_digits(u64::from(name.set), &mut line, NAME);
-    let number = if name.set < 10 {
-        write_word(b"0", &mut line, digits)
-    } else {
-        digits
-    };
-    let colon = write_word(b":", &mut line, number);
-    let record = write_digits(u64::from(name.rec), &mut line, colon);
-    text.extend_from_slice(&line[record..])
-}
-
 /// Adds a space and the octets as they are shown, or nothing where there are none.
 fn push_after_space(text: &mut Vec<u8>, octets: &[u8]) -> Result<(), AllocError>
     ensures { OnOk result (text.new.items ≡ text.old.items ++ after_space octets.now) }
@@ -73,25 +54,45 @@ fn push_after_space(text: &mut Vec<u8>, octets: &[u8]) -> Result<(), AllocError>
     push_shown(text, octets)
 }
 
-/// Adds the line of a dataset.
-fn push_field(text: &mut Vec<u8>, name: DatasetName, octets: &[u8]) -> Result<(), AllocError>
-    ensures { OnOk result (text.new.items ≡ text.old.items
-        ++ field_line (record { rec = name.rec; set = name.set; octets = octets.now })) }
+/// Makes a text so long. An error says that memory was refused.
+#[inline(never)]
+fn lengthen(text: &mut Vec<u8>, places: usize) -> Result<(), AllocError>
+    requires { vec_len text.old ≤ places }
+    ensures same { OnOk result (take (vec_len text.old) text.new.items ≡ text.old.items) }
+    ensures room { OnOk result (vec_len text.new ≡ places) }
 {
-    push_name(text, name)?;
-    push_after_space(text, octets)?;
-    text.push(b'\n')?;
-    Ok(())
+    text.resize(places, 0)
+}
+
+/// How many more places are made at once than are wanted.
+const MORE_PLACES: usize = 1024;
+
+/// Sees to it that from a place on there is room for the line of a dataset of so many octets. An error says that memory was refused.
+#[inline(always)]
+fn make_room(text: &mut Vec<u8>, at: usize, octets: usize) -> Result<(), AllocError>
+    requires within { at ≤ vec_len text.old }
+    requires few { octets < 2 ^ 32 }
+    ensures same { OnOk result (take at text.new.items ≡ take at text.old.items) }
+    ensures room { OnOk result (at + (10 + 4 * octets) ≤ vec_len text.new) }
+{
+    let places = 10 + 4 * octets;
+    if places <= text.len() - at {
+        return Ok(());
+    }
+    lengthen(text, at + places + MORE_PLACES)
 }
 
 /// Adds the lines of all datasets of an envelope. An error says that memory was refused.
 pub fn push_fields(text: &mut Vec<u8>, envelope: &EnvelopeRef<'_>) -> Result<(), AllocError>
     ensures { OnOk result (text.new.items ≡ text.old.items ++ flat_map field_line envelope.now) }
 {
+    let mut end = text.len();
     let mut fields = envelope.fields();
     while let Some((rec, set, octets)) = fields.next() {
-        push_field(text, DatasetName { rec, set }, octets)?;
+        make_room(text, end, octets.len())?;
+        end = put_field(text, end, DatasetName { rec, set }, octets);
     }
+    text.truncate(end);
     Ok(())
 }
 

@@ -3,9 +3,10 @@
 ghost use Rattle.std.specs.Prelude.{◌≡◌, ◌≤◌, ◌+◌, ◌++◌, [], ℕ, List, length, slice_index, IfOk, IfErr, OnOk, None};
 ghost use Rattle.iim_fields.specs.States.Builders.{finish_fault};
 ghost use Rattle.iim_script.specs.Format.Forms.{TellsHead, text_word};
+ghost use Rattle.wire_story.specs.Format.Texts.{IsText, packed_text};
 ghost use Rattle.iim_dataset.specs.Format.Octets.{is_digit};
 ghost use Rattle.iim_script.specs.Format.Lines.{NextLine};
-ghost use Rattle.iim_script.specs.Format.Scripts.{IsFront, IsScript, max_script};
+ghost use Rattle.iim_script.specs.Format.Scripts.{IsFront, IsScript, max_script, text_lines};
 ghost use Rattle.iim_script.specs.Format.Faults.{Stands, InFields, TellsNoField, IsScriptFault};
 ghost use Rattle.iim_script.specs.Steps.{NextIs, NextMustBe, RefusesFields, RefusesHeader, TakesTrailer, RefusesTrailer, RefusesText, RefusesEnvelope};
 
@@ -186,9 +187,15 @@ fn read_front<'a>(alloc: Global, limits: Limits, script: &'a [u8]) -> Result<Fro
 }
 
 /// What a script tells, its datasets within the limits; or its first fault by line.
-pub fn read_script(alloc: Global, limits: Limits, script: &[u8]) -> Result<Script, ScriptFault>
-    ensures script { IfOk result (λ told.
-        IsScript limits script.now told.envelope told.head told.trailer.items told.lines.lines told.text_line) }
+pub fn read_script<'a>(
+    alloc: Global,
+    limits: Limits,
+    script: &'a [u8],
+) -> Result<Script<'a>, ScriptFault>
+    ensures script { IfOk result (λ told. IsScript limits script.now told.envelope told.head told.trailer.items
+        (text_lines told.text.now) told.text_line) }
+    ensures text { IfOk result (λ told. IsText told.text.now (text_lines told.text.now)) }
+    ensures len { IfOk result (λ told. told.text_len ≡ length (packed_text (text_lines told.text.now))) }
     ensures fault { IfErr result (λ fault. IsScriptFault limits script.now fault.line fault.cause) }
 {
     if script.len() > MAX_SCRIPT {
@@ -198,11 +205,12 @@ pub fn read_script(alloc: Global, limits: Limits, script: &[u8]) -> Result<Scrip
         });
     }
     let front = read_front(alloc, limits, script)?;
-    let lines = read_story(alloc, front.story)?;
+    let text = read_story(front.story)?;
     Ok(Script {
         envelope: front.envelope,
         head: front.head,
-        lines,
+        text: text.octets,
+        text_len: text.packed_len,
         trailer: front.trailer,
         text_line: front.story.lines,
     })

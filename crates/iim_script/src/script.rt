@@ -2,17 +2,18 @@
 
 use iim_fields::Envelope;
 use wire_message::MessageHead;
-use wire_story::Lines;
 
 /// What a script tells: all that is packed, but for the plan.
 #[derive(Drop)]
-pub struct Script {
+pub struct Script<'a> {
     /// The datasets of records 1 and 2.
     pub envelope: Envelope,
     /// The header of the message.
     pub head: MessageHead,
-    /// The lines of the story.
-    pub lines: Lines,
+    /// The text of the story: its lines, and LF, or CR LF, between each two.
+    pub text: &'a [u8],
+    /// How many octets the text has where it is packed.
+    pub text_len: u64,
     /// The trailer of the message.
     pub trailer: Vec<u8>,
     /// The number of the line `text`, from 1.

@@ -1,4 +1,3 @@
-pub mod LaneLemmas
 pub mod DateLemmas
 pub mod InstantLemmas
 pub mod RowLemmas
@@ -6,3 +5,4 @@ pub mod TimeLemmas
 pub mod WorkedRows
 -- What proofs of other crates cite.
 pub mod GoodDatasets
+pub mod LaneLemmas

@@ -17,8 +17,7 @@ use Rattle.iim_places.specs.Format.Admitted.{object_of}
 use Rattle.iim_places.specs.Format.Tokens.{place_at}
 use Rattle.iim_places.specs.Format.Open.{object_so_far, section}
 use Rattle.iim_unpack.specs.States.Parts.{AreAfter, Within, StandsFor, has_ended}
-use Rattle.iim_unpack.specs.States.Unpacking.{Unpacking, IsLed, Stands, IsDoneWith, limits_in}
-use Rattle.iim_unpack.specs.UnpackerInside.{Stood}
+use Rattle.iim_unpack.specs.States.Unpacking.{Unpacking, IsLed, Stands, IsDoneWith}
 use Rattle.iim_places.specs.Format.Tickets.{TagBegun, DataBegun, AllEnded, phase_of, heads_of, place_of, ticket_of, IsTicketOf}
 use Rattle.iim_unpack.specs.TicketReading.{phase_in, IsSpelled}
 use Rattle.iim_unpack.specs.declared.parts.Parts.{Parts}
@@ -122,14 +121,3 @@ ticket_led tell u p ticket s led =
 pub ticket_by : EventsTellTheDatasets → (u : Unpacking) (p ticket : List ℕ) (a : ℕ) → IsSpelled u.reader.place u.parts ticket → Stands u p a ⊎ IsDoneWith u p a → IsTicketOf p ticket
 ticket_by tell u p ticket a s (inl at) = ticket_led tell u p ticket s at.is_led
 ticket_by tell u p ticket a s (inr at) = ticket_led tell u p ticket s at.is_led
-
--- The kept datasets are few.
-pub few_kept : (u : Unpacking) → Stood u → length u.parts.fields.kept ≤ (limits_in u).fields
-few_kept u (p, a, stood) = elim stood [ inl at ↦ few_led at.is_led | inr at ↦ few_led at.is_led ]
-  where
-    few_by : (b : Begun) (ds : List Dataset) → StandsFor u.parts ds b → length u.parts.fields.kept ≤ (limits_in u).fields
-    few_by (InTag held) ds at = let same = ap length at.fields.kept_are in omega (arith, same, at.fields.within.fields_in)
-    few_by (InData h taken) ds at = let same = ap length at.fields.kept_are in omega (arith, same, at.fields.others.fields_in)
-
-    few_led : IsLed u p → length u.parts.fields.kept ≤ (limits_in u).fields
-    few_led led = few_by led.led.begun led.led.whole led.led.stands

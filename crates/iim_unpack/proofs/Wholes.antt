@@ -1,13 +1,18 @@
 -- A whole dataset of record 1, 2, 7 or 9 leads the parts of an unpacker on.
-use Rattle.std.specs.Prelude.{IsSome, is_none}
-use Rattle.std.proofs.Common.{◌≡◌, ℕ, Bool, true, false, ◌||◌, ◌&&◌, cond, nat_eq, List, [], ◌∷◌, ◌++◌, length, map, flat_map, refl, ap, sym, subst, ◌∙◌, inl, inr, arith, append-nil}
+use Rattle.std.specs.Prelude.{IsSome, is_none, is_some}
+use Rattle.std.proofs.Common.{◌≡◌, ℕ, ◌<◌, Bool, true, false, ◌||◌, ◌&&◌, cond, nat_eq, List, [], ◌∷◌, ◌++◌, length, map, flat_map, get_or, Option, Some, None, refl, ap, sym, subst, ◌∙◌, inl, inr, arith, append-nil}
 use Rattle.std.proofs.lemmas.List.Concat.{flat_map-append}
 use Rattle.std.proofs.lemmas.Bool.Decides.{eqb_tells}
 use Rattle.iim_dataset.specs.Format.Datasets.{Dataset, head_of}
 use Rattle.iim_dataset.specs.Format.Splits.{InTag}
 use Rattle.iim_dataset.specs.States.Events.{DatasetEvent, HeadRead, DataOctet, DatasetEnd, events_of, handed_on}
 use Rattle.iim_dataset.specs.declared.head.Head.{Head}
-use Rattle.iim_fields.specs.Format.Faults.{is_kept}
+use Rattle.std.specs.Int.{IsInRange}
+use Rattle.std.specs.Option.{option_or}
+use Rattle.iim_dataset.proofs.OctetLists.{are_octets}
+use Rattle.iim_tables.specs.Format.Numbers.{size_octets}
+use Rattle.iim_fields.specs.States.Admitting.{Admits, Spells}
+use Rattle.iim_fields.specs.Format.Faults.{is_kept, first_fault, value_fault}
 use Rattle.iim_fields.specs.States.Checks.{begun_head}
 use Rattle.iim_fields.specs.States.Standing as records
 use Rattle.iim_fields.specs.States.Standing.{FieldsPlace, IsBetween, section_of, begun_head_of}
@@ -30,6 +35,21 @@ use Rattle.iim_places.proofs.Objects.{records_alive}
 use Rattle.iim_places.proofs.Places.{silent_leads}
 use Rattle.iim_unpack.proofs.Carrying.{after_all}
 use Rattle.iim_places.proofs.ObjectOctets.{object_of_more, few_more}
+
+-- ---- a number
+
+-- octets that were read as a number spell it
+pub spells_number : (h : Head) (xs : List ℕ) (o : Option ℕ) (n : ℕ) → h.count ≡ length xs → (IsSome o → IsInRange 1 size_octets (length xs)) → o ≡ Some n → n ≡ number xs → ((i : ℕ) → get_or xs i 0 < 256) → Spells xs h n
+spells_number h xs o n count some is value fits = record { count = count; few = some (ap is_some is); fit = are_octets xs fits; is = value }
+
+none_where : {X : Type 0} (o : Option X) → is_none o ≡ true → o ≡ None
+none_where None e = refl
+none_where (Some x) e = absurd cc
+
+-- they may come
+pub admits_where : (f : FieldsPlace) (h : Head) (n : ℕ) (xs : List ℕ) (b : Bool) → Spells xs h n
+    → ((ds : List Dataset) (ys : List ℕ) → records.StandsAfter f ds → Spells ys h n → b ≡ is_none (option_or (first_fault (records.limits_of f) ds h) (value_fault (data_of h ys)))) → b ≡ true → Admits f h xs
+admits_where f h n xs b s exactly is = record { count = s.count; octets = s.fit; no_fault = λ ds t. none_where _ (sym (exactly ds xs t s) ∙ is) }
 
 -- ---- the kept records
 

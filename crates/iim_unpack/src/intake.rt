@@ -100,7 +100,8 @@ fn summed(used: u64, more: u64) -> u64
     used.saturating_add(more)
 }
 
-/// The octets of a source, from which envelopes are taken one after another.
+/// The octets of a source, from which envelopes are taken one after another, a block of 4,096 at a time. No octet is lost or read
+/// twice. After a fault each call answers it as a refusal of cause 61.
 #[derive(Drop)]
 pub struct Intake<R> {
     reader: R,

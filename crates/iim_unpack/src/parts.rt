@@ -4,7 +4,6 @@ ghost use Rattle.std.specs.Prelude.{◌≡◌, true, false, IsTrue, ◌<◌, ◌
 ghost use Rattle.iim_dataset.specs.States.Events.{HeadRead, DataOctet};
 ghost use Rattle.iim_fields.specs.States.Standing.{room_of, IsBetween};
 ghost use Rattle.iim_object.specs.Format.Places.{head_token, value_token};
-ghost use Rattle.iim_dataset.specs.Format.Octets.{number};
 ghost use Rattle.iim_object.specs.Format.Plans.{max_subfiles};
 ghost use Rattle.iim_object.specs.States.Reading.{EndsAs, LeadsOn, events_at};
 ghost use Rattle.wire_message.specs.States.Reading.{IsWhole};
@@ -115,17 +114,14 @@ fn answer(taken: bool, step: Step) -> Option<Step>
     if taken { Some(step) } else { None }
 }
 
-/// Whether the message is whole, and the object lives with its end and the number of 9:10 that these octets spell.
+/// Whether the message is whole, and the object lives with its end and this number of 9:10.
 #[inline(always)]
-fn may_end(object: &ObjectReader, message: &MessageReader, octets: &[u8]) -> bool
+fn may_end(object: &ObjectReader, message: &MessageReader, number: u64) -> bool
     requires { IsSome object.now }
     ensures whole { IsTrue result → IsWhole message.now }
-    ensures ends { IsTrue result → EndsAs object.now (number octets.now) object.now }
+    ensures ends { IsTrue result → EndsAs object.now number object.now }
 {
-    match number_of(octets) {
-        Some(number) => message.is_whole() && object.may_end(number),
-        None => false,
-    }
+    message.is_whole() && object.may_end(number)
 }
 
 impl Parts {
@@ -179,9 +175,11 @@ impl Parts {
             return false;
         }
         let rec = PRE_OBJECT;
-        if !self.fields.whole_number(Head { rec, set, count }, octets) {
+        let head = Head { rec, set, count };
+        if !self.fields.admits_number(head, number) {
             return false;
         }
+        self.fields.put_number(head);
         self.object.put_number(set, number);
         true
     }
@@ -198,11 +196,19 @@ impl Parts {
         ensures room { room_of self.new.fields ≡ room_of self.old.fields }
     {
         close_laws();
-        if !may_end(&self.object, &self.message, octets) {
+        let Some(number) = number_of(octets) else {
+            return false;
+        };
+        if !may_end(&self.object, &self.message, number) {
             return false;
         }
         let rec = POST_OBJECT;
-        self.fields.whole_number(Head { rec, set, count }, octets)
+        let head = Head { rec, set, count };
+        if !self.fields.admits_number(head, number) {
+            return false;
+        }
+        self.fields.put_number(head);
+        true
     }
 
     /// Takes a whole dataset of record 1 or 2; or changes nothing.

@@ -1,6 +1,6 @@
 //! The streaming unpacker.
 
-ghost use Rattle.std.specs.Prelude.{◌≡◌, ◌+◌, ◌*◌, ◌^◌, [], is_some, ◌<◌, ◌≤◌, ◌⊎◌, ℕ, List, Option, Some, None, Ok, Err, false, length, IsTrue, ◌↔◌, IsSome, IfSome, IfOk, IfErr, OnOk, OnErr};
+ghost use Rattle.std.specs.Prelude.{◌≡◌, ◌+◌, ◌*◌, ◌^◌, [], is_some, ◌<◌, ◌≤◌, ◌⊎◌, ℕ, List, Option, Some, None, Ok, Err, false, length, take, IsTrue, ◌↔◌, IsSome, IfSome, IfOk, IfErr, OnOk, OnErr};
 ghost use Rattle.iim_dataset.specs.States.Places.{to_come};
 ghost use Rattle.iim_dataset.specs.States.Reading.{TakesCalls, tag_cause_of};
 ghost use Rattle.iim_fields.specs.States.Standing.{StandsAfter, limits_of, room_of, room_for};
@@ -12,6 +12,7 @@ ghost use Rattle.iim_unpack.specs.UnpackerInside.{HasAdvanced, FailsFor, FailsAs
 ghost use Rattle.iim_places.specs.States.Counts.{raised};
 ghost use Rattle.iim_unpack.specs.States.Unpacking.{failed_at, Stands, IsDoneWith, IsDone, IsRefusedIn, Goes, limits_in, room_in, LeftAs};
 ghost use Rattle.iim_unpack.specs.States.Held.{HoldsFew};
+ghost use Rattle.iim_unpack.specs.States.Saving.{HasTicketIn};
 ghost use Rattle.iim_places.specs.Format.Open.{IsTruncatedAt};
 ghost use Rattle.iim_places.specs.Format.Admitted.{Value, Admits};
 ghost use Rattle.iim_places.specs.Format.Tickets.{IsTicketOf};
@@ -21,7 +22,7 @@ ghost use Rattle.iim_places.specs.declared.refusal.Refusal.{Refusal as RefusalVa
 use crate::parts::message::give_back;
 use crate::parts::router::Router;
 use crate::parts::{Halt, Parts};
-use crate::ticket::spelling::{SaveFault, spell_ticket};
+use crate::ticket::spelling::{SaveFault, spell_at, spell_ticket};
 use arrayvec::ArrayVec;
 use iim_dataset::{Fault as TagFault, FaultCause, HeadReader};
 use iim_fields::{Envelope, EnvelopeRef, Fields, Limits};
@@ -154,7 +155,7 @@ pub struct UnpackedRef<'u> {
 ///
 /// It holds the data of records 1 and 2, at most `Limits.octets` octets in at most `Limits.fields` entries, and less than 256
 /// octets more: those of a begun tag (12 at most), a begun number of record 7 or 9 (8), the header and the trailer of the message
-/// (159), and CR that no LF has followed yet (2). [`Unpacker::new`] makes room for all of them; no other call takes memory, and the room stays as it was made.
+/// (163), and CR that no LF has followed yet (2). [`Unpacker::new`] makes room for all of them; no other call takes memory, and the room stays as it was made.
 #[derive(Drop)]
 pub struct Unpacker {
     reader: HeadReader,
@@ -208,6 +209,15 @@ pub(crate) fn raised(octets: u64, more: usize) -> u64
     ensures { result ≡ raised octets more }
 {
     octets.saturating_add(more as u64)
+}
+
+/// Writes octets at the front of a buffer, where that has room for them.
+fn put_where_room(octets: &[u8], out: &mut [u8])
+    ensures { length octets.now ≤ length out.new → take (length octets.now) out.new ≡ octets.now }
+{
+    if octets.len() <= out.len() {
+        out[..octets.len()].copy_from_slice(octets);
+    }
 }
 
 /// Whether an octet has come, after a piece.
@@ -413,6 +423,25 @@ impl Unpacker {
             Ok(ticket) => Ok(ticket),
             Err(_) => Err(SaveFault::OutOfMemory),
         }
+    }
+
+    /// Writes the same ticket at the front of a buffer, where that has room for it, and answers how many octets it has. It takes no
+    /// memory where the buffer has room.
+    pub fn save_at(&self, alloc: Global, out: &mut [u8]) -> Result<usize, SaveFault>
+        ensures failed { (octet : ℕ) → self.now.refused ≡ Some octet → result ≡ Err SaveFault.Failed }
+        ensures memory { self.now.refused ≡ None → IfErr result (λ fault. fault ≡ SaveFault.OutOfMemory) }
+        ensures ticket { IfOk result (HasTicketIn self.now out.new) }
+    {
+        feed_laws();
+        self.stands_somewhere();
+        if self.refused.is_none() {
+            if let Some(count) = spell_at(out, &self.reader, &self.parts) {
+                return Ok(count);
+            }
+        }
+        let ticket = self.save(alloc)?;
+        put_where_room(ticket.as_slice(), out);
+        Ok(ticket.len())
     }
 
     /// The value of the envelope where it lies, where one has ended. It stays there until the unpacker begins again.

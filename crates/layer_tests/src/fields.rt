@@ -1,6 +1,6 @@
 //! Readers of records over the memory of an envelope, and where nothing is handed over; and the walks over an envelope.
 
-ghost use Rattle.std.specs.Prelude.{◌≢◌, length, OnOk};
+ghost use Rattle.std.specs.Prelude.{◌≢◌, length, OnOk, IfSome};
 ghost use Rattle.iim_fields.specs.States.Standing.{IsBetween, IsInside};
 
 use arrayvec::ArrayVec;
@@ -165,27 +165,38 @@ fn built(alloc: Global) -> Option<Envelope> {
     builder.finish().ok()
 }
 
+/// The fields after records 1 and 2, where no envelope was handed over: there is none yet.
+fn paused(mut fields: Fields) -> Option<Fields>
+    requires { IsBetween fields }
+    ensures { IfSome result (λ fields. IsBetween fields) }
+{
+    match pass_fields(&mut fields, false) {
+        Ok(()) => fields.into_envelope().err(),
+        Err(_) => None,
+    }
+}
+
+/// Whether the fields have come to the longer worked envelope.
+fn are_worked(alloc: Global, fields: Fields) -> bool {
+    let Ok(read) = fields.into_envelope() else {
+        return false;
+    };
+    match built(alloc) {
+        Some(built) => read.same(&built),
+        None => false,
+    }
+}
+
 fn the_reader_continues_where_nothing_is_handed_over(
     rt: &impl Print,
     alloc: Global,
 ) -> io::Result<()> {
     let trial = "the_reader_continues_where_nothing_is_handed_over";
-    let mut fields = Fields::new(alloc, LIMITS)?;
-    if let Err(fault) = pass_fields(&mut fields, false) {
-        return println!(rt; "{trial}: {fault}");
-    }
-    // After record 2 there is no envelope yet.
-    let Err(mut fields) = fields.into_envelope() else {
-        return println!(rt; "{trial}: an envelope after record 2");
+    let Some(mut fields) = paused(Fields::new(alloc, LIMITS)?) else {
+        return println!(rt; "{trial}: refused, or an envelope after record 2");
     };
     tell_told(rt, trial, pass_sizes(&mut fields, false))?;
-    let Ok(read) = fields.into_envelope() else {
-        return println!(rt; "{trial}: no envelope");
-    };
-    let Some(built) = built(alloc) else {
-        return println!(rt; "{trial}: not built");
-    };
-    let same = read.same(&built);
+    let same = are_worked(alloc, fields);
     println!(rt; "{trial}: the same as the one that was built: {same}")
 }
 

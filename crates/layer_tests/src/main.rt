@@ -11,6 +11,7 @@ mod fields;
 mod messages;
 mod objects;
 mod stories;
+mod told;
 
 use std::io;
 

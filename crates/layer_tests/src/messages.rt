@@ -1,6 +1,7 @@
 //! Sinks of messages that count calls and stop, and a long line.
 
 use crate::stories::tell_lines;
+use crate::told::tell_good;
 use iim_dataset::Stop;
 use std::alloc::Global;
 use std::io;
@@ -10,7 +11,7 @@ use wire_story::{LineWriter, Lines, StorySink};
 use worked::STORY_OBJECT;
 
 /// What a sink was told: octets of a line, of which the number is kept, or the end of a line.
-#[derive(Clone, Copy, Debug, PartialEq, Eq)]
+#[derive(Clone, Copy, Debug)]
 enum Call {
     Text(usize),
     LineEnd,
@@ -122,8 +123,8 @@ fn tell_stop(rt: &impl Print, good: u64) -> io::Result<()> {
         let mut sink = LineWriter::new(target);
         let answer = read(STORY_OBJECT, by_octets, &mut sink);
         let target = sink.into_writer();
-        let octets = target.octets().escape_ascii();
-        println!(rt; "sinks_of_messages_that_stop: {good} good: {answer:?} {octets}")?;
+        let trial = "sinks_of_messages_that_stop";
+        tell_good(rt, trial, good, &answer, target.octets())?;
     }
     Ok(())
 }

@@ -4,6 +4,7 @@ ghost use Rattle.std.specs.Prelude.{◌≡◌, ◌++◌, OnOk};
 ghost use Rattle.wire_story.specs.Format.Texts.{AreLines, IsLine};
 ghost use Rattle.wire_story.specs.Format.Delivery.{delivered};
 
+use crate::told::{count_of, tell_good, tell_octets};
 use iim_dataset::Stop;
 use std::alloc::Global;
 use std::io;
@@ -88,7 +89,7 @@ fn read_lines(alloc: Global, text: &[u8]) -> (Lines, Result<(), TextFault>) {
 pub(crate) fn tell_lines(rt: &impl Print, trial: &str, lines: &Lines) -> io::Result<()> {
     for line in lines.iter() {
         let octets = line.len();
-        let right = line.iter().filter(|octet| **octet == b'a').count();
+        let right = count_of(b'a', line);
         println!(rt; "{trial}: a line of {octets} octets, {right} of them a")?;
     }
     Ok(())
@@ -158,9 +159,12 @@ fn lines_are_written_past_interruptions(rt: &impl Print) -> io::Result<()> {
     let target: TrialWriter<32> = TrialWriter::new(5, Trouble::Interruptions(3));
     let mut sink = LineWriter::new(target);
     let answer = read_by_octets(RATES, &mut sink);
-    let target = sink.into_writer();
-    let octets = target.octets().escape_ascii();
-    println!(rt; "lines_are_written_past_interruptions: {answer:?} {octets}")
+    tell_octets(
+        rt,
+        "lines_are_written_past_interruptions",
+        &answer,
+        sink.into_writer().octets(),
+    )
 }
 
 /// A target takes `good` octets, one a call, and then fails.
@@ -170,8 +174,7 @@ fn writes_that_fail(rt: &impl Print) -> io::Result<()> {
         let mut sink = LineWriter::new(target);
         let answer = read_in_two(RATES, b"", &mut sink);
         let target = sink.into_writer();
-        let octets = target.octets().escape_ascii();
-        println!(rt; "writes_that_fail: {good} good: {answer:?} {octets}")?;
+        tell_good(rt, "writes_that_fail", good, &answer, target.octets())?;
     }
     let full: TrialWriter<3> = TrialWriter::new(100, Trouble::Failure);
     let mut sink = LineWriter::new(full);

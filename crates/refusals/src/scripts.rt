@@ -5,7 +5,7 @@ use crate::outcome::Trouble;
 use iim_fields::Envelope;
 use iim_script::{Script, ScriptCause, ScriptFault, read_script};
 use std::alloc::Global;
-use wire_story::Lines;
+use wire_story::{Lines, TextCause, TextReader};
 use worked::{FIRST_LINE, LAST_LINE};
 
 /// The script of the worked envelope.
@@ -36,11 +36,22 @@ fn are_worked(lines: &Lines) -> bool {
     lines.iter().eq([FIRST_LINE, LAST_LINE])
 }
 
+/// The lines of a text.
+fn collected(alloc: Global, text: &[u8]) -> Result<Lines, Trouble> {
+    let mut lines = Lines::new(alloc);
+    match TextReader::new().run(text, &mut lines) {
+        Ok(()) => Ok(lines),
+        Err(fault) if fault.cause == TextCause::Sink => Err(Trouble::OutOfMemory),
+        Err(_) => Err(Trouble::Wrong),
+    }
+}
+
 /// The lines of a script, where it tells this envelope and the worked lines.
-fn lines_of(script: Script, envelope: &Envelope) -> Result<Lines, Trouble> {
+fn lines_of(alloc: Global, script: Script<'_>, envelope: &Envelope) -> Result<Lines, Trouble> {
     let is_same = script.envelope.same(envelope) && script.text_line == 18;
-    if is_same && are_worked(&script.lines) {
-        return Ok(script.lines);
+    let lines = collected(alloc, script.text)?;
+    if is_same && are_worked(&lines) {
+        return Ok(lines);
     }
     Err(Trouble::Wrong)
 }
@@ -48,7 +59,7 @@ fn lines_of(script: Script, envelope: &Envelope) -> Result<Lines, Trouble> {
 /// Reads the script, and gives its lines.
 pub(crate) fn told(alloc: Global, envelope: &Envelope) -> Result<Lines, Trouble> {
     match read_script(alloc, LIMITS, SCRIPT) {
-        Ok(script) => lines_of(script, envelope),
+        Ok(script) => lines_of(alloc, script, envelope),
         Err(
             ScriptFault {
                 line: 0,

@@ -1,11 +1,11 @@
 //! A packer, call by call.
 
+use crate::scripts::Value;
 use crate::writers::{Keeps, Memory, Trial};
 use anyhow::{Context, Result};
 use iim_dataset::{FromWrite, Target};
 use iim_object::{PackCause, Plan, StartFault};
 use iim_pack::Packer;
-use iim_script::Script;
 use std::alloc::Global;
 use vectors_questions::{Answers, Names, Shown, Words};
 
@@ -139,7 +139,7 @@ impl Calls {
     pub fn start(
         &mut self,
         out: &mut Answers,
-        script: &Script,
+        script: &Value,
         plan: Plan,
         trial: Option<Trial>,
     ) -> Result<()> {

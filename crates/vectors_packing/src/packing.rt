@@ -2,13 +2,12 @@
 
 use crate::calls::{Calls, stopped, tell_fault};
 use crate::plans::{plan_of, tell_no_plan, tell_plan};
-use crate::scripts::told;
+use crate::scripts::{Value, told};
 use crate::writers::{Keeps, Memory, trial_of};
 use anyhow::{Context, Result};
 use iim_dataset::{FromWrite, Target};
 use iim_object::{PackCause, Plan, StartFault};
 use iim_pack::{Packer, pack, packed_size};
-use iim_script::Script;
 use std::alloc::Global;
 use vectors_questions::{Answers, Names, Shown, Words};
 use wire_story::Lines;
@@ -17,7 +16,7 @@ use wire_story::Lines;
 #[derive(Drop)]
 pub struct Packing {
     alloc: Global,
-    told: Option<Script>,
+    told: Option<Value>,
     calls: Calls,
 }
 
@@ -136,7 +135,7 @@ const NO_VALUE: &str = "no script has told a value";
 /// Packs the value of a script at once.
 fn packed<W: Target>(
     alloc: Global,
-    script: &Script,
+    script: &Value,
     plan: Plan,
     writer: W,
 ) -> Result<W, StartFault<W>> {
@@ -198,7 +197,7 @@ fn take_lines<W: Target>(
 /// Packs the value of a script call by call, in such pieces.
 fn in_pieces<W: Target>(
     alloc: Global,
-    script: &Script,
+    script: &Value,
     plan: Plan,
     writer: W,
     most: u64,

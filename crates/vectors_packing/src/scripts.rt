@@ -1,20 +1,48 @@
 //! What scripts tell.
 
-use anyhow::Result;
-use iim_fields::Limits;
+use anyhow::{Result, bail};
+use iim_fields::{Envelope, Limits};
 use iim_script::{Script, read_script};
 use std::alloc::Global;
 use vectors_messages::tell_header;
 use vectors_questions::{Answers, Shown};
 use vectors_records::print_field;
 use vectors_stories::tell_lines;
+use wire_message::MessageHead;
+use wire_story::{Lines, TextReader};
+
+/// What a script tells, the lines of its story collected.
+#[derive(Drop)]
+pub(crate) struct Value {
+    pub(crate) envelope: Envelope,
+    pub(crate) head: MessageHead,
+    pub(crate) lines: Lines,
+    pub(crate) trailer: Vec<u8>,
+    text_line: u64,
+}
+
+/// What a script tells, with its lines.
+fn collected(alloc: Global, script: Script<'_>) -> Result<Value> {
+    let mut lines = Lines::new(alloc);
+    if let Err(_) = TextReader::new().run(script.text, &mut lines) {
+        bail!("the text of a script is no text, or memory was refused");
+    }
+    Ok(Value {
+        envelope: script.envelope,
+        head: script.head,
+        lines,
+        trailer: script.trailer,
+        text_line: script.text_line,
+    })
+}
 
 /// Tells what a script tells, and answers it; or its fault.
-pub(crate) fn told(alloc: Global, out: &mut Answers, octets: &[u8]) -> Result<Option<Script>> {
+pub(crate) fn told(alloc: Global, out: &mut Answers, octets: &[u8]) -> Result<Option<Value>> {
     match read_script(alloc, Limits::WIRE, octets) {
         Ok(script) => {
-            tell(out, &script);
-            Ok(Some(script))
+            let told = collected(alloc, script)?;
+            tell(out, &told);
+            Ok(Some(told))
         }
         Err(fault) => {
             let line = fault.line;
@@ -27,7 +55,7 @@ pub(crate) fn told(alloc: Global, out: &mut Answers, octets: &[u8]) -> Result<Op
 }
 
 /// Tells all that a script tells.
-fn tell(out: &mut Answers, script: &Script) {
+fn tell(out: &mut Answers, script: &Value) {
     for (rec, set, octets) in script.envelope.fields() {
         print_field(out, rec, set, octets);
     }

@@ -1,18 +1,18 @@
 -- What some of the octets that are left do at a place.
-use Rattle.std.proofs.Common.{◌≡◌, ℕ, ◌+◌, ◌<◌, ◌≤◌, Bool, true, ◌&&◌, ◌||◌, ◌==◌, nat_lt, length, slice_index, List, [], ◌∷◌, ◌++◌, refl, sym, ap, subst, ◌∙◌, arith, take, append-nil}
+use Rattle.std.proofs.Common.{◌≡◌, ℕ, ◌+◌, ◌<◌, ◌≤◌, Bool, true, ◌&&◌, ◌||◌, ◌==◌, nat_lt, length, slice_index, List, [], ◌∷◌, ◌++◌, refl, sym, ap, subst, ◌∙◌, arith}
 use Rattle.std.proofs.lemmas.Bool.{and_parts, or_right, eqb-true, ltb-true}
-use Rattle.std.proofs.lemmas.List.{take_more, length-take-le}
+use Rattle.std.proofs.lemmas.List.{take_more}
 use Rattle.arrayvec.specs.ArrayVec.{ArrayVec}
 use Rattle.wire_story.specs.declared.reader.TextReader.{TextReader}
 use Rattle.wire_story.specs.States.Reading as story
-use Rattle.wire_message.specs.Format.Fields.{Are, is_trailer_octet, is_filler_octet, max_filler, max_trailer}
+use Rattle.wire_message.specs.Format.Fields.{is_filler_octet, max_filler}
 use Rattle.wire_message.specs.Format.Messages.{Header, IsHeader, IsTrailer}
 use Rattle.wire_message.specs.States.SoFar.{IsPlace, Spells, StoryStands}
 use Rattle.wire_message.specs.Steps.{AddsNoText, TakesSome}
 use Rattle.wire_message.specs.declared.place.Place.{Place}
 use Rattle.wire_message.specs.declared.place.Place.TheVariants.{Words, Info, Gap, Text, Trailer, AfterEnd}
 use Rattle.wire_message.proofs.Machine.{of, begun, gap_leads_on}
-use Rattle.wire_message.proofs.Transitions.{words_gap, info_gap, gap_more, gap_stx, trailer_more, trailer_eot, end_more, field_more, one_is}
+use Rattle.wire_message.proofs.Transitions.{words_gap, info_gap, gap_more, gap_stx, trailer_eot, end_more, one_is}
 
 -- one octet leads from a place to another
 pub takes_one : (p q : Place) (rest : List ℕ) → 0 < length rest → IsPlace q
@@ -25,9 +25,6 @@ takes_one p q rest some i adds tells = record {
   adds = subst (λ (xs : List ℕ). AddsNoText p xs q) (sym (take_more rest 0 0 some)) adds;
   story = tells;
 }
-
-pub info_unrun : (h k : Header) (xs : List ℕ) (n : ℕ) → k ≡ record h { info = h.info ++ take n xs } → n ≡ 0 → k ≡ h
-info_unrun h k xs n e z = e ∙ ap (λ (u : List ℕ). let v : Header = record h { info = u } in v) (ap (λ (m : ℕ). h.info ++ take m xs) z ∙ append-nil h.info)
 
 pub words_to_gap : (s n p c w v : ArrayVec ℕ) (h : Header) (rest : List ℕ) (feed : Bool) → 0 < length rest → v ≡ w → h ≡ begun s n p c v → IsHeader h
     → is_filler_octet (slice_index rest 0) ≡ true → feed ≡ (slice_index rest 0 == 10) → TakesSome (Words s n p c w) rest (Gap h 1 feed) 1
@@ -70,18 +67,6 @@ gap_ends h k feed reader rest some i j stands on =
     subst (λ (n : ℕ). Spells (before ++ (n ∷ [])) text (Text h reader)) (sym (eqb-true b 2 parts.0))
     (gap_stx before text h k reader i.1 i.2 (subst (λ (f : Bool). Spells before text (Gap h k f)) parts.1 l)))
     (λ text none. subst (story.StandsAt reader) (sym none) stands)
-
-pub trailer_on : (h : Header) (t v : ArrayVec ℕ) (rest : List ℕ) (n : ℕ) → 0 < n → n ≤ length rest → IsPlace (Trailer h t) → Are is_trailer_octet (take n rest)
-    → v.items ≡ t.items ++ take n rest → length t.items + n ≤ max_trailer → TakesSome (Trailer h t) rest (Trailer h v) n
-trailer_on h t v rest n some within i are items fits =
-    let same : v ≡ of (t.items ++ take n rest) = ap of items in
-    record {
-      some = some;
-      within = within;
-      is_place = (i.0, subst IsTrailer (sym items) (field_more is_trailer_octet 0 0 max_trailer t.items (take n rest) i.1 are (omega (arith, fits, length-take-le n rest within)) (omega arith)));
-      adds = λ before text l. subst (λ (u : ArrayVec ℕ). Spells (before ++ take n rest) text (Trailer h u)) (sym same) (trailer_more before text (take n rest) h t l);
-      story = λ text l. l;
-    }
 
 pub trailer_ends : (h : Header) (t v : ArrayVec ℕ) (rest : List ℕ) → 0 < length rest → IsPlace (Trailer h t) → v ≡ t → slice_index rest 0 ≡ 4 → TakesSome (Trailer h t) rest (AfterEnd h v 0) 1
 trailer_ends h t v rest some i same eot =

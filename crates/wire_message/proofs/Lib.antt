@@ -22,6 +22,7 @@ pub mod Ended
 pub mod Headers
 pub mod Saving
 pub mod FrontHeads
+pub mod Kept
 pub mod Tails
 -- What proofs of other crates cite.
 pub mod MessageOctets

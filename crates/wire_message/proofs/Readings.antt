@@ -3,7 +3,6 @@ use Rattle.std.proofs.Math.Seq.{take-add}
 use Rattle.std.specs.List.{slice_range}
 use Rattle.std.proofs.lemmas.List.{take_rest}
 use Rattle.std.proofs.Common.{◌≡◌, ℕ, zero, suc, ◌+◌, ◌<◌, true, false, List, [], ◌∷◌, ◌++◌, take, slice_index, Option, Some, None, map, refl, sym, ap, subst, ◌∙◌, arith, append_assoc, append-nil, length}
-use Rattle.std.proofs.lemmas.Bool.Decides.{nat_tests}
 use Rattle.std.proofs.lemmas.List.Concat.{flat_map-append}
 use Rattle.iim_dataset.specs.Format.Languages.{IsAlive}
 use Rattle.wire_story.specs.Format.Texts.{AreLines, Holds}
@@ -117,9 +116,6 @@ text_refuses text_cause.Sink octets text h reader b i t l c =
     )
 
 -- ---- ETX
-
-pub etx_is : (b : ℕ) → b < 256 → is_text_octet b ≡ false → b ≡ 3
-etx_is b lt h = grind (arith, nat_tests)
 
 pub etx_leads : (h : Header) (old : TextReader) → ((x : List ℕ) → story.StandsAt old x → AreLines x)
     → (octets text : List ℕ) → LeadsTo octets text (Text h old) → LeadsTo (octets ++ (3 ∷ [])) (text ++ []) (Trailer h (of []))

@@ -1,5 +1,5 @@
 -- With which octet no place comes after a place.
-use Rattle.std.proofs.Common.{◌≡◌, ℕ, ◌<◌, Bool, false, ◌&&◌, ◌==◌, nat_lt, length, List, ◌++◌, None, ap, ◌∙◌, arith, inl, inr, take, append-nil}
+use Rattle.std.proofs.Common.{◌≡◌, ℕ, ◌<◌, Bool, false, ◌&&◌, ◌==◌, nat_lt, length, ◌++◌, None, ◌∙◌, arith, inl, inr}
 use Rattle.std.proofs.lemmas.Bool.{and_left, and_right, cases_lt, le-ltb}
 use Rattle.std.proofs.lemmas.Bool.Decides.{nat_tests}
 use Rattle.arrayvec.specs.ArrayVec.{ArrayVec}
@@ -33,10 +33,6 @@ filler_stops k b e d = guard_no _ _ _ e ∙ guard_no _ _ _ (not_eq b 1 d)
 
 pub source_stops : (s : ArrayVec ℕ) (b : ℕ) → (length s.items < max_source → is_letter b ≡ false) → (is_digit b && nat_lt 0 (length s.items)) ≡ false → next (Source s) b ≡ None
 source_stops s b e d = guard_no _ _ _ (stays is_letter max_source s b e) ∙ guard_no _ _ _ d
-
--- a part that took nothing is as it was
-pub unrun : (old new : ArrayVec ℕ) (xs : List ℕ) (n : ℕ) → new.items ≡ old.items ++ take n xs → n ≡ 0 → new ≡ old
-unrun old new xs n e z = ap (λ (u : List ℕ). let v : ArrayVec ℕ = record { items = u } in v) (e ∙ (ap (λ (m : ℕ). old.items ++ take m xs) z ∙ append-nil old.items))
 
 pub number_stops : (s n : ArrayVec ℕ) (b : ℕ) → (length n.items < max_number → is_digit b ≡ false) → (b ≡ 32 → ⊥) → next (Number s n) b ≡ None
 number_stops s n b e d = guard_no _ _ _ (stays is_digit max_number n b e) ∙ guard_no _ _ _ (not_eq b 32 d)

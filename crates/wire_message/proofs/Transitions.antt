@@ -28,9 +28,6 @@ field_none test most = (refl, omega arith, omega arith)
 pub field_from : (test : ℕ → Bool) (low most : ℕ) (xs : List ℕ) → IsField test 0 most xs → low ≤ length xs → IsField test low most xs
 field_from test low most xs h le = (h.0, le, h.2)
 
-pub header_from : (s n p c w : ArrayVec ℕ) (h : Header) → h ≡ begun s n p c w → IsHeader (begun s n p c w) → IsHeader h
-header_from s n p c w h e k = subst IsHeader (sym e) k
-
 -- ---- what is added at the end of joined parts is added to the last one
 
 join1 : (a f r ys : List ℕ) → (a ++ (1 ∷ (f ++ r))) ++ ys ≡ a ++ (1 ∷ (f ++ (r ++ ys)))

@@ -10,3 +10,4 @@ pub mod Classes
 pub mod Steps
 pub mod Restoring
 pub mod Whole
+pub mod Kept

@@ -1,11 +1,14 @@
 //! Parts of a bounded length.
 
 ghost use Rattle.std.specs.Prelude.{◌≡◌, ◌≤◌, ◌<◌, ◌↔◌, ◌+◌, ◌++◌, [], ◌∷◌, false, length, slice_index, take, IsTrue};
+ghost use Rattle.arrayvec.specs.ArrayVec.{array_vec_len};
+ghost use Rattle.iim_dataset.specs.Format.Characters.{sp};
 ghost use Rattle.wire_message.specs.Classes.{is_in_class};
 ghost use Rattle.wire_message.specs.Format.Fields.{Are, IsField};
 
 use crate::class::{Class, is_in};
 use arrayvec::ArrayVec;
+use iim_dataset::octets::SP;
 
 /// Whether each octet is of the class.
 fn are_in(class: Class, octets: &[u8]) -> bool
@@ -35,6 +38,26 @@ pub(crate) fn kept<const ROOM: usize>(octets: &[u8]) -> ArrayVec<u8, ROOM>
     kept
 }
 
+/// Appends octets for which there is room.
+pub(crate) fn append<const ROOM: usize>(out: &mut ArrayVec<u8, ROOM>, octets: &[u8])
+    requires { array_vec_len out.old + length octets.now ≤ ROOM }
+    ensures items { out.new.items ≡ out.old.items ++ octets.now }
+    ensures len { array_vec_len out.new ≡ array_vec_len out.old + length octets.now }
+{
+    // There is room, so it cannot fail.
+    let _ = out.try_extend_from_slice(octets);
+}
+
+/// Appends SP and a part.
+pub(crate) fn append_part<const ROOM: usize>(out: &mut ArrayVec<u8, ROOM>, part: &[u8])
+    requires { array_vec_len out.old + 1 + length part.now ≤ ROOM }
+    ensures items { out.new.items ≡ out.old.items ++ (sp ∷ part.now) }
+    ensures len { array_vec_len out.new ≡ array_vec_len out.old + 1 + length part.now }
+{
+    append(out, &[SP]);
+    append(out, part);
+}
+
 /// The length of the longest front of the class.
 #[inline(always)]
 pub(crate) fn run_len(class: Class, octets: &[u8]) -> usize
@@ -50,6 +73,19 @@ pub(crate) fn run_len(class: Class, octets: &[u8]) -> usize
     octets.len()
 }
 
+/// The length of the longest front of the class, `most` octets at most.
+#[inline(always)]
+pub(crate) fn front_len(class: Class, most: usize, octets: &[u8]) -> usize
+    ensures within { result ≤ length octets.now }
+    ensures few { result ≤ most }
+    ensures class { Are (is_in_class class) (take result octets.now) }
+    ensures longest { result < length octets.now → result < most →
+        is_in_class class (slice_index octets.now result) ≡ false }
+{
+    let room = octets.len().min(most);
+    run_len(class, &octets[..room])
+}
+
 /// Lengthens a part by the octets of its class that follow it, as many as there is room for, and answers how many.
 #[inline(always)]
 pub(crate) fn take_run<const ROOM: usize>(
@@ -61,14 +97,11 @@ pub(crate) fn take_run<const ROOM: usize>(
     ensures class { Are (is_in_class class) (take result octets.now) }
     ensures items { part.new.items ≡ part.old.items ++ take result octets.now }
     ensures fits { length part.old.items + result ≤ ROOM }
-    ensures longest { result ≡ 0 → 0 < length octets.now → length part.old.items < ROOM →
-        is_in_class class (slice_index octets.now 0) ≡ false }
+    ensures longest { result < length octets.now → length part.old.items + result < ROOM →
+        is_in_class class (slice_index octets.now result) ≡ false }
 {
-    let room = part.remaining_capacity();
-    let most = octets.len().min(room);
-    let run = run_len(class, &octets[..most]);
-    // There is room, so it cannot fail.
-    let _ = part.try_extend_from_slice(&octets[..run]);
+    let run = front_len(class, part.remaining_capacity(), octets);
+    append(part, &octets[..run]);
     run
 }
 

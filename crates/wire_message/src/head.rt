@@ -3,41 +3,40 @@
 ghost use Rattle.std.specs.Prelude.{◌≡◌, ◌↔◌, ◌≤◌, ◌<◌, ◌+◌, ◌++◌, [], false, length, take, slice_index, IsTrue, IsSome, IfSome};
 
 use crate::class::Class;
-use crate::field::{is_field, kept, take_run};
-use crate::lengths::{MAX_CATEGORY, MAX_INFO, MAX_NUMBER, MAX_PRIORITY, MAX_SOURCE, MAX_WORDS};
+use crate::ends::Ends;
+use crate::field::{append, append_part, front_len, is_field, kept};
+use crate::lengths::{
+    MAX_CATEGORY, MAX_INFO, MAX_KEPT, MAX_NUMBER, MAX_PRIORITY, MAX_SOURCE, MAX_WORDS,
+};
 use arrayvec::ArrayVec;
 use std::marker::Model;
 
-/// The header of a message: each part has a length and octets that the format allows. It holds 95 octets of them at most,
-/// and takes no memory.
+/// The header of a message: each part has a length and octets that the format allows. It holds them as they come, with one octet
+/// between two parts, 99 octets at most, and takes no memory.
 ///
 /// Contracts see it as the six parts.
 #[derive(Debug, Drop)]
 pub struct MessageHead {
-    source: ArrayVec<u8, MAX_SOURCE>,
-    number: ArrayVec<u8, MAX_NUMBER>,
-    priority: ArrayVec<u8, MAX_PRIORITY>,
-    category: ArrayVec<u8, MAX_CATEGORY>,
-    words: ArrayVec<u8, MAX_WORDS>,
-    info: ArrayVec<u8, MAX_INFO>,
+    octets: ArrayVec<u8, MAX_KEPT>,
+    ends: Ends,
 }
 
 impl Model for MessageHead {
-    ghost use Rattle.wire_message.specs.Format.Messages.{Header, header_of, IsHeader};
+    ghost use Rattle.wire_message.specs.Format.Messages.{Header};
 
     ghost Value = { Header };
 
-    ghost view = { λ head. header_of head.source.items head.number.items head.priority.items head.category.items
-        head.words.items head.info.items };
+    ghost use Rattle.wire_message.specs.Kept.{parts_in, IsKept};
 
-    ghost invariant = { λ head.
-        IsHeader (header_of head.source.items head.number.items head.priority.items head.category.items head.words.items
-        head.info.items) };
+    ghost view = { λ head. parts_in head.octets.items head.ends };
+
+    ghost invariant = { λ head. IsKept head.octets.items head.ends };
 }
 
 ghost use Rattle.wire_message.specs.Format.Messages.{header_of, IsHeader};
 ghost use Rattle.wire_message.specs.Format.Fields.{is_alphanumeric, is_info_octet, Are, IsField, max_source, max_number, max_priority, max_category, max_words, max_info};
 ghost use Rattle.iim_dataset.specs.Format.Octets.{is_letter, is_digit};
+ghost use Rattle.wire_message.specs.Kept.{parts_in, IsKept};
 
 /// Whether the parts are those of a header.
 fn is_header(
@@ -101,13 +100,27 @@ impl MessageHead {
         requires { IsHeader (header_of source.now number.now priority.now category.now words.now info.now) }
         ensures parts { result ≡ header_of source.now number.now priority.now category.now words.now info.now }
     {
+        let mut octets = kept(source);
+        append(&mut octets, number);
+        append_part(&mut octets, priority);
+        append_part(&mut octets, category);
+        append_part(&mut octets, words);
+        append_part(&mut octets, info);
         MessageHead {
-            source: kept(source),
-            number: kept(number),
-            priority: kept(priority),
-            category: kept(category),
-            words: kept(words),
-            info: kept(info),
+            octets,
+            ends: Ends::of(source, number, category, words),
+        }
+    }
+
+    /// The header that is kept so: as these octets, in which its parts end there.
+    #[inline(always)]
+    pub(crate) fn of_octets(octets: &[u8], ends: Ends) -> MessageHead
+        requires { IsKept octets.now ends }
+        ensures { result ≡ parts_in octets.now ends }
+    {
+        MessageHead {
+            octets: kept(octets),
+            ends,
         }
     }
 
@@ -123,14 +136,7 @@ impl MessageHead {
         ensures parts { result ≡ header_of source.items number.items priority.items category.items words.items [] }
         ensures is_header { IsHeader result }
     {
-        MessageHead {
-            source,
-            number,
-            priority,
-            category,
-            words,
-            info: ArrayVec::new(),
-        }
+        MessageHead::of_parts(&source, &number, &priority, &category, &words, &[])
     }
 
     /// Lengthens the info by the octets of it that follow, as many as there is room for, and answers how many.
@@ -140,24 +146,19 @@ impl MessageHead {
         ensures lengthened { self.new ≡ record self.old { info = self.old.info ++ take result octets.now } }
         ensures fits { length self.old.info + result ≤ max_info }
         ensures is_header { IsHeader self.new }
-        ensures longest { result ≡ 0 → 0 < length octets.now → length self.old.info < max_info →
-            is_info_octet (slice_index octets.now 0) ≡ false }
+        ensures longest { result < length octets.now → length self.old.info + result < max_info →
+            is_info_octet (slice_index octets.now result) ≡ false }
     {
-        take_run(&mut self.info, Class::Info, octets)
+        let run = front_len(Class::Info, MAX_INFO - self.info().len(), octets);
+        append(&mut self.octets, &octets[..run]);
+        run
     }
 
     /// The same header once more.
     pub fn copied(&self) -> MessageHead
         ensures { result ≡ self.now }
     {
-        MessageHead {
-            source: kept(&self.source),
-            number: kept(&self.number),
-            priority: kept(&self.priority),
-            category: kept(&self.category),
-            words: kept(&self.words),
-            info: kept(&self.info),
-        }
+        MessageHead::of_octets(&self.octets, self.ends)
     }
 
     /// The source: 1 to 8 letters.
@@ -165,7 +166,7 @@ impl MessageHead {
         ensures part { result.now ≡ self.now.source }
         ensures letters { IsField is_letter 1 max_source result.now }
     {
-        &self.source
+        &self.octets[..usize::from(self.ends.source)]
     }
 
     /// The number: 1 to 8 digits.
@@ -173,7 +174,7 @@ impl MessageHead {
         ensures part { result.now ≡ self.now.number }
         ensures digits { IsField is_digit 1 max_number result.now }
     {
-        &self.number
+        &self.octets[usize::from(self.ends.source)..usize::from(self.ends.number)]
     }
 
     /// The priority: one digit.
@@ -181,7 +182,8 @@ impl MessageHead {
         ensures part { result.now ≡ self.now.priority }
         ensures digit { IsField is_digit 1 max_priority result.now }
     {
-        &self.priority
+        let number = usize::from(self.ends.number);
+        &self.octets[number + 1..number + 2]
     }
 
     /// The category: 1 to 8 letters or digits.
@@ -189,7 +191,7 @@ impl MessageHead {
         ensures part { result.now ≡ self.now.category }
         ensures octets { IsField is_alphanumeric 1 max_category result.now }
     {
-        &self.category
+        &self.octets[usize::from(self.ends.number) + 3..usize::from(self.ends.category)]
     }
 
     /// The announced number of words: 1 to 6 digits.
@@ -197,7 +199,7 @@ impl MessageHead {
         ensures part { result.now ≡ self.now.words }
         ensures digits { IsField is_digit 1 max_words result.now }
     {
-        &self.words
+        &self.octets[usize::from(self.ends.category) + 1..usize::from(self.ends.words)]
     }
 
     /// The info: up to 64 octets.
@@ -205,6 +207,6 @@ impl MessageHead {
         ensures part { result.now ≡ self.now.info }
         ensures octets { IsField is_info_octet 0 max_info result.now }
     {
-        &self.info
+        &self.octets[usize::from(self.ends.words) + 1..]
     }
 }

@@ -12,6 +12,9 @@ pub(crate) const MAX_WORDS: usize = 6;
 
 pub(crate) const MAX_INFO: usize = 64;
 
+/// The parts of a header, and the four octets that stand between them.
+pub(crate) const MAX_KEPT: usize = 99;
+
 pub(crate) const MAX_TRAILER: usize = 64;
 
 /// The most octets of filler that may stand before SOH, in the gap, or after EOT.

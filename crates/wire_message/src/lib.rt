@@ -7,6 +7,7 @@
 #![tactic(auto)]
 
 mod class;
+mod ends;
 mod fault;
 mod field;
 mod head;

@@ -19,7 +19,7 @@ use crate::span::lengths_to;
 use std::marker::Model;
 use wire_story::StorySink;
 
-/// A reader of a message. It holds the octets of the header and the trailer that have come, 159 at most, and a few counters:
+/// A reader of a message. It holds the octets of the header and the trailer that have come, 163 at most, and a few counters:
 /// nothing of the text but how many CR stand at its end. No call takes memory.
 ///
 /// Contracts see it as the place that the octets so far have led to, and as None after a refusal.

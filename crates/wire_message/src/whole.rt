@@ -6,10 +6,12 @@ ghost use Rattle.wire_message.specs.Format.Fields.{Are, IsField, is_info_octet, 
 ghost use Rattle.wire_message.specs.Format.Messages.{has_feed};
 ghost use Rattle.wire_message.specs.declared.place.Place.TheVariants.{Filler};
 ghost use Rattle.wire_message.specs.Steps.{TakesSome};
+ghost use Rattle.wire_message.specs.Kept.{parts_in, IsKept};
 ghost use Rattle.wire_message.specs.Whole.{FrontInfo, FrontGap, FrontHead};
 
 use crate::class::Class;
-use crate::field::run_len;
+use crate::ends::Ends;
+use crate::field::front_len;
 use crate::head::MessageHead;
 use crate::lengths::{
     MAX_CATEGORY, MAX_FILLER, MAX_INFO, MAX_NUMBER, MAX_PRIORITY, MAX_SOURCE, MAX_WORDS,
@@ -25,8 +27,7 @@ fn part(class: Class, most: usize, octets: &[u8]) -> (&[u8], &[u8])
     ensures class { Are (is_in_class class) result.0.now }
     ensures few { length result.0.now ≤ most }
 {
-    let room = octets.len().min(most);
-    octets.split_at(run_len(class, &octets[..room]))
+    octets.split_at(front_len(class, most, octets))
 }
 
 /// What follows the octet, where it stands first.
@@ -88,13 +89,15 @@ fn are_some(source: &[u8], number: &[u8], priority: &[u8], category: &[u8], word
         && !words.is_empty()
 }
 
-/// A header that stands whole at the front, from SOH to STX, and what follows it.
+/// A header that stands whole at the front, from SOH to STX: the octets that it is kept as, where its parts end in them, and what
+/// follows STX.
 #[inline(always)]
-fn front_head(octets: &[u8]) -> Option<(MessageHead, &[u8])>
-    ensures { IfSome result (λ front. FrontHead octets.now front.0 front.1.now) }
+fn front_head(octets: &[u8]) -> Option<(&[u8], Ends, &[u8])>
+    ensures head { IfSome result (λ front. FrontHead octets.now (parts_in front.0.now front.1) front.2.now) }
+    ensures kept { IfSome result (λ front. IsKept front.0.now front.1) }
 {
-    let rest = after(SOH, octets)?;
-    let (source, rest) = part(Class::Letter, MAX_SOURCE, rest);
+    let header = after(SOH, octets)?;
+    let (source, rest) = part(Class::Letter, MAX_SOURCE, header);
     let (number, rest) = part(Class::Digit, MAX_NUMBER, rest);
     let rest = after(SP, rest)?;
     let (priority, rest) = part(Class::Digit, MAX_PRIORITY, rest);
@@ -107,8 +110,12 @@ fn front_head(octets: &[u8]) -> Option<(MessageHead, &[u8])>
     if !are_some(source, number, priority, category, words) {
         return None;
     }
-    let head = MessageHead::of_parts(source, number, priority, category, words, info);
-    Some((head, rest))
+    let ends = Ends::of(source, number, category, words);
+    Some((
+        &header[..usize::from(ends.words) + 1 + info.len()],
+        ends,
+        rest,
+    ))
 }
 
 /// Takes a header that stands whole at the front, after any octets of filler, and answers how many octets it has.
@@ -117,7 +124,8 @@ pub(crate) fn whole_head(place: &mut Place, octets: &[u8]) -> Option<usize>
     ensures takes { IfSome result (λ used. (count : ℕ) → TakesSome (Filler count) octets.now place.new used) }
     ensures same { IfNone result (place.new ≡ place.old) }
 {
-    let (head, rest) = front_head(octets)?;
+    let (header, ends, rest) = front_head(octets)?;
+    let head = MessageHead::of_octets(header, ends);
     let text = TextReader::new();
     *place = Place::Text { head, text };
     Some(octets.len() - rest.len())

@@ -2,36 +2,15 @@
 
 ghost use Rattle.std.specs.Prelude.{◌≡◌, ◌↔◌, ◌+◌, ◌≤◌, ◌∷◌, ◌++◌, length, IsTrue, IsSome, IfSome};
 ghost use Rattle.arrayvec.specs.ArrayVec.{array_vec_len};
-ghost use Rattle.iim_dataset.specs.Format.Characters.{sp};
 ghost use Rattle.wire_message.specs.Format.Messages.{IsHeader, IsTrailer};
 ghost use Rattle.wire_message.specs.Format.Canonical.{packed_head, packed_info, packed_tail};
 
 use crate::class::Class;
-use crate::field::is_field;
+use crate::field::{append, append_part, is_field};
 use crate::head::MessageHead;
 use crate::lengths::MAX_TRAILER;
 use arrayvec::ArrayVec;
-use iim_dataset::octets::{CR, EOT, ETX, LF, SOH, SP, STX};
-
-/// Appends octets for which there is room.
-fn append<const ROOM: usize>(out: &mut ArrayVec<u8, ROOM>, octets: &[u8])
-    requires { array_vec_len out.old + length octets.now ≤ ROOM }
-    ensures items { out.new.items ≡ out.old.items ++ octets.now }
-    ensures len { array_vec_len out.new ≡ array_vec_len out.old + length octets.now }
-{
-    // There is room, so it cannot fail.
-    let _ = out.try_extend_from_slice(octets);
-}
-
-/// Appends SP and a part.
-fn append_part<const ROOM: usize>(out: &mut ArrayVec<u8, ROOM>, part: &[u8])
-    requires { array_vec_len out.old + 1 + length part.now ≤ ROOM }
-    ensures items { out.new.items ≡ out.old.items ++ (sp ∷ part.now) }
-    ensures len { array_vec_len out.new ≡ array_vec_len out.old + 1 + length part.now }
-{
-    append(out, &[SP]);
-    append(out, part);
-}
+use iim_dataset::octets::{CR, EOT, ETX, LF, SOH, STX};
 
 /// Appends the info, and SP before it, or nothing for an empty one.
 fn append_info(out: &mut ArrayVec<u8, 128>, info: &[u8])

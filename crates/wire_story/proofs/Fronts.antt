@@ -5,7 +5,6 @@ use Rattle.std.specs.List.{slice_range}
 use Rattle.wire_story.specs.Format.Delivery.{StoryEvent, delivered}
 use Rattle.wire_story.specs.States.Reading.{CountsCause, TakesPiece, RefusesOne}
 use Rattle.wire_story.specs.declared.fault.TextFault.{TextFault}
-use Rattle.wire_story.specs.declared.fault.TextCause.{TextCause}
 use Rattle.wire_story.proofs.Pieces.{leads_on_front, refuses_front}
 use Rattle.wire_story.proofs.Told.{delivered_front}
 
@@ -38,13 +37,3 @@ pub takes_first : {S : Type 0} (goes : S → List StoryEvent → S → Type 0) (
     → TakesPiece goes failures old (slice_index rest 0 ∷ []) new a b → TakesPiece goes failures old (take 1 rest) new a b
 takes_first goes failures old new rest a b some first =
     subst (λ (xs : List ℕ). TakesPiece goes failures old xs new a b) (sym (take_more rest 0 0 some)) first
-
--- the first octet was refused
-pub refuses_first : {S : Type 0} (goes : S → List StoryEvent → S → Type 0) (failures : S → ℕ) (old : Option ℕ) (rest : List ℕ) (cause : TextCause) (a b : S) → 0 < length rest
-    → RefusesOne goes failures old (slice_index rest 0 ∷ []) (record { taken = 0; cause = cause }) a b → RefusesOne goes failures old rest (record { taken = 0; cause = cause }) a b
-refuses_first goes failures old rest cause a b some first = record {
-  before = some;
-  refused = first.refused;
-  told = first.told;
-  counted = first.counted;
-}

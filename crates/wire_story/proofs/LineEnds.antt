@@ -1,22 +1,11 @@
 -- A line end that stands first where no CR is held, taken at once.
-use Rattle.std.proofs.Common.{◌≡◌, ℕ, zero, suc, ◌-◌, ◌≤◌, List, [], ◌∷◌, length, take, slice_index, Some, refl, sym, subst, arith}
+use Rattle.std.proofs.Common.{◌≡◌, ℕ, zero, suc, ◌-◌, ◌≤◌, List, [], ◌∷◌, take, slice_index, Some, refl, sym, subst, arith}
 use Rattle.iim_dataset.specs.Format.Counts.{Rose}
 use Rattle.wire_story.specs.Format.Delivery.{StoryEvent, LineEnd}
 use Rattle.wire_story.specs.States.Reading.{TakesPiece, RefusesOne}
 use Rattle.wire_story.specs.declared.fault.TextCause.TheVariants.{Sink}
 use Rattle.wire_story.specs.Marking.{StartsLineEnd}
 use Rattle.wire_story.proofs.Pieces.{leads_on_end, leads_on_line_end, refuses_end, refuses_line_feed}
-
--- LF stands first
-pub starts_feed : (rest : List ℕ) → 1 ≤ length rest → slice_index rest 0 ≡ 10 → StartsLineEnd rest 1
-starts_feed [] some first = absurd (omega (arith, some))
-starts_feed (x ∷ xs) some first = let e : x ≡ 10 = first in record { some = omega arith; few = omega arith; within = some; is = cc }
-
--- CR LF stands first
-pub starts_both : (rest : List ℕ) → 2 ≤ length rest → slice_index rest 0 ≡ 13 → slice_index rest 1 ≡ 10 → StartsLineEnd rest 2
-starts_both [] two first second = absurd (omega (arith, two))
-starts_both (x ∷ []) two first second = absurd (omega (arith, two))
-starts_both (x ∷ y ∷ more) two first second = let a : x ≡ 13 = first in let b : y ≡ 10 = second in record { some = omega arith; few = omega arith; within = two; is = cc }
 
 first_feed : (rest : List ℕ) → take 1 rest ≡ 10 ∷ [] → slice_index rest 0 ≡ 10
 first_feed [] is = absurd cc

@@ -1,10 +1,10 @@
 //! A sink that counts words.
 
-ghost use Rattle.std.specs.Prelude.{◌≡◌, ◌==◌, ◌<◌, ◌≤◌, ◌∷◌, [], false, drop, length, map, take, IsOk};
+ghost use Rattle.std.specs.Prelude.{List, ℕ, ◌≡◌, ◌==◌, ◌<◌, ◌≤◌, ◌∷◌, [], false, drop, length, map, take, IsOk};
 ghost use Rattle.std.specs.Simd.Lanes.{mask_l};
 ghost use Rattle.wire_story.specs.Format.Delivery.{LineOctet, LineEnd};
 ghost use Rattle.wire_story.specs.Format.Words.{WordsSoFar, is_word_octet, words_begun, inside_after, CountsWords};
-ghost use Rattle.wire_story.specs.Marking.{is_blank};
+ghost use Rattle.wire_story.specs.Marking.{is_blank, outside_after};
 
 use crate::marks::BLOCK;
 use crate::sink::StorySink;
@@ -13,8 +13,11 @@ use iim_dataset::octets::{SP, TAB};
 use std::marker::Model;
 use std::simd::prelude::*;
 
-/// The mask of a block of which each octet passes.
-const ALL: u64 = 0xffff;
+/// How many octets of a longer run are tested at once.
+const WIDE: usize = 2 * BLOCK;
+
+/// The mask of 64 octets of which each passes.
+const ALL: u64 = u64::MAX;
 
 /// A count of the words that are told. A word is a longest run, inside one line, of octets other than SP and TAB.
 /// The count stays at the greatest number of 64 bits once there. It takes everything and keeps nothing.
@@ -40,63 +43,110 @@ fn is_of_word(octet: u8) -> bool
     !(octet == SP || octet == TAB)
 }
 
-/// The mask of the octets that are this one.
+/// The mask of SP and TAB in a block.
 #[inline(always)]
-fn mask_of(block: &[u8], octet: u8) -> u64
-    requires { 16 ≤ length block.now }
-    ensures { result ≡ mask_l (map (λ b. b == octet) (take 16 block.now)) }
-{
-    let octets = u8x16::from_slice(block);
-    octets.simd_eq(u8x16::splat(octet)).to_bitmask()
-}
-
-/// The mask of SP and TAB. No octet is both.
-#[inline(always)]
-fn blanks_of(block: &[u8]) -> u64
+fn block_blanks(block: &[u8]) -> u64
     requires { 16 ≤ length block.now }
     ensures { result ≡ mask_l (map is_blank (take 16 block.now)) }
 {
-    mask_of(block, SP) + mask_of(block, TAB)
+    let octets = u8x16::from_slice(block);
+    (octets.simd_eq(u8x16::splat(SP)) | octets.simd_eq(u8x16::splat(TAB))).to_bitmask()
 }
 
-/// How many words begin in a block after its first `from` octets, and 1 where its last octet is a blank, else 0; `before` says the same
-/// of what stands before. A word begins with an octet of one after a blank, or at the beginning of a line.
+/// The mask of SP and TAB in a block of a longer run.
 #[inline(always)]
-fn begun_in(before: u64, from: usize, block: &[u8]) -> (u64, u64)
-    requires block { 16 ≤ length block.now }
-    requires within { from < 16 }
+fn wide_blanks(block: &[u8]) -> u64
+    requires { 32 ≤ length block.now }
+    ensures { result ≡ mask_l (map is_blank (take 32 block.now)) }
+{
+    let octets = u8x32::from_slice(block);
+    (octets.simd_eq(u8x32::splat(SP)) | octets.simd_eq(u8x32::splat(TAB))).to_bitmask()
+}
+
+/// How many words begin in octets of a line, by the mask of their blanks. `before` is 1 where what stands before them is a blank, else 0,
+/// and `after` says the same of the last of them. A word begins with an octet of one after a blank, or at the beginning of a line.
+#[inline(always)]
+fn begun_in(before: u64, octets: &[u8], blanks: u64, after: u64) -> u64
+    requires short { length octets.now < 64 }
+    requires blanks { blanks ≡ mask_l (map is_blank octets.now) }
     requires one { before ≤ 1 }
-    ensures begun { result.0 ≡ words_begun (before == 0) (drop from (take 16 block.now)) }
-    ensures inside { (result.1 == 0) ≡ inside_after (before == 0) (map LineOctet (drop from (take 16 block.now))) }
-    ensures one { result.1 ≤ 1 }
+    requires last { after ≡ outside_after (before == 0) octets.now }
+    ensures { result ≡ words_begun (before == 0) octets.now }
 {
-    let blanks = blanks_of(block);
-    let begun = ((ALL - blanks) >> from) & ((blanks >> from) * 2 + before);
-    (u64::from(begun.count_ones()), blanks >> (BLOCK - 1))
+    let _ = octets;
+    // After a last blank one begins that is not there.
+    let begun = (ALL - blanks) & (blanks * 2 + before);
+    u64::from(begun.count_ones()) - after
 }
 
-/// How many words begin in octets of a line, and whether they end inside one. The last block may overlap the one before.
+/// How many words begin in octets of a line, and 1 where the last one is a blank, else 0: by two blocks, which may overlap.
 #[inline(always)]
-fn begun_by_blocks(inside: bool, octets: &[u8]) -> (u64, bool)
-    requires { 16 ≤ length octets.now }
-    ensures begun { result.0 ≡ words_begun inside octets.now }
-    ensures inside { result.1 ≡ inside_after inside (map LineOctet octets.now) }
+fn few_begun(before: u64, octets: &[u8]) -> (u64, u64)
+    requires one { before ≤ 1 }
+    requires some { 16 ≤ length octets.now }
+    requires few { length octets.now ≤ 32 }
+    ensures begun { result.0 ≡ words_begun (before == 0) octets.now }
+    ensures last { result.1 ≡ outside_after (before == 0) octets.now }
 {
-    let mut words = 0;
-    let mut before = u64::from(!inside);
+    let first = block_blanks(octets);
+    let last = block_blanks(&octets[octets.len() - BLOCK..]);
+    let blanks = first + (last >> (2 * BLOCK - octets.len())) * (1 << BLOCK);
+    let after = last >> (BLOCK - 1);
+    (begun_in(before, octets, blanks, after), after)
+}
+
+/// The same by two wide blocks, which may overlap.
+#[inline(always)]
+fn more_begun(before: u64, octets: &[u8]) -> (u64, u64)
+    requires one { before ≤ 1 }
+    requires some { 32 ≤ length octets.now }
+    requires few { length octets.now < 64 }
+    ensures begun { result.0 ≡ words_begun (before == 0) octets.now }
+    ensures last { result.1 ≡ outside_after (before == 0) octets.now }
+{
+    let first = wide_blanks(octets);
+    let last = wide_blanks(&octets[octets.len() - WIDE..]);
+    let blanks = first + (last >> (2 * WIDE - octets.len())) * (1 << WIDE);
+    let after = last >> (WIDE - 1);
+    (begun_in(before, octets, blanks, after), after)
+}
+
+/// The same by wide blocks, the last of which may overlap the one before.
+#[inline(always)]
+fn many_begun(before: u64, octets: &[u8]) -> (u64, u64)
+    requires one { before ≤ 1 }
+    requires some { 32 ≤ length octets.now }
+    ensures begun { result.0 ≡ words_begun (before == 0) octets.now }
+    ensures last { result.1 ≡ outside_after (before == 0) octets.now }
+{
+    let mut begun = 0;
+    let mut after = before;
     let mut at = 0;
-    while octets.len() - at >= BLOCK {
-        let (begun, after) = begun_in(before, 0, &octets[at..]);
-        words += begun;
-        before = after;
-        at += BLOCK;
+    while octets.len() - at >= 2 * WIDE {
+        let (more, last) = more_begun(after, &octets[at..at + WIDE]);
+        begun += more;
+        after = last;
+        at += WIDE;
     }
-    if at == octets.len() {
-        return (words, before == 0);
+    let (more, last) = more_begun(after, &octets[at..]);
+    (begun + more, last)
+}
+
+/// The same by blocks as wide as the octets allow.
+#[inline(always)]
+fn blocks_begun(before: u64, octets: &[u8]) -> (u64, u64)
+    requires one { before ≤ 1 }
+    requires some { 16 ≤ length octets.now }
+    ensures begun { result.0 ≡ words_begun (before == 0) octets.now }
+    ensures last { result.1 ≡ outside_after (before == 0) octets.now }
+{
+    if octets.len() < WIDE {
+        return few_begun(before, octets);
     }
-    let start = octets.len() - BLOCK;
-    let (begun, after) = begun_in(before, at - start, &octets[start..]);
-    (words + begun, after == 0)
+    if octets.len() < 2 * WIDE {
+        return more_begun(before, octets);
+    }
+    many_begun(before, octets)
 }
 
 impl WordCount {
@@ -134,15 +184,14 @@ impl WordCount {
         self.words
     }
 
-    /// Takes an octet of the present line.
-    fn take(&mut self, octet: u8)
-        ensures { CountsWords self.old (LineOctet octet ∷ []) self.new }
+    /// Counts the words that begin in octets of the present line. `after` is 1 where the last octet is a blank, else 0.
+    #[inline(always)]
+    fn add(&mut self, begun: u64, after: u64)
+        ensures { (xs : List ℕ) → begun ≡ words_begun self.old.inside xs → after ≡ outside_after self.old.inside xs
+            → CountsWords self.old (map LineOctet xs) self.new }
     {
-        let of_word = is_of_word(octet);
-        if of_word && !self.inside {
-            self.words = self.words.saturating_add(1);
-        }
-        self.inside = of_word;
+        self.words = self.words.saturating_add(begun);
+        self.inside = after == 0;
     }
 
     /// Takes octets of the present line by blocks.
@@ -151,9 +200,23 @@ impl WordCount {
         requires { 16 ≤ length octets.now }
         ensures { CountsWords self.old (map LineOctet octets.now) self.new }
     {
-        let (begun, inside) = begun_by_blocks(self.inside, octets);
-        self.words = self.words.saturating_add(begun);
-        self.inside = inside;
+        let (begun, after) = blocks_begun(u64::from(!self.inside), octets);
+        self.add(begun, after);
+    }
+
+    /// Takes an octet of the present line.
+    #[inline(always)]
+    fn take(&mut self, octet: u8)
+        ensures { CountsWords self.old (LineOctet octet ∷ []) self.new }
+    {
+        if !is_of_word(octet) {
+            self.inside = false;
+            return;
+        }
+        if !self.inside {
+            self.words = self.words.saturating_add(1);
+            self.inside = true;
+        }
     }
 
     /// Takes octets of the present line, each by itself.

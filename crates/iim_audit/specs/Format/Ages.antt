@@ -7,10 +7,13 @@ use Rattle.iim_tables.specs.Format.Instants.{nanoseconds_in_second}
 use Rattle.iim_fields.specs.Format.Views.{instant_sent}
 
 -- the whole seconds in `nanoseconds` nanoseconds, rounded down
+-- twins (with IsFloor): law `whole_seconds_are_floors`; "The age is the greatest whole number of seconds";
+--   `takes_the_instants_that_jiff_reads`
 abbrev pub whole_seconds : ℤ → ℤ
 whole_seconds nanoseconds = int_div_euclid nanoseconds (pos nanoseconds_in_second)
 
 -- the whole seconds from the instant sent to now, where these data name one
+-- twin: "The age is the greatest whole number of seconds"
 abbrev pub age_at : ℤ → List Dataset → Option ℤ
 age_at now fields = option_map (λ sent. whole_seconds (now -ℤ sent)) (instant_sent fields)
 

@@ -88,6 +88,7 @@ abbrev pub FailsLeaving : Limits → Device × ℕ → Device × Option ℕ × �
 FailsLeaving limits (old, before) (new, kept, told) number cause = (why : FailsAt limits old new number cause) × Leaves limits old new number cause why before kept told
 
 -- The intake had answered a fault before, which is told with envelope 1; or there was no memory, and it was not asked.
+-- twin: "From then on it is told again, with envelope 1"; `failing_readers`
 abbrev pub IsToldAgain : ℕ → ℕ → ℕ → ℕ → AuditCause → Type 0
 IsToldAgain octet before told number cause =
     (number ≡ 1) × (((cause ≡ causes.Refused (failed_at octet)) × (told ≡ 0)) ⊎ ((cause ≡ causes.OutOfMemory) × (told ≡ before)))

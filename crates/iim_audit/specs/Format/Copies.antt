@@ -6,6 +6,8 @@ use Rattle.iim_audit.specs.declared.copy.CopyState.{CopyState}
 use Rattle.iim_audit.specs.declared.copy.CopyState.TheVariants.{Held, Expired, Free}
 
 -- there is such an instant, and it comes after now
+-- twins (with is_past, copy_at): "Copy is held before its release", "Copy whose release is still to come is held";
+--   `tells_copy_that_is_held`, `tells_copy_that_has_expired`
 abbrev pub is_to_come : Option ℤ → ℤ → Bool
 is_to_come None now = false
 is_to_come (Some instant) now = not (int_le instant now)

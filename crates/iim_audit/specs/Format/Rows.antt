@@ -11,6 +11,7 @@ use Rattle.iim_audit.specs.Format.Copies.{copy_at}
 use Rattle.iim_audit.specs.declared.row.AuditRow.{AuditRow}
 
 -- what an envelope is known by: 1:30 Service Identifier, 1:40 Envelope Number and 1:70 Date Sent
+-- twin: "A repeated one names the first of the same service, number and day"
 abbrev pub id_of : Value → Identity
 id_of v = record {
   service = unwrap_or (first_data 1 30 v.fields) [];
@@ -24,14 +25,18 @@ first_octet [] = None
 first_octet (b ∷ bs) = Some b
 
 -- the digit of 1:60 Envelope Priority
+-- twin: "The worked stream, and an empty one"; `audits_a_stream`
 abbrev pub priority_of : Value → Option ℕ
 priority_of v = option_and_then first_octet (first_data 1 60 v.fields)
 
 -- the words of the lines, counted up to the greatest number of 64 bits
+-- twins (with row_with): "Words: a tab ends one, and so does a line; two spaces are no word"; `audits_streams`
 abbrev pub counted_words : Value → ℕ
 counted_words v = capped (words v.lines)
 
 -- the number of the first of these ids that is the same; they are numbered from n
+-- twins (with rows_after, report_of): "A repeated one names the first of the same service, number and day";
+--   `lists_a_million_envelopes_and_no_more`
 abbrev pub first_same : ℕ → Identity → List Identity → Option ℕ
 first_same n id [] = None
 first_same n id (other ∷ others) = if id_eq id other then Some n else first_same (n + 1) id others

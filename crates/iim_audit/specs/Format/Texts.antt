@@ -9,15 +9,19 @@ use Rattle.iim_audit.specs.declared.copy.CopyState.TheVariants.{Held, Expired, F
 use Rattle.iim_audit.specs.declared.row.AuditRow.{AuditRow}
 
 -- a digit, or `-` where there is none
+-- twin: "The worked stream, and an empty one"; `audits_a_stream`
 abbrev pub digit_or_dash : Option ℕ → ℕ
 digit_or_dash digit = unwrap_or digit minus
 
 -- a number of seconds, with `-` before one below zero, or `-` alone where there is none
+-- twin: "The age is the greatest whole number of seconds", "There is none without a time"
 abbrev pub seconds_or_dash : Option ℤ → List ℕ
 seconds_or_dash None = codes "-"
 seconds_or_dash (Some n) = signed_decimal n
 
 -- service, number and date sent, after the row's number
+-- twins (with sizes_of, copy_word, ages_of, row_line): "The worked stream, and an empty one", "Copy is held before its release";
+--   `audits_a_stream`, `audits_the_sample`
 abbrev pub known_by : ℕ → AuditRow → List ℕ
 known_by number row = decimal number ++ (codes " " ++ (shown row.id.service ++ (codes " " ++ (row.id.number ++ (codes " " ++ row.id.date_sent)))))
 
@@ -45,6 +49,7 @@ lines_from n [] = []
 lines_from n (row ∷ rows) = row_line n row ++ lines_from (n + 1) rows
 
 -- how many rows repeat an earlier one
+-- twins (with is_held, held_rows, sums_line): "Held rows are counted, repeated ones too"; `counts_the_copies_that_are_held`
 abbrev pub repeated_rows : List AuditRow → ℕ
 repeated_rows rows = count_by (λ row. is_some row.first) rows
 

@@ -24,6 +24,8 @@ status_answer status = record {
 }
 
 -- the layers by their numbers
+-- twins (with ticket_number): `tells_each_value_as_it_is_written`, `checks_each_changed_octet_of_the_smallest_envelope`; 70 is never told,
+--   since refused memory has a status of its own
 abbrev pub layer_number : Layer → ℕ
 layer_number Dataset = 1
 layer_number Record = 2

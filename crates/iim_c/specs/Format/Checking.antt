@@ -9,6 +9,7 @@ use Rattle.iim_c.specs.Format.Answers.{status_answer, refusal_answer}
 use Rattle.iim_c.specs.Format.Statuses as status
 
 -- what is given, or else what stands for 0
+-- twins (with limits_for): `tells_each_value_as_it_is_written`, `keeps_to_the_limits_that_are_given`
 abbrev pub given_or : ℕ → ℕ → ℕ
 given_or given other = if given == 0 then other else given
 
@@ -17,6 +18,7 @@ abbrev pub limits_for : IimLimits → Limits
 limits_for limits = record { octets = given_or limits.octets wire_limits.octets; fields = given_or limits.fields wire_limits.fields }
 
 -- the answer for an envelope of so many octets
+-- twin: `tells_each_value_as_it_is_written`
 abbrev pub finished : ℕ → IimAnswer
 finished used = record (status_answer status.done) { octet = used; used = used }
 

@@ -122,6 +122,7 @@ next_of (BadTicket fault) = []
 next_of NoMemory = []
 
 -- the most octets of a ticket, by the limits
+-- no twin (with AreFew): bounds that are proved of the body, which has no such words
 abbrev pub most_of_ticket : Limits → ℕ
 most_of_ticket limits = limits.octets + 6 * limits.fields + 256
 
@@ -131,6 +132,7 @@ pub record AreFew (limits : Limits) (piece : List ℕ) (o : Outcome) : Type 0 wh
   pub ticket : length (next_of o) ≤ most_of_ticket limits
 
 -- the answer that tells it
+-- twins (with short_answer): `tells_each_value_as_it_is_written`
 abbrev pub answer_of : Outcome → IimAnswer
 answer_of (More octet used text next) = record (status_answer status.more) { octet = octet; used = used; written = length text; ticket = length next }
 answer_of (Done octet used text next) = record (status_answer status.done) { octet = octet; used = used; written = length text; ticket = length next }

@@ -41,6 +41,7 @@ abbrev pub of_layer : Layer → Named
 of_layer layer = named (layer_number layer) (layer_name layer)
 
 -- the causes of octets, of memory and readers, of packing, of audits, of scripts and of tickets
+-- twins (with layer_names, dataset_names): `tells_the_tables`
 unfoldable pub cause_names : List Named
 cause_names =
     of_octets causes.Marker

@@ -12,6 +12,7 @@ use Rattle.iim_c.specs.Format.Statuses as status
 -- ---- the way of packing
 
 -- the octets of a full subfile: 1,024 stands for 0
+-- twin: `packs_as_the_command_does`
 abbrev pub subfile_for : ℕ → ℕ
 subfile_for given = if given == 0 then default_subfile else given
 

@@ -8,6 +8,7 @@ use Rattle.iim_tables.specs.declared.shape.Row.{Row}
 use Rattle.iim_c.specs.declared.rule.IimRule.{IimRule}
 
 -- the kinds by their numbers
+-- twins (with duty_number): `tells_each_value_as_it_is_written`, `tells_the_tables`
 abbrev pub kind_number : Kind → ℕ
 kind_number Graphic = 1
 kind_number Spaced = 2

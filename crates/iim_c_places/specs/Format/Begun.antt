@@ -28,6 +28,7 @@ abbrev pub tag : ℕ
 tag = 1
 
 -- the data of a dataset
+-- twins (with ended): `names_the_kinds_and_duties_as_the_header_does`, `tells_the_place_after_each_front_of_both_worked_envelopes`
 abbrev pub in_data : ℕ
 in_data = 2
 
@@ -67,6 +68,7 @@ no_begun = record {
 -- What is begun in the record `section` after `at` octets, where those that the ticket keeps of it stand in this span. The first
 -- octet of a tag or of data lies as many octets back as have come of it. What the next octet belongs to begins there, too, but in a
 -- subfile, where each octet is looked at alone.
+-- twins (with token_of): `tells_the_place_after_each_front_of_both_worked_envelopes`
 abbrev pub begun_by : (at section : ℕ) → Phase → IimSpan → IimBegun
 begun_by at section (TagBegun held) span =
     record no_begun {
@@ -131,6 +133,7 @@ pub record TellsBegun (at : ℕ) (begun : Begun) (found : IimBegun) : Type 0 whe
   pub token : found.token ≡ token_of at begun
 
 -- The last dataset has ended: it is of record 9, and no other is begun.
+-- no twin: no body has these words
 abbrev pub HaveEnded : List Dataset → Begun → Type 0
 HaveEnded whole (InTag held) = section_after whole ≡ 9
 HaveEnded whole (InData h taken) = ⊥

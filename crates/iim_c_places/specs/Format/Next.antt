@@ -16,6 +16,7 @@ use Rattle.iim_c.specs.Format.Statuses as status
 -- ---- sets of octets
 
 -- the bit of an octet in the 32 octets of a set: eight octets have their bits in each, the first of them the lowest
+-- twins (with no_octets): `tells_the_octets_that_can_come_next`
 abbrev pub bit_of : List ℕ → ℕ → ℕ
 bit_of bits octet = bit_at (get_or bits (octet / 8) 0) (octet % 8)
 
@@ -39,6 +40,7 @@ pub record TellsNext (limits : Limits) (p : List ℕ) (next bit : ℕ) : Type 0 
   pub refused : (bit ≡ 0) ↔ IsRefusedNext limits p next
 
 -- So it is with each octet.
+-- twin: `tells_the_octets_that_can_come_next`
 abbrev pub TellsAllNext : Limits → List ℕ → List ℕ → Type 0
 TellsAllNext limits bits p = (next : ℕ) → next < 256 → TellsNext limits p next (bit_of bits next)
 

@@ -11,6 +11,7 @@ use Rattle.iim_c.specs.Format.Answers.{ticket_number}
 use Rattle.iim_c.specs.Format.Names.{Named, named, name_in}
 
 -- the causes of octets, of memory and readers, of packing, of audits, of scripts and of tickets, each with what it means
+-- twin: `tells_what_each_cause_means`
 unfoldable pub cause_texts : List Named
 cause_texts =
     named (cause_number causes.Marker) (codes "a tag doesn't begin with 1C")

@@ -20,6 +20,8 @@ abbrev pub Complained : Device → Device → CommandFault → Type 0
 Complained old new fault = Wrote old new (fault_line fault) ⊎ ((n : ℕ) × Stopped old new (fault_line fault) n)
 
 -- The input was listed, without a word on the errors; or a fault came and was told there, and the status is 3.
+-- twins (with ToldAsStory, Reviewed, EndsPacking): `tells_a_read_that_fails`, `tells_a_write_that_fails`,
+--   `leaves_the_front_of_an_envelope_that_can_t_be_written`
 abbrev pub EndsListing : (ℕ → Listed → List ℕ) → Devices → Devices → ℕ → Type 0
 EndsListing text old new status = (WritesListing text old.input new.input old.output new.output status × (new.errors ≡ old.errors))
     ⊎ ((fault : CommandFault) × FailsListing text old.input new.input old.output new.output fault × Complained old.errors new.errors fault × (status ≡ status_failed))

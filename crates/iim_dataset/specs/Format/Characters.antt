@@ -2,6 +2,7 @@
 use Rattle.std.specs.Prelude.{ℕ}
 
 -- NUL, null
+-- twins (with soh, stx, etx, eot, syn): "Each octet alone in each part", "Each octet in place of each octet of the smallest message"
 abbrev pub nul : ℕ
 nul = 0x00
 
@@ -22,6 +23,7 @@ abbrev pub eot : ℕ
 eot = 0x04
 
 -- HT, horizontal tabulation
+-- twins (with lf, cr, sp): "The octets that may stand in a line": each of the 256; "Words are the longest runs in a line"
 abbrev pub tab : ℕ
 tab = 0x09
 
@@ -42,6 +44,7 @@ abbrev pub sp : ℕ
 sp = 0x20
 
 -- +
+-- twins (with minus, digit_zero): "Times have hours up to 23", "Dates are days of the Gregorian calendar"
 abbrev pub plus : ℕ
 plus = 0x2b
 
@@ -54,6 +57,8 @@ abbrev pub digit_zero : ℕ
 digit_zero = 0x30
 
 -- :
+-- twins (with capital_a, backslash, small_a, small_x): "Octets as they are shown": each of the 256; "Each digit of an escape, in either
+--   case"; "The lines of the script of the smallest envelope"
 abbrev pub colon : ℕ
 colon = 0x3a
 

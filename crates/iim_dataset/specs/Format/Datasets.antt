@@ -16,6 +16,7 @@ abbrev pub head_of : Dataset → Head
 head_of d = record { rec = d.rec; set = d.set; count = length d.octets }
 
 -- the most octets of an extended count after its first two (the profile's)
+-- twins (with tag_octets): "Extended counts of one to eight octets", "Counts of no such form"; `reads_counts_of_up_to_eight_octets`
 abbrev pub count_octets : ℕ
 count_octets = 8
 
@@ -24,6 +25,7 @@ abbrev pub tag_octets : ℕ
 tag_octets = 5 + count_octets
 
 -- the tag marker, which each tag begins with
+-- twins (with extended): "The octets that may come next", "Tags as they are written"
 abbrev pub tag_marker : ℕ
 tag_marker = 0x1c
 
@@ -32,6 +34,7 @@ abbrev pub extended : ℕ
 extended = 0x80
 
 -- The standard form of a count: two octets, of which the first is below 80h.
+-- twins (with IsExtendedCount): "The octets that may come next": 00 to 80 as the fourth octet, 01 to 08 as the fifth
 abbrev pub IsStandardCount : ℕ → ℕ → ℕ → List ℕ → Type 0
 IsStandardCount count high low more = (high < extended) × IsOctet low × (more ≡ []) × (number (high ∷ low ∷ []) ≡ count)
 
@@ -46,6 +49,7 @@ SpellsCount limit count (high ∷ low ∷ more) = IsStandardCount count high low
 SpellsCount limit count fewer = ⊥
 
 -- A tag: the tag marker 1Ch, the record number, the dataset number and the count.
+-- twins (with canonical_tag): "The octets that may come next", "Tags as they are written"
 pub record SpellsTag (limit : ℕ) (h : Head) (tag : List ℕ) : Type 0 where
   pub rec : IsOctet h.rec
   pub set : IsOctet h.set
@@ -69,10 +73,12 @@ SpellsStream limit (d ∷ ds) xs = (first : List ℕ) × (rest : List ℕ)
 -- ---- how a writer spells
 
 -- a number where its length is told beside it: four octets up to 4,294,967,295, above that eight, high octet first
+-- twin: "Tags as they are written", "Numbers of record 7 have four octets up to 4,294,967,295"; `packs_great_sizes_in_eight_octets`
 abbrev pub written_number : ℕ → List ℕ
 written_number n = if nat_lt n (2 ^ 32) then big_bytes 4 n else big_bytes 8 n
 
 -- the canonical spelling of a count: two octets up to 32,767, above that an extended count, the number as it is written
+-- twin: "Tags as they are written": 32,767 and 32,768; `writes_heads`
 abbrev pub canonical_count : ℕ → List ℕ
 canonical_count n = if nat_lt n 32768 then big_bytes 2 n else extended ∷ length (written_number n) ∷ written_number n
 

@@ -4,6 +4,7 @@ use Rattle.std.specs.List.{flat_map}
 use Rattle.iim_dataset.specs.Format.Characters.{sp, digit_zero, capital_a, backslash, small_x}
 
 -- the digit of a number below 16: 0 to 9, A to F
+-- twins (with escape, is_plain, shown_octet): "Octets as they are shown": each of the 256; `shows_each_octet`
 abbrev pub hex_digit : ℕ → ℕ
 hex_digit n = if nat_lt n 10 then digit_zero + n else capital_a - 10 + n
 
@@ -23,6 +24,7 @@ abbrev pub shown : List ℕ → List ℕ
 shown octets = flat_map shown_octet octets
 
 -- a 0 before a number of one digit
+-- twins (with dataset_name): `knows_each_row` asks it of each number; "the numbers that were read are told": 2:105 and 2:05
 abbrev pub padding : ℕ → List ℕ
 padding n = if nat_lt n 10 then codes "0" else []
 
@@ -31,6 +33,7 @@ abbrev pub dataset_name : ℕ → ℕ → List ℕ
 dataset_name rec set = decimal rec ++ (codes ":" ++ (padding set ++ decimal set))
 
 -- a number in decimal digits, or - where there is none
+-- twin: "The age is the greatest whole number of seconds", "There is none without a time"
 abbrev pub number_or_dash : Option ℕ → List ℕ
 number_or_dash None = codes "-"
 number_or_dash (Some n) = decimal n

@@ -18,6 +18,7 @@ abbrev pub BeginsNoTag : ℕ → List ℕ → Type 0
 BeginsNoTag limit octets = (h : Head) (more : List ℕ) → SpellsTag limit h (octets ++ more) → ⊥
 
 -- The first octet of a tag is its marker, and those from the fourth on are its count.
+-- twin: "Octets that begin no tag", "Counts of no such form"
 abbrev pub Concerns : HeadCause → ℕ → Type 0
 Concerns Marker at = at ≡ 0
 Concerns CountForm at = 3 ≤ at

@@ -23,6 +23,7 @@ pub record IsReadBack (n : ℕ) : Type 0 where
   pub back : number (written_number n) ≡ n
 
 -- Each number of 64 bits is read back from what is written of it.
+-- no twin (with CanonicalTagsReadBack, HasSpellings): no code has these words
 abbrev pub NumbersAreReadBack : Type 0
 NumbersAreReadBack = (n : ℕ) → n < 2 ^ 64 → IsReadBack n
 

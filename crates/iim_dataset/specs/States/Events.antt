@@ -11,6 +11,7 @@ pub data DatasetEvent : Type 0 where
   DatasetEnd : DatasetEvent
 
 -- Of a whole dataset: its head, its data and its end.
+-- twin: "Three datasets, of a standard count"
 abbrev pub events_of : Dataset → List DatasetEvent
 events_of d = HeadRead (head_of d) ∷ (map DataOctet d.octets ++ DatasetEnd ∷ [])
 

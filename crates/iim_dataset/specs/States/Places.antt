@@ -22,6 +22,7 @@ to_come (Tag held) = None
 to_come (Inside h left) = Some left
 
 -- the record and the number that the octets of a tag tell, each 0 while it is unread
+-- twin: "The numbers of the dataset that is begun"
 abbrev pub named_by : DatasetPlace → ℕ × ℕ
 named_by (Tag held) = (get_or held.items 1 0, get_or held.items 2 0)
 named_by (Inside h left) = (h.rec, h.set)

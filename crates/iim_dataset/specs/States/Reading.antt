@@ -18,6 +18,7 @@ use Rattle.iim_dataset.specs.declared.fault.FaultCause.TheVariants.{Marker, Coun
 -- ---- refusals
 
 -- why no tag can continue
+-- twin: "Octets that begin no tag", "Counts of no such form"
 abbrev pub tag_cause_of : FaultCause → Option HeadCause
 tag_cause_of Marker = Some tags.Marker
 tag_cause_of CountForm = Some tags.CountForm

@@ -30,6 +30,8 @@ abbrev pub BeginsNext : List Dataset → Head → Type 0
 BeginsNext ds h = (later : List ℕ) × (after (section_after ds) ≡ h.rec ∷ later)
 
 -- The head's record is neither the present one nor the next.
+-- twins (with HasNoRow, IsRepeated, IsOutOfRange, EndsTooEarly): law `heads_tell_the_lowest_cause`; "A head out of order is told before all
+--   else", "Of several causes of a row the lowest is told"
 abbrev pub IsOutOfOrder : List Dataset → Head → Type 0
 IsOutOfOrder ds h = (IsInPresent ds h ⊎ BeginsNext ds h) → ⊥
 
@@ -59,10 +61,12 @@ abbrev pub IsBad : Dataset → Type 0
 IsBad d = Meets d.rec d.set d.octets → ⊥
 
 -- It is 1:20 File Format, and its value is not 2.
+-- twin: law `values_tell_the_lowest_cause`; "Values: the file format"
 abbrev pub IsOtherFormat : Dataset → Type 0
 IsOtherFormat d = (d.rec ≡ 1) × (d.set ≡ 20) × (number d.octets ≢ 2)
 
 -- The head is of record 1 or 2, and the kept data with its count pass the limit.
+-- twins (with PassesFields): "The limits are 78 octets and 16 datasets", "Limits: 78 octets in 16 datasets"
 abbrev pub PassesOctets : Limits → List Dataset → Head → Type 0
 PassesOctets limits ds h = IsTrue (is_kept h.rec) × (limits.octets < kept_octets ds + h.count)
 
@@ -88,6 +92,7 @@ pub record Rule : Type 1 where
   pub name : List ℕ
   pub holds : Limits → List Dataset → Token → Type 0
 
+-- twin: laws `heads_tell_the_lowest_cause`, `values_tell_the_lowest_cause`; `numbers_and_names_of_causes`, `names_each_cause`
 abbrev pub rule_of : FieldCause → Rule
 rule_of RecordOrder = record { number = 10; name = codes "RecordOrder"; holds = λ limits ds. OfHead (IsOutOfOrder ds) }
 rule_of UnknownDataset = record { number = 11; name = codes "UnknownDataset"; holds = λ limits ds. OfHead HasNoRow }

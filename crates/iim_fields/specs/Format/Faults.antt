@@ -43,6 +43,8 @@ abbrev pub fault_on : Head → FieldCause → FieldFault
 fault_on h cause = record { rec = h.rec; set = h.set; cause = cause }
 
 -- The head has no row; its dataset doesn't repeat and has occurred; its count is outside the row's bounds.
+-- twins (with head_fault): law `heads_tell_the_lowest_cause`; "A head out of order is told before all else", "Of several causes of a row
+--   the lowest is told"
 abbrev pub row_fault : Bool → Option Row → Head → Option FieldFault
 row_fault again None h = Some (fault_on h UnknownDataset)
 row_fault again (Some r) h =
@@ -51,6 +53,7 @@ row_fault again (Some r) h =
     else None
 
 -- the lowest number that is missing, where one is
+-- twins (with missing_of): "Of several missing datasets that of the lowest number is named"
 abbrev pub missing_fault : ℕ → Option ℕ → Option FieldFault
 missing_fault present number = option_map (λ n. record { rec = present; set = n; cause = Missing }) number
 
@@ -68,10 +71,12 @@ head_fault present has h =
     (if is_first h.rec (after present) then missing_fault present (missing_of present has) else None)
 
 -- the first fault of a head after datasets
+-- twins (with limits_fault, first_fault): law `heads_tell_the_lowest_cause`; "The record layer is told before the limits"
 abbrev pub record_fault : List Dataset → Head → Option FieldFault
 record_fault ds h = head_fault (section_after ds) (λ n. occurs n (section_run ds)) h
 
 -- The octets are not as the row says; a file format is not 2.
+-- twins (with value_fault): law `values_tell_the_lowest_cause`; "Values: the file format"
 abbrev pub fault_by_row : Option Row → Dataset → Option FieldFault
 fault_by_row None d = Some (fault_on (head_of d) BadValue)
 fault_by_row (Some r) d =
@@ -86,6 +91,7 @@ value_fault d = fault_by_row (row_of d.rec d.set) d
 -- ---- the limits
 
 -- records 1 and 2 are kept
+-- twin: "All datasets are taken, and those of records 1 and 2 kept in their order"
 abbrev pub is_kept : ℕ → Bool
 is_kept rec = rec == 1 || rec == 2
 
@@ -102,6 +108,7 @@ abbrev pub kept_octets : List Dataset → ℕ
 kept_octets ds = length (joined (kept ds))
 
 -- The first limit that `octets` kept octets and `fields` kept datasets pass.
+-- twins (with room_fault): "The limits are 78 octets and 16 datasets", "Limits: 78 octets in 16 datasets"
 abbrev pub limit_passed : Limits → ℕ → ℕ → Option FieldCause
 limit_passed limits octets fields =
     if not (nat_le octets limits.octets) then Some HeaderFull

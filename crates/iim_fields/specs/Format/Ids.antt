@@ -15,6 +15,8 @@ abbrev pub text_eq : List ℕ → List ℕ → Bool
 text_eq = pointwise nat_eq
 
 -- The first octet that differs decides, or else the shorter text is first.
+-- twins (with id_eq, id_cmp): "Ids in order: by service, then by number, then by date"; "A repeated one names the first of the same
+--   service, number and day"
 abbrev pub text_cmp : List ℕ → List ℕ → Ordering
 text_cmp = slice_cmp nat_cmp
 

@@ -11,10 +11,12 @@ abbrev pub name_of_cause : FieldCause → List ℕ
 name_of_cause cause = (rule_of cause).name
 
 -- a cause's number and name, as they are printed
+-- twin: `numbers_and_names_of_causes`, `names_each_cause`
 abbrev pub text_of_cause : FieldCause → List ℕ
 text_of_cause cause = decimal (number_of_cause cause) ++ (codes " " ++ name_of_cause cause)
 
 -- a dataset that is refused, and the cause
+-- twins (with number_of_copy, name_of_copy, text_of_copy): `faults_are_printed`
 abbrev pub text_of_field : FieldFault → List ℕ
 text_of_field fault = codes "refused on " ++ (dataset_name fault.rec fault.set ++ (codes ", cause " ++ text_of_cause fault.cause))
 

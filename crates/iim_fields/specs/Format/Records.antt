@@ -6,6 +6,7 @@ use Rattle.iim_dataset.specs.Format.Datasets.{Dataset}
 use Rattle.iim_tables.specs.Format.Records.{IsGoodRecord}
 
 -- the records of an envelope, in their order
+-- twins (with after): "A head out of order is told before all else", "Records: the present one or the next"
 abbrev pub records : List ℕ
 records = 1 ∷ 2 ∷ 7 ∷ 8 ∷ 9 ∷ []
 

@@ -9,6 +9,7 @@ abbrev pub data_of : Head → List ℕ → Dataset
 data_of h xs = record { rec = h.rec; set = h.set; octets = xs }
 
 -- records 7 and 9 tell numbers
+-- twins (with number_told): "Those of 7 and 9 tell numbers", "Numbers of eight octets, and those that are too great"
 abbrev pub tells_number : ℕ → Bool
 tells_number rec = rec == 7 || rec == 9
 

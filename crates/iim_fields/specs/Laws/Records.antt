@@ -25,6 +25,7 @@ abbrev pub ValuesDieWithTheirFault : Type 0
 ValuesDieWithTheirFault = (ds : List Dataset) (d : Dataset) → SectionsLiveAt ds (head_of d) → Octets d.octets → (value_fault d ≡ None) ↔ SectionsLive (ds ++ d ∷ [])
 
 -- Datasets that are alive are all those of an envelope exactly where the last of them is of record 9.
+-- twin: law `envelopes_end_with_the_last_record`; "After the end of an envelope no octet is used"
 abbrev pub EnvelopesEndWithTheLastRecord : Type 0
 EnvelopesEndWithTheLastRecord = (ds : List Dataset) (d : Dataset) → SectionsLive (ds ++ d ∷ []) → (d.rec ≡ 9) ↔ AreSections (ds ++ d ∷ [])
 

@@ -19,12 +19,14 @@ pub record Building : Type 0 where
   pub room : Room
 
 -- The first fault of a dataset that is added: its record is neither 1 nor 2, or else the fault of its head, or else of its value.
+-- twin: "Datasets that are added or refused"; `tells_what_is_wrong_with_a_script`
 abbrev pub add_fault : Limits → List Dataset → Dataset → Option FieldFault
 add_fault limits ds d =
     if not (is_kept d.rec) then Some (fault_on (head_of d) RecordOrder)
     else option_or (first_fault limits ds (head_of d)) (value_fault d)
 
 -- the lowest mandatory number of the record that is absent
+-- twins (with finish_fault): "Each mandatory dataset of record 1 is missed", "2:00 is missed at the end"
 abbrev pub absent : ℕ → List Dataset → Option FieldFault
 absent r ds = missing_fault r (missing_of r (λ n. occurs n (of_record r ds)))
 
@@ -33,11 +35,13 @@ abbrev pub finish_fault : List Dataset → Option FieldFault
 finish_fault ds = option_or (absent 1 ds) (absent 2 ds)
 
 -- They are no more than limits can allow, and have no more octets.
+-- no twin: no code has these words
 pub record AreFew (ds : List Dataset) : Type 0 where
   pub datasets : length ds < 2 ^ 32
   pub octets : length (joined ds) < 2 ^ 32
 
 -- the first limit that all these datasets pass: that on octets, or else that on their number
+-- twins (with IsCopyFault): `envelopes_are_copied_within_other_limits`
 abbrev pub passed_by : Limits → List Dataset → Option FieldCause
 passed_by limits ds = limit_passed limits (length (joined ds)) (length ds)
 

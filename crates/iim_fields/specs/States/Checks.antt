@@ -20,6 +20,8 @@ use Rattle.iim_fields.specs.declared.check.RecordPlace.{RecordPlace}
 -- ---- a check, from outside: its place, or None after a refusal
 
 -- No value of a begun dataset is to come: none is begun, or a subfile, whose data are no matter of records.
+-- twins (with TakesValue, IsChecking, HasTaken, IsValueFault): "Before the first octet, and an envelope in one piece": another record would
+--   have its values unread
 abbrev pub AwaitsNone : Option Begun → Type 0
 AwaitsNone None = ⊤
 AwaitsNone (Some begun) = begun.head.rec ≡ 8
@@ -100,6 +102,7 @@ section_at None = 0
 section_at (Some place) = place.order.rec
 
 -- The last record has ended.
+-- twin: law `envelopes_end_with_the_last_record`; "After the end of an envelope no octet is used"
 pub record HasEnded (check : Option RecordPlace) : Type 0 where
   pub order : Order
   pub between : check ≡ Some (record { order = order; begun = None })

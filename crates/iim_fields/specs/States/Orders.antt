@@ -10,6 +10,7 @@ abbrev pub has_seen : Order → ℕ → Bool
 has_seen o n = slice_index_or o.seen n false
 
 -- It has the present record of the datasets, and, in a place for each of 256 numbers, which occurred in it.
+-- no twin: its clause `seen` compares with `occurs`, which counts the datasets; `knows_each_row` asks of all numbers
 pub record IsOrderOf (o : Order) (ds : List Dataset) : Type 0 where
   pub places : length o.seen ≡ 256
   pub present : o.rec ≡ section_after ds

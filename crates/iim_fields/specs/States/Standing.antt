@@ -59,6 +59,8 @@ abbrev pub IsBetween : FieldsPlace → Type 0
 IsBetween fields = checks.AwaitsHead fields.check
 
 -- It has taken this head, and n octets of its data are still to come. Those of a subfile do not pass here.
+-- twins (with CanTake, CanClose, StandsIn, IsOf): "Before the first octet, and an envelope in one piece": another record would have its
+--   values unread
 pub record IsInside (fields : FieldsPlace) (h : Head) (n : ℕ) : Type 0 where
   pub head : IsIn fields.check h
   pub to_come : h.rec ≢ 8 → length fields.taken + n ≡ h.count

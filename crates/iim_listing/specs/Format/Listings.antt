@@ -35,6 +35,7 @@ abbrev pub listing : (ℕ → Listed → List ℕ) → List Listed → InputEndi
 listing text envelopes ending = texts_from text 1 envelopes ++ ending_line (length envelopes) ending
 
 -- the status of a listing: 0 where the whole input is accepted, else 1
+-- twin: `tells_a_refusal_after_envelopes`, `lists_a_million_envelopes_and_no_more`
 abbrev pub status_of : InputEnding → ℕ
 status_of Whole = status_accepted
 status_of (RefusedBy refusal) = status_refused

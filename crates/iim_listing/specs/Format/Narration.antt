@@ -17,6 +17,7 @@ use Rattle.iim_listing.specs.Format.Listings.{IsDelivered}
 use Rattle.iim_places.specs.Format.Listing.{Divides, InputEnding, Whole, RefusedBy, TooMany, EndsBy, Listed, IsListed, IsListing, IsRefusedAfter}
 
 -- the text of an envelope: its lines, joined by LF
+-- twins (with story_of): law `envelopes_are_delivered_as_lines`; `tells_stories_up_to_a_refusal`, `leaves_the_text_before_a_refusal`
 abbrev pub text_of : Listed → List ℕ
 text_of e = join_with_byte lf e.value.lines
 

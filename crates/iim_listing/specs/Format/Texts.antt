@@ -9,6 +9,7 @@ use Rattle.iim_dataset.specs.Format.Shown.{number_or_dash}
 use Rattle.iim_places.specs.Format.Listing.{Listed}
 
 -- the first line
+-- twins (with sizes_line, shown_text): `shows_worked_envelopes`, `shows_what_is_rare`, `packs_as_it_is_asked`
 abbrev pub number_line : ℕ → List ℕ
 number_line number = codes "envelope " ++ (decimal number ++ codes "\n")
 

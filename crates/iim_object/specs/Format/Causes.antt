@@ -18,6 +18,7 @@ is_above (Some a) (Some m) = nat_lt m a
 is_above announced maximum = false
 
 -- of a number of record 7: mode 0 with an announced size; an announced size above the maximum
+-- twins (with subfile_cause, end_cause, confirmed_cause, cause_at): law `causes_are_the_first`; "Two causes at one token, or three"
 abbrev pub number_cause : Option ℕ → Option ℕ → Option ℕ → Option SizeCause
 number_cause mode announced maximum =
     if is_given mode 0 && is_some announced then Some ModeClash
@@ -25,6 +26,7 @@ number_cause mode announced maximum =
     else None
 
 -- the least of the greatest size, the announced one where given and the maximum where given
+-- twin: law `objects_die_for_causes`; "Mode 0 with an announced size", "The subfiles pass the announced size", "The object ends short"
 abbrev pub bound : Option ℕ → Option ℕ → ℕ
 bound announced maximum = min (unwrap_or announced greatest_size) (unwrap_or maximum greatest_size)
 

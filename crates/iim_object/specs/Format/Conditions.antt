@@ -7,6 +7,7 @@ use Rattle.iim_object.specs.Format.Places.{Place}
 use Rattle.iim_object.specs.declared.reading.fault.SizeCause.{SizeCause}
 use Rattle.iim_object.specs.declared.reading.fault.SizeCause.TheVariants.{ModeClash, SizeClash, SubfileTooLong, PastSize, Short, ConfirmedWrong}
 
+-- twin: "Each cause of sizes, and of a packer"; `names_each_cause`
 abbrev pub number_of : SizeCause → ℕ
 number_of ModeClash = 20
 number_of SizeClash = 21
@@ -20,6 +21,8 @@ abbrev pub stated_with : Place → ℕ → ℕ → List Stated
 stated_with p set n = p.stated ++ record { set = set; number = n } ∷ []
 
 -- The total passes the greatest size, what is announced, or the maximum.
+-- twins (with HasCause): law `objects_die_for_causes`; "Mode 0 with an announced size", "The subfiles pass the announced size", "The object
+--   ends short"
 abbrev pub PassesBound : List Stated → ℕ → Type 0
 PassesBound ps total = (greatest_size < total)
     ⊎ (((announced : ℕ) × (number_at 90 ps ≡ Some announced) × (announced < total))

@@ -11,6 +11,7 @@ abbrev pub AreFull : ℕ → List (List ℕ) → Type 0
 AreFull size parts = AllByRecursion (λ part. length part ≡ size) parts
 
 -- The object is cut into full parts of `size` octets, and a last one of 1 up to as many. An empty object is one empty part.
+-- twin: law `objects_are_cut_one_way`; "A full subfile goes out when another octet comes", "No octets are one empty subfile"
 pub record IsCut (size : ℕ) (object : List ℕ) (parts : List (List ℕ)) : Type 0 where
   pub full : List (List ℕ)
   pub last : List ℕ

@@ -6,6 +6,7 @@ use Rattle.iim_object.specs.declared.reading.fault.SizeCause.TheVariants.{ModeCl
 use Rattle.iim_object.specs.declared.reading.fault.ObjectFault.{ObjectFault}
 use Rattle.iim_object.specs.declared.reading.fault.ObjectFault.TheVariants.{Size, Stopped}
 
+-- twins (with text_of): "Each cause of sizes, and of a packer"; `names_each_cause`
 abbrev pub name_of : SizeCause → List ℕ
 name_of ModeClash = codes "ModeClash"
 name_of SizeClash = codes "SizeClash"
@@ -19,6 +20,7 @@ abbrev pub text_of : SizeCause → List ℕ
 text_of cause = decimal (number_of cause) ++ (codes " " ++ name_of cause)
 
 -- That the sink stopped is cause 60.
+-- twins (with fault_name, fault_text): `faults_are_printed`
 abbrev pub fault_number : ObjectFault → ℕ
 fault_number (Size cause) = number_of cause
 fault_number (Stopped stop) = 60

@@ -11,6 +11,7 @@ ending_of [] = NotEnded
 ending_of (d ∷ ds) = ConfirmedAs (number d.octets)
 
 -- the place after datasets: the numbers of record 7, the lengths of record 8, and the number of record 9
+-- twin: "Before the first octet, and an envelope in one piece", "Sizes: the mode"
 abbrev pub place_after_datasets : List Dataset → Place
 place_after_datasets ds = record { stated = numbers_of (of_record 7 ds); lengths = lengths_of (of_record 8 ds); ending = ending_of (of_record 9 ds) }
 

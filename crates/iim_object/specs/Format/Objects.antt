@@ -14,6 +14,7 @@ number_tokens ps = map (λ p. NumberRead p.set p.number) ps
 
 -- The language of the object layer, by numbers and lengths: the numbers of record 7, of which mode and largest subfile are
 -- two, one subfile or more, and the confirmed size, so that the sizes agree.
+-- twin: "Objects by their tokens", "No known size: subfiles of no octets too", "The confirmed size"
 pub record ObjectLanguage (tokens : List ObjectToken) : Type 0 where
   pub stated : List Stated
   pub lengths : List ℕ

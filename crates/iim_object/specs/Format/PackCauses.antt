@@ -3,6 +3,7 @@ use Rattle.std.specs.Prelude.{ℕ, List, ◌++◌, codes, decimal}
 use Rattle.iim_object.specs.declared.writing.cause.PackCause.{PackCause}
 use Rattle.iim_object.specs.declared.writing.cause.PackCause.TheVariants.{OutOfMemory, PastAnnounced, ShortOfAnnounced, BadTextOctet, BadTrailer, Write, Failed}
 
+-- twins (with pack_name, pack_text): "Each cause of sizes, and of a packer"; `names_each_cause`
 abbrev pub pack_number : PackCause → ℕ
 pack_number OutOfMemory = 70
 pack_number PastAnnounced = 80

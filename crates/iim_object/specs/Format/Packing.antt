@@ -9,6 +9,7 @@ use Rattle.iim_object.specs.declared.size.Size.TheVariants.{Known, Unknown}
 use Rattle.iim_object.specs.declared.size.Sizes.{Sizes}
 
 -- a dataset whose value is this number
+-- twins (with subfile_dataset, confirmed_datasets): "Objects that are written"; `packs_by_every_small_plan_and_gives_back_what_was_packed`
 abbrev pub number_dataset : ℕ → ℕ → ℕ → Dataset
 number_dataset rec set n = record { rec = rec; set = set; octets = written_number n }
 
@@ -16,6 +17,8 @@ abbrev pub is_known : Size → Bool
 is_known size = is_some (announced_of size)
 
 -- 7:90 for a known size, 7:95 for a maximum
+-- twins (with plan_datasets): "Objects that are written", "No known size: with a maximum and without";
+--   `packs_by_every_small_plan_and_gives_back_what_was_packed`
 abbrev pub size_datasets : Size → List Dataset
 size_datasets (Known n) = number_dataset 7 90 n ∷ []
 size_datasets (Unknown (Some most)) = number_dataset 7 95 most ∷ []

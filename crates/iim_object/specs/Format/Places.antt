@@ -32,12 +32,14 @@ place_after p ObjectEnded = record p { ending = Ended }
 place_after p (Confirmed n) = record p { ending = ConfirmedAs n }
 
 -- Mode and largest subfile are stated.
+-- twin: "Nor to subfiles before the mode"
 abbrev pub HasBoth : List Stated → Type 0
 HasBoth ps = (is_some (number_at 10 ps) ≡ true) × (is_some (number_at 20 ps) ≡ true)
 
 -- The record layer has admitted the token, and the limits too: numbers of record 7 that meet their rows, none twice, come
 -- before the subfiles; these come after mode and largest subfile, and not too many; the end after one subfile at least; and
 -- the confirmed size after the end.
+-- twin: "4,294,967,295 subfiles, and one more"; `refuses_one_subfile_too_many`
 abbrev pub MayFollow : Place → ObjectToken → Type 0
 MayFollow p (NumberRead set n) = (p.ending ≡ NotEnded) × (p.lengths ≡ []) × AreStated (p.stated ++ record { set = set; number = n } ∷ [])
 MayFollow p (SubfileBegun count) = (p.ending ≡ NotEnded) × HasBoth p.stated × (length p.lengths < max_subfiles)
@@ -49,6 +51,7 @@ abbrev pub place_start : Place
 place_start = record { stated = []; lengths = []; ending = NotEnded }
 
 -- the token of a value: the confirmed size of record 9, or a number of record 7
+-- twins (with head_token): "Objects by their tokens", "The numbers that have come, the sizes"
 abbrev pub value_token : ℕ → ℕ → ℕ → ObjectToken
 value_token rec set n = if rec == 9 then Confirmed n else NumberRead set n
 

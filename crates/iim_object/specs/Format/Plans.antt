@@ -7,10 +7,12 @@ use Rattle.iim_object.specs.declared.size.Size.{Size}
 use Rattle.iim_object.specs.declared.size.Size.TheVariants.{Known, Unknown}
 
 -- the most subfiles of one envelope
+-- twin: "4,294,967,295 subfiles, and one more"; `refuses_one_subfile_too_many`
 abbrev pub max_subfiles : ℕ
 max_subfiles = greatest_u32
 
 -- the most octets of record 7: 7:10, 7:20, and 7:90 or 7:95
+-- no twin (with most_out): no answer depends on them; sums past their types would not be proved
 abbrev pub most_sizes : ℕ
 most_sizes = 6 + 2 * tag_octets
 
@@ -19,6 +21,8 @@ abbrev pub most_out : ℕ
 most_out = 2 ^ 63 + 2 ^ 40
 
 -- the most octets that subfiles of `subfile` octets hold
+-- twins (with fits, is_plan, limit_of, bound_of): law `subfiles_are_few`; "Plans: the bound is the known size", "Plans: the most octets of
+--   an object"
 abbrev pub most_in : ℕ → ℕ
 most_in subfile = subfile * max_subfiles
 
@@ -51,6 +55,7 @@ abbrev pub bound_of : ℕ → Size → ℕ
 bound_of subfile size = min (limit_of size) (most_in subfile)
 
 -- the object is below a known size
+-- twin: "Octets past the bound change nothing", "Writers that take an octet a call and then fail"; `causes_and_their_order`
 abbrev pub is_short : Size → ℕ → Bool
 is_short (Known n) total = nat_lt total n
 is_short (Unknown most) total = false

@@ -9,6 +9,7 @@ use Rattle.iim_object.specs.Format.Sizes.{Stated, Agree, number_at, mode_number}
 use Rattle.iim_object.specs.declared.size.Sizes.{Sizes}
 
 -- Records 7, 8 and 9 in this order, each good, after datasets of the records before them.
+-- twin: "Before the first octet, and an envelope in one piece", "Sizes: the mode"
 pub record AreObjectRecords (ds : List Dataset) : Type 0 where
   pub before : List Dataset
   pub r7 : List Dataset
@@ -29,6 +30,7 @@ lengths_of ds = map (λ d. length d.octets) ds
 
 -- The sizes are what the records state: the numbers of record 7, how many subfiles there are, and the sum of their lengths.
 -- They agree with one another, with each subfile, and with the number of 9:10.
+-- twin: "Objects by their tokens", "No known size: subfiles of no octets too", "The confirmed size"
 pub record HaveSizes (r7 r8 r9 : List Dataset) (s : Sizes) : Type 0 where
   pub mode : number_at 10 (numbers_of r7) ≡ Some (mode_number s.known)
   pub largest : number_at 20 (numbers_of r7) ≡ Some s.subfile

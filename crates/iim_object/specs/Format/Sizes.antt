@@ -16,6 +16,7 @@ number_at set (p ∷ ps) = cond (p.set == set) (Some p.number) (number_at set ps
 
 -- A number is one that the row of its dataset allows: 7:10 Size Mode 0 or 1, 7:20 from 1 on, and 7:20, 7:90 and 7:95 up to
 -- the greatest size of an object.
+-- twin: "No tokens lead to numbers that no row allows", "Sizes are at most 9,223,372,036,854,775,807"
 abbrev pub InRow : Stated → Type 0
 InRow p = ((p.set ≡ 10) × (p.number ≤ 1)) ⊎ (((p.set ≡ 20) × (1 ≤ p.number) × (p.number ≤ greatest_size)) ⊎ (((p.set ≡ 90) ⊎ (p.set ≡ 95)) × (p.number ≤ greatest_size)))
 
@@ -29,11 +30,13 @@ pub record AreStated (ps : List Stated) : Type 0 where
   pub each : AllByRecursion InRow ps
   pub once : AreOnce ps
 
+-- twin: "Mode 0 with an announced size", "Objects that are written"
 abbrev pub mode_number : Bool → ℕ
 mode_number true = 1
 mode_number false = 0
 
 -- what is said of an object: by record 7, and by subfiles of these lengths
+-- twins (with Agree): "Objects by their tokens", "No known size: subfiles of no octets too", "The confirmed size"
 abbrev pub sizes_at : Bool → ℕ → List Stated → List ℕ → Sizes
 sizes_at known subfile ps lengths = record { known = known; subfile = subfile; announced = number_at 90 ps; maximum = number_at 95 ps; subfiles = length lengths; total = sum lengths }
 

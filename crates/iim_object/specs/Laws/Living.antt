@@ -7,6 +7,8 @@ use Rattle.iim_object.specs.Format.Sizes.{Stated, AreStated, number_at, mode_num
 use Rattle.iim_object.specs.Format.Objects.{SubfileBegun, ObjectEnded, Confirmed, ObjectLanguage, number_tokens}
 
 -- The numbers don't clash: a size that isn't known is not announced, and the announced size is at most the maximum.
+-- twins (with HasDuties, Fit, MeetsAnnounced): laws `numbers_live_without_clash`, `subfiles_live_while_they_fit`,
+--   `objects_end_where_they_are_whole`, `totals_are_confirmed`
 pub record NoClash (ps : List Stated) : Type 0 where
   pub mode : number_at 10 ps ≡ Some 0 → number_at 90 ps ≡ None
   pub sizes : (a m : ℕ) → number_at 90 ps ≡ Some a → number_at 95 ps ≡ Some m → a ≤ m

@@ -25,6 +25,7 @@ abbrev pub DatasetsLiveWithTheirTokens : Type 0
 DatasetsLiveWithTheirTokens = (ds : List Dataset) → IsAlive AreObjectRecords ds → IsAlive AreSized ds ↔ IsAlive ObjectLanguage (object_tokens ds)
 
 -- So they do with a dataset of record 9 exactly where the object layer can continue from the end of the object.
+-- no twin: no code has these words
 abbrev pub DatasetsEndWithTheirTokens : Type 0
 DatasetsEndWithTheirTokens = (ds : List Dataset) (d : Dataset) → IsAlive AreObjectRecords (ds ++ d ∷ []) → d.rec ≡ 9
     → ((e : Dataset) × (e.rec ≡ 9) × IsAlive AreSized (ds ++ e ∷ [])) ↔ IsAlive ObjectLanguage (tokens_of (place_ended ds))
@@ -38,6 +39,7 @@ abbrev pub Leads : Place → ObjectToken → Place → Type 0
 Leads p token q = MayFollow p token × (place_after p token ≡ q)
 
 -- Datasets of the records before 7 change no place.
+-- twins (with NumbersLead, SubfilesLead, EndsLead, AreByNumber): "Before the first octet, and an envelope in one piece", "Sizes: the mode"
 abbrev pub OthersLeadNowhere : Type 0
 OthersLeadNowhere = (ds : List Dataset) (d : Dataset) → d.rec < 7 → place_after_datasets (ds ++ d ∷ []) ≡ place_after_datasets ds
 

@@ -9,6 +9,7 @@ use Rattle.iim_object.specs.declared.size.Size.{Size}
 use Rattle.iim_object.specs.Format.Packing.{number_dataset, plan_datasets, subfile_datasets, confirmed_datasets, Suits, packed_sizes}
 
 -- Records 7, 8 and 9 that are written of an object are good.
+-- twin: "Before the first octet, and an envelope in one piece", "Sizes: the mode"
 pub record AreGoodRecords (subfile : ℕ) (size : Size) (object : List ℕ) (parts : List (List ℕ)) : Type 0 where
   pub seven : IsGoodRecord 7 (plan_datasets subfile size)
   pub eight : IsGoodRecord 8 (subfile_datasets parts)
@@ -20,6 +21,7 @@ PackedRecordsAreGood = (subfile : ℕ) (size : Size) (object : List ℕ) (parts 
     → IsCut subfile object parts → length object ≤ bound_of subfile size → AreGoodRecords subfile size object parts
 
 -- A size up to the greatest, as it is written, is the good data of 7:90, 7:95 and 9:10, and from one on of 7:20.
+-- no twin: no code has these words
 pub record NumberDatasetsAreGood : Type 0 where
   pub largest : (n : ℕ) → 1 ≤ n → n ≤ greatest_size → IsGoodDataset (number_dataset 7 20 n)
   pub announced : (n : ℕ) → n ≤ greatest_size → IsGoodDataset (number_dataset 7 90 n)

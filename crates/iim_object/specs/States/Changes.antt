@@ -13,6 +13,7 @@ abbrev pub set_where : ℕ → ℕ → ℕ → Option ℕ → Option ℕ
 set_where wanted set number old = if set == wanted then Some number else old
 
 -- with the number of a dataset of record 7
+-- twin: "Readers put where tokens lead", "The numbers that have come, the sizes"
 abbrev pub state_with : State → ℕ → ℕ → State
 state_with s set number = record s {
   mode = set_where 10 set number s.mode;
@@ -22,6 +23,7 @@ state_with s set number = record s {
 }
 
 -- A number of record 7 may come: no subfile has come, and its row allows the number.
+-- no twin (with TakesSubfile, FitsNumber, FitsSubfile): by `LeadsOn` and `Refuses` the calls are held to `MayFollow` and `ObjectLanguage`
 abbrev pub TakesNumber : State → ℕ → ℕ → Type 0
 TakesNumber s set number = (s.subfiles ≡ 0) × InRow (record { set = set; number = number })
 

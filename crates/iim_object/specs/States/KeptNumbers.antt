@@ -6,11 +6,13 @@ use Rattle.iim_object.specs.Format.Sizes.{mode_number}
 use Rattle.iim_object.specs.declared.reading.state.State.{State}
 
 -- the numbers of 7:10, 7:20, 7:90 and 7:95
+-- twin: "Readers put where tokens lead", "The numbers that have come, the sizes"
 abbrev pub state_numbers : State → List (Option ℕ)
 state_numbers s = s.mode ∷ s.subfile ∷ s.announced ∷ s.maximum ∷ []
 
 -- The numbers of record 7 that have come are ones that their rows allow. A size that isn't known is not announced, and the
 -- announced size is at most the maximum.
+-- twin: "No tokens lead to numbers that no row allows", "Sizes are at most 9,223,372,036,854,775,807"
 pub record HasNumbers (s : State) : Type 0 where
   pub mode : IfSome s.mode (λ n. n ≤ 1)
   pub largest : IfSome s.subfile (λ n. (1 ≤ n) × (n ≤ greatest_size))

@@ -13,6 +13,7 @@ use Rattle.iim_object.specs.Format.Events.{ObjectEvent, ObjectOctet, ObjectEnd}
 use Rattle.iim_object.specs.declared.size.Sizes.{Sizes}
 
 -- The state has the numbers of the place, how many subfiles there are and their octets together.
+-- twins (with IsSizes): "Readers put where tokens lead", "The numbers that have come, the sizes"
 pub record IsStateAt (s : State) (p : Place) : Type 0 where
   pub mode : s.mode ≡ number_at 10 p.stated
   pub largest : s.subfile ≡ number_at 20 p.stated
@@ -62,6 +63,7 @@ RefusesValue old token (Size cause) = Refuses old token cause
 RefusesValue old token (Stopped stop) = ⊥
 
 -- what the sink is told at a head: the end of the object at record 9
+-- twin: "Objects by their tokens", "The numbers that have come, the sizes"
 abbrev pub events_at : ℕ → List ObjectEvent
 events_at rec = if rec == 9 then ObjectEnd ∷ [] else []
 

@@ -7,6 +7,7 @@ use Rattle.iim_object.specs.Format.Objects.{ObjectLanguage}
 use Rattle.iim_object.specs.Format.Places.{Place, NotEnded, HasBoth, tokens_of}
 
 -- the numbers of 7:10, 7:20, 7:90 and 7:95, each where it is stated
+-- twin: "Readers put where tokens lead", "The numbers that have come, the sizes"
 abbrev pub stated_numbers : List Stated → List (Option ℕ)
 stated_numbers ps = number_at 10 ps ∷ number_at 20 ps ∷ number_at 90 ps ∷ number_at 95 ps ∷ []
 

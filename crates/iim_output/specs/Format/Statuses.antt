@@ -10,6 +10,7 @@ abbrev pub status_refused : ℕ
 status_refused = 1
 
 -- the words ask for nothing
+-- twins (with status_failed): `refuses_words_of_pack_and_audit`, `tells_a_read_that_fails`, `tells_a_write_that_fails`
 abbrev pub status_usage : ℕ
 status_usage = 2
 

@@ -24,11 +24,13 @@ IsFirstOf Says order (Some cause) = IsFirst Says order cause
 IsFirstOf Says order None = AllByRecursion (λ cause. Says cause → ⊥) order
 
 -- what the causes say of `start`: of the header, the two octets ETX and EOT follow at least
+-- twin: "The header has 25 octets and the least ending two"
 abbrev pub AgainstStart : Header → Plan → PackCause → Type 0
 AgainstStart head plan PastAnnounced = PassesPlan plan (length (packed_head head) + least_ending)
 AgainstStart head plan _ = ⊥
 
 -- of `text`
+-- twin: "A packer, call by call", "Writers that take an octet a call and then fail", "A maximum that is met exactly"
 abbrev pub AgainstText : {W : Type 0} → Packing W → List ℕ → PackCause → Type 0
 AgainstText k octets Failed = IsTrue k.object.failed
 AgainstText k octets BadTextOctet = IsLine octets → ⊥
@@ -36,12 +38,14 @@ AgainstText k octets PastAnnounced = PassesPlan k.object.plan (total_of k.object
 AgainstText k octets _ = ⊥
 
 -- of `line_end`, which adds CR and LF
+-- twin: "A maximum that is met exactly, and an octet more or less: a line end is two octets"; `causes_and_their_order`
 abbrev pub AgainstLineEnd : {W : Type 0} → Packing W → PackCause → Type 0
 AgainstLineEnd k Failed = IsTrue k.object.failed
 AgainstLineEnd k PastAnnounced = PassesPlan k.object.plan (total_of k.object + (2 + least_ending))
 AgainstLineEnd k _ = ⊥
 
 -- of `finish`, which adds ETX, the trailer and EOT
+-- twin: "An object that is below the known size", "Writers that take an octet a call and then fail", "A packer, call by call"
 abbrev pub AgainstFinish : {W : Type 0} → Packing W → List ℕ → PackCause → Type 0
 AgainstFinish k trailer Failed = IsTrue k.object.failed
 AgainstFinish k trailer BadTrailer = IsTrailer trailer → ⊥
@@ -50,6 +54,7 @@ AgainstFinish k trailer ShortOfAnnounced = IsBelowKnown k.object.plan (total_of 
 AgainstFinish k trailer _ = ⊥
 
 -- of `pack`
+-- twin: "The first cause by order: a bad trailer, an object past the bound, one below a known size"
 abbrev pub AgainstPack : Header → List (List ℕ) → List ℕ → Plan → PackCause → Type 0
 AgainstPack head lines trailer plan BadTrailer = IsTrailer trailer → ⊥
 AgainstPack head lines trailer plan PastAnnounced = PassesPlan plan (length (canonical head lines trailer))

@@ -40,6 +40,7 @@ abbrev pub asked : ℕ → Bool → Option ℕ → Asked
 asked subfile unknown max = record { subfile = subfile; unknown = unknown; max = max }
 
 -- the size that is said of an object: how many octets it has, or no more than a maximum
+-- twins (with most_asked): `packs_great_sizes_in_eight_octets`, `packs_as_it_is_asked`
 abbrev pub said_size : Bool → Option ℕ → List ℕ → Size
 said_size false max object = Known (length object)
 said_size true max object = Unknown max
@@ -50,6 +51,7 @@ most_asked true (Some most) = most
 most_asked unknown max = greatest_size
 
 -- and no more than the subfiles hold that there may be
+-- twin that nothing finds: a script is too short for so long an object. The bound itself: "Plans: the most octets of an object"
 abbrev pub most_for : Asked → ℕ
 most_for a = min (most_asked a.unknown a.max) (most_in a.subfile)
 
@@ -76,6 +78,7 @@ abbrev pub FitsAsked : Asked → ScriptContent → Type 0
 FitsAsked a t = length (object_of t) ≤ most_for a
 
 -- It has more.
+-- twins (with IsPastLine): `tells_what_is_wrong_with_a_script`, `takes_numbers_with_a_plus_and_zeros`
 abbrev pub IsPast : Asked → ScriptContent → Type 0
 IsPast a t = most_for a < length (object_of t)
 
@@ -90,6 +93,7 @@ pub record IsFormOf (a : Asked) (t : ScriptContent) (form : List ℕ) : Type 0 w
   pub packed : Packed t.fields t.head t.lines t.trailer plan form
 
 -- the line that tells a refusal: the number of a line of the script, and a cause's number and name
+-- twin: `tells_what_is_wrong_with_a_script`, `tells_the_first_wrong_line`
 abbrev pub refusal_line : ℕ → ℕ → List ℕ → List ℕ
 refusal_line line number name =
     codes "refused: script line " ++ (decimal line ++ (codes " cause " ++ (decimal number ++ (codes " " ++ (name ++ codes "\n")))))
@@ -111,6 +115,7 @@ IsScriptRefusal a octets text = IsFaultLine octets text ⊎ IsPastLine a octets 
 -- ---- the input
 
 -- These octets were read, and no read failed: all that the input has, or one more than a script may have.
+-- twin: `reads_one_octet_of_a_script_too_many_at_most`
 abbrev pub IsRead : Device → Device → List ℕ → Type 0
 IsRead old new octets = HasGiven old new octets × ((IsAtEnd new.octets × (length octets ≤ max_script)) ⊎ (length octets ≡ max_script + 1))
 

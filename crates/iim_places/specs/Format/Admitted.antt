@@ -18,6 +18,7 @@ pub record Value : Type 0 where
   pub sizes : Sizes
 
 -- the object: the data of all subfiles, joined in order
+-- twins (with Admits): "Before the first octet, and an envelope in one piece", "Empty subfiles among others"; `reads_random_envelopes`
 abbrev pub object_of : List Dataset → List ℕ
 object_of ds = joined (of_record 8 ds)
 

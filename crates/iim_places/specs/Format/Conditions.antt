@@ -49,6 +49,8 @@ OfValue P (AtValue d) = P d
 OfValue P _ = ⊥
 
 -- a condition on octets of the object, after those before them: the data of subfiles
+-- twins (with stated, total): "Before the first octet, and an envelope in one piece", "Empty subfiles among others";
+--   `reads_random_envelopes`
 abbrev pub OfOctet : (List ℕ → ℕ → Type 0) → List Dataset → Token → Type 0
 OfOctet P ds (AtOctet (InData h taken) octet) = (h.rec ≡ 8) × P (object_of ds ++ taken) octet
 OfOctet P ds _ = ⊥
@@ -56,6 +58,7 @@ OfOctet P ds _ = ⊥
 -- ---- the conditions
 
 -- 1: the first octet of a tag is not the marker, 1C.
+-- twins (with IsNoCount): law `refusals_tell_the_lowest_cause`; "Tags: the first octet; the count"
 abbrev pub IsNoMarker : List ℕ → ℕ → Type 0
 IsNoMarker held octet = (held ≡ []) × (octet ≢ tag_marker)
 
@@ -73,6 +76,8 @@ abbrev pub total : List Dataset → ℕ
 total ds = sum (lengths_of (of_record 8 ds))
 
 -- 20: mode 1 and no announced size, at the head of a subfile; mode 0 and an announced size, at the later value.
+-- twins (with ClashesInSize, IsTooLong, IsPast, IsShort, IsConfirmedWrong): "Sizes: the mode, and whether a size is announced", "100 octets
+--   are announced", "The confirmed size"
 abbrev pub ClashesInMode : List Dataset → Token → Type 0
 ClashesInMode ds (AtHead h) = (h.rec ≡ 8) × (stated 10 ds ≡ Some 1) × (stated 90 ds ≡ None)
 ClashesInMode ds (AtValue d) = (d.rec ≡ 7) × (stated 10 (ds ++ d ∷ []) ≡ Some 0) × (stated 90 (ds ++ d ∷ []) ≢ None)
@@ -104,10 +109,13 @@ abbrev pub IsNoOctet : List ℕ → ℕ → Type 0
 IsNoOctet before octet = MessageLivesWith (before ++ octet ∷ []) → ⊥
 
 -- 32: the object ends, with the head of 9:10, and no message ends there.
+-- twin: "An object that ends too early", "Messages: a gap of 32 octets has an LF": refused at octet 108
 abbrev pub IsNoEnd : List Dataset → Head → Type 0
 IsNoEnd ds h = (h.rec ≡ 9) × (IsAlive MessageLanguage (with_end (object_of ds)) → ⊥)
 
 -- STX has come, and ETX has not.
+-- twins (with IsAfterReturns, IsControlInText): law `refusals_tell_the_lowest_cause`; "Texts: a line ends with LF, and none, one or two CR
+--   before it"
 abbrev pub IsInText : List ℕ → Type 0
 IsInText before = IsTrue (list_any (λ b. b == stx) before) × (list_any (λ b. b == etx) (after_stx before) ≡ false)
 
@@ -120,10 +128,12 @@ abbrev pub IsControlInText : List ℕ → ℕ → Type 0
 IsControlInText before octet = IsInText before × ((octet ≡ soh) ⊎ ((octet ≡ stx) ⊎ (octet ≡ eot)))
 
 -- 52: the head of a subfile comes after as many others as there may be.
+-- twin: "4,294,967,295 subfiles, and one more"; `refuses_one_subfile_too_many`, `holds_limits_at_their_edge`
 abbrev pub IsOneTooMany : List Dataset → Head → Type 0
 IsOneTooMany ds h = (h.rec ≡ 8) × (max_subfiles ≤ length (of_record 8 ds))
 
 -- 60: the sink is told of the octet: it is one of the text, but no CR.
+-- twin: `sinks_that_stop`
 abbrev pub IsTold : List ℕ → ℕ → Type 0
 IsTold before octet = (text_so_far (before ++ octet ∷ []) ≡ text_so_far before ++ octet ∷ []) × (octet ≢ cr)
 
@@ -136,6 +146,8 @@ pub record Rule : Type 1 where
   pub holds : Limits → List Dataset → Token → Type 0
 
 -- Those that are told of no token have no condition.
+-- twin: law `refusals_tell_the_lowest_cause`; "The names of the layers, in the order in which they look at a token"; `names_each_cause`,
+--   `refuses_random_envelopes`
 abbrev pub rule_of : Cause → Rule
 rule_of Marker = record { number = 1; layer = layers.Dataset; holds = λ limits ds. OfTag IsNoMarker }
 rule_of CountForm = record { number = 2; layer = layers.Dataset; holds = λ limits ds. OfTag IsNoCount }

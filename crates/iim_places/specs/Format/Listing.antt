@@ -11,6 +11,7 @@ use Rattle.iim_places.specs.declared.fault.TokenFault.{TokenFault}
 use Rattle.iim_places.specs.declared.refusal.Refusal.{Refusal}
 
 -- how many envelopes are listed at most
+-- twin: `lists_a_million_envelopes_and_no_more`, `one_envelope_too_many`
 abbrev pub max_envelopes : ℕ
 max_envelopes = 1000000
 

@@ -15,6 +15,7 @@ use Rattle.iim_places.specs.declared.refusal.Layer.TheVariants.{Dataset, Record,
 use Rattle.iim_places.specs.declared.refusal.Cause.{Cause}
 use Rattle.iim_places.specs.declared.refusal.Cause.TheVariants.{Marker, CountForm, Truncated, RecordOrder, UnknownDataset, Repeated, CountRange, Missing, BadValue, FileFormat, ModeClash, SizeClash, SubfileTooLong, PastSize, Short, ConfirmedWrong, BadOctet, Unfinished, LoneReturn, ControlOctet, HeaderFull, TooManyFields, TooManySubfiles, Sink, Failed}
 
+-- twin: "The names of the layers, in the order in which they look at a token"; `names_each_cause`
 abbrev pub layer_name : Layer → List ℕ
 layer_name Dataset = codes "dataset"
 layer_name Record = codes "record"
@@ -24,6 +25,8 @@ layer_name Message = codes "message"
 layer_name Story = codes "story"
 layer_name Outside = codes "outside"
 
+-- twins (with cause_name, cause_text): "The names of the layers, in the order in which they look at a token; and of the causes";
+--   `names_each_cause`
 abbrev pub cause_number : Cause → ℕ
 cause_number Marker = 1
 cause_number CountForm = 2
@@ -85,6 +88,7 @@ abbrev pub cause_text : Cause → List ℕ
 cause_text cause = decimal (cause_number cause) ++ (codes " " ++ cause_name cause)
 
 -- a refusal: the octet, the layer, the dataset and the cause
+-- twin: "Values: the file format"; `checks_the_samples`, `tells_a_refusal_after_envelopes`
 abbrev pub refusal_text : Refusal → List ℕ
 refusal_text e =
     codes "refused at octet " ++ (decimal e.octet ++ (codes " by layer " ++ (layer_name e.layer ++ (codes " on "

@@ -16,6 +16,8 @@ use Rattle.iim_places.specs.declared.refusal.Layer.TheVariants as layers
 use Rattle.iim_places.specs.declared.refusal.Cause.{Cause}
 use Rattle.iim_places.specs.declared.refusal.Cause.TheVariants as causes
 
+-- twins (with layer_of, cause_of_size, layer_of_message, cause_of_message, tag_cause): law `refusals_tell_the_lowest_cause`;
+--   `refuses_random_envelopes`, `changes_each_octet`
 abbrev pub cause_of : FieldCause → Cause
 cause_of fields.RecordOrder = causes.RecordOrder
 cause_of fields.UnknownDataset = causes.UnknownDataset
@@ -78,6 +80,7 @@ message_on h cause = record { layer = layer_of_message cause; rec = h.rec; set =
 -- ---- begun datasets
 
 -- the numbers of the begun dataset: of a begun tag its second and third octets, each 0 while it isn't read
+-- twins (with begun_number): "A front of an envelope is truncated, and the begun dataset is named"
 abbrev pub begun_record : Begun → ℕ
 begun_record (InTag held) = get_or held 1 0
 begun_record (InData h taken) = h.rec

@@ -24,6 +24,7 @@ use Rattle.iim_places.specs.declared.refusal.Layer.{Layer}
 use Rattle.iim_places.specs.declared.refusal.Layer.TheVariants as layers
 
 -- the place of the object after datasets and a head: a subfile more, or the end
+-- twins (with object_fault): "Sizes: the mode, and whether a size is announced", "100 octets are announced", "The confirmed size"
 abbrev pub place_at : List Dataset → Head → Place
 place_at ds h =
     if h.rec == 8 then record (place_after_datasets ds) { lengths = lengths_of (of_record 8 ds) ++ h.count ∷ [] }
@@ -35,6 +36,7 @@ abbrev pub ObjectLives : Place → Type 0
 ObjectLives p = languages.IsAlive ObjectLanguage (tokens_of p)
 
 -- With the head after the datasets, the limits are kept.
+-- twins (with subfile_fault): "4,294,967,295 subfiles, and one more"; `refuses_one_subfile_too_many`, `holds_limits_at_their_edge`
 pub record HaveRoom (limits : Limits) (ds : List Dataset) (h : Head) : Type 0 where
   pub kept : IsTrue (is_kept h.rec) → IsWithin limits (kept_octets ds + h.count) (length (kept ds) + 1)
   pub subfiles : h.rec ≡ 8 → length (of_record 8 ds) < max_subfiles
@@ -59,6 +61,7 @@ MayContinue limits whole (InData h taken) = CanContinueAt limits whole h
 
 -- With the head the layer is dead, and those that are asked before are alive: first the record layer, then the limits, then
 -- the object layer.
+-- twins (with fault_at_head): "At one head the record layer is asked first, then the limits", "the object's layer is asked first"
 abbrev pub DiesAtHead : Layer → Limits → List Dataset → Head → Type 0
 DiesAtHead layers.Record limits ds h = SectionsLiveAt ds h → ⊥
 DiesAtHead layers.Limits limits ds h = SectionsLiveAt ds h × (HaveRoom limits ds h → ⊥)
@@ -66,6 +69,7 @@ DiesAtHead layers.Object limits ds h = SectionsLiveAt ds h × HaveRoom limits ds
 DiesAtHead other limits ds h = ⊥
 
 -- With the value the layer is dead, and those that are asked before are alive.
+-- twins (with number_fault, fault_at_value): "At one value too: a size above the greatest"
 abbrev pub DiesAtValue : Layer → List Dataset → Dataset → Type 0
 DiesAtValue layers.Record ds d = SectionsLive (ds ++ d ∷ []) → ⊥
 DiesAtValue layers.Object ds d = SectionsLive (ds ++ d ∷ []) × (ObjectLives (place_after_datasets (ds ++ d ∷ [])) → ⊥)

@@ -6,6 +6,7 @@ use Rattle.iim_places.specs.Format.Listing.{Listed, Divides, InputEnding, IsList
 -- ---- laws
 
 -- An input has one listing: its envelopes, and what stands after them. (The limits are numbers of 32 bits.)
+-- no twin (with ListingsAreLongest): no code has these words
 abbrev pub InputsHaveOneListing : Type 0
 InputsHaveOneListing = (limits : Limits) (input : List ℕ) (es fs : List Listed) (x y : InputEnding) → limits.octets < 2 ^ 32 → limits.fields < 2 ^ 32
     → IsListing limits input es x → IsListing limits input fs y → (es ≡ fs) × (x ≡ y)

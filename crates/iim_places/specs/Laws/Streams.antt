@@ -29,6 +29,7 @@ abbrev pub StreamsHaveOneAnswer : Type 0
 StreamsHaveOneAnswer = (limits : Limits) (stream : List ℕ) (answer other : Answer) → Answers limits stream answer → Answers limits stream other → answer ≡ other
 
 -- Envelopes within limits of 32 bits are shorter than a count of 64 bits tells.
+-- no twin (with OpenOctetsAreBounded): no code has these words
 abbrev pub EnvelopesAreBounded : Type 0
 EnvelopesAreBounded = (limits : Limits) (octets : List ℕ) (value : Value) → limits.octets < 2 ^ 32 → limits.fields < 2 ^ 32 → IsEnvelopeWithin limits octets value → length octets < 2 ^ 64 - 1
 

@@ -16,6 +16,7 @@ TicketsHaveOneSplit = (ticket : List ℕ) (s t : Split) → SplitsTicket ticket 
 -- ---- the tickets of places
 
 -- source, number, priority, category, words, info and trailer so far
+-- twin: "With two CR held in the text; and with a whole header", "Part, counter and flag of the message"; `judges_each_part_of_a_message`
 abbrev pub texts_of : MessagePlace → List (List ℕ)
 texts_of m = m.source.items ∷ m.number.items ∷ m.priority.items ∷ m.category.items ∷ m.words.items ∷ m.info.items ∷ m.trailer.items ∷ []
 

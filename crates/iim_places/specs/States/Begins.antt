@@ -5,10 +5,13 @@ use Rattle.iim_dataset.specs.Format.Datasets.{Dataset}
 use Rattle.iim_places.specs.Format.Tickets.{width}
 
 -- a dataset whose length four octets tell
+-- twins (with AreFields) that nothing finds: no test has a ticket of 4 GB. Heads of up to 65,536 octets: "Long tickets"
 abbrev pub IsLongField : Dataset → Type 0
 IsLongField d = length d.octets < 2 ^ 32
 
 -- a number that the octets of the version tell
+-- twins (with IsShort, AreNumbersIn, AreTexts): "Tickets taken apart", "Cut short anywhere, or with one octet more", "Counts of five to
+--   eight octets. Version 1 has none"
 abbrev pub IsWide : ℕ → ℕ → Type 0
 IsWide version n = n < 256 ^ width version
 

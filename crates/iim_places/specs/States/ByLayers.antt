@@ -36,6 +36,8 @@ TagsLead section AllEnded = ⊤
 -- ---- the record layer
 
 -- one where a subfile is begun, else none
+-- twins (with RecordsLive, begun_of_object, object_after, MessageLeads): law `places_are_possible_by_layers`; "Inside a subfile; whether
+--   octets lead there"; `judges_each_part_of_a_message`
 abbrev pub begun_subfiles : ℕ → Phase → ℕ
 begun_subfiles section (TagBegun held) = 0
 begun_subfiles section (DataBegun set count left taken) = if section == 8 then 1 else 0

@@ -3,6 +3,7 @@ use Rattle.std.specs.Prelude.{ℕ, ◌+◌, min, true, false, List, [], ◌∷�
 use Rattle.iim_dataset.specs.Format.Octets.{greatest_u64}
 
 -- a count, raised by n; it stays at the greatest number of 64 bits
+-- twin: "The count of octets stays at the greatest number of 64 bits", "The octets are counted on from the number that is handed in"
 abbrev pub raised : ℕ → ℕ → ℕ
 raised a n = min (a + n) greatest_u64
 

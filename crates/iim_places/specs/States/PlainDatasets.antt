@@ -15,6 +15,8 @@ abbrev pub number_list : Numbers → List (Option ℕ)
 number_list n = n.mode ∷ n.largest ∷ n.announced ∷ n.maximum ∷ []
 
 -- Size Mode, in one octet
+-- twins (with plain_numbers): law `places_are_possible_by_layers`; "The tickets of places in the smallest envelope, in each version"; "No
+--   subfile is longer than 7:20, and all together"
 abbrev pub mode_dataset : ℕ → Dataset
 mode_dataset n = record { rec = 7; set = 10; octets = n ∷ [] }
 

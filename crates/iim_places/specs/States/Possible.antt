@@ -13,6 +13,7 @@ use Rattle.iim_fields.specs.Format.Values.{tells_number}
 use Rattle.std.specs.List.{AllByRecursion}
 
 -- the widest limits: 4,294,967,295 octets and as many fields
+-- twin that nothing finds: no test has a ticket of 4 GB. Heads of up to 65,536 octets: "Long tickets"
 abbrev pub widest : Limits
 widest = record { octets = greatest_u32; fields = greatest_u32 }
 
@@ -28,6 +29,8 @@ pub record Possible (place : Place) : Type 0 where
 
 -- ---- sizes as they were when version 1 was made: counts of at most four octets, and objects of at most 4,294,967,295
 
+-- twins (with greatest_size_before, IsSmallPhase): law `small_places_were_possible`; "No subfile is longer than 7:20, and all together";
+--   `refuses_places_of_version_1_by_its_sizes`
 abbrev pub count_octets_before : ℕ
 count_octets_before = 4
 
@@ -54,6 +57,8 @@ pub record IsSmallPlace (place : Place) : Type 0 where
 -- ---- limits
 
 -- what a begun dataset of records 1 and 2 counts
+-- twins (with begun_fields, AreHeadsWithin): law `possible_places_are_taken`; "The order of refusals: the name, the version", "Limits: 7
+--   datasets of 27 octets together"
 abbrev pub begun_count : ℕ → Phase → ℕ
 begun_count section (TagBegun held) = 0
 begun_count section (DataBegun set count left taken) = if is_kept section then count else 0

@@ -26,6 +26,8 @@ pub record Scale : Type 0 where
   pub greatest : ℕ
 
 -- the sizes that there were when version 1 was made
+-- twins (with FitsRow): law `small_places_were_possible`; "No subfile is longer than 7:20, and all together";
+--   `refuses_places_of_version_1_by_its_sizes`
 abbrev pub first_scale : Scale
 first_scale = record { octets = count_octets_before; greatest = greatest_size_before }
 

@@ -82,6 +82,9 @@ impl DatasetTaker for Fields {
             set,
             count: octets.len() as u64,
         };
+        if self.whole(head, octets) {
+            return true;
+        }
         match self.begin(head) {
             Ok(()) if rec == OBJECT => self.close().is_ok(),
             Ok(()) => {

@@ -18,10 +18,13 @@ use Rattle.iim_request.specs.declared.request.UsageFault.TheVariants.{Words, Max
 -- ---- the program's commands, as clap is told of them
 
 -- a command that may be given a FILE
+-- twins (with unknown_rule, pack_command, audit_command, wanting, program): `tells_the_whole_help`, `refuses_other_words`,
+--   `tells_what_words_ask_wrongly`
 abbrev pub file_command : Text → App
 file_command name = with_rule (new_app name) (new_rule (codes "FILE"))
 
 -- an option of this name, which takes a number from the least one to the greatest size
+-- twin: `refuses_words_of_pack_and_audit`, `packs_great_sizes_in_eight_octets`, `takes_numbers_with_a_plus_and_zeros`
 abbrev pub number_rule : Text → ℕ → Rule
 number_rule name least = record (new_rule name) { long = Some name; value_names = 1; parser = Some (Unsigned least greatest_size) }
 
@@ -53,6 +56,7 @@ abbrev pub text_given : Option (Bor Text) → Option Text
 text_given given = option_map (λ text. text.now) given
 
 -- The text is a number from the least one to the greatest size, and this is it.
+-- twin: `takes_numbers_with_a_plus_and_zeros`
 abbrev pub IsNumber : ℕ → Text → ℕ → Type 0
 IsNumber least text n = IsUnsignedIn least greatest_size text × (n ≡ digits_value 10 (without_leading_plus text))
 
@@ -63,11 +67,13 @@ GivesNumber least (Some text) (Some n) = IsNumber least text n
 GivesNumber least (Some text) None = IsUnsignedIn least greatest_size text → ⊥
 
 -- The option was given. (What clap notes of one that takes no value.)
+-- twins (with TellsPacking, AsksJob, AsksFor): `packs_as_it_is_asked`, `takes_any_name_for_a_file`, `audits_a_stream`
 abbrev pub IsFlag : Option Text → Bool → Type 0
 IsFlag None flag = flag ≡ false
 IsFlag (Some text) flag = (text ≡ codes "true" → flag ≡ true) × (text ≡ codes "false" → flag ≡ false)
 
 -- the most octets of a subfile where no number is given
+-- twins (with IsSubfile): `packs_a_script`, `packs_as_it_is_asked`
 abbrev pub default_subfile : ℕ
 default_subfile = 1024
 
@@ -113,6 +119,7 @@ AsksFor words request = (name : Text) × (rows : List Row) × NamesCommand words
     × (text_given request.file ≡ first_of (codes "FILE") rows)
 
 -- A maximum is given of a known size.
+-- twins (with IsFaultOf): `refuses_words_of_pack_and_audit`, `tells_what_words_ask_wrongly`
 abbrev pub IsMaxAlone : Text → List Row → Type 0
 IsMaxAlone name rows = (name ≡ codes "pack") × ((subfile : ℕ) × (max : Option ℕ) × TellsPacking rows subfile false max × IsSome max)
 

@@ -5,6 +5,7 @@ use Rattle.iim_dataset.specs.Format.Characters.{backslash}
 use Rattle.iim_dataset.specs.Format.Shown.{escape}
 
 -- the two octets of a control character from U+0080 to U+009F
+-- twins (with is_hidden, shown_after, shown_name): `shows_each_character_of_a_name`, `shows_control_characters_of_words`
 abbrev pub spell_control : ℕ → ℕ → Bool
 spell_control first second = first == 0xc2 && (nat_le 0x80 second && nat_le second 0x9f)
 

@@ -28,6 +28,7 @@ pub record CountsCause (cause : Cause) (old new : ℕ) : Type 0 where
   pub stopped : cause ≡ Sink → Rose old new
   pub others : cause ≢ Sink → new ≡ old
 
+-- no twin: no body has these words; `packed_streams_have_their_answer` ties them to the octets' answer
 abbrev pub CountsFor : UnpackFault → ℕ → ℕ → Type 0
 CountsFor OutOfMemory old new = new ≡ old
 CountsFor (Refused e) old new = CountsCause e.cause old new

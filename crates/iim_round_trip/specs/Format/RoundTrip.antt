@@ -39,6 +39,7 @@ pub record IsGivenBack {S : Type 0} (goes : S → List story.StoryEvent → S �
   pub told : goes a (story.events_of_lines value.lines) b
 
 -- the value that was packed, in these parts
+-- twin: law `packed_octets_are_admitted`, which ties it to that of the octets; `packs_random_values`; "The two last ones unpacked again"
 abbrev pub packed_value : List Dataset → Header → List (List ℕ) → List ℕ → Plan → List (List ℕ) → Value
 packed_value fields head lines trailer plan parts =
     let sizes = packed_sizes plan.subfile plan.size (canonical head lines trailer) parts in
@@ -51,6 +52,7 @@ GivesBack goes limits stream a b got used = (fields : List Dataset) (head : Head
     → IsGivenBack goes (packed_value fields head lines trailer plan p.packed.written.parts) p.octets a b got used
 
 -- The octets are not at fault: memory was refused for the unpacker, or the sink stopped.
+-- no twin: no body has these words; `packed_streams_have_their_answer` ties them to the octets' answer
 abbrev pub IsOutside : UnpackFault → Type 0
 IsOutside OutOfMemory = Unit {0}
 IsOutside (Refused e) = e.cause ≡ Sink

@@ -70,6 +70,8 @@ abbrev pub TellsBadTrailer : List ℕ → Type 0
 TellsBadTrailer line = (octets : List ℕ) × TellsTrailer line octets × (IsTrailer octets → ⊥)
 
 -- What is wrong with the line at this stage: 91 ScriptLine, the cause of its dataset or of what is missing, 83 BadTrailer.
+-- twins (with IsNextWrong): laws `octets_have_one_fault`, `scripts_have_no_fault`; "The first wrong line is told";
+--   `tells_the_first_wrong_line`
 abbrev pub IsWrong : Limits → Stage → List ℕ → ScriptCause → Type 0
 IsWrong limits stage line ScriptLine = HasNoForm stage line
 IsWrong limits (InFields ds) line (Field cause) = TellsBadField limits ds line cause
@@ -93,6 +95,7 @@ pub record IsFrontFault (limits : Limits) (octets : List ℕ) (number : ℕ) (ca
   pub wrong : IsNextWrong limits stage rest cause
 
 -- After these lines of a story stands this line: with its end, or at the end of the story.
+-- twins (with IsBadStory): "Stories: an end at the end begins no further line", "Octets that may not stand in a line"
 pub record HasLine (story : List ℕ) (before : List (List ℕ)) (line : List ℕ) : Type 0 where
   pub front : List ℕ
   pub rest : List ℕ

@@ -9,6 +9,7 @@ use Rattle.iim_script.specs.Format.Lines.{HasNo}
 use Rattle.iim_script.specs.Format.Shown.{TellsLast}
 
 -- the number of decimal digits, after those that have told this number
+-- twins (with TellsNumber): "The greatest number of a dataset"; "A line in the place of line 4": 0001, 0030 and 256
 abbrev pub decimal_from : ℕ → List ℕ → ℕ
 decimal_from n [] = n
 decimal_from n (digit ∷ digits) = decimal_from (n * 10 + (digit - digit_zero)) digits
@@ -22,6 +23,7 @@ pub record TellsNumber (digits : List ℕ) (n : ℕ) : Type 0 where
   pub fits : n ≤ 255
 
 -- The line is the numbers `R:D`, and what ends it, which begins with no digit.
+-- twins (with TellsField): "A line in the place of line 4"; `gives_back_octets_of_every_kind`
 pub record TellsNames (line : List ℕ) (rec set : ℕ) (end : List ℕ) : Type 0 where
   pub rec_digits : List ℕ
   pub set_digits : List ℕ
@@ -37,6 +39,7 @@ pub record TellsField (line : List ℕ) (d : Dataset) : Type 0 where
   pub is_end : TellsLast end d.octets
 
 -- `message` and SP
+-- twins (with trailer_word, text_word): "The lines of the script of the smallest envelope", "Lines after the fields"
 abbrev pub message_word : List ℕ
 message_word = codes "message "
 
@@ -60,6 +63,7 @@ pub record HeadWords : Type 0 where
 abbrev pub after_category : HeadWords → List ℕ → List ℕ
 after_category w end = w.words ++ end
 
+-- twins (with after_number, after_source, AreWords, TellsHead): "Lines after the fields"; "The script of an envelope with by-lines"
 abbrev pub after_priority : HeadWords → List ℕ → List ℕ
 after_priority w end = w.category ++ (sp ∷ after_category w end)
 
@@ -91,6 +95,7 @@ pub record TellsHead (line : List ℕ) (head : Header) : Type 0 where
   pub line_is : line ≡ message_word ++ (head.source ++ (sp ∷ after_source (words_of head) end))
 
 -- A line `trailer`, and SP and the octets as text where there are some.
+-- twin: "A line in the place of line 4", "Lines after the fields"
 pub record TellsTrailer (line octets : List ℕ) : Type 0 where
   pub end : List ℕ
   pub is_end : TellsLast end octets

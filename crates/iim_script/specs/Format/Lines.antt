@@ -8,6 +8,7 @@ HasNo b [] = Unit {0}
 HasNo b (x ∷ xs) = ((x == b) ≡ false) × HasNo b xs
 
 -- The last octet is CR.
+-- twins (with EndsLine): "One CR before the end of a line is dropped", "Escapes are decoded in fields, info and trailer"
 abbrev pub EndsInReturn : List ℕ → Type 0
 EndsInReturn line = (front : List ℕ) × (line ≡ front ++ cr ∷ [])
 

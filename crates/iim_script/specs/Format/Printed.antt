@@ -7,6 +7,8 @@ use Rattle.iim_dataset.specs.Format.Shown.{shown, dataset_name}
 use Rattle.wire_message.specs.Format.Messages.{Header}
 
 -- a space and the octets, shown; nothing where there are none
+-- twins (with field_line, message_line, trailer_line, PrintsStory, script_of): law `printed_values_are_scripts`; `shows_worked_envelopes`,
+--   `shows_what_is_rare`, `gives_back_octets_of_every_kind`
 abbrev pub after_space : List ℕ → List ℕ
 after_space [] = []
 after_space (x ∷ xs) = sp ∷ shown (x ∷ xs)

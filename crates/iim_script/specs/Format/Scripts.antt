@@ -7,10 +7,13 @@ use Rattle.iim_fields.specs.States.Builders.{add_fault, finish_fault}
 use Rattle.iim_fields.specs.declared.limits.Limits.{Limits}
 use Rattle.wire_message.specs.Format.Messages.{Header, IsTrailer}
 use Rattle.wire_story.specs.Format.Texts.{IsLine}
+use Rattle.wire_story.specs.Format.Delivery.{delivered}
+use Rattle.wire_story.specs.Format.Packing.{lines_of}
 use Rattle.iim_script.specs.Format.Lines.{HasNo, EndLines}
 use Rattle.iim_script.specs.Format.Forms.{TellsField, TellsHead, TellsTrailer, text_word}
 
 -- the most octets of a script
+-- twin: "The longest script has 16,777,216 octets"; `reads_one_octet_of_a_script_too_many_at_most`
 abbrev pub max_script : ℕ
 max_script = 16777216
 
@@ -39,6 +42,7 @@ AreTrailer (line ∷ next ∷ lines) octets = ⊥
 
 -- What stands before the story: lines of datasets, which make an envelope; the line of the header; that of the trailer, if any; and
 -- the line `text`.
+-- twin: "Lines after the fields", "The script of an envelope with by-lines": text at line 18
 pub record IsFront (limits : Limits) (octets : List ℕ) (fields : List Dataset) (head : Header) (trailer : List ℕ) (text_line : ℕ) : Type 0 where
   pub field_lines : List (List ℕ)
   pub message : List ℕ
@@ -52,10 +56,15 @@ pub record IsFront (limits : Limits) (octets : List ℕ) (fields : List Dataset)
 
 -- The lines of a story, one at least: each but the last with its end; the last with its end, or without one, and then it is not
 -- empty where others stand before it.
+-- twin: "Stories: an end at the end begins no further line", "Octets that may not stand in a line"
 abbrev pub IsStory : List ℕ → List (List ℕ) → Type 0
 IsStory octets lines = (0 < length lines) × (EndLines lines octets
     ⊎ ((before : List (List ℕ)) × (last : List ℕ) × (ended : List ℕ) × (lines ≡ before ++ last ∷ []) × EndLines before ended
     × (octets ≡ ended ++ last) × HasNo lf last × (last ≡ [] → before ≡ [])))
+
+-- the lines of a text, as its octets deliver them
+abbrev pub text_lines : List ℕ → List (List ℕ)
+text_lines text = lines_of (delivered text)
 
 -- A script tells datasets of records 1 and 2, a header, a trailer, and the lines of a story; the line `text` has this number.
 pub record IsScript (limits : Limits) (octets : List ℕ) (fields : List Dataset) (head : Header) (trailer : List ℕ) (lines : List (List ℕ)) (text_line : ℕ) : Type 0 where

@@ -3,6 +3,8 @@ use Rattle.std.specs.Prelude.{◌≡◌, ◌≢◌, ℕ, ◌+◌, ◌*◌, ◌<�
 use Rattle.iim_dataset.specs.Format.Characters.{sp, digit_zero, capital_a, small_a, backslash, small_x}
 
 -- The digit is one of so many from `first` on, of which the first has the value `least`, and the digit this value.
+-- twins (with IsHexDigit, IsOfDigits): "Each digit of an escape, in either case", "What stands beside the digits, as the first and as the
+--   second one, is none"
 abbrev pub IsDigitFrom : ℕ → ℕ → ℕ → ℕ → ℕ → Type 0
 IsDigitFrom first least many digit value = (first ≤ digit) × (digit < first + many) × (digit + least ≡ first + value)
 
@@ -15,6 +17,7 @@ abbrev pub IsOfDigits : ℕ → ℕ → ℕ → Type 0
 IsOfDigits high low octet = (h : ℕ) × (l : ℕ) × IsHexDigit high h × IsHexDigit low l × (octet ≡ h * 16 + l)
 
 -- `\x` and two hexadecimal digits
+-- twins (with TellsOctet): "Escapes are decoded in fields, info and trailer", "A line in the place of line 4"; `shows_each_octet`
 abbrev pub IsEscape : List ℕ → ℕ → Type 0
 IsEscape piece octet = (high : ℕ) × (low : ℕ) × (piece ≡ backslash ∷ small_x ∷ high ∷ low ∷ []) × IsOfDigits high low octet
 
@@ -32,6 +35,7 @@ TellsOctets text [] = text ≡ []
 TellsOctets text (octet ∷ octets) = (rest : List ℕ) × BeginsWith text octet rest × TellsOctets rest octets
 
 -- What ends a line: nothing, for no octets; else SP, and a text of at least one octet.
+-- twin: "A line in the place of line 4", "Lines after the fields"
 abbrev pub TellsLast : List ℕ → List ℕ → Type 0
 TellsLast end [] = end ≡ []
 TellsLast end (octet ∷ octets) = (text : List ℕ) × (end ≡ sp ∷ text) × TellsOctets text (octet ∷ octets)

@@ -58,6 +58,7 @@ OctetsHaveOneFault = (limits : Limits) (octets : List ℕ) (n m : ℕ) (a b : Sc
 
 -- What is printed of the datasets of an envelope, within the limits, of a header, a trailer and the lines of a story, is a script that
 -- tells them, where it is not too long.
+-- no twin: no code has these words
 abbrev pub PrintedValuesAreScripts : Type 0
 PrintedValuesAreScripts = (limits : Limits) (fields : List Dataset) (head : Header) (trailer : List ℕ) (lines : List (List ℕ)) (story : List ℕ)
     → IsEnvelope fields → IsWithin limits (length (joined fields)) (length fields) → IsHeader head → IsTrailer trailer

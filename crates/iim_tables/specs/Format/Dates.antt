@@ -6,6 +6,8 @@ use Rattle.iim_dataset.specs.Format.Characters.{digit_zero}
 use Rattle.iim_dataset.specs.Format.Octets.{within, is_digit}
 
 -- the number that the two digits at a place write
+-- twins (with year_in, month_in, day_in, are_eight_digits, is_date): "Dates are days of the Gregorian calendar", "What is no date and no
+--   part date"
 abbrev pub pair_at : List ℕ → ℕ → ℕ
 pair_at xs i = 10 * (slice_index xs i - digit_zero) + (slice_index xs (i + 1) - digit_zero)
 
@@ -22,6 +24,7 @@ abbrev pub day_in : List ℕ → ℕ
 day_in xs = pair_at xs 6
 
 -- 0001 to 9999
+-- twins (with is_month, is_day): "Dates are days of the Gregorian calendar", "What is no date and no part date"; `reads_dates_and_instants`
 abbrev pub is_year : ℕ → Bool
 is_year y = within 1 9999 y
 
@@ -34,6 +37,8 @@ abbrev pub is_day : ℕ → ℕ → ℕ → Bool
 is_day y m d = is_year y && is_month m && within 1 (days_in_month (pos y) m) d
 
 -- 00 as month, and then 00 to 31 as day; or 00 as day
+-- twins (with is_part_day, is_part_date): "A part date may have 00 as month": 0100, 1200, 0031; "What is no date and no part date": 0032,
+--   1300
 abbrev pub lacks_part : ℕ → ℕ → Bool
 lacks_part m d = ((m == 0) && nat_le d 31) || (is_month m && (d == 0))
 
@@ -54,6 +59,7 @@ abbrev pub is_part_date : List ℕ → Bool
 is_part_date xs = are_eight_digits xs && is_part_day (year_in xs) (month_in xs) (day_in xs)
 
 -- a number below 100 in two digits
+-- no twin (with date_text): only the laws `dates_are_written_in_one_way` and `times_are_written_in_one_way` have these words
 abbrev pub two_digits : ℕ → List ℕ
 two_digits n = (digit_zero + n / 10) ∷ (digit_zero + n % 10) ∷ []
 

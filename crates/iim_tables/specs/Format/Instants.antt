@@ -8,6 +8,7 @@ use Rattle.iim_dataset.specs.Format.Octets.{is_digit}
 use Rattle.iim_tables.specs.Format.Dates.{pair_at, year_in, month_in, day_in, is_date, two_digits}
 
 -- + where the clock is ahead of universal time, - where it is behind
+-- twins (with has_time_form): "Times have hours up to 23"
 abbrev pub is_sign : ℕ → Bool
 is_sign b = b == plus || b == minus
 
@@ -17,6 +18,7 @@ has_time_form xs =
     (length xs == 11) && list_all is_digit (take 6 xs) && is_sign (slice_index xs 6) && list_all is_digit (drop 7 xs)
 
 -- hours 00 to 23, minutes and seconds 00 to 59
+-- twins (with is_time): "Times have hours up to 23": 23, 24, 59 and 60 of each; `checks_release_and_expiration`
 abbrev pub is_clock : ℕ → ℕ → ℕ → Bool
 is_clock hour minute second = nat_lt hour 24 && nat_lt minute 60 && nat_lt second 60
 
@@ -34,16 +36,20 @@ time_text hour minute second is_behind hours minutes =
     two_digits hour ++ two_digits minute ++ two_digits second ++ sign_of is_behind ∷ (two_digits hours ++ two_digits minutes)
 
 -- the octets have the form of a time, with these parts
+-- no twin: only the laws `dates_are_written_in_one_way` and `times_are_written_in_one_way` have these words
 abbrev pub ReadsTime : List ℕ → ℕ → ℕ → ℕ → Bool → ℕ → ℕ → Type 0
 ReadsTime xs hour minute second is_behind hours minutes =
     IsTrue (has_time_form xs) × (pair_at xs 0 ≡ hour) × (pair_at xs 2 ≡ minute) × (pair_at xs 4 ≡ second)
     × ((slice_index xs 6 == minus) ≡ is_behind) × (pair_at xs 7 ≡ hours) × (pair_at xs 9 ≡ minutes)
 
 -- how many nanoseconds a second has
+-- twin: law `whole_seconds_are_floors`; "The age is the greatest whole number of seconds"; `takes_the_instants_that_jiff_reads`
 abbrev pub nanoseconds_in_second : ℕ
 nanoseconds_in_second = 1_000_000_000
 
 -- seconds since midnight
+-- twins (with offset_seconds, offset_in, day_number, instant_seconds): "An instant is a local time less its offset";
+--   `reads_dates_and_instants`
 abbrev pub clock_seconds : ℕ → ℕ → ℕ → ℕ
 clock_seconds hour minute second = hour * 3600 + minute * 60 + second
 
@@ -74,6 +80,8 @@ abbrev pub HasInstant : List ℕ → List ℕ → Type 0
 HasInstant date time = IsTrue (is_date date) × IsTrue (is_time time) × IsTimestampNanos (instant_nanos date time)
 
 -- the library's range of instants, as a test
+-- twins (with instant_in): "An instant is a local time less its offset": the first that a date and time tell; "No instant: past the last
+--   that there is"
 abbrev pub is_instant : ℤ → Bool
 is_instant n = int_le (neg_ℤ (pos 377_705_023_201_000_000_000)) n && int_le n (pos 253_402_207_200_999_999_999)
 

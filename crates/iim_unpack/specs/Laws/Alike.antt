@@ -62,6 +62,7 @@ PiecesAreAnsweredAlike = (u v : Unpacking) (pieces : List (List ℕ)) (ones othe
     → ones ≡ others
 
 -- An unpacker that is restored from another's ticket, under its limits and with its count of octets, stands as the other.
+-- no twin: no code has these words
 abbrev pub RestoredStandAlike : Type 0
 RestoredStandAlike = (u v : Unpacking) (p ticket : List ℕ) (a : ℕ) → (limits_in u).octets < 2 ^ 32 → (limits_in u).fields < 2 ^ 32 → Stands u p a ⊎ IsDoneWith u p a → IsTicketOf p ticket
     → IsRestored (limits_in u) ticket a v → StandAlike u v

@@ -47,6 +47,7 @@ abbrev pub held_entries : Unpacking → ℕ
 held_entries u = length u.parts.fields.kept + begun_entries (begun_head_of u.parts.fields)
 
 -- It holds 256 octets at most beside those that its limits allow, and no more entries than they allow.
+-- no twin: a bound that is proved of it; no code has the number
 pub record HoldsFew (u : Unpacking) : Type 0 where
   pub octets : held_octets u ≤ (limits_in u).octets + 256
   pub entries : held_entries u ≤ (limits_in u).fields

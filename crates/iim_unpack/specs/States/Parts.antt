@@ -23,6 +23,7 @@ use Rattle.iim_places.specs.Format.Open.{object_so_far}
 -- ---- where the parts stand
 
 -- after these datasets
+-- twins (with Within): "Before the first octet, and an envelope in one piece", "Empty subfiles among others"; `reads_random_envelopes`
 pub record AreAfter (parts : Parts) (ds : List Dataset) : Type 0 where
   pub fields : records.StandsAfter parts.fields ds
   pub object : objects.StandsAt parts.object (place_after_datasets ds)
@@ -53,12 +54,14 @@ pub record AreLed (parts : Parts) (events : List DatasetEvent) (text : List ℕ)
   pub is_text : text ≡ text_so_far (object_so_far whole begun)
 
 -- The last dataset has ended: record 9 is the present one, and no dataset is begun.
+-- twin: "After the end of an envelope no octet is used"
 unfoldable pub has_ended : Parts → Bool
 has_ended parts = (records.section_of parts.fields == 9) && is_none (records.begun_head_of parts.fields)
 
 -- ---- what events do
 
 -- the sink's count of failures rose where the sink refused, and nowhere else
+-- twin: `sinks_that_stop`
 abbrev pub CountsFor : Cause → ℕ → ℕ → Type 0
 CountsFor Sink old new = Rose old new
 CountsFor _ old new = new ≡ old

@@ -85,6 +85,7 @@ pub record IsRefusedIn (limits : Limits) (p : List ℕ) (a : ℕ) (piece : List 
   pub refuses : RefusesNext limits (p ++ take k piece) (slice_index piece k) fault
 
 -- the answer after a refusal
+-- twin: "after a refusal it is told again"; `a_failing_reader`
 abbrev pub failed_at : ℕ → Refusal
 failed_at octet = record { layer = layers.Outside; rec = 0; set = 0; octet = octet; cause = Failed }
 

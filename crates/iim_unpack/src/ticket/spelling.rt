@@ -1,6 +1,6 @@
 //! The ticket of an unpacker: the place that it stands on, as octets.
 
-ghost use Rattle.std.specs.Prelude.{◌≡◌, ◌^◌, ◌-◌, ◌<◌, ◌++◌, length, sum, Some, IsSome, IfOk, OnOk};
+ghost use Rattle.std.specs.Prelude.{◌≡◌, ◌^◌, ◌-◌, ◌<◌, ◌≤◌, ◌++◌, [], ◌∷◌, length, sum, take, Some, IsSome, IfSome, IfOk, OnOk};
 ghost use Rattle.std.specs.List.{flat_map};
 ghost use Rattle.iim_dataset.specs.States.Reading.{TakesCalls};
 ghost use Rattle.iim_fields.specs.States.Standing.{IsFailed};
@@ -10,13 +10,14 @@ ghost use Rattle.iim_places.specs.Format.Tickets.{four, wide, present_version, f
 ghost use Rattle.iim_unpack.specs.TicketReading.{phase_in, left_in, IsSpelled};
 
 use crate::parts::Parts;
+use crate::ticket::out::{Front, Full, TicketOut};
 use iim_dataset::{DatasetPlace, Head, HeadReader};
 use iim_fields::Fields;
 use iim_object::ObjectReader;
 use iim_places::form::{ENDED, IN_DATA, IN_TAG, PRESENT_VERSION};
 use iim_places::part_number;
 use iim_tables::records::OBJECT;
-use std::alloc::{AllocError, Global};
+use std::alloc::Global;
 use thiserror::Error;
 use wire_message::MessagePlace;
 
@@ -35,60 +36,65 @@ pub enum SaveFault {
 const NAME: [u8; 5] = [b'I', b'I', b'M', b'T', PRESENT_VERSION];
 
 /// Adds a number in four octets, high octet first: none of these needs more.
-fn push_number(ticket: &mut Vec<u8>, number: u64) -> Result<(), AllocError>
-    ensures { OnOk result (ticket.new.items ≡ ticket.old.items ++ four number) }
+fn push_number<T: TicketOut>(ticket: &mut T, number: u64) -> Result<(), Full>
+    ensures octets { OnOk result (T.octets ticket.new ≡ T.octets ticket.old ++ four number) }
+    ensures place { T.place ticket.new ≡ T.place ticket.old }
 {
     let octets = number.to_be_bytes();
-    ticket.extend_from_slice(&octets[4..])
+    ticket.put(&octets[4..])
 }
 
 /// Adds a number in eight octets, high octet first.
-fn push_wide(ticket: &mut Vec<u8>, number: u64) -> Result<(), AllocError>
-    ensures { OnOk result (ticket.new.items ≡ ticket.old.items ++ wide present_version number) }
+fn push_wide<T: TicketOut>(ticket: &mut T, number: u64) -> Result<(), Full>
+    ensures octets { OnOk result (T.octets ticket.new ≡ T.octets ticket.old ++ wide present_version number) }
+    ensures place { T.place ticket.new ≡ T.place ticket.old }
 {
-    ticket.extend_from_slice(&number.to_be_bytes())
+    ticket.put(&number.to_be_bytes())
 }
 
 /// Adds a text after its length in one octet.
-fn push_text(ticket: &mut Vec<u8>, text: &[u8]) -> Result<(), AllocError>
+fn push_text<T: TicketOut>(ticket: &mut T, text: &[u8]) -> Result<(), Full>
     requires { length text.now < 256 }
-    ensures { OnOk result (ticket.new.items ≡ ticket.old.items ++ text_octets text.now) }
+    ensures octets { OnOk result (T.octets ticket.new ≡ T.octets ticket.old ++ text_octets text.now) }
+    ensures place { T.place ticket.new ≡ T.place ticket.old }
 {
-    ticket.push(text.len() as u8)?;
-    ticket.extend_from_slice(text)
+    ticket.put(&[text.len() as u8])?;
+    ticket.put(text)
 }
 
 /// Adds the octets of a begun tag.
-fn push_tag(ticket: &mut Vec<u8>, held: &[u8]) -> Result<(), AllocError>
+fn push_tag<T: TicketOut>(ticket: &mut T, held: &[u8]) -> Result<(), Full>
     requires { length held.now < 256 }
-    ensures { OnOk result (ticket.new.items ≡ ticket.old.items ++ phase_octets present_version (TagBegun held.now)) }
+    ensures octets { OnOk result (T.octets ticket.new ≡ T.octets ticket.old
+        ++ phase_octets present_version (TagBegun held.now)) }
+    ensures place { T.place ticket.new ≡ T.place ticket.old }
 {
-    ticket.push(IN_TAG)?;
+    ticket.put(&[IN_TAG])?;
     push_text(ticket, held)
 }
 
 /// Adds begun data: how many octets are to come, and those that came.
-fn push_data(ticket: &mut Vec<u8>, head: Head, left: u64, taken: &[u8]) -> Result<(), AllocError>
-    ensures { OnOk result (ticket.new.items ≡ ticket.old.items
+fn push_data<T: TicketOut>(ticket: &mut T, head: Head, left: u64, taken: &[u8]) -> Result<(), Full>
+    ensures octets { OnOk result (T.octets ticket.new ≡ T.octets ticket.old
         ++ phase_octets present_version (DataBegun head.set head.count left taken.now)) }
+    ensures place { T.place ticket.new ≡ T.place ticket.old }
 {
-    ticket.push(IN_DATA)?;
-    ticket.push(head.set)?;
+    ticket.put(&[IN_DATA, head.set])?;
     push_wide(ticket, head.count)?;
     push_wide(ticket, left)?;
-    ticket.extend_from_slice(taken)
+    ticket.put(taken)
 }
 
 /// Adds what is begun.
-fn push_phase(ticket: &mut Vec<u8>, reader: &HeadReader, parts: &Parts) -> Result<(), AllocError>
+fn push_phase<T: TicketOut>(ticket: &mut T, reader: &HeadReader, parts: &Parts) -> Result<(), Full>
     requires reader { TakesCalls reader.now }
     requires fields { IsFailed parts.now.fields → ⊥ }
-    ensures { OnOk result (ticket.new.items ≡ ticket.old.items
+    ensures octets { OnOk result (T.octets ticket.new ≡ T.octets ticket.old
         ++ phase_octets present_version (phase_in reader.now.place parts.now)) }
+    ensures place { T.place ticket.new ≡ T.place ticket.old }
 {
     if parts.has_ended() {
-        ticket.push(ENDED)?;
-        return Ok(());
+        return ticket.put(&[ENDED]);
     }
     match reader.place() {
         Some(DatasetPlace::Tag(held)) => push_tag(ticket, held.as_slice()),
@@ -100,14 +106,14 @@ fn push_phase(ticket: &mut Vec<u8>, reader: &HeadReader, parts: &Parts) -> Resul
 }
 
 /// Adds a dataset.
-fn push_field(ticket: &mut Vec<u8>, rec: u8, set: u8, octets: &[u8]) -> Result<(), AllocError>
-    ensures { OnOk result (ticket.new.items ≡ ticket.old.items
+fn push_field<T: TicketOut>(ticket: &mut T, rec: u8, set: u8, octets: &[u8]) -> Result<(), Full>
+    ensures octets { OnOk result (T.octets ticket.new ≡ T.octets ticket.old
         ++ field_octets (record { rec = rec; set = set; octets = octets.now })) }
+    ensures place { T.place ticket.new ≡ T.place ticket.old }
 {
-    ticket.push(rec)?;
-    ticket.push(set)?;
+    ticket.put(&[rec, set])?;
     push_number(ticket, octets.len() as u64)?;
-    ticket.extend_from_slice(octets)
+    ticket.put(octets)
 }
 
 /// How many datasets are kept.
@@ -119,9 +125,10 @@ fn kept_count(fields: &Fields) -> usize
 }
 
 /// Adds how many datasets are kept, and then each of them.
-fn push_fields(ticket: &mut Vec<u8>, fields: &Fields) -> Result<(), AllocError>
+fn push_fields<T: TicketOut>(ticket: &mut T, fields: &Fields) -> Result<(), Full>
     requires { length fields.now.kept < 2 ^ 32 }
-    ensures { OnOk result (ticket.new.items ≡ ticket.old.items ++ fields_octets fields.now.kept) }
+    ensures octets { OnOk result (T.octets ticket.new ≡ T.octets ticket.old ++ fields_octets fields.now.kept) }
+    ensures place { T.place ticket.new ≡ T.place ticket.old }
 {
     push_number(ticket, kept_count(fields) as u64)?;
     let mut kept = fields.kept();
@@ -132,25 +139,24 @@ fn push_fields(ticket: &mut Vec<u8>, fields: &Fields) -> Result<(), AllocError>
 }
 
 /// Adds a number that may be absent.
-fn push_option(ticket: &mut Vec<u8>, number: Option<u64>) -> Result<(), AllocError>
-    ensures { OnOk result (ticket.new.items ≡ ticket.old.items ++ number_octets present_version number) }
+fn push_option<T: TicketOut>(ticket: &mut T, number: Option<u64>) -> Result<(), Full>
+    ensures octets { OnOk result (T.octets ticket.new ≡ T.octets ticket.old ++ number_octets present_version number) }
+    ensures place { T.place ticket.new ≡ T.place ticket.old }
 {
     match number {
         Some(number) => {
-            ticket.push(1)?;
+            ticket.put(&[1])?;
             push_wide(ticket, number)
         }
-        None => {
-            ticket.push(0)?;
-            Ok(())
-        }
+        None => ticket.put(&[0]),
     }
 }
 
 /// Adds numbers, each of which may be absent.
-fn push_options(ticket: &mut Vec<u8>, numbers: &[Option<u64>]) -> Result<(), AllocError>
-    ensures { OnOk result (ticket.new.items ≡ ticket.old.items
+fn push_options<T: TicketOut>(ticket: &mut T, numbers: &[Option<u64>]) -> Result<(), Full>
+    ensures octets { OnOk result (T.octets ticket.new ≡ T.octets ticket.old
         ++ flat_map (number_octets present_version) numbers.now) }
+    ensures place { T.place ticket.new ≡ T.place ticket.old }
 {
     for number in numbers {
         push_option(ticket, *number)?;
@@ -174,8 +180,9 @@ fn object_octets(reader: &HeadReader, object: &ObjectReader) -> u64
 }
 
 /// Adds the texts of a message so far.
-fn push_texts(ticket: &mut Vec<u8>, place: &MessagePlace) -> Result<(), AllocError>
-    ensures { OnOk result (ticket.new.items ≡ ticket.old.items ++ texts_octets place.now) }
+fn push_texts<T: TicketOut>(ticket: &mut T, place: &MessagePlace) -> Result<(), Full>
+    ensures octets { OnOk result (T.octets ticket.new ≡ T.octets ticket.old ++ texts_octets place.now) }
+    ensures place { T.place ticket.new ≡ T.place ticket.old }
 {
     push_text(ticket, place.source.as_slice())?;
     push_text(ticket, place.number.as_slice())?;
@@ -187,13 +194,37 @@ fn push_texts(ticket: &mut Vec<u8>, place: &MessagePlace) -> Result<(), AllocErr
 }
 
 /// Adds the place of a message.
-fn push_message(ticket: &mut Vec<u8>, place: &MessagePlace) -> Result<(), AllocError>
-    ensures { OnOk result (ticket.new.items ≡ ticket.old.items ++ message_octets place.now) }
+fn push_message<T: TicketOut>(ticket: &mut T, place: &MessagePlace) -> Result<(), Full>
+    ensures octets { OnOk result (T.octets ticket.new ≡ T.octets ticket.old ++ message_octets place.now) }
+    ensures place { T.place ticket.new ≡ T.place ticket.old }
 {
-    ticket.push(part_number(place.part))?;
-    ticket.push(place.counter)?;
-    ticket.push(place.flag)?;
+    ticket.put(&[part_number(place.part), place.counter, place.flag])?;
     push_texts(ticket, place)
+}
+
+/// Writes the ticket of what these readers tell.
+fn write_ticket<T: TicketOut>(
+    ticket: &mut T,
+    reader: &HeadReader,
+    parts: &Parts,
+) -> Result<(), Full>
+    requires empty { T.octets ticket.old ≡ [] }
+    requires reader { TakesCalls reader.now }
+    requires fields { IsFailed parts.now.fields → ⊥ }
+    requires few { length parts.now.fields.kept < 2 ^ 32 }
+    requires object { IsSome parts.now.object }
+    requires message { IsSome parts.now.message }
+    ensures spelled { OnOk result (IsSpelled reader.now.place parts.now (T.octets ticket.new)) }
+    ensures place { T.place ticket.new ≡ T.place ticket.old }
+{
+    ticket.put(&NAME)?;
+    ticket.put(&[parts.fields.section()])?;
+    push_phase(ticket, reader, parts)?;
+    push_fields(ticket, &parts.fields)?;
+    push_options(ticket, &parts.object.numbers())?;
+    push_wide(ticket, object_octets(reader, &parts.object))?;
+    push_number(ticket, parts.object.subfiles())?;
+    push_message(ticket, &parts.message.place())
 }
 
 /// The ticket of what these readers tell. An error says that memory was refused.
@@ -201,7 +232,7 @@ pub(crate) fn spell_ticket(
     alloc: Global,
     reader: &HeadReader,
     parts: &Parts,
-) -> Result<Vec<u8>, AllocError>
+) -> Result<Vec<u8>, Full>
     requires reader { TakesCalls reader.now }
     requires fields { IsFailed parts.now.fields → ⊥ }
     requires few { length parts.now.fields.kept < 2 ^ 32 }
@@ -210,13 +241,32 @@ pub(crate) fn spell_ticket(
     ensures { IfOk result (λ ticket. IsSpelled reader.now.place parts.now ticket.items) }
 {
     let mut ticket = Vec::new(alloc);
-    ticket.extend_from_slice(&NAME)?;
-    ticket.push(parts.fields.section())?;
-    push_phase(&mut ticket, reader, parts)?;
-    push_fields(&mut ticket, &parts.fields)?;
-    push_options(&mut ticket, &parts.object.numbers())?;
-    push_wide(&mut ticket, object_octets(reader, &parts.object))?;
-    push_number(&mut ticket, parts.object.subfiles())?;
-    push_message(&mut ticket, &parts.message.place())?;
+    write_ticket(&mut ticket, reader, parts)?;
     Ok(ticket)
+}
+
+/// The end of a loan: what it is used on stays as it is.
+fn give_back(lent: &mut [u8])
+    ensures { lent.new ≡ lent.old }
+{}
+
+/// Writes the same at the front of a buffer, where that has room, and answers how many octets it has. Else what the buffer has is not
+/// said.
+pub(crate) fn spell_at(out: &mut [u8], reader: &HeadReader, parts: &Parts) -> Option<usize>
+    requires reader { TakesCalls reader.now }
+    requires fields { IsFailed parts.now.fields → ⊥ }
+    requires few { length parts.now.fields.kept < 2 ^ 32 }
+    requires object { IsSome parts.now.object }
+    requires message { IsSome parts.now.message }
+    ensures { IfSome result (λ used. (used ≤ length out.new)
+        × IsSpelled reader.now.place parts.now (take used out.new)) }
+{
+    let mut front = Front { out, used: 0 };
+    let answer = write_ticket(&mut front, reader, parts);
+    let Front { out: same, used } = front;
+    give_back(same);
+    match answer {
+        Ok(()) if used <= out.len() => Some(used),
+        _ => None,
+    }
 }

@@ -10,10 +10,12 @@ use Rattle.iim_request.specs.Format.Shown.{shown_name}
 use Rattle.iim_output.specs.Format.Statuses.{status_usage, status_failed}
 
 -- the line that tells that memory was refused
+-- twin: `tells_refused_memory_at_each_request_of_a_command`
 abbrev pub no_memory_line : List ℕ
 no_memory_line = codes "out of memory\n"
 
 -- The text tells the fault of the words. What clap says of words is its own.
+-- twin: `refuses_words_of_pack_and_audit`
 abbrev pub IsUsageText : UsageFault → List ℕ → Type 0
 IsUsageText (usage.Words error) text = ⊤
 IsUsageText usage.MaxNeedsUnknown text = text ≡ codes "--max needs --unknown\n"
@@ -29,6 +31,7 @@ IsPrintedAs (usage.Words error) _ = ⊥
 IsPrintedAs fault other = other ≡ fault
 
 -- The text tells why the run can't begin.
+-- twin: `tells_words_that_are_no_text`, `tells_a_file_that_is_not_there`, `shows_each_character_of_a_name`
 abbrev pub TellsRunFault : RunFault → List ℕ → Type 0
 TellsRunFault (Usage fault) text = IsUsageText fault text
 TellsRunFault NoText text = text ≡ codes "arguments are no text\n"
@@ -36,6 +39,8 @@ TellsRunFault (CannotOpen name) text = text ≡ codes "cannot open " ++ (shown_n
 TellsRunFault OutOfMemory text = text ≡ no_memory_line
 
 -- the status for it: 2 where the words ask for nothing, else 3
+-- twins (with status_of_start): `refuses_other_words`, `tells_words_that_are_no_text`, `tells_a_file_that_is_not_there`,
+--   `tells_refused_memory_at_each_request_of_a_command`
 abbrev pub status_of_usage : UsageFault → ℕ
 status_of_usage (usage.Words error) = status_usage
 status_of_usage usage.MaxNeedsUnknown = status_usage
@@ -49,6 +54,7 @@ status_of_start (CannotOpen name) = status_failed
 status_of_start OutOfMemory = status_failed
 
 -- It was told why the run can't begin, or that there is no memory for that.
+-- twin: `fails_where_faults_can_t_be_told`, `tells_a_full_device`
 abbrev pub IsHindered : RunFault → Device → Device → ℕ → Type 0
 IsHindered fault old new status = ((text : List ℕ) × TellsRunFault fault text × IsSaid old new text (status_of_start fault) status)
     ⊎ IsSaid old new no_memory_line status_failed status

@@ -1,5 +1,6 @@
 //! Readers and writers of std that are interrupted, and then break.
 
+use crate::told::count_of;
 use iim_dataset::{FromRead, FromWrite, Source, Target, put, take};
 use std::alloc::Global;
 use std::io::{Error, ErrorKind, Read, Result, Write};
@@ -92,11 +93,6 @@ fn interruptions_between_octets(rt: &impl Print) -> Result<()> {
     println!(rt; "interruptions_between_octets: {three:?} {fourth:?}")
 }
 
-/// How many of the octets are an x.
-fn count_of_x(octets: &[u8]) -> usize {
-    octets.iter().filter(|octet| **octet == b'x').count()
-}
-
 /// A long piece goes in one call where the writer takes it.
 fn a_long_piece_goes_at_once(rt: &impl Print, alloc: Global) -> Result<()> {
     let piece = [b'x'; 32_768];
@@ -105,7 +101,7 @@ fn a_long_piece_goes_at_once(rt: &impl Print, alloc: Global) -> Result<()> {
     let second = put(&mut writer, &piece);
     let written = writer.into_inner();
     let count = written.len();
-    let right = count_of_x(written.as_slice());
+    let right = count_of(b'x', &written);
     println!(rt;
         "a_long_piece_goes_at_once: {first:?} {second:?}: {count} octets, {right} of them x"
     )
@@ -117,7 +113,7 @@ fn a_long_piece_comes_at_once(rt: &impl Print) -> Result<()> {
     let mut reader = FromRead::new(octets.as_slice());
     let mut buffer = [0u8; 32_768];
     let first = reader.read(&mut buffer);
-    let right = count_of_x(&buffer);
+    let right = count_of(b'x', &buffer);
     let second = take(&mut reader, &mut buffer);
     let last = take(&mut reader, &mut buffer);
     println!(rt;

@@ -1,8 +1,9 @@
 //! Sinks of datasets that stop, and octets after the dataset that a sink called the last.
 
-ghost use Rattle.std.specs.Prelude.{◌≡◌, ◌≢◌, ⊤};
+ghost use Rattle.std.specs.Prelude.{◌≡◌, ◌≢◌, ⊤, IfSome};
 ghost use Rattle.iim_dataset.specs.States.Reading.{TakesCalls};
 
+use crate::told::{self, tell_octets};
 use arrayvec::ArrayVec;
 use iim_dataset::{DatasetSink, Fault, Head, HeadReader, Step, Stop};
 use std::io;
@@ -145,28 +146,42 @@ fn read(octets: &[u8], one_by_one: bool, sink: &mut Recorder) -> (HeadReader, Re
     (reader, answer)
 }
 
+/// Feeds a piece to a reader whose sink takes others after its last dataset, and answers how many octets were used.
+fn feed_on(reader: &mut HeadReader, octets: &[u8], sink: &mut Recorder) -> Option<usize>
+    requires { TakesCalls reader.old }
+    ensures { IfSome result (λ used. TakesCalls reader.new) }
+{
+    sink.go_on();
+    match reader.feed(octets, sink) {
+        Ok(used) => Some(used),
+        Err(_) => None,
+    }
+}
+
+/// Feeds three datasets, then nothing, and then the beginning of a fourth, and answers how many octets each used.
+fn feed_four(reader: &mut HeadReader, sink: &mut Recorder) -> Option<(usize, usize, usize)>
+    requires { TakesCalls reader.old }
+    ensures { IfSome result (λ used. TakesCalls reader.new) }
+{
+    let three = feed_on(reader, STREAM, sink)?;
+    let none = feed_on(reader, b"", sink)?;
+    let fourth = feed_on(reader, b"\x1c\x01\x1e\x00\x03TS", sink)?;
+    Some((three, none, fourth))
+}
+
 /// After the last dataset a reader continues where its sink does: what comes then is the next dataset.
 fn a_dataset_after_the_last(rt: &impl Print) -> io::Result<()> {
     let trial = "a_dataset_after_the_last";
     let mut reader = HeadReader::new();
     let mut sink = Recorder::new(16);
-    let Ok(three) = reader.feed(STREAM, &mut sink) else {
-        return println!(rt; "{trial}: refused at once");
-    };
-    sink.go_on();
-    let Ok(none) = reader.feed(b"", &mut sink) else {
-        return println!(rt; "{trial}: nothing is refused");
-    };
-    sink.go_on();
-    let Ok(fourth) = reader.feed(b"\x1c\x01\x1e\x00\x03TS", &mut sink) else {
-        return println!(rt; "{trial}: another dataset is refused");
+    let Some((three, none, fourth)) = feed_four(&mut reader, &mut sink) else {
+        return told::tell(rt, trial, &"refused");
     };
     let (rec, set) = reader.named();
     println!(rt; "{trial}: used {three}, {none} and {fourth}, named {rec}:{set}")?;
     sink.go_on();
     let answer = reader.feed(b"Tx", &mut sink);
-    let record = sink.record.as_slice().escape_ascii();
-    println!(rt; "{trial}: {answer:?} {record}")
+    tell_octets(rt, trial, &answer, sink.record.as_slice())
 }
 
 /// An octet after the last dataset that begins no tag is refused.
@@ -174,8 +189,8 @@ fn octets_after_the_last_dataset(rt: &impl Print) -> io::Result<()> {
     let trial = "octets_after_the_last_dataset";
     let mut reader = HeadReader::new();
     let mut sink = Recorder::new(11);
-    let Ok(three) = reader.feed(STREAM, &mut sink) else {
-        return println!(rt; "{trial}: refused at once");
+    let Some(three) = feed_on(&mut reader, STREAM, &mut sink) else {
+        return told::tell(rt, trial, &"refused");
     };
     sink.go_on();
     let answer = reader.feed(b"x", &mut sink);

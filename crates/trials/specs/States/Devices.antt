@@ -10,6 +10,7 @@ use Rattle.trials.specs.declared.device.TrialReader.{TrialReader}
 use Rattle.trials.specs.declared.device.TrialWriter.{TrialWriter}
 
 -- this number of good calls and then the trouble, and no fault so far
+-- no twin: only tests use it
 abbrev pub new_plan : ℕ → Trouble → Plan
 new_plan good trouble = record { good = good; trouble = trouble; failures = 0; interruptions = 0 }
 

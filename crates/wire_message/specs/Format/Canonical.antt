@@ -5,11 +5,13 @@ use Rattle.wire_story.specs.Format.Texts.{packed_text}
 use Rattle.wire_message.specs.Format.Messages.{Header, fixed_header}
 
 -- nothing for an empty info, and else SP and the info
+-- twin: "which may be empty after its SP", "Headers as they are written"
 abbrev pub packed_info : List ℕ → List ℕ
 packed_info [] = []
 packed_info (b ∷ bs) = sp ∷ b ∷ bs
 
 -- SOH to STX, with the gap CR LF
+-- twins (with packed_tail, canonical): "Headers as they are written", "Tails as they are written"; `packs_a_script`
 abbrev pub packed_head : Header → List ℕ
 packed_head head = soh ∷ fixed_header head ++ (packed_info head.info ++ (cr ∷ lf ∷ stx ∷ []))
 

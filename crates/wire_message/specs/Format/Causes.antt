@@ -9,6 +9,7 @@ use Rattle.wire_story.specs.Format.Texts.{Holds}
 use Rattle.wire_story.specs.Format.Tokens.{Octet}
 use Rattle.wire_message.specs.Format.Layers.{MessageLivesWith, MessageDiesAt, text_so_far, StoryLivesIn}
 
+-- twins (with name_of_message, print_of_message): `causes_of_messages_and_texts_are_printed`, `names_each_cause`
 abbrev pub number_of_message : MessageCause → ℕ
 number_of_message BadOctet = 30
 number_of_message Unfinished = 32
@@ -33,6 +34,7 @@ StoryDiesWith octets octet = StoryLivesIn octets × (StoryLivesIn (octets ++ oct
 
 -- Why an octet is refused after others: the message dies with it, or else the story, or else the sink refused an octet of
 -- the text that it is told of.
+-- twin: "Each octet in place of each octet of the smallest message", "Each octet alone in each part"; `sinks_of_messages_that_stop`
 abbrev pub HasCause : MessageCause → List ℕ → ℕ → Type 0
 HasCause BadOctet octets octet = MessageDiesAt octets (Octet octet)
 HasCause Unfinished octets octet = ⊥

@@ -4,6 +4,8 @@ use Rattle.std.specs.List.{list_all}
 use Rattle.iim_dataset.specs.Format.Characters.{nul, etx, lf, cr, syn, sp}
 use Rattle.iim_dataset.specs.Format.Octets.{within, is_digit, is_letter}
 
+-- twins (with is_info_octet, is_trailer_octet, is_filler_octet, is_text_octet): "Each octet alone in each part", "The octets that alone
+--   make a part of a header": each of the 256
 abbrev pub is_alphanumeric : ℕ → Bool
 is_alphanumeric b = is_letter b || is_digit b
 
@@ -34,9 +36,12 @@ IsField test least most xs = Are test xs × (least ≤ length xs) × (length xs 
 -- ---- how many octets the parts have at most
 
 -- filler before SOH and after EOT, and the gap
+-- twin: "Filler before and after: up to 32 octets"
 abbrev pub max_filler : ℕ
 max_filler = 32
 
+-- twins (with max_number, max_category, max_words, max_info): "Source, number and category have 1 to 8 octets", "A trailer has up to 64
+--   octets, and so has info", "Parts of other lengths"
 abbrev pub max_source : ℕ
 max_source = 8
 
@@ -55,5 +60,6 @@ max_words = 6
 abbrev pub max_info : ℕ
 max_info = 64
 
+-- twin: "A trailer has up to 64 octets", "Tails as they are written"
 abbrev pub max_trailer : ℕ
 max_trailer = 64

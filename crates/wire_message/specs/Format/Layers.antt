@@ -24,6 +24,8 @@ abbrev pub MessageDiesAt : List ℕ → OctetOrEnd → Type 0
 MessageDiesAt octets token = DiesAt MessageLanguage (map Octet octets) token
 
 -- what stands after STX
+-- twins (with text_so_far, trailer_so_far, story_tokens_of): laws `texts_stand_between_stx_and_etx`, `trailers_stand_between_etx_and_eot`,
+--   `headers_are_told_from_stx`
 abbrev pub after_stx : List ℕ → List ℕ
 after_stx octets = after_first (λ b. b == stx) octets
 

@@ -20,6 +20,8 @@ abbrev pub fixed_octets : Header → ℕ
 fixed_octets h = 1 + length (fixed_header h)
 
 -- SOH to STX at least: an empty info has no SP, and the gap is LF alone
+-- twins (with least_of, greatest_of): "Places that octets lead to", "How many octets lead to a place of a message";
+--   `judges_each_part_of_a_message`
 abbrev pub least_head : Header → ℕ
 least_head h = fixed_octets h + length (packed_info h.info) + 2
 

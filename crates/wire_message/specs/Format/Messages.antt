@@ -20,6 +20,7 @@ header_of source number priority category words info =
     record { source = source; number = number; priority = priority; category = category; words = words; info = info }
 
 -- A header: each part has one of its lengths and is made of its octets.
+-- twin: "Source, number and category have 1 to 8 octets", "A trailer has up to 64 octets, and so has info", "Parts of other lengths"
 pub record IsHeader (head : Header) : Type 0 where
   pub source : IsField is_letter 1 max_source head.source
   pub number : IsField is_digit 1 max_number head.number
@@ -29,14 +30,17 @@ pub record IsHeader (head : Header) : Type 0 where
   pub info : IsField is_info_octet 0 max_info head.info
 
 -- A trailer: up to 64 octets, line ends among them.
+-- twin: "A trailer has up to 64 octets", "Tails as they are written"
 abbrev pub IsTrailer : List ℕ → Type 0
 IsTrailer xs = IsField is_trailer_octet 0 max_trailer xs
 
 -- Filler: up to 32 octets that mean nothing.
+-- twin: "Filler before and after: up to 32 octets"
 abbrev pub IsFiller : List ℕ → Type 0
 IsFiller xs = IsField is_filler_octet 0 max_filler xs
 
 -- One of the octets is LF.
+-- twins (with IsGap): "A gap has up to 32 octets, and one LF at least"; "A gap whose LF comes first, last or in the midst"
 abbrev pub has_feed : List ℕ → Bool
 has_feed xs = list_any (λ b. b == lf) xs
 
@@ -45,10 +49,13 @@ abbrev pub IsGap : List ℕ → Type 0
 IsGap xs = IsField is_filler_octet 1 max_filler xs × IsTrue (has_feed xs)
 
 -- nothing for an empty info, or SP and the info
+-- twin: "which may be empty after its SP", "Headers as they are written"
 abbrev pub SpellsInfo : List ℕ → List ℕ → Type 0
 SpellsInfo info xs = ((info ≡ []) × (xs ≡ [])) ⊎ (xs ≡ sp ∷ info)
 
 -- source, number, SP, priority, SP, category, SP, words
+-- twins (with IsMessage, BeginsWithHeader): "Messages: the story of one empty line", "Each octet in place of each octet of the smallest
+--   message"
 abbrev pub fixed_header : Header → List ℕ
 fixed_header head = head.source ++ (head.number ++ (sp ∷ head.priority ++ (sp ∷ head.category ++ (sp ∷ head.words))))
 

@@ -69,6 +69,7 @@ pub record RefusesOne {S : Type 0} (goes : S → List StoryEvent → S → Type 
 -- ---- what a reader tells
 
 -- the header, from STX on
+-- twins (with trailer_read, is_ended): laws `headers_are_told_from_stx`, `trailers_are_told_from_etx`, `messages_end_after_eot`
 abbrev pub head_read : Option Place → Option Header
 head_read (Some (Text h reader)) = Some h
 head_read (Some (Trailer h t)) = Some h

@@ -9,6 +9,7 @@ use Rattle.wire_message.specs.declared.place.Place.{Place}
 use Rattle.wire_message.specs.declared.place.Place.TheVariants.{Filler, Source, Number, Priority, PriorityRead, Category, Words, Info, Gap, Text, Trailer, AfterEnd}
 
 -- a part, its counter and flag, and the octets of source, number, priority, category, words, info and trailer
+-- twins (with saved): law `places_are_saved_apart`; "Places that octets lead to: the part, the counter, the flag"
 abbrev pub place_from : MessagePart → ℕ → ℕ → List ℕ → List ℕ → List ℕ → List ℕ → List ℕ → List ℕ → List ℕ → MessagePlace
 place_from part counter flag source number priority category words info trailer = record {
   part = part;

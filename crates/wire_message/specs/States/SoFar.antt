@@ -10,6 +10,7 @@ use Rattle.wire_message.specs.declared.place.Place.{Place}
 use Rattle.wire_message.specs.declared.place.Place.TheVariants.{Filler, Source, Number, Priority, PriorityRead, Category, Words, Info, Gap, Text, Trailer, AfterEnd}
 
 -- What was read has lengths and octets with which a message can continue.
+-- twins (with Spells): law `places_are_reached`; "No octets lead to these: counters and flags", "And texts: of a later part, too long"
 abbrev pub IsPlace : Place → Type 0
 IsPlace (Filler count) = count ≤ max_filler
 IsPlace (Source s) = IsField is_letter 0 max_source s.items

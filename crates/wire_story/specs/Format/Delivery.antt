@@ -8,6 +8,8 @@ pub data StoryEvent : Type 0 where
   LineEnd : StoryEvent
 
 -- An LF ends a line. Of a CR nothing is told: it belongs to the line end that follows, or no LF has come yet.
+-- twins (with octet_for): laws `texts_are_delivered_as_lines`, `lines_are_joined_by_line_feeds`; "Lines that are written on are joined by
+--   LF"
 abbrev pub events_of : ℕ → List StoryEvent
 events_of b = if b == lf then LineEnd ∷ [] else if b == cr then [] else LineOctet b ∷ []
 

@@ -4,6 +4,7 @@ use Rattle.std.specs.List.{list_all}
 use Rattle.iim_dataset.specs.Format.Characters.{soh, stx, etx, eot, lf, cr}
 
 -- any octet but SOH, STX, ETX, EOT, LF and CR
+-- twin: "The octets that may stand in a line": each of the 256
 abbrev pub is_line_octet : ℕ → Bool
 is_line_octet b = nat_lt b 256 && not (b == soh || b == stx || b == etx || b == eot || b == lf || b == cr)
 
@@ -12,10 +13,14 @@ abbrev pub IsLine : List ℕ → Type 0
 IsLine xs = IsTrue (list_all is_line_octet xs)
 
 -- the most CR of a line end
+-- twins (with IsText, IsTextSoFar): "A line end is LF, after no CR, one or two", "A third CR, another octet or the end after CR", "A reader
+--   holds two CR at most"
 abbrev pub max_returns : ℕ
 max_returns = 2
 
 -- a line end: LF with `returns` CR before it
+-- twins (with packed_text): law `line_ends_are_packed_as_return_and_feed`; "The octets that may stand in a line, those that alone are a
+--   text, and what a line end is"
 abbrev pub line_end : ℕ → List ℕ
 line_end returns = replicate returns cr ++ lf ∷ []
 

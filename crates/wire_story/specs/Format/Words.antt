@@ -6,6 +6,7 @@ use Rattle.iim_dataset.specs.Format.Characters.{tab, sp}
 use Rattle.wire_story.specs.Format.Delivery.{StoryEvent, LineOctet, LineEnd}
 
 -- any octet but SP and TAB
+-- twin: "Words are the longest runs in a line": each of the 256 between `a` and `b`; `counts_words`
 abbrev pub is_word_octet : ℕ → Bool
 is_word_octet b = not (b == sp || b == tab)
 
@@ -14,6 +15,8 @@ abbrev pub begun_with : Bool → ℕ → ℕ
 begun_with inside b = if is_word_octet b && not inside then 1 else 0
 
 -- how many words begin in octets of a line, where those before them end inside a word or not
+-- twins (with words_told): laws `words_are_longest_runs`, `texts_are_counted_as_lines`; "Words are the longest runs in a line";
+--   `counts_words`
 abbrev pub words_begun : Bool → List ℕ → ℕ
 words_begun inside [] = 0
 words_begun inside (b ∷ xs) = begun_with inside b + words_begun (is_word_octet b) xs
@@ -55,6 +58,7 @@ pub record WordsSoFar : Type 0 where
   pub inside : Bool
 
 -- the greatest count
+-- twins (with CountsWords) that nothing finds: no text has so many words. 70,000 are counted under "Words are the longest runs in a line"
 abbrev pub capped : ℕ → ℕ
 capped n = min n greatest_u64
 

@@ -14,6 +14,7 @@ abbrev pub StandsAt : Option ℕ → List ℕ → Type 0
 StandsAt reader octets = (held : ℕ) × (reader ≡ Some held) × Holds octets held
 
 -- The reader takes calls, and holds two CR at most.
+-- twin: "A line end is LF, after no CR, one or two", "A third CR, another octet or the end after CR", "A reader holds two CR at most"
 abbrev pub IsPlace : Option ℕ → Type 0
 IsPlace reader = (held : ℕ) × (reader ≡ Some held) × (held ≤ max_returns)
 
@@ -22,6 +23,7 @@ abbrev pub LeadsOn : Option ℕ → List ℕ → Option ℕ → Type 0
 LeadsOn old piece new = (octets : List ℕ) → StandsAt old octets → StandsAt new (octets ++ piece)
 
 -- after `held` CR an octet that is neither LF nor one of the first two CR
+-- twins (with IsControl, HasCause): "A third CR, another octet or the end after CR": 01 and 03 with CR before them and without
 abbrev pub IsLoneReturn : ℕ → ℕ → Type 0
 IsLoneReturn held octet = (0 < held) × (octet ≢ lf) × (octet ≡ cr → held ≡ max_returns)
 

@@ -22,6 +22,7 @@ abbrev pub HasBroken : Device → Device → Type 0
 HasBroken old new = RoseAtLeast 1 old.failures new.failures ⊎ RoseAtLeast max_interruptions old.interruptions new.interruptions
 
 -- A device took these octets. It has broken where the writer of lines stopped, and no call of it failed where it did not.
+-- twin that nothing finds: no test stops so often
 pub record WritesOn (old new : Device) (stops_old stops_new : ℕ) (text : List ℕ) : Type 0 where
   pub octets : Appends old.octets new.octets text
   pub failures : old.failures ≤ new.failures

@@ -1,6 +1,6 @@
 use Rattle.std.proofs.Common.{◌≡◌, ◌≤◌, ℕ, List, ◌++◌, length, codes, sym, subst, ap, ◌∙◌}
 use Rattle.std.proofs.lemmas.List.{append_cancel_left, append_cancel_right}
-use Rattle.iim_script.specs.Format.Scripts.{max_script}
+use Rattle.iim_script.specs.Format.Scripts.{max_script, text_lines}
 use Rattle.iim_listing.specs.Format.Narration.{story_of}
 use Rattle.iim_pack_script.specs.Format.Packing.{ScriptContent}
 use Rattle.iim_listing.specs.Format.Texts.{number_line, sizes_line}
@@ -17,6 +17,6 @@ returns-in-Ok c =
     let just : TellsJust c.args.script.now (told_of e.value) =
     subst (λ (s : List ℕ). TellsJust s (told_of e.value)) (sym whole) (tells (subst (λ (s : List ℕ). length s ≤ max_script) whole few)) in
     let told = c.in-Ok.told in
-    let read : ScriptContent = record { fields = told.envelope; head = told.head; trailer = told.trailer.items; lines = told.lines.lines; text_line = told.text_line } in
+    let read : ScriptContent = record { fields = told.envelope; head = told.head; trailer = told.trailer.items; lines = text_lines told.text.now; text_line = told.text_line } in
     let content : read ≡ told_of e.value = just.only read c.in-Ok.ensures.script in
     (ap (λ (t : ScriptContent). t.fields) content, ap (λ (t : ScriptContent). t.lines) content)

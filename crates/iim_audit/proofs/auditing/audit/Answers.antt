@@ -8,7 +8,7 @@ use Rattle.iim_audit.specs.declared.fault.AuditCause.{AuditCause}
 use Rattle.iim_audit.specs.declared.fault.AuditCause.TheVariants as causes
 use Rattle.iim_audit.specs.declared.fault.AuditFault.{AuditFault}
 use Rattle.iim_audit.specs.Taking.{TookEnvelope}
-use Rattle.iim_audit.specs.Repeats.{ids_of}
+use Rattle.iim_audit.specs.Repeats.{ids_of, places_of}
 use Rattle.iim_audit.specs.declared.row.AuditRow.{AuditRow}
 use Rattle.iim_audit.proofs.Reading.{come_none, audited, fails, one_too_many, short_after, read_one, told_again, none_within, short_first, taken_of, took_within}
 use Rattle.iim_audit.proofs.auditing.audit.Goals as goal
@@ -46,7 +46,8 @@ envelopes-init g c =
         again = λ octet e. none;
       };
       same = c.in-Ok.ensures.limits;
-      below = λ k d there. absurd (omega (arith, ap length c.new-ledger.ensures.none, there));
+      few = omega (arith, ap (λ (rows : List AuditRow). length (ids_of rows)) c.new-ledger.ensures.empty);
+      places = c.new-ledger.ensures.none ∙ ap (λ (rows : List AuditRow). places_of 0 (ids_of rows)) (sym c.new-ledger.ensures.empty);
       short = λ k d there. absurd (omega (arith, ap (λ (rows : List AuditRow). length (ids_of rows)) c.new-ledger.ensures.empty, there));
       as_it_was = λ octet e. refl;
       leads = g.met.R.Source.stays c.args.intake.now.reader;
@@ -135,7 +136,8 @@ envelopes-preserved g c =
         again = λ octet e. absurd (spent octet e);
       };
       same = one.same;
-      below = c.in-Ok-enter.ensures.below;
+      few = c.in-Ok-enter.ensures.few;
+      places = c.in-Ok-enter.ensures.places;
       short = c.in-Ok-enter.ensures.short;
       as_it_was = λ octet e. absurd (spent octet e);
       leads = g.met.R.Source.leads_on c.args.intake.now.reader c.envelopes.intake.reader c.take_envelope.new.intake.reader

@@ -1,5 +1,5 @@
-use Rattle.std.proofs.Common.{◌≡◌, ◌+◌, ◌-◌, ◌<◌, ℕ, length, Some}
-use Rattle.std.specs.List.{All}
+use Rattle.std.proofs.Common.{◌≡◌, ◌≤◌, ◌^◌, ◌+◌, ◌-◌, ℕ, length, Some}
+use Rattle.iim_audit.specs.Repeats.{ids_of, places_of}
 use Rattle.iim_unpack.specs.States.Intakes.{in_line}
 use Rattle.iim_places.specs.Format.Listing.{max_envelopes}
 use Rattle.iim_audit.specs.Lines.{HaveShortIds}
@@ -11,7 +11,8 @@ abbrev pub invariant-envelopes : goal.invariant-envelopes
 invariant-envelopes g l = record {
   auditing : IsAuditing l.fn.limits l.now.nanosecond l.fn.intake.failed (in_line g.R.Source.state l.fn.intake) (in_line g.R.Source.state l.intake) l.ledger l.fn.intake.octets l.intake.failed l.intake.octets;
   same : limits_in l.unpacker ≡ l.fn.limits;
-  below : All (λ i. i < length l.ledger.rows.items) l.ledger.order.items;
+  few : length (ids_of l.ledger.rows.items) ≤ 2 ^ 32;
+  places : l.ledger.places.items ≡ places_of 0 (ids_of l.ledger.rows.items);
   short : HaveShortIds l.ledger.rows.items;
   as_it_was : (octet : ℕ) → l.fn.intake.failed ≡ Some octet → l.intake ≡ l.fn.intake;
   leads : g.R.Source.leads l.fn.intake.reader l.intake.reader;

@@ -1,12 +1,18 @@
-use Rattle.std.proofs.Common.{◌<◌, length}
+use Rattle.std.proofs.Common.{ℕ, List, subst}
+use Rattle.std.specs.List.Sorted.{IsPermutation}
 use Rattle.std.proofs.lemmas.List.Sorted.{All-permutation}
-use Rattle.iim_audit.proofs.Rows.{order_of}
+use Rattle.iim_audit.specs.Repeats.{IsPlace, ids_of, places_of}
+use Rattle.iim_audit.proofs.Places.{are_places, order_of}
 use Rattle.iim_audit.proofs.repeats.tell_repeats.Goals as goal
 
 pub fill_firsts-requires : goal.fill_firsts-requires
 fill_firsts-requires c =
-    All-permutation (λ i. i < length c.args.rows.now) c.args.order.now c.sort_by_id.new.order c.sort_by_id.ensures.permutation c.requires
+    let ids = ids_of c.args.rows.now in
+    All-permutation (IsPlace ids) (places_of 0 ids) c.sort_places.new.places
+    (subst (λ (ps : List ℕ). IsPermutation ps c.sort_places.new.places) c.requires.places c.sort_places.ensures.permutation) (are_places ids c.requires.few)
 
 pub returns-clause-filled : goal.returns-clause-filled
-returns-clause-filled c = λ each fresh.
-    c.fill_firsts.ensures.filled (order_of c.args.rows.now c.args.order.now c.sort_by_id.new.order c.requires each c.sort_by_id.ensures.permutation c.sort_by_id.ensures.sorted) fresh
+returns-clause-filled c = λ fresh.
+    let ids = ids_of c.args.rows.now in
+    c.fill_firsts.ensures.filled (order_of ids c.sort_places.new.places c.requires.few
+    (subst (λ (ps : List ℕ). IsPermutation ps c.sort_places.new.places) c.requires.places c.sort_places.ensures.permutation) c.sort_places.ensures.sorted) fresh

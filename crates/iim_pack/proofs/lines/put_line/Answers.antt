@@ -26,16 +26,16 @@ pub returns-then-is_first-clause-cause : goal.returns-then-is_first-clause-cause
 returns-then-is_first-clause-cause g c =
     let k = c.args.packer.now in
     let fits = first_fits (total_of k.object) (most_of k.object.plan) c.args.is_first c.args.line.now c.if-is_first.true c.requires.fits in
-    of_none (text_cause k c.args.line.now) _ (may_text k c.args.line.now c.requires.line c.requires.unfailed fits) c.text.ensures.cause
+    of_none (text_cause k c.args.line.now) _ (may_text k c.args.line.now c.requires.line c.requires.unfailed fits) c.known_text.ensures.cause
 
 pub returns-then-is_first-clause-broke : goal.returns-then-is_first-clause-broke
 returns-then-is_first-clause-broke g c =
     let k = c.args.packer.now in
     let line : List ℕ = c.args.line.now in
     let fits = first_fits (total_of k.object) (most_of k.object.plan) c.args.is_first line c.if-is_first.true c.requires.fits in
-    on_err_weaker c.text.result (λ (b : BreaksOff g.W.Target.state (ContinuesWith (map LineOctet line)) k c.text.new.self).
-    subst (λ (first : Bool). BreaksOff g.W.Target.state (ContinuesWith (line_events first line)) k c.text.new.self) (sym c.if-is_first.true) b)
-    (of_none (text_cause k line) _ (may_text k line c.requires.line c.requires.unfailed fits) c.text.ensures.broke)
+    on_err_weaker c.known_text.result (λ (b : BreaksOff g.W.Target.state (ContinuesWith (map LineOctet line)) k c.known_text.new.self).
+    subst (λ (first : Bool). BreaksOff g.W.Target.state (ContinuesWith (line_events first line)) k c.known_text.new.self) (sym c.if-is_first.true) b)
+    (of_none (text_cause k line) _ (may_text k line c.requires.line c.requires.unfailed fits) c.known_text.ensures.broke)
 
 pub returns-in-Ok-clause-ok : goal.returns-in-Ok-clause-ok
 returns-in-Ok-clause-ok g c =
@@ -43,9 +43,9 @@ returns-in-Ok-clause-ok g c =
     let k = c.args.packer.now in
     let m = c.line_end.new.self in
     let line : List ℕ = c.args.line.now in
-    on_ok_weaker c.text-in-Ok.result (λ (l : Lengthens state m c.text-in-Ok.new.self (map LineOctet line)).
-    subst (λ (first : Bool). Lengthens state k c.text-in-Ok.new.self (line_events first line)) (sym c.if-is_first.false)
-    (leads_on state k m c.text-in-Ok.new.self (LineEnd ∷ []) (map LineOctet line) c.texts_join.ensures c.in-Ok.ensures.ok l)) c.text-in-Ok.ensures.ok
+    on_ok_weaker c.known_text-in-Ok.result (λ (l : Lengthens state m c.known_text-in-Ok.new.self (map LineOctet line)).
+    subst (λ (first : Bool). Lengthens state k c.known_text-in-Ok.new.self (line_events first line)) (sym c.if-is_first.false)
+    (leads_on state k m c.known_text-in-Ok.new.self (LineEnd ∷ []) (map LineOctet line) c.texts_join.ensures c.in-Ok.ensures.ok l)) c.known_text-in-Ok.ensures.ok
 
 pub returns-in-Ok-clause-cause : goal.returns-in-Ok-clause-cause
 returns-in-Ok-clause-cause g c =
@@ -55,7 +55,7 @@ returns-in-Ok-clause-cause g c =
     let line : List ℕ = c.args.line.now in
     let fits = next_fits (total_of k.object) (most_of k.object.plan) c.args.is_first line c.if-is_first.false c.requires.fits in
     let room : total_of m.object + (length line + 2) ≤ most_of m.object.plan = subst (λ (p : Plan). total_of m.object + (length line + 2) ≤ most_of p) (sym l.plan) (omega (arith, fits, l.total)) in
-    of_none (text_cause m line) _ (may_text m line c.requires.line l.unfailed room) c.text-in-Ok.ensures.cause
+    of_none (text_cause m line) _ (may_text m line c.requires.line l.unfailed room) c.known_text-in-Ok.ensures.cause
 
 pub returns-in-Ok-clause-broke : goal.returns-in-Ok-clause-broke
 returns-in-Ok-clause-broke g c =
@@ -66,10 +66,10 @@ returns-in-Ok-clause-broke g c =
     let line : List ℕ = c.args.line.now in
     let fits = next_fits (total_of k.object) (most_of k.object.plan) c.args.is_first line c.if-is_first.false c.requires.fits in
     let room : total_of m.object + (length line + 2) ≤ most_of m.object.plan = subst (λ (p : Plan). total_of m.object + (length line + 2) ≤ most_of p) (sym l.plan) (omega (arith, fits, l.total)) in
-    on_err_weaker c.text-in-Ok.result (λ (b : BreaksOff state (ContinuesWith (map LineOctet line)) m c.text-in-Ok.new.self).
-    subst (λ (first : Bool). BreaksOff state (ContinuesWith (line_events first line)) k c.text-in-Ok.new.self) (sym c.if-is_first.false)
-    (breaks_later state k m c.text-in-Ok.new.self (LineEnd ∷ []) (map LineOctet line) c.texts_join.ensures l b))
-    (of_none (text_cause m line) _ (may_text m line c.requires.line l.unfailed room) c.text-in-Ok.ensures.broke)
+    on_err_weaker c.known_text-in-Ok.result (λ (b : BreaksOff state (ContinuesWith (map LineOctet line)) m c.known_text-in-Ok.new.self).
+    subst (λ (first : Bool). BreaksOff state (ContinuesWith (line_events first line)) k c.known_text-in-Ok.new.self) (sym c.if-is_first.false)
+    (breaks_later state k m c.known_text-in-Ok.new.self (LineEnd ∷ []) (map LineOctet line) c.texts_join.ensures l b))
+    (of_none (text_cause m line) _ (may_text m line c.requires.line l.unfailed room) c.known_text-in-Ok.ensures.broke)
 
 pub returns-in-Err-clause-broke : goal.returns-in-Err-clause-broke
 returns-in-Err-clause-broke g c =

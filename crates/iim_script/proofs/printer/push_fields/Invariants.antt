@@ -1,4 +1,4 @@
-use Rattle.std.proofs.Common.{◌≡◌, List, ◌++◌, length}
+use Rattle.std.proofs.Common.{◌≡◌, ◌≤◌, List, ◌++◌, length, take, vec_len}
 use Rattle.std.specs.List.{flat_map}
 use Rattle.iim_dataset.specs.Format.Datasets.{Dataset}
 use Rattle.iim_fields.specs.States.Walks.{rest_of}
@@ -10,7 +10,8 @@ abbrev pub invariant-loop-rec : goal.invariant-loop-rec
 invariant-loop-rec l = record {
   done : List Dataset;
   parts : l.fn.envelope ≡ done ++ rest_of l.fields;
-  shown : l.text.items ≡ l.fn.text.items ++ flat_map field_line done;
+  within : l.end ≤ vec_len l.text;
+  shown : take l.end l.text.items ≡ l.fn.text.items ++ flat_map field_line done;
 }
 
 abbrev pub decreases-loop-rec : goal.decreases-loop-rec

@@ -24,7 +24,7 @@ returns-then-not-begins_field-clause-all c =
     (tells_no_field c.in-Some.line.now (sym c.begins_field.ensures ∙ c.if-not-begins_field.true))
 
 pub loop-line-smaller : goal.loop-line-smaller
-loop-line-smaller c = c.in-Some.ensures.shorter
+loop-line-smaller c = omega (arith, c.in-Some.ensures.shorter)
 
 pub loop-line-preserved : goal.loop-line-preserved
 loop-line-preserved c =

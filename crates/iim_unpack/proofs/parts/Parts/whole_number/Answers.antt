@@ -1,28 +1,36 @@
-use Rattle.std.proofs.Common.{ℕ, refl, ap, sym, subst}
+use Rattle.std.proofs.Common.{◌≡◌, ℕ, refl, subst, arith}
+use Rattle.iim_dataset.specs.declared.head.Head.{Head}
 use Rattle.iim_object.specs.Format.Objects.{NumberRead}
 use Rattle.iim_object.specs.States.Reading.{LeadsOn}
-use Rattle.iim_fields.specs.States.Standing.{FieldsPlace}
-use Rattle.iim_unpack.specs.PartSteps.{TakesHead}
-use Rattle.iim_unpack.specs.declared.parts.Parts.{Parts}
-use Rattle.iim_unpack.proofs.Wholes.{number_went, number_takes}
+use Rattle.iim_fields.specs.States.Admitting.{Admits}
+use Rattle.iim_unpack.proofs.Wholes.{number_went, number_takes, spells_number, admits_where}
 use Rattle.iim_unpack.proofs.parts.Parts.whole_number.Goals as goal
 
-pub put_number-requires-clause-accepts : goal.put_number-requires-clause-accepts
-put_number-requires-clause-accepts c = c.accepts_number.ensures.exactly.0 c.if-not-accepts_number.false
+-- the head of the dataset
+abbrev of_seven : ℕ → ℕ → Head
+of_seven set count = record { rec = 7; set = set; count = count }
 
-pub returns-then-not-whole_number-clause-takes : goal.returns-then-not-whole_number-clause-takes
-returns-then-not-whole_number-clause-takes c =
-    subst (λ (f : FieldsPlace). let p : Parts = record c.args.self.now { fields = f } in TakesHead p) (sym (c.whole_number.ensures.left c.if-not-whole_number.true)) c.requires.takes
+pub admits_number-requires-clause-spelled : goal.admits_number-requires-clause-spelled
+admits_number-requires-clause-spelled c =
+    (c.args.octets.now, spells_number (of_seven c.args.set c.args.count) c.args.octets.now c.number_of.result c.in-Some.number c.requires.count c.number_of.ensures.exactly.0 c.in-Some.is c.in-Some.ensures.value (λ i. omega (arith, c.type_inv.octets i)))
 
-pub returns-then-not-whole_number-clause-left : goal.returns-then-not-whole_number-clause-left
-returns-then-not-whole_number-clause-left c _ = ap (λ (f : FieldsPlace). let p : Parts = record c.args.self.now { fields = f } in p) (c.whole_number.ensures.left c.if-not-whole_number.true)
+pub put_number-requires-clause-admitted : goal.put_number-requires-clause-admitted
+put_number-requires-clause-admitted c =
+    (c.args.octets.now, admits_where c.args.self.now.fields (of_seven c.args.set c.args.count) c.in-Some.number c.args.octets.now c.admits_number.result (spells_number (of_seven c.args.set c.args.count) c.args.octets.now c.number_of.result c.in-Some.number c.requires.count c.number_of.ensures.exactly.0 c.in-Some.is c.in-Some.ensures.value (λ i. omega (arith, c.type_inv.octets i))) c.admits_number.ensures.exactly c.if-not-admits_number.false)
+
+pub put_number-requires-2-clause-accepts : goal.put_number-requires-2-clause-accepts
+put_number-requires-2-clause-accepts c = c.accepts_number.ensures.exactly.0 c.if-not-accepts_number.false
+
+-- the records may take it
+admitted : (c : goal.After-put_number-2) → Admits c.args.self.now.fields (of_seven c.args.set c.args.count) c.args.octets.now
+admitted c = admits_where c.args.self.now.fields (of_seven c.args.set c.args.count) c.in-Some.number c.args.octets.now c.admits_number.result (spells_number (of_seven c.args.set c.args.count) c.args.octets.now c.number_of.result c.in-Some.number c.requires.count c.number_of.ensures.exactly.0 c.in-Some.is c.in-Some.ensures.value (λ i. omega (arith, c.type_inv.octets i))) c.admits_number.ensures.exactly c.if-not-admits_number.false
 
 pub returns-clause-takes : goal.returns-clause-takes
 returns-clause-takes c =
-    number_takes c.args.self.now _ (record { rec = 7; set = c.args.set; count = c.args.count }) c.requires.takes refl c.whole_number.ensures.between (c.whole_number.ensures.took c.if-not-whole_number.false).section c.put_number.ensures.takes_calls refl
+    number_takes c.args.self.now _ (of_seven c.args.set c.args.count) c.requires.takes refl c.put_number.ensures.between (c.put_number.ensures.took c.args.octets.now (admitted c)).section c.put_number-2.ensures.takes_calls refl
 
 pub returns-clause-whole : goal.returns-clause-whole
 returns-clause-whole c is =
-    number_went c.close_laws.ensures c.args.self.now _ (record { rec = 7; set = c.args.set; count = c.args.count }) c.args.octets.now c.requires.takes.fields refl c.requires.count c.whole_number.ensures.bounds.limits
-    (c.whole_number.ensures.took c.if-not-whole_number.false).stands
-    (subst (λ (n : ℕ). LeadsOn c.args.self.now.object (NumberRead c.args.set n) c.put_number.new.self) c.in-Some.ensures.value c.put_number.ensures.leads_on) refl
+    number_went c.close_laws.ensures c.args.self.now _ (of_seven c.args.set c.args.count) c.args.octets.now c.requires.takes.fields refl c.requires.count c.put_number.ensures.bounds.limits
+    (c.put_number.ensures.took c.args.octets.now (admitted c)).stands
+    (subst (λ (n : ℕ). LeadsOn c.args.self.now.object (NumberRead c.args.set n) c.put_number-2.new.self) c.in-Some.ensures.value c.put_number-2.ensures.leads_on) refl

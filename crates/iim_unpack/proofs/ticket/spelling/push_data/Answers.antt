@@ -1,15 +1,16 @@
-use Rattle.std.proofs.Common.{◌≡◌, ℕ, List, [], ◌∷◌, ◌++◌, ap, ◌∙◌}
-use Rattle.iim_places.specs.Format.Tickets.{wide, present_version}
-use Rattle.iim_places.proofs.Results.{grown}
+use Rattle.std.proofs.Common.{◌≡◌, ℕ, List, [], ◌∷◌, ◌++◌, ap, ◌∙◌, append_assoc}
 use Rattle.std.proofs.lemmas.Result.{on_ok_weaker}
-use Rattle.iim_places.proofs.Splitting.{four_pieces}
+use Rattle.iim_places.specs.Format.Tickets.{wide, present_version}
 use Rattle.iim_unpack.proofs.ticket.spelling.push_data.Goals as goal
 
-pub returns : goal.returns
-returns c =
-    let o : List ℕ = c.args.ticket.now.items in
+pub returns-clause-octets : goal.returns-clause-octets
+returns-clause-octets g c =
+    let o : List ℕ = g.T.TicketOut.octets c.args.ticket.now in
+    let a : List ℕ = 1 ∷ c.args.head.set ∷ [] in
     let w : List ℕ = wide present_version c.args.head.count in
     let x : List ℕ = wide present_version c.args.left in
-    let before : c.push_wide-2.new.ticket.items ≡ (((o ++ 1 ∷ []) ++ c.args.head.set ∷ []) ++ w) ++ x =
-    c.in_ok-push_wide-2.ensures ∙ ap (λ (t : List ℕ). t ++ x) (c.in_ok-push_wide.ensures ∙ ap (λ (t : List ℕ). t ++ w) (c.in_ok-push-2.ensures.items ∙ ap (λ (t : List ℕ). t ++ c.args.head.set ∷ []) c.in_ok-push.ensures.items)) in
-    on_ok_weaker c.extend_from_slice.result (λ items. items ∙ ap (λ (t : List ℕ). t ++ c.args.taken.now) before ∙ four_pieces o (1 ∷ []) (c.args.head.set ∷ []) w x c.args.taken.now) (grown c.extend_from_slice.result _ _ _ c.extend_from_slice.ensures.items)
+    let t : List ℕ = c.args.taken.now in
+    let before : g.T.TicketOut.octets c.push_wide-2.new.ticket ≡ ((o ++ a) ++ w) ++ x =
+    c.in_ok-push_wide-2.ensures.octets ∙ ap (λ (s : List ℕ). s ++ x) (c.in_ok-push_wide.ensures.octets ∙ ap (λ (s : List ℕ). s ++ w) c.in_ok-put.ensures.octets) in
+    let whole = append_assoc ((o ++ a) ++ w) x t ∙ append_assoc (o ++ a) w (x ++ t) ∙ append_assoc o a (w ++ (x ++ t)) in
+    on_ok_weaker c.put-2.result (λ is. is ∙ ap (λ (s : List ℕ). s ++ t) before ∙ whole) c.put-2.ensures.octets

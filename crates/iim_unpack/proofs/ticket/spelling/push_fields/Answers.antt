@@ -12,26 +12,35 @@ one_more (x ∷ done) d =
     ap (λ (l : List ℕ). field_octets x ++ l) (one_more done d) ∙ sym (append_assoc (field_octets x) (flat_map field_octets done) (field_octets d))
 
 pub loop-rec-init : goal.loop-rec-init
-loop-rec-init c = record { done = []; parts = sym c.kept-kept.ensures; spelled = c.in_ok-push_number.ensures ∙ ap (λ (n : ℕ). c.args.ticket.now.items ++ four n) c.kept_count.ensures ∙ sym (append-nil (c.args.ticket.now.items ++ four (length c.args.fields.now.kept))) }
+loop-rec-init g c =
+    let start : List ℕ = g.T.TicketOut.octets c.args.ticket.now in
+    record {
+      done = [];
+      parts = sym c.kept-kept.ensures;
+      spelled = c.in_ok-push_number.ensures.octets ∙ ap (λ (n : ℕ). start ++ four n) c.kept_count.ensures ∙ sym (append-nil (start ++ four (length c.args.fields.now.kept)));
+      place = c.push_number.ensures.place;
+    }
 
 pub loop-rec-preserved : goal.loop-rec-preserved
-loop-rec-preserved c =
+loop-rec-preserved g c =
     let done : List Dataset = c.loop-rec.invariant.done in
     let d : Dataset = record { rec = c.in-Some.rec; set = c.in-Some.set; octets = c.in-Some.octets.now } in
     let rest : List Dataset = rest_of c.next.new.self in
-    let front : List ℕ = c.args.ticket.now.items ++ four (length c.args.fields.now.kept) in
+    let front : List ℕ = g.T.TicketOut.octets c.args.ticket.now ++ four (length c.args.fields.now.kept) in
     record {
       done = done ++ d ∷ [];
       parts = c.loop-rec.invariant.parts ∙ (ap (λ (t : List Dataset). done ++ t) c.in-Some.ensures.steps ∙ sym (append_assoc done (d ∷ []) rest));
-      spelled = c.in_ok-push_field.ensures ∙ (ap (λ (l : List ℕ). l ++ field_octets d) c.loop-rec.invariant.spelled
+      spelled = c.in_ok-push_field.ensures.octets ∙ (ap (λ (l : List ℕ). l ++ field_octets d) c.loop-rec.invariant.spelled
           ∙ (append_assoc front (flat_map field_octets done) (field_octets d) ∙ ap (λ (l : List ℕ). front ++ l) (sym (one_more done d))));
+      place = c.push_field.ensures.place ∙ c.loop-rec.invariant.place;
     }
 
-pub returns : goal.returns
-returns c =
+pub returns-clause-octets : goal.returns-clause-octets
+returns-clause-octets g c =
     let done : List Dataset = c.loop-rec.invariant.done in
     let kept : List Dataset = c.args.fields.now.kept in
-    let front : List ℕ = c.args.ticket.now.items ++ four (length kept) in
+    let start : List ℕ = g.T.TicketOut.octets c.args.ticket.now in
+    let front : List ℕ = start ++ four (length kept) in
     c.loop-rec.invariant.spelled
     ∙ ap (λ (ds : List Dataset). front ++ flat_map field_octets ds) (sym (c.loop-rec.invariant.parts ∙ (ap (λ (t : List Dataset). done ++ t) c.in_default.ensures.steps.0 ∙ append-nil done)))
-    ∙ append_assoc c.args.ticket.now.items (four (length kept)) (flat_map field_octets kept)
+    ∙ append_assoc start (four (length kept)) (flat_map field_octets kept)

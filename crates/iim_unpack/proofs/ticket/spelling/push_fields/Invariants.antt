@@ -7,11 +7,12 @@ use Rattle.iim_unpack.proofs.ticket.spelling.push_fields.Given as goal
 
 -- some datasets are there
 abbrev pub invariant-loop-rec : goal.invariant-loop-rec
-invariant-loop-rec l = record {
+invariant-loop-rec g l = record {
   done : List Dataset;
   parts : l.fn.fields.kept ≡ done ++ rest_of l.kept;
-  spelled : l.ticket.items ≡ (l.fn.ticket.items ++ four (length l.fn.fields.kept)) ++ flat_map field_octets done;
+  spelled : g.T.TicketOut.octets l.ticket ≡ (g.T.TicketOut.octets l.fn.ticket ++ four (length l.fn.fields.kept)) ++ flat_map field_octets done;
+  place : g.T.TicketOut.place l.ticket ≡ g.T.TicketOut.place l.fn.ticket;
 }
 
 abbrev pub decreases-loop-rec : goal.decreases-loop-rec
-decreases-loop-rec l = length (rest_of l.kept)
+decreases-loop-rec g l = length (rest_of l.kept)

@@ -4,4 +4,6 @@ use Rattle.iim_places.specs.Format.Tickets.{number_octets, present_version}
 use Rattle.iim_unpack.proofs.ticket.spelling.push_options.Given as goal
 
 abbrev pub invariant-loop-number : goal.invariant-loop-number
-invariant-loop-number l = l.ticket.items ≡ l.fn.ticket.items ++ flat_map (number_octets present_version) (take l.number-index l.numbers)
+invariant-loop-number g l =
+    (g.T.TicketOut.octets l.ticket ≡ g.T.TicketOut.octets l.fn.ticket ++ flat_map (number_octets present_version) (take l.number-index l.numbers))
+    × (g.T.TicketOut.place l.ticket ≡ g.T.TicketOut.place l.fn.ticket)

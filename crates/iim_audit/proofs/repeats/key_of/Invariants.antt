@@ -1,0 +1,7 @@
+use Rattle.std.proofs.Common.{◌≡◌, drop}
+use Rattle.iim_audit.specs.Repeats.{key_after}
+use Rattle.iim_audit.proofs.repeats.key_of.Given as goal
+
+-- the octets that are left lead to the same key
+abbrev pub invariant-loop-octet : goal.invariant-loop-octet
+invariant-loop-octet l = key_after l.key (drop l.octet-index l.fn.id.number) ≡ key_after 0 l.fn.id.number

@@ -1,0 +1,211 @@
+-- Stories whose lines end in LF alone.
+use Rattle.std.proofs.Common.{◌≡◌, inl, inr, ℕ, zero, suc, ◌+◌, ◌*◌, ◌<◌, ◌==◌, ◌||◌, Bool, true, false, cond, List, [], ◌∷◌, ◌++◌, append_assoc, append-nil, length, take, take-add, drop, map, count_by, get_or, refl, ap, sym, ◌∙◌, subst, arith, IsTrue}
+use Rattle.std.specs.List.{list_all, onto_first, AllByRecursion, join_with_byte}
+use Rattle.std.specs.Simd.Lanes.{mask_l}
+use Rattle.std.proofs.lemmas.Bool.{and_parts, and_from, cases_Bool}
+use Rattle.std.proofs.lemmas.Bool.Decides.{nat_tests}
+use Rattle.std.proofs.lemmas.List.{drop-drop, take-append-drop}
+use Rattle.std.proofs.lemmas.List.Sums.{sum_by-take-drop}
+use Rattle.std.proofs.lemmas.List.Folds.{list_all-append}
+use Rattle.std.proofs.lemmas.List.Splits.{slice_split-cons_yes, slice_split-cons_no, join_with_byte-slice_split}
+use Rattle.wire_story.specs.Joining.{lines_in}
+use Rattle.wire_story.specs.Format.Texts.{is_line_octet, IsLine, IsText}
+use Rattle.wire_story.proofs.Collected.{some_line, packed_len}
+use Rattle.iim_script.specs.Format.Lines.{HasNo, EndsLine, EndLines}
+use Rattle.iim_script.specs.Format.Scripts.{IsStory}
+use Rattle.iim_script.specs.Plain.{is_plain, is_low, TellsText, IsWithoutFeed}
+
+-- ---- octets
+
+bits : (a b : Bool) (m n : ℕ) → cond a 1 0 + 2 * m ≡ cond b 1 0 + 2 * n → (a ≡ b) × (m ≡ n)
+bits true true m n e = (refl, omega (arith, e))
+bits true false m n e = absurd (omega (arith, e))
+bits false true m n e = absurd (omega (arith, e))
+bits false false m n e = (refl, omega (arith, e))
+
+plain_octet : (b : ℕ) → b < 256 → is_low b ≡ (b == 10) → is_plain b ≡ true
+plain_octet b fits e = grind (arith, nat_tests)
+
+-- where just the LF are low, all are plain
+pub plain_front : (n : ℕ) (xs : List ℕ) → ((k : ℕ) → get_or xs k 0 < 256) → mask_l (map is_low (take n xs)) ≡ mask_l (map (λ b. b == 10) (take n xs))
+    → IsTrue (list_all is_plain (take n xs))
+plain_front zero xs fits e = refl
+plain_front (suc n) [] fits e = refl
+plain_front (suc n) (x ∷ xs) fits e =
+    let h = bits (is_low x) (x == 10) (mask_l (map is_low (take n xs))) (mask_l (map (λ b. b == 10) (take n xs))) e in
+    and_from (is_plain x) (list_all is_plain (take n xs)) (plain_octet x (fits 0) h.0) (plain_front n xs (λ k. fits (suc k)) h.1)
+
+-- ---- lines
+
+or_left : (p q : Bool) → (p || q) ≡ true → q ≡ false → p ≡ true
+or_left true q h e = refl
+or_left false q h e = sym e ∙ h
+
+line_octet : (b : ℕ) → is_plain b ≡ true → (b == 10) ≡ false → is_line_octet b ≡ true
+line_octet b h e = or_left (is_line_octet b) (b == 10) h e
+
+-- each of the lines may stand in a text
+abbrev Each : List (List ℕ) → Type 0
+Each lines = IsTrue (list_all (list_all is_line_octet) lines)
+
+first_each : (x : ℕ) (lines : List (List ℕ)) → 0 < length lines → is_line_octet x ≡ true → Each lines → Each (onto_first x lines)
+first_each x [] some is h = absurd (omega (arith, some))
+first_each x (line ∷ lines) some is h =
+    let parts = and_parts (list_all is_line_octet line) (list_all (list_all is_line_octet) lines) h in
+    and_from (list_all is_line_octet (x ∷ line)) (list_all (list_all is_line_octet) lines) (and_from (is_line_octet x) (list_all is_line_octet line) is parts.0) parts.1
+
+lines_each : (xs : List ℕ) → IsTrue (list_all is_plain xs) → Each (lines_in xs)
+lines_each [] h = refl
+lines_each (x ∷ xs) h =
+    let parts = and_parts (is_plain x) (list_all is_plain xs) h in
+    elim (cases_Bool (x == 10)) [
+      | inl e ↦ subst Each (sym (slice_split-cons_yes (λ b. b == 10) x xs e)) (lines_each xs parts.1)
+      | inr e ↦ subst Each (sym (slice_split-cons_no (λ b. b == 10) x xs e)) (first_each x (lines_in xs) (some_line xs) (line_octet x parts.0 e) (lines_each xs parts.1))
+    ]
+
+-- ---- their text
+
+joined_text : (lines : List (List ℕ)) → 0 < length lines → Each lines → IsText (join_with_byte 10 lines) lines
+joined_text [] some h = absurd (omega (arith, some))
+joined_text (line ∷ []) some h = ((and_parts (list_all is_line_octet line) true h).0, refl)
+joined_text (line ∷ next ∷ lines) some h =
+    let parts = and_parts (list_all is_line_octet line) (list_all (list_all is_line_octet) (next ∷ lines)) h in
+    (parts.0, 0, omega arith, join_with_byte 10 (next ∷ lines), refl, joined_text (next ∷ lines) (omega arith) parts.1)
+
+all_texts : (lines : List (List ℕ)) → Each lines → AllByRecursion IsLine lines
+all_texts [] h = tt
+all_texts (line ∷ lines) h =
+    let parts = and_parts (list_all is_line_octet line) (list_all (list_all is_line_octet) lines) h in
+    (parts.0, all_texts lines parts.1)
+
+-- ---- their story
+
+no_octet : (b : ℕ) → is_line_octet b ≡ true → (b == 10) ≡ false
+no_octet b h = grind (arith, nat_tests)
+
+pub no_feed : (line : List ℕ) → IsLine line → HasNo 10 line
+no_feed [] h = tt
+no_feed (x ∷ xs) h =
+    let parts = and_parts (is_line_octet x) (list_all is_line_octet xs) h in
+    (no_octet x parts.0, no_feed xs parts.1)
+
+pub no_return : (line front : List ℕ) → IsLine line → line ≡ front ++ 13 ∷ [] → ⊥
+no_return line [] h e =
+    let false_is : false ≡ true = subst (λ (l : List ℕ). IsLine l) e h in
+    absurd cc
+no_return [] (x ∷ front) h e = absurd (omega (arith, ap length e))
+no_return (y ∷ line) (x ∷ front) h e = no_return line front (and_parts (is_line_octet y) (list_all is_line_octet line) h).1 (ap (λ (l : List ℕ). drop 1 l) e)
+
+ends_line : (line : List ℕ) → IsLine line → EndsLine line (line ++ 10 ∷ [])
+ends_line line is = (no_feed line is, inr (refl, λ r. no_return line r.0 is r.1))
+
+-- with an LF at the end
+all_ended : (lines : List (List ℕ)) → 0 < length lines → Each lines → EndLines lines (join_with_byte 10 lines ++ 10 ∷ [])
+all_ended [] some h = absurd (omega (arith, some))
+all_ended (line ∷ []) some h =
+    (line ++ 10 ∷ [], [], ends_line line (and_parts (list_all is_line_octet line) true h).0, refl, sym (append-nil (line ++ 10 ∷ [])))
+all_ended (line ∷ next ∷ lines) some h =
+    let parts = and_parts (list_all is_line_octet line) (list_all (list_all is_line_octet) (next ∷ lines)) h in
+    let rest = join_with_byte 10 (next ∷ lines) in (
+      line ++ 10 ∷ [],
+      rest ++ 10 ∷ [],
+      ends_line line parts.0,
+      all_ended (next ∷ lines) (omega arith) parts.1,
+      append_assoc line (10 ∷ rest) (10 ∷ []) ∙ sym (append_assoc line (10 ∷ []) (rest ++ 10 ∷ [])),
+    )
+
+-- The last of the lines is not ended.
+record Open (lines : List (List ℕ)) (text : List ℕ) : Type 0 where
+  before : List (List ℕ)
+  last : List ℕ
+  ended : List ℕ
+  lines_are : lines ≡ before ++ last ∷ []
+  lined : EndLines before ended
+  text_is : text ≡ ended ++ last
+  none : HasNo 10 last
+
+last_open : (lines : List (List ℕ)) → 0 < length lines → Each lines → Open lines (join_with_byte 10 lines)
+last_open [] some h = absurd (omega (arith, some))
+last_open (line ∷ []) some h = record {
+  before = [];
+  last = line;
+  ended = [];
+  lines_are = refl;
+  lined = refl;
+  text_is = refl;
+  none = no_feed line (and_parts (list_all is_line_octet line) true h).0;
+}
+last_open (line ∷ next ∷ lines) some h =
+    let parts = and_parts (list_all is_line_octet line) (list_all (list_all is_line_octet) (next ∷ lines)) h in
+    let o = last_open (next ∷ lines) (omega arith) parts.1 in
+    record {
+      before = line ∷ o.before;
+      last = o.last;
+      ended = (line ++ 10 ∷ []) ++ o.ended;
+      lines_are = ap (λ (ls : List (List ℕ)). line ∷ ls) o.lines_are;
+      lined = (line ++ 10 ∷ [], o.ended, ends_line line parts.0, o.lined, refl);
+      text_is =
+          ap (λ (l : List ℕ). line ++ 10 ∷ l) o.text_is
+          ∙ (sym (append_assoc line (10 ∷ []) (o.ended ++ o.last)) ∙ sym (append_assoc (line ++ 10 ∷ []) o.ended o.last));
+      none = o.none;
+    }
+
+feed_at_end : (line ended : List ℕ) → EndsLine line ended → (front : List ℕ) × (ended ≡ front ++ 10 ∷ [])
+feed_at_end line ended (none, inl e) = (line ++ 13 ∷ [], e ∙ sym (append_assoc line (13 ∷ []) (10 ∷ [])))
+feed_at_end line ended (none, inr e) = (line, e.0)
+
+-- lines that are ended have an LF at their end
+feed_at_last : (line : List ℕ) (lines : List (List ℕ)) (octets : List ℕ) → EndLines (line ∷ lines) octets → (front : List ℕ) × (octets ≡ front ++ 10 ∷ [])
+feed_at_last line [] octets (ended, rest, ends, none, e) =
+    let f = feed_at_end line ended ends in
+    (f.0, e ∙ (ap (λ (l : List ℕ). ended ++ l) none ∙ (append-nil ended ∙ f.1)))
+feed_at_last line (next ∷ lines) octets (ended, rest, ends, more, e) =
+    let f = feed_at_last next lines rest more in
+    (ended ++ f.0, e ∙ (ap (λ (l : List ℕ). ended ++ l) f.1 ∙ sym (append_assoc ended f.0 (10 ∷ []))))
+
+stands_alone : (before : List (List ℕ)) (ended last text : List ℕ) → EndLines before ended → text ≡ ended ++ last → ((front : List ℕ) → text ≡ front ++ 10 ∷ [] → ⊥) → last ≡ [] → before ≡ []
+stands_alone [] ended last text lined is not empty = refl
+stands_alone (line ∷ lines) ended last text lined is not empty =
+    let f = feed_at_last line lines ended lined in
+    absurd (not f.0 (is ∙ (ap (λ (l : List ℕ). ended ++ l) empty ∙ (append-nil ended ∙ f.1))))
+
+-- ---- the whole
+
+story_is : (story text : List ℕ) (lines : List (List ℕ)) → 0 < length lines → Each lines → text ≡ join_with_byte 10 lines → IsWithoutFeed story text → IsStory story lines
+story_is story text lines some each is (inl e) =
+    (some, inl (subst (λ (l : List ℕ). EndLines lines l) (ap (λ (l : List ℕ). l ++ 10 ∷ []) (sym is) ∙ sym e) (all_ended lines some each)))
+story_is story text lines some each is (inr (e, not)) =
+    let o = last_open lines some each in
+    let parts : story ≡ o.ended ++ o.last = e ∙ (is ∙ o.text_is) in
+    (some, inr (o.before, o.last, o.ended, o.lines_are, o.lined, parts, o.none, stands_alone o.before o.ended o.last story o.lined parts not))
+
+pub tells_plain : (story text : List ℕ) (feeds len : ℕ) → IsWithoutFeed story text → IsTrue (list_all is_plain text) → feeds ≡ count_by (λ b. b == 10) text → len ≡ length text + feeds
+    → TellsText story text len
+tells_plain story text feeds len cut plain counted e =
+    let lines = lines_in text in
+    let each = lines_each text plain in
+    let is : text ≡ join_with_byte 10 lines = sym (join_with_byte-slice_split 10 text) in
+    record {
+      lines = lines;
+      is_story = story_is story text lines (some_line text) each is cut;
+      texts = all_texts lines each;
+      is_text = subst (λ (l : List ℕ). IsText l lines) (sym is) (joined_text lines (some_line text) each);
+      len_is = e ∙ (ap (λ (n : ℕ). length text + n) counted ∙ sym (packed_len text));
+    }
+
+-- ---- octets block by block
+
+pub plain_more : (xs : List ℕ) (at n : ℕ) → IsTrue (list_all is_plain (take at xs)) → IsTrue (list_all is_plain (take n (drop at xs))) → IsTrue (list_all is_plain (take (at + n) xs))
+plain_more xs at n h more =
+    subst (λ (ys : List ℕ). IsTrue (list_all is_plain ys)) (sym (take-add at n xs))
+    (list_all-append is_plain (take at xs) (take n (drop at xs)) ∙ and_from (list_all is_plain (take at xs)) (list_all is_plain (take n (drop at xs))) h more)
+
+pub plain_all : (xs : List ℕ) (at : ℕ) → IsTrue (list_all is_plain (take at xs)) → IsTrue (list_all is_plain (drop at xs)) → IsTrue (list_all is_plain xs)
+plain_all xs at h rest =
+    subst (λ (ys : List ℕ). IsTrue (list_all is_plain ys)) (take-append-drop at xs)
+    (list_all-append is_plain (take at xs) (drop at xs) ∙ and_from (list_all is_plain (take at xs)) (list_all is_plain (drop at xs)) h rest)
+
+-- the next ones after those before them, and the rest
+pub count_next : (p : ℕ → Bool) (xs : List ℕ) (at n : ℕ) → count_by p (take n (drop at xs)) + count_by p (drop (at + n) xs) ≡ count_by p (drop at xs)
+count_next p xs at n =
+    ap (λ (ys : List ℕ). count_by p (take n (drop at xs)) + count_by p ys) (sym (drop-drop n at xs)) ∙ sum_by-take-drop (λ x. cond (p x) 1 0) (drop at xs) n

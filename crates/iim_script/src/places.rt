@@ -1,0 +1,152 @@
+//! What is printed of a dataset, put into octets from a place on.
+
+ghost use Rattle.std.specs.Prelude.{◌≡◌, ◌+◌, ◌*◌, ◌≤◌, ◌++◌, length, take, decimal};
+ghost use Rattle.iim_dataset.specs.Format.Shown.{dataset_name, shown, shown_octet};
+ghost use Rattle.iim_script.specs.Format.Printed.{after_space, field_line};
+
+use crate::plain::{are_plain, plain_in_16};
+use iim_dataset::{DatasetName, escaped, is_plain};
+
+/// Puts octets there, and answers where they end.
+#[inline(always)]
+fn put_octets(line: &mut [u8], at: usize, octets: &[u8]) -> usize
+    requires { at + length octets.now ≤ length line.old }
+    ensures end { result ≡ at + length octets.now }
+    ensures written { take result line.new ≡ take at line.old ++ octets.now }
+{
+    let end = at + octets.len();
+    line[at..end].copy_from_slice(octets);
+    end
+}
+
+/// Puts an octet there as it is shown, and answers where that ends.
+#[inline(always)]
+fn put_shown_octet(line: &mut [u8], at: usize, octet: u8) -> usize
+    requires { at + 4 ≤ length line.old }
+    ensures end { result ≤ at + 4 }
+    ensures written { take result line.new ≡ take at line.old ++ shown_octet octet }
+{
+    if is_plain(octet) {
+        return put_octets(line, at, &[octet]);
+    }
+    put_octets(line, at, &escaped(octet))
+}
+
+/// Puts octets there as they are shown, one by one, and answers where they end.
+fn put_each(line: &mut [u8], at: usize, octets: &[u8]) -> usize
+    requires { at + 4 * length octets.now ≤ length line.old }
+    ensures end { result ≤ at + 4 * length octets.now }
+    ensures written { take result line.new ≡ take at line.old ++ shown octets.now }
+{
+    let mut end = at;
+    for octet in octets {
+        end = put_shown_octet(line, end, *octet);
+    }
+    end
+}
+
+/// Puts sixteen octets there as they are shown, and answers where they end.
+#[inline(always)]
+fn put_sixteen(line: &mut [u8], at: usize, octets: &[u8]) -> usize
+    requires within { at + 4 * length octets.now ≤ length line.old }
+    requires sixteen { length octets.now ≡ 16 }
+    ensures end { result ≤ at + 4 * length octets.now }
+    ensures written { take result line.new ≡ take at line.old ++ shown octets.now }
+{
+    if plain_in_16(octets) {
+        return put_octets(line, at, octets);
+    }
+    put_each(line, at, octets)
+}
+
+/// Puts octets there as they are shown, sixteen at a time, and answers where they end.
+#[inline(never)]
+fn put_by_sixteen(line: &mut [u8], at: usize, octets: &[u8]) -> usize
+    requires { at + 4 * length octets.now ≤ length line.old }
+    ensures end { result ≤ at + 4 * length octets.now }
+    ensures written { take result line.new ≡ take at line.old ++ shown octets.now }
+{
+    let mut end = at;
+    let mut rest = octets;
+    while rest.len() >= 16 {
+        let (part, after) = rest.split_at(16);
+        end = put_sixteen(line, end, part);
+        rest = after;
+    }
+    put_each(line, end, rest)
+}
+
+/// Puts octets there as they are shown, and answers where they end. Most stand for themselves, and are copied at once.
+#[inline(always)]
+fn put_shown(line: &mut [u8], at: usize, octets: &[u8]) -> usize
+    requires { at + 4 * length octets.now ≤ length line.old }
+    ensures end { result ≤ at + 4 * length octets.now }
+    ensures written { take result line.new ≡ take at line.old ++ shown octets.now }
+{
+    if are_plain(octets) {
+        return put_octets(line, at, octets);
+    }
+    put_by_sixteen(line, at, octets)
+}
+
+/// Puts a space and octets there as they are shown, or nothing where there are none, and answers where they end.
+#[inline(always)]
+fn put_after_space(line: &mut [u8], at: usize, octets: &[u8]) -> usize
+    requires { at + (1 + 4 * length octets.now) ≤ length line.old }
+    ensures end { result ≤ at + (1 + 4 * length octets.now) }
+    ensures written { take result line.new ≡ take at line.old ++ after_space octets.now }
+{
+    if octets.is_empty() {
+        return at;
+    }
+    let first = put_octets(line, at, b" ");
+    put_shown(line, first, octets)
+}
+
+/// Puts a number there in decimal digits, and answers where they end.
+#[inline(always)]
+fn put_number(line: &mut [u8], at: usize, number: u8) -> usize
+    requires { at + 3 ≤ length line.old }
+    ensures end { result ≤ at + 3 }
+    ensures written { take result line.new ≡ take at line.old ++ decimal number }
+{
+    if number < 10 {
+        return put_octets(line, at, &[b'0' + number]);
+    }
+    let tens = number / 10;
+    let ones = b'0' + number % 10;
+    if tens < 10 {
+        return put_octets(line, at, &[b'0' + tens, ones]);
+    }
+    put_octets(line, at, &[b'0' + tens / 10, b'0' + tens % 10, ones])
+}
+
+/// Puts the name of a dataset there, which is its record and its number with two digits at least, and answers where it ends.
+#[inline(always)]
+fn put_name(line: &mut [u8], at: usize, name: DatasetName) -> usize
+    requires { at + 8 ≤ length line.old }
+    ensures end { result ≤ at + 8 }
+    ensures written { take result line.new ≡ take at line.old ++ dataset_name name.rec name.set }
+{
+    let colon = put_number(line, at, name.rec);
+    let number = put_octets(line, colon, b":");
+    let digits = if name.set < 10 {
+        put_octets(line, number, b"0")
+    } else {
+        number
+    };
+    put_number(line, digits, name.set)
+}
+
+/// Puts the line of a dataset there, and answers where it ends.
+#[inline(always)]
+pub(crate) fn put_field(line: &mut [u8], at: usize, name: DatasetName, octets: &[u8]) -> usize
+    requires { at + (10 + 4 * length octets.now) ≤ length line.old }
+    ensures end { result ≤ at + (10 + 4 * length octets.now) }
+    ensures written { take result line.new ≡ take at line.old
+        ++ field_line (record { rec = name.rec; set = name.set; octets = octets.now }) }
+{
+    let space = put_name(line, at, name);
+    let shown = put_after_space(line, space, octets);
+    put_octets(line, shown, b"\n")
+}

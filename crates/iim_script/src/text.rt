@@ -1,0 +1,136 @@
+//! The text of a story, where each line but the last ends in LF alone: looked through sixteen octets at a time.
+
+ghost use Rattle.std.specs.Prelude.{◌≡◌, ◌==◌, ◌≤◌, count_by, length, map, take, IsTrue, IfSome};
+ghost use Rattle.std.specs.List.{list_all};
+ghost use Rattle.std.specs.Simd.Lanes.{mask_l};
+ghost use Rattle.iim_dataset.specs.Format.Characters.{lf};
+ghost use Rattle.iim_script.specs.Format.Scripts.{max_script};
+ghost use Rattle.iim_script.specs.Plain.{is_plain, is_low, TellsText, IsWithoutFeed};
+
+use iim_dataset::octets::{CR, EOT, ETX, LF, SOH, STX};
+use std::simd::prelude::*;
+
+/// How many octets are tested at once.
+const BLOCK: usize = 16;
+
+/// The octets that may not stand in a line are below this one, and so are few others.
+const LEAST_CALM: u8 = 14;
+
+/// The text of a story, where it lies, and how many octets it has where it is packed.
+#[derive(Clone, Copy)]
+pub(crate) struct StoryText<'a> {
+    pub(crate) octets: &'a [u8],
+    pub(crate) packed_len: u64,
+}
+
+/// Whether the octet may stand in a line, or is LF.
+fn may_stand(octet: u8) -> bool
+    ensures { result ≡ is_plain octet }
+{
+    !(octet == SOH || octet == STX || octet == ETX || octet == EOT || octet == CR)
+}
+
+/// Whether each octet may stand in a line, or is LF.
+fn are_plain(octets: &[u8]) -> bool
+    ensures { result ≡ list_all is_plain octets.now }
+{
+    octets.iter().all(|octet| may_stand(*octet))
+}
+
+/// How many octets are LF.
+fn count_feeds(octets: &[u8]) -> usize
+    ensures { result ≡ count_by (λ b. b == lf) octets.now }
+{
+    octets.iter().filter(|octet| **octet == LF).count()
+}
+
+/// How many LF stand among octets each of which is one, or may stand in a line. They are tested one after another.
+fn feeds_in_rest(octets: &[u8]) -> Option<usize>
+    ensures { IfSome result (λ count. IsTrue (list_all is_plain octets.now)
+        × (count ≡ count_by (λ b. b == lf) octets.now)) }
+{
+    if are_plain(octets) {
+        Some(count_feeds(octets))
+    } else {
+        None
+    }
+}
+
+/// The mask of those of the first sixteen octets that are below the least calm one.
+#[inline(always)]
+fn low_in_block(block: &[u8]) -> u64
+    requires { 16 ≤ length block.now }
+    ensures { result ≡ mask_l (map is_low (take 16 block.now)) }
+{
+    let octets = u8x16::from_slice(block);
+    octets.simd_lt(u8x16::splat(LEAST_CALM)).to_bitmask()
+}
+
+/// The mask of those of the first sixteen octets that are LF.
+#[inline(always)]
+fn feed_mask(block: &[u8]) -> u64
+    requires { 16 ≤ length block.now }
+    ensures { result ≡ mask_l (map (λ b. b == lf) (take 16 block.now)) }
+{
+    let octets = u8x16::from_slice(block);
+    octets.simd_eq(u8x16::splat(LF)).to_bitmask()
+}
+
+/// How many LF stand among the first sixteen octets, each of which is one, or may stand in a line.
+#[inline(always)]
+fn feeds_in_block(block: &[u8]) -> Option<usize>
+    requires { 16 ≤ length block.now }
+    ensures { IfSome result (λ count. IsTrue (list_all is_plain (take 16 block.now))
+        × (count ≡ count_by (λ b. b == lf) (take 16 block.now))) }
+{
+    let feeds = feed_mask(block);
+    if low_in_block(block) != feeds {
+        return feeds_in_rest(&block[..BLOCK]);
+    }
+    Some(feeds.count_ones() as usize)
+}
+
+/// How many LF stand among octets each of which is one, or may stand in a line.
+fn feeds_in(octets: &[u8]) -> Option<usize>
+    ensures { IfSome result (λ count. IsTrue (list_all is_plain octets.now)
+        × (count ≡ count_by (λ b. b == lf) octets.now)) }
+{
+    let mut at = 0;
+    let mut count = 0;
+    while octets.len() - at >= BLOCK {
+        match feeds_in_block(&octets[at..]) {
+            Some(more) => count += more,
+            None => return None,
+        }
+        at += BLOCK;
+    }
+    match feeds_in_rest(&octets[at..]) {
+        Some(more) => Some(count + more),
+        None => None,
+    }
+}
+
+/// A story without the LF at its end, where one stands there.
+fn without_feed(story: &[u8]) -> &[u8]
+    ensures { IsWithoutFeed story.now result.now }
+{
+    match story.strip_suffix(b"\n") {
+        Some(text) => text,
+        None => story,
+    }
+}
+
+/// The text of a story in which no octet stands that may stand neither in a line nor be an LF.
+pub(crate) fn plain_text(story: &[u8]) -> Option<StoryText<'_>>
+    requires { length story.now ≤ max_script }
+    ensures { IfSome result (λ text. TellsText story.now text.octets.now text.packed_len) }
+{
+    let octets = without_feed(story);
+    match feeds_in(octets) {
+        Some(feeds) => Some(StoryText {
+            octets,
+            packed_len: octets.len() as u64 + feeds as u64,
+        }),
+        None => None,
+    }
+}

@@ -1,0 +1,32 @@
+-- How a header is kept: as octets of a message, and where its parts end in them.
+use Rattle.std.specs.Prelude.{ℕ, ◌+◌, ◌≤◌, List, drop, length, slice_range}
+use Rattle.wire_message.specs.Format.Messages.{Header, header_of, IsHeader}
+use Rattle.wire_message.specs.declared.ends.Ends.{Ends}
+
+-- the header whose parts end there in the octets: the number follows the source at once, and one octet, whichever it is, stands
+-- between other parts
+abbrev pub parts_in : List ℕ → Ends → Header
+parts_in octets ends = header_of
+    (slice_range octets 0 ends.source)
+    (slice_range octets ends.source ends.number)
+    (slice_range octets (ends.number + 1) (ends.number + 2))
+    (slice_range octets (ends.number + 3) ends.category)
+    (slice_range octets (ends.category + 1) ends.words)
+    (drop (ends.words + 1) octets)
+
+-- where parts of these octets end
+abbrev pub ends_of : List ℕ → List ℕ → List ℕ → List ℕ → Ends
+ends_of source number category words = record {
+  source = length source;
+  number = length source + length number;
+  category = length source + length number + 3 + length category;
+  words = length source + length number + 3 + length category + 1 + length words;
+}
+
+-- The parts end one after another within the octets, and are those of a header.
+pub record IsKept (octets : List ℕ) (ends : Ends) : Type 0 where
+  pub source : ends.source ≤ ends.number
+  pub number : ends.number + 3 ≤ ends.category
+  pub category : ends.category + 1 ≤ ends.words
+  pub words : ends.words + 1 ≤ length octets
+  pub is_header : IsHeader (parts_in octets ends)

@@ -1,0 +1,184 @@
+"""What a crate hands on to its callers, read out of its sources: each with its doc comment."""
+import functools
+import glob
+import itertools
+import os
+import re
+from dataclasses import dataclass
+
+TOP = os.path.dirname(os.path.dirname(os.path.dirname(os.path.realpath(__file__))))
+# What a caller can name, by the word that begins it.
+BLOCKS = "struct", "enum", "trait"
+
+
+@dataclass
+class Item:
+    """A function, a type, a part of one, a trait that it has, or a constant: where it stands, its code on one line, and what is said of it."""
+
+    kind: str
+    # the type or the trait that it is of, or None
+    owner: str
+    name: str
+    code: str
+    doc: list
+    # its file below the repository, and its module below the root of the crate
+    path: str
+    place: str
+    # of a function its clauses
+    clauses: list
+
+
+def text_of(path):
+    with open(path, encoding="utf-8") as text:
+        return text.read()
+
+
+def is_library(crate):
+    """Whether a crate is one, and a library."""
+    return os.path.isfile(f"{TOP}/crates/{crate}/src/lib.rt")
+
+
+def sources_of(crate):
+    """The paths of the code of a crate."""
+    return sorted(glob.glob(f"{TOP}/crates/{crate}/src/**/*.rt", recursive=True))
+
+
+def handed_on(crate):
+    """What the root of a library hands on: the names of its `pub use` lines, and its public modules."""
+    root = re.sub("//.*", "", text_of(f"{TOP}/crates/{crate}/src/lib.rt"))
+    uses = [(path, names) for path, names in re.findall(r"^pub use ([\w:]+?)(?:::\{([^}]*)\})?;", root, re.M)]
+    names = {name.split(" as ")[-1].strip() for path, group in uses for name in (group or path.split("::")[-1]).split(",")}
+    return names - {""}, set(re.findall(r"^pub mod (\w+);", root, re.M))
+
+
+def of_others(crate):
+    """What a library hands on of other crates: of each its public module, or None for the root; the other crate; and the names."""
+    _, modules = handed_on(crate)
+    for path in sources_of(crate):
+        place = os.path.relpath(path, f"{TOP}/crates/{crate}/src").removesuffix(".rt")
+        for other, names in re.findall(r"^pub use (\w+)::(?:\w+::)?(\w+|\{[^}]*\});", re.sub("//.*", "", text_of(path)), re.M):
+            if os.path.isdir(f"{TOP}/crates/{other}") and (place == "lib" or place in modules):
+                yield None if place == "lib" else place, other, re.findall(r"\w+", names)
+
+
+def plain(words):
+    """Code on one line, as the pages for callers have it: without `pub`, and without `mut` at a name."""
+    words = re.sub(r",?\s+([)}\]])", r" \1", re.sub(r"\bpub |\bmut (?=\w+:)", "", words))
+    return re.sub(r"\s+", " ", re.sub(r"([(\[])\s+|\s+([)\]])", r"\1\2", words)).strip(" ;")
+
+
+def shortened(code):
+    """A constant's code; a long value is told by its type."""
+    return plain(code) if len(plain(code)) < 160 else plain(code.partition(" =")[0])
+
+
+def parts_of(body):
+    """What stands in the body of a type between commas that stand in no brackets: of each its doc comment and its code. What is said of a
+    field of a variant stands after what is said of the variant."""
+    depth, doc, code, field = 0, [], "", []
+    for line in body.split("\n"):
+        if said := re.match(r" *///(.*)", line):
+            (field if depth else doc).append(said[1].strip())
+            continue
+        if field:
+            doc += ["", f"`{re.match(r' *(?:pub )?(.*?),?$', line)[1]}`: {' '.join(field)}"]
+            field = []
+        for letter in re.sub("//.*", "", line) + "\n":
+            depth += (letter in "([{<") - (letter in ")]}>")
+            if letter == "," and depth == 0:
+                yield doc, code.strip()
+                doc, code = [], ""
+            else:
+                code += letter
+    if code.strip():
+        yield doc, code.strip()
+
+
+def until(lines, ends):
+    """The lines up to the first that matches, without comments."""
+    rest = itertools.takewhile(lambda each: not re.match(ends, each), lines)
+    return "\n".join(each for each in rest if not each.lstrip().startswith("//"))
+
+
+class File:
+    """A file of code, read line by line: its public items, as far as it can tell that they are."""
+
+    def __init__(self, crate, path):
+        self.path, self.place = os.path.relpath(path, TOP), os.path.relpath(path, f"{TOP}/crates/{crate}/src").removesuffix(".rt").split("/")[0]
+        self.lines = text_of(path).partition("#[cfg(test)]")[0].split("\n")
+        # the type or trait that a block is of, the word that begins it, and the trait that it gives
+        self.owner = self.block = self.trait = None
+
+    def item(self, kind, name, code, doc, owner=None, clauses=()):
+        return Item(kind, owner, name, code, doc, self.path, self.place, list(clauses))
+
+    def items(self):
+        doc = []
+        for at, line in enumerate(self.lines):
+            if said := re.match(r" *///(.*)", line):
+                doc.append(said[1].strip())
+            elif not re.match(r" *(#\[|//)", line):
+                yield from self.read(at, line, doc)
+                doc = []
+
+    def read(self, at, line, doc):
+        """What begins in a line."""
+        if line.startswith("}"):
+            self.owner = self.block = self.trait = None
+        elif block := re.match(r"(pub )?(struct|enum|trait) (\w+)", line):
+            yield from self.type(at, block, doc)
+        elif block := re.match(r"impl(?:<.*?>)? (?:([\w:]+)(?:<.*>)? for )?(\w+)", line):
+            self.trait, self.owner, self.block = block[1], block[2], None if line.endswith("{}") else "impl"
+            yield self.item("impl", self.owner, re.sub(r" \{\}?$", "", line), doc, self.owner)
+        elif constant := re.match(r" *pub const ([A-Z_0-9]+):", line):
+            code = "\n".join(self.lines[at:]).partition(";\n")[0]
+            yield self.item("const", constant[1], shortened(code), doc, self.owner)
+        elif function := re.match(r' *(pub )?(?:const )?(?:extern "C" )?fn (\w+)', line):
+            if function[1] or self.block == "trait":
+                yield self.function("fn", at, function[2], doc)
+            elif self.trait:
+                # (what a type's own function of a trait says besides)
+                yield self.function("given", at, f"{self.trait}::{function[2]}", doc)
+        elif self.block == "trait" and (ghost := re.match(r"    ghost (\w+):", line)):
+            yield self.item("ghost", ghost[1], plain("\n".join(self.lines[at:]).partition(";\n")[0]), doc, self.owner)
+
+    def type(self, at, block, doc):
+        """A type or a trait, and the parts of a type."""
+        public, kind, name = block.groups()
+        head = plain(until(self.lines[at:], r"\}|$").partition(" {\n")[0].removesuffix(" {"))
+        if kind == "trait":
+            self.owner, self.block = name, kind
+        if public:
+            yield self.item(kind, name, head, doc, name)
+        opens = self.lines[at].endswith("{")
+        body = "\n".join(itertools.takewhile(lambda each: each != "}", self.lines[at + 1 :])) if opens and kind != "trait" else ""
+        for said, code in parts_of(re.sub(r"^ *#\[.*\]\n", "", body, flags=re.M)):
+            if public and (kind == "enum" or code.startswith("pub ")):
+                yield self.item("part", re.match(r"(?:pub )?(\w+)", code)[1], plain(code), said, name)
+
+    def function(self, kind, at, name, doc):
+        """A function: its clauses end where its body begins, or in a trait with a `;`."""
+        text = until(self.lines[at:], r" *[{}]").partition("};\n")[0]
+        signature, *clauses = re.split(r"^ *(?=requires|ensures|ghost)", text, flags=re.M)
+        return self.item(kind, name, plain(signature.partition(" {\n")[0]), doc, self.owner, clauses)
+
+
+@functools.cache
+def items(crate):
+    """What a caller of a library can name, in the order of its files."""
+    names, modules = handed_on(crate)
+    found = [item for path in sources_of(crate) for item in File(crate, path).items()]
+    types = {item.name for item in found if item.kind in BLOCKS and (item.place in modules or item.name in names or item.place == "lib")}
+    return [item for item in found if is_handed_on(item, names, modules, types)]
+
+
+def is_handed_on(item, names, modules, types):
+    """Whether a caller can name an item."""
+    if item.kind == "impl":
+        return item.owner in types and " Model for " not in item.code and (" for " in item.code or ":" in item.code)
+    return item.owner in types if item.owner else item.place in modules or item.name in names or item.place == "lib"
+
+
+def functions(crate):
+    """The public functions of a library that a crate above can call."""
+    return [item for item in items(crate) if item.kind == "fn"]
