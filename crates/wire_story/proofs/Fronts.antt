@@ -1,7 +1,9 @@
 -- Fronts of a piece that are taken one after the other.
-use Rattle.std.proofs.Common.{ℕ, ◌+◌, ◌<◌, List, [], ◌∷◌, ◌++◌, length, take, slice_index, Option, subst, sym, ap, ◌∙◌, arith, length-drop}
-use Rattle.std.proofs.lemmas.List.{take_rest, take_more}
+use Rattle.std.proofs.Common.{ℕ, ◌+◌, ◌<◌, ◌≤◌, List, [], ◌∷◌, ◌++◌, length, take, drop, slice_index, Option, subst, sym, ap, ◌∙◌, arith, length-drop}
+use Rattle.std.proofs.lemmas.List.{take_rest, take_more, drop-drop}
 use Rattle.std.specs.List.{slice_range}
+use Rattle.wire_story.specs.Marking.{AreMarks, IsTextFront}
+use Rattle.wire_story.specs.declared.marks.Marks.{Marks}
 use Rattle.wire_story.specs.Format.Delivery.{StoryEvent, delivered}
 use Rattle.wire_story.specs.States.Reading.{CountsCause, TakesPiece, RefusesOne}
 use Rattle.wire_story.specs.declared.fault.TextFault.{TextFault}
@@ -37,3 +39,12 @@ pub takes_first : {S : Type 0} (goes : S → List StoryEvent → S → Type 0) (
     → TakesPiece goes failures old (slice_index rest 0 ∷ []) new a b → TakesPiece goes failures old (take 1 rest) new a b
 takes_first goes failures old new rest a b some first =
     subst (λ (xs : List ℕ). TakesPiece goes failures old xs new a b) (sym (take_more rest 0 0 some)) first
+
+pub front_after : (rest : List ℕ) (i k held : ℕ) (marks : Marks) → held ≤ 2 → 0 < i + k → i ≤ length rest → k ≤ length (slice_range rest i (length rest))
+    → AreMarks (drop k (slice_range rest i (length rest))) marks → IsTextFront rest held (i + k) marks
+front_after rest i k held marks few some near within next = record {
+  few = few;
+  some = some;
+  within = omega (arith, near, within, ap length (take_rest rest i), length-drop i rest);
+  next = subst (λ (xs : List ℕ). AreMarks xs marks) (ap (drop k) (take_rest rest i) ∙ drop-drop k i rest) next;
+}

@@ -10,8 +10,7 @@ line_end_is zero zero x y e = (refl, cc)
 line_end_is zero (suc k) x y e = absurd cc
 line_end_is (suc j) zero x y e = absurd cc
 line_end_is (suc j) (suc k) x y e =
-    let rest : line_end j ++ x ≡ line_end k ++ y = cc in
-    let more = line_end_is j k x y rest in
+    let more = line_end_is j k x y (cc) in
     (ap suc more.0, more.1)
 
 -- a line end begins with what stands in no line
@@ -42,8 +41,7 @@ one_text x (a ∷ next ∷ as') (b ∷ []) h k = absurd (no_end b a h.1 h.3 k.0 
 one_text x (a ∷ c ∷ as') (b ∷ d ∷ bs) h k =
     let s = ends_are a b h.1 k.1 h.3 k.3 h.0 k.0 (sym h.4 ∙ k.4) in
     let more = one_text h.3 (c ∷ as') (d ∷ bs) h.5 (subst (λ (t : List ℕ). IsText t (d ∷ bs)) (sym s.1) k.5) in
-    let first : a ≡ b = s.0 in
-    cc
+    cc (s.0, more)
 
 -- ---- texts so far
 
@@ -71,9 +69,7 @@ same_lines x (a ∷ as') [] line other held returns h k = absurd (no_more x othe
 same_lines x (a ∷ as') (b ∷ bs) line other held returns h k =
     let s = ends_are a b h.1 k.1 h.3 k.3 h.0 k.0 (sym h.4 ∙ k.4) in
     let more = same_lines h.3 as' bs line other held returns h.5 (subst (λ (t : List ℕ). IsTextSoFar t bs other returns) (sym s.1) k.5) in
-    let first : a ≡ b = s.0 in
-    let rests : as' ≡ bs = more.0 in
-    (cc, more.1)
+    (cc (s.0, more.0), more.1)
 
 pub one_text_so_far : (x : List ℕ) (lines others : List (List ℕ)) (line other : List ℕ) (held returns : ℕ)
     → IsTextSoFar x lines line held → IsTextSoFar x others other returns → (lines ≡ others) × (line ≡ other) × (held ≡ returns)

@@ -19,7 +19,7 @@ const LEAST_CALM: u8 = 14;
 const END: u64 = 1 << 16;
 
 /// Which of the octets that come next are below the least calm one.
-#[derive(Clone, Copy, Debug)]
+#[derive(Clone, Copy)]
 pub(crate) struct Marks {
     // The lowest digit stands for the next octet; the highest one that is set for the octet after those that it tells of.
     left: u64,

@@ -6,8 +6,7 @@ use Rattle.wire_story.proofs.line_iter.first_len.Goals as goal
 
 pub loop-at-init : goal.loop-at-init
 loop-at-init c =
-    let octets = c.args.octets.now in
-    (c.run_len-at.ensures.within, λ k less. no_feed_in octets c.run_len-at.result.0 k c.run_len-at.ensures.within c.run_len-at.ensures.line less)
+    (c.run_len-at.ensures.within, λ k less. no_feed_in c.args.octets.now c.run_len-at.result.0 k c.run_len-at.ensures.within c.run_len-at.ensures.line less)
 
 pub returns-then-octets-at-eq-LF : goal.returns-then-octets-at-eq-LF
 returns-then-octets-at-eq-LF c =

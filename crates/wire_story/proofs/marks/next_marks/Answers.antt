@@ -7,22 +7,19 @@ use Rattle.wire_story.proofs.marks.next_marks.Goals as goal
 
 pub loop-mask-preserved : goal.loop-mask-preserved
 loop-mask-preserved c =
-    let xs = c.args.octets.now in
     let i = c.loop-mask.invariant in
-    let at = c.loop-mask.at in
     record {
       later = omega (arith, i.later);
       room = omega (arith, i.room, c.if-octets-at.true);
-      line = calm_block xs (λ k. (c.type_inv.octets k).fits) at i.room (sym i.mask ∙ c.loop-mask-test.true) i.line;
-      mask = c.mask_of-mask-in-loop-mask.ensures ∙ ap (λ (ys : List ℕ). mask_l (map is_low (take 16 ys))) (take_rest xs (at + 16));
+      line = calm_block c.args.octets.now (λ k. (c.type_inv.octets k).fits) c.loop-mask.at i.room (sym i.mask ∙ c.loop-mask-test.true) i.line;
+      mask = c.mask_of-mask-in-loop-mask.ensures ∙ ap (λ (ys : List ℕ). mask_l (map is_low (take 16 ys))) (take_rest c.args.octets.now (c.loop-mask.at + 16));
     }
 
 pub overflow_add-mask : goal.overflow_add-mask
 overflow_add-mask c =
-    let xs = c.args.octets.now in
     let i = c.loop-mask.invariant in
     let at = c.loop-mask.at in
-    omega (arith, mask_small (drop at xs) c.loop-mask.mask (omega (arith, i.room, length-drop at xs)) i.mask)
+    omega (arith, mask_small (drop at c.args.octets.now) c.loop-mask.mask (omega (arith, i.room, length-drop at c.args.octets.now)) i.mask)
 
 pub returns-clause-within : goal.returns-clause-within
 returns-clause-within c =

@@ -7,18 +7,15 @@ use Rattle.wire_story.proofs.marks.tail_calm.Goals as goal
 
 pub overflow_add-mask : goal.overflow_add-mask
 overflow_add-mask c =
-    let xs = c.args.octets.now in
-    let start = length xs - 16 in
-    let mask = c.mask_of-mask.ensures ∙ ap (λ (ys : List ℕ). mask_l (map is_low (take 16 ys))) (take_rest xs start) in
-    omega (arith, mask_small (drop start xs) c.mask_of-mask.result (omega (arith, length-drop start xs)) mask)
+    let start = length c.args.octets.now - 16 in
+    let mask = c.mask_of-mask.ensures ∙ ap (λ (ys : List ℕ). mask_l (map is_low (take 16 ys))) (take_rest c.args.octets.now start) in
+    omega (arith, mask_small (drop start c.args.octets.now) c.mask_of-mask.result (omega (arith, length-drop start c.args.octets.now)) mask)
 
 pub calm_before-calm-requires : goal.calm_before-calm-requires
 calm_before-calm-requires c =
     let xs = c.args.octets.now in
-    let at = c.args.from in
-    let r = c.requires in
     let mask = c.mask_of-mask.ensures ∙ ap (λ (ys : List ℕ). mask_l (map is_low (take 16 ys))) (take_rest xs (length xs - 16)) in
-    some_left (drop at xs) _ (marks_last xs at c.mask_of-mask.result r.room r.within r.near mask)
+    some_left (drop c.args.from xs) _ (marks_last xs c.args.from c.mask_of-mask.result c.requires.room c.requires.within c.requires.near mask)
 
 pub returns-clause-within : goal.returns-clause-within
 returns-clause-within c =

@@ -1,9 +1,9 @@
-use Rattle.std.proofs.Common.{◌≡◌, ℕ, ◌+◌, false, List, length, drop, Some, slice_index, get_or-drop, subst, sym, ap, ◌∙◌, arith, length-drop}
-use Rattle.std.proofs.lemmas.List.{take_rest, drop-drop}
+use Rattle.std.proofs.Common.{◌≡◌, ℕ, ◌+◌, false, List, length, Some, slice_index, get_or-drop, subst, sym, ap, ◌∙◌, arith}
+use Rattle.std.proofs.lemmas.List.{take_rest}
 use Rattle.std.specs.List.{slice_range}
 use Rattle.wire_story.specs.Format.Texts.{is_line_octet}
 use Rattle.wire_story.specs.Marking.{AreMarks}
-use Rattle.wire_story.proofs.Fronts.{takes_both, refuses_later}
+use Rattle.wire_story.proofs.Fronts.{takes_both, refuses_later, front_after}
 use Rattle.wire_story.proofs.piece.take_front.Goals as goal
 
 -- the octet after the run
@@ -18,15 +18,8 @@ take_mark-requires-clause-mark g c none =
 
 pub returns-in-Ok-take_mark-clause-front : goal.returns-in-Ok-take_mark-clause-front
 returns-in-Ok-take_mark-clause-front g c =
-    let rest = c.args.rest.now in
-    let run = c.run_len-run.result.0 in
-    let used = c.in-Ok-take_mark.used in
-    let h = c.in-Ok-take_mark.ensures in record {
-      few = h.few;
-      some = omega (arith, h.short.0);
-      within = omega (arith, h.short.2, ap length (take_rest rest run), length-drop run rest);
-      next = subst (λ (xs : List ℕ). AreMarks xs c.after.result) (ap (drop used) (take_rest rest run) ∙ drop-drop used run rest) c.after.ensures;
-    }
+    front_after c.args.rest.now c.run_len-run.result.0 c.in-Ok-take_mark.used c.in-Ok-take_mark.now c.after.result
+    c.in-Ok-take_mark.ensures.few (omega (arith, c.in-Ok-take_mark.ensures.short.0)) c.run_len-run.ensures.within c.in-Ok-take_mark.ensures.short.2 c.after.ensures
 
 pub returns-in-Ok-take_mark-clause-taken : goal.returns-in-Ok-take_mark-clause-taken
 returns-in-Ok-take_mark-clause-taken g c =
@@ -39,3 +32,7 @@ returns-in-Err-take_mark-clause-refused g c =
     let h = c.args.held in
     refuses_later g.S.StorySink.goes g.S.StorySink.failures g.met.S.StorySink.joined (Some h) (Some h) c.args.rest.now c.run_len-run.result.0 c.in-Err-take_mark.fault
     c.args.sink.now c.take_run.new.sink c.take_mark.new.sink c.in-Ok.ensures.taken c.in-Err-take_mark.ensures.refused
+
+pub after-requires-clause-marks : goal.after-requires-clause-marks
+after-requires-clause-marks g c =
+    subst (λ (xs : List ℕ). AreMarks xs c.run_len-run.result.1) (sym (take_rest c.args.rest.now c.run_len-run.result.0)) c.run_len-run.ensures.marks

@@ -39,3 +39,6 @@ pub returns-clause-taken : goal.returns-clause-taken
 returns-clause-taken g c =
     subst (λ (xs : List ℕ). TakesPiece g.S.StorySink.goes g.S.StorySink.failures (Some c.args.held) xs (Some c.loop-at.now) c.args.sink.now c.loop-at.sink)
     (take_all c.loop-at.at c.args.piece.now (omega arith)) c.loop-at.invariant.taken
+
+pub take_fronts-requires-clause-marks : goal.take_fronts-requires-clause-marks
+take_fronts-requires-clause-marks g c = subst (λ xs. AreMarks xs c.loop-at.marks) (sym (take_rest c.args.piece.now c.loop-at.at)) c.loop-at.invariant.marks

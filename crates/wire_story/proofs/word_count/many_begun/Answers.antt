@@ -20,9 +20,8 @@ counted : (c : goal.After-more_begun-more) → (c.loop-at.begun + c.more_begun-m
 counted c =
     let run = c.args.octets.now in
     let at = c.loop-at.at in
-    let so = c.loop-at.invariant in
     begun_after (c.args.before == 0) (take at run) (take (at + 32 - at) (drop at run)) (take (at + 32) run) c.loop-at.begun c.loop-at.after c.more_begun-more.result.0 c.more_begun-more.result.1
-    (next_block run at) so.begun so.last c.more_begun-more.ensures.begun c.more_begun-more.ensures.last
+    (next_block run at) c.loop-at.invariant.begun c.loop-at.invariant.last c.more_begun-more.ensures.begun c.more_begun-more.ensures.last
 
 -- after the last one
 all_counted : (c : goal.After-more_begun-more-2) → (c.loop-at.begun + c.more_begun-more-2.result.0 ≡ words_begun (c.args.before == 0) c.args.octets.now)
@@ -30,9 +29,8 @@ all_counted : (c : goal.After-more_begun-more-2) → (c.loop-at.begun + c.more_b
 all_counted c =
     let run = c.args.octets.now in
     let at = c.loop-at.at in
-    let so = c.loop-at.invariant in
     begun_after (c.args.before == 0) (take at run) (take (length run - at) (drop at run)) run c.loop-at.begun c.loop-at.after c.more_begun-more-2.result.0 c.more_begun-more-2.result.1
-    (all_others run at) so.begun so.last c.more_begun-more-2.ensures.begun c.more_begun-more-2.ensures.last
+    (all_others run at) c.loop-at.invariant.begun c.loop-at.invariant.last c.more_begun-more-2.ensures.begun c.more_begun-more-2.ensures.last
 
 pub overflow_add-begun : goal.overflow_add-begun
 overflow_add-begun c =

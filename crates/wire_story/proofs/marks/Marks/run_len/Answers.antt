@@ -21,12 +21,11 @@ pub loop-left-smaller : goal.loop-left-smaller
 loop-left-smaller c =
     let xs = c.args.octets.now in
     let i = c.loop-left.invariant in
-    let s = c.calm_before-next.result.0 in
     let left = c.calm_before-next.result.1 in
     let r =
     calm_after xs (λ k. (c.type_inv.octets k).fits) c.loop-left.at c.loop-left.left i.within i.line i.marks c.if-left-eq1.false (sym c.may_stand.ensures ∙ c.if-not-may_stand.false)
-    s left c.calm_before-next.ensures.count c.calm_before-next.ensures.digits in
-    omega (arith, r.0, some_left (drop (c.loop-left.at + (1 + s)) xs) (record { left = left }) r.2)
+    c.calm_before-next.result.0 left c.calm_before-next.ensures.count c.calm_before-next.ensures.digits in
+    omega (arith, r.0, some_left (drop (c.loop-left.at + (1 + c.calm_before-next.result.0)) xs) (record { left = left }) r.2)
 
 pub loop-left-preserved : goal.loop-left-preserved
 loop-left-preserved c =
