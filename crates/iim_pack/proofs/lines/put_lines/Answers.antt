@@ -1,5 +1,4 @@
-use Rattle.std.proofs.Common.{ℕ, Bool, true, false, List, [], ◌++◌, sym, ap, subst, ◌∙◌, append_assoc}
-use Rattle.std.specs.Prelude.{IsTrue}
+use Rattle.std.proofs.Common.{ℕ, Bool, true, false, List, [], ◌++◌, sym, ap, subst, ◌∙◌, append_assoc, IsTrue}
 use Rattle.std.specs.List.{list_all}
 use Rattle.std.proofs.lemmas.Bool.{and_parts}
 use Rattle.wire_story.specs.Format.Texts.{is_line_octet}

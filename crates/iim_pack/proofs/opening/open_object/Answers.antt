@@ -1,7 +1,7 @@
-use Rattle.std.proofs.Common.{length}
+use Rattle.std.proofs.Common.{length, arith}
 use Rattle.iim_object.specs.States.Writing.{write_cause}
 use Rattle.iim_pack.proofs.Goings.{of_none}
-use Rattle.iim_pack.proofs.Openings.{not_begun, opened, opening_broke, may_open}
+use Rattle.iim_pack.proofs.Openings.{not_begun, opened, opening_broke, may_open, plan_small}
 use Rattle.iim_pack.proofs.opening.open_object.Goals as goal
 
 pub returns-in-Ok-write-clause-ok : goal.returns-in-Ok-write-clause-ok
@@ -19,3 +19,6 @@ returns-in-Err-write-clause-err g c =
 
 pub returns-in-Err-clause-err : goal.returns-in-Err-clause-err
 returns-in-Err-clause-err g c = not_begun g.W.Target.state c.args.writer c.args.buffer c.args.front.now c.in-Err.fault c.in-Err.ensures.cause c.in-Err.ensures.stopped c.in-Err.ensures.given_up
+
+pub returns-in-Err-clause-small : goal.returns-in-Err-clause-small
+returns-in-Err-clause-small g c = omega (arith, c.in-Err.ensures.stopped.0, plan_small c.args.buffer)

@@ -53,3 +53,6 @@ returns-in-Err-finish-clause-order g c = pack_order c.args.head.now c.args.lines
 
 pub returns-in-Ok-finish-clause-order : goal.returns-in-Ok-finish-clause-order
 returns-in-Ok-finish-clause-order g c = pack_order c.args.head.now c.args.lines.now.lines c.args.trailer.now c.args.plan
+
+pub returns-in-Err-clause-order : goal.returns-in-Err-clause-order
+returns-in-Err-clause-order g c = pack_order c.args.head.now c.args.lines.now.lines c.args.trailer.now c.args.plan

@@ -1,7 +1,5 @@
-use Rattle.std.proofs.Common.{◌≡◌, ℕ, List, sym, subst, ◌∙◌}
-use Rattle.std.specs.Prelude.{IfSome}
+use Rattle.std.proofs.Common.{◌≡◌, ℕ, List, length, ap, sym, subst, ◌∙◌, arith, IfSome}
 use Rattle.iim_object.specs.States.Writing as object
-use Rattle.iim_object.specs.States.Writing.{total_of}
 use Rattle.iim_object.proofs.Written.{if_none}
 use Rattle.wire_message.specs.Format.Canonical.{packed_tail}
 use Rattle.iim_pack.specs.States.Packing.{Finishes, BreaksOff, EndsIn, finish_cause}
@@ -11,13 +9,20 @@ use Rattle.iim_pack.proofs.Beginnings.{begun_ends}
 use Rattle.iim_pack.proofs.Orders.{finish_order}
 use Rattle.iim_pack.proofs.packer.Packer.finish.Goals as goal
 
+pub end_object-requires-clause-fits : goal.end_object-requires-clause-fits
+end_object-requires-clause-fits g c =
+    let trailer : List ℕ = c.args.trailer.now in
+    let octets : c.unwrap-tail.result.items ≡ packed_tail trailer = subst (λ o. IfSome o (λ tail. tail.items ≡ packed_tail trailer)) c.unwrap-tail.ensures c.tail_text.ensures.octets in
+    let may = may_end c.self.inside.object.plan (object.total_of c.self.inside.object) trailer (rw (c.plan.ensures, c.total.ensures.total) at (sym c.ending_cause.ensures ∙ c.in_default.is)) in
+    omega (arith, may.fits, ap length (c.as_slice.ensures.value ∙ octets))
+
 pub returns-in-Ok-clause-ok : goal.returns-in-Ok-clause-ok
 returns-in-Ok-clause-ok g c =
     let state = g.W.Target.state in
     let old = c.self.inside.object in
     let trailer : List ℕ = c.args.trailer.now in
     let octets : c.unwrap-tail.result.items ≡ packed_tail trailer = subst (λ o. IfSome o (λ tail. tail.items ≡ packed_tail trailer)) c.unwrap-tail.ensures c.tail_text.ensures.octets in
-    let may = may_end old.plan (total_of old) trailer (rw (c.plan.ensures, c.total.ensures.total) at (sym c.ending_cause.ensures ∙ c.in_default.is)) in
+    let may = may_end old.plan (object.total_of old) trailer (rw (c.plan.ensures, c.total.ensures.total) at (sym c.ending_cause.ensures ∙ c.in_default.is)) in
     let ends : Ends state old (packed_tail trailer) c.in-Ok.writer = subst (λ (t : List ℕ). Ends state old t c.in-Ok.writer) (c.as_slice.ensures.value ∙ octets) c.in-Ok.ensures.ok in
     subst (λ k. Finishes state k trailer c.in-Ok.writer) c.self.view_is (finished state c.self.inside.before old trailer c.in-Ok.writer c.events_are_packed_as_lines.ensures c.canonical_objects_are_messages.ensures may ends)
 

@@ -1,8 +1,6 @@
-use Rattle.std.proofs.Common.{ℕ, List, length, map, sym, subst, ◌∙◌}
-use Rattle.std.specs.Prelude.{OnOk, OnErr}
+use Rattle.std.proofs.Common.{ℕ, List, length, map, sym, subst, ◌∙◌, OnOk, OnErr}
 use Rattle.std.proofs.lemmas.Result.{on_ok_weaker, on_err_weaker}
 use Rattle.iim_object.specs.States.Writing as object
-use Rattle.iim_object.specs.States.Writing.{write_cause}
 use Rattle.iim_object.proofs.Written.{if_none}
 use Rattle.wire_story.specs.Format.Delivery.{StoryEvent, LineOctet}
 use Rattle.wire_story.specs.Format.Packing.{AreEvents}
@@ -35,7 +33,7 @@ returns-clause-broke g c =
     (subst (λ k. OnErr c.write.result (BreaksOff state (ContinuesWith events) k (record { before = c.self.inside.before; object = new }))) c.self.view_is
     (on_err_weaker c.write.result (λ (k : object.BreaksOff state (object.ContinuesWith old.plan xs) old new).
     broken state c.self.inside.before old new events c.lines_are_packed_as_their_events.ensures (subst (λ (t : List ℕ). object.BreaksOff state (object.ContinuesWith old.plan t) old new) (sym (line_packed xs)) k))
-    (of_none (write_cause old (length xs)) _ (may_write old (length xs) 2 (sym c.is_failed.ensures ∙ c.if-is_failed.false) (rw (c.plan.ensures, c.total.ensures.total) at (sym c.passes_plan.ensures ∙ c.if-passes_plan.false)))
+    (of_none (object.write_cause old (length xs)) _ (may_write old (length xs) 2 (sym c.is_failed.ensures ∙ c.if-is_failed.false) (rw (c.plan.ensures, c.total.ensures.total) at (sym c.passes_plan.ensures ∙ c.if-passes_plan.false)))
     c.write.ensures.broke)))
 
 pub returns-clause-begun : goal.returns-clause-begun

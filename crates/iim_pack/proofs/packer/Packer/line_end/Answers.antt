@@ -1,8 +1,6 @@
-use Rattle.std.proofs.Common.{List, [], ◌∷◌, sym, subst, ◌∙◌}
-use Rattle.std.specs.Prelude.{OnOk, OnErr}
+use Rattle.std.proofs.Common.{List, [], ◌∷◌, sym, subst, ◌∙◌, OnOk, OnErr}
 use Rattle.std.proofs.lemmas.Result.{on_ok_weaker, on_err_weaker}
 use Rattle.iim_object.specs.States.Writing as object
-use Rattle.iim_object.specs.States.Writing.{write_cause}
 use Rattle.iim_object.proofs.Written.{if_none}
 use Rattle.wire_story.specs.Format.Delivery.{StoryEvent, LineEnd}
 use Rattle.wire_story.specs.Format.Packing.{packed_events}
@@ -31,7 +29,7 @@ returns-clause-broke g c =
     (subst (λ k. OnErr c.write.result (BreaksOff state (ContinuesWith events) k (record { before = c.self.inside.before; object = new }))) c.self.view_is
     (on_err_weaker c.write.result (λ (k : object.BreaksOff state (object.ContinuesWith old.plan (packed_events events)) old new).
     broken state c.self.inside.before old new events c.lines_are_packed_as_their_events.ensures k)
-    (of_none (write_cause old 2) _ (may_write old 2 2 (sym c.is_failed.ensures ∙ c.if-is_failed.false) (rw (c.plan.ensures, c.total.ensures.total) at (sym c.passes_plan.ensures ∙ c.if-passes_plan.false)))
+    (of_none (object.write_cause old 2) _ (may_write old 2 2 (sym c.is_failed.ensures ∙ c.if-is_failed.false) (rw (c.plan.ensures, c.total.ensures.total) at (sym c.passes_plan.ensures ∙ c.if-passes_plan.false)))
     c.write.ensures.broke)))
 
 pub returns-clause-begun : goal.returns-clause-begun

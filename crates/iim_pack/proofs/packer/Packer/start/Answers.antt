@@ -47,3 +47,6 @@ returns-then-passes_plan-clause-order g c = start_order c.args.head.now c.args.p
 
 pub returns-in-Ok-open_object-clause-order : goal.returns-in-Ok-open_object-clause-order
 returns-in-Ok-open_object-clause-order g c = start_order c.args.head.now c.args.plan
+
+pub returns-in-Err-open_object-clause-order : goal.returns-in-Err-open_object-clause-order
+returns-in-Err-open_object-clause-order g c = start_order c.args.head.now c.args.plan
