@@ -1,7 +1,7 @@
 -- What a piece does to a reader that stands at a place, and to the story in it.
 use Rattle.std.proofs.Math.Seq.{take-add}
 use Rattle.std.specs.List.{slice_range}
-use Rattle.std.proofs.lemmas.List.{take_rest}
+use Rattle.std.proofs.lemmas.List.{take_rest, get_or-drop}
 use Rattle.std.proofs.Common.{◌≡◌, ℕ, zero, suc, ◌+◌, ◌<◌, true, false, List, [], ◌∷◌, ◌++◌, take, slice_index, Option, Some, None, map, refl, sym, ap, subst, ◌∙◌, arith, append_assoc, append-nil, length}
 use Rattle.std.proofs.lemmas.List.Concat.{flat_map-append}
 use Rattle.iim_dataset.specs.Format.Languages.{IsAlive}
@@ -31,7 +31,6 @@ use Rattle.wire_message.proofs.Alive.{message_lives, message_unfinished, IsAfter
 use Rattle.wire_message.proofs.Runs.{unread}
 use Rattle.wire_message.proofs.TextSoFar.{text_is, tokens_are, tokens_at_etx}
 use Rattle.wire_message.proofs.Held.{holds_two, stands_two, holds_none}
-use Rattle.std.proofs.lemmas.List.{get_or-drop}
 
 -- ---- histories of a place
 

@@ -80,14 +80,14 @@ words_more xs text ys s n p c w l = (l.0, l.1, ap (λ (u : List ℕ). u ++ ys) l
 pub words_space : (xs text : List ℕ) (s n p c w : ArrayVec ℕ) → Spells xs text (Words s n p c w) → Spells (xs ++ (32 ∷ [])) text (Info (begun s n p c w))
 words_space xs text s n p c w l = (l.0, l.1, ap (λ (u : List ℕ). u ++ (32 ∷ [])) l.2 ∙ simp append_assoc, l.3)
 
+one_feed : (x : Bool) → (x || false) ≡ x
+one_feed true = refl
+one_feed false = refl
+
 pub words_gap : (xs text : List ℕ) (s n p c w : ArrayVec ℕ) (b : ℕ) → is_filler_octet b ≡ true → Spells xs text (Words s n p c w)
     → Spells (xs ++ (b ∷ [])) text (Gap (begun s n p c w) 1 (b == 10))
 words_gap xs text s n p c w b t l =
     (l.0, [], b ∷ [], l.1, inl (refl, refl), one_is is_filler_octet b t, refl, one_feed (b == 10), ap (λ (u : List ℕ). u ++ (b ∷ [])) l.2 ∙ simp append_assoc, l.3)
-  where
-    one_feed : (x : Bool) → (x || false) ≡ x
-    one_feed true = refl
-    one_feed false = refl
 
 pub info_more : (xs text ys : List ℕ) (h k : Header) → k ≡ record h { info = h.info ++ ys } → Spells xs text (Info h) → Spells (xs ++ ys) text (Info k)
 info_more xs text ys h k e l =
@@ -97,17 +97,9 @@ info_more xs text ys h k e l =
 pub info_gap : (xs text : List ℕ) (h : Header) (b : ℕ) → is_filler_octet b ≡ true → Spells xs text (Info h) → Spells (xs ++ (b ∷ [])) text (Gap h 1 (b == 10))
 info_gap xs text h b t l =
     (l.0, 32 ∷ h.info, b ∷ [], l.1, inr refl, one_is is_filler_octet b t, refl, one_feed (b == 10), ap (λ (u : List ℕ). u ++ (b ∷ [])) l.2 ∙ join1 l.0 (fixed_header h) (32 ∷ h.info) (b ∷ []), l.3)
-  where
-    one_feed : (x : Bool) → (x || false) ≡ x
-    one_feed true = refl
-    one_feed false = refl
 
 feed_more : (gap : List ℕ) (b : ℕ) → has_feed (gap ++ (b ∷ [])) ≡ (has_feed gap || b == 10)
 feed_more [] b = one_feed (b == 10)
-  where
-    one_feed : (x : Bool) → (x || false) ≡ x
-    one_feed true = refl
-    one_feed false = refl
 feed_more (c ∷ gap) b = ap (λ (t : Bool). c == 10 || t) (feed_more gap b) ∙ or_regroup (c == 10) (has_feed gap) (b == 10)
   where
     or_regroup : (x y z : Bool) → (x || (y || z)) ≡ ((x || y) || z)

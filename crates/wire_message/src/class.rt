@@ -8,7 +8,7 @@ ghost use Rattle.wire_message.specs.Classes.{is_in_class};
 use iim_dataset::octets::{CR, ETX, LF, NUL, SYN};
 
 /// A class of octets.
-#[derive(Clone, Copy, Debug, PartialEq, Eq)]
+#[derive(Clone, Copy)]
 pub(crate) enum Class {
     /// A to Z and a to z.
     Letter,

@@ -6,7 +6,7 @@ use arrayvec::ArrayVec;
 use wire_story::TextReader;
 
 /// The part of a message that is being read, with what was read of the header and the trailer.
-#[derive(Debug, Drop)]
+#[derive(Drop)]
 pub(crate) enum Place {
     /// `count` octets of filler, and no SOH.
     Filler {

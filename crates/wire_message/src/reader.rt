@@ -23,7 +23,7 @@ use wire_story::StorySink;
 /// nothing of the text but how many CR stand at its end. No call takes memory.
 ///
 /// Contracts see it as the place that the octets so far have led to, and as None after a refusal.
-#[derive(Debug, Drop)]
+#[derive(Drop)]
 pub struct MessageReader {
     place: Option<Place>,
 }

@@ -6,7 +6,6 @@ use Rattle.wire_message.proofs.restore.in_text.Goals as goal
 
 pub returns-in_err-text-clause-only : goal.returns-in_err-text-clause-only
 returns-in_err-text-clause-only c p i e =
-    let m = c.args.place.now in
-    let there : IsPlace (restored part.Text m) = subst IsPlace (back m part.Text c.requires p i e) i in
-    let some = c.in_err-text.ensures.exactly.1 ((c.places_are_reached.ensures (Some m.flag)).0 there.1) in
+    let there : IsPlace (restored part.Text c.args.place.now) = subst IsPlace (back c.args.place.now part.Text c.requires p i e) i in
+    let some = c.in_err-text.ensures.exactly.1 ((c.places_are_reached.ensures (Some c.args.place.now.flag)).0 there.1) in
     absurd cc

@@ -16,16 +16,15 @@ use Rattle.wire_message.proofs.text.in_text.Goals.{else-is_control-via-then-is_c
 pub returns-in-Ok-clause-takes : goal.returns-in-Ok-clause-takes
 returns-in-Ok-clause-takes g c = λ on.
     let h = c.args.head.now in
-    let rest = c.args.rest.now in
     let place = c.requires.place in
     let old = (c.places_are_reached.ensures c.args.text.now).0 place.1 in
     record {
-      is_place = (place.0, (c.places_are_reached.ensures c.run.new.self).1 (old.0 ++ rest, c.in-Ok.ensures.taken.leads_on old.0 old.1));
+      is_place = (place.0, (c.places_are_reached.ensures c.run.new.self).1 (old.0 ++ c.args.rest.now, c.in-Ok.ensures.taken.leads_on old.0 old.1));
       told = (
-        rest,
+        c.args.rest.now,
         c.in-Ok.ensures.taken.told,
-        subst (λ (u : List ℕ). LeadsOn (Some (Text h c.args.text.now)) u rest (Some (Text h c.run.new.self))) (sym (take-length rest))
-            (all_taken h c.args.text.now c.run.new.self rest c.in-Ok.ensures.taken.leads_on),
+        subst (λ (u : List ℕ). LeadsOn (Some (Text h c.args.text.now)) u c.args.rest.now (Some (Text h c.run.new.self))) (sym (take-length c.args.rest.now))
+            (all_taken h c.args.text.now c.run.new.self c.args.rest.now c.in-Ok.ensures.taken.leads_on),
       );
       calm = c.in-Ok.ensures.taken.calm;
     }
