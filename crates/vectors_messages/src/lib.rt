@@ -110,10 +110,19 @@ fn tell_reader(text: &mut Answers, reader: &MessageReader) {
     text.tell(&format_args!("trailer {trailer}"));
 }
 
+/// Ends a line with which octet is refused and why.
+fn tell_refused(text: &mut Answers, fault: MessageFault) {
+    text.put(" refused at ");
+    text.show(&fault.taken);
+    text.put(" ");
+    text.name(&fault.cause);
+    text.end();
+}
+
 /// Writes which octet is refused and why.
 fn tell_fault(text: &mut Answers, fault: MessageFault, reader: &MessageReader) {
-    let MessageFault { taken, cause } = fault;
-    text.tell(&format_args!("refused at {taken} {cause:?}"));
+    text.put(" ");
+    tell_refused(text, fault);
     if !reader.is_failed() {
         text.line("not failed");
     }
@@ -142,10 +151,12 @@ impl Reading for Objects {
 
 /// Writes a place: its part, its counter and its flag, and the texts of its header and trailer so far.
 fn tell_place(text: &mut Answers, place: &MessagePlace) {
-    let part = place.part;
-    let counter = place.counter;
-    let flag = place.flag;
-    text.show(&format_args!("  {part:?} {counter} {flag}"));
+    text.put("  ");
+    text.name(&place.part);
+    text.put(" ");
+    text.show(&place.counter);
+    text.put(" ");
+    text.show(&place.flag);
     let texts = [
         place.source.as_slice(),
         place.number.as_slice(),
@@ -191,22 +202,29 @@ impl Reading for Begun {
     }
 }
 
-/// The part of this name.
-fn part_of(word: &str) -> Option<MessagePart> {
+/// The part of a header of this name.
+fn place_in_header(word: &str) -> Option<MessagePart> {
     Some(match word {
-        "Filler" => MessagePart::Filler,
-        "Source" => MessagePart::Source,
         "Number" => MessagePart::Number,
         "Priority" => MessagePart::Priority,
         "PriorityRead" => MessagePart::PriorityRead,
         "Category" => MessagePart::Category,
         "Words" => MessagePart::Words,
         "Info" => MessagePart::Info,
+        _ => return None,
+    })
+}
+
+/// The part of this name.
+fn part_of(word: &str) -> Option<MessagePart> {
+    Some(match word {
+        "Filler" => MessagePart::Filler,
+        "Source" => MessagePart::Source,
         "Gap" => MessagePart::Gap,
         "Text" => MessagePart::Text,
         "Trailer" => MessagePart::Trailer,
         "AfterEnd" => MessagePart::AfterEnd,
-        _ => return None,
+        _ => return place_in_header(word),
     })
 }
 
@@ -270,25 +288,26 @@ fn read_each(octets: &[u8]) -> Option<MessageFault> {
 
 /// An octet between others.
 fn joined(alloc: Global, front: &[u8], octet: u8, back: &[u8]) -> Result<Vec<u8>> {
-    let mut object = Vec::new(alloc);
-    object.extend_from_slice(front)?;
-    object.push(octet)?;
-    object.extend_from_slice(back)?;
-    Ok(object)
+    let own = [octet];
+    Ok(front.iter().chain(&own).chain(back).copied().collect(alloc)?)
+}
+
+/// Prints an octet in hexadecimal digits.
+fn print_digits(out: &mut Answers, octet: u8) {
+    out.show(&format_args!("{octet:02X}"));
 }
 
 /// Prints the octets from first to last, and what each of them makes of the octets around it.
 fn print_run(out: &mut Answers, first: u8, last: u8, fault: Option<MessageFault>) {
-    if first == last {
-        out.show(&format_args!("  {first:02X}"));
-    } else {
-        out.show(&format_args!("  {first:02X}..{last:02X}"));
+    out.put("  ");
+    print_digits(out, first);
+    if first != last {
+        out.put("..");
+        print_digits(out, last);
     }
     match fault {
         None => out.put(" message\n"),
-        Some(MessageFault { taken, cause }) => out.show(&format_args!(
-            " refused at {taken} {cause:?}\n"
-        )),
+        Some(fault) => tell_refused(out, fault),
     }
 }
 
@@ -366,11 +385,7 @@ fn print_header(out: &mut Answers, names: &Names, words: &mut Words) {
     let count = words.octets(names);
     let info = words.octets(names);
     match MessageHead::new(&source, &number, &priority, &category, &count, &info) {
-        Some(head) => {
-            let octets = head_text(&head);
-            let octets = Shown(octets.as_slice());
-            out.tell(&format_args!("{octets}"));
-        }
+        Some(head) => out.tell(&Shown(head_text(&head).as_slice())),
         None => out.line("none"),
     }
 }
@@ -382,10 +397,7 @@ fn print_tail(out: &mut Answers, trailer: &[u8]) {
         out.line("differs");
     }
     match tail {
-        Some(tail) => {
-            let tail = Shown(tail.as_slice());
-            out.tell(&format_args!("{tail}"));
-        }
+        Some(tail) => out.tell(&Shown(tail.as_slice())),
         None => out.line("none"),
     }
 }

@@ -13,6 +13,7 @@ use iim_object::{
     SubfileWriter,
 };
 use std::alloc::Global;
+use std::fmt::Display;
 use vectors_questions::{Answers, Names, Shown, Words};
 
 /// Collects the octets of an object.
@@ -66,18 +67,25 @@ enum Token {
     Confirmed(u64),
 }
 
+/// The number in record 7 that a word names.
+fn set_of(word: &str) -> Result<u8> {
+    Ok(match word {
+        "7:10" => 10,
+        "7:20" => 20,
+        "7:90" => 90,
+        "7:95" => 95,
+        _ => bail!("no such token"),
+    })
+}
+
 /// The token that the next words tell.
 fn token_of(names: &Names, words: &mut Words) -> Result<Token> {
     Ok(match words.text() {
-        "7:10" => Token::Number(10, words.number()),
-        "7:20" => Token::Number(20, words.number()),
-        "7:90" => Token::Number(90, words.number()),
-        "7:95" => Token::Number(95, words.number()),
         "8:10" => Token::Subfile(words.number()),
         "run" => Token::Run(words.octets(names)),
         "end" => Token::End,
         "9:10" => Token::Confirmed(words.number()),
-        _ => bail!("no such token"),
+        word => Token::Number(set_of(word)?, words.number()),
     })
 }
 
@@ -95,6 +103,12 @@ fn take(reader: &mut ObjectReader, sink: &mut Joined, token: &Token) -> Result<(
     }
 }
 
+/// Prints text, and a value after it.
+fn print_label<T: Display>(out: &mut Answers, label: &str, value: &T) {
+    out.put(label);
+    out.show(value);
+}
+
 /// Prints what a reader of objects has.
 fn print_numbers(out: &mut Answers, reader: &ObjectReader) {
     if reader.is_failed() {
@@ -103,25 +117,22 @@ fn print_numbers(out: &mut Answers, reader: &ObjectReader) {
     }
     out.put("  numbers");
     for number in reader.numbers() {
-        let number = NumberOrDash(number);
-        out.show(&format_args!(" {number}"));
+        print_label(out, " ", &NumberOrDash(number));
     }
-    let subfiles = reader.subfiles();
-    let total = reader.total();
-    out.show(&format_args!(", subfiles {subfiles}, total {total}\n"));
+    print_label(out, ", subfiles ", &reader.subfiles());
+    print_label(out, ", total ", &reader.total());
+    out.end();
 }
 
 /// Prints what records 7 to 9 say of a whole object.
 pub fn print_sizes(out: &mut Answers, sizes: &Sizes) {
-    let known = sizes.known;
-    let subfile = sizes.subfile;
-    out.show(&format_args!("  sizes known {known} subfile {subfile}"));
-    let announced = NumberOrDash(sizes.announced);
-    let maximum = NumberOrDash(sizes.maximum);
-    out.show(&format_args!(" announced {announced} maximum {maximum}"));
-    let subfiles = sizes.subfiles;
-    let total = sizes.total;
-    out.show(&format_args!(" subfiles {subfiles} total {total}\n"));
+    print_label(out, "  sizes known ", &sizes.known);
+    print_label(out, " subfile ", &sizes.subfile);
+    print_label(out, " announced ", &NumberOrDash(sizes.announced));
+    print_label(out, " maximum ", &NumberOrDash(sizes.maximum));
+    print_label(out, " subfiles ", &sizes.subfiles);
+    print_label(out, " total ", &sizes.total);
+    out.end();
 }
 
 /// Prints the octets of an object, where some came.
@@ -138,8 +149,9 @@ fn print_joined(out: &mut Answers, sink: &Joined) {
 fn print_fault(out: &mut Answers, taken: u64, fault: ObjectFault) -> Result<()> {
     match fault {
         ObjectFault::Size { cause } => {
-            let number = cause.number();
-            out.tell(&format_args!("refused after {taken}: {number} {cause:?}"));
+            print_label(out, "  refused after ", &taken);
+            print_label(out, ": ", &cause);
+            out.end();
         }
         ObjectFault::Stopped(_) => bail!("the sink stopped"),
     }
@@ -233,9 +245,9 @@ fn written(alloc: Global, plan: Plan, object: &[u8], cut: usize) -> Result<Answe
             bail!("no octets are refused");
         }
         if let Err(cause) = writer.write(piece) {
-            let number = cause.number();
-            let is_same = writer.written() == before;
-            text.tell(&format_args!("after {at}: {number} {cause:?}, unchanged {is_same}"));
+            print_label(&mut text, "  after ", &at);
+            print_label(&mut text, ": ", &cause);
+            tell_unchanged(&mut text, writer.written() == before);
             break;
         }
     }
@@ -243,24 +255,29 @@ fn written(alloc: Global, plan: Plan, object: &[u8], cut: usize) -> Result<Answe
     Ok(text)
 }
 
+/// Ends a line with whether what was refused has changed nothing.
+fn tell_unchanged(text: &mut Answers, is_same: bool) {
+    print_label(text, ", unchanged ", &is_same);
+    text.end();
+}
+
+/// Writes the octets of a whole object.
+fn tell_whole(text: &mut Answers, octets: &[u8], total: u64) {
+    print_label(text, "  ", &Shown(octets));
+    print_label(text, "\n  total ", &total);
+    print_label(text, ", ", &octets.len());
+    text.put(" octets\n");
+}
+
 /// Ends an object, and writes its octets, or what refuses the end.
 fn tell_end(text: &mut Answers, writer: SubfileWriter<FromWrite<Vec<u8>>>) {
     let total = writer.total();
     match writer.finish() {
-        Ok(target) => {
-            let octets = target.into_inner();
-            let len = octets.len();
-            let octets = Shown(octets.as_slice());
-            text.tell(&format_args!("{octets}"));
-            text.tell(&format_args!("total {total}, {len} octets"));
-        }
+        Ok(target) => tell_whole(text, target.into_inner().as_slice(), total),
         Err((writer, cause)) => {
-            let number = cause.number();
-            let failed = writer.is_failed();
-            let is_same = writer.total() == total;
-            text.tell(&format_args!(
-                "end: {number} {cause:?}, failed {failed}, unchanged {is_same}"
-            ));
+            print_label(text, "  end: ", &cause);
+            print_label(text, ", failed ", &writer.is_failed());
+            tell_unchanged(text, writer.total() == total);
         }
     }
 }

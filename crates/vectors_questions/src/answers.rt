@@ -93,9 +93,9 @@ impl Answers {
 
     /// Adds a line that a format writes.
     pub fn tell<T: Display>(&mut self, line: &T) {
-        if writeln!(self.text, "  {line}").is_err() {
-            self.is_cut = true;
-        }
+        self.put("  ");
+        self.show(line);
+        self.end();
     }
 
     /// Adds a line: a value, or `none`.

@@ -34,20 +34,23 @@ impl Display for Shown<'_> {
     }
 }
 
+/// Whether an octet is printed as it is.
+fn is_printed(octet: u8) -> bool {
+    octet == b' ' || octet.is_ascii_graphic()
+}
+
 /// Whether an octet stands for itself in quotes.
 fn is_plain(octet: u8) -> bool {
-    b' ' <= octet && octet <= b'~' && octet != b'"'
+    octet != b'"' && is_printed(octet)
 }
 
 /// The value of a hexadecimal digit of upper case.
 fn digit(octet: u8) -> Option<u8> {
-    if octet.is_ascii_digit() {
-        return octet.checked_sub(b'0');
+    match octet {
+        b'0'..=b'9' => octet.checked_sub(b'0'),
+        b'A'..=b'F' => octet.checked_sub(b'A' - 10),
+        _ => None,
     }
-    if b'A' <= octet && octet <= b'F' {
-        return octet.checked_sub(b'A' - 10);
-    }
-    None
 }
 
 /// The decimal number that octets spell.
@@ -74,18 +77,32 @@ fn parted(octets: &[u8], at: usize) -> (&[u8], &[u8]) {
     )
 }
 
+/// How many octets there are before the first `end`.
+fn len_before(octets: &[u8], end: u8) -> usize {
+    for (at, octet) in octets.iter().enumerate() {
+        if *octet == end {
+            return at;
+        }
+    }
+    octets.len()
+}
+
 /// The octets before the first `end`, and those after it; None where there is none.
 fn cut_at(octets: &[u8], end: u8) -> Option<(&[u8], &[u8])> {
-    let at = octets.iter().position(|octet| *octet == end)?;
-    let (before, rest) = parted(octets, at);
-    Some((before, rest.get(1..).unwrap_or(&[])))
+    match parted(octets, len_before(octets, end)) {
+        (before, [_, after @ ..]) => Some((before, after)),
+        _ => None,
+    }
+}
+
+/// Whether a name can have an octet.
+fn is_in_name(octet: u8) -> bool {
+    octet == b'_' || octet.is_ascii_lowercase()
 }
 
 /// How many octets there are before the first that a name can't have.
 fn name_len(octets: &[u8]) -> usize {
-    let end = octets
-        .iter()
-        .position(|octet| !octet.is_ascii_lowercase() && *octet != b'_');
+    let end = octets.iter().position(|octet| !is_in_name(*octet));
     end.unwrap_or(octets.len())
 }
 
@@ -196,12 +213,15 @@ impl<'q> Words<'q> {
     }
 }
 
+/// The decimal number of four octets at most that octets spell.
+fn short_number_of(digits: &[u8]) -> Option<u32> {
+    u32::try_from(number_of(digits)?).ok()
+}
+
 /// Two numbers with a stroke between them.
 fn pair_of(word: &[u8]) -> Option<(u32, u32)> {
     let (first, second) = cut_at(word, b'/')?;
-    let first = u32::try_from(number_of(first)?).ok()?;
-    let second = u32::try_from(number_of(second)?).ok()?;
-    Some((first, second))
+    Some((short_number_of(first)?, short_number_of(second)?))
 }
 
 /// A name, and the octets that it stands for.

@@ -20,15 +20,14 @@ impl Cut {
     /// The piece of this number, and how many octets stand before it.
     pub fn piece(self, octets: &[u8], number: usize) -> Option<(usize, &[u8])> {
         let at = number / 2;
-        match (self, number) {
-            (Cut::Whole, 0) => Some((0, octets)),
-            (Cut::Whole, _) => None,
-            (Cut::At(end), 0) => Some((0, octets.get(..end)?)),
-            (Cut::At(end), 1) => Some((end, octets.get(end..)?)),
-            (Cut::At(_), _) => None,
-            (Cut::Each, _) if number % 2 == 0 => Some((at, octets.get(at..at)?)),
-            (Cut::Each, _) => Some((at, octets.get(at..at.saturating_add(1))?)),
-        }
+        let (from, to) = match self {
+            Cut::Whole if number == 0 => (0, octets.len()),
+            Cut::At(end) if number == 0 => (0, end),
+            Cut::At(end) if number == 1 => (end, octets.len()),
+            Cut::Each => (at, at.saturating_add(number % 2)),
+            _ => return None,
+        };
+        Some((from, octets.get(from..to)?))
     }
 
     /// The most pieces that octets are cut into.

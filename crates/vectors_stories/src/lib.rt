@@ -178,16 +178,22 @@ impl Class for Between {
     }
 }
 
+/// Tells how many CR a reader holds.
+fn tell_reader(answers: &mut Answers, reader: &TextReader) {
+    if reader.is_failed() {
+        answers.line("no");
+        return;
+    }
+    answers.put("  ");
+    answers.show(&reader.held());
+    answers.end();
+}
+
 /// Tells how many CR a reader holds that is put after so many, or `none`.
 fn tell_held(answers: &mut Answers, held: u8) {
     match TextReader::at(held) {
         None => answers.line("none"),
-        Some(reader) if reader.is_failed() => answers.line("no"),
-        Some(reader) => {
-            answers.put("  ");
-            answers.show(&reader.held());
-            answers.end();
-        }
+        Some(reader) => tell_reader(answers, &reader),
     }
 }
 

@@ -113,31 +113,40 @@ fn print_rows(out: &mut Answers, rec: u8) {
 
 /// Prints the row of the numbers from first to last.
 fn print_row(out: &mut Answers, rec: u8, first: u8, last: u8, row: Row) {
-    let name = DatasetName { rec, set: first };
-    out.show(&format_args!("  {name}"));
+    out.put("  ");
+    out.show(&DatasetName { rec, set: first });
     if first != last {
-        let name = DatasetName { rec, set: last };
-        out.show(&format_args!("..{name}"));
+        out.put("..");
+        out.show(&DatasetName { rec, set: last });
     }
-    let Row {
-        min,
-        max,
-        kind,
-        duty,
-        repeats,
-    } = row;
-    let repeats = if repeats { "repeats" } else { "once" };
-    out.show(&format_args!(" {min}..{max} {kind:?} {duty:?} {repeats}\n"));
+    print_admitted(out, row);
+}
+
+/// Ends a line with what a row admits: how many octets, of which kind, and how often.
+fn print_admitted(out: &mut Answers, row: Row) {
+    out.put(" ");
+    out.show(&row.min);
+    out.put("..");
+    out.show(&row.max);
+    out.put(" ");
+    out.name(&row.kind);
+    out.put(" ");
+    out.name(&row.duty);
+    out.put(if row.repeats { " repeats\n" } else { " once\n" });
+}
+
+/// Octets as they are shown.
+fn shown(alloc: Global, octets: &[u8]) -> Result<Vec<u8>> {
+    let mut text = Vec::new(alloc);
+    push_shown(&mut text, octets)?;
+    Ok(text)
 }
 
 /// Prints octets as they are shown.
-fn print_shown(out: &mut Answers, alloc: Global, octets: &[u8]) -> Result<()> {
-    let mut text = Vec::new(alloc);
-    push_shown(&mut text, octets)?;
+fn print_shown(out: &mut Answers, text: &[u8]) {
     out.put("  ");
-    out.add(text.as_slice());
+    out.add(text);
     out.end();
-    Ok(())
 }
 
 /// The row that the next two words name.
@@ -201,7 +210,10 @@ pub fn answer(
             let time = words.octets(names);
             out.found(instant_of(date.as_slice(), time.as_slice()));
         }
-        "shown" => print_shown(out, alloc, words.octets(names).as_slice())?,
+        "shown" => print_shown(
+            out,
+            shown(alloc, words.octets(names).as_slice())?.as_slice(),
+        ),
         _ => return answer_rows(out, alloc, names, word, words),
     }
     Ok(true)
