@@ -6,10 +6,13 @@ ghost use Rattle.iim_fields.specs.States.Checks.{TakesHead};
 
 use crate::limits::limits_of;
 use crate::views::{print_fields, print_views, print_walk};
-use anyhow::{Result, bail};
+use anyhow::{Context, Result, bail};
 use iim_dataset::{DatasetName, Head};
-use iim_fields::{Envelope, EnvelopeBuilder, FieldCause, FieldFault, Fields, Limits, RecordCheck};
+use iim_fields::{
+    Envelope, EnvelopeBuilder, EnvelopeId, FieldCause, FieldFault, Fields, Limits, RecordCheck,
+};
 use std::alloc::Global;
+use std::cmp::Ordering;
 use vectors_questions::{Answers, Names, Shown, Words};
 
 /// A dataset at the front of some octets, and those after it. The data may be cut short.
@@ -27,26 +30,32 @@ impl Front<'_> {
     }
 }
 
-/// The dataset at the front, whose count has two octets; None where no octets are left. A subfile has no data here.
+/// The head at the front, whose count has two octets, and the octets after it.
+fn split_head(octets: &[u8]) -> Option<(Head, &[u8])> {
+    let [0x1c, rec, set, high, low, after @ ..] = octets else {
+        return None;
+    };
+    let head = Head {
+        rec: *rec,
+        set: *set,
+        count: u64::from(u16::from_be_bytes([*high, *low])),
+    };
+    Some((head, after))
+}
+
+/// The dataset at the front; None where no octets are left. A subfile has no data here.
 fn split_front(octets: &[u8]) -> Result<Option<Front<'_>>> {
     if octets.is_empty() {
         return Ok(None);
     }
-    let [0x1c, rec, set, high, low, after @ ..] = octets else {
-        bail!("no tag of a dataset");
+    let (head, after) = split_head(octets).context("no tag of a dataset")?;
+    let end = if head.rec == 8 {
+        0
+    } else {
+        head.count as usize
     };
-    let count = u16::from_be_bytes([*high, *low]);
-    let head = Head {
-        rec: *rec,
-        set: *set,
-        count: u64::from(count),
-    };
-    let end = if head.rec == 8 { 0 } else { usize::from(count) };
-    Ok(Some(Front {
-        head,
-        data: after.get(..end).unwrap_or(after),
-        rest: after.get(end..).unwrap_or(&[]),
-    }))
+    let (data, rest) = after.split_at(end.min(after.len()));
+    Ok(Some(Front { head, data, rest }))
 }
 
 /// The dataset at the front, with all of its data; None where no octets are left.
@@ -61,15 +70,21 @@ fn split_whole(octets: &[u8]) -> Result<Option<Front<'_>>> {
 /// Writes a fault.
 fn tell_fault(text: &mut Answers, fault: FieldFault) {
     let FieldFault { rec, set, cause } = fault;
-    let name = DatasetName { rec, set };
-    text.tell(&format_args!("refused {name} {cause:?}"));
+    text.put("  refused ");
+    text.show(&DatasetName { rec, set });
+    text.put(" ");
+    text.name(&cause);
+    text.end();
 }
 
 /// Writes the number that a dataset tells.
 fn tell_number(text: &mut Answers, head: Head, number: u64) {
     let Head { rec, set, count: _ } = head;
-    let name = DatasetName { rec, set };
-    text.tell(&format_args!("{name} is {number}"));
+    text.put("  ");
+    text.show(&DatasetName { rec, set });
+    text.put(" is ");
+    text.show(&number);
+    text.end();
 }
 
 /// Gives all octets of the begun dataset, in one piece or one by one.
@@ -108,19 +123,27 @@ fn pass(
     fields.close()
 }
 
+/// Gives octets of the begun dataset, where they are no more than its head tells.
+fn give_some(fields: &mut Fields, head: Head, octets: &[u8])
+    requires inside { IsInside fields.old head head.count }
+    requires value { head.rec ≢ 8 }
+{
+    if octets.len() as u64 <= head.count {
+        fields.bytes(octets);
+    }
+}
+
 /// Begins a dataset of which only these data have come, and answers its fault.
 fn begin(fields: &mut Fields, head: Head, data: &[u8]) -> Option<FieldFault>
     requires { IsBetween fields.old }
 {
-    match fields.begin(head) {
-        Ok(()) => {
-            if head.rec != 8 && data.len() as u64 <= head.count {
-                fields.bytes(data);
-            }
-            None
-        }
-        Err(fault) => Some(fault),
+    if let Err(fault) = fields.begin(head) {
+        return Some(fault);
     }
+    if head.rec != 8 {
+        give_some(fields, head, data);
+    }
+    None
 }
 
 /// Passes the datasets that the octets spell, and writes what they tell, up to the first fault.
@@ -161,21 +184,26 @@ fn pass_datasets(
     Ok(())
 }
 
+/// Writes the head of a begun dataset, and its data so far.
+fn tell_begun(text: &mut Answers, head: Head, data: &[u8]) {
+    let Head { rec, set, count } = head;
+    text.put(", in ");
+    text.show(&DatasetName { rec, set });
+    text.put(" of ");
+    text.show(&count);
+    text.each(&[data]);
+}
+
 /// Writes where a reader of records stands.
 fn tell_place(text: &mut Answers, fields: &Fields) {
-    let section = fields.section();
+    text.put("  record ");
+    text.show(&fields.section());
     if fields.is_failed() {
-        text.tell(&format_args!("record {section}, failed"));
-        return;
+        text.put(", failed");
+    } else if let Some(head) = fields.begun_head() {
+        tell_begun(text, head, fields.begun());
     }
-    match fields.begun_head() {
-        None => text.tell(&format_args!("record {section}")),
-        Some(Head { rec, set, count }) => {
-            let name = DatasetName { rec, set };
-            let begun = Shown(fields.begun());
-            text.tell(&format_args!("record {section}, in {name} of {count} {begun}"));
-        }
-    }
+    text.end();
 }
 
 /// What a reader of records says of these datasets, and the reader.
@@ -356,20 +384,20 @@ impl Envelopes {
                 self.envelopes.push(envelope)?;
                 out.line("finished");
             }
-            Err((builder, fault)) => {
-                self.builder = Some(builder);
-                tell_fault(out, fault);
-            }
+            Err((builder, fault)) => self.build_on(out, builder, fault),
         }
         Ok(())
     }
 
+    /// Keeps a builder that is not finished, and prints what is missing.
+    fn build_on(&mut self, out: &mut Answers, builder: EnvelopeBuilder, fault: FieldFault) {
+        self.builder = Some(builder);
+        tell_fault(out, fault);
+    }
+
     /// The last envelope.
     fn last(&self) -> Result<&Envelope> {
-        match self.envelopes.last() {
-            Some(envelope) => Ok(envelope),
-            None => bail!("there is no envelope"),
-        }
+        self.envelopes.last().context("there is no envelope")
     }
 
     /// Answers the words of readers; false where the word is none of them.
@@ -440,24 +468,27 @@ impl Envelopes {
     }
 }
 
+/// How an id stands to another: before it, at the same place, or after it.
+fn order_sign(id: &EnvelopeId, other: &EnvelopeId) -> &'static str {
+    let order = id.cmp(other);
+    if id.partial_cmp(other) != Some(order) || (id == other) != order.is_eq() {
+        return "?";
+    }
+    match order {
+        Ordering::Less => "<",
+        Ordering::Equal => "=",
+        Ordering::Greater => ">",
+    }
+}
+
 /// Prints how an id stands to those of the envelopes: before, at the same place, or after.
 fn print_id(out: &mut Answers, envelope: &Envelope, envelopes: &[Envelope]) -> Result<()> {
     let id = envelope.id().clone()?;
-    let service = Shown(id.service());
-    let number = Shown(id.number());
-    let date_sent = Shown(id.date_sent());
-    out.show(&format_args!("  {service} {number} {date_sent} "));
+    out.put(" ");
+    out.each(&[id.service(), id.number(), id.date_sent()]);
+    out.put(" ");
     for other in envelopes {
-        let other = other.id();
-        let order = id.cmp(&other);
-        let agrees = id.partial_cmp(&other) == Some(order) && (id == other) == order.is_eq();
-        let sign = match (agrees, order.is_lt(), order.is_eq()) {
-            (false, _, _) => '?',
-            (true, true, _) => '<',
-            (true, false, true) => '=',
-            (true, false, false) => '>',
-        };
-        out.show(&format_args!("{sign}"));
+        out.put(order_sign(&id, &other.id()));
     }
     out.end();
     Ok(())

@@ -3,19 +3,28 @@
 use iim_dataset::DatasetName;
 use iim_fields::{DataIter, Envelope, FieldIter};
 use jiff::Timestamp;
-use vectors_questions::{Answers, Shown};
+use vectors_questions::Answers;
 
 /// Prints a view of octets.
 fn print_octets(out: &mut Answers, name: &str, octets: &[u8]) {
-    let octets = Shown(octets);
-    out.tell(&format_args!("{name} {octets}"));
+    out.put("  ");
+    out.put(name);
+    out.each(&[octets]);
+    out.end();
+}
+
+/// Prints that a view is absent.
+fn print_none(out: &mut Answers, name: &str) {
+    out.put("  ");
+    out.put(name);
+    out.put(" none\n");
 }
 
 /// Prints a view of octets that may be absent.
 fn print_some(out: &mut Answers, name: &str, octets: Option<&[u8]>) {
     match octets {
         Some(octets) => print_octets(out, name, octets),
-        None => out.tell(&format_args!("{name} none")),
+        None => print_none(out, name),
     }
 }
 
@@ -23,17 +32,17 @@ fn print_some(out: &mut Answers, name: &str, octets: Option<&[u8]>) {
 fn print_instant(out: &mut Answers, name: &str, instant: Option<Timestamp>) {
     match instant {
         Some(instant) => out.tell(&format_args!("{name} {instant}")),
-        None => out.tell(&format_args!("{name} none")),
+        None => print_none(out, name),
     }
 }
 
 /// Prints the octets of a walk, in order.
 pub(crate) fn print_walk(out: &mut Answers, name: &str, walk: DataIter<'_>) {
     let mut is_none = true;
-    out.show(&format_args!("  {name}"));
+    out.put("  ");
+    out.put(name);
     for octets in walk {
-        let octets = Shown(octets);
-        out.show(&format_args!(" {octets}"));
+        out.each(&[octets]);
         is_none = false;
     }
     if is_none {
@@ -90,16 +99,18 @@ pub(crate) fn print_views(out: &mut Answers, envelope: &Envelope) {
 
 /// Prints a dataset.
 pub fn print_field(out: &mut Answers, rec: u8, set: u8, octets: &[u8]) {
-    let name = DatasetName { rec, set };
-    let shown = Shown(octets);
-    out.tell(&format_args!("field {name} {shown}"))
+    out.put("  field ");
+    out.show(&DatasetName { rec, set });
+    out.each(&[octets]);
+    out.end();
 }
 
 /// Prints datasets, in order.
 pub(crate) fn print_fields(out: &mut Answers, fields: FieldIter<'_>) {
     for (rec, set, octets) in fields {
-        let name = DatasetName { rec, set };
-        let octets = Shown(octets);
-        out.tell(&format_args!("{name} {octets}"));
+        out.put("  ");
+        out.show(&DatasetName { rec, set });
+        out.each(&[octets]);
+        out.end();
     }
 }
