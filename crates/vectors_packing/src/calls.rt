@@ -37,6 +37,14 @@ pub(crate) fn stopped<W: Target>(packer: Packer<W>, cause: PackCause) -> StartFa
     }
 }
 
+/// Begins a line: why something was refused, and how many octets are out.
+fn tell_cause(out: &mut Answers, cause: PackCause, written: u64) {
+    out.put("  ");
+    out.show(&cause);
+    out.put(" written ");
+    out.show(&written);
+}
+
 /// Tells why nothing was packed, and what is out.
 pub(crate) fn tell_fault<K: Keeps>(
     alloc: Global,
@@ -48,23 +56,23 @@ pub(crate) fn tell_fault<K: Keeps>(
         writer,
         written,
     } = fault;
-    let number = cause.number();
     let octets = writer.kept(alloc)?;
-    let octets = Shown(octets.as_slice());
-    out.tell(&format_args!("{number} {cause:?} written {written} out {octets}"));
+    tell_cause(out, cause, written);
+    out.put(" out ");
+    out.octets(octets.as_slice());
+    out.end();
     Ok(())
 }
 
 /// Tells what a call of a packer answered, and how many octets are out where it was refused.
-fn tell_call(out: &mut Answers, answer: Result<(), PackCause>, written: u64) -> Result<()> {
+fn tell_call(out: &mut Answers, answer: Result<(), PackCause>, written: u64) {
     match answer {
         Ok(()) => out.line("ok"),
         Err(cause) => {
-            let number = cause.number();
-            out.tell(&format_args!("{number} {cause:?} written {written}"));
+            tell_cause(out, cause, written);
+            out.end();
         }
     }
-    Ok(())
 }
 
 /// Ends a packer: what is there afterwards, and what it answered.
@@ -176,12 +184,12 @@ impl Calls {
                 let octets = words.octets(names);
                 let begun = self.begun.as_mut().context(NO_PACKER)?;
                 let answer = begun.text(octets.as_slice()).context(NO_PACKER)?;
-                tell_call(out, answer, begun.written())?;
+                tell_call(out, answer, begun.written());
             }
             "pack_line_end" => {
                 let begun = self.begun.as_mut().context(NO_PACKER)?;
                 let answer = begun.line_end().context(NO_PACKER)?;
-                tell_call(out, answer, begun.written())?;
+                tell_call(out, answer, begun.written());
             }
             "pack_finish" => {
                 let trailer = words.octets(names);
@@ -189,12 +197,11 @@ impl Calls {
             }
             "pack_written" => {
                 let written = self.begun.as_ref().context(NO_PACKER)?.written();
-                out.tell(&format_args!("{written}"));
+                out.tell(&written);
             }
             "pack_out" => {
                 let octets = self.begun.take().context(NO_PACKER)?.out(self.alloc)?;
-                let octets = Shown(octets.as_slice());
-                out.tell(&format_args!("{octets}"));
+                out.tell(&Shown(octets.as_slice()));
             }
             _ => return Ok(false),
         }
@@ -207,6 +214,7 @@ impl Calls {
         let (begun, answer) = begun.finish(self.alloc, trailer)?;
         let written = begun.written();
         self.begun = Some(begun);
-        tell_call(out, answer, written)
+        tell_call(out, answer, written);
+        Ok(())
     }
 }

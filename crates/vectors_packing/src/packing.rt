@@ -9,7 +9,7 @@ use iim_dataset::{FromWrite, Target};
 use iim_object::{PackCause, Plan, StartFault};
 use iim_pack::{Packer, pack, packed_size};
 use std::alloc::Global;
-use vectors_questions::{Answers, Names, Shown, Words};
+use vectors_questions::{Answers, Names, Words};
 use wire_story::Lines;
 
 /// The value that is packed, and a packer that is asked call by call.
@@ -66,7 +66,7 @@ impl Packing {
     fn tell_size(&self, out: &mut Answers) -> Result<()> {
         let script = self.told.as_ref().context(NO_VALUE)?;
         match packed_size(&script.head, &script.lines, script.trailer.as_slice()) {
-            Some(size) => out.tell(&format_args!("{size}")),
+            Some(size) => out.tell(&size),
             None => out.line("none"),
         }
         Ok(())
@@ -110,8 +110,7 @@ impl Packing {
             };
             let octets = writer.into_inner();
             if octets.as_slice() != before.as_slice() {
-                let shown = Shown(octets.as_slice());
-                out.tell(&format_args!("pieces of {length} packed {shown}"));
+                tell_pieces(out, length, octets.as_slice());
             }
             before = octets;
         }
@@ -127,6 +126,15 @@ impl Packing {
         };
         self.calls.start(out, script, plan, trial_of(words)?)
     }
+}
+
+/// Tells what was packed in pieces of a length.
+fn tell_pieces(out: &mut Answers, length: u64, octets: &[u8]) {
+    out.put("  pieces of ");
+    out.show(&length);
+    out.put(" packed ");
+    out.octets(octets);
+    out.end();
 }
 
 /// What is said where there is nothing to pack.
@@ -160,8 +168,9 @@ fn tell_ended<K: Keeps>(
     match ended {
         Ok(writer) => {
             let octets = writer.kept(alloc)?;
-            let octets = Shown(octets.as_slice());
-            out.tell(&format_args!("packed {octets}"));
+            out.put("  packed ");
+            out.octets(octets.as_slice());
+            out.end();
             Ok(())
         }
         Err(fault) => tell_fault(alloc, out, fault),

@@ -1,30 +1,25 @@
 //! Plans of objects.
 
-use anyhow::{Context, Result, bail};
+use anyhow::{Context, Result};
 use iim_object::{Plan, Size};
 use vectors_questions::{Answers, Words, number_of};
 
-/// What is said of digits that are no number.
-const NO_NUMBER: &str = "a size is no number";
-
 /// What a word says of a size: `known:N`, `unknown` or `unknown:M`.
-fn size_of(word: &[u8]) -> Result<Size> {
+fn size_of(word: &[u8]) -> Option<Size> {
+    if matches!(word, b"unknown") {
+        return Some(Size::Unknown(None));
+    }
     if let Some(digits) = word.strip_prefix(b"known:") {
-        return Ok(Size::Known(number_of(digits).context(NO_NUMBER)?));
+        return Some(Size::Known(number_of(digits)?));
     }
-    if let Some(digits) = word.strip_prefix(b"unknown:") {
-        return Ok(Size::Unknown(Some(number_of(digits).context(NO_NUMBER)?)));
-    }
-    match word {
-        b"unknown" => Ok(Size::Unknown(None)),
-        _ => bail!("a size is `known:N`, `unknown` or `unknown:M`"),
-    }
+    let most = number_of(word.strip_prefix(b"unknown:")?)?;
+    Some(Size::Unknown(Some(most)))
 }
 
 /// The plan that the next two words tell, the octets of a full subfile and what is said of the size. None where it is no plan.
 pub(crate) fn plan_of(words: &mut Words) -> Result<Option<Plan>> {
     let subfile = words.number();
-    let size = size_of(words.word())?;
+    let size = size_of(words.word()).context("a size is `known:N`, `unknown` or `unknown:M`")?;
     Ok(Plan::new(subfile, size))
 }
 
@@ -36,10 +31,7 @@ pub(crate) fn tell_no_plan(out: &mut Answers) {
 /// Tells the bound of a plan.
 pub(crate) fn tell_plan(out: &mut Answers, words: &mut Words) -> Result<()> {
     match plan_of(words)? {
-        Some(plan) => {
-            let bound = plan.bound();
-            out.tell(&format_args!("{bound}"));
-        }
+        Some(plan) => out.tell(&plan.bound()),
         None => tell_no_plan(out),
     }
     Ok(())

@@ -5,7 +5,7 @@ use iim_fields::{Envelope, Limits};
 use iim_script::{Script, read_script};
 use std::alloc::Global;
 use vectors_messages::tell_header;
-use vectors_questions::{Answers, Shown};
+use vectors_questions::Answers;
 use vectors_records::print_field;
 use vectors_stories::tell_lines;
 use wire_message::MessageHead;
@@ -21,16 +21,21 @@ pub(crate) struct Value {
     text_line: u64,
 }
 
+/// The lines of a text.
+fn lines_of(alloc: Global, text: &[u8]) -> Result<Lines> {
+    let mut lines = Lines::new(alloc);
+    match TextReader::new().run(text, &mut lines) {
+        Ok(()) => Ok(lines),
+        Err(_) => bail!("the text of a script is no text, or memory was refused"),
+    }
+}
+
 /// What a script tells, with its lines.
 fn collected(alloc: Global, script: Script<'_>) -> Result<Value> {
-    let mut lines = Lines::new(alloc);
-    if let Err(_) = TextReader::new().run(script.text, &mut lines) {
-        bail!("the text of a script is no text, or memory was refused");
-    }
     Ok(Value {
+        lines: lines_of(alloc, script.text)?,
         envelope: script.envelope,
         head: script.head,
-        lines,
         trailer: script.trailer,
         text_line: script.text_line,
     })
@@ -60,9 +65,11 @@ fn tell(out: &mut Answers, script: &Value) {
         print_field(out, rec, set, octets);
     }
     tell_header(out, "message", &script.head);
-    let trailer = Shown(script.trailer.as_slice());
-    out.tell(&format_args!("trailer {trailer}"));
+    out.put("  trailer ");
+    out.octets(script.trailer.as_slice());
+    out.end();
     tell_lines(out, &script.lines);
-    let text_line = script.text_line;
-    out.tell(&format_args!("text at line {text_line}"));
+    out.put("  text at line ");
+    out.show(&script.text_line);
+    out.end();
 }
