@@ -1,9 +1,9 @@
 //! The commands of the program, as `clap` is told of them.
 
 ghost use Rattle.std.specs.Prelude.{◌≡◌, codes, false, IfOk};
-ghost use Rattle.clap.specs.Words.{app_of, new_app, rule_of};
-ghost use Rattle.clap.specs.declared.builder.command.Command.TheViews.{out-Command as fields_of};
-ghost use Rattle.iim_request.specs.Format.Requests.{audit_command, file_command, number_rule, pack_command, program, unknown_rule, wanting};
+ghost use Rattle.clap.specs.Words.{App, Rule, app_of, new_app, rule_of, with_rule, with_subcommand};
+ghost use Rattle.iim_request.specs.Commands.{IsCommand};
+ghost use Rattle.iim_request.specs.Format.Requests.{audit_command, file_command, now_rule, number_rule, pack_command, program, unknown_rule, wanting};
 
 use clap::builder::ValueParser;
 use clap::{Arg, ArgAction, Command};
@@ -96,8 +96,7 @@ fn with_file<'a>(
     about: &'a str,
     after: &'a str,
 ) -> Result<Command<'a>, AllocError>
-    ensures app { IfOk result (λ command. app_of command ≡ file_command name.entry.now) }
-    ensures local { IfOk result (λ command. (fields_of command).has_globals ≡ false) }
+    ensures { IsCommand (file_command name.entry.now) result }
 {
     Command::new(alloc, name)
         .about(about)
@@ -136,10 +135,46 @@ fn unknown_arg<'a>(alloc: Global) -> Arg<'a>
         )
 }
 
+/// The option that tells the present instant.
+fn now_arg<'a>(alloc: Global) -> Arg<'a>
+    ensures rule { rule_of result ≡ now_rule }
+    ensures local { result.global ≡ false }
+{
+    Arg::new(alloc, "now")
+        .long("now")
+        .value_name("INSTANT")
+        .required(true)
+        .help("The present instant, as 2024-03-01T12:00:00Z")
+}
+
+/// A command with one more argument, where there was memory for both.
+fn with_arg<'a>(
+    command: Result<Command<'a>, AllocError>,
+    arg: Arg<'a>,
+) -> Result<Command<'a>, AllocError>
+    ensures { (app : App) → (rule : Rule) → IsCommand app command.entry → rule_of arg.entry ≡ rule
+        → arg.entry.global ≡ false → IsCommand (with_rule app rule) result }
+{
+    command?.arg(arg)
+}
+
+/// A program with one more command, where there was memory for both.
+fn with_command<'a>(
+    program: Result<Command<'a>, AllocError>,
+    command: Result<Command<'a>, AllocError>,
+) -> Result<Command<'a>, AllocError>
+    ensures { (app : App) → (added : App) → IfOk program.entry (λ program. app_of program ≡ app)
+        → IsCommand added command.entry → IfOk result (λ program. app_of program ≡ with_subcommand app added.top) }
+{
+    match (program, command) {
+        (Ok(program), Ok(command)) => program.subcommand(command),
+        _ => Err(AllocError),
+    }
+}
+
 /// The command that packs.
 fn pack<'a>(alloc: Global) -> Result<Command<'a>, AllocError>
-    ensures app { IfOk result (λ command. app_of command ≡ pack_command) }
-    ensures local { IfOk result (λ command. (fields_of command).has_globals ≡ false) }
+    ensures { IsCommand pack_command result }
 {
     let subfile = number_arg(
         alloc,
@@ -148,7 +183,6 @@ fn pack<'a>(alloc: Global) -> Result<Command<'a>, AllocError>
         "N",
         "The most octets of a subfile; 1024 where this is not given",
     );
-    let unknown = unknown_arg(alloc);
     let max = number_arg(
         alloc,
         "max",
@@ -156,34 +190,26 @@ fn pack<'a>(alloc: Global) -> Result<Command<'a>, AllocError>
         "M",
         "The most octets of an object of unknown size",
     );
-    with_file(
+    let pack = with_file(
         alloc,
         "pack",
         "Packs the envelope that a script tells",
         PACK_HELP,
-    )?
-    .arg(subfile)?
-    .arg(unknown)?
-    .arg(max)
+    );
+    with_arg(with_arg(with_arg(pack, subfile), unknown_arg(alloc)), max)
 }
 
 /// The command that audits.
 fn audit<'a>(alloc: Global) -> Result<Command<'a>, AllocError>
-    ensures app { IfOk result (λ command. app_of command ≡ audit_command) }
-    ensures local { IfOk result (λ command. (fields_of command).has_globals ≡ false) }
+    ensures { IsCommand audit_command result }
 {
-    let now = Arg::new(alloc, "now")
-        .long("now")
-        .value_name("INSTANT")
-        .required(true)
-        .help("The present instant, as 2024-03-01T12:00:00Z");
-    with_file(
+    let audit = with_file(
         alloc,
         "audit",
         "Tells id, sizes, words and age of each envelope, which of them repeat others, and whether their copy is held",
         AUDIT_HELP,
-    )?
-    .arg(now)
+    );
+    with_arg(audit, now_arg(alloc))
 }
 
 /// The program, as yet without commands.
@@ -207,23 +233,20 @@ pub fn command<'a>(alloc: Global) -> Result<Command<'a>, AllocError>
         "check",
         "Lists the envelopes, up to the first refusal",
         CHECK_HELP,
-    )?;
+    );
     let show = with_file(
         alloc,
         "show",
         "Shows the fields, the message's header and the sizes of each envelope",
         SHOW_HELP,
-    )?;
+    );
     let story = with_file(
         alloc,
         "story",
         "Writes the story of each envelope",
         STORY_HELP,
-    )?;
-    bare(alloc)
-        .subcommand(check)?
-        .subcommand(show)?
-        .subcommand(story)?
-        .subcommand(pack(alloc)?)?
-        .subcommand(audit(alloc)?)
+    );
+    let program = with_command(Ok(bare(alloc)), check);
+    let program = with_command(with_command(program, show), story);
+    with_command(with_command(program, pack(alloc)), audit(alloc))
 }

@@ -18,7 +18,7 @@ use Rattle.iim_request.specs.declared.request.UsageFault.TheVariants.{Words, Max
 -- ---- the program's commands, as clap is told of them
 
 -- a command that may be given a FILE
--- twins (with unknown_rule, pack_command, audit_command, wanting, program): `tells_the_whole_help`, `refuses_other_words`,
+-- twins (with unknown_rule, now_rule, pack_command, audit_command, wanting, program): `tells_the_whole_help`, `refuses_other_words`,
 --   `tells_what_words_ask_wrongly`
 abbrev pub file_command : Text → App
 file_command name = with_rule (new_app name) (new_rule (codes "FILE"))
@@ -32,13 +32,17 @@ number_rule name least = record (new_rule name) { long = Some name; value_names 
 abbrev pub unknown_rule : Rule
 unknown_rule = record (new_rule (codes "unknown")) { long = Some (codes "unknown"); action = Some SetTrue }
 
+-- the option that tells the present instant, and has to be given
+abbrev pub now_rule : Rule
+now_rule = record (new_rule (codes "now")) { long = Some (codes "now"); value_names = 1; required = true }
+
 -- `pack [FILE] [--subfile N] [--unknown] [--max M]`
 abbrev pub pack_command : App
 pack_command = with_rule (with_rule (with_rule (file_command (codes "pack")) (number_rule (codes "subfile") 1)) unknown_rule) (number_rule (codes "max") 0)
 
 -- `audit [FILE] --now INSTANT`
 abbrev pub audit_command : App
-audit_command = with_rule (file_command (codes "audit")) (record (new_rule (codes "now")) { long = Some (codes "now"); value_names = 1; required = true })
+audit_command = with_rule (file_command (codes "audit")) now_rule
 
 -- a command that wants to be given one of its own, has none for help, and tells its release
 abbrev pub wanting : App → App
