@@ -41,10 +41,15 @@ fn main(rt: HostRuntime) -> Result<()> {
     let head = head.context("bad header")?;
     // Subfiles of 1,024 octets. How long the story will be isn't known yet.
     let plan = Plan::new(1_024, Size::Unknown(None)).context("bad plan")?;
+    send(&rt, &envelope, &head, plan)
+}
+
+/// Packs the envelope with the lines of the input.
+fn send(rt: &HostRuntime, envelope: &Envelope, head: &MessageHead, plan: Plan) -> Result<()> {
     let output = FromWrite::new(rt.stdout());
-    let started = Packer::start(rt.alloc(), &envelope, &head, plan, output);
+    let started = Packer::start(rt.alloc(), envelope, head, plan, output);
     let mut packer = started.map_err(|fault| fault.cause)?;
-    pack_lines(&rt, &mut packer)?;
+    pack_lines(rt, &mut packer)?;
     // The message ends without a trailer. After an error, what is out is no envelope.
     packer.finish(b"").map_err(|(_, cause)| cause)?;
     Ok(())
