@@ -6,7 +6,7 @@ ghost use Rattle.jiff.specs.Words.{IsTimestampNanos};
 use jiff::Timestamp;
 
 /// An instant, as its nanoseconds from 1970-01-01T00:00:00Z: that of a [`Timestamp`], in a form that requests can hold.
-#[derive(Clone, Copy)]
+#[derive(Clone, Copy, Debug, PartialEq, Eq)]
 pub struct Instant {
     nanosecond: i128,
     ghost in_range: { IsTimestampNanos nanosecond },

@@ -5,7 +5,7 @@ ghost use Rattle.iim_object.specs.Format.Plans.{is_plan};
 ghost use Rattle.iim_object.specs.declared.size.Size.TheVariants.{Unknown};
 
 /// How an envelope is to be packed.
-#[derive(Clone, Copy)]
+#[derive(Clone, Copy, Debug, PartialEq, Eq)]
 pub struct PackRequest {
     /// The octets of a full subfile, from 1 to the greatest size of an object.
     pub subfile: u64,

@@ -17,7 +17,7 @@ use std::alloc::{AllocError, Global};
 pub const DEFAULT_SUBFILE: u64 = 1_024;
 
 /// What is to be done.
-#[derive(Clone, Copy)]
+#[derive(Clone, Copy, Debug, PartialEq, Eq)]
 pub enum Job {
     /// List the envelopes of the input.
     Check,
@@ -35,7 +35,7 @@ pub enum Job {
 }
 
 /// A file, or else standard input, and what is to be done with it.
-#[derive(Clone, Copy)]
+#[derive(Clone, Copy, Debug, PartialEq, Eq)]
 pub struct Request<'a> {
     /// The path of the file, or None for standard input.
     pub file: Option<&'a str>,
@@ -84,7 +84,7 @@ ghost use Rattle.iim_request.specs.Format.Requests.{AsksFor, AsksJob, GivesNumbe
 ghost use Rattle.iim_request.specs.Verbs.{verb_name, IsFoundOf, IsJobFault};
 
 /// A command's name.
-#[derive(Clone, Copy)]
+#[derive(Clone, Copy, Debug, PartialEq, Eq)]
 enum Verb {
     Check,
     Show,
