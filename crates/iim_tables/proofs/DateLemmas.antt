@@ -25,9 +25,6 @@ digits a b h k = record {
   ones_high = grind (arith, nat_tests);
 }
 
-pair-lt : (a b : ℕ) → AreTwoDigits a b → pair a b < 100
-pair-lt a b h = omega arith
-
 -- two digits are the text of their number
 pub two_digits-pair : (a b : ℕ) → AreTwoDigits a b → two_digits (pair a b) ≡ a ∷ b ∷ []
 two_digits-pair a b h =
@@ -66,9 +63,6 @@ written : (y m d : ℕ) (a b e f g h i j : ℕ) → two_digits (y / 100) ≡ a �
     → a ∷ b ∷ e ∷ f ∷ g ∷ h ∷ i ∷ j ∷ [] ≡ date_text y m d
 written y m d a b e f g h i j p q r s = cc
 
-eight_digits : (xs : List ℕ) → are_eight_digits xs ≡ true → length xs ≡ 8
-eight_digits xs t = eqb-true (length xs) 8 (and_parts (length xs == 8) (list_all is_digit xs) t).0
-
 pub eight_digits_written : (xs : List ℕ) → are_eight_digits xs ≡ true → xs ≡ date_text (year_in xs) (month_in xs) (day_in xs)
 eight_digits_written (a ∷ b ∷ e ∷ f ∷ g ∷ h ∷ i ∷ j ∷ []) t =
     let all = (and_parts true (list_all is_digit (a ∷ b ∷ e ∷ f ∷ g ∷ h ∷ i ∷ j ∷ [])) t).1 in
@@ -76,14 +70,14 @@ eight_digits_written (a ∷ b ∷ e ∷ f ∷ g ∷ h ∷ i ∷ j ∷ []) t =
     let year = front e f (g ∷ h ∷ i ∷ j ∷ []) century.rest in
     let month = front g h (i ∷ j ∷ []) year.rest in
     let day = front i j [] month.rest in
-    let below = pair-lt e f year.two in
+    let below : pair e f < 100 = omega (arith, year.two) in
     let high : (100 * pair a b + pair e f) / 100 ≡ pair a b = omega arith in
     let low : (100 * pair a b + pair e f) % 100 ≡ pair e f = omega arith in
     written (100 * pair a b + pair e f) (pair g h) (pair i j) a b e f g h i j
     (ap two_digits high ∙ two_digits-pair a b century.two) (ap two_digits low ∙ two_digits-pair e f year.two)
     (two_digits-pair g h month.two) (two_digits-pair i j day.two)
 eight_digits_written xs t =
-    let eight : length xs ≡ 8 = eight_digits xs t in
+    let eight : length xs ≡ 8 = eqb-true (length xs) 8 (and_parts (length xs == 8) (list_all is_digit xs) t).0 in
     absurd (omega arith)
 
 pub dates_read_back : (y m d : ℕ) → y < 10_000 → m < 100 → d < 100 → ReadsDate (date_text y m d) y m d

@@ -23,14 +23,11 @@ clocks xs h =
     let range = in_range (pair_at xs 7) (pair_at xs 9) outer.1 in
     (inner.1, range.0, range.1)
 
-same_day : (date : List ℕ) (dt : DateTime) → IsYmd (pos (year_in date)) (pos (month_in date)) (pos (day_in date)) dt.date → epoch_day dt.date ≡ day_number date
-same_day date dt h = cc
-
 pub same_instant : (dt : DateTime) (o : ℤ) (date time : List ℕ) → IsYmd (pos (year_in date)) (pos (month_in date)) (pos (day_in date)) dt.date
     → time_nanos dt.time ≡ clock_seconds (pair_at time 0) (pair_at time 2) (pair_at time 4) * 1_000_000_000 → o ≡ offset_in time
     → civil_nanos dt -ℤ nanos_of_seconds o ≡ instant_nanos date time
 same_instant dt o date time h k e =
-    let day = same_day date dt h in
+    let day : epoch_day dt.date ≡ day_number date = cc in
     omega (arith, signed_arith, civil_nanos-parts dt, day, k, e)
 
 -- what `ok` keeps

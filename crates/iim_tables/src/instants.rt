@@ -1,6 +1,6 @@
 //! Times of day with an offset, and the instants that dates and times name.
 
-ghost use Rattle.std.specs.Prelude.{◌≡◌, ◌↔◌, ◌*◌, ◌<◌, IsTrue, IsSome, IfSome};
+ghost use Rattle.std.specs.Prelude.{◌≡◌, ◌↔◌, ◌*◌, ◌<◌, length, IsTrue, IsSome, IfSome};
 ghost use Rattle.std.specs.Option.{option_map};
 ghost use Rattle.jiff.specs.Words.{IsOffsetSeconds, time_nanos};
 ghost use Rattle.iim_tables.specs.Format.Instants.{has_time_form, is_clock, is_time, clock_seconds, offset_seconds, instant_nanos, instant_in, HasInstant, nanoseconds_in_second};
@@ -13,7 +13,8 @@ use jiff::civil::{Time, time};
 use jiff::tz::Offset;
 
 fn has_time_form(octets: &[u8]) -> bool
-    ensures { result ≡ has_time_form octets.now }
+    ensures exactly { result ≡ has_time_form octets.now }
+    ensures long { IsTrue result → length octets.now ≡ 11 }
 {
     octets.len() == 11
         && are_digits(&octets[..6])
@@ -30,7 +31,8 @@ fn is_clock(hour: u16, minute: u16, second: u16) -> bool
 /// Whether the octets are a time of day with its offset.
 #[inline(never)]
 pub(crate) fn is_time(octets: &[u8]) -> bool
-    ensures { result ≡ is_time octets.now }
+    ensures exactly { result ≡ is_time octets.now }
+    ensures long { IsTrue result → length octets.now ≡ 11 }
 {
     has_time_form(octets)
         && is_clock(pair_at(octets, 0), pair_at(octets, 2), pair_at(octets, 4))
