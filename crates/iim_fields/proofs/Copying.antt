@@ -60,11 +60,7 @@ seven = record {
 
 eight : IsGoodRecord 8 (subfile ∷ [])
 unfolding row_of table
-eight = record {
-  each = ((refl, good_elsewhere refl (omega arith) tt refl), tt);
-  mandatory = (refl, tt);
-  once = λ n h. one_at_most (nat_eq 10 n);
-}
+eight = record { each = ((refl, good_elsewhere refl (omega arith) tt refl), tt); mandatory = (refl, tt); once = λ n h. one_at_most (nat_eq 10 n) }
 
 nine : IsGoodRecord 9 (size ∷ [])
 unfolding row_of table

@@ -292,12 +292,7 @@ value_parts None d small known octets none = absurd cc
 value_parts (Some row) d small known octets none =
     let admitted = passed (is_admitted row d.octets) (fault_on (head_of d) BadValue) _ none in
     let format = passed (has_file_format d) (fault_on (head_of d) FileFormat) _ admitted.1 in
-    record {
-      numbered = small;
-      octets = octets;
-      meets = meets_as d.rec d.set row d.octets known admitted.0;
-      file_format = format.0;
-    }
+    record { numbered = small; octets = octets; meets = meets_as d.rec d.set row d.octets known admitted.0; file_format = format.0 }
 
 pub value_good : (d : Dataset) → IsOctet d.set → Octets d.octets → value_fault d ≡ None → IsGoodDataset d
 value_good d small octets none = value_parts (row_of d.rec d.set) d small refl octets none

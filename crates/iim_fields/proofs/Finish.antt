@@ -47,9 +47,6 @@ records_lack p (r ∷ rs) ds (run, rest, parts, good, later) h =
 
 -- ---- after record 2
 
-after_two : (ds : List Dataset) (rest : List Dataset) → section_after ds ≡ 2 → AreRecords (after (section_after ds)) rest → AreRecords (7 ∷ 8 ∷ 9 ∷ []) rest
-after_two ds rest two recs = subst (λ (r : ℕ). AreRecords (after r) rest) two recs
-
 -- record 1 is whole
 first_whole : (ds : List Dataset) → SectionsLive ds → section_after ds ≡ 2 → IsGoodRecord 1 (of_record 1 ds)
 first_whole ds alive two =
@@ -58,7 +55,7 @@ first_whole ds alive two =
     let p : ℕ → Bool = λ r. nat_eq r 1 in
     let run_all : AllByRecursion (λ d. (d.rec ≡ 2) × IsGoodDataset d) run = each_back 2 (section_run ds) run (subst (λ (r : ℕ). IsGoodRecord r (section_run ds ++ run)) two good).each in
     let more_none : those p alive.0 ≡ [] = ap (those p) parts ∙ (filter-append (λ (d : Dataset). p d.rec) run rest
-    ∙ (λ i. run_lacks p 2 run run_all refl i ++ records_lack p (7 ∷ 8 ∷ 9 ∷ []) rest (after_two ds rest two later) (refl, (refl, (refl, tt))) i)) in
+    ∙ (λ i. run_lacks p 2 run run_all refl i ++ records_lack p (7 ∷ 8 ∷ 9 ∷ []) rest (subst (λ (r : ℕ). AreRecords (after r) rest) two later) (refl, (refl, (refl, tt))) i)) in
     let left : those p (ds ++ alive.0) ≡ of_record 1 ds = filter-append (λ (d : Dataset). p d.rec) ds alive.0 ∙ (ap (λ (xs : List Dataset). of_record 1 ds ++ xs) more_none ∙ append-nil (of_record 1 ds)) in
     let right : those p (r1 ++ rest1) ≡ r1 = filter-append (λ (d : Dataset). p d.rec) r1 rest1
     ∙ ((λ i. run_has p 1 r1 good1.each refl i ++ records_lack p (2 ∷ 7 ∷ 8 ∷ 9 ∷ []) rest1 later1 (refl, (refl, (refl, (refl, tt)))) i) ∙ append-nil r1) in
@@ -199,10 +196,7 @@ envelope_store values check limits store b none =
     let s = b.checked in
     let here : end_fault s.order.rec (has_seen s.order) ≡ None = sym (ap missing_at s.at) ∙ none in
     record {
-      few = record {
-        datasets = omega (arith, b.room.small_fields, b.within.fields_in);
-        octets = omega (arith, b.room.small_octets, b.within.octets_in);
-      };
+      few = record { datasets = omega (arith, b.room.small_fields, b.within.fields_in); octets = omega (arith, b.room.small_octets, b.within.octets_in) };
       holds = b.holds;
       envelope = finished values (fields_of store) s.order s.alive b.all_kept s.tells here;
     }

@@ -103,13 +103,10 @@ next_from ds d more n = (
 pub present_more : (ds : List Dataset) (d : Dataset) → section_after (ds ++ d ∷ []) ≡ d.rec
 present_more ds d = last_more 0 ds d
 
-own_of : (d : Dataset) → of_record d.rec (d ∷ []) ≡ d ∷ []
-own_of d = ap (λ (b : Bool). cond b (d ∷ []) []) (eq-eqb d.rec d.rec refl)
-
 pub run_more : (ds : List Dataset) (d : Dataset) → section_run (ds ++ d ∷ []) ≡ of_record d.rec ds ++ d ∷ []
 run_more ds d =
     ap (λ (r : ℕ). of_record r (ds ++ d ∷ [])) (present_more ds d)
-    ∙ (filter-append (λ (x : Dataset). nat_eq x.rec d.rec) ds (d ∷ []) ∙ ap (λ (xs : List Dataset). of_record d.rec ds ++ xs) (own_of d))
+    ∙ (filter-append (λ (x : Dataset). nat_eq x.rec d.rec) ds (d ∷ []) ∙ ap (λ (xs : List Dataset). of_record d.rec ds ++ xs) (ap (λ (b : Bool). cond b (d ∷ []) []) (eq-eqb d.rec d.rec refl)))
 
 from_more : (ds : List Dataset) (d : Dataset) (more : List Dataset) → FromRun d.rec (of_record d.rec ds ++ d ∷ []) more → From (ds ++ d ∷ []) more
 from_more ds d more f = subst (λ (r : ℕ). FromRun r (section_run (ds ++ d ∷ [])) more) (sym (present_more ds d)) (subst (λ (own : List Dataset). FromRun d.rec own more) (sym (run_more ds d)) f)

@@ -41,8 +41,7 @@ none_mapped f None = refl
 none_mapped f (Some x) = refl
 
 -- whether nothing is told of a head with this row
-head_by : (present : ℕ) (has : ℕ → Bool) (h : Head) (row : Row) → row_of h.rec h.set ≡ Some row
-    → is_none (head_fault present has h)
+head_by : (present : ℕ) (has : ℕ → Bool) (h : Head) (row : Row) → row_of h.rec h.set ≡ Some row → is_none (head_fault present has h)
     ≡ none_told (is_in_order present h.rec) (nat_eq h.rec present && has h.set) row.repeats (within row.min row.max h.count) (is_first h.rec (after present)) (is_none (missing_of present has))
 head_by present has h row known =
     let missing = missing_fault present (missing_of present has) in

@@ -242,13 +242,7 @@ pub reading_begun : (check new : Option RecordPlace) (limits : Limits) (store : 
 reading_begun check new limits store size h r t on =
     let (ds, s) = between_after (place_of check limits store size) r.stands t in
     let none = nothing_of_two (begun_octets store) size s.taken_are in
-    record {
-      room = r.room;
-      store_is = r.store_is;
-      stands = inr (inr (ds, h, [], on ds s));
-      in_store = λ _ _ _. none.1;
-      in_size = λ _ _ _. none.0;
-    }
+    record { room = r.room; store_is = r.store_is; stands = inr (inr (ds, h, [], on ds s)); in_store = λ _ _ _. none.1; in_size = λ _ _ _. none.0 }
 
 -- ---- data
 

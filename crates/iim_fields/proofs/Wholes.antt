@@ -41,11 +41,21 @@ some_where None e = absurd cc
 some_where (Some x) e = refl
 
 -- of two faults, whether none is told
-pub first_fails : (a b : Option FieldFault) → is_none a ≡ false → false ≡ is_none (option_or a b)
-first_fails None b e = absurd cc
-first_fails (Some f) b e = refl
+pub first_fails : (r : Bool) (a b : Option FieldFault) → r ≡ is_none a → r ≡ false → false ≡ is_none (option_or a b)
+first_fails r None b is e = absurd cc
+first_fails r (Some f) b is e = refl
+
+pub neither_fails : (r s : Bool) (a b : Option FieldFault) → r ≡ is_none a → s ≡ is_none b → r ≡ true → s ≡ true → true ≡ is_none (option_or a b)
+neither_fails r s None b first second e f = sym f ∙ second
+neither_fails r s (Some x) b first second e f = absurd cc
 
 -- ---- the check
+
+pub takes_whole : (old new : RecordPlace) (h : Head) (xs : List ℕ) (row : Row) (r s : Bool) → row_of h.rec h.set ≡ Some row
+    → r ≡ is_none (head_fault old.order.rec (has_seen old.order) h) → s ≡ is_none (value_fault (data_of h xs)) → r ≡ true → s ≡ true
+    → AddsHead old.order h new.order → new.begun ≡ old.begun → TakesWhole old h xs new
+takes_whole old new h xs row r s known first second e f adds begun =
+    record { row = row; known = known; no_fault = none_where _ (sym first ∙ e); adds = adds; begun = begun; fine = none_where _ (sym second ∙ f) }
 
 pub took_whole : EachRowHasValues → (old new : RecordPlace) (h : Head) (row : Row) (xs : List ℕ) → h.set < 256 → AddsHead old.order h new.order → new.begun ≡ None → row_of h.rec h.set ≡ Some row
     → head_fault old.order.rec (has_seen old.order) h ≡ None → h.count ≡ length xs → ((i : ℕ) → get_or xs i 0 < 256) → value_fault (data_of h xs) ≡ None → TookWhole (Some old) (Some new) h xs

@@ -1,4 +1,5 @@
-use Rattle.std.proofs.Common.{◌≡◌, ◌++◌, List, ap, sym, ◌∙◌}
+use Rattle.std.proofs.Common.{◌≡◌, ◌++◌, List, ap, append_assoc, sym, ◌∙◌}
+use Rattle.std.proofs.lemmas.Result.{IfOk-at_ok}
 use Rattle.iim_dataset.specs.Format.Datasets.{Dataset}
 use Rattle.iim_fields.specs.States.Builders.{Building, passed_by}
 use Rattle.iim_fields.specs.Format.Faults.{limit_passed}
@@ -15,3 +16,9 @@ unwrap-requires c =
     c.fields-rest.ensures.envelope (sym same ∙ (sym c.passed.ensures ∙ c.in_default.is)) (c.loop-rec.invariant.limits ∙ ap (λ (b : Building). b.limits) c.in_ok-builder.ensures.empty)
     (ap (λ (ds : List Dataset). c.loop-rec.builder.fields ++ ds) (sym c.in-Some-next.ensures.steps) ∙ (c.loop-rec.invariant.parts ∙ c.fields-rest.ensures.fields))
     c.add.ensures.fault
+
+pub loop-rec-preserved : goal.loop-rec-preserved
+loop-rec-preserved c =
+    let added = IfOk-at_ok _ c.unwrap.ensures c.add.ensures.added in
+    let rest = append_assoc c.loop-rec.builder.fields _ (rest_of c.next.new.self) ∙ ap (λ (ds : List Dataset). c.loop-rec.builder.fields ++ ds) (sym c.in-Some-next.ensures.steps) in
+    record { limits = cc; room = cc; parts = ap (λ (b : Building). b.fields ++ rest_of c.next.new.self) added ∙ (rest ∙ c.loop-rec.invariant.parts) }

@@ -1,14 +1,25 @@
-use Rattle.std.proofs.Common.{sym, ◌∙◌}
-use Rattle.iim_fields.specs.Format.Faults.{head_fault, value_fault}
-use Rattle.iim_fields.specs.States.Orders.{has_seen}
-use Rattle.iim_fields.specs.Format.Values.{data_of}
-use Rattle.iim_fields.proofs.Wholes.{first_fails}
+use Rattle.std.proofs.Common.{rules}
+use Rattle.iim_fields.proofs.Wholes.{first_fails, neither_fails, takes_whole}
 use Rattle.iim_fields.proofs.check.RecordPlace.whole.Goals as goal
 
 pub returns-then-not-admits_more-clause-exactly : goal.returns-then-not-admits_more-clause-exactly
-returns-then-not-admits_more-clause-exactly c =
-    first_fails (head_fault c.args.self.now.order.rec (has_seen c.args.self.now.order) c.args.head) (value_fault (data_of c.args.head c.args.octets.now)) (sym c.admits_more.ensures.exactly ∙ c.if-not-admits_more.true)
+returns-then-not-admits_more-clause-exactly c = search (rules, first_fails)
+
+pub returns-then-head-present-clause-exactly : goal.returns-then-head-present-clause-exactly
+returns-then-head-present-clause-exactly c = search (rules, neither_fails)
+
+pub returns-then-head-present-clause-took : goal.returns-then-head-present-clause-took
+returns-then-head-present-clause-took c = λ is.
+    takes_whole _ _ _ _ c.in-Some.row.now _ _ c.in-Some.ensures c.admits_more.ensures.exactly c.is_value.ensures
+    c.if-not-admits_more.false c.if-not-is_value.false (search rules) (search rules)
 
 pub returns-then-not-admits_next-clause-exactly : goal.returns-then-not-admits_next-clause-exactly
-returns-then-not-admits_next-clause-exactly c =
-    first_fails (head_fault c.args.self.now.order.rec (has_seen c.args.self.now.order) c.args.head) (value_fault (data_of c.args.head c.args.octets.now)) (sym c.admits_next.ensures.exactly ∙ c.if-not-admits_next.true)
+returns-then-not-admits_next-clause-exactly c = search (rules, first_fails)
+
+pub returns-clause-exactly : goal.returns-clause-exactly
+returns-clause-exactly c = search (rules, neither_fails)
+
+pub returns-clause-took : goal.returns-clause-took
+returns-clause-took c = λ is.
+    takes_whole _ _ _ _ c.in-Some.row.now _ _ c.in-Some.ensures c.admits_next.ensures.exactly c.is_value-2.ensures
+    c.if-not-admits_next.false c.if-not-is_value-2.false (search rules) (search rules)
