@@ -14,14 +14,7 @@ returns c =
     let same : Some s ≡ c.args.self.now = search rules in
     let made : record { known = is_given s.mode 1; subfile = unwrap_or s.subfile 0; announced = s.announced; maximum = s.maximum; subfiles = s.subfiles; total = s.total } ≡
     record { known = c.is_given.result; subfile = c.unwrap_or.result; announced = s.announced; maximum = s.maximum; subfiles = s.subfiles; total = s.total } =
-    λ i. record {
-      known = sym c.is_given.ensures i;
-      subfile = sym c.unwrap_or.ensures i;
-      announced = s.announced;
-      maximum = s.maximum;
-      subfiles = s.subfiles;
-      total = s.total;
-    } in
+    cc (c.is_given.ensures, c.unwrap_or.ensures) in
     record {
       place = λ p n st e. subst (IsSizes p) made (sizes_are s p n (subst (λ (o : Option State). StandsAt o p) (sym same) st) e);
       records = λ ds r st. subst (HaveSizes r.r7 r.r8 r.r9) made (have_sizes s ds r (subst (λ (o : Option State). StandsAt o (place_after_datasets ds)) (sym same) st));
