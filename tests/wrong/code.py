@@ -69,6 +69,12 @@ def span(text, name, number):
     return len("\n".join(lines[:first])) + 1, end
 
 
+def of_trait(text, at):
+    """Whether what stands there is a method of a trait, or of a trait's impl: a trait says which methods there are."""
+    heads = re.findall(r"^(?:pub(?:\(crate\))? )?(?:unsafe )?(?:impl|trait)\b.*", text[:at], re.M)
+    return text[at:].startswith(" ") and bool(heads) and bool(re.search(r"\btrait\b|\bfor\b", heads[-1]))
+
+
 def places(texts, body):
     """The functions that a wrong body changes; None where it changes something outside of their bodies."""
     found, texts = set(), dict(texts)

@@ -8,22 +8,23 @@ from concurrent.futures import FIRST_COMPLETED, ThreadPoolExecutor, wait
 from wrong import prover, rounds, sources, store, verdicts
 
 ENDED = re.compile(r"^only=\d+ proved=\d+$", re.M)
+# A round of so many wrong bodies is never parted: what each round takes besides them would be more than theirs.
+LEAST = 16
 
 
 class Crate:
     """A crate's wrong bodies while they are judged: what each came to, and what that took."""
 
-    def __init__(self, name, bodies, room, anew):
+    def __init__(self, name, bodies, room, anew, most):
         self.name, self.bodies, self.room = name, bodies, room
         told = {} if anew else {body.name: store.known(body) for body in bodies}
         self.verdicts = {name: verdict for name, verdict in told.items() if verdict}
         self.kept = len(self.verdicts)
-        self.planned = rounds.plan(name, [body for body in bodies if body.name not in self.verdicts])
+        self.planned = rounds.plan(name, [body for body in bodies if body.name not in self.verdicts], most)
         self.seconds, self.checks, self.open = 0, 0, len(self.planned)
-
-    def start(self):
-        """The folder of work with which its first round begins."""
-        return f"{self.room}/proved" if prover.proved(self.name, f"{self.room}/proved") else None
+        # (a program is no library that holds its work: what `rt check` kept of it serves, where that is there)
+        own = prover.proved(name, f"{room}/proved")
+        self.start = f"{room}/proved" if own else f"{sources.TOP}/crates/{name}/out/incremental"
 
     def size(self):
         """How much the prover has to read of it."""
@@ -68,39 +69,37 @@ class Judging:
         self.jobs = jobs
         # (what takes longest begins first)
         for crate in sorted(crates, key=lambda crate: -crate.size()):
-            if crate.planned:
-                self.waiting.append((crate, crate.planned[0], None))
-            else:
+            self.waiting += [(crate, these) for these in crate.planned]
+            if not crate.planned:
                 print(crate.sums(), flush=True)
 
     def begin(self):
         """Begins what waits, as long as there is a processor."""
         while self.waiting and len(self.running) < self.jobs:
-            crate, these, start = self.waiting.pop(0)
+            crate, these = self.waiting.pop(0)
             kept = tempfile.mkdtemp(dir=crate.room)
-            prover.linked(start or crate.start() or "", f"{kept}/work")
-            self.running[self.pool.submit(tried, these, f"{kept}/work")] = crate, these, start, f"{kept}/work"
+            prover.linked(crate.start, f"{kept}/work")
+            self.running[self.pool.submit(tried, these, f"{kept}/work")] = crate, these, kept
 
-    def again(self, crate, these, kept):
+    def again(self, crate, these):
         """Adds rounds of a crate, before those of other crates."""
         crate.open += len(these)
-        self.waiting[:0] = [(crate, each, kept) for each in these]
+        self.waiting[:0] = [(crate, each) for each in these]
 
     def end(self, future):
         """Takes what a round came to: what is not plainly refused beside others is tried again alone."""
-        crate, these, start, kept = self.running.pop(future)
+        crate, these, kept = self.running.pop(future)
         judged, seconds = future.result()
+        shutil.rmtree(kept)
         crate.seconds, crate.checks, crate.open = crate.seconds + seconds, crate.checks + 1, crate.open - 1
-        if these is crate.planned[0]:
-            self.waiting[:0] = [(crate, each, kept) for each in crate.planned[1:]]
         if judged is None:
             half = len(these.bodies) // 2
-            self.again(crate, [each for part in (these.bodies[:half], these.bodies[half:]) for each in rounds.plan(crate.name, part)], kept)
+            self.again(crate, [each for part in (these.bodies[:half], these.bodies[half:]) for each in rounds.plan(crate.name, part)])
         for body, verdict in judged or []:
-            if verdict[0] in verdicts.PASSED or len(these.bodies) == 1:
+            if verdict[0] in verdicts.PASSED or these.is_plain():
                 self.decide(crate, body, verdict)
             else:
-                self.again(crate, [rounds.Round(crate.name, [body])], kept)
+                self.again(crate, [rounds.alone(body)])
         if crate.open == 0:
             print(crate.sums(), flush=True)
             shutil.rmtree(crate.room)
@@ -123,16 +122,15 @@ class Judging:
                 self.begin()
 
 
-def judge(names, words, jobs, anew):
-    """Judges the wrong bodies of crates, those alone whose names hold one of the words where there are any, and returns what all came to:
-    what an earlier run on this machine said of the same stands, unless they are judged anew."""
+def judge(chosen, jobs, anew):
+    """Judges the wrong bodies of crates, and returns what all came to: what an earlier run on this machine said of the same stands, unless
+    they are judged anew. One crate's share of a run that is long for the checks side by side goes in several rounds."""
+    most = max(LEAST, -(-sum(map(len, chosen.values())) // jobs))
     with tempfile.TemporaryDirectory(prefix="wrong-bodies-kept-") as room:
         crates = []
-        for name in names:
+        for name, bodies in chosen.items():
             prover.words_of(name)
-            bodies = [body for body in sources.bodies(name) if not words or any(word in body.name for word in words)]
-            if bodies:
-                os.mkdir(f"{room}/{name}")
-                crates.append(Crate(name, bodies, f"{room}/{name}", anew or bool(sources.CHANGED)))
+            os.mkdir(f"{room}/{name}")
+            crates.append(Crate(name, bodies, f"{room}/{name}", anew or bool(sources.CHANGED), most))
         Judging(crates, jobs).run()
     return [verdict for crate in crates for verdict, _ in crate.verdicts.values()]

@@ -2,6 +2,7 @@
 import json
 import os
 import re
+import resource
 import shutil
 import subprocess
 import tempfile
@@ -10,6 +11,8 @@ from dataclasses import dataclass
 from wrong import sources
 
 PARTS = "src", "specs", "proofs"
+# The octets of a file that a check may write: less than it keeps of any function.
+LONGEST = 100 * 1024
 
 
 class Missing(Exception):
@@ -85,13 +88,16 @@ def linked(start, to):
 
 
 def run(words, room):
-    """Runs the words in a folder."""
-    with tempfile.TemporaryFile("w+", errors="replace") as out:
-        ran = subprocess.Popen(words, cwd=room, stdin=subprocess.DEVNULL, stdout=out, stderr=subprocess.STDOUT)
-        _, status, used = os.wait4(ran.pid, 0)
-        ran.returncode = os.waitstatus_to_exitcode(status)
-        out.seek(0)
-        return Said(out.read(), ran.returncode, used.ru_utime + used.ru_stime)
+    """Runs the words in a folder. No file gets as long as what is kept of a function: where the prover can't keep all that it makes, it gives
+    its verdict, and doesn't check once more to print each goal that failed for whoever would answer it."""
+    # (what ends a process that writes more is ignored here, and so it is there: the write fails)
+    ran = subprocess.Popen(words, cwd=room, stdin=subprocess.DEVNULL, stdout=subprocess.PIPE, stderr=subprocess.STDOUT, restore_signals=False)
+    resource.prlimit(ran.pid, resource.RLIMIT_FSIZE, (LONGEST, LONGEST))
+    with ran.stdout as out:
+        text = out.read().decode(errors="replace")
+    _, status, used = os.wait4(ran.pid, 0)
+    ran.returncode = os.waitstatus_to_exitcode(status)
+    return Said(text, ran.returncode, used.ru_utime + used.ru_stime)
 
 
 def check(crate, texts, functions, kept):

@@ -5,7 +5,7 @@ A function that has several gets copies under other names, with copies of its pr
 import os
 import re
 
-from wrong import code, sources
+from wrong import clauses, code, sources
 
 
 def called(body):
@@ -23,42 +23,54 @@ def last(path):
     return path.split("::")[-1]
 
 
-def copied(body, text, at, number):
-    """A function under another name with the wrong body in it, and that name; None where it can't be so."""
+def whole_by_hand(body):
+    """Whether the whole proof of a body's function is written by hand."""
+    return sources.is_there(body.crate, f"proofs/{'/'.join(body.function.split('::'))}/Proof.antt")
+
+
+def copied(body, text, at, named):
+    """A function under another name with the wrong body in it, and of its contract the clause alone that the body is held to; None where it
+    can't be so."""
     _, name, before = at
-    first, last = code.span(text, name, before)
-    copy = text[first:last]
+    first, end = code.span(text, name, before)
+    copy = text[first:end]
+    if code.of_trait(text, first):
+        return None
     for _, old, new in body.pairs:
         if copy.count(old) != 1:
             return None
         copy = copy.replace(old, new)
-    named = f"{name}_{number}"
-    return copy.replace(f"fn {name}", f"fn {named}", 1), named
+    copy = copy.replace(f"fn {name}", f"fn {named}", 1)
+    # (a file that lacks the sign of what says nothing keeps its contracts, as does what a proof written by hand shows at once)
+    return clauses.kept_alone(copy, body.clause) if "◌≡◌" in text and not whole_by_hand(body) else copy
 
 
 def copied_proof(body, named):
-    """The files of proof of a function for its copy of that name."""
+    """The files of proof of a function for its copy of that name, without answers for clauses that the copy lacks."""
     crate, path = f"{sources.TOP}/crates/{body.crate}", body.function.split("::")
     own, other = "/".join(["proofs", *path]), "/".join(["proofs", *path[:-1], named])
     files = os.listdir(f"{crate}/{own}") if os.path.isdir(f"{crate}/{own}") else []
     word, instead = (f".proofs.{'.'.join([*path[:-1], last])}." for last in (path[-1], named))
-    return {f"{other}/{file}": sources.text_in(body.crate, f"{own}/{file}").replace(word, instead) for file in files}
+    found = {f"{other}/{file}": sources.text_in(body.crate, f"{own}/{file}").replace(word, instead) for file in files}
+    return {path: clauses.answers_alone(text, body.clause) if path.endswith("/Answers.antt") else text for path, text in found.items()}
 
 
 class Round:
     """Wrong bodies that stand together, the functions that are asked for them, and the texts of the files that they change."""
 
-    def __init__(self, crate, bodies=()):
+    def __init__(self, crate):
         self.crate, self.bodies, self.functions, self.taken = crate, [], {}, set()
         self.texts = {path: text for (name, path), text in sources.CHANGED.items() if name == crate}
-        for body in bodies:
-            self.add(body, set())
 
     def add(self, body, places):
-        """Adds a wrong body that changes these functions, and returns whether it fits: none of its functions is taken, or a copy does."""
+        """Adds a wrong body that changes these functions, in a copy or in its function itself, and returns whether it fits."""
+        return self.add_copy(body, places) or self.add_itself(body, places)
+
+    def add_itself(self, body, places):
+        """Adds a wrong body in its function itself, where none of the functions that it changes is taken."""
         texts = sources.applied(self.texts, body)
         if texts is None or {body.function, *places} & self.taken or self.leads_back(body):
-            return self.add_copy(body, places)
+            return False
         self.note(body, body.function, texts, places)
         return True
 
@@ -71,40 +83,52 @@ class Round:
         return last(body.function) in found - called_before(body)
 
     def add_copy(self, body, places):
-        """Adds a wrong body in a copy of its function."""
+        """Adds a wrong body in a copy of its function, which stays right: so all that calls it stays as it is proved."""
         (at,) = places if len(places) == 1 else (None,)
-        if at is None or at[1] != last(body.function):
+        if at is None or at[1] != last(body.function) or body.clause.startswith("lemma "):
             return False
-        original = sources.text_in(body.crate, at[0])
-        copy = copied(body, original, at, len(self.bodies) + 1)
+        original, named = sources.text_in(body.crate, at[0]), f"{at[1]}_wrong_{len(self.bodies) + 1}"
+        copy = copied(body, original, at, named)
         if copy is None:
             return False
         text = self.texts.get(at[0], original)
         _, end = code.span(text, at[1], at[2])
-        texts = {**self.texts, at[0]: f"{text[:end]}\n\n{copy[0]}{text[end:]}", **copied_proof(body, copy[1])}
-        self.note(body, "::".join([*body.function.split("::")[:-1], copy[1]]), texts, places)
+        texts = {**self.texts, at[0]: f"{text[:end]}\n\n{copy}{text[end:]}", **copied_proof(body, named)}
+        self.note(body, "::".join([*body.function.split("::")[:-1], named]), texts, ())
         return True
 
     def note(self, body, function, texts, places):
-        """Notes a wrong body that is in, and the function that is asked for it."""
+        """Notes a wrong body that is in, the function that is asked for it, and those that it changes."""
         self.bodies.append(body)
         self.functions[body.name] = function
         self.texts = texts
-        self.taken |= {body.function, *places}
+        self.taken |= {function, *places}
 
     def asked(self):
         """The functions whose proofs are asked."""
         return list(dict.fromkeys(self.functions.values()))
 
+    def is_plain(self):
+        """Whether it is of one wrong body, which stands in its function itself."""
+        return len(self.bodies) == 1 and self.asked() == [self.bodies[0].function]
 
-def plan(crate, bodies):
-    """The rounds of a crate, the largest first. What changes more than the bodies of functions stands alone: proofs of others see it."""
-    found, alone = [], []
+
+def alone(body):
+    """A round of one wrong body, in its function itself, with all of its contract."""
+    found = Round(body.crate)
+    found.add_itself(body, set())
+    return found
+
+
+def plan(crate, bodies, most=1000):
+    """The rounds of a crate, each of so many wrong bodies at the most, the largest first. What changes more than the bodies of functions
+    stands alone: proofs of others see it."""
+    found, apart = [], []
     for body in bodies:
         places = code.places(sources.original(body), body)
         if places is None:
-            alone.append(Round(crate, [body]))
-        elif not any(these.add(body, places) for these in found):
+            apart.append(alone(body))
+        elif not any(len(these.bodies) < most and these.add(body, places) for these in found):
             found.append(Round(crate))
             found[-1].add(body, places)
-    return sorted(found, key=lambda these: -len(these.bodies)) + alone
+    return sorted(found, key=lambda these: -len(these.bodies)) + apart

@@ -1,28 +1,25 @@
 """Takes away what the clause says that a wrong body is held to: the runner has to name that one as accepted then."""
 import re
 
-from wrong import code, sources, verdicts
+from wrong import clauses, code, sources, verdicts
 
 
-def contract_of(crate, body):
-    """The file in which a wrong body's function stands, and where its contract begins and ends."""
-    for path, *_ in body.pairs:
-        text = sources.text_in(crate, path)
-        for name, start, first, _ in code.functions(text):
-            if name == body.function.split("::")[-1] and path.startswith("src/"):
-                return path, text, start, first
-    raise SystemExit(f"{body.name}: its function is in none of the files that it changes")
-
-
-# What a clause says that says nothing: any result is the same as itself. So the clause stands, and the goals keep their names.
-NOTHING = "{ result ≡ result }"
+def contract_of(body):
+    """The file in which a wrong body's function stands, its text, and where its contract begins and ends."""
+    texts = {path: sources.text_in(body.crate, path) for path in sources.original(body)}
+    for path, name, before in code.places(texts, body) or ():
+        if name == body.function.split("::")[-1]:
+            _, start, first, _ = [each for each in code.functions(texts[path]) if each[0] == name][before]
+            return path, texts[path], start, first
+    raise SystemExit(f"{body.name}: its function is none of those that it changes")
 
 
 def clause_in(contract, clause):
     """The span of what a clause of a contract says."""
-    name = clause.partition(" ")[2]
-    for head in re.finditer(rf"\n *ensures{' ' + name if name else ''} (?=\{{)", contract):
-        return head.end(), code.end_of_group(contract, head.end())
+    held = clause.partition(" ")[2] or None
+    for name, first, end in clauses.spans(contract):
+        if name == held:
+            return first, end
     raise SystemExit(f"the contract has no clause of the form {clause}")
 
 
@@ -33,11 +30,14 @@ def without_answers(text, clause):
 
 
 def take_away(crate, name):
-    """Takes away what the clause says that the wrong body of this name is held to, and the answers for its goals."""
-    body = next(body for body in sources.bodies(crate) if name in (body.name, body.word))
-    path, text, start, end = contract_of(crate, body)
+    """Takes away what the clause says that the wrong body of this name is held to, and the answers for its goals. Returns the wrong bodies
+    of its function."""
+    bodies = sources.bodies(crate)
+    body = next(body for body in bodies if name in (body.name, body.word))
+    path, text, start, end = contract_of(body)
     first, last = clause_in(text[start:end], body.clause)
-    sources.CHANGED[crate, path] = text[: start + first] + NOTHING + text[start + last :]
+    sources.CHANGED[crate, path] = text[: start + first] + clauses.NOTHING + text[start + last :]
     answers = f"proofs/{body.function.replace('::', '/')}/Answers.antt"
     if sources.is_there(crate, answers):
         sources.CHANGED[crate, answers] = without_answers(sources.text_in(crate, answers), body.clause)
+    return [each for each in bodies if each.function == body.function]

@@ -1,0 +1,43 @@
+"""The clauses of a contract: a copy of a function has to show the one alone that its wrong body is held to."""
+import re
+
+from wrong import code
+
+# What a clause says that says nothing: any result is the same as itself. So the clause stands, and the goals keep their names.
+NOTHING = "{ result ≡ result }"
+HEAD = re.compile(r"\n *ensures(?: (\w+))? (?=\{)")
+
+
+def spans(contract):
+    """Of each clause of a contract that tells of what is returned its name, or None, and where what it says begins and ends."""
+    return [(head[1], head.end(), code.end_of_group(contract, head.end())) for head in HEAD.finditer(contract)]
+
+
+def is_kept(clause, name):
+    """Whether a copy of a function keeps the clause of this name, where its wrong body is held to that one. All stay where it is held to one
+    without a name, or to what the prover names otherwise."""
+    kind, _, held = clause.partition(" ")
+    if kind == "ensures":
+        return not re.fullmatch(r"\w+", held) or name == held
+    return kind not in ("requires", "loop")
+
+
+def kept_alone(function, clause):
+    """A function whose contract says what this clause says of what is returned, and no more. What it requires, its loops and its body stay."""
+    contract = function[: code.functions(function)[0][2]]
+    for name, first, end in reversed(spans(contract)):
+        if not is_kept(clause, name):
+            function = function[:first] + NOTHING + function[end:]
+    return function
+
+
+def answered(part):
+    """The clause whose goal an answer is for: its name, or None where it has none or the goal is no clause's of what is returned."""
+    said = re.match(r"pub returns\S*-clause-(\w+?)(-\d+)? :", part)
+    return said and said[1]
+
+
+def answers_alone(text, clause):
+    """A file of answers without those for clauses that say nothing in a copy."""
+    parts = re.split(r"\n(?=pub )", text)
+    return "\n".join(part for part in parts if not re.match(r"pub returns", part) or is_kept(clause, answered(part)))
