@@ -15,11 +15,9 @@ def spans(contract):
 
 def is_kept(clause, name):
     """Whether a copy of a function keeps the clause of this name, where its wrong body is held to that one. All stay where it is held to one
-    without a name, or to what the prover names otherwise."""
+    without a name, or to what the prover names otherwise, and none where it is held to a call, a loop or its type's invariant."""
     kind, _, held = clause.partition(" ")
-    if kind == "ensures":
-        return not re.fullmatch(r"\w+", held) or name == held
-    return kind not in ("requires", "loop")
+    return kind == "ensures" and (name == held or not re.fullmatch(r"\w+", held))
 
 
 def kept_alone(function, clause):

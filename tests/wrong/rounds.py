@@ -1,6 +1,7 @@
-"""Which wrong bodies stand together in one check: each in functions of its own, as many as can be.
+"""Which wrong bodies stand together in one check: as many as can be, each in a copy of its function under another name.
 
-A function that has several gets copies under other names, with copies of its proof, and each copy is changed otherwise.
+A copy has a copy of its function's proof. The function itself stays right, and so nothing that calls it is proved again. A method of a
+trait's impl can't be copied: such a wrong body stands in the function itself.
 """
 import os
 import re
@@ -23,9 +24,11 @@ def last(path):
     return path.split("::")[-1]
 
 
-def whole_by_hand(body):
-    """Whether the whole proof of a body's function is written by hand."""
-    return sources.is_there(body.crate, f"proofs/{'/'.join(body.function.split('::'))}/Proof.antt")
+def shows_one(body, text):
+    """Whether a copy has to show one clause alone: not where its whole proof is written by hand, nor where its file lacks the sign of what
+    says nothing."""
+    by_hand = f"proofs/{'/'.join(body.function.split('::'))}/Proof.antt"
+    return "◌≡◌" in text and not sources.is_there(body.crate, by_hand)
 
 
 def copied(body, text, at, named):
@@ -41,18 +44,19 @@ def copied(body, text, at, named):
             return None
         copy = copy.replace(old, new)
     copy = copy.replace(f"fn {name}", f"fn {named}", 1)
-    # (a file that lacks the sign of what says nothing keeps its contracts, as does what a proof written by hand shows at once)
-    return clauses.kept_alone(copy, body.clause) if "◌≡◌" in text and not whole_by_hand(body) else copy
+    return clauses.kept_alone(copy, body.clause) if shows_one(body, text) else copy
 
 
-def copied_proof(body, named):
+def copied_proof(body, text, named):
     """The files of proof of a function for its copy of that name, without answers for clauses that the copy lacks."""
     crate, path = f"{sources.TOP}/crates/{body.crate}", body.function.split("::")
     own, other = "/".join(["proofs", *path]), "/".join(["proofs", *path[:-1], named])
     files = os.listdir(f"{crate}/{own}") if os.path.isdir(f"{crate}/{own}") else []
     word, instead = (f".proofs.{'.'.join([*path[:-1], last])}." for last in (path[-1], named))
-    found = {f"{other}/{file}": sources.text_in(body.crate, f"{own}/{file}").replace(word, instead) for file in files}
-    return {path: clauses.answers_alone(text, body.clause) if path.endswith("/Answers.antt") else text for path, text in found.items()}
+    found = {file: sources.text_in(body.crate, f"{own}/{file}").replace(word, instead) for file in files}
+    if "Answers.antt" in found and shows_one(body, text):
+        found["Answers.antt"] = clauses.answers_alone(found["Answers.antt"], body.clause)
+    return {f"{other}/{file}": proof for file, proof in found.items()}
 
 
 class Round:
@@ -93,7 +97,7 @@ class Round:
             return False
         text = self.texts.get(at[0], original)
         _, end = code.span(text, at[1], at[2])
-        texts = {**self.texts, at[0]: f"{text[:end]}\n\n{copy}{text[end:]}", **copied_proof(body, named)}
+        texts = {**self.texts, at[0]: f"{text[:end]}\n\n{copy}{text[end:]}", **copied_proof(body, original, named)}
         self.note(body, "::".join([*body.function.split("::")[:-1], named]), texts, ())
         return True
 
