@@ -1,4 +1,5 @@
 """Judges wrong bodies: rounds of many side by side, and again alone what a round does not plainly refuse."""
+import math
 import os
 import re
 import shutil
@@ -125,7 +126,7 @@ class Judging:
 def judge(chosen, jobs, anew):
     """Judges the wrong bodies of crates, and returns what all came to: what an earlier run on this machine said of the same stands, unless
     they are judged anew. One crate's share of a run that is long for the checks side by side goes in several rounds."""
-    most = max(LEAST, -(-sum(map(len, chosen.values())) // jobs))
+    most = max(LEAST, math.ceil(sum(map(len, chosen.values())) / jobs))
     with tempfile.TemporaryDirectory(prefix="wrong-bodies-kept-") as room:
         crates = []
         for name, bodies in chosen.items():

@@ -3,6 +3,7 @@
 A copy has a copy of its function's proof. The function itself stays right, and so nothing that calls it is proved again. A method of a
 trait's impl can't be copied: such a wrong body stands in the function itself.
 """
+import math
 import os
 import re
 
@@ -125,9 +126,11 @@ def alone(body):
 
 
 def plan(crate, bodies, most=1000):
-    """The rounds of a crate, each of so many wrong bodies at the most, the largest first. What changes more than the bodies of functions
-    stands alone: proofs of others see it."""
+    """The rounds of a crate, about equal and each of so many wrong bodies at the most, the largest first. What changes more than the bodies
+    of functions stands alone: proofs of others see it."""
     found, apart = [], []
+    parts = max(1, math.ceil(len(bodies) / most))
+    most = math.ceil(len(bodies) / parts)
     for body in bodies:
         places = code.places(sources.original(body), body)
         if places is None:
