@@ -16,6 +16,7 @@ use crate::restore::restore;
 use crate::save::save;
 use crate::saved::MessagePlace;
 use crate::span::lengths_to;
+use std::fmt;
 use std::marker::Model;
 use wire_story::StorySink;
 
@@ -26,6 +27,13 @@ use wire_story::StorySink;
 #[derive(Drop)]
 pub struct MessageReader {
     place: Option<Place>,
+}
+
+impl fmt::Debug for MessageReader {
+    /// Its name alone: what it holds is told by [`MessageReader::place`].
+    fn fmt<W: fmt::Write>(&self, f: &mut fmt::Formatter<W>) -> fmt::Result {
+        f.write_str("MessageReader")
+    }
 }
 
 impl Model for MessageReader {
