@@ -65,9 +65,9 @@ def tried(these, kept):
 class Judging:
     """All of it: the tasks that wait, those that run, and the crates."""
 
-    def __init__(self, crates, jobs):
+    def __init__(self, crates, jobs, passed):
         self.pool, self.running, self.waiting, self.crates = ThreadPoolExecutor(jobs), {}, [], crates
-        self.jobs = jobs
+        self.jobs, self.passed = jobs, passed
         # (what takes longest begins first)
         for crate in sorted(crates, key=lambda crate: -crate.size()):
             self.waiting += [(crate, these) for these in crate.planned]
@@ -97,7 +97,7 @@ class Judging:
             half = len(these.bodies) // 2
             self.again(crate, [each for part in (these.bodies[:half], these.bodies[half:]) for each in rounds.plan(crate.name, part)])
         for body, verdict in judged or []:
-            if verdict[0] in verdicts.PASSED or these.is_plain():
+            if verdict[0] in self.passed or these.is_plain():
                 self.decide(crate, body, verdict)
             else:
                 self.again(crate, [rounds.alone(body)])
@@ -106,11 +106,11 @@ class Judging:
             shutil.rmtree(crate.room)
 
     def decide(self, crate, body, verdict):
-        """Notes what a wrong body comes to, and tells it unless it is plainly refused."""
+        """Notes what a wrong body comes to, and tells it unless it plainly passes."""
         crate.verdicts[body.name] = verdict
         if verdict[0] in verdicts.PASSED and not sources.CHANGED:
             store.keep(body, verdict)
-        if verdict[0] != verdicts.REFUSED:
+        if verdict[0] != self.passed[0]:
             print(f"{crate.name}: {body.name} ({body.function}, {body.clause}): {verdict[0]}{': ' if verdict[1] else ''}{verdict[1]}", flush=True)
 
     def run(self):
@@ -123,9 +123,10 @@ class Judging:
                 self.begin()
 
 
-def judge(chosen, jobs, anew):
+def judge(chosen, jobs, anew, passed=verdicts.PASSED):
     """Judges the wrong bodies of crates, and returns what all came to: what an earlier run on this machine said of the same stands, unless
-    they are judged anew. One crate's share of a run that is long for the checks side by side goes in several rounds."""
+    they are judged anew. One crate's share of a run that is long for the checks side by side goes in several rounds. Of what does not come
+    to a verdict that passes each is tried again alone."""
     most = max(LEAST, math.ceil(sum(map(len, chosen.values())) / jobs))
     with tempfile.TemporaryDirectory(prefix="wrong-bodies-kept-") as room:
         crates = []
@@ -133,5 +134,5 @@ def judge(chosen, jobs, anew):
             prover.words_of(name)
             os.mkdir(f"{room}/{name}")
             crates.append(Crate(name, bodies, f"{room}/{name}", anew or bool(sources.CHANGED), most))
-        Judging(crates, jobs).run()
+        Judging(crates, jobs, passed).run()
     return [verdict for crate in crates for verdict, _ in crate.verdicts.values()]

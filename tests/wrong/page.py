@@ -23,7 +23,8 @@ counts and names them. One that has passed is not judged again on that machine w
 those below it, the toolchain and the judge (`--anew` judges all).
 
 That a verdict stands on its clause can be seen: `tests/wrong_bodies CRATE --without NAME` judges the wrong bodies of the function of this
-one with that clause saying nothing, and names as accepted those that are held to it.
+one with that clause saying nothing, and names as accepted those that are held to it. `tests/wrong_bodies --right` judges the copies with
+their right bodies, each of which has to be proved.
 
 A clause is `ensures` where a function has one clause without a name, or where the prover doesn't say which of them fails, `ensures x` where
 it is named `x`, `requires of f` where a call of `f` is no longer allowed, `loop` what holds at each turn of a loop, `invariant` that of the function's type, and `lemma x in F.antt` a lemma on
