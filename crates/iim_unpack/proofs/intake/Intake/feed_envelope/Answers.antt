@@ -6,12 +6,11 @@ use Rattle.iim_unpack.proofs.intake.Intake.feed_envelope.Goals as goal
 
 pub feeding-init : goal.feeding-init
 feeding-init g c =
-    let a = c.args.sink.now in
     record {
       alive = c.in_default.is;
       octets = refl;
       fed = (
-        fed_none g.S.StorySink.goes c.gifts_join.ensures (in_line g.R.Source.state c.args.self.now) c.args.unpacker.now a c.stands_somewhere.ensures.counts (g.met.S.StorySink.nothing a),
+        fed_none g.S.StorySink.goes c.gifts_join.ensures (in_line g.R.Source.state c.args.self.now) c.args.unpacker.now _ c.stands_somewhere.ensures.counts (g.met.S.StorySink.nothing _),
         λ none. (refl, refl),
       );
       ready = c.requires.ready;
@@ -39,7 +38,7 @@ feeding-preserved g c =
       fed = (fed, λ none. absurd (some_came some fed none));
       ready = more.1;
       calm = c.in-Ok-More.ensures.calm.1 ∙ c.feeding.invariant.calm;
-      leads = g.met.R.Source.leads_on c.args.self.now.reader c.feeding.self.reader c.next_piece.new.self.reader c.feeding.invariant.leads c.next_piece.ensures.leads;
+      leads = g.met.R.Source.leads_on _ _ _ c.feeding.invariant.leads c.next_piece.ensures.leads;
     }
 
 pub returns-in-Ok-Done-clause-fed : goal.returns-in-Ok-Done-clause-fed
@@ -62,3 +61,18 @@ returns-in-Err-clause-faults g c =
       fed_and_faults g.S.StorySink.failures g.met.S.StorySink.joined c.gifts_join.ensures c.delivery_may_be_cut.ensures (in_line g.R.Source.state c.next_piece.new.self) c.next_piece.new.unpacker
           c.next_piece.new.sink faults.0 c.in-Err.fault c.feeding.invariant.fed.0 c.feeding.invariant.calm faults.2,
     )
+
+pub returns-in-Some-clause-leads : goal.returns-in-Some-clause-leads
+returns-in-Some-clause-leads g c = g.met.R.Source.stays _
+
+pub returns-in-Ok-Done-clause-leads : goal.returns-in-Ok-Done-clause-leads
+returns-in-Ok-Done-clause-leads g c = g.met.R.Source.leads_on _ _ _ c.feeding.invariant.leads c.next_piece.ensures.leads
+
+pub returns-in-Ok-End-clause-leads : goal.returns-in-Ok-End-clause-leads
+returns-in-Ok-End-clause-leads g c = g.met.R.Source.leads_on _ _ _ c.feeding.invariant.leads c.next_piece.ensures.leads
+
+pub returns-in-Err-clause-leads : goal.returns-in-Err-clause-leads
+returns-in-Err-clause-leads g c = g.met.R.Source.leads_on _ _ _ c.feeding.invariant.leads c.next_piece.ensures.leads
+
+pub returns-in-Some-clause-faults : goal.returns-in-Some-clause-faults
+returns-in-Some-clause-faults g c = λ none. absurd cc
