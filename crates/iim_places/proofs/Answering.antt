@@ -304,26 +304,17 @@ not_held laws text held some (lines, line, so_far) (others, other, none) =
 
 one_cause : AnswerLaws → (a b : MessageCause) (o : List ℕ) (next : ℕ) → HasCause a o next → HasCause b o next → a ≡ b
 one_cause laws messages.BadOctet messages.BadOctet o next h k = refl
-one_cause laws messages.BadOctet messages.Unfinished o next h k = absurd k
-one_cause laws messages.BadOctet messages.LoneReturn o next h k = absurd (message_dead o next k.0 h)
-one_cause laws messages.BadOctet messages.ControlOctet o next h k = absurd (message_dead o next k.0 h)
-one_cause laws messages.BadOctet messages.Sink o next h k = absurd (message_dead o next k.0 h)
-one_cause laws messages.Unfinished b o next h k = absurd h
-one_cause laws messages.LoneReturn messages.BadOctet o next h k = absurd (message_dead o next h.0 k)
-one_cause laws messages.LoneReturn messages.Unfinished o next h k = absurd k
 one_cause laws messages.LoneReturn messages.LoneReturn o next h k = refl
-one_cause laws messages.LoneReturn messages.ControlOctet o next h k = not_held laws (text_so_far o) h.2.0 h.2.1 h.2.2 k.2
-one_cause laws messages.LoneReturn messages.Sink o next h k = absurd (h.1.1 k.1)
-one_cause laws messages.ControlOctet messages.BadOctet o next h k = absurd (message_dead o next h.0 k)
-one_cause laws messages.ControlOctet messages.Unfinished o next h k = absurd k
-one_cause laws messages.ControlOctet messages.LoneReturn o next h k = not_held laws (text_so_far o) k.2.0 k.2.1 k.2.2 h.2
 one_cause laws messages.ControlOctet messages.ControlOctet o next h k = refl
-one_cause laws messages.ControlOctet messages.Sink o next h k = absurd (h.1.1 k.1)
-one_cause laws messages.Sink messages.BadOctet o next h k = absurd (message_dead o next h.0 k)
-one_cause laws messages.Sink messages.Unfinished o next h k = absurd k
-one_cause laws messages.Sink messages.LoneReturn o next h k = absurd (k.1.1 h.1)
-one_cause laws messages.Sink messages.ControlOctet o next h k = absurd (k.1.1 h.1)
 one_cause laws messages.Sink messages.Sink o next h k = refl
+one_cause laws messages.Unfinished b o next h k = absurd h
+one_cause laws a messages.Unfinished o next h k = absurd k
+one_cause laws messages.BadOctet b o next h k = absurd (message_dead o next k.0 h)
+one_cause laws a messages.BadOctet o next h k = absurd (message_dead o next h.0 k)
+one_cause laws messages.LoneReturn messages.ControlOctet o next h k = not_held laws (text_so_far o) h.2.0 h.2.1 h.2.2 k.2
+one_cause laws messages.ControlOctet messages.LoneReturn o next h k = not_held laws (text_so_far o) k.2.0 k.2.1 k.2.2 h.2
+one_cause laws a messages.Sink o next h k = absurd (h.1.1 k.1)
+one_cause laws messages.Sink b o next h k = absurd (k.1.1 h.1)
 
 -- ---- each two refusals
 
@@ -435,16 +426,14 @@ one_refusal laws tests limits octets next f g a b = one_by_tests laws limits oct
 cut_at : (stream : List ℕ) (k : ℕ) → k < length stream → (more : List ℕ) × (stream ≡ take k stream ++ slice_index stream k ∷ more)
 cut_at [] k fits = absurd (omega (arith, fits))
 cut_at (b ∷ stream) zero fits = (stream, refl)
-cut_at (b ∷ stream) (suc k) fits =
-    let (more, is) = cut_at stream k (omega (arith, fits)) in (more, λ i. b ∷ is i)
+cut_at (b ∷ stream) (suc k) fits = let (more, is) = cut_at stream k (omega (arith, fits)) in (more, λ i. b ∷ is i)
 
 -- a front of it that has the octet
 front_at : (stream : List ℕ) (k n : ℕ) → k < n → n ≤ length stream → (more : List ℕ) × (take n stream ≡ take k stream ++ slice_index stream k ∷ more)
 front_at [] k n less fits = absurd (omega (arith, less, fits))
 front_at (b ∷ stream) k zero less fits = absurd (omega (arith, less))
 front_at (b ∷ stream) zero (suc n) less fits = (take n stream, refl)
-front_at (b ∷ stream) (suc k) (suc n) less fits =
-    let (more, is) = front_at stream k n (omega (arith, less)) (omega (arith, fits)) in (more, λ i. b ∷ is i)
+front_at (b ∷ stream) (suc k) (suc n) less fits = let (more, is) = front_at stream k n (omega (arith, less)) (omega (arith, fits)) in (more, λ i. b ∷ is i)
 
 -- what the laws say of one stream
 pub record StreamLaws : Type 0 where

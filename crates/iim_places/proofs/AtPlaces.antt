@@ -1,5 +1,5 @@
 -- Readers at a place: the message that a ticket tells, and what the record layer can continue with.
-use Rattle.std.proofs.Common.{◌≡◌, ℕ, ◌↔◌, Bool, true, false, cond, IsTrue, IsSome, IfSome, IfNone, OnOk, Option, Some, None, Result, Ok, Err, is_ok, List, [], ◌∷◌, length, map, get_or, refl, ap, sym, subst, ◌∙◌, arith, Bor}
+use Rattle.std.proofs.Common.{◌≡◌, ℕ, ◌<◌, ◌≤◌, ◌↔◌, Bool, true, false, cond, IsTrue, IsSome, IfSome, IfNone, OnOk, Option, Some, None, Result, Ok, Err, is_ok, List, [], ◌∷◌, zero, suc, length, map, get_or, refl, ap, sym, subst, ◌∙◌, arith, Bor}
 use Rattle.std.proofs.lemmas.Option.{same_Some}
 use Rattle.std.specs.List.{AllByRecursion}
 use Rattle.iim_dataset.specs.Format.Datasets.{Dataset, count_octets}
@@ -25,9 +25,11 @@ use Rattle.iim_places.specs.States.ByLayers.{RecordsLive, head_of_numbers}
 use Rattle.iim_places.specs.States.PlainDatasets.{number_list}
 use Rattle.iim_places.specs.States.Possible.{widest}
 use Rattle.iim_places.specs.Taking.{AreKept, CanContinueWithin, IsMessageOf, numbers_told, told_datasets}
+use Rattle.iim_places.specs.Laws.Tickets.{texts_of}
 use Rattle.iim_places.specs.Format.Tickets.{Phase, TagBegun, DataBegun, AllEnded}
 use Rattle.iim_places.proofs.Fitting.{message_told}
 use Rattle.iim_places.proofs.Plain.{kept_fields, plain_told}
+use Rattle.iim_places.proofs.TicketLengths.{texts_led}
 
 -- ---- tags
 
@@ -55,12 +57,8 @@ live_alive section (DataBegun set count left taken) ds lives = head_alive ds (he
 live_alive section AllEnded ds lives = lives.1
 
 pub four_back : (numbers : List (Option ℕ)) → length numbers ≡ 4 → numbers ≡ number_list (numbers_told numbers)
-four_back [] is = absurd (omega (arith, is))
-four_back (a ∷ []) is = absurd (omega (arith, is))
-four_back (a ∷ b ∷ []) is = absurd (omega (arith, is))
-four_back (a ∷ b ∷ c ∷ []) is = absurd (omega (arith, is))
 four_back (a ∷ b ∷ c ∷ d ∷ []) is = refl
-four_back (a ∷ b ∷ c ∷ d ∷ e ∷ more) is = absurd (omega (arith, is))
+four_back numbers is = absurd (omega (arith, is))
 
 pub fits_told : (numbers : List (Option ℕ)) → AreNumbers numbers → AllByRecursion IsSize (number_list (numbers_told numbers))
 fits_told numbers fit = subst (AllByRecursion IsSize) (four_back numbers fit.four) fit.each
@@ -78,15 +76,24 @@ leads_on_told section phase fields numbers some ended fit each within lives =
 
 pub texts_seven : (texts : List (Bor (List ℕ))) (z : Bor (List ℕ)) → length texts ≡ 7
     → (get_or texts 0 z).now ∷ (get_or texts 1 z).now ∷ (get_or texts 2 z).now ∷ (get_or texts 3 z).now ∷ (get_or texts 4 z).now ∷ (get_or texts 5 z).now ∷ (get_or texts 6 z).now ∷ [] ≡ map (λ t. t.now) texts
-texts_seven [] z is = absurd (omega (arith, is))
-texts_seven (a ∷ []) z is = absurd (omega (arith, is))
-texts_seven (a ∷ b ∷ []) z is = absurd (omega (arith, is))
-texts_seven (a ∷ b ∷ c ∷ []) z is = absurd (omega (arith, is))
-texts_seven (a ∷ b ∷ c ∷ d ∷ []) z is = absurd (omega (arith, is))
-texts_seven (a ∷ b ∷ c ∷ d ∷ e ∷ []) z is = absurd (omega (arith, is))
-texts_seven (a ∷ b ∷ c ∷ d ∷ e ∷ f ∷ []) z is = absurd (omega (arith, is))
 texts_seven (a ∷ b ∷ c ∷ d ∷ e ∷ f ∷ g ∷ []) z is = refl
-texts_seven (a ∷ b ∷ c ∷ d ∷ e ∷ f ∷ g ∷ h ∷ more) z is = absurd (omega (arith, is))
+texts_seven texts z is = absurd (omega (arith, is))
+
+room_for_each : (texts : List (Bor (List ℕ))) (k : ℕ) → AllByRecursion (λ t. length t ≤ 64) (map (λ t. t.now) texts)
+    → length (get_or texts k (record { ref_ptr = (0, 0); now = [] })).now ≤ 64
+room_for_each [] k all = omega arith
+room_for_each (t ∷ texts) zero all = all.0
+room_for_each (t ∷ texts) (suc k) all = room_for_each texts k all.1
+
+-- a text that is too long is of no message
+pub none_long : (part counter flag : ℕ) (texts : List (Bor (List ℕ))) (k : ℕ) → 64 < length (get_or texts k (record { ref_ptr = (0, 0); now = [] })).now
+    → (m : MessagePlace) (octets text : List ℕ) → IsMessageOf part counter flag (map (λ t. t.now) texts) m → LeadsToSaved octets text m → ⊥
+none_long part counter flag texts k long m octets text is leads =
+    let s = texts_led octets text m leads in
+    let all : AllByRecursion (λ t. length t ≤ 64) (texts_of m) =
+    (omega (arith, s.source), (omega (arith, s.number), (omega (arith, s.priority), (omega (arith, s.category),
+        (omega (arith, s.words), (s.info, (s.trailer, tt))))))) in
+    omega (arith, long, room_for_each texts k (subst (AllByRecursion (λ t. length t ≤ 64)) is.texts_are all))
 
 -- What a ticket tells of a message is one place.
 pub same_message : (part counter flag : ℕ) (texts : List (List ℕ)) (m n : MessagePlace) → IsMessageOf part counter flag texts m → IsMessageOf part counter flag texts n → m ≡ n

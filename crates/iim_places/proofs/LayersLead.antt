@@ -408,7 +408,7 @@ within_whole fields more one within = record { octets_in = let low = within.octe
 held_begun : (held : List ℕ) → BeginsTag count_octets held → IsBegun count_octets (InTag held) held
 held_begun held b = (refl, b.head, held ++ b.more, b.whole, (b.more, b.some_more, refl))
 
-less_none : (n : ℕ) → n - 0 ≡ n
+pub less_none : (n : ℕ) → n - 0 ≡ n
 less_none n = omega arith
 
 lead_tag : ByLayersLaws → (section : ℕ) (held : List ℕ) (fields : List Dataset) (nums : List (Option ℕ)) (taken heads : ℕ) (m : MessagePlace)

@@ -28,8 +28,7 @@ below_step false any place len less found = omega (arith, less found)
 
 place_below : (p : ℕ → Bool) (x : List ℕ) → list_any p x ≡ true → position_or_len p x < length x
 place_below p [] found = absurd (let bad : false ≡ true = found in cc)
-place_below p (b ∷ x) found =
-    let less = below_step (p b) (list_any p x) (position_or_len p x) (length x) (place_below p x) found in omega (arith, less)
+place_below p (b ∷ x) found = let less = below_step (p b) (list_any p x) (position_or_len p x) (length x) (place_below p x) found in omega (arith, less)
 
 none_step : (t any : Bool) (place len : ℕ) → (any ≡ false → place ≡ len) → (t || any) ≡ false → cond (not t) (1 + place) 0 ≡ len + 1
 none_step true any place len all none = absurd (let bad : true ≡ false = none in cc)
@@ -37,8 +36,7 @@ none_step false any place len all none = omega (arith, all none)
 
 place_none : (p : ℕ → Bool) (x : List ℕ) → list_any p x ≡ false → position_or_len p x ≡ length x
 place_none p [] none = refl
-place_none p (b ∷ x) none =
-    let is = none_step (p b) (list_any p x) (position_or_len p x) (length x) (place_none p x) none in omega (arith, is)
+place_none p (b ∷ x) none = let is = none_step (p b) (list_any p x) (position_or_len p x) (length x) (place_none p x) none in omega (arith, is)
 
 place_found : (p : ℕ → Bool) (x y : List ℕ) → list_any p x ≡ true → position_or_len p (x ++ y) ≡ position_or_len p x
 place_found p x y found = place_on p x y ∙ ap (λ (b : Bool). cond b (position_or_len p x) (length x + position_or_len p y)) found
@@ -52,8 +50,7 @@ after_found p x y found =
     ∙ drop-append-le (position_or_len p x + 1) x y (let less = place_below p x found in omega (arith, less))
 
 pub after_none : (p : ℕ → Bool) (x : List ℕ) → list_any p x ≡ false → after_first p x ≡ []
-after_none p x none =
-    ap (λ (n : ℕ). drop (n + 1) x) (place_none p x none) ∙ ap (drop (length x + 1)) (sym (append-nil x)) ∙ drop-append-add x [] 1
+after_none p x none = ap (λ (n : ℕ). drop (n + 1) x) (place_none p x none) ∙ ap (drop (length x + 1)) (sym (append-nil x)) ∙ drop-append-add x [] 1
 
 pub before_found : (p : ℕ → Bool) (x y : List ℕ) → list_any p x ≡ true → before_first p (x ++ y) ≡ before_first p x
 before_found p x y found =

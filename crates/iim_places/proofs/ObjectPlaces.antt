@@ -1,10 +1,16 @@
 -- Places of the object at its end, and before it.
-use Rattle.std.proofs.Common.{◌≡◌, ℕ, ◌<◌, List, [], ◌∷◌, ◌++◌, length, refl, subst, arith}
+use Rattle.std.proofs.Common.{◌≡◌, ℕ, ◌<◌, List, [], ◌∷◌, ◌++◌, length, Option, refl, subst, arith}
 use Rattle.iim_dataset.specs.Format.Languages.{IsAlive}
 use Rattle.iim_object.specs.Laws.Numbers.{TokensFollow}
 use Rattle.iim_object.specs.Format.Objects.{ObjectToken, ObjectEnded, Confirmed, ObjectLanguage}
 use Rattle.iim_object.specs.Format.Places.{Place, NotEnded, Ended, ConfirmedAs, MayFollow, place_after, tokens_of}
 use Rattle.iim_object.specs.States.Saved.{IsPossible}
+use Rattle.iim_object.specs.States.Reading.{RefusesHead, RefusesValue, StandsAt}
+use Rattle.iim_object.specs.declared.reading.state.State.{State}
+use Rattle.iim_object.specs.declared.reading.fault.ObjectFault.{ObjectFault}
+use Rattle.iim_object.specs.declared.reading.fault.ObjectFault.TheVariants.{Size, Stopped}
+use Rattle.iim_places.specs.Nowhere.{goes_nowhere, stops_nowhere}
+use Rattle.iim_places.specs.declared.ticket.object.Nowhere.{Nowhere}
 use Rattle.iim_places.proofs.PlainPlaces.{alive_front}
 
 some_lengths : (p : Place) → (p.lengths ≡ [] → Ended ≡ NotEnded) → 0 < length p.lengths
@@ -37,3 +43,13 @@ before_size law p n is = record {
 -- what dies with a token is not possible with it
 pub not_possible : TokensFollow → (p : Place) (token : ObjectToken) → MayFollow p token → (IsAlive ObjectLanguage (tokens_of p ++ token ∷ []) → ⊥) → IsPossible (place_after p token) → ⊥
 not_possible law p token may dead is = dead (subst (IsAlive ObjectLanguage) (law p token may) is.alive)
+
+pub value_refused : TokensFollow → (object : Option State) (token : ObjectToken) (fault : ObjectFault) → RefusesValue object token fault
+    → (p : Place) → StandsAt object p → MayFollow p token → IsPossible (place_after p token) → ⊥
+value_refused law object token (Size cause) refuses p at may is = not_possible law p token may (refuses p at may).0.1 is
+value_refused law object token (Stopped stop) refuses p at may is = refuses
+
+pub end_refused : TokensFollow → (object : Option State) (a b : Nowhere) (fault : ObjectFault) → RefusesHead goes_nowhere stops_nowhere object ObjectEnded a b fault
+    → (p : Place) → StandsAt object p → MayFollow p ObjectEnded → IsPossible (place_after p ObjectEnded) → ⊥
+end_refused law object a b (Size cause) refuses p at may is = not_possible law p ObjectEnded may (refuses.0 p at may).0.1 is
+end_refused law object a b (Stopped stop) refuses p at may is = refuses.3

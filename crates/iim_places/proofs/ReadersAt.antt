@@ -43,7 +43,7 @@ use Rattle.iim_places.specs.States.Counts.{are_some}
 use Rattle.iim_places.specs.Format.Tickets.{Place, Phase, TagBegun, AllEnded, phase_of}
 use Rattle.iim_places.specs.Format.Tokens.{place_at, ObjectLives, CanContinue, CanContinueAt}
 use Rattle.iim_places.proofs.Alike.{Fits, told_by}
-use Rattle.iim_places.proofs.LayersLead.{same_stated, present_ended}
+use Rattle.iim_places.proofs.LayersLead.{less_none, same_stated, present_ended}
 use Rattle.iim_places.proofs.LeadsByLayers.{whole_at, subfile_at, opened_at, confirmed_at, few_heads, few_with_head, nine_ended, one_same}
 use Rattle.iim_places.proofs.PlainOpens.{fit_in_rows, possible_of}
 use Rattle.iim_places.proofs.SamePlace.{has_begun, none_present}
@@ -119,9 +119,6 @@ text_led laws reader place o text stands leads =
     subst (wire.StandsAt reader o) is (stands o text leads)
 
 -- ---- between datasets, or in a tag, or at the end
-
-less_none : (n : ℕ) → n - 0 ≡ n
-less_none n = omega arith
 
 -- the same with what is begun told by a test
 abbrev pub TagPhase : Bool → List ℕ → Phase

@@ -320,12 +320,9 @@ opened laws limits p ds c r is =
 
 pub held_open : (ds : List Dataset) (c d : Begun) → nat_eq (section_after ds) 9 ≡ false → HeldAlike ds c d
 held_open ds (InTag x) (InTag y) none = λ nine. absurd (let bad : false ≡ true = sym none ∙ nine in cc)
-held_open ds (InTag x) (InData k ys) none = tt
-held_open ds (InData h xs) (InTag y) none = tt
-held_open ds (InData h xs) (InData k ys) none = tt
+held_open ds c d none = tt
 
 pub has_as : (ds es : List Dataset) (c d : Begun) → SameBegun c d → SectionsLive ds → SectionsLive es → section ds c ≡ section es d → has_begun ds c ≡ has_begun es d
 has_as ds es (InTag x) (InTag y) same a b sec = same_some ds es x y a b sec same
-has_as ds es (InTag x) (InData k ys) same a b sec = absurd same
-has_as ds es (InData h xs) (InTag y) same a b sec = absurd same
 has_as ds es (InData h xs) (InData k ys) same a b sec = data_some ds h xs ∙ sym (data_some es k ys)
+has_as ds es c d same a b sec = absurd same

@@ -105,8 +105,7 @@ stated_step laws xs d alive few is = elim (is_one xs d alive) [
 ]
 
 front_alive : (xs : List Dataset) (d : Dataset) (ys : List Dataset) → SectionsLive (xs ++ d ∷ ys) → SectionsLive (xs ++ d ∷ [])
-front_alive xs d ys alive =
-    (ys ++ alive.0, subst AreSections (append_assoc xs (d ∷ ys) alive.0 ∙ sym (append_assoc xs (d ∷ []) (ys ++ alive.0))) alive.1)
+front_alive xs d ys alive = (ys ++ alive.0, subst AreSections (append_assoc xs (d ∷ ys) alive.0 ∙ sym (append_assoc xs (d ∷ []) (ys ++ alive.0))) alive.1)
 
 stated_on : ObjectLaws → (xs ys : List Dataset) → SectionsLive (xs ++ ys) → length (of_record 8 (xs ++ ys)) ≤ max_subfiles → IsStated (place_after_datasets xs) → IsStated (place_after_datasets (xs ++ ys))
 stated_on laws xs [] alive few is = subst (λ (zs : List Dataset). IsStated (place_after_datasets zs)) (sym (append-nil xs)) is

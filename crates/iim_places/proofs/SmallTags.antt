@@ -19,14 +19,10 @@ wider_tag limit most h tag le s = record { rec = s.rec; set = s.set; count = s.c
 
 -- the fourth and fifth octets of a tag
 fourth : (held more count : List ℕ) (r s : ℕ) → 4 < length held → held ++ more ≡ 28 ∷ r ∷ s ∷ count → (get_or held 3 0 ≡ get_or count 0 0) × (get_or held 4 0 ≡ get_or count 1 0)
-fourth [] more count r s long e = absurd (omega (arith, long))
-fourth (a ∷ []) more count r s long e = absurd (omega (arith, long))
-fourth (a ∷ b ∷ []) more count r s long e = absurd (omega (arith, long))
-fourth (a ∷ b ∷ c ∷ []) more count r s long e = absurd (omega (arith, long))
-fourth (a ∷ b ∷ c ∷ d ∷ []) more count r s long e = absurd (omega (arith, long))
 fourth (a ∷ b ∷ c ∷ d ∷ f ∷ held) more count r s long e =
     let rest : d ∷ f ∷ (held ++ more) ≡ count = cc in
     (ap (λ (xs : List ℕ). get_or xs 0 0) rest, ap (λ (xs : List ℕ). get_or xs 1 0) rest)
+fourth held more count r s long e = absurd (omega (arith, long))
 
 -- four octets of a tag whose count is extended begin one whose count has one octet
 short_begins : (limit r s low : ℕ) (held more rest : List ℕ) → 1 ≤ limit → r < 256 → s < 256 → length held < 5 → held ++ more ≡ 28 ∷ r ∷ s ∷ 128 ∷ low ∷ rest → BeginsTag limit held

@@ -16,18 +16,13 @@ use Rattle.iim_places.specs.Format.Tickets.{TagBegun, DataBegun, AllEnded, Place
 -- ---- joined lists
 
 len3 : (a b c : List ℕ) → length (a ++ b ++ c) ≡ length a + length b + length c
-len3 a b c = length-append (a ++ b) c ∙ ap (λ n. n + length c) (length-append a b)
-
-len4 : (a b c d : List ℕ) → length (a ++ b ++ c ++ d) ≡ length a + length b + length c + length d
-len4 a b c d = length-append (a ++ b ++ c) d ∙ ap (λ n. n + length d) (len3 a b c)
+len3 a b c = simp length-append
 
 len7 : (a b c d e f g : List ℕ) → length (a ++ b ++ c ++ d ++ e ++ f ++ g) ≡ length a + length b + length c + length d + length e + length f + length g
-len7 a b c d e f g =
-    length-append (a ++ b ++ c ++ d ++ e ++ f) g
-    ∙ ap (λ n. n + length g) (length-append (a ++ b ++ c ++ d ++ e) f ∙ ap (λ n. n + length f) (length-append (a ++ b ++ c ++ d) e ∙ ap (λ n. n + length e) (len4 a b c d)))
+len7 a b c d e f g = simp length-append
 
 len8 : (a b c d e f g h : List ℕ) → length (a ++ b ++ c ++ d ++ e ++ f ++ g ++ h) ≡ length a + length b + length c + length d + length e + length f + length g + length h
-len8 a b c d e f g h = length-append (a ++ b ++ c ++ d ++ e ++ f ++ g) h ∙ ap (λ n. n + length h) (len7 a b c d e f g)
+len8 a b c d e f g h = simp length-append
 
 -- ---- fields and numbers
 

@@ -70,8 +70,7 @@ taken_by b c ds taken count left e = let all = so_far_by b c ds taken count left
 -- ---- the message
 
 pub message_at : (reader : Option Message) (octets text : List ℕ) (m : MessagePlace) → wire.StandsAt reader octets text → IsAt reader m → LeadsToSaved octets text m
-message_at reader octets text m (at, is, leads) (place, has, same) =
-    let one : at ≡ place = same_Some _ _ (sym is ∙ has) in (at, leads, ap saved one ∙ same)
+message_at reader octets text m (at, is, leads) (place, has, same) = let one : at ≡ place = same_Some _ _ (sym is ∙ has) in (at, leads, ap saved one ∙ same)
 
 -- ---- one ticket
 

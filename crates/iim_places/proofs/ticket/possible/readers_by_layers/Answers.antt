@@ -20,8 +20,7 @@ returns-then-not-records_lead-clause-none c =
     (c.records_lead.ensures.dies c.if-not-records_lead.true))
 
 pub returns-in_err-message-clause-none : goal.returns-in_err-message-clause-none
-returns-in_err-message-clause-none c =
-    rw c.from_residual-in_err-message.ensures (no_message (split_told c.args.parts.now) c.in_err-message.ensures.none)
+returns-in_err-message-clause-none c = rw c.from_residual-in_err-message.ensures (no_message (split_told c.args.parts.now) c.in_err-message.ensures.none)
 
 pub returns-clause-some : goal.returns-clause-some
 returns-clause-some c =

@@ -16,14 +16,10 @@ size_in set at ns = one_dataset (number_dataset 7 set) (get_or ns at None)
 
 four : (ns : List (Option ℕ)) → length ns ≡ 4 → ((mode_in ns ++ size_in 20 1 ns) ++ size_in 90 2 ns) ++ size_in 95 3 ns ≡ plain_numbers (numbers_told ns)
 unfolding mode_in size_in
-four [] is = absurd (omega (arith, is))
-four (a ∷ []) is = absurd (omega (arith, is))
-four (a ∷ b ∷ []) is = absurd (omega (arith, is))
-four (a ∷ b ∷ c ∷ []) is = absurd (omega (arith, is))
 four (a ∷ b ∷ c ∷ d ∷ []) is =
     append_assoc (one_dataset mode_dataset a ++ one_dataset (number_dataset 7 20) b) (one_dataset (number_dataset 7 90) c) (one_dataset (number_dataset 7 95) d)
     ∙ append_assoc (one_dataset mode_dataset a) (one_dataset (number_dataset 7 20) b) (one_dataset (number_dataset 7 90) c ++ one_dataset (number_dataset 7 95) d)
-four (a ∷ b ∷ c ∷ d ∷ e ∷ more) is = absurd (omega (arith, is))
+four ns is = absurd (omega (arith, is))
 
 pub returns-else-take_size-2-clause-took : goal.returns-else-take_size-2-clause-took
 unfolding mode_in size_in

@@ -17,8 +17,7 @@ close-requires-in-Ok-2 c =
     (head, n - n, c.bytes.ensures.inside head n c.in-Ok.ensures.inside, inr (nothing_left n))
 
 pub returns-then-whole-clause-took : goal.returns-then-whole-clause-took
-returns-then-whole-clause-took c =
-    (c.whole.ensures.between, c.whole.ensures.bounds.limits, (c.whole.ensures.took c.if-whole.true).stands)
+returns-then-whole-clause-took c = (c.whole.ensures.between, c.whole.ensures.bounds.limits, (c.whole.ensures.took c.if-whole.true).stands)
 
 pub returns-in-Ok-clause-took : goal.returns-in-Ok-clause-took
 returns-in-Ok-clause-took c =
