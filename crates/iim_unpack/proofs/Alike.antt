@@ -45,21 +45,14 @@ same_used n used used' all one other = omega (arith, one, other)
 
 -- one answer to all octets is told by one answer to the piece
 one_answer : (n a : ℕ) (one other : Result Progress Refusal) (all : Answer) → Matches n a one all → Matches n a other all → one ≡ other
-one_answer n a (Ok More) other (Finished all value) h k = absurd h
-one_answer n a (Ok More) other (Refused f) h k = absurd h
 one_answer n a (Ok More) (Ok More) (Truncated e) h k = refl
-one_answer n a (Ok More) (Ok (Done used)) (Truncated e) h k = absurd k
-one_answer n a (Ok More) (Err e') (Truncated e) h k = absurd k
-one_answer n a (Ok (Done used)) (Ok More) (Finished all value) h k = absurd k
 one_answer n a (Ok (Done used)) (Ok (Done used')) (Finished all value) h k = ap (λ (m : ℕ). Ok (Done m)) (same_used n used used' all h k)
-one_answer n a (Ok (Done used)) (Err e) (Finished all value) h k = absurd k
-one_answer n a (Ok (Done used)) other (Refused f) h k = absurd h
-one_answer n a (Ok (Done used)) other (Truncated e) h k = absurd h
-one_answer n a (Err e) other (Finished all value) h k = absurd h
+one_answer n a (Err e) (Err e') (Refused f) h k = ap Err (same_refusal n a e e' f h k)
+one_answer n a (Ok More) other (Truncated e) h k = absurd k
+one_answer n a (Ok (Done used)) other (Finished all value) h k = absurd k
 one_answer n a (Err e) (Ok More) (Refused f) h k = absurd k
 one_answer n a (Err e) (Ok (Done used)) (Refused f) h k = absurd k
-one_answer n a (Err e) (Err e') (Refused f) h k = ap Err (same_refusal n a e e' f h k)
-one_answer n a (Err e) other (Truncated f) h k = absurd h
+one_answer n a one other all h k = absurd h
 
 -- what all octets are answered
 abbrev AnswersAll : Limits → List ℕ → ℕ → ℕ → Result Progress Refusal → Type 0

@@ -1,4 +1,5 @@
-use Rattle.std.proofs.Common.{◌+◌, ℕ, [], List, Bor, get_or, take, drop, refl, sym, subst, ◌∙◌}
+use Rattle.std.proofs.Common.{◌+◌, ℕ, [], List, Bor, get_or, take, drop, refl, sym, subst, ◌∙◌, arith}
+use Rattle.std.proofs.lemmas.List.{take_all}
 use Rattle.iim_dataset.proofs.Lists.{handed_on}
 use Rattle.iim_unpack.specs.PiecesSoFar.{HasFedPieces}
 use Rattle.iim_unpack.specs.Format.Pieces.{IsTurnedDown, stream_of}
@@ -18,12 +19,10 @@ returns-in_err-feed-clause-refused g c =
     let none : Bor (List ℕ) = record { ref_ptr = (0, 0); now = [] } in
     let ps = c.args.pieces.now in
     let k = c.loop-piece.piece-index in
-    let u = c.loop-piece.unpacker in
-    let fed = c.loop-piece.invariant.fed in
-    let down = turned_down goes g.met.S.StorySink.joined laws limits low u c.args.sink.now c.loop-piece.sink c.feed.new.sink (stream_of (take k ps)) (get_or ps k none).now (stream_of (drop (k + 1) ps)) c.feed.result c.in_err-feed.field-0.0 fed c.in_err-feed.was
+    let down = turned_down goes g.met.S.StorySink.joined laws limits low c.loop-piece.unpacker c.args.sink.now c.loop-piece.sink c.feed.new.sink (stream_of (take k ps)) (get_or ps k none).now (stream_of (drop (k + 1) ps)) c.feed.result c.in_err-feed.field-0.0 c.loop-piece.invariant.fed c.in_err-feed.was
     c.in_err-feed.ensures.refused (λ done. (c.feed.ensures.done done).0) in
-    let down' = subst (λ (stream : List ℕ). IsTurnedDown goes limits stream c.args.sink.now c.feed.new.sink c.in_err-feed.field-0.0) (sym (stream_rest ps k none c.loop-piece-test.true)) down in
-    handed_on (IsTurnedDown goes limits (stream_of ps) c.args.sink.now c.feed.new.sink) c.from_residual.result c.in_err-feed.field-0.0 c.from_residual.ensures.1 down'
+    handed_on (IsTurnedDown goes limits (stream_of ps) c.args.sink.now c.feed.new.sink) c.from_residual.result c.in_err-feed.field-0.0 c.from_residual.ensures.1
+    (subst (λ (stream : List ℕ). IsTurnedDown goes limits stream c.args.sink.now c.feed.new.sink c.in_err-feed.field-0.0) (sym (stream_rest ps k none c.loop-piece-test.true)) down)
 
 pub loop-piece-preserved : goal.loop-piece-preserved
 loop-piece-preserved g c =
@@ -34,12 +33,15 @@ loop-piece-preserved g c =
     let none : Bor (List ℕ) = record { ref_ptr = (0, 0); now = [] } in
     let ps = c.args.pieces.now in
     let k = c.loop-piece.piece-index in
-    let u = c.loop-piece.unpacker in
-    let fed = c.loop-piece.invariant.fed in
-    let same = c.in_ok-feed.ensures.limits (still_taking goes limits u c.args.sink.now c.loop-piece.sink (stream_of (take k ps)) fed) in
-    let on = tells_parts_on goes g.met.S.StorySink.joined laws limits low u c.feed.new.self c.args.sink.now c.loop-piece.sink c.feed.new.sink (stream_of (take k ps)) (get_or ps k none).now c.in_ok-feed.field-0 fed (same ∙ fed.limits_are)
+    let same = c.in_ok-feed.ensures.limits (still_taking goes limits c.loop-piece.unpacker c.args.sink.now c.loop-piece.sink (stream_of (take k ps)) c.loop-piece.invariant.fed) in
+    let on = tells_parts_on goes g.met.S.StorySink.joined laws limits low c.loop-piece.unpacker c.feed.new.self c.args.sink.now c.loop-piece.sink c.feed.new.sink (stream_of (take k ps)) (get_or ps k none).now c.in_ok-feed.field-0 c.loop-piece.invariant.fed (same ∙ c.loop-piece.invariant.fed.limits_are)
     c.in_ok-feed.ensures.goes.1 (λ used fits at. (c.feed.ensures.done (at.taking, at.ended)).1) in
     record {
       fed = subst (λ (o : List ℕ). HasFedPieces goes limits c.feed.new.self c.args.sink.now c.feed.new.sink o) (sym (stream_step ps k none c.loop-piece-test.true)) on;
       calm = c.in_ok-feed.ensures.goes.0 ∙ c.loop-piece.invariant.calm;
     }
+
+pub returns-clause-fed : goal.returns-clause-fed
+returns-clause-fed g c =
+    subst (λ (ps : List (Bor (List ℕ))). HasFedPieces g.S.StorySink.goes (limits_in c.args.unpacker.now) c.loop-piece.unpacker c.args.sink.now c.loop-piece.sink (stream_of ps))
+    (take_all c.loop-piece.piece-index c.args.pieces.now (omega arith)) c.loop-piece.invariant.fed

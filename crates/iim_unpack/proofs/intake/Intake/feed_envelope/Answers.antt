@@ -5,18 +5,17 @@ use Rattle.iim_unpack.proofs.Intakes.{fed_none, fed_then, fed_and_done, fed_and_
 use Rattle.iim_unpack.proofs.intake.Intake.feed_envelope.Goals as goal
 
 pub feeding-init : goal.feeding-init
-feeding-init g c =
-    record {
-      alive = c.in_default.is;
-      octets = refl;
-      fed = (
-        fed_none g.S.StorySink.goes c.gifts_join.ensures (in_line g.R.Source.state c.args.self.now) c.args.unpacker.now _ c.stands_somewhere.ensures.counts (g.met.S.StorySink.nothing _),
-        λ none. (refl, refl),
-      );
-      ready = c.requires.ready;
-      calm = refl;
-      leads = g.met.R.Source.stays c.args.self.now.reader;
-    }
+feeding-init g c = record {
+  alive = c.in_default.is;
+  octets = refl;
+  fed = (
+    fed_none g.S.StorySink.goes c.gifts_join.ensures (in_line g.R.Source.state c.args.self.now) c.args.unpacker.now _ c.stands_somewhere.ensures.counts (g.met.S.StorySink.nothing _),
+    λ none. (refl, refl),
+  );
+  ready = c.requires.ready;
+  calm = refl;
+  leads = g.met.R.Source.stays c.args.self.now.reader;
+}
 
 pub feeding-smaller : goal.feeding-smaller
 feeding-smaller g c =

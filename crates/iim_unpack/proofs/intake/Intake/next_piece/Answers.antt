@@ -26,13 +26,12 @@ returns-in-Some-missing_at_end-clause-faults g c =
     let st = g.R.Source.state in
     let new = with_held c.next_piece.new.block (st c.next_piece.new.reader) in
     let e = c.in-Some-missing_at_end.refusal in
-    let a = c.args.sink.now in
     λ none. (
       e.octet,
       refl,
       (
         refl,
-        inr (none_truncated g.S.StorySink.goes g.S.StorySink.failures (in_line st c.args.self.now) new c.args.unpacker.now a e c.stands_somewhere.ensures.counts (g.met.S.StorySink.nothing a)
+        inr (none_truncated g.S.StorySink.goes g.S.StorySink.failures (in_line st c.args.self.now) new c.args.unpacker.now _ e c.stands_somewhere.ensures.counts (g.met.S.StorySink.nothing _)
             c.in-Ok-false.ensures.given c.in-Ok-false.ensures.patience (c.in-Ok-false.ensures.end c.in-Ok-false.field-0-test) c.in-Some-missing_at_end.ensures.truncated),
       ),
     )
@@ -41,10 +40,9 @@ pub returns-in-Err-clause-faults : goal.returns-in-Err-clause-faults
 returns-in-Err-clause-faults g c =
     let st = g.R.Source.state in
     let new = with_held c.next_piece.new.block (st c.next_piece.new.reader) in
-    let a = c.args.sink.now in
     λ none. (
       c.octets.result,
       refl,
-      none_missed g.S.StorySink.goes g.S.StorySink.failures (in_line st c.args.self.now) new c.args.unpacker.now a c.octets.result c.in-Err.fault c.read_fault.result
-          c.stands_somewhere.ensures.counts (g.met.S.StorySink.nothing a) c.in-Err.ensures.missed c.in-Err.ensures.patience c.octets.ensures c.read_fault.ensures,
+      none_missed g.S.StorySink.goes g.S.StorySink.failures (in_line st c.args.self.now) new c.args.unpacker.now _ c.octets.result c.in-Err.fault c.read_fault.result
+          c.stands_somewhere.ensures.counts (g.met.S.StorySink.nothing _) c.in-Err.ensures.missed c.in-Err.ensures.patience c.octets.ensures c.read_fault.ensures,
     )
