@@ -90,19 +90,8 @@ pub none_long : (part counter flag : ℕ) (texts : List (Bor (List ℕ))) (k : �
     → (m : MessagePlace) (octets text : List ℕ) → IsMessageOf part counter flag (map (λ t. t.now) texts) m → LeadsToSaved octets text m → ⊥
 none_long part counter flag texts k long m octets text is leads =
     let s = texts_led octets text m leads in
-    let all : AllByRecursion (λ t. length t ≤ 64) (texts_of m) = (
-      omega (arith, s.source),
-      (
-        omega (arith, s.number),
-        (
-          omega (arith, s.priority),
-          (
-            omega (arith, s.category),
-            (omega (arith, s.words), (s.info, (s.trailer, tt))),
-          ),
-        ),
-      ),
-    ) in
+    let all : AllByRecursion (λ t. length t ≤ 64) (texts_of m) =
+    (omega arith, (omega arith, (omega arith, (omega arith, (omega arith, (s.info, (s.trailer, tt))))))) in
     omega (arith, long, room_for_each texts k (subst (AllByRecursion (λ t. length t ≤ 64)) is.texts_are all))
 
 -- What a ticket tells of a message is one place.
