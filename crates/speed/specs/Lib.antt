@@ -1,4 +1,0 @@
--- What only proofs and private clauses cite.
-pub mod Counts
-pub mod CountLaws
-pub mod Shapes
