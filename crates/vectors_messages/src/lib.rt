@@ -289,7 +289,14 @@ fn read_each(octets: &[u8]) -> Option<MessageFault> {
 /// An octet between others.
 fn joined(alloc: Global, front: &[u8], octet: u8, back: &[u8]) -> Result<Vec<u8>> {
     let own = [octet];
-    Ok(front.iter().chain(&own).chain(back).copied().collect(alloc)?)
+    Ok(
+        front
+            .iter()
+            .chain(&own)
+            .chain(back)
+            .copied()
+            .collect(alloc)?,
+    )
 }
 
 /// Prints an octet in hexadecimal digits.
