@@ -8,7 +8,7 @@ use iim_unpack::{Layer, Refusal, TicketFault};
 
 /// What a call answers: a member that the call doesn't speak of is 0.
 #[repr(C)]
-#[derive(Clone, Copy, Debug, PartialEq, Eq)]
+#[derive(Clone, Copy)]
 pub struct IimAnswer {
     /// What the call came to: one of the numbers in `status`.
     pub status: u8,

@@ -13,7 +13,7 @@ use iim_unpack::{TicketFault, TicketParts, TicketPhase, split_ticket};
 
 /// A dataset of records 1 and 2.
 #[repr(C)]
-#[derive(Clone, Copy, Debug, PartialEq, Eq)]
+#[derive(Clone, Copy)]
 pub struct IimDataset {
     /// Its record.
     pub rec: u8,

@@ -13,7 +13,7 @@ use iim_unpack::{TicketParts, split_ticket};
 
 /// The header and the trailer of a message, as far as they have come.
 #[repr(C)]
-#[derive(Clone, Copy, Debug, PartialEq, Eq)]
+#[derive(Clone, Copy)]
 pub struct IimMessage {
     /// The number of the part that the octets so far have led to.
     pub part: u8,

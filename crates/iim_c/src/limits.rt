@@ -7,7 +7,7 @@ use iim_fields::Limits;
 
 /// The most that records 1 and 2 of an envelope may have together. A member that is 0 stands for the limit of wire copy.
 #[repr(C)]
-#[derive(Clone, Copy, Debug, PartialEq, Eq)]
+#[derive(Clone, Copy)]
 pub struct IimLimits {
     /// Octets of data.
     pub octets: u32,

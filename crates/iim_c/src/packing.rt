@@ -10,7 +10,7 @@ use iim_request::request::DEFAULT_SUBFILE;
 
 /// How an envelope is packed. A subfile of 0 octets stands for one of 1,024.
 #[repr(C)]
-#[derive(Clone, Copy, Debug, PartialEq, Eq)]
+#[derive(Clone, Copy)]
 pub struct IimPacking {
     /// The octets of a full subfile, or 0.
     pub subfile: u64,

@@ -8,7 +8,7 @@ use iim_tables::{Duty, Kind, Row, admits, row};
 
 /// The row of a dataset.
 #[repr(C)]
-#[derive(Clone, Copy, Debug, PartialEq, Eq)]
+#[derive(Clone, Copy)]
 pub struct IimRule {
     /// The least number of octets.
     pub min: u64,

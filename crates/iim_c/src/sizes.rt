@@ -10,7 +10,7 @@ use iim_unpack::{TicketParts, split_ticket};
 
 /// The sizes of an object, as far as they have come. A number that has not come is 0.
 #[repr(C)]
-#[derive(Clone, Copy, Debug, PartialEq, Eq)]
+#[derive(Clone, Copy)]
 pub struct IimObject {
     /// Whether 7:10 has come.
     pub has_mode: bool,

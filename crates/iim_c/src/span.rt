@@ -2,7 +2,7 @@
 
 /// So many octets of a ticket, from this offset on.
 #[repr(C)]
-#[derive(Clone, Copy, Debug, PartialEq, Eq)]
+#[derive(Clone, Copy)]
 pub struct IimSpan {
     /// The offset of the first.
     pub offset: usize,
