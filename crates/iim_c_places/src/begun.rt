@@ -31,7 +31,7 @@ pub const ENDED: u8 = 3;
 
 /// What is begun at a place, and the part of the message that the octets so far have led to. A member that is not spoken of is 0.
 #[repr(C)]
-#[derive(Clone, Copy, Debug, PartialEq, Eq)]
+#[derive(Clone, Copy)]
 pub struct IimBegun {
     /// What is begun: 0 nothing, between datasets; 1 a tag; 2 data; 3 all has ended.
     pub kind: u8,

@@ -20,7 +20,7 @@ use wire_story::Discard;
 
 /// A set of octets.
 #[repr(C)]
-#[derive(Clone, Copy, Debug, PartialEq, Eq)]
+#[derive(Clone, Copy)]
 pub struct IimOctetSet {
     /// A bit for each octet: that of the octet `o` is bit `o % 8` of `bits[o / 8]`.
     pub bits: [u8; 32],
