@@ -11,7 +11,7 @@ use iim_unpack::Refusal;
 use jiff::Timestamp;
 
 /// The rows that were found in a piece.
-#[derive(Clone, Copy, Debug, PartialEq, Eq)]
+#[derive(Clone, Copy)]
 pub(crate) struct Found {
     /// How many there are.
     pub(crate) rows: usize,
@@ -22,7 +22,7 @@ pub(crate) struct Found {
 }
 
 /// Why no more rows were looked for.
-#[derive(Debug, Drop)]
+#[derive(Clone, Copy)]
 pub(crate) enum Ending {
     /// All octets of the piece were used.
     Used,

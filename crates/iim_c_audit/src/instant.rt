@@ -11,7 +11,7 @@ const SECOND: i128 = 1_000_000_000;
 
 /// An instant, from 1970-01-01T00:00:00Z on.
 #[repr(C)]
-#[derive(Clone, Copy, Debug, PartialEq, Eq)]
+#[derive(Clone, Copy)]
 pub struct IimInstant {
     /// The whole seconds, rounded down: below zero before then.
     pub second: i64,

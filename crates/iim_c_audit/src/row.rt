@@ -19,7 +19,7 @@ pub const EXPIRED: u8 = 2;
 
 /// What is told of one envelope. A member that is not spoken of is 0.
 #[repr(C)]
-#[derive(Clone, Copy, Debug, PartialEq, Eq)]
+#[derive(Clone, Copy)]
 pub struct IimAuditRow {
     /// The offset in the input at which it begins.
     pub at: u64,

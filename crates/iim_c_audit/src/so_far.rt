@@ -5,7 +5,7 @@ ghost use Rattle.iim_c_audit.specs.Format.SoFar.{begins_at, words_so_far};
 
 /// What is kept beside a ticket, of the envelope in hand.
 #[repr(C)]
-#[derive(Clone, Copy, Debug, PartialEq, Eq)]
+#[derive(Clone, Copy)]
 pub struct IimSoFar {
     /// The offset in the input at which it begins.
     pub at: u64,
