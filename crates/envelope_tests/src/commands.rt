@@ -1,5 +1,8 @@
 //! What the commands leave where devices are interrupted, and where an output takes nothing more.
 
+ghost use Rattle.std.specs.Prelude.{◌≡◌};
+ghost use Rattle.wire_story.specs.States.Writing.{stops_of};
+
 use iim_listing::check::Check;
 use iim_listing::list::list;
 use iim_listing::story::narrate;
@@ -30,22 +33,31 @@ const BORNE: Trouble = Trouble::Interruptions(TOO_MANY - 1);
 /// So many that they are one.
 const FAULT: Trouble = Trouble::Interruptions(TOO_MANY);
 
-/// What a command answers and writes.
+/// What a command answers and writes, and the lines that it tells beside it.
 #[derive(Clone, Copy)]
 struct Want {
     answer: Result<u8, CommandFault>,
     octets: &'static [u8],
+    lines: &'static [u8],
 }
 
 /// Nothing is written, since the input can't be read.
 const UNREAD: Want = Want {
     answer: Err(CommandFault::CannotRead),
     octets: b"",
+    lines: b"",
 };
 
 const CHECKED: Want = Want {
     answer: Ok(ACCEPTED),
     octets: LINE,
+    lines: b"",
+};
+
+const TOLD: Want = Want {
+    answer: Ok(ACCEPTED),
+    octets: TEXT,
+    lines: LINE,
 };
 
 /// These octets are written, and then the output can't be written.
@@ -53,82 +65,88 @@ const fn cut(octets: &'static [u8]) -> Want {
     Want {
         answer: Err(CommandFault::CannotWrite),
         octets,
+        lines: b"",
     }
 }
 
-fn reader() -> TrialReader<'static> {
-    TrialReader::new(STORY, 0, Trouble::Interruptions(0))
+/// How many calls of a device are good, and its trouble then.
+type Calls = (u64, Trouble);
+
+const CALM: Calls = (0, Trouble::Interruptions(0));
+
+/// Whether a command that answers and writes this does as it is to.
+fn is_met(answer: Result<u8, CommandFault>, output: &[u8], errors: &[u8], want: Want) -> bool {
+    answer == want.answer && output == want.octets && errors == want.lines
 }
 
-fn writer() -> TrialWriter<256> {
-    TrialWriter::new(0, Trouble::Interruptions(0))
+fn writer((good, trouble): Calls) -> TrialWriter<256> {
+    TrialWriter::new(good, trouble)
 }
 
-/// Whether `check` of the envelope over a reader answers and writes this.
+/// Whether `check` of the envelope over devices answers and writes this.
 fn is_checked<const N: usize>(
     alloc: Global,
-    source: TrialReader<'_>,
+    input: Calls,
     mut output: TrialWriter<N>,
     want: Want,
 ) -> bool {
-    let answer = list(alloc, &Check, &mut Intake::new(source), &mut output);
-    answer == want.answer && output.octets() == want.octets
+    let mut intake = Intake::new(TrialReader::new(STORY, input.0, input.1));
+    let answer = list(alloc, &Check, &mut intake, &mut output);
+    is_met(answer, output.octets(), b"", want)
 }
 
-/// Whether `story` of the envelope answers and writes this, and such lines beside it.
-fn is_told(
+/// What `story` of the envelope answers.
+fn told(
     alloc: Global,
-    output: TrialWriter<256>,
-    mut errors: TrialWriter<256>,
-    want: Want,
-    line: &[u8],
-) -> bool {
-    let mut lines = LineWriter::new(output);
-    let answer = narrate(alloc, &mut Intake::new(reader()), &mut lines, &mut errors);
+    lines: &mut LineWriter<TrialWriter<256>>,
+    errors: &mut TrialWriter<256>,
+) -> Result<u8, CommandFault>
+    requires { stops_of lines.old ≡ 0 }
+{
+    let reader = TrialReader::new(STORY, CALM.0, CALM.1);
+    narrate(alloc, &mut Intake::new(reader), lines, errors)
+}
+
+/// Whether `story` of the envelope over devices answers and writes this.
+fn is_told(alloc: Global, output: Calls, errors: Calls, want: Want) -> bool {
+    let mut lines = LineWriter::new(writer(output));
+    let mut errors = writer(errors);
+    let answer = told(alloc, &mut lines, &mut errors);
     let output = lines.into_writer();
-    answer == want.answer && output.octets() == want.octets && errors.octets() == line
+    is_met(answer, output.octets(), errors.octets(), want)
 }
 
-/// Whether `pack` of the script over a reader answers this, and writes so many octets and no fault.
-fn is_packed(
-    alloc: Global,
-    mut source: TrialReader<'_>,
-    want: Result<u8, CommandFault>,
-    octets: usize,
-) -> bool {
+/// What `pack` of the script answers, and how many octets it writes and tells.
+fn packed(alloc: Global, input: Calls) -> (Result<u8, CommandFault>, usize, usize) {
     let request = PackRequest {
         subfile: 1024,
         unknown: false,
         max: None,
     };
-    let mut errors = writer();
-    let (answer, output) = pack_script(alloc, request, &mut source, writer(), &mut errors);
-    answer == want && output.octets().len() == octets && errors.octets().is_empty()
+    let mut reader = TrialReader::new(SCRIPT, input.0, input.1);
+    let mut errors = writer(CALM);
+    let (answer, output) = pack_script(alloc, request, &mut reader, writer(CALM), &mut errors);
+    (answer, output.octets().len(), errors.octets().len())
+}
+
+/// Whether `check` and `pack` do as they are to with trouble after 50 good reads: `pack` writes so many octets.
+fn reads_past(alloc: Global, trouble: Trouble, want: Want, octets: usize) -> bool {
+    let input = (50, trouble);
+    is_checked(alloc, input, writer(CALM), want) && packed(alloc, input) == (want.answer, octets, 0)
 }
 
 #[test]
 fn reads_past_interruptions(rt: HostRuntime) {
-    for (trouble, want, octets) in [(BORNE, CHECKED, 114), (FAULT, UNREAD, 0)] {
-        let source = TrialReader::new(STORY, 50, trouble);
-        assert!(rt;
-            is_checked(rt.alloc(), source, writer(), want),
-            "check at {trouble:?}"
-        );
-        let source = TrialReader::new(SCRIPT, 50, trouble);
-        assert!(rt;
-            is_packed(rt.alloc(), source, want.answer, octets),
-            "pack at {trouble:?}"
-        );
-    }
+    assert!(rt; reads_past(rt.alloc(), BORNE, CHECKED, 114));
+    assert!(rt; reads_past(rt.alloc(), FAULT, UNREAD, 0));
 }
 
 #[test]
 fn tells_past_interruptions(rt: HostRuntime) {
     for good in [0, 1, 7, 11, 12, 21, 22] {
-        let output = TrialWriter::new(good, FAULT);
         let (front, _) = TEXT.split_at(TEXT.len().min(good as usize));
         assert!(rt;
-            is_told(rt.alloc(), output, writer(), cut(front), b""),
+            is_told(rt.alloc(), (good, FAULT), CALM, cut(front)),
             "story at {good}"
         );
     }
@@ -137,10 +155,9 @@ fn tells_past_interruptions(rt: HostRuntime) {
 #[test]
 fn writes_past_interruptions(rt: HostRuntime) {
     for good in [0, 1, 7, 21] {
-        let output: TrialWriter<256> = TrialWriter::new(good, FAULT);
         let (front, _) = LINE.split_at(LINE.len().min(good as usize));
         assert!(rt;
-            is_checked(rt.alloc(), reader(), output, cut(front)),
+            is_checked(rt.alloc(), CALM, writer((good, FAULT)), cut(front)),
             "check at {good}"
         );
     }
@@ -148,18 +165,13 @@ fn writes_past_interruptions(rt: HostRuntime) {
 
 #[test]
 fn bears_interruptions(rt: HostRuntime) {
-    let slow: TrialWriter<256> = TrialWriter::new(4, BORNE);
-    assert!(rt; is_checked(rt.alloc(), reader(), slow, CHECKED));
-    let told = Want {
-        answer: Ok(ACCEPTED),
-        octets: TEXT,
-    };
-    let slow = TrialWriter::new(4, BORNE);
-    assert!(rt; is_told(rt.alloc(), slow, TrialWriter::new(4, BORNE), told, LINE));
+    let slow = (4, BORNE);
+    assert!(rt; is_checked(rt.alloc(), CALM, writer(slow), CHECKED));
+    assert!(rt; is_told(rt.alloc(), slow, slow, TOLD));
 }
 
 #[test]
 fn a_full_output_takes_nothing(rt: HostRuntime) {
     let output: TrialWriter<3> = TrialWriter::new(0, Trouble::Interruptions(0));
-    assert!(rt; is_checked(rt.alloc(), reader(), output, cut(b"1 a")));
+    assert!(rt; is_checked(rt.alloc(), CALM, output, cut(b"1 a")));
 }

@@ -24,12 +24,21 @@ type Field<'o> = (u8, u8, &'o [u8]);
 /// The envelope of these datasets.
 fn built(alloc: Global, fields: &[Field<'_>]) -> Option<Envelope> {
     let mut builder = EnvelopeBuilder::new(alloc, LIMITS).ok()?;
+    if takes(&mut builder, fields) {
+        builder.finish().ok()
+    } else {
+        None
+    }
+}
+
+/// Whether a builder takes these datasets.
+fn takes(builder: &mut EnvelopeBuilder, fields: &[Field<'_>]) -> bool {
     for (rec, set, octets) in fields {
         if builder.add(*rec, *set, octets).is_err() {
-            return None;
+            return false;
         }
     }
-    builder.finish().ok()
+    true
 }
 
 /// The worked story's envelope.
@@ -80,9 +89,10 @@ fn put_sizes(all: &mut Vec<u8>, plan: Plan) -> Result<(), AllocError> {
     put_dataset(all, (7, set, &four_octets(octets)))
 }
 
-/// Records 8 and 9 by the size of subfiles.
-fn put_object(all: &mut Vec<u8>, object: &[u8], subfile: u64) -> Result<(), AllocError> {
-    let most = (subfile as usize).max(1);
+/// Records 7, 8 and 9 by a plan.
+fn put_object(all: &mut Vec<u8>, object: &[u8], plan: Plan) -> Result<(), AllocError> {
+    put_sizes(all, plan)?;
+    let most = (plan.subfile as usize).max(1);
     for part in object.chunks(most) {
         put_dataset(all, (8, 10, part))?;
     }
@@ -92,8 +102,7 @@ fn put_object(all: &mut Vec<u8>, object: &[u8], subfile: u64) -> Result<(), Allo
 /// What is written of the worked story by a plan.
 fn expected(alloc: Global, plan: Plan) -> Result<Vec<u8>, AllocError> {
     let mut all = Vec::from_slice(alloc, STORY_FRONT)?;
-    put_sizes(&mut all, plan)?;
-    put_object(&mut all, STORY_OBJECT, plan.subfile)?;
+    put_object(&mut all, STORY_OBJECT, plan)?;
     Ok(all)
 }
 

@@ -69,13 +69,16 @@ impl Got {
     /// subfiles.
     fn comes_back(&self, alloc: Global, octets: &[u8], cut: usize, object: (u64, u64)) -> bool {
         let (front, back) = octets.split_at(cut.min(octets.len()));
-        let Some(got) = Got::of(alloc, &[front, b"", back, b"\x1d and more"]) else {
-            return false;
-        };
-        let sizes = got.unpacked.sizes;
-        got.used == octets.len() as u64
-            && (sizes.total, sizes.subfiles) == object
-            && got.is_same(self)
+        match Got::of(alloc, &[front, b"", back, b"\x1d and more"]) {
+            Some(got) => got.is_whole(octets.len(), object, self),
+            None => false,
+        }
+    }
+
+    /// Whether so many octets were used, its object has so many octets in so many subfiles, and all else is as another has it.
+    fn is_whole(&self, octets: usize, object: (u64, u64), other: &Got) -> bool {
+        let sizes = self.unpacked.sizes;
+        self.used == octets as u64 && (sizes.total, sizes.subfiles) == object && self.is_same(other)
     }
 
     /// Whether it comes back, packed in subfiles of up to so many octets, as an object of so many.
@@ -142,23 +145,19 @@ fn front(count: usize) -> &'static [u8] {
     STORY.get(..count).unwrap_or(&[])
 }
 
-/// Whether these are refused so at this octet.
-fn is_refused(answer: Result<Story, UnpackFault>, cause: Cause, octet: u64) -> bool {
+/// The cause and the octet of a refusal.
+fn refusal_of<T: Drop>(answer: Result<T, UnpackFault>) -> Option<(Cause, u64)> {
     match answer {
-        Err(UnpackFault::Refused(refusal)) => refusal.cause == cause && refusal.octet == octet,
-        _ => false,
+        Err(UnpackFault::Refused(refusal)) => Some((refusal.cause, refusal.octet)),
+        _ => None,
     }
 }
 
 /// Whether so many octets of the worked envelope are too few.
 fn is_truncated(alloc: Global, count: usize) -> bool {
     let mut lines = Lines::new(alloc);
-    match unpack_packed(alloc, LIMITS, &[front(count)], &mut lines) {
-        Err(UnpackFault::Refused(refusal)) => {
-            refusal.cause == Cause::Truncated && refusal.octet == count as u64
-        }
-        _ => false,
-    }
+    let answer = unpack_packed(alloc, LIMITS, &[front(count)], &mut lines);
+    refusal_of(answer) == Some((Cause::Truncated, count as u64))
 }
 
 #[test]
@@ -189,17 +188,18 @@ fn is_worked(story: &Story) -> bool {
 #[test]
 fn a_story_comes_back_before_others(rt: HostRuntime) {
     let (first, back) = STORY.split_at(200.min(STORY.len()));
-    match unpack_story(rt.alloc(), LIMITS, &[first, b"", back, SMALLEST]) {
-        Ok(story) => assert!(rt; is_worked(&story)),
-        Err(_) => panic!(rt; "no story"),
-    }
+    let is_back = match unpack_story(rt.alloc(), LIMITS, &[first, b"", back, SMALLEST]) {
+        Ok(story) => is_worked(&story),
+        Err(_) => false,
+    };
+    assert!(rt; is_back);
 }
 
 /// The last octet of the first says 49 in place of 50.
 #[test]
 fn a_story_is_refused_at_its_octet(rt: HostRuntime) {
-    let answer = unpack_story(rt.alloc(), LIMITS, &[front(245), b"\x31"]);
-    assert!(rt; is_refused(answer, Cause::ConfirmedWrong, 245));
-    let answer = unpack_story(rt.alloc(), LIMITS, &[front(200)]);
-    assert!(rt; is_refused(answer, Cause::Truncated, 200));
+    let wrong = unpack_story(rt.alloc(), LIMITS, &[front(245), b"\x31"]);
+    assert!(rt; refusal_of(wrong) == Some((Cause::ConfirmedWrong, 245)));
+    let short = unpack_story(rt.alloc(), LIMITS, &[front(200)]);
+    assert!(rt; refusal_of(short) == Some((Cause::Truncated, 200)));
 }

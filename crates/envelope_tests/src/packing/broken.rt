@@ -5,7 +5,7 @@ use iim_dataset::Target;
 use iim_fields::Envelope;
 use iim_object::{PackCause, Plan, Size, StartFault};
 use iim_pack::{Packer, pack};
-use std::alloc::Global;
+use std::alloc::{AllocError, Global};
 use std::process::Abort;
 use std::test::Fail;
 use trials::{TrialWriter, Trouble};
@@ -20,6 +20,18 @@ enum Call {
     LineEnd,
     LastLine,
     Finish,
+    /// All of them, as `pack`.
+    All,
+}
+
+/// How packing ended.
+#[derive(Clone, Copy, PartialEq, Eq)]
+enum End {
+    Whole,
+    /// A write failed within this call, and so many octets are out, a front of the whole.
+    Within(Call, u64),
+    /// In another way.
+    Wrong,
 }
 
 /// A packer as a fault: the cause that a call has answered, what was written to, and how many octets are out.
@@ -46,15 +58,21 @@ fn take_lines<W: Target>(packer: &mut Packer<W>) -> Result<(), (Call, PackCause)
     }
 }
 
-/// Takes both lines with a packer that has begun, and finishes, up to the first call that is refused.
-fn lines_and_end<W: Target>(packer: Packer<W>) -> Result<W, (Call, StartFault<W>)> {
-    let mut packer = packer;
-    if let Err((call, cause)) = take_lines(&mut packer) {
-        return Err((call, stopped(packer, cause)));
-    }
-    match packer.finish(b"") {
-        Ok(writer) => Ok(writer),
-        Err((packer, cause)) => Err((Call::Finish, stopped(packer, cause))),
+/// The call within which a target fails that took so many octets, in subfiles of up to 9 octets.
+///
+/// Records 1, 2 and 7 have 182 octets, a full subfile has 14. The header has 25 octets, and so fills two subfiles; a third is
+/// full within the first line, a fourth before its end, a fifth within the last line.
+fn call_after(good: usize) -> Call {
+    if good < 182 + 2 * 14 {
+        Call::Start
+    } else if good < 182 + 3 * 14 {
+        Call::FirstLine
+    } else if good < 182 + 4 * 14 {
+        Call::LineEnd
+    } else if good < 182 + 5 * 14 {
+        Call::LastLine
+    } else {
+        Call::Finish
     }
 }
 
@@ -75,100 +93,93 @@ fn target(good: usize) -> TrialWriter<512> {
 }
 
 impl Work<'_> {
-    /// Packs the worked story call by call, up to the first call that is refused.
-    fn call_by_call(
-        self,
-        good: usize,
-    ) -> Result<TrialWriter<512>, (Call, StartFault<TrialWriter<512>>)> {
+    /// How packing ended within a call.
+    fn end_within(self, call: Call, fault: &StartFault<TrialWriter<512>>) -> End {
+        let front = self.whole.get(..fault.written as usize);
+        if fault.cause == PackCause::Write && front == Some(fault.writer.octets()) {
+            End::Within(call, fault.written)
+        } else {
+            End::Wrong
+        }
+    }
+
+    /// How it ended where no call failed.
+    fn end_of(self, writer: &TrialWriter<512>) -> End {
+        if writer.octets() == self.whole {
+            End::Whole
+        } else {
+            End::Wrong
+        }
+    }
+
+    /// Packs the worked story call by call, up to the first call that is refused, with a target that takes `good` octets.
+    fn call_by_call(self, good: usize) -> End {
         match Packer::start(self.alloc, self.story, self.head, self.plan, target(good)) {
-            Ok(packer) => lines_and_end(packer),
-            Err(fault) => Err((Call::Start, fault)),
+            Ok(packer) => self.lines_and_end(packer),
+            Err(fault) => self.end_within(Call::Start, &fault),
+        }
+    }
+
+    /// Takes both lines with a packer that has begun, and finishes, up to the first call that is refused.
+    fn lines_and_end(self, mut packer: Packer<TrialWriter<512>>) -> End {
+        match take_lines(&mut packer) {
+            Ok(()) => self.finish(packer),
+            Err((call, cause)) => self.end_within(call, &stopped(packer, cause)),
+        }
+    }
+
+    /// Finishes.
+    fn finish(self, packer: Packer<TrialWriter<512>>) -> End {
+        match packer.finish(b"") {
+            Ok(writer) => self.end_of(&writer),
+            Err((packer, cause)) => self.end_within(Call::Finish, &stopped(packer, cause)),
         }
     }
 
     /// Packs it at once.
-    fn at_once(self, good: usize) -> Result<TrialWriter<512>, StartFault<TrialWriter<512>>> {
-        pack(
-            self.alloc,
-            self.story,
-            self.head,
-            self.lines,
-            b"",
-            self.plan,
-            target(good),
-        )
-    }
-
-    /// Whether a write failed after `good` good calls, of an octet each, and just these octets are out.
-    fn is_front(self, fault: &StartFault<TrialWriter<512>>, good: usize) -> bool {
-        let front = self.whole.get(..good);
-        fault.cause == PackCause::Write
-            && fault.written == good as u64
-            && front == Some(fault.writer.octets())
-    }
-
-    /// Whether packing call by call fails within this call after `good` good calls of the target.
-    fn fails_within(self, call: Call, good: usize) -> bool {
-        match self.call_by_call(good) {
-            Ok(_) => false,
-            Err((failed, fault)) => failed == call && self.is_front(&fault, good),
-        }
-    }
-
-    /// Whether packing at once fails after `good` good calls of the target.
-    fn fails(self, good: usize) -> bool {
-        match self.at_once(good) {
-            Ok(_) => false,
-            Err(fault) => self.is_front(&fault, good),
-        }
-    }
-
-    /// Whether packing call by call writes all, where no call of the target fails.
-    fn is_whole_by_calls(self) -> bool {
-        match self.call_by_call(self.whole.len()) {
-            Ok(writer) => writer.octets() == self.whole,
-            Err(_) => false,
-        }
-    }
-
-    /// Whether packing at once does.
-    fn is_whole_at_once(self) -> bool {
-        match self.at_once(self.whole.len()) {
-            Ok(writer) => writer.octets() == self.whole,
-            Err(_) => false,
+    fn at_once(self, good: usize) -> End {
+        let target = target(good);
+        let (story, head, lines) = (self.story, self.head, self.lines);
+        match pack(self.alloc, story, head, lines, b"", self.plan, target) {
+            Ok(writer) => self.end_of(&writer),
+            Err(fault) => self.end_within(Call::All, &fault),
         }
     }
 
     /// Packs at once with a target that fails at each of its calls.
     fn expect_each_failure(self, rt: &impl Abort) {
-        for good in 0..self.whole.len() {
-            assert!(rt; self.fails(good), "after {good} good calls");
+        let count = self.whole.len();
+        for good in 0..count {
+            let end = End::Within(Call::All, good as u64);
+            assert!(rt; self.at_once(good) == end, "after {good} good calls");
         }
-        assert!(rt; self.is_whole_at_once());
+        assert!(rt; self.at_once(count) == End::Whole);
     }
 
     /// Packs call by call with a target that fails at each of 271 calls.
-    ///
-    /// Records 1, 2 and 7 have 182 octets, a full subfile has 14. The header has 25 octets, and so fills two subfiles; a third is
-    /// full within the first line, a fourth before its end, a fifth within the last line.
     fn expect_each_call(self, rt: &impl Abort) {
         assert_eq!(rt; self.whole.len(), 271);
-        for good in 0..271 {
-            let call = if good < 182 + 2 * 14 {
-                Call::Start
-            } else if good < 182 + 3 * 14 {
-                Call::FirstLine
-            } else if good < 182 + 4 * 14 {
-                Call::LineEnd
-            } else if good < 182 + 5 * 14 {
-                Call::LastLine
-            } else {
-                Call::Finish
-            };
-            assert!(rt; self.fails_within(call, good), "after {good} good calls");
+        for good in 0..271usize {
+            let end = End::Within(call_after(good), good as u64);
+            assert!(rt; self.call_by_call(good) == end, "after {good} good calls");
         }
-        assert!(rt; self.is_whole_by_calls());
+        assert!(rt; self.call_by_call(271) == End::Whole);
     }
+
+    /// Packs in one of the ways with targets that fail.
+    fn expect_failures(self, rt: &impl Abort, way: Way) {
+        match way {
+            Way::CallByCall => self.expect_each_call(rt),
+            Way::AtOnce => self.expect_each_failure(rt),
+        }
+    }
+}
+
+/// How the worked story is packed.
+#[derive(Clone, Copy)]
+enum Way {
+    CallByCall,
+    AtOnce,
 }
 
 /// The lines of the worked story.
@@ -185,25 +196,8 @@ fn takes_story(lines: &mut Lines) -> bool {
         && lines.text(b"No change.").is_ok()
 }
 
-#[test]
-fn each_call_fails_where_its_subfile_is_full(rt: HostRuntime) -> Result<(), Fail> {
-    let plan = plan(&rt, 9, Size::Known(50));
-    let whole = expected(rt.alloc(), plan)?;
-    let work = Work {
-        alloc: rt.alloc(),
-        story: &story(&rt, rt.alloc()),
-        head: &story_head(&rt),
-        lines: &lines_of_story(&rt, rt.alloc()),
-        plan,
-        whole: &whole,
-    };
-    work.expect_each_call(&rt);
-    Ok(())
-}
-
-/// Packs at once in subfiles of up to so many octets.
-fn expect_failures(rt: &impl Abort, alloc: Global, subfile: u64) -> Result<(), Fail> {
-    let plan = plan(rt, subfile, Size::Unknown(Some(64)));
+/// Packs by a plan, in one of the ways, with targets that fail.
+fn expect_failures(rt: &impl Abort, alloc: Global, plan: Plan, way: Way) -> Result<(), AllocError> {
     let whole = expected(alloc, plan)?;
     let work = Work {
         alloc,
@@ -213,14 +207,22 @@ fn expect_failures(rt: &impl Abort, alloc: Global, subfile: u64) -> Result<(), F
         plan,
         whole: &whole,
     };
-    work.expect_each_failure(rt);
+    work.expect_failures(rt, way);
+    Ok(())
+}
+
+#[test]
+fn each_call_fails_where_its_subfile_is_full(rt: HostRuntime) -> Result<(), Fail> {
+    let plan = plan(&rt, 9, Size::Known(50));
+    expect_failures(&rt, rt.alloc(), plan, Way::CallByCall)?;
     Ok(())
 }
 
 #[test]
 fn a_whole_pack_fails_at_each_call(rt: HostRuntime) -> Result<(), Fail> {
     for subfile in [1, 9, 1024] {
-        expect_failures(&rt, rt.alloc(), subfile)?;
+        let plan = plan(&rt, subfile, Size::Unknown(Some(64)));
+        expect_failures(&rt, rt.alloc(), plan, Way::AtOnce)?;
     }
     Ok(())
 }

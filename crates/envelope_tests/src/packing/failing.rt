@@ -44,23 +44,35 @@ fn end_in_start<const N: usize>(fault: &StartFault<TrialWriter<N>>) -> End {
 /// Packs the worked envelope. After a failed write, later calls are asked too.
 fn pack_story<const N: usize>(rt: &impl Abort, alloc: Global, writer: TrialWriter<N>) -> End {
     let story = story(rt, alloc);
+    let head = story_head(rt);
     let plan = plan(rt, 1024, Size::Known(50));
-    match Packer::start(alloc, &story, &story_head(rt), plan, writer) {
+    match Packer::start(alloc, &story, &head, plan, writer) {
         Ok(packer) => end_of(packer),
         Err(fault) => end_in_start(&fault),
     }
 }
 
-/// How it ends with a packer that has begun.
-fn end_of<const N: usize>(mut packer: Packer<TrialWriter<N>>) -> End {
-    let lines = [
+/// Whether a packer takes the lines.
+fn takes_lines<const N: usize>(packer: &mut Packer<TrialWriter<N>>) -> bool {
+    let answers = [
         packer.text(FIRST_LINE),
         packer.line_end(),
         packer.text(LAST_LINE),
     ];
-    if lines != [Ok(()); 3] {
-        return End::Wrong;
+    answers == [Ok(()); 3]
+}
+
+/// How it ends with a packer that has begun.
+fn end_of<const N: usize>(mut packer: Packer<TrialWriter<N>>) -> End {
+    if takes_lines(&mut packer) {
+        end_of_lines(packer)
+    } else {
+        End::Wrong
     }
+}
+
+/// How it ends with a packer that has taken the lines.
+fn end_of_lines<const N: usize>(packer: Packer<TrialWriter<N>>) -> End {
     match packer.finish(b"") {
         Ok(writer) => end_of_writer(&writer),
         Err((packer, cause)) => end_in_finish(packer, cause),
@@ -76,23 +88,42 @@ fn end_of_writer<const N: usize>(writer: &TrialWriter<N>) -> End {
     }
 }
 
+/// Whether a write has failed, and later calls fail too.
+fn fails_on<const N: usize>(packer: &mut Packer<TrialWriter<N>>, cause: PackCause) -> bool {
+    let answers = [packer.text(b""), packer.text(b"\n"), packer.line_end()];
+    cause == PackCause::Write && answers == [Err(PackCause::Failed); 3]
+}
+
 /// How it ended where `finish` failed: later calls fail too.
 fn end_in_finish<const N: usize>(mut packer: Packer<TrialWriter<N>>, cause: PackCause) -> End {
     let written = packer.written();
-    let answers = [packer.text(b""), packer.text(b"\n"), packer.line_end()];
-    if cause != PackCause::Write || answers != [Err(PackCause::Failed); 3] {
-        return End::Wrong;
-    }
-    match packer.finish(&[b'x'; 65]) {
-        Err((packer, PackCause::Failed)) => end_after(packer, written),
-        _ => End::Wrong,
+    if fails_on(&mut packer, cause) {
+        end_after(packer, written)
+    } else {
+        End::Wrong
     }
 }
 
-/// How it ended where so many octets were out before the later calls: nothing was written by these.
+/// How it ended where so many octets were out before the later calls, of which the last is another `finish`.
 fn end_after<const N: usize>(packer: Packer<TrialWriter<N>>, written: u64) -> End {
-    if packer.written() == written && holds_front(&packer.into_writer(), written) {
-        End::InFinish(written)
+    match packer.finish(&[b'x'; 65]) {
+        Ok(_) => End::Wrong,
+        Err((packer, cause)) => {
+            let counts = [packer.written(), written];
+            end_of_failed(cause, counts, &packer.into_writer())
+        }
+    }
+}
+
+/// How it ended with this cause: nothing was written by the later calls.
+fn end_of_failed<const N: usize>(
+    cause: PackCause,
+    counts: [u64; 2],
+    writer: &TrialWriter<N>,
+) -> End {
+    let [after, before] = counts;
+    if cause == PackCause::Failed && after == before && holds_front(writer, before) {
+        End::InFinish(before)
     } else {
         End::Wrong
     }

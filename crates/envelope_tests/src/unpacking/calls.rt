@@ -2,8 +2,9 @@
 
 use super::{LIMITS, joined, refusal};
 use iim_dataset::Stop;
-use iim_unpack::{Cause, Layer, Progress, Unpacker};
+use iim_unpack::{Cause, Layer, Progress, Refusal, Unpacker};
 use std::alloc::{AllocError, Global};
+use std::process::Abort;
 use std::test::Fail;
 use trials::TrialSink;
 use wire_story::{Lines, StorySink};
@@ -53,33 +54,45 @@ const NONE: Calls = Calls {
 #[test]
 fn two_lines(rt: HostRuntime) -> Result<(), Fail> {
     let mut calls = NONE;
-    let mut unpacker = Unpacker::new(rt.alloc(), LIMITS)?;
-    let answer = unpacker.feed(STORY, &mut calls);
-    assert_eq!(rt; answer, Ok(Progress::Done { used: 246 }));
-    assert_eq!(rt; calls.count, 3);
-    assert_eq!(rt; calls.first, [11, 0, 10, 0]);
+    let answer = {
+        let mut unpacker = Unpacker::new(rt.alloc(), LIMITS)?;
+        unpacker.feed(STORY, &mut calls)
+    };
+    assert!(rt; answer == Ok(Progress::Done { used: 246 }));
+    assert!(rt; calls.count == 3);
+    assert!(rt; calls.first == [11, 0, 10, 0]);
     Ok(())
 }
 
-#[test]
-fn one_long_line(rt: HostRuntime) -> Result<(), Fail> {
-    let line = vec![in rt.alloc(); b'a'; 32_754]?;
+/// An envelope whose story is one line of 32,754 octets.
+fn long_story(alloc: Global) -> Result<Vec<u8>, AllocError> {
+    let line = vec![in alloc; b'a'; 32_754]?;
     let smallest = *SMALLEST;
     let pieces: [&[u8]; 6] = [
         &smallest[..73],
         b"\x00\x00\x80\x00\x1c\x07\x5a\x00\x04\x00\x00\x80\x00",
         b"\x1c\x08\x0a\x80\x04\x00\x00\x80\x00\x01X1 4 N 0\r\n\x02",
-        line.as_slice(),
+        &line,
         b"\x03\x04",
         b"\x1c\x09\x0a\x00\x04\x00\x00\x80\x00",
     ];
-    let octets = joined(rt.alloc(), &pieces)?;
+    joined(alloc, &pieces)
+}
+
+/// What a new unpacker answers to that envelope.
+fn fed_long(alloc: Global, calls: &mut Calls) -> Result<Result<Progress, Refusal>, AllocError> {
+    let octets = long_story(alloc)?;
+    let mut unpacker = Unpacker::new(alloc, LIMITS)?;
+    Ok(unpacker.feed(&octets, calls))
+}
+
+#[test]
+fn one_long_line(rt: HostRuntime) -> Result<(), Fail> {
     let mut calls = NONE;
-    let mut unpacker = Unpacker::new(rt.alloc(), LIMITS)?;
-    let answer = unpacker.feed(octets.as_slice(), &mut calls);
-    assert_eq!(rt; answer, Ok(Progress::Done { used: 32_872 }));
-    assert_eq!(rt; calls.count, 1);
-    assert_eq!(rt; calls.first, [32_754, 0, 0, 0]);
+    let answer = fed_long(rt.alloc(), &mut calls)?;
+    assert!(rt; answer == Ok(Progress::Done { used: 32_872 }));
+    assert!(rt; calls.count == 1);
+    assert!(rt; calls.first == [32_754, 0, 0, 0]);
     Ok(())
 }
 
@@ -93,28 +106,56 @@ fn text_of(alloc: Global, lines: &Lines) -> Result<Vec<u8>, AllocError> {
     Ok(text)
 }
 
+/// Expects a new unpacker to stop at an octet of the worked story, and to refuse all from then on.
+fn expect_stop(
+    rt: &impl Abort,
+    alloc: Global,
+    sink: &mut TrialSink<Lines>,
+    octet: usize,
+) -> Result<(), AllocError> {
+    let stopped = refusal(Layer::Outside, (8, 10), octet, Cause::Sink);
+    let failed = refusal(Layer::Outside, (0, 0), octet, Cause::Failed);
+    let answers = fed_twice(alloc, sink)?;
+    assert!(rt; answers == [Err(stopped), Err(failed)]);
+    assert!(rt; sink.failures() == 1);
+    Ok(())
+}
+
+/// What a new unpacker answers to the worked story, and to the same again.
+fn fed_twice(
+    alloc: Global,
+    sink: &mut TrialSink<Lines>,
+) -> Result<[Result<Progress, Refusal>; 2], AllocError> {
+    let mut unpacker = Unpacker::new(alloc, LIMITS)?;
+    let first = unpacker.feed(STORY, sink);
+    Ok([first, unpacker.feed(STORY, sink)])
+}
+
+/// What a sink has taken that stops after `good` calls and `front` octets of a run, where the story stops at an octet by it.
+fn text_before(
+    rt: &impl Abort,
+    alloc: Global,
+    (good, front): (u64, usize),
+    octet: usize,
+) -> Result<Vec<u8>, AllocError> {
+    let mut sink = TrialSink::new(Lines::new(alloc), good, front);
+    expect_stop(rt, alloc, &mut sink, octet)?;
+    text_of(alloc, &sink.into_sink())
+}
+
 /// At the first octet of the text, within a line, at the end of one, and before and within the next.
 #[test]
 fn sinks_that_stop(rt: HostRuntime) -> Result<(), Fail> {
-    let rows: [(u64, usize, usize, &[u8]); 5] = [
-        (0, 0, 212, b"\n"),
-        (0, 4, 216, b"Rate\n"),
-        (1, 0, 224, b"Rates stay.\n"),
-        (2, 0, 225, b"Rates stay.\n\n"),
-        (2, 4, 229, b"Rates stay.\nNo c\n"),
+    let rows: [((u64, usize), usize, &[u8]); 5] = [
+        ((0, 0), 212, b"\n"),
+        ((0, 4), 216, b"Rate\n"),
+        ((1, 0), 224, b"Rates stay.\n"),
+        ((2, 0), 225, b"Rates stay.\n\n"),
+        ((2, 4), 229, b"Rates stay.\nNo c\n"),
     ];
-    for (good, front, octet, lines) in rows {
-        let mut sink = TrialSink::new(Lines::new(rt.alloc()), good, front);
-        let mut unpacker = Unpacker::new(rt.alloc(), LIMITS)?;
-        let stopped = refusal(Layer::Outside, (8, 10), octet, Cause::Sink);
-        let answer = unpacker.feed(STORY, &mut sink);
-        assert_eq!(rt; answer, Err(stopped));
-        let failed = refusal(Layer::Outside, (0, 0), octet, Cause::Failed);
-        let answer = unpacker.feed(STORY, &mut sink);
-        assert_eq!(rt; answer, Err(failed));
-        assert_eq!(rt; sink.failures(), 1);
-        let text = text_of(rt.alloc(), &sink.into_sink())?;
-        assert_eq!(rt; text.as_slice(), lines);
+    for (stop, octet, lines) in rows {
+        let text = text_before(&rt, rt.alloc(), stop, octet)?;
+        assert!(rt; text.as_slice() == lines);
     }
     Ok(())
 }
