@@ -4,4 +4,3 @@ pub mod Narration
 pub mod Narrators
 pub mod Taken
 pub mod Told
-pub mod Counted

@@ -27,6 +27,7 @@ use Rattle.iim_listing.specs.Format.Listings.{ending_line, status_of, texts_from
 use Rattle.iim_output.specs.Format.Limits.{limits}
 use Rattle.iim_places.specs.Format.Listing.{joined, max_envelopes, Divides, InputEnding, EndsBy, Listed, IsDeadAfter, IsListed, IsRefusedAfter}
 use Rattle.iim_listing.specs.Format.WrittenListings.{FailsListing, WritesListing}
+use Rattle.iim_listing.specs.Turns.{AreListed, AreTaken}
 use Rattle.iim_output.specs.declared.fault.CommandFault.{CommandFault}
 use Rattle.iim_output.specs.declared.fault.CommandFault.TheVariants.{CannotRead, CannotWrite, OutOfMemory}
 
@@ -46,19 +47,6 @@ text_after text es e count is =
     ap (λ (l : List ℕ). texts_from text 1 es ++ l) (ap (λ (k : ℕ). text k e) same ∙ sym (append-nil (text (1 + length es) e))) ∙ sym (texts_parts text es (e ∷ []) 1)
 
 -- ---- the envelopes so far
-
--- These envelopes, `count` of them, came from the input, and nothing else.
-pub record AreTaken (source rest : Device) (count : ℕ) (envelopes : List Listed) : Type 0 where
-  pub admitted : AllByRecursion (IsListed limits) envelopes
-  pub given : HasGiven source rest (joined envelopes)
-  pub counted : count ≡ length envelopes
-  pub few : count ≤ max_envelopes
-
--- and this text of each of them was taken
-pub record AreListed {W : Type 0} (state : W → Device) (text : ℕ → Listed → List ℕ) (source rest : Device) (old new : BlockWriter W) (count : ℕ) : Type 0 where
-  pub envelopes : List Listed
-  pub taken : AreTaken source rest count envelopes
-  pub put : HasPut state old new (texts_from text 1 envelopes)
 
 pub none_taken : GiftsJoin → (source : Device) → AreTaken source source 0 []
 none_taken joins source = record { admitted = tt; given = joins.none source; counted = refl; few = omega arith }

@@ -44,7 +44,8 @@ use Rattle.iim_listing.specs.Narrating.{EndsStory, HoldsLines, IsLost, IsSettled
 use Rattle.iim_listing.specs.declared.narrator.Narrator.{Narrator}
 use Rattle.iim_output.specs.declared.fault.CommandFault.{CommandFault}
 use Rattle.iim_output.specs.declared.fault.CommandFault.TheVariants.{CannotRead, CannotWrite, OutOfMemory}
-use Rattle.iim_listing.proofs.Listings.{AreTaken, consumes_holds, divides, given_then, none_taken, taken_more, texts_parts}
+use Rattle.iim_listing.specs.Turns.{AreNarrated, AreTaken, HasText, Stands}
+use Rattle.iim_listing.proofs.Listings.{consumes_holds, divides, given_then, none_taken, taken_more, texts_parts}
 use Rattle.iim_places.proofs.Answering.{no_text}
 use Rattle.iim_listing.proofs.Taken.{come_as}
 
@@ -120,30 +121,9 @@ reach (e ∷ es) n words out left is = elim (meets (story_of n e) out (texts_fro
 
 -- ---- what was told
 
--- the text of an envelope is its lines, joined
-abbrev pub HasText : Listed → Type 0
-HasText e = IsTextIn e.octets (text_of e)
-
 -- all octets of an envelope have its text
 pub whole_text : (e : Listed) → HasText e → IsTextIn (take (length e.octets) e.octets) (text_of e)
 whole_text e text = subst (λ (l : List ℕ). IsTextIn l (text_of e)) (sym (take-length e.octets)) text
-
--- Of these envelopes, and of words after them, the first ones are told; when they were, their stories and some words were out, and nothing
--- was held. The writer has taken the rest since, and the lines of the other envelopes are held.
-pub record Stands {W : Type 0} (ws : W → Device) (first : BlockWriter W) (errors_old : Device) (es : List Listed) (words : List ℕ) (output : BlockWriter W) (errors : Device) (lines : List ℕ) : Type 0 where
-  pub fresh : HoldsNothing first × (blocks.stops_of first ≡ 0)
-  pub told : List Listed
-  pub others : List Listed
-  pub parts : es ≡ told ++ others
-  pub mark : BlockWriter W
-  pub begun : List ℕ
-  pub before : PutsOn ws first mark (stories told ++ begun)
-  pub settled : HoldsNothing mark
-  pub rest : List ℕ
-  pub after : PutsOn ws mark output rest
-  pub texts : texts_from story_of (1 + length told) others ++ words ≡ begun ++ rest
-  pub said : Wrote errors_old errors (texts_from line_of 1 told)
-  pub held : lines ≡ texts_from line_of (1 + length told) others
 
 stands_first : {W : Type 0} (ws : W → Device) → TextsJoin → (first : BlockWriter W) (errors : Device) (lines : List ℕ) → HoldsNothing first → blocks.stops_of first ≡ 0 → lines ≡ []
     → Stands ws first errors [] [] first errors lines
@@ -300,13 +280,6 @@ all_out {es = es} {errors_old = errors_old} {line = line} {b = b} {d = d} texts 
 )
 
 -- ---- the envelopes so far
-
--- Some envelopes, `count` of them, came from the input, and nothing else; the narrator took their stories, and was told no words after them.
-pub record AreNarrated {W E : Type 0} (ws : W → Device) (es : E → Device) (first : Narrator W E) (source rest : Device) (n : Narrator W E) (count : ℕ) : Type 0 where
-  pub envelopes : List Listed
-  pub taken : AreTaken source rest count envelopes
-  pub texts : AllByRecursion HasText envelopes
-  pub stands : Stands ws first.output (errors_of es first) envelopes [] n.output (errors_of es n) n.lines.items
 
 pub none_narrated : {W E : Type 0} (ws : W → Device) (es : E → Device) → GiftsJoin → TextsJoin → (source : Device) (n : Narrator W E) → IsSettled n → stops_of n ≡ 0 → AreNarrated ws es n source source n 0
 none_narrated ws es joins texts source n settled none = record {

@@ -9,3 +9,4 @@ pub mod Feeding
 pub mod Listing
 pub mod Narrating
 pub mod NarratingLaws
+pub mod Turns

@@ -1,13 +1,16 @@
 //! Listings of inputs: a text for each envelope, and a last line.
 
-ghost use Rattle.std.specs.Prelude.{◌≡◌, ◌++◌, ℕ, List, length, None, IfOk, IfErr, OnOk};
+ghost use Rattle.std.specs.Prelude.{◌≡◌, ◌≤◌, ◌++◌, ℕ, List, length, None, IfOk, IfErr, OnOk};
 ghost use Rattle.iim_unpack.specs.States.Intakes.{in_line};
 ghost use Rattle.iim_unpack.specs.Format.Value.{ShowsParts};
-ghost use Rattle.iim_places.specs.Format.Listing.{Listed};
+ghost use Rattle.iim_unpack.specs.States.Unpacking.{IsDone, limits_in};
+ghost use Rattle.iim_output.specs.Format.Limits.{limits};
+ghost use Rattle.iim_places.specs.Format.Listing.{Listed, max_envelopes};
 ghost use Rattle.iim_listing.specs.Format.Listings.{told};
 ghost use Rattle.iim_listing.specs.Format.WrittenListings.{WritesListing, FailsListing};
 ghost use Rattle.iim_output.specs.States.Holding.{HoldsNothing, KeepsWriter, device_of};
 ghost use Rattle.iim_listing.specs.Listing.{IsUnlisted, Settles};
+ghost use Rattle.iim_listing.specs.Turns.{GoesOn, IsShown, ListsNext, ListsNoMore};
 
 use crate::coming::{LIMITS, take_next};
 use iim_dataset::device_laws::{gifts_join, texts_join};
@@ -19,6 +22,68 @@ use iim_output::silent::Silent;
 use iim_output::status::{ACCEPTED, REFUSED};
 use iim_unpack::{Intake, MAX_ENVELOPES, UnpackedRef, Unpacker};
 use std::alloc::{AllocError, Global};
+
+/// Adds the text of the envelope that an unpacker is done with.
+#[inline]
+fn push_envelope<P: EnvelopeLines>(
+    texts: &P,
+    text: &mut Vec<u8>,
+    unpacker: &Unpacker,
+    number: u64,
+    octets: u64,
+) -> Result<(), AllocError>
+    requires { IsDone unpacker.now }
+    ensures { (e : Listed) → IsShown unpacker.now e octets
+        → OnOk result (text.new.items ≡ text.old.items ++ P.written number e) }
+{
+    let Some(got) = unpacker.unpacked() else {
+        unreachable!()
+    };
+    texts.push_text(text, number, octets, &got)
+}
+
+/// Lists what comes next, after `count` envelopes, in the room for a text, and answers the status where it is the last. Where memory is
+/// short, some of the listing may be held.
+#[inline]
+fn list_next<P: EnvelopeLines, R: Source, W: Target>(
+    texts: &P,
+    intake: &mut Intake<R>,
+    unpacker: &mut Unpacker,
+    silent: &mut Silent<'_, W>,
+    text: &mut Vec<u8>,
+    count: u64,
+) -> Result<Option<u8>, CommandFault>
+    requires alive { intake.old.failed ≡ None }
+    requires limits { limits_in unpacker.old ≡ limits }
+    requires few { count ≤ max_envelopes }
+    ensures ok { IfOk result (λ next. GoesOn intake.new.failed (limits_in unpacker.new) count next
+        × ListsNext W.state P.written (in_line R.state intake.old) (in_line R.state intake.new) silent.old.output
+        silent.new.output count next) }
+    ensures err { IfErr result (ListsNoMore W.state P.written (in_line R.state intake.old) (in_line R.state intake.new)
+        silent.old.output silent.new.output count) }
+    ensures leads { R.leads intake.old.reader intake.new.reader }
+{
+    gifts_join();
+    texts_join();
+    text.clear();
+    match take_next(intake, unpacker, silent)? {
+        Ok(Some(octets)) => {
+            if count == MAX_ENVELOPES {
+                add_last(&mut silent.output, TOO_MANY.as_bytes())?;
+                return Ok(Some(REFUSED));
+            }
+            push_envelope(texts, text, unpacker, count + 1, octets)?;
+            add(&mut silent.output, text.as_slice())?;
+            Ok(None)
+        }
+        Ok(None) => Ok(Some(ACCEPTED)),
+        Err(refusal) => {
+            push_refused(text, count + 1, refusal)?;
+            add_last(&mut silent.output, text.as_slice())?;
+            Ok(Some(REFUSED))
+        }
+    }
+}
 
 /// Lists the envelopes of an input. Where memory is short, some of the listing may be held.
 fn list_texts<P: EnvelopeLines, R: Source, W: Target>(
@@ -37,31 +102,14 @@ fn list_texts<P: EnvelopeLines, R: Source, W: Target>(
     ensures leads { R.leads intake.old.reader intake.new.reader }
 {
     gifts_join();
-    texts_join();
     let mut count = 0;
     let mut unpacker = Unpacker::new(alloc, LIMITS)?;
     let mut text = Vec::new(alloc);
     'listing: loop {
-        text.clear();
-        match take_next(intake, &mut unpacker, silent)? {
-            Ok(Some(octets)) => {
-                if count == MAX_ENVELOPES {
-                    add_last(&mut silent.output, TOO_MANY.as_bytes())?;
-                    return Ok(REFUSED);
-                }
-                let Some(got) = unpacker.unpacked() else {
-                    unreachable!()
-                };
-                texts.push_text(&mut text, count + 1, octets, &got)?;
-                add(&mut silent.output, text.as_slice())?;
-                count += 1;
-            }
-            Ok(None) => return Ok(ACCEPTED),
-            Err(refusal) => {
-                push_refused(&mut text, count + 1, refusal)?;
-                add_last(&mut silent.output, text.as_slice())?;
-                return Ok(REFUSED);
-            }
+        match list_next(texts, intake, &mut unpacker, silent, &mut text, count) {
+            Ok(None) => count += 1,
+            Ok(Some(status)) => return Ok(status),
+            Err(fault) => return Err(fault),
         }
     }
 }

@@ -1,11 +1,15 @@
 //! `story`: the text of each envelope, as it comes.
 
-ghost use Rattle.std.specs.Prelude.{◌≡◌, None, IfOk, IfErr};
+ghost use Rattle.std.specs.Prelude.{◌≡◌, ◌≤◌, None, IfOk, IfErr};
 ghost use Rattle.iim_unpack.specs.States.Intakes.{in_line};
 ghost use Rattle.iim_listing.specs.Narrating.{IsSettled, KeepsTargets, errors_of, output_of};
 ghost use Rattle.iim_listing.specs.Narrating as narrators;
 ghost use Rattle.wire_story.specs.States.Writing.{device_of, stops_of};
 ghost use Rattle.iim_listing.specs.Format.Narration.{IsUnnarrated, Narrated};
+ghost use Rattle.iim_places.specs.Format.Listing.{max_envelopes};
+ghost use Rattle.iim_listing.specs.Turns.{GoesOn, TellsNext, TellsNoMore};
+ghost use Rattle.iim_unpack.specs.States.Unpacking.{limits_in};
+ghost use Rattle.iim_output.specs.Format.Limits.{limits};
 
 use crate::coming::{LIMITS, take_next};
 use crate::laws::envelopes_are_delivered_as_lines;
@@ -20,6 +24,45 @@ use iim_unpack::{Intake, MAX_ENVELOPES, Unpacker};
 use std::alloc::Global;
 use wire_story::LineWriter;
 use wire_story::laws::lines_are_joined_by_line_feeds;
+
+/// Tells what comes next, after `count` envelopes, and answers the status where it is the last.
+#[inline]
+fn tell_next<R: Source, W: Target, E: Target>(
+    intake: &mut Intake<R>,
+    unpacker: &mut Unpacker,
+    narrator: &mut Narrator<'_, '_, W, E>,
+    count: u64,
+) -> Result<Option<u8>, CommandFault>
+    requires alive { intake.old.failed ≡ None }
+    requires limits { limits_in unpacker.old ≡ limits }
+    requires few { count ≤ max_envelopes }
+    ensures ok { IfOk result (λ next. GoesOn intake.new.failed (limits_in unpacker.new) count next
+        × TellsNext W.state E.state (in_line R.state intake.old) (in_line R.state intake.new) narrator.old narrator.new
+        count next) }
+    ensures err { IfErr result (TellsNoMore W.state E.state (in_line R.state intake.old) (in_line R.state intake.new)
+        narrator.old narrator.new count) }
+    ensures leads { R.leads intake.old.reader intake.new.reader }
+{
+    gifts_join();
+    texts_join();
+    envelopes_are_delivered_as_lines();
+    lines_are_joined_by_line_feeds();
+    match take_next(intake, unpacker, narrator)? {
+        Ok(Some(octets)) => {
+            if count == MAX_ENVELOPES {
+                narrator.tell_last(TOO_MANY.as_bytes())?;
+                return Ok(Some(REFUSED));
+            }
+            narrator.end_story(count + 1, octets)?;
+            Ok(None)
+        }
+        Ok(None) => Ok(Some(ACCEPTED)),
+        Err(refusal) => {
+            narrator.tell_refusal(count + 1, refusal)?;
+            Ok(Some(REFUSED))
+        }
+    }
+}
 
 /// Tells the text of each envelope as it comes, and its line, where nothing is held before. All is out afterwards, but where a write failed.
 fn tell_stories<R: Source, W: Target, E: Target>(
@@ -41,25 +84,13 @@ fn tell_stories<R: Source, W: Target, E: Target>(
 {
     gifts_join();
     texts_join();
-    envelopes_are_delivered_as_lines();
-    lines_are_joined_by_line_feeds();
     let mut count = 0;
     let mut unpacker = Unpacker::new(alloc, LIMITS)?;
     'telling: loop {
-        match take_next(intake, &mut unpacker, narrator)? {
-            Ok(Some(octets)) => {
-                if count == MAX_ENVELOPES {
-                    narrator.tell_last(TOO_MANY.as_bytes())?;
-                    return Ok(REFUSED);
-                }
-                narrator.end_story(count + 1, octets)?;
-                count += 1;
-            }
-            Ok(None) => return Ok(ACCEPTED),
-            Err(refusal) => {
-                narrator.tell_refusal(count + 1, refusal)?;
-                return Ok(REFUSED);
-            }
+        match tell_next(intake, &mut unpacker, narrator, count) {
+            Ok(None) => count += 1,
+            Ok(Some(status)) => return Ok(status),
+            Err(fault) => return Err(fault),
         }
     }
 }

@@ -2,7 +2,7 @@ use Rattle.std.proofs.Common.{◌≡◌, ◌-◌, None}
 use Rattle.iim_unpack.specs.States.Intakes.{in_line}
 use Rattle.iim_unpack.specs.States.Unpacking.{limits_in}
 use Rattle.iim_output.specs.Format.Limits.{limits}
-use Rattle.iim_listing.proofs.Listings.{AreListed}
+use Rattle.iim_listing.specs.Turns.{AreListed}
 use Rattle.iim_listing.proofs.list.list_texts.Given as goal
 
 abbrev pub invariant-listing : goal.invariant-listing

@@ -2,17 +2,14 @@ use Rattle.std.proofs.Common.{◌≡◌, ◌-◌, None}
 use Rattle.iim_unpack.specs.States.Intakes.{in_line}
 use Rattle.iim_unpack.specs.States.Unpacking.{limits_in}
 use Rattle.iim_output.specs.Format.Limits.{limits}
-use Rattle.iim_listing.specs.Narrating.{KeepsTargets, stops_of}
-use Rattle.iim_listing.proofs.Narration.{AreNarrated}
+use Rattle.iim_listing.specs.Turns.{IsTelling}
 use Rattle.iim_listing.proofs.story.tell_stories.Given as goal
 
 abbrev pub invariant-telling : goal.invariant-telling
 invariant-telling g l = record {
   alive : l.intake.failed ≡ None;
   same : limits_in l.unpacker ≡ limits;
-  unbroken : stops_of l.narrator ≡ 0;
-  keeps : KeepsTargets l.fn.narrator l.narrator;
-  narrated : AreNarrated g.W.Target.state g.E.Target.state l.fn.narrator (in_line g.R.Source.state l.fn.intake) (in_line g.R.Source.state l.intake) l.narrator l.count;
+  told : IsTelling g.W.Target.state g.E.Target.state l.fn.narrator (in_line g.R.Source.state l.fn.intake) (in_line g.R.Source.state l.intake) l.narrator l.count;
   leads : (last : _) → g.R.Source.leads l.intake.reader last → g.R.Source.leads l.fn.intake.reader last;
 }
 
