@@ -12,12 +12,6 @@ use Rattle.std.specs.Io.KnownBytes.{Appends, Keeps}
 use Rattle.iim_object.specs.States.Writing.{Begins}
 use Rattle.iim_pack_script.specs.Blocks.{octets_behind}
 
-pub keeps_then : (a b c : Option (List ℕ)) (xs : List ℕ) → Keeps a b → Appends b c xs → Appends a c xs
-keeps_then None b c xs h k = tt
-keeps_then (Some x) None c xs h k = absurd h
-keeps_then (Some x) (Some y) None xs h k = absurd k
-keeps_then (Some x) (Some y) (Some z) xs h k = k ∙ ap (λ (t : List ℕ). t ++ xs) h
-
 pub keeps_nothing : (a b : Option (List ℕ)) → Keeps a b → Appends a b []
 keeps_nothing None b h = tt
 keeps_nothing (Some x) None h = absurd h

@@ -63,13 +63,6 @@ fits_last all done line total now most e fits is =
     let whole = ap (λ (x : List StoryEvent). length (packed_events x)) e in
     omega (arith, fits, is, whole, joined_len done (map LineOctet line), ap length (line_packed line))
 
--- ---- how long an object is
-
-pub canonical_len : (head : Header) (lines : List (List ℕ)) (trailer : List ℕ)
-    → length (canonical head lines trailer) ≡ length (packed_head head) + (length (packed_text lines) + (length trailer + 2))
-canonical_len head lines trailer =
-    omega (arith, length-append (packed_head head) (packed_text lines ++ packed_tail trailer), length-append (packed_text lines) (packed_tail trailer), length-append trailer (4 ∷ []))
-
 -- ---- causes
 
 short_by : (unknown : Bool) (max : Option ℕ) (object : List ℕ) → is_short (said_size unknown max object) (length object) ≡ false

@@ -22,14 +22,17 @@ use Rattle.iim_pack.specs.Format.Packed.{Packed}
 use Rattle.iim_pack.specs.Laws.Packed.{PackedOctetsAreOne}
 use Rattle.iim_pack.specs.States.Starting.{StartIsRefused, StartBreaksOff}
 use Rattle.iim_pack.specs.States.Whole.{IsPackFault, Packs}
+use Rattle.iim_script.specs.Format.Faults.{IsScriptFault}
 use Rattle.iim_script.specs.Format.Scripts.{max_script}
+use Rattle.iim_script.specs.declared.fault.ScriptFault.{ScriptFault}
+use Rattle.iim_output.specs.Format.Limits.{limits}
 use Rattle.iim_output.specs.States.Devices.{devices}
 use Rattle.iim_output.specs.Format.Said.{IsSaid}
-use Rattle.iim_pack_script.specs.Format.Packing.{Answered, Asked, FitsAsked, IsBrokenOff, IsNotPacked, IsPast, IsPlanOf, IsRead, IsScriptRefusal, IsScriptOf, IsUnanswered, IsUnread, ScriptContent, most_asked, most_for, object_of, refusal_line, said_size}
+use Rattle.iim_pack_script.specs.Format.Packing.{Answered, Asked, FitsAsked, IsNotPacked, IsPast, IsPlanOf, IsRead, IsScriptRefusal, IsScriptOf, IsUnanswered, IsUnread, ScriptContent, most_asked, most_for, object_of, refusal_line, said_size}
 use Rattle.iim_pack_script.specs.Blocks.{IsFresh, block_device, held_in, octets_behind}
 use Rattle.iim_pack_script.specs.declared.blocks.BlockTarget.{BlockTarget}
 use Rattle.iim_pack_script.proofs.BlockSteps.{broken_off, finished}
-use Rattle.iim_pack_script.specs.PackSteps.{ComesTo, IsFailedRead, PacksTold, UnpacksTold}
+use Rattle.iim_pack_script.specs.PackSteps.{ComesTo, IsFailedRead, PacksTold, TellsFault, UnpacksTold}
 use Rattle.iim_output.specs.declared.fault.CommandFault.{CommandFault}
 use Rattle.iim_output.specs.declared.fault.CommandFault.TheVariants.{CannotRead, CannotWrite, OutOfMemory}
 use Rattle.iim_pack_script.specs.declared.packing.PackFault.{PackFault}
@@ -114,55 +117,39 @@ not_below a object plan is h = below_by a.unknown a.max object h.0 (sym is.size_
 -- ---- what the causes of a packer come to
 
 for_memory : (a : Asked) (t : ScriptContent) (old new : Device) (why : PackFault) → ComesTo causes.OutOfMemory t.text_line why → new ≡ old → UnpacksTold a t old new why
-for_memory a t old new (Refused line number name) h same = absurd h
-for_memory a t old new (Around CannotRead) h same = absurd h
-for_memory a t old new (Around CannotWrite) h same = absurd h
 for_memory a t old new (Around OutOfMemory) h same = same
+for_memory a t old new _ h same = absurd h
 
 for_past : (a : Asked) (t : ScriptContent) (old new : Device) (why : PackFault) → ComesTo causes.PastAnnounced t.text_line why → new ≡ old → IsPast a t → UnpacksTold a t old new why
 for_past a t old new (Refused line number name) h same past = (same, past, h.0, h.1, h.2)
-for_past a t old new (Around CannotRead) h same past = absurd h
-for_past a t old new (Around CannotWrite) h same past = absurd h
-for_past a t old new (Around OutOfMemory) h same past = absurd h
+for_past a t old new (Around fault) h same past = absurd h
 
--- each form of the plan begins with what is out
-pub record IsFront (a : Asked) (t : ScriptContent) (old new : Device) : Type 0 where
-  pub plan : Plan
-  pub out : List ℕ
-  pub room : FitsAsked a t
-  pub is_plan : IsPlanOf a (object_of t) plan
-  pub broke : BrokeAfter old new out
-  pub begins : (form : List ℕ) → Packed t.fields t.head t.lines t.trailer plan form → Begins out form
-
-for_write : (a : Asked) (t : ScriptContent) (old new : Device) (why : PackFault) → ComesTo causes.Write t.text_line why → IsFront a t old new → UnpacksTold a t old new why
-for_write a t old new (Refused line number name) h front = absurd h
-for_write a t old new (Around CannotRead) h front = absurd h
-for_write a t old new (Around CannotWrite) h front = (front.plan, front.out, front.room, front.is_plan, front.broke, front.begins)
-for_write a t old new (Around OutOfMemory) h front = absurd h
+for_write : (a : Asked) (t : ScriptContent) (old new : Device) (why : PackFault) → ComesTo causes.Write t.text_line why
+    → UnpacksTold a t old new (Around CannotWrite) → UnpacksTold a t old new why
+for_write a t old new (Around CannotWrite) h front = front
+for_write a t old new _ h front = absurd h
 
 begins_later : (xs ys zs : List ℕ) → Begins xs ys → Begins ys zs → Begins xs zs
 begins_later xs ys zs h k = (h.0 ++ k.0, sym (append_assoc xs h.0 k.0) ∙ ap (λ (l : List ℕ). l ++ k.0) h.1 ∙ k.1)
 
 front_of : {W : Type 0} (state : W → Device) (a : Asked) (t : ScriptContent) (plan : Plan) (old : W) (fresh : BlockTarget W) (fault : StartFault (BlockTarget W)) → fresh.writer ≡ old → IsFresh fresh
-    → IsPlanOf a (object_of t) plan → FitsAsked a t → StartBreaksOff (block_device state) (Packed t.fields t.head t.lines t.trailer plan) fresh fault → IsFront a t (state old) (state fault.writer.writer)
+    → IsPlanOf a (object_of t) plan → FitsAsked a t → StartBreaksOff (block_device state) (Packed t.fields t.head t.lines t.trailer plan) fresh fault
+    → UnpacksTold a t (state old) (state fault.writer.writer) (Around CannotWrite)
 front_of state a t plan old fresh fault same is_fresh is room h =
     let new = fault.writer in
     let k = subst (λ (d : Device). BrokeAfter d (block_device state new) h.out) (fresh_device state old fresh same is_fresh) (h.appends, h.broke) in
     let b = broken_off (state old).octets (state new.first.value).octets (state new.writer).octets (state new.writer).octets (held_in new) [] (held_in new) h.out k.0 refl
     (appends_nothing (state new.writer).octets) in
-    record { plan = plan; out = b.0; room = room; is_plan = is; broke = (b.1, k.1); begins = λ form packed. begins_later b.0 h.out form b.2 (h.begins form packed) }
+    (plan, b.0, room, is, (b.1, k.1), λ form packed. begins_later b.0 h.out form b.2 (h.begins form packed))
 
 -- a cause that is refused before anything is written
 refused_as : (a : Asked) (t : ScriptContent) (plan : Plan) (old new : Device) (why : PackFault) (cause : PackCause)
     → IsTrailer t.trailer → IsPlanOf a (object_of t) plan → new ≡ old → AgainstPack t.head t.lines t.trailer plan cause
     → ComesTo cause t.text_line why → UnpacksTold a t old new why
-refused_as a t plan old new why causes.OutOfMemory good is same h to = absurd h
 refused_as a t plan old new why causes.PastAnnounced good is same h to = for_past a t old new why to same (past_of a (object_of t) plan is h)
 refused_as a t plan old new why causes.ShortOfAnnounced good is same h to = absurd (not_below a (object_of t) plan is h)
-refused_as a t plan old new why causes.BadTextOctet good is same h to = absurd h
 refused_as a t plan old new why causes.BadTrailer good is same h to = absurd (h good)
-refused_as a t plan old new why causes.Write good is same h to = absurd h
-refused_as a t plan old new why causes.Failed good is same h to = absurd h
+refused_as a t plan old new why _ good is same h to = absurd h
 
 -- the causes that are found before anything is written, in their order
 abbrev IsCauseOf : ScriptContent → List ℕ → Plan → Option PackCause → Type 0
@@ -224,16 +211,19 @@ breaks_last state a t trailer plan old last fresh new one e is same is_fresh fre
 
 -- ---- octets
 
-pub if_err_map : {T E : Type 0} (r : Result T E) (P Q : E → Type 0) → ((e : E) → P e → Q e) → IfErr r P → IfErr r Q
-if_err_map (Ok x) P Q f h = tt
-if_err_map (Err e) P Q f h = f e h
-
 pub unpacked_of : (a : Asked) (octets : List ℕ) (t : ScriptContent) (old new : Device) (why : PackFault) → IsScriptOf octets t → UnpacksTold a t old new why → IsNotPacked a octets old new why
 unpacked_of a octets t old new (Refused line number name) tells h =
     (h.0, inr (t, tells, h.1, (λ i. refusal_line (h.2 i) (h.3 i) (h.4 i))))
 unpacked_of a octets t old new (Around CannotRead) tells h = absurd h
 unpacked_of a octets t old new (Around CannotWrite) tells h = (t, h.0, h.1, tells, h.2, h.3, h.4, h.5)
 unpacked_of a octets t old new (Around OutOfMemory) tells h = h
+
+-- the first fault of a script is told
+pub told_fault : (a : Asked) (octets : List ℕ) (old : Device) (f : ScriptFault) (why : PackFault) → IsScriptFault limits octets f.line f.cause
+    → TellsFault f why → IsNotPacked a octets old old why
+told_fault a octets old f (Refused line number name) is h = (refl, inl (f.line, f.cause, is, h.0, (λ i. refusal_line (h.1 i) (h.2 i) (h.3 i))))
+told_fault a octets old f (Around OutOfMemory) is h = refl
+told_fault a octets old f _ is h = absurd h
 
 -- ---- the input
 
@@ -248,17 +238,28 @@ unread joins first mid new script room OutOfMemory few fits given h =
 
 -- ---- answers
 
-pub told_refused : (a : Asked) (octets slice text : List ℕ) (first rest old new errors said : Device) (result : Result ℕ CommandFault) → slice ≡ octets → IsRead first rest octets
-    → new ≡ old → IsScriptRefusal a slice text → IfOk result (IsSaid errors said text 1) → IfOk result (Answered a (devices first old errors) (devices rest new said))
-told_refused a octets slice text first rest old new errors said (Ok status) is read same refusal told =
-    (octets, read, inr (text, subst (λ (o : List ℕ). IsScriptRefusal a o text) is refusal, same, told))
-told_refused a octets slice text first rest old new errors said (Err e) is read same refusal told = tt
-
 few_read : (old new : Device) (octets : List ℕ) → IsRead old new octets → length octets ≤ max_script + 1
 few_read old new octets read = elim read.1 [ inl h ↦ (let within : length octets ≤ max_script = h.1 in omega (arith, within)) | inr h ↦ omega (arith, h) ]
 
-pub unanswered_as : (a : Asked) (octets slice : List ℕ) (first rest old new errors said : Device) (fault : CommandFault) → slice ≡ octets → IsRead first rest octets
-    → IsNotPacked a slice old new (Around fault) → IsUnanswered a (devices first old errors) (devices rest new said) fault
-unanswered_as a octets slice first rest old new errors said CannotRead is read h = absurd h
-unanswered_as a octets slice first rest old new errors said CannotWrite is read h = (octets, read, subst (λ (o : List ℕ). IsBrokenOff a o old new) is h)
-unanswered_as a octets slice first rest old new errors said OutOfMemory is read h = ((octets, few_read first rest octets read, read.0), h)
+-- the input was not read
+pub unread_as : (a : Asked) (first rest old errors : Device) (fault : CommandFault) → IsUnread first rest fault
+    → IsUnanswered a (devices first old errors) (devices rest old errors) fault
+unread_as a first rest old errors CannotWrite h = absurd h
+unread_as a first rest old errors _ h = (h, refl)
+
+pub told_refused : (a : Asked) (octets text : List ℕ) (first rest old new errors said : Device) (result : Result ℕ CommandFault)
+    → IsRead first rest octets → new ≡ old → IsScriptRefusal a octets text → IfOk result (IsSaid errors said text 1) → IfOk result (Answered a (devices first old errors) (devices rest new said))
+told_refused a octets text first rest old new errors said (Ok status) read same refusal told = (octets, read, inr (text, refusal, same, told))
+told_refused a octets text first rest old new errors said (Err e) read same refusal told = tt
+
+-- memory was short for the line that tells a refusal
+pub starved_as : (a : Asked) (octets : List ℕ) (first rest old new errors said : Device) (result : Result ℕ CommandFault)
+    → IsRead first rest octets → new ≡ old → IfErr result (λ fault. fault ≡ OutOfMemory) → IfErr result (IsUnanswered a (devices first old errors) (devices rest new said))
+starved_as a octets first rest old new errors said (Ok status) read same starved = tt
+starved_as a octets first rest old new errors said (Err fault) read same starved = rw starved ((octets, few_read first rest octets read, read.0), same)
+
+pub unanswered_as : (a : Asked) (octets : List ℕ) (first rest old new errors said : Device) (fault : CommandFault) → IsRead first rest octets
+    → IsNotPacked a octets old new (Around fault) → IsUnanswered a (devices first old errors) (devices rest new said) fault
+unanswered_as a octets first rest old new errors said CannotRead read h = absurd h
+unanswered_as a octets first rest old new errors said CannotWrite read h = (octets, read, h)
+unanswered_as a octets first rest old new errors said OutOfMemory read h = ((octets, few_read first rest octets read, read.0), h)

@@ -1,26 +1,45 @@
-use Rattle.std.proofs.Common.{subst}
-use Rattle.iim_pack_script.specs.Format.Packing.{IsNotPacked, asked, refusal_line}
-use Rattle.iim_pack_script.specs.declared.packing.PackFault.{PackFault}
-use Rattle.iim_pack_script.proofs.Packings.{told_refused, unanswered_as}
+use Rattle.std.proofs.Common.{inl, refl, sym, subst, arith}
+use Rattle.iim_pack_script.specs.Format.Packing.{IsRead, asked, refusal_line}
+use Rattle.iim_pack_script.proofs.Packings.{starved_as, told_refused, unanswered_as, unread_as}
 use Rattle.iim_pack_script.proofs.packing.pack_script.Goals as goal
+
+pub returns-in-Err-clause-unanswered : goal.returns-in-Err-clause-unanswered
+returns-in-Err-clause-unanswered g c =
+    unread_as (asked c.args.request.subfile c.args.request.unknown c.args.request.max) (g.R.Source.state c.args.reader.now)
+    (g.R.Source.state c.read_input.new.reader) (g.W.Target.state c.args.output) (g.E.Target.state c.args.errors.now) c.in-Err.fault c.in-Err.ensures.unread
+
+pub returns-in-Ok-pack_octets-clause-answered : goal.returns-in-Ok-pack_octets-clause-answered
+returns-in-Ok-pack_octets-clause-answered g c =
+    let first = g.R.Source.state c.args.reader.now in
+    let rest = g.R.Source.state c.read_input.new.reader in
+    let read = subst (IsRead first rest) (sym c.as_slice.ensures.value) c.in-Ok.ensures.read in
+    (c.as_slice.result.now, read, inl (c.in-Ok-pack_octets.ensures.packed, refl, omega arith))
 
 pub returns-in-Err-Refused-default-clause-answered : goal.returns-in-Err-Refused-default-clause-answered
 returns-in-Err-Refused-default-clause-answered g c =
-    let a = asked c.args.request.subfile c.args.request.unknown c.args.request.max in
+    let first = g.R.Source.state c.args.reader.now in
+    let rest = g.R.Source.state c.read_input.new.reader in
     let left = c.in-Err-Refused-default in
-    let old = g.W.Target.state c.args.output in
-    let new = g.W.Target.state left.output in
-    let refused = subst (λ (why : PackFault). IsNotPacked a c.as_slice.result.now old new why) left.field-0-0-is left.ensures.unpacked in
-    told_refused a c.in-Ok.octets.items c.as_slice.result.now (refusal_line left.line left.number left.name.now) (g.R.Source.state c.args.reader.now) (g.R.Source.state c.read_input.new.reader)
-    old new (g.E.Target.state c.args.errors.now) (g.E.Target.state c.tell_refusal.new.errors) c.tell_refusal.result c.as_slice.ensures.value c.in-Ok.ensures.read refused.0 refused.1
-    c.tell_refusal.ensures.told
+    let why = rw left.field-0-0-is at left.ensures.unpacked in
+    told_refused (asked c.args.request.subfile c.args.request.unknown c.args.request.max) c.as_slice.result.now
+    (refusal_line left.line left.number left.name.now) first rest (g.W.Target.state c.args.output) (g.W.Target.state left.output)
+    (g.E.Target.state c.args.errors.now) (g.E.Target.state c.tell_refusal.new.errors) c.tell_refusal.result
+    (subst (IsRead first rest) (sym c.as_slice.ensures.value) c.in-Ok.ensures.read) why.0 why.1 c.tell_refusal.ensures.told
+
+pub returns-in-Err-Refused-default-clause-unanswered : goal.returns-in-Err-Refused-default-clause-unanswered
+returns-in-Err-Refused-default-clause-unanswered g c =
+    let left = c.in-Err-Refused-default in
+    let why = rw left.field-0-0-is at left.ensures.unpacked in
+    starved_as (asked c.args.request.subfile c.args.request.unknown c.args.request.max) c.in-Ok.octets.items (g.R.Source.state c.args.reader.now)
+    (g.R.Source.state c.read_input.new.reader) (g.W.Target.state c.args.output) (g.W.Target.state left.output) (g.E.Target.state c.args.errors.now)
+    (g.E.Target.state c.tell_refusal.new.errors) c.tell_refusal.result c.in-Ok.ensures.read why.0 c.tell_refusal.ensures.memory
 
 pub returns-clause-unanswered : goal.returns-clause-unanswered
 returns-clause-unanswered g c =
-    let a = asked c.args.request.subfile c.args.request.unknown c.args.request.max in
+    let first = g.R.Source.state c.args.reader.now in
+    let rest = g.R.Source.state c.read_input.new.reader in
     let left = c.in-Err-Around-default in
-    let old = g.W.Target.state c.args.output in
-    let new = g.W.Target.state left.output in
-    unanswered_as a c.in-Ok.octets.items c.as_slice.result.now (g.R.Source.state c.args.reader.now) (g.R.Source.state c.read_input.new.reader) old new (g.E.Target.state c.args.errors.now) (g.E.Target.state c.args.errors.now) left.fault
-    c.as_slice.ensures.value c.in-Ok.ensures.read
-    (subst (λ (why : PackFault). IsNotPacked a c.as_slice.result.now old new why) left.field-0-0-is left.ensures.unpacked)
+    let errors = g.E.Target.state c.args.errors.now in
+    unanswered_as (asked c.args.request.subfile c.args.request.unknown c.args.request.max) c.as_slice.result.now first rest (g.W.Target.state c.args.output)
+    (g.W.Target.state left.output) errors errors left.fault (subst (IsRead first rest) (sym c.as_slice.ensures.value) c.in-Ok.ensures.read)
+    (rw left.field-0-0-is at left.ensures.unpacked)
