@@ -10,7 +10,7 @@ use anyhow::{Result, bail};
 use iim_dataset::{DatasetName, FromRead, Source, push_shown};
 use iim_fields::{Envelope, Limits};
 use iim_unpack::{Intake, Unpacked, Unpacker};
-use serde_json::{Value, json};
+use serde_json::{Map, Value, json, put};
 use std::alloc::Global;
 use std::io::Write;
 use wire_story::Lines;
@@ -33,10 +33,7 @@ fn print_all<R: Source, W: Write>(
         let unpacker = Unpacker::new(alloc, Limits::WIRE)?;
         let mut lines = Lines::new(alloc);
         match intake.next_envelope(unpacker, &mut lines) {
-            Ok(Some(unpacked)) => {
-                let text = value_of(alloc, number, &unpacked, &lines)?.to_string(alloc)?;
-                writeln!(output, "{text}")?;
-            }
+            Ok(Some(unpacked)) => print(alloc, output, number, &unpacked, &lines)?,
             Ok(None) => return Ok(()),
             Err(fault) => bail!("envelope {number}: {fault}"),
         }
@@ -44,37 +41,79 @@ fn print_all<R: Source, W: Write>(
     bail!("too many envelopes")
 }
 
-/// An envelope: its number in the input, its datasets, the parts of its message, and the lines of its story.
-fn value_of(alloc: Global, number: u64, unpacked: &Unpacked, lines: &Lines) -> Result<Value> {
+/// Prints an envelope: its number in the input, its datasets, the parts of its message, and the lines of its story.
+fn print<W: Write>(
+    alloc: Global,
+    output: &mut W,
+    number: u64,
+    unpacked: &Unpacked,
+    lines: &Lines,
+) -> Result<()> {
+    let mut members = Map::new(alloc);
+    put(&mut members, alloc, "envelope", Value::from(number))?;
+    put_lists(alloc, &mut members, &unpacked.envelope, lines)?;
+    put_texts(alloc, &mut members, unpacked)?;
+    write_line(alloc, output, &Value::Object(members))
+}
+
+/// Writes a value as a line.
+fn write_line<W: Write>(alloc: Global, output: &mut W, value: &Value) -> Result<()> {
+    let text = value.to_string(alloc)?;
+    Ok(writeln!(output, "{text}")?)
+}
+
+/// Puts in the datasets and the lines of the story.
+fn put_lists(
+    alloc: Global,
+    members: &mut Map<String, Value>,
+    envelope: &Envelope,
+    lines: &Lines,
+) -> Result<()> {
+    put(members, alloc, "fields", fields_of(alloc, envelope)?)?;
+    Ok(put(members, alloc, "story", story_of(alloc, lines)?)?)
+}
+
+/// Puts in the parts of the header, and the trailer.
+fn put_texts(alloc: Global, members: &mut Map<String, Value>, unpacked: &Unpacked) -> Result<()> {
     let head = &unpacked.head;
+    let parts = [
+        ("source", head.source()),
+        ("number", head.number()),
+        ("priority", head.priority()),
+        ("category", head.category()),
+        ("words", head.words()),
+        ("info", head.info()),
+        ("trailer", unpacked.trailer.as_slice()),
+    ];
+    for (name, octets) in parts {
+        put(members, alloc, name, Value::String(text_of(alloc, octets)?))?;
+    }
+    Ok(())
+}
+
+/// Each dataset, in order.
+fn fields_of(alloc: Global, envelope: &Envelope) -> Result<Value> {
+    let mut fields = Vec::new(alloc);
+    for (rec, set, octets) in envelope.fields() {
+        fields.push(field_of(alloc, DatasetName { rec, set }, octets)?)?;
+    }
+    Ok(Value::Array(fields))
+}
+
+/// A dataset as a list of two texts: its name and its data.
+fn field_of(alloc: Global, name: DatasetName, octets: &[u8]) -> Result<Value> {
+    let name = format!(in alloc; "{name}")?;
+    let data = text_of(alloc, octets)?;
+    Ok(json!(in alloc; [name, data])?)
+}
+
+/// Each line of a story.
+fn story_of(alloc: Global, lines: &Lines) -> Result<Value> {
     let mut story = Vec::new(alloc);
     for line in lines.iter() {
         story.push(Value::String(text_of(alloc, line)?))?;
     }
-    Ok(json!(in alloc; {
-        "envelope": number,
-        "fields": Value::Array(fields_of(alloc, &unpacked.envelope)?),
-        "source": text_of(alloc, head.source())?,
-        "number": text_of(alloc, head.number())?,
-        "priority": text_of(alloc, head.priority())?,
-        "category": text_of(alloc, head.category())?,
-        "words": text_of(alloc, head.words())?,
-        "info": text_of(alloc, head.info())?,
-        "story": Value::Array(story),
-        "trailer": text_of(alloc, unpacked.trailer.as_slice())?
-    })?)
-}
-
-/// Each dataset, in order, as a list of two texts: its name and its data.
-fn fields_of(alloc: Global, envelope: &Envelope) -> Result<Vec<Value>> {
-    let mut fields = Vec::new(alloc);
-    for (rec, set, octets) in envelope.fields() {
-        let name = DatasetName { rec, set };
-        let name = format!(in alloc; "{name}")?;
-        let data = text_of(alloc, octets)?;
-        fields.push(json!(in alloc; [name, data])?)?;
-    }
-    Ok(fields)
+    Ok(Value::Array(story))
 }
 
 /// Octets as `show` prints them: no character set is known, so those other than 20 to 7E, and the backslash, are `\x` and two digits.
