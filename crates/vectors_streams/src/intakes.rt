@@ -8,22 +8,30 @@ use std::alloc::Global;
 use vectors_questions::Answers;
 use wire_story::Discard;
 
+/// Prints how many octets an envelope and its object have.
+fn print_sums(out: &mut Answers, octets: u64, total: u64) {
+    out.put("  ");
+    out.show(&octets);
+    out.put(" octets, ");
+    out.show(&total);
+    out.put(" total\n");
+}
+
 /// Prints what an intake answered, and whether it gave an envelope.
 fn print_answer(
     out: &mut Answers,
     answer: Result<Option<Unpacked>, IntakeFault>,
     octets: u64,
-) -> Result<bool> {
+) -> bool {
     match answer {
         Ok(Some(got)) => {
-            let total = got.sizes.total;
-            out.tell(&format_args!("{octets} octets, {total} total"));
-            return Ok(true);
+            print_sums(out, octets, got.sizes.total);
+            return true;
         }
         Ok(None) => out.line("end"),
-        Err(fault) => out.tell(&format_args!("{fault}")),
+        Err(fault) => out.tell(&fault),
     }
-    Ok(false)
+    false
 }
 
 /// Prints all envelopes of the octets, up to their end or to what is refused.
@@ -37,7 +45,7 @@ pub(crate) fn print_envelopes(
     for _ in 0..=octets.len() {
         let unpacker = Unpacker::new(alloc, limits)?;
         let answer = intake.next_envelope(unpacker, &mut Discard);
-        if !print_answer(out, answer, intake.octets())? {
+        if !print_answer(out, answer, intake.octets()) {
             break;
         }
     }
@@ -58,11 +66,11 @@ pub fn print_next(
     }
     let mut intake = Intake::new(FromRead::new(octets));
     let answer = intake.next_envelope(unpacker, &mut Discard);
-    print_answer(out, answer, intake.octets())?;
+    print_answer(out, answer, intake.octets());
     for _ in 0..2 {
         let unpacker = Unpacker::new(alloc, limits)?;
         let answer = intake.next_envelope(unpacker, &mut Discard);
-        print_answer(out, answer, intake.octets())?;
+        print_answer(out, answer, intake.octets());
     }
     Ok(())
 }

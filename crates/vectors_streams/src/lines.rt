@@ -11,23 +11,34 @@ const LONG: usize = 100;
 #[derive(Clone, Copy)]
 struct Line<'l>(&'l [u8]);
 
+/// Whether all octets of a line are the same.
+fn are_alike(line: &[u8]) -> bool {
+    for octet in line {
+        if Some(octet) != line.first() {
+            return false;
+        }
+    }
+    true
+}
+
 impl Display for Line<'_> {
     fn fmt<W: fmt::Write>(&self, f: &mut Formatter<W>) -> fmt::Result {
         let line = self.0;
-        let first = Shown(line.get(..1).unwrap_or(&[]));
-        let all = Shown(line);
         let len = line.len();
-        if len > LONG && line.iter().all(|octet| Some(octet) == line.first()) {
+        if len > LONG && are_alike(line) {
+            let first = Shown(line.get(..1).unwrap_or(&[]));
             return write!(f, "({first})*{len}");
         }
+        let all = Shown(line);
         write!(f, "{all}")
     }
 }
 
 /// Prints a line.
 pub(crate) fn print_line(out: &mut Answers, line: &[u8]) {
-    let line = Line(line);
-    out.tell(&format_args!("line {line}"));
+    out.put("  line ");
+    out.show(&Line(line));
+    out.end();
 }
 
 /// Prints the lines.

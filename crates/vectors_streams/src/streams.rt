@@ -39,6 +39,14 @@ struct Told {
 }
 
 impl Told {
+    /// Whether it came to this value.
+    fn has(&self, got: &Unpacked) -> bool {
+        match &self.value {
+            Some(value) => are_same(got, value),
+            None => false,
+        }
+    }
+
     /// Whether another came to the same.
     fn is(&self, other: &Told) -> bool {
         let is_same = match (&self.value, &other.value) {
@@ -99,14 +107,12 @@ fn check_failed(alloc: Global, unpacker: &mut Unpacker, refusal: Refusal) -> Res
     Ok(())
 }
 
-/// How many octets an unpacker has taken, whether it is done and whether it has failed, and what it says of the end of input.
-fn answers(unpacker: &Unpacker) -> (u64, bool, bool, Option<Refusal>) {
-    (
-        unpacker.octets(),
-        unpacker.is_done(),
-        unpacker.is_failed(),
-        unpacker.end_of_input(),
-    )
+/// Whether two unpackers have taken as many octets, both are done or have failed or neither, and say the same of the end of input.
+fn answer_alike(one: &Unpacker, other: &Unpacker) -> bool {
+    one.octets() == other.octets()
+        && one.is_done() == other.is_done()
+        && one.is_failed() == other.is_failed()
+        && one.end_of_input() == other.end_of_input()
 }
 
 /// An unpacker that was given its last octets.
@@ -201,7 +207,7 @@ impl Stream<'_> {
             "another ticket after {at} octets"
         );
         ensure!(
-            answers(&unpacker) == answers(saved),
+            answer_alike(&unpacker, saved),
             "other answers after {at} octets"
         );
         Ok(unpacker)
@@ -218,11 +224,7 @@ impl Stream<'_> {
         let answer = intake.next_envelope(unpacker, &mut Discard);
         let is_same = match (answer, &whole.answer) {
             (Ok(Some(got)), Ok(used)) => {
-                at.saturating_add(intake.octets()) == *used
-                    && whole
-                        .value
-                        .as_ref()
-                        .is_some_and(|value| are_same(&got, value))
+                at.saturating_add(intake.octets()) == *used && whole.has(&got)
             }
             (Ok(None), Err(refusal)) => refusal.octet == 0 && rest.is_empty(),
             (Err(IntakeFault::Refused(told)), Err(refusal)) => told == *refusal,

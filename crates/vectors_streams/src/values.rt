@@ -3,7 +3,7 @@
 use iim_unpack::Unpacked;
 use vectors_messages::{header_parts, tell_header};
 use vectors_objects::print_sizes;
-use vectors_questions::{Answers, Shown};
+use vectors_questions::Answers;
 use vectors_records::print_field;
 
 /// Prints the datasets, the message's header and trailer, and the sizes of the object.
@@ -12,8 +12,9 @@ pub fn print_value(out: &mut Answers, got: &Unpacked) {
         print_field(out, rec, set, octets);
     }
     tell_header(out, "message", &got.head);
-    let trailer = Shown(got.trailer.as_slice());
-    out.tell(&format_args!("trailer {trailer}"));
+    out.put("  trailer ");
+    out.octets(got.trailer.as_slice());
+    out.end();
     print_sizes(out, &got.sizes)
 }
 
