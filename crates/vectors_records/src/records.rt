@@ -8,9 +8,7 @@ use crate::limits::limits_of;
 use crate::views::{print_fields, print_views, print_walk};
 use anyhow::{Context, Result, bail};
 use iim_dataset::{DatasetName, Head};
-use iim_fields::{
-    Envelope, EnvelopeBuilder, EnvelopeId, FieldCause, FieldFault, Fields, Limits, RecordCheck,
-};
+use iim_fields::{Envelope, EnvelopeBuilder, EnvelopeId, FieldFault, Fields, Limits, RecordCheck};
 use std::alloc::Global;
 use std::cmp::Ordering;
 use vectors_questions::{Answers, Names, Shown, Words};
@@ -267,9 +265,10 @@ fn check_datasets(text: &mut Answers, records: &mut RecordCheck, octets: &[u8]) 
 fn print_check(out: &mut Answers, octets: &[u8]) -> Result<()> {
     let mut records = RecordCheck::new();
     check_datasets(out, &mut records, octets)?;
-    let section = records.section();
-    let failed = if records.is_failed() { ", failed" } else { "" };
-    out.tell(&format_args!("record {section}{failed}"));
+    out.put("  record ");
+    out.show(&records.section());
+    out.put(if records.is_failed() { ", failed" } else { "" });
+    out.end();
     Ok(())
 }
 
@@ -297,12 +296,17 @@ fn add_datasets(text: &mut Answers, builder: &mut EnvelopeBuilder, octets: &[u8]
     Ok(())
 }
 
-/// Prints the limit that is passed, or `none`.
-fn print_passed(out: &mut Answers, cause: Option<FieldCause>) {
-    match cause {
-        Some(cause) => out.tell(&format_args!("{cause:?}")),
-        None => out.line("none"),
+/// Prints the limit that so many octets and fields pass, or `none`.
+fn print_passed(out: &mut Answers, words: &mut Words) {
+    let limits = limits_of(words);
+    let octets = words.number();
+    let fields = words.number();
+    out.put("  ");
+    match limits.passed(octets, fields) {
+        Some(cause) => out.name(&cause),
+        None => out.put("none"),
     }
+    out.end();
 }
 
 /// Envelopes that are read and built.
@@ -400,6 +404,54 @@ impl Envelopes {
         self.envelopes.last().context("there is no envelope")
     }
 
+    /// Reads the datasets that the next words tell.
+    fn read_next(&mut self, out: &mut Answers, names: &Names, words: &mut Words) -> Result<()> {
+        let limits = limits_of(words);
+        self.read(out, limits, words.octets(names).as_slice())
+    }
+
+    /// Begins a builder, and forgets the one before.
+    fn build(&mut self, words: &mut Words) -> Result<()> {
+        self.builder = Some(EnvelopeBuilder::new(self.alloc, limits_of(words))?);
+        Ok(())
+    }
+
+    /// Prints the first dataset of a number in the last envelope, or `none`.
+    fn print_first(&self, out: &mut Answers, words: &mut Words) -> Result<()> {
+        let rec = words.octet();
+        let set = words.octet();
+        match self.last()?.first(rec, set) {
+            Some(octets) => out.tell(&Shown(octets)),
+            None => out.line("none"),
+        }
+        Ok(())
+    }
+
+    /// Prints all datasets of a number in the last envelope.
+    fn print_all(&self, out: &mut Answers, words: &mut Words) -> Result<()> {
+        let rec = words.octet();
+        let set = words.octet();
+        print_walk(out, "all", self.last()?.all(rec, set));
+        Ok(())
+    }
+
+    /// Prints what the last envelope shows.
+    fn print_views(&self, out: &mut Answers) -> Result<()> {
+        print_views(out, self.last()?);
+        Ok(())
+    }
+
+    /// Prints the datasets of the last envelope.
+    fn print_listed(&self, out: &mut Answers) -> Result<()> {
+        print_fields(out, self.last()?.fields());
+        Ok(())
+    }
+
+    /// Forgets all envelopes.
+    fn forget(&mut self) {
+        self.envelopes = Vec::new(self.alloc);
+    }
+
     /// Answers the words of readers; false where the word is none of them.
     pub fn answer(
         &mut self,
@@ -408,22 +460,18 @@ impl Envelopes {
         word: &str,
         words: &mut Words,
     ) -> Result<bool> {
-        match word {
-            "fields" => {
-                let limits = limits_of(words);
-                self.read(out, limits, words.octets(names).as_slice())?;
-            }
-            "kept" => self.print_kept(out)?,
-            "envelope" => self.take_envelope(out)?,
-            "check" => print_check(out, words.octets(names).as_slice())?,
+        let answer = match word {
+            "fields" => self.read_next(out, names, words),
+            "kept" => self.print_kept(out),
+            "envelope" => self.take_envelope(out),
+            "check" => print_check(out, words.octets(names).as_slice()),
             "passed" => {
-                let limits = limits_of(words);
-                let octets = words.number();
-                let fields = words.number();
-                print_passed(out, limits.passed(octets, fields));
+                print_passed(out, words);
+                Ok(())
             }
             _ => return self.answer_built(out, names, word, words),
-        }
+        };
+        answer?;
         Ok(true)
     }
 
@@ -435,31 +483,33 @@ impl Envelopes {
         word: &str,
         words: &mut Words,
     ) -> Result<bool> {
-        match word {
-            "builder" => self.builder = Some(EnvelopeBuilder::new(self.alloc, limits_of(words))?),
-            "add" => self.add(out, words.octets(names).as_slice())?,
-            "finish" => self.finish(out)?,
+        let answer = match word {
+            "builder" => self.build(words),
+            "add" => self.add(out, words.octets(names).as_slice()),
+            "finish" => self.finish(out),
             _ => return self.answer_views(out, word, words),
-        }
+        };
+        answer?;
         Ok(true)
     }
 
     /// Answers the words of envelopes; false where the word is none of them.
     fn answer_views(&mut self, out: &mut Answers, word: &str, words: &mut Words) -> Result<bool> {
+        let answer = match word {
+            "views" => self.print_views(out),
+            "listed" => self.print_listed(out),
+            "first" => self.print_first(out, words),
+            "all" => self.print_all(out, words),
+            _ => return self.answer_many(out, word),
+        };
+        answer?;
+        Ok(true)
+    }
+
+    /// Answers the words of all envelopes; false where the word is none of them.
+    fn answer_many(&mut self, out: &mut Answers, word: &str) -> Result<bool> {
         match word {
-            "views" => print_views(out, self.last()?),
-            "listed" => print_fields(out, self.last()?.fields()),
-            "first" => {
-                let rec = words.octet();
-                let set = words.octet();
-                out.found(self.last()?.first(rec, set).map(|octets| Shown(octets)));
-            }
-            "all" => {
-                let rec = words.octet();
-                let set = words.octet();
-                print_walk(out, "all", self.last()?.all(rec, set));
-            }
-            "forget" => self.envelopes = Vec::new(self.alloc),
+            "forget" => self.forget(),
             "ids" => print_ids(out, self.envelopes.as_slice())?,
             "same" => print_same(out, self.envelopes.as_slice()),
             _ => return Ok(false),
@@ -481,16 +531,21 @@ fn order_sign(id: &EnvelopeId, other: &EnvelopeId) -> &'static str {
     }
 }
 
-/// Prints how an id stands to those of the envelopes: before, at the same place, or after.
+/// Prints how an id stands to those of the envelopes.
+fn print_order(out: &mut Answers, id: &EnvelopeId, envelopes: &[Envelope]) {
+    out.put(" ");
+    for other in envelopes {
+        out.put(order_sign(id, &other.id()));
+    }
+    out.end();
+}
+
+/// Prints an id, and how it stands to those of the envelopes: before, at the same place, or after.
 fn print_id(out: &mut Answers, envelope: &Envelope, envelopes: &[Envelope]) -> Result<()> {
     let id = envelope.id().clone()?;
     out.put(" ");
     out.each(&[id.service(), id.number(), id.date_sent()]);
-    out.put(" ");
-    for other in envelopes {
-        out.put(order_sign(&id, &other.id()));
-    }
-    out.end();
+    print_order(out, &id, envelopes);
     Ok(())
 }
 
@@ -506,8 +561,7 @@ fn print_ids(out: &mut Answers, envelopes: &[Envelope]) -> Result<()> {
 fn print_sames(out: &mut Answers, envelope: &Envelope, envelopes: &[Envelope]) {
     out.put("  ");
     for other in envelopes {
-        let sign = if envelope.same(other) { '=' } else { '.' };
-        out.show(&format_args!("{sign}"));
+        out.put(if envelope.same(other) { "=" } else { "." });
     }
     out.end();
 }

@@ -31,7 +31,13 @@ fn print_some(out: &mut Answers, name: &str, octets: Option<&[u8]>) {
 /// Prints a view of an instant.
 fn print_instant(out: &mut Answers, name: &str, instant: Option<Timestamp>) {
     match instant {
-        Some(instant) => out.tell(&format_args!("{name} {instant}")),
+        Some(instant) => {
+            out.put("  ");
+            out.put(name);
+            out.put(" ");
+            out.show(&instant);
+            out.end();
+        }
         None => print_none(out, name),
     }
 }
@@ -59,8 +65,9 @@ fn print_mandatory(out: &mut Answers, envelope: &Envelope) {
     print_octets(out, "model_version", envelope.model_version());
     print_octets(out, "format_version", envelope.format_version());
     print_octets(out, "record_version", envelope.record_version());
-    let date = envelope.date_sent();
-    out.tell(&format_args!("date_sent {date}"));
+    out.put("  date_sent ");
+    out.show(&envelope.date_sent());
+    out.end();
 }
 
 /// Prints what may be absent.
