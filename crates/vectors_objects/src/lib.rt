@@ -52,21 +52,6 @@ impl ObjectSink for Joined {
     }
 }
 
-/// A token of an object.
-#[derive(Drop)]
-enum Token {
-    /// The number of a dataset of record 7.
-    Number(u8, u64),
-    /// The head of a subfile, and its count.
-    Subfile(u64),
-    /// Octets of the object.
-    Run(Vec<u8>),
-    /// The head of 9:10.
-    End,
-    /// The number of 9:10.
-    Confirmed(u64),
-}
-
 /// The number in record 7 that a word names.
 fn set_of(word: &str) -> Result<u8> {
     Ok(match word {
@@ -78,35 +63,42 @@ fn set_of(word: &str) -> Result<u8> {
     })
 }
 
-/// The token that the next words tell.
-fn token_of(names: &Names, words: &mut Words) -> Result<Token> {
-    Ok(match words.text() {
-        "8:10" => Token::Subfile(words.number()),
-        "run" => Token::Run(words.octets(names)),
-        "end" => Token::End,
-        "9:10" => Token::Confirmed(words.number()),
-        word => Token::Number(set_of(word)?, words.number()),
-    })
-}
-
-/// Takes a token. The reader has not failed, or it stays as it is.
-fn take(reader: &mut ObjectReader, sink: &mut Joined, token: &Token) -> Result<(), ObjectFault> {
+/// Takes the token that a word and the next one tell.
+fn take(
+    reader: &mut ObjectReader,
+    sink: &mut Joined,
+    names: &Names,
+    word: &str,
+    words: &mut Words,
+) -> Result<Result<(), ObjectFault>> {
     if reader.is_failed() {
-        return Ok(());
+        bail!("a reader that has failed goes on");
     }
-    match token {
-        Token::Number(set, number) => reader.value(7, *set, *number),
-        Token::Subfile(count) => reader.head(8, 10, *count, sink),
-        Token::Run(octets) => reader.run(octets.as_slice(), sink),
-        Token::End => reader.head(9, 10, 4, sink),
-        Token::Confirmed(number) => reader.value(9, 10, *number),
-    }
+    Ok(match word {
+        "8:10" => reader.head(8, 10, words.number(), sink),
+        "run" => reader.run(words.octets(names).as_slice(), sink),
+        "end" => reader.head(9, 10, 4, sink),
+        "9:10" => reader.value(9, 10, words.number()),
+        _ => reader.value(7, set_of(word)?, words.number()),
+    })
 }
 
 /// Prints text, and a value after it.
 fn print_label<T: Display>(out: &mut Answers, label: &str, value: &T) {
     out.put(label);
     out.show(value);
+}
+
+/// Prints text, and a number after it.
+fn print_number(out: &mut Answers, label: &str, number: u64) {
+    out.put(label);
+    out.show(&number);
+}
+
+/// Prints text, and after it a number or a dash.
+fn print_number_or_dash(out: &mut Answers, label: &str, number: Option<u64>) {
+    out.put(label);
+    out.show(&NumberOrDash(number));
 }
 
 /// Prints what a reader of objects has.
@@ -117,21 +109,21 @@ fn print_numbers(out: &mut Answers, reader: &ObjectReader) {
     }
     out.put("  numbers");
     for number in reader.numbers() {
-        print_label(out, " ", &NumberOrDash(number));
+        print_number_or_dash(out, " ", number);
     }
-    print_label(out, ", subfiles ", &reader.subfiles());
-    print_label(out, ", total ", &reader.total());
+    print_number(out, ", subfiles ", reader.subfiles());
+    print_number(out, ", total ", reader.total());
     out.end();
 }
 
 /// Prints what records 7 to 9 say of a whole object.
 pub fn print_sizes(out: &mut Answers, sizes: &Sizes) {
     print_label(out, "  sizes known ", &sizes.known);
-    print_label(out, " subfile ", &sizes.subfile);
-    print_label(out, " announced ", &NumberOrDash(sizes.announced));
-    print_label(out, " maximum ", &NumberOrDash(sizes.maximum));
-    print_label(out, " subfiles ", &sizes.subfiles);
-    print_label(out, " total ", &sizes.total);
+    print_number(out, " subfile ", sizes.subfile);
+    print_number_or_dash(out, " announced ", sizes.announced);
+    print_number_or_dash(out, " maximum ", sizes.maximum);
+    print_number(out, " subfiles ", sizes.subfiles);
+    print_number(out, " total ", sizes.total);
     out.end();
 }
 
@@ -140,25 +132,54 @@ fn print_joined(out: &mut Answers, sink: &Joined) {
     if sink.octets.is_empty() {
         return;
     }
-    let octets = Shown(sink.octets.as_slice());
-    let ended = if sink.ended { ", ended" } else { "" };
-    out.tell(&format_args!("object {octets}{ended}"));
+    out.put("  object ");
+    out.octets(sink.octets.as_slice());
+    out.put(if sink.ended { ", ended" } else { "" });
+    out.end();
 }
 
 /// Prints why a token is refused, after so many.
+fn print_refused(out: &mut Answers, taken: u64, cause: SizeCause) {
+    print_number(out, "  refused after ", taken);
+    print_label(out, ": ", &cause);
+    out.end();
+}
+
+/// Prints the fault of a token, after so many.
 fn print_fault(out: &mut Answers, taken: u64, fault: ObjectFault) -> Result<()> {
     match fault {
         ObjectFault::Size { cause } => {
-            print_label(out, "  refused after ", &taken);
-            print_label(out, ": ", &cause);
-            out.end();
+            print_refused(out, taken, cause);
+            Ok(())
         }
         ObjectFault::Stopped(_) => bail!("the sink stopped"),
     }
-    Ok(())
 }
 
-/// Reads tokens, and prints the first refusal or what the reader has.
+/// Reads tokens up to the first refusal, which is printed. Answers whether the last was the number of 9:10.
+fn read_tokens(
+    out: &mut Answers,
+    names: &Names,
+    words: &mut Words,
+    reader: &mut ObjectReader,
+    sink: &mut Joined,
+) -> Result<bool> {
+    let mut is_confirmed = false;
+    for taken in 0..u64::MAX {
+        if !words.has_more() {
+            break;
+        }
+        let word = words.text();
+        is_confirmed = matches!(word, "9:10");
+        if let Err(fault) = take(reader, sink, names, word, words)? {
+            print_fault(out, taken, fault)?;
+            break;
+        }
+    }
+    Ok(is_confirmed)
+}
+
+/// Reads tokens, and prints the first refusal and what the reader has.
 fn print_tokens(
     out: &mut Answers,
     alloc: Global,
@@ -170,18 +191,7 @@ fn print_tokens(
         octets: Vec::new(alloc),
         ended: false,
     };
-    let mut is_confirmed = false;
-    for taken in 0..u64::MAX {
-        if !words.has_more() {
-            break;
-        }
-        let token = token_of(names, words)?;
-        is_confirmed = matches!(token, Token::Confirmed(_));
-        if let Err(fault) = take(&mut reader, &mut sink, &token) {
-            print_fault(out, taken, fault)?;
-            break;
-        }
-    }
+    let is_confirmed = read_tokens(out, names, words, &mut reader, &mut sink)?;
     print_numbers(out, &reader);
     if is_confirmed && !reader.is_failed() {
         print_sizes(out, &reader.sizes());
@@ -209,6 +219,22 @@ fn reader_at(words: &mut Words) -> Option<ObjectReader> {
     ObjectReader::at(numbers, taken, begun, heads)
 }
 
+/// Reads tokens from the place that the next words tell on.
+fn print_tokens_at(
+    out: &mut Answers,
+    alloc: Global,
+    names: &Names,
+    words: &mut Words,
+) -> Result<()> {
+    match reader_at(words) {
+        Some(reader) => print_tokens(out, alloc, names, words, reader),
+        None => {
+            out.line("none");
+            Ok(())
+        }
+    }
+}
+
 /// The size of a plan that the next two words tell.
 fn size_of(words: &mut Words) -> Result<Size> {
     let word = words.text();
@@ -226,31 +252,70 @@ fn plan_of(words: &mut Words) -> Result<Option<Plan>> {
     Ok(Plan::new(subfile, size_of(words)?))
 }
 
-/// Writes an object by a plan, of which so many octets are handed over at a time, or what refuses it.
-fn written(alloc: Global, plan: Plan, object: &[u8], cut: usize) -> Result<Answers> {
+/// Prints the bound of the plan that the next words tell, or that it is none.
+fn print_plan(out: &mut Answers, words: &mut Words) -> Result<()> {
+    match plan_of(words)? {
+        Some(plan) => out.tell(&plan.bound()),
+        None => out.line("none"),
+    }
+    Ok(())
+}
+
+/// A writer of an object into memory.
+type MemoryWriter = SubfileWriter<FromWrite<Vec<u8>>>;
+
+/// A writer that has written nothing.
+fn writer_of(alloc: Global, plan: Plan) -> Result<MemoryWriter> {
     let buffer = SubfileBuffer::reserve(alloc, plan)?;
     let target = FromWrite::new(Vec::new(alloc));
-    let Ok(mut writer) = SubfileWriter::start(buffer, target) else {
-        bail!("the target failed");
+    match SubfileWriter::start(buffer, target) {
+        Ok(writer) => Ok(writer),
+        Err(_) => bail!("the target failed"),
+    }
+}
+
+/// Hands over a piece that stands after so many octets, after an empty one. Answers whether it was taken, and else writes why not.
+fn write_piece(
+    text: &mut Answers,
+    writer: &mut MemoryWriter,
+    at: usize,
+    piece: &[u8],
+) -> Result<bool> {
+    let before = writer.written();
+    if writer.write(&[]).is_err() {
+        bail!("no octets are refused");
+    }
+    let Err(cause) = writer.write(piece) else {
+        return Ok(true);
     };
-    let mut text = Answers::new(alloc);
-    for at in 0..object.len() {
-        if at % cut.max(1) != 0 {
-            continue;
-        }
-        let rest = object.get(at..).unwrap_or(&[]);
-        let piece = rest.get(..cut).unwrap_or(rest);
-        let before = writer.written();
-        if writer.write(&[]).is_err() {
-            bail!("no octets are refused");
-        }
-        if let Err(cause) = writer.write(piece) {
-            print_label(&mut text, "  after ", &at);
-            print_label(&mut text, ": ", &cause);
-            tell_unchanged(&mut text, writer.written() == before);
+    print_label(text, "  after ", &at);
+    print_label(text, ": ", &cause);
+    tell_unchanged(text, writer.written() == before);
+    Ok(false)
+}
+
+/// Hands over an object, so many octets at a time, up to what refuses it.
+fn write_pieces(
+    text: &mut Answers,
+    writer: &mut MemoryWriter,
+    object: &[u8],
+    cut: usize,
+) -> Result<()> {
+    let mut at = 0usize;
+    for piece in object.chunks(cut.max(1)) {
+        if !write_piece(text, writer, at, piece)? {
             break;
         }
+        at = at.saturating_add(piece.len());
     }
+    Ok(())
+}
+
+/// Writes an object by a plan, of which so many octets are handed over at a time, or what refuses it.
+fn written(alloc: Global, plan: Plan, object: &[u8], cut: usize) -> Result<Answers> {
+    let mut text = Answers::new(alloc);
+    let mut writer = writer_of(alloc, plan)?;
+    write_pieces(&mut text, &mut writer, object, cut)?;
     tell_end(&mut text, writer);
     Ok(text)
 }
@@ -269,16 +334,19 @@ fn tell_whole(text: &mut Answers, octets: &[u8], total: u64) {
     text.put(" octets\n");
 }
 
+/// Writes what refuses the end of an object that had so many octets.
+fn tell_unended(text: &mut Answers, writer: &MemoryWriter, cause: PackCause, total: u64) {
+    print_label(text, "  end: ", &cause);
+    print_label(text, ", failed ", &writer.is_failed());
+    tell_unchanged(text, writer.total() == total);
+}
+
 /// Ends an object, and writes its octets, or what refuses the end.
-fn tell_end(text: &mut Answers, writer: SubfileWriter<FromWrite<Vec<u8>>>) {
+fn tell_end(text: &mut Answers, writer: MemoryWriter) {
     let total = writer.total();
     match writer.finish() {
         Ok(target) => tell_whole(text, target.into_inner().as_slice(), total),
-        Err((writer, cause)) => {
-            print_label(text, "  end: ", &cause);
-            print_label(text, ", failed ", &writer.is_failed());
-            tell_unchanged(text, writer.total() == total);
-        }
+        Err((writer, cause)) => tell_unended(text, &writer, cause, total),
     }
 }
 
@@ -289,11 +357,25 @@ fn print_written(out: &mut Answers, alloc: Global, plan: Plan, object: &[u8]) ->
     for cut in 1..object.len() {
         let other = written(alloc, plan, object, cut)?;
         if !other.are(&whole) {
-            out.tell(&format_args!("but in pieces of {cut}"));
+            print_label(out, "  but in pieces of ", &cut);
+            out.end();
             out.join(&other);
         }
     }
     Ok(())
+}
+
+/// Prints what is written by the plan and of the object that the next words tell.
+fn print_subfiles(
+    out: &mut Answers,
+    alloc: Global,
+    names: &Names,
+    words: &mut Words,
+) -> Result<()> {
+    let Some(plan) = plan_of(words)? else {
+        bail!("no such plan");
+    };
+    print_written(out, alloc, plan, words.octets(names).as_slice())
 }
 
 /// Each cause of the sizes of an object.
@@ -320,14 +402,14 @@ const PACK_CAUSES: [PackCause; 7] = [
 /// Prints each cause of the sizes of an object: its number and its name.
 fn print_size_causes(out: &mut Answers) {
     for cause in SIZE_CAUSES {
-        out.tell(&format_args!("{cause}"));
+        out.tell(&cause);
     }
 }
 
 /// Prints each cause of a packer: its number and its name.
 fn print_pack_causes(out: &mut Answers) {
     for cause in PACK_CAUSES {
-        out.tell(&format_args!("{cause}"));
+        out.tell(&cause);
     }
 }
 
@@ -339,22 +421,21 @@ pub fn answer(
     word: &str,
     words: &mut Words,
 ) -> Result<bool> {
-    match word {
-        "object" => print_tokens(out, alloc, names, words, ObjectReader::new())?,
-        "object_at" => match reader_at(words) {
-            Some(reader) => print_tokens(out, alloc, names, words, reader)?,
-            None => out.line("none"),
-        },
-        "plan" => out.found(plan_of(words)?.map(|plan| plan.bound())),
-        "subfiles" => {
-            let Some(plan) = plan_of(words)? else {
-                bail!("no such plan");
-            };
-            print_written(out, alloc, plan, words.octets(names).as_slice())?;
+    let answer = match word {
+        "object" => print_tokens(out, alloc, names, words, ObjectReader::new()),
+        "object_at" => print_tokens_at(out, alloc, names, words),
+        "plan" => print_plan(out, words),
+        "subfiles" => print_subfiles(out, alloc, names, words),
+        "size_causes" => {
+            print_size_causes(out);
+            Ok(())
         }
-        "size_causes" => print_size_causes(out),
-        "pack_causes" => print_pack_causes(out),
+        "pack_causes" => {
+            print_pack_causes(out);
+            Ok(())
+        }
         _ => return Ok(false),
-    }
+    };
+    answer?;
     Ok(true)
 }
