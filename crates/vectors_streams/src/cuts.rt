@@ -42,6 +42,18 @@ impl Cuts {
     }
 }
 
+/// Feeds an empty piece, and then this one where that is not the end.
+fn feed_piece<S: StorySink>(
+    unpacker: &mut Unpacker,
+    piece: &[u8],
+    sink: &mut S,
+) -> Result<Progress, Refusal> {
+    match unpacker.feed(&[], sink)? {
+        Progress::More => unpacker.feed(piece, sink),
+        done => Ok(done),
+    }
+}
+
 /// Feeds octets in pieces, with an empty one before each, up to the first answer that is not More: Done with the sum of the octets
 /// that were used.
 pub fn feed_cut<S: StorySink>(
@@ -53,13 +65,8 @@ pub fn feed_cut<S: StorySink>(
     let mut sum = 0usize;
     let mut rest = octets;
     for _ in 0..=octets.len() {
-        if let Progress::Done { used } = unpacker.feed(&[], sink)? {
-            return Ok(Progress::Done {
-                used: sum.saturating_add(used),
-            });
-        }
         let (piece, more) = rest.split_at(rest.len().min(cuts.next()));
-        if let Progress::Done { used } = unpacker.feed(piece, sink)? {
+        if let Progress::Done { used } = feed_piece(unpacker, piece, sink)? {
             return Ok(Progress::Done {
                 used: sum.saturating_add(used),
             });

@@ -5,7 +5,8 @@ use iim_dataset::FromRead;
 use iim_fields::Limits;
 use iim_unpack::{Intake, IntakeFault, Unpacked, Unpacker};
 use std::alloc::Global;
-use vectors_questions::Answers;
+use vectors_questions::{Answers, Names, Words};
+use vectors_records::limits_of;
 use wire_story::Discard;
 
 /// Prints how many octets an envelope and its object have.
@@ -34,18 +35,30 @@ fn print_answer(
     false
 }
 
+/// Prints what an intake answers to a new unpacker, and answers whether it gave an envelope.
+fn print_envelope(
+    out: &mut Answers,
+    alloc: Global,
+    limits: Limits,
+    intake: &mut Intake<FromRead<&[u8]>>,
+) -> Result<bool> {
+    let unpacker = Unpacker::new(alloc, limits)?;
+    let answer = intake.next_envelope(unpacker, &mut Discard);
+    Ok(print_answer(out, answer, intake.octets()))
+}
+
 /// Prints all envelopes of the octets, up to their end or to what is refused.
 pub(crate) fn print_envelopes(
     out: &mut Answers,
     alloc: Global,
-    limits: Limits,
-    octets: &[u8],
+    names: &Names,
+    words: &mut Words,
 ) -> Result<()> {
-    let mut intake = Intake::new(FromRead::new(octets));
+    let limits = limits_of(words);
+    let octets = words.octets(names);
+    let mut intake = Intake::new(FromRead::new(octets.as_slice()));
     for _ in 0..=octets.len() {
-        let unpacker = Unpacker::new(alloc, limits)?;
-        let answer = intake.next_envelope(unpacker, &mut Discard);
-        if !print_answer(out, answer, intake.octets()) {
+        if !print_envelope(out, alloc, limits, &mut intake)? {
             break;
         }
     }
@@ -68,9 +81,7 @@ pub fn print_next(
     let answer = intake.next_envelope(unpacker, &mut Discard);
     print_answer(out, answer, intake.octets());
     for _ in 0..2 {
-        let unpacker = Unpacker::new(alloc, limits)?;
-        let answer = intake.next_envelope(unpacker, &mut Discard);
-        print_answer(out, answer, intake.octets());
+        print_envelope(out, alloc, limits, &mut intake)?;
     }
     Ok(())
 }

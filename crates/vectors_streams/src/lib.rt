@@ -18,10 +18,9 @@ pub use intakes::print_next;
 pub use lines::print_lines;
 use pieces::print_pieces;
 use std::alloc::Global;
-use streams::Stream;
-pub use values::print_value;
+use streams::print_stream;
+pub use values::{print_done, print_value};
 use vectors_questions::{Answers, Names, Words};
-use vectors_records::limits_of;
 
 /// Answers the words of streams; false where the word is none of them.
 pub fn answer(
@@ -31,24 +30,12 @@ pub fn answer(
     word: &str,
     words: &mut Words,
 ) -> Result<bool> {
-    match word {
-        "stream" => {
-            let limits = limits_of(words);
-            let octets = words.octets(names);
-            let octets = octets.as_slice();
-            Stream {
-                alloc,
-                limits,
-                octets,
-            }
-            .print(out)?;
-        }
-        "pieces" => print_pieces(out, alloc, names, words)?,
-        "intake" => {
-            let limits = limits_of(words);
-            print_envelopes(out, alloc, limits, words.octets(names).as_slice())?;
-        }
+    let answer = match word {
+        "stream" => print_stream(out, alloc, names, words),
+        "pieces" => print_pieces(out, alloc, names, words),
+        "intake" => print_envelopes(out, alloc, names, words),
         _ => return Ok(false),
-    }
+    };
+    answer?;
     Ok(true)
 }

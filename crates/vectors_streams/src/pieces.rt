@@ -1,9 +1,10 @@
 //! The stream of some pieces.
 
 use crate::lines::print_lines;
-use crate::values::print_value;
+use crate::values::{print_done, print_value};
 use anyhow::Result;
-use iim_unpack::{Unpacker, unpack_pieces};
+use iim_fields::Limits;
+use iim_unpack::{Refusal, Unpacked, Unpacker, unpack_pieces};
 use std::alloc::Global;
 use vectors_questions::{Answers, MOST_ARGUMENTS, Names, Words};
 use vectors_records::limits_of;
@@ -21,7 +22,36 @@ fn all_octets(alloc: Global, names: &Names, words: &mut Words) -> Result<Vec<Vec
     Ok(all)
 }
 
+/// The octets of each piece.
+fn slices_of(alloc: Global, pieces: &[Vec<u8>]) -> Result<Vec<&[u8]>> {
+    let mut slices = Vec::new(alloc);
+    for piece in pieces {
+        slices.push(piece.as_slice())?;
+    }
+    Ok(slices)
+}
+
+/// Prints what pieces come to.
+fn print_end(out: &mut Answers, answer: Result<(Unpacked, u64), Refusal>) {
+    match answer {
+        Ok((got, used)) => {
+            print_done(out, used);
+            print_value(out, &got);
+        }
+        Err(refusal) => out.tell(&refusal),
+    }
+}
+
 /// Prints what the stream of pieces comes to, and its lines.
+fn print_taken(out: &mut Answers, alloc: Global, limits: Limits, pieces: &[&[u8]]) -> Result<()> {
+    let mut lines = Lines::new(alloc);
+    let unpacker = Unpacker::new(alloc, limits)?;
+    print_end(out, unpack_pieces(unpacker, pieces, &mut lines));
+    print_lines(out, &lines);
+    Ok(())
+}
+
+/// Prints what the stream of the pieces that are left comes to.
 pub(crate) fn print_pieces(
     out: &mut Answers,
     alloc: Global,
@@ -30,19 +60,6 @@ pub(crate) fn print_pieces(
 ) -> Result<()> {
     let limits = limits_of(words);
     let pieces = all_octets(alloc, names, words)?;
-    let mut slices = Vec::new(alloc);
-    for piece in pieces.iter() {
-        slices.push(piece.as_slice())?;
-    }
-    let mut lines = Lines::new(alloc);
-    let unpacker = Unpacker::new(alloc, limits)?;
-    match unpack_pieces(unpacker, slices.as_slice(), &mut lines) {
-        Ok((got, used)) => {
-            out.tell(&format_args!("done {used}"));
-            print_value(out, &got);
-        }
-        Err(refusal) => out.tell(&format_args!("{refusal}")),
-    }
-    print_lines(out, &lines);
-    Ok(())
+    let slices = slices_of(alloc, pieces.as_slice())?;
+    print_taken(out, alloc, limits, slices.as_slice())
 }

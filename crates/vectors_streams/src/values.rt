@@ -6,6 +6,13 @@ use vectors_objects::print_sizes;
 use vectors_questions::Answers;
 use vectors_records::print_field;
 
+/// Prints that an envelope is done, and how many octets it has.
+pub fn print_done(out: &mut Answers, octets: u64) {
+    out.put("  done ");
+    out.show(&octets);
+    out.end();
+}
+
 /// Prints the datasets, the message's header and trailer, and the sizes of the object.
 pub fn print_value(out: &mut Answers, got: &Unpacked) {
     for (rec, set, octets) in got.envelope.fields() {
