@@ -1,9 +1,8 @@
 //! A packer, call by call.
 
 use crate::scripts::Value;
-use crate::writers::{Keeps, Memory, Trial};
+use crate::writers::{Keeps, Memory, Trial, memory, trial_of};
 use anyhow::{Context, Result};
-use iim_dataset::{FromWrite, Target};
 use iim_object::{PackCause, Plan, StartFault};
 use iim_pack::Packer;
 use std::alloc::Global;
@@ -11,7 +10,7 @@ use vectors_questions::{Answers, Names, Shown, Words};
 
 /// A packer, or what is out once it has ended.
 #[derive(Drop)]
-enum Begun {
+pub(crate) enum Begun {
     Whole(Packer<Memory>),
     Trial(Packer<Trial>),
     Ended(Vec<u8>),
@@ -26,16 +25,6 @@ pub struct Calls {
 
 /// What is said where there is no packer.
 const NO_PACKER: &str = "there is no packer";
-
-/// A packer that is given up: why, what was written to, and how many octets are out.
-pub(crate) fn stopped<W: Target>(packer: Packer<W>, cause: PackCause) -> StartFault<W> {
-    let written = packer.written();
-    StartFault {
-        cause,
-        writer: packer.into_writer(),
-        written,
-    }
-}
 
 /// Begins a line: why something was refused, and how many octets are out.
 fn tell_cause(out: &mut Answers, cause: PackCause, written: u64) {
@@ -65,14 +54,15 @@ pub(crate) fn tell_fault<K: Keeps>(
 }
 
 /// Tells what a call of a packer answered, and how many octets are out where it was refused.
-fn tell_call(out: &mut Answers, answer: Result<(), PackCause>, written: u64) {
-    match answer {
+fn tell_call(out: &mut Answers, answer: Option<Result<(), PackCause>>, written: u64) -> Result<()> {
+    match answer.context(NO_PACKER)? {
         Ok(()) => out.line("ok"),
         Err(cause) => {
             tell_cause(out, cause, written);
             out.end();
         }
     }
+    Ok(())
 }
 
 /// Ends a packer: what is there afterwards, and what it answered.
@@ -80,10 +70,30 @@ fn end<K: Keeps>(
     alloc: Global,
     packer: Packer<K>,
     trailer: &[u8],
-) -> Result<Result<Vec<u8>, (Packer<K>, PackCause)>> {
+) -> Result<(Begun, Result<(), PackCause>)> {
     match packer.finish(trailer) {
-        Ok(writer) => Ok(Ok(writer.kept(alloc)?)),
-        Err(refused) => Ok(Err(refused)),
+        Ok(writer) => Ok((Begun::Ended(writer.kept(alloc)?), Ok(()))),
+        Err((packer, cause)) => Ok((K::begun(packer), Err(cause))),
+    }
+}
+
+/// Begins a packer, and tells so; None where that is refused.
+fn started<K: Keeps>(
+    alloc: Global,
+    out: &mut Answers,
+    script: &Value,
+    plan: Plan,
+    writer: K,
+) -> Result<Option<Begun>> {
+    match Packer::start(alloc, &script.envelope, &script.head, plan, writer) {
+        Ok(packer) => {
+            out.line("ok");
+            Ok(Some(K::begun(packer)))
+        }
+        Err(fault) => {
+            tell_fault(alloc, out, fault)?;
+            Ok(None)
+        }
     }
 }
 
@@ -124,14 +134,8 @@ impl Begun {
     /// What is there after a call of `finish`, and what that answered.
     fn finish(self, alloc: Global, trailer: &[u8]) -> Result<(Begun, Result<(), PackCause>)> {
         match self {
-            Begun::Whole(packer) => match end(alloc, packer, trailer)? {
-                Ok(octets) => Ok((Begun::Ended(octets), Ok(()))),
-                Err((packer, cause)) => Ok((Begun::Whole(packer), Err(cause))),
-            },
-            Begun::Trial(packer) => match end(alloc, packer, trailer)? {
-                Ok(octets) => Ok((Begun::Ended(octets), Ok(()))),
-                Err((packer, cause)) => Ok((Begun::Trial(packer), Err(cause))),
-            },
+            Begun::Whole(packer) => end(alloc, packer, trailer),
+            Begun::Trial(packer) => end(alloc, packer, trailer),
             Begun::Ended(_) => anyhow::bail!("the packer has ended"),
         }
     }
@@ -143,31 +147,18 @@ impl Calls {
         Calls { alloc, begun: None }
     }
 
-    /// Begins a packer, over memory where no other writer is given.
+    /// Begins a packer, over memory where the words tell no other writer.
     pub fn start(
         &mut self,
         out: &mut Answers,
         script: &Value,
         plan: Plan,
-        trial: Option<Trial>,
+        words: &mut Words,
     ) -> Result<()> {
-        let alloc = self.alloc;
-        let (envelope, head) = (&script.envelope, &script.head);
-        self.begun = None;
-        match trial {
-            Some(trial) => match Packer::start(alloc, envelope, head, plan, trial) {
-                Ok(packer) => self.begun = Some(Begun::Trial(packer)),
-                Err(fault) => return tell_fault(alloc, out, fault),
-            },
-            None => {
-                let memory: Memory = FromWrite::new(Vec::new(alloc));
-                match Packer::start(alloc, envelope, head, plan, memory) {
-                    Ok(packer) => self.begun = Some(Begun::Whole(packer)),
-                    Err(fault) => return tell_fault(alloc, out, fault),
-                }
-            }
-        }
-        out.line("ok");
+        self.begun = match trial_of(words)? {
+            Some(trial) => started(self.alloc, out, script, plan, trial)?,
+            None => started(self.alloc, out, script, plan, memory(self.alloc))?,
+        };
         Ok(())
     }
 
@@ -179,42 +170,54 @@ impl Calls {
         word: &str,
         words: &mut Words,
     ) -> Result<bool> {
-        match word {
-            "pack_text" => {
-                let octets = words.octets(names);
-                let begun = self.begun.as_mut().context(NO_PACKER)?;
-                let answer = begun.text(octets.as_slice()).context(NO_PACKER)?;
-                tell_call(out, answer, begun.written());
-            }
-            "pack_line_end" => {
-                let begun = self.begun.as_mut().context(NO_PACKER)?;
-                let answer = begun.line_end().context(NO_PACKER)?;
-                tell_call(out, answer, begun.written());
-            }
-            "pack_finish" => {
-                let trailer = words.octets(names);
-                self.finish(out, trailer.as_slice())?;
-            }
-            "pack_written" => {
-                let written = self.begun.as_ref().context(NO_PACKER)?.written();
-                out.tell(&written);
-            }
-            "pack_out" => {
-                let octets = self.begun.take().context(NO_PACKER)?.out(self.alloc)?;
-                out.tell(&Shown(octets.as_slice()));
-            }
+        let answer = match word {
+            "pack_text" => self.text(out, names, words),
+            "pack_line_end" => self.line_end(out),
+            "pack_finish" => self.finish(out, names, words),
+            "pack_written" => self.tell_written(out),
+            "pack_out" => self.tell_out(out),
             _ => return Ok(false),
-        }
+        };
+        answer?;
         Ok(true)
     }
 
+    /// Gives the packer text.
+    fn text(&mut self, out: &mut Answers, names: &Names, words: &mut Words) -> Result<()> {
+        let octets = words.octets(names);
+        let begun = self.begun.as_mut().context(NO_PACKER)?;
+        let answer = begun.text(octets.as_slice());
+        tell_call(out, answer, begun.written())
+    }
+
+    /// Gives the packer the end of a line.
+    fn line_end(&mut self, out: &mut Answers) -> Result<()> {
+        let begun = self.begun.as_mut().context(NO_PACKER)?;
+        let answer = begun.line_end();
+        tell_call(out, answer, begun.written())
+    }
+
     /// Ends the packer, where it lets itself be ended.
-    fn finish(&mut self, out: &mut Answers, trailer: &[u8]) -> Result<()> {
+    fn finish(&mut self, out: &mut Answers, names: &Names, words: &mut Words) -> Result<()> {
+        let trailer = words.octets(names);
         let begun = self.begun.take().context(NO_PACKER)?;
-        let (begun, answer) = begun.finish(self.alloc, trailer)?;
+        let (begun, answer) = begun.finish(self.alloc, trailer.as_slice())?;
         let written = begun.written();
         self.begun = Some(begun);
-        tell_call(out, answer, written);
+        tell_call(out, Some(answer), written)
+    }
+
+    /// Tells how many octets are out.
+    fn tell_written(&self, out: &mut Answers) -> Result<()> {
+        let written = self.begun.as_ref().context(NO_PACKER)?.written();
+        out.tell(&written);
+        Ok(())
+    }
+
+    /// Tells what is out. The packer is given up for it.
+    fn tell_out(&mut self, out: &mut Answers) -> Result<()> {
+        let octets = self.begun.take().context(NO_PACKER)?.out(self.alloc)?;
+        out.tell(&Shown(octets.as_slice()));
         Ok(())
     }
 }

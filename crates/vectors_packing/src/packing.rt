@@ -1,11 +1,11 @@
 //! Envelopes packed: the value that a script told, at once and in pieces.
 
-use crate::calls::{Calls, stopped, tell_fault};
-use crate::plans::{plan_of, tell_no_plan, tell_plan};
+use crate::calls::{Calls, tell_fault};
+use crate::plans::{tell_bound, told_plan};
 use crate::scripts::{Value, told};
-use crate::writers::{Keeps, Memory, trial_of};
+use crate::writers::{Keeps, memory, trial_of};
 use anyhow::{Context, Result};
-use iim_dataset::{FromWrite, Target};
+use iim_dataset::Target;
 use iim_object::{PackCause, Plan, StartFault};
 use iim_pack::{Packer, pack, packed_size};
 use std::alloc::Global;
@@ -38,20 +38,30 @@ impl Packing {
         word: &str,
         words: &mut Words,
     ) -> Result<bool> {
-        match word {
-            "script" => {
-                let octets = words.octets(names);
-                self.told = told(self.alloc, out, octets.as_slice())?;
-            }
-            "pack_trailer" => self.set_trailer(names, words)?,
-            "pack_size" => self.tell_size(out)?,
-            "pack_bound" => tell_plan(out, words)?,
-            "pack" => self.pack(out, words)?,
-            "pack_cut" => self.pack_in_pieces(out, words)?,
-            "packer" => self.start(out, words)?,
+        let answer = match word {
+            "script" => self.read(out, names, words),
+            "pack_trailer" => self.set_trailer(names, words),
+            "pack_size" => self.tell_size(out),
+            "pack_bound" => tell_bound(out, words),
+            "pack" => self.pack(out, words),
+            "pack_cut" => self.pack_in_pieces(out, words),
+            "packer" => self.start(out, words),
             _ => return self.calls.answer(out, names, word, words),
-        }
+        };
+        answer?;
         Ok(true)
+    }
+
+    /// Reads a script, and tells what it tells.
+    fn read(&mut self, out: &mut Answers, names: &Names, words: &mut Words) -> Result<()> {
+        let octets = words.octets(names);
+        self.told = told(self.alloc, out, octets.as_slice())?;
+        Ok(())
+    }
+
+    /// The value that a script told.
+    fn script(&self) -> Result<&Value> {
+        self.told.as_ref().context(NO_VALUE)
     }
 
     /// Gives the value another trailer, whatever octets that is.
@@ -64,7 +74,7 @@ impl Packing {
 
     /// Tells how many octets the object has.
     fn tell_size(&self, out: &mut Answers) -> Result<()> {
-        let script = self.told.as_ref().context(NO_VALUE)?;
+        let script = self.script()?;
         match packed_size(&script.head, &script.lines, script.trailer.as_slice()) {
             Some(size) => out.tell(&size),
             None => out.line("none"),
@@ -74,45 +84,23 @@ impl Packing {
 
     /// Packs the value at once.
     fn pack(&self, out: &mut Answers, words: &mut Words) -> Result<()> {
-        let script = self.told.as_ref().context(NO_VALUE)?;
-        let Some(plan) = plan_of(words)? else {
-            tell_no_plan(out);
+        let script = self.script()?;
+        let Some(plan) = told_plan(out, words)? else {
             return Ok(());
         };
         match trial_of(words)? {
-            Some(trial) => {
-                let ended = packed(self.alloc, script, plan, trial);
-                tell_ended(self.alloc, out, ended)
-            }
-            None => {
-                let memory: Memory = FromWrite::new(Vec::new(self.alloc));
-                let ended = packed(self.alloc, script, plan, memory);
-                tell_ended(self.alloc, out, ended)
-            }
+            Some(trial) => pack_over(self.alloc, out, script, plan, trial),
+            None => pack_over(self.alloc, out, script, plan, memory(self.alloc)),
         }
     }
 
     /// Packs the value with its text in pieces, by pieces of each length up to the one that is given, and tells each result that
     /// is not the one before.
     fn pack_in_pieces(&self, out: &mut Answers, words: &mut Words) -> Result<()> {
-        let script = self.told.as_ref().context(NO_VALUE)?;
+        let script = self.script()?;
         let most = words.number();
-        let Some(plan) = plan_of(words)? else {
-            tell_no_plan(out);
-            return Ok(());
-        };
-        let mut before = Vec::new(self.alloc);
-        for length in 1..most.saturating_add(1) {
-            let memory: Memory = FromWrite::new(Vec::new(self.alloc));
-            let Ok(writer) = in_pieces(self.alloc, script, plan, memory, length) else {
-                out.tell(&format_args!("pieces of {length} refused"));
-                return Ok(());
-            };
-            let octets = writer.into_inner();
-            if octets.as_slice() != before.as_slice() {
-                tell_pieces(out, length, octets.as_slice());
-            }
-            before = octets;
+        if let Some(plan) = told_plan(out, words)? {
+            tell_lengths(self.alloc, out, script, plan, most);
         }
         Ok(())
     }
@@ -120,25 +108,30 @@ impl Packing {
     /// Begins a packer of the value.
     fn start(&mut self, out: &mut Answers, words: &mut Words) -> Result<()> {
         let script = self.told.as_ref().context(NO_VALUE)?;
-        let Some(plan) = plan_of(words)? else {
-            tell_no_plan(out);
-            return Ok(());
-        };
-        self.calls.start(out, script, plan, trial_of(words)?)
+        match told_plan(out, words)? {
+            Some(plan) => self.calls.start(out, script, plan, words),
+            None => Ok(()),
+        }
     }
-}
-
-/// Tells what was packed in pieces of a length.
-fn tell_pieces(out: &mut Answers, length: u64, octets: &[u8]) {
-    out.put("  pieces of ");
-    out.show(&length);
-    out.put(" packed ");
-    out.octets(octets);
-    out.end();
 }
 
 /// What is said where there is nothing to pack.
 const NO_VALUE: &str = "no script has told a value";
+
+/// Packs the value of a script at once, and tells what was packed, or why it was not.
+fn pack_over<K: Keeps>(
+    alloc: Global,
+    out: &mut Answers,
+    script: &Value,
+    plan: Plan,
+    writer: K,
+) -> Result<()> {
+    match packed(alloc, script, plan, writer) {
+        Ok(writer) => tell_packed(out, writer.kept(alloc)?.as_slice()),
+        Err(fault) => return tell_fault(alloc, out, fault),
+    }
+    Ok(())
+}
 
 /// Packs the value of a script at once.
 fn packed<W: Target>(
@@ -159,21 +152,41 @@ fn packed<W: Target>(
     )
 }
 
-/// Tells what was packed, or why it was not.
-fn tell_ended<K: Keeps>(
-    alloc: Global,
-    out: &mut Answers,
-    ended: Result<K, StartFault<K>>,
-) -> Result<()> {
-    match ended {
-        Ok(writer) => {
-            let octets = writer.kept(alloc)?;
-            out.put("  packed ");
-            out.octets(octets.as_slice());
-            out.end();
-            Ok(())
+/// Tells what was packed.
+fn tell_packed(out: &mut Answers, octets: &[u8]) {
+    out.put("  packed ");
+    out.octets(octets);
+    out.end();
+}
+
+/// Tells what was packed in pieces of a length.
+fn tell_pieces(out: &mut Answers, length: u64, octets: &[u8]) {
+    out.put("  pieces of ");
+    out.show(&length);
+    out.put(" packed ");
+    out.octets(octets);
+    out.end();
+}
+
+/// Tells that pieces of a length are refused.
+fn tell_refused(out: &mut Answers, length: u64) {
+    out.put("  pieces of ");
+    out.show(&length);
+    out.put(" refused\n");
+}
+
+/// Packs the value of a script in pieces of each length up to `most`, as long as they are not refused.
+fn tell_lengths(alloc: Global, out: &mut Answers, script: &Value, plan: Plan, most: u64) {
+    let mut before = Vec::new(alloc);
+    for length in 1..most.saturating_add(1) {
+        let Some(octets) = in_pieces(alloc, script, plan, length) else {
+            tell_refused(out, length);
+            break;
+        };
+        if octets.as_slice() != before.as_slice() {
+            tell_pieces(out, length, octets.as_slice());
         }
-        Err(fault) => tell_fault(alloc, out, fault),
+        before = octets;
     }
 }
 
@@ -203,20 +216,11 @@ fn take_lines<W: Target>(
     Ok(())
 }
 
-/// Packs the value of a script call by call, in such pieces.
-fn in_pieces<W: Target>(
-    alloc: Global,
-    script: &Value,
-    plan: Plan,
-    writer: W,
-    most: u64,
-) -> Result<W, StartFault<W>> {
-    let mut packer = Packer::start(alloc, &script.envelope, &script.head, plan, writer)?;
-    if let Err(cause) = take_lines(&mut packer, &script.lines, most) {
-        return Err(stopped(packer, cause));
-    }
-    match packer.finish(script.trailer.as_slice()) {
-        Ok(writer) => Ok(writer),
-        Err((packer, cause)) => Err(stopped(packer, cause)),
-    }
+/// Packs the value of a script in such pieces; None where one is refused.
+fn in_pieces(alloc: Global, script: &Value, plan: Plan, most: u64) -> Option<Vec<u8>> {
+    let writer = memory(alloc);
+    let mut packer = Packer::start(alloc, &script.envelope, &script.head, plan, writer).ok()?;
+    take_lines(&mut packer, &script.lines, most).ok()?;
+    let writer = packer.finish(script.trailer.as_slice()).ok()?;
+    Some(writer.into_inner())
 }

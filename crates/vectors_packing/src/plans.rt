@@ -17,22 +17,25 @@ fn size_of(word: &[u8]) -> Option<Size> {
 }
 
 /// The plan that the next two words tell, the octets of a full subfile and what is said of the size. None where it is no plan.
-pub(crate) fn plan_of(words: &mut Words) -> Result<Option<Plan>> {
+fn plan_of(words: &mut Words) -> Result<Option<Plan>> {
     let subfile = words.number();
     let size = size_of(words.word()).context("a size is `known:N`, `unknown` or `unknown:M`")?;
     Ok(Plan::new(subfile, size))
 }
 
-/// Tells that there is no such plan.
-pub(crate) fn tell_no_plan(out: &mut Answers) {
-    out.line("no plan");
+/// The plan that the next two words tell. Where it is no plan, tells so.
+pub(crate) fn told_plan(out: &mut Answers, words: &mut Words) -> Result<Option<Plan>> {
+    let plan = plan_of(words)?;
+    if plan.is_none() {
+        out.line("no plan");
+    }
+    Ok(plan)
 }
 
 /// Tells the bound of a plan.
-pub(crate) fn tell_plan(out: &mut Answers, words: &mut Words) -> Result<()> {
-    match plan_of(words)? {
-        Some(plan) => out.tell(&plan.bound()),
-        None => tell_no_plan(out),
+pub(crate) fn tell_bound(out: &mut Answers, words: &mut Words) -> Result<()> {
+    if let Some(plan) = told_plan(out, words)? {
+        out.tell(&plan.bound());
     }
     Ok(())
 }

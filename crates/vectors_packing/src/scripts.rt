@@ -2,7 +2,7 @@
 
 use anyhow::{Result, bail};
 use iim_fields::{Envelope, Limits};
-use iim_script::{Script, read_script};
+use iim_script::{Script, ScriptFault, read_script};
 use std::alloc::Global;
 use vectors_messages::tell_header;
 use vectors_questions::Answers;
@@ -50,13 +50,21 @@ pub(crate) fn told(alloc: Global, out: &mut Answers, octets: &[u8]) -> Result<Op
             Ok(Some(told))
         }
         Err(fault) => {
-            let line = fault.line;
-            let number = fault.cause.number();
-            let name = fault.cause.name();
-            out.tell(&format_args!("line {line} cause {number} {name}"));
+            tell_fault(out, fault);
             Ok(None)
         }
     }
+}
+
+/// Tells the fault of a script.
+fn tell_fault(out: &mut Answers, fault: ScriptFault) {
+    out.put("  line ");
+    out.show(&fault.line);
+    out.put(" cause ");
+    out.show(&fault.cause.number());
+    out.put(" ");
+    out.put(fault.cause.name());
+    out.end();
 }
 
 /// Tells all that a script tells.
