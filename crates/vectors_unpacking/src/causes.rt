@@ -44,16 +44,17 @@ const CAUSES: [Cause; 25] = [
 /// Prints each layer.
 pub(crate) fn print_layers(out: &mut Answers) {
     for layer in LAYERS {
-        let name = layer.name();
-        out.tell(&format_args!("{name}"));
+        out.line(layer.name());
     }
 }
 
 /// Prints each cause: its number and its name.
 pub(crate) fn print_causes(out: &mut Answers) {
     for cause in CAUSES {
-        let number = cause.number();
-        let name = cause.name();
-        out.tell(&format_args!("{number} {name}"));
+        out.put("  ");
+        out.show(&cause.number());
+        out.put(" ");
+        out.put(cause.name());
+        out.end();
     }
 }

@@ -3,9 +3,11 @@
 use anyhow::Result;
 use iim_dataset::NumberOrDash;
 use iim_fields::Limits;
-use iim_unpack::{SaveFault, TicketFault, TicketParts, TicketPhase, Unpacker, split_ticket};
+use iim_unpack::{
+    SaveFault, TicketFault, TicketFields, TicketParts, TicketPhase, Unpacker, split_ticket,
+};
 use std::alloc::Global;
-use vectors_questions::{Answers, MOST_ARGUMENTS, Names, Shown, Words};
+use vectors_questions::{Answers, MOST_ARGUMENTS, Names, Words};
 use vectors_records::{limits_of, print_field};
 
 /// The number and the name of a fault.
@@ -26,7 +28,16 @@ fn print_hexadecimal(out: &mut Answers, octets: &[u8]) {
     for octet in octets {
         out.show(&format_args!("{octet:02X}"));
     }
-    out.end()
+    out.end();
+}
+
+/// Prints a ticket; only `yes` where it is the one that was wanted.
+fn print_saved(out: &mut Answers, ticket: &[u8], wanted: Option<&[u8]>) {
+    if wanted == Some(ticket) {
+        out.line("yes");
+    } else {
+        print_hexadecimal(out, ticket);
+    }
 }
 
 /// Prints the ticket of an unpacker, or why it has none; only `yes` where it is the one that was wanted.
@@ -35,12 +46,23 @@ pub(crate) fn print_ticket(
     alloc: Global,
     unpacker: &Unpacker,
     wanted: Option<&[u8]>,
-) -> Result<()> {
+) {
     match unpacker.save(alloc) {
-        Ok(ticket) if wanted == Some(ticket.as_slice()) => out.line("yes"),
-        Ok(ticket) => print_hexadecimal(out, ticket.as_slice()),
+        Ok(ticket) => print_saved(out, ticket.as_slice(), wanted),
         Err(SaveFault::Failed) => out.line("61 Failed"),
         Err(SaveFault::OutOfMemory) => out.line("70 OutOfMemory"),
+    }
+}
+
+/// Prints `restored`, and the ticket of the unpacker where it is not the one that was wanted.
+fn print_again(out: &mut Answers, alloc: Global, unpacker: &Unpacker, wanted: &[u8]) -> Result<()> {
+    out.line("restored");
+    if unpacker.is_failed() || unpacker.octets() != 0 {
+        out.line("at another octet");
+    }
+    let again = unpacker.save(alloc)?;
+    if again.as_slice() != wanted {
+        print_hexadecimal(out, again.as_slice());
     }
     Ok(())
 }
@@ -53,23 +75,21 @@ fn print_restored(
     ticket: &[u8],
     wanted: &[u8],
 ) -> Result<()> {
-    let unpacker = match Unpacker::restore(alloc, limits, ticket, 0) {
-        Ok(unpacker) => unpacker,
+    match Unpacker::restore(alloc, limits, ticket, 0) {
+        Ok(unpacker) => print_again(out, alloc, &unpacker, wanted),
         Err(fault) => {
-            let name = fault_name(fault);
-            out.tell(&format_args!("{name}"));
-            return Ok(());
+            out.line(fault_name(fault));
+            Ok(())
         }
-    };
-    out.line("restored");
-    if unpacker.is_failed() || unpacker.octets() != 0 {
-        out.line("at another octet");
     }
-    let again = unpacker.save(alloc)?;
-    if again.as_slice() != wanted {
-        print_hexadecimal(out, again.as_slice());
+}
+
+/// What restoring a ticket answers.
+fn restoring(alloc: Global, limits: Limits, ticket: &[u8]) -> &'static str {
+    match Unpacker::restore(alloc, limits, ticket, 0) {
+        Ok(_) => "restored",
+        Err(fault) => fault_name(fault),
     }
-    Ok(())
 }
 
 /// A ticket but for the number of octets of the object that have come.
@@ -82,91 +102,132 @@ struct OpenTicket<'t> {
 }
 
 impl OpenTicket<'_> {
-    /// Prints whether the ticket of a number is restored. The number has four octets in version 1, and eight in version 2.
-    fn print(self, out: &mut Answers, alloc: Global, limits: Limits, number: u64) -> Result<()> {
+    /// The ticket of a number. That has four octets in version 1, and eight in version 2.
+    fn with(self, alloc: Global, number: u64) -> Result<Vec<u8>> {
         let octets = number.to_be_bytes();
         let from = if self.front.get(4) == Some(&1) { 4 } else { 0 };
         let mut ticket = Vec::new(alloc);
-        ticket.extend_from_slice(self.front)?;
-        ticket.extend_from_slice(octets.get(from..).unwrap_or(&[]))?;
-        ticket.extend_from_slice(self.back)?;
-        match Unpacker::restore(alloc, limits, ticket.as_slice(), 0) {
-            Ok(_) => out.tell(&format_args!("{number} restored")),
-            Err(fault) => {
-                let name = fault_name(fault);
-                out.tell(&format_args!("{number} {name}"));
+        for part in [self.front, octets.get(from..).unwrap_or(&[]), self.back] {
+            ticket.extend_from_slice(part)?;
+        }
+        Ok(ticket)
+    }
+
+    /// Prints whether the ticket of a number is restored.
+    fn print(self, out: &mut Answers, alloc: Global, limits: Limits, number: u64) -> Result<()> {
+        let ticket = self.with(alloc, number)?;
+        out.put("  ");
+        out.show(&number);
+        out.put(" ");
+        out.put(restoring(alloc, limits, ticket.as_slice()));
+        out.end();
+        Ok(())
+    }
+
+    /// Prints that of each number that is left.
+    fn print_each(
+        self,
+        out: &mut Answers,
+        alloc: Global,
+        limits: Limits,
+        words: &mut Words,
+    ) -> Result<()> {
+        for _ in 0..MOST_ARGUMENTS {
+            if !words.has_more() {
+                break;
             }
+            self.print(out, alloc, limits, words.number())?;
         }
         Ok(())
     }
 }
 
+/// Prints text, and a number after it.
+fn print_number(out: &mut Answers, label: &str, number: u64) {
+    out.put(label);
+    out.show(&number);
+}
+
+/// Prints the data of a dataset that is begun.
+fn print_data(out: &mut Answers, set: u8, count: u64, left: u64, taken: &[u8]) {
+    print_number(out, "  data ", u64::from(set));
+    print_number(out, " count ", count);
+    print_number(out, " left ", left);
+    out.put(" taken ");
+    out.octets(taken);
+    out.end();
+}
+
+/// Prints the octets of a tag that is begun.
+fn print_tag(out: &mut Answers, held: &[u8]) {
+    out.put("  tag ");
+    out.octets(held);
+    out.end();
+}
+
 /// Prints what is begun.
 fn print_phase(out: &mut Answers, phase: &TicketPhase) {
     match phase {
-        TicketPhase::Tag(held) => {
-            let held = Shown(held);
-            out.tell(&format_args!("tag {held}"))
-        }
+        TicketPhase::Tag(held) => print_tag(out, held),
         TicketPhase::Data {
             set,
             count,
             left,
             taken,
-        } => {
-            let taken = Shown(taken);
-            out.tell(&format_args!("data {set} count {count} left {left} taken {taken}"))
-        }
+        } => print_data(out, *set, *count, *left, taken),
         TicketPhase::Ended => out.line("ended"),
     }
 }
 
 /// Prints the numbers of record 7, and what has come of the object.
-fn print_object(out: &mut Answers, parts: &TicketParts) {
+fn print_object(out: &mut Answers, numbers: [Option<u64>; 4], taken: u64, heads: u64) {
     out.put("  numbers");
-    for number in parts.numbers {
-        let number = NumberOrDash(number);
-        out.show(&format_args!(" {number}"));
+    for number in numbers {
+        out.put(" ");
+        out.show(&NumberOrDash(number));
     }
-    let taken = parts.taken;
-    let heads = parts.heads;
-    out.show(&format_args!("\n  object {taken} octets, {heads} heads\n"))
+    print_number(out, "\n  object ", taken);
+    print_number(out, " octets, ", heads);
+    out.put(" heads\n");
 }
 
 /// Prints what is told of the message.
-fn print_message(out: &mut Answers, parts: &TicketParts) {
-    let part = parts.part;
-    let counter = parts.counter;
-    let flag = parts.flag;
-    out.tell(&format_args!("message part {part} counter {counter} flag {flag}"));
-    out.put("  texts");
-    out.each(&parts.texts);
-    out.end()
+fn print_message(out: &mut Answers, part: u8, counter: u8, flag: u8, texts: [&[u8]; 7]) {
+    print_number(out, "  message part ", u64::from(part));
+    print_number(out, " counter ", u64::from(counter));
+    print_number(out, " flag ", u64::from(flag));
+    out.put("\n  texts");
+    out.each(&texts);
+    out.end();
 }
 
-/// Prints the parts of a ticket, or why it has none.
-fn print_parts(out: &mut Answers, ticket: &[u8]) -> Result<()> {
-    let mut parts = match split_ticket(ticket) {
-        Ok(parts) => parts,
-        Err(fault) => {
-            let name = fault_name(fault);
-            out.tell(&format_args!("{name}"));
-            return Ok(());
-        }
-    };
-    let version = parts.version;
-    let section = parts.section;
-    out.tell(&format_args!("version {version} section {section}"));
-    print_phase(out, &parts.phase);
-    for _ in 0..ticket.len() {
-        let Some((rec, set, octets)) = parts.fields.next() else {
+/// Prints the datasets of a ticket of so many octets.
+fn print_fields(out: &mut Answers, fields: &mut TicketFields, len: usize) {
+    for _ in 0..len {
+        let Some((rec, set, octets)) = fields.next() else {
             break;
         };
         print_field(out, rec, set, octets);
     }
-    print_object(out, &parts);
-    print_message(out, &parts);
-    Ok(())
+}
+
+/// Prints the parts of a ticket of so many octets.
+fn print_all(out: &mut Answers, mut parts: TicketParts, len: usize) {
+    print_number(out, "  version ", u64::from(parts.version));
+    print_number(out, " section ", u64::from(parts.section));
+    out.end();
+    print_phase(out, &parts.phase);
+    print_fields(out, &mut parts.fields, len);
+    print_object(out, parts.numbers, parts.taken, parts.heads);
+    print_message(out, parts.part, parts.counter, parts.flag, parts.texts);
+}
+
+/// Prints the parts of a ticket, or why it has none.
+fn print_parts(out: &mut Answers, ticket: &[u8]) {
+    match split_ticket(ticket) {
+        Ok(parts) => print_all(out, parts, ticket.len()),
+        Err(fault) => out.line(fault_name(fault)),
+    }
 }
 
 /// Prints which numbers of octets of the object a ticket is restored with.
@@ -178,17 +239,11 @@ fn print_counts(out: &mut Answers, alloc: Global, names: &Names, words: &mut Wor
         front: front.as_slice(),
         back: back.as_slice(),
     };
-    for _ in 0..MOST_ARGUMENTS {
-        if !words.has_more() {
-            break;
-        }
-        ticket.print(out, alloc, limits, words.number())?;
-    }
-    Ok(())
+    ticket.print_each(out, alloc, limits, words)
 }
 
 /// Restores a ticket, and saves it again: as the next argument, or as itself where there is none.
-fn print_again(out: &mut Answers, alloc: Global, names: &Names, words: &mut Words) -> Result<()> {
+fn print_next(out: &mut Answers, alloc: Global, names: &Names, words: &mut Words) -> Result<()> {
     let limits = limits_of(words);
     let ticket = words.octets(names);
     if words.has_more() {
@@ -206,11 +261,15 @@ pub(crate) fn answer(
     word: &str,
     words: &mut Words,
 ) -> Result<bool> {
-    match word {
-        "ticket" => print_again(out, alloc, names, words)?,
-        "counts" => print_counts(out, alloc, names, words)?,
-        "parts" => print_parts(out, words.octets(names).as_slice())?,
+    let answer = match word {
+        "ticket" => print_next(out, alloc, names, words),
+        "counts" => print_counts(out, alloc, names, words),
+        "parts" => {
+            print_parts(out, words.octets(names).as_slice());
+            Ok(())
+        }
         _ => return Ok(false),
-    }
+    };
+    answer?;
     Ok(true)
 }

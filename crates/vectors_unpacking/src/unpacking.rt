@@ -9,7 +9,7 @@ use std::alloc::Global;
 use std::mem;
 use vectors_questions::{Answers, Names, Words};
 use vectors_records::limits_of;
-use vectors_streams::{Cuts, feed_cut, print_lines, print_next, print_value};
+use vectors_streams::{Cuts, feed_cut, print_done, print_lines, print_next, print_value};
 use wire_story::Lines;
 
 /// An envelope that is being taken apart.
@@ -25,8 +25,8 @@ pub struct Bench {
 fn print_progress(out: &mut Answers, answer: Result<Progress, Refusal>) {
     match answer {
         Ok(Progress::More) => out.line("more"),
-        Ok(Progress::Done { used }) => out.tell(&format_args!("done {used}")),
-        Err(refusal) => out.tell(&format_args!("{refusal}")),
+        Ok(Progress::Done { used }) => print_done(out, used as u64),
+        Err(refusal) => out.tell(&refusal),
     }
 }
 
@@ -47,30 +47,61 @@ impl Bench {
         Ok(mem::replace(&mut self.unpacker, next))
     }
 
-    /// Prints what was answered to octets in pieces.
-    fn cut(&mut self, out: &mut Answers, octets: &[u8], cuts: Cuts) -> Result<()> {
-        let answer = feed_cut(&mut self.unpacker, octets, cuts, &mut self.lines);
+    /// A new envelope, under limits.
+    fn renew(&mut self, limits: Limits) -> Result<()> {
+        self.unpacker = Unpacker::new(self.alloc, limits)?;
+        self.limits = limits;
+        self.lines = Lines::new(self.alloc);
+        Ok(())
+    }
+
+    /// The next envelope of the same unpacker.
+    fn again(&mut self) {
+        self.unpacker.again();
+        self.lines = Lines::new(self.alloc);
+    }
+
+    /// Feeds the octets of the next word.
+    fn feed(&mut self, out: &mut Answers, names: &Names, words: &mut Words) {
+        let octets = words.octets(names);
+        let answer = self.unpacker.feed(octets.as_slice(), &mut self.lines);
         print_progress(out, answer);
+    }
+
+    /// Feeds the octets of the next word in pieces.
+    fn cut(&mut self, out: &mut Answers, names: &Names, words: &mut Words, cuts: Cuts) {
+        let octets = words.octets(names);
+        let answer = feed_cut(&mut self.unpacker, octets.as_slice(), cuts, &mut self.lines);
+        print_progress(out, answer);
+    }
+
+    /// Puts an unpacker that is restored from the ticket of the present one in its place.
+    fn carry_over(&mut self) -> Result<()> {
+        let ticket = self.unpacker.save(self.alloc)?;
+        let at = self.unpacker.octets();
+        self.unpacker = Unpacker::restore(self.alloc, self.limits, ticket.as_slice(), at)?;
         Ok(())
     }
 
     /// Feeds octet by octet, each to an unpacker that is restored from the ticket of the one before it.
-    fn carry(&mut self, out: &mut Answers, octets: &[u8]) -> Result<()> {
-        let mut answer = Ok(Progress::More);
+    fn carry_octets(&mut self, octets: &[u8]) -> Result<Result<Progress, Refusal>> {
         let mut sum = 0usize;
         for octet in octets {
-            let ticket = self.unpacker.save(self.alloc)?;
-            let at = self.unpacker.octets();
-            self.unpacker = Unpacker::restore(self.alloc, self.limits, ticket.as_slice(), at)?;
-            answer = self.unpacker.feed(&[*octet], &mut self.lines);
+            self.carry_over()?;
             sum = sum.saturating_add(1);
-            if !matches!(answer, Ok(Progress::More)) {
-                break;
+            match self.unpacker.feed(&[*octet], &mut self.lines) {
+                Ok(Progress::More) => {}
+                Ok(Progress::Done { used: _ }) => return Ok(Ok(Progress::Done { used: sum })),
+                Err(refusal) => return Ok(Err(refusal)),
             }
         }
-        if let Ok(Progress::Done { used }) = &mut answer {
-            *used = sum;
-        }
+        Ok(Ok(Progress::More))
+    }
+
+    /// Feeds the octets of the next word so.
+    fn carry(&mut self, out: &mut Answers, names: &Names, words: &mut Words) -> Result<()> {
+        let octets = words.octets(names);
+        let answer = self.carry_octets(octets.as_slice())?;
         print_progress(out, answer);
         Ok(())
     }
@@ -88,19 +119,74 @@ impl Bench {
     }
 
     /// Puts a restored unpacker in the place of the present one.
-    fn restore(&mut self, out: &mut Answers, limits: Limits, at: u64, ticket: &[u8]) -> Result<()> {
+    fn restore(&mut self, out: &mut Answers, limits: Limits, at: u64, ticket: &[u8]) {
         match Unpacker::restore(self.alloc, limits, ticket, at) {
             Ok(unpacker) => {
                 self.unpacker = unpacker;
                 self.limits = limits;
                 out.line("restored");
             }
-            Err(fault) => {
-                let name = fault_name(fault);
-                out.tell(&format_args!("{name}"));
-            }
+            Err(fault) => out.line(fault_name(fault)),
         }
-        Ok(())
+    }
+
+    /// Restores the ticket that the next words tell.
+    fn restore_next(&mut self, out: &mut Answers, names: &Names, words: &mut Words) {
+        let limits = limits_of(words);
+        let at = words.number();
+        let ticket = words.octets(names);
+        self.restore(out, limits, at, ticket.as_slice());
+    }
+
+    /// Prints whether the ticket is the one that the next word tells.
+    fn print_wanted(&self, out: &mut Answers, names: &Names, words: &mut Words) {
+        let wanted = words.octets(names);
+        print_ticket(out, self.alloc, &self.unpacker, Some(wanted.as_slice()));
+    }
+
+    /// Prints what the unpacker says where no octets follow.
+    fn print_end(&self, out: &mut Answers) {
+        match self.unpacker.end_of_input() {
+            Some(refusal) => out.tell(&refusal),
+            None => out.line("none"),
+        }
+    }
+
+    /// Prints how many octets the unpacker took, and whether it is done or has failed.
+    fn print_state(&self, out: &mut Answers) {
+        out.put("  octets ");
+        out.show(&self.unpacker.octets());
+        out.put(" done ");
+        out.show(&self.unpacker.is_done());
+        out.put(" failed ");
+        out.show(&self.unpacker.is_failed());
+        out.end();
+    }
+
+    /// Prints what comes next of an input.
+    fn print_next(&mut self, out: &mut Answers, names: &Names, words: &mut Words) -> Result<()> {
+        let octets = words.octets(names);
+        let unpacker = self.take_unpacker()?;
+        print_next(out, self.alloc, self.limits, unpacker, octets.as_slice())
+    }
+
+    /// Answers the words that may find no memory or no ticket; false where the word is none of them.
+    fn answer_tried(
+        &mut self,
+        out: &mut Answers,
+        names: &Names,
+        word: &str,
+        words: &mut Words,
+    ) -> Result<bool> {
+        let answer = match word {
+            "new" => self.renew(limits_of(words)),
+            "carry" => self.carry(out, names, words),
+            "value" => self.value(out),
+            "next" => self.print_next(out, names, words),
+            _ => return tickets::answer(out, self.alloc, names, word, words),
+        };
+        answer?;
+        Ok(true)
     }
 
     /// Answers the words of octets that are fed; false where the word is none of them.
@@ -110,99 +196,34 @@ impl Bench {
         names: &Names,
         word: &str,
         words: &mut Words,
-    ) -> Result<bool> {
+    ) -> bool {
         match word {
-            "new" => {
-                self.limits = limits_of(words);
-                self.unpacker = Unpacker::new(self.alloc, self.limits)?;
-                self.lines = Lines::new(self.alloc);
-            }
-            "again" => {
-                self.unpacker.again();
-                self.lines = Lines::new(self.alloc);
-            }
-            "feed" => {
-                let octets = words.octets(names);
-                let answer = self.unpacker.feed(octets.as_slice(), &mut self.lines);
-                print_progress(out, answer);
-            }
-            "each" => self.cut(out, words.octets(names).as_slice(), Cuts::of(1))?,
+            "again" => self.again(),
+            "feed" => self.feed(out, names, words),
+            "each" => self.cut(out, names, words, Cuts::of(1)),
             "cut" => {
                 let cuts = Cuts::random(words.number());
-                self.cut(out, words.octets(names).as_slice(), cuts)?;
+                self.cut(out, names, words, cuts);
             }
-            "carry" => self.carry(out, words.octets(names).as_slice())?,
-            _ => return Ok(false),
+            "restore" => self.restore_next(out, names, words),
+            _ => return false,
         }
-        Ok(true)
+        true
     }
 
-    /// Answers the words of what was fed; false where the word is none of them.
-    fn answer_told(&mut self, out: &mut Answers, word: &str) -> Result<bool> {
+    /// Answers the words of what was fed, and of all layers and causes; false where the word is none of them.
+    fn answer_told(&self, out: &mut Answers, names: &Names, word: &str, words: &mut Words) -> bool {
         match word {
-            "end" => match self.unpacker.end_of_input() {
-                Some(refusal) => out.tell(&format_args!("{refusal}")),
-                None => out.line("none"),
-            },
+            "end" => self.print_end(out),
             "lines" => print_lines(out, &self.lines),
-            "value" => self.value(out)?,
-            "state" => {
-                let octets = self.unpacker.octets();
-                let done = self.unpacker.is_done();
-                let failed = self.unpacker.is_failed();
-                out.tell(&format_args!("octets {octets} done {done} failed {failed}"));
-            }
-            "save" => print_ticket(out, self.alloc, &self.unpacker, None)?,
-            _ => return Ok(false),
-        }
-        Ok(true)
-    }
-}
-
-impl Bench {
-    /// Answers the words of tickets; false where the word is none of them.
-    fn answer_tickets(
-        &mut self,
-        out: &mut Answers,
-        names: &Names,
-        word: &str,
-        words: &mut Words,
-    ) -> Result<bool> {
-        match word {
-            "saves" => {
-                let wanted = words.octets(names);
-                print_ticket(out, self.alloc, &self.unpacker, Some(wanted.as_slice()))?;
-            }
-            "restore" => {
-                let limits = limits_of(words);
-                let at = words.number();
-                let ticket = words.octets(names);
-                self.restore(out, limits, at, ticket.as_slice())?;
-            }
-            _ => return tickets::answer(out, self.alloc, names, word, words),
-        }
-        Ok(true)
-    }
-
-    /// Answers the words of what comes next of an input, and of all layers and causes; false where the word is none of them.
-    fn answer_next(
-        &mut self,
-        out: &mut Answers,
-        names: &Names,
-        word: &str,
-        words: &mut Words,
-    ) -> Result<bool> {
-        match word {
-            "next" => {
-                let octets = words.octets(names);
-                let unpacker = self.take_unpacker()?;
-                print_next(out, self.alloc, self.limits, unpacker, octets.as_slice())?;
-            }
+            "state" => self.print_state(out),
+            "save" => print_ticket(out, self.alloc, &self.unpacker, None),
+            "saves" => self.print_wanted(out, names, words),
             "layers" => print_layers(out),
             "causes" => print_causes(out),
-            _ => return Ok(false),
+            _ => return false,
         }
-        Ok(true)
+        true
     }
 
     /// Answers the words of unpacking; false where the word is none of them.
@@ -213,11 +234,12 @@ impl Bench {
         word: &str,
         words: &mut Words,
     ) -> Result<bool> {
-        Ok(
-            self.answer_fed(out, names, word, words)?
-                || self.answer_told(out, word)?
-                || self.answer_tickets(out, names, word, words)?
-                || self.answer_next(out, names, word, words)?,
-        )
+        if self.answer_fed(out, names, word, words) {
+            return Ok(true);
+        }
+        if self.answer_told(out, names, word, words) {
+            return Ok(true);
+        }
+        self.answer_tried(out, names, word, words)
     }
 }
