@@ -8,7 +8,7 @@ from concurrent.futures import FIRST_COMPLETED, ThreadPoolExecutor, wait
 
 from wrong import prover, rounds, sources, store, verdicts
 
-ENDED = re.compile(r"^only=\d+ proved=\d+$", re.M)
+ENDED = re.compile(r"^only=\d+ (proved|holes)=\d+$", re.M)
 # A round of so many wrong bodies is never parted: what each round takes besides them would be more than theirs.
 LEAST = 16
 

@@ -1,4 +1,4 @@
-"""What is written from the wrong bodies: docs/WRONG_BODIES.md, and the one of each crate in its must-fail/, which `rt ci` tries."""
+"""What is written from the wrong bodies: docs/WRONG_BODIES.md, and those in crates/*/must-fail, which `rt ci` tries."""
 import glob
 import os
 
@@ -12,7 +12,7 @@ the prover has to refuse. They stand in `crates/CRATE/wrong-bodies/`, in a file 
 them (`tests/wrong_bodies --document`).
 
 `tests/wrong_bodies` judges each by itself. Many stand in one check, each in a copy of its function under another name, and the prover is
-asked for these copies alone: all else stays as it is proved. A copy requires what its function requires, and keeps its loops and what is
+asked for these copies alone: all else is taken at its word, since `rt ci` has proved it. A copy requires what its function requires, and keeps its loops and what is
 known at each turn of them; of what the function tells of its result the copy has to show the clause that the row names, and no other. A
 method of a trait's impl can't be copied and is changed itself, as is what several functions change; an edit of more than the bodies of
 functions stands alone. A wrong body passes where the prover does not prove its copy, and the goal that fails there is of the clause that its
@@ -35,8 +35,9 @@ body is empty. Beside these there is one for each rule of the format that a body
 a count of nine octets, of a line's end, or of which cause is told first; and one for each pair of a body and a definition that
 could be wrong alike. Two wrong bodies are refused by one clause of one function only where they pass over different rules.
 
-`rt ci` tries one of each crate besides, `crates/CRATE/must-fail/`, by the toolchain's own judgement: `tests/wrong_bodies --write` takes
-it from here.
+`rt ci` tries some besides, `crates/CRATE/must-fail/`, by the toolchain's own judgement: one of each kind of crate, which are a library
+that stands on little, what holds of packing and unpacking, a library of the command, what C links, and a program. Each takes a whole
+check of its crate, so these are crates of short checks. `tests/wrong_bodies --write` takes them from here.
 """
 
 
@@ -66,16 +67,14 @@ def edit(body):
 
 
 def tried(crate):
-    """The wrong body of a crate that `rt ci` tries: its file, and what stands there."""
-    chosen = [body for body in sources.bodies(crate) if "must-fail" in body.said]
-    if len(chosen) != 1:
-        raise sources.Unread(f"{crate}: {len(chosen)} of its wrong bodies have the line `# must-fail: yes`, and not one")
-    return f"crates/{crate}/must-fail/{chosen[0].word}.edit", edit(chosen[0])
+    """The wrong bodies of a crate that `rt ci` tries: of each its file, and what stands there."""
+    return {f"crates/{crate}/must-fail/{body.word}.edit": edit(body) for body in sources.bodies(crate) if "must-fail" in body.said}
 
 
 def wanted():
     """Each file that is written from the wrong bodies, with its text."""
-    return {"docs/WRONG_BODIES.md": document(), **dict(tried(crate) for crate in sources.crates())}
+    edits = {path: text for crate in sources.crates() for path, text in tried(crate).items()}
+    return {"docs/WRONG_BODIES.md": document(), **edits}
 
 
 def there():

@@ -8,7 +8,7 @@ import subprocess
 import tempfile
 from dataclasses import dataclass
 
-from wrong import sources
+from wrong import assumed, sources
 
 PARTS = "src", "specs", "proofs"
 # The octets of a file that a check may write: less than it keeps of any function.
@@ -110,5 +110,6 @@ def check(crate, texts, functions, kept):
             os.makedirs(os.path.dirname(f"{room}/{path}"), exist_ok=True)
             with open(f"{room}/{path}", "w", encoding="utf-8") as file:
                 file.write(text)
+        assumed.write(crate, room, functions)
         asked = [word for function in functions for word in ("--only", function)]
-        return run([*words_of(crate), "--incremental", kept, *asked], room)
+        return run([*words_of(crate), "--incremental", kept, "--allow-holes", *asked], room)

@@ -11,6 +11,8 @@ PASSED = REFUSED, WEAK
 OPEN = re.compile(r"note: \S+?:\d+:\d+: .*? \(`([^`]+)`\)(.*)")
 ERROR = re.compile(r"(?:note: )?\./proofs/(\S+?)\.antt:\d+:\d+: error: (?:`([^`]+)`: )?(.*)")
 LINE = re.compile(r"fn \w+?::(\S+): (.*)")
+# It is proved, whether or not what it calls is taken at its word.
+PROVED = re.compile(r"proved|no holes|depends on a hole in")
 WAITS = re.compile(r"note: `search` has not tried the goals of `\w+?::(\S+?)`")
 # An answer by hand names what the edit took away (that a printed goal can't be pasted says nothing of this); it rests on a lemma that is refused; or its goal does not hold.
 NAME_IS_GONE = re.compile(r"is not in scope(?! here, so what is shown)|has no field|has no `|is no name|no goal|names no")
@@ -122,4 +124,4 @@ def judge(body, function, found):
         return OTHER, ", ".join(dict.fromkeys(others))
     if heard.gone:
         return GONE, ", ".join(heard.gone)
-    return (ACCEPTED, "") if heard.line.startswith("proved") else (UNTRIED, heard.line[:120])
+    return (ACCEPTED, "") if PROVED.match(heard.line) else (UNTRIED, heard.line[:120])
