@@ -1,5 +1,5 @@
 use Rattle.iim_places.specs.States.TicketsTold.{split_told}
-use Rattle.caller_tests.proofs.OnePlaces.{same_taken}
+use Rattle.caller_tests.proofs.TicketParts.{same_taken}
 use Rattle.caller_tests.proofs.places.octets_of_object.Goals as goal
 
 pub returns-in-Ok : goal.returns-in-Ok

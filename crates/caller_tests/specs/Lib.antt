@@ -1,2 +1,0 @@
--- What callers are sure of.
-pub mod Missing
