@@ -28,6 +28,7 @@ use arrayvec::ArrayVec;
 use iim_dataset::laws::places_are_reached;
 use iim_dataset::{DatasetPlace, Head, HeadReader};
 use iim_fields::RecordCheck;
+use iim_tables::records::POST_OBJECT;
 use wire_message::{MessagePart, MessagePlace, MessageReader};
 
 /// What a slice of octets holds are octets.
@@ -107,7 +108,7 @@ fn can_continue(check: &mut RecordCheck, section: u8, phase: &TicketPhase<'_>) -
             };
             check.head(head).is_ok()
         }
-        TicketPhase::Ended => section == 9,
+        TicketPhase::Ended => section == POST_OBJECT,
     }
 }
 

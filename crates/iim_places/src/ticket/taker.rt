@@ -17,8 +17,8 @@ use crate::ticket::fields::TicketFields;
 use iim_dataset::{Head, number_bytes};
 use iim_fields::{Fields, RecordCheck};
 use iim_tables::records::{
-    ANNOUNCED_SIZE, CONFIRMED_SIZE, MAX_SUBFILE_SIZE, MAXIMUM_SIZE, OBJECT, POST_OBJECT,
-    PRE_OBJECT, SIZE_MODE, SUBFILE,
+    ANNOUNCED_SIZE, APPLICATION, CONFIRMED_SIZE, ENVELOPE, MAX_SUBFILE_SIZE, MAXIMUM_SIZE, OBJECT,
+    POST_OBJECT, PRE_OBJECT, SIZE_MODE, SUBFILE,
 };
 
 /// What takes the datasets of an envelope, each with its whole data.
@@ -100,7 +100,7 @@ impl DatasetTaker for Fields {
 pub(crate) fn is_kept(rec: u8) -> bool
     ensures { result ≡ is_kept rec }
 {
-    rec == 1 || rec == 2
+    rec == ENVELOPE || rec == APPLICATION
 }
 
 /// Takes the datasets of records 1 and 2.
