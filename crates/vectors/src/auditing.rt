@@ -1,7 +1,7 @@
 //! Streams of envelopes, audited.
 
 use anyhow::{Result, bail};
-use iim_audit::{AuditCause, audit, report_text};
+use iim_audit::{AuditCause, AuditFault, Report, audit, report_text};
 use iim_dataset::FromRead;
 use iim_fields::Limits;
 use iim_unpack::Intake;
@@ -17,7 +17,31 @@ fn instant(word: &str) -> Result<Timestamp> {
     }
 }
 
-/// Prints the report of octets, twice from one intake; or the refusal with the number of the envelope, and what is told then.
+/// Prints a report, line by line.
+fn print_report(out: &mut Answers, alloc: Global, report: &Report) -> Result<()> {
+    let text = report_text(alloc, report)?;
+    let Ok(text) = str::from_utf8(text.as_slice()) else {
+        bail!("the report is no text");
+    };
+    for line in text.lines() {
+        out.line(line);
+    }
+    Ok(())
+}
+
+/// Prints the number of the envelope that is refused, and what is told then.
+fn print_fault(out: &mut Answers, fault: AuditFault) {
+    out.put("  ");
+    out.show(&fault.envelope);
+    out.put(" ");
+    match fault.cause {
+        AuditCause::Refused(refusal) => out.show(&refusal),
+        cause => out.show(&cause),
+    }
+    out.end();
+}
+
+/// Prints the report of an intake, or why there is none.
 fn print_audit(
     out: &mut Answers,
     alloc: Global,
@@ -25,22 +49,25 @@ fn print_audit(
     now: Timestamp,
 ) -> Result<()> {
     match audit(alloc, intake, Limits::WIRE, now) {
-        Ok(report) => {
-            let text = report_text(alloc, &report)?;
-            let Ok(text) = str::from_utf8(text.as_slice()) else {
-                bail!("the report is no text");
-            };
-            for line in text.lines() {
-                out.tell(&format_args!("{line}"));
-            }
-        }
+        Ok(report) => print_report(out, alloc, &report),
         Err(fault) => {
-            let envelope = fault.envelope;
-            match fault.cause {
-                AuditCause::Refused(refusal) => out.tell(&format_args!("{envelope} {refusal}")),
-                cause => out.tell(&format_args!("{envelope} {cause}")),
-            }
+            print_fault(out, fault);
+            Ok(())
         }
+    }
+}
+
+/// Prints the reports of octets that are audited so many times, from one intake.
+fn print_audits(
+    out: &mut Answers,
+    alloc: Global,
+    octets: &[u8],
+    now: Timestamp,
+    times: u8,
+) -> Result<()> {
+    let mut intake = Intake::new(FromRead::new(octets));
+    for _ in 0..times {
+        print_audit(out, alloc, &mut intake, now)?;
     }
     Ok(())
 }
@@ -53,15 +80,12 @@ pub(crate) fn answer(
     word: &str,
     words: &mut Words,
 ) -> Result<bool> {
-    if !matches!(word, "audit" | "audits") {
-        return Ok(false);
-    }
+    let times = match word {
+        "audit" => 1,
+        "audits" => 2,
+        _ => return Ok(false),
+    };
     let now = instant(words.text())?;
-    let octets = words.octets(names);
-    let mut intake = Intake::new(FromRead::new(octets.as_slice()));
-    print_audit(out, alloc, &mut intake, now)?;
-    if matches!(word, "audits") {
-        print_audit(out, alloc, &mut intake, now)?;
-    }
+    print_audits(out, alloc, words.octets(names).as_slice(), now, times)?;
     Ok(true)
 }

@@ -9,7 +9,7 @@ mod auditing;
 
 use anyhow::{Result, bail};
 use std::alloc::Global;
-use std::io::{self, BufRead, BufReader, BufWriter, Write};
+use std::io::{self, Write};
 use vectors_packing::Packing;
 use vectors_questions::{Answers, Names, Words};
 use vectors_records::Envelopes;
@@ -36,21 +36,35 @@ impl Vectors {
         })
     }
 
+    /// Answers a word of a question; false where it is none.
+    fn answer_word(
+        &mut self,
+        answers: &mut Answers,
+        word: &str,
+        words: &mut Words,
+    ) -> Result<bool> {
+        if matches!(word, "let") {
+            self.names.name(words);
+            return Ok(true);
+        }
+        let Vectors {
+            alloc,
+            names,
+            bench,
+            packing,
+            records,
+        } = self;
+        if answer_alone(answers, *alloc, names, word, words)? {
+            return Ok(true);
+        }
+        answer_parts(answers, names, (records, bench, packing), word, words)
+    }
+
     /// Answers a question.
     fn answer(&mut self, answers: &mut Answers, question: &[u8]) -> Result<()> {
         let mut words = Words::new(question);
         let word = words.text();
-        let is_known = match word {
-            "let" => {
-                self.names.name(&mut words);
-                true
-            }
-            _ => {
-                self.answer_layers(answers, word, &mut words)?
-                    || self.answer_envelopes(answers, word, &mut words)?
-            }
-        };
-        if !is_known {
+        if !self.answer_word(answers, word, &mut words)? {
             bail!("no such word");
         }
         if !words.are_right() {
@@ -58,65 +72,88 @@ impl Vectors {
         }
         Ok(())
     }
-
-    /// Answers the words of the layers below the unpacker; false where the word is none of them.
-    fn answer_layers(
-        &mut self,
-        answers: &mut Answers,
-        word: &str,
-        words: &mut Words,
-    ) -> Result<bool> {
-        let names = &self.names;
-        Ok(
-            vectors_tables::answer(answers, self.alloc, names, word, words)?
-                || vectors_datasets::answer(answers, self.alloc, names, word, words)
-                || self.records.answer(answers, names, word, words)?
-                || vectors_objects::answer(answers, self.alloc, names, word, words)?
-                || vectors_stories::answer(answers, self.alloc, names, word, words)
-                || vectors_messages::answer(answers, self.alloc, names, word, words)?,
-        )
-    }
-
-    /// Answers the words of whole envelopes, taken apart, audited and packed; false where the word is none of them.
-    fn answer_envelopes(
-        &mut self,
-        answers: &mut Answers,
-        word: &str,
-        words: &mut Words,
-    ) -> Result<bool> {
-        let names = &self.names;
-        Ok(
-            self.bench.answer(answers, names, word, words)?
-                || vectors_streams::answer(answers, self.alloc, names, word, words)?
-                || auditing::answer(answers, self.alloc, names, word, words)?
-                || self.packing.answer(answers, names, word, words)?,
-        )
-    }
 }
 
-/// Prints a line, and its answers where it is a question.
-fn pass<W: Write>(vectors: &mut Vectors, out: &mut W, line: &str) -> Result<()> {
-    writeln!(out, "{line}")?;
-    let question = line.as_bytes();
-    if question.first().is_none_or(|octet| *octet == b'#') {
-        return Ok(());
+/// Answers the words of the layers below whole envelopes; false where the word is none of them.
+fn answer_layers(
+    answers: &mut Answers,
+    alloc: Global,
+    names: &Names,
+    word: &str,
+    words: &mut Words,
+) -> Result<bool> {
+    Ok(
+        vectors_tables::answer(answers, alloc, names, word, words)?
+            || vectors_datasets::answer(answers, alloc, names, word, words)
+            || vectors_objects::answer(answers, alloc, names, word, words)?
+            || vectors_stories::answer(answers, alloc, names, word, words)
+            || vectors_messages::answer(answers, alloc, names, word, words)?,
+    )
+}
+
+/// Answers the words that ask for no more than names, streams of envelopes too; false where the word is none of them.
+fn answer_alone(
+    answers: &mut Answers,
+    alloc: Global,
+    names: &Names,
+    word: &str,
+    words: &mut Words,
+) -> Result<bool> {
+    Ok(
+        answer_layers(answers, alloc, names, word, words)?
+            || vectors_streams::answer(answers, alloc, names, word, words)?
+            || auditing::answer(answers, alloc, names, word, words)?,
+    )
+}
+
+/// Answers the words of what earlier questions have made; false where the word is none of them.
+fn answer_parts(
+    answers: &mut Answers,
+    names: &Names,
+    parts: (&mut Envelopes, &mut Bench, &mut Packing),
+    word: &str,
+    words: &mut Words,
+) -> Result<bool> {
+    let (records, bench, packing) = parts;
+    if records.answer(answers, names, word, words)? {
+        return Ok(true);
     }
+    if bench.answer(answers, names, word, words)? {
+        return Ok(true);
+    }
+    packing.answer(answers, names, word, words)
+}
+
+/// Prints the answers to a question.
+fn print_answers(rt: &impl Print, vectors: &mut Vectors, question: &[u8]) -> Result<()> {
     let mut answers = Answers::new(vectors.alloc);
     vectors.answer(&mut answers, question)?;
     let Some(text) = answers.text() else {
         bail!("memory was refused");
     };
-    out.write_all(text)?;
+    io::writer(rt).write_all(text)?;
+    Ok(())
+}
+
+/// Prints a line, and its answers where it is a question.
+fn pass(rt: &impl Print, vectors: &mut Vectors, line: &str) -> Result<()> {
+    rt.println(line)?;
+    let question = line.as_bytes();
+    if question.is_empty() || question.starts_with(b"#") {
+        return Ok(());
+    }
+    print_answers(rt, vectors, question)
+}
+
+/// Passes each line of the input.
+fn pass_lines(rt: &(impl Input + Print), alloc: Global, vectors: &mut Vectors) -> Result<()> {
+    for line in rt.lines(alloc) {
+        pass(rt, vectors, line?.as_str())?;
+    }
     Ok(())
 }
 
 fn main(rt: HostRuntime) -> Result<()> {
     let alloc = rt.alloc();
-    let mut vectors = Vectors::new(alloc)?;
-    let mut out = BufWriter::new(alloc, io::writer(&rt))?;
-    for line in BufReader::new(alloc, rt.reader())?.lines(alloc) {
-        pass(&mut vectors, &mut out, line?.as_str())?;
-    }
-    out.flush()?;
-    Ok(())
+    pass_lines(&rt, alloc, &mut Vectors::new(alloc)?)
 }
