@@ -198,13 +198,19 @@ fn settled(
     Ok(Ok(used))
 }
 
-/// What an unpacker comes to that gave this text and answered so.
-fn told_by(unpacker: Unpacker, text: Vec<u8>, answer: Result<u64, Refusal>) -> Told {
-    Told {
+/// What an unpacker comes to that answered so: its text has the lines before a ticket and those after it.
+fn told_by(
+    alloc: Global,
+    unpacker: Unpacker,
+    before: &Lines,
+    lines: &Lines,
+    answer: Result<u64, Refusal>,
+) -> Result<Told> {
+    Ok(Told {
         answer,
-        text,
+        text: text_of(alloc, before, lines)?,
         value: unpacker.into_unpacked().ok(),
-    }
+    })
 }
 
 /// Prints how many octets the envelope has or why they are refused, and the lines of the text.
@@ -245,8 +251,8 @@ impl Stream<'_> {
         let mut lines = Lines::new(self.alloc);
         let mut unpacker = Unpacker::new(self.alloc, self.limits)?;
         let answer = self.feed(size, &mut unpacker, &mut lines)?;
-        let text = text_of(self.alloc, &Lines::new(self.alloc), &lines)?;
-        Ok(told_by(unpacker, text, answer))
+        let before = Lines::new(self.alloc);
+        told_by(self.alloc, unpacker, &before, &lines, answer)
     }
 
     /// That pieces of each size come to the same as the whole.
@@ -273,8 +279,7 @@ impl Stream<'_> {
         let mut unpacker = self.restored(saved)?;
         let fed = unpacker.feed(rest, &mut lines);
         let answer = settled(self.alloc, &mut unpacker, saved.octets(), fed)?;
-        let text = text_of(self.alloc, before, &lines)?;
-        Ok(told_by(unpacker, text, answer))
+        told_by(self.alloc, unpacker, before, &lines, answer)
     }
 
     /// That the rest of the octets comes to the same as the whole by an intake, from the ticket of an unpacker that is not done.
@@ -333,9 +338,17 @@ impl Stream<'_> {
         self.check_pieces(whole)?;
         self.check_tickets(whole)
     }
+
+    /// Prints what the octets come to at once. It is an error if they come to something else in pieces, or from a ticket.
+    fn print(self, out: &mut Answers) -> Result<()> {
+        let whole = self.told(None)?;
+        print_told(out, &whole);
+        print_places(out, self.check(&whole)?);
+        Ok(())
+    }
 }
 
-/// Prints what the octets of a stream come to at once. It is an error if they come to something else in pieces, or from a ticket.
+/// Prints what the octets of a stream come to.
 pub(crate) fn print_stream(
     out: &mut Answers,
     alloc: Global,
@@ -350,9 +363,5 @@ pub(crate) fn print_stream(
         limits,
         octets,
     };
-    let whole = stream.told(None)?;
-    print_told(out, &whole);
-    let places = stream.check(&whole)?;
-    print_places(out, places);
-    Ok(())
+    stream.print(out)
 }
