@@ -9,7 +9,7 @@ mod auditing;
 
 use anyhow::{Result, bail};
 use std::alloc::Global;
-use std::io::{self, Write};
+use std::io::{self, BufRead, BufReader, Write};
 use vectors_packing::Packing;
 use vectors_questions::{Answers, Names, Words};
 use vectors_records::Envelopes;
@@ -147,7 +147,7 @@ fn pass(rt: &impl Print, vectors: &mut Vectors, line: &str) -> Result<()> {
 
 /// Passes each line of the input.
 fn pass_lines(rt: &(impl Input + Print), alloc: Global, vectors: &mut Vectors) -> Result<()> {
-    for line in rt.lines(alloc) {
+    for line in BufReader::new(alloc, rt.reader())?.lines(alloc) {
         pass(rt, vectors, line?.as_str())?;
     }
     Ok(())
