@@ -1,11 +1,11 @@
 //! The limits of wire copy, and causes and faults as they are printed.
 
+use crate::told::Told;
 use iim_dataset::{IoFault, Stop};
 use iim_fields::laws::wire_limits_are_told;
 use iim_fields::{CopyFault, FieldCause, FieldFault, Limits};
 use iim_object::{ObjectFault, PackCause, SizeCause};
 use std::fmt::{Debug, Display};
-use std::io;
 use wire_message::MessageCause;
 use wire_story::TextCause;
 
@@ -22,62 +22,70 @@ const CAUSES: [FieldCause; 9] = [
     FieldCause::TooManyFields,
 ];
 
-pub(crate) fn tell(rt: &impl Print) -> io::Result<()> {
-    limits_of_wire_copy(rt)?;
-    numbers_and_names_of_causes(rt)?;
-    causes_of_messages_and_texts_are_printed(rt)?;
-    faults_are_printed(rt)
+/// Each cause of the messages.
+const MESSAGE_CAUSES: [MessageCause; 5] = [
+    MessageCause::BadOctet,
+    MessageCause::Unfinished,
+    MessageCause::LoneReturn,
+    MessageCause::ControlOctet,
+    MessageCause::Sink,
+];
+
+/// Each cause of the texts.
+const TEXT_CAUSES: [TextCause; 3] = [
+    TextCause::LoneReturn,
+    TextCause::ControlOctet,
+    TextCause::Sink,
+];
+
+pub(crate) fn tell(told: &mut Told) {
+    limits_of_wire_copy(told);
+    numbers_and_names_of_causes(told);
+    causes_of_messages_and_texts_are_printed(told);
+    faults_of_records_are_printed(told);
+    faults_of_objects_are_printed(told);
 }
 
-fn limits_of_wire_copy(rt: &impl Print) -> io::Result<()> {
+fn limits_of_wire_copy(told: &mut Told) {
     wire_limits_are_told();
     let Limits { octets, fields } = Limits::WIRE;
-    println!(rt; "limits_of_wire_copy: {octets} octets, {fields} fields")
+    told.begin("limits_of_wire_copy");
+    told.show(" ", &octets);
+    told.show(" octets, ", &fields);
+    told.end(" fields");
 }
 
-fn numbers_and_names_of_causes(rt: &impl Print) -> io::Result<()> {
-    for cause in CAUSES {
-        let number = cause.number();
-        let name = cause.name();
-        println!(rt; "numbers_and_names_of_causes: {cause:?}: {number}, {name}, printed {cause}")?;
+fn numbers_and_names_of_causes(told: &mut Told) {
+    for cause in &CAUSES {
+        told.begin("numbers_and_names_of_causes");
+        told.answer(" ", cause);
+        told.show(": ", &cause.number());
+        told.show(", ", &cause.name());
+        told.show(", printed ", cause);
+        told.end("");
     }
-    Ok(())
 }
 
-/// Prints the name of each value, and the value as it is printed.
-fn tell_printed<T: Debug + Display, R: Print>(rt: &R, trial: &str, values: &[T]) -> io::Result<()> {
+/// Tells the name of each value, and the value as it is printed.
+fn tell_printed<T: Debug + Display>(told: &mut Told, trial: &str, values: &[T]) {
     for value in values {
-        println!(rt; "{trial}: {value:?}: {value}")?;
+        told.begin(trial);
+        told.answer(" ", value);
+        told.show(": ", value);
+        told.end("");
     }
-    Ok(())
 }
 
-fn causes_of_messages_and_texts_are_printed(rt: &impl Print) -> io::Result<()> {
+fn causes_of_messages_and_texts_are_printed(told: &mut Told) {
     let trial = "causes_of_messages_and_texts_are_printed";
-    tell_printed(
-        rt,
-        trial,
-        &[
-            MessageCause::BadOctet,
-            MessageCause::Unfinished,
-            MessageCause::LoneReturn,
-            MessageCause::ControlOctet,
-            MessageCause::Sink,
-        ],
-    )?;
-    tell_printed(
-        rt,
-        trial,
-        &[
-            TextCause::LoneReturn,
-            TextCause::ControlOctet,
-            TextCause::Sink,
-        ],
-    )
+    tell_printed(told, trial, &MESSAGE_CAUSES);
+    tell_printed(told, trial, &TEXT_CAUSES);
 }
 
-fn faults_are_printed(rt: &impl Print) -> io::Result<()> {
-    let trial = "faults_are_printed";
+/// The name of the trials of faults.
+const FAULTS: &str = "faults_are_printed";
+
+fn faults_of_records_are_printed(told: &mut Told) {
     let missing = FieldFault {
         rec: 1,
         set: 70,
@@ -88,15 +96,18 @@ fn faults_are_printed(rt: &impl Print) -> io::Result<()> {
         set: 0,
         cause: FieldCause::Repeated,
     };
-    tell_printed(rt, trial, &[missing, record])?;
+    tell_printed(told, FAULTS, &[missing, record]);
     let full = CopyFault::Passed(FieldCause::HeaderFull);
-    tell_printed(rt, trial, &[full, CopyFault::OutOfMemory])?;
+    tell_printed(told, FAULTS, &[full, CopyFault::OutOfMemory]);
+}
+
+fn faults_of_objects_are_printed(told: &mut Told) {
     let short = ObjectFault::Size {
         cause: SizeCause::Short,
     };
     let stopped = ObjectFault::Stopped(Stop { taken: 0 });
-    tell_printed(rt, trial, &[short, stopped])?;
-    tell_printed(rt, trial, &[PackCause::BadTrailer])?;
-    tell_printed(rt, trial, &[SizeCause::ModeClash])?;
-    tell_printed(rt, trial, &[IoFault::Interrupted, IoFault::Failed])
+    tell_printed(told, FAULTS, &[short, stopped]);
+    tell_printed(told, FAULTS, &[PackCause::BadTrailer]);
+    tell_printed(told, FAULTS, &[SizeCause::ModeClash]);
+    tell_printed(told, FAULTS, &[IoFault::Interrupted, IoFault::Failed]);
 }

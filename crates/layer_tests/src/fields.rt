@@ -3,11 +3,11 @@
 ghost use Rattle.std.specs.Prelude.{◌≢◌, length, OnOk, IfSome};
 ghost use Rattle.iim_fields.specs.States.Standing.{IsBetween, IsInside};
 
+use crate::told::Told;
 use arrayvec::ArrayVec;
 use iim_dataset::Head;
 use iim_fields::{CopyFault, Envelope, EnvelopeBuilder, FieldFault, Fields, Limits};
 use std::alloc::Global;
-use std::io;
 use worked::STORY_FIELDS;
 
 /// What the command allows.
@@ -23,7 +23,18 @@ const SIZES: [(u8, u8, &[u8]); 5] = [
 ];
 
 /// The number that each dataset tells.
-type Told = ArrayVec<Option<u64>, 5>;
+type Numbers = ArrayVec<Option<u64>, 5>;
+
+/// Datasets of record 2 that are added to a copy.
+const ADDED: [(u8, &[u8]); 3] = [(105, b"Rates held"), (122, b"RELAYS"), (122, b"RELAY")];
+
+/// Limits of a copy: its octets and its datasets.
+const LIMITS_OF_COPIES: [(u32, u32); 4] = [(78, 16), (77, 16), (77, 15), (78, 15)];
+
+/// The names of trials that several functions tell.
+const MEMORY: &str = "the_memory_of_an_envelope_serves_the_next";
+
+const COPIED: &str = "copied_envelopes_take_a_dataset_more";
 
 /// Gives all octets of the begun dataset, in one piece or one by one.
 fn give(fields: &mut Fields, head: Head, octets: &[u8], one_by_one: bool)
@@ -72,132 +83,162 @@ fn pass_fields(fields: &mut Fields, one_by_one: bool) -> Result<(), FieldFault>
     requires { IsBetween fields.old }
     ensures { OnOk result (IsBetween fields.new) }
 {
-    for (rec, set, octets) in STORY_FIELDS {
-        if let Err(fault) = pass(fields, rec, set, octets, one_by_one) {
+    for (rec, set, octets) in &STORY_FIELDS {
+        if let Err(fault) = pass(fields, *rec, *set, octets, one_by_one) {
             return Err(fault);
         }
     }
     Ok(())
 }
 
-/// Passes the datasets of records 7, 8 and 9, and answers the number that each tells, or the first fault.
-fn pass_sizes(fields: &mut Fields, one_by_one: bool) -> Result<Told, FieldFault>
+/// Passes the datasets of records 7, 8 and 9, keeps the number that each tells, and answers the first fault.
+fn pass_sizes(
+    fields: &mut Fields,
+    one_by_one: bool,
+    numbers: &mut Numbers,
+) -> Result<(), FieldFault>
     requires { IsBetween fields.old }
     ensures { OnOk result (IsBetween fields.new) }
 {
-    let mut told = ArrayVec::new();
-    for (rec, set, octets) in SIZES {
-        match pass(fields, rec, set, octets, one_by_one) {
+    for (rec, set, octets) in &SIZES {
+        match pass(fields, *rec, *set, octets, one_by_one) {
             Ok(number) => {
-                let _ = told.try_push(number);
+                let _ = numbers.try_push(number);
             }
             Err(fault) => return Err(fault),
         }
     }
-    Ok(told)
+    Ok(())
 }
 
-/// Passes all datasets of the longer worked envelope.
-fn pass_all(fields: &mut Fields, one_by_one: bool) -> Result<Told, FieldFault>
+/// Passes the datasets of records 7, 8 and 9, and tells the number that each tells, or the fault.
+fn tell_sizes(told: &mut Told, trial: &str, fields: &mut Fields, one_by_one: bool)
     requires { IsBetween fields.old }
-    ensures { OnOk result (IsBetween fields.new) }
+{
+    let mut numbers = Numbers::new();
+    let passed = pass_sizes(fields, one_by_one, &mut numbers);
+    told.begin(trial);
+    match passed {
+        Ok(()) => told.answer(" told ", &numbers.as_slice()),
+        Err(fault) => told.show(" ", &fault),
+    }
+    told.end("");
+}
+
+/// Passes all datasets of the longer worked envelope, and tells what they tell.
+fn tell_all(told: &mut Told, fields: &mut Fields, one_by_one: bool)
+    requires { IsBetween fields.old }
 {
     match pass_fields(fields, one_by_one) {
-        Ok(()) => pass_sizes(fields, one_by_one),
-        Err(fault) => Err(fault),
+        Ok(()) => tell_sizes(told, MEMORY, fields, one_by_one),
+        Err(fault) => told.line_shown(MEMORY, &fault),
     }
 }
 
-/// Prints the number that each dataset tells, or the fault.
-fn tell_told(rt: &impl Print, trial: &str, told: Result<Told, FieldFault>) -> io::Result<()> {
-    match told {
-        Ok(told) => {
-            let numbers = told.as_slice();
-            println!(rt; "{trial}: told {numbers:?}")
-        }
-        Err(fault) => println!(rt; "{trial}: {fault}"),
-    }
-}
-
-/// Prints each dataset of the envelope.
-fn tell_fields(rt: &impl Print, trial: &str, envelope: &Envelope) -> io::Result<()> {
+/// Tells each dataset of the envelope.
+fn tell_fields(told: &mut Told, trial: &str, envelope: &Envelope) {
     for (rec, set, octets) in envelope.fields() {
-        let octets = octets.escape_ascii();
-        println!(rt; "{trial}: {rec}:{set} {octets}")?;
+        told.begin(trial);
+        told.show(" ", &rec);
+        told.show(":", &set);
+        told.octets(" ", octets);
+        told.end("");
     }
-    Ok(())
 }
 
-/// Prints the first four answers of the walk over the envelope's titles.
-fn tell_titles(rt: &impl Print, trial: &str, envelope: &Envelope) -> io::Result<()> {
+/// Tells a title, or that there is none.
+fn tell_title(told: &mut Told, title: Option<&[u8]>) {
+    told.begin(MEMORY);
+    match title {
+        Some(title) => told.octets(" title ", title),
+        None => told.show(" ", &"no further title"),
+    }
+    told.end("");
+}
+
+/// Tells the first four answers of the walk over the envelope's titles.
+fn tell_titles(told: &mut Told, envelope: &Envelope) {
     let mut titles = envelope.byline_titles();
     for _ in 0..4 {
-        match titles.next() {
-            Some(title) => {
-                let title = title.escape_ascii();
-                println!(rt; "{trial}: title {title}")?;
-            }
-            None => println!(rt; "{trial}: no further title")?,
-        }
+        tell_title(told, titles.next());
     }
-    Ok(())
 }
 
-fn the_memory_of_an_envelope_serves_the_next(rt: &impl Print, alloc: Global) -> io::Result<()> {
-    let trial = "the_memory_of_an_envelope_serves_the_next";
-    let mut fields = Fields::new(alloc, LIMITS)?;
-    tell_told(rt, trial, pass_all(&mut fields, false))?;
+/// The envelope that is read in memory that served another one.
+fn read_twice(told: &mut Told, alloc: Global) -> Option<Envelope> {
+    let mut fields = Fields::new(alloc, LIMITS).ok()?;
+    tell_all(told, &mut fields, false);
     fields.again();
-    tell_told(rt, trial, pass_all(&mut fields, true))?;
-    let Ok(envelope) = fields.into_envelope() else {
-        return println!(rt; "{trial}: no envelope");
-    };
-    tell_fields(rt, trial, &envelope)?;
-    tell_titles(rt, trial, &envelope)
+    tell_all(told, &mut fields, true);
+    fields.into_envelope().ok()
+}
+
+fn the_memory_of_an_envelope_serves_the_next(told: &mut Told, alloc: Global) {
+    match read_twice(told, alloc) {
+        Some(envelope) => {
+            tell_fields(told, MEMORY, &envelope);
+            tell_titles(told, &envelope);
+        }
+        None => told.line(MEMORY, "no envelope"),
+    }
+}
+
+/// Adds the datasets of the longer worked envelope, and answers whether each was taken.
+fn add_worked(builder: &mut EnvelopeBuilder) -> bool {
+    for (rec, set, octets) in &STORY_FIELDS {
+        if builder.add(*rec, *set, octets).is_err() {
+            return false;
+        }
+    }
+    true
 }
 
 /// The longer worked envelope, built.
 fn built(alloc: Global) -> Option<Envelope> {
     let mut builder = EnvelopeBuilder::new(alloc, LIMITS).ok()?;
-    for (rec, set, octets) in STORY_FIELDS {
-        builder.add(rec, set, octets).ok()?;
+    if !add_worked(&mut builder) {
+        return None;
     }
     builder.finish().ok()
 }
 
 /// The fields after records 1 and 2, where no envelope was handed over: there is none yet.
-fn paused(mut fields: Fields) -> Option<Fields>
-    requires { IsBetween fields }
+fn paused(alloc: Global) -> Option<Fields>
     ensures { IfSome result (λ fields. IsBetween fields) }
 {
+    let mut fields = Fields::new(alloc, LIMITS).ok()?;
     match pass_fields(&mut fields, false) {
         Ok(()) => fields.into_envelope().err(),
         Err(_) => None,
     }
 }
 
-/// Whether the fields have come to the longer worked envelope.
-fn are_worked(alloc: Global, fields: Fields) -> bool {
-    let Ok(read) = fields.into_envelope() else {
-        return false;
-    };
+/// Whether the envelope is the longer worked one.
+fn is_worked(alloc: Global, read: &Envelope) -> bool {
     match built(alloc) {
         Some(built) => read.same(&built),
         None => false,
     }
 }
 
-fn the_reader_continues_where_nothing_is_handed_over(
-    rt: &impl Print,
-    alloc: Global,
-) -> io::Result<()> {
+/// Whether the fields have come to the longer worked envelope.
+fn are_worked(alloc: Global, fields: Fields) -> bool {
+    match fields.into_envelope() {
+        Ok(read) => is_worked(alloc, &read),
+        Err(_) => false,
+    }
+}
+
+fn the_reader_continues_where_nothing_is_handed_over(told: &mut Told, alloc: Global) {
     let trial = "the_reader_continues_where_nothing_is_handed_over";
-    let Some(mut fields) = paused(Fields::new(alloc, LIMITS)?) else {
-        return println!(rt; "{trial}: refused, or an envelope after record 2");
+    let Some(mut fields) = paused(alloc) else {
+        return told.line(trial, "refused, or an envelope after record 2");
     };
-    tell_told(rt, trial, pass_sizes(&mut fields, false))?;
+    tell_sizes(told, trial, &mut fields, false);
     let same = are_worked(alloc, fields);
-    println!(rt; "{trial}: the same as the one that was built: {same}")
+    told.begin(trial);
+    told.show(" the same as the one that was built: ", &same);
+    told.end("");
 }
 
 /// Why the envelope is not copied into a builder of these limits.
@@ -206,60 +247,60 @@ fn fault_of_copy(alloc: Global, limits: Limits, envelope: &Envelope) -> Option<C
 }
 
 /// The envelope has 78 octets in 16 datasets.
-fn envelopes_are_copied_within_other_limits(
-    rt: &impl Print,
-    alloc: Global,
-    envelope: &Envelope,
-) -> io::Result<()> {
-    for (octets, fields) in [(78, 16), (77, 16), (77, 15), (78, 15)] {
-        let fault = fault_of_copy(alloc, Limits { octets, fields }, envelope);
-        println!(rt;
-            "envelopes_are_copied_within_other_limits: {octets} octets, {fields} fields: {fault:?}"
-        )?;
+fn envelopes_are_copied_within_other_limits(told: &mut Told, alloc: Global, envelope: &Envelope) {
+    for (octets, fields) in &LIMITS_OF_COPIES {
+        let limits = Limits {
+            octets: *octets,
+            fields: *fields,
+        };
+        told.begin("envelopes_are_copied_within_other_limits");
+        told.show(" ", octets);
+        told.show(" octets, ", fields);
+        told.answer(" fields: ", &fault_of_copy(alloc, limits, envelope));
+        told.end("");
     }
-    Ok(())
 }
 
-/// A builder that has the envelope's datasets, with room for five octets and a dataset more.
-fn copied(alloc: Global, envelope: &Envelope) -> Option<EnvelopeBuilder> {
+/// Adds datasets, and tells why some are not taken.
+fn tell_added(told: &mut Told, builder: &mut EnvelopeBuilder) {
+    for (set, octets) in &ADDED {
+        let cause = builder.add(2, *set, octets).err().map(|fault| fault.cause);
+        told.begin(COPIED);
+        told.show(" add 2:", set);
+        told.answer(": ", &cause);
+        told.end("");
+    }
+}
+
+/// A copy of the envelope with room for five octets and a dataset more, which it takes.
+fn copied(told: &mut Told, alloc: Global, envelope: &Envelope) -> Option<Envelope> {
     let limits = Limits {
         octets: 83,
         fields: 17,
     };
-    EnvelopeBuilder::from(alloc, limits, envelope).ok()
+    let mut builder = EnvelopeBuilder::from(alloc, limits, envelope).ok()?;
+    tell_added(told, &mut builder);
+    builder.finish().ok()
 }
 
-fn copied_envelopes_take_a_dataset_more(
-    rt: &impl Print,
-    alloc: Global,
-    envelope: &Envelope,
-) -> io::Result<()> {
-    let trial = "copied_envelopes_take_a_dataset_more";
-    let Some(mut builder) = copied(alloc, envelope) else {
-        return println!(rt; "{trial}: not copied");
+fn copied_envelopes_take_a_dataset_more(told: &mut Told, alloc: Global, envelope: &Envelope) {
+    let Some(sent) = copied(told, alloc, envelope) else {
+        return told.line(COPIED, "not copied, or not finished");
     };
-    for (set, octets) in [
-        (105, b"Rates held".as_slice()),
-        (122, b"RELAYS"),
-        (122, b"RELAY"),
-    ] {
-        let cause = builder.add(2, set, octets).err().map(|fault| fault.cause);
-        println!(rt; "{trial}: add 2:{set}: {cause:?}")?;
+    tell_fields(told, COPIED, &sent);
+    told.begin(COPIED);
+    told.octets(" the first 2:122 ", sent.first(2, 122).unwrap_or(b""));
+    told.end("");
+}
+
+pub(crate) fn tell(told: &mut Told, alloc: Global) {
+    the_memory_of_an_envelope_serves_the_next(told, alloc);
+    the_reader_continues_where_nothing_is_handed_over(told, alloc);
+    match built(alloc) {
+        Some(envelope) => {
+            envelopes_are_copied_within_other_limits(told, alloc, &envelope);
+            copied_envelopes_take_a_dataset_more(told, alloc, &envelope);
+        }
+        None => told.line(COPIED, "no envelope is built"),
     }
-    let Ok(sent) = builder.finish() else {
-        return println!(rt; "{trial}: not finished");
-    };
-    tell_fields(rt, trial, &sent)?;
-    let desk = sent.first(2, 122).unwrap_or(b"").escape_ascii();
-    println!(rt; "{trial}: the first 2:122 {desk}")
-}
-
-pub(crate) fn tell<R: Print + AllocGlobal>(rt: &R) -> io::Result<()> {
-    the_memory_of_an_envelope_serves_the_next(rt, rt.alloc())?;
-    the_reader_continues_where_nothing_is_handed_over(rt, rt.alloc())?;
-    let Some(envelope) = built(rt.alloc()) else {
-        return println!(rt; "no envelope is built");
-    };
-    envelopes_are_copied_within_other_limits(rt, rt.alloc(), &envelope)?;
-    copied_envelopes_take_a_dataset_more(rt, rt.alloc(), &envelope)
 }

@@ -13,13 +13,25 @@ mod objects;
 mod stories;
 mod told;
 
-use std::io;
+use std::alloc::Global;
+use std::io::{Error, ErrorKind, Result, Write};
+use told::Told;
 
-fn main(rt: HostRuntime) -> io::Result<()> {
-    causes::tell(&rt)?;
-    datasets::tell(&rt)?;
-    fields::tell(&rt)?;
-    objects::tell(&rt)?;
-    stories::tell(&rt)?;
-    messages::tell(&rt)
+/// The lines of all trials.
+fn lines(alloc: Global) -> Told {
+    let mut told = Told::new(alloc);
+    causes::tell(&mut told);
+    datasets::tell(&mut told, alloc);
+    fields::tell(&mut told, alloc);
+    objects::tell(&mut told, alloc);
+    stories::tell(&mut told, alloc);
+    messages::tell(&mut told, alloc);
+    told
+}
+
+fn main(rt: HostRuntime) -> Result<()> {
+    match lines(rt.alloc()).text() {
+        Some(text) => rt.stdout().write_all(text),
+        None => Err(Error::from(ErrorKind::OutOfMemory)),
+    }
 }

@@ -1,10 +1,9 @@
 //! Sinks of messages that count calls and stop, and a long line.
 
 use crate::stories::tell_lines;
-use crate::told::tell_good;
+use crate::told::Told;
 use iim_dataset::Stop;
 use std::alloc::Global;
-use std::io;
 use trials::{TrialWriter, Trouble};
 use wire_message::{MessageCause, MessageReader};
 use wire_story::{LineWriter, Lines, StorySink};
@@ -82,62 +81,72 @@ fn read<S: StorySink>(
     }
 }
 
-/// Prints what a sink was told first of an object in one piece, and where and why the object is refused.
-fn tell_calls(rt: &impl Print, object: &[u8]) -> io::Result<()> {
+/// Tells what a sink was told first of an object in one piece, and where and why the object is refused.
+fn tell_calls(told: &mut Told, object: &[u8]) {
     let mut sink = Calls {
         first: arrayvec::ArrayVec::new(),
     };
     let answer = read(object, false, &mut sink);
-    let calls = sink.first.as_slice();
-    println!(rt; "runs_of_messages_are_passed_on_whole: {answer:?} {calls:?}")
+    told.begin("runs_of_messages_are_passed_on_whole");
+    told.answer(" ", &answer);
+    told.answer(" ", &sink.first.as_slice());
+    told.end("");
 }
 
-fn runs_of_messages_are_passed_on_whole(rt: &impl Print) -> io::Result<()> {
-    tell_calls(rt, STORY_OBJECT)?;
-    tell_calls(rt, &long_object())
+fn runs_of_messages_are_passed_on_whole(told: &mut Told) {
+    tell_calls(told, STORY_OBJECT);
+    tell_calls(told, &long_object());
 }
 
 /// Reads an object in one piece into lines, and once more where memory was refused.
-fn read_lines(alloc: Global, object: &[u8]) -> (Lines, Option<(usize, MessageCause)>) {
+fn read_lines(alloc: Global, object: &[u8], lines: &mut Lines) -> Option<(usize, MessageCause)> {
+    let answer = read(object, false, lines);
+    if !matches!(answer, Some((_, MessageCause::Sink))) {
+        return answer;
+    }
+    *lines = Lines::new(alloc);
+    read(object, false, lines)
+}
+
+/// Tells the line that is kept of an object.
+fn tell_kept(told: &mut Told, alloc: Global, object: &[u8]) {
+    let trial = "a_long_line_is_kept";
     let mut lines = Lines::new(alloc);
-    let mut answer = read(object, false, &mut lines);
-    if let Some((_, MessageCause::Sink)) = answer {
-        lines = Lines::new(alloc);
-        answer = read(object, false, &mut lines);
-    }
-    (lines, answer)
+    let answer = read_lines(alloc, object, &mut lines);
+    told.begin(trial);
+    told.show(" ", &object.len());
+    told.answer(" octets, ", &answer);
+    told.end("");
+    tell_lines(told, trial, &lines);
 }
 
-fn a_long_line_is_kept(rt: &impl Print, alloc: Global) -> io::Result<()> {
-    let object = long_object();
-    let octets = object.len();
-    let (lines, answer) = read_lines(alloc, &object);
-    println!(rt; "a_long_line_is_kept: {octets} octets, {answer:?}")?;
-    tell_lines(rt, "a_long_line_is_kept", &lines)
+fn a_long_line_is_kept(told: &mut Told, alloc: Global) {
+    tell_kept(told, alloc, &long_object());
 }
 
-/// Reads an object each way into a writer that fails after `good` octets, and prints the answer and what is written then.
-fn tell_stop(rt: &impl Print, good: u64) -> io::Result<()> {
-    for by_octets in [false, true] {
-        let target: TrialWriter<32> = TrialWriter::new(good, Trouble::Failure);
-        let mut sink = LineWriter::new(target);
-        let answer = read(STORY_OBJECT, by_octets, &mut sink);
-        let target = sink.into_writer();
-        let trial = "sinks_of_messages_that_stop";
-        tell_good(rt, trial, good, &answer, target.octets())?;
-    }
-    Ok(())
+/// Reads an object into a writer that fails after `good` octets, and tells the answer and what is written then.
+fn tell_stop(told: &mut Told, good: u64, by_octets: bool) {
+    let target: TrialWriter<32> = TrialWriter::new(good, Trouble::Failure);
+    let mut sink = LineWriter::new(target);
+    let answer = read(STORY_OBJECT, by_octets, &mut sink);
+    let target = sink.into_writer();
+    told.line_after(
+        "sinks_of_messages_that_stop",
+        good,
+        &answer,
+        target.octets(),
+    );
 }
 
-fn sinks_of_messages_that_stop(rt: &impl Print) -> io::Result<()> {
+fn sinks_of_messages_that_stop(told: &mut Told) {
     for good in [0, 4, 11, 12] {
-        tell_stop(rt, good)?;
+        tell_stop(told, good, false);
+        tell_stop(told, good, true);
     }
-    Ok(())
 }
 
-pub(crate) fn tell<R: Print + AllocGlobal>(rt: &R) -> io::Result<()> {
-    runs_of_messages_are_passed_on_whole(rt)?;
-    a_long_line_is_kept(rt, rt.alloc())?;
-    sinks_of_messages_that_stop(rt)
+pub(crate) fn tell(told: &mut Told, alloc: Global) {
+    runs_of_messages_are_passed_on_whole(told);
+    a_long_line_is_kept(told, alloc);
+    sinks_of_messages_that_stop(told);
 }

@@ -4,9 +4,10 @@ ghost use Rattle.std.specs.Prelude.{⊤};
 
 mod writing;
 
+use crate::told::Told;
 use iim_dataset::Stop;
 use iim_object::{ObjectReader, ObjectSink};
-use std::io;
+use std::alloc::Global;
 
 /// A sink that counts the runs and their octets, and refuses the octet after `room` of them and perhaps the end.
 #[derive(Drop)]
@@ -58,37 +59,52 @@ fn make_counter(room: usize, refuses_end: bool) -> Counter {
     }
 }
 
-fn stops_of_the_sink(rt: &impl Print) -> io::Result<()> {
+/// Tells how a reader answers a sink that stops in a run.
+fn stop_in_a_run(told: &mut Told, sink: &mut Counter) {
     let mut reader = ObjectReader::new();
+    told.begin("stops_of_the_sink");
+    told.show(" failed: ", &reader.is_failed());
+    told.answer(", ", &reader.run(b"abcd", sink));
+    told.show(", failed: ", &reader.is_failed());
+    told.end("");
+}
+
+/// Tells how a reader answers a sink that refuses the end.
+fn stop_at_the_end(told: &mut Told, sink: &mut Counter) {
+    let mut reader = ObjectReader::new();
+    told.begin("stops_of_the_sink");
+    told.show(" failed: ", &reader.is_failed());
+    told.answer(", ", &reader.head(9, 10, 4, sink));
+    told.show(", failed: ", &reader.is_failed());
+    told.end("");
+}
+
+fn stops_of_the_sink(told: &mut Told) {
     let mut sink = make_counter(3, true);
-    let before = reader.is_failed();
-    let answer = reader.run(b"abcd", &mut sink);
-    let after = reader.is_failed();
-    println!(rt; "stops_of_the_sink: failed: {before}, {answer:?}, failed: {after}")?;
-    let mut ending = ObjectReader::new();
-    let before = ending.is_failed();
-    let answer = ending.head(9, 10, 4, &mut sink);
-    let after = ending.is_failed();
-    println!(rt; "stops_of_the_sink: failed: {before}, {answer:?}, failed: {after}")
+    stop_in_a_run(told, &mut sink);
+    stop_at_the_end(told, &mut sink);
 }
 
 /// Each run of an object is told in one call.
-fn runs_of_an_object(rt: &impl Print) -> io::Result<()> {
+fn runs_of_an_object(told: &mut Told) {
+    let trial = "runs_of_an_object";
     let mut reader = ObjectReader::new();
     let mut sink = make_counter(100, false);
     for run in [b"abcd".as_slice(), b"e", b"fghijk"] {
         if reader.is_failed() {
-            return println!(rt; "runs_of_an_object: failed");
+            return told.line(trial, "failed");
         }
         let answer = reader.run(run, &mut sink);
-        let (runs, octets) = (sink.runs, sink.octets);
-        println!(rt; "runs_of_an_object: {answer:?}, {runs} runs of {octets} octets")?;
+        told.begin(trial);
+        told.answer(" ", &answer);
+        told.show(", ", &sink.runs);
+        told.show(" runs of ", &sink.octets);
+        told.end(" octets");
     }
-    Ok(())
 }
 
-pub(crate) fn tell<R: Print + AllocGlobal>(rt: &R) -> io::Result<()> {
-    writing::tell(rt)?;
-    stops_of_the_sink(rt)?;
-    runs_of_an_object(rt)
+pub(crate) fn tell(told: &mut Told, alloc: Global) {
+    writing::tell(told, alloc);
+    stops_of_the_sink(told);
+    runs_of_an_object(told);
 }

@@ -4,15 +4,23 @@ ghost use Rattle.std.specs.Prelude.{◌≡◌, ◌++◌, OnOk};
 ghost use Rattle.wire_story.specs.Format.Texts.{AreLines, IsLine};
 ghost use Rattle.wire_story.specs.Format.Delivery.{delivered};
 
-use crate::told::{count_of, tell_good, tell_octets};
+use crate::told::{Told, count_of};
 use iim_dataset::Stop;
 use std::alloc::Global;
-use std::io;
 use trials::{TrialSink, TrialWriter, Trouble};
 use wire_story::{LineWriter, Lines, StorySink, TextCause, TextFault, TextReader, text_len};
 
 /// A story of two lines.
 const RATES: &[u8] = b"Rates stay.\r\nNo change.";
+
+/// A line of ten octets.
+const TEN: &[u8] = b"0123456789";
+
+/// The name of trials that several functions tell.
+const STOPPING: &str = "sinks_that_stop_at_a_call";
+
+/// A sink that stops, before a writer of lines.
+type Stopping = TrialSink<LineWriter<TrialWriter<32>>>;
 
 /// A line of as many octets as stand in the text of a message of 32,768 octets.
 fn long_line() -> [u8; 32_754] {
@@ -69,54 +77,57 @@ fn read_by_octets<S: StorySink>(text: &[u8], sink: &mut S) -> Result<(), TextFau
 }
 
 /// Reads a text into lines. Where a growth is refused it reads once more, so that each test bears a refusal.
-fn read_lines(alloc: Global, text: &[u8]) -> (Lines, Result<(), TextFault>) {
-    let mut lines = Lines::new(alloc);
-    let mut answer = read_in_two(text, b"", &mut lines);
-    if let Err(
-        TextFault {
+fn read_lines(alloc: Global, text: &[u8], lines: &mut Lines) -> Result<(), TextFault> {
+    let answer = read_in_two(text, b"", lines);
+    if !matches!(
+        answer,
+        Err(TextFault {
             taken: _,
             cause: TextCause::Sink,
-        },
-    ) = answer
-    {
-        lines = Lines::new(alloc);
-        answer = read_in_two(text, b"", &mut lines);
+        })
+    ) {
+        return answer;
     }
-    (lines, answer)
+    *lines = Lines::new(alloc);
+    read_in_two(text, b"", lines)
 }
 
-/// Prints how many octets each line has, and how many of them are an a.
-pub(crate) fn tell_lines(rt: &impl Print, trial: &str, lines: &Lines) -> io::Result<()> {
+/// Tells how many octets each line has, and how many of them are an a.
+pub(crate) fn tell_lines(told: &mut Told, trial: &str, lines: &Lines) {
     for line in lines.iter() {
-        let octets = line.len();
-        let right = count_of(b'a', line);
-        println!(rt; "{trial}: a line of {octets} octets, {right} of them a")?;
+        told.begin(trial);
+        told.show(" a line of ", &line.len());
+        told.show(" octets, ", &count_of(b'a', line));
+        told.end(" of them a");
     }
-    Ok(())
 }
 
-/// Prints what a sink counts of a text in one run, and how the text is answered.
-fn tell_calls(rt: &impl Print, trial: &str, text: &[u8]) -> io::Result<()> {
+/// Tells what a sink counts of a text in one run, and how the text is answered.
+fn tell_calls(told: &mut Told, trial: &str, text: &[u8]) {
     let mut sink = Calls {
         calls: 0,
         octets: 0,
     };
     let answer = read_in_two(text, b"", &mut sink);
     let Calls { calls, octets } = sink;
-    println!(rt; "{trial}: {answer:?}, {calls} calls, {octets} octets")
+    told.begin(trial);
+    told.answer(" ", &answer);
+    told.show(", ", &calls);
+    told.show(" calls, ", &octets);
+    told.end(" octets");
 }
 
-fn runs_of_texts_are_passed_on_whole(rt: &impl Print) -> io::Result<()> {
-    tell_calls(rt, "runs_of_texts_are_passed_on_whole", RATES)
+fn runs_of_texts_are_passed_on_whole(told: &mut Told) {
+    tell_calls(told, "runs_of_texts_are_passed_on_whole", RATES);
 }
 
-fn a_long_run_is_passed_on_whole(rt: &impl Print, alloc: Global) -> io::Result<()> {
+fn a_long_run_is_passed_on_whole(told: &mut Told, alloc: Global) {
     let trial = "a_long_run_is_passed_on_whole";
     let line = long_line();
-    tell_calls(rt, trial, &line)?;
-    let (lines, answer) = read_lines(alloc, &line);
-    println!(rt; "{trial}: {answer:?}")?;
-    tell_lines(rt, trial, &lines)
+    tell_calls(told, trial, &line);
+    let mut lines = Lines::new(alloc);
+    told.line_of(trial, &read_lines(alloc, &line, &mut lines));
+    tell_lines(told, trial, &lines);
 }
 
 /// Tells the lines octets. A refused growth has to leave them as they were, and is asked once more: whether all was so.
@@ -139,106 +150,149 @@ fn insists_on_line_end(lines: &mut Lines) -> bool {
     }
 }
 
-fn lines_bear_refused_growths(rt: &impl Print, alloc: Global) -> io::Result<()> {
-    let mut lines = Lines::new(alloc);
+/// Tells the lines a hundred lines of ten octets: whether each refused growth was borne.
+fn grow(lines: &mut Lines) -> bool {
     let mut borne = true;
     for _ in 0..100 {
-        borne &= insists_on_text(&mut lines, b"0123456789");
-        borne &= insists_on_line_end(&mut lines);
+        borne &= insists_on_text(lines, TEN);
+        borne &= insists_on_line_end(lines);
     }
-    let octets = text_len(&lines);
-    let full = lines
-        .iter()
-        .filter(|line| *line == b"0123456789".as_slice())
-        .take(200)
-        .count();
-    println!(rt; "lines_bear_refused_growths: {octets:?} octets, {full} full lines, borne: {borne}")
+    borne
 }
 
-fn lines_are_written_past_interruptions(rt: &impl Print) -> io::Result<()> {
+/// How many lines have the ten octets.
+fn full_lines(lines: &Lines) -> usize {
+    let mut count = 0usize;
+    for line in lines.iter() {
+        if line == TEN {
+            count = count.saturating_add(1);
+        }
+    }
+    count
+}
+
+fn lines_bear_refused_growths(told: &mut Told, alloc: Global) {
+    let mut lines = Lines::new(alloc);
+    let borne = grow(&mut lines);
+    told.begin("lines_bear_refused_growths");
+    told.answer(" ", &text_len(&lines));
+    told.show(" octets, ", &full_lines(&lines));
+    told.show(" full lines, borne: ", &borne);
+    told.end("");
+}
+
+fn lines_are_written_past_interruptions(told: &mut Told) {
     let target: TrialWriter<32> = TrialWriter::new(5, Trouble::Interruptions(3));
     let mut sink = LineWriter::new(target);
     let answer = read_by_octets(RATES, &mut sink);
-    tell_octets(
-        rt,
-        "lines_are_written_past_interruptions",
-        &answer,
-        sink.into_writer().octets(),
-    )
+    let target = sink.into_writer();
+    let trial = "lines_are_written_past_interruptions";
+    told.line_of_octets(trial, &answer, target.octets());
 }
 
 /// A target takes `good` octets, one a call, and then fails.
-fn writes_that_fail(rt: &impl Print) -> io::Result<()> {
-    for good in [0, 4, 11, 12, 21] {
-        let target: TrialWriter<32> = TrialWriter::new(good, Trouble::Failure);
-        let mut sink = LineWriter::new(target);
-        let answer = read_in_two(RATES, b"", &mut sink);
-        let target = sink.into_writer();
-        tell_good(rt, "writes_that_fail", good, &answer, target.octets())?;
-    }
-    let full: TrialWriter<3> = TrialWriter::new(100, Trouble::Failure);
-    let mut sink = LineWriter::new(full);
-    let text = sink.text(b"abcd");
-    let end = sink.line_end();
+fn write_and_fail(told: &mut Told, good: u64) {
+    let target: TrialWriter<32> = TrialWriter::new(good, Trouble::Failure);
+    let mut sink = LineWriter::new(target);
+    let answer = read_in_two(RATES, b"", &mut sink);
     let target = sink.into_writer();
-    let octets = target.octets().escape_ascii();
-    println!(rt; "writes_that_fail: full: {text:?} {end:?} {octets}")
+    told.line_after("writes_that_fail", good, &answer, target.octets());
 }
 
-/// A sink that stops after so many good calls, before a writer that doesn't fail.
-fn trial_sink(good: u64, front: usize) -> TrialSink<LineWriter<TrialWriter<32>>> {
-    let target = TrialWriter::new(100, Trouble::Failure);
+/// A target has room for three octets.
+fn write_past_room(told: &mut Told) {
+    let full: TrialWriter<3> = TrialWriter::new(100, Trouble::Failure);
+    let mut sink = LineWriter::new(full);
+    told.begin("writes_that_fail");
+    told.answer(" full: ", &sink.text(b"abcd"));
+    told.answer(" ", &sink.line_end());
+    told.octets(" ", sink.into_writer().octets());
+    told.end("");
+}
+
+fn writes_that_fail(told: &mut Told) {
+    for good in [0, 4, 11, 12, 21] {
+        write_and_fail(told, good);
+    }
+    write_past_room(told);
+}
+
+/// A sink that stops after so many good calls, before a writer of so many octets.
+fn trial_sink(good: u64, front: usize, room: u64) -> Stopping {
+    let target = TrialWriter::new(room, Trouble::Failure);
     TrialSink::new(LineWriter::new(target), good, front)
 }
 
-/// Prints how often a sink has stopped, and the octets that it passed on.
-fn tell_passed(
-    rt: &impl Print,
-    trial: &str,
-    sink: TrialSink<LineWriter<TrialWriter<32>>>,
-) -> io::Result<()> {
-    let failures = sink.failures();
+/// Ends a line with how often a sink has stopped, and the octets that it passed on.
+fn tell_passed(told: &mut Told, trial: &str, sink: Stopping) {
+    told.begin(trial);
+    told.show(" ", &sink.failures());
     let target = sink.into_sink().into_writer();
-    let octets = target.octets().escape_ascii();
-    println!(rt; "{trial}: {failures} stops, {octets}")
+    told.octets(" stops, ", target.octets());
+    told.end("");
+}
+
+/// Tells how a text is answered with a sink of so many good calls, which passes on some octets of a later one.
+fn stop_at_a_call(told: &mut Told, good: u64, front: usize, sink: &mut Stopping) {
+    let answer = read_in_two(RATES, b"", sink);
+    told.begin(STOPPING);
+    told.show(" ", &good);
+    told.show(" good, ", &front);
+    told.answer(": ", &answer);
+}
+
+/// Tells how a sink stops, and what it passed on.
+fn tell_stop(told: &mut Told, good: u64, front: usize) {
+    let mut sink = trial_sink(good, front, 100);
+    stop_at_a_call(told, good, front, &mut sink);
+    told.end("");
+    tell_passed(told, STOPPING, sink);
+}
+
+/// Tells how a sink answers calls after its good ones.
+fn tell_calls_after(told: &mut Told, sink: &mut Stopping) {
+    told.begin(STOPPING);
+    told.answer(" then ", &sink.text(b"ab"));
+    told.answer(" ", &sink.line_end());
+    told.answer(" ", &sink.text(b""));
+    told.end("");
+}
+
+/// Tells of a sink that takes the whole text, and stops then.
+fn stop_after_the_text(told: &mut Told) {
+    let mut sink = trial_sink(3, 0, 100);
+    stop_at_a_call(told, 3, 0, &mut sink);
+    told.show(", ", &sink.failures());
+    told.end(" stops");
+    tell_calls_after(told, &mut sink);
+    tell_passed(told, STOPPING, sink);
 }
 
 /// Good calls, and the octets of a later one that are passed on.
-fn sinks_that_stop_at_a_call(rt: &impl Print) -> io::Result<()> {
-    let trial = "sinks_that_stop_at_a_call";
-    for (good, front) in [(0, 4), (1, 4), (2, 0), (2, 99)] {
-        let mut sink = trial_sink(good, front);
-        let answer = read_in_two(RATES, b"", &mut sink);
-        println!(rt; "{trial}: {good} good, {front}: {answer:?}")?;
-        tell_passed(rt, trial, sink)?;
-    }
-    let mut sink = trial_sink(3, 0);
-    let answer = read_in_two(RATES, b"", &mut sink);
-    let failures = sink.failures();
-    println!(rt; "{trial}: 3 good, 0: {answer:?}, {failures} stops")?;
-    let text = sink.text(b"ab");
-    let end = sink.line_end();
-    let nothing = sink.text(b"");
-    println!(rt; "{trial}: then {text:?} {end:?} {nothing:?}")?;
-    tell_passed(rt, trial, sink)
+fn sinks_that_stop_at_a_call(told: &mut Told) {
+    tell_stop(told, 0, 4);
+    tell_stop(told, 1, 4);
+    tell_stop(told, 2, 0);
+    tell_stop(told, 2, 99);
+    stop_after_the_text(told);
 }
 
-fn stops_of_the_other_sink_are_counted(rt: &impl Print) -> io::Result<()> {
+fn stops_of_the_other_sink_are_counted(told: &mut Told) {
     let trial = "stops_of_the_other_sink_are_counted";
-    let target: TrialWriter<32> = TrialWriter::new(2, Trouble::Failure);
-    let mut sink = TrialSink::new(LineWriter::new(target), 9, 9);
-    let text = sink.text(b"abc");
-    let end = sink.line_end();
-    println!(rt; "{trial}: {text:?} {end:?}")?;
-    tell_passed(rt, trial, sink)
+    let mut sink = trial_sink(9, 9, 2);
+    told.begin(trial);
+    told.answer(" ", &sink.text(b"abc"));
+    told.answer(" ", &sink.line_end());
+    told.end("");
+    tell_passed(told, trial, sink);
 }
 
-pub(crate) fn tell<R: Print + AllocGlobal>(rt: &R) -> io::Result<()> {
-    runs_of_texts_are_passed_on_whole(rt)?;
-    a_long_run_is_passed_on_whole(rt, rt.alloc())?;
-    lines_bear_refused_growths(rt, rt.alloc())?;
-    lines_are_written_past_interruptions(rt)?;
-    writes_that_fail(rt)?;
-    sinks_that_stop_at_a_call(rt)?;
-    stops_of_the_other_sink_are_counted(rt)
+pub(crate) fn tell(told: &mut Told, alloc: Global) {
+    runs_of_texts_are_passed_on_whole(told);
+    a_long_run_is_passed_on_whole(told, alloc);
+    lines_bear_refused_growths(told, alloc);
+    lines_are_written_past_interruptions(told);
+    writes_that_fail(told);
+    sinks_that_stop_at_a_call(told);
+    stops_of_the_other_sink_are_counted(told);
 }

@@ -1,6 +1,6 @@
 //! Readers and writers of std that are interrupted, and then break.
 
-use crate::told::count_of;
+use crate::told::{Told, count_of};
 use iim_dataset::{FromRead, FromWrite, Source, Target, put, take};
 use std::alloc::Global;
 use std::io::{Error, ErrorKind, Read, Result, Write};
@@ -58,65 +58,71 @@ impl Write for Halting {
     }
 }
 
-pub(crate) fn tell<R: Print + AllocGlobal>(rt: &R) -> Result<()> {
-    faults_of_a_reader_of_std(rt)?;
-    faults_of_a_writer_of_std(rt)?;
-    interruptions_between_octets(rt)?;
-    a_long_piece_goes_at_once(rt, rt.alloc())?;
-    a_long_piece_comes_at_once(rt)
+pub(crate) fn tell(told: &mut Told, alloc: Global) {
+    faults_of_a_reader_of_std(told);
+    faults_of_a_writer_of_std(told);
+    interruptions_between_octets(told);
+    a_long_piece_goes_at_once(told, alloc);
+    a_long_piece_comes_at_once(told);
 }
 
 /// Only the standard's "interrupted" is one; every other error is a failure.
-fn faults_of_a_reader_of_std(rt: &impl Print) -> Result<()> {
+fn faults_of_a_reader_of_std(told: &mut Told) {
     let mut reader = FromRead::new(Halting::new(1, 1));
     let mut buffer = [0u8; 8];
-    let first = reader.read(&mut buffer);
-    let second = reader.read(&mut buffer);
-    let last = take(&mut reader, &mut buffer);
-    println!(rt; "faults_of_a_reader_of_std: {first:?} {second:?} {last:?}")
+    told.begin("faults_of_a_reader_of_std");
+    told.answer(" ", &reader.read(&mut buffer));
+    told.answer(" ", &reader.read(&mut buffer));
+    told.answer(" ", &take(&mut reader, &mut buffer));
+    told.end("");
 }
 
 /// The same of a writer. A piece of which nothing was taken breaks at 0.
-fn faults_of_a_writer_of_std(rt: &impl Print) -> Result<()> {
+fn faults_of_a_writer_of_std(told: &mut Told) {
     let mut writer = FromWrite::new(Halting::new(1, 1));
-    let first = writer.write(b"abcdef");
-    let second = writer.write(b"abcdef");
-    let last = put(&mut writer, b"bcdef");
-    println!(rt; "faults_of_a_writer_of_std: {first:?} {second:?} {last:?}")
+    told.begin("faults_of_a_writer_of_std");
+    told.answer(" ", &writer.write(b"abcdef"));
+    told.answer(" ", &writer.write(b"abcdef"));
+    told.answer(" ", &put(&mut writer, b"bcdef"));
+    told.end("");
 }
 
 /// A million interruptions are a fault in a row alone.
-fn interruptions_between_octets(rt: &impl Print) -> Result<()> {
+fn interruptions_between_octets(told: &mut Told) {
     let mut writer = FromWrite::new(Halting::new(600_000, 3));
-    let three = put(&mut writer, b"abc");
-    let fourth = put(&mut writer, b"d");
-    println!(rt; "interruptions_between_octets: {three:?} {fourth:?}")
+    told.begin("interruptions_between_octets");
+    told.answer(" ", &put(&mut writer, b"abc"));
+    told.answer(" ", &put(&mut writer, b"d"));
+    told.end("");
+}
+
+/// Writes a long piece twice, and answers what is written.
+fn write_twice(told: &mut Told, alloc: Global) -> Vec<u8> {
+    let piece = [b'x'; 32_768];
+    let mut writer = FromWrite::new(Vec::new(alloc));
+    told.answer(" ", &writer.write(&piece));
+    told.answer(" ", &put(&mut writer, &piece));
+    writer.into_inner()
 }
 
 /// A long piece goes in one call where the writer takes it.
-fn a_long_piece_goes_at_once(rt: &impl Print, alloc: Global) -> Result<()> {
-    let piece = [b'x'; 32_768];
-    let mut writer = FromWrite::new(Vec::new(alloc));
-    let first = writer.write(&piece);
-    let second = put(&mut writer, &piece);
-    let written = writer.into_inner();
-    let count = written.len();
-    let right = count_of(b'x', &written);
-    println!(rt;
-        "a_long_piece_goes_at_once: {first:?} {second:?}: {count} octets, {right} of them x"
-    )
+fn a_long_piece_goes_at_once(told: &mut Told, alloc: Global) {
+    told.begin("a_long_piece_goes_at_once");
+    let written = write_twice(told, alloc);
+    told.show(": ", &written.len());
+    told.show(" octets, ", &count_of(b'x', &written));
+    told.end(" of them x");
 }
 
 /// A long piece comes in one call where the reader gives it.
-fn a_long_piece_comes_at_once(rt: &impl Print) -> Result<()> {
+fn a_long_piece_comes_at_once(told: &mut Told) {
     let octets = [b'x'; 65_536];
     let mut reader = FromRead::new(octets.as_slice());
     let mut buffer = [0u8; 32_768];
-    let first = reader.read(&mut buffer);
-    let right = count_of(b'x', &buffer);
-    let second = take(&mut reader, &mut buffer);
-    let last = take(&mut reader, &mut buffer);
-    println!(rt;
-        "a_long_piece_comes_at_once: {first:?}: {right} of them x, then {second:?} {last:?}"
-    )
+    told.begin("a_long_piece_comes_at_once");
+    told.answer(" ", &reader.read(&mut buffer));
+    told.show(": ", &count_of(b'x', &buffer));
+    told.answer(" of them x, then ", &take(&mut reader, &mut buffer));
+    told.answer(" ", &take(&mut reader, &mut buffer));
+    told.end("");
 }

@@ -3,10 +3,9 @@
 ghost use Rattle.std.specs.Prelude.{◌≡◌, ◌≢◌, ⊤, IfSome};
 ghost use Rattle.iim_dataset.specs.States.Reading.{TakesCalls};
 
-use crate::told::{self, tell_octets};
+use crate::told::Told;
 use arrayvec::ArrayVec;
 use iim_dataset::{DatasetSink, Fault, Head, HeadReader, Step, Stop};
-use std::io;
 
 /// Three datasets: a standard count, an extended one, and no data; and an octet after them.
 const STREAM: &[u8] = b"\x1c\x01\x1e\x00\x03TST\x1c\x02\x05\x80\x01\x02ab\x1c\x07\x0a\x00\x00x";
@@ -101,10 +100,10 @@ impl DatasetSink for Recorder {
     }
 }
 
-pub(crate) fn tell(rt: &impl Print) -> io::Result<()> {
-    a_dataset_after_the_last(rt)?;
-    octets_after_the_last_dataset(rt)?;
-    sinks_of_datasets_that_stop(rt)
+pub(crate) fn tell(told: &mut Told) {
+    a_dataset_after_the_last(told);
+    octets_after_the_last_dataset(told);
+    sinks_of_datasets_that_stop(told);
 }
 
 /// Feeds octets one by one up to the end of the last dataset, and answers how many were used. A call that uses no octet ends it too.
@@ -133,17 +132,21 @@ fn feed_by_octets(
     Ok(octets.len())
 }
 
-/// Reads octets in one piece, or one by one, and answers the reader, and how many octets were used or the fault.
-fn read(octets: &[u8], one_by_one: bool, sink: &mut Recorder) -> (HeadReader, Result<usize, Fault>)
-    requires { sink.old.ended ≡ 0 }
+/// Feeds octets in one piece, or one by one, and answers how many were used or the fault.
+fn feed(
+    reader: &mut HeadReader,
+    octets: &[u8],
+    one_by_one: bool,
+    sink: &mut Recorder,
+) -> Result<usize, Fault>
+    requires reader { TakesCalls reader.old }
+    requires sink { sink.old.ended ≡ 0 }
 {
-    let mut reader = HeadReader::new();
-    let answer = if one_by_one {
-        feed_by_octets(&mut reader, octets, sink)
+    if one_by_one {
+        feed_by_octets(reader, octets, sink)
     } else {
         reader.feed(octets, sink)
-    };
-    (reader, answer)
+    }
 }
 
 /// Feeds a piece to a reader whose sink takes others after its last dataset, and answers how many octets were used.
@@ -170,48 +173,71 @@ fn feed_four(reader: &mut HeadReader, sink: &mut Recorder) -> Option<(usize, usi
 }
 
 /// After the last dataset a reader continues where its sink does: what comes then is the next dataset.
-fn a_dataset_after_the_last(rt: &impl Print) -> io::Result<()> {
+fn a_dataset_after_the_last(told: &mut Told) {
     let trial = "a_dataset_after_the_last";
     let mut reader = HeadReader::new();
     let mut sink = Recorder::new(16);
     let Some((three, none, fourth)) = feed_four(&mut reader, &mut sink) else {
-        return told::tell(rt, trial, &"refused");
+        return told.line(trial, "refused");
     };
-    let (rec, set) = reader.named();
-    println!(rt; "{trial}: used {three}, {none} and {fourth}, named {rec}:{set}")?;
+    tell_used(told, trial, [three, none, fourth], reader.named());
     sink.go_on();
     let answer = reader.feed(b"Tx", &mut sink);
-    tell_octets(rt, trial, &answer, sink.record.as_slice())
+    told.line_of_octets(trial, &answer, sink.record.as_slice());
+}
+
+/// Tells how many octets each of three pieces used, and the dataset that was named last.
+fn tell_used(told: &mut Told, trial: &str, used: [usize; 3], named: (u8, u8)) {
+    let [three, none, fourth] = used;
+    told.begin(trial);
+    told.show(" used ", &three);
+    told.show(", ", &none);
+    told.show(" and ", &fourth);
+    tell_named(told, named);
+    told.end("");
+}
+
+/// Tells the dataset that was named last.
+fn tell_named(told: &mut Told, named: (u8, u8)) {
+    told.show(", named ", &named.0);
+    told.show(":", &named.1);
 }
 
 /// An octet after the last dataset that begins no tag is refused.
-fn octets_after_the_last_dataset(rt: &impl Print) -> io::Result<()> {
+fn octets_after_the_last_dataset(told: &mut Told) {
     let trial = "octets_after_the_last_dataset";
     let mut reader = HeadReader::new();
     let mut sink = Recorder::new(11);
     let Some(three) = feed_on(&mut reader, STREAM, &mut sink) else {
-        return told::tell(rt, trial, &"refused");
+        return told.line(trial, "refused");
     };
     sink.go_on();
     let answer = reader.feed(b"x", &mut sink);
-    let record = sink.record.as_slice().escape_ascii();
-    let failed = reader.is_failed();
-    println!(rt; "{trial}: used {three}, {answer:?} {record}, failed: {failed}")
+    told.begin(trial);
+    told.show(" used ", &three);
+    told.answer(", ", &answer);
+    told.octets(" ", sink.record.as_slice());
+    told.show(", failed: ", &reader.is_failed());
+    told.end("");
+}
+
+/// Tells a sink that stops at an event, and how the octets are answered, in one piece or one by one.
+fn tell_stop(told: &mut Told, event: usize, one_by_one: bool) {
+    let mut sink = Recorder::new(event);
+    let mut reader = HeadReader::new();
+    told.begin("sinks_of_datasets_that_stop");
+    told.show(" event ", &event);
+    told.answer(": ", &feed(&mut reader, STREAM, one_by_one, &mut sink));
+    told.octets(" ", sink.record.as_slice());
+    told.show(", failed: ", &reader.is_failed());
+    tell_named(told, reader.named());
+    told.end("");
 }
 
 /// A sink that stops at an event: a head, octets of data, or an end.
-fn sinks_of_datasets_that_stop(rt: &impl Print) -> io::Result<()> {
+fn sinks_of_datasets_that_stop(told: &mut Told) {
     for event in 0..11 {
-        for one_by_one in [false, true] {
-            let mut sink = Recorder::new(event);
-            let (reader, answer) = read(STREAM, one_by_one, &mut sink);
-            let record = sink.record.as_slice().escape_ascii();
-            let failed = reader.is_failed();
-            let (rec, set) = reader.named();
-            println!(rt;
-                "sinks_of_datasets_that_stop: event {event}: {answer:?} {record}, failed: {failed}, named {rec}:{set}"
-            )?;
-        }
+        tell_stop(told, event, false);
+        tell_stop(told, event, true);
     }
-    Ok(())
 }

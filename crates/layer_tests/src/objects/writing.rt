@@ -1,8 +1,8 @@
 //! Objects written at worked sizes, and to a target that fails at each call.
 
-use iim_object::{PackCause, Plan, Size, SubfileBuffer, SubfileWriter};
+use crate::told::Told;
+use iim_object::{PackCause, Plan, Size, StartFault, SubfileBuffer, SubfileWriter};
 use std::alloc::Global;
-use std::io;
 use trials::{TrialWriter, Trouble};
 
 /// Three octets in subfiles of two, where no size is known but a maximum.
@@ -21,25 +21,31 @@ fn buffer(alloc: Global, subfile: u64, size: Size) -> Option<SubfileBuffer> {
     SubfileBuffer::reserve(alloc, Plan::new(subfile, size)?).ok()
 }
 
-fn buffers_have_room_for_the_lesser_of_subfile_and_bound(
-    rt: &impl Print,
-    alloc: Global,
-) -> io::Result<()> {
-    for (subfile, size) in [
-        (1, Size::Known(50)),
-        (7, Size::Known(50)),
-        (1024, Size::Known(50)),
-        (1024, Size::Known(0)),
-        (1024, Size::Unknown(Some(20))),
-        (16, Size::Unknown(Some(20))),
-        (1024, Size::Unknown(None)),
-    ] {
-        let room = buffer(alloc, subfile, size).map(|buffer| buffer.room());
-        println!(rt;
-            "buffers_have_room_for_the_lesser_of_subfile_and_bound: {subfile} {size:?}: {room:?}"
-        )?;
+/// Subfiles and sizes of plans.
+const PLANS: [(u64, Size); 7] = [
+    (1, Size::Known(50)),
+    (7, Size::Known(50)),
+    (1024, Size::Known(50)),
+    (1024, Size::Known(0)),
+    (1024, Size::Unknown(Some(20))),
+    (16, Size::Unknown(Some(20))),
+    (1024, Size::Unknown(None)),
+];
+
+/// The names of trials that several functions tell.
+const CAUSES: &str = "causes_and_their_order";
+
+const FAILING: &str = "writes_that_fail_at_each_call";
+
+fn buffers_have_room_for_the_lesser_of_subfile_and_bound(told: &mut Told, alloc: Global) {
+    for (subfile, size) in &PLANS {
+        let room = buffer(alloc, *subfile, *size).map(|buffer| buffer.room());
+        told.begin("buffers_have_room_for_the_lesser_of_subfile_and_bound");
+        told.show(" ", subfile);
+        told.answer(" ", size);
+        told.answer(": ", &room);
+        told.end("");
     }
-    Ok(())
 }
 
 /// A writer of three octets in subfiles of two, to a target that doesn't fail.
@@ -48,138 +54,160 @@ fn writer_of_three(alloc: Global) -> Option<SubfileWriter<Sink>> {
     SubfileWriter::start(buffer, TrialWriter::new(1000, Trouble::Failure)).ok()
 }
 
-/// Prints how many octets are out, and how many the object has so far.
-fn tell_counts(rt: &impl Print, trial: &str, writer: &SubfileWriter<Sink>) -> io::Result<()> {
-    let written = writer.written();
-    let total = writer.total();
-    let failed = writer.is_failed();
-    println!(rt; "{trial}: {written} out, {total} taken, failed: {failed}")
+/// Tells how many octets are out, and how many the object has so far.
+fn tell_counts(told: &mut Told, writer: &SubfileWriter<Sink>) {
+    told.begin(CAUSES);
+    told.show(" ", &writer.written());
+    told.show(" out, ", &writer.total());
+    told.show(" taken, failed: ", &writer.is_failed());
+    told.end("");
 }
 
-/// Writes pieces, and prints each answer.
-fn tell_writes(
-    rt: &impl Print,
-    trial: &str,
-    writer: &mut SubfileWriter<Sink>,
-    pieces: &[&[u8]],
-) -> io::Result<()> {
+/// Writes pieces, and tells each answer.
+fn tell_writes(told: &mut Told, writer: &mut SubfileWriter<Sink>, pieces: &[&[u8]]) {
     for piece in pieces {
-        let answer = writer.write(piece);
-        let octets = piece.escape_ascii();
-        println!(rt; "{trial}: write '{octets}': {answer:?}")?;
+        told.begin(CAUSES);
+        told.octets(" write '", piece);
+        told.answer("': ", &writer.write(piece));
+        told.end("");
     }
-    Ok(())
 }
 
-fn causes_and_their_order(rt: &impl Print, alloc: Global) -> io::Result<()> {
-    let trial = "causes_and_their_order";
+/// Writes more than was announced, and then less.
+fn write_before(told: &mut Told, writer: &mut SubfileWriter<Sink>) {
+    tell_writes(told, writer, &[b"abcd"]);
+    tell_counts(told, writer);
+    tell_writes(told, writer, &[b"ab"]);
+}
+
+/// Writes on where less was written than was announced.
+fn write_after(told: &mut Told, writer: &mut SubfileWriter<Sink>) {
+    tell_counts(told, writer);
+    tell_writes(told, writer, &[b"cd", b"c", b"d"]);
+    tell_counts(told, writer);
+}
+
+/// Tells the end that is refused, and goes on after it.
+fn finish_after(told: &mut Told, mut writer: SubfileWriter<Sink>, cause: PackCause) {
+    told.begin(CAUSES);
+    told.answer(" finish: ", &cause);
+    told.end("");
+    write_after(told, &mut writer);
+    told.begin(CAUSES);
+    told.show(" finished: ", &writer.finish().is_ok());
+    told.end("");
+}
+
+fn causes_and_their_order(told: &mut Told, alloc: Global) {
     let Some(mut writer) = writer_of_three(alloc) else {
-        return println!(rt; "{trial}: not started");
+        return told.line(CAUSES, "not started");
     };
-    tell_writes(rt, trial, &mut writer, &[b"abcd"])?;
-    tell_counts(rt, trial, &writer)?;
-    tell_writes(rt, trial, &mut writer, &[b"ab"])?;
-    let Err((mut writer, cause)) = writer.finish() else {
-        return println!(rt; "{trial}: finished too early");
-    };
-    println!(rt; "{trial}: finish: {cause:?}")?;
-    tell_counts(rt, trial, &writer)?;
-    tell_writes(rt, trial, &mut writer, &[b"cd", b"c", b"d"])?;
-    tell_counts(rt, trial, &writer)?;
-    let finished = writer.finish().is_ok();
-    println!(rt; "{trial}: finished: {finished}")
+    write_before(told, &mut writer);
+    match writer.finish() {
+        Ok(_) => told.line(CAUSES, "finished too early"),
+        Err((writer, cause)) => finish_after(told, writer, cause),
+    }
 }
 
-/// How writing ended: in which call, with which cause, what the target has, and how many octets the writer or the fault counts.
-#[derive(Drop)]
+/// How writing ended: in which call, with which cause, and how many octets the writer or the fault counts.
+#[derive(Clone, Copy)]
 struct End {
     call: &'static str,
     cause: Option<PackCause>,
-    target: Sink,
     written: u64,
     /// What each of three later calls answers, where there is a writer left: two pieces and the end.
     later: [Option<PackCause>; 3],
 }
 
-/// The end at a call of a writer that failed there. It takes nothing more.
-fn failed(call: &'static str, cause: PackCause, writer: SubfileWriter<Sink>) -> End {
-    let mut writer = writer;
-    let some = writer.write(b"abcdef").err();
-    let none = writer.write(b"").err();
+/// Tells an end: the octets that are out are a front of the worked ones.
+fn tell_end(told: &mut Told, end: &End, octets: &[u8]) {
+    told.show(" good: in ", &end.call);
+    told.answer(" ", &end.cause);
+    told.show(", ", &end.written);
+    told.show(" counted, ", &octets.len());
+    told.show(" out, as worked: ", &SMALL_OUT.starts_with(octets));
+    told.end("");
+    told.begin(FAILING);
+    told.answer(" then ", &end.later);
+    told.end("");
+}
+
+/// Tells the end at a call of a writer that failed there. It takes nothing more.
+fn tell_failed(
+    told: &mut Told,
+    call: &'static str,
+    cause: PackCause,
+    mut writer: SubfileWriter<Sink>,
+) {
+    let mut end = End {
+        call,
+        cause: Some(cause),
+        written: writer.written(),
+        later: [writer.write(b"abcdef").err(), writer.write(b"").err(), None],
+    };
     match writer.finish() {
-        Ok(target) => End {
-            call: "finish after a failure",
-            cause: Some(cause),
-            target,
-            written: 0,
-            later: [some, none, None],
-        },
-        Err((writer, last)) => End {
-            call,
-            cause: Some(cause),
-            written: writer.written(),
-            target: writer.into_writer(),
-            later: [some, none, Some(last)],
-        },
+        Ok(target) => {
+            end.call = "finish after a failure";
+            tell_end(told, &end, target.octets());
+        }
+        Err((writer, last)) => {
+            end.written = writer.written();
+            end.later[2] = Some(last);
+            tell_end(told, &end, writer.into_writer().octets());
+        }
     }
 }
 
-/// Writes three octets to a target by a plan, and answers how that ended.
-fn end_of(buffer: SubfileBuffer, target: Sink) -> End {
-    let mut writer = match SubfileWriter::start(buffer, target) {
-        Ok(writer) => writer,
-        Err(fault) => {
-            return End {
-                call: "start",
-                cause: Some(fault.cause),
-                target: fault.writer,
-                written: fault.written,
+/// Writes three octets, and tells how that ended.
+fn tell_written(told: &mut Told, mut writer: SubfileWriter<Sink>) {
+    if let Err(cause) = writer.write(b"abc") {
+        return tell_failed(told, "write", cause, writer);
+    }
+    match writer.finish() {
+        Ok(target) => {
+            let end = End {
+                call: "none",
+                cause: None,
+                written: 46,
                 later: [None; 3],
             };
+            tell_end(told, &end, target.octets());
         }
+        Err((writer, cause)) => tell_failed(told, "finish", cause, writer),
+    }
+}
+
+/// Tells how writing ended that was refused at its start.
+fn tell_not_started(told: &mut Told, fault: &StartFault<Sink>) {
+    let end = End {
+        call: "start",
+        cause: Some(fault.cause),
+        written: fault.written,
+        later: [None; 3],
     };
-    if let Err(cause) = writer.write(b"abc") {
-        return failed("write", cause, writer);
-    }
-    match writer.finish() {
-        Ok(target) => End {
-            call: "none",
-            cause: None,
-            target,
-            written: 46,
-            later: [None; 3],
-        },
-        Err((writer, cause)) => failed("finish", cause, writer),
+    tell_end(told, &end, fault.writer.octets());
+}
+
+/// Writes three octets to a target that takes `good` octets, one a call, and then fails.
+fn write_three(told: &mut Told, alloc: Global, good: u64) {
+    let Some(buffer) = buffer(alloc, 2, Size::Unknown(Some(5))) else {
+        return told.line(FAILING, "no buffer");
+    };
+    told.begin(FAILING);
+    told.show(" ", &good);
+    match SubfileWriter::start(buffer, TrialWriter::new(good, Trouble::Failure)) {
+        Ok(writer) => tell_written(told, writer),
+        Err(fault) => tell_not_started(told, &fault),
     }
 }
 
-/// Prints an end: the octets that are out are a front of the worked ones.
-fn tell_end(rt: &impl Print, good: u64, end: &End) -> io::Result<()> {
-    let call = end.call;
-    let cause = end.cause;
-    let written = end.written;
-    let octets = end.target.octets();
-    let out = octets.len();
-    let right = SMALL_OUT.starts_with(octets);
-    println!(rt;
-        "writes_that_fail_at_each_call: {good} good: in {call} {cause:?}, {written} counted, {out} out, as worked: {right}"
-    )?;
-    let later = end.later;
-    println!(rt; "writes_that_fail_at_each_call: then {later:?}")
-}
-
-/// A target takes `good` octets, one a call, and then fails.
-fn writes_that_fail_at_each_call(rt: &impl Print, alloc: Global) -> io::Result<()> {
-    let all = SMALL_OUT.len();
-    println!(rt; "writes_that_fail_at_each_call: {all} octets")?;
+fn writes_that_fail_at_each_call(told: &mut Told, alloc: Global) {
+    told.begin(FAILING);
+    told.show(" ", &SMALL_OUT.len());
+    told.end(" octets");
     for good in 0..48 {
-        let Some(buffer) = buffer(alloc, 2, Size::Unknown(Some(5))) else {
-            return println!(rt; "writes_that_fail_at_each_call: no buffer");
-        };
-        let end = end_of(buffer, TrialWriter::new(good, Trouble::Failure));
-        tell_end(rt, good, &end)?;
+        write_three(told, alloc, good);
     }
-    Ok(())
 }
 
 /// A writer of three octets whose target is interrupted so often after 30 octets: whether it takes them, and how many are out.
@@ -191,17 +219,18 @@ fn interrupted(alloc: Global, interruptions: u32) -> Option<(bool, u64)> {
     Some((leads_on, writer.written()))
 }
 
-fn a_million_interruptions_are_a_failure(rt: &impl Print, alloc: Global) -> io::Result<()> {
+fn a_million_interruptions_are_a_failure(told: &mut Told, alloc: Global) {
     for interruptions in [999_999, 1_000_000] {
-        let answer = interrupted(alloc, interruptions);
-        println!(rt; "a_million_interruptions_are_a_failure: {interruptions}: {answer:?}")?;
+        told.begin("a_million_interruptions_are_a_failure");
+        told.show(" ", &interruptions);
+        told.answer(": ", &interrupted(alloc, interruptions));
+        told.end("");
     }
-    Ok(())
 }
 
-pub(crate) fn tell<R: Print + AllocGlobal>(rt: &R) -> io::Result<()> {
-    buffers_have_room_for_the_lesser_of_subfile_and_bound(rt, rt.alloc())?;
-    causes_and_their_order(rt, rt.alloc())?;
-    writes_that_fail_at_each_call(rt, rt.alloc())?;
-    a_million_interruptions_are_a_failure(rt, rt.alloc())
+pub(crate) fn tell(told: &mut Told, alloc: Global) {
+    buffers_have_room_for_the_lesser_of_subfile_and_bound(told, alloc);
+    causes_and_their_order(told, alloc);
+    writes_that_fail_at_each_call(told, alloc);
+    a_million_interruptions_are_a_failure(told, alloc);
 }
