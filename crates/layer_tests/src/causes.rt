@@ -49,30 +49,26 @@ pub(crate) fn tell(told: &mut Told) {
 fn limits_of_wire_copy(told: &mut Told) {
     wire_limits_are_told();
     let Limits { octets, fields } = Limits::WIRE;
-    told.begin("limits_of_wire_copy");
-    told.show(" ", &octets);
-    told.show(" octets, ", &fields);
-    told.end(" fields");
+    told.begin("limits_of_wire_copy", " ", &octets);
+    told.answer(" octets, ", &fields);
+    told.end_words(" fields");
 }
 
 fn numbers_and_names_of_causes(told: &mut Told) {
     for cause in &CAUSES {
-        told.begin("numbers_and_names_of_causes");
-        told.answer(" ", cause);
-        told.show(": ", &cause.number());
-        told.show(", ", &cause.name());
-        told.show(", printed ", cause);
-        told.end("");
+        told.begin("numbers_and_names_of_causes", " ", cause);
+        told.answer(": ", &cause.number());
+        told.put(", ");
+        told.put(cause.name());
+        told.end_shown(", printed ", cause);
     }
 }
 
 /// Tells the name of each value, and the value as it is printed.
 fn tell_printed<T: Debug + Display>(told: &mut Told, trial: &str, values: &[T]) {
     for value in values {
-        told.begin(trial);
-        told.answer(" ", value);
-        told.show(": ", value);
-        told.end("");
+        told.begin(trial, " ", value);
+        told.end_shown(": ", value);
     }
 }
 

@@ -47,20 +47,20 @@ fn writer_at_a_million_interruptions(told: &mut Told) {
     for (trial, good, trouble) in &WRITERS {
         let mut writer: TrialWriter<8> = TrialWriter::new(*good, *trouble);
         let answer = put(&mut writer, b"abcde");
-        told.line_of_octets(trial, &answer, writer.octets());
+        told.line_and_octets(trial, &answer, writer.octets());
     }
 }
 
 fn a_full_writer_fails(told: &mut Told) {
     let mut full: TrialWriter<3> = TrialWriter::new(8, Trouble::Failure);
     let answer = put(&mut full, b"abcde");
-    told.line_of_octets("a_full_writer_fails", &answer, full.octets());
+    told.line_and_octets("a_full_writer_fails", &answer, full.octets());
 }
 
 fn reader_at_a_million_interruptions(told: &mut Told) {
     for (trial, running) in &READERS {
         let mut reader = TrialReader::new(b"ab", 0, Trouble::Interruptions(*running));
-        told.line_of(trial, &take(&mut reader, &mut [0u8; 4]));
+        told.line(trial, " ", &take(&mut reader, &mut [0u8; 4]));
     }
 }
 
@@ -69,8 +69,8 @@ fn a_failing_reader_gives_what_came_before(told: &mut Told) {
     let mut reader = TrialReader::new(b"ab", 1, Trouble::Failure);
     let mut buffer = [0u8; 4];
     let first = take(&mut reader, &mut buffer);
-    told.line_of_octets(trial, &first, &buffer[..1]);
-    told.line_of(trial, &take(&mut reader, &mut buffer));
+    told.line_and_octets(trial, &first, &buffer[..1]);
+    told.line(trial, " ", &take(&mut reader, &mut buffer));
 }
 
 /// A slice as a source.
@@ -79,8 +79,8 @@ fn a_slice_is_a_source(told: &mut Told) {
     let mut reader = FromRead::new(b"abc".as_slice());
     let mut buffer = [0u8; 2];
     let first = take(&mut reader, &mut buffer);
-    told.line_of_octets(trial, &first, &buffer);
+    told.line_and_octets(trial, &first, &buffer);
     let second = reader.read(&mut buffer);
-    told.line_of_octets(trial, &second, &buffer[..1]);
-    told.line_of(trial, &take(&mut reader, &mut buffer));
+    told.line_and_octets(trial, &second, &buffer[..1]);
+    told.line(trial, " ", &take(&mut reader, &mut buffer));
 }

@@ -117,12 +117,10 @@ fn tell_sizes(told: &mut Told, trial: &str, fields: &mut Fields, one_by_one: boo
 {
     let mut numbers = Numbers::new();
     let passed = pass_sizes(fields, one_by_one, &mut numbers);
-    told.begin(trial);
     match passed {
-        Ok(()) => told.answer(" told ", &numbers.as_slice()),
-        Err(fault) => told.show(" ", &fault),
+        Ok(()) => told.line(trial, " told ", &numbers.as_slice()),
+        Err(fault) => told.line_shown(trial, &fault),
     }
-    told.end("");
 }
 
 /// Passes all datasets of the longer worked envelope, and tells what they tell.
@@ -138,22 +136,18 @@ fn tell_all(told: &mut Told, fields: &mut Fields, one_by_one: bool)
 /// Tells each dataset of the envelope.
 fn tell_fields(told: &mut Told, trial: &str, envelope: &Envelope) {
     for (rec, set, octets) in envelope.fields() {
-        told.begin(trial);
-        told.show(" ", &rec);
-        told.show(":", &set);
-        told.octets(" ", octets);
-        told.end("");
+        told.begin(trial, " ", &rec);
+        told.answer(":", &set);
+        told.end_octets(" ", octets);
     }
 }
 
 /// Tells a title, or that there is none.
 fn tell_title(told: &mut Told, title: Option<&[u8]>) {
-    told.begin(MEMORY);
     match title {
-        Some(title) => told.octets(" title ", title),
-        None => told.show(" ", &"no further title"),
+        Some(title) => told.line_of_octets(MEMORY, " title ", title),
+        None => told.line_of_words(MEMORY, "no further title"),
     }
-    told.end("");
 }
 
 /// Tells the first four answers of the walk over the envelope's titles.
@@ -179,7 +173,7 @@ fn the_memory_of_an_envelope_serves_the_next(told: &mut Told, alloc: Global) {
             tell_fields(told, MEMORY, &envelope);
             tell_titles(told, &envelope);
         }
-        None => told.line(MEMORY, "no envelope"),
+        None => told.line_of_words(MEMORY, "no envelope"),
     }
 }
 
@@ -232,13 +226,11 @@ fn are_worked(alloc: Global, fields: Fields) -> bool {
 fn the_reader_continues_where_nothing_is_handed_over(told: &mut Told, alloc: Global) {
     let trial = "the_reader_continues_where_nothing_is_handed_over";
     let Some(mut fields) = paused(alloc) else {
-        return told.line(trial, "refused, or an envelope after record 2");
+        return told.line_of_words(trial, "refused, or an envelope after record 2");
     };
     tell_sizes(told, trial, &mut fields, false);
     let same = are_worked(alloc, fields);
-    told.begin(trial);
-    told.show(" the same as the one that was built: ", &same);
-    told.end("");
+    told.line(trial, " the same as the one that was built: ", &same);
 }
 
 /// Why the envelope is not copied into a builder of these limits.
@@ -253,11 +245,9 @@ fn envelopes_are_copied_within_other_limits(told: &mut Told, alloc: Global, enve
             octets: *octets,
             fields: *fields,
         };
-        told.begin("envelopes_are_copied_within_other_limits");
-        told.show(" ", octets);
-        told.show(" octets, ", fields);
-        told.answer(" fields: ", &fault_of_copy(alloc, limits, envelope));
-        told.end("");
+        told.begin("envelopes_are_copied_within_other_limits", " ", octets);
+        told.answer(" octets, ", fields);
+        told.end(" fields: ", &fault_of_copy(alloc, limits, envelope));
     }
 }
 
@@ -265,10 +255,8 @@ fn envelopes_are_copied_within_other_limits(told: &mut Told, alloc: Global, enve
 fn tell_added(told: &mut Told, builder: &mut EnvelopeBuilder) {
     for (set, octets) in &ADDED {
         let cause = builder.add(2, *set, octets).err().map(|fault| fault.cause);
-        told.begin(COPIED);
-        told.show(" add 2:", set);
-        told.answer(": ", &cause);
-        told.end("");
+        told.begin(COPIED, " add 2:", set);
+        told.end(": ", &cause);
     }
 }
 
@@ -285,12 +273,14 @@ fn copied(told: &mut Told, alloc: Global, envelope: &Envelope) -> Option<Envelop
 
 fn copied_envelopes_take_a_dataset_more(told: &mut Told, alloc: Global, envelope: &Envelope) {
     let Some(sent) = copied(told, alloc, envelope) else {
-        return told.line(COPIED, "not copied, or not finished");
+        return told.line_of_words(COPIED, "not copied, or not finished");
     };
     tell_fields(told, COPIED, &sent);
-    told.begin(COPIED);
-    told.octets(" the first 2:122 ", sent.first(2, 122).unwrap_or(b""));
-    told.end("");
+    told.line_of_octets(
+        COPIED,
+        " the first 2:122 ",
+        sent.first(2, 122).unwrap_or(b""),
+    );
 }
 
 pub(crate) fn tell(told: &mut Told, alloc: Global) {
@@ -301,6 +291,6 @@ pub(crate) fn tell(told: &mut Told, alloc: Global) {
             envelopes_are_copied_within_other_limits(told, alloc, &envelope);
             copied_envelopes_take_a_dataset_more(told, alloc, &envelope);
         }
-        None => told.line(COPIED, "no envelope is built"),
+        None => told.line_of_words(COPIED, "no envelope is built"),
     }
 }

@@ -87,10 +87,8 @@ fn tell_calls(told: &mut Told, object: &[u8]) {
         first: arrayvec::ArrayVec::new(),
     };
     let answer = read(object, false, &mut sink);
-    told.begin("runs_of_messages_are_passed_on_whole");
-    told.answer(" ", &answer);
-    told.answer(" ", &sink.first.as_slice());
-    told.end("");
+    told.begin("runs_of_messages_are_passed_on_whole", " ", &answer);
+    told.end(" ", &sink.first.as_slice());
 }
 
 fn runs_of_messages_are_passed_on_whole(told: &mut Told) {
@@ -113,10 +111,8 @@ fn tell_kept(told: &mut Told, alloc: Global, object: &[u8]) {
     let trial = "a_long_line_is_kept";
     let mut lines = Lines::new(alloc);
     let answer = read_lines(alloc, object, &mut lines);
-    told.begin(trial);
-    told.show(" ", &object.len());
-    told.answer(" octets, ", &answer);
-    told.end("");
+    told.begin(trial, " ", &object.len());
+    told.end(" octets, ", &answer);
     tell_lines(told, trial, &lines);
 }
 

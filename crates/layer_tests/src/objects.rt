@@ -62,21 +62,17 @@ fn make_counter(room: usize, refuses_end: bool) -> Counter {
 /// Tells how a reader answers a sink that stops in a run.
 fn stop_in_a_run(told: &mut Told, sink: &mut Counter) {
     let mut reader = ObjectReader::new();
-    told.begin("stops_of_the_sink");
-    told.show(" failed: ", &reader.is_failed());
+    told.begin("stops_of_the_sink", " failed: ", &reader.is_failed());
     told.answer(", ", &reader.run(b"abcd", sink));
-    told.show(", failed: ", &reader.is_failed());
-    told.end("");
+    told.end(", failed: ", &reader.is_failed());
 }
 
 /// Tells how a reader answers a sink that refuses the end.
 fn stop_at_the_end(told: &mut Told, sink: &mut Counter) {
     let mut reader = ObjectReader::new();
-    told.begin("stops_of_the_sink");
-    told.show(" failed: ", &reader.is_failed());
+    told.begin("stops_of_the_sink", " failed: ", &reader.is_failed());
     told.answer(", ", &reader.head(9, 10, 4, sink));
-    told.show(", failed: ", &reader.is_failed());
-    told.end("");
+    told.end(", failed: ", &reader.is_failed());
 }
 
 fn stops_of_the_sink(told: &mut Told) {
@@ -85,22 +81,25 @@ fn stops_of_the_sink(told: &mut Told) {
     stop_at_the_end(told, &mut sink);
 }
 
+/// Tells how a reader answers a run, and what its sink counts so far.
+fn tell_run(told: &mut Told, reader: &mut ObjectReader, sink: &mut Counter, run: &[u8]) {
+    let trial = "runs_of_an_object";
+    if reader.is_failed() {
+        return told.line_of_words(trial, "failed");
+    }
+    told.begin(trial, " ", &reader.run(run, sink));
+    told.answer(", ", &sink.runs);
+    told.answer(" runs of ", &sink.octets);
+    told.end_words(" octets");
+}
+
 /// Each run of an object is told in one call.
 fn runs_of_an_object(told: &mut Told) {
-    let trial = "runs_of_an_object";
     let mut reader = ObjectReader::new();
     let mut sink = make_counter(100, false);
-    for run in [b"abcd".as_slice(), b"e", b"fghijk"] {
-        if reader.is_failed() {
-            return told.line(trial, "failed");
-        }
-        let answer = reader.run(run, &mut sink);
-        told.begin(trial);
-        told.answer(" ", &answer);
-        told.show(", ", &sink.runs);
-        told.show(" runs of ", &sink.octets);
-        told.end(" octets");
-    }
+    tell_run(told, &mut reader, &mut sink, b"abcd");
+    tell_run(told, &mut reader, &mut sink, b"e");
+    tell_run(told, &mut reader, &mut sink, b"fghijk");
 }
 
 pub(crate) fn tell(told: &mut Told, alloc: Global) {

@@ -95,10 +95,9 @@ fn read_lines(alloc: Global, text: &[u8], lines: &mut Lines) -> Result<(), TextF
 /// Tells how many octets each line has, and how many of them are an a.
 pub(crate) fn tell_lines(told: &mut Told, trial: &str, lines: &Lines) {
     for line in lines.iter() {
-        told.begin(trial);
-        told.show(" a line of ", &line.len());
-        told.show(" octets, ", &count_of(b'a', line));
-        told.end(" of them a");
+        told.begin(trial, " a line of ", &line.len());
+        told.answer(" octets, ", &count_of(b'a', line));
+        told.end_words(" of them a");
     }
 }
 
@@ -110,11 +109,10 @@ fn tell_calls(told: &mut Told, trial: &str, text: &[u8]) {
     };
     let answer = read_in_two(text, b"", &mut sink);
     let Calls { calls, octets } = sink;
-    told.begin(trial);
-    told.answer(" ", &answer);
-    told.show(", ", &calls);
-    told.show(" calls, ", &octets);
-    told.end(" octets");
+    told.begin(trial, " ", &answer);
+    told.answer(", ", &calls);
+    told.answer(" calls, ", &octets);
+    told.end_words(" octets");
 }
 
 fn runs_of_texts_are_passed_on_whole(told: &mut Told) {
@@ -126,7 +124,7 @@ fn a_long_run_is_passed_on_whole(told: &mut Told, alloc: Global) {
     let line = long_line();
     tell_calls(told, trial, &line);
     let mut lines = Lines::new(alloc);
-    told.line_of(trial, &read_lines(alloc, &line, &mut lines));
+    told.line(trial, " ", &read_lines(alloc, &line, &mut lines));
     tell_lines(told, trial, &lines);
 }
 
@@ -174,11 +172,9 @@ fn full_lines(lines: &Lines) -> usize {
 fn lines_bear_refused_growths(told: &mut Told, alloc: Global) {
     let mut lines = Lines::new(alloc);
     let borne = grow(&mut lines);
-    told.begin("lines_bear_refused_growths");
-    told.answer(" ", &text_len(&lines));
-    told.show(" octets, ", &full_lines(&lines));
-    told.show(" full lines, borne: ", &borne);
-    told.end("");
+    told.begin("lines_bear_refused_growths", " ", &text_len(&lines));
+    told.answer(" octets, ", &full_lines(&lines));
+    told.end(" full lines, borne: ", &borne);
 }
 
 fn lines_are_written_past_interruptions(told: &mut Told) {
@@ -187,7 +183,7 @@ fn lines_are_written_past_interruptions(told: &mut Told) {
     let answer = read_by_octets(RATES, &mut sink);
     let target = sink.into_writer();
     let trial = "lines_are_written_past_interruptions";
-    told.line_of_octets(trial, &answer, target.octets());
+    told.line_and_octets(trial, &answer, target.octets());
 }
 
 /// A target takes `good` octets, one a call, and then fails.
@@ -203,11 +199,9 @@ fn write_and_fail(told: &mut Told, good: u64) {
 fn write_past_room(told: &mut Told) {
     let full: TrialWriter<3> = TrialWriter::new(100, Trouble::Failure);
     let mut sink = LineWriter::new(full);
-    told.begin("writes_that_fail");
-    told.answer(" full: ", &sink.text(b"abcd"));
+    told.begin("writes_that_fail", " full: ", &sink.text(b"abcd"));
     told.answer(" ", &sink.line_end());
-    told.octets(" ", sink.into_writer().octets());
-    told.end("");
+    told.end_octets(" ", sink.into_writer().octets());
 }
 
 fn writes_that_fail(told: &mut Told) {
@@ -225,19 +219,16 @@ fn trial_sink(good: u64, front: usize, room: u64) -> Stopping {
 
 /// Ends a line with how often a sink has stopped, and the octets that it passed on.
 fn tell_passed(told: &mut Told, trial: &str, sink: Stopping) {
-    told.begin(trial);
-    told.show(" ", &sink.failures());
+    told.begin(trial, " ", &sink.failures());
     let target = sink.into_sink().into_writer();
-    told.octets(" stops, ", target.octets());
-    told.end("");
+    told.end_octets(" stops, ", target.octets());
 }
 
 /// Tells how a text is answered with a sink of so many good calls, which passes on some octets of a later one.
 fn stop_at_a_call(told: &mut Told, good: u64, front: usize, sink: &mut Stopping) {
     let answer = read_in_two(RATES, b"", sink);
-    told.begin(STOPPING);
-    told.show(" ", &good);
-    told.show(" good, ", &front);
+    told.begin(STOPPING, " ", &good);
+    told.answer(" good, ", &front);
     told.answer(": ", &answer);
 }
 
@@ -245,25 +236,23 @@ fn stop_at_a_call(told: &mut Told, good: u64, front: usize, sink: &mut Stopping)
 fn tell_stop(told: &mut Told, good: u64, front: usize) {
     let mut sink = trial_sink(good, front, 100);
     stop_at_a_call(told, good, front, &mut sink);
-    told.end("");
+    told.end_words("");
     tell_passed(told, STOPPING, sink);
 }
 
 /// Tells how a sink answers calls after its good ones.
 fn tell_calls_after(told: &mut Told, sink: &mut Stopping) {
-    told.begin(STOPPING);
-    told.answer(" then ", &sink.text(b"ab"));
+    told.begin(STOPPING, " then ", &sink.text(b"ab"));
     told.answer(" ", &sink.line_end());
-    told.answer(" ", &sink.text(b""));
-    told.end("");
+    told.end(" ", &sink.text(b""));
 }
 
 /// Tells of a sink that takes the whole text, and stops then.
 fn stop_after_the_text(told: &mut Told) {
     let mut sink = trial_sink(3, 0, 100);
     stop_at_a_call(told, 3, 0, &mut sink);
-    told.show(", ", &sink.failures());
-    told.end(" stops");
+    told.answer(", ", &sink.failures());
+    told.end_words(" stops");
     tell_calls_after(told, &mut sink);
     tell_passed(told, STOPPING, sink);
 }
@@ -280,10 +269,8 @@ fn sinks_that_stop_at_a_call(told: &mut Told) {
 fn stops_of_the_other_sink_are_counted(told: &mut Told) {
     let trial = "stops_of_the_other_sink_are_counted";
     let mut sink = trial_sink(9, 9, 2);
-    told.begin(trial);
-    told.answer(" ", &sink.text(b"abc"));
-    told.answer(" ", &sink.line_end());
-    told.end("");
+    told.begin(trial, " ", &sink.text(b"abc"));
+    told.end(" ", &sink.line_end());
     tell_passed(told, trial, sink);
 }
 

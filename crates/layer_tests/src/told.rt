@@ -30,20 +30,14 @@ impl Told {
     }
 
     /// Adds words as they are.
-    fn put(&mut self, words: &str) {
+    pub(crate) fn put(&mut self, words: &str) {
         if self.text.extend_from_slice(words.as_bytes()).is_err() {
             self.is_cut = true;
         }
     }
 
-    /// Begins a line of a trial.
-    pub(crate) fn begin(&mut self, trial: &str) {
-        self.put(trial);
-        self.put(":");
-    }
-
     /// Adds words and then a value as it is printed.
-    pub(crate) fn show<T: Display>(&mut self, words: &str, value: &T) {
+    fn show<T: Display>(&mut self, words: &str, value: &T) {
         self.put(words);
         if write!(self.text, "{value}").is_err() {
             self.is_cut = true;
@@ -63,37 +57,71 @@ impl Told {
         self.show(words, &octets.escape_ascii());
     }
 
-    /// Adds words and ends the line.
-    pub(crate) fn end(&mut self, words: &str) {
+    /// Begins a line of a trial with words and an answer.
+    pub(crate) fn begin<A: Debug>(&mut self, trial: &str, words: &str, answer: &A) {
+        self.put(trial);
+        self.put(":");
+        self.answer(words, answer);
+    }
+
+    /// Begins a line of a trial with words and octets.
+    pub(crate) fn begin_octets(&mut self, trial: &str, words: &str, octets: &[u8]) {
+        self.put(trial);
+        self.put(":");
+        self.octets(words, octets);
+    }
+
+    /// Ends a line with words.
+    pub(crate) fn end_words(&mut self, words: &str) {
         self.put(words);
         self.put("\n");
     }
 
-    /// Adds a line that has these words after the name of its trial.
-    pub(crate) fn line(&mut self, trial: &str, words: &str) {
-        self.line_shown(trial, &words);
+    /// Ends a line with words and an answer.
+    pub(crate) fn end<A: Debug>(&mut self, words: &str, answer: &A) {
+        self.answer(words, answer);
+        self.put("\n");
+    }
+
+    /// Ends a line with words and octets.
+    pub(crate) fn end_octets(&mut self, words: &str, octets: &[u8]) {
+        self.octets(words, octets);
+        self.put("\n");
+    }
+
+    /// Ends a line with words and a value as it is printed.
+    pub(crate) fn end_shown<T: Display>(&mut self, words: &str, value: &T) {
+        self.show(words, value);
+        self.put("\n");
+    }
+
+    /// Adds a line of words and an answer.
+    pub(crate) fn line<A: Debug>(&mut self, trial: &str, words: &str, answer: &A) {
+        self.begin(trial, words, answer);
+        self.put("\n");
+    }
+
+    /// Adds a line of words and octets.
+    pub(crate) fn line_of_octets(&mut self, trial: &str, words: &str, octets: &[u8]) {
+        self.begin_octets(trial, words, octets);
+        self.put("\n");
     }
 
     /// Adds a line of a value as it is printed.
     pub(crate) fn line_shown<T: Display>(&mut self, trial: &str, value: &T) {
-        self.begin(trial);
-        self.show(" ", value);
-        self.end("");
+        self.put(trial);
+        self.end_shown(": ", value);
     }
 
-    /// Adds a line of what a trial answers.
-    pub(crate) fn line_of<A: Debug>(&mut self, trial: &str, answer: &A) {
-        self.begin(trial);
-        self.answer(" ", answer);
-        self.end("");
+    /// Adds a line of words.
+    pub(crate) fn line_of_words(&mut self, trial: &str, words: &str) {
+        self.line_shown(trial, &words);
     }
 
     /// Adds a line of what a trial answers, and of the octets that it leaves.
-    pub(crate) fn line_of_octets<A: Debug>(&mut self, trial: &str, answer: &A, octets: &[u8]) {
-        self.begin(trial);
-        self.answer(" ", answer);
-        self.octets(" ", octets);
-        self.end("");
+    pub(crate) fn line_and_octets<A: Debug>(&mut self, trial: &str, answer: &A, octets: &[u8]) {
+        self.begin(trial, " ", answer);
+        self.end_octets(" ", octets);
     }
 
     /// Adds the same of a device that fails after so many good calls.
@@ -104,11 +132,9 @@ impl Told {
         answer: &A,
         octets: &[u8],
     ) {
-        self.begin(trial);
-        self.show(" ", &good);
+        self.begin(trial, " ", &good);
         self.answer(" good: ", answer);
-        self.octets(" ", octets);
-        self.end("");
+        self.end_octets(" ", octets);
     }
 }
 

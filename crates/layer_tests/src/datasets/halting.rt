@@ -70,48 +70,45 @@ pub(crate) fn tell(told: &mut Told, alloc: Global) {
 fn faults_of_a_reader_of_std(told: &mut Told) {
     let mut reader = FromRead::new(Halting::new(1, 1));
     let mut buffer = [0u8; 8];
-    told.begin("faults_of_a_reader_of_std");
+    told.begin("faults_of_a_reader_of_std", " ", &reader.read(&mut buffer));
     told.answer(" ", &reader.read(&mut buffer));
-    told.answer(" ", &reader.read(&mut buffer));
-    told.answer(" ", &take(&mut reader, &mut buffer));
-    told.end("");
+    told.end(" ", &take(&mut reader, &mut buffer));
 }
 
 /// The same of a writer. A piece of which nothing was taken breaks at 0.
 fn faults_of_a_writer_of_std(told: &mut Told) {
     let mut writer = FromWrite::new(Halting::new(1, 1));
-    told.begin("faults_of_a_writer_of_std");
+    told.begin("faults_of_a_writer_of_std", " ", &writer.write(b"abcdef"));
     told.answer(" ", &writer.write(b"abcdef"));
-    told.answer(" ", &writer.write(b"abcdef"));
-    told.answer(" ", &put(&mut writer, b"bcdef"));
-    told.end("");
+    told.end(" ", &put(&mut writer, b"bcdef"));
 }
 
 /// A million interruptions are a fault in a row alone.
 fn interruptions_between_octets(told: &mut Told) {
     let mut writer = FromWrite::new(Halting::new(600_000, 3));
-    told.begin("interruptions_between_octets");
-    told.answer(" ", &put(&mut writer, b"abc"));
-    told.answer(" ", &put(&mut writer, b"d"));
-    told.end("");
+    told.begin(
+        "interruptions_between_octets",
+        " ",
+        &put(&mut writer, b"abc"),
+    );
+    told.end(" ", &put(&mut writer, b"d"));
 }
 
-/// Writes a long piece twice, and answers what is written.
+/// Writes a long piece twice, begins a line of the answers, and answers what is written.
 fn write_twice(told: &mut Told, alloc: Global) -> Vec<u8> {
     let piece = [b'x'; 32_768];
     let mut writer = FromWrite::new(Vec::new(alloc));
-    told.answer(" ", &writer.write(&piece));
+    told.begin("a_long_piece_goes_at_once", " ", &writer.write(&piece));
     told.answer(" ", &put(&mut writer, &piece));
     writer.into_inner()
 }
 
 /// A long piece goes in one call where the writer takes it.
 fn a_long_piece_goes_at_once(told: &mut Told, alloc: Global) {
-    told.begin("a_long_piece_goes_at_once");
     let written = write_twice(told, alloc);
-    told.show(": ", &written.len());
-    told.show(" octets, ", &count_of(b'x', &written));
-    told.end(" of them x");
+    told.answer(": ", &written.len());
+    told.answer(" octets, ", &count_of(b'x', &written));
+    told.end_words(" of them x");
 }
 
 /// A long piece comes in one call where the reader gives it.
@@ -119,10 +116,8 @@ fn a_long_piece_comes_at_once(told: &mut Told) {
     let octets = [b'x'; 65_536];
     let mut reader = FromRead::new(octets.as_slice());
     let mut buffer = [0u8; 32_768];
-    told.begin("a_long_piece_comes_at_once");
-    told.answer(" ", &reader.read(&mut buffer));
-    told.show(": ", &count_of(b'x', &buffer));
+    told.begin("a_long_piece_comes_at_once", " ", &reader.read(&mut buffer));
+    told.answer(": ", &count_of(b'x', &buffer));
     told.answer(" of them x, then ", &take(&mut reader, &mut buffer));
-    told.answer(" ", &take(&mut reader, &mut buffer));
-    told.end("");
+    told.end(" ", &take(&mut reader, &mut buffer));
 }

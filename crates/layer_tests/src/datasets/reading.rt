@@ -178,29 +178,33 @@ fn a_dataset_after_the_last(told: &mut Told) {
     let mut reader = HeadReader::new();
     let mut sink = Recorder::new(16);
     let Some((three, none, fourth)) = feed_four(&mut reader, &mut sink) else {
-        return told.line(trial, "refused");
+        return told.line_of_words(trial, "refused");
     };
     tell_used(told, trial, [three, none, fourth], reader.named());
     sink.go_on();
     let answer = reader.feed(b"Tx", &mut sink);
-    told.line_of_octets(trial, &answer, sink.record.as_slice());
+    told.line_and_octets(trial, &answer, sink.record.as_slice());
 }
 
 /// Tells how many octets each of three pieces used, and the dataset that was named last.
 fn tell_used(told: &mut Told, trial: &str, used: [usize; 3], named: (u8, u8)) {
     let [three, none, fourth] = used;
-    told.begin(trial);
-    told.show(" used ", &three);
-    told.show(", ", &none);
-    told.show(" and ", &fourth);
+    told.begin(trial, " used ", &three);
+    told.answer(", ", &none);
+    told.answer(" and ", &fourth);
     tell_named(told, named);
-    told.end("");
 }
 
-/// Tells the dataset that was named last.
+/// Ends a line with the dataset that was named last.
 fn tell_named(told: &mut Told, named: (u8, u8)) {
-    told.show(", named ", &named.0);
-    told.show(":", &named.1);
+    told.answer(", named ", &named.0);
+    told.end(":", &named.1);
+}
+
+/// Adds what a sink has taken, and whether its reader has failed.
+fn tell_state(told: &mut Told, reader: &HeadReader, sink: &Recorder) {
+    told.octets(" ", sink.record.as_slice());
+    told.answer(", failed: ", &reader.is_failed());
 }
 
 /// An octet after the last dataset that begins no tag is refused.
@@ -209,29 +213,24 @@ fn octets_after_the_last_dataset(told: &mut Told) {
     let mut reader = HeadReader::new();
     let mut sink = Recorder::new(11);
     let Some(three) = feed_on(&mut reader, STREAM, &mut sink) else {
-        return told.line(trial, "refused");
+        return told.line_of_words(trial, "refused");
     };
     sink.go_on();
     let answer = reader.feed(b"x", &mut sink);
-    told.begin(trial);
-    told.show(" used ", &three);
+    told.begin(trial, " used ", &three);
     told.answer(", ", &answer);
-    told.octets(" ", sink.record.as_slice());
-    told.show(", failed: ", &reader.is_failed());
-    told.end("");
+    tell_state(told, &reader, &sink);
+    told.end_words("");
 }
 
 /// Tells a sink that stops at an event, and how the octets are answered, in one piece or one by one.
 fn tell_stop(told: &mut Told, event: usize, one_by_one: bool) {
     let mut sink = Recorder::new(event);
     let mut reader = HeadReader::new();
-    told.begin("sinks_of_datasets_that_stop");
-    told.show(" event ", &event);
+    told.begin("sinks_of_datasets_that_stop", " event ", &event);
     told.answer(": ", &feed(&mut reader, STREAM, one_by_one, &mut sink));
-    told.octets(" ", sink.record.as_slice());
-    told.show(", failed: ", &reader.is_failed());
+    tell_state(told, &reader, &sink);
     tell_named(told, reader.named());
-    told.end("");
 }
 
 /// A sink that stops at an event: a head, octets of data, or an end.

@@ -40,11 +40,13 @@ const FAILING: &str = "writes_that_fail_at_each_call";
 fn buffers_have_room_for_the_lesser_of_subfile_and_bound(told: &mut Told, alloc: Global) {
     for (subfile, size) in &PLANS {
         let room = buffer(alloc, *subfile, *size).map(|buffer| buffer.room());
-        told.begin("buffers_have_room_for_the_lesser_of_subfile_and_bound");
-        told.show(" ", subfile);
+        told.begin(
+            "buffers_have_room_for_the_lesser_of_subfile_and_bound",
+            " ",
+            subfile,
+        );
         told.answer(" ", size);
-        told.answer(": ", &room);
-        told.end("");
+        told.end(": ", &room);
     }
 }
 
@@ -56,20 +58,16 @@ fn writer_of_three(alloc: Global) -> Option<SubfileWriter<Sink>> {
 
 /// Tells how many octets are out, and how many the object has so far.
 fn tell_counts(told: &mut Told, writer: &SubfileWriter<Sink>) {
-    told.begin(CAUSES);
-    told.show(" ", &writer.written());
-    told.show(" out, ", &writer.total());
-    told.show(" taken, failed: ", &writer.is_failed());
-    told.end("");
+    told.begin(CAUSES, " ", &writer.written());
+    told.answer(" out, ", &writer.total());
+    told.end(" taken, failed: ", &writer.is_failed());
 }
 
 /// Writes pieces, and tells each answer.
 fn tell_writes(told: &mut Told, writer: &mut SubfileWriter<Sink>, pieces: &[&[u8]]) {
     for piece in pieces {
-        told.begin(CAUSES);
-        told.octets(" write '", piece);
-        told.answer("': ", &writer.write(piece));
-        told.end("");
+        told.begin_octets(CAUSES, " write '", piece);
+        told.end("': ", &writer.write(piece));
     }
 }
 
@@ -89,22 +87,18 @@ fn write_after(told: &mut Told, writer: &mut SubfileWriter<Sink>) {
 
 /// Tells the end that is refused, and goes on after it.
 fn finish_after(told: &mut Told, mut writer: SubfileWriter<Sink>, cause: PackCause) {
-    told.begin(CAUSES);
-    told.answer(" finish: ", &cause);
-    told.end("");
+    told.line(CAUSES, " finish: ", &cause);
     write_after(told, &mut writer);
-    told.begin(CAUSES);
-    told.show(" finished: ", &writer.finish().is_ok());
-    told.end("");
+    told.line(CAUSES, " finished: ", &writer.finish().is_ok());
 }
 
 fn causes_and_their_order(told: &mut Told, alloc: Global) {
     let Some(mut writer) = writer_of_three(alloc) else {
-        return told.line(CAUSES, "not started");
+        return told.line_of_words(CAUSES, "not started");
     };
     write_before(told, &mut writer);
     match writer.finish() {
-        Ok(_) => told.line(CAUSES, "finished too early"),
+        Ok(_) => told.line_of_words(CAUSES, "finished too early"),
         Err((writer, cause)) => finish_after(told, writer, cause),
     }
 }
@@ -121,15 +115,13 @@ struct End {
 
 /// Tells an end: the octets that are out are a front of the worked ones.
 fn tell_end(told: &mut Told, end: &End, octets: &[u8]) {
-    told.show(" good: in ", &end.call);
+    told.put(" good: in ");
+    told.put(end.call);
     told.answer(" ", &end.cause);
-    told.show(", ", &end.written);
-    told.show(" counted, ", &octets.len());
-    told.show(" out, as worked: ", &SMALL_OUT.starts_with(octets));
-    told.end("");
-    told.begin(FAILING);
-    told.answer(" then ", &end.later);
-    told.end("");
+    told.answer(", ", &end.written);
+    told.answer(" counted, ", &octets.len());
+    told.end(" out, as worked: ", &SMALL_OUT.starts_with(octets));
+    told.line(FAILING, " then ", &end.later);
 }
 
 /// Tells the end at a call of a writer that failed there. It takes nothing more.
@@ -191,10 +183,9 @@ fn tell_not_started(told: &mut Told, fault: &StartFault<Sink>) {
 /// Writes three octets to a target that takes `good` octets, one a call, and then fails.
 fn write_three(told: &mut Told, alloc: Global, good: u64) {
     let Some(buffer) = buffer(alloc, 2, Size::Unknown(Some(5))) else {
-        return told.line(FAILING, "no buffer");
+        return told.line_of_words(FAILING, "no buffer");
     };
-    told.begin(FAILING);
-    told.show(" ", &good);
+    told.begin(FAILING, " ", &good);
     match SubfileWriter::start(buffer, TrialWriter::new(good, Trouble::Failure)) {
         Ok(writer) => tell_written(told, writer),
         Err(fault) => tell_not_started(told, &fault),
@@ -202,9 +193,8 @@ fn write_three(told: &mut Told, alloc: Global, good: u64) {
 }
 
 fn writes_that_fail_at_each_call(told: &mut Told, alloc: Global) {
-    told.begin(FAILING);
-    told.show(" ", &SMALL_OUT.len());
-    told.end(" octets");
+    told.begin(FAILING, " ", &SMALL_OUT.len());
+    told.end_words(" octets");
     for good in 0..48 {
         write_three(told, alloc, good);
     }
@@ -221,10 +211,8 @@ fn interrupted(alloc: Global, interruptions: u32) -> Option<(bool, u64)> {
 
 fn a_million_interruptions_are_a_failure(told: &mut Told, alloc: Global) {
     for interruptions in [999_999, 1_000_000] {
-        told.begin("a_million_interruptions_are_a_failure");
-        told.show(" ", &interruptions);
-        told.answer(": ", &interrupted(alloc, interruptions));
-        told.end("");
+        told.begin("a_million_interruptions_are_a_failure", " ", &interruptions);
+        told.end(": ", &interrupted(alloc, interruptions));
     }
 }
 
