@@ -73,14 +73,18 @@ fn a_failing_reader_gives_what_came_before(told: &mut Told) {
     told.line(trial, " ", &take(&mut reader, &mut buffer));
 }
 
+/// Tells three reads of a source of three octets.
+fn tell_reads<S: Source>(told: &mut Told, trial: &str, source: &mut S) {
+    let mut buffer = [0u8; 2];
+    let first = take(source, &mut buffer);
+    told.line_and_octets(trial, &first, &buffer);
+    let second = source.read(&mut buffer);
+    told.line_and_octets(trial, &second, &buffer[..1]);
+    told.line(trial, " ", &take(source, &mut buffer));
+}
+
 /// A slice as a source.
 fn a_slice_is_a_source(told: &mut Told) {
-    let trial = "a_slice_is_a_source";
     let mut reader = FromRead::new(b"abc".as_slice());
-    let mut buffer = [0u8; 2];
-    let first = take(&mut reader, &mut buffer);
-    told.line_and_octets(trial, &first, &buffer);
-    let second = reader.read(&mut buffer);
-    told.line_and_octets(trial, &second, &buffer[..1]);
-    told.line(trial, " ", &take(&mut reader, &mut buffer));
+    tell_reads(told, "a_slice_is_a_source", &mut reader);
 }

@@ -6,7 +6,7 @@ ghost use Rattle.iim_fields.specs.States.Standing.{IsBetween, IsInside};
 use crate::told::Told;
 use arrayvec::ArrayVec;
 use iim_dataset::Head;
-use iim_fields::{CopyFault, Envelope, EnvelopeBuilder, FieldFault, Fields, Limits};
+use iim_fields::{CopyFault, Envelope, EnvelopeBuilder, FieldCause, FieldFault, Fields, Limits};
 use std::alloc::Global;
 use worked::STORY_FIELDS;
 
@@ -251,12 +251,19 @@ fn envelopes_are_copied_within_other_limits(told: &mut Told, alloc: Global, enve
     }
 }
 
+/// Why a dataset is not taken.
+fn cause_of(added: Result<(), FieldFault>) -> Option<FieldCause> {
+    match added {
+        Ok(()) => None,
+        Err(fault) => Some(fault.cause),
+    }
+}
+
 /// Adds datasets, and tells why some are not taken.
 fn tell_added(told: &mut Told, builder: &mut EnvelopeBuilder) {
     for (set, octets) in &ADDED {
-        let cause = builder.add(2, *set, octets).err().map(|fault| fault.cause);
         told.begin(COPIED, " add 2:", set);
-        told.end(": ", &cause);
+        told.end(": ", &cause_of(builder.add(2, *set, octets)));
     }
 }
 

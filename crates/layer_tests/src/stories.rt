@@ -195,12 +195,19 @@ fn write_and_fail(told: &mut Told, good: u64) {
     told.line_after("writes_that_fail", good, &answer, target.octets());
 }
 
+/// Tells a sink a run and the end of a line, and begins a line of what it answers.
+fn begin_calls<S: StorySink>(told: &mut Told, trial: &str, words: &str, sink: &mut S, run: &[u8])
+    requires { IsLine run.now }
+{
+    told.begin(trial, words, &sink.text(run));
+    told.answer(" ", &sink.line_end());
+}
+
 /// A target has room for three octets.
 fn write_past_room(told: &mut Told) {
     let full: TrialWriter<3> = TrialWriter::new(100, Trouble::Failure);
     let mut sink = LineWriter::new(full);
-    told.begin("writes_that_fail", " full: ", &sink.text(b"abcd"));
-    told.answer(" ", &sink.line_end());
+    begin_calls(told, "writes_that_fail", " full: ", &mut sink, b"abcd");
     told.end_octets(" ", sink.into_writer().octets());
 }
 
@@ -225,7 +232,7 @@ fn tell_passed(told: &mut Told, trial: &str, sink: Stopping) {
 }
 
 /// Tells how a text is answered with a sink of so many good calls, which passes on some octets of a later one.
-fn stop_at_a_call(told: &mut Told, good: u64, front: usize, sink: &mut Stopping) {
+fn stop_at_a_call<S: StorySink>(told: &mut Told, good: u64, front: usize, sink: &mut S) {
     let answer = read_in_two(RATES, b"", sink);
     told.begin(STOPPING, " ", &good);
     told.answer(" good, ", &front);
@@ -241,9 +248,8 @@ fn tell_stop(told: &mut Told, good: u64, front: usize) {
 }
 
 /// Tells how a sink answers calls after its good ones.
-fn tell_calls_after(told: &mut Told, sink: &mut Stopping) {
-    told.begin(STOPPING, " then ", &sink.text(b"ab"));
-    told.answer(" ", &sink.line_end());
+fn tell_calls_after<S: StorySink>(told: &mut Told, sink: &mut S) {
+    begin_calls(told, STOPPING, " then ", sink, b"ab");
     told.end(" ", &sink.text(b""));
 }
 
@@ -269,8 +275,8 @@ fn sinks_that_stop_at_a_call(told: &mut Told) {
 fn stops_of_the_other_sink_are_counted(told: &mut Told) {
     let trial = "stops_of_the_other_sink_are_counted";
     let mut sink = trial_sink(9, 9, 2);
-    told.begin(trial, " ", &sink.text(b"abc"));
-    told.end(" ", &sink.line_end());
+    begin_calls(told, trial, " ", &mut sink, b"abc");
+    told.end_words("");
     tell_passed(told, trial, sink);
 }
 

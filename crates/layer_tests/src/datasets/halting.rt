@@ -94,30 +94,34 @@ fn interruptions_between_octets(told: &mut Told) {
     told.end(" ", &put(&mut writer, b"d"));
 }
 
-/// Writes a long piece twice, begins a line of the answers, and answers what is written.
-fn write_twice(told: &mut Told, alloc: Global) -> Vec<u8> {
+/// Writes a long piece twice, and begins a line of the answers.
+fn write_twice<T: Target>(told: &mut Told, target: &mut T) {
     let piece = [b'x'; 32_768];
-    let mut writer = FromWrite::new(Vec::new(alloc));
-    told.begin("a_long_piece_goes_at_once", " ", &writer.write(&piece));
-    told.answer(" ", &put(&mut writer, &piece));
-    writer.into_inner()
+    told.begin("a_long_piece_goes_at_once", " ", &target.write(&piece));
+    told.answer(" ", &put(target, &piece));
 }
 
 /// A long piece goes in one call where the writer takes it.
 fn a_long_piece_goes_at_once(told: &mut Told, alloc: Global) {
-    let written = write_twice(told, alloc);
+    let mut writer = FromWrite::new(Vec::new(alloc));
+    write_twice(told, &mut writer);
+    let written = writer.into_inner();
     told.answer(": ", &written.len());
     told.answer(" octets, ", &count_of(b'x', &written));
     told.end_words(" of them x");
 }
 
+/// Tells three reads of a source of two long pieces.
+fn read_thrice<S: Source>(told: &mut Told, source: &mut S) {
+    let mut buffer = [0u8; 32_768];
+    told.begin("a_long_piece_comes_at_once", " ", &source.read(&mut buffer));
+    told.answer(": ", &count_of(b'x', &buffer));
+    told.answer(" of them x, then ", &take(source, &mut buffer));
+    told.end(" ", &take(source, &mut buffer));
+}
+
 /// A long piece comes in one call where the reader gives it.
 fn a_long_piece_comes_at_once(told: &mut Told) {
     let octets = [b'x'; 65_536];
-    let mut reader = FromRead::new(octets.as_slice());
-    let mut buffer = [0u8; 32_768];
-    told.begin("a_long_piece_comes_at_once", " ", &reader.read(&mut buffer));
-    told.answer(": ", &count_of(b'x', &buffer));
-    told.answer(" of them x, then ", &take(&mut reader, &mut buffer));
-    told.end(" ", &take(&mut reader, &mut buffer));
+    read_thrice(told, &mut FromRead::new(octets.as_slice()));
 }

@@ -1,6 +1,7 @@
 //! Objects written at worked sizes, and to a target that fails at each call.
 
 use crate::told::Told;
+use iim_dataset::Target;
 use iim_object::{PackCause, Plan, Size, StartFault, SubfileBuffer, SubfileWriter};
 use std::alloc::Global;
 use trials::{TrialWriter, Trouble};
@@ -37,16 +38,20 @@ const CAUSES: &str = "causes_and_their_order";
 
 const FAILING: &str = "writes_that_fail_at_each_call";
 
+/// How many octets a buffer of a plan has room for.
+fn room(alloc: Global, subfile: u64, size: Size) -> Option<usize> {
+    Some(buffer(alloc, subfile, size)?.room())
+}
+
 fn buffers_have_room_for_the_lesser_of_subfile_and_bound(told: &mut Told, alloc: Global) {
     for (subfile, size) in &PLANS {
-        let room = buffer(alloc, *subfile, *size).map(|buffer| buffer.room());
         told.begin(
             "buffers_have_room_for_the_lesser_of_subfile_and_bound",
             " ",
             subfile,
         );
         told.answer(" ", size);
-        told.end(": ", &room);
+        told.end(": ", &room(alloc, *subfile, *size));
     }
 }
 
@@ -57,14 +62,14 @@ fn writer_of_three(alloc: Global) -> Option<SubfileWriter<Sink>> {
 }
 
 /// Tells how many octets are out, and how many the object has so far.
-fn tell_counts(told: &mut Told, writer: &SubfileWriter<Sink>) {
+fn tell_counts<W: Target>(told: &mut Told, writer: &SubfileWriter<W>) {
     told.begin(CAUSES, " ", &writer.written());
     told.answer(" out, ", &writer.total());
     told.end(" taken, failed: ", &writer.is_failed());
 }
 
 /// Writes pieces, and tells each answer.
-fn tell_writes(told: &mut Told, writer: &mut SubfileWriter<Sink>, pieces: &[&[u8]]) {
+fn tell_writes<W: Target>(told: &mut Told, writer: &mut SubfileWriter<W>, pieces: &[&[u8]]) {
     for piece in pieces {
         told.begin_octets(CAUSES, " write '", piece);
         told.end("': ", &writer.write(piece));
@@ -72,14 +77,14 @@ fn tell_writes(told: &mut Told, writer: &mut SubfileWriter<Sink>, pieces: &[&[u8
 }
 
 /// Writes more than was announced, and then less.
-fn write_before(told: &mut Told, writer: &mut SubfileWriter<Sink>) {
+fn write_before<W: Target>(told: &mut Told, writer: &mut SubfileWriter<W>) {
     tell_writes(told, writer, &[b"abcd"]);
     tell_counts(told, writer);
     tell_writes(told, writer, &[b"ab"]);
 }
 
 /// Writes on where less was written than was announced.
-fn write_after(told: &mut Told, writer: &mut SubfileWriter<Sink>) {
+fn write_after<W: Target>(told: &mut Told, writer: &mut SubfileWriter<W>) {
     tell_counts(told, writer);
     tell_writes(told, writer, &[b"cd", b"c", b"d"]);
     tell_counts(told, writer);
@@ -89,7 +94,10 @@ fn write_after(told: &mut Told, writer: &mut SubfileWriter<Sink>) {
 fn finish_after(told: &mut Told, mut writer: SubfileWriter<Sink>, cause: PackCause) {
     told.line(CAUSES, " finish: ", &cause);
     write_after(told, &mut writer);
-    told.line(CAUSES, " finished: ", &writer.finish().is_ok());
+    match writer.finish() {
+        Ok(_target) => told.line_of_words(CAUSES, "finished: true"),
+        Err((_writer, cause)) => told.line(CAUSES, " not finished: ", &cause),
+    }
 }
 
 fn causes_and_their_order(told: &mut Told, alloc: Global) {
