@@ -31,9 +31,10 @@ const ADDED: [(u8, &[u8]); 3] = [(105, b"Rates held"), (122, b"RELAYS"), (122, b
 /// Limits of a copy: its octets and its datasets.
 const LIMITS_OF_COPIES: [(u32, u32); 4] = [(78, 16), (77, 16), (77, 15), (78, 15)];
 
-/// The names of trials that several functions tell.
+/// The name of a trial that several functions tell.
 const MEMORY: &str = "the_memory_of_an_envelope_serves_the_next";
 
+/// The name of another one.
 const COPIED: &str = "copied_envelopes_take_a_dataset_more";
 
 /// Gives all octets of the begun dataset, in one piece or one by one.

@@ -224,14 +224,14 @@ fn trial_sink(good: u64, front: usize, room: u64) -> Stopping {
     TrialSink::new(LineWriter::new(target), good, front)
 }
 
-/// Ends a line with how often a sink has stopped, and the octets that it passed on.
+/// Tells how often a sink has stopped, and the octets that it passed on.
 fn tell_passed(told: &mut Told, trial: &str, sink: Stopping) {
     told.begin(trial, " ", &sink.failures());
     let target = sink.into_sink().into_writer();
     told.end_octets(" stops, ", target.octets());
 }
 
-/// Tells how a text is answered with a sink of so many good calls, which passes on some octets of a later one.
+/// Begins a line of how a text is answered with a sink of so many good calls, which passes on some octets of a later one.
 fn stop_at_a_call<S: StorySink>(told: &mut Told, good: u64, front: usize, sink: &mut S) {
     let answer = read_in_two(RATES, b"", sink);
     told.begin(STOPPING, " ", &good);

@@ -4,8 +4,7 @@ use std::alloc::Global;
 use std::fmt::{Debug, Display};
 use std::io::Write;
 
-/// The lines that the trials have told so far. Where memory is refused they end, and say so once their text is asked for: no trial has
-/// to ask at each line.
+/// The lines that the trials have told so far. Where memory is refused they have no text any more: no trial has to ask at each line.
 #[derive(Drop)]
 pub(crate) struct Told {
     text: Vec<u8>,

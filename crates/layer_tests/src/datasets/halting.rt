@@ -111,7 +111,7 @@ fn a_long_piece_goes_at_once(told: &mut Told, alloc: Global) {
     told.end_words(" of them x");
 }
 
-/// Tells three reads of a source of two long pieces.
+/// Tells three reads of a source of two long pieces, and how many octets of the first are right.
 fn read_thrice<S: Source>(told: &mut Told, source: &mut S) {
     let mut buffer = [0u8; 32_768];
     told.begin("a_long_piece_comes_at_once", " ", &source.read(&mut buffer));

@@ -33,9 +33,10 @@ const PLANS: [(u64, Size); 7] = [
     (1024, Size::Unknown(None)),
 ];
 
-/// The names of trials that several functions tell.
+/// The name of a trial that several functions tell.
 const CAUSES: &str = "causes_and_their_order";
 
+/// The name of another one.
 const FAILING: &str = "writes_that_fail_at_each_call";
 
 /// How many octets a buffer of a plan has room for.
