@@ -1,7 +1,7 @@
 """Functions that a check takes at their word: `rt ci` has proved that they do what their contracts say.
 
-Of such a function the proof is a hole, which the prover takes by what it states. So a check of wrong bodies proves these alone, and
-nothing of what they call.
+Of such a function the proof is a hole, which the prover takes by what it states. So no goal of it is proved again. What it borrows is
+still looked at.
 """
 import json
 import os
