@@ -1,13 +1,13 @@
 """Functions that a check takes at their word: `rt ci` has proved that they do what their contracts say.
 
-Of such a function the proof is a hole, which the prover takes by what it states. So no goal of it is proved again. What it borrows is
-still looked at.
+Of such a function the proof is a hole, which the prover takes by what it states. So no goal of it is proved again. It has no body either,
+so that nothing is borrowed in it.
 """
 import json
 import os
 import re
 
-from wrong import sources
+from wrong import code, sources
 
 # A proof that says nothing.
 HOLE = """use Rattle.{crate}.proofs.{path}.Statement.{{statement}}
@@ -42,11 +42,25 @@ def owner(path):
     return [word for word in path[:-1] if word != "fn"] if "fn" in path else path
 
 
+def empty(room, kept):
+    """Empties the functions in the folder of a check, but those of the names that are kept, and returns the names of those that have a body."""
+    whole = set()
+    for at, _, files in os.walk(f"{room}/src"):
+        for file in files:
+            text, named = code.emptied(sources.text_of(f"{at}/{file}"), kept)
+            whole |= named
+            with open(f"{at}/{file}", "w", encoding="utf-8") as source:
+                source.write(text)
+    return whole
+
+
 def write(crate, room, asked):
-    """Writes into the folder of a check proofs with holes for all functions but those that are asked for."""
+    """Writes into the folder of a check proofs with holes for all functions but those that are asked for, and takes their bodies away."""
     kept = {tuple(function.split("::")) for function in asked}
+    whole = empty(room, {path[-1] for path in kept}) if stated(crate) else set()
     for path in stated(crate):
-        if tuple(owner(path)) in kept:
+        own = owner(path)
+        if tuple(own) in kept or ("fn" in path and own[-1] not in whole):
             continue
         at = f"{room}/proofs/{'/'.join(path)}"
         for file in ("Answers.antt", "Invariants.antt"):

@@ -3,7 +3,7 @@ import functools
 import re
 
 # What may stand between a function's signature and its body.
-CLAUSE = re.compile(r"(requires|ensures|ghost|decreases|where|\{)")
+CLAUSE = re.compile(r"(requires|ensures|ghost(?! use)|decreases|where|\{)")
 WORDS = re.compile(r"//[^\n]*|\"(?:\\.|[^\"\\])*\"|b?'(?:\\.[^']*|[^'\\])'", re.S)
 
 
@@ -18,16 +18,14 @@ def end_of_group(text, at):
 
 
 def body_of(text, at):
-    """The span of a function's body: the last of its brace groups. None where it has none."""
-    found = None
+    """The span of a function's body: the last of its brace groups. None where it has none, as what a trait only declares."""
     while True:
         brace = re.compile(r"[{;}]").search(text, at)
         if not brace or brace[0] != "{":
-            return found
+            return None
         at = end_of_group(text, brace.start())
-        found = brace.start(), at
         if not CLAUSE.match(text, at + len(text[at:]) - len(text[at:].lstrip())):
-            return found
+            return None if text[at:].startswith(";") else (brace.start(), at)
 
 
 def hidden(words):
@@ -45,6 +43,27 @@ def functions(text):
         if body:
             found.append((start[1], start.start(), *body))
     return found
+
+
+def is_const(text, at):
+    """Whether the function whose name begins after this `fn` may be called where constants are made."""
+    return bool(re.search(r"\bconst (?:unsafe )?$", text[:at]))
+
+
+def emptied(text, kept):
+    """A source whose functions have a body that is never reached, but those of the names that are kept; and the names of those that have
+    theirs still. What makes constants keeps its body: it is run where they are made."""
+    whole, parts, copied, past = set(), [], 0, 0
+    for name, start, body, end in functions(text):
+        if body < past:
+            continue
+        past = end
+        if name in kept or is_const(text, start):
+            whole.add(name)
+        else:
+            parts += [text[copied:body], "{ unreachable!() }"]
+            copied = end
+    return "".join([*parts, text[copied:]]), whole
 
 
 def place(path, text, old, new):

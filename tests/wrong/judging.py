@@ -2,8 +2,7 @@
 import math
 import os
 import re
-import shutil
-import tempfile
+import time
 from concurrent.futures import FIRST_COMPLETED, ThreadPoolExecutor, wait
 
 from wrong import prover, rounds, sources, store, verdicts
@@ -16,16 +15,13 @@ LEAST = 16
 class Crate:
     """A crate's wrong bodies while they are judged: what each came to, and what that took."""
 
-    def __init__(self, name, bodies, room, anew, most):
-        self.name, self.bodies, self.room = name, bodies, room
+    def __init__(self, name, bodies, anew, most):
+        self.name, self.bodies = name, bodies
         told = {} if anew else {body.name: store.known(body) for body in bodies}
         self.verdicts = {name: verdict for name, verdict in told.items() if verdict}
         self.kept = len(self.verdicts)
         self.planned = rounds.plan(name, [body for body in bodies if body.name not in self.verdicts], most)
         self.seconds, self.checks, self.open = 0, 0, len(self.planned)
-        # (a program is no library that holds its work: what `rt check` kept of it serves, where that is there)
-        own = prover.proved(name, f"{room}/proved")
-        self.start = f"{room}/proved" if own else f"{sources.TOP}/crates/{name}/out/incremental"
 
     def size(self):
         """How much the prover has to read of it."""
@@ -48,9 +44,9 @@ def first_error(text):
     return lines[0][:160]
 
 
-def tried(these, kept):
+def tried(these):
     """Checks a round: of each of its wrong bodies what it comes to, or None where the check came to nothing; and the seconds that it took."""
-    said = prover.check(these.crate, these.texts, these.asked(), kept)
+    said = prover.check(these.crate, these.texts, these.asked())
     if folder := os.environ.get("WRONG_LOGS"):
         with open(f"{folder}/{these.crate}.{these.bodies[0].word}.{len(these.bodies)}", "w", encoding="utf-8") as file:
             file.write(said.text)
@@ -65,22 +61,25 @@ def tried(these, kept):
 class Judging:
     """All of it: the tasks that wait, those that run, and the crates."""
 
-    def __init__(self, crates, jobs, passed):
+    def __init__(self, crates, jobs, passed, proofs):
         self.pool, self.running, self.waiting, self.crates = ThreadPoolExecutor(jobs), {}, [], crates
-        self.jobs, self.passed = jobs, passed
+        self.jobs, self.passed, self.proofs = jobs, passed, proofs
         # (what takes longest begins first)
         for crate in sorted(crates, key=lambda crate: -crate.size()):
             self.waiting += [(crate, these) for these in crate.planned]
             if not crate.planned:
                 print(crate.sums(), flush=True)
 
+    def next(self):
+        """The first task that waits and whose crate is proved, or None."""
+        at = next((at for at, (crate, _) in enumerate(self.waiting) if self.proofs.has(crate.name)), None)
+        return None if at is None else self.waiting.pop(at)
+
     def begin(self):
         """Begins what waits, as long as there is a processor."""
-        while self.waiting and len(self.running) < self.jobs:
-            crate, these = self.waiting.pop(0)
-            kept = tempfile.mkdtemp(dir=crate.room)
-            prover.linked(crate.start, f"{kept}/work")
-            self.running[self.pool.submit(tried, these, f"{kept}/work")] = crate, these, kept
+        self.proofs.look()
+        while len(self.running) < self.proofs.share(self.jobs) and (task := self.next()):
+            self.running[self.pool.submit(tried, task[1])] = task
 
     def again(self, crate, these):
         """Adds rounds of a crate, before those of other crates."""
@@ -89,9 +88,8 @@ class Judging:
 
     def end(self, future):
         """Takes what a round came to: what is not plainly refused beside others is tried again alone."""
-        crate, these, kept = self.running.pop(future)
+        crate, these = self.running.pop(future)
         judged, seconds = future.result()
-        shutil.rmtree(kept)
         crate.seconds, crate.checks, crate.open = crate.seconds + seconds, crate.checks + 1, crate.open - 1
         if judged is None:
             half = len(these.bodies) // 2
@@ -103,7 +101,6 @@ class Judging:
                 self.again(crate, [rounds.alone(body)])
         if crate.open == 0:
             print(crate.sums(), flush=True)
-            shutil.rmtree(crate.room)
 
     def decide(self, crate, body, verdict):
         """Notes what a wrong body comes to, and tells it unless it plainly passes."""
@@ -113,26 +110,35 @@ class Judging:
         if verdict[0] != self.passed[0]:
             print(f"{crate.name}: {body.name} ({body.function}, {body.clause}): {verdict[0]}{': ' if verdict[1] else ''}{verdict[1]}", flush=True)
 
+    def leave(self):
+        """Ends what waits for crates that were not proved."""
+        for crate, these in self.waiting:
+            for body in these.bodies:
+                self.decide(crate, body, (verdicts.UNTRIED, "its crate is not proved"))
+        self.waiting = []
+
     def run(self):
         """Judges all."""
         with self.pool:
             self.begin()
-            while self.running:
-                for future in wait(self.running, return_when=FIRST_COMPLETED).done:
+            while self.running or self.waiting:
+                for future in wait(self.running, timeout=self.proofs.SECONDS, return_when=FIRST_COMPLETED).done:
                     self.end(future)
                 self.begin()
+                if not self.running and self.proofs.ended:
+                    self.leave()
+                elif not self.running:
+                    time.sleep(self.proofs.SECONDS)
 
 
-def judge(chosen, jobs, anew, passed=verdicts.PASSED):
+def judge(chosen, jobs, anew, proofs, passed=verdicts.PASSED):
     """Judges the wrong bodies of crates, and returns what all came to: what an earlier run on this machine said of the same stands, unless
     they are judged anew. One crate's share of a run that is long for the checks side by side goes in several rounds. Of what does not come
     to a verdict that passes each is tried again alone."""
     most = max(LEAST, math.ceil(sum(map(len, chosen.values())) / jobs))
-    with tempfile.TemporaryDirectory(prefix="wrong-bodies-kept-") as room:
-        crates = []
-        for name, bodies in chosen.items():
-            prover.words_of(name)
-            os.mkdir(f"{room}/{name}")
-            crates.append(Crate(name, bodies, f"{room}/{name}", anew or bool(sources.CHANGED), most))
-        Judging(crates, jobs, passed).run()
+    crates = [Crate(name, bodies, anew or bool(sources.CHANGED), most) for name, bodies in chosen.items()]
+    if proofs.ended:
+        for crate in crates:
+            prover.words_of(crate.name)
+    Judging(crates, jobs, passed, proofs).run()
     return [verdict for crate in crates for verdict, _ in crate.verdicts.values()]

@@ -12,7 +12,7 @@ the prover has to refuse. They stand in `crates/CRATE/wrong-bodies/`, in a file 
 them (`tests/wrong_bodies --document`).
 
 `tests/wrong_bodies` judges each by itself. Many stand in one check, each in a copy of its function under another name, and the prover is
-asked for these copies alone: all else is taken at its word, since `rt ci` has proved it. A copy requires what its function requires, and keeps its loops and what is
+asked for these copies alone: all else is taken at its word and without its body, since `rt ci` has proved it. A copy requires what its function requires, and keeps its loops and what is
 known at each turn of them; of what the function tells of its result the copy has to show the clause that the row names, and no other. A
 method of a trait's impl can't be copied and is changed itself, as is what several functions change; an edit of more than the bodies of
 functions stands alone. A wrong body passes where the prover does not prove its copy, and the goal that fails there is of the clause that its

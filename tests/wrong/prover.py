@@ -1,7 +1,5 @@
 """Asks the prover for the functions of a round."""
-import json
 import os
-import re
 import resource
 import shutil
 import subprocess
@@ -11,7 +9,7 @@ from dataclasses import dataclass
 from wrong import assumed, sources
 
 PARTS = "src", "specs", "proofs"
-# The octets of a file that a check may write: less than it keeps of any function.
+# The octets of a file that a check may write: less than it makes of any function.
 LONGEST = 100 * 1024
 
 
@@ -54,41 +52,8 @@ def words_of(crate):
     return [*words, "--antt-project", f"{at}/rattle/logic/antt-project.json", "--logic-built", f"{at}/logic_built", "--jobs", "1"]
 
 
-def proved(crate, to):
-    """Begins a folder of kept work with the modules that a library holds as they were checked for it: the prover takes those that are up
-    to date. Returns whether there are any: a program holds none."""
-    at = f"{sources.TOP}/crates/{crate}/out/rlib/{crate}.rlib/toolchain"
-    try:
-        with open(f"{at}/checked.a", "rb") as archive, open(f"{at}/checked.json", encoding="utf-8") as index:
-            modules = archive.read()
-            kernel = re.search(rb"^--@ kernel (\S+)", modules, re.M)[1].decode().replace("/", "_")
-            for name, start, size in map(json.loads, index):
-                path = f"{to}/{kernel}/{name}.oantt"
-                os.makedirs(os.path.dirname(path), exist_ok=True)
-                with open(path, "wb") as file:
-                    file.write(modules[start : start + size])
-    except (OSError, ValueError, TypeError):
-        # (a library of another form: all is checked anew)
-        return False
-    return True
-
-
-def linked(start, to):
-    """Begins a folder of kept work with that of another check, by links: the prover replaces such a file, and never writes into it."""
-    def link(one, other):
-        try:
-            os.link(one, other)
-        except OSError:
-            shutil.copy2(one, other)
-
-    if os.path.isdir(start):
-        shutil.copytree(start, to, copy_function=link)
-    else:
-        os.makedirs(to)
-
-
 def run(words, room):
-    """Runs the words in a folder. No file gets as long as what is kept of a function: where the prover can't keep all that it makes, it gives
+    """Runs the words in a folder. No file gets as long as what is made of a function: where the prover can't write all that it makes, it gives
     its verdict, and doesn't check once more to print each goal that failed for whoever would answer it."""
     # (what ends a process that writes more is ignored here, and so it is there: the write fails)
     ran = subprocess.Popen(words, cwd=room, stdin=subprocess.DEVNULL, stdout=subprocess.PIPE, stderr=subprocess.STDOUT, restore_signals=False)
@@ -100,8 +65,8 @@ def run(words, room):
     return Said(text, ran.returncode, used.ru_utime + used.ru_stime)
 
 
-def check(crate, texts, functions, kept):
-    """What the prover says of the functions of a crate with these texts in the place of its own; `kept` is the folder of its kept work."""
+def check(crate, texts, functions):
+    """What the prover says of the functions of a crate with these texts in the place of its own."""
     with tempfile.TemporaryDirectory(prefix="wrong-bodies-") as room:
         for part in PARTS:
             if os.path.isdir(f"{sources.TOP}/crates/{crate}/{part}"):
@@ -112,4 +77,4 @@ def check(crate, texts, functions, kept):
                 file.write(text)
         assumed.write(crate, room, functions)
         asked = [word for function in functions for word in ("--only", function)]
-        return run([*words_of(crate), "--incremental", kept, "--allow-holes", *asked], room)
+        return run([*words_of(crate), "--allow-holes", *asked], room)
