@@ -1,8 +1,6 @@
 -- Octets that lead to one place continue alike.
-use Rattle.std.proofs.Common.{◌≡◌, ℕ, ◌+◌, nat_eq, cond, if◌then◌else◌, Bool, true, false, List, [], ◌∷◌, ◌++◌, length, map, Some, None, refl, ap, sym, subst, ◌∙◌, inl, inr, arith, append_assoc, append-nil}
+use Rattle.std.proofs.Common.{◌≡◌, ℕ, ◌+◌, nat_eq, cond, if◌then◌else◌, Bool, true, false, List, [], ◌∷◌, ◌++◌, length, Some, refl, ap, sym, subst, ◌∙◌, inl, inr, arith, append_assoc, append-nil}
 use Rattle.std.proofs.lemmas.List.{append_cancel_left}
-use Rattle.iim_dataset.specs.Format.Languages as languages
-use Rattle.iim_dataset.specs.Format.Octets.{number}
 use Rattle.iim_dataset.specs.Format.Datasets.{Dataset, SpellsStream, count_octets, of_record}
 use Rattle.iim_dataset.specs.Format.Splits.{Begun, InTag, InData, Reads}
 use Rattle.iim_dataset.specs.declared.head.Head.{Head}
@@ -11,10 +9,8 @@ use Rattle.iim_fields.specs.Format.Faults.{kept, section_after}
 use Rattle.iim_fields.specs.Format.Records.{AreSections}
 use Rattle.iim_fields.specs.declared.limits.Limits.{Limits}
 use Rattle.iim_object.specs.Format.Numbers.{ending_of}
-use Rattle.iim_object.specs.Format.Objects.{ObjectLanguage, SubfileBegun, number_tokens}
-use Rattle.iim_object.specs.Format.Places.{ConfirmedAs, Ending, ending_tokens}
-use Rattle.iim_object.specs.Format.Records.{HaveSizes, numbers_of}
-use Rattle.iim_object.specs.Format.Sizes.{mode_number, number_at}
+use Rattle.iim_object.specs.Format.Records.{HaveSizes}
+use Rattle.iim_object.specs.Format.Sizes.{mode_number}
 use Rattle.iim_object.specs.declared.size.Sizes.{Sizes}
 use Rattle.wire_story.specs.Format.Delivery as story
 use Rattle.wire_message.specs.Format.Layers.{text_so_far}
@@ -34,13 +30,12 @@ use Rattle.iim_places.specs.Laws.Streams.{OpenOctetsBeginWithNoEnvelope}
 use Rattle.iim_places.specs.Onward.{OnwardLaws}
 use Rattle.iim_places.proofs.Answering.{Lives, goes_envelope, leads_to, lives_envelope, lives_open, one_reading, reads_envelope}
 use Rattle.iim_places.proofs.Following.{alive_of, message_of, story_of, within_of}
-use Rattle.iim_places.proofs.LayersLead.{sizes_of}
 use Rattle.iim_places.proofs.Lasts.{last_sections, sections_last}
 use Rattle.iim_places.proofs.Onward.{Pair, ReadAlike, bounded_of, data_on, given_as, tag_on}
 use Rattle.iim_places.proofs.SamePlace.{SameAll, SameBegun, SameData, SameMessage, count_as, held_open, opened, same_begun, same_message, total_as}
-use Rattle.iim_places.proofs.SameRecords.{AreTens, SameNumbers, nines, same_numbers, same_records, stated_after_all, tens_after}
+use Rattle.iim_places.proofs.SameRecords.{SameNumbers, nines, same_numbers, same_records}
 use Rattle.iim_places.proofs.Tickets.{count_of, total_of}
-use Rattle.iim_places.proofs.Twins.{Twins, eights, sevens}
+use Rattle.iim_places.proofs.Twins.{Twins, sevens, enveloped}
 
 -- ---- where both stand
 
@@ -102,7 +97,7 @@ open_pair laws limits p q place is are opens goes =
       numbers = same_numbers (sevens ds) (sevens es) all.numbers;
       heads = count_of (of_record 8 ds) ∙ heads ∙ sym (count_of (of_record 8 es));
       octets = total_of (of_record 8 ds) ∙ octets ∙ sym (total_of (of_record 8 es));
-      nines = no_nine laws ds left was.ended ∙ sym (no_nine laws es right now.ended);
+      ending = ap ending_of (no_nine laws ds left was.ended ∙ sym (no_nine laws es right now.ended));
       seen = same_records follow laws.opens.answer.numbers ds es left right (within_of limits ds is.begun was.goes.sizes).subfiles (within_of limits es are.begun now.goes.sizes).subfiles
           (record { ended = was.ended ∙ sym now.ended; fields = all.fields; numbers = all.numbers; heads = heads });
       bounded = bounded_of laws limits es are.begun now.goes.sizes;
@@ -185,25 +180,6 @@ sizes_as ds es s t same here there =
     let total = sym here.total ∙ total_of (of_record 8 ds) ∙ same.octets ∙ sym (total_of (of_record 8 es)) ∙ there.total in
     λ i. record { known = known i; subfile = subfile i; announced = announced i; maximum = maximum i; subfiles = subfiles i; total = total i }
 
-pub record Sized (es : List Dataset) : Type 0 where
-  pub sizes : Sizes
-  pub have : HaveSizes (of_record 7 es) (of_record 8 es) (of_record 9 es) sizes
-
-one_nine : (xs : List Dataset) → length xs ≡ 1 → AreTens xs → (n : ℕ) × (ending_of xs ≡ ConfirmedAs n) × (number_at 10 (numbers_of xs) ≡ Some n)
-one_nine [] one tens = absurd (omega (arith, one))
-one_nine (d ∷ []) one tens = (number d.octets, refl, ap (λ (set : ℕ). cond (nat_eq set 10) (Some (number d.octets)) None) tens.0)
-one_nine (d ∷ x ∷ xs) one tens = absurd (omega (arith, one))
-
-pub sized : OnwardLaws → (limits : Limits) (es : List Dataset) → CanContinue limits es → section_after es ≡ 9 → Sized es
-sized laws limits es goes nine =
-    let follow = laws.opens.answer.follow in
-    let stated = stated_after_all follow.objects es goes.records goes.within.subfiles in
-    let one : length (of_record 9 es) ≡ 1 = nines follow es goes.records ∙ ap (λ (n : ℕ). cond (nat_eq n 9) 1 0) nine in
-    let (n, ending, confirmed) = one_nine (of_record 9 es) one (tens_after laws.opens.answer.numbers es goes.records).1 in
-    let (s, have) = sizes_of laws.opens.sizes (sevens es) (of_record 7 es) (of_record 8 es) (of_record 9 es) n refl stated.stated stated.duties (λ none. sym ending ∙ stated.subfiles none)
-    (subst (λ (e : Ending). languages.IsAlive ObjectLanguage (number_tokens (sevens es) ++ (map SubfileBegun (eights es) ++ ending_tokens e))) ending goes.object) confirmed in
-    record { sizes = s; have = have }
-
 -- the message of an envelope, led to the same end
 ended_at : OnwardLaws → (octets : List ℕ) (v : Value) (a : Admits octets v) (r : List ℕ) (m : SameMessage (object_of a.datasets) r) → LeadsTo r m.other (at_message.AfterEnd v.head (record { items = v.trailer }) (length a.message.after))
 ended_at laws octets v a r m =
@@ -214,22 +190,13 @@ pub whole_as : OnwardLaws → (limits : Limits) (octets others : List ℕ) (v : 
     → (w : Value) × IsEnvelopeWithin limits others w × AreAlike v w
 whole_as laws limits octets others v a es reads same goes nine =
     let led = ended_at laws octets v a (object_of es) same.message in
-    let size = sized laws limits es goes nine in
-    let stream : SpellsStream count_octets es others = subst (SpellsStream count_octets es) (sym (append-nil reads.front) ∙ ap (λ (l : List ℕ). reads.front ++ l) (sym reads.is_rest.0) ∙ sym reads.parts) reads.is_front in
-    let w : Value = record { fields = kept es; head = v.head; lines = led.story.0; trailer = v.trailer; sizes = size.sizes } in
-    let admits : Admits others w = record {
-      datasets = es;
-      spelled = stream;
-      sections = last_sections laws.opens.answer.follow.ends es goes.records nine;
-      fields = refl;
-      text = same.message.other;
-      message = led.spelled.0;
-      lines = led.story.1;
-      sizes = size.have;
-    } in (
-      w,
-      record { admits = admits; within = goes.within },
-      record { fields = sym a.fields ∙ same.fields; head = refl; trailer = refl; sizes = sizes_as a.datasets es v.sizes size.sizes same a.sizes size.have },
+    let stream : SpellsStream count_octets es others =
+    subst (SpellsStream count_octets es) (sym (append-nil reads.front) ∙ ap (λ (l : List ℕ). reads.front ++ l) (sym reads.is_rest.0) ∙ sym reads.parts)
+    reads.is_front in
+    let all = enveloped laws.opens limits others es v.head same.message.other v.trailer led.story.0 stream goes nine led.spelled.0 led.story.1 in (
+      _,
+      all.within,
+      record { fields = sym a.fields ∙ same.fields; head = refl; trailer = refl; sizes = sizes_as a.datasets es v.sizes all.sizes same a.sizes all.have },
     )
 
 -- what is read after the one as an envelope is read after the other as one

@@ -5,7 +5,7 @@ use Rattle.std.specs.Option.{unwrap_or}
 use Rattle.std.proofs.lemmas.Bool.{eqb-true, ne_eqb}
 use Rattle.std.proofs.lemmas.Bool.Decides.{eqb_tells}
 use Rattle.std.proofs.lemmas.List.{length-take, take-append-drop, nil_from_length}
-use Rattle.iim_dataset.specs.Format.Octets.{IsOctet, Octets, number, greatest_size}
+use Rattle.iim_dataset.specs.Format.Octets.{IsOctet, Octets, greatest_size}
 use Rattle.iim_dataset.specs.Format.Datasets.{Dataset, SpellsTag, SpellsStream, canonical_stream, count_octets, of_record}
 use Rattle.iim_dataset.specs.Format.Languages as languages
 use Rattle.iim_dataset.specs.Laws.Datasets.{HasSpellings}
@@ -22,15 +22,14 @@ use Rattle.iim_tables.specs.Format.Records.{IsGoodDataset}
 use Rattle.iim_fields.specs.Format.Bounds.{IsWithin}
 use Rattle.iim_fields.proofs.Sections.{head_alive}
 use Rattle.iim_object.specs.Format.Numbers.{place_after_datasets, place_ended, ending_of}
-use Rattle.iim_object.specs.Format.Objects.{ObjectEnded, Confirmed, SubfileBegun, ObjectLanguage, number_tokens}
+use Rattle.iim_object.specs.Format.Objects.{ObjectEnded, Confirmed, SubfileBegun}
 use Rattle.iim_object.specs.Laws.Packing.{NumberDatasetsAreGood}
-use Rattle.iim_object.specs.Format.Packing.{number_dataset, subfile_datasets}
-use Rattle.iim_object.specs.Format.Places.{Ending, NotEnded, Ended, ConfirmedAs, ending_tokens, place_after}
+use Rattle.iim_object.specs.Format.Packing.{subfile_datasets}
+use Rattle.iim_object.specs.Format.Places.{Ending, NotEnded, Ended, ConfirmedAs, place_after}
 use Rattle.iim_object.specs.Format.Places as objects
-use Rattle.iim_object.specs.Format.Records.{HaveSizes, lengths_of, numbers_of}
+use Rattle.iim_object.specs.Format.Records.{lengths_of, numbers_of}
 use Rattle.iim_object.specs.States.Saved.{IsAt, IsPossible, LastIsBegun, stated_numbers}
 use Rattle.iim_object.specs.Format.Sizes.{Stated, AreStated, number_at}
-use Rattle.iim_object.specs.declared.size.Sizes.{Sizes}
 use Rattle.wire_story.specs.Format.Tokens.{Octet, End}
 use Rattle.wire_message.specs.Format.Layers.{MessageLanguage}
 use Rattle.wire_message.specs.States.Saved.{LeadsToSaved}
@@ -45,25 +44,26 @@ use Rattle.iim_places.specs.Plain.{AreSpellable, begun_object, plain_place}
 use Rattle.iim_places.specs.States.PlainDatasets.{Numbers, number_list, plain_numbers, filled, plain_end, plain}
 use Rattle.iim_places.specs.States.Possible.{Possible, AreOpenOrWhole, widest}
 use Rattle.iim_places.specs.Format.Tickets.{Place, Phase, TagBegun, DataBegun, AllEnded, IsPlaceOf}
-use Rattle.iim_places.specs.Format.Tokens.{place_at, ObjectLives, MayContinue, CanContinue}
+use Rattle.iim_places.specs.Format.Tokens.{place_at, ObjectLives, MayContinue}
 use Rattle.iim_places.specs.Laws.Lower.{ByLayersLaws, SizeLaws}
 use Rattle.iim_places.proofs.AfterEnd.{WholeMessage, ended_after, ended_at}
 use Rattle.iim_places.proofs.Alike.{Fits, alike, told_by, present_alike}
 use Rattle.iim_places.proofs.Answering.{nothing_held}
 use Rattle.iim_places.proofs.Bounds.{object_fits}
 use Rattle.iim_places.proofs.Following.{alive_of}
-use Rattle.iim_places.proofs.Lasts.{sections_last, last_sections}
+use Rattle.iim_places.proofs.Lasts.{sections_last}
 use Rattle.iim_places.proofs.LeadsByLayers.{one_same}
 use Rattle.iim_places.proofs.MessageOctets.{living_octets}
 use Rattle.iim_places.proofs.Plain.{Tell, taken_told, plain_led, plain_spelled, back_octets}
 use Rattle.iim_places.proofs.PlainContinues.{fields_low, fit_in_rows, two_at_most, low_number}
 use Rattle.iim_places.proofs.PlainOpens.{part_small}
-use Rattle.iim_places.proofs.PlainPlaces.{pick, picks_plain, numbers_in, alive_front, low_mode, mode_octet}
+use Rattle.iim_places.proofs.PlainPlaces.{pick, picks_plain, numbers_in, low_mode, mode_octet}
 use Rattle.iim_places.proofs.Places.{at_end}
-use Rattle.iim_places.proofs.PlainSizes.{duties_of, possible_like}
+use Rattle.iim_places.proofs.PlainSizes.{duties_of, possible_like, each_small}
 use Rattle.iim_places.proofs.SameRecords.{stated_after_all}
 use Rattle.iim_places.proofs.Taking.{each_good}
 use Rattle.iim_places.proofs.Tickets.{total_of, count_of, sum_one}
+use Rattle.iim_places.proofs.Twins.{enveloped}
 
 -- ---- the message
 
@@ -97,43 +97,6 @@ present_ended fields numbers heads object false keeps =
     let sevens = plain_numbers numbers in
     ap (λ (n : ℕ). nat_eq n 9) (picks_plain fields numbers heads object false)
     ∙ not_nine (pick eights 8 (pick sevens 7 (last_record 0 fields))) (pick_low eights 8 (pick sevens 7 (last_record 0 fields)) (omega arith) (pick_low sevens 7 (last_record 0 fields) (omega arith) few))
-
--- ---- an envelope
-
-pub sizes_of : SizeLaws → (ps : List Stated) (r7 r8 r9 : List Dataset) (n : ℕ) → ps ≡ numbers_of r7 → AreStated ps → (0 < length (lengths_of r8) → objects.HasBoth ps) → (lengths_of r8 ≡ [] → ConfirmedAs n ≡ NotEnded)
-    → languages.IsAlive ObjectLanguage (number_tokens ps ++ (map SubfileBegun (lengths_of r8) ++ ending_tokens (ConfirmedAs n))) → number_at 10 (numbers_of r9) ≡ Some n → (s : Sizes) × HaveSizes r7 r8 r9 s
-sizes_of laws ps r7 [] r9 n is are both none lives last = absurd (let bad : ConfirmedAs n ≡ NotEnded = none refl in cc)
-sizes_of laws ps r7 (r ∷ r8) r9 n is are both none lives last =
-    let ls = lengths_of (r ∷ r8) in
-    let some : 0 < length ls = omega arith in
-    let d = duties_of ps are (both some) in
-    let (fit, whole, same) = (laws.confirmed d.known d.size ps ls n (record { stated = are; mode = d.mode; largest = d.largest }) some).0 lives in (
-      record { known = d.known; subfile = d.size; announced = number_at 90 ps; maximum = number_at 95 ps; subfiles = length (r ∷ r8); total = sum ls },
-      record {
-        mode = ap (number_at 10) (sym is) ∙ d.mode;
-        largest = ap (number_at 20) (sym is) ∙ d.largest;
-        announced = ap (number_at 90) (sym is);
-        maximum = ap (number_at 95) (sym is);
-        subfiles = refl;
-        total = refl;
-        confirmed = n;
-        is_confirmed = last;
-        agree = record {
-          by_mode = fit.by_mode;
-          announced_fits = clash (number_at 90 ps) (number_at 95 ps) (λ a m e f. fit.clash.sizes a m e f);
-          each_subfile = fit.each;
-          total_fits = fit.total;
-          within_maximum = fit.maximum;
-          as_announced = whole;
-          as_confirmed = same;
-        };
-      },
-    )
-  where
-    clash : (x y : Option ℕ) → ((a m : ℕ) → x ≡ Some a → y ≡ Some m → a ≤ m) → IfSome x (λ a. IfSome y (λ m. a ≤ m))
-    clash None y h = tt
-    clash (Some a) None h = tt
-    clash (Some a) (Some m) h = h a m refl refl
 
 -- ---- all of it
 
@@ -197,31 +160,9 @@ finish laws place numbers heads object ended begun rest text spellable is_begun 
         let section9 : place.section ≡ 9 = section_is ∙ ap (section ds) no_more.0 ∙ nine in
         let o_is : object_so_far ds begun ≡ object_of ds = ap (object_so_far ds) no_more.0 in
         let m = whole_saved (object_of ds) text place.message (subst (λ (o : List ℕ). LeadsToSaved o text place.message) o_is here) (last section9) in
-        let tag : CanContinue widest ds = subst (MayContinue widest ds) no_more.0 goes in
-        let stated = stated_after_all laws.opens.answer.follow.objects ds alive tag.within.subfiles in
-        let ends : of_record 9 ds ≡ plain_end true object = tell.nines_are ∙ ap (λ (b : Bool). plain_end b object) is in
-        let n = number (number_dataset 9 10 (length object)).octets in
-        let ending : ending_of (of_record 9 ds) ≡ ConfirmedAs n = ap ending_of ends in
-        let (s, have) = sizes_of laws.opens.sizes (numbers_of (of_record 7 ds)) (of_record 7 ds) (of_record 8 ds) (of_record 9 ds) n refl stated.stated stated.duties (λ none. sym ending ∙ stated.subfiles none)
-        (subst (λ (e : Ending). languages.IsAlive ObjectLanguage (number_tokens (numbers_of (of_record 7 ds)) ++ (map SubfileBegun (lengths_of (of_record 8 ds)) ++ ending_tokens e))) ending tag.object)
-        (ap (λ (rs : List Dataset). number_at 10 (numbers_of rs)) ends) in
-        subst (λ (r : List ℕ). AreOpenOrWhole widest (canonical_stream ds ++ r)) (sym no_more.1)
-        (inr (
-          record { fields = kept ds; head = m.head; lines = m.lined.0; trailer = m.trailer; sizes = s },
-          record {
-            admits = record {
-              datasets = ds;
-              spelled = subst (SpellsStream count_octets ds) (sym (append-nil (canonical_stream ds))) spelled;
-              sections = last_sections laws.opens.answer.follow.ends ds alive nine;
-              fields = refl;
-              text = m.text;
-              message = m.message;
-              lines = m.lined.1;
-              sizes = have;
-            };
-            within = tag.within;
-          },
-        ))
+        let all = enveloped laws.opens widest (canonical_stream ds ++ []) ds m.head m.text m.trailer m.lined.0
+        (subst (SpellsStream count_octets ds) (sym (append-nil (canonical_stream ds))) spelled) (subst (MayContinue widest ds) no_more.0 goes) nine m.message m.lined.1 in
+        subst (λ (r : List ℕ). AreOpenOrWhole widest (canonical_stream ds ++ r)) (sym no_more.1) (inr (_, all.within))
 
     by : (b : Bool) → ended ≡ b → AreOpenOrWhole widest (canonical_stream ds ++ rest)
     by true is = whole is
@@ -258,15 +199,6 @@ same_stated numbers ps e =
     let announced : numbers.announced ≡ number_at 90 ps = cc in
     let maximum : numbers.maximum ≡ number_at 95 ps = cc in
     record { mode = mode; largest = largest; are = λ i. record { mode = mode i; largest = largest i; announced = announced i; maximum = maximum i } }
-
--- subfiles of a possible place are no longer than 7:20
-pub each_small : SizeLaws → (p : objects.Place) → IsPossible p → (size : ℕ) → number_at 20 p.stated ≡ Some size → 0 < length p.lengths → AllByRecursion (λ n. n ≤ size) p.lengths
-each_small laws p is size largest some =
-    let d = duties_of p.stated is.stated (is.duties some) in
-    let alive : languages.IsAlive ObjectLanguage (number_tokens p.stated ++ map SubfileBegun p.lengths) =
-    alive_front (number_tokens p.stated ++ map SubfileBegun p.lengths) (ending_tokens p.ending)
-    (subst (languages.IsAlive ObjectLanguage) (sym (append_assoc (number_tokens p.stated) (map SubfileBegun p.lengths) (ending_tokens p.ending))) is.alive) in
-    ((laws.fit d.known size p.stated p.lengths (record { stated = is.stated; mode = d.mode; largest = largest }) some).0 alive).each
 
 -- the first subfiles of a possible place have room for their octets
 room_in : SizeLaws → (p : objects.Place) → IsPossible p → (ls ks : List ℕ) → p.lengths ≡ ls ++ ks → sum ls ≤ length ls * unwrap_or (number_at 20 p.stated) 0

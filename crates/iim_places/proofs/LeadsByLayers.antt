@@ -35,16 +35,16 @@ use Rattle.iim_places.specs.Format.Tokens.{ObjectLives, CanContinueAt, MayContin
 use Rattle.iim_places.specs.Laws.Lower.{ByLayersLaws, OpenLaws}
 use Rattle.iim_places.proofs.AfterEnd.{after_end}
 use Rattle.iim_places.proofs.Alike.{Fits, alike, present_alike}
-use Rattle.iim_places.proofs.Fitting.{Lived, lived}
+use Rattle.iim_places.proofs.Fitting.{Lived, lived, begins_tag, given_fits, object_low}
 use Rattle.iim_places.proofs.Following.{alive_of, object_lives_after}
-use Rattle.iim_places.proofs.Fitting.{begins_tag, given_fits, object_low}
 use Rattle.iim_places.proofs.HeadsWithin.{told_by}
 use Rattle.iim_places.proofs.Lasts.{last_sections, not_all}
 use Rattle.iim_places.proofs.PlainContinues.{plain_on, low_number, fit_in_rows}
-use Rattle.iim_places.proofs.PlainOpens.{ending_like, possible_of}
+use Rattle.iim_places.proofs.PlainOpens.{ending_like}
 use Rattle.iim_places.proofs.PlainPlaces.{numbers_in, all_kept, room_for, present_same}
 use Rattle.iim_places.proofs.SameRecords.{IsStated, nines, stated_after_all, stated_at}
 use Rattle.iim_places.proofs.Tickets.{total_of, count_of, sum_one}
+use Rattle.iim_places.proofs.PlainSizes.{possible_of}
 
 -- ---- the dataset layer
 

@@ -39,12 +39,12 @@ use Rattle.iim_dataset.proofs.Agreeing.{compare}
 use Rattle.iim_places.proofs.Fronts.{begun_none}
 use Rattle.iim_places.proofs.Limits.{within_front}
 use Rattle.iim_places.proofs.Places.{lives_after}
-use Rattle.iim_places.proofs.PlainOpens.{possible_of}
 use Rattle.iim_places.proofs.SamePlace.{SameBegun, SameMessage}
 use Rattle.iim_places.proofs.SameRecords.{stated_after_all}
 use Rattle.iim_places.proofs.SizeRows.{eight_has}
 use Rattle.iim_places.proofs.Tickets.{count_of}
-use Rattle.iim_places.proofs.Twins.{AreBounded, SameTail, Twins, bounded_at, eights, follows_as, goes_as, goes_at_as, present_on, same_tail, sevens, twins_on}
+use Rattle.iim_places.proofs.Twins.{AreBounded, SameTail, Twins, bounded_at, eights, follows_as, present_on, same_tail, sevens, twins_on, may_as}
+use Rattle.iim_places.proofs.PlainSizes.{possible_of}
 
 -- ---- the message
 
@@ -116,20 +116,12 @@ alive_on : (ds es xs : List Dataset) → Before ds es → SectionsLive (ds ++ xs
 alive_on ds es xs b (later, are) =
     (later, subst AreSections (sym (append_assoc es xs later)) (follows_as ds es b.alive b.present b.twins.seen (xs ++ later) (subst AreSections (append_assoc ds xs later) are)))
 
-alive_at_on : (ds es xs : List Dataset) (h : Head) → Before ds es → SectionsLiveAt (ds ++ xs) h → SectionsLiveAt (es ++ xs) h
-alive_at_on ds es xs h b (d, is, alive) =
-    (d, is, subst SectionsLive (sym (append_assoc es xs (d ∷ []))) (alive_on ds es (xs ++ d ∷ []) b (subst SectionsLive (append_assoc ds xs (d ∷ [])) alive)))
-
 pub bounded_of : OnwardLaws → (limits : Limits) (ds : List Dataset) (c : Begun) → MayContinue limits ds c → AreBounded (sevens ds) (eights ds)
 bounded_of laws limits ds c goes =
     let objects = laws.opens.answer.follow.objects in
     let few = (within_of limits ds c goes).subfiles in
     let count = count_of (of_record 8 ds) in
     bounded_at laws.opens.sizes (place_after_datasets ds) (possible_of (place_after_datasets ds) (stated_after_all objects ds (alive_of limits ds c goes) few) (omega (arith, few, count)) (object_lives_after objects limits ds c goes))
-
-leads_on_as : OnwardLaws → (limits : Limits) (ds es xs : List Dataset) (c : Begun) → Before ds es → Twins (ds ++ xs) (es ++ xs) → MayContinue limits (ds ++ xs) c → MayContinue limits (es ++ xs) c
-leads_on_as laws limits ds es xs (InTag held) b twins goes = goes_as laws.opens limits (ds ++ xs) (es ++ xs) (alive_on ds es xs b goes.records) twins goes
-leads_on_as laws limits ds es xs (InData h taken) b twins goes = goes_at_as laws.opens limits (ds ++ xs) (es ++ xs) h (alive_at_on ds es xs h b goes.records) twins goes
 
 pair_on : OnwardLaws → (limits : Limits) (ds es xs : List Dataset) (c : Begun) → Before ds es → AllCanContinue limits (ds ++ xs) c → Pair limits (ds ++ xs) (es ++ xs) c c
 pair_on laws limits ds es xs c b goes =
@@ -141,13 +133,15 @@ pair_on laws limits ds es xs c b goes =
     let message : SameMessage (object_so_far (ds ++ xs) c) (object_so_far (es ++ xs) c) =
     subst (SameMessage (object_so_far (ds ++ xs) c)) (sym (so_far_both es xs c)) (subst (λ (o : List ℕ). SameMessage o (object_of es ++ more)) (sym (so_far_both ds xs c)) m) in
     let same = section_on ds es xs c b.present in
+    let alive = alive_on ds es xs b (alive_of limits (ds ++ xs) c goes.sizes) in
+    let sizes = may_as laws.opens limits (ds ++ xs) (es ++ xs) c alive (present_on ds es xs b.present) twins goes.sizes in
     record {
       section_is = same;
       begun = same_begun c;
       twins = twins;
       message = message;
       here = goes;
-      there = all_as laws limits (ds ++ xs) (es ++ xs) c c goes (leads_on_as laws limits ds es xs c b twins goes.sizes) same message;
+      there = all_as laws limits (ds ++ xs) (es ++ xs) c c goes sizes same message;
     }
 
 pub tag_on : OnwardLaws → (limits : Limits) (p q more : List ℕ) (ds es : List Dataset) (held : List ℕ) → Reads count_octets p ds (InTag held) → Reads count_octets q es (InTag held) → Before ds es → (W : List Dataset) (c : Begun) → Reads count_octets (p ++ more) W c → AllCanContinue limits W c

@@ -1,9 +1,8 @@
 -- Octets from which every layer can continue are open, where no envelope stands at their front.
-use Rattle.std.proofs.Common.{ℕ, nat_eq, if◌then◌else◌, [], ◌∷◌, ◌++◌, map, refl, subst}
+use Rattle.std.proofs.Common.{ℕ, nat_eq, if◌then◌else◌, [], ◌∷◌, ◌++◌, map, subst}
 use Rattle.iim_dataset.specs.Format.Datasets.{count_octets}
 use Rattle.iim_dataset.specs.Format.Splits.{Begun, InTag, InData, Reads}
 use Rattle.iim_dataset.specs.Format.Languages as languages
-use Rattle.iim_fields.specs.Format.Faults.{kept}
 use Rattle.iim_fields.specs.Format.Records.{AreSections}
 use Rattle.wire_story.specs.Format.Tokens.{Octet, End, with_end}
 use Rattle.wire_message.specs.Format.Layers.{MessageLanguage, MessageLivesWith}
@@ -14,9 +13,9 @@ use Rattle.iim_places.specs.Format.Open.{AllCanContinue}
 use Rattle.iim_places.specs.Laws.Streams.{LivingOctetsAreOpen}
 use Rattle.iim_places.specs.Onward.{OnwardLaws}
 use Rattle.iim_places.proofs.AfterEnd.{ended_at}
-use Rattle.iim_places.proofs.Continuing.{sized}
 use Rattle.iim_places.proofs.Lasts.{not_all, sections_last}
 use Rattle.iim_places.proofs.Living.{alive_front}
+use Rattle.iim_places.proofs.Twins.{enveloped}
 
 pub open_where_none : OnwardLaws → (start : Place) → LeadsTo [] [] start → LivingOctetsAreOpen
 open_where_none laws start begins limits octets whole begun reads all none =
@@ -26,11 +25,10 @@ open_where_none laws start begins limits octets whole begun reads all none =
     by (InData h taken) reads all sections = not_all laws.opens.answer.follow.sections whole h all.sizes.records sections
     by (InTag held) reads all sections =
         let nine = sections_last laws.opens.answer.follow.ends whole all.sizes.records sections in
-        let size = sized laws limits whole all.sizes nine in
         let ends : languages.IsAlive MessageLanguage (with_end (object_of whole)) =
         subst (λ (n : ℕ). languages.IsAlive MessageLanguage (map Octet (object_of whole) ++ (if nat_eq n 9 then End ∷ [] else []))) nine all.message in
         let lives : MessageLivesWith (object_of whole) = alive_front MessageLanguage (map Octet (object_of whole)) (End ∷ []) ends in
         let (text, place, leads) = laws.on [] (object_of whole) [] start begins lives all.story in
         let e = ended_at (object_of whole) text place leads ((laws.ends (object_of whole) text place leads).0 ends) in
-        none reads.front reads.rest (record { fields = kept whole; head = e.head; lines = e.lined.0; trailer = e.trailer; sizes = size.sizes }) reads.parts
-        (record { datasets = whole; spelled = reads.is_front; sections = sections; fields = refl; text = e.text; message = e.message; lines = e.lined.1; sizes = size.have })
+        let is = enveloped laws.opens limits reads.front whole e.head e.text e.trailer e.lined.0 reads.is_front all.sizes nine e.message e.lined.1 in
+        none reads.front reads.rest _ reads.parts is.within.admits

@@ -1,5 +1,5 @@
 -- The object layer lives with other numbers and lengths that tell the same.
-use Rattle.std.proofs.Common.{◌≡◌, ℕ, ◌<◌, ◌≤◌, Bool, List, [], ◌∷◌, ◌++◌, length, map, sum, Option, Some, is_some, IfSome, refl, ap, sym, subst, ◌∙◌, arith, append-nil}
+use Rattle.std.proofs.Common.{◌≡◌, ℕ, ◌<◌, ◌≤◌, Bool, List, [], ◌∷◌, ◌++◌, length, map, sum, Option, Some, is_some, IfSome, refl, ap, sym, subst, ◌∙◌, arith, append-nil, append_assoc, None}
 use Rattle.std.specs.List.{AllByRecursion}
 use Rattle.iim_dataset.specs.Format.Languages.{IsAlive}
 use Rattle.iim_dataset.specs.Format.Octets.{greatest_size}
@@ -7,12 +7,19 @@ use Rattle.iim_dataset.proofs.Lists.{some_of}
 use Rattle.iim_object.specs.Laws.Living.{NoClash, HasDuties, Fit, MeetsAnnounced}
 use Rattle.iim_object.specs.Format.Objects.{SubfileBegun, ObjectLanguage, number_tokens}
 use Rattle.iim_object.specs.Format.Places.{Ending, NotEnded, Ended, ConfirmedAs, HasBoth, ending_tokens}
+use Rattle.iim_object.specs.Format.Places as objects
 use Rattle.iim_object.specs.Format.Sizes.{Stated, AreStated, number_at, mode_number}
 use Rattle.iim_object.proofs.Bounded.{mode_known}
 use Rattle.iim_places.specs.Plain.{ObjectsArePossibleAlike}
 use Rattle.iim_places.specs.Laws.Lower.{SizeLaws}
-use Rattle.iim_places.proofs.PlainPlaces.{low_mode}
-use Rattle.iim_places.proofs.SameRecords.{SameNumbers, same_numbers}
+use Rattle.iim_places.proofs.PlainPlaces.{low_mode, alive_front}
+use Rattle.iim_places.proofs.SameRecords.{SameNumbers, same_numbers, IsStated}
+use Rattle.iim_object.specs.Format.Plans.{max_subfiles}
+use Rattle.iim_places.specs.Format.Tokens.{ObjectLives}
+use Rattle.iim_object.specs.States.Saved.{IsPossible}
+use Rattle.iim_object.specs.Format.Records.{numbers_of, lengths_of, HaveSizes}
+use Rattle.iim_object.specs.declared.size.Sizes.{Sizes}
+use Rattle.iim_dataset.specs.Format.Datasets.{Dataset}
 
 clash_like : (ps qs : List Stated) → SameNumbers ps qs → NoClash ps → NoClash qs
 clash_like ps qs same none = record {
@@ -105,3 +112,53 @@ possible_like laws p q is goes same many total each end =
       few = let few = is.few in omega (arith, few, many);
       alive = subst (Lives q.stated q.lengths) end (lives_like laws p.stated q.stated p.lengths q.lengths p.ending is.stated goes nums is.duties is.subfiles many total each is.alive);
     }
+
+pub possible_of : (p : objects.Place) → IsStated p → length p.lengths ≤ max_subfiles → ObjectLives p → IsPossible p
+possible_of p is few lives = record { stated = is.stated; subfiles = is.subfiles; duties = is.duties; few = few; alive = lives }
+
+-- subfiles of a possible place are no longer than 7:20
+pub each_small : SizeLaws → (p : objects.Place) → IsPossible p → (size : ℕ) → number_at 20 p.stated ≡ Some size → 0 < length p.lengths → AllByRecursion (λ n. n ≤ size) p.lengths
+each_small laws p is size largest some =
+    let d = duties_of p.stated is.stated (is.duties some) in
+    let alive : IsAlive ObjectLanguage (number_tokens p.stated ++ map SubfileBegun p.lengths) =
+    alive_front (number_tokens p.stated ++ map SubfileBegun p.lengths) (ending_tokens p.ending)
+    (subst (IsAlive ObjectLanguage) (sym (append_assoc (number_tokens p.stated) (map SubfileBegun p.lengths) (ending_tokens p.ending))) is.alive) in
+    ((laws.fit d.known size p.stated p.lengths (record { stated = is.stated; mode = d.mode; largest = largest }) some).0 alive).each
+
+-- the sizes of an object that has ended
+pub sizes_of : SizeLaws → (r7 r8 r9 : List Dataset) (n : ℕ) → AreStated (numbers_of r7) → (0 < length (lengths_of r8) → HasBoth (numbers_of r7))
+    → (lengths_of r8 ≡ [] → ConfirmedAs n ≡ NotEnded) → Lives (numbers_of r7) (lengths_of r8) (ConfirmedAs n) → number_at 10 (numbers_of r9) ≡ Some n
+    → (s : Sizes) × HaveSizes r7 r8 r9 s
+sizes_of laws r7 [] r9 n are both none lives last = absurd (let bad : ConfirmedAs n ≡ NotEnded = none refl in cc)
+sizes_of laws r7 (r ∷ r8) r9 n are both none lives last =
+    let ps = numbers_of r7 in
+    let ls = lengths_of (r ∷ r8) in
+    let some : 0 < length ls = omega arith in
+    let d = duties_of ps are (both some) in
+    let (fit, whole, same) = (laws.confirmed d.known d.size ps ls n (record { stated = are; mode = d.mode; largest = d.largest }) some).0 lives in (
+      record { known = d.known; subfile = d.size; announced = number_at 90 ps; maximum = number_at 95 ps; subfiles = length (r ∷ r8); total = sum ls },
+      record {
+        mode = d.mode;
+        largest = d.largest;
+        announced = refl;
+        maximum = refl;
+        subfiles = refl;
+        total = refl;
+        confirmed = n;
+        is_confirmed = last;
+        agree = record {
+          by_mode = fit.by_mode;
+          announced_fits = clash (number_at 90 ps) (number_at 95 ps) (λ a m e f. fit.clash.sizes a m e f);
+          each_subfile = fit.each;
+          total_fits = fit.total;
+          within_maximum = fit.maximum;
+          as_announced = whole;
+          as_confirmed = same;
+        };
+      },
+    )
+  where
+    clash : (x y : Option ℕ) → ((a m : ℕ) → x ≡ Some a → y ≡ Some m → a ≤ m) → IfSome x (λ a. IfSome y (λ m. a ≤ m))
+    clash None y h = tt
+    clash (Some a) None h = tt
+    clash (Some a) (Some m) h = h a m refl refl

@@ -45,9 +45,10 @@ use Rattle.iim_places.specs.Format.Tokens.{place_at, ObjectLives, CanContinue, C
 use Rattle.iim_places.proofs.Alike.{Fits, told_by}
 use Rattle.iim_places.proofs.LayersLead.{less_none, same_stated, present_ended}
 use Rattle.iim_places.proofs.LeadsByLayers.{whole_at, subfile_at, opened_at, confirmed_at, few_heads, few_with_head, nine_ended, one_same}
-use Rattle.iim_places.proofs.PlainOpens.{fit_in_rows, possible_of}
+use Rattle.iim_places.proofs.PlainOpens.{fit_in_rows}
 use Rattle.iim_places.proofs.SamePlace.{has_begun, none_present}
 use Rattle.iim_places.proofs.SameRecords.{IsStated, SameRecords, same_shape, stated_after_all, stated_at}
+use Rattle.iim_places.proofs.PlainSizes.{possible_of}
 
 -- by which an unpacker is made of readers
 pub record RestoreLaws : Type 0 where

@@ -1,5 +1,5 @@
 -- After octets of one place the same octet is refused, for the same fault.
-use Rattle.std.proofs.Common.{◌≡◌, ℕ, ◌+◌, ◌≤◌, ◌&&◌, ◌||◌, ◌⊎◌, not, nat_lt, nat_eq, if◌then◌else◌, Bool, true, false, List, [], ◌∷◌, ◌++◌, length, sum, Option, Some, None, refl, ap, sym, subst, ◌∙◌, inl, inr, arith, append_assoc}
+use Rattle.std.proofs.Common.{◌≡◌, ℕ, ◌+◌, ◌≤◌, ◌&&◌, ◌||◌, ◌⊎◌, not, nat_lt, nat_eq, if◌then◌else◌, Bool, true, false, List, [], ◌∷◌, ◌++◌, length, sum, Option, Some, None, refl, ap, sym, subst, ◌∙◌, inl, inr, arith}
 use Rattle.std.proofs.lemmas.Bool.{ne_eqb}
 use Rattle.std.specs.Option.{option_or, option_map}
 use Rattle.iim_dataset.specs.Format.Octets.{Octets, number}
@@ -40,12 +40,12 @@ use Rattle.iim_places.proofs.ObjectOctets.{few_more, no_object}
 use Rattle.iim_places.proofs.Continuing.{not_both, on_open, unfinished_as}
 use Rattle.iim_places.proofs.Following.{object_lives_after, with_data}
 use Rattle.iim_places.proofs.Onward.{AreData, Pair, ReadAlike, all_as, given_as, head_is, lives_as}
-use Rattle.iim_places.proofs.PlainOpens.{possible_of}
 use Rattle.iim_places.proofs.SamePlace.{SameData, SameMessage, value_as}
 use Rattle.iim_places.proofs.SameRecords.{SameNumbers, stated_after_all}
 use Rattle.iim_places.proofs.Taking.{good_at}
 use Rattle.iim_places.proofs.Tickets.{count_of}
-use Rattle.iim_places.proofs.Twins.{AreBounded, Twins, at_as, after_as, bounded_at, eights, follows_as, goes_at_as, numbers_on, room_as, same_tail, sevens, twins_on}
+use Rattle.iim_places.proofs.Twins.{AreBounded, Twins, at_as, after_as, bounded_at, eights, numbers_on, room_as, same_tail, sevens, twins_on, may_as, alive_at_as}
+use Rattle.iim_places.proofs.PlainSizes.{possible_of}
 
 -- ---- the other way round
 
@@ -58,7 +58,7 @@ flip ds es twins bounded = record {
   numbers = flip_numbers twins.numbers;
   heads = sym twins.heads;
   octets = sym twins.octets;
-  nines = sym twins.nines;
+  ending = sym twins.ending;
   seen = record { seen = λ r n. sym (twins.seen.seen r n) };
   bounded = bounded;
 }
@@ -99,10 +99,6 @@ head_fault_as limits ds es h present twins =
 
 -- ---- where a head is refused
 
-at_alive : (ds es : List Dataset) (h : Head) → SectionsLive es → section_after ds ≡ section_after es → Twins ds es → SectionsLiveAt ds h → SectionsLiveAt es h
-at_alive ds es h alive present twins (d, is, (later, sections)) =
-    (d, is, (later, subst AreSections (sym (append_assoc es (d ∷ []) later)) (follows_as ds es alive present twins.seen ((d ∷ []) ++ later) (subst AreSections (append_assoc ds (d ∷ []) later) sections))))
-
 -- what holds in a tag after both
 record Tagged (limits : Limits) (ds es : List Dataset) : Type 0 where
   present : section_after ds ≡ section_after es
@@ -138,10 +134,10 @@ room_back limits ds es h back none room = none (room_as limits es ds h back room
 
 head_dies_as : OnwardLaws → (limits : Limits) (ds es : List Dataset) (h : Head) → Tagged limits ds es → (layer : Layer) → DiesAtHead layer limits ds h → DiesAtHead layer limits es h
 head_dies_as laws limits ds es h t layers.Dataset dies = dies
-head_dies_as laws limits ds es h t layers.Record dies = λ alive. dies (at_alive es ds h t.here (sym t.present) t.back alive)
-head_dies_as laws limits ds es h t layers.Limits dies = (at_alive ds es h t.there t.present t.twins dies.0, room_back limits ds es h t.back dies.1)
+head_dies_as laws limits ds es h t layers.Record dies = λ alive. dies (alive_at_as es ds h t.here (sym t.present) t.back.seen alive)
+head_dies_as laws limits ds es h t layers.Limits dies = (alive_at_as ds es h t.there t.present t.twins.seen dies.0, room_back limits ds es h t.back dies.1)
 head_dies_as laws limits ds es h t layers.Object dies =
-    let alive = at_alive ds es h t.there t.present t.twins dies.0 in
+    let alive = alive_at_as ds es h t.there t.present t.twins.seen dies.0 in
     let room = room_as limits ds es h t.twins dies.1 in
     (alive, room, (λ lives. dies.2 (at_as laws.opens es ds h alive dies.0 t.few_there room.subfiles t.back lives)))
 head_dies_as laws limits ds es h t layers.Message dies = dies
@@ -157,7 +153,7 @@ end_dies_as laws o r m dies = ((laws.places.answer.living r m.other m.at m.there
 unfinished_head_as : OnwardLaws → (limits : Limits) (ds es : List Dataset) (h : Head) (fault : TokenFault) → Tagged limits ds es → IsUnfinished limits ds h fault → IsUnfinished limits es h fault
 unfinished_head_as laws limits ds es h fault t bad = record {
   last = bad.last;
-  leads_on = goes_at_as laws.opens limits ds es h (at_alive ds es h t.there t.present t.twins bad.leads_on.records) t.twins bad.leads_on;
+  leads_on = may_as laws.opens limits ds es (InData h []) t.there t.present t.twins bad.leads_on;
   dies = end_dies_as laws (object_of ds) (object_of es) t.message bad.dies;
   is_fault = bad.is_fault;
 }
@@ -363,7 +359,7 @@ bad_value laws limits p q o r on next fault bad = by bad.completes
         let es = read.whole in
         let t = tagged laws limits bad.whole es held held read.pair in
         let unfinished = unfinished_as laws limits bad.whole es (InTag held) (InTag held) read.pair bad.unfinished in
-        let sizes = goes_at_as laws.opens limits bad.whole es h (at_alive bad.whole es h t.there t.present t.twins bad.leads_on.sizes.records) t.twins bad.leads_on.sizes in
+        let sizes = may_as laws.opens limits bad.whole es (InData h bad.given) t.there t.present t.twins bad.leads_on.sizes in
         let message : SameMessage (object_so_far bad.whole (InData h bad.given)) (object_so_far es (InData h bad.given)) =
         subst (SameMessage (object_so_far bad.whole (InData h bad.given))) (sym (no_object es h bad.given bad.is_value)) (subst (λ (l : List ℕ). SameMessage l (object_of es)) (sym (no_object bad.whole h bad.given bad.is_value)) t.message) in
         let there = all_as laws limits bad.whole es (InData h bad.given) (InData h bad.given) bad.leads_on sizes refl message in

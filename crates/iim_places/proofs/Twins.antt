@@ -1,18 +1,18 @@
 -- Datasets that tell the same, and what follows them.
-use Rattle.std.proofs.Common.{◌≡◌, ℕ, ◌+◌, ◌<◌, ◌≤◌, ◌||◌, ◌⊎◌, Bool, true, false, cond, nat_eq, if◌then◌else◌, List, [], ◌∷◌, ◌++◌, length, sum, Option, Some, refl, ap, sym, subst, ◌∙◌, inl, inr, arith, append-nil, length-append}
+use Rattle.std.proofs.Common.{◌≡◌, ℕ, ◌+◌, ◌<◌, ◌≤◌, ◌||◌, ◌⊎◌, Bool, true, false, cond, nat_eq, if◌then◌else◌, List, [], ◌∷◌, ◌++◌, length, sum, Option, Some, refl, ap, sym, subst, ◌∙◌, inl, inr, arith, append-nil, length-append, None, append_assoc}
 use Rattle.std.specs.List.{AllByRecursion}
 use Rattle.std.specs.Option.{option_or}
 use Rattle.std.proofs.lemmas.List.Elements.{filter-append}
 use Rattle.std.proofs.lemmas.Option.{same_Some}
 use Rattle.std.proofs.lemmas.List.Folds.{list_any-append}
 use Rattle.std.proofs.lemmas.Bool.{eqb-true}
-use Rattle.iim_dataset.specs.Format.Datasets.{Dataset, of_record}
+use Rattle.iim_dataset.specs.Format.Datasets.{Dataset, of_record, SpellsStream, count_octets}
 use Rattle.iim_dataset.proofs.Each.{all_append, all_front, all_back}
 use Rattle.iim_dataset.specs.declared.head.Head.{Head}
 use Rattle.iim_dataset.proofs.Lists.{sum_append}
 use Rattle.iim_fields.specs.Format.Alive.{SectionsLive, SectionsLiveAt}
 use Rattle.iim_fields.specs.Format.Faults.{joined, kept, last_record, section_after}
-use Rattle.iim_fields.specs.Format.Records.{AreSections}
+use Rattle.iim_fields.specs.Format.Records.{AreSections, AreRecords, after}
 use Rattle.iim_tables.specs.Format.Records.{IsGoodRecord, occurs}
 use Rattle.iim_tables.proofs.GoodDatasets.{occurrences_append}
 use Rattle.iim_fields.specs.Format.Bounds.{IsWithin}
@@ -21,23 +21,29 @@ use Rattle.iim_object.specs.Format.Numbers.{ending_of, place_after_datasets, pla
 use Rattle.iim_object.specs.Format.Objects.{SubfileBegun}
 use Rattle.iim_object.specs.Format.Places as objects
 use Rattle.iim_object.specs.Format.Plans.{max_subfiles}
-use Rattle.iim_object.specs.Format.Records.{lengths_of, numbers_of}
+use Rattle.iim_object.specs.Format.Records.{lengths_of, numbers_of, HaveSizes}
 use Rattle.iim_object.specs.States.Saved.{IsPossible, stated_numbers}
 use Rattle.iim_object.specs.Format.Sizes.{Stated, number_at}
 use Rattle.iim_places.specs.Format.Framed.{AreWithin}
 use Rattle.iim_places.specs.Laws.Lower.{ObjectLaws, OpenLaws, SizeLaws}
-use Rattle.iim_places.specs.Format.Tokens.{place_at, ObjectLives, HaveRoom, CanContinue, CanContinueAt}
+use Rattle.iim_places.specs.Format.Tokens.{place_at, ObjectLives, HaveRoom, CanContinue, CanContinueAt, MayContinue}
 use Rattle.iim_fields.proofs.Sections.{last_of_joined}
-use Rattle.iim_places.proofs.Bounds.{alive_five}
-use Rattle.iim_places.proofs.LayersLead.{each_small}
 use Rattle.iim_places.proofs.Limits.{kept_append}
 use Rattle.iim_places.proofs.Plain.{numbers_join}
-use Rattle.iim_places.proofs.PlainContinues.{MayReplace, all_good, back_ordered, fewer_by, good_with, join_ordered, ordered_sorted, rebuilt}
-use Rattle.iim_places.proofs.PlainOpens.{possible_of}
-use Rattle.iim_places.proofs.PlainPlaces.{IsOrdered, front_ordered, sections_ordered}
-use Rattle.iim_places.proofs.PlainSizes.{duties_of, possible_like}
-use Rattle.iim_places.proofs.SameRecords.{IsStated, SameNumbers, SameRecords, stated_at, stated_after_all}
+use Rattle.iim_places.proofs.PlainContinues.{MayReplace, fewer_by, good_with}
+use Rattle.iim_places.proofs.PlainSizes.{duties_of, possible_like, sizes_of, possible_of, Lives, each_small}
+use Rattle.iim_places.proofs.SameRecords.{IsStated, SameNumbers, SameRecords, stated_at, stated_after_all, tens_after, AreTens, nines}
 use Rattle.iim_places.proofs.Tickets.{count_of}
+use Rattle.iim_object.specs.Format.Places.{NotEnded, ConfirmedAs}
+use Rattle.iim_dataset.specs.Format.Octets.{number}
+use Rattle.iim_dataset.specs.Format.Splits.{Begun, InTag, InData}
+use Rattle.iim_object.specs.declared.size.Sizes.{Sizes}
+use Rattle.wire_message.specs.Format.Messages.{Header, IsMessage}
+use Rattle.iim_places.specs.Format.Streams.{IsEnvelopeWithin}
+use Rattle.wire_story.specs.Format.Texts.{IsText}
+use Rattle.iim_places.specs.Format.Admitted.{object_of}
+use Rattle.iim_places.proofs.Lasts.{last_sections}
+use Rattle.iim_fields.proofs.Follows.{alive_follows}
 
 -- ---- what follows datasets to the sections of an envelope
 
@@ -52,26 +58,28 @@ may_replace r xs ys later seen good = record {
   fewer = λ n no'. fewer_by n xs ys (seen n) (let one = good.once n no' in let both = occurrences_append n ys later in omega (arith, one, both));
 }
 
-replaced : (r : ℕ) (ds es later more : List Dataset) → SameRecords ds es → IsGoodRecord r (of_record r (es ++ later)) → IsGoodRecord r (of_record r (ds ++ more)) → IsGoodRecord r (of_record r (es ++ more))
-replaced r ds es later more same there here =
-    subst (IsGoodRecord r) (sym (of_both r es more))
-    (good_with r (of_record r ds) (of_record r es) (of_record r more) (may_replace r (of_record r ds) (of_record r es) (of_record r later) (same.seen r) (subst (IsGoodRecord r) (of_both r es later) there))
-    (subst (IsGoodRecord r) (of_both r ds more) here))
+-- Datasets with one present record, in which the same numbers have occurred, are followed by the same.
+pub follows_as : (ds es : List Dataset) → SectionsLive es → section_after ds ≡ section_after es → SameRecords ds es → (more : List Dataset)
+    → AreSections (ds ++ more) → AreSections (es ++ more)
+follows_as ds es alive present same more sections =
+    let (run, rest, parts, good, later) = (alive_follows ds (more, sections)).goes more sections in
+    let there = alive_follows es alive in
+    let (own, left, own_parts, own_good, own_later) = there.goes alive.0 alive.1 in
+    let r = section_after es in
+    let here : IsGoodRecord r (of_record r ds ++ run) = subst (λ (k : ℕ). IsGoodRecord k (of_record k ds ++ run)) present good in
+    there.comes more (
+      run,
+      rest,
+      parts,
+      good_with r (of_record r ds) (of_record r es) run (may_replace r (of_record r ds) (of_record r es) own (same.seen r) own_good) here,
+      subst (λ (k : ℕ). AreRecords (after k) rest) present later,
+    )
 
-pub follows_as : (ds es : List Dataset) → SectionsLive es → section_after ds ≡ section_after es → SameRecords ds es → (more : List Dataset) → AreSections (ds ++ more) → AreSections (es ++ more)
-follows_as ds es (later, alive) present same more sections =
-    let here = all_good (ds ++ more) sections in
-    let there = all_good (es ++ later) alive in
-    let order = subst (λ (r : ℕ). IsOrdered r more) present (back_ordered 0 ds more (sections_ordered (ds ++ more) sections)) in
-    let ordered = join_ordered 0 es more (front_ordered 0 es later (sections_ordered (es ++ later) alive)) order in
-    let fives = all_append _ es more (alive_five es (later, alive)) (all_back _ ds more (alive_five (ds ++ more) ([], subst AreSections (sym (append-nil (ds ++ more))) sections))) in
-    rebuilt (es ++ more) (ordered_sorted 0 (es ++ more) ordered fives) (record {
-      one = replaced 1 ds es later more same there.one here.one;
-      two = replaced 2 ds es later more same there.two here.two;
-      seven = replaced 7 ds es later more same there.seven here.seven;
-      eight = replaced 8 ds es later more same there.eight here.eight;
-      nine = replaced 9 ds es later more same there.nine here.nine;
-    })
+pub alive_at_as : (ds es : List Dataset) (h : Head) → SectionsLive es → section_after ds ≡ section_after es → SameRecords ds es → SectionsLiveAt ds h
+    → SectionsLiveAt es h
+alive_at_as ds es h there present same (d, is, (later, are)) =
+    let joined = follows_as ds es there present same (d ∷ later) (subst AreSections (append_assoc ds (d ∷ []) later) are) in
+    (d, is, (later, subst AreSections (sym (append_assoc es (d ∷ []) later)) joined))
 
 -- ---- datasets joined
 
@@ -167,7 +175,7 @@ pub record Twins (ds es : List Dataset) : Type 0 where
   pub numbers : SameNumbers (sevens ds) (sevens es)
   pub heads : length (eights ds) ≡ length (eights es)
   pub octets : sum (eights ds) ≡ sum (eights es)
-  pub nines : of_record 9 ds ≡ of_record 9 es
+  pub ending : ending_of (of_record 9 ds) ≡ ending_of (of_record 9 es)
   pub seen : SameRecords ds es
   pub bounded : AreBounded (sevens es) (eights es)
 
@@ -182,13 +190,21 @@ pub record SameTail (xs ys : List Dataset) : Type 0 where
 pub same_tail : (xs : List Dataset) → SameTail xs xs
 same_tail xs = record { fields = refl; numbers = refl; lengths = refl; nines = refl; seen = record { seen = λ r n. refl } }
 
+ending_on : (xs ys zs : List Dataset) → ending_of xs ≡ ending_of ys → ending_of (xs ++ zs) ≡ ending_of (ys ++ zs)
+ending_on [] [] zs e = refl
+ending_on [] (y ∷ ys) zs e = absurd (let bad : NotEnded ≡ ConfirmedAs (number y.octets) = e in cc)
+ending_on (x ∷ xs) [] zs e = absurd (let bad : ConfirmedAs (number x.octets) ≡ NotEnded = e in cc)
+ending_on (x ∷ xs) (y ∷ ys) zs e = e
+
 pub twins_on : (ds es xs ys : List Dataset) → Twins ds es → SameTail xs ys → AreBounded (sevens (ds ++ xs)) (eights (ds ++ xs)) → Twins (ds ++ xs) (es ++ ys)
 twins_on ds es xs ys twins tail bounded = record {
   fields = kept_append ds xs ∙ (λ i. twins.fields i ++ tail.fields i) ∙ sym (kept_append es ys);
   numbers = subst (SameNumbers (sevens (ds ++ xs))) (sym (sevens_both es ys)) (subst (λ (ps : List Stated). SameNumbers ps (sevens es ++ sevens ys)) (sym (sevens_both ds xs)) (subst (λ (rs : List Stated). SameNumbers (sevens ds ++ sevens xs) (sevens es ++ rs)) tail.numbers (numbers_on (sevens ds) (sevens es) (sevens xs) twins.numbers)));
   heads = ap length (eights_both ds xs) ∙ length-append (eights ds) (eights xs) ∙ (λ i. twins.heads i + length (tail.lengths i)) ∙ sym (length-append (eights es) (eights ys)) ∙ sym (ap length (eights_both es ys));
   octets = ap sum (eights_both ds xs) ∙ sum_append (eights ds) (eights xs) ∙ (λ i. twins.octets i + sum (tail.lengths i)) ∙ sym (sum_append (eights es) (eights ys)) ∙ sym (ap sum (eights_both es ys));
-  nines = of_both 9 ds xs ∙ (λ i. twins.nines i ++ tail.nines i) ∙ sym (of_both 9 es ys);
+  ending =
+      ap ending_of (of_both 9 ds xs) ∙ ending_on (of_record 9 ds) (of_record 9 es) (of_record 9 xs) twins.ending
+      ∙ ap (λ (rs : List Dataset). ending_of (of_record 9 es ++ rs)) tail.nines ∙ sym (ap ending_of (of_both 9 es ys));
   seen = record { seen = λ r n. seen_both n r ds xs ∙ (λ i. twins.seen.seen r n i || tail.seen.seen r n i) ∙ sym (seen_both n r es ys) };
   bounded =
       subst (λ (ps : List Stated). AreBounded ps (eights (es ++ ys))) (sym (sevens_both es ys)) (subst (AreBounded (sevens es ++ sevens ys)) (sym (eights_both es ys))
@@ -222,7 +238,7 @@ after_as laws ds es alive there few twins lives =
     let count' = count_of (of_record 8 es) in
     let heads = twins.heads in
     place_as laws.sizes (place_after_datasets ds) (place_after_datasets es) (stated_after_all objects ds alive few) (omega (arith, count, few)) (stated_after_all objects es there (omega (arith, few, heads, count, count')))
-    twins.numbers twins.heads twins.octets twins.bounded (ap ending_of twins.nines) lives
+    twins.numbers twins.heads twins.octets twins.bounded twins.ending lives
 
 nil_bounded : (ps : List Stated) (ls : List ℕ) → AreBounded (ps ++ []) ls → AreBounded ps ls
 nil_bounded ps ls bounded = subst (λ (qs : List Stated). AreBounded qs ls) (append-nil ps) bounded
@@ -262,9 +278,9 @@ at_as laws ds es h alive there few room twins =
         (subst (λ (ps : List Stated). AreBounded ps (eights ds ++ h.count ∷ [])) (sym (append-nil (sevens ds))) here)) in
         place_as laws.sizes p q was room' is twins.numbers
         (length-append (eights ds) (h.count ∷ []) ∙ ap (λ (n : ℕ). n + 1) twins.heads ∙ sym (length-append (eights es) (h.count ∷ [])))
-        (sum_append (eights ds) (h.count ∷ []) ∙ ap (λ (n : ℕ). n + sum (h.count ∷ [])) twins.octets ∙ sym (sum_append (eights es) (h.count ∷ []))) bounded (ap ending_of twins.nines) lives
+        (sum_append (eights ds) (h.count ∷ []) ∙ ap (λ (n : ℕ). n + sum (h.count ∷ [])) twins.octets ∙ sym (sum_append (eights es) (h.count ∷ []))) bounded twins.ending lives
     by false true eight was is lives = place_as laws.sizes (place_ended ds) (place_ended es) was (omega (arith, few, count)) is twins.numbers twins.heads twins.octets twins.bounded refl lives
-    by false false eight was is lives = place_as laws.sizes (place_after_datasets ds) (place_after_datasets es) was (omega (arith, few, count)) is twins.numbers twins.heads twins.octets twins.bounded (ap ending_of twins.nines) lives
+    by false false eight was is lives = place_as laws.sizes (place_after_datasets ds) (place_after_datasets es) was (omega (arith, few, count)) is twins.numbers twins.heads twins.octets twins.bounded twins.ending lives
 
 -- ---- every layer but the message
 
@@ -305,3 +321,51 @@ goes_at_as laws limits ds es h there twins goes = record {
   room = room_as limits ds es h twins goes.room;
   object = at_as laws ds es h goes.records there goes.within.subfiles goes.room.subfiles twins goes.object;
 }
+
+pub may_as : OpenLaws → (limits : Limits) (ds es : List Dataset) (b : Begun) → SectionsLive es → section_after ds ≡ section_after es → Twins ds es
+    → MayContinue limits ds b → MayContinue limits es b
+may_as laws limits ds es (InTag held) there present twins goes = goes_as laws limits ds es there twins goes
+may_as laws limits ds es (InData h taken) there present twins goes =
+    goes_at_as laws limits ds es h (alive_at_as ds es h there present twins.seen goes.records) twins goes
+
+-- ---- an envelope, told by its datasets
+
+-- The datasets are those of an envelope with such a message.
+pub record Enveloped (limits : Limits) (octets : List ℕ) (ds : List Dataset) (head : Header) (lines : List (List ℕ)) (trailer : List ℕ) : Type 0 where
+  pub sizes : Sizes
+  pub have : HaveSizes (of_record 7 ds) (of_record 8 ds) (of_record 9 ds) sizes
+  pub within : IsEnvelopeWithin limits octets (record { fields = kept ds; head = head; lines = lines; trailer = trailer; sizes = sizes })
+
+one_nine : (xs : List Dataset) → length xs ≡ 1 → AreTens xs → (n : ℕ) × (ending_of xs ≡ ConfirmedAs n) × (number_at 10 (numbers_of xs) ≡ Some n)
+one_nine [] one tens = absurd (omega (arith, one))
+one_nine (d ∷ []) one tens = (number d.octets, refl, ap (λ (set : ℕ). cond (nat_eq set 10) (Some (number d.octets)) None) tens.0)
+one_nine (d ∷ x ∷ xs) one tens = absurd (omega (arith, one))
+
+-- Where every layer can continue after datasets, of which the last is 9:10, they are those of an envelope.
+pub enveloped : OpenLaws → (limits : Limits) (octets : List ℕ) (ds : List Dataset) (head : Header) (text trailer : List ℕ) (lines : List (List ℕ))
+    → SpellsStream count_octets ds octets → CanContinue limits ds → section_after ds ≡ 9 → IsMessage (object_of ds) head text trailer → IsText text lines
+    → Enveloped limits octets ds head lines trailer
+enveloped laws limits octets ds head text trailer lines spelled goes nine message lined =
+    let follow = laws.answer.follow in
+    let stated = stated_after_all follow.objects ds goes.records goes.within.subfiles in
+    let one : length (of_record 9 ds) ≡ 1 = nines follow ds goes.records ∙ ap (λ (n : ℕ). cond (nat_eq n 9) 1 0) nine in
+    let (n, ending, confirmed) = one_nine (of_record 9 ds) one (tens_after laws.answer.numbers ds goes.records).1 in
+    let (s, have) = sizes_of laws.sizes (of_record 7 ds) (of_record 8 ds) (of_record 9 ds) n stated.stated stated.duties
+    (λ none. sym ending ∙ stated.subfiles none) (subst (Lives (sevens ds) (eights ds)) ending goes.object) confirmed in
+    record {
+      sizes = s;
+      have = have;
+      within = record {
+        admits = record {
+          datasets = ds;
+          spelled = spelled;
+          sections = last_sections follow.ends ds goes.records nine;
+          fields = refl;
+          text = text;
+          message = message;
+          lines = lined;
+          sizes = have;
+        };
+        within = goes.within;
+      };
+    }

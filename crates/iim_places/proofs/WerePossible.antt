@@ -44,11 +44,12 @@ use Rattle.iim_places.proofs.Lasts.{last_sections}
 use Rattle.iim_places.proofs.LeadsByLayers.{few_heads, few_with_head}
 use Rattle.iim_dataset.proofs.WrittenNumbers.{number_back}
 use Rattle.iim_places.proofs.Plain.{Tell, all_stated, are_told, one_stated, plain_led, plain_spelled, plain_told, taken_told}
-use Rattle.iim_places.proofs.PlainOpens.{plain_open, possible_of}
+use Rattle.iim_places.proofs.PlainOpens.{plain_open}
 use Rattle.iim_places.proofs.SameRecords.{IsStated, stated_after_all, stated_at}
 use Rattle.iim_places.proofs.SmallPlaces.{still_possible, wider_rest, wider_stream}
 use Rattle.iim_places.proofs.SmallSections.{Short, told_in, sections_live_small, sections_small}
 use Rattle.iim_places.proofs.Tickets.{total_of, count_of, so_far_by}
+use Rattle.iim_places.proofs.PlainSizes.{possible_of}
 
 -- ---- spellings with few count octets
 

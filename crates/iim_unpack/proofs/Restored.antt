@@ -39,7 +39,7 @@ use Rattle.iim_places.proofs.Following.{alive_of}
 use Rattle.iim_places.proofs.Lasts.{sections_last}
 use Rattle.iim_places.proofs.LayersLead.{present_ended}
 use Rattle.iim_places.proofs.LeadsByLayers.{whole_at, begun_same}
-use Rattle.iim_places.proofs.PlainOpens.{possible_of}
+use Rattle.iim_places.proofs.PlainSizes.{possible_of}
 use Rattle.iim_places.proofs.SamePlace.{opened, fields_after, fields_in, some_read}
 use Rattle.iim_places.proofs.SameRecords.{stated_after_all}
 use Rattle.iim_places.proofs.Tickets.{count_of}
