@@ -63,11 +63,17 @@ four_back numbers is = absurd (omega (arith, is))
 pub fits_told : (numbers : List (Option ℕ)) → AreNumbers numbers → AllByRecursion IsSize (number_list (numbers_told numbers))
 fits_told numbers fit = subst (AllByRecursion IsSize) (four_back numbers fit.four) fit.each
 
+-- the told datasets keep the fields
+pub kept_told : (fields : List Dataset) (numbers : List (Option ℕ)) (some ended : Bool) → AreNumbers numbers → AreKept fields
+    → kept (told_datasets fields numbers some ended) ≡ fields
+kept_told fields numbers some ended fit each =
+    (plain_told fields (numbers_told numbers) (cond some 1 0) [] ended (record { kept = each; fit = fits_told numbers fit; room = nothing_fits _ })).kept_are
+
 pub leads_on_told : (section : ℕ) (phase : Phase) (fields : List Dataset) (numbers : List (Option ℕ)) (some ended : Bool) → AreNumbers numbers → AreKept fields → IsWithin widest (kept_octets fields) (length fields)
     → RecordsLive section phase (told_datasets fields numbers some ended) → CanContinueWithin widest (told_datasets fields numbers some ended)
 leads_on_told section phase fields numbers some ended fit each within lives =
     let told = told_datasets fields numbers some ended in
-    let are : kept told ≡ fields = (plain_told fields (numbers_told numbers) (cond some 1 0) [] ended each (fits_told numbers fit) (nothing_fits _)).kept_are in
+    let are : kept told ≡ fields = kept_told fields numbers some ended fit each in
     let octets : kept_octets told ≡ kept_octets fields = ap (λ (ds : List Dataset). length (joined ds)) (are ∙ sym (kept_fields fields each)) in
     let many : length (kept told) ≡ length fields = ap length are in
     record { alive = live_alive section phase told lives; within = record { octets_in = omega (arith, octets, within.octets_in); fields_in = omega (arith, many, within.fields_in) } }

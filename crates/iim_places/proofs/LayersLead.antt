@@ -1,8 +1,8 @@
 -- A place where each layer alone can be is possible: its plain octets lead there.
-use Rattle.std.proofs.Common.{IsTrue, ◌≡◌, ℕ, ◌+◌, ◌*◌, ◌-◌, ◌<◌, ◌≤◌, ◌^◌, nat_eq, if◌then◌else◌, Bool, true, false, List, [], ◌∷◌, ◌++◌, length, map, sum, take, drop, Option, Some, None, IfSome, refl, ap, sym, subst, ◌∙◌, inl, inr, arith, append_assoc, append-nil, length-append, length-drop}
+use Rattle.std.proofs.Common.{IsTrue, ◌≡◌, ℕ, ◌+◌, ◌*◌, ◌-◌, ◌<◌, ◌≤◌, ◌^◌, nat_eq, if◌then◌else◌, Bool, true, false, List, [], ◌∷◌, ◌++◌, length, map, sum, take, drop, Option, Some, None, IfSome, refl, ap, sym, subst, ◌∙◌, inl, inr, arith, append-nil, length-append, length-drop}
 use Rattle.std.specs.List.{AllByRecursion}
 use Rattle.std.specs.Option.{unwrap_or}
-use Rattle.std.proofs.lemmas.Bool.{eqb-true, ne_eqb}
+use Rattle.std.proofs.lemmas.Bool.{eqb-true}
 use Rattle.std.proofs.lemmas.Bool.Decides.{eqb_tells}
 use Rattle.std.proofs.lemmas.List.{length-take, take-append-drop, nil_from_length}
 use Rattle.iim_dataset.specs.Format.Octets.{IsOctet, Octets, greatest_size}
@@ -16,20 +16,18 @@ use Rattle.iim_dataset.proofs.Each.{all_append, all_front, all_back}
 use Rattle.iim_dataset.proofs.OctetLists.{front_are}
 use Rattle.iim_dataset.proofs.Lists.{sum_fits, sum_append}
 use Rattle.iim_fields.specs.Format.Alive.{SectionsLive, SectionsLiveAt}
-use Rattle.iim_fields.specs.Format.Faults.{is_kept, kept, joined, section_after, last_record}
-use Rattle.iim_fields.specs.Format.Records.{AreSections}
+use Rattle.iim_fields.specs.Format.Faults.{is_kept, kept, joined, section_after}
 use Rattle.iim_tables.specs.Format.Records.{IsGoodDataset}
 use Rattle.iim_fields.specs.Format.Bounds.{IsWithin}
 use Rattle.iim_fields.proofs.Sections.{head_alive}
 use Rattle.iim_object.specs.Format.Numbers.{place_after_datasets, place_ended, ending_of}
 use Rattle.iim_object.specs.Format.Objects.{ObjectEnded, Confirmed, SubfileBegun}
-use Rattle.iim_object.specs.Laws.Packing.{NumberDatasetsAreGood}
 use Rattle.iim_object.specs.Format.Packing.{subfile_datasets}
 use Rattle.iim_object.specs.Format.Places.{Ending, NotEnded, Ended, ConfirmedAs, place_after}
 use Rattle.iim_object.specs.Format.Places as objects
 use Rattle.iim_object.specs.Format.Records.{lengths_of, numbers_of}
 use Rattle.iim_object.specs.States.Saved.{IsAt, IsPossible, LastIsBegun, stated_numbers}
-use Rattle.iim_object.specs.Format.Sizes.{Stated, AreStated, number_at}
+use Rattle.iim_object.specs.Format.Sizes.{AreStated, number_at}
 use Rattle.wire_story.specs.Format.Tokens.{Octet, End}
 use Rattle.wire_message.specs.Format.Layers.{MessageLanguage}
 use Rattle.wire_message.specs.States.Saved.{LeadsToSaved}
@@ -41,29 +39,28 @@ use Rattle.iim_places.specs.States.ByLayers.{LeadsByLayers, record_datasets, one
 use Rattle.iim_places.specs.Format.Framed.{AreWithin}
 use Rattle.iim_places.specs.Format.Open.{object_so_far, section, AllCanContinue}
 use Rattle.iim_places.specs.Plain.{AreSpellable, begun_object, plain_place}
-use Rattle.iim_places.specs.States.PlainDatasets.{Numbers, number_list, plain_numbers, filled, plain_end, plain}
+use Rattle.iim_places.specs.States.PlainDatasets.{Numbers, number_list, filled, plain_end, plain}
 use Rattle.iim_places.specs.States.Possible.{Possible, AreOpenOrWhole, widest}
 use Rattle.iim_places.specs.Format.Tickets.{Place, Phase, TagBegun, DataBegun, AllEnded, IsPlaceOf}
 use Rattle.iim_places.specs.Format.Tokens.{place_at, ObjectLives, MayContinue}
 use Rattle.iim_places.specs.Laws.Lower.{ByLayersLaws, SizeLaws}
 use Rattle.iim_places.proofs.AfterEnd.{WholeMessage, ended_after, ended_at}
-use Rattle.iim_places.proofs.Alike.{Fits, alike, told_by, present_alike}
 use Rattle.iim_places.proofs.Answering.{nothing_held}
 use Rattle.iim_places.proofs.Bounds.{object_fits}
 use Rattle.iim_places.proofs.Following.{alive_of}
 use Rattle.iim_places.proofs.Lasts.{sections_last}
-use Rattle.iim_places.proofs.LeadsByLayers.{one_same}
+use Rattle.iim_places.proofs.LeadsByLayers.{one_same, few_subfiles}
 use Rattle.iim_places.proofs.MessageOctets.{living_octets}
-use Rattle.iim_places.proofs.Plain.{Tell, taken_told, plain_led, plain_spelled, back_octets}
-use Rattle.iim_places.proofs.PlainContinues.{fields_low, fit_in_rows, two_at_most, low_number}
+use Rattle.iim_places.proofs.Plain.{Tell, taken_told, plain_led, plain_spelled, back_octets, Fits, plain_told, present_ended}
+use Rattle.iim_places.proofs.PlainContinues.{fit_in_rows, two_at_most, low_number, Continues, plain_like, numbers_same}
 use Rattle.iim_places.proofs.PlainOpens.{part_small}
-use Rattle.iim_places.proofs.PlainPlaces.{pick, picks_plain, numbers_in, low_mode, mode_octet}
+use Rattle.iim_places.proofs.PlainPlaces.{low_mode, mode_octet, end_length}
 use Rattle.iim_places.proofs.Places.{at_end}
 use Rattle.iim_places.proofs.PlainSizes.{duties_of, possible_like, each_small}
 use Rattle.iim_places.proofs.SameRecords.{stated_after_all}
 use Rattle.iim_places.proofs.Taking.{each_good}
 use Rattle.iim_places.proofs.Tickets.{total_of, count_of, sum_one}
-use Rattle.iim_places.proofs.Twins.{enveloped}
+use Rattle.iim_places.proofs.Twins.{enveloped, alive_at_as}
 
 -- ---- the message
 
@@ -77,26 +74,6 @@ message_lives laws o text m (at, leads, saves) s last = by (nat_eq s 9) refl
     by : (b : Bool) → nat_eq s 9 ≡ b → languages.IsAlive MessageLanguage (map Octet o ++ (if b then End ∷ [] else []))
     by true nine = (laws.ends o text at leads).1 (ended_after at (ap (λ (x : MessagePlace). x.part) saves ∙ last (eqb-true s 9 nine)))
     by false other = subst (languages.IsAlive MessageLanguage) (sym (append-nil (map Octet o))) (laws.opens.answer.living o text at leads).0
-
--- ---- the present record
-
-pick_low : {A : Type 0} (xs : List A) (r other : ℕ) → r ≤ 8 → other ≤ 8 → pick xs r other ≤ 8
-pick_low [] r other a b = b
-pick_low (x ∷ xs) r other a b = a
-
-not_nine : (n : ℕ) → n ≤ 8 → nat_eq n 9 ≡ false
-not_nine n le = ne_eqb n 9 (λ same. omega (arith, same, le))
-
-pub present_ended : (fields : List Dataset) (numbers : Numbers) (heads : ℕ) (object : List ℕ) (ended : Bool) → AllByRecursion (λ (d : Dataset). is_kept d.rec ≡ true) fields
-    → nat_eq (section_after (plain fields numbers heads object ended)) 9 ≡ ended
-present_ended fields numbers heads object true keeps = ap (λ (n : ℕ). nat_eq n 9) (picks_plain fields numbers heads object true)
-present_ended fields numbers heads object false keeps =
-    let low = fields_low 0 fields (omega arith) keeps in
-    let few : last_record 0 fields ≤ 8 = omega (arith, low) in
-    let eights = subfile_datasets (filled (unwrap_or numbers.largest 0) heads object) in
-    let sevens = plain_numbers numbers in
-    ap (λ (n : ℕ). nat_eq n 9) (picks_plain fields numbers heads object false)
-    ∙ not_nine (pick eights 8 (pick sevens 7 (last_record 0 fields))) (pick_low eights 8 (pick sevens 7 (last_record 0 fields)) (omega arith) (pick_low sevens 7 (last_record 0 fields) (omega arith) few))
 
 -- ---- all of it
 
@@ -117,7 +94,7 @@ finish laws place numbers heads object ended begun rest text spellable is_begun 
     fits = record { kept = spellable.kept; fit = spellable.fit; room = spellable.room }
 
     tell : Tell ds place.fields numbers heads object ended
-    tell = told_by place.fields numbers heads object ended fits
+    tell = plain_told place.fields numbers heads object ended fits
 
     so_far : object_so_far ds begun ≡ object ++ begun_object begun
     so_far = taken_told ds object begun tell.object_is
@@ -186,20 +163,6 @@ fields_spelled fields numbers heads object ended keeps (more, sections) few =
     let ds = plain fields numbers heads object ended in
     have_spellings fields keeps (all_front IsGoodDataset fields _ (all_front IsGoodDataset ds more (each_good (ds ++ more) sections))) few
 
--- the numbers of record 7 are those that a place of the object has
-pub record SameStated (numbers : Numbers) (ps : List Stated) : Type 0 where
-  pub mode : numbers.mode ≡ number_at 10 ps
-  pub largest : numbers.largest ≡ number_at 20 ps
-  pub are : numbers ≡ numbers_in ps
-
-pub same_stated : (numbers : Numbers) (ps : List Stated) → number_list numbers ≡ stated_numbers ps → SameStated numbers ps
-same_stated numbers ps e =
-    let mode : numbers.mode ≡ number_at 10 ps = cc in
-    let largest : numbers.largest ≡ number_at 20 ps = cc in
-    let announced : numbers.announced ≡ number_at 90 ps = cc in
-    let maximum : numbers.maximum ≡ number_at 95 ps = cc in
-    record { mode = mode; largest = largest; are = λ i. record { mode = mode i; largest = largest i; announced = announced i; maximum = maximum i } }
-
 -- the first subfiles of a possible place have room for their octets
 room_in : SizeLaws → (p : objects.Place) → IsPossible p → (ls ks : List ℕ) → p.lengths ≡ ls ++ ks → sum ls ≤ length ls * unwrap_or (number_at 20 p.stated) 0
 room_in laws p is [] ks parts = omega arith
@@ -237,7 +200,7 @@ filling laws fields numbers p heads object ended keeps same is ls ks parts many 
     let most = object_fits p is.alive in
     let sums : sum p.lengths ≡ sum ls + sum ks = ap sum parts ∙ sum_append ls ks in
     let counts : length p.lengths ≡ length ls + length ks = ap length parts ∙ length-append ls ks in
-    let stated = same_stated numbers p.stated same in
+    let stated = numbers_same numbers p.stated same in
     let room : length object ≤ heads * unwrap_or (number_at 20 p.stated) 0 =
     subst (λ (n : ℕ). n ≤ heads * unwrap_or (number_at 20 p.stated) 0) total (subst (λ (k : ℕ). sum ls ≤ k * unwrap_or (number_at 20 p.stated) 0) (sym many) (room_in laws.opens.sizes p is ls ks parts)) in
     let few : length object ≤ greatest_size = omega (arith, most, sums, total) in
@@ -246,7 +209,7 @@ filling laws fields numbers p heads object ended keeps same is ls ks parts many 
       fit = subst (λ (n : Numbers). AllByRecursion IsSize (number_list n)) (sym stated.are) (fit_in_rows p.stated is.stated.each);
       room = subst (λ (o : Option ℕ). length object ≤ heads * unwrap_or o 0) (sym stated.largest) room;
     } in
-    let tell = told_by fields numbers heads object ended fits in
+    let tell = plain_told fields numbers heads object ended fits in
     record {
       few = few;
       fits = fits;
@@ -267,11 +230,25 @@ filling laws fields numbers p heads object ended keeps same is ls ks parts many 
       };
     }
 
--- alive with plain datasets, as with those that tell the record layer
-alive_with : NumberDatasetsAreGood → (fields : List Dataset) (numbers : Numbers) (heads : ℕ) (object : List ℕ) (ended : Bool) → Filling fields numbers heads object ended → (more : List Dataset)
-    → AreSections (plain fields numbers (one_of_some heads) [] ended ++ more) → AreSections (plain fields numbers heads object ended ++ more)
-alive_with rows fields numbers heads object ended f more sections =
-    alike rows fields numbers (one_of_some heads) heads [] object ended more (record { kept = f.fits.kept; fit = f.fits.fit; room = omega arith }) f.fits (sym (one_same heads)) f.octets f.few sections
+-- Plain datasets continue as those by which the record layer is told.
+continues : ByLayersLaws → (fields : List Dataset) (numbers : Numbers) (heads : ℕ) (object : List ℕ) (ended : Bool) → Filling fields numbers heads object ended
+    → SectionsLive (plain fields numbers (one_of_some heads) [] ended)
+    → Continues (plain fields numbers (one_of_some heads) [] ended) (plain fields numbers heads object ended)
+continues laws fields numbers heads object ended f alive =
+    let tell = plain_told fields numbers (one_of_some heads) [] ended (record { kept = f.fits.kept; fit = f.fits.fit; room = omega arith }) in
+    let many = tell.heads_are in
+    plain_like laws.opens.answer (plain fields numbers (one_of_some heads) [] ended) fields numbers heads object ended (record {
+      alive = alive;
+      few = let low = few_subfiles heads in omega (arith, many, low);
+      fields_are = tell.kept_are;
+      numbers_are = tell.numbers_are;
+      some = ap one_of_some many ∙ sym (one_same heads);
+      ends = ap length tell.nines_are ∙ end_length ended [];
+      many = let heads_are = f.tell.heads_are in let few = f.inside.subfiles in omega (arith, heads_are, few);
+      octets = f.octets;
+      fits = f.few;
+      room = f.fits.room;
+    })
 
 -- the object lives after plain datasets as at the place
 after_plain : ByLayersLaws → (fields : List Dataset) (numbers : Numbers) (heads : ℕ) (object : List ℕ) (ended : Bool) (p : objects.Place) (e : Ending) → Filling fields numbers heads object ended
@@ -313,14 +290,17 @@ lead_whole laws place numbers p ended held o text numbers_are keeps same is end'
     ds : List Dataset
     ds = plain fields numbers heads o ended
 
+    on : Continues (plain fields numbers (one_of_some heads) [] ended) ds
+    on = continues laws fields numbers heads o ended base base_alive
+
     alive : SectionsLive ds
-    alive = (base_alive.0, alive_with laws.opens.answer.rows fields numbers heads o ended base base_alive.0 base_alive.1)
+    alive = on.alive
 
     lives : ObjectLives (record (place_after_datasets ds) { ending = if ended then ConfirmedAs (length o) else NotEnded })
     lives = after_plain laws fields numbers heads o ended p (if ended then ConfirmedAs (length o) else NotEnded) base same is alive many total end'
 
     present_is : place.section ≡ section_after ds
-    present_is = sym present ∙ present_alike fields numbers (one_of_some heads) heads [] o ended (sym (one_same heads))
+    present_is = sym present ∙ on.present
 
     place_is : place ≡ plain_place fields numbers heads o ended (InTag held) place.message
     place_is =
@@ -384,14 +364,6 @@ room_kept fields ks h same within is =
     subst (λ (xs : List Dataset). IsWithin widest (length (joined xs) + h.count) (length xs + 1)) (sym same)
     (subst (λ (b : Bool). IsWithin widest (length (joined fields) + (if b then h.count else 0)) (length fields + (if b then 1 else 0))) is within)
 
--- the head that stands after the datasets by which the record layer is told stands after the plain ones
-at_with : NumberDatasetsAreGood → (fields : List Dataset) (numbers : Numbers) (heads : ℕ) (object : List ℕ) → Filling fields numbers heads object false → (h : Head)
-    → SectionsLiveAt (plain fields numbers (one_of_some heads) [] false) h → SectionsLiveAt (plain fields numbers heads object false) h
-at_with rows fields numbers heads object f h (d, is, (more, sections)) =
-    let base = plain fields numbers (one_of_some heads) [] false in
-    let ds = plain fields numbers heads object false in
-    (d, is, (more, subst AreSections (sym (append_assoc ds (d ∷ []) more)) (alive_with rows fields numbers heads object false f ((d ∷ []) ++ more) (subst AreSections (append_assoc base (d ∷ []) more) sections))))
-
 -- in data that are no subfile's
 lead_other : ByLayersLaws → (place : Place) (numbers : Numbers) (p : objects.Place) (e : Ending) (h : Head) (left : ℕ) (taken o text tag : List ℕ) → place.numbers ≡ number_list numbers
     → AllByRecursion (λ (d : Dataset). is_kept d.rec ≡ true) place.fields → number_list numbers ≡ stated_numbers p.stated → IsPossible p → p.ending ≡ e → place.heads ≡ length p.lengths → sum p.lengths ≡ length o → length o ≡ place.taken
@@ -428,7 +400,10 @@ lead_other laws place numbers p e h left taken o text tag numbers_are keeps same
     ds = plain fields numbers heads o false
 
     alive_at : SectionsLiveAt ds h
-    alive_at = at_with laws.opens.answer.rows fields numbers heads o base h at
+    alive_at =
+        let less = plain fields numbers (one_of_some heads) [] false in
+        let on = continues laws fields numbers heads o false base (head_alive less h at) in
+        alive_at_as less ds h on.alive on.present on.seen at
 
     lives : ObjectLives (record (place_after_datasets ds) { ending = e })
     lives = after_plain laws fields numbers heads o false p e base same is (head_alive ds h alive_at) many total end'
@@ -515,7 +490,10 @@ lead_subfile laws place numbers p set count left o text tag numbers_are keeps sa
     ds = plain fields numbers heads object false
 
     alive_at : SectionsLiveAt ds h
-    alive_at = at_with laws.opens.answer.rows fields numbers heads object base h at
+    alive_at =
+        let less = plain fields numbers (one_of_some heads) [] false in
+        let on = continues laws fields numbers heads object false base (head_alive less h at) in
+        alive_at_as less ds h on.alive on.present on.seen at
 
     stated : AreStated (numbers_of (of_record 7 ds))
     stated = (stated_after_all laws.opens.answer.follow.objects ds (head_alive ds h alive_at) base.inside.subfiles).stated
@@ -524,7 +502,7 @@ lead_subfile laws place numbers p set count left o text tag numbers_are keeps sa
     small size e =
         let told = base.tell.numbers_are in
         let here : number_at 20 (numbers_of (of_record 7 ds)) ≡ numbers.largest = cc in
-        let largest : number_at 20 p.stated ≡ Some size = sym (same_stated numbers p.stated same).largest ∙ sym here ∙ e in
+        let largest : number_at 20 p.stated ≡ Some size = sym (numbers_same numbers p.stated same).largest ∙ sym here ∙ e in
         (all_back (λ n. n ≤ size) last.finished (count ∷ []) (subst (AllByRecursion (λ n. n ≤ size)) last.lengths_are (each_small laws.opens.sizes p is size largest (omega (arith, lengths_many))))).0
 
     lives : ObjectLives (place_after (place_after_datasets ds) (SubfileBegun count))

@@ -1,5 +1,5 @@
 -- At a possible place each layer alone can be.
-use Rattle.std.proofs.Common.{◌≡◌, ℕ, zero, suc, ◌+◌, ◌-◌, ◌<◌, ◌≤◌, nat_eq, cond, if◌then◌else◌, Bool, true, false, List, [], ◌∷◌, ◌++◌, length, map, Some, None, refl, ap, sym, subst, ◌∙◌, inl, inr, arith, append_assoc, append-nil, length-append}
+use Rattle.std.proofs.Common.{◌≡◌, ℕ, zero, suc, ◌+◌, ◌-◌, ◌<◌, ◌≤◌, nat_eq, cond, if◌then◌else◌, Bool, true, false, List, [], ◌∷◌, ◌++◌, length, map, Some, None, refl, ap, sym, subst, ◌∙◌, inl, inr, arith, append-nil, length-append}
 use Rattle.std.proofs.lemmas.Bool.{eqb-true}
 use Rattle.std.proofs.lemmas.Bool.Decides.{eqb_tells}
 use Rattle.iim_dataset.specs.Format.Octets.{Octets}
@@ -10,7 +10,6 @@ use Rattle.iim_dataset.specs.declared.head.Head.{Head}
 use Rattle.iim_dataset.proofs.Lists.{sum_append}
 use Rattle.iim_fields.specs.Format.Alive.{SectionsLive, SectionsLiveAt}
 use Rattle.iim_fields.specs.Format.Faults.{kept, section_after}
-use Rattle.iim_fields.specs.Format.Records.{AreSections}
 use Rattle.iim_fields.specs.declared.limits.Limits.{Limits}
 use Rattle.iim_object.specs.Format.Numbers.{place_after_datasets, place_ended, ending_of}
 use Rattle.iim_object.specs.Format.Objects.{ObjectEnded, SubfileBegun}
@@ -34,17 +33,17 @@ use Rattle.iim_places.specs.Format.Tickets.{Place, Phase, TagBegun, AllEnded, ph
 use Rattle.iim_places.specs.Format.Tokens.{ObjectLives, CanContinueAt, MayContinue}
 use Rattle.iim_places.specs.Laws.Lower.{ByLayersLaws, OpenLaws}
 use Rattle.iim_places.proofs.AfterEnd.{after_end}
-use Rattle.iim_places.proofs.Alike.{Fits, alike, present_alike}
 use Rattle.iim_places.proofs.Fitting.{Lived, lived, begins_tag, given_fits, object_low}
-use Rattle.iim_places.proofs.Following.{alive_of, object_lives_after}
+use Rattle.iim_places.proofs.Following.{alive_of}
 use Rattle.iim_places.proofs.HeadsWithin.{told_by}
 use Rattle.iim_places.proofs.Lasts.{last_sections, not_all}
-use Rattle.iim_places.proofs.PlainContinues.{plain_on, low_number, fit_in_rows}
+use Rattle.iim_places.proofs.PlainContinues.{low_number, Continues, plain_like}
 use Rattle.iim_places.proofs.PlainOpens.{ending_like}
-use Rattle.iim_places.proofs.PlainPlaces.{numbers_in, all_kept, room_for, present_same}
+use Rattle.iim_places.proofs.PlainPlaces.{numbers_in, all_kept}
 use Rattle.iim_places.proofs.SameRecords.{IsStated, nines, stated_after_all, stated_at}
 use Rattle.iim_places.proofs.Tickets.{total_of, count_of, sum_one}
 use Rattle.iim_places.proofs.PlainSizes.{possible_of}
+use Rattle.iim_places.proofs.Twins.{alive_at_as}
 
 -- ---- the dataset layer
 
@@ -70,35 +69,29 @@ tags_lead octets ds (InData h taken) reads =
 abbrev few_of : List Dataset → Bool → List Dataset
 few_of ds ended = plain (kept ds) (numbers_in (numbers_of (of_record 7 ds))) (one_of_some (length (of_record 8 ds))) [] ended
 
+pub few_subfiles : (n : ℕ) → one_of_some n ≤ max_subfiles
+few_subfiles zero = omega arith
+few_subfiles (suc n) = omega arith
+
 pub one_same : (n : ℕ) → one_of_some n ≡ one_of_some (one_of_some n)
 one_same zero = refl
 one_same (suc n) = refl
 
-fits_of : OpenLaws → (ds : List Dataset) → IsStated (place_after_datasets ds) → ObjectLives (place_after_datasets ds) → Fits (kept ds) (numbers_in (numbers_of (of_record 7 ds))) (length (of_record 8 ds)) (object_of ds)
-fits_of laws ds stated lives =
-    record { kept = all_kept ds; fit = fit_in_rows (numbers_of (of_record 7 ds)) stated.stated.each; room = room_for laws.sizes.fit ds stated lives }
-
-few_fit : (ds : List Dataset) → IsStated (place_after_datasets ds) → Fits (kept ds) (numbers_in (numbers_of (of_record 7 ds))) (one_of_some (length (of_record 8 ds))) []
-few_fit ds stated = record { kept = all_kept ds; fit = fit_in_rows (numbers_of (of_record 7 ds)) stated.stated.each; room = omega arith }
-
 -- What the layer says after datasets it says after these.
-record FewOf (ds : List Dataset) (ended : Bool) : Type 0 where
-  present : section_after ds ≡ section_after (few_of ds ended)
-  on : (more : List Dataset) → AreSections (ds ++ more) → AreSections (few_of ds ended ++ more)
-
-fewer : OpenLaws → (ds : List Dataset) → SectionsLive ds → length (of_record 8 ds) ≤ max_subfiles → ObjectLives (place_after_datasets ds) → FewOf ds (nat_eq (section_after ds) 9)
-fewer laws ds alive few lives =
-    let stated = stated_after_all laws.answer.follow.objects ds alive few in
-    let ps = numbers_of (of_record 7 ds) in
-    let heads = length (of_record 8 ds) in
-    let object = object_of ds in
-    let ended = nat_eq (section_after ds) 9 in
-    let fits = object_low ds lives in
-    record {
-      present = present_same laws.answer ds alive stated ∙ present_alike (kept ds) (numbers_in ps) heads (one_of_some heads) object [] ended (one_same heads);
-      on = λ more sections.
-          alike laws.answer.rows (kept ds) (numbers_in ps) heads (one_of_some heads) object [] ended more (fits_of laws ds stated lives) (few_fit ds stated) (one_same heads) tt (omega arith) (plain_on laws.answer ds more sections few fits);
-    }
+fewer : OpenLaws → (ds : List Dataset) → SectionsLive ds → length (of_record 8 ds) ≤ max_subfiles → Continues ds (few_of ds (nat_eq (section_after ds) 9))
+fewer laws ds alive few = plain_like laws.answer ds (kept ds) (numbers_in (numbers_of (of_record 7 ds))) (one_of_some (length (of_record 8 ds))) []
+    (nat_eq (section_after ds) 9) (record {
+  alive = alive;
+  few = few;
+  fields_are = refl;
+  numbers_are = refl;
+  some = one_same (length (of_record 8 ds));
+  ends = nines laws.answer.follow ds alive;
+  many = few_subfiles (length (of_record 8 ds));
+  octets = tt;
+  fits = omega arith;
+  room = omega arith;
+})
 
 pub begun_same : (n : ℕ) (b : Bool) → (n + (if b then 1 else 0)) - (if b then 1 else 0) ≡ n
 begun_same n true = omega arith
@@ -125,17 +118,15 @@ records_tag ds es held present alive = by (nat_eq (section_after ds) 9) refl
 records_lead : OpenLaws → (ds : List Dataset) (b : Begun) (m : MessagePlace) → MayContinue widest ds b
     → RecordsLive (section ds b) (phase_of ds b) (record_datasets (place_of ds b m) (numbers_in (numbers_of (of_record 7 ds))))
 records_lead laws ds (InTag held) m goes =
-    let f = fewer laws ds goes.records goes.within.subfiles goes.object in
-    let (more, are) = goes.records in
+    let f = fewer laws ds goes.records goes.within.subfiles in
     let ended = nat_eq (section_after ds) 9 in
     let none : length (of_record 8 ds) - begun_subfiles (section_after ds) (TagPhase ended held) ≡ length (of_record 8 ds) = let none = none_begun (section_after ds) ended held in omega (arith, none) in
     let is : few_of ds ended ≡ record_datasets (place_of ds (InTag held) m) (numbers_in (numbers_of (of_record 7 ds))) =
     λ i. plain (kept ds) (numbers_in (numbers_of (of_record 7 ds))) (one_of_some (sym none i)) [] (sym (ended_by ended held) i) in
-    subst (RecordsLive (section_after ds) (TagPhase ended held)) is (records_tag ds (few_of ds ended) held f.present (more, f.on more are))
+    subst (RecordsLive (section_after ds) (TagPhase ended held)) is (records_tag ds (few_of ds ended) held f.present f.alive)
 records_lead laws ds (InData h taken) m goes =
     let alive = alive_of widest ds (InData h taken) goes in
-    let (d, head, (more, are)) = goes.records in
-    let f = fewer laws ds alive goes.within.subfiles (object_lives_after laws.answer.follow.objects widest ds (InData h taken) goes) in
+    let f = fewer laws ds alive goes.within.subfiles in
     let open' : nat_eq (section_after ds) 9 ≡ false = elim (eqb_tells (section_after ds) 9) [
       | inl nine ↦ absurd (not_all laws.answer.follow.sections ds h goes.records (last_sections laws.answer.follow.ends ds alive nine.1))
       | inr other ↦ other.0
@@ -143,7 +134,7 @@ records_lead laws ds (InData h taken) m goes =
     let is : few_of ds (nat_eq (section_after ds) 9) ≡ record_datasets (place_of ds (InData h taken) m) (numbers_in (numbers_of (of_record 7 ds))) =
     λ i. plain (kept ds) (numbers_in (numbers_of (of_record 7 ds))) (one_of_some (sym (begun_same (length (of_record 8 ds)) (nat_eq h.rec 8)) i)) [] (open' i) in
     subst (λ (es : List Dataset). SectionsLiveAt es h) is
-    (d, head, (more, subst AreSections (sym (append_assoc (few_of ds (nat_eq (section_after ds) 9)) (d ∷ []) more)) (f.on ((d ∷ []) ++ more) (subst AreSections (append_assoc ds (d ∷ []) more) are))))
+    (alive_at_as ds (few_of ds (nat_eq (section_after ds) 9)) h f.alive f.present f.seen goes.records)
 
 -- ---- the object layer
 

@@ -30,7 +30,6 @@ pub mod HeadsWithin
 pub mod PlainContinues
 pub mod PlainSizes
 pub mod PlainOpens
-pub mod Alike
 pub mod LeadsByLayers
 pub mod MessageOctets
 pub mod LayersLead

@@ -1,18 +1,18 @@
 -- Plain datasets tell their place.
-use Rattle.std.proofs.Common.{◌≡◌, ℕ, zero, suc, ◌+◌, ◌*◌, ◌<◌, ◌≤◌, nat_eq, cond, Bool, true, false, List, [], ◌∷◌, ◌++◌, length, take, drop, Option, Some, None, refl, ap, sym, ◌∙◌, arith, append-nil, length-drop, subst, IfSome}
+use Rattle.std.proofs.Common.{◌≡◌, ℕ, zero, suc, ◌+◌, ◌*◌, ◌<◌, ◌≤◌, nat_eq, cond, Bool, true, false, List, [], ◌∷◌, ◌++◌, length, take, drop, Option, Some, None, refl, ap, sym, ◌∙◌, arith, append-nil, length-drop, subst, IfSome, inl, inr}
 use Rattle.std.specs.List.{AllByRecursion, filter}
 use Rattle.std.specs.Option.{unwrap_or}
-use Rattle.std.proofs.lemmas.Bool.{eqb-true}
+use Rattle.std.proofs.lemmas.Bool.{eqb-true, or_cases, ne_eqb}
 use Rattle.std.proofs.lemmas.List.{take-append-drop, length-take}
 use Rattle.std.proofs.lemmas.List.Elements.{filter-append}
 use Rattle.iim_dataset.proofs.WrittenNumbers.{few_octets, number_back, number_octets}
 use Rattle.iim_dataset.specs.Format.Octets.{IsOctet, Octets, number, greatest_size}
 use Rattle.iim_dataset.specs.Format.Datasets.{Dataset, canonical_stream, of_record}
-use Rattle.iim_dataset.proofs.Each.{all_append}
+use Rattle.iim_dataset.proofs.Each.{all_append, all_map}
 use Rattle.iim_dataset.proofs.OctetLists.{front_are}
 use Rattle.iim_dataset.specs.Format.Splits.{Begun, InTag, InData}
 use Rattle.iim_dataset.specs.Laws.Datasets.{HasSpellings, CanonicalStreamsAreSpelled}
-use Rattle.iim_fields.specs.Format.Faults.{kept, is_kept, joined}
+use Rattle.iim_fields.specs.Format.Faults.{kept, is_kept, joined, last_record, section_after}
 use Rattle.iim_object.specs.Format.Records.{numbers_of}
 use Rattle.iim_object.specs.Format.Packing.{number_dataset, subfile_datasets}
 use Rattle.iim_object.specs.States.Saved.{stated_numbers}
@@ -24,6 +24,7 @@ use Rattle.iim_places.specs.Format.Open.{object_so_far, section}
 use Rattle.iim_places.specs.Format.Tickets.{phase_of, heads_of}
 use Rattle.iim_places.specs.Plain.{AreSpellable, begun_object, begun_heads, PlainOctetsLeadToTheirPlace}
 use Rattle.iim_places.specs.States.PlainDatasets.{Numbers, number_list, mode_dataset, one_dataset, plain_numbers, filled, plain_end, plain}
+use Rattle.iim_fields.proofs.Sections.{last_of_joined}
 
 -- The datasets tell these fields, numbers, object octets and heads.
 pub record Tell (ds fields : List Dataset) (numbers : Numbers) (heads : ℕ) (object : List ℕ) (ended : Bool) : Type 0 where
@@ -162,10 +163,19 @@ are_nines false object = tt
 
 -- ---- all of it
 
+-- what plain datasets have: their fields are of records 1 and 2, each number fits its octets, and the subfiles have room for the object
+pub record Fits (fields : List Dataset) (numbers : Numbers) (heads : ℕ) (object : List ℕ) : Type 0 where
+  pub kept : AllByRecursion (λ (d : Dataset). is_kept d.rec ≡ true) fields
+  pub fit : AllByRecursion IsSize (number_list numbers)
+  pub room : length object ≤ heads * unwrap_or numbers.largest 0
+
 -- The plain datasets tell what they are made of.
-pub plain_told : (fields : List Dataset) (numbers : Numbers) (heads : ℕ) (object : List ℕ) (ended : Bool) → AllByRecursion (λ (d : Dataset). is_kept d.rec ≡ true) fields → AllByRecursion IsSize (number_list numbers)
-    → length object ≤ heads * unwrap_or numbers.largest 0 → Tell (plain fields numbers heads object ended) fields numbers heads object ended
-plain_told fields numbers heads object ended each fit room =
+pub plain_told : (fields : List Dataset) (numbers : Numbers) (heads : ℕ) (object : List ℕ) (ended : Bool) → Fits fields numbers heads object
+    → Tell (plain fields numbers heads object ended) fields numbers heads object ended
+plain_told fields numbers heads object ended fits =
+    let each = fits.kept in
+    let fit = fits.fit in
+    let room = fits.room in
     let parts = filled (unwrap_or numbers.largest 0) heads object in
     let sevens = plain_numbers numbers in
     let eights = subfile_datasets parts in
@@ -202,6 +212,36 @@ plain_told fields numbers heads object ended each fit room =
     joins {b = b} {c = c} {d = d} {w = w} {x = x} {y = y} e f g h =
         ap (λ (xs : List Dataset). xs ++ (b ++ (c ++ d))) e
         ∙ ap (λ (xs : List Dataset). w ++ xs) (ap (λ (xs : List Dataset). xs ++ (c ++ d)) f ∙ ap (λ (xs : List Dataset). x ++ xs) (ap (λ (xs : List Dataset). xs ++ d) g ∙ ap (λ (xs : List Dataset). y ++ xs) h))
+
+-- ---- whether they have ended
+
+last_low : (r : ℕ) (ds : List Dataset) → r ≤ 8 → AllByRecursion (λ (d : Dataset). d.rec ≤ 8) ds → last_record r ds ≤ 8
+last_low r [] low all = low
+last_low r (d ∷ ds) low all = last_low d.rec ds all.0 all.1
+
+kept_low : (r : ℕ) → is_kept r ≡ true → r ≤ 8
+kept_low r is = elim (or_cases (nat_eq r 1) (nat_eq r 2) is) [
+  | inl one ↦ let e = eqb-true r 1 one in omega (arith, e)
+  | inr two ↦ let e = eqb-true r 2 two in omega (arith, e)
+]
+
+pub present_ended : (fields : List Dataset) (numbers : Numbers) (heads : ℕ) (object : List ℕ) (ended : Bool)
+    → AllByRecursion (λ (d : Dataset). is_kept d.rec ≡ true) fields → nat_eq (section_after (plain fields numbers heads object ended)) 9 ≡ ended
+present_ended fields numbers heads object true keeps =
+    let eights = subfile_datasets (filled (unwrap_or numbers.largest 0) heads object) in
+    let last = plain_end true object in
+    let front = last_record 0 fields in
+    ap (λ (r : ℕ). nat_eq r 9)
+    (last_of_joined 0 fields (plain_numbers numbers ++ (eights ++ last)) ∙ last_of_joined front (plain_numbers numbers) (eights ++ last)
+    ∙ last_of_joined (last_record front (plain_numbers numbers)) eights last)
+present_ended fields numbers heads object false keeps =
+    let parts = filled (unwrap_or numbers.largest 0) heads object in
+    let low : AllByRecursion (λ (d : Dataset). d.rec ≤ 8) (plain fields numbers heads object false) =
+    all_append _ fields _ (all_map _ _ fields (λ d is. kept_low d.rec is) keeps)
+    (all_append _ (plain_numbers numbers) _ (all_map _ _ (plain_numbers numbers) (λ d is. omega (arith, is)) (are_sevens numbers))
+    (all_append _ (subfile_datasets parts) [] (all_map _ _ (subfile_datasets parts) (λ d is. omega (arith, is)) (are_eights parts)) tt)) in
+    let last = last_low 0 (plain fields numbers heads object false) (omega arith) low in
+    ne_eqb (section_after (plain fields numbers heads object false)) 9 (λ nine. omega (arith, nine, last))
 
 -- ---- spellings
 
@@ -256,7 +296,7 @@ heads_told ds heads (InData h taken) is = ap (λ (n : ℕ). n + begun_heads (InD
 pub plain_led : CanonicalStreamsAreSpelled → PlainOctetsLeadToTheirPlace
 plain_led law fields numbers heads object ended begun rest text message are is leads =
     let ds = plain fields numbers heads object ended in
-    let tell = plain_told fields numbers heads object ended are.kept are.fit are.room in
+    let tell = plain_told fields numbers heads object ended (record { kept = are.kept; fit = are.fit; room = are.room }) in
     let taken : object_so_far ds begun ≡ object ++ begun_object begun = taken_told ds object begun tell.object_is in
     let count : heads_of ds begun ≡ heads + begun_heads begun = heads_told ds heads begun tell.heads_are in
     record {

@@ -1,5 +1,5 @@
 -- Plain octets of a possible place are open or an envelope, too.
-use Rattle.std.proofs.Common.{◌≡◌, ℕ, zero, suc, ◌<◌, ◌≤◌, nat_eq, cond, if◌then◌else◌, Bool, true, false, List, [], ◌∷◌, ◌++◌, length, drop, map, sum, Option, refl, ap, sym, subst, ◌∙◌, inl, inr, arith, append-nil}
+use Rattle.std.proofs.Common.{◌≡◌, ℕ, zero, suc, ◌<◌, ◌≤◌, nat_eq, cond, if◌then◌else◌, Bool, true, false, List, [], ◌∷◌, ◌++◌, length, drop, map, sum, Option, refl, ap, sym, subst, ◌∙◌, inl, inr, arith, append-nil, ◌+◌, length-append}
 use Rattle.std.proofs.lemmas.List.{length-take}
 use Rattle.std.specs.List.{AllByRecursion}
 use Rattle.std.specs.Option.{unwrap_or}
@@ -25,25 +25,28 @@ use Rattle.wire_message.specs.States.Saved.{LeadsToSaved}
 use Rattle.wire_message.specs.declared.saved.MessagePlace.{MessagePlace}
 use Rattle.iim_places.specs.Format.Admitted.{Value, object_of}
 use Rattle.iim_places.specs.Format.Open.{object_so_far, section, AllCanContinue}
-use Rattle.iim_places.specs.Plain.{plain_of, plain_octets, IsPlain, PlainOctetsAreOpenOrWhole}
-use Rattle.iim_places.specs.States.PlainDatasets.{filled, plain_end}
+use Rattle.iim_places.specs.Plain.{plain_of, plain_octets, IsPlain, PlainOctetsAreOpenOrWhole, begun_object, begun_heads}
+use Rattle.iim_places.specs.States.PlainDatasets.{filled, plain_end, number_list, plain}
 use Rattle.iim_places.specs.States.Possible.{AreOpenOrWhole, widest}
 use Rattle.iim_places.specs.Format.Streams.{IsEnvelopeWithin}
-use Rattle.iim_places.specs.Format.Tickets.{Place, IsPlaceOf, place_of}
+use Rattle.iim_places.specs.Format.Tickets.{Place, IsPlaceOf, place_of, heads_of, phase_of, AllEnded, TagBegun}
 use Rattle.iim_places.specs.Format.Tokens.{ObjectLives}
 use Rattle.iim_places.specs.Laws.Lower.{AnswerLaws, OpenLaws, SizeLaws}
 use Rattle.iim_places.proofs.Answering.{one_reading, reads_envelope, goes_envelope, nothing_held}
-use Rattle.iim_places.proofs.Fitting.{object_low, Lived}
+use Rattle.iim_places.proofs.Fitting.{object_low, Lived, each_low, ones_in, numbers_fit, taken_fits, each_octets}
 use Rattle.iim_places.proofs.Following.{alive_of, within_of, object_lives_after}
 use Rattle.iim_places.proofs.Lasts.{sections_last, last_sections}
-use Rattle.iim_places.proofs.Plain.{plain_told, plain_spelled}
-use Rattle.iim_places.proofs.PlainContinues.{plain_on, low_number}
+use Rattle.iim_places.proofs.Plain.{plain_told, plain_spelled, taken_told, heads_told}
+use Rattle.iim_places.proofs.PlainContinues.{low_number, plain_like, fit_in_rows}
 pub use Rattle.iim_places.proofs.PlainContinues.{fit_in_rows}
-use Rattle.iim_places.proofs.PlainPlaces.{plain_by, numbers_in, all_kept, room_for, present_same}
+use Rattle.iim_places.proofs.PlainPlaces.{numbers_in, all_kept, room_for, object_octets, each_spelled, mode_octet, low_mode}
 use Rattle.iim_places.proofs.PlainSizes.{duties_of, Lives}
-use Rattle.iim_places.proofs.SameRecords.{nines, same_numbers, stated_after_all, same_records}
+use Rattle.iim_places.proofs.SameRecords.{nines, same_numbers, stated_after_all}
 use Rattle.iim_places.proofs.Tickets.{total_of, count_of}
 use Rattle.iim_places.proofs.Twins.{Twins, AreBounded, eights, sevens, may_as, enveloped}
+use Rattle.iim_places.proofs.Taking.{each_good}
+use Rattle.iim_dataset.proofs.Each.{all_map, all_front}
+use Rattle.iim_tables.specs.Format.Records.{IsGoodDataset}
 
 -- ---- the plain datasets
 
@@ -93,14 +96,26 @@ told laws ds alive few lives =
     let object = object_of ds in
     let ended = nat_eq (section_after ds) 9 in
     let fits = object_low ds lives in
-    let tell = plain_told (kept ds) numbers heads object ended (all_kept ds) (fit_in_rows ps stated.stated.each) (room_for laws.sizes.fit ds stated lives) in
+    let room = room_for laws.sizes.fit ds stated lives in
+    let tell = plain_told (kept ds) numbers heads object ended (record { kept = all_kept ds; fit = fit_in_rows ps stated.stated.each; room = room }) in
     let es = plain_of ds in
-    let there : SectionsLive es = (alive.0, plain_on laws.answer ds alive.0 alive.1 few fits) in
-    let present = present_same laws.answer ds alive stated in
+    let good = each_good (ds ++ alive.0) alive.1 in
+    let continues = plain_like laws.answer ds (kept ds) numbers heads object ended (record {
+      alive = alive;
+      few = few;
+      fields_are = refl;
+      numbers_are = refl;
+      some = refl;
+      ends = nines laws.answer.follow ds alive;
+      many = few;
+      octets = object_octets ds (all_map IsGoodDataset _ ds (λ d is. is.octets) (all_front IsGoodDataset ds alive.0 good));
+      fits = fits;
+      room = room;
+    }) in
     let many = tell.heads_are in
     record {
-      alive = there;
-      present = present;
+      alive = continues.alive;
+      present = continues.present;
       object = sym tell.object_is;
       twins = record {
         fields = sym tell.kept_are;
@@ -110,12 +125,7 @@ told laws ds alive few lives =
         ending =
             ending_like laws.sizes ps (eights ds) (of_record 9 ds) ended object stated.stated stated.duties stated.subfiles lives
             (nines laws.answer.follow ds alive) (total_of (of_record 8 ds)) fits ∙ sym (ap ending_of tell.nines_are);
-        seen = same_records laws.answer.follow laws.answer.numbers ds es alive there few (omega (arith, few, many)) (record {
-          ended = ap (λ (r : ℕ). nat_eq r 9) present;
-          fields = sym tell.kept_are;
-          numbers = sym tell.numbers_are;
-          heads = sym many;
-        });
+        seen = continues.seen;
         bounded = subst (AreBounded (sevens es)) (sym (ap lengths_of tell.eights_are))
             (bounded_plain ps (sevens es) heads object stated.stated (λ some. stated.duties (let count = count_of (of_record 8 ds) in omega (arith, count, some)))
             (same_numbers ps (sevens es) (sym tell.numbers_are)).largest);
@@ -161,6 +171,64 @@ coming laws place octets is whole begun reads =
       is_place = is.is_place ∙ ap (λ (ds : List Dataset). place_of ds is.begun is.message) same.whole_is ∙ ap (λ (b : Begun). place_of whole b is.message) same.begun_is;
     }
 
+-- The place is one of plain octets.
+unfoldable plain_by : OpenLaws → (place : Place) (l : Lived place) → IsPlain (place_of l.whole l.begun l.message)
+plain_by laws place l =
+    let ds = l.whole in
+    let goes = l.leads_on.sizes in
+    let alive = alive_of widest ds l.begun goes in
+    let within = within_of widest ds l.begun goes in
+    let stated = stated_after_all laws.answer.follow.objects ds alive within.subfiles in
+    let lives = object_lives_after laws.answer.follow.objects widest ds l.begun goes in
+    let ps = numbers_of (of_record 7 ds) in
+    let numbers = numbers_in ps in
+    let heads = length (of_record 8 ds) in
+    let object = object_of ds in
+    let ended = nat_eq (section_after ds) 9 in
+    let octets = each_octets ds l.reads.front l.reads.is_front in
+    let taken = taken_fits l.octets ds l.begun l.reads goes in
+    let more = taken_told ds object l.begun refl in
+    let both = length-append object (begun_object l.begun) in
+    let long = ap length more in
+    record {
+      numbers = numbers;
+      heads = heads;
+      object = object;
+      ended = ended;
+      begun = l.begun;
+      rest = l.reads.rest;
+      text = l.text;
+      message = l.message;
+      spellable = record {
+        kept = all_kept ds;
+        spelled = each_spelled ds l.reads.front l.reads.is_front;
+        mode = mode_octet numbers.mode (low_mode ps stated.stated.each);
+        fit = (numbers_fit ps (each_low ds (ones_in ds l.begun goes) octets)).each;
+        octets = object_octets ds octets;
+        few = omega (arith, taken, both, long);
+        room = room_for laws.sizes.fit ds stated lives;
+      };
+      is_begun = l.reads.is_rest;
+      leads = subst (λ (xs : List ℕ). LeadsToSaved xs l.text l.message) more l.leads;
+      is_place = same_place ds (plain (kept ds) numbers heads object ended) l.begun l.message object heads more (heads_told ds heads l.begun refl)
+          (told laws ds alive within.subfiles lives).present;
+    }
+  where
+    same_place : (ds es : List Dataset) (begun : Begun) (message : MessagePlace) (object : List ℕ) (heads : ℕ) → object_so_far ds begun ≡ object ++ begun_object begun → heads_of ds begun ≡ heads + begun_heads begun
+        → section_after ds ≡ section_after es
+        → place_of ds begun message ≡ record {
+          section = section es begun;
+          phase = phase_of es begun;
+          fields = kept ds;
+          numbers = number_list (numbers_in (numbers_of (of_record 7 ds)));
+          taken = length (object ++ begun_object begun);
+          heads = heads + begun_heads begun;
+          message = message;
+        }
+    same_place ds es (InTag held) message object heads taken count present =
+        λ i. record (place_of ds (InTag held) message) { section = present i; phase = if nat_eq (present i) 9 then AllEnded else TagBegun held; taken = length (taken i); heads = count i }
+    same_place ds es (InData h given) message object heads taken count present = λ i. record (place_of ds (InData h given) message) { taken = length (taken i); heads = count i }
+
 abbrev Opens : Place → Type 0
 Opens place = (p : IsPlain place) × AreOpenOrWhole widest (plain_octets place p)
 
@@ -174,7 +242,7 @@ spelled_of : OpenLaws → (place : Place) (l : Lived place) → SpellsStream cou
 unfolding plain_by
 spelled_of laws place l =
     let ds = l.whole in
-    let p = plain_by (record { answer = laws.answer; fit = laws.sizes.fit }) place l in
+    let p = plain_by laws place l in
     laws.spelled (plain_of ds) (plain_spelled (kept ds) (numbers_in (numbers_of (of_record 7 ds))) (length (of_record 8 ds)) (object_of ds) (nat_eq (section_after ds) 9) p.spellable)
 
 from_open : OpenLaws → (place : Place) (l : Lived place) → (AreSections l.whole → ⊥) → Opens (place_of l.whole l.begun l.message)
@@ -185,7 +253,7 @@ from_open laws place l unfinished =
     let t = told_of laws place l in
     let alive = alive_of widest ds l.begun l.leads_on.sizes in
     let ends = laws.answer.follow.ends in (
-      plain_by (record { answer = laws.answer; fit = laws.sizes.fit }) place l,
+      plain_by laws place l,
       inl (record {
         whole = es;
         begun = l.begun;
@@ -219,7 +287,7 @@ from_whole laws octets v is text message leads =
     let stream = subst (SpellsStream count_octets es) (sym (append-nil (canonical_stream es))) (spelled_of laws (place_of ds (InTag []) message) l) in
     let whole = enveloped laws widest (canonical_stream es ++ []) es v.head a.text v.trailer v.lines stream
     (may_as laws widest ds es (InTag []) t.alive t.present t.twins goes.sizes) nine (subst (λ (o : List ℕ). IsMessage o v.head a.text v.trailer) t.object a.message) a.lines in
-    (plain_by (record { answer = laws.answer; fit = laws.sizes.fit }) (place_of ds (InTag []) message) l, inr (_, whole.within))
+    (plain_by laws (place_of ds (InTag []) message) l, inr (_, whole.within))
 
 -- Each possible place is led to by plain octets that are open or an envelope.
 pub plain_open : OpenLaws → PlainOctetsAreOpenOrWhole

@@ -1,5 +1,5 @@
 -- Readers of a possible place stand where octets lead there.
-use Rattle.std.proofs.Common.{◌≡◌, ℕ, zero, suc, ◌+◌, ◌-◌, ◌<◌, ◌≤◌, nat_eq, if◌then◌else◌, Bool, true, false, List, [], ◌∷◌, ◌++◌, length, Option, Some, None, refl, ap, sym, subst, ◌∙◌, inl, inr, arith, append-nil}
+use Rattle.std.proofs.Common.{◌≡◌, ℕ, ◌+◌, ◌-◌, ◌<◌, ◌≤◌, nat_eq, if◌then◌else◌, Bool, true, false, List, [], ◌∷◌, ◌++◌, length, Option, Some, None, refl, ap, sym, subst, ◌∙◌, inl, inr, arith, append-nil}
 use Rattle.std.specs.List.{AllByRecursion}
 use Rattle.std.proofs.lemmas.Bool.{eqb-true}
 use Rattle.std.proofs.lemmas.Bool.Decides.{eqb_tells}
@@ -42,13 +42,14 @@ use Rattle.iim_places.specs.States.Readers.{RecordsStand, MessageStands, has_com
 use Rattle.iim_places.specs.States.Counts.{are_some}
 use Rattle.iim_places.specs.Format.Tickets.{Place, Phase, TagBegun, AllEnded, phase_of}
 use Rattle.iim_places.specs.Format.Tokens.{place_at, ObjectLives, CanContinue, CanContinueAt}
-use Rattle.iim_places.proofs.Alike.{Fits, told_by}
-use Rattle.iim_places.proofs.LayersLead.{less_none, same_stated, present_ended}
-use Rattle.iim_places.proofs.LeadsByLayers.{whole_at, subfile_at, opened_at, confirmed_at, few_heads, few_with_head, nine_ended, one_same}
+use Rattle.iim_places.proofs.LayersLead.{less_none}
+use Rattle.iim_places.proofs.LeadsByLayers.{whole_at, subfile_at, opened_at, confirmed_at, few_heads, few_with_head, nine_ended, one_same, few_subfiles}
 use Rattle.iim_places.proofs.PlainOpens.{fit_in_rows}
 use Rattle.iim_places.proofs.SamePlace.{has_begun, none_present}
 use Rattle.iim_places.proofs.SameRecords.{IsStated, SameRecords, same_shape, stated_after_all, stated_at}
 use Rattle.iim_places.proofs.PlainSizes.{possible_of}
+use Rattle.iim_places.proofs.Plain.{Fits, plain_told, present_ended}
+use Rattle.iim_places.proofs.PlainContinues.{numbers_same}
 
 -- by which an unpacker is made of readers
 pub record RestoreLaws : Type 0 where
@@ -63,10 +64,6 @@ pub record Like (es ds : List Dataset) : Type 0 where
   pub kept_are : kept es ≡ kept ds
   pub same : SameRecords es ds
 
-few_subfiles : (n : ℕ) → one_of_some n ≤ max_subfiles
-few_subfiles zero = omega arith
-few_subfiles (suc n) = omega arith
-
 pub like : RestoreLaws → (fields : List Dataset) (numbers : Numbers) (some : ℕ) (ended : Bool) (ds : List Dataset) → AllByRecursion (λ (d : Dataset). is_kept d.rec ≡ true) fields
     → number_list numbers ≡ stated_numbers (numbers_of (of_record 7 ds)) → SectionsLive (plain fields numbers (one_of_some some) [] ended) → SectionsLive ds → length (of_record 8 ds) ≤ max_subfiles → fields ≡ kept ds
     → some ≡ length (of_record 8 ds) → nat_eq (section_after ds) 9 ≡ ended → Like (plain fields numbers (one_of_some some) [] ended) ds
@@ -74,9 +71,9 @@ like laws fields numbers some ended ds keeps same alive there few fields_are som
     let es = plain fields numbers (one_of_some some) [] ended in
     let ps = numbers_of (of_record 7 ds) in
     let stated = stated_after_all laws.layers.opens.answer.follow.objects ds there few in
-    let is = same_stated numbers ps same in
+    let is = numbers_same numbers ps same in
     let fits : Fits fields numbers (one_of_some some) [] = record { kept = keeps; fit = subst (λ (n : Numbers). AllByRecursion IsSize (number_list n)) (sym is.are) (fit_in_rows ps stated.stated.each); room = omega arith } in
-    let tell = told_by fields numbers (one_of_some some) [] ended fits in
+    let tell = plain_told fields numbers (one_of_some some) [] ended fits in
     let heads = tell.heads_are in
     record {
       kept_are = tell.kept_are ∙ fields_are;

@@ -3,14 +3,12 @@ use Rattle.std.proofs.Common.{◌≡◌, ℕ, ◌+◌, ◌≤◌, ◌&&◌, ◌|
 use Rattle.std.proofs.lemmas.Bool.{ne_eqb}
 use Rattle.std.specs.Option.{option_or, option_map}
 use Rattle.iim_dataset.specs.Format.Octets.{Octets, number}
-use Rattle.iim_dataset.specs.Format.Completing.{CompletesData}
 use Rattle.iim_dataset.specs.Format.Datasets.{Dataset, head_of, of_record as of_fields, of_record, count_octets}
 use Rattle.iim_dataset.specs.Format.Splits.{Begun, InTag, InData, Reads}
 use Rattle.iim_dataset.specs.declared.head.Head.{Head}
 use Rattle.iim_dataset.proofs.Lists.{sum_append}
 use Rattle.iim_fields.specs.Format.Alive.{SectionsLive, SectionsLiveAt}
 use Rattle.iim_fields.specs.Format.Faults.{head_fault, joined, kept, section_after, room_fault, value_fault}
-use Rattle.iim_fields.specs.Format.Records.{AreSections}
 use Rattle.iim_tables.specs.Format.Records.{occurs}
 use Rattle.iim_fields.specs.Format.Values.{data_of, tells_number}
 use Rattle.iim_fields.specs.declared.limits.Limits.{Limits}
@@ -27,20 +25,20 @@ use Rattle.wire_story.specs.Format.Tokens.{End}
 use Rattle.iim_places.specs.Format.Admitted.{object_of}
 use Rattle.iim_places.specs.Laws.Conditions.{RefusalsTellTheLowestCause}
 use Rattle.iim_places.specs.Laws.Places.{PlacesRefuseAlike}
-use Rattle.iim_places.specs.Format.Open.{AllCanContinue, IsUnfinished, object_so_far, IsBadHeadAt, IsBadOctetAt, IsBadTagAt, IsBadValueAt, RefusesByTests}
-use Rattle.iim_places.specs.Format.Refusals.{of_field, size_on, too_many_on}
+use Rattle.iim_places.specs.Format.Open.{AllCanContinue, IsUnfinished, object_so_far, RefusesByTests}
+use Rattle.iim_places.specs.Format.Refusals.{of_field, size_on, too_many_on, message_on}
 use Rattle.iim_places.specs.Laws.Streams.{RefusedOctetsWereOpen, OpenOctetsBeginWithNoEnvelope}
 use Rattle.iim_places.specs.Format.Tokens.{DiesAtHead, DiesAtValue, CanContinueAt, HaveRoom, IsRefusedHead, IsRefusedValue, ObjectLives, fault_at_head, fault_at_value, place_at}
 use Rattle.iim_places.specs.declared.fault.TokenFault.{TokenFault}
 use Rattle.iim_places.specs.declared.refusal.Layer.{Layer}
 use Rattle.iim_places.specs.declared.refusal.Layer.TheVariants as layers
 use Rattle.iim_places.specs.Onward.{OnwardLaws}
-use Rattle.iim_places.proofs.Answering.{before_it, fewer_data}
+use Rattle.iim_places.proofs.Answering.{fewer_data, IsRefusedAt, IsRefusedWith, refuses_by, tests_of}
 use Rattle.iim_places.proofs.ObjectOctets.{few_more, no_object}
 use Rattle.iim_places.proofs.Continuing.{not_both, on_open, unfinished_as}
 use Rattle.iim_places.proofs.Following.{object_lives_after, with_data}
-use Rattle.iim_places.proofs.Onward.{AreData, Pair, ReadAlike, all_as, given_as, head_is, lives_as}
-use Rattle.iim_places.proofs.SamePlace.{SameData, SameMessage, value_as}
+use Rattle.iim_places.proofs.Onward.{Pair, ReadAlike, all_as, given_as, head_is, lives_as}
+use Rattle.iim_places.proofs.SamePlace.{SameMessage, value_as}
 use Rattle.iim_places.proofs.SameRecords.{SameNumbers, stated_after_all}
 use Rattle.iim_places.proofs.Taking.{good_at}
 use Rattle.iim_places.proofs.Tickets.{count_of}
@@ -223,93 +221,9 @@ value_as_well laws limits ds es d fault other t bad =
 
 -- ---- what is read after the one is read after the other
 
--- in a tag
-record TagRead (limits : Limits) (q : List ℕ) (ds : List Dataset) (held : List ℕ) : Type 0 where
-  whole : List Dataset
-  reads : Reads count_octets q whole (InTag held)
-  pair : Pair limits ds whole (InTag held) (InTag held)
-
-tag_read : (limits : Limits) (q o r : List ℕ) (ds : List Dataset) (held : List ℕ) → ReadAlike limits q o r ds (InTag held) → TagRead limits q ds held
-tag_read limits q o r ds held read = by read.begun read.reads read.pair
-  where
-    by : (c : Begun) → Reads count_octets q read.whole c → Pair limits ds read.whole (InTag held) c → TagRead limits q ds held
-    by (InTag other) reads pair = record {
-      whole = read.whole;
-      reads = subst (λ (l : List ℕ). Reads count_octets q read.whole (InTag l)) (sym pair.begun) reads;
-      pair = subst (λ (l : List ℕ). Pair limits ds read.whole (InTag held) (InTag l)) (sym pair.begun) pair;
-    }
-    by (InData h t) reads pair = absurd pair.begun
-
--- in data
-record DataRead (limits : Limits) (q : List ℕ) (ds : List Dataset) (h : Head) (t : List ℕ) : Type 0 where
-  whole : List Dataset
-  taken : List ℕ
-  are : AreData h t taken
-  reads : Reads count_octets q whole (InData h taken)
-  pair : Pair limits ds whole (InData h t) (InData h taken)
-
-data_read : (limits : Limits) (q o r : List ℕ) (ds : List Dataset) (h : Head) (t : List ℕ) → ReadAlike limits q o r ds (InData h t) → DataRead limits q ds h t
-data_read limits q o r ds h t read = by read.begun read.reads read.pair
-  where
-    with_head : (k : Head) (v : List ℕ) → h ≡ k → SameData h t k v → Reads count_octets q read.whole (InData k v) → Pair limits ds read.whole (InData h t) (InData k v) → DataRead limits q ds h t
-    with_head k v e same reads pair =
-        subst (λ (x : Head). SameData h t x v → Reads count_octets q read.whole (InData x v) → Pair limits ds read.whole (InData h t) (InData x v) → DataRead limits q ds h t) e
-        (λ same reads pair. record { whole = read.whole; taken = v; are = (same.many, given_as (nat_eq h.rec 8) t v same.given); reads = reads; pair = pair }) same reads pair
-
-    by : (c : Begun) → Reads count_octets q read.whole c → Pair limits ds read.whole (InData h t) c → DataRead limits q ds h t
-    by (InTag held) reads pair = absurd pair.begun
-    by (InData k v) reads pair = with_head k v pair.begun.head pair.begun reads pair
-
 -- what is read alike after both
 abbrev OnTo : Limits → List ℕ → List ℕ → List ℕ → List ℕ → Type 0
 OnTo limits p q o r = (W : List Dataset) (c : Begun) → Reads count_octets p W c → AllCanContinue limits W c → ReadAlike limits q o r W c
-
-bad_tag : OnwardLaws → (limits : Limits) (p q o r : List ℕ) → OnTo limits p q o r → (next : ℕ) (fault : TokenFault) → IsBadTagAt limits p next fault → IsBadTagAt limits q next fault
-bad_tag laws limits p q o r on next fault bad =
-    let read = tag_read limits q o r bad.whole bad.held (on bad.whole (InTag bad.held) bad.reads bad.leads_on) in
-    record {
-      whole = read.whole;
-      held = bad.held;
-      reads = read.reads;
-      leads_on = read.pair.there;
-      unfinished = unfinished_as laws limits bad.whole read.whole (InTag bad.held) (InTag bad.held) read.pair bad.unfinished;
-      dead = bad.dead;
-      is_fault = bad.is_fault;
-    }
-
-bad_head : OnwardLaws → (limits : Limits) (p q o r : List ℕ) → OnTo limits p q o r → (next : ℕ) (fault : TokenFault) → IsBadHeadAt limits p next fault → IsBadHeadAt limits q next fault
-bad_head laws limits p q o r on next fault bad =
-    let read = tag_read limits q o r bad.whole bad.held (on bad.whole (InTag bad.held) bad.reads bad.leads_on) in
-    record {
-      whole = read.whole;
-      held = bad.held;
-      head = bad.head;
-      reads = read.reads;
-      leads_on = read.pair.there;
-      unfinished = unfinished_as laws limits bad.whole read.whole (InTag bad.held) (InTag bad.held) read.pair bad.unfinished;
-      tag = bad.tag;
-      refuses = either_head laws limits bad.whole read.whole bad.head fault (tagged laws limits bad.whole read.whole bad.held bad.held read.pair) bad.refuses;
-    }
-
-bad_octet : OnwardLaws → (limits : Limits) (p q o r : List ℕ) → OnTo limits p q o r → (next : ℕ) (fault : TokenFault) → IsBadOctetAt limits p next fault → IsBadOctetAt limits q next fault
-bad_octet laws limits p q o r on next fault bad =
-    let h = bad.head in
-    let read = data_read limits q o r bad.whole h bad.taken (on bad.whole (InData h bad.taken) bad.reads bad.leads_on) in
-    let m = read.pair.message in
-    let here : HasCause bad.cause (object_so_far bad.whole (InData h bad.taken)) next = subst (λ (l : List ℕ). HasCause bad.cause l next) (sym (with_data bad.whole h bad.taken bad.subfile)) bad.has_cause in
-    record {
-      whole = read.whole;
-      head = h;
-      taken = read.taken;
-      reads = read.reads;
-      leads_on = read.pair.there;
-      unfinished = unfinished_as laws limits bad.whole read.whole (InData h bad.taken) (InData h read.taken) read.pair bad.unfinished;
-      subfile = bad.subfile;
-      cause = bad.cause;
-      has_cause = subst (λ (l : List ℕ). HasCause bad.cause l next) (with_data read.whole h read.taken bad.subfile)
-          (laws.refused (object_so_far bad.whole (InData h bad.taken)) (object_so_far read.whole (InData h read.taken)) m.text m.other m.at bad.cause next m.here m.there here);
-      is_fault = bad.is_fault;
-    }
 
 inside : OnwardLaws → (limits : Limits) (ds es : List Dataset) (h : Head) → CanContinueAt limits ds h → CanContinueAt limits es h → Twins ds es → ObjectLives (place_after_datasets ds) → Inside limits ds es h
 inside laws limits ds es h goes there twins lives = record {
@@ -321,56 +235,69 @@ inside laws limits ds es h goes there twins lives = record {
   bounded = bounded_of laws ds (head_alive ds h goes.records) goes.within.subfiles lives;
 }
 
--- a value, where it is told what completes its data, and what stands before them
-value_at : OnwardLaws → (limits : Limits) (q : List ℕ) (next : ℕ) (fault : TokenFault) (ds es : List Dataset) (h : Head) (given : List ℕ) → (h.rec ≡ 8 → ⊥) → length given ≡ h.count → CompletesData q next es h given → AllCanContinue limits ds (InData h given)
-    → AllCanContinue limits es (InData h given) → Twins ds es → (AreSections es → ⊥) → IsRefusedValue ds (data_of h given) fault → IsBadValueAt limits q next fault
-value_at laws limits q next fault ds es h given other many completes here there twins unfinished bad =
-    let is : head_of (data_of h given) ≡ h = head_is h given many in
+-- a value, where every layer can continue with its data
+value_at : OnwardLaws → (limits : Limits) (fault : TokenFault) (ds es : List Dataset) (h : Head) (given : List ℕ) → (h.rec ≡ 8 → ⊥) → length given ≡ h.count
+    → AllCanContinue limits ds (InData h given) → AllCanContinue limits es (InData h given) → Twins ds es → IsRefusedValue ds (data_of h given) fault
+    → IsRefusedValue es (data_of h given) fault
+value_at laws limits fault ds es h given other many here there twins bad =
     let lives = object_lives_after laws.opens.answer.follow.objects limits ds (InData h given) here.sizes in
-    let t : Inside limits ds es (head_of (data_of h given)) = subst (Inside limits ds es) (sym is) (inside laws limits ds es h here.sizes there.sizes twins lives) in
-    record {
-      whole = es;
-      head = h;
-      given = given;
-      is_value = other;
-      completes = completes;
-      leads_on = there;
-      unfinished = unfinished;
-      refuses = value_as_well laws limits ds es (data_of h given) fault other t bad;
-    }
+    value_as_well laws limits ds es (data_of h given) fault other
+    (subst (Inside limits ds es) (sym (head_is h given many)) (inside laws limits ds es h here.sizes there.sizes twins lives)) bad
 
-bad_value : OnwardLaws → (limits : Limits) (p q o r : List ℕ) → OnTo limits p q o r → (next : ℕ) (fault : TokenFault) → IsBadValueAt limits p next fault → IsBadValueAt limits q next fault
-bad_value laws limits p q o r on next fault bad = by bad.completes
+with_as : OnwardLaws → (limits : Limits) (ds es : List Dataset) (h : Head) (fault : TokenFault) → Tagged limits ds es → IsRefusedWith limits ds h fault
+    → IsRefusedWith limits es h fault
+with_as laws limits ds es h fault t (inl bad) = inl (either_head laws limits ds es h fault t bad)
+with_as laws limits ds es h fault t (inr (other, none, all, bad)) =
+    let sizes = may_as laws.opens limits ds es (InData h []) t.there t.present t.twins all.sizes in
+    let message : SameMessage (object_so_far ds (InData h [])) (object_so_far es (InData h [])) =
+    subst (SameMessage (object_so_far ds (InData h []))) (sym (no_object es h [] other))
+    (subst (λ (l : List ℕ). SameMessage l (object_of es)) (sym (no_object ds h [] other)) t.message) in
+    let there = all_as laws limits ds es (InData h []) (InData h []) all sizes refl message in
+    inr (other, none, there, value_at laws limits fault ds es h [] other (sym none) all there t.twins bad)
+
+step_as : OnwardLaws → (limits : Limits) (ds es : List Dataset) (c d : Begun) (next : ℕ) (fault : TokenFault) → Pair limits ds es c d
+    → IsRefusedAt limits ds c next fault → IsRefusedAt limits es d next fault
+step_as laws limits ds es (InTag x) (InTag y) next fault pair bad = subst (λ (l : List ℕ). IsRefusedAt limits es (InTag l) next fault) pair.begun (by bad)
   where
-    h : Head
-    h = bad.head
+    by : IsRefusedAt limits ds (InTag x) next fault → IsRefusedAt limits es (InTag x) next fault
+    by (inl dead) = inl dead
+    by (inr (h, tag, with')) = inr (h, tag, with_as laws limits ds es h fault (tagged laws limits ds es x y pair) with')
+step_as laws limits ds es (InTag x) (InData k v) next fault pair bad = absurd pair.begun
+step_as laws limits ds es (InData h t) (InTag y) next fault pair bad = absurd pair.begun
+step_as laws limits ds es (InData h t) (InData k v) next fault pair bad = by bad
+  where
+    head : h ≡ k
+    head = pair.begun.head
 
-    by : CompletesData p next bad.whole h bad.given → IsBadValueAt limits q next fault
-    by (inl (taken, reads, parts, many)) =
-        let goes = fewer_data limits bad.whole h bad.given taken bad.is_value bad.leads_on in
-        let read = data_read limits q o r bad.whole h taken (on bad.whole (InData h taken) reads goes) in
-        let same : taken ≡ read.taken = read.are.1 (ne_eqb h.rec 8 bad.is_value) in
-        let unfinished = unfinished_as laws limits bad.whole read.whole (InData h taken) (InData h read.taken) read.pair bad.unfinished in
-        value_at laws limits q next fault bad.whole read.whole h bad.given bad.is_value many (inl (read.taken, read.reads, parts ∙ ap (λ (l : List ℕ). l ++ next ∷ []) same, many)) bad.leads_on
-        (fewer_data limits read.whole h read.taken bad.given bad.is_value read.pair.there) read.pair.twins unfinished bad.refuses
-    by (inr (held, reads, tag, none, is)) =
-        let goes = before_it laws.opens.answer limits bad.whole h held bad.is_value bad.unfinished (fewer_data limits bad.whole h bad.given [] bad.is_value bad.leads_on) in
-        let read = tag_read limits q o r bad.whole held (on bad.whole (InTag held) reads goes) in
-        let es = read.whole in
-        let t = tagged laws limits bad.whole es held held read.pair in
-        let unfinished = unfinished_as laws limits bad.whole es (InTag held) (InTag held) read.pair bad.unfinished in
-        let sizes = may_as laws.opens limits bad.whole es (InData h bad.given) t.there t.present t.twins bad.leads_on.sizes in
-        let message : SameMessage (object_so_far bad.whole (InData h bad.given)) (object_so_far es (InData h bad.given)) =
-        subst (SameMessage (object_so_far bad.whole (InData h bad.given))) (sym (no_object es h bad.given bad.is_value)) (subst (λ (l : List ℕ). SameMessage l (object_of es)) (sym (no_object bad.whole h bad.given bad.is_value)) t.message) in
-        let there = all_as laws limits bad.whole es (InData h bad.given) (InData h bad.given) bad.leads_on sizes refl message in
-        let many : length bad.given ≡ h.count = ap length is ∙ sym none in
-        value_at laws limits q next fault bad.whole es h bad.given bad.is_value many (inr (held, read.reads, tag, none, is)) bad.leads_on there t.twins unfinished bad.refuses
+    rec : h.rec ≡ k.rec
+    rec = ap (λ (x : Head). x.rec) head
 
-refuses_as : OnwardLaws → (limits : Limits) (p q o r : List ℕ) → OnTo limits p q o r → (next : ℕ) (fault : TokenFault) → RefusesByTests limits p next fault → RefusesByTests limits q next fault
-refuses_as laws limits p q o r on next fault (inl bad) = inl (bad_tag laws limits p q o r on next fault bad)
-refuses_as laws limits p q o r on next fault (inr (inl bad)) = inr (inl (bad_head laws limits p q o r on next fault bad))
-refuses_as laws limits p q o r on next fault (inr (inr (inl bad))) = inr (inr (inl (bad_octet laws limits p q o r on next fault bad)))
-refuses_as laws limits p q o r on next fault (inr (inr (inr bad))) = inr (inr (inr (bad_value laws limits p q o r on next fault bad)))
+    by : IsRefusedAt limits ds (InData h t) next fault → IsRefusedAt limits es (InData k v) next fault
+    by (inl (eight, cause, has, is)) =
+        let m = pair.message in
+        let here : HasCause cause (object_so_far ds (InData h t)) next = subst (λ (l : List ℕ). HasCause cause l next) (sym (with_data ds h t eight)) has in
+        inl (
+          sym rec ∙ eight,
+          cause,
+          subst (λ (l : List ℕ). HasCause cause l next) (with_data es k v (sym rec ∙ eight))
+              (laws.refused (object_so_far ds (InData h t)) (object_so_far es (InData k v)) m.text m.other m.at cause next m.here m.there here),
+          is ∙ ap (λ (x : Head). message_on x cause) head,
+        )
+    by (inr (other, many, bad)) =
+        let same : t ≡ v = given_as (nat_eq h.rec 8) t v (pair.begun.given ∙ ap (λ (r : ℕ). if nat_eq r 8 then [] else v) (sym rec)) (ne_eqb h.rec 8 other) in
+        let given = t ++ next ∷ [] in
+        let here = fewer_data limits ds h t given other pair.here in
+        let there = fewer_data limits es h v given other (subst (λ (x : Head). AllCanContinue limits es (InData x v)) (sym head) pair.there) in
+        subst (λ (x : Head). IsRefusedAt limits es (InData x v) next fault) head (subst (λ (l : List ℕ). IsRefusedAt limits es (InData h l) next fault) same
+        (inr (other, many, value_at laws limits fault ds es h given other many here there pair.twins bad)))
+
+refuses_as : OnwardLaws → (limits : Limits) (p q o r : List ℕ) → OnTo limits p q o r → (next : ℕ) (fault : TokenFault) → RefusesByTests limits p next fault
+    → RefusesByTests limits q next fault
+refuses_as laws limits p q o r on next fault bad =
+    let (ds, c, reads, all, open', dead) = refuses_by laws.opens.answer limits p next fault bad in
+    let read = on ds c reads all in
+    let none = unfinished_as laws limits ds read.whole c read.begun read.pair open' in
+    tests_of limits q next fault (read.whole, read.begun, read.reads, read.pair.there, none, step_as laws limits ds read.whole c read.begun next fault read.pair dead)
 
 -- ---- both
 

@@ -251,15 +251,15 @@ none_in r k apart (d ∷ ds) all =
     let test : nat_eq d.rec r ≡ false = ap (λ (x : ℕ). nat_eq x r) all.0.0 ∙ apart in
     ap (λ (b : Bool). cond b (d ∷ of_record r ds) (of_record r ds)) test ∙ none_in r k apart ds all.1
 
-none_of : (r : ℕ) (rs : List ℕ) (ds : List Dataset) → AreRecords rs ds → AllByRecursion (λ k. nat_eq k r ≡ false) rs → of_record r ds ≡ []
-none_of r [] ds none apart = ap (of_record r) none
-none_of r (k ∷ rs) ds (run, rest, parts, good, later) apart =
+pub none_in_records : (r : ℕ) (rs : List ℕ) (ds : List Dataset) → AreRecords rs ds → AllByRecursion (λ k. nat_eq k r ≡ false) rs → of_record r ds ≡ []
+none_in_records r [] ds none apart = ap (of_record r) none
+none_in_records r (k ∷ rs) ds (run, rest, parts, good, later) apart =
     ap (of_record r) parts ∙ filter-append (λ (x : Dataset). nat_eq x.rec r) run rest
-    ∙ ap (λ (xs : List Dataset). xs ++ of_record r rest) (none_in r k apart.0 run good.each) ∙ none_of r rs rest later apart.1
+    ∙ ap (λ (xs : List Dataset). xs ++ of_record r rest) (none_in r k apart.0 run good.each) ∙ none_in_records r rs rest later apart.1
 
 pub none_other : (r : ℕ) → AllByRecursion (λ k. nat_eq k r ≡ false) records → (ds : List Dataset) → SectionsLive ds → of_record r ds ≡ []
 none_other r apart ds alive =
-    empty_front (of_record r ds) (of_record r alive.0) (sym (filter-append (λ (x : Dataset). nat_eq x.rec r) ds alive.0) ∙ none_of r records (ds ++ alive.0) alive.1 apart)
+    empty_front (of_record r ds) (of_record r alive.0) (sym (filter-append (λ (x : Dataset). nat_eq x.rec r) ds alive.0) ∙ none_in_records r records (ds ++ alive.0) alive.1 apart)
 
 -- ---- all records
 

@@ -286,7 +286,7 @@ was_possible laws law told place poss small = by (plain_open laws place poss)
         ds = plain place.fields p.numbers p.heads p.object p.ended
 
         tell : Tell ds place.fields p.numbers p.heads p.object p.ended
-        tell = plain_told place.fields p.numbers p.heads p.object p.ended p.spellable.kept p.spellable.fit p.spellable.room
+        tell = plain_told place.fields p.numbers p.heads p.object p.ended (record { kept = p.spellable.kept; fit = p.spellable.fit; room = p.spellable.room })
 
         there : IsSmallPlace (plain_place place.fields p.numbers p.heads p.object p.ended p.begun p.message)
         there = subst IsSmallPlace p.is_place small
