@@ -296,7 +296,7 @@ one_cause laws messages.Sink b o next h k = absurd (k.1.1 h.1)
 -- ---- one step
 
 -- the fault of a tag that no octet continues
-abbrev tag_fault : List ℕ → TokenFault
+abbrev pub tag_fault : List ℕ → TokenFault
 tag_fault held = record { layer = layers.Dataset; rec = begun_record (InTag held); set = begun_number (InTag held); cause = tag_cause held }
 
 -- A head that has come is refused, or its value of no octets.

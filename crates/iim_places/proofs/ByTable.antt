@@ -43,7 +43,7 @@ use Rattle.iim_places.specs.declared.refusal.Layer.{Layer}
 use Rattle.iim_places.specs.declared.refusal.Layer.TheVariants as layers
 use Rattle.iim_places.specs.declared.refusal.Cause.{Cause}
 use Rattle.iim_places.specs.declared.refusal.Cause.TheVariants as causes
-use Rattle.iim_places.proofs.Answering.{fewer_data}
+use Rattle.iim_places.proofs.Answering.{tests_of, IsRefusedAt}
 use Rattle.iim_places.proofs.Living.{alive_front}
 use Rattle.iim_places.proofs.Lowest.{LowestLaws, InLayer, one_of, numbered, Holds', OfField, field_layer, field_number, field_holds, head_names, value_names, size_layer, size_number, leads_at, one_token}
 use Rattle.iim_places.proofs.Places.{number_leads}
@@ -256,9 +256,7 @@ head_back laws limits ds h fault alive within message dies tells names = by faul
     by layers.Object same dead =
         let (s, is) = in_layer layers.Object same in inl (refused layers.Object same (object_first laws limits ds h fault s alive within dead.0 dead.1 is tells names) dead)
     by layers.Message same dead = inr (unfinished same dead (in_layer layers.Message same))
-    by layers.Dataset same dead = absurd dead
-    by layers.Story same dead = absurd dead
-    by layers.Outside same dead = absurd dead
+    by other same dead = absurd dead
 
 -- ---- values
 
@@ -305,11 +303,7 @@ value_back laws limits ds d fault within octets dies tells names = by fault.laye
     by : (l : Layer) → fault.layer ≡ l → Dies l limits ds (AtValue d) → IsRefusedValue ds d fault
     by layers.Record same dead = let (f, is) = in_layer layers.Record same in refused layers.Record same (of_record_layer same f is) dead
     by layers.Object same dead = let (s, is) = in_layer layers.Object same in refused layers.Object same (of_object dead.0 s is) dead
-    by layers.Dataset same dead = absurd dead
-    by layers.Limits same dead = absurd dead
-    by layers.Message same dead = absurd dead
-    by layers.Story same dead = absurd dead
-    by layers.Outside same dead = absurd dead
+    by other same dead = absurd dead
 
 -- ---- octets of the object
 
@@ -393,10 +387,7 @@ octet_back laws limits ds h taken b fault all dies tells names = by fault.layer 
     by layers.Message same dead = of_message dead (one_of layers.Message fault.cause (tells.layer ∙ same))
     by layers.Story same dead = of_story same dead (one_of layers.Story fault.cause (tells.layer ∙ same))
     by layers.Outside same lives = of_sink lives (one_of layers.Outside fault.cause (tells.layer ∙ same))
-    by layers.Dataset same dead = absurd dead
-    by layers.Record same dead = absurd dead
-    by layers.Limits same dead = absurd dead
-    by layers.Object same dead = absurd dead
+    by other same dead = absurd dead
 
 -- ---- tags
 
@@ -432,12 +423,7 @@ tag_back limits ds held b fault dies tells names = by fault.layer refl dies
 
     by : (l : Layer) → fault.layer ≡ l → Dies l limits ds (AtOctet (InTag held) b) → Dies layers.Dataset limits ds (AtOctet (InTag held) b) × Fault fault
     by layers.Dataset same dead = (dead, by_cause same (one_of layers.Dataset fault.cause (tells.layer ∙ same)))
-    by layers.Record same dead = absurd dead
-    by layers.Limits same dead = absurd dead
-    by layers.Object same dead = absurd dead
-    by layers.Message same dead = absurd dead
-    by layers.Story same dead = absurd dead
-    by layers.Outside same dead = absurd dead
+    by other same dead = absurd dead
 
 -- ---- what is told is what tests find
 
@@ -446,68 +432,42 @@ all_octets [] b h low = (low, tt)
 all_octets (x ∷ xs) b h low = (h.0, all_octets xs b h.1 low)
 
 pub found_by_tests : LowestLaws → (limits : Limits) (octets : List ℕ) (next : ℕ) (fault : TokenFault) → RefusesNext limits octets next fault → RefusesByTests limits octets next fault
-found_by_tests laws limits octets next fault r = by r.before.begun r.token r.before.reads r.before.leads_on r.completes r.dies r.tells r.names
+found_by_tests laws limits octets next fault r =
+    let step = by r.before.begun r.token r.before.reads r.before.leads_on r.completes r.dies r.tells r.names in
+    tests_of limits octets next fault (r.before.whole, r.before.begun, r.before.reads, r.before.leads_on, r.before.unfinished, step)
   where
     ds : List Dataset
     ds = r.before.whole
 
-    by : (begun : Begun) (token : Token) → Reads count_octets octets ds begun → AllCanContinue limits ds begun → Completes limits ds begun next token → Dies fault.layer limits ds token → TellsTheLowest limits ds token fault
-        → Names fault.cause ds token fault.rec fault.set → RefusesByTests limits octets next fault
-    by (InTag held) (AtHead h) reads all tag dies tells names = inr (inl (record {
-      whole = ds;
-      held = held;
-      head = h;
-      reads = reads;
-      leads_on = all;
-      unfinished = r.before.unfinished;
-      tag = tag;
-      refuses = head_back laws limits ds h fault all.sizes.records all.sizes.within (alive_front MessageLanguage (map Octet (object_of ds)) _ all.message) dies tells names;
-    }))
+    At : Begun → ℕ → Type 0
+    At x y =
+        Dies fault.layer limits ds (AtOctet x y) × TellsTheLowest limits ds (AtOctet x y) fault × Names fault.cause ds (AtOctet x y) fault.rec fault.set
+
+    at_next : (x b : Begun) (octet : ℕ) → (b ≡ x) × (octet ≡ next) → At b octet → At x next
+    at_next x b octet same at = subst (λ (y : ℕ). At x y) same.1 (subst (λ (z : Begun). At z octet) same.0 at)
+
+    by : (begun : Begun) (token : Token) → Reads count_octets octets ds begun → AllCanContinue limits ds begun → Completes limits ds begun next token
+        → Dies fault.layer limits ds token → TellsTheLowest limits ds token fault → Names fault.cause ds token fault.rec fault.set
+        → IsRefusedAt limits ds begun next fault
+    by (InTag held) (AtHead h) reads all tag dies tells names =
+        let lives = alive_front MessageLanguage (map Octet (object_of ds)) _ all.message in
+        inr (h, tag, inl (head_back laws limits ds h fault all.sizes.records all.sizes.within lives dies tells names))
     by (InTag held) (AtValue d) reads all (other, tag, none, on) dies tells names =
         let is : d ≡ data_of (head_of d) [] = λ i. record { rec = d.rec; set = d.set; octets = none i } in
-        inr (inr (inr (record {
-          whole = ds;
-          head = head_of d;
-          given = [];
-          is_value = other;
-          completes = inr (held, reads, tag, ap length none, refl);
-          leads_on = on;
-          unfinished = r.before.unfinished;
-          refuses = subst (λ (x : Dataset). IsRefusedValue ds x fault) is (value_back laws limits ds d fault on.sizes.within (subst Octets (sym none) tt) dies tells names);
-        })))
+        let back = value_back laws limits ds d fault on.sizes.within (subst Octets (sym none) tt) dies tells names in
+        inr (head_of d, tag, inr (other, ap length none, on, subst (λ (x : Dataset). IsRefusedValue ds x fault) is back))
     by (InData h taken) (AtValue d) reads all (other, is, many) dies tells names =
-        let apart : h.rec ≡ 8 → ⊥ = λ eight. other (ap (λ (x : Dataset). x.rec) is ∙ eight) in
-        let good : Octets (taken ++ next ∷ []) = all_octets taken next (reads.is_rest.3) r.is_octet in
-        inr (inr (inr (record {
-          whole = ds;
-          head = h;
-          given = taken ++ next ∷ [];
-          is_value = apart;
-          completes = inl (taken, reads, refl, ap (λ (x : Dataset). length x.octets) (sym is) ∙ many);
-          leads_on = fewer_data limits ds h taken (taken ++ next ∷ []) apart all;
-          unfinished = r.before.unfinished;
-          refuses = subst (λ (x : Dataset). IsRefusedValue ds x fault) is
-              (value_back laws limits ds d fault all.sizes.within (subst (λ (x : Dataset). Octets x.octets) (sym is) good) dies tells names);
-        })))
+        let good : Octets (taken ++ next ∷ []) = all_octets taken next reads.is_rest.3 r.is_octet in
+        let back = value_back laws limits ds d fault all.sizes.within (subst (λ (x : Dataset). Octets x.octets) (sym is) good) dies tells names in
+        inr (
+          (λ eight. other (ap (λ (x : Dataset). x.rec) is ∙ eight)),
+          ap (λ (x : Dataset). length x.octets) (sym is) ∙ many,
+          subst (λ (x : Dataset). IsRefusedValue ds x fault) is back,
+        )
     by (InData h taken) (AtHead g) reads all completes dies tells names = absurd completes
     by (InTag held) (AtOctet b octet) reads all completes dies tells names =
-        let Of : Begun → ℕ → Type 0 = λ x y. Dies fault.layer limits ds (AtOctet x y) × TellsTheLowest limits ds (AtOctet x y) fault × Names fault.cause ds (AtOctet x y) fault.rec fault.set in
-        let here : Of (InTag held) next = subst (λ (y : ℕ). Of (InTag held) y) completes.1 (subst (λ (x : Begun). Of x octet) completes.0 (dies, tells, names)) in
-        let back = tag_back limits ds held next fault here.0 here.1 here.2 in
-        inl (record { whole = ds; held = held; reads = reads; leads_on = all; unfinished = r.before.unfinished; dead = back.0; is_fault = back.1 })
+        let here = at_next (InTag held) b octet completes (dies, tells, names) in inl (tag_back limits ds held next fault here.0 here.1 here.2)
     by (InData h taken) (AtOctet b octet) reads all completes dies tells names =
-        let Of : Begun → ℕ → Type 0 = λ x y. Dies fault.layer limits ds (AtOctet x y) × TellsTheLowest limits ds (AtOctet x y) fault × Names fault.cause ds (AtOctet x y) fault.rec fault.set in
-        let here : Of (InData h taken) next = subst (λ (y : ℕ). Of (InData h taken) y) completes.1 (subst (λ (x : Begun). Of x octet) completes.0 (dies, tells, names)) in
+        let here = at_next (InData h taken) b octet completes (dies, tells, names) in
         let back = octet_back laws limits ds h taken next fault all here.0 here.1 here.2 in
-        inr (inr (inl (record {
-          whole = ds;
-          head = h;
-          taken = taken;
-          reads = reads;
-          leads_on = all;
-          unfinished = r.before.unfinished;
-          subfile = back.subfile;
-          cause = back.cause;
-          has_cause = back.has_cause;
-          is_fault = back.is_fault;
-        })))
+        inl (back.subfile, back.cause, back.has_cause, back.is_fault)

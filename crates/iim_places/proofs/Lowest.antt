@@ -8,8 +8,7 @@ use Rattle.iim_dataset.specs.Format.Languages.{IsAlive}
 use Rattle.iim_dataset.specs.Format.Octets.{IsOctet, Octets, IsProperPrefix, number}
 use Rattle.iim_dataset.proofs.OctetLists.{zeros_are}
 use Rattle.iim_dataset.specs.Format.Datasets.{Dataset, SpellsTag, SpellsCount, head_of, of_record, count_octets}
-use Rattle.iim_dataset.specs.Format.Completing.{CompletesData}
-use Rattle.iim_dataset.specs.Format.Splits.{InTag, InData}
+use Rattle.iim_dataset.specs.Format.Splits.{InTag, InData, Begun, Reads}
 use Rattle.iim_dataset.specs.Format.Tags.{BeginsNoTag}
 use Rattle.iim_dataset.specs.declared.head.Head.{Head}
 use Rattle.iim_fields.specs.Format.Alive.{SectionsLive, SectionsLiveAt}
@@ -41,8 +40,8 @@ use Rattle.wire_message.specs.declared.fault.MessageCause.TheVariants as message
 use Rattle.iim_places.specs.Format.Admitted.{object_of}
 use Rattle.iim_places.specs.Format.Conditions.{Token, AtOctet, AtHead, AtValue, IsNoCount, Names, TellsTheLowest, rule_of}
 use Rattle.iim_places.specs.Format.Framed.{AreWithin}
-use Rattle.iim_places.specs.Format.Open.{AllCanContinue, Dies, IsBadTagAt, IsBadHeadAt, IsBadOctetAt, IsBadValueAt, IsUnfinished, RefusesByTests, RefusesNext}
-use Rattle.iim_places.specs.Format.Refusals.{cause_of, layer_of, cause_of_size, cause_of_message, layer_of_message, of_field, size_on, too_many_on, message_on, tag_cause, begun_record, begun_number}
+use Rattle.iim_places.specs.Format.Open.{AllCanContinue, Dies, IsUnfinished, RefusesByTests, RefusesNext, Completes}
+use Rattle.iim_places.specs.Format.Refusals.{cause_of, layer_of, cause_of_size, cause_of_message, layer_of_message, of_field, size_on, too_many_on, message_on}
 use Rattle.iim_places.specs.Format.Tokens.{DiesAtHead, DiesAtValue, IsRefusedHead, IsRefusedValue, place_at, subfile_fault, object_fault, number_fault}
 use Rattle.iim_places.specs.Laws.Lower.{AnswerLaws}
 use Rattle.iim_places.specs.declared.fault.TokenFault.{TokenFault}
@@ -50,11 +49,12 @@ use Rattle.iim_places.specs.declared.refusal.Layer.{Layer}
 use Rattle.iim_places.specs.declared.refusal.Layer.TheVariants as layers
 use Rattle.iim_places.specs.declared.refusal.Cause.{Cause}
 use Rattle.iim_places.specs.declared.refusal.Cause.TheVariants as causes
-use Rattle.iim_places.proofs.Answering.{before_it, fewer_data, not_held}
+use Rattle.iim_places.proofs.Answering.{not_held, refuses_by, IsRefusedAt, tag_fault}
 use Rattle.iim_places.proofs.Places.{HeadLeads, subfile_leads, end_leads, number_leads}
 use Rattle.iim_places.proofs.SameRecords.{stated_after_all, stated_at}
 use Rattle.iim_places.proofs.SizeConditions.{OfSize, size_holds}
 use Rattle.iim_places.proofs.StoryDies.{StoryLaws, in_text, lone_return, control}
+use Rattle.iim_fields.specs.Format.Records.{AreSections}
 
 -- the laws by which a refusal tells the lowest cause
 pub record LowestLaws : Type 0 where
@@ -458,9 +458,6 @@ below_count limits ds a held next other (inl is) less has =
 below_count limits ds a held next other (inr (inl is)) less has = let n = numbered other causes.CountForm is in omega (arith, n, less)
 below_count limits ds a held next other (inr (inr is)) less has = let n = numbered other causes.Truncated is in omega (arith, n, less)
 
-abbrev tag_fault : List ℕ → TokenFault
-tag_fault held = record { layer = layers.Dataset; rec = begun_record (InTag held); set = begun_number (InTag held); cause = tag_cause held }
-
 tag_lowest : (limits : Limits) (ds : List Dataset) (held : List ℕ) (next : ℕ) → IsOctet next → (h : Head) (tag : List ℕ) → SpellsTag count_octets h tag → IsProperPrefix held tag → BeginsNoTag count_octets (held ++ next ∷ [])
     → IsTold limits ds (AtOctet (InTag held) next) (tag_fault held)
 tag_lowest limits ds [] next low h tag s part dead = record {
@@ -494,102 +491,59 @@ octet_dies messages.Sink limits ds h taken b (lives, story, told, apart) = (live
 
 -- ---- what tests find is told
 
-by_tag : LowestLaws → (limits : Limits) (octets : List ℕ) (next : ℕ) (fault : TokenFault) → IsOctet next → IsBadTagAt limits octets next fault → RefusesNext limits octets next fault
-by_tag laws limits octets next fault low bad =
-    let (rest_is, h, tag, s, part) = bad.reads.is_rest in
-    let told = tag_lowest limits bad.whole bad.held next low h tag s part bad.dead in
-    subst (RefusesNext limits octets next) (sym bad.is_fault) (record {
-      before = record { whole = bad.whole; begun = InTag bad.held; reads = bad.reads; leads_on = bad.leads_on; unfinished = bad.unfinished };
-      is_octet = low;
-      token = AtOctet (InTag bad.held) next;
-      completes = (refl, refl);
-      dies = bad.dead;
-      tells = told.tells;
-      names = told.names;
-    })
+-- a head is that of a dataset with as many octets
+pub same_head : (h : Head) (xs : List ℕ) → length xs ≡ h.count → h ≡ head_of (data_of h xs)
+same_head h xs many = λ i. record { rec = h.rec; set = h.set; count = sym many i }
 
-by_head : LowestLaws → (limits : Limits) (octets : List ℕ) (next : ℕ) (fault : TokenFault) → IsOctet next → IsBadHeadAt limits octets next fault → RefusesNext limits octets next fault
-by_head laws limits octets next fault low bad = by bad.refuses
+by_step : LowestLaws → (limits : Limits) (octets : List ℕ) (next : ℕ) (fault : TokenFault) → IsOctet next → (ds : List Dataset) (b : Begun)
+    → Reads count_octets octets ds b → AllCanContinue limits ds b → (AreSections ds → ⊥) → IsRefusedAt limits ds b next fault → RefusesNext limits octets next fault
+by_step laws limits octets next fault low ds b reads all open' = by b reads all
   where
-    made : IsTold limits bad.whole (AtHead bad.head) fault → Dies fault.layer limits bad.whole (AtHead bad.head) → RefusesNext limits octets next fault
-    made told dies = record {
-      before = record { whole = bad.whole; begun = InTag bad.held; reads = bad.reads; leads_on = bad.leads_on; unfinished = bad.unfinished };
+    made : (b : Begun) → Reads count_octets octets ds b → AllCanContinue limits ds b → (f : TokenFault) (token : Token) → Completes limits ds b next token
+        → Dies f.layer limits ds token → IsTold limits ds token f → RefusesNext limits octets next f
+    made b reads all f token completes dies told = record {
+      before = record { whole = ds; begun = b; reads = reads; leads_on = all; unfinished = open' };
       is_octet = low;
-      token = AtHead bad.head;
-      completes = bad.tag;
+      token = token;
+      completes = completes;
       dies = dies;
       tells = told.tells;
       names = told.names;
     }
 
-    by : IsRefusedHead limits bad.whole bad.head fault ⊎ IsUnfinished limits bad.whole bad.head fault → RefusesNext limits octets next fault
-    by (inl refused) = made (head_lowest laws limits bad.whole bad.head fault bad.leads_on.sizes.records bad.leads_on.sizes.within refused) (head_dies fault.layer limits bad.whole bad.head refused.dead)
-    by (inr is) = made (end_lowest limits bad.whole bad.head fault is) (subst (λ (f : TokenFault). Dies f.layer limits bad.whole (AtHead bad.head)) (sym is.is_fault) (is.leads_on, (is.last, is.dies.1)))
+    by : (b : Begun) → Reads count_octets octets ds b → AllCanContinue limits ds b → IsRefusedAt limits ds b next fault → RefusesNext limits octets next fault
+    by (InTag held) reads all (inl (dead, is)) =
+        let (rest_is, h, tag, s, part) = reads.is_rest in
+        subst (RefusesNext limits octets next) (sym is)
+        (made (InTag held) reads all (tag_fault held) (AtOctet (InTag held) next) (refl, refl) dead (tag_lowest limits ds held next low h tag s part dead))
+    by (InTag held) reads all (inr (h, tag, inl (inl bad))) =
+        let told = head_lowest laws limits ds h fault all.sizes.records all.sizes.within bad in
+        made (InTag held) reads all fault (AtHead h) tag (head_dies fault.layer limits ds h bad.dead) told
+    by (InTag held) reads all (inr (h, tag, inl (inr is))) =
+        let dies : Dies fault.layer limits ds (AtHead h) =
+        subst (λ (f : TokenFault). Dies f.layer limits ds (AtHead h)) (sym is.is_fault) (is.leads_on, (is.last, is.dies.1)) in
+        made (InTag held) reads all fault (AtHead h) tag dies (end_lowest limits ds h fault is)
+    by (InTag held) reads all (inr (h, tag, inr (other, none, more, bad))) =
+        let head = same_head h [] (sym none) in
+        let completes : Completes limits ds (InTag held) next (AtValue (data_of h [])) = (
+          other,
+          subst (λ (k : Head). SpellsTag count_octets k (held ++ next ∷ [])) head tag,
+          refl,
+          subst (λ (k : Head). AllCanContinue limits ds (InData k [])) head more,
+        ) in
+        made (InTag held) reads all fault (AtValue (data_of h [])) completes (value_dies fault.layer limits ds (data_of h []) bad.dead)
+        (value_lowest laws limits ds (data_of h []) fault more.sizes.within bad)
+    by (InData h xs) reads all (inl (eight, cause, has, is)) =
+        subst (RefusesNext limits octets next) (sym is)
+        (made (InData h xs) reads all (message_on h cause) (AtOctet (InData h xs) next) (refl, refl) (octet_dies cause limits ds h xs next has)
+        (record { tells = octet_lowest laws limits ds h xs next eight low cause has; names = octet_names cause ds h xs next }))
+    by (InData h xs) reads all (inr (other, many, bad)) =
+        let d = data_of h (xs ++ next ∷ []) in
+        made (InData h xs) reads all fault (AtValue d) (other, refl, many) (value_dies fault.layer limits ds d bad.dead)
+        (value_lowest laws limits ds d fault all.sizes.within bad)
 
-by_octet : LowestLaws → (limits : Limits) (octets : List ℕ) (next : ℕ) (fault : TokenFault) → IsOctet next → IsBadOctetAt limits octets next fault → RefusesNext limits octets next fault
-by_octet laws limits octets next fault low bad =
-    subst (RefusesNext limits octets next) (sym bad.is_fault) (record {
-      before = record { whole = bad.whole; begun = InData bad.head bad.taken; reads = bad.reads; leads_on = bad.leads_on; unfinished = bad.unfinished };
-      is_octet = low;
-      token = AtOctet (InData bad.head bad.taken) next;
-      completes = (refl, refl);
-      dies = octet_dies bad.cause limits bad.whole bad.head bad.taken next bad.has_cause;
-      tells = octet_lowest laws limits bad.whole bad.head bad.taken next bad.subfile low bad.cause bad.has_cause;
-      names = octet_names bad.cause bad.whole bad.head bad.taken next;
-    })
-
--- a head is that of a dataset with as many octets
-pub same_head : (h : Head) (xs : List ℕ) → length xs ≡ h.count → h ≡ head_of (data_of h xs)
-same_head h xs many = λ i. record { rec = h.rec; set = h.set; count = sym many i }
-
-by_value : LowestLaws → (limits : Limits) (octets : List ℕ) (next : ℕ) (fault : TokenFault) → IsOctet next → IsBadValueAt limits octets next fault → RefusesNext limits octets next fault
-by_value laws limits octets next fault low bad = by bad.completes
-  where
-    value : Dataset
-    value = data_of bad.head bad.given
-
-    told : IsTold limits bad.whole (AtValue value) fault
-    told = value_lowest laws limits bad.whole value fault bad.leads_on.sizes.within bad.refuses
-
-    by : CompletesData octets next bad.whole bad.head bad.given → RefusesNext limits octets next fault
-    by (inl (taken, reads, parts, many)) = record {
-      before = record {
-        whole = bad.whole;
-        begun = InData bad.head taken;
-        reads = reads;
-        leads_on = fewer_data limits bad.whole bad.head bad.given taken bad.is_value bad.leads_on;
-        unfinished = bad.unfinished;
-      };
-      is_octet = low;
-      token = AtValue value;
-      completes = (bad.is_value, ap (data_of bad.head) parts, many);
-      dies = value_dies fault.layer limits bad.whole value bad.refuses.dead;
-      tells = told.tells;
-      names = told.names;
-    }
-    by (inr (held, reads, tag, none, is)) = record {
-      before = record {
-        whole = bad.whole;
-        begun = InTag held;
-        reads = reads;
-        leads_on = before_it laws.answer limits bad.whole bad.head held bad.is_value bad.unfinished (fewer_data limits bad.whole bad.head bad.given [] bad.is_value bad.leads_on);
-        unfinished = bad.unfinished;
-      };
-      is_octet = low;
-      token = AtValue value;
-      completes = (
-        bad.is_value,
-        subst (λ (h : Head). SpellsTag count_octets h (held ++ next ∷ [])) (same_head bad.head bad.given (ap length is ∙ sym none)) tag,
-        is,
-        subst (λ (h : Head). AllCanContinue limits bad.whole (InData h [])) (same_head bad.head bad.given (ap length is ∙ sym none)) (fewer_data limits bad.whole bad.head bad.given [] bad.is_value bad.leads_on),
-      );
-      dies = value_dies fault.layer limits bad.whole value bad.refuses.dead;
-      tells = told.tells;
-      names = told.names;
-    }
-
-pub told_by_table : LowestLaws → (limits : Limits) (octets : List ℕ) (next : ℕ) (fault : TokenFault) → IsOctet next → RefusesByTests limits octets next fault → RefusesNext limits octets next fault
-told_by_table laws limits octets next fault low (inl bad) = by_tag laws limits octets next fault low bad
-told_by_table laws limits octets next fault low (inr (inl bad)) = by_head laws limits octets next fault low bad
-told_by_table laws limits octets next fault low (inr (inr (inl bad))) = by_octet laws limits octets next fault low bad
-told_by_table laws limits octets next fault low (inr (inr (inr bad))) = by_value laws limits octets next fault low bad
+pub told_by_table : LowestLaws → (limits : Limits) (octets : List ℕ) (next : ℕ) (fault : TokenFault) → IsOctet next → RefusesByTests limits octets next fault
+    → RefusesNext limits octets next fault
+told_by_table laws limits octets next fault low tests =
+    let (ds, b, reads, all, open', bad) = refuses_by laws.answer limits octets next fault tests in
+    by_step laws limits octets next fault low ds b reads all open' bad

@@ -131,16 +131,13 @@ room_back : (limits : Limits) (ds es : List Dataset) (h : Head) → Twins es ds 
 room_back limits ds es h back none room = none (room_as limits es ds h back room)
 
 head_dies_as : OnwardLaws → (limits : Limits) (ds es : List Dataset) (h : Head) → Tagged limits ds es → (layer : Layer) → DiesAtHead layer limits ds h → DiesAtHead layer limits es h
-head_dies_as laws limits ds es h t layers.Dataset dies = dies
 head_dies_as laws limits ds es h t layers.Record dies = λ alive. dies (alive_at_as es ds h t.here (sym t.present) t.back.seen alive)
 head_dies_as laws limits ds es h t layers.Limits dies = (alive_at_as ds es h t.there t.present t.twins.seen dies.0, room_back limits ds es h t.back dies.1)
 head_dies_as laws limits ds es h t layers.Object dies =
     let alive = alive_at_as ds es h t.there t.present t.twins.seen dies.0 in
     let room = room_as limits ds es h t.twins dies.1 in
     (alive, room, (λ lives. dies.2 (at_as laws.opens es ds h alive dies.0 t.few_there room.subfiles t.back lives)))
-head_dies_as laws limits ds es h t layers.Message dies = dies
-head_dies_as laws limits ds es h t layers.Story dies = dies
-head_dies_as laws limits ds es h t layers.Outside dies = dies
+head_dies_as laws limits ds es h t rest dies = absurd dies
 
 head_as : OnwardLaws → (limits : Limits) (ds es : List Dataset) (h : Head) (fault : TokenFault) → Tagged limits ds es → IsRefusedHead limits ds h fault → IsRefusedHead limits es h fault
 head_as laws limits ds es h fault t bad = record { first = sym (head_fault_as limits ds es h t.present t.twins) ∙ bad.first; dead = head_dies_as laws limits ds es h t fault.layer bad.dead }
@@ -198,9 +195,7 @@ few_with : (ds : List Dataset) (d : Dataset) → (d.rec ≡ 8 → ⊥) → lengt
 few_with ds d other few = few_more ds d few (λ eight. absurd (other eight))
 
 value_dies_as : OnwardLaws → (limits : Limits) (ds es : List Dataset) (d : Dataset) → (d.rec ≡ 8 → ⊥) → Inside limits ds es (head_of d) → (layer : Layer) → DiesAtValue layer ds d → DiesAtValue layer es d
-value_dies_as laws limits ds es d other t layers.Dataset dies = dies
 value_dies_as laws limits ds es d other t layers.Record dies = λ alive. dies (value_lives_as laws es ds d t.here alive)
-value_dies_as laws limits ds es d other t layers.Limits dies = dies
 value_dies_as laws limits ds es d other t layers.Object dies =
     let alive = value_lives_as laws ds es d t.there dies.0 in
     let few = few_with ds d other t.few in
@@ -211,9 +206,7 @@ value_dies_as laws limits ds es d other t layers.Object dies =
           let back = twins_on es ds (d ∷ []) (d ∷ []) (flip ds es t.twins t.bounded) (same_tail (d ∷ [])) there in
           dies.1 (after_as laws.opens (es ++ d ∷ []) (ds ++ d ∷ []) alive dies.0 few_there back lives)),
     )
-value_dies_as laws limits ds es d other t layers.Message dies = dies
-value_dies_as laws limits ds es d other t layers.Story dies = dies
-value_dies_as laws limits ds es d other t layers.Outside dies = dies
+value_dies_as laws limits ds es d other t rest dies = absurd dies
 
 value_as_well : OnwardLaws → (limits : Limits) (ds es : List Dataset) (d : Dataset) (fault : TokenFault) → (d.rec ≡ 8 → ⊥) → Inside limits ds es (head_of d) → IsRefusedValue ds d fault → IsRefusedValue es d fault
 value_as_well laws limits ds es d fault other t bad =
