@@ -356,7 +356,16 @@ tests_of limits octets next fault (ds, InTag held, reads, all, open', inr (h, ta
     inr (inr (inr (record { whole = ds; head = h; given = []; is_value = other; completes = done; leads_on = more; unfinished = open'; refuses = bad })))
 tests_of limits octets next fault (ds, InData h xs, reads, all, open', inl (eight, c, has, is)) =
     inr (inr (inl (record {
-      whole = ds; head = h; taken = xs; reads = reads; leads_on = all; unfinished = open'; subfile = eight; cause = c; has_cause = has; is_fault = is;
+      whole = ds;
+      head = h;
+      taken = xs;
+      reads = reads;
+      leads_on = all;
+      unfinished = open';
+      subfile = eight;
+      cause = c;
+      has_cause = has;
+      is_fault = is;
     })))
 tests_of limits octets next fault (ds, InData h xs, reads, all, open', inr (other, many, bad)) =
     let ys = xs ++ next ∷ [] in

@@ -31,7 +31,7 @@ use Rattle.iim_places.specs.Onward.{OnwardLaws}
 use Rattle.iim_places.proofs.Answering.{Lives, goes_envelope, leads_to, lives_envelope, lives_open, one_reading, reads_envelope}
 use Rattle.iim_places.proofs.Following.{alive_of, message_of, story_of, within_of}
 use Rattle.iim_places.proofs.Lasts.{last_sections, sections_last}
-use Rattle.iim_places.proofs.Onward.{Pair, ReadAlike, bounded_of, data_on, given_as, tag_on}
+use Rattle.iim_places.proofs.Onward.{Pair, ReadAlike, bounded_of, data_on, given_as, tag_on, before_of}
 use Rattle.iim_places.proofs.SamePlace.{SameAll, SameBegun, SameData, SameMessage, count_as, held_open, opened, same_begun, same_message, total_as}
 use Rattle.iim_places.proofs.SameRecords.{SameNumbers, nines, same_numbers, same_records}
 use Rattle.iim_places.proofs.Tickets.{count_of, total_of}
@@ -100,6 +100,7 @@ open_pair laws limits p q place is are opens goes =
       ending = ap ending_of (no_nine laws ds left was.ended ∙ sym (no_nine laws es right now.ended));
       seen = same_records follow laws.opens.answer.numbers ds es left right (within_of limits ds is.begun was.goes.sizes).subfiles (within_of limits es are.begun now.goes.sizes).subfiles
           (record { ended = was.ended ∙ sym now.ended; fields = all.fields; numbers = all.numbers; heads = heads });
+      here = bounded_of laws limits ds is.begun was.goes.sizes;
       bounded = bounded_of laws limits es are.begun now.goes.sizes;
     } in
     record { begun = begun; pair = record { section_is = all.section; begun = begun; twins = twins; message = all.message; here = was.goes; there = now.goes } }
@@ -117,9 +118,7 @@ on_data laws limits p q ds es h k t v e r s same pair more =
 
 on_as : OnwardLaws → (limits : Limits) (p q : List ℕ) (ds es : List Dataset) (c d : Begun) → Reads count_octets p ds c → Reads count_octets q es d → OpenPair limits ds es c d → (more : List ℕ) → Onward limits p q ds es c d more
 on_as laws limits p q ds es (InTag x) (InTag y) r s both more W b w goes =
-    let pair = both.pair in
-    tag_on laws limits p q more ds es x r (subst (λ (l : List ℕ). Reads count_octets q es (InTag l)) (sym both.begun) s)
-    (record { present = pair.section_is; twins = pair.twins; alive = pair.there.sizes.records; message = pair.message }) W b w goes
+    tag_on laws limits p q more ds es x r (subst (λ (l : List ℕ). Reads count_octets q es (InTag l)) (sym both.begun) s) (before_of limits ds es x y both.pair) W b w goes
 on_as laws limits p q ds es (InTag x) (InData k v) r s both more W b w goes = absurd both.begun
 on_as laws limits p q ds es (InData h t) (InTag y) r s both more W b w goes = absurd both.begun
 on_as laws limits p q ds es (InData h t) (InData k v) r s both more W b w goes = on_data laws limits p q ds es h k t v both.begun.head r s both.begun both.pair more W b w goes

@@ -81,17 +81,17 @@ one_same (suc n) = refl
 fewer : OpenLaws → (ds : List Dataset) → SectionsLive ds → length (of_record 8 ds) ≤ max_subfiles → Continues ds (few_of ds (nat_eq (section_after ds) 9))
 fewer laws ds alive few = plain_like laws.answer ds (kept ds) (numbers_in (numbers_of (of_record 7 ds))) (one_of_some (length (of_record 8 ds))) []
     (nat_eq (section_after ds) 9) (record {
-  alive = alive;
-  few = few;
-  fields_are = refl;
-  numbers_are = refl;
-  some = one_same (length (of_record 8 ds));
-  ends = nines laws.answer.follow ds alive;
-  many = few_subfiles (length (of_record 8 ds));
-  octets = tt;
-  fits = omega arith;
-  room = omega arith;
-})
+      alive = alive;
+      few = few;
+      fields_are = refl;
+      numbers_are = refl;
+      some = one_same (length (of_record 8 ds));
+      ends = nines laws.answer.follow ds alive;
+      many = few_subfiles (length (of_record 8 ds));
+      octets = tt;
+      fits = omega arith;
+      room = omega arith;
+    })
 
 pub begun_same : (n : ℕ) (b : Bool) → (n + (if b then 1 else 0)) - (if b then 1 else 0) ≡ n
 begun_same n true = omega arith

@@ -22,14 +22,13 @@ use Rattle.iim_fields.specs.declared.fault.FieldFault.{FieldFault}
 use Rattle.iim_fields.specs.declared.fault.FieldCause.TheVariants.{BadValue}
 use Rattle.iim_fields.specs.declared.limits.Limits.{Limits}
 use Rattle.iim_fields.proofs.Sections.{last_more}
-use Rattle.iim_object.specs.Format.Numbers.{place_after_datasets}
 use Rattle.iim_object.specs.Format.Plans.{max_subfiles}
 use Rattle.wire_story.specs.Format.Tokens.{Octet, End}
 use Rattle.wire_message.specs.Format.Layers.{MessageLanguage, MessageLivesWith, StoryLivesIn}
 use Rattle.iim_places.specs.Format.Admitted.{object_of}
 use Rattle.iim_places.specs.Format.Framed.{AreWithin}
 use Rattle.iim_places.specs.Format.Open.{AllCanContinue, object_so_far, section}
-use Rattle.iim_places.specs.Format.Tokens.{MayContinue, ObjectLives}
+use Rattle.iim_places.specs.Format.Tokens.{MayContinue}
 use Rattle.iim_places.specs.Onward.{OnwardLaws}
 use Rattle.iim_places.proofs.Answering.{nothing_held}
 use Rattle.iim_places.proofs.ObjectOctets.{object_of_more}
@@ -40,11 +39,8 @@ use Rattle.iim_places.proofs.Fronts.{begun_none}
 use Rattle.iim_places.proofs.Limits.{within_front}
 use Rattle.iim_places.proofs.Places.{lives_after}
 use Rattle.iim_places.proofs.SamePlace.{SameBegun, SameMessage}
-use Rattle.iim_places.proofs.SameRecords.{stated_after_all}
 use Rattle.iim_places.proofs.SizeRows.{eight_has}
-use Rattle.iim_places.proofs.Tickets.{count_of}
-use Rattle.iim_places.proofs.Twins.{AreBounded, SameTail, Twins, bounded_at, eights, follows_as, present_on, same_tail, sevens, twins_on, may_as}
-use Rattle.iim_places.proofs.PlainSizes.{possible_of}
+use Rattle.iim_places.proofs.Twins.{AreBounded, SameTail, Twins, eights, follows_as, present_on, same_tail, sevens, twins_on, may_as, bounded_after}
 
 -- ---- the message
 
@@ -101,8 +97,20 @@ stream_both (d ∷ ds) es x y (first, rest, spelled, later, parts) t = (first, r
 pub record Before (ds es : List Dataset) : Type 0 where
   pub present : section_after ds ≡ section_after es
   pub twins : Twins ds es
-  pub alive : SectionsLive es
+  pub here : SectionsLive ds
+  pub there : SectionsLive es
+  pub few : length (of_record 8 ds) ≤ max_subfiles
   pub message : SameMessage (object_of ds) (object_of es)
+
+pub before_of : (limits : Limits) (ds es : List Dataset) (x y : List ℕ) → Pair limits ds es (InTag x) (InTag y) → Before ds es
+before_of limits ds es x y pair = record {
+  present = pair.section_is;
+  twins = pair.twins;
+  here = pair.here.sizes.records;
+  there = pair.there.sizes.records;
+  few = pair.here.sizes.within.subfiles;
+  message = pair.message;
+}
 
 same_begun : (c : Begun) → SameBegun c c
 same_begun (InTag held) = refl
@@ -114,14 +122,12 @@ section_on ds es xs (InData h taken) same = refl
 
 alive_on : (ds es xs : List Dataset) → Before ds es → SectionsLive (ds ++ xs) → SectionsLive (es ++ xs)
 alive_on ds es xs b (later, are) =
-    (later, subst AreSections (sym (append_assoc es xs later)) (follows_as ds es b.alive b.present b.twins.seen (xs ++ later) (subst AreSections (append_assoc ds xs later) are)))
+    (later, subst AreSections (sym (append_assoc es xs later)) (follows_as ds es b.there b.present b.twins.seen (xs ++ later) (subst AreSections (append_assoc ds xs later) are)))
 
 pub bounded_of : OnwardLaws → (limits : Limits) (ds : List Dataset) (c : Begun) → MayContinue limits ds c → AreBounded (sevens ds) (eights ds)
 bounded_of laws limits ds c goes =
-    let objects = laws.opens.answer.follow.objects in
-    let few = (within_of limits ds c goes).subfiles in
-    let count = count_of (of_record 8 ds) in
-    bounded_at laws.opens.sizes (place_after_datasets ds) (possible_of (place_after_datasets ds) (stated_after_all objects ds (alive_of limits ds c goes) few) (omega (arith, few, count)) (object_lives_after objects limits ds c goes))
+    let lives = object_lives_after laws.opens.answer.follow.objects limits ds c goes in
+    bounded_after laws.opens ds (alive_of limits ds c goes) (within_of limits ds c goes).subfiles lives
 
 pair_on : OnwardLaws → (limits : Limits) (ds es xs : List Dataset) (c : Begun) → Before ds es → AllCanContinue limits (ds ++ xs) c → Pair limits (ds ++ xs) (es ++ xs) c c
 pair_on laws limits ds es xs c b goes =
@@ -327,9 +333,7 @@ closed_before laws limits ds es ws h t v z W c are pair goes is many left right 
     let front = in_front follow limits W c goes.sizes ds ws d is in
     let regroup : W ≡ (ds ++ d ∷ []) ++ ws = is ∙ sym (append_assoc ds (d ∷ []) ws) in
     let few = within_few limits (ds ++ d ∷ []) ws (subst (AreWithin limits) regroup (within_of limits W c goes.sizes)) in
-    let count = count_of (of_record 8 (ds ++ d ∷ [])) in
-    let lives : ObjectLives (place_after_datasets (ds ++ d ∷ [])) = lives_after follow.live (ds ++ d ∷ []) front.alive front.sized in
-    let bounded = bounded_at laws.opens.sizes (place_after_datasets (ds ++ d ∷ [])) (possible_of (place_after_datasets (ds ++ d ∷ [])) (stated_after_all follow.objects (ds ++ d ∷ []) front.alive few) (omega (arith, few, count)) lives) in
+    let bounded = bounded_after laws.opens (ds ++ d ∷ []) front.alive few (lives_after follow.live (ds ++ d ∷ []) front.alive front.sized) in
     let e = brought (nat_eq h.rec 8) z in
     let o = object_so_far ds (InData h t) in
     let so_far : object_so_far W c ≡ (o ++ e) ++ object_so_far ws c = ap (λ (zs : List Dataset). object_so_far zs c) regroup ∙ so_far_both (ds ++ d ∷ []) ws c ∙ ap (λ (l : List ℕ). l ++ object_so_far ws c) (closed_object ds h t z) in
@@ -337,7 +341,9 @@ closed_before laws limits ds es ws h t v z W c are pair goes is many left right 
     record {
       present = last_more 0 ds d ∙ sym (last_more 0 es x);
       twins = twins_on ds es (d ∷ []) (x ∷ []) pair.twins (tail_as h (t ++ z) (v ++ z) both) bounded;
-      alive = alive_with laws.places.values ds es h (t ++ z) (v ++ z) both (sym both.0 ∙ many) left right front.alive pair.there.sizes.records;
+      here = front.alive;
+      there = alive_with laws.places.values ds es h (t ++ z) (v ++ z) both (sym both.0 ∙ many) left right front.alive pair.there.sizes.records;
+      few = few;
       message = subst (SameMessage (object_of (ds ++ d ∷ []))) (sym (closed_object es h v z)) (subst (λ (l : List ℕ). SameMessage l (object_so_far es (InData h v) ++ e)) (sym (closed_object ds h t z)) m);
     }
 

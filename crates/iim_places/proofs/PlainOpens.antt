@@ -43,7 +43,7 @@ use Rattle.iim_places.proofs.PlainPlaces.{numbers_in, all_kept, room_for, object
 use Rattle.iim_places.proofs.PlainSizes.{duties_of, Lives}
 use Rattle.iim_places.proofs.SameRecords.{nines, same_numbers, stated_after_all}
 use Rattle.iim_places.proofs.Tickets.{total_of, count_of}
-use Rattle.iim_places.proofs.Twins.{Twins, AreBounded, eights, sevens, may_as, enveloped}
+use Rattle.iim_places.proofs.Twins.{Twins, AreBounded, eights, sevens, may_as, enveloped, bounded_after}
 use Rattle.iim_places.proofs.Taking.{each_good}
 use Rattle.iim_dataset.proofs.Each.{all_map, all_front}
 use Rattle.iim_tables.specs.Format.Records.{IsGoodDataset}
@@ -126,6 +126,7 @@ told laws ds alive few lives =
             ending_like laws.sizes ps (eights ds) (of_record 9 ds) ended object stated.stated stated.duties stated.subfiles lives
             (nines laws.answer.follow ds alive) (total_of (of_record 8 ds)) fits ∙ sym (ap ending_of tell.nines_are);
         seen = continues.seen;
+        here = bounded_after laws ds alive few lives;
         bounded = subst (AreBounded (sevens es)) (sym (ap lengths_of tell.eights_are))
             (bounded_plain ps (sevens es) heads object stated.stated (λ some. stated.duties (let count = count_of (of_record 8 ds) in omega (arith, count, some)))
             (same_numbers ps (sevens es) (sym tell.numbers_are)).largest);

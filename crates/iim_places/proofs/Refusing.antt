@@ -1,5 +1,5 @@
 -- After octets of one place the same octet is refused, for the same fault.
-use Rattle.std.proofs.Common.{◌≡◌, ℕ, ◌+◌, ◌≤◌, ◌&&◌, ◌||◌, ◌⊎◌, not, nat_lt, nat_eq, if◌then◌else◌, Bool, true, false, List, [], ◌∷◌, ◌++◌, length, sum, Option, Some, None, refl, ap, sym, subst, ◌∙◌, inl, inr, arith}
+use Rattle.std.proofs.Common.{◌≡◌, ℕ, ◌+◌, ◌≤◌, ◌&&◌, ◌||◌, ◌⊎◌, not, nat_lt, nat_eq, if◌then◌else◌, Bool, true, false, List, [], ◌∷◌, ◌++◌, length, sum, Option, Some, None, refl, ap, sym, subst, ◌∙◌, inl, inr}
 use Rattle.std.proofs.lemmas.Bool.{ne_eqb}
 use Rattle.std.specs.Option.{option_or, option_map}
 use Rattle.iim_dataset.specs.Format.Octets.{Octets, number}
@@ -12,7 +12,6 @@ use Rattle.iim_fields.specs.Format.Faults.{head_fault, joined, kept, section_aft
 use Rattle.iim_tables.specs.Format.Records.{occurs}
 use Rattle.iim_fields.specs.Format.Values.{data_of, tells_number}
 use Rattle.iim_fields.specs.declared.limits.Limits.{Limits}
-use Rattle.iim_fields.proofs.Sections.{head_alive}
 use Rattle.iim_object.specs.Format.Numbers.{place_after_datasets, place_ended}
 use Rattle.iim_object.specs.Format.Causes.{cause_at, confirmed_cause, end_cause, number_cause, subfile_cause}
 use Rattle.iim_object.specs.Format.Objects.{Confirmed, NumberRead, ObjectEnded, ObjectToken, SubfileBegun}
@@ -28,7 +27,7 @@ use Rattle.iim_places.specs.Laws.Places.{PlacesRefuseAlike}
 use Rattle.iim_places.specs.Format.Open.{AllCanContinue, IsUnfinished, object_so_far, RefusesByTests}
 use Rattle.iim_places.specs.Format.Refusals.{of_field, size_on, too_many_on, message_on}
 use Rattle.iim_places.specs.Laws.Streams.{RefusedOctetsWereOpen, OpenOctetsBeginWithNoEnvelope}
-use Rattle.iim_places.specs.Format.Tokens.{DiesAtHead, DiesAtValue, CanContinueAt, HaveRoom, IsRefusedHead, IsRefusedValue, ObjectLives, fault_at_head, fault_at_value, place_at}
+use Rattle.iim_places.specs.Format.Tokens.{DiesAtHead, DiesAtValue, CanContinueAt, IsRefusedHead, IsRefusedValue, fault_at_head, fault_at_value, place_at}
 use Rattle.iim_places.specs.declared.fault.TokenFault.{TokenFault}
 use Rattle.iim_places.specs.declared.refusal.Layer.{Layer}
 use Rattle.iim_places.specs.declared.refusal.Layer.TheVariants as layers
@@ -36,33 +35,13 @@ use Rattle.iim_places.specs.Onward.{OnwardLaws}
 use Rattle.iim_places.proofs.Answering.{fewer_data, IsRefusedAt, IsRefusedWith, refuses_by, tests_of}
 use Rattle.iim_places.proofs.ObjectOctets.{few_more, no_object}
 use Rattle.iim_places.proofs.Continuing.{not_both, on_open, unfinished_as}
-use Rattle.iim_places.proofs.Following.{object_lives_after, with_data}
-use Rattle.iim_places.proofs.Onward.{Pair, ReadAlike, all_as, given_as, head_is, lives_as}
+use Rattle.iim_places.proofs.Following.{with_data}
+use Rattle.iim_places.proofs.Onward.{Pair, ReadAlike, all_as, given_as, head_is, lives_as, Before, before_of}
 use Rattle.iim_places.proofs.SamePlace.{SameMessage, value_as}
-use Rattle.iim_places.proofs.SameRecords.{SameNumbers, stated_after_all}
+use Rattle.iim_places.proofs.SameRecords.{SameNumbers}
 use Rattle.iim_places.proofs.Taking.{good_at}
 use Rattle.iim_places.proofs.Tickets.{count_of}
-use Rattle.iim_places.proofs.Twins.{AreBounded, Twins, at_as, after_as, bounded_at, eights, numbers_on, room_as, same_tail, sevens, twins_on, may_as, alive_at_as}
-use Rattle.iim_places.proofs.PlainSizes.{possible_of}
-
--- ---- the other way round
-
-flip_numbers : {ps qs : List _} → SameNumbers ps qs → SameNumbers qs ps
-flip_numbers same = record { mode = sym same.mode; largest = sym same.largest; announced = sym same.announced; maximum = sym same.maximum }
-
-flip : (ds es : List Dataset) → Twins ds es → AreBounded (sevens ds) (eights ds) → Twins es ds
-flip ds es twins bounded = record {
-  fields = sym twins.fields;
-  numbers = flip_numbers twins.numbers;
-  heads = sym twins.heads;
-  octets = sym twins.octets;
-  ending = sym twins.ending;
-  seen = record { seen = λ r n. sym (twins.seen.seen r n) };
-  bounded = bounded;
-}
-
-flip_message : (o r : List ℕ) → SameMessage o r → SameMessage r o
-flip_message o r m = record { text = m.other; other = m.text; at = m.at; here = m.there; there = m.here }
+use Rattle.iim_places.proofs.Twins.{Twins, at_as, after_as, eights, numbers_on, room_as, same_tail, twins_on, may_as, alive_at_as, flip, few_as, bounded_after}
 
 -- ---- the first fault of a head
 
@@ -97,55 +76,33 @@ head_fault_as limits ds es h present twins =
 
 -- ---- where a head is refused
 
--- what holds in a tag after both
-record Tagged (limits : Limits) (ds es : List Dataset) : Type 0 where
-  present : section_after ds ≡ section_after es
-  twins : Twins ds es
-  back : Twins es ds
-  few : length (of_record 8 ds) ≤ max_subfiles
-  few_there : length (of_record 8 es) ≤ max_subfiles
-  here : SectionsLive ds
-  there : SectionsLive es
-  message : SameMessage (object_of ds) (object_of es)
+flip_message : (o r : List ℕ) → SameMessage o r → SameMessage r o
+flip_message o r m = record { text = m.other; other = m.text; at = m.at; here = m.there; there = m.here }
 
-bounded_of : OnwardLaws → (ds : List Dataset) → SectionsLive ds → length (of_record 8 ds) ≤ max_subfiles → ObjectLives (place_after_datasets ds) → AreBounded (sevens ds) (eights ds)
-bounded_of laws ds alive few lives =
-    let count = count_of (of_record 8 ds) in
-    bounded_at laws.opens.sizes (place_after_datasets ds) (possible_of (place_after_datasets ds) (stated_after_all laws.opens.answer.follow.objects ds alive few) (omega (arith, few, count)) lives)
+lives_at : (ds es : List Dataset) (h : Head) → Before ds es → SectionsLiveAt ds h → SectionsLiveAt es h
+lives_at ds es h b = alive_at_as ds es h b.there b.present b.twins.seen
 
-tagged : OnwardLaws → (limits : Limits) (ds es : List Dataset) (held kept' : List ℕ) → Pair limits ds es (InTag held) (InTag kept') → Tagged limits ds es
-tagged laws limits ds es held kept' pair =
-    let goes = pair.here.sizes in
-    record {
-      present = pair.section_is;
-      twins = pair.twins;
-      back = flip ds es pair.twins (bounded_of laws ds goes.records goes.within.subfiles goes.object);
-      few = goes.within.subfiles;
-      few_there = pair.there.sizes.within.subfiles;
-      here = goes.records;
-      there = pair.there.sizes.records;
-      message = pair.message;
-    }
+back_at : (ds es : List Dataset) (h : Head) → Before ds es → SectionsLiveAt es h → SectionsLiveAt ds h
+back_at ds es h b = alive_at_as es ds h b.here (sym b.present) (flip ds es b.twins).seen
 
-room_back : (limits : Limits) (ds es : List Dataset) (h : Head) → Twins es ds → (HaveRoom limits ds h → ⊥) → HaveRoom limits es h → ⊥
-room_back limits ds es h back none room = none (room_as limits es ds h back room)
+head_dies_as : OnwardLaws → (limits : Limits) (ds es : List Dataset) (h : Head) → Before ds es → (layer : Layer) → DiesAtHead layer limits ds h
+    → DiesAtHead layer limits es h
+head_dies_as laws limits ds es h b layers.Record dies = λ alive. dies (back_at ds es h b alive)
+head_dies_as laws limits ds es h b layers.Limits dies = (lives_at ds es h b dies.0, (λ room. dies.1 (room_as limits es ds h (flip ds es b.twins) room)))
+head_dies_as laws limits ds es h b layers.Object dies =
+    let alive = lives_at ds es h b dies.0 in
+    let room = room_as limits ds es h b.twins dies.1 in
+    let few = few_as ds es max_subfiles b.twins b.few in
+    (alive, room, (λ lives. dies.2 (at_as laws.opens es ds h alive dies.0 few room.subfiles (flip ds es b.twins) lives)))
+head_dies_as laws limits ds es h b rest dies = absurd dies
 
-head_dies_as : OnwardLaws → (limits : Limits) (ds es : List Dataset) (h : Head) → Tagged limits ds es → (layer : Layer) → DiesAtHead layer limits ds h → DiesAtHead layer limits es h
-head_dies_as laws limits ds es h t layers.Record dies = λ alive. dies (alive_at_as es ds h t.here (sym t.present) t.back.seen alive)
-head_dies_as laws limits ds es h t layers.Limits dies = (alive_at_as ds es h t.there t.present t.twins.seen dies.0, room_back limits ds es h t.back dies.1)
-head_dies_as laws limits ds es h t layers.Object dies =
-    let alive = alive_at_as ds es h t.there t.present t.twins.seen dies.0 in
-    let room = room_as limits ds es h t.twins dies.1 in
-    (alive, room, (λ lives. dies.2 (at_as laws.opens es ds h alive dies.0 t.few_there room.subfiles t.back lives)))
-head_dies_as laws limits ds es h t rest dies = absurd dies
-
-head_as : OnwardLaws → (limits : Limits) (ds es : List Dataset) (h : Head) (fault : TokenFault) → Tagged limits ds es → IsRefusedHead limits ds h fault → IsRefusedHead limits es h fault
+head_as : OnwardLaws → (limits : Limits) (ds es : List Dataset) (h : Head) (fault : TokenFault) → Before ds es → IsRefusedHead limits ds h fault → IsRefusedHead limits es h fault
 head_as laws limits ds es h fault t bad = record { first = sym (head_fault_as limits ds es h t.present t.twins) ∙ bad.first; dead = head_dies_as laws limits ds es h t fault.layer bad.dead }
 
 end_dies_as : OnwardLaws → (o r : List ℕ) → SameMessage o r → MessageDiesAt o End → MessageDiesAt r End
 end_dies_as laws o r m dies = ((laws.places.answer.living r m.other m.at m.there).0, λ alive. dies.1 (lives_as laws r o (flip_message o r m) true alive))
 
-unfinished_head_as : OnwardLaws → (limits : Limits) (ds es : List Dataset) (h : Head) (fault : TokenFault) → Tagged limits ds es → IsUnfinished limits ds h fault → IsUnfinished limits es h fault
+unfinished_head_as : OnwardLaws → (limits : Limits) (ds es : List Dataset) (h : Head) (fault : TokenFault) → Before ds es → IsUnfinished limits ds h fault → IsUnfinished limits es h fault
 unfinished_head_as laws limits ds es h fault t bad = record {
   last = bad.last;
   leads_on = may_as laws.opens limits ds es (InData h []) t.there t.present t.twins bad.leads_on;
@@ -153,20 +110,11 @@ unfinished_head_as laws limits ds es h fault t bad = record {
   is_fault = bad.is_fault;
 }
 
-either_head : OnwardLaws → (limits : Limits) (ds es : List Dataset) (h : Head) (fault : TokenFault) → Tagged limits ds es → IsRefusedHead limits ds h fault ⊎ IsUnfinished limits ds h fault → IsRefusedHead limits es h fault ⊎ IsUnfinished limits es h fault
+either_head : OnwardLaws → (limits : Limits) (ds es : List Dataset) (h : Head) (fault : TokenFault) → Before ds es → IsRefusedHead limits ds h fault ⊎ IsUnfinished limits ds h fault → IsRefusedHead limits es h fault ⊎ IsUnfinished limits es h fault
 either_head laws limits ds es h fault t (inl bad) = inl (head_as laws limits ds es h fault t bad)
 either_head laws limits ds es h fault t (inr bad) = inr (unfinished_head_as laws limits ds es h fault t bad)
 
 -- ---- where a value is refused
-
--- what holds inside data that are the same
-record Inside (limits : Limits) (ds es : List Dataset) (h : Head) : Type 0 where
-  twins : Twins ds es
-  here : SectionsLiveAt ds h
-  there : SectionsLiveAt es h
-  few : length (of_record 8 ds) ≤ max_subfiles
-  few_there : length (of_record 8 es) ≤ max_subfiles
-  bounded : AreBounded (sevens ds) (eights ds)
 
 place_told : (ds es : List Dataset) (h : Head) → Twins ds es → SameNumbers (place_at ds h).stated (place_at es h).stated × (sum (place_at ds h).lengths ≡ sum (place_at es h).lengths)
 place_told ds es h twins = by (nat_eq h.rec 8) (nat_eq h.rec 9)
@@ -194,23 +142,19 @@ value_lives_as laws ds es d there alive = value_as laws.places.values ds es d (o
 few_with : (ds : List Dataset) (d : Dataset) → (d.rec ≡ 8 → ⊥) → length (of_record 8 ds) ≤ max_subfiles → length (of_record 8 (ds ++ d ∷ [])) ≤ max_subfiles
 few_with ds d other few = few_more ds d few (λ eight. absurd (other eight))
 
-value_dies_as : OnwardLaws → (limits : Limits) (ds es : List Dataset) (d : Dataset) → (d.rec ≡ 8 → ⊥) → Inside limits ds es (head_of d) → (layer : Layer) → DiesAtValue layer ds d → DiesAtValue layer es d
-value_dies_as laws limits ds es d other t layers.Record dies = λ alive. dies (value_lives_as laws es ds d t.here alive)
-value_dies_as laws limits ds es d other t layers.Object dies =
-    let alive = value_lives_as laws ds es d t.there dies.0 in
-    let few = few_with ds d other t.few in
-    let few_there = few_with es d other t.few_there in (
+value_dies_as : OnwardLaws → (limits : Limits) (ds es : List Dataset) (d : Dataset) → (d.rec ≡ 8 → ⊥) → Twins ds es → CanContinueAt limits ds (head_of d)
+    → CanContinueAt limits es (head_of d) → (layer : Layer) → DiesAtValue layer ds d → DiesAtValue layer es d
+value_dies_as laws limits ds es d other twins here there layers.Record dies = λ alive. dies (value_lives_as laws es ds d here.records alive)
+value_dies_as laws limits ds es d other twins here there layers.Object dies =
+    let alive = value_lives_as laws ds es d there.records dies.0 in
+    let few = few_with es d other there.within.subfiles in (
       alive,
       (λ lives.
-          let there = bounded_of laws (es ++ d ∷ []) alive few_there lives in
-          let back = twins_on es ds (d ∷ []) (d ∷ []) (flip ds es t.twins t.bounded) (same_tail (d ∷ [])) there in
-          dies.1 (after_as laws.opens (es ++ d ∷ []) (ds ++ d ∷ []) alive dies.0 few_there back lives)),
+          let bounded = bounded_after laws.opens (es ++ d ∷ []) alive few lives in
+          let back = twins_on es ds (d ∷ []) (d ∷ []) (flip ds es twins) (same_tail (d ∷ [])) bounded in
+          dies.1 (after_as laws.opens (es ++ d ∷ []) (ds ++ d ∷ []) alive dies.0 few back lives)),
     )
-value_dies_as laws limits ds es d other t rest dies = absurd dies
-
-value_as_well : OnwardLaws → (limits : Limits) (ds es : List Dataset) (d : Dataset) (fault : TokenFault) → (d.rec ≡ 8 → ⊥) → Inside limits ds es (head_of d) → IsRefusedValue ds d fault → IsRefusedValue es d fault
-value_as_well laws limits ds es d fault other t bad =
-    record { first = sym (value_fault_as ds es d t.twins) ∙ bad.first; dead = value_dies_as laws limits ds es d other t fault.layer bad.dead }
+value_dies_as laws limits ds es d other twins here there rest dies = absurd dies
 
 -- ---- what is read after the one is read after the other
 
@@ -218,26 +162,20 @@ value_as_well laws limits ds es d fault other t bad =
 abbrev OnTo : Limits → List ℕ → List ℕ → List ℕ → List ℕ → Type 0
 OnTo limits p q o r = (W : List Dataset) (c : Begun) → Reads count_octets p W c → AllCanContinue limits W c → ReadAlike limits q o r W c
 
-inside : OnwardLaws → (limits : Limits) (ds es : List Dataset) (h : Head) → CanContinueAt limits ds h → CanContinueAt limits es h → Twins ds es → ObjectLives (place_after_datasets ds) → Inside limits ds es h
-inside laws limits ds es h goes there twins lives = record {
-  twins = twins;
-  here = goes.records;
-  there = there.records;
-  few = goes.within.subfiles;
-  few_there = there.within.subfiles;
-  bounded = bounded_of laws ds (head_alive ds h goes.records) goes.within.subfiles lives;
-}
-
 -- a value, where every layer can continue with its data
 value_at : OnwardLaws → (limits : Limits) (fault : TokenFault) (ds es : List Dataset) (h : Head) (given : List ℕ) → (h.rec ≡ 8 → ⊥) → length given ≡ h.count
     → AllCanContinue limits ds (InData h given) → AllCanContinue limits es (InData h given) → Twins ds es → IsRefusedValue ds (data_of h given) fault
     → IsRefusedValue es (data_of h given) fault
 value_at laws limits fault ds es h given other many here there twins bad =
-    let lives = object_lives_after laws.opens.answer.follow.objects limits ds (InData h given) here.sizes in
-    value_as_well laws limits ds es (data_of h given) fault other
-    (subst (Inside limits ds es) (sym (head_is h given many)) (inside laws limits ds es h here.sizes there.sizes twins lives)) bad
+    let d = data_of h given in
+    let head = sym (head_is h given many) in
+    record {
+      first = sym (value_fault_as ds es d twins) ∙ bad.first;
+      dead = value_dies_as laws limits ds es d other twins (subst (CanContinueAt limits ds) head here.sizes) (subst (CanContinueAt limits es) head there.sizes)
+          fault.layer bad.dead;
+    }
 
-with_as : OnwardLaws → (limits : Limits) (ds es : List Dataset) (h : Head) (fault : TokenFault) → Tagged limits ds es → IsRefusedWith limits ds h fault
+with_as : OnwardLaws → (limits : Limits) (ds es : List Dataset) (h : Head) (fault : TokenFault) → Before ds es → IsRefusedWith limits ds h fault
     → IsRefusedWith limits es h fault
 with_as laws limits ds es h fault t (inl bad) = inl (either_head laws limits ds es h fault t bad)
 with_as laws limits ds es h fault t (inr (other, none, all, bad)) =
@@ -254,7 +192,7 @@ step_as laws limits ds es (InTag x) (InTag y) next fault pair bad = subst (λ (l
   where
     by : IsRefusedAt limits ds (InTag x) next fault → IsRefusedAt limits es (InTag x) next fault
     by (inl dead) = inl dead
-    by (inr (h, tag, with')) = inr (h, tag, with_as laws limits ds es h fault (tagged laws limits ds es x y pair) with')
+    by (inr (h, tag, with')) = inr (h, tag, with_as laws limits ds es h fault (before_of limits ds es x y pair) with')
 step_as laws limits ds es (InTag x) (InData k v) next fault pair bad = absurd pair.begun
 step_as laws limits ds es (InData h t) (InTag y) next fault pair bad = absurd pair.begun
 step_as laws limits ds es (InData h t) (InData k v) next fault pair bad = by bad

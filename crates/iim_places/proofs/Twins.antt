@@ -177,7 +177,23 @@ pub record Twins (ds es : List Dataset) : Type 0 where
   pub octets : sum (eights ds) ≡ sum (eights es)
   pub ending : ending_of (of_record 9 ds) ≡ ending_of (of_record 9 es)
   pub seen : SameRecords ds es
+  pub here : AreBounded (sevens ds) (eights ds)
   pub bounded : AreBounded (sevens es) (eights es)
+
+pub flip : (ds es : List Dataset) → Twins ds es → Twins es ds
+flip ds es twins = record {
+  fields = sym twins.fields;
+  numbers = flip_numbers twins.numbers;
+  heads = sym twins.heads;
+  octets = sym twins.octets;
+  ending = sym twins.ending;
+  seen = record { seen = λ r n. sym (twins.seen.seen r n) };
+  here = twins.bounded;
+  bounded = twins.here;
+}
+  where
+    flip_numbers : {ps qs : List Stated} → SameNumbers ps qs → SameNumbers qs ps
+    flip_numbers same = record { mode = sym same.mode; largest = sym same.largest; announced = sym same.announced; maximum = sym same.maximum }
 
 -- the same, which may follow them
 pub record SameTail (xs ys : List Dataset) : Type 0 where
@@ -206,6 +222,7 @@ twins_on ds es xs ys twins tail bounded = record {
       ap ending_of (of_both 9 ds xs) ∙ ending_on (of_record 9 ds) (of_record 9 es) (of_record 9 xs) twins.ending
       ∙ ap (λ (rs : List Dataset). ending_of (of_record 9 es ++ rs)) tail.nines ∙ sym (ap ending_of (of_both 9 es ys));
   seen = record { seen = λ r n. seen_both n r ds xs ∙ (λ i. twins.seen.seen r n i || tail.seen.seen r n i) ∙ sym (seen_both n r es ys) };
+  here = bounded;
   bounded =
       subst (λ (ps : List Stated). AreBounded ps (eights (es ++ ys))) (sym (sevens_both es ys)) (subst (AreBounded (sevens es ++ sevens ys)) (sym (eights_both es ys))
       (subst (λ (ns : List ℕ). AreBounded (sevens es ++ sevens ys) (eights es ++ ns)) tail.lengths (subst (λ (rs : List Stated). AreBounded (sevens es ++ rs) (eights es ++ eights xs)) tail.numbers
@@ -230,6 +247,13 @@ pub place_as : SizeLaws → (p q : objects.Place) → IsStated p → length p.le
     → p.ending ≡ q.ending → ObjectLives p → ObjectLives q
 place_as laws p q was few is same many total bounded ending lives =
     (possible_like laws p q (possible_of p was few lives) is.stated (stated_as p.stated q.stated same) many total (each_by q.stated q.lengths bounded) ending).alive
+
+pub bounded_after : OpenLaws → (ds : List Dataset) → SectionsLive ds → length (of_record 8 ds) ≤ max_subfiles → ObjectLives (place_after_datasets ds)
+    → AreBounded (sevens ds) (eights ds)
+bounded_after laws ds alive few lives =
+    let p = place_after_datasets ds in
+    let count = count_of (of_record 8 ds) in
+    bounded_at laws.sizes p (possible_of p (stated_after_all laws.answer.follow.objects ds alive few) (omega (arith, few, count)) lives)
 
 pub after_as : OpenLaws → (ds es : List Dataset) → SectionsLive ds → SectionsLive es → length (of_record 8 ds) ≤ max_subfiles → Twins ds es → ObjectLives (place_after_datasets ds) → ObjectLives (place_after_datasets es)
 after_as laws ds es alive there few twins lives =
@@ -284,7 +308,7 @@ at_as laws ds es h alive there few room twins =
 
 -- ---- every layer but the message
 
-few_as : (ds es : List Dataset) (most : ℕ) → Twins ds es → length (of_record 8 ds) ≤ most → length (of_record 8 es) ≤ most
+pub few_as : (ds es : List Dataset) (most : ℕ) → Twins ds es → length (of_record 8 ds) ≤ most → length (of_record 8 es) ≤ most
 few_as ds es most twins few =
     let count = count_of (of_record 8 ds) in
     let count' = count_of (of_record 8 es) in
