@@ -1,35 +1,20 @@
 -- How many octets are open at most.
 use Rattle.std.proofs.Common.{◌≡◌, ℕ, ◌+◌, ◌*◌, ◌<◌, ◌≤◌, ◌⊎◌, ◌||◌, ◌^◌, ◌-◌, nat_eq, cond, if◌then◌else◌, Bool, true, false, List, [], ◌∷◌, ◌++◌, length, map, sum, Option, Some, None, refl, ap, sym, subst, ◌∙◌, inl, inr, arith, append-nil, append_assoc, length-append}
 use Rattle.std.proofs.Math.Nat.{pow-le-pow_right}
-use Rattle.std.specs.List.{AllByRecursion}
-use Rattle.std.proofs.lemmas.Bool.{eqb-true, eq-eqb}
+use Rattle.iim_places.proofs.Words.{AllByRecursion, eqb-true, eq-eqb, Octets, number, greatest_size, within, all_append, all_front, all_back, all_map, Meets}
+use Rattle.iim_places.proofs.Words.{Dataset, SpellsStream, count_octets, of_record, tag_octets, Begun, InTag, InData, IsBegun, Head, within_most_and, sum_cons}
+use Rattle.iim_places.proofs.Words.{number-lt, AreRecords, AreSections, records, IsGoodDataset, SectionsLive, SectionsLiveAt, kept, is_kept}
+use Rattle.iim_places.proofs.Words.{NoSectionsBeginOthers, EnvelopesEndWithTheLastRecord, Limits, ObjectToken, NumberRead, SubfileBegun, ObjectEnded, Confirmed}
+use Rattle.iim_places.proofs.Words.{number_tokens, ending_tokens, tokens_of, place_after, place_after_datasets, place_ended, lengths_of, numbers_of, Stated}
+use Rattle.iim_places.proofs.Words.{AreStated, AreOnce, InRow, number_at, MayContinue, CanContinueAt, ObjectLives, OpenOctetsAreBounded, AreWithin}
 use Rattle.std.proofs.lemmas.List.Sums.{sum_by-append}
-use Rattle.iim_dataset.specs.Format.Octets.{Octets, number, greatest_size, within}
-use Rattle.iim_dataset.proofs.Each.{all_append, all_front, all_back, all_map}
 use Rattle.iim_tables.specs.Format.Numbers.{size_octets}
-use Rattle.iim_tables.specs.Format.Rows.{table, row_of, Meets}
-use Rattle.iim_dataset.specs.Format.Datasets.{Dataset, SpellsStream, count_octets, of_record, tag_octets}
-use Rattle.iim_dataset.specs.Format.Splits.{Begun, InTag, InData, IsBegun}
-use Rattle.iim_dataset.specs.declared.head.Head.{Head}
+use Rattle.iim_tables.specs.Format.Rows.{table, row_of}
 use Rattle.iim_dataset.proofs.Spelled.{tag_length}
-use Rattle.iim_dataset.proofs.Lists.{within_most_and, sum_cons}
-use Rattle.iim_dataset.proofs.OctetLists.{number-lt}
-use Rattle.iim_fields.specs.Format.Records.{AreRecords, AreSections, records}
-use Rattle.iim_tables.specs.Format.Records.{IsGoodDataset}
-use Rattle.iim_fields.specs.Format.Alive.{SectionsLive, SectionsLiveAt}
-use Rattle.iim_fields.specs.Format.Faults.{kept, joined, is_kept}
-use Rattle.iim_fields.specs.Laws.Records.{NoSectionsBeginOthers, EnvelopesEndWithTheLastRecord}
-use Rattle.iim_fields.specs.declared.limits.Limits.{Limits}
-use Rattle.iim_object.specs.Format.Objects.{ObjectToken, NumberRead, SubfileBegun, ObjectEnded, Confirmed, number_tokens}
-use Rattle.iim_object.specs.Format.Places.{Place, ending_tokens, tokens_of, place_after}
-use Rattle.iim_object.specs.Format.Numbers.{place_after_datasets, place_ended}
-use Rattle.iim_object.specs.Format.Records.{lengths_of, numbers_of}
+use Rattle.iim_fields.specs.Format.Faults.{joined}
+use Rattle.iim_object.specs.Format.Places.{Place}
 use Rattle.iim_places.proofs.Fronts.{empty_front}
 use Rattle.iim_places.proofs.SizeRows.{by_seven, by_ten, nine_has}
-use Rattle.iim_object.specs.Format.Sizes.{Stated, AreStated, AreOnce, InRow, number_at}
-use Rattle.iim_places.specs.Format.Tokens.{MayContinue, CanContinueAt, ObjectLives}
-use Rattle.iim_places.specs.Laws.Streams.{OpenOctetsAreBounded}
-use Rattle.iim_places.specs.Format.Framed.{AreWithin}
 
 -- how many octets datasets take at most: thirteen for each tag, and the data
 abbrev pub weight : List Dataset → ℕ

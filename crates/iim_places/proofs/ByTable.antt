@@ -1,45 +1,22 @@
 -- What the table of the causes tells is what tests find.
 use Rattle.std.proofs.Common.{◌≡◌, ◌≢◌, ℕ, zero, suc, ◌<◌, ◌≤◌, ◌⊎◌, Bool, true, false, not, ◌&&◌, ◌||◌, nat_eq, nat_lt, if◌then◌else◌, List, [], ◌∷◌, ◌++◌, length, map, Option, Some, None, refl, ap, sym, subst, ◌∙◌, inl, inr, arith}
-use Rattle.std.specs.Option.{option_or, option_map}
-use Rattle.std.proofs.lemmas.Bool.{cases_Bool, cases_lt, eq-eqb, lt-ltb, ltb-true}
-use Rattle.std.proofs.lemmas.Bool.Decides.{eqb_tells}
-use Rattle.std.proofs.lemmas.Option.{same_Some}
-use Rattle.iim_dataset.specs.Format.Datasets.{Dataset, head_of, of_record, count_octets}
-use Rattle.iim_dataset.specs.Format.Languages.{IsAlive}
-use Rattle.iim_dataset.specs.Format.Octets.{IsOctet, Octets, number}
-use Rattle.iim_dataset.specs.Format.Splits.{Begun, InTag, InData, Reads}
-use Rattle.iim_dataset.specs.declared.head.Head.{Head}
-use Rattle.iim_fields.specs.Format.Alive.{SectionsLive, SectionsLiveAt}
+use Rattle.iim_places.proofs.Words.{option_or, option_map, cases_Bool, cases_lt, eq-eqb, lt-ltb, ltb-true, eqb_tells, same_Some, Dataset, head_of, of_record}
+use Rattle.iim_places.proofs.Words.{count_octets, IsAlive, IsOctet, Octets, number, Begun, InTag, InData, Reads, Head, SectionsLive, SectionsLiveAt}
+use Rattle.iim_places.proofs.Words.{first_fault, record_fault, limits_fault, value_fault, fault_on, is_kept, data_of, tells_number, Limits, FieldFault}
+use Rattle.iim_places.proofs.Words.{cause_at, place_after_datasets, ObjectToken, head_token, value_token, max_subfiles, SizeCause, Holds, Octet, StoryLanguage}
+use Rattle.iim_places.proofs.Words.{MessageLanguage, MessageLivesWith, StoryLivesIn, text_so_far, HasCause, MessageCause, object_of, Token, AtOctet, AtHead}
+use Rattle.iim_places.proofs.Words.{AtValue, Names, TellsTheLowest, rule_of, AreWithin, AllCanContinue, Completes, Dies, IsUnfinished, RefusesByTests}
+use Rattle.iim_places.proofs.Words.{RefusesNext, cause_of, layer_of, cause_of_size, cause_of_message, layer_of_message, of_field, size_on, too_many_on}
+use Rattle.iim_places.proofs.Words.{message_on, tag_cause, begun_record, begun_number, DiesAtHead, DiesAtValue, HaveRoom, IsRefusedHead, IsRefusedValue}
+use Rattle.iim_places.proofs.Words.{fault_at_head, fault_at_value, place_at, subfile_fault, object_fault, number_fault, TokenFault, Layer}
 use Rattle.iim_fields.specs.Format.Causes.{number_of_cause}
-use Rattle.iim_fields.specs.Format.Faults.{first_fault, record_fault, limits_fault, value_fault, fault_on, is_kept}
-use Rattle.iim_fields.specs.Format.Values.{data_of, tells_number}
-use Rattle.iim_fields.specs.declared.limits.Limits.{Limits}
-use Rattle.iim_fields.specs.declared.fault.FieldFault.{FieldFault}
 use Rattle.iim_fields.specs.declared.fault.FieldCause.{FieldCause}
 use Rattle.iim_fields.specs.declared.fault.FieldCause.TheVariants as fields
 use Rattle.iim_object.specs.Laws.Conditions as objects
 use Rattle.iim_object.specs.Format.Conditions as objects_format
-use Rattle.iim_object.specs.Format.Causes.{cause_at}
-use Rattle.iim_object.specs.Format.Numbers.{place_after_datasets}
-use Rattle.iim_object.specs.Format.Objects.{ObjectToken}
-use Rattle.iim_object.specs.Format.Places.{Place, head_token, value_token}
-use Rattle.iim_object.specs.Format.Plans.{max_subfiles}
-use Rattle.iim_object.specs.declared.reading.fault.SizeCause.{SizeCause}
+use Rattle.iim_object.specs.Format.Places.{Place}
 use Rattle.iim_object.specs.declared.reading.fault.SizeCause.TheVariants as sizes
-use Rattle.wire_story.specs.Format.Texts.{Holds}
-use Rattle.wire_story.specs.Format.Tokens.{Octet, StoryLanguage}
-use Rattle.wire_message.specs.Format.Layers.{MessageLanguage, MessageLivesWith, StoryLivesIn, text_so_far}
-use Rattle.wire_message.specs.Format.Causes.{HasCause}
-use Rattle.wire_message.specs.declared.fault.MessageCause.{MessageCause}
 use Rattle.wire_message.specs.declared.fault.MessageCause.TheVariants as messages
-use Rattle.iim_places.specs.Format.Admitted.{object_of}
-use Rattle.iim_places.specs.Format.Conditions.{Token, AtOctet, AtHead, AtValue, Names, TellsTheLowest, rule_of}
-use Rattle.iim_places.specs.Format.Framed.{AreWithin}
-use Rattle.iim_places.specs.Format.Open.{AllCanContinue, Completes, Dies, IsUnfinished, RefusesByTests, RefusesNext}
-use Rattle.iim_places.specs.Format.Refusals.{cause_of, layer_of, cause_of_size, cause_of_message, layer_of_message, of_field, size_on, too_many_on, message_on, tag_cause, begun_record, begun_number}
-use Rattle.iim_places.specs.Format.Tokens.{DiesAtHead, DiesAtValue, HaveRoom, IsRefusedHead, IsRefusedValue, fault_at_head, fault_at_value, place_at, subfile_fault, object_fault, number_fault}
-use Rattle.iim_places.specs.declared.fault.TokenFault.{TokenFault}
-use Rattle.iim_places.specs.declared.refusal.Layer.{Layer}
 use Rattle.iim_places.specs.declared.refusal.Layer.TheVariants as layers
 use Rattle.iim_places.specs.declared.refusal.Cause.{Cause}
 use Rattle.iim_places.specs.declared.refusal.Cause.TheVariants as causes

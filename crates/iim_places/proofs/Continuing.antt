@@ -1,33 +1,14 @@
 -- Octets that lead to one place continue alike.
 use Rattle.std.proofs.Common.{◌≡◌, ℕ, ◌+◌, nat_eq, cond, if◌then◌else◌, Bool, true, false, List, [], ◌∷◌, ◌++◌, length, Some, refl, ap, sym, subst, ◌∙◌, inl, inr, arith, append_assoc, append-nil}
-use Rattle.std.proofs.lemmas.List.{append_cancel_left}
-use Rattle.iim_dataset.specs.Format.Datasets.{Dataset, SpellsStream, count_octets, of_record}
-use Rattle.iim_dataset.specs.Format.Splits.{Begun, InTag, InData, Reads}
-use Rattle.iim_dataset.specs.declared.head.Head.{Head}
-use Rattle.iim_fields.specs.Format.Alive.{SectionsLive, SectionsLiveAt}
-use Rattle.iim_fields.specs.Format.Faults.{kept, section_after}
-use Rattle.iim_fields.specs.Format.Records.{AreSections}
-use Rattle.iim_fields.specs.declared.limits.Limits.{Limits}
-use Rattle.iim_object.specs.Format.Numbers.{ending_of}
-use Rattle.iim_object.specs.Format.Records.{HaveSizes}
-use Rattle.iim_object.specs.Format.Sizes.{mode_number}
-use Rattle.iim_object.specs.declared.size.Sizes.{Sizes}
+use Rattle.iim_places.proofs.Words.{append_cancel_left, Dataset, SpellsStream, count_octets, of_record, Begun, InTag, InData, Reads, Head, SectionsLive}
+use Rattle.iim_places.proofs.Words.{SectionsLiveAt, kept, section_after, AreSections, Limits, ending_of, HaveSizes, mode_number, Sizes, text_so_far}
+use Rattle.iim_places.proofs.Words.{LeadsToSaved, MessagePlace, Value, Admits, object_of, are_ended, AreAlike, ContinueAlike, PlacesContinueAlike}
+use Rattle.iim_places.proofs.Words.{NoAdmittedOctetsBeginOthers, AllCanContinue, object_so_far, Delivers, IsOpen, IsTextOf, IsEnvelopeWithin, CanContinue}
+use Rattle.iim_places.proofs.Words.{TagBegun, AllEnded, IsPlaceOf, heads_of, phase_of, place_of, OpenOctetsBeginWithNoEnvelope, OnwardLaws}
 use Rattle.wire_story.specs.Format.Delivery as story
-use Rattle.wire_message.specs.Format.Layers.{text_so_far}
-use Rattle.wire_message.specs.States.Saved.{LeadsToSaved}
 use Rattle.wire_message.specs.States.SoFar.{LeadsTo}
-use Rattle.wire_message.specs.declared.saved.MessagePlace.{MessagePlace}
 use Rattle.wire_message.specs.declared.place.Place.TheVariants as at_message
-use Rattle.iim_places.specs.Format.Admitted.{Value, Admits, object_of}
-use Rattle.iim_places.specs.States.ByLayers.{are_ended}
-use Rattle.iim_places.specs.Laws.Places.{AreAlike, ContinueAlike, PlacesContinueAlike}
-use Rattle.iim_places.specs.Laws.Admitted.{NoAdmittedOctetsBeginOthers}
-use Rattle.iim_places.specs.Format.Open.{AllCanContinue, object_so_far, Delivers, IsOpen, IsTextOf}
-use Rattle.iim_places.specs.Format.Streams.{IsEnvelopeWithin}
-use Rattle.iim_places.specs.Format.Tokens.{CanContinue}
-use Rattle.iim_places.specs.Format.Tickets.{Place, TagBegun, AllEnded, IsPlaceOf, heads_of, phase_of, place_of}
-use Rattle.iim_places.specs.Laws.Streams.{OpenOctetsBeginWithNoEnvelope}
-use Rattle.iim_places.specs.Onward.{OnwardLaws}
+use Rattle.iim_places.specs.Format.Tickets.{Place}
 use Rattle.iim_places.proofs.Answering.{Lives, goes_envelope, leads_to, lives_envelope, lives_open, one_reading, reads_envelope}
 use Rattle.iim_places.proofs.Following.{alive_of, message_of, story_of, within_of}
 use Rattle.iim_places.proofs.Lasts.{last_sections, sections_last}

@@ -1,49 +1,21 @@
 -- A place where each layer alone can be is possible: its plain octets lead there.
 use Rattle.std.proofs.Common.{IsTrue, ◌≡◌, ℕ, ◌+◌, ◌*◌, ◌-◌, ◌<◌, ◌≤◌, ◌^◌, nat_eq, if◌then◌else◌, Bool, true, false, List, [], ◌∷◌, ◌++◌, length, map, sum, take, drop, Option, Some, None, IfSome, refl, ap, sym, subst, ◌∙◌, inl, inr, arith, append-nil, length-append, length-drop}
-use Rattle.std.specs.List.{AllByRecursion}
-use Rattle.std.specs.Option.{unwrap_or}
-use Rattle.std.proofs.lemmas.Bool.{eqb-true}
-use Rattle.std.proofs.lemmas.Bool.Decides.{eqb_tells}
-use Rattle.std.proofs.lemmas.List.{length-take, take-append-drop, nil_from_length}
-use Rattle.iim_dataset.specs.Format.Octets.{IsOctet, Octets, greatest_size}
-use Rattle.iim_dataset.specs.Format.Datasets.{Dataset, SpellsTag, SpellsStream, canonical_stream, count_octets, of_record}
+use Rattle.iim_places.proofs.Words.{AllByRecursion, unwrap_or, eqb-true, eqb_tells, length-take, take-append-drop, nil_from_length, IsOctet, Octets}
+use Rattle.iim_places.proofs.Words.{greatest_size, Dataset, SpellsTag, SpellsStream, canonical_stream, count_octets, of_record, HasSpellings, Begun, InTag}
+use Rattle.iim_places.proofs.Words.{InData, IsBegun, BeginsTag, Head, all_append, all_front, all_back, front_are, sum_fits, sum_append, SectionsLive}
+use Rattle.iim_places.proofs.Words.{SectionsLiveAt, is_kept, kept, section_after, IsGoodDataset, IsWithin, head_alive, place_after_datasets, place_ended}
+use Rattle.iim_places.proofs.Words.{ending_of, ObjectEnded, Confirmed, SubfileBegun, subfile_datasets, Ending, NotEnded, Ended, ConfirmedAs, place_after}
+use Rattle.iim_places.proofs.Words.{lengths_of, numbers_of, IsPossible, LastIsBegun, stated_numbers, AreStated, number_at, Octet, End, MessageLanguage}
+use Rattle.iim_places.proofs.Words.{LeadsToSaved, MessagePlace, object_of, IsSize, LeadsByLayers, record_datasets, one_of_some, head_of_numbers, AreWithin}
+use Rattle.iim_places.proofs.Words.{object_so_far, section, AllCanContinue, AreSpellable, begun_object, plain_place, Numbers, number_list, filled, plain_end}
+use Rattle.iim_places.proofs.Words.{plain, Possible, AreOpenOrWhole, widest, Phase, TagBegun, DataBegun, AllEnded, IsPlaceOf, place_at, ObjectLives}
+use Rattle.iim_places.proofs.Words.{MayContinue, ByLayersLaws, SizeLaws}
 use Rattle.iim_dataset.specs.Format.Languages as languages
-use Rattle.iim_dataset.specs.Laws.Datasets.{HasSpellings}
-use Rattle.iim_dataset.specs.Format.Splits.{Begun, InTag, InData, IsBegun}
-use Rattle.iim_dataset.specs.Format.Tags.{BeginsTag}
-use Rattle.iim_dataset.specs.declared.head.Head.{Head}
-use Rattle.iim_dataset.proofs.Each.{all_append, all_front, all_back}
-use Rattle.iim_dataset.proofs.OctetLists.{front_are}
-use Rattle.iim_dataset.proofs.Lists.{sum_fits, sum_append}
-use Rattle.iim_fields.specs.Format.Alive.{SectionsLive, SectionsLiveAt}
-use Rattle.iim_fields.specs.Format.Faults.{is_kept, kept, joined, section_after}
-use Rattle.iim_tables.specs.Format.Records.{IsGoodDataset}
-use Rattle.iim_fields.specs.Format.Bounds.{IsWithin}
-use Rattle.iim_fields.proofs.Sections.{head_alive}
-use Rattle.iim_object.specs.Format.Numbers.{place_after_datasets, place_ended, ending_of}
-use Rattle.iim_object.specs.Format.Objects.{ObjectEnded, Confirmed, SubfileBegun}
-use Rattle.iim_object.specs.Format.Packing.{subfile_datasets}
-use Rattle.iim_object.specs.Format.Places.{Ending, NotEnded, Ended, ConfirmedAs, place_after}
+use Rattle.iim_fields.specs.Format.Faults.{joined}
 use Rattle.iim_object.specs.Format.Places as objects
-use Rattle.iim_object.specs.Format.Records.{lengths_of, numbers_of}
-use Rattle.iim_object.specs.States.Saved.{IsAt, IsPossible, LastIsBegun, stated_numbers}
-use Rattle.iim_object.specs.Format.Sizes.{AreStated, number_at}
-use Rattle.wire_story.specs.Format.Tokens.{Octet, End}
-use Rattle.wire_message.specs.Format.Layers.{MessageLanguage}
-use Rattle.wire_message.specs.States.Saved.{LeadsToSaved}
+use Rattle.iim_object.specs.States.Saved.{IsAt}
 use Rattle.wire_message.specs.declared.saved.MessagePart.TheVariants as part
-use Rattle.wire_message.specs.declared.saved.MessagePlace.{MessagePlace}
-use Rattle.iim_places.specs.Format.Admitted.{object_of}
-use Rattle.iim_places.specs.TicketParts.{IsSize}
-use Rattle.iim_places.specs.States.ByLayers.{LeadsByLayers, record_datasets, one_of_some, head_of_numbers}
-use Rattle.iim_places.specs.Format.Framed.{AreWithin}
-use Rattle.iim_places.specs.Format.Open.{object_so_far, section, AllCanContinue}
-use Rattle.iim_places.specs.Plain.{AreSpellable, begun_object, plain_place}
-use Rattle.iim_places.specs.States.PlainDatasets.{Numbers, number_list, filled, plain_end, plain}
-use Rattle.iim_places.specs.States.Possible.{Possible, AreOpenOrWhole, widest}
-use Rattle.iim_places.specs.Format.Tickets.{Place, Phase, TagBegun, DataBegun, AllEnded, IsPlaceOf}
-use Rattle.iim_places.specs.Format.Tokens.{place_at, ObjectLives, MayContinue}
-use Rattle.iim_places.specs.Laws.Lower.{ByLayersLaws, SizeLaws}
+use Rattle.iim_places.specs.Format.Tickets.{Place}
 use Rattle.iim_places.proofs.AfterEnd.{WholeMessage, ended_after, ended_at}
 use Rattle.iim_places.proofs.Answering.{nothing_held}
 use Rattle.iim_places.proofs.Bounds.{object_fits}

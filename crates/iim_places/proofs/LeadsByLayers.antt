@@ -1,37 +1,17 @@
 -- At a possible place each layer alone can be.
 use Rattle.std.proofs.Common.{◌≡◌, ℕ, zero, suc, ◌+◌, ◌-◌, ◌<◌, ◌≤◌, nat_eq, cond, if◌then◌else◌, Bool, true, false, List, [], ◌∷◌, ◌++◌, length, map, Some, None, refl, ap, sym, subst, ◌∙◌, inl, inr, arith, append-nil, length-append}
-use Rattle.std.proofs.lemmas.Bool.{eqb-true}
-use Rattle.std.proofs.lemmas.Bool.Decides.{eqb_tells}
-use Rattle.iim_dataset.specs.Format.Octets.{Octets}
-use Rattle.iim_dataset.specs.Format.Datasets.{Dataset, count_octets, of_record}
+use Rattle.iim_places.proofs.Words.{eqb-true, eqb_tells, Octets, Dataset, count_octets, of_record, Begun, InTag, InData, Reads, Head, sum_append, SectionsLive}
+use Rattle.iim_places.proofs.Words.{SectionsLiveAt, kept, section_after, Limits, place_after_datasets, place_ended, ending_of, ObjectEnded, SubfileBegun}
+use Rattle.iim_places.proofs.Words.{NotEnded, ConfirmedAs, place_after, max_subfiles, lengths_of, numbers_of, IsPossible, stated_numbers, Octet, End}
+use Rattle.iim_places.proofs.Words.{MessageLanguage, MessagesEndAfterEot, LeadsToSaved, MessagePlace, object_of, LeadsByLayers, TagsLead, RecordsLive}
+use Rattle.iim_places.proofs.Words.{ObjectLeads, MessageLeads, record_datasets, begun_subfiles, begun_of_object, object_after, one_of_some, are_ended}
+use Rattle.iim_places.proofs.Words.{object_so_far, section, AllCanContinue, plain, Possible, widest, Phase, TagBegun, AllEnded, phase_of, place_of, ObjectLives}
+use Rattle.iim_places.proofs.Words.{CanContinueAt, MayContinue, ByLayersLaws, OpenLaws}
 use Rattle.iim_dataset.specs.Format.Languages as languages
-use Rattle.iim_dataset.specs.Format.Splits.{Begun, InTag, InData, Reads}
-use Rattle.iim_dataset.specs.declared.head.Head.{Head}
-use Rattle.iim_dataset.proofs.Lists.{sum_append}
-use Rattle.iim_fields.specs.Format.Alive.{SectionsLive, SectionsLiveAt}
-use Rattle.iim_fields.specs.Format.Faults.{kept, section_after}
-use Rattle.iim_fields.specs.declared.limits.Limits.{Limits}
-use Rattle.iim_object.specs.Format.Numbers.{place_after_datasets, place_ended, ending_of}
-use Rattle.iim_object.specs.Format.Objects.{ObjectEnded, SubfileBegun}
-use Rattle.iim_object.specs.Format.Places.{NotEnded, ConfirmedAs, place_after}
 use Rattle.iim_object.specs.Format.Places as objects
-use Rattle.iim_object.specs.Format.Plans.{max_subfiles}
-use Rattle.iim_object.specs.Format.Records.{lengths_of, numbers_of}
-use Rattle.iim_object.specs.States.Saved.{IsAt, IsPossible, stated_numbers}
-use Rattle.wire_story.specs.Format.Tokens.{Octet, End}
-use Rattle.wire_message.specs.Format.Layers.{MessageLanguage}
-use Rattle.wire_message.specs.Laws.Messages.{MessagesEndAfterEot}
-use Rattle.wire_message.specs.States.Saved.{LeadsToSaved}
+use Rattle.iim_object.specs.States.Saved.{IsAt}
 use Rattle.wire_message.specs.declared.saved.MessagePart.TheVariants as part
-use Rattle.wire_message.specs.declared.saved.MessagePlace.{MessagePlace}
-use Rattle.iim_places.specs.Format.Admitted.{object_of}
-use Rattle.iim_places.specs.States.ByLayers.{LeadsByLayers, TagsLead, RecordsLive, ObjectLeads, MessageLeads, record_datasets, begun_subfiles, begun_of_object, object_after, one_of_some, are_ended}
-use Rattle.iim_places.specs.Format.Open.{object_so_far, section, AllCanContinue}
-use Rattle.iim_places.specs.States.PlainDatasets.{plain}
-use Rattle.iim_places.specs.States.Possible.{Possible, widest}
-use Rattle.iim_places.specs.Format.Tickets.{Place, Phase, TagBegun, AllEnded, phase_of, place_of}
-use Rattle.iim_places.specs.Format.Tokens.{ObjectLives, CanContinueAt, MayContinue}
-use Rattle.iim_places.specs.Laws.Lower.{ByLayersLaws, OpenLaws}
+use Rattle.iim_places.specs.Format.Tickets.{Place}
 use Rattle.iim_places.proofs.AfterEnd.{after_end}
 use Rattle.iim_places.proofs.Fitting.{Lived, lived, begins_tag, given_fits, object_low}
 use Rattle.iim_places.proofs.Following.{alive_of}

@@ -1,3 +1,4 @@
+pub mod Words
 pub mod AfterEnd
 pub mod Living
 pub mod StoryDies

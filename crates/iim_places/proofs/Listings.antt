@@ -1,19 +1,10 @@
 -- Envelopes one after another.
 use Rattle.std.proofs.Common.{◌≡◌, ◌≤◌, ◌<◌, ◌⊎◌, ◌^◌, ◌-◌, ℕ, List, [], ◌∷◌, ◌++◌, length, take, slice_index, Bool, true, false, refl, ap, sym, subst, ◌∙◌, inl, inr, arith, append_assoc, length-append}
-use Rattle.std.specs.List.{AllByRecursion}
-use Rattle.std.proofs.lemmas.List.{append-nil, length-take-le, append_cancel_left}
-use Rattle.std.proofs.lemmas.Bool.{false≢true}
-use Rattle.std.proofs.Math.Seq.{take-append_seam}
-use Rattle.iim_fields.specs.declared.limits.Limits.{Limits}
-use Rattle.iim_places.specs.Format.Admitted.{Value, Admits}
+use Rattle.iim_places.proofs.Words.{AllByRecursion, append-nil, length-take-le, append_cancel_left, false≢true, take-append_seam, Limits, Value, Admits, Framed}
+use Rattle.iim_places.proofs.Words.{OpenOctetsAreBounded, StreamsHaveOneAnswer, RefusedOctetsWereOpen, AdmittedOctetsAreFramed, AdmittedOctetsHaveOneValue}
+use Rattle.iim_places.proofs.Words.{NoAdmittedOctetsBeginOthers, NoEnvelopeIsEmpty, refusal_at, Answer, Answers, IsEnvelopeWithin, Kills, Finished, Refused}
+use Rattle.iim_places.proofs.Words.{Truncated, IsTruncatedAt, raised}
 use Rattle.iim_places.proofs.Fronts.{empty_front}
-use Rattle.iim_places.specs.Format.Framed.{Framed}
-use Rattle.iim_places.specs.Laws.Streams.{OpenOctetsAreBounded, StreamsHaveOneAnswer, RefusedOctetsWereOpen}
-use Rattle.iim_places.specs.Laws.Admitted.{AdmittedOctetsAreFramed, AdmittedOctetsHaveOneValue, NoAdmittedOctetsBeginOthers, NoEnvelopeIsEmpty}
-use Rattle.iim_places.specs.Format.Refusals.{refusal_at}
-use Rattle.iim_places.specs.Format.Streams.{Answer, Answers, IsEnvelopeWithin, Kills, Finished, Refused, Truncated}
-use Rattle.iim_places.specs.Format.Open.{IsTruncatedAt}
-use Rattle.iim_places.specs.States.Counts.{raised}
 use Rattle.iim_places.specs.declared.refusal.Refusal.{Refusal}
 use Rattle.iim_places.specs.Format.Listing.{max_envelopes, joined, Listed, IsListed, InputEnding, Whole, RefusedBy, TooMany, EndsBy, IsDeadAfter, EndsTruncated, IsRefusedAfter, Divides, IsListing}
 use Rattle.iim_places.specs.Laws.Listing.{InputsHaveOneListing, ListingsAreLongest}

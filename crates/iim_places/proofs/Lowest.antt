@@ -1,51 +1,25 @@
 -- What tests find is what the table of the causes tells: the cause of the lowest number in its layer whose condition holds.
 use Rattle.std.proofs.Common.{◌≡◌, ◌≢◌, ℕ, zero, suc, ◌<◌, ◌≤◌, ◌⊎◌, Bool, true, false, not, ◌&&◌, ◌||◌, nat_eq, nat_lt, if◌then◌else◌, List, [], ◌∷◌, ◌++◌, length, map, replicate, Option, Some, None, refl, ap, sym, subst, ◌∙◌, inl, inr, arith, length-append}
-use Rattle.std.specs.Option.{option_or, option_map}
-use Rattle.std.proofs.lemmas.Bool.{cases_lt, eqb-true, lt-ltb, or_cases}
-use Rattle.std.proofs.lemmas.Option.{same_Some}
-use Rattle.std.proofs.lemmas.List.{length-replicate, map-append}
-use Rattle.iim_dataset.specs.Format.Languages.{IsAlive}
-use Rattle.iim_dataset.specs.Format.Octets.{IsOctet, Octets, IsProperPrefix, number}
-use Rattle.iim_dataset.proofs.OctetLists.{zeros_are}
-use Rattle.iim_dataset.specs.Format.Datasets.{Dataset, SpellsTag, SpellsCount, head_of, of_record, count_octets}
-use Rattle.iim_dataset.specs.Format.Splits.{InTag, InData, Begun, Reads}
-use Rattle.iim_dataset.specs.Format.Tags.{BeginsNoTag}
-use Rattle.iim_dataset.specs.declared.head.Head.{Head}
-use Rattle.iim_fields.specs.Format.Alive.{SectionsLive, SectionsLiveAt}
+use Rattle.iim_places.proofs.Words.{option_or, option_map, cases_lt, eqb-true, lt-ltb, or_cases, same_Some, length-replicate, map-append, IsAlive, IsOctet}
+use Rattle.iim_places.proofs.Words.{Octets, IsProperPrefix, number, zeros_are, Dataset, SpellsTag, SpellsCount, head_of, of_record, count_octets, InTag, InData}
+use Rattle.iim_places.proofs.Words.{Begun, Reads, BeginsNoTag, Head, SectionsLive, SectionsLiveAt, first_fault, value_fault, HeadsDieWithTheirFault}
+use Rattle.iim_places.proofs.Words.{HeadsTellTheLowestCause, ValuesDieWithTheirFault, ValuesTellTheLowestCause, data_of, tells_number, Limits, FieldFault}
+use Rattle.iim_places.proofs.Words.{cause_at, place_after_datasets, ObjectToken, head_token, value_token, max_subfiles, SizeCause, Holds, Octet}
+use Rattle.iim_places.proofs.Words.{MessageLanguage, text_so_far, HasCause, MessageCause, object_of, Token, AtOctet, AtHead, AtValue, IsNoCount, Names}
+use Rattle.iim_places.proofs.Words.{TellsTheLowest, rule_of, AreWithin, AllCanContinue, Dies, IsUnfinished, RefusesByTests, RefusesNext, Completes, cause_of}
+use Rattle.iim_places.proofs.Words.{layer_of, cause_of_size, cause_of_message, layer_of_message, of_field, size_on, too_many_on, message_on, DiesAtHead}
+use Rattle.iim_places.proofs.Words.{DiesAtValue, IsRefusedHead, IsRefusedValue, place_at, subfile_fault, object_fault, number_fault, AnswerLaws, TokenFault}
+use Rattle.iim_places.proofs.Words.{Layer, AreSections}
 use Rattle.iim_fields.specs.Format.Causes as records
 use Rattle.iim_fields.specs.Format.Causes.{number_of_cause}
 use Rattle.iim_fields.specs.Format.Causes.Token.{AtHead as HeadToken, AtValue as ValueToken}
-use Rattle.iim_fields.specs.Format.Faults.{first_fault, value_fault}
-use Rattle.iim_fields.specs.Laws.Records.{HeadsDieWithTheirFault, HeadsTellTheLowestCause, ValuesDieWithTheirFault, ValuesTellTheLowestCause}
-use Rattle.iim_fields.specs.Format.Values.{data_of, tells_number}
-use Rattle.iim_fields.specs.declared.limits.Limits.{Limits}
-use Rattle.iim_fields.specs.declared.fault.FieldFault.{FieldFault}
 use Rattle.iim_fields.specs.declared.fault.FieldCause.{FieldCause}
 use Rattle.iim_fields.specs.declared.fault.FieldCause.TheVariants as fields
 use Rattle.iim_object.specs.Laws.Conditions as objects
 use Rattle.iim_object.specs.Format.Conditions as objects_format
-use Rattle.iim_object.specs.Format.Causes.{cause_at}
-use Rattle.iim_object.specs.Format.Numbers.{place_after_datasets}
-use Rattle.iim_object.specs.Format.Objects.{ObjectToken}
-use Rattle.iim_object.specs.Format.Places.{Place, head_token, value_token}
-use Rattle.iim_object.specs.Format.Plans.{max_subfiles}
-use Rattle.iim_object.specs.declared.reading.fault.SizeCause.{SizeCause}
+use Rattle.iim_object.specs.Format.Places.{Place}
 use Rattle.iim_object.specs.declared.reading.fault.SizeCause.TheVariants as sizes
-use Rattle.wire_story.specs.Format.Texts.{Holds}
-use Rattle.wire_story.specs.Format.Tokens.{Octet}
-use Rattle.wire_message.specs.Format.Layers.{MessageLanguage, text_so_far}
-use Rattle.wire_message.specs.Format.Causes.{HasCause}
-use Rattle.wire_message.specs.declared.fault.MessageCause.{MessageCause}
 use Rattle.wire_message.specs.declared.fault.MessageCause.TheVariants as messages
-use Rattle.iim_places.specs.Format.Admitted.{object_of}
-use Rattle.iim_places.specs.Format.Conditions.{Token, AtOctet, AtHead, AtValue, IsNoCount, Names, TellsTheLowest, rule_of}
-use Rattle.iim_places.specs.Format.Framed.{AreWithin}
-use Rattle.iim_places.specs.Format.Open.{AllCanContinue, Dies, IsUnfinished, RefusesByTests, RefusesNext, Completes}
-use Rattle.iim_places.specs.Format.Refusals.{cause_of, layer_of, cause_of_size, cause_of_message, layer_of_message, of_field, size_on, too_many_on, message_on}
-use Rattle.iim_places.specs.Format.Tokens.{DiesAtHead, DiesAtValue, IsRefusedHead, IsRefusedValue, place_at, subfile_fault, object_fault, number_fault}
-use Rattle.iim_places.specs.Laws.Lower.{AnswerLaws}
-use Rattle.iim_places.specs.declared.fault.TokenFault.{TokenFault}
-use Rattle.iim_places.specs.declared.refusal.Layer.{Layer}
 use Rattle.iim_places.specs.declared.refusal.Layer.TheVariants as layers
 use Rattle.iim_places.specs.declared.refusal.Cause.{Cause}
 use Rattle.iim_places.specs.declared.refusal.Cause.TheVariants as causes
@@ -54,7 +28,6 @@ use Rattle.iim_places.proofs.Places.{HeadLeads, subfile_leads, end_leads, number
 use Rattle.iim_places.proofs.SameRecords.{stated_after_all, stated_at}
 use Rattle.iim_places.proofs.SizeConditions.{OfSize, size_holds}
 use Rattle.iim_places.proofs.StoryDies.{StoryLaws, in_text, lone_return, control}
-use Rattle.iim_fields.specs.Format.Records.{AreSections}
 
 -- the laws by which a refusal tells the lowest cause
 pub record LowestLaws : Type 0 where

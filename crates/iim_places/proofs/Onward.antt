@@ -1,40 +1,18 @@
 -- Octets that lead to one place read on alike: what follows the one is read alike after the other, and every layer can continue from it.
 use Rattle.std.proofs.Common.{◌≡◌, ℕ, ◌<◌, ◌≤◌, ◌&&◌, nat_eq, cond, not, if◌then◌else◌, Bool, true, false, List, [], ◌∷◌, ◌++◌, length, map, Option, Some, None, refl, ap, sym, subst, ◌∙◌, inl, inr, arith, append_assoc, append-nil, length-append}
-use Rattle.std.proofs.lemmas.List.{append_cancel_left}
-use Rattle.std.specs.List.{AllByRecursion}
-use Rattle.std.proofs.lemmas.Bool.Decides.{eqb_tells}
-use Rattle.iim_dataset.specs.Format.Octets.{IsOctet, Octets, greatest_size, within}
+use Rattle.iim_places.proofs.Words.{append_cancel_left, AllByRecursion, eqb_tells, IsOctet, Octets, greatest_size, within, Dataset, SpellsStream, SpellsTag}
+use Rattle.iim_places.proofs.Words.{head_of, count_octets, of_record, all_back, octets_append, Begun, InTag, InData, Reads, Head, SectionsLive, SectionsLiveAt}
+use Rattle.iim_places.proofs.Words.{fault_by_row, section_after, value_fault, ValuesDieWithTheirFault, AreSections, occurs, data_of, FieldFault, Limits}
+use Rattle.iim_places.proofs.Words.{last_more, max_subfiles, Octet, End, MessageLanguage, MessageLivesWith, StoryLivesIn, object_of, AreWithin, AllCanContinue}
+use Rattle.iim_places.proofs.Words.{object_so_far, section, MayContinue, OnwardLaws, compare}
 use Rattle.iim_dataset.specs.Format.Languages as languages
-use Rattle.iim_dataset.specs.Format.Datasets.{Dataset, SpellsStream, SpellsTag, head_of, count_octets, of_record}
-use Rattle.iim_dataset.proofs.Each.{all_back}
-use Rattle.iim_dataset.proofs.OctetLists.{octets_append}
-use Rattle.iim_dataset.specs.Format.Splits.{Begun, InTag, InData, Reads}
-use Rattle.iim_dataset.specs.declared.head.Head.{Head}
 use Rattle.iim_tables.specs.Format.Rows.{table, row_of}
 use Rattle.iim_tables.specs.declared.shape.Row.{Row}
-use Rattle.iim_fields.specs.Format.Alive.{SectionsLive, SectionsLiveAt}
-use Rattle.iim_fields.specs.Format.Faults.{fault_by_row, section_after, value_fault}
-use Rattle.iim_fields.specs.Laws.Records.{ValuesDieWithTheirFault}
-use Rattle.iim_fields.specs.Format.Records.{AreSections}
-use Rattle.iim_tables.specs.Format.Records.{occurs}
-use Rattle.iim_fields.specs.Format.Values.{data_of}
-use Rattle.iim_fields.specs.declared.fault.FieldFault.{FieldFault}
 use Rattle.iim_fields.specs.declared.fault.FieldCause.TheVariants.{BadValue}
-use Rattle.iim_fields.specs.declared.limits.Limits.{Limits}
-use Rattle.iim_fields.proofs.Sections.{last_more}
-use Rattle.iim_object.specs.Format.Plans.{max_subfiles}
-use Rattle.wire_story.specs.Format.Tokens.{Octet, End}
-use Rattle.wire_message.specs.Format.Layers.{MessageLanguage, MessageLivesWith, StoryLivesIn}
-use Rattle.iim_places.specs.Format.Admitted.{object_of}
-use Rattle.iim_places.specs.Format.Framed.{AreWithin}
-use Rattle.iim_places.specs.Format.Open.{AllCanContinue, object_so_far, section}
-use Rattle.iim_places.specs.Format.Tokens.{MayContinue}
-use Rattle.iim_places.specs.Onward.{OnwardLaws}
 use Rattle.iim_places.proofs.Answering.{nothing_held}
 use Rattle.iim_places.proofs.ObjectOctets.{object_of_more}
 use Rattle.iim_places.proofs.Fitting.{each_octets}
 use Rattle.iim_places.proofs.Following.{alive_of, follows, in_front, longer_front, message_of, object_lives_after, objects_append, same_data, story_of, within_of}
-use Rattle.iim_dataset.proofs.Agreeing.{compare}
 use Rattle.iim_places.proofs.Fronts.{begun_none}
 use Rattle.iim_places.proofs.Limits.{within_front}
 use Rattle.iim_places.proofs.Places.{lives_after}

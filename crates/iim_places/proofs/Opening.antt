@@ -1,17 +1,10 @@
 -- Octets from which every layer can continue are open, where no envelope stands at their front.
 use Rattle.std.proofs.Common.{ℕ, nat_eq, if◌then◌else◌, [], ◌∷◌, ◌++◌, map, subst}
-use Rattle.iim_dataset.specs.Format.Datasets.{count_octets}
-use Rattle.iim_dataset.specs.Format.Splits.{Begun, InTag, InData, Reads}
+use Rattle.iim_places.proofs.Words.{count_octets, Begun, InTag, InData, Reads, AreSections, Octet, End, with_end, MessageLanguage, MessageLivesWith, object_of}
+use Rattle.iim_places.proofs.Words.{AllCanContinue, LivingOctetsAreOpen, OnwardLaws}
 use Rattle.iim_dataset.specs.Format.Languages as languages
-use Rattle.iim_fields.specs.Format.Records.{AreSections}
-use Rattle.wire_story.specs.Format.Tokens.{Octet, End, with_end}
-use Rattle.wire_message.specs.Format.Layers.{MessageLanguage, MessageLivesWith}
 use Rattle.wire_message.specs.States.SoFar.{LeadsTo}
 use Rattle.wire_message.specs.declared.place.Place.{Place}
-use Rattle.iim_places.specs.Format.Admitted.{object_of}
-use Rattle.iim_places.specs.Format.Open.{AllCanContinue}
-use Rattle.iim_places.specs.Laws.Streams.{LivingOctetsAreOpen}
-use Rattle.iim_places.specs.Onward.{OnwardLaws}
 use Rattle.iim_places.proofs.AfterEnd.{ended_at}
 use Rattle.iim_places.proofs.Lasts.{not_all, sections_last}
 use Rattle.iim_places.proofs.Living.{alive_front}

@@ -1,30 +1,13 @@
 -- Plain datasets tell their place.
 use Rattle.std.proofs.Common.{◌≡◌, ℕ, zero, suc, ◌+◌, ◌*◌, ◌<◌, ◌≤◌, nat_eq, cond, Bool, true, false, List, [], ◌∷◌, ◌++◌, length, take, drop, Option, Some, None, refl, ap, sym, ◌∙◌, arith, append-nil, length-drop, subst, IfSome, inl, inr}
-use Rattle.std.specs.List.{AllByRecursion, filter}
-use Rattle.std.specs.Option.{unwrap_or}
-use Rattle.std.proofs.lemmas.Bool.{eqb-true, or_cases, ne_eqb}
-use Rattle.std.proofs.lemmas.List.{take-append-drop, length-take}
-use Rattle.std.proofs.lemmas.List.Elements.{filter-append}
-use Rattle.iim_dataset.proofs.WrittenNumbers.{few_octets, number_back, number_octets}
-use Rattle.iim_dataset.specs.Format.Octets.{IsOctet, Octets, number, greatest_size}
-use Rattle.iim_dataset.specs.Format.Datasets.{Dataset, canonical_stream, of_record}
-use Rattle.iim_dataset.proofs.Each.{all_append, all_map}
-use Rattle.iim_dataset.proofs.OctetLists.{front_are}
-use Rattle.iim_dataset.specs.Format.Splits.{Begun, InTag, InData}
-use Rattle.iim_dataset.specs.Laws.Datasets.{HasSpellings, CanonicalStreamsAreSpelled}
-use Rattle.iim_fields.specs.Format.Faults.{kept, is_kept, joined, last_record, section_after}
-use Rattle.iim_object.specs.Format.Records.{numbers_of}
-use Rattle.iim_object.specs.Format.Packing.{number_dataset, subfile_datasets}
-use Rattle.iim_object.specs.States.Saved.{stated_numbers}
-use Rattle.iim_object.specs.Format.Sizes.{Stated, number_at}
-use Rattle.wire_message.specs.States.Saved.{LeadsToSaved}
-use Rattle.iim_places.specs.Format.Admitted.{object_of}
-use Rattle.iim_places.specs.TicketParts.{IsSize}
-use Rattle.iim_places.specs.Format.Open.{object_so_far, section}
-use Rattle.iim_places.specs.Format.Tickets.{phase_of, heads_of}
-use Rattle.iim_places.specs.Plain.{AreSpellable, begun_object, begun_heads, PlainOctetsLeadToTheirPlace}
-use Rattle.iim_places.specs.States.PlainDatasets.{Numbers, number_list, mode_dataset, one_dataset, plain_numbers, filled, plain_end, plain}
-use Rattle.iim_fields.proofs.Sections.{last_of_joined}
+use Rattle.iim_places.proofs.Words.{AllByRecursion, filter, unwrap_or, eqb-true, or_cases, ne_eqb, take-append-drop, length-take, filter-append, few_octets}
+use Rattle.iim_places.proofs.Words.{number_back, IsOctet, Octets, number, greatest_size, Dataset, canonical_stream, of_record, all_append, all_map, front_are}
+use Rattle.iim_places.proofs.Words.{Begun, InTag, InData, HasSpellings, CanonicalStreamsAreSpelled, kept, is_kept, last_record, section_after, numbers_of}
+use Rattle.iim_places.proofs.Words.{number_dataset, subfile_datasets, stated_numbers, Stated, number_at, LeadsToSaved, object_of, IsSize, object_so_far}
+use Rattle.iim_places.proofs.Words.{section, phase_of, heads_of, AreSpellable, begun_object, begun_heads, PlainOctetsLeadToTheirPlace, Numbers, number_list}
+use Rattle.iim_places.proofs.Words.{mode_dataset, one_dataset, plain_numbers, filled, plain_end, plain, last_of_joined}
+use Rattle.iim_dataset.proofs.WrittenNumbers.{number_octets}
+use Rattle.iim_fields.specs.Format.Faults.{joined}
 
 -- The datasets tell these fields, numbers, object octets and heads.
 pub record Tell (ds fields : List Dataset) (numbers : Numbers) (heads : ℕ) (object : List ℕ) (ended : Bool) : Type 0 where

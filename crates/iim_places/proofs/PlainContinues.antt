@@ -1,40 +1,20 @@
 -- Plain datasets continue as those do for which they stand.
 use Rattle.std.proofs.Common.{◌≡◌, ℕ, zero, suc, ◌+◌, ◌≤◌, ◌||◌, nat_eq, cond, Bool, true, false, List, [], ◌∷◌, ◌++◌, length, Option, Some, None, IfSome, is_some, refl, ap, sym, subst, ◌∙◌, inl, inr, arith, append-nil, length-drop, take, drop, append_assoc, ◌⊎◌, ◌*◌}
-use Rattle.std.proofs.lemmas.List.{length-take}
-use Rattle.std.specs.List.{AllByRecursion, flat_map}
-use Rattle.std.specs.Option.{unwrap_or}
-use Rattle.std.proofs.lemmas.Bool.{eqb-true, eq-eqb}
-use Rattle.std.proofs.lemmas.List.Elements.{filter-append}
-use Rattle.std.proofs.lemmas.List.Folds.{list_any-append}
-use Rattle.iim_dataset.specs.Format.Octets.{Octets, number, greatest_size}
-use Rattle.iim_dataset.specs.Format.Datasets.{Dataset, of_record}
-use Rattle.iim_dataset.proofs.Each.{all_append, all_back, all_front}
-use Rattle.iim_dataset.proofs.OctetLists.{front_are}
-use Rattle.iim_dataset.proofs.WrittenNumbers.{number_back}
-use Rattle.iim_tables.specs.Format.Rows.{table, row_of, Meets}
-use Rattle.iim_fields.specs.Format.Alive.{SectionsLive}
-use Rattle.iim_fields.specs.Format.Faults.{kept, is_kept, section_after, last_record}
-use Rattle.iim_fields.specs.Format.Records.{AreSections, AreRecords, records}
-use Rattle.iim_tables.specs.Format.Records.{IsGoodDataset, IsGoodRecord, occurs, occurrences, repeats, mandatory}
+use Rattle.iim_places.proofs.Words.{length-take, AllByRecursion, flat_map, unwrap_or, eqb-true, eq-eqb, filter-append, list_any-append, Octets, number}
+use Rattle.iim_places.proofs.Words.{greatest_size, Dataset, of_record, all_append, all_back, all_front, front_are, number_back, Meets, SectionsLive, kept}
+use Rattle.iim_places.proofs.Words.{is_kept, section_after, last_record, AreSections, AreRecords, records, IsGoodDataset, IsGoodRecord, occurs, occurrences}
+use Rattle.iim_places.proofs.Words.{repeats, mandatory, number_dataset, subfile_datasets, numbers_of, Stated, InRow, number_at, stated_numbers, IsSize}
+use Rattle.iim_places.proofs.Words.{AnswerLaws, Numbers, number_list, mode_dataset, one_dataset, plain_numbers, filled, plain_end, plain, good_elsewhere}
+use Rattle.iim_places.proofs.Words.{occurrences_cons, part_meets, none_counts, occurrences_append, some_counts, last_more, last_of_joined, front_alive}
+use Rattle.iim_places.proofs.Words.{max_subfiles, one_of_some, eqb_tells}
+use Rattle.iim_tables.specs.Format.Rows.{table, row_of}
 use Rattle.iim_object.specs.Laws.Packing.{NumberDatasetsAreGood}
-use Rattle.iim_object.specs.Format.Packing.{number_dataset, subfile_datasets}
-use Rattle.iim_object.specs.Format.Records.{numbers_of}
-use Rattle.iim_object.specs.Format.Sizes.{Stated, InRow, number_at}
-use Rattle.iim_object.specs.States.Saved.{stated_numbers}
-use Rattle.iim_places.specs.TicketParts.{IsSize}
-use Rattle.iim_places.specs.Laws.Lower.{AnswerLaws}
-use Rattle.iim_places.specs.States.PlainDatasets.{Numbers, number_list, mode_dataset, one_dataset, plain_numbers, filled, plain_end, plain}
-use Rattle.iim_tables.proofs.GoodDatasets.{good_elsewhere, occurrences_cons, part_meets, none_counts, occurrences_append, some_counts}
 use Rattle.iim_places.proofs.SizeRows.{by_number}
 use Rattle.iim_places.proofs.Plain.{AreOf, one_stated, are_told, four_told, filled_count, all_of, none_of, back_octets, Tell, plain_told}
 use Rattle.iim_places.proofs.PlainPlaces.{all_kept, numbers_in, end_length}
 use Rattle.iim_places.proofs.SameRecords.{occurs_stated, same_stated, same_numbers, stated_after_all, tens_after, SameRecords, same_shape, tens_seen, AreTens, none_in_records}
 use Rattle.iim_places.proofs.Fronts.{empty_front}
-use Rattle.iim_fields.proofs.Sections.{last_more, last_of_joined, front_alive}
-use Rattle.iim_object.specs.Format.Plans.{max_subfiles}
-use Rattle.iim_places.specs.States.ByLayers.{one_of_some}
 use Rattle.iim_places.proofs.Taking.{each_good}
-use Rattle.std.proofs.lemmas.Bool.Decides.{eqb_tells}
 use Rattle.iim_fields.proofs.Follows.{alive_follows, is_coming}
 
 -- ---- counts

@@ -1,37 +1,15 @@
 -- Plain octets of a possible place are open or an envelope, too.
 use Rattle.std.proofs.Common.{◌≡◌, ℕ, zero, suc, ◌<◌, ◌≤◌, nat_eq, cond, if◌then◌else◌, Bool, true, false, List, [], ◌∷◌, ◌++◌, length, drop, map, sum, Option, refl, ap, sym, subst, ◌∙◌, inl, inr, arith, append-nil, ◌+◌, length-append}
-use Rattle.std.proofs.lemmas.List.{length-take}
-use Rattle.std.specs.List.{AllByRecursion}
-use Rattle.std.specs.Option.{unwrap_or}
-use Rattle.iim_dataset.specs.Format.Octets.{number, greatest_size}
-use Rattle.iim_dataset.specs.Format.Datasets.{Dataset, SpellsStream, canonical_stream, count_octets, of_record}
+use Rattle.iim_places.proofs.Words.{length-take, AllByRecursion, unwrap_or, number, greatest_size, Dataset, SpellsStream, canonical_stream, count_octets}
+use Rattle.iim_places.proofs.Words.{of_record, Begun, InTag, InData, Reads, SectionsLive, kept, section_after, AreSections, Limits, place_after_datasets}
+use Rattle.iim_places.proofs.Words.{ending_of, subfile_datasets, NotEnded, ConfirmedAs, HasBoth, max_subfiles, lengths_of, numbers_of, Stated, AreStated}
+use Rattle.iim_places.proofs.Words.{number_at, Octet, End, MessageLanguage, StoryLivesIn, IsMessage, LeadsToSaved, MessagePlace, Value, object_of}
+use Rattle.iim_places.proofs.Words.{object_so_far, section, AllCanContinue, plain_of, plain_octets, IsPlain, PlainOctetsAreOpenOrWhole, begun_object}
+use Rattle.iim_places.proofs.Words.{begun_heads, filled, plain_end, number_list, plain, AreOpenOrWhole, widest, IsEnvelopeWithin, IsPlaceOf, place_of, heads_of}
+use Rattle.iim_places.proofs.Words.{phase_of, AllEnded, TagBegun, ObjectLives, AnswerLaws, OpenLaws, SizeLaws, all_map, all_front, IsGoodDataset}
 use Rattle.iim_dataset.specs.Format.Languages as languages
-use Rattle.iim_dataset.specs.Format.Splits.{Begun, InTag, InData, Reads}
-use Rattle.iim_fields.specs.Format.Alive.{SectionsLive}
-use Rattle.iim_fields.specs.Format.Faults.{kept, section_after}
-use Rattle.iim_fields.specs.Format.Records.{AreSections}
-use Rattle.iim_fields.specs.declared.limits.Limits.{Limits}
-use Rattle.iim_object.specs.Format.Numbers.{place_after_datasets, ending_of}
-use Rattle.iim_object.specs.Format.Packing.{subfile_datasets}
-use Rattle.iim_object.specs.Format.Places.{NotEnded, ConfirmedAs, HasBoth}
 use Rattle.iim_object.specs.Format.Places as objects
-use Rattle.iim_object.specs.Format.Plans.{max_subfiles}
-use Rattle.iim_object.specs.Format.Records.{lengths_of, numbers_of}
-use Rattle.iim_object.specs.Format.Sizes.{Stated, AreStated, number_at}
-use Rattle.wire_story.specs.Format.Tokens.{Octet, End}
-use Rattle.wire_message.specs.Format.Layers.{MessageLanguage, StoryLivesIn}
-use Rattle.wire_message.specs.Format.Messages.{IsMessage}
-use Rattle.wire_message.specs.States.Saved.{LeadsToSaved}
-use Rattle.wire_message.specs.declared.saved.MessagePlace.{MessagePlace}
-use Rattle.iim_places.specs.Format.Admitted.{Value, object_of}
-use Rattle.iim_places.specs.Format.Open.{object_so_far, section, AllCanContinue}
-use Rattle.iim_places.specs.Plain.{plain_of, plain_octets, IsPlain, PlainOctetsAreOpenOrWhole, begun_object, begun_heads}
-use Rattle.iim_places.specs.States.PlainDatasets.{filled, plain_end, number_list, plain}
-use Rattle.iim_places.specs.States.Possible.{AreOpenOrWhole, widest}
-use Rattle.iim_places.specs.Format.Streams.{IsEnvelopeWithin}
-use Rattle.iim_places.specs.Format.Tickets.{Place, IsPlaceOf, place_of, heads_of, phase_of, AllEnded, TagBegun}
-use Rattle.iim_places.specs.Format.Tokens.{ObjectLives}
-use Rattle.iim_places.specs.Laws.Lower.{AnswerLaws, OpenLaws, SizeLaws}
+use Rattle.iim_places.specs.Format.Tickets.{Place}
 use Rattle.iim_places.proofs.Answering.{one_reading, reads_envelope, goes_envelope, nothing_held}
 use Rattle.iim_places.proofs.Fitting.{object_low, Lived, each_low, ones_in, numbers_fit, taken_fits, each_octets}
 use Rattle.iim_places.proofs.Following.{alive_of, within_of, object_lives_after}
@@ -45,8 +23,6 @@ use Rattle.iim_places.proofs.SameRecords.{nines, same_numbers, stated_after_all}
 use Rattle.iim_places.proofs.Tickets.{total_of, count_of}
 use Rattle.iim_places.proofs.Twins.{Twins, AreBounded, eights, sevens, may_as, enveloped, bounded_after}
 use Rattle.iim_places.proofs.Taking.{each_good}
-use Rattle.iim_dataset.proofs.Each.{all_map, all_front}
-use Rattle.iim_tables.specs.Format.Records.{IsGoodDataset}
 
 -- ---- the plain datasets
 

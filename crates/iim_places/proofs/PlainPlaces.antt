@@ -1,26 +1,13 @@
 -- Each possible place is one of plain octets.
 use Rattle.std.proofs.Common.{◌≡◌, ℕ, ◌*◌, ◌<◌, ◌≤◌, nat_eq, cond, Bool, true, false, List, [], ◌∷◌, ◌++◌, length, map, sum, Option, Some, None, IfSome, refl, ap, sym, subst, ◌∙◌, inl, inr, arith, append_assoc}
-use Rattle.std.specs.List.{AllByRecursion}
-use Rattle.std.specs.Option.{unwrap_or}
-use Rattle.std.proofs.lemmas.Bool.{eqb-true}
-use Rattle.iim_dataset.specs.Format.Octets.{IsOctet, Octets}
-use Rattle.iim_dataset.specs.Format.Datasets.{Dataset, SpellsStream, count_octets, of_record}
-use Rattle.iim_dataset.proofs.OctetLists.{octets_append}
+use Rattle.iim_places.proofs.Words.{AllByRecursion, unwrap_or, eqb-true, IsOctet, Octets, Dataset, SpellsStream, count_octets, of_record, octets_append}
+use Rattle.iim_places.proofs.Words.{HasSpellings, sum_fits, some_of, kept, is_kept, ObjectToken, SubfileBegun, ObjectLanguage, number_tokens, ending_tokens}
+use Rattle.iim_places.proofs.Words.{place_after_datasets, lengths_of, numbers_of, Stated, InRow, number_at, object_of, ObjectLives, Numbers, plain_end}
+use Rattle.iim_places.proofs.Words.{mode_known}
 use Rattle.iim_dataset.proofs.Counts.{tag-lt}
 use Rattle.iim_dataset.specs.Format.Languages as languages
-use Rattle.iim_dataset.specs.Laws.Datasets.{HasSpellings}
-use Rattle.iim_dataset.proofs.Lists.{sum_fits, some_of}
-use Rattle.iim_fields.specs.Format.Faults.{kept, is_kept, joined}
-use Rattle.iim_object.specs.Format.Objects.{ObjectToken, SubfileBegun, ObjectLanguage, number_tokens}
-use Rattle.iim_object.specs.Format.Places.{ending_tokens}
-use Rattle.iim_object.specs.Format.Numbers.{place_after_datasets}
-use Rattle.iim_object.specs.Format.Records.{lengths_of, numbers_of}
-use Rattle.iim_object.specs.Format.Sizes.{Stated, InRow, number_at}
+use Rattle.iim_fields.specs.Format.Faults.{joined}
 use Rattle.iim_object.specs.Laws.Living.{SubfilesLiveWhileTheyFit}
-use Rattle.iim_places.specs.Format.Admitted.{object_of}
-use Rattle.iim_places.specs.Format.Tokens.{ObjectLives}
-use Rattle.iim_places.specs.States.PlainDatasets.{Numbers, plain_end}
-use Rattle.iim_object.proofs.Bounded.{mode_known}
 use Rattle.iim_places.proofs.SameRecords.{IsStated}
 use Rattle.iim_places.proofs.Tickets.{total_of, count_of}
 

@@ -1,25 +1,12 @@
 -- The object layer lives with other numbers and lengths that tell the same.
 use Rattle.std.proofs.Common.{◌≡◌, ℕ, ◌<◌, ◌≤◌, Bool, List, [], ◌∷◌, ◌++◌, length, map, sum, Option, Some, is_some, IfSome, refl, ap, sym, subst, ◌∙◌, arith, append-nil, append_assoc, None}
-use Rattle.std.specs.List.{AllByRecursion}
-use Rattle.iim_dataset.specs.Format.Languages.{IsAlive}
-use Rattle.iim_dataset.specs.Format.Octets.{greatest_size}
-use Rattle.iim_dataset.proofs.Lists.{some_of}
+use Rattle.iim_places.proofs.Words.{AllByRecursion, IsAlive, greatest_size, some_of, SubfileBegun, ObjectLanguage, number_tokens, Ending, NotEnded, Ended}
+use Rattle.iim_places.proofs.Words.{ConfirmedAs, HasBoth, ending_tokens, Stated, AreStated, number_at, mode_number, mode_known, ObjectsArePossibleAlike}
+use Rattle.iim_places.proofs.Words.{SizeLaws, max_subfiles, ObjectLives, IsPossible, numbers_of, lengths_of, HaveSizes, Sizes, Dataset}
 use Rattle.iim_object.specs.Laws.Living.{NoClash, HasDuties, Fit, MeetsAnnounced}
-use Rattle.iim_object.specs.Format.Objects.{SubfileBegun, ObjectLanguage, number_tokens}
-use Rattle.iim_object.specs.Format.Places.{Ending, NotEnded, Ended, ConfirmedAs, HasBoth, ending_tokens}
 use Rattle.iim_object.specs.Format.Places as objects
-use Rattle.iim_object.specs.Format.Sizes.{Stated, AreStated, number_at, mode_number}
-use Rattle.iim_object.proofs.Bounded.{mode_known}
-use Rattle.iim_places.specs.Plain.{ObjectsArePossibleAlike}
-use Rattle.iim_places.specs.Laws.Lower.{SizeLaws}
 use Rattle.iim_places.proofs.PlainPlaces.{low_mode, alive_front}
 use Rattle.iim_places.proofs.SameRecords.{SameNumbers, same_numbers, IsStated}
-use Rattle.iim_object.specs.Format.Plans.{max_subfiles}
-use Rattle.iim_places.specs.Format.Tokens.{ObjectLives}
-use Rattle.iim_object.specs.States.Saved.{IsPossible}
-use Rattle.iim_object.specs.Format.Records.{numbers_of, lengths_of, HaveSizes}
-use Rattle.iim_object.specs.declared.size.Sizes.{Sizes}
-use Rattle.iim_dataset.specs.Format.Datasets.{Dataset}
 
 clash_like : (ps qs : List Stated) → SameNumbers ps qs → NoClash ps → NoClash qs
 clash_like ps qs same none = record {

@@ -1,28 +1,14 @@
 -- By the present scale places are possible as they are.
 use Rattle.std.proofs.Common.{◌≡◌, ℕ, ◌≤◌, ◌&&◌, nat_le, true, List, [], ◌∷◌, ◌++◌, length, map, sym, subst, inl, inr, arith}
-use Rattle.std.specs.List.{AllByRecursion}
-use Rattle.std.proofs.lemmas.Bool.{leb-true, and_parts}
-use Rattle.iim_dataset.specs.Format.Octets.{Octets, number, within, greatest_size}
-use Rattle.iim_dataset.specs.Format.Datasets.{Dataset, of_record}
-use Rattle.iim_dataset.proofs.Each.{all_map}
-use Rattle.iim_dataset.specs.Format.Languages.{IsAlive}
-use Rattle.iim_dataset.specs.Format.Splits.{Begun, InTag, InData}
-use Rattle.iim_dataset.proofs.Lists.{within_most_and}
+use Rattle.iim_places.proofs.Words.{AllByRecursion, leb-true, and_parts, Octets, number, within, greatest_size, Dataset, of_record, all_map, IsAlive, Begun}
+use Rattle.iim_places.proofs.Words.{InTag, InData, within_most_and, Meets, IsGoodDataset, AreSections, ObjectToken, SubfileBegun, ObjectLanguage, number_tokens}
+use Rattle.iim_places.proofs.Words.{Stated, InRow, TokensWithin, LanguageWithin, row_low, within_append, begun_within, Possible, widest, FitsRow, SectionsIn}
+use Rattle.iim_places.proofs.Words.{SectionsLiveIn, PossibleAt, place_in, PresentScaleSaysNothingMore, present_scale, MayContinue}
 use Rattle.iim_tables.specs.Format.Kinds.{is_mode, is_size_from}
 use Rattle.iim_tables.specs.Format.Numbers.{size_octets}
-use Rattle.iim_tables.specs.Format.Rows.{table, row_of, Meets}
-use Rattle.iim_tables.specs.Format.Records.{IsGoodDataset}
-use Rattle.iim_fields.specs.Format.Records.{AreSections}
-use Rattle.iim_object.specs.Format.Objects.{ObjectToken, SubfileBegun, ObjectLanguage, number_tokens}
+use Rattle.iim_tables.specs.Format.Rows.{table, row_of}
 use Rattle.iim_object.specs.Format.Places as objects
-use Rattle.iim_object.specs.Format.Sizes.{Stated, InRow}
-use Rattle.iim_object.specs.Format.Within.{TokensWithin, LanguageWithin}
-use Rattle.iim_object.proofs.Bounded.{row_low, within_append, begun_within}
-use Rattle.iim_places.specs.States.Possible.{Possible, widest}
-use Rattle.iim_places.specs.States.Scales.{FitsRow, SectionsIn, SectionsLiveIn, PossibleAt, place_in}
-use Rattle.iim_places.specs.Laws.Places.{PresentScaleSaysNothingMore, present_scale}
 use Rattle.iim_places.specs.Format.Tickets.{Place}
-use Rattle.iim_places.specs.Format.Tokens.{MayContinue}
 use Rattle.iim_places.proofs.Following.{within_of}
 use Rattle.iim_places.proofs.SmallPlaces.{may_continue, rows_of}
 use Rattle.iim_places.proofs.Bounds.{low}

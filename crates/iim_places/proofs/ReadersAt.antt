@@ -1,47 +1,23 @@
 -- Readers of a possible place stand where octets lead there.
 use Rattle.std.proofs.Common.{◌≡◌, ℕ, ◌+◌, ◌-◌, ◌<◌, ◌≤◌, nat_eq, if◌then◌else◌, Bool, true, false, List, [], ◌∷◌, ◌++◌, length, Option, Some, None, refl, ap, sym, subst, ◌∙◌, inl, inr, arith, append-nil}
-use Rattle.std.specs.List.{AllByRecursion}
-use Rattle.std.proofs.lemmas.Bool.{eqb-true}
-use Rattle.std.proofs.lemmas.Bool.Decides.{eqb_tells}
-use Rattle.iim_dataset.specs.Format.Datasets.{Dataset, of_record, count_octets}
-use Rattle.iim_dataset.specs.Format.Splits.{Begun, InTag, InData, Reads}
-use Rattle.iim_dataset.specs.States.Places.{IsKeptAs, between}
-use Rattle.iim_dataset.specs.declared.head.Head.{Head}
-use Rattle.iim_dataset.specs.declared.place.DatasetPlace.{DatasetPlace}
-use Rattle.iim_fields.specs.Format.Alive.{SectionsLive}
-use Rattle.iim_fields.specs.Format.Faults.{is_kept, kept, section_after}
+use Rattle.iim_places.proofs.Words.{AllByRecursion, eqb-true, eqb_tells, Dataset, of_record, count_octets, Begun, InTag, InData, Reads, IsKeptAs, between, Head}
+use Rattle.iim_places.proofs.Words.{DatasetPlace, SectionsLive, is_kept, kept, section_after, Limits, head_alive, place_after_datasets, place_ended, ending_of}
+use Rattle.iim_places.proofs.Words.{ObjectEnded, Confirmed, SubfileBegun, NotEnded, place_after, max_subfiles, lengths_of, numbers_of, IsPossible}
+use Rattle.iim_places.proofs.Words.{stated_numbers, State, AreLines, text_so_far, Header, IsMessage, LeadsToSaved, saved, MessagePlace, object_of, IsSize}
+use Rattle.iim_places.proofs.Words.{RecordsLive, begun_of_object, object_after, one_of_some, are_ended, begun_subfiles, ByLayersLaws, PlaceLaws, FeedLaws}
+use Rattle.iim_places.proofs.Words.{section, Numbers, number_list, plain, are_some, Phase, TagBegun, AllEnded, phase_of, place_at, ObjectLives, CanContinue}
+use Rattle.iim_places.proofs.Words.{CanContinueAt}
 use Rattle.iim_fields.specs.States.Standing as records
-use Rattle.iim_fields.specs.declared.limits.Limits.{Limits}
-use Rattle.iim_fields.proofs.Sections.{head_alive}
-use Rattle.iim_object.specs.Format.Numbers.{place_after_datasets, place_ended, ending_of}
-use Rattle.iim_object.specs.Format.Objects.{ObjectEnded, Confirmed, SubfileBegun}
-use Rattle.iim_object.specs.Format.Places.{NotEnded, place_after}
 use Rattle.iim_object.specs.Format.Places as objects
-use Rattle.iim_object.specs.Format.Plans.{max_subfiles}
 use Rattle.iim_object.specs.States.Reading as reading
-use Rattle.iim_object.specs.Format.Records.{lengths_of, numbers_of}
-use Rattle.iim_object.specs.States.Saved.{IsAt, IsPossible, stated_numbers}
-use Rattle.iim_object.specs.declared.reading.state.State.{State}
-use Rattle.wire_story.specs.Format.Texts.{AreLines}
-use Rattle.wire_message.specs.Format.Layers.{text_so_far}
-use Rattle.wire_message.specs.Format.Messages.{Header, IsMessage}
+use Rattle.iim_object.specs.States.Saved.{IsAt}
 use Rattle.wire_message.specs.States.Reading as wire
-use Rattle.wire_message.specs.States.Saved.{LeadsToSaved, saved}
 use Rattle.wire_message.specs.States.SoFar.{LeadsTo}
 use Rattle.wire_message.specs.declared.place.Place.{Place as Message}
 use Rattle.wire_message.specs.declared.place.Place.TheVariants as at_message
 use Rattle.wire_message.specs.declared.saved.MessagePart.TheVariants as part
-use Rattle.wire_message.specs.declared.saved.MessagePlace.{MessagePlace}
-use Rattle.iim_places.specs.Format.Admitted.{object_of}
-use Rattle.iim_places.specs.TicketParts.{IsSize}
-use Rattle.iim_places.specs.States.ByLayers.{RecordsLive, begun_of_object, object_after, one_of_some, are_ended, begun_subfiles}
-use Rattle.iim_places.specs.Laws.Lower.{ByLayersLaws, PlaceLaws, FeedLaws}
-use Rattle.iim_places.specs.Format.Open.{section}
-use Rattle.iim_places.specs.States.PlainDatasets.{Numbers, number_list, plain}
 use Rattle.iim_places.specs.States.Readers.{RecordsStand, MessageStands, has_come, tag_place}
-use Rattle.iim_places.specs.States.Counts.{are_some}
-use Rattle.iim_places.specs.Format.Tickets.{Place, Phase, TagBegun, AllEnded, phase_of}
-use Rattle.iim_places.specs.Format.Tokens.{place_at, ObjectLives, CanContinue, CanContinueAt}
+use Rattle.iim_places.specs.Format.Tickets.{Place}
 use Rattle.iim_places.proofs.LayersLead.{less_none}
 use Rattle.iim_places.proofs.LeadsByLayers.{whole_at, subfile_at, opened_at, confirmed_at, few_heads, few_with_head, nine_ended, one_same, few_subfiles}
 use Rattle.iim_places.proofs.PlainOpens.{fit_in_rows}

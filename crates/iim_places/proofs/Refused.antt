@@ -1,14 +1,7 @@
 -- No layer dies with what all can continue with.
 use Rattle.std.proofs.Common.{List, [], ◌∷◌, ◌++◌}
-use Rattle.iim_dataset.specs.Format.Datasets.{Dataset}
+use Rattle.iim_places.proofs.Words.{Dataset, Head, SectionsLive, Limits, AreSized, DatasetsLiveWithTheirTokens, CanContinueAt, DiesAtHead, DiesAtValue, Layer}
 use Rattle.iim_dataset.specs.Format.Languages as languages
-use Rattle.iim_dataset.specs.declared.head.Head.{Head}
-use Rattle.iim_fields.specs.Format.Alive.{SectionsLive}
-use Rattle.iim_fields.specs.declared.limits.Limits.{Limits}
-use Rattle.iim_object.specs.Laws.Records.{AreSized}
-use Rattle.iim_object.specs.Laws.Numbers.{DatasetsLiveWithTheirTokens}
-use Rattle.iim_places.specs.Format.Tokens.{CanContinueAt, DiesAtHead, DiesAtValue}
-use Rattle.iim_places.specs.declared.refusal.Layer.{Layer}
 use Rattle.iim_places.specs.declared.refusal.Layer.TheVariants as layers
 use Rattle.iim_places.proofs.Places.{lives_after}
 

@@ -1,37 +1,18 @@
 -- After octets of one place the same octet is refused, for the same fault.
 use Rattle.std.proofs.Common.{◌≡◌, ℕ, ◌+◌, ◌≤◌, ◌&&◌, ◌||◌, ◌⊎◌, not, nat_lt, nat_eq, if◌then◌else◌, Bool, true, false, List, [], ◌∷◌, ◌++◌, length, sum, Option, Some, None, refl, ap, sym, subst, ◌∙◌, inl, inr}
-use Rattle.std.proofs.lemmas.Bool.{ne_eqb}
-use Rattle.std.specs.Option.{option_or, option_map}
-use Rattle.iim_dataset.specs.Format.Octets.{Octets, number}
-use Rattle.iim_dataset.specs.Format.Datasets.{Dataset, head_of, of_record as of_fields, of_record, count_octets}
-use Rattle.iim_dataset.specs.Format.Splits.{Begun, InTag, InData, Reads}
-use Rattle.iim_dataset.specs.declared.head.Head.{Head}
-use Rattle.iim_dataset.proofs.Lists.{sum_append}
-use Rattle.iim_fields.specs.Format.Alive.{SectionsLive, SectionsLiveAt}
-use Rattle.iim_fields.specs.Format.Faults.{head_fault, joined, kept, section_after, room_fault, value_fault}
-use Rattle.iim_tables.specs.Format.Records.{occurs}
-use Rattle.iim_fields.specs.Format.Values.{data_of, tells_number}
-use Rattle.iim_fields.specs.declared.limits.Limits.{Limits}
-use Rattle.iim_object.specs.Format.Numbers.{place_after_datasets, place_ended}
-use Rattle.iim_object.specs.Format.Causes.{cause_at, confirmed_cause, end_cause, number_cause, subfile_cause}
-use Rattle.iim_object.specs.Format.Objects.{Confirmed, NumberRead, ObjectEnded, ObjectToken, SubfileBegun}
-use Rattle.iim_object.specs.Format.Places.{Place, head_token, place_after, value_token}
-use Rattle.iim_object.specs.Format.Plans.{max_subfiles}
-use Rattle.iim_object.specs.declared.reading.fault.SizeCause.{SizeCause}
-use Rattle.wire_message.specs.Format.Layers.{MessageDiesAt}
-use Rattle.wire_message.specs.Format.Causes.{HasCause}
-use Rattle.wire_story.specs.Format.Tokens.{End}
-use Rattle.iim_places.specs.Format.Admitted.{object_of}
+use Rattle.iim_places.proofs.Words.{ne_eqb, option_or, option_map, Octets, number, Dataset, head_of, of_record, count_octets, Begun, InTag, InData, Reads, Head}
+use Rattle.iim_places.proofs.Words.{sum_append, SectionsLive, SectionsLiveAt, head_fault, kept, section_after, room_fault, value_fault, occurs, data_of}
+use Rattle.iim_places.proofs.Words.{tells_number, Limits, place_after_datasets, place_ended, cause_at, confirmed_cause, end_cause, number_cause, subfile_cause}
+use Rattle.iim_places.proofs.Words.{Confirmed, NumberRead, ObjectEnded, ObjectToken, SubfileBegun, head_token, place_after, value_token, max_subfiles}
+use Rattle.iim_places.proofs.Words.{SizeCause, MessageDiesAt, HasCause, End, object_of, PlacesRefuseAlike, AllCanContinue, IsUnfinished, object_so_far}
+use Rattle.iim_places.proofs.Words.{RefusesByTests, of_field, size_on, too_many_on, message_on, RefusedOctetsWereOpen, OpenOctetsBeginWithNoEnvelope}
+use Rattle.iim_places.proofs.Words.{DiesAtHead, DiesAtValue, CanContinueAt, IsRefusedHead, IsRefusedValue, fault_at_head, fault_at_value, place_at, TokenFault}
+use Rattle.iim_places.proofs.Words.{Layer, OnwardLaws}
+use Rattle.iim_dataset.specs.Format.Datasets.{of_record as of_fields}
+use Rattle.iim_fields.specs.Format.Faults.{joined}
+use Rattle.iim_object.specs.Format.Places.{Place}
 use Rattle.iim_places.specs.Laws.Conditions.{RefusalsTellTheLowestCause}
-use Rattle.iim_places.specs.Laws.Places.{PlacesRefuseAlike}
-use Rattle.iim_places.specs.Format.Open.{AllCanContinue, IsUnfinished, object_so_far, RefusesByTests}
-use Rattle.iim_places.specs.Format.Refusals.{of_field, size_on, too_many_on, message_on}
-use Rattle.iim_places.specs.Laws.Streams.{RefusedOctetsWereOpen, OpenOctetsBeginWithNoEnvelope}
-use Rattle.iim_places.specs.Format.Tokens.{DiesAtHead, DiesAtValue, CanContinueAt, IsRefusedHead, IsRefusedValue, fault_at_head, fault_at_value, place_at}
-use Rattle.iim_places.specs.declared.fault.TokenFault.{TokenFault}
-use Rattle.iim_places.specs.declared.refusal.Layer.{Layer}
 use Rattle.iim_places.specs.declared.refusal.Layer.TheVariants as layers
-use Rattle.iim_places.specs.Onward.{OnwardLaws}
 use Rattle.iim_places.proofs.Answering.{fewer_data, IsRefusedAt, IsRefusedWith, refuses_by, tests_of}
 use Rattle.iim_places.proofs.ObjectOctets.{few_more, no_object}
 use Rattle.iim_places.proofs.Continuing.{not_both, on_open, unfinished_as}

@@ -1,48 +1,21 @@
 -- Octets of one place: what stands on the one stands on the other.
 use Rattle.std.proofs.Common.{◌≡◌, ℕ, ◌+◌, ◌-◌, ◌<◌, Bool, true, false, cond, if◌then◌else◌, ◌==◌, nat_eq, List, [], ◌∷◌, ◌++◌, length, sum, Option, Some, refl, ap, sym, subst, ◌∙◌, inl, inr, arith, append-nil, length-append}
-use Rattle.std.proofs.lemmas.Bool.Decides.{eqb_tells}
-use Rattle.iim_dataset.specs.Format.Octets.{Octets}
-use Rattle.std.proofs.lemmas.List.Elements.{filter-append}
-use Rattle.iim_dataset.specs.Format.Datasets.{Dataset, head_of, of_record, count_octets}
-use Rattle.iim_dataset.specs.Format.Splits.{Begun, InTag, InData, Reads}
-use Rattle.iim_dataset.specs.States.Events.{handed_on}
-use Rattle.iim_dataset.specs.States.Places.{IsKeptAs}
-use Rattle.iim_dataset.specs.declared.head.Head.{Head}
-use Rattle.iim_dataset.specs.declared.place.DatasetPlace.{DatasetPlace}
+use Rattle.iim_places.proofs.Words.{eqb_tells, Octets, filter-append, Dataset, head_of, of_record, count_octets, Begun, InTag, InData, Reads, handed_on}
+use Rattle.iim_places.proofs.Words.{IsKeptAs, Head, DatasetPlace, sum_append, AreSections, occurs, HasChecked, HasTaken, kept, section_after, SectionsLive}
+use Rattle.iim_places.proofs.Words.{SectionsLiveAt, ValuesDieWithTheirFault, Limits, RecordPlace, last_more, SubfileBegun, numbers_of, place_after_datasets}
+use Rattle.iim_places.proofs.Words.{place_ended, State, stated_numbers, text_so_far, LeadsToSaved, MessagePlace, object_of, PlaceLaws, place_at, ObjectLives}
+use Rattle.iim_places.proofs.Words.{object_so_far, section, AllCanContinue, IsOpen, are_some, Phase, TagBegun, DataBegun, AllEnded, phase_of, heads_of}
 use Rattle.iim_dataset.specs.declared.place.DatasetPlace.TheVariants.{Tag, Inside}
-use Rattle.iim_dataset.proofs.Lists.{sum_append}
-use Rattle.iim_fields.specs.Format.Records.{AreSections}
-use Rattle.iim_tables.specs.Format.Records.{occurs}
 use Rattle.iim_fields.specs.States.Orders as orders
-use Rattle.iim_fields.specs.States.Checks.{HasChecked, HasTaken}
-use Rattle.iim_fields.specs.Format.Faults.{kept, joined, section_after}
-use Rattle.iim_fields.specs.Format.Alive.{SectionsLive, SectionsLiveAt}
-use Rattle.iim_fields.specs.Laws.Records.{ValuesDieWithTheirFault}
+use Rattle.iim_fields.specs.Format.Faults.{joined}
 use Rattle.iim_fields.specs.States.Standing as records
 use Rattle.iim_fields.specs.Format.Bounds as records_format
-use Rattle.iim_fields.specs.declared.limits.Limits.{Limits}
 use Rattle.iim_fields.specs.declared.order.Order.{Order}
-use Rattle.iim_fields.specs.declared.check.RecordPlace.{RecordPlace}
-use Rattle.iim_fields.proofs.Sections.{last_more}
-use Rattle.iim_object.specs.Format.Objects.{SubfileBegun}
 use Rattle.iim_object.specs.Format.Places as objects
 use Rattle.iim_object.specs.States.Reading as reading
-use Rattle.iim_object.specs.Format.Records.{numbers_of}
-use Rattle.iim_object.specs.Format.Numbers.{place_after_datasets, place_ended}
-use Rattle.iim_object.specs.declared.reading.state.State.{State}
-use Rattle.iim_object.specs.States.Saved.{stated_numbers}
-use Rattle.wire_message.specs.Format.Layers.{text_so_far}
 use Rattle.wire_message.specs.States.Reading as wire
 use Rattle.wire_message.specs.States.SoFar.{LeadsTo}
-use Rattle.wire_message.specs.States.Saved.{LeadsToSaved}
 use Rattle.wire_message.specs.declared.place.Place.{Place as Message}
-use Rattle.wire_message.specs.declared.saved.MessagePlace.{MessagePlace}
-use Rattle.iim_places.specs.Format.Admitted.{object_of}
-use Rattle.iim_places.specs.Laws.Lower.{PlaceLaws}
-use Rattle.iim_places.specs.Format.Tokens.{place_at, ObjectLives}
-use Rattle.iim_places.specs.Format.Open.{object_so_far, section, AllCanContinue, IsOpen}
-use Rattle.iim_places.specs.States.Counts.{are_some}
-use Rattle.iim_places.specs.Format.Tickets.{Phase, TagBegun, DataBegun, AllEnded, phase_of, heads_of}
 use Rattle.iim_places.proofs.Following.{alive_of}
 use Rattle.iim_places.proofs.Lasts.{SplitLast, split_last, last_sections}
 use Rattle.iim_places.proofs.Tickets.{count_of, total_of}

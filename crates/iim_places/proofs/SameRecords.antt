@@ -1,31 +1,11 @@
 -- Datasets of one place have the same numbers in each record.
 use Rattle.std.proofs.Common.{◌≡◌, ℕ, ◌+◌, ◌<◌, ◌≤◌, ◌||◌, Bool, true, false, cond, nat_eq, List, [], ◌∷◌, ◌++◌, length, is_some, Some, None, refl, ap, sym, subst, ◌∙◌, inl, inr, arith, append-nil, append_assoc, length-append}
-use Rattle.std.specs.List.{AllByRecursion}
-use Rattle.std.proofs.lemmas.Bool.{eqb-true, eqb-false, ne_eqb}
-use Rattle.std.proofs.lemmas.Bool.Decides.{eqb_tells}
-use Rattle.std.proofs.lemmas.List.Elements.{filter-append}
-use Rattle.std.proofs.lemmas.List.Folds.{list_any-append}
-use Rattle.iim_dataset.specs.Format.Octets.{number}
-use Rattle.iim_dataset.specs.Format.Datasets.{Dataset, head_of, of_record}
-use Rattle.iim_dataset.specs.declared.head.Head.{Head}
-use Rattle.iim_dataset.proofs.Each.{all_front, all_map}
-use Rattle.iim_tables.specs.Format.Rows.{Meets}
-use Rattle.iim_fields.specs.Format.Records.{AreSections, AreRecords, records}
-use Rattle.iim_tables.specs.Format.Records.{IsGoodDataset, occurs}
-use Rattle.iim_fields.specs.Format.Alive.{SectionsLive, SectionsLiveAt}
-use Rattle.iim_fields.specs.Format.Faults.{section_after, kept, is_kept}
-use Rattle.iim_fields.proofs.Sections.{last_more, by_record}
-use Rattle.iim_object.specs.Format.Plans.{max_subfiles}
-use Rattle.iim_object.specs.Format.Sizes.{Stated, InRow, AreStated, number_at}
-use Rattle.iim_object.specs.Format.Records.{numbers_of}
-use Rattle.iim_object.specs.Format.Objects.{ObjectToken, NumberRead, SubfileBegun, ObjectEnded, Confirmed}
-use Rattle.iim_object.specs.Format.Places.{Place, NotEnded, Ended, HasBoth, MayFollow, place_after, head_token}
-use Rattle.iim_object.specs.Format.Numbers.{place_after_datasets, place_ended}
-use Rattle.iim_object.specs.Laws.Numbers.{RecordsAreByNumber}
-use Rattle.iim_object.specs.States.Saved.{stated_numbers}
-use Rattle.iim_places.specs.States.ByLayers.{one_of_some}
-use Rattle.iim_places.specs.Format.Tokens.{place_at}
-use Rattle.iim_places.specs.Laws.Lower.{ObjectLaws, FollowLaws}
+use Rattle.iim_places.proofs.Words.{AllByRecursion, eqb-true, eqb-false, ne_eqb, eqb_tells, filter-append, list_any-append, number, Dataset, head_of, of_record}
+use Rattle.iim_places.proofs.Words.{Head, all_front, all_map, Meets, AreSections, AreRecords, records, IsGoodDataset, occurs, SectionsLive, SectionsLiveAt}
+use Rattle.iim_places.proofs.Words.{section_after, kept, is_kept, last_more, by_record, max_subfiles, Stated, InRow, AreStated, number_at, numbers_of}
+use Rattle.iim_places.proofs.Words.{ObjectToken, NumberRead, SubfileBegun, ObjectEnded, Confirmed, NotEnded, Ended, HasBoth, MayFollow, place_after, head_token}
+use Rattle.iim_places.proofs.Words.{place_after_datasets, place_ended, RecordsAreByNumber, stated_numbers, one_of_some, place_at, ObjectLaws, FollowLaws}
+use Rattle.iim_object.specs.Format.Places.{Place}
 use Rattle.iim_places.proofs.Fronts.{empty_front}
 use Rattle.iim_places.proofs.Lasts.{SplitLast, split_last}
 use Rattle.iim_places.proofs.Objects.{records_alive}

@@ -1,29 +1,13 @@
 -- Places that were possible by the first sizes are possible, and keep to these sizes.
 use Rattle.std.proofs.Common.{◌≡◌, ℕ, ◌-◌, ◌≤◌, nat_eq, cond, if◌then◌else◌, Bool, true, false, List, [], ◌∷◌, ◌++◌, length, map, sum, Some, refl, ap, sym, subst, ◌∙◌, inl, inr, arith}
-use Rattle.std.specs.List.{AllByRecursion}
-use Rattle.std.proofs.lemmas.Bool.{eqb-true, eq-eqb}
-use Rattle.iim_dataset.specs.Format.Octets.{number}
-use Rattle.iim_dataset.specs.Format.Datasets.{Dataset, SpellsDataset, SpellsStream, count_octets, head_of, of_record}
-use Rattle.iim_dataset.specs.Format.Languages.{IsAlive}
-use Rattle.iim_dataset.specs.Format.Splits.{Begun, InTag, InData, IsBegun, Reads}
-use Rattle.iim_dataset.specs.declared.head.Head.{Head}
-use Rattle.iim_dataset.proofs.Each.{all_front, all_back}
-use Rattle.iim_fields.specs.Format.Faults.{section_after}
-use Rattle.iim_fields.specs.Format.Values.{tells_number}
-use Rattle.iim_object.specs.Format.Objects.{SubfileBegun, ObjectEnded, Confirmed, number_tokens}
+use Rattle.iim_places.proofs.Words.{AllByRecursion, eqb-true, eq-eqb, number, Dataset, SpellsDataset, SpellsStream, count_octets, head_of, of_record, IsAlive}
+use Rattle.iim_places.proofs.Words.{Begun, InTag, InData, IsBegun, Reads, Head, all_front, all_back, section_after, tells_number, SubfileBegun, ObjectEnded}
+use Rattle.iim_places.proofs.Words.{Confirmed, number_tokens, numbers_of, stated_numbers, Stated, number_at, TokensWithin, LanguageWithin, AnswerLaws, OpenLaws}
+use Rattle.iim_places.proofs.Words.{object_of, AreWithin, IsOpen, object_so_far, section, Possible, IsSmall, IsSmallPhase, IsSmallPlace, greatest_size_before}
+use Rattle.iim_places.proofs.Words.{widest, Scale, FitsRow, SectionsLiveIn, HaveRoomIn, IsOpenIn, IsWholeIn, PossibleAt, place_in, first_scale, IsPlaceOf}
+use Rattle.iim_places.proofs.Words.{TagBegun, AllEnded, phase_of, place_of, MayContinue}
 use Rattle.iim_object.specs.Format.Places as objects
-use Rattle.iim_object.specs.Format.Records.{numbers_of}
-use Rattle.iim_object.specs.States.Saved.{stated_numbers}
-use Rattle.iim_object.specs.Format.Sizes.{Stated, number_at}
-use Rattle.iim_object.specs.Format.Within.{TokensWithin, LanguageWithin}
-use Rattle.iim_places.specs.Laws.Lower.{AnswerLaws, OpenLaws}
-use Rattle.iim_places.specs.Format.Admitted.{object_of}
-use Rattle.iim_places.specs.Format.Framed.{AreWithin}
-use Rattle.iim_places.specs.Format.Open.{IsOpen, object_so_far, section}
-use Rattle.iim_places.specs.States.Possible.{Possible, IsSmall, IsSmallPhase, IsSmallPlace, greatest_size_before, widest}
-use Rattle.iim_places.specs.States.Scales.{Scale, FitsRow, SectionsLiveIn, HaveRoomIn, IsOpenIn, IsWholeIn, PossibleAt, place_in, first_scale}
-use Rattle.iim_places.specs.Format.Tickets.{Place, IsPlaceOf, TagBegun, AllEnded, phase_of, place_of}
-use Rattle.iim_places.specs.Format.Tokens.{MayContinue}
+use Rattle.iim_places.specs.Format.Tickets.{Place}
 use Rattle.iim_places.proofs.Answering.{one_reading, reads_envelope}
 use Rattle.iim_places.proofs.Bounds.{object_total}
 use Rattle.iim_places.proofs.Fitting.{begins_tag, so_far_fits}

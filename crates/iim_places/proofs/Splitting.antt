@@ -1,22 +1,16 @@
 -- What octets begin with is determined: their layout has one reading.
 use Rattle.std.proofs.Common.{◌≡◌, ℕ, ◌+◌, ◌-◌, ◌<◌, ◌≤◌, ◌^◌, ◌==◌, nat_eq, if◌then◌else◌, pred, Bool, true, false, List, [], ◌∷◌, ◌++◌, length, take, drop, Option, Some, None, refl, ap, sym, subst, ◌∙◌, inl, inr, arith, append_assoc, append-nil, length-append}
-use Rattle.std.proofs.lemmas.List.Concat.{flat_map-append}
-use Rattle.std.proofs.lemmas.List.{take-append-drop, length-take}
+use Rattle.iim_places.proofs.Words.{flat_map-append, take-append-drop, length-take, AllByRecursion, flat_map, Dataset, all_append, Phase, TagBegun, DataBegun}
+use Rattle.iim_places.proofs.Words.{AllEnded, ticket_name, present_version, four, wide, phase_octets, field_octets, fields_octets, text_octets, IsLongField}
+use Rattle.iim_places.proofs.Words.{AreFields, AreNumbersIn, AreTexts, IsSizeIn, IsShort, IsWide, IsVersion, IsPhase, IsFaultOf, HasForm, Split, SplitsTicket}
+use Rattle.iim_places.proofs.Words.{split_octets, came, TicketsHaveOneSplit, AreNoMessage, AreNoBody, BeginsWithNoData, body_octets, message_parts, Form}
 use Rattle.std.specs.Int.{w64, from_be_bytes, to_be_bytes}
-use Rattle.std.specs.List.{AllByRecursion, flat_map}
 use Rattle.std.proofs.lemmas.Nat.{from_be_bytes-to_be_bytes_8}
-use Rattle.iim_dataset.specs.Format.Datasets.{Dataset}
-use Rattle.iim_dataset.proofs.Each.{all_append}
 use Rattle.iim_dataset.specs.Parting.{same_front}
-use Rattle.iim_places.specs.Format.Tickets.{Phase, TagBegun, DataBegun, AllEnded, ticket_name, present_version, four, wide, phase_octets, field_octets, fields_octets, number_octets, text_octets}
-use Rattle.iim_places.specs.States.Begins.{IsLongField, AreFields, AreNumbersIn, AreTexts, IsSizeIn, IsShort, IsWide}
+use Rattle.iim_places.specs.Format.Tickets.{number_octets}
 use Rattle.iim_places.specs.TicketFields.{HoldsFields}
 use Rattle.iim_places.specs.Shortfalls.{BeginsWithNone, BeginsWithFewer, FieldsBefore, IsFour}
 use Rattle.iim_places.specs.FieldLaws.{first_same, rest_same, one_four, one_field, some_octets, same_fields}
-use Rattle.iim_places.specs.Format.TicketForm.{IsVersion, IsPhase, IsFaultOf, HasForm, Split, SplitsTicket, split_octets, came}
-use Rattle.iim_places.specs.Laws.Tickets.{TicketsHaveOneSplit}
-use Rattle.iim_places.specs.TicketParts.{AreNoMessage, AreNoBody, BeginsWithNoData, body_octets, message_parts}
-use Rattle.iim_places.specs.declared.ticket.fault.TicketFault.TheVariants.{Form}
 
 -- octets that two spellings begin have one reading
 abbrev pub HasOne : {X : Type 0} → (X → Type 0) → (X → List ℕ) → Type 0

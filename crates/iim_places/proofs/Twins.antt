@@ -1,47 +1,20 @@
 -- Datasets that tell the same, and what follows them.
 use Rattle.std.proofs.Common.{◌≡◌, ℕ, ◌+◌, ◌<◌, ◌≤◌, ◌||◌, ◌⊎◌, Bool, true, false, cond, nat_eq, if◌then◌else◌, List, [], ◌∷◌, ◌++◌, length, sum, Option, Some, refl, ap, sym, subst, ◌∙◌, inl, inr, arith, append-nil, length-append, None, append_assoc}
-use Rattle.std.specs.List.{AllByRecursion}
-use Rattle.std.specs.Option.{option_or}
-use Rattle.std.proofs.lemmas.List.Elements.{filter-append}
-use Rattle.std.proofs.lemmas.Option.{same_Some}
-use Rattle.std.proofs.lemmas.List.Folds.{list_any-append}
-use Rattle.std.proofs.lemmas.Bool.{eqb-true}
-use Rattle.iim_dataset.specs.Format.Datasets.{Dataset, of_record, SpellsStream, count_octets}
-use Rattle.iim_dataset.proofs.Each.{all_append, all_front, all_back}
-use Rattle.iim_dataset.specs.declared.head.Head.{Head}
-use Rattle.iim_dataset.proofs.Lists.{sum_append}
-use Rattle.iim_fields.specs.Format.Alive.{SectionsLive, SectionsLiveAt}
-use Rattle.iim_fields.specs.Format.Faults.{joined, kept, last_record, section_after}
-use Rattle.iim_fields.specs.Format.Records.{AreSections, AreRecords, after}
-use Rattle.iim_tables.specs.Format.Records.{IsGoodRecord, occurs}
-use Rattle.iim_tables.proofs.GoodDatasets.{occurrences_append}
-use Rattle.iim_fields.specs.Format.Bounds.{IsWithin}
-use Rattle.iim_fields.specs.declared.limits.Limits.{Limits}
-use Rattle.iim_object.specs.Format.Numbers.{ending_of, place_after_datasets, place_ended}
-use Rattle.iim_object.specs.Format.Objects.{SubfileBegun}
+use Rattle.iim_places.proofs.Words.{AllByRecursion, option_or, filter-append, same_Some, list_any-append, eqb-true, Dataset, of_record, SpellsStream}
+use Rattle.iim_places.proofs.Words.{count_octets, all_append, all_front, all_back, Head, sum_append, SectionsLive, SectionsLiveAt, kept, last_record}
+use Rattle.iim_places.proofs.Words.{section_after, AreSections, AreRecords, after, IsGoodRecord, occurs, occurrences_append, IsWithin, Limits, ending_of}
+use Rattle.iim_places.proofs.Words.{place_after_datasets, place_ended, SubfileBegun, max_subfiles, lengths_of, numbers_of, HaveSizes, IsPossible}
+use Rattle.iim_places.proofs.Words.{stated_numbers, Stated, number_at, AreWithin, ObjectLaws, OpenLaws, SizeLaws, place_at, ObjectLives, HaveRoom, CanContinue}
+use Rattle.iim_places.proofs.Words.{CanContinueAt, MayContinue, last_of_joined, NotEnded, ConfirmedAs, number, Begun, InTag, InData, Sizes, Header, IsMessage}
+use Rattle.iim_places.proofs.Words.{IsEnvelopeWithin, IsText, object_of}
+use Rattle.iim_fields.specs.Format.Faults.{joined}
 use Rattle.iim_object.specs.Format.Places as objects
-use Rattle.iim_object.specs.Format.Plans.{max_subfiles}
-use Rattle.iim_object.specs.Format.Records.{lengths_of, numbers_of, HaveSizes}
-use Rattle.iim_object.specs.States.Saved.{IsPossible, stated_numbers}
-use Rattle.iim_object.specs.Format.Sizes.{Stated, number_at}
-use Rattle.iim_places.specs.Format.Framed.{AreWithin}
-use Rattle.iim_places.specs.Laws.Lower.{ObjectLaws, OpenLaws, SizeLaws}
-use Rattle.iim_places.specs.Format.Tokens.{place_at, ObjectLives, HaveRoom, CanContinue, CanContinueAt, MayContinue}
-use Rattle.iim_fields.proofs.Sections.{last_of_joined}
 use Rattle.iim_places.proofs.Limits.{kept_append}
 use Rattle.iim_places.proofs.Plain.{numbers_join}
 use Rattle.iim_places.proofs.PlainContinues.{MayReplace, fewer_by, good_with}
 use Rattle.iim_places.proofs.PlainSizes.{duties_of, possible_like, sizes_of, possible_of, Lives, each_small}
 use Rattle.iim_places.proofs.SameRecords.{IsStated, SameNumbers, SameRecords, stated_at, stated_after_all, tens_after, AreTens, nines}
 use Rattle.iim_places.proofs.Tickets.{count_of}
-use Rattle.iim_object.specs.Format.Places.{NotEnded, ConfirmedAs}
-use Rattle.iim_dataset.specs.Format.Octets.{number}
-use Rattle.iim_dataset.specs.Format.Splits.{Begun, InTag, InData}
-use Rattle.iim_object.specs.declared.size.Sizes.{Sizes}
-use Rattle.wire_message.specs.Format.Messages.{Header, IsMessage}
-use Rattle.iim_places.specs.Format.Streams.{IsEnvelopeWithin}
-use Rattle.wire_story.specs.Format.Texts.{IsText}
-use Rattle.iim_places.specs.Format.Admitted.{object_of}
 use Rattle.iim_places.proofs.Lasts.{last_sections}
 use Rattle.iim_fields.proofs.Follows.{alive_follows}
 

@@ -1,48 +1,25 @@
 -- Possible places that keep to the first sizes were possible by them.
 use Rattle.std.proofs.Common.{◌≡◌, ℕ, zero, suc, ◌-◌, ◌^◌, ◌<◌, ◌≤◌, nat_eq, if◌then◌else◌, Bool, true, false, List, [], ◌∷◌, ◌++◌, length, drop, map, sum, Option, Some, None, refl, ap, sym, subst, ◌∙◌, inl, inr, arith, append-nil, length-append}
-use Rattle.std.specs.List.{AllByRecursion}
-use Rattle.std.specs.Option.{unwrap_or}
-use Rattle.std.proofs.lemmas.Bool.{eqb-true, cases_lt, lt-ltb, le-ltb}
-use Rattle.std.proofs.lemmas.List.{length-take}
+use Rattle.iim_places.proofs.Words.{AllByRecursion, unwrap_or, eqb-true, cases_lt, lt-ltb, le-ltb, length-take, eqb_tells, IsOctet, Dataset, SpellsCount}
+use Rattle.iim_places.proofs.Words.{SpellsTag, SpellsStream, canonical_count, canonical_tag, canonical_dataset, canonical_stream, count_octets, head_of}
+use Rattle.iim_places.proofs.Words.{of_record, written_number, all_append, all_map, IsAlive, HasSpellings, Begun, InTag, InData, IsBegun, Reads, Head, is_kept}
+use Rattle.iim_places.proofs.Words.{section_after, AreSections, tells_number, place_after_datasets, place_ended, ending_of, SubfileBegun, number_tokens}
+use Rattle.iim_places.proofs.Words.{number_dataset, subfile_datasets, ending_tokens, lengths_of, numbers_of, IsPossible, Stated, TokensWithin, LanguageWithin}
+use Rattle.iim_places.proofs.Words.{within_append, begun_within, OpenLaws, object_of, AllCanContinue, object_so_far, section, Possible, AreOpenOrWhole, IsSmall}
+use Rattle.iim_places.proofs.Words.{IsSmallPhase, IsSmallPlace, AreHeadsWithin, greatest_size_before, widest, LimitsAreToldByPlace, SmallPlacesWerePossible}
+use Rattle.iim_places.proofs.Words.{FitsRow, SectionsLiveIn, HaveRoomIn, PossibleAt, place_in, first_scale, IsPlaceOf, TagBegun, AllEnded, phase_of}
+use Rattle.iim_places.proofs.Words.{CanContinueAt, MayContinue, ObjectLives, place_at, plain_place, plain_octets, IsPlain, begun_object, Numbers, number_list}
+use Rattle.iim_places.proofs.Words.{mode_dataset, one_dataset, plain_numbers, filled, plain_end, plain, number_back}
 use Rattle.byteorder.specs.Numbers.{big_number-reads_back}
-use Rattle.std.proofs.lemmas.Bool.Decides.{eqb_tells}
-use Rattle.iim_dataset.specs.Format.Octets.{IsOctet}
-use Rattle.iim_dataset.specs.Format.Datasets.{Dataset, SpellsCount, SpellsTag, SpellsStream, canonical_count, canonical_tag, canonical_dataset, canonical_stream, count_octets, head_of, of_record, written_number}
-use Rattle.iim_dataset.proofs.Each.{all_append, all_map}
-use Rattle.iim_dataset.specs.Format.Languages.{IsAlive}
-use Rattle.iim_dataset.specs.Laws.Datasets.{HasSpellings}
-use Rattle.iim_dataset.specs.Format.Splits.{Begun, InTag, InData, IsBegun, Reads}
-use Rattle.iim_dataset.specs.declared.head.Head.{Head}
-use Rattle.iim_fields.specs.Format.Faults.{is_kept, joined, section_after}
-use Rattle.iim_fields.specs.Format.Records.{AreSections}
-use Rattle.iim_fields.specs.Format.Values.{tells_number}
-use Rattle.iim_object.specs.Format.Numbers.{place_after_datasets, place_ended, ending_of}
-use Rattle.iim_object.specs.Format.Objects.{SubfileBegun, number_tokens}
-use Rattle.iim_object.specs.Format.Packing.{number_dataset, subfile_datasets}
-use Rattle.iim_object.specs.Format.Places.{ending_tokens}
+use Rattle.iim_fields.specs.Format.Faults.{joined}
 use Rattle.iim_object.specs.Format.Places as objects
-use Rattle.iim_object.specs.Format.Records.{lengths_of, numbers_of}
-use Rattle.iim_object.specs.States.Saved.{IsPossible}
-use Rattle.iim_object.specs.Format.Sizes.{Stated}
-use Rattle.iim_object.specs.Format.Within.{TokensWithin, LanguageWithin}
 use Rattle.iim_object.specs.Laws.Within.{PlacesLiveWithin}
-use Rattle.iim_object.proofs.Bounded.{within_append, begun_within}
-use Rattle.iim_places.specs.Laws.Lower.{OpenLaws}
-use Rattle.iim_places.specs.Format.Admitted.{object_of}
-use Rattle.iim_places.specs.Format.Open.{AllCanContinue, object_so_far, section}
-use Rattle.iim_places.specs.States.Possible.{Possible, AreOpenOrWhole, IsSmall, IsSmallPhase, IsSmallPlace, AreHeadsWithin, greatest_size_before, widest}
-use Rattle.iim_places.specs.Laws.Places.{LimitsAreToldByPlace, SmallPlacesWerePossible}
-use Rattle.iim_places.specs.States.Scales.{FitsRow, SectionsLiveIn, HaveRoomIn, PossibleAt, place_in, first_scale}
-use Rattle.iim_places.specs.Format.Tickets.{Place, IsPlaceOf, TagBegun, AllEnded, phase_of}
-use Rattle.iim_places.specs.Format.Tokens.{CanContinueAt, MayContinue, ObjectLives, place_at}
-use Rattle.iim_places.specs.Plain.{plain_place, plain_octets, IsPlain, begun_object}
-use Rattle.iim_places.specs.States.PlainDatasets.{Numbers, number_list, mode_dataset, one_dataset, plain_numbers, filled, plain_end, plain}
+use Rattle.iim_places.specs.Format.Tickets.{Place}
 use Rattle.iim_places.proofs.Answering.{one_reading, reads_envelope}
 use Rattle.iim_places.proofs.Bounds.{is_one}
 use Rattle.iim_places.proofs.Following.{within_of}
 use Rattle.iim_places.proofs.Lasts.{last_sections}
 use Rattle.iim_places.proofs.LeadsByLayers.{few_heads, few_with_head}
-use Rattle.iim_dataset.proofs.WrittenNumbers.{number_back}
 use Rattle.iim_places.proofs.Plain.{Tell, all_stated, are_told, one_stated, plain_led, plain_spelled, plain_told, taken_told}
 use Rattle.iim_places.proofs.PlainOpens.{plain_open}
 use Rattle.iim_places.proofs.SameRecords.{IsStated, stated_after_all, stated_at}
