@@ -1,12 +1,6 @@
 -- At a possible place each layer alone can be.
 use Rattle.std.proofs.Common.{◌≡◌, ℕ, zero, suc, ◌+◌, ◌-◌, ◌<◌, ◌≤◌, nat_eq, cond, if◌then◌else◌, Bool, true, false, List, [], ◌∷◌, ◌++◌, length, map, Some, None, refl, ap, sym, subst, ◌∙◌, inl, inr, arith, append-nil, length-append}
-use Rattle.iim_places.proofs.Words.{eqb-true, eqb_tells, Octets, Dataset, count_octets, of_record, Begun, InTag, InData, Reads, Head, sum_append, SectionsLive}
-use Rattle.iim_places.proofs.Words.{SectionsLiveAt, kept, section_after, Limits, place_after_datasets, place_ended, ending_of, ObjectEnded, SubfileBegun}
-use Rattle.iim_places.proofs.Words.{NotEnded, ConfirmedAs, place_after, max_subfiles, lengths_of, numbers_of, IsPossible, stated_numbers, Octet, End}
-use Rattle.iim_places.proofs.Words.{MessageLanguage, MessagesEndAfterEot, LeadsToSaved, MessagePlace, object_of, LeadsByLayers, TagsLead, RecordsLive}
-use Rattle.iim_places.proofs.Words.{ObjectLeads, MessageLeads, record_datasets, begun_subfiles, begun_of_object, object_after, one_of_some, are_ended}
-use Rattle.iim_places.proofs.Words.{object_so_far, section, AllCanContinue, plain, Possible, widest, Phase, TagBegun, AllEnded, phase_of, place_of, ObjectLives}
-use Rattle.iim_places.proofs.Words.{CanContinueAt, MayContinue, ByLayersLaws, OpenLaws}
+use Rattle.iim_places.proofs.Words.{eqb-true, eqb_tells, Octets, Dataset, count_octets, of_record, Begun, InTag, InData, Reads, Head, sum_append, SectionsLive, SectionsLiveAt, kept, section_after, Limits, place_after_datasets, place_ended, ending_of, ObjectEnded, SubfileBegun, NotEnded, ConfirmedAs, place_after, max_subfiles, lengths_of, numbers_of, IsPossible, stated_numbers, Octet, End, MessageLanguage, MessagesEndAfterEot, LeadsToSaved, MessagePlace, object_of, LeadsByLayers, TagsLead, RecordsLive, ObjectLeads, MessageLeads, record_datasets, begun_subfiles, begun_of_object, object_after, one_of_some, are_ended, object_so_far, section, AllCanContinue, plain, Possible, widest, Phase, TagBegun, AllEnded, phase_of, place_of, ObjectLives, CanContinueAt, MayContinue, ByLayersLaws, OpenLaws}
 use Rattle.iim_dataset.specs.Format.Languages as languages
 use Rattle.iim_object.specs.Format.Places as objects
 use Rattle.iim_object.specs.States.Saved.{IsAt}
@@ -24,6 +18,7 @@ use Rattle.iim_places.proofs.SameRecords.{IsStated, nines, stated_after_all, sta
 use Rattle.iim_places.proofs.Tickets.{total_of, count_of, sum_one}
 use Rattle.iim_places.proofs.PlainSizes.{possible_of}
 use Rattle.iim_places.proofs.Twins.{alive_at_as}
+use Rattle.iim_places.specs.Format.Tokens.{place_at}
 
 -- ---- the dataset layer
 
@@ -194,47 +189,50 @@ few_with_head limits ds h goes eight =
     let room = goes.room.subfiles (eqb-true h.rec 8 eight) in
     omega (arith, count, one, room)
 
-object_data : OpenLaws → (ds : List Dataset) (h : Head) (taken : List ℕ) (m : MessagePlace) → MayContinue widest ds (InData h taken) → length taken < h.count → ObjectLeads (place_of ds (InData h taken) m)
-object_data laws ds h taken m goes less = by (nat_eq h.rec 8) (nat_eq h.rec 9) refl refl
+-- in data there is a place that the numbers tell, and with what came last it is that of the datasets and the head
+pub led_at : OpenLaws → (limits : Limits) (ds : List Dataset) (h : Head) (taken : List ℕ) → CanContinueAt limits ds h
+    → ending_of (of_record 9 ds) ≡ NotEnded → length taken < h.count
+    → (p : objects.Place)
+    × IsAt (stated_numbers (numbers_of (of_record 7 ds))) (length (object_of ds ++ (if nat_eq h.rec 8 then taken else [])))
+    (if nat_eq h.rec 8 then Some (h.count, h.count - length taken) else None) (length (of_record 8 ds) + (if nat_eq h.rec 8 then 1 else 0)) p
+    × IsPossible (place_at ds h) × ((if nat_eq h.rec 9 then place_after p ObjectEnded else p) ≡ place_at ds h)
+led_at laws limits ds h taken goes open' less = by (nat_eq h.rec 8) (nat_eq h.rec 9) refl refl
     (stated_at laws.answer.follow.objects ds h goes.records goes.within.subfiles goes.room.subfiles) goes.object
   where
-    alive : SectionsLive ds
-    alive = alive_of widest ds (InData h taken) goes
-
-    open' : ending_of (of_record 9 ds) ≡ NotEnded
-    open' = elim (eqb_tells (section_after ds) 9) [
-      | inl nine ↦ absurd (not_all laws.answer.follow.sections ds h goes.records (last_sections laws.answer.follow.ends ds alive nine.1))
-      | inr other ↦ nine_ended laws ds alive other.0
-    ]
-
     at : Bool → Bool → objects.Place
     at b c = if b then place_after (place_after_datasets ds) (SubfileBegun h.count) else if c then place_ended ds else place_after_datasets ds
 
     Leads : Bool → Bool → Type 0
     Leads b c =
         (p : objects.Place)
-        × IsAt (stated_numbers (numbers_of (of_record 7 ds))) (length (object_of ds ++ (if b then taken else []))) (if b then Some (h.count, h.count - length taken) else None) (length (of_record 8 ds) + (if b then 1 else 0)) p
-        × IsPossible (if c then place_after p ObjectEnded else p)
+        × IsAt (stated_numbers (numbers_of (of_record 7 ds))) (length (object_of ds ++ (if b then taken else [])))
+        (if b then Some (h.count, h.count - length taken) else None) (length (of_record 8 ds) + (if b then 1 else 0)) p
+        × IsPossible (at b c) × ((if c then place_after p ObjectEnded else p) ≡ at b c)
+
+    whole : IsAt (stated_numbers (numbers_of (of_record 7 ds))) (length (object_of ds ++ [])) None (length (of_record 8 ds) + 0) (opened ds)
+    whole = whole_at ds (length (object_of ds ++ [])) (length (of_record 8 ds) + 0) (ap length (append-nil (object_of ds))) (omega arith)
 
     by : (b c : Bool) → nat_eq h.rec 8 ≡ b → nat_eq h.rec 9 ≡ c → IsStated (at b c) → ObjectLives (at b c) → Leads b c
     by true true eight nine stated lives = absurd (let e = eqb-true h.rec 8 eight in let f = eqb-true h.rec 9 nine in omega (arith, e, f))
     by true false eight nine stated lives = (
       place_after (opened ds) (SubfileBegun h.count),
       subfile_at ds h taken less,
-      subst (λ (e : objects.Ending). IsPossible (place_after (record (place_after_datasets ds) { ending = e }) (SubfileBegun h.count))) open'
-          (possible_of (place_after (place_after_datasets ds) (SubfileBegun h.count)) stated (few_with_head widest ds h goes eight) lives),
+      possible_of (place_after (place_after_datasets ds) (SubfileBegun h.count)) stated (few_with_head limits ds h goes eight) lives,
+      ap (λ (p : objects.Place). place_after p (SubfileBegun h.count)) (opened_at ds open'),
     )
-    by false true eight nine stated lives =
-        (opened ds, whole_at ds (length (object_of ds ++ [])) (length (of_record 8 ds) + 0) (ap length (append-nil (object_of ds))) (omega arith), possible_of (place_ended ds) stated (few_heads widest ds h goes) lives)
-    by false false eight nine stated lives = (
-      opened ds,
-      whole_at ds (length (object_of ds ++ [])) (length (of_record 8 ds) + 0) (ap length (append-nil (object_of ds))) (omega arith),
-      subst (λ (e : objects.Ending). IsPossible (record (place_after_datasets ds) { ending = e })) open' (possible_of (place_after_datasets ds) stated (few_heads widest ds h goes) lives),
-    )
+    by false true eight nine stated lives = (opened ds, whole, possible_of (place_ended ds) stated (few_heads limits ds h goes) lives, refl)
+    by false false eight nine stated lives =
+        (opened ds, whole, possible_of (place_after_datasets ds) stated (few_heads limits ds h goes) lives, opened_at ds open')
 
 object_leads : OpenLaws → (octets : List ℕ) (ds : List Dataset) (b : Begun) (m : MessagePlace) → Reads count_octets octets ds b → MayContinue widest ds b → ObjectLeads (place_of ds b m)
 object_leads laws octets ds (InTag held) m reads goes = object_tag laws ds held m goes
-object_leads laws octets ds (InData h taken) m reads goes = object_data laws ds h taken m goes reads.is_rest.2
+object_leads laws octets ds (InData h taken) m reads goes =
+    let alive = alive_of widest ds (InData h taken) goes in
+    let open' : ending_of (of_record 9 ds) ≡ NotEnded = elim (eqb_tells (section_after ds) 9) [
+      | inl nine ↦ absurd (not_all laws.answer.follow.sections ds h goes.records (last_sections laws.answer.follow.ends ds alive nine.1))
+      | inr other ↦ nine_ended laws ds alive other.0
+    ] in
+    let (p, at, possible, is) = led_at laws widest ds h taken goes open' reads.is_rest.2 in (p, at, subst IsPossible (sym is) possible)
 
 -- ---- the message
 

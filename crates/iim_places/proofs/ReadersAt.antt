@@ -1,12 +1,6 @@
 -- Readers of a possible place stand where octets lead there.
-use Rattle.std.proofs.Common.{◌≡◌, ℕ, ◌+◌, ◌-◌, ◌<◌, ◌≤◌, nat_eq, if◌then◌else◌, Bool, true, false, List, [], ◌∷◌, ◌++◌, length, Option, Some, None, refl, ap, sym, subst, ◌∙◌, inl, inr, arith, append-nil}
-use Rattle.iim_places.proofs.Words.{AllByRecursion, eqb-true, eqb_tells, Dataset, of_record, count_octets, Begun, InTag, InData, Reads, IsKeptAs, between, Head}
-use Rattle.iim_places.proofs.Words.{DatasetPlace, SectionsLive, is_kept, kept, section_after, Limits, head_alive, place_after_datasets, place_ended, ending_of}
-use Rattle.iim_places.proofs.Words.{ObjectEnded, Confirmed, SubfileBegun, NotEnded, place_after, max_subfiles, lengths_of, numbers_of, IsPossible}
-use Rattle.iim_places.proofs.Words.{stated_numbers, State, AreLines, text_so_far, Header, IsMessage, LeadsToSaved, saved, MessagePlace, object_of, IsSize}
-use Rattle.iim_places.proofs.Words.{RecordsLive, begun_of_object, object_after, one_of_some, are_ended, begun_subfiles, ByLayersLaws, PlaceLaws, FeedLaws}
-use Rattle.iim_places.proofs.Words.{section, Numbers, number_list, plain, are_some, Phase, TagBegun, AllEnded, phase_of, place_at, ObjectLives, CanContinue}
-use Rattle.iim_places.proofs.Words.{CanContinueAt}
+use Rattle.std.proofs.Common.{◌≡◌, ℕ, ◌+◌, ◌-◌, ◌<◌, ◌≤◌, nat_eq, if◌then◌else◌, Bool, true, false, List, [], ◌∷◌, ◌++◌, length, Option, Some, None, refl, ap, sym, subst, ◌∙◌, inl, inr, arith}
+use Rattle.iim_places.proofs.Words.{AllByRecursion, eqb-true, eqb_tells, Dataset, of_record, count_octets, Begun, InTag, InData, Reads, IsKeptAs, between, Head, DatasetPlace, SectionsLive, is_kept, kept, section_after, Limits, head_alive, place_after_datasets, ObjectEnded, Confirmed, NotEnded, place_after, max_subfiles, lengths_of, numbers_of, IsPossible, stated_numbers, State, AreLines, text_so_far, Header, IsMessage, LeadsToSaved, saved, MessagePlace, object_of, IsSize, RecordsLive, begun_of_object, object_after, one_of_some, are_ended, begun_subfiles, ByLayersLaws, PlaceLaws, FeedLaws, section, Numbers, number_list, plain, are_some, Phase, TagBegun, AllEnded, phase_of, place_at, CanContinue, CanContinueAt}
 use Rattle.iim_fields.specs.States.Standing as records
 use Rattle.iim_object.specs.Format.Places as objects
 use Rattle.iim_object.specs.States.Reading as reading
@@ -19,11 +13,10 @@ use Rattle.wire_message.specs.declared.saved.MessagePart.TheVariants as part
 use Rattle.iim_places.specs.States.Readers.{RecordsStand, MessageStands, has_come, tag_place}
 use Rattle.iim_places.specs.Format.Tickets.{Place}
 use Rattle.iim_places.proofs.LayersLead.{less_none}
-use Rattle.iim_places.proofs.LeadsByLayers.{whole_at, subfile_at, opened_at, confirmed_at, few_heads, few_with_head, nine_ended, one_same, few_subfiles}
+use Rattle.iim_places.proofs.LeadsByLayers.{opened_at, confirmed_at, nine_ended, one_same, few_subfiles, led_at}
 use Rattle.iim_places.proofs.PlainOpens.{fit_in_rows}
 use Rattle.iim_places.proofs.SamePlace.{has_begun, none_present}
-use Rattle.iim_places.proofs.SameRecords.{IsStated, SameRecords, same_shape, stated_after_all, stated_at}
-use Rattle.iim_places.proofs.PlainSizes.{possible_of}
+use Rattle.iim_places.proofs.SameRecords.{SameRecords, same_shape, stated_after_all}
 use Rattle.iim_places.proofs.Plain.{Fits, plain_told, present_ended}
 use Rattle.iim_places.proofs.PlainContinues.{numbers_same}
 
@@ -134,31 +127,10 @@ pub object_data : RestoreLaws → (limits : Limits) (reader : Option State) (ds 
     → ((p : objects.Place) → IsAt (stated_numbers (numbers_of (of_record 7 ds))) (length (object_of ds ++ (if nat_eq h.rec 8 then xs else []))) (if nat_eq h.rec 8 then Some (h.count, h.count - length xs) else None)
     (length (of_record 8 ds) + (if nat_eq h.rec 8 then 1 else 0)) p → IsPossible (if nat_eq h.rec 9 then place_after p ObjectEnded else p) → reading.StandsAt reader (if nat_eq h.rec 9 then place_after p ObjectEnded else p))
     → reading.StandsAt reader (place_at ds h)
-object_data laws limits reader ds h xs goes open' less = by (nat_eq h.rec 8) (nat_eq h.rec 9) refl refl
-    (stated_at laws.layers.opens.answer.follow.objects ds h goes.records goes.within.subfiles goes.room.subfiles) goes.object
-  where
-    none : ending_of (of_record 9 ds) ≡ NotEnded
-    none = nine_ended laws.layers.opens ds (head_alive ds h goes.records) open'
-
-    at : Bool → Bool → objects.Place
-    at b c = if b then place_after (place_after_datasets ds) (SubfileBegun h.count) else if c then place_ended ds else place_after_datasets ds
-
-    by : (b c : Bool) → nat_eq h.rec 8 ≡ b → nat_eq h.rec 9 ≡ c → IsStated (at b c) → ObjectLives (at b c)
-        → ((p : objects.Place) → IsAt (stated_numbers (numbers_of (of_record 7 ds))) (length (object_of ds ++ (if b then xs else []))) (if b then Some (h.count, h.count - length xs) else None) (length (of_record 8 ds) + (if b then 1 else 0)) p
-        → IsPossible (if c then place_after p ObjectEnded else p) → reading.StandsAt reader (if c then place_after p ObjectEnded else p))
-        → reading.StandsAt reader (at b c)
-    by true true eight nine stated lives stands = absurd (let e = eqb-true h.rec 8 eight in let f = eqb-true h.rec 9 nine in omega (arith, e, f))
-    by true false eight nine stated lives stands =
-        let is : place_after (record (place_after_datasets ds) { ending = NotEnded }) (SubfileBegun h.count) ≡ place_after (place_after_datasets ds) (SubfileBegun h.count) = ap (λ (p : objects.Place). place_after p (SubfileBegun h.count)) (opened_at ds none) in
-        subst (reading.StandsAt reader) is
-        (stands (place_after (record (place_after_datasets ds) { ending = NotEnded }) (SubfileBegun h.count)) (subfile_at ds h xs less)
-        (subst IsPossible (sym is) (possible_of (place_after (place_after_datasets ds) (SubfileBegun h.count)) stated (few_with_head limits ds h goes eight) lives)))
-    by false true eight nine stated lives stands =
-        stands (record (place_after_datasets ds) { ending = NotEnded }) (whole_at ds (length (object_of ds ++ [])) (length (of_record 8 ds) + 0) (ap length (append-nil (object_of ds))) (omega arith)) (possible_of (place_ended ds) stated (few_heads limits ds h goes) lives)
-    by false false eight nine stated lives stands =
-        subst (reading.StandsAt reader) (opened_at ds none)
-        (stands (record (place_after_datasets ds) { ending = NotEnded }) (whole_at ds (length (object_of ds ++ [])) (length (of_record 8 ds) + 0) (ap length (append-nil (object_of ds))) (omega arith))
-        (subst IsPossible (sym (opened_at ds none)) (possible_of (place_after_datasets ds) stated (few_heads limits ds h goes) lives)))
+object_data laws limits reader ds h xs goes open' less stands =
+    let none = nine_ended laws.layers.opens ds (head_alive ds h goes.records) open' in
+    let (p, at, possible, is) = led_at laws.layers.opens limits ds h xs goes none less in
+    subst (reading.StandsAt reader) is (stands p at (subst IsPossible (sym is) possible))
 
 -- ---- the reader of tags
 

@@ -1,13 +1,6 @@
 -- After octets of one place the same octet is refused, for the same fault.
 use Rattle.std.proofs.Common.{◌≡◌, ℕ, ◌+◌, ◌≤◌, ◌&&◌, ◌||◌, ◌⊎◌, not, nat_lt, nat_eq, if◌then◌else◌, Bool, true, false, List, [], ◌∷◌, ◌++◌, length, sum, Option, Some, None, refl, ap, sym, subst, ◌∙◌, inl, inr}
-use Rattle.iim_places.proofs.Words.{ne_eqb, option_or, option_map, Octets, number, Dataset, head_of, of_record, count_octets, Begun, InTag, InData, Reads, Head}
-use Rattle.iim_places.proofs.Words.{sum_append, SectionsLive, SectionsLiveAt, head_fault, kept, section_after, room_fault, value_fault, occurs, data_of}
-use Rattle.iim_places.proofs.Words.{tells_number, Limits, place_after_datasets, place_ended, cause_at, confirmed_cause, end_cause, number_cause, subfile_cause}
-use Rattle.iim_places.proofs.Words.{Confirmed, NumberRead, ObjectEnded, ObjectToken, SubfileBegun, head_token, place_after, value_token, max_subfiles}
-use Rattle.iim_places.proofs.Words.{SizeCause, MessageDiesAt, HasCause, End, object_of, PlacesRefuseAlike, AllCanContinue, IsUnfinished, object_so_far}
-use Rattle.iim_places.proofs.Words.{RefusesByTests, of_field, size_on, too_many_on, message_on, RefusedOctetsWereOpen, OpenOctetsBeginWithNoEnvelope}
-use Rattle.iim_places.proofs.Words.{DiesAtHead, DiesAtValue, CanContinueAt, IsRefusedHead, IsRefusedValue, fault_at_head, fault_at_value, place_at, TokenFault}
-use Rattle.iim_places.proofs.Words.{Layer, OnwardLaws}
+use Rattle.iim_places.proofs.Words.{ne_eqb, option_or, option_map, Octets, number, Dataset, head_of, of_record, count_octets, Begun, InTag, InData, Reads, Head, sum_append, SectionsLive, SectionsLiveAt, head_fault, kept, section_after, room_fault, value_fault, occurs, data_of, tells_number, Limits, place_after_datasets, place_ended, cause_at, confirmed_cause, end_cause, number_cause, subfile_cause, Confirmed, NumberRead, ObjectEnded, ObjectToken, SubfileBegun, head_token, place_after, value_token, max_subfiles, SizeCause, MessageDiesAt, HasCause, End, object_of, PlacesRefuseAlike, AllCanContinue, IsUnfinished, object_so_far, RefusesByTests, of_field, size_on, too_many_on, message_on, RefusedOctetsWereOpen, OpenOctetsBeginWithNoEnvelope, DiesAtHead, DiesAtValue, CanContinueAt, IsRefusedHead, IsRefusedValue, fault_at_head, fault_at_value, place_at, TokenFault, Layer, OnwardLaws}
 use Rattle.iim_dataset.specs.Format.Datasets.{of_record as of_fields}
 use Rattle.iim_fields.specs.Format.Faults.{joined}
 use Rattle.iim_object.specs.Format.Places.{Place}
@@ -21,8 +14,7 @@ use Rattle.iim_places.proofs.Onward.{Pair, ReadAlike, all_as, given_as, head_is,
 use Rattle.iim_places.proofs.SamePlace.{SameMessage, value_as}
 use Rattle.iim_places.proofs.SameRecords.{SameNumbers}
 use Rattle.iim_places.proofs.Taking.{good_at}
-use Rattle.iim_places.proofs.Tickets.{count_of}
-use Rattle.iim_places.proofs.Twins.{Twins, at_as, after_as, eights, numbers_on, room_as, same_tail, twins_on, may_as, alive_at_as, flip, few_as, bounded_after}
+use Rattle.iim_places.proofs.Twins.{Twins, at_as, after_as, eights, numbers_on, room_as, same_tail, twins_on, may_as, alive_at_as, flip, few_as, bounded_after, heads_of}
 
 -- ---- the first fault of a head
 
@@ -33,9 +25,6 @@ cause_as p q same total (NumberRead set n) =
 cause_as p q same total (SubfileBegun count) = λ i. subfile_cause (same.mode i) (same.largest i) (same.announced i) (same.maximum i) (total i) count
 cause_as p q same total ObjectEnded = λ i. end_cause (same.announced i) (total i)
 cause_as p q same total (Confirmed n) = λ i. confirmed_cause (total i) n
-
-heads_of_twins : (ds es : List Dataset) → Twins ds es → length (of_record 8 ds) ≡ length (of_record 8 es)
-heads_of_twins ds es twins = sym (count_of (of_record 8 ds)) ∙ twins.heads ∙ count_of (of_record 8 es)
 
 -- the first fault by what it is told by
 fault_told : Limits → Head → ℕ → (ℕ → Bool) → List Dataset → ℕ → Option SizeCause → Option TokenFault
@@ -51,7 +40,7 @@ head_fault_as limits ds es h present twins =
     let right : fault_at_head limits es h ≡ fault_told limits h (section_after es) (λ n. occurs n (of_fields (section_after es) es)) (kept es) (length (of_record 8 es)) (cause_at (place_after_datasets es) (head_token h.rec h.count)) = refl in
     let seen : (n : ℕ) → occurs n (of_fields (section_after ds) ds) ≡ occurs n (of_fields (section_after es) es) =
     λ n. twins.seen.seen (section_after ds) n ∙ ap (λ (r : ℕ). occurs n (of_fields r es)) present in
-    let heads = heads_of_twins ds es twins in
+    let heads = heads_of ds es twins in
     let cause = cause_as (place_after_datasets ds) (place_after_datasets es) twins.numbers twins.octets (head_token h.rec h.count) in
     left ∙ (λ i. fault_told limits h (present i) (λ n. seen n i) (twins.fields i) (heads i) (cause i)) ∙ sym right
 
@@ -73,7 +62,7 @@ head_dies_as laws limits ds es h b layers.Limits dies = (lives_at ds es h b dies
 head_dies_as laws limits ds es h b layers.Object dies =
     let alive = lives_at ds es h b dies.0 in
     let room = room_as limits ds es h b.twins dies.1 in
-    let few = few_as ds es max_subfiles b.twins b.few in
+    let few = few_as ds es b.twins b.few in
     (alive, room, (λ lives. dies.2 (at_as laws.opens es ds h alive dies.0 few room.subfiles (flip ds es b.twins) lives)))
 head_dies_as laws limits ds es h b rest dies = absurd dies
 

@@ -1,12 +1,6 @@
 -- Datasets that tell the same, and what follows them.
 use Rattle.std.proofs.Common.{◌≡◌, ℕ, ◌+◌, ◌<◌, ◌≤◌, ◌||◌, ◌⊎◌, Bool, true, false, cond, nat_eq, if◌then◌else◌, List, [], ◌∷◌, ◌++◌, length, sum, Option, Some, refl, ap, sym, subst, ◌∙◌, inl, inr, arith, append-nil, length-append, None, append_assoc}
-use Rattle.iim_places.proofs.Words.{AllByRecursion, option_or, filter-append, same_Some, list_any-append, eqb-true, Dataset, of_record, SpellsStream}
-use Rattle.iim_places.proofs.Words.{count_octets, all_append, all_front, all_back, Head, sum_append, SectionsLive, SectionsLiveAt, kept, last_record}
-use Rattle.iim_places.proofs.Words.{section_after, AreSections, AreRecords, after, IsGoodRecord, occurs, occurrences_append, IsWithin, Limits, ending_of}
-use Rattle.iim_places.proofs.Words.{place_after_datasets, place_ended, SubfileBegun, max_subfiles, lengths_of, numbers_of, HaveSizes, IsPossible}
-use Rattle.iim_places.proofs.Words.{stated_numbers, Stated, number_at, AreWithin, ObjectLaws, OpenLaws, SizeLaws, place_at, ObjectLives, HaveRoom, CanContinue}
-use Rattle.iim_places.proofs.Words.{CanContinueAt, MayContinue, last_of_joined, NotEnded, ConfirmedAs, number, Begun, InTag, InData, Sizes, Header, IsMessage}
-use Rattle.iim_places.proofs.Words.{IsEnvelopeWithin, IsText, object_of}
+use Rattle.iim_places.proofs.Words.{AllByRecursion, option_or, filter-append, same_Some, list_any-append, eqb-true, Dataset, of_record, SpellsStream, count_octets, all_append, all_front, all_back, Head, sum_append, SectionsLive, SectionsLiveAt, kept, last_record, section_after, AreSections, AreRecords, after, IsGoodRecord, occurs, occurrences_append, IsWithin, Limits, ending_of, place_after_datasets, place_ended, SubfileBegun, max_subfiles, lengths_of, numbers_of, HaveSizes, IsPossible, stated_numbers, Stated, number_at, AreWithin, OpenLaws, SizeLaws, place_at, ObjectLives, HaveRoom, CanContinue, CanContinueAt, MayContinue, last_of_joined, NotEnded, ConfirmedAs, number, Begun, InTag, InData, Sizes, Header, IsMessage, IsEnvelopeWithin, IsText, object_of}
 use Rattle.iim_fields.specs.Format.Faults.{joined}
 use Rattle.iim_object.specs.Format.Places as objects
 use Rattle.iim_places.proofs.Limits.{kept_append}
@@ -153,6 +147,15 @@ pub record Twins (ds es : List Dataset) : Type 0 where
   pub here : AreBounded (sevens ds) (eights ds)
   pub bounded : AreBounded (sevens es) (eights es)
 
+pub heads_of : (ds es : List Dataset) → Twins ds es → length (of_record 8 ds) ≡ length (of_record 8 es)
+heads_of ds es twins = sym (count_of (of_record 8 ds)) ∙ twins.heads ∙ count_of (of_record 8 es)
+
+pub few_as : (ds es : List Dataset) → Twins ds es → length (of_record 8 ds) ≤ max_subfiles → length (of_record 8 es) ≤ max_subfiles
+few_as ds es twins few = subst (λ (n : ℕ). n ≤ max_subfiles) (heads_of ds es twins) few
+
+less_as : (ds es : List Dataset) → Twins ds es → length (of_record 8 ds) < max_subfiles → length (of_record 8 es) < max_subfiles
+less_as ds es twins less = subst (λ (n : ℕ). n < max_subfiles) (heads_of ds es twins) less
+
 pub flip : (ds es : List Dataset) → Twins ds es → Twins es ds
 flip ds es twins = record {
   fields = sym twins.fields;
@@ -232,10 +235,8 @@ pub after_as : OpenLaws → (ds es : List Dataset) → SectionsLive ds → Secti
 after_as laws ds es alive there few twins lives =
     let objects = laws.answer.follow.objects in
     let count = count_of (of_record 8 ds) in
-    let count' = count_of (of_record 8 es) in
-    let heads = twins.heads in
-    place_as laws.sizes (place_after_datasets ds) (place_after_datasets es) (stated_after_all objects ds alive few) (omega (arith, count, few)) (stated_after_all objects es there (omega (arith, few, heads, count, count')))
-    twins.numbers twins.heads twins.octets twins.bounded twins.ending lives
+    place_as laws.sizes (place_after_datasets ds) (place_after_datasets es) (stated_after_all objects ds alive few) (omega (arith, count, few))
+    (stated_after_all objects es there (few_as ds es twins few)) twins.numbers twins.heads twins.octets twins.bounded twins.ending lives
 
 nil_bounded : (ps : List Stated) (ls : List ℕ) → AreBounded (ps ++ []) ls → AreBounded ps ls
 nil_bounded ps ls bounded = subst (λ (qs : List Stated). AreBounded qs ls) (append-nil ps) bounded
@@ -246,19 +247,11 @@ one_more ls n most less = let more = length-append ls (n ∷ []) in omega (arith
 pub at_as : OpenLaws → (ds es : List Dataset) (h : Head) → SectionsLiveAt ds h → SectionsLiveAt es h → length (of_record 8 ds) ≤ max_subfiles → (h.rec ≡ 8 → length (of_record 8 ds) < max_subfiles) → Twins ds es
     → ObjectLives (place_at ds h) → ObjectLives (place_at es h)
 at_as laws ds es h alive there few room twins =
-    by (nat_eq h.rec 8) (nat_eq h.rec 9) refl (stated_at layer ds h alive few room) (stated_at layer es h there (omega (arith, few, heads, count, count')) (λ eight. let less = room eight in omega (arith, less, heads, count, count')))
+    by (nat_eq h.rec 8) (nat_eq h.rec 9) refl (stated_at laws.answer.follow.objects ds h alive few room)
+    (stated_at laws.answer.follow.objects es h there (few_as ds es twins few) (λ eight. less_as ds es twins (room eight)))
   where
-    layer : ObjectLaws
-    layer = laws.answer.follow.objects
-
-    heads : length (eights ds) ≡ length (eights es)
-    heads = twins.heads
-
     count : length (eights ds) ≡ length (of_record 8 ds)
     count = count_of (of_record 8 ds)
-
-    count' : length (eights es) ≡ length (of_record 8 es)
-    count' = count_of (of_record 8 es)
 
     at : Bool → Bool → List Dataset → objects.Place
     at b c xs = if b then objects.place_after (place_after_datasets xs) (SubfileBegun h.count) else if c then place_ended xs else place_after_datasets xs
@@ -281,30 +274,16 @@ at_as laws ds es h alive there few room twins =
 
 -- ---- every layer but the message
 
-pub few_as : (ds es : List Dataset) (most : ℕ) → Twins ds es → length (of_record 8 ds) ≤ most → length (of_record 8 es) ≤ most
-few_as ds es most twins few =
-    let count = count_of (of_record 8 ds) in
-    let count' = count_of (of_record 8 es) in
-    let heads = twins.heads in
-    omega (arith, few, heads, count, count')
-
-less_as : (ds es : List Dataset) (most : ℕ) → Twins ds es → length (of_record 8 ds) < most → length (of_record 8 es) < most
-less_as ds es most twins less =
-    let count = count_of (of_record 8 ds) in
-    let count' = count_of (of_record 8 es) in
-    let heads = twins.heads in
-    omega (arith, less, heads, count, count')
-
 within_as : (limits : Limits) (ds es : List Dataset) → Twins ds es → AreWithin limits ds → AreWithin limits es
 within_as limits ds es twins within = record {
   kept = subst (λ (ks : List Dataset). IsWithin limits (length (joined ks)) (length ks)) twins.fields within.kept;
-  subfiles = few_as ds es max_subfiles twins within.subfiles;
+  subfiles = few_as ds es twins within.subfiles;
 }
 
 pub room_as : (limits : Limits) (ds es : List Dataset) (h : Head) → Twins ds es → HaveRoom limits ds h → HaveRoom limits es h
 room_as limits ds es h twins room = record {
   kept = λ is. subst (λ (ks : List Dataset). IsWithin limits (length (joined ks) + h.count) (length ks + 1)) twins.fields (room.kept is);
-  subfiles = λ eight. less_as ds es max_subfiles twins (room.subfiles eight);
+  subfiles = λ eight. less_as ds es twins (room.subfiles eight);
 }
 
 pub goes_as : OpenLaws → (limits : Limits) (ds es : List Dataset) → SectionsLive es → Twins ds es → CanContinue limits ds → CanContinue limits es
