@@ -1,10 +1,6 @@
 -- Octets that lead to one place continue alike.
 use Rattle.std.proofs.Common.{◌≡◌, ℕ, ◌+◌, nat_eq, cond, if◌then◌else◌, Bool, true, false, List, [], ◌∷◌, ◌++◌, length, Some, refl, ap, sym, subst, ◌∙◌, inl, inr, arith, append_assoc, append-nil}
-use Rattle.iim_places.proofs.Words.{append_cancel_left, Dataset, SpellsStream, count_octets, of_record, Begun, InTag, InData, Reads, Head, SectionsLive}
-use Rattle.iim_places.proofs.Words.{SectionsLiveAt, kept, section_after, AreSections, Limits, ending_of, HaveSizes, mode_number, Sizes, text_so_far}
-use Rattle.iim_places.proofs.Words.{LeadsToSaved, MessagePlace, Value, Admits, object_of, are_ended, AreAlike, ContinueAlike, PlacesContinueAlike}
-use Rattle.iim_places.proofs.Words.{NoAdmittedOctetsBeginOthers, AllCanContinue, object_so_far, Delivers, IsOpen, IsTextOf, IsEnvelopeWithin, CanContinue}
-use Rattle.iim_places.proofs.Words.{TagBegun, AllEnded, IsPlaceOf, heads_of, phase_of, place_of, OpenOctetsBeginWithNoEnvelope, OnwardLaws}
+use Rattle.iim_places.proofs.Words.{append_cancel_left, Dataset, SpellsStream, count_octets, of_record, Begun, InTag, InData, Reads, Head, SectionsLive, SectionsLiveAt, kept, section_after, AreSections, Limits, ending_of, HaveSizes, mode_number, Sizes, text_so_far, LeadsToSaved, MessagePlace, Value, Admits, object_of, are_ended, AreAlike, ContinueAlike, PlacesContinueAlike, NoAdmittedOctetsBeginOthers, AllCanContinue, object_so_far, Delivers, IsOpen, IsTextOf, IsEnvelopeWithin, CanContinue, TagBegun, AllEnded, IsPlaceOf, heads_of, phase_of, place_of, OpenOctetsBeginWithNoEnvelope, OnwardLaws, nil_from_length}
 use Rattle.wire_story.specs.Format.Delivery as story
 use Rattle.wire_message.specs.States.SoFar.{LeadsTo}
 use Rattle.wire_message.specs.declared.place.Place.TheVariants as at_message
@@ -20,12 +16,8 @@ use Rattle.iim_places.proofs.Twins.{Twins, sevens, enveloped}
 
 -- ---- where both stand
 
-none_left : (xs : List Dataset) → length xs ≡ 0 → xs ≡ []
-none_left [] e = refl
-none_left (x ∷ xs) e = absurd (omega (arith, e))
-
 no_nine : OnwardLaws → (ds : List Dataset) → SectionsLive ds → nat_eq (section_after ds) 9 ≡ false → of_record 9 ds ≡ []
-no_nine laws ds alive open' = none_left (of_record 9 ds) (nines laws.opens.answer.follow ds alive ∙ ap (λ (b : Bool). cond b 1 0) open')
+no_nine laws ds alive open' = nil_from_length (of_record 9 ds) (nines laws.opens.answer.follow ds alive ∙ ap (λ (b : Bool). cond b 1 0) open')
 
 heads_as : (ds es : List Dataset) (c d : Begun) → SameBegun c d → heads_of ds c ≡ heads_of es d → length (of_record 8 ds) ≡ length (of_record 8 es)
 heads_as ds es (InTag x) (InTag y) same e = e

@@ -178,16 +178,24 @@ subfile_at ds h taken less =
       not_ended = refl;
     }
 
-pub few_heads : (limits : Limits) (ds : List Dataset) (h : Head) → CanContinueAt limits ds h → length (lengths_of (of_record 8 ds)) ≤ max_subfiles
-few_heads limits ds h goes = let count = count_of (of_record 8 ds) in let few = goes.within.subfiles in omega (arith, count, few)
+-- where every layer can continue with a head, its place is possible
+pub possible_at : OpenLaws → (limits : Limits) (ds : List Dataset) (h : Head) → CanContinueAt limits ds h → IsPossible (place_at ds h)
+possible_at laws limits ds h goes =
+    possible_of (place_at ds h) (stated_at laws.answer.follow.objects ds h goes.records goes.within.subfiles goes.room.subfiles)
+    (few (nat_eq h.rec 8) (nat_eq h.rec 9) refl) goes.object
+  where
+    ls : List ℕ
+    ls = lengths_of (of_record 8 ds)
 
-pub few_with_head : (limits : Limits) (ds : List Dataset) (h : Head) → CanContinueAt limits ds h → nat_eq h.rec 8 ≡ true
-    → length (lengths_of (of_record 8 ds) ++ h.count ∷ []) ≤ max_subfiles
-few_with_head limits ds h goes eight =
-    let count = count_of (of_record 8 ds) in
-    let one = length-append (lengths_of (of_record 8 ds)) (h.count ∷ []) in
-    let room = goes.room.subfiles (eqb-true h.rec 8 eight) in
-    omega (arith, count, one, room)
+    at : Bool → Bool → objects.Place
+    at b c = if b then place_after (place_after_datasets ds) (SubfileBegun h.count) else if c then place_ended ds else place_after_datasets ds
+
+    few : (b c : Bool) → nat_eq h.rec 8 ≡ b → length (at b c).lengths ≤ max_subfiles
+    few true c eight =
+        let one = length-append ls (h.count ∷ []) in
+        let room = goes.room.subfiles (eqb-true h.rec 8 eight) in omega (arith, count_of (of_record 8 ds), one, room)
+    few false true eight = let few = goes.within.subfiles in omega (arith, count_of (of_record 8 ds), few)
+    few false false eight = let few = goes.within.subfiles in omega (arith, count_of (of_record 8 ds), few)
 
 -- in data there is a place that the numbers tell, and with what came last it is that of the datasets and the head
 pub led_at : OpenLaws → (limits : Limits) (ds : List Dataset) (h : Head) (taken : List ℕ) → CanContinueAt limits ds h
@@ -195,9 +203,8 @@ pub led_at : OpenLaws → (limits : Limits) (ds : List Dataset) (h : Head) (take
     → (p : objects.Place)
     × IsAt (stated_numbers (numbers_of (of_record 7 ds))) (length (object_of ds ++ (if nat_eq h.rec 8 then taken else [])))
     (if nat_eq h.rec 8 then Some (h.count, h.count - length taken) else None) (length (of_record 8 ds) + (if nat_eq h.rec 8 then 1 else 0)) p
-    × IsPossible (place_at ds h) × ((if nat_eq h.rec 9 then place_after p ObjectEnded else p) ≡ place_at ds h)
+    × ((if nat_eq h.rec 9 then place_after p ObjectEnded else p) ≡ place_at ds h)
 led_at laws limits ds h taken goes open' less = by (nat_eq h.rec 8) (nat_eq h.rec 9) refl refl
-    (stated_at laws.answer.follow.objects ds h goes.records goes.within.subfiles goes.room.subfiles) goes.object
   where
     at : Bool → Bool → objects.Place
     at b c = if b then place_after (place_after_datasets ds) (SubfileBegun h.count) else if c then place_ended ds else place_after_datasets ds
@@ -207,22 +214,20 @@ led_at laws limits ds h taken goes open' less = by (nat_eq h.rec 8) (nat_eq h.re
         (p : objects.Place)
         × IsAt (stated_numbers (numbers_of (of_record 7 ds))) (length (object_of ds ++ (if b then taken else [])))
         (if b then Some (h.count, h.count - length taken) else None) (length (of_record 8 ds) + (if b then 1 else 0)) p
-        × IsPossible (at b c) × ((if c then place_after p ObjectEnded else p) ≡ at b c)
+        × ((if c then place_after p ObjectEnded else p) ≡ at b c)
 
     whole : IsAt (stated_numbers (numbers_of (of_record 7 ds))) (length (object_of ds ++ [])) None (length (of_record 8 ds) + 0) (opened ds)
     whole = whole_at ds (length (object_of ds ++ [])) (length (of_record 8 ds) + 0) (ap length (append-nil (object_of ds))) (omega arith)
 
-    by : (b c : Bool) → nat_eq h.rec 8 ≡ b → nat_eq h.rec 9 ≡ c → IsStated (at b c) → ObjectLives (at b c) → Leads b c
-    by true true eight nine stated lives = absurd (let e = eqb-true h.rec 8 eight in let f = eqb-true h.rec 9 nine in omega (arith, e, f))
-    by true false eight nine stated lives = (
+    by : (b c : Bool) → nat_eq h.rec 8 ≡ b → nat_eq h.rec 9 ≡ c → Leads b c
+    by true true eight nine = absurd (let e = eqb-true h.rec 8 eight in let f = eqb-true h.rec 9 nine in omega (arith, e, f))
+    by true false eight nine = (
       place_after (opened ds) (SubfileBegun h.count),
       subfile_at ds h taken less,
-      possible_of (place_after (place_after_datasets ds) (SubfileBegun h.count)) stated (few_with_head limits ds h goes eight) lives,
       ap (λ (p : objects.Place). place_after p (SubfileBegun h.count)) (opened_at ds open'),
     )
-    by false true eight nine stated lives = (opened ds, whole, possible_of (place_ended ds) stated (few_heads limits ds h goes) lives, refl)
-    by false false eight nine stated lives =
-        (opened ds, whole, possible_of (place_after_datasets ds) stated (few_heads limits ds h goes) lives, opened_at ds open')
+    by false true eight nine = (opened ds, whole, refl)
+    by false false eight nine = (opened ds, whole, opened_at ds open')
 
 object_leads : OpenLaws → (octets : List ℕ) (ds : List Dataset) (b : Begun) (m : MessagePlace) → Reads count_octets octets ds b → MayContinue widest ds b → ObjectLeads (place_of ds b m)
 object_leads laws octets ds (InTag held) m reads goes = object_tag laws ds held m goes
@@ -232,7 +237,7 @@ object_leads laws octets ds (InData h taken) m reads goes =
       | inl nine ↦ absurd (not_all laws.answer.follow.sections ds h goes.records (last_sections laws.answer.follow.ends ds alive nine.1))
       | inr other ↦ nine_ended laws ds alive other.0
     ] in
-    let (p, at, possible, is) = led_at laws widest ds h taken goes open' reads.is_rest.2 in (p, at, subst IsPossible (sym is) possible)
+    let (p, at, is) = led_at laws widest ds h taken goes open' reads.is_rest.2 in (p, at, subst IsPossible (sym is) (possible_at laws widest ds h goes))
 
 -- ---- the message
 

@@ -1,10 +1,6 @@
 -- Octets that lead to one place read on alike: what follows the one is read alike after the other, and every layer can continue from it.
 use Rattle.std.proofs.Common.{◌≡◌, ℕ, ◌<◌, ◌≤◌, ◌&&◌, nat_eq, cond, not, if◌then◌else◌, Bool, true, false, List, [], ◌∷◌, ◌++◌, length, map, Option, Some, None, refl, ap, sym, subst, ◌∙◌, inl, inr, arith, append_assoc, append-nil, length-append}
-use Rattle.iim_places.proofs.Words.{append_cancel_left, AllByRecursion, eqb_tells, IsOctet, Octets, greatest_size, within, Dataset, SpellsStream, SpellsTag}
-use Rattle.iim_places.proofs.Words.{head_of, count_octets, of_record, all_back, octets_append, Begun, InTag, InData, Reads, Head, SectionsLive, SectionsLiveAt}
-use Rattle.iim_places.proofs.Words.{fault_by_row, section_after, value_fault, ValuesDieWithTheirFault, AreSections, occurs, data_of, FieldFault, Limits}
-use Rattle.iim_places.proofs.Words.{last_more, max_subfiles, Octet, End, MessageLanguage, MessageLivesWith, StoryLivesIn, object_of, AreWithin, AllCanContinue}
-use Rattle.iim_places.proofs.Words.{object_so_far, section, MayContinue, OnwardLaws, compare}
+use Rattle.iim_places.proofs.Words.{append_cancel_left, AllByRecursion, eqb_tells, IsOctet, Octets, greatest_size, within, Dataset, SpellsStream, SpellsTag, head_of, count_octets, of_record, all_back, octets_append, Begun, InTag, InData, Reads, Head, SectionsLive, SectionsLiveAt, fault_by_row, section_after, value_fault, ValuesDieWithTheirFault, AreSections, occurs, data_of, FieldFault, Limits, last_more, max_subfiles, Octet, End, MessageLanguage, MessageLivesWith, StoryLivesIn, object_of, AreWithin, AllCanContinue, object_so_far, section, MayContinue, OnwardLaws, compare}
 use Rattle.iim_dataset.specs.Format.Languages as languages
 use Rattle.iim_tables.specs.Format.Rows.{table, row_of}
 use Rattle.iim_tables.specs.declared.shape.Row.{Row}

@@ -1,8 +1,6 @@
 -- The object layer lives with other numbers and lengths that tell the same.
 use Rattle.std.proofs.Common.{◌≡◌, ℕ, ◌<◌, ◌≤◌, Bool, List, [], ◌∷◌, ◌++◌, length, map, sum, Option, Some, is_some, IfSome, refl, ap, sym, subst, ◌∙◌, arith, append-nil, append_assoc, None}
-use Rattle.iim_places.proofs.Words.{AllByRecursion, IsAlive, greatest_size, some_of, SubfileBegun, ObjectLanguage, number_tokens, Ending, NotEnded, Ended}
-use Rattle.iim_places.proofs.Words.{ConfirmedAs, HasBoth, ending_tokens, Stated, AreStated, number_at, mode_number, mode_known, ObjectsArePossibleAlike}
-use Rattle.iim_places.proofs.Words.{SizeLaws, max_subfiles, ObjectLives, IsPossible, numbers_of, lengths_of, HaveSizes, Sizes, Dataset}
+use Rattle.iim_places.proofs.Words.{AllByRecursion, IsAlive, greatest_size, some_of, SubfileBegun, ObjectLanguage, number_tokens, Ending, NotEnded, Ended, ConfirmedAs, HasBoth, ending_tokens, Stated, AreStated, number_at, mode_number, mode_known, ObjectsArePossibleAlike, SizeLaws, max_subfiles, ObjectLives, IsPossible, numbers_of, lengths_of, HaveSizes, Sizes, Dataset, nil_from_length}
 use Rattle.iim_object.specs.Laws.Living.{NoClash, HasDuties, Fit, MeetsAnnounced}
 use Rattle.iim_object.specs.Format.Places as objects
 use Rattle.iim_places.proofs.PlainPlaces.{low_mode, alive_front}
@@ -84,17 +82,13 @@ lives_like laws ps qs (l ∷ ls) (k ∷ ks) e are goes same both none many total
 both_like : (ps qs : List Stated) → SameNumbers ps qs → HasBoth ps → HasBoth qs
 both_like ps qs same both = (ap is_some (sym same.mode) ∙ both.0, ap is_some (sym same.largest) ∙ both.1)
 
-none_like : (ls ks : List ℕ) → length ls ≡ length ks → ks ≡ [] → ls ≡ []
-none_like [] ks many e = refl
-none_like (l ∷ ls) ks many e = absurd (let none = ap length e in omega (arith, many, none))
-
 -- Places that tell the same are possible alike.
 pub possible_like : SizeLaws → ObjectsArePossibleAlike
 possible_like laws p q is goes same many total each end =
     let nums = same_numbers p.stated q.stated same in
     record {
       stated = goes;
-      subfiles = λ none. sym end ∙ is.subfiles (none_like p.lengths q.lengths many none);
+      subfiles = λ none. sym end ∙ is.subfiles (nil_from_length p.lengths (many ∙ ap length none));
       duties = λ some. both_like p.stated q.stated nums (is.duties (omega (arith, some, many)));
       few = let few = is.few in omega (arith, few, many);
       alive = subst (Lives q.stated q.lengths) end (lives_like laws p.stated q.stated p.lengths q.lengths p.ending is.stated goes nums is.duties is.subfiles many total each is.alive);

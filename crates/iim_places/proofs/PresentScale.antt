@@ -1,16 +1,13 @@
 -- By the present scale places are possible as they are.
 use Rattle.std.proofs.Common.{◌≡◌, ℕ, ◌≤◌, ◌&&◌, nat_le, true, List, [], ◌∷◌, ◌++◌, length, map, sym, subst, inl, inr, arith}
-use Rattle.iim_places.proofs.Words.{AllByRecursion, leb-true, and_parts, Octets, number, within, greatest_size, Dataset, of_record, all_map, IsAlive, Begun}
-use Rattle.iim_places.proofs.Words.{InTag, InData, within_most_and, Meets, IsGoodDataset, AreSections, ObjectToken, SubfileBegun, ObjectLanguage, number_tokens}
-use Rattle.iim_places.proofs.Words.{Stated, InRow, TokensWithin, LanguageWithin, row_low, within_append, begun_within, Possible, widest, FitsRow, SectionsIn}
-use Rattle.iim_places.proofs.Words.{SectionsLiveIn, PossibleAt, place_in, PresentScaleSaysNothingMore, present_scale, MayContinue}
+use Rattle.iim_places.proofs.Words.{AllByRecursion, leb-true, and_parts, Octets, number, within, greatest_size, Dataset, of_record, all_map, IsAlive, Begun, InTag, InData, within_most_and, Meets, IsGoodDataset, AreSections, ObjectToken, SubfileBegun, ObjectLanguage, number_tokens, Stated, InRow, TokensWithin, LanguageWithin, row_low, within_append, begun_within, Possible, widest, FitsRow, SectionsIn, SectionsLiveIn, PossibleAt, place_in, PresentScaleSaysNothingMore, present_scale, MayContinue}
 use Rattle.iim_tables.specs.Format.Kinds.{is_mode, is_size_from}
 use Rattle.iim_tables.specs.Format.Numbers.{size_octets}
 use Rattle.iim_tables.specs.Format.Rows.{table, row_of}
 use Rattle.iim_object.specs.Format.Places as objects
 use Rattle.iim_places.specs.Format.Tickets.{Place}
 use Rattle.iim_places.proofs.Following.{within_of}
-use Rattle.iim_places.proofs.SmallPlaces.{may_continue, rows_of}
+use Rattle.iim_places.proofs.SmallPlaces.{still}
 use Rattle.iim_places.proofs.Bounds.{low}
 use Rattle.iim_places.proofs.Fitting.{lives_in}
 use Rattle.iim_places.proofs.SizeRows.{by_seven, by_ten, eight_has, nine_has}
@@ -89,22 +86,6 @@ records_at ds (InData h taken) goes = let (d, head, alive) = goes.records in (d,
 object_at : (ds : List Dataset) (b : Begun) → MayContinue widest ds b → IsAlive (LanguageWithin greatest_size) (objects.tokens_of (place_in ds b))
 object_at ds b goes = alive_in (objects.tokens_of (place_in ds b)) (lives_in ds b goes)
 
-still : (place : Place) → PossibleAt present_scale place → Possible place
-still place p = record {
-  octets = p.octets;
-  leads = p.leads;
-  comes = elim p.comes [
-    | inl is ↦ inl (record {
-      whole = is.whole;
-      begun = is.begun;
-      reads = is.reads;
-      leads_on = record { sizes = may_continue present_scale is.whole is.begun is.records is.within is.room is.object; message = is.message; story = is.story };
-      unfinished = λ sections. is.unfinished (sections, rows_of present_scale is.whole is.begun is.records);
-    })
-    | inr is ↦ inr (is.value, record { admits = is.admits; within = is.within })
-  ];
-}
-
 was : (place : Place) → Possible place → PossibleAt present_scale place
 was place p = record {
   octets = p.octets;
@@ -134,4 +115,4 @@ was place p = record {
 }
 
 pub present_scale_says : PresentScaleSaysNothingMore
-present_scale_says place = (still place, was place)
+present_scale_says place = (still present_scale (omega arith) place, was place)

@@ -13,7 +13,7 @@ use Rattle.wire_message.specs.declared.saved.MessagePart.TheVariants as part
 use Rattle.iim_places.specs.States.Readers.{RecordsStand, MessageStands, has_come, tag_place}
 use Rattle.iim_places.specs.Format.Tickets.{Place}
 use Rattle.iim_places.proofs.LayersLead.{less_none}
-use Rattle.iim_places.proofs.LeadsByLayers.{opened_at, confirmed_at, nine_ended, one_same, few_subfiles, led_at}
+use Rattle.iim_places.proofs.LeadsByLayers.{opened_at, confirmed_at, nine_ended, one_same, few_subfiles, led_at, possible_at}
 use Rattle.iim_places.proofs.PlainOpens.{fit_in_rows}
 use Rattle.iim_places.proofs.SamePlace.{has_begun, none_present}
 use Rattle.iim_places.proofs.SameRecords.{SameRecords, same_shape, stated_after_all}
@@ -129,8 +129,8 @@ pub object_data : RestoreLaws → (limits : Limits) (reader : Option State) (ds 
     → reading.StandsAt reader (place_at ds h)
 object_data laws limits reader ds h xs goes open' less stands =
     let none = nine_ended laws.layers.opens ds (head_alive ds h goes.records) open' in
-    let (p, at, possible, is) = led_at laws.layers.opens limits ds h xs goes none less in
-    subst (reading.StandsAt reader) is (stands p at (subst IsPossible (sym is) possible))
+    let (p, at, is) = led_at laws.layers.opens limits ds h xs goes none less in
+    subst (reading.StandsAt reader) is (stands p at (subst IsPossible (sym is) (possible_at laws.layers.opens limits ds h goes)))
 
 -- ---- the reader of tags
 

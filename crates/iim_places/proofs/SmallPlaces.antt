@@ -1,11 +1,6 @@
 -- Places that were possible by the first sizes are possible, and keep to these sizes.
 use Rattle.std.proofs.Common.{◌≡◌, ℕ, ◌-◌, ◌≤◌, nat_eq, cond, if◌then◌else◌, Bool, true, false, List, [], ◌∷◌, ◌++◌, length, map, sum, Some, refl, ap, sym, subst, ◌∙◌, inl, inr, arith}
-use Rattle.iim_places.proofs.Words.{AllByRecursion, eqb-true, eq-eqb, number, Dataset, SpellsDataset, SpellsStream, count_octets, head_of, of_record, IsAlive}
-use Rattle.iim_places.proofs.Words.{Begun, InTag, InData, IsBegun, Reads, Head, all_front, all_back, section_after, tells_number, SubfileBegun, ObjectEnded}
-use Rattle.iim_places.proofs.Words.{Confirmed, number_tokens, numbers_of, stated_numbers, Stated, number_at, TokensWithin, LanguageWithin, AnswerLaws, OpenLaws}
-use Rattle.iim_places.proofs.Words.{object_of, AreWithin, IsOpen, object_so_far, section, Possible, IsSmall, IsSmallPhase, IsSmallPlace, greatest_size_before}
-use Rattle.iim_places.proofs.Words.{widest, Scale, FitsRow, SectionsLiveIn, HaveRoomIn, IsOpenIn, IsWholeIn, PossibleAt, place_in, first_scale, IsPlaceOf}
-use Rattle.iim_places.proofs.Words.{TagBegun, AllEnded, phase_of, place_of, MayContinue}
+use Rattle.iim_places.proofs.Words.{AllByRecursion, eqb-true, eq-eqb, number, Dataset, SpellsDataset, SpellsStream, count_octets, head_of, of_record, IsAlive, Begun, InTag, InData, IsBegun, Reads, Head, all_front, all_back, section_after, tells_number, SubfileBegun, ObjectEnded, Confirmed, number_tokens, numbers_of, stated_numbers, Stated, number_at, TokensWithin, LanguageWithin, AnswerLaws, OpenLaws, object_of, AreWithin, IsOpen, object_so_far, section, Possible, IsSmall, IsSmallPhase, IsSmallPlace, greatest_size_before, widest, Scale, FitsRow, SectionsLiveIn, HaveRoomIn, IsOpenIn, IsWholeIn, PossibleAt, place_in, first_scale, IsPlaceOf, TagBegun, AllEnded, phase_of, place_of, MayContinue}
 use Rattle.iim_object.specs.Format.Places as objects
 use Rattle.iim_places.specs.Format.Tickets.{Place}
 use Rattle.iim_places.proofs.Answering.{one_reading, reads_envelope}
@@ -16,19 +11,22 @@ use Rattle.iim_places.proofs.Tickets.{so_far_by}
 
 -- ---- spellings with shorter counts
 
-wider_dataset : (d : Dataset) (xs : List ℕ) → SpellsDataset 4 d xs → SpellsDataset count_octets d xs
-wider_dataset d xs s = record { tag = s.tag; is_tag = wider_tag 4 count_octets (head_of d) s.tag (omega arith) s.is_tag; data_octets = s.data_octets; parts = s.parts }
+wider_dataset : (limit : ℕ) → limit ≤ count_octets → (d : Dataset) (xs : List ℕ) → SpellsDataset limit d xs → SpellsDataset count_octets d xs
+wider_dataset limit le d xs s =
+    record { tag = s.tag; is_tag = wider_tag limit count_octets (head_of d) s.tag le s.is_tag; data_octets = s.data_octets; parts = s.parts }
 
-pub wider_stream : (ds : List Dataset) (xs : List ℕ) → SpellsStream 4 ds xs → SpellsStream count_octets ds xs
-wider_stream [] xs s = s
-wider_stream (d ∷ ds) xs (first, rest, one, more, parts) = (first, rest, wider_dataset d first one, wider_stream ds rest more, parts)
+pub wider_stream : (limit : ℕ) → limit ≤ count_octets → (ds : List Dataset) (xs : List ℕ) → SpellsStream limit ds xs → SpellsStream count_octets ds xs
+wider_stream limit le [] xs s = s
+wider_stream limit le (d ∷ ds) xs (first, rest, one, more, parts) = (first, rest, wider_dataset limit le d first one, wider_stream limit le ds rest more, parts)
 
-pub wider_rest : (b : Begun) (xs : List ℕ) → IsBegun 4 b xs → IsBegun count_octets b xs
-wider_rest (InTag held) xs (same, h, tag, spelled, part) = (same, h, tag, wider_tag 4 count_octets h tag (omega arith) spelled, part)
-wider_rest (InData h taken) xs (tag, spelled, less, all, parts) = (tag, wider_tag 4 count_octets h tag (omega arith) spelled, less, all, parts)
+pub wider_rest : (limit : ℕ) → limit ≤ count_octets → (b : Begun) (xs : List ℕ) → IsBegun limit b xs → IsBegun count_octets b xs
+wider_rest limit le (InTag held) xs (same, h, tag, spelled, part) = (same, h, tag, wider_tag limit count_octets h tag le spelled, part)
+wider_rest limit le (InData h taken) xs (tag, spelled, less, all, parts) = (tag, wider_tag limit count_octets h tag le spelled, less, all, parts)
 
-pub wider_reads : (xs : List ℕ) (ds : List Dataset) (b : Begun) → Reads 4 xs ds b → Reads count_octets xs ds b
-wider_reads xs ds b r = record { front = r.front; rest = r.rest; is_front = wider_stream ds r.front r.is_front; is_rest = wider_rest b r.rest r.is_rest; parts = r.parts }
+wider_reads : (limit : ℕ) → limit ≤ count_octets → (xs : List ℕ) (ds : List Dataset) (b : Begun) → Reads limit xs ds b → Reads count_octets xs ds b
+wider_reads limit le xs ds b r =
+    let rest = wider_rest limit le b r.rest r.is_rest in
+    record { front = r.front; rest = r.rest; is_front = wider_stream limit le ds r.front r.is_front; is_rest = rest; parts = r.parts }
 
 -- ---- what fits
 
@@ -42,13 +40,21 @@ pub may_continue : (s : Scale) (ds : List Dataset) (b : Begun) → SectionsLiveI
 may_continue s ds (InTag held) alive within room object = record { records = (alive.0, alive.1.0); within = within; object = (object.0, object.1.0) }
 may_continue s ds (InData h taken) (d, head, alive) within room object = record { records = (d, head, (alive.0, alive.1.0)); within = within; room = room; object = (object.0, object.1.0) }
 
-pub open_now : (octets : List ℕ) → IsOpenIn first_scale widest octets → IsOpen widest octets
-open_now octets is = record {
+open_now : (s : Scale) → s.octets ≤ count_octets → (octets : List ℕ) → IsOpenIn s widest octets → IsOpen widest octets
+open_now s le octets is = record {
   whole = is.whole;
   begun = is.begun;
-  reads = wider_reads octets is.whole is.begun is.reads;
-  leads_on = record { sizes = may_continue first_scale is.whole is.begun is.records is.within is.room is.object; message = is.message; story = is.story };
-  unfinished = λ sections. is.unfinished (sections, rows_of first_scale is.whole is.begun is.records);
+  reads = wider_reads s.octets le octets is.whole is.begun is.reads;
+  leads_on = record { sizes = may_continue s is.whole is.begun is.records is.within is.room is.object; message = is.message; story = is.story };
+  unfinished = λ sections. is.unfinished (sections, rows_of s is.whole is.begun is.records);
+}
+
+-- what was possible by a smaller scale is possible
+pub still : (s : Scale) → s.octets ≤ count_octets → (place : Place) → PossibleAt s place → Possible place
+still s le place p = record {
+  octets = p.octets;
+  leads = p.leads;
+  comes = elim p.comes [ inl open' ↦ inl (open_now s le p.octets open') | inr whole ↦ inr (whole.value, record { admits = whole.admits; within = whole.within }) ];
 }
 
 -- ---- sizes of the place
@@ -144,13 +150,7 @@ small_of laws place octets leads ds b reads keeps =
 
 -- What was possible is possible, and keeps to the first sizes.
 pub still_possible : OpenLaws → (place : Place) → PossibleAt first_scale place → Possible place × IsSmallPlace place
-still_possible laws place p = elim p.comes [
-  | inl open' ↦ (
-    record { octets = p.octets; leads = p.leads; comes = inl (open_now p.octets open') },
-    small_of laws.answer place p.octets p.leads open'.whole open'.begun (wider_reads p.octets open'.whole open'.begun open'.reads) (keeps_open p.octets open'),
-  )
-  | inr whole ↦ (
-    record { octets = p.octets; leads = p.leads; comes = inr (whole.value, record { admits = whole.admits; within = whole.within }) },
-    small_of laws.answer place p.octets p.leads whole.admits.datasets (InTag []) (reads_envelope p.octets whole.value whole.admits) (keeps_whole p.octets whole),
-  )
-]
+still_possible laws place p = (still first_scale (omega arith) place p, elim p.comes [
+  | inl is ↦ small_of laws.answer place p.octets p.leads is.whole is.begun (wider_reads 4 (omega arith) p.octets is.whole is.begun is.reads) (keeps_open p.octets is)
+  | inr is ↦ small_of laws.answer place p.octets p.leads is.admits.datasets (InTag []) (reads_envelope p.octets is.value is.admits) (keeps_whole p.octets is)
+])

@@ -1,9 +1,6 @@
 -- What octets begin with is determined: their layout has one reading.
 use Rattle.std.proofs.Common.{◌≡◌, ℕ, ◌+◌, ◌-◌, ◌<◌, ◌≤◌, ◌^◌, ◌==◌, nat_eq, if◌then◌else◌, pred, Bool, true, false, List, [], ◌∷◌, ◌++◌, length, take, drop, Option, Some, None, refl, ap, sym, subst, ◌∙◌, inl, inr, arith, append_assoc, append-nil, length-append}
-use Rattle.iim_places.proofs.Words.{flat_map-append, take-append-drop, length-take, AllByRecursion, flat_map, Dataset, all_append, Phase, TagBegun, DataBegun}
-use Rattle.iim_places.proofs.Words.{AllEnded, ticket_name, present_version, four, wide, phase_octets, field_octets, fields_octets, text_octets, IsLongField}
-use Rattle.iim_places.proofs.Words.{AreFields, AreNumbersIn, AreTexts, IsSizeIn, IsShort, IsWide, IsVersion, IsPhase, IsFaultOf, HasForm, Split, SplitsTicket}
-use Rattle.iim_places.proofs.Words.{split_octets, came, TicketsHaveOneSplit, AreNoMessage, AreNoBody, BeginsWithNoData, body_octets, message_parts, Form}
+use Rattle.iim_places.proofs.Words.{flat_map-append, take-append-drop, length-take, AllByRecursion, flat_map, Dataset, all_append, Phase, TagBegun, DataBegun, AllEnded, ticket_name, present_version, four, wide, phase_octets, field_octets, fields_octets, text_octets, IsLongField, AreFields, AreNumbersIn, AreTexts, IsSizeIn, IsShort, IsWide, IsVersion, IsPhase, IsFaultOf, HasForm, Split, SplitsTicket, split_octets, came, TicketsHaveOneSplit, AreNoMessage, AreNoBody, BeginsWithNoData, body_octets, message_parts, Form}
 use Rattle.std.specs.Int.{w64, from_be_bytes, to_be_bytes}
 use Rattle.std.proofs.lemmas.Nat.{from_be_bytes-to_be_bytes_8}
 use Rattle.iim_dataset.specs.Parting.{same_front}
@@ -183,9 +180,6 @@ no_wider version m n le h = omega (arith, le, h)
 
 one_phase : (version section : ℕ) → HasOne (IsPhase version section) (phase_octets version)
 one_phase version section (TagBegun h) (TagBegun k) a b hx hy e = let held = one_text h k a b (rest_same e) in (ap TagBegun held.0, held.1)
-one_phase version section (TagBegun h) (DataBegun set count left taken) a b hx hy e = absurd (let bad = first_same e in omega (arith, bad))
-one_phase version section (TagBegun h) AllEnded a b hx hy e = absurd (let bad = first_same e in omega (arith, bad))
-one_phase version section (DataBegun set count left taken) (TagBegun k) a b hx hy e = absurd (let bad = first_same e in omega (arith, bad))
 one_phase version section (DataBegun s m l t) (DataBegun u n k v) a b hx hy e =
     let set : s ≡ u = first_same (rest_same e) in
     let moved : wide version m ++ (wide version l ++ (t ++ a)) ≡ wide version n ++ (wide version k ++ (v ++ b)) =
@@ -196,10 +190,8 @@ one_phase version section (DataBegun s m l t) (DataBegun u n k v) a b hx hy e =
     let d = left.0 in
     let taken = same_front t v a b (hx.2 ∙ (let same : came section m l ≡ came section n k = cc in same) ∙ sym hy.2) left.1 in
     ((λ i. DataBegun (set i) (c i) (d i) (taken.0 i)), taken.1)
-one_phase version section (DataBegun set count left taken) AllEnded a b hx hy e = absurd (let bad = first_same e in omega (arith, bad))
-one_phase version section AllEnded (TagBegun k) a b hx hy e = absurd (let bad = first_same e in omega (arith, bad))
-one_phase version section AllEnded (DataBegun set count left taken) a b hx hy e = absurd (let bad = first_same e in omega (arith, bad))
 one_phase version section AllEnded AllEnded a b hx hy e = (refl, rest_same e)
+one_phase version section p q a b hx hy e = absurd (let bad = first_same e in omega (arith, bad))
 
 pub texts_after : (count : ℕ) (x octets rest : List ℕ) → IsShort x → octets ≡ text_octets x ++ rest → BeginsWithFewer IsShort text_octets count rest → BeginsWithFewer IsShort text_octets (count + 1) octets
 texts_after = fewer_after IsShort text_octets one_short

@@ -1,6 +1,6 @@
 -- Datasets that tell the same, and what follows them.
 use Rattle.std.proofs.Common.{◌≡◌, ℕ, ◌+◌, ◌<◌, ◌≤◌, ◌||◌, ◌⊎◌, Bool, true, false, cond, nat_eq, if◌then◌else◌, List, [], ◌∷◌, ◌++◌, length, sum, Option, Some, refl, ap, sym, subst, ◌∙◌, inl, inr, arith, append-nil, length-append, None, append_assoc}
-use Rattle.iim_places.proofs.Words.{AllByRecursion, option_or, filter-append, same_Some, list_any-append, eqb-true, Dataset, of_record, SpellsStream, count_octets, all_append, all_front, all_back, Head, sum_append, SectionsLive, SectionsLiveAt, kept, last_record, section_after, AreSections, AreRecords, after, IsGoodRecord, occurs, occurrences_append, IsWithin, Limits, ending_of, place_after_datasets, place_ended, SubfileBegun, max_subfiles, lengths_of, numbers_of, HaveSizes, IsPossible, stated_numbers, Stated, number_at, AreWithin, OpenLaws, SizeLaws, place_at, ObjectLives, HaveRoom, CanContinue, CanContinueAt, MayContinue, last_of_joined, NotEnded, ConfirmedAs, number, Begun, InTag, InData, Sizes, Header, IsMessage, IsEnvelopeWithin, IsText, object_of}
+use Rattle.iim_places.proofs.Words.{AllByRecursion, option_or, filter-append, same_Some, list_any-append, eqb-true, Dataset, of_record, SpellsStream, count_octets, all_append, all_front, all_back, Head, sum_append, SectionsLive, SectionsLiveAt, kept, last_record, section_after, AreSections, AreRecords, after, IsGoodRecord, occurs, occurrences_append, IsWithin, Limits, ending_of, place_after_datasets, place_ended, SubfileBegun, max_subfiles, lengths_of, numbers_of, HaveSizes, IsPossible, stated_numbers, Stated, number_at, AreWithin, OpenLaws, SizeLaws, place_at, ObjectLives, HaveRoom, CanContinue, CanContinueAt, MayContinue, last_of_joined, NotEnded, ConfirmedAs, number, Begun, InTag, InData, Sizes, Header, IsMessage, IsEnvelopeWithin, IsText, object_of, nil_from_length}
 use Rattle.iim_fields.specs.Format.Faults.{joined}
 use Rattle.iim_object.specs.Format.Places as objects
 use Rattle.iim_places.proofs.Limits.{kept_append}
@@ -11,6 +11,7 @@ use Rattle.iim_places.proofs.SameRecords.{IsStated, SameNumbers, SameRecords, st
 use Rattle.iim_places.proofs.Tickets.{count_of}
 use Rattle.iim_places.proofs.Lasts.{last_sections}
 use Rattle.iim_fields.proofs.Follows.{alive_follows}
+use Rattle.iim_places.proofs.Fronts.{empty_front}
 
 -- ---- what follows datasets to the sections of an envelope
 
@@ -107,19 +108,11 @@ bounded_at laws p is = by p.lengths refl
         let d = duties_of p.stated is.stated (is.duties many) in
         inr (record { size = d.size; stated = d.largest; each = each_small laws p is d.size d.largest many })
 
-empty_both : (xs ys : List ℕ) → xs ++ ys ≡ [] → (xs ≡ []) × (ys ≡ [])
-empty_both [] ys e = (refl, e)
-empty_both (x ∷ xs) ys e = absurd cc
-
-none_too : (ls ks : List ℕ) → length ls ≡ length ks → ls ≡ [] → ks ≡ []
-none_too ls [] many e = refl
-none_too ls (k ∷ ks) many e = absurd (let none = ap length e in omega (arith, none, many))
-
 -- Bounds of two joined lists, of which the second stands after another first.
 bounded_on : (ps qs rs : List Stated) (ls ks ms : List ℕ) → SameNumbers ps qs → length ls ≡ length ks → AreBounded qs ks → AreBounded (ps ++ rs) (ls ++ ms) → AreBounded (qs ++ rs) (ks ++ ms)
 bounded_on ps qs rs ls ks ms same many own (inl none) =
-    let (first, last) = empty_both ls ms none in
-    inl (ap (λ (ns : List ℕ). ns ++ ms) (none_too ls ks many first) ∙ last)
+    let first = empty_front ls ms none in
+    inl (ap (λ (ns : List ℕ). ns ++ ms) (nil_from_length ks (sym many ∙ ap length first) ∙ sym first) ∙ none)
 bounded_on ps qs rs ls ks ms same many (inl none) (inr all) =
     inr (record {
       size = all.size;
