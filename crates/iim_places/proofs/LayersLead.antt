@@ -1,15 +1,6 @@
 -- A place where each layer alone can be is possible: its plain octets lead there.
 use Rattle.std.proofs.Common.{IsTrue, ◌≡◌, ℕ, ◌+◌, ◌*◌, ◌-◌, ◌<◌, ◌≤◌, ◌^◌, nat_eq, if◌then◌else◌, Bool, true, false, List, [], ◌∷◌, ◌++◌, length, map, sum, take, drop, Option, Some, None, IfSome, refl, ap, sym, subst, ◌∙◌, inl, inr, arith, append-nil, length-append, length-drop}
-use Rattle.iim_places.proofs.Words.{AllByRecursion, unwrap_or, eqb-true, eqb_tells, length-take, take-append-drop, nil_from_length, IsOctet, Octets}
-use Rattle.iim_places.proofs.Words.{greatest_size, Dataset, SpellsTag, SpellsStream, canonical_stream, count_octets, of_record, HasSpellings, Begun, InTag}
-use Rattle.iim_places.proofs.Words.{InData, IsBegun, BeginsTag, Head, all_append, all_front, all_back, front_are, sum_fits, sum_append, SectionsLive}
-use Rattle.iim_places.proofs.Words.{SectionsLiveAt, is_kept, kept, section_after, IsGoodDataset, IsWithin, head_alive, place_after_datasets, place_ended}
-use Rattle.iim_places.proofs.Words.{ending_of, ObjectEnded, Confirmed, SubfileBegun, subfile_datasets, Ending, NotEnded, Ended, ConfirmedAs, place_after}
-use Rattle.iim_places.proofs.Words.{lengths_of, numbers_of, IsPossible, LastIsBegun, stated_numbers, AreStated, number_at, Octet, End, MessageLanguage}
-use Rattle.iim_places.proofs.Words.{LeadsToSaved, MessagePlace, object_of, IsSize, LeadsByLayers, record_datasets, one_of_some, head_of_numbers, AreWithin}
-use Rattle.iim_places.proofs.Words.{object_so_far, section, AllCanContinue, AreSpellable, begun_object, plain_place, Numbers, number_list, filled, plain_end}
-use Rattle.iim_places.proofs.Words.{plain, Possible, AreOpenOrWhole, widest, Phase, TagBegun, DataBegun, AllEnded, IsPlaceOf, place_at, ObjectLives}
-use Rattle.iim_places.proofs.Words.{MayContinue, ByLayersLaws, SizeLaws}
+use Rattle.iim_places.proofs.Words.{AllByRecursion, unwrap_or, eqb-true, eqb_tells, length-take, take-append-drop, nil_from_length, IsOctet, Octets, greatest_size, Dataset, SpellsTag, SpellsStream, canonical_stream, count_octets, of_record, HasSpellings, Begun, InTag, InData, IsBegun, BeginsTag, Head, all_append, all_front, all_back, front_are, sum_fits, sum_append, SectionsLive, SectionsLiveAt, is_kept, kept, section_after, IsGoodDataset, IsWithin, head_alive, place_after_datasets, place_ended, ending_of, ObjectEnded, Confirmed, SubfileBegun, subfile_datasets, Ending, NotEnded, Ended, ConfirmedAs, place_after, lengths_of, numbers_of, IsPossible, LastIsBegun, stated_numbers, AreStated, number_at, Octet, End, MessageLanguage, LeadsToSaved, MessagePlace, object_of, IsSize, LeadsByLayers, record_datasets, one_of_some, head_of_numbers, AreWithin, object_so_far, section, AllCanContinue, AreSpellable, begun_object, plain_place, Numbers, number_list, filled, plain_end, plain, Possible, AreOpenOrWhole, widest, Phase, TagBegun, DataBegun, AllEnded, IsPlaceOf, place_at, ObjectLives, MayContinue, ByLayersLaws, SizeLaws, begun_count, begun_fields}
 use Rattle.iim_dataset.specs.Format.Languages as languages
 use Rattle.iim_fields.specs.Format.Faults.{joined}
 use Rattle.iim_object.specs.Format.Places as objects
@@ -156,41 +147,57 @@ small_in fields numbers heads object ended tell size e =
     subst (λ (xs : List Dataset). AllByRecursion (λ n. n ≤ size) (lengths_of xs)) (sym tell.eights_are)
     (subst (λ (o : Option ℕ). AllByRecursion (λ n. n ≤ size) (lengths_of (subfile_datasets (filled (unwrap_or o 0) heads object)))) (sym (sym largest ∙ e)) (part_small size heads object))
 
+-- A place of the object and octets of it are as the place tells them.
+record Leading (place : Place) (numbers : Numbers) (p : objects.Place) (o text : List ℕ) : Type 0 where
+  numbers_are : place.numbers ≡ number_list numbers
+  keeps : AllByRecursion (λ (d : Dataset). is_kept d.rec ≡ true) place.fields
+  same : number_list numbers ≡ stated_numbers p.stated
+  is : IsPossible p
+  many : place.heads ≡ length p.lengths
+  come : length o ≡ place.taken
+  leads : LeadsToSaved o text place.message
+  last : place.section ≡ 9 → place.message.part ≡ part.AfterEnd
+  within : IsWithin widest (length (joined place.fields)) (length place.fields)
+
 -- Plain datasets with the first subfiles of a possible place, which have these octets.
 record Filling (fields : List Dataset) (numbers : Numbers) (heads : ℕ) (object : List ℕ) (ended : Bool) : Type 0 where
   few : length object ≤ greatest_size
-  fits : Fits fields numbers heads object
-  octets : Octets object
   tell : Tell (plain fields numbers heads object ended) fields numbers heads object ended
   spellable : AreSpellable fields numbers heads object
   inside : AreWithin widest (plain fields numbers heads object ended)
+  on : Continues (plain fields numbers (one_of_some heads) [] ended) (plain fields numbers heads object ended)
 
-filling : ByLayersLaws → (fields : List Dataset) (numbers : Numbers) (p : objects.Place) (heads : ℕ) (object : List ℕ) (ended : Bool) → AllByRecursion (λ (d : Dataset). is_kept d.rec ≡ true) fields
-    → number_list numbers ≡ stated_numbers p.stated → IsPossible p → (ls ks : List ℕ) → p.lengths ≡ ls ++ ks → heads ≡ length ls → sum ls ≡ length object → Octets object
-    → SectionsLive (plain fields numbers (one_of_some heads) [] ended) → IsWithin widest (length (joined fields)) (length fields) → Filling fields numbers heads object ended
-filling laws fields numbers p heads object ended keeps same is ls ks parts many total octets alive within =
-    let most = object_fits p is.alive in
+filling : ByLayersLaws → (place : Place) (numbers : Numbers) (p : objects.Place) (o text : List ℕ) → Leading place numbers p o text
+    → (heads : ℕ) (object : List ℕ) (ended : Bool) (ls ks : List ℕ) → p.lengths ≡ ls ++ ks → heads ≡ length ls → sum ls ≡ length object → Octets object
+    → SectionsLive (plain place.fields numbers (one_of_some heads) [] ended) → Filling place.fields numbers heads object ended
+filling laws place numbers p o text l heads object ended ls ks parts many total octets alive =
+    let fields = place.fields in
+    let within = l.within in
+    let most = object_fits p l.is.alive in
     let sums : sum p.lengths ≡ sum ls + sum ks = ap sum parts ∙ sum_append ls ks in
     let counts : length p.lengths ≡ length ls + length ks = ap length parts ∙ length-append ls ks in
-    let stated = numbers_same numbers p.stated same in
+    let stated = numbers_same numbers p.stated l.same in
     let room : length object ≤ heads * unwrap_or (number_at 20 p.stated) 0 =
-    subst (λ (n : ℕ). n ≤ heads * unwrap_or (number_at 20 p.stated) 0) total (subst (λ (k : ℕ). sum ls ≤ k * unwrap_or (number_at 20 p.stated) 0) (sym many) (room_in laws.opens.sizes p is ls ks parts)) in
+    subst (λ (n : ℕ). n ≤ heads * unwrap_or (number_at 20 p.stated) 0) total
+    (subst (λ (k : ℕ). sum ls ≤ k * unwrap_or (number_at 20 p.stated) 0) (sym many) (room_in laws.opens.sizes p l.is ls ks parts)) in
     let few : length object ≤ greatest_size = omega (arith, most, sums, total) in
     let fits : Fits fields numbers heads object = record {
-      kept = keeps;
-      fit = subst (λ (n : Numbers). AllByRecursion IsSize (number_list n)) (sym stated.are) (fit_in_rows p.stated is.stated.each);
-      room = subst (λ (o : Option ℕ). length object ≤ heads * unwrap_or o 0) (sym stated.largest) room;
+      kept = l.keeps;
+      fit = subst (λ (n : Numbers). AllByRecursion IsSize (number_list n)) (sym stated.are) (fit_in_rows p.stated l.is.stated.each);
+      room = subst (λ (x : Option ℕ). length object ≤ heads * unwrap_or x 0) (sym stated.largest) room;
     } in
     let tell = plain_told fields numbers heads object ended fits in
+    let heads_are = tell.heads_are in
+    let less = plain_told fields numbers (one_of_some heads) [] ended (record { kept = fits.kept; fit = fits.fit; room = omega arith }) in
+    let least = l.is.few in
+    let one = less.heads_are in
     record {
       few = few;
-      fits = fits;
-      octets = octets;
       tell = tell;
       spellable = record {
-        kept = keeps;
-        spelled = fields_spelled fields numbers (one_of_some heads) [] ended keeps alive (let low = within.octets_in in omega (arith, low));
-        mode = subst (λ (o : Option ℕ). IfSome o IsOctet) (sym stated.mode) (mode_octet (number_at 10 p.stated) (low_mode p.stated is.stated.each));
+        kept = l.keeps;
+        spelled = fields_spelled fields numbers (one_of_some heads) [] ended l.keeps alive (let low = within.octets_in in omega (arith, low));
+        mode = subst (λ (x : Option ℕ). IfSome x IsOctet) (sym stated.mode) (mode_octet (number_at 10 p.stated) (low_mode p.stated l.is.stated.each));
         fit = fits.fit;
         octets = octets;
         few = few;
@@ -198,41 +205,34 @@ filling laws fields numbers p heads object ended keeps same is ls ks parts many 
       };
       inside = record {
         kept = subst (λ (ks : List Dataset). IsWithin widest (length (joined ks)) (length ks)) (sym tell.kept_are) within;
-        subfiles = let heads_are = tell.heads_are in let least = is.few in omega (arith, heads_are, many, counts, least);
+        subfiles = omega (arith, heads_are, many, counts, least);
       };
+      on = plain_like laws.opens.answer (plain fields numbers (one_of_some heads) [] ended) fields numbers heads object ended (record {
+        alive = alive;
+        few = let low = few_subfiles heads in omega (arith, one, low);
+        fields_are = less.kept_are;
+        numbers_are = less.numbers_are;
+        some = ap one_of_some one ∙ sym (one_same heads);
+        ends = ap length less.nines_are ∙ end_length ended [];
+        many = omega (arith, many, counts, least);
+        octets = octets;
+        fits = few;
+        room = fits.room;
+      });
     }
 
--- Plain datasets continue as those by which the record layer is told.
-continues : ByLayersLaws → (fields : List Dataset) (numbers : Numbers) (heads : ℕ) (object : List ℕ) (ended : Bool) → Filling fields numbers heads object ended
-    → SectionsLive (plain fields numbers (one_of_some heads) [] ended)
-    → Continues (plain fields numbers (one_of_some heads) [] ended) (plain fields numbers heads object ended)
-continues laws fields numbers heads object ended f alive =
-    let tell = plain_told fields numbers (one_of_some heads) [] ended (record { kept = f.fits.kept; fit = f.fits.fit; room = omega arith }) in
-    let many = tell.heads_are in
-    plain_like laws.opens.answer (plain fields numbers (one_of_some heads) [] ended) fields numbers heads object ended (record {
-      alive = alive;
-      few = let low = few_subfiles heads in omega (arith, many, low);
-      fields_are = tell.kept_are;
-      numbers_are = tell.numbers_are;
-      some = ap one_of_some many ∙ sym (one_same heads);
-      ends = ap length tell.nines_are ∙ end_length ended [];
-      many = let heads_are = f.tell.heads_are in let few = f.inside.subfiles in omega (arith, heads_are, few);
-      octets = f.octets;
-      fits = f.few;
-      room = f.fits.room;
-    })
-
 -- the object lives after plain datasets as at the place
-after_plain : ByLayersLaws → (fields : List Dataset) (numbers : Numbers) (heads : ℕ) (object : List ℕ) (ended : Bool) (p : objects.Place) (e : Ending) → Filling fields numbers heads object ended
-    → number_list numbers ≡ stated_numbers p.stated → IsPossible p → SectionsLive (plain fields numbers heads object ended) → heads ≡ length p.lengths → sum p.lengths ≡ length object → p.ending ≡ e
-    → ObjectLives (record (place_after_datasets (plain fields numbers heads object ended)) { ending = e })
-after_plain laws fields numbers heads object ended p e f same is alive many total end' =
+after_plain : ByLayersLaws → (fields : List Dataset) (numbers : Numbers) (heads : ℕ) (object : List ℕ) (ended : Bool) (p : objects.Place) (e : Ending)
+    → Filling fields numbers heads object ended → number_list numbers ≡ stated_numbers p.stated → IsPossible p → heads ≡ length p.lengths
+    → sum p.lengths ≡ length object → p.ending ≡ e → ObjectLives (record (place_after_datasets (plain fields numbers heads object ended)) { ending = e })
+after_plain laws fields numbers heads object ended p e f same is many total end' =
     let ds = plain fields numbers heads object ended in
     let count = count_of (of_record 8 ds) in
     let heads_are = f.tell.heads_are in
-    let stated = (stated_after_all laws.opens.answer.follow.objects ds alive f.inside.subfiles).stated in
-    (possible_like laws.opens.sizes p (record (place_after_datasets ds) { ending = e }) is stated (sym same ∙ sym f.tell.numbers_are) (omega (arith, count, heads_are, many))
-    (total ∙ sym (ap length f.tell.object_is) ∙ sym (total_of (of_record 8 ds))) (small_in fields numbers heads object ended f.tell) end').alive
+    let stated = (stated_after_all laws.opens.answer.follow.objects ds f.on.alive f.inside.subfiles).stated in
+    (possible_like laws.opens.sizes p (record (place_after_datasets ds) { ending = e }) is stated (sym same ∙ sym f.tell.numbers_are)
+    (omega (arith, count, heads_are, many)) (total ∙ sym (ap length f.tell.object_is) ∙ sym (total_of (of_record 8 ds)))
+    (small_in fields numbers heads object ended f.tell) end').alive
 
 -- ---- between datasets, or in a tag, or at the end
 
@@ -240,47 +240,42 @@ ending_plain : (ended : Bool) (o : List ℕ) → length o ≤ greatest_size → 
 ending_plain true o few = ap ConfirmedAs (sym (low_number (length o) few))
 ending_plain false o few = refl
 
-lead_whole : ByLayersLaws → (place : Place) (numbers : Numbers) (p : objects.Place) (ended : Bool) (held o text : List ℕ) → place.numbers ≡ number_list numbers → AllByRecursion (λ (d : Dataset). is_kept d.rec ≡ true) place.fields
-    → number_list numbers ≡ stated_numbers p.stated → IsPossible p → p.ending ≡ (if ended then ConfirmedAs (length o) else NotEnded) → place.heads ≡ length p.lengths → sum p.lengths ≡ length o → length o ≡ place.taken
-    → LeadsToSaved o text place.message → (place.section ≡ 9 → place.message.part ≡ part.AfterEnd) → SectionsLive (plain place.fields numbers (one_of_some place.heads) [] ended)
-    → section_after (plain place.fields numbers (one_of_some place.heads) [] ended) ≡ place.section → IsBegun count_octets (InTag held) held → (ended ≡ true → held ≡ []) → place.phase ≡ (if ended then AllEnded else TagBegun held)
-    → IsWithin widest (length (joined place.fields)) (length place.fields) → Possible place
-lead_whole laws place numbers p ended held o text numbers_are keeps same is end' many total taken leads last base_alive present is_begun none phase within =
-    finish laws place numbers heads o ended (InTag held) held text base.spellable is_begun (subst (λ (x : List ℕ). LeadsToSaved x text place.message) (sym (append-nil o)) leads) last
-    (record { records = alive; within = base.inside; object = subst (λ (e : Ending). ObjectLives (record (place_after_datasets ds) { ending = e })) (ending_plain ended o base.few ∙ sym (ap ending_of base.tell.nines_are)) lives })
+lead_whole : ByLayersLaws → (place : Place) (numbers : Numbers) (p : objects.Place) (ended : Bool) (held o text : List ℕ) → Leading place numbers p o text
+    → p.ending ≡ (if ended then ConfirmedAs (length o) else NotEnded) → sum p.lengths ≡ length o
+    → SectionsLive (plain place.fields numbers (one_of_some place.heads) [] ended)
+    → section_after (plain place.fields numbers (one_of_some place.heads) [] ended) ≡ place.section → IsBegun count_octets (InTag held) held
+    → (ended ≡ true → held ≡ []) → place.phase ≡ (if ended then AllEnded else TagBegun held) → Possible place
+lead_whole laws place numbers p ended held o text l end' total alive present is_begun none phase =
+    finish laws place numbers place.heads o ended (InTag held) held text base.spellable is_begun
+    (subst (λ (x : List ℕ). LeadsToSaved x text place.message) (sym (append-nil o)) l.leads) l.last
+    (record {
+      records = base.on.alive;
+      within = base.inside;
+      object = subst (λ (e : Ending). ObjectLives (record (place_after_datasets ds) { ending = e }))
+          (ending_plain ended o base.few ∙ sym (ap ending_of base.tell.nines_are)) lives;
+    })
     (λ e. let nil = none e in (ap InTag nil, nil)) place_is
   where
-    fields : List Dataset
-    fields = place.fields
-
-    heads : ℕ
-    heads = place.heads
-
-    base : Filling fields numbers heads o ended
-    base = filling laws fields numbers p heads o ended keeps same is p.lengths [] (sym (append-nil p.lengths)) many total (living_octets o (laws.opens.answer.living o text leads.0 leads.1).0) base_alive within
+    base : Filling place.fields numbers place.heads o ended
+    base = filling laws place numbers p o text l place.heads o ended p.lengths [] (sym (append-nil p.lengths)) l.many total
+        (living_octets o (laws.opens.answer.living o text l.leads.0 l.leads.1).0) alive
 
     ds : List Dataset
-    ds = plain fields numbers heads o ended
-
-    on : Continues (plain fields numbers (one_of_some heads) [] ended) ds
-    on = continues laws fields numbers heads o ended base base_alive
-
-    alive : SectionsLive ds
-    alive = on.alive
+    ds = plain place.fields numbers place.heads o ended
 
     lives : ObjectLives (record (place_after_datasets ds) { ending = if ended then ConfirmedAs (length o) else NotEnded })
-    lives = after_plain laws fields numbers heads o ended p (if ended then ConfirmedAs (length o) else NotEnded) base same is alive many total end'
+    lives = after_plain laws place.fields numbers place.heads o ended p (if ended then ConfirmedAs (length o) else NotEnded) base l.same l.is l.many total end'
 
-    present_is : place.section ≡ section_after ds
-    present_is = sym present ∙ on.present
-
-    place_is : place ≡ plain_place fields numbers heads o ended (InTag held) place.message
+    place_is : place ≡ plain_place place.fields numbers place.heads o ended (InTag held) place.message
     place_is =
-        let ended_is = present_ended fields numbers heads o ended keeps in
-        let phase_is : place.phase ≡ (if nat_eq (section_after ds) 9 then AllEnded else TagBegun held) = phase ∙ sym (ap (λ (b : Bool). if b then AllEnded else TagBegun held) ended_is) in
-        let taken_is : place.taken ≡ length (o ++ []) = sym taken ∙ sym (ap length (append-nil o)) in
-        let heads_are : place.heads ≡ heads + 0 = omega arith in
-        λ i. record { section = present_is i; phase = phase_is i; fields = fields; numbers = numbers_are i; taken = taken_is i; heads = heads_are i; message = place.message }
+        let ended_is = present_ended place.fields numbers place.heads o ended l.keeps in
+        let phase_is : place.phase ≡ (if nat_eq (section_after ds) 9 then AllEnded else TagBegun held) =
+        phase ∙ sym (ap (λ (b : Bool). if b then AllEnded else TagBegun held) ended_is) in
+        let taken_is : place.taken ≡ length (o ++ []) = sym l.come ∙ sym (ap length (append-nil o)) in
+        let heads_are : place.heads ≡ place.heads + 0 = omega arith in
+        λ i. record place {
+          section = (sym present ∙ base.on.present) i; phase = phase_is i; numbers = l.numbers_are i; taken = taken_is i; heads = heads_are i;
+        }
 
 abbrev place_with : (section : ℕ) (phase : Phase) (fields : List Dataset) (nums : List (Option ℕ)) (taken heads : ℕ) (m : MessagePlace) → Place
 place_with section phase fields nums taken heads m = record { section = section; phase = phase; fields = fields; numbers = nums; taken = taken; heads = heads; message = m }
@@ -295,38 +290,47 @@ held_begun held b = (refl, b.head, held ++ b.more, b.whole, (b.more, b.some_more
 pub less_none : (n : ℕ) → n - 0 ≡ n
 less_none n = omega arith
 
+-- what the layers say of a place, of whose object this is a possible place
+leading : (place : Place) (l : LeadsByLayers place) (p : objects.Place) → number_list l.numbers ≡ stated_numbers p.stated → IsPossible p
+    → place.heads ≡ length p.lengths → Leading place l.numbers p l.message.0 l.message.1
+leading place l p same is many = record {
+  numbers_are = l.numbers_are;
+  keeps = l.kept;
+  same = same;
+  is = is;
+  many = many;
+  come = l.message.3;
+  leads = l.message.2;
+  last = l.message.4;
+  within = within_whole place.fields (begun_count place.section place.phase) (begun_fields place.section place.phase) l.within;
+}
+
 lead_tag : ByLayersLaws → (section : ℕ) (held : List ℕ) (fields : List Dataset) (nums : List (Option ℕ)) (taken heads : ℕ) (m : MessagePlace)
     → LeadsByLayers (place_with section (TagBegun held) fields nums taken heads m)
     → Possible (place_with section (TagBegun held) fields nums taken heads m)
 lead_tag laws section held fields nums taken heads m l =
+    let place = place_with section (TagBegun held) fields nums taken heads m in
     let at = l.object.1 in
-    let octets = at.octets in
-    let (o, text, leads, many, last) = l.message in
-    let base : List Dataset = plain fields l.numbers (one_of_some heads) [] false in
-    let is : record_datasets (place_with section (TagBegun held) fields nums taken heads m) l.numbers ≡ base =
+    let is : record_datasets place l.numbers ≡ plain fields l.numbers (one_of_some heads) [] false =
     λ i. plain fields l.numbers (one_of_some (less_none heads i)) [] false in
-    lead_whole laws (place_with section (TagBegun held) fields nums taken heads m) l.numbers l.object.0 false held o text l.numbers_are l.kept
-    (sym l.numbers_are ∙ at.numbers_are) l.object.2 at.not_ended at.subfiles (octets ∙ sym many) many leads last (subst SectionsLive is l.records.1) (ap section_after (sym is) ∙ l.records.0)
-    (held_begun held l.tags) (λ bad. absurd (let no' : false ≡ true = bad in cc)) refl
-    (within_whole fields 0 0 l.within)
+    lead_whole laws place l.numbers l.object.0 false held l.message.0 l.message.1
+    (leading place l l.object.0 (sym l.numbers_are ∙ at.numbers_are) l.object.2 at.subfiles) at.not_ended (at.octets ∙ sym l.message.3)
+    (subst SectionsLive is l.records.1) (ap section_after (sym is) ∙ l.records.0) (held_begun held l.tags)
+    (λ bad. absurd (let no' : false ≡ true = bad in cc)) refl
 
 lead_ended : ByLayersLaws → (section : ℕ) (fields : List Dataset) (nums : List (Option ℕ)) (taken heads : ℕ) (m : MessagePlace)
     → LeadsByLayers (place_with section AllEnded fields nums taken heads m)
     → Possible (place_with section AllEnded fields nums taken heads m)
 lead_ended laws section fields nums taken heads m l =
-    let p = l.object.0 in
+    let place = place_with section AllEnded fields nums taken heads m in
+    let p = place_after (place_after l.object.0 ObjectEnded) (Confirmed taken) in
     let at = l.object.1 in
-    let octets = at.octets in
-    let (o, text, leads, many, last) = l.message in
     let base : List Dataset = plain fields l.numbers (one_of_some heads) [] true in
-    let is : record_datasets (place_with section AllEnded fields nums taken heads m) l.numbers ≡ base =
-    λ i. plain fields l.numbers (one_of_some (less_none heads i)) [] true in
+    let is : record_datasets place l.numbers ≡ base = λ i. plain fields l.numbers (one_of_some (less_none heads i)) [] true in
     let nine : section_after base ≡ 9 = eqb-true (section_after base) 9 (present_ended fields l.numbers (one_of_some heads) [] true l.kept) in
-    lead_whole laws (place_with section AllEnded fields nums taken heads m) l.numbers
-    (place_after (place_after p ObjectEnded) (Confirmed taken)) true [] o text l.numbers_are l.kept
-    (sym l.numbers_are ∙ at.numbers_are) l.object.2 (ap ConfirmedAs (sym many)) at.subfiles (octets ∙ sym many) many leads last (subst SectionsLive is l.records.1) (nine ∙ sym l.records.0)
-    nothing_held (λ yes'. refl) refl
-    (within_whole fields 0 0 l.within)
+    lead_whole laws place l.numbers p true [] l.message.0 l.message.1 (leading place l p (sym l.numbers_are ∙ at.numbers_are) l.object.2 at.subfiles)
+    (ap ConfirmedAs (sym l.message.3)) (at.octets ∙ sym l.message.3) (subst SectionsLive is l.records.1) (nine ∙ sym l.records.0) nothing_held
+    (λ yes'. refl) refl
 
 -- ---- in data
 
@@ -337,83 +341,73 @@ room_kept fields ks h same within is =
     (subst (λ (b : Bool). IsWithin widest (length (joined fields) + (if b then h.count else 0)) (length fields + (if b then 1 else 0))) is within)
 
 -- in data that are no subfile's
-lead_other : ByLayersLaws → (place : Place) (numbers : Numbers) (p : objects.Place) (e : Ending) (h : Head) (left : ℕ) (taken o text tag : List ℕ) → place.numbers ≡ number_list numbers
-    → AllByRecursion (λ (d : Dataset). is_kept d.rec ≡ true) place.fields → number_list numbers ≡ stated_numbers p.stated → IsPossible p → p.ending ≡ e → place.heads ≡ length p.lengths → sum p.lengths ≡ length o → length o ≡ place.taken
-    → LeadsToSaved o text place.message → (place.section ≡ 9 → place.message.part ≡ part.AfterEnd) → SectionsLiveAt (plain place.fields numbers (one_of_some place.heads) [] false) h → place.section ≡ h.rec → nat_eq h.rec 8 ≡ false
+lead_other : ByLayersLaws → (place : Place) (numbers : Numbers) (p : objects.Place) (e : Ending) (h : Head) (left : ℕ) (taken o text tag : List ℕ)
+    → Leading place numbers p o text → p.ending ≡ e → sum p.lengths ≡ length o
+    → SectionsLiveAt (plain place.fields numbers (one_of_some place.heads) [] false) h → place.section ≡ h.rec → nat_eq h.rec 8 ≡ false
     → SpellsTag count_octets h tag → Octets taken → length taken + left ≡ h.count → 0 < left → place.phase ≡ DataBegun h.set h.count left taken
     → ((ds : List Dataset) → ending_of (of_record 9 ds) ≡ NotEnded → ObjectLives (record (place_after_datasets ds) { ending = e }) → ObjectLives (place_at ds h))
-    → IsWithin widest (length (joined place.fields) + (if is_kept h.rec then h.count else 0)) (length place.fields + (if is_kept h.rec then 1 else 0)) → Possible place
-lead_other laws place numbers p e h left taken o text tag numbers_are keeps same is end' many total come leads last at section_is not8 spells data_octets counts some phase lives_at within =
-    finish laws place numbers heads o false (InData h taken) (tag ++ taken) text base.spellable
+    → IsWithin widest (length (joined place.fields) + (if is_kept h.rec then h.count else 0)) (length place.fields + (if is_kept h.rec then 1 else 0))
+    → Possible place
+lead_other laws place numbers p e h left taken o text tag l end' total at section_is not8 spells data_octets counts some phase lives_at within =
+    finish laws place numbers place.heads o false (InData h taken) (tag ++ taken) text base.spellable
     (tag, spells, omega (arith, counts, some), data_octets, refl)
-    (subst (λ (x : List ℕ). LeadsToSaved x text place.message) (sym (append-nil o) ∙ ap (λ (b : Bool). o ++ (if b then taken else [])) (sym not8)) leads) last
+    (subst (λ (x : List ℕ). LeadsToSaved x text place.message) (sym (append-nil o) ∙ ap (λ (b : Bool). o ++ (if b then taken else [])) (sym not8)) l.leads)
+    l.last
     (record {
-      records = alive_at;
+      records = alive_at_as less ds h base.on.alive base.on.present base.on.seen at;
       within = base.inside;
       room = record {
-        kept = room_kept fields (kept ds) h base.tell.kept_are within;
+        kept = room_kept place.fields (kept ds) h base.tell.kept_are within;
         subfiles = λ eight. absurd (let bad : true ≡ false = ap (λ (n : ℕ). nat_eq n 8) (sym eight) ∙ not8 in cc);
       };
-      object = lives_at ds (ap ending_of base.tell.nines_are) lives;
+      object = lives_at ds (ap ending_of base.tell.nines_are) (after_plain laws place.fields numbers place.heads o false p e base l.same l.is l.many total end');
     })
     (λ bad. absurd (let no' : false ≡ true = bad in cc)) place_is
   where
-    fields : List Dataset
-    fields = place.fields
+    less : List Dataset
+    less = plain place.fields numbers (one_of_some place.heads) [] false
 
-    heads : ℕ
-    heads = place.heads
-
-    base : Filling fields numbers heads o false
-    base = filling laws fields numbers p heads o false keeps same is p.lengths [] (sym (append-nil p.lengths)) many total (living_octets o (laws.opens.answer.living o text leads.0 leads.1).0)
-        (head_alive (plain fields numbers (one_of_some heads) [] false) h at) (within_whole fields _ _ within)
+    base : Filling place.fields numbers place.heads o false
+    base = filling laws place numbers p o text l place.heads o false p.lengths [] (sym (append-nil p.lengths)) l.many total
+        (living_octets o (laws.opens.answer.living o text l.leads.0 l.leads.1).0) (head_alive less h at)
 
     ds : List Dataset
-    ds = plain fields numbers heads o false
+    ds = plain place.fields numbers place.heads o false
 
-    alive_at : SectionsLiveAt ds h
-    alive_at =
-        let less = plain fields numbers (one_of_some heads) [] false in
-        let on = continues laws fields numbers heads o false base (head_alive less h at) in
-        alive_at_as less ds h on.alive on.present on.seen at
-
-    lives : ObjectLives (record (place_after_datasets ds) { ending = e })
-    lives = after_plain laws fields numbers heads o false p e base same is (head_alive ds h alive_at) many total end'
-
-    place_is : place ≡ plain_place fields numbers heads o false (InData h taken) place.message
+    place_is : place ≡ plain_place place.fields numbers place.heads o false (InData h taken) place.message
     place_is =
         let left_is : left ≡ h.count - length taken = omega (arith, counts) in
         let phase_is : place.phase ≡ DataBegun h.set h.count (h.count - length taken) (if nat_eq h.rec 8 then [] else taken) =
-        phase ∙ (λ i. DataBegun h.set h.count (left_is i) taken) ∙ sym (ap (λ (b : Bool). DataBegun h.set h.count (h.count - length taken) (if b then [] else taken)) not8) in
-        let taken_is : place.taken ≡ length (o ++ (if nat_eq h.rec 8 then taken else [])) = sym come ∙ sym (ap length (append-nil o)) ∙ sym (ap (λ (b : Bool). length (o ++ (if b then taken else []))) not8) in
-        let heads_are : place.heads ≡ heads + (if nat_eq h.rec 8 then 1 else 0) = sym (less_more heads) ∙ sym (ap (λ (b : Bool). heads + (if b then 1 else 0)) not8) in
-        λ i. record { section = section_is i; phase = phase_is i; fields = fields; numbers = numbers_are i; taken = taken_is i; heads = heads_are i; message = place.message }
-      where
-        less_more : (n : ℕ) → n + 0 ≡ n
-        less_more n = omega arith
+        phase ∙ (λ i. DataBegun h.set h.count (left_is i) taken)
+        ∙ sym (ap (λ (b : Bool). DataBegun h.set h.count (h.count - length taken) (if b then [] else taken)) not8) in
+        let taken_is : place.taken ≡ length (o ++ (if nat_eq h.rec 8 then taken else [])) =
+        sym l.come ∙ sym (ap length (append-nil o)) ∙ sym (ap (λ (b : Bool). length (o ++ (if b then taken else []))) not8) in
+        let zero' : place.heads ≡ place.heads + 0 = omega arith in
+        let heads_are : place.heads ≡ place.heads + (if nat_eq h.rec 8 then 1 else 0) = zero' ∙ sym (ap (λ (b : Bool). place.heads + (if b then 1 else 0)) not8) in
+        λ i. record place { section = section_is i; phase = phase_is i; numbers = l.numbers_are i; taken = taken_is i; heads = heads_are i }
 
 -- in a subfile
-lead_subfile : ByLayersLaws → (place : Place) (numbers : Numbers) (p : objects.Place) (set count left : ℕ) (o text tag : List ℕ) → place.numbers ≡ number_list numbers
-    → AllByRecursion (λ (d : Dataset). is_kept d.rec ≡ true) place.fields → number_list numbers ≡ stated_numbers p.stated → IsPossible p → p.ending ≡ NotEnded → place.heads ≡ length p.lengths → (last : LastIsBegun p.lengths place.taken count left)
-    → length o ≡ place.taken → LeadsToSaved o text place.message → SectionsLiveAt (plain place.fields numbers (one_of_some (place.heads - 1)) [] false) (head_of_numbers 8 set count) → place.section ≡ 8
-    → SpellsTag count_octets (head_of_numbers 8 set count) tag → place.phase ≡ DataBegun set count left [] → IsWithin widest (length (joined place.fields)) (length place.fields) → Possible place
-lead_subfile laws place numbers p set count left o text tag numbers_are keeps same is end' many last come leads at section_is spells phase within =
+lead_subfile : ByLayersLaws → (place : Place) (numbers : Numbers) (p : objects.Place) (set count left : ℕ) (o text tag : List ℕ)
+    → Leading place numbers p o text → p.ending ≡ NotEnded → (last : LastIsBegun p.lengths place.taken count left)
+    → SectionsLiveAt (plain place.fields numbers (one_of_some (place.heads - 1)) [] false) (head_of_numbers 8 set count) → place.section ≡ 8
+    → SpellsTag count_octets (head_of_numbers 8 set count) tag → place.phase ≡ DataBegun set count left [] → Possible place
+lead_subfile laws place numbers p set count left o text tag l end' last at section_is spells phase =
     finish laws place numbers heads object false (InData h begun) (tag ++ begun) text base.spellable
     (tag, spells, omega (arith, begun_length, more), back_octets cut o octets, refl)
-    (subst (λ (x : List ℕ). LeadsToSaved x text place.message) (sym (take-append-drop cut o)) leads) (λ nine. absurd (omega (arith, nine, section_is)))
+    (subst (λ (x : List ℕ). LeadsToSaved x text place.message) (sym (take-append-drop cut o)) l.leads) (λ nine. absurd (omega (arith, nine, section_is)))
     (record {
-      records = alive_at;
+      records = alive_at_as less ds h base.on.alive base.on.present base.on.seen at;
       within = base.inside;
-      room = record { kept = λ bad. absurd (let no' : false ≡ true = bad in cc); subfiles = λ eight. let few' = is.few in let told = base.tell.heads_are in omega (arith, few', many, lengths_many, told) };
+      room = record {
+        kept = λ bad. absurd (let no' : false ≡ true = bad in cc);
+        subfiles = λ eight. let few' = l.is.few in let told = base.tell.heads_are in omega (arith, few', l.many, lengths_many, told);
+      };
       object = lives;
     })
     (λ bad. absurd (let no' : false ≡ true = bad in cc)) place_is
   where
     h : Head
     h = head_of_numbers 8 set count
-
-    fields : List Dataset
-    fields = place.fields
 
     heads : ℕ
     heads = place.heads - 1
@@ -440,42 +434,39 @@ lead_subfile laws place numbers p set count left o text tag numbers_are keeps sa
     cut_fits = let all = last.octets in let fits = last.fits in omega (arith, sums, all, fits)
 
     object_length : length object ≡ cut
-    object_length = let long = length-take cut o in omega (arith, long, come, cut_fits)
+    object_length = let long = length-take cut o in omega (arith, long, l.come, cut_fits)
 
     begun_length : length begun + left ≡ count
-    begun_length = let long = length-drop cut o in let fits = last.fits in omega (arith, long, come, cut_fits, fits)
+    begun_length = let long = length-drop cut o in let fits = last.fits in omega (arith, long, l.come, cut_fits, fits)
 
     lengths_many : length p.lengths ≡ length last.finished + 1
     lengths_many = ap length last.lengths_are ∙ length-append last.finished (count ∷ [])
 
     heads_are : heads ≡ length last.finished
-    heads_are = omega (arith, many, lengths_many)
+    heads_are = omega (arith, l.many, lengths_many)
 
     octets : Octets o
-    octets = living_octets o (laws.opens.answer.living o text leads.0 leads.1).0
+    octets = living_octets o (laws.opens.answer.living o text l.leads.0 l.leads.1).0
 
-    base : Filling fields numbers heads object false
-    base = filling laws fields numbers p heads object false keeps same is last.finished (count ∷ []) last.lengths_are heads_are (finished_is ∙ sym object_length) (front_are cut o octets)
-        (head_alive (plain fields numbers (one_of_some heads) [] false) h at) within
+    less : List Dataset
+    less = plain place.fields numbers (one_of_some heads) [] false
+
+    base : Filling place.fields numbers heads object false
+    base = filling laws place numbers p o text l heads object false last.finished (count ∷ []) last.lengths_are heads_are (finished_is ∙ sym object_length)
+        (front_are cut o octets) (head_alive less h at)
 
     ds : List Dataset
-    ds = plain fields numbers heads object false
-
-    alive_at : SectionsLiveAt ds h
-    alive_at =
-        let less = plain fields numbers (one_of_some heads) [] false in
-        let on = continues laws fields numbers heads object false base (head_alive less h at) in
-        alive_at_as less ds h on.alive on.present on.seen at
+    ds = plain place.fields numbers heads object false
 
     stated : AreStated (numbers_of (of_record 7 ds))
-    stated = (stated_after_all laws.opens.answer.follow.objects ds (head_alive ds h alive_at) base.inside.subfiles).stated
+    stated = (stated_after_all laws.opens.answer.follow.objects ds base.on.alive base.inside.subfiles).stated
 
     small : (size : ℕ) → number_at 20 (numbers_of (of_record 7 ds)) ≡ Some size → count ≤ size
     small size e =
         let told = base.tell.numbers_are in
         let here : number_at 20 (numbers_of (of_record 7 ds)) ≡ numbers.largest = cc in
-        let largest : number_at 20 p.stated ≡ Some size = sym (numbers_same numbers p.stated same).largest ∙ sym here ∙ e in
-        (all_back (λ n. n ≤ size) last.finished (count ∷ []) (subst (AllByRecursion (λ n. n ≤ size)) last.lengths_are (each_small laws.opens.sizes p is size largest (omega (arith, lengths_many))))).0
+        let largest : number_at 20 p.stated ≡ Some size = sym (numbers_same numbers p.stated l.same).largest ∙ sym here ∙ e in
+        (all_back (λ n. n ≤ size) last.finished (count ∷ []) (subst (AllByRecursion (λ n. n ≤ size)) last.lengths_are (each_small laws.opens.sizes p l.is size largest (omega (arith, lengths_many))))).0
 
     lives : ObjectLives (place_after (place_after_datasets ds) (SubfileBegun count))
     lives =
@@ -487,27 +478,27 @@ lead_subfile laws place numbers p set count left o text tag numbers_are keeps sa
         let total = total_of (of_record 8 ds) in
         let object_is = ap length base.tell.object_is in
         let added : sum (ls ++ count ∷ []) ≡ sum ls + count = sum_append ls (count ∷ []) ∙ ap (λ (n : ℕ). sum ls + n) (sum_one count) in
-        (possible_like laws.opens.sizes p q is stated (sym same ∙ sym base.tell.numbers_are) (omega (arith, count_is, told, longer, heads_are, lengths_many)) (omega (arith, sums, added, total, object_is, object_length, finished_is))
-        (λ size e. all_append (λ n. n ≤ size) ls (count ∷ []) (small_in fields numbers heads object false base.tell size e) (small size e, tt)) (end' ∙ sym (ap ending_of base.tell.nines_are))).alive
+        (possible_like laws.opens.sizes p q l.is stated (sym l.same ∙ sym base.tell.numbers_are) (omega (arith, count_is, told, longer, heads_are, lengths_many)) (omega (arith, sums, added, total, object_is, object_length, finished_is))
+        (λ size e. all_append (λ n. n ≤ size) ls (count ∷ []) (small_in place.fields numbers heads object false base.tell size e) (small size e, tt)) (end' ∙ sym (ap ending_of base.tell.nines_are))).alive
 
-    place_is : place ≡ plain_place fields numbers heads object false (InData h begun) place.message
+    place_is : place ≡ plain_place place.fields numbers heads object false (InData h begun) place.message
     place_is =
         let left_is : left ≡ count - length begun = omega (arith, begun_length) in
         let phase_is : place.phase ≡ DataBegun set count (count - length begun) [] = phase ∙ (λ i. DataBegun set count (left_is i) []) in
-        let taken_is : place.taken ≡ length (object ++ begun) = sym come ∙ sym (ap length (take-append-drop cut o)) in
-        let all : place.heads ≡ heads + 1 = omega (arith, many, lengths_many) in
-        λ i. record { section = section_is i; phase = phase_is i; fields = fields; numbers = numbers_are i; taken = taken_is i; heads = all i; message = place.message }
+        let taken_is : place.taken ≡ length (object ++ begun) = sym l.come ∙ sym (ap length (take-append-drop cut o)) in
+        let all : place.heads ≡ heads + 1 = omega (arith, l.many, lengths_many) in
+        λ i. record place { section = section_is i; phase = phase_is i; numbers = l.numbers_are i; taken = taken_is i; heads = all i }
 
 -- ---- every phase
 
 lead_eight : ByLayersLaws → (set count left : ℕ) (given : List ℕ) (fields : List Dataset) (nums : List (Option ℕ)) (taken heads : ℕ) (m : MessagePlace) → LeadsByLayers (place_with 8 (DataBegun set count left given) fields nums taken heads m)
     → Possible (place_with 8 (DataBegun set count left given) fields nums taken heads m)
 lead_eight laws set count left given fields nums taken heads m l =
+    let place = place_with 8 (DataBegun set count left given) fields nums taken heads m in
     let at = l.object.1 in
-    let (o, text, leads, many, last) = l.message in
-    let nil = nil_from_length given l.tags.1 in
-    lead_subfile laws (place_with 8 (DataBegun set count left given) fields nums taken heads m) l.numbers l.object.0 set count left o text l.tags.0.2 l.numbers_are l.kept (sym l.numbers_are ∙ at.numbers_are) l.object.2 at.not_ended at.subfiles at.octets many
-    leads l.records refl l.tags.0.3 (ap (DataBegun set count left) nil) (within_whole fields 0 0 l.within)
+    lead_subfile laws place l.numbers l.object.0 set count left l.message.0 l.message.1 l.tags.0.2
+    (leading place l l.object.0 (sym l.numbers_are ∙ at.numbers_are) l.object.2 at.subfiles) at.not_ended at.octets l.records refl l.tags.0.3
+    (ap (DataBegun set count left) (nil_from_length given l.tags.1))
 
 -- where the object stands at a head of another record
 abbrev LivesAt : Ending → Head → Type 0
@@ -525,32 +516,37 @@ at_others h not8 not9 ds none lives =
 lead_not_eight : ByLayersLaws → (section set count left : ℕ) (given : List ℕ) (fields : List Dataset) (nums : List (Option ℕ)) (taken heads : ℕ) (m : MessagePlace) → nat_eq section 8 ≡ false
     → LeadsByLayers (place_with section (DataBegun set count left given) fields nums taken heads m) → Possible (place_with section (DataBegun set count left given) fields nums taken heads m)
 lead_not_eight laws section set count left given fields nums taken heads m not8 l =
-    let h : Head = head_of_numbers section set count in
-    let p = l.object.0 in
-    let at : IsAt nums taken None heads p = subst (λ (b : Bool). IsAt nums taken (if b then Some (count, left) else None) heads p) not8 l.object.1 in
-    let octets = at.octets in
-    let (o, text, leads, many, last) = l.message in
-    let come : length given ≡ count - left = subst (λ (b : Bool). length given ≡ (if b then 0 else count - left)) not8 l.tags.1 in
-    let some : 0 < left = l.tags.0.0 in
-    let fits : left ≤ count = l.tags.0.1 in
-    let alive : SectionsLiveAt (plain fields l.numbers (one_of_some heads) [] false) h =
-    subst (λ (n : ℕ). SectionsLiveAt (plain fields l.numbers (one_of_some n) [] false) h) (less_none heads)
-    (subst (λ (b : Bool). SectionsLiveAt (plain fields l.numbers (one_of_some (heads - (if b then 1 else 0))) [] false) h) not8 l.records) in
-    let lead : (q : objects.Place) (e : Ending) → number_list l.numbers ≡ stated_numbers q.stated → IsPossible q → q.ending ≡ e → heads ≡ length q.lengths → sum q.lengths ≡ length o → LivesAt e h
-    → Possible (place_with section (DataBegun set count left given) fields nums taken heads m) =
-    λ q e same is end' count_is total lives.
-    lead_other laws (place_with section (DataBegun set count left given) fields nums taken heads m) l.numbers q e h left given o text l.tags.0.2 l.numbers_are l.kept same is end' count_is total many leads last alive refl not8
-    l.tags.0.3 l.tags.2 (omega (arith, come, fits)) some refl lives l.within in
-    by (nat_eq section 9) refl p lead (sym l.numbers_are ∙ at.numbers_are) at.not_ended at.subfiles (octets ∙ sym many) l.object.2
+    let at : IsAt nums taken None heads l.object.0 = subst (λ (b : Bool). IsAt nums taken (if b then Some (count, left) else None) heads l.object.0) not8 l.object.1 in
+    let total = at.octets ∙ sym l.message.3 in
+    by (nat_eq section 9) refl (sym l.numbers_are ∙ at.numbers_are) at.not_ended at.subfiles total l.object.2
   where
-    Leads : Type 0
-    Leads = Possible (place_with section (DataBegun set count left given) fields nums taken heads m)
+    h : Head
+    h = head_of_numbers section set count
 
-    by : (c : Bool) → nat_eq section 9 ≡ c → (p : objects.Place)
-        → ((q : objects.Place) (e : Ending) → number_list l.numbers ≡ stated_numbers q.stated → IsPossible q → q.ending ≡ e → heads ≡ length q.lengths → sum q.lengths ≡ length l.message.0 → LivesAt e (head_of_numbers section set count) → Leads)
-        → number_list l.numbers ≡ stated_numbers p.stated → p.ending ≡ NotEnded → heads ≡ length p.lengths → sum p.lengths ≡ length l.message.0 → IsPossible (if c then place_after p ObjectEnded else p) → Leads
-    by true nine p lead same end' count_is total is = lead (place_after p ObjectEnded) Ended same is refl count_is total (at_nine (head_of_numbers section set count) nine)
-    by false other p lead same end' count_is total is = lead p NotEnded same is end' count_is total (at_others (head_of_numbers section set count) not8 other)
+    place : Place
+    place = place_with section (DataBegun set count left given) fields nums taken heads m
+
+    come : length given ≡ count - left
+    come = subst (λ (b : Bool). length given ≡ (if b then 0 else count - left)) not8 l.tags.1
+
+    alive : SectionsLiveAt (plain fields l.numbers (one_of_some heads) [] false) h
+    alive =
+        subst (λ (n : ℕ). SectionsLiveAt (plain fields l.numbers (one_of_some n) [] false) h) (less_none heads)
+        (subst (λ (b : Bool). SectionsLiveAt (plain fields l.numbers (one_of_some (heads - (if b then 1 else 0))) [] false) h) not8 l.records)
+
+    lead : (q : objects.Place) (e : Ending) → number_list l.numbers ≡ stated_numbers q.stated → IsPossible q → q.ending ≡ e → heads ≡ length q.lengths
+        → sum q.lengths ≡ length l.message.0 → LivesAt e h → Possible place
+    lead q e same is end' many total lives =
+        let some : 0 < left = l.tags.0.0 in
+        let fits : left ≤ count = l.tags.0.1 in
+        lead_other laws place l.numbers q e h left given l.message.0 l.message.1 l.tags.0.2 (leading place l q same is many) end' total alive refl not8
+        l.tags.0.3 l.tags.2 (omega (arith, come, fits)) some refl lives l.within
+
+    by : (c : Bool) → nat_eq section 9 ≡ c → number_list l.numbers ≡ stated_numbers l.object.0.stated → l.object.0.ending ≡ NotEnded
+        → heads ≡ length l.object.0.lengths → sum l.object.0.lengths ≡ length l.message.0
+        → IsPossible (if c then place_after l.object.0 ObjectEnded else l.object.0) → Possible place
+    by true nine same end' many total is = lead (place_after l.object.0 ObjectEnded) Ended same is refl many total (at_nine h nine)
+    by false other same end' many total is = lead l.object.0 NotEnded same is end' many total (at_others h not8 other)
 
 lead_data : ByLayersLaws → (section set count left : ℕ) (given : List ℕ) (fields : List Dataset) (nums : List (Option ℕ)) (taken heads : ℕ) (m : MessagePlace) → LeadsByLayers (place_with section (DataBegun set count left given) fields nums taken heads m)
     → Possible (place_with section (DataBegun set count left given) fields nums taken heads m)

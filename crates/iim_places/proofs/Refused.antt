@@ -7,20 +7,13 @@ use Rattle.iim_places.proofs.Places.{lives_after}
 
 -- no layer dies with a head that all can continue with
 pub no_dead_head : (layer : Layer) (limits : Limits) (ds : List Dataset) (h : Head) → CanContinueAt limits ds h → DiesAtHead layer limits ds h → ⊥
-no_dead_head layers.Dataset limits ds h goes dead = dead
 no_dead_head layers.Record limits ds h goes dead = dead goes.records
 no_dead_head layers.Limits limits ds h goes dead = dead.1 goes.room
 no_dead_head layers.Object limits ds h goes dead = dead.2 goes.object
-no_dead_head layers.Message limits ds h goes dead = dead
-no_dead_head layers.Story limits ds h goes dead = dead
-no_dead_head layers.Outside limits ds h goes dead = dead
+no_dead_head rest limits ds h goes dead = dead
 
 pub no_dead_value : DatasetsLiveWithTheirTokens → (layer : Layer) (ds : List Dataset) (d : Dataset) → SectionsLive (ds ++ d ∷ []) → languages.IsAlive AreSized (ds ++ d ∷ [])
     → DiesAtValue layer ds d → ⊥
-no_dead_value live layers.Dataset ds d alive sized dead = dead
 no_dead_value live layers.Record ds d alive sized dead = dead alive
-no_dead_value live layers.Limits ds d alive sized dead = dead
 no_dead_value live layers.Object ds d alive sized dead = dead.1 (lives_after live (ds ++ d ∷ []) alive sized)
-no_dead_value live layers.Message ds d alive sized dead = dead
-no_dead_value live layers.Story ds d alive sized dead = dead
-no_dead_value live layers.Outside ds d alive sized dead = dead
+no_dead_value live rest ds d alive sized dead = dead
