@@ -1,14 +1,6 @@
 -- A stream has one answer: what is refused, what is open and what is an envelope exclude one another.
 use Rattle.std.proofs.Common.{◌≡◌, ◌≢◌, ℕ, zero, suc, ◌-◌, ◌^◌, ◌<◌, ◌≤◌, ◌⊎◌, Bool, false, nat_eq, if◌then◌else◌, List, [], ◌∷◌, ◌++◌, length, take, drop, slice_index, map, refl, ap, sym, subst, ◌∙◌, inl, inr, arith, append-nil, append_assoc, length-append}
-use Rattle.iim_places.proofs.Words.{cases_lt, ne_eqb, same_Some, eqb_tells, map-append, take-append-drop, take-take, Dataset, SpellsTag, SpellsDataset}
-use Rattle.iim_places.proofs.Words.{SpellsStream, head_of, count_octets, Begun, InTag, InData, IsBegun, Reads, BeginsNoTag, handed_on, Head, AreSections}
-use Rattle.iim_places.proofs.Words.{SectionsLive, section_after, data_of, Limits, AreSized, Holds, Octet, End, MessageLanguage, MessageLivesWith, MessageDiesAt}
-use Rattle.iim_places.proofs.Words.{StoryLivesIn, text_so_far, HasCause, MessageCause, Value, Admits, object_of, begun_record, begun_number, tag_cause}
-use Rattle.iim_places.proofs.Words.{refusal_at, message_on, AdmittedOctetsHaveOneValue, NoAdmittedOctetsBeginOthers, IsTextOf, object_so_far, AllCanContinue}
-use Rattle.iim_places.proofs.Words.{IsUnfinished, IsOpen, RefusesByTests, RefusesNext, truncated_in, IsRefusedHead, IsRefusedValue}
-use Rattle.iim_places.proofs.Words.{OpenOctetsBeginWithNoEnvelope, EnvelopesAreBounded, NothingContinuesFromRefusedOctets, RefusalsAreDetermined}
-use Rattle.iim_places.proofs.Words.{StreamsHaveOneAnswer, IsEnvelopeWithin, Finished, Refused, Truncated, IsFinished, IsRefused, IsTruncated, TokenFault}
-use Rattle.iim_places.proofs.Words.{AnswerLaws}
+use Rattle.iim_places.proofs.Words.{cases_lt, ne_eqb, same_Some, eqb_tells, map-append, take-append-drop, take-take, Dataset, SpellsTag, SpellsDataset, SpellsStream, head_of, count_octets, Begun, InTag, InData, IsBegun, Reads, BeginsNoTag, handed_on, Head, AreSections, SectionsLive, section_after, data_of, Limits, AreSized, Holds, Octet, End, MessageLanguage, MessageLivesWith, MessageDiesAt, StoryLivesIn, text_so_far, HasCause, MessageCause, Value, Admits, object_of, begun_record, begun_number, tag_cause, refusal_at, message_on, AdmittedOctetsHaveOneValue, NoAdmittedOctetsBeginOthers, IsTextOf, object_so_far, AllCanContinue, IsUnfinished, IsOpen, RefusesByTests, RefusesNext, truncated_in, IsRefusedHead, IsRefusedValue, OpenOctetsBeginWithNoEnvelope, EnvelopesAreBounded, NothingContinuesFromRefusedOctets, RefusalsAreDetermined, StreamsHaveOneAnswer, IsEnvelopeWithin, Finished, Refused, Truncated, IsFinished, IsRefused, IsTruncated, TokenFault, AnswerLaws}
 use Rattle.iim_dataset.specs.Format.Completing.{CompletesData}
 use Rattle.iim_dataset.specs.Format.Languages as languages
 use Rattle.iim_dataset.proofs.Spelled.{tag_length}
@@ -81,7 +73,7 @@ pub lives_envelope : AnswerLaws → (limits : Limits) (octets : List ℕ) (v : V
 lives_envelope laws limits octets v is =
     record { whole = is.admits.datasets; begun = InTag []; reads = reads_envelope octets v is.admits; leads_on = goes_envelope laws limits octets v is }
 
--- ---- with a refused octet nothing lives
+-- ---- a next octet
 
 message_dead : (o : List ℕ) (next : ℕ) → MessageLivesWith (o ++ next ∷ []) → MessageDiesAt o (Octet next) → ⊥
 message_dead o next lives dies = dies.1 (subst (languages.IsAlive MessageLanguage) (map-append Octet o (next ∷ [])) lives)
@@ -122,38 +114,6 @@ head_dead : AnswerLaws → (limits : Limits) (W : List Dataset) (c : Begun) → 
     → IsRefusedHead limits whole h fault ⊎ IsUnfinished limits whole h fault → ⊥
 head_dead laws limits W c all whole h z fault f (inl refused) = no_dead_head fault.layer limits whole h (head_lives laws.follow limits W c all whole h z f) refused.dead
 head_dead laws limits W c all whole h z fault f (inr unfinished) = unfinished.dies.1 (message_ends laws.follow limits W c all whole h z f unfinished.last)
-
-value_dead : AnswerLaws → (limits : Limits) (octets more : List ℕ) (next : ℕ) (W : List Dataset) (c : Begun) → Reads count_octets (octets ++ next ∷ more) W c → AllCanContinue limits W c → (whole : List Dataset) (h : Head) (given : List ℕ) (fault : TokenFault)
-    → CompletesData octets next whole h given → IsRefusedValue whole (data_of h given) fault → ⊥
-value_dead laws limits octets more next W c r all whole h given fault (inl (taken, reads, parts, many)) refused =
-    no_value laws limits W c all whole h (taken ++ next ∷ more) given more fault (data_follows laws octets more next W c r whole h taken reads)
-    (sym (append_assoc taken (next ∷ []) more) ∙ ap (λ (l : List ℕ). l ++ more) (sym parts)) many refused
-value_dead laws limits octets more next W c r all whole h given fault (inr (held, reads, tag, none, is)) refused =
-    no_value laws limits W c all whole h more given more fault (tag_follows laws octets more next W c r whole held h reads tag)
-    (ap (λ (l : List ℕ). l ++ more) (sym is)) (ap length is ∙ sym none) refused
-
-none_lives : AnswerLaws → (limits : Limits) (octets more : List ℕ) (next : ℕ) (fault : TokenFault) → RefusesByTests limits octets next fault → fault.cause ≢ causes.Sink → Lives limits (octets ++ next ∷ more) → ⊥
-none_lives laws limits octets more next fault (inl bad) other lives =
-    laws.stuck octets more next bad.whole bad.held lives.whole lives.begun bad.reads bad.dead lives.reads
-none_lives laws limits octets more next fault (inr (inl bad)) other lives =
-    head_dead laws limits lives.whole lives.begun lives.leads_on bad.whole bad.head more fault (tag_follows laws octets more next lives.whole lives.begun lives.reads bad.whole bad.held bad.head bad.reads bad.tag) bad.refuses
-none_lives laws limits octets more next fault (inr (inr (inl bad))) other lives =
-    let f = data_follows laws octets more next lives.whole lives.begun lives.reads bad.whole bad.head bad.taken bad.reads in
-    let (tail, is) = object_on lives.whole lives.begun bad.whole bad.head bad.taken more next bad.subfile bad.reads.is_rest.2 f in
-    let o : List ℕ = object_of bad.whole ++ bad.taken in
-    octet_dead bad.cause o next (λ sink. other (ap (λ (x : TokenFault). x.cause) bad.is_fault ∙ ap (λ (x : MessageCause). (message_on bad.head x).cause) sink)) bad.has_cause
-    (message_of limits lives.whole lives.begun lives.leads_on (o ++ next ∷ []) tail is) (story_of limits lives.whole lives.begun lives.leads_on (o ++ next ∷ []) tail is)
-none_lives laws limits octets more next fault (inr (inr (inr bad))) other lives =
-    value_dead laws limits octets more next lives.whole lives.begun lives.reads lives.leads_on bad.whole bad.head bad.given fault bad.completes bad.refuses
-
-pub nothing_continues : AnswerLaws → RefusalsTellTheLowestCause → NothingContinuesFromRefusedOctets
-nothing_continues laws tests limits octets more next fault kills = (
-  λ is. none_lives laws limits octets more next fault found kills.by_octets (lives_open limits (octets ++ next ∷ more) is),
-  λ v is. none_lives laws limits octets more next fault found kills.by_octets (lives_envelope laws limits (octets ++ next ∷ more) v is),
-)
-  where
-    found : RefusesByTests limits octets next fault
-    found = ((tests limits octets next fault).0 kills.refuses).1
 
 -- ---- an envelope is bounded
 
@@ -359,8 +319,8 @@ one_with laws limits ds h f g (inl a) (inr b) = not_both laws limits ds h [] f b
 one_with laws limits ds h f g (inr a) (inl b) = not_both laws limits ds h [] g a.2 b
 one_with laws limits ds h f g (inr a) (inr b) = same_Some _ _ (sym a.3.first ∙ b.3.first)
 
-one_step : AnswerLaws → (limits : Limits) (ds : List Dataset) (b : Begun) (next : ℕ) (f g : TokenFault) → IsRefusedAt limits ds b next f → IsRefusedAt limits ds b next g
-    → f ≡ g
+one_step : AnswerLaws → (limits : Limits) (ds : List Dataset) (b : Begun) (next : ℕ) (f g : TokenFault) → IsRefusedAt limits ds b next f
+    → IsRefusedAt limits ds b next g → f ≡ g
 one_step laws limits ds (InTag held) next f g (inl a) (inl b) = a.1 ∙ sym b.1
 one_step laws limits ds (InTag held) next f g (inl a) (inr (h, tag, b)) = not_tag held held next h refl a.0 tag
 one_step laws limits ds (InTag held) next f g (inr (h, tag, a)) (inl b) = not_tag held held next h refl b.0 tag
@@ -378,8 +338,42 @@ one_refusal laws tests limits octets next f g a b =
     let (ds, c, reads, all, open', bad) = refuses_by laws limits octets next f ((tests limits octets next f).0 a).1 in
     let (es, d, are, goes, more, dead) = refuses_by laws limits octets next g ((tests limits octets next g).0 b).1 in
     let same = one_reading laws octets ds es c d reads are in
-    let here = subst (λ (x : Begun). IsRefusedAt limits es x next f) same.begun_is (subst (λ (xs : List Dataset). IsRefusedAt limits xs c next f) same.whole_is bad) in
+    let here = subst (λ (x : Begun). IsRefusedAt limits es x next f) same.begun_is
+    (subst (λ (xs : List Dataset). IsRefusedAt limits xs c next f) same.whole_is bad) in
     one_step laws limits es d next f g here dead
+
+-- ---- with a refused octet nothing lives
+
+none_lives : AnswerLaws → (limits : Limits) (octets more : List ℕ) (next : ℕ) (fault : TokenFault) (ds : List Dataset) (b : Begun)
+    → Reads count_octets octets ds b → IsRefusedAt limits ds b next fault → fault.cause ≢ causes.Sink → Lives limits (octets ++ next ∷ more) → ⊥
+none_lives laws limits octets more next fault ds (InTag held) reads (inl (dead, is)) other lives =
+    laws.stuck octets more next ds held lives.whole lives.begun reads dead lives.reads
+none_lives laws limits octets more next fault ds (InTag held) reads (inr (h, tag, inl bad)) other lives =
+    let f = tag_follows laws octets more next lives.whole lives.begun lives.reads ds held h reads tag in
+    head_dead laws limits lives.whole lives.begun lives.leads_on ds h more fault f bad
+none_lives laws limits octets more next fault ds (InTag held) reads (inr (h, tag, inr (value, none, all, bad))) other lives =
+    let f = tag_follows laws octets more next lives.whole lives.begun lives.reads ds held h reads tag in
+    no_value laws limits lives.whole lives.begun lives.leads_on ds h more [] more fault f refl (sym none) bad
+none_lives laws limits octets more next fault ds (InData h taken) reads (inl (eight, cause, has, is)) other lives =
+    let f = data_follows laws octets more next lives.whole lives.begun lives.reads ds h taken reads in
+    let (tail, object_is) = object_on lives.whole lives.begun ds h taken more next eight reads.is_rest.2 f in
+    let o : List ℕ = object_of ds ++ taken in
+    octet_dead cause o next (λ sink. other (ap (λ (x : TokenFault). x.cause) is ∙ ap (λ (x : MessageCause). (message_on h x).cause) sink)) has
+    (message_of limits lives.whole lives.begun lives.leads_on (o ++ next ∷ []) tail object_is)
+    (story_of limits lives.whole lives.begun lives.leads_on (o ++ next ∷ []) tail object_is)
+none_lives laws limits octets more next fault ds (InData h taken) reads (inr (value, many, bad)) other lives =
+    let f = data_follows laws octets more next lives.whole lives.begun lives.reads ds h taken reads in
+    no_value laws limits lives.whole lives.begun lives.leads_on ds h (taken ++ next ∷ more) (taken ++ next ∷ []) more fault f
+    (sym (append_assoc taken (next ∷ []) more)) many bad
+
+pub nothing_continues : AnswerLaws → RefusalsTellTheLowestCause → NothingContinuesFromRefusedOctets
+nothing_continues laws tests limits octets more next fault kills = (
+  λ is. none_lives laws limits octets more next fault found.0 found.1 found.2 found.5 kills.by_octets (lives_open limits (octets ++ next ∷ more) is),
+  λ v is. none_lives laws limits octets more next fault found.0 found.1 found.2 found.5 kills.by_octets (lives_envelope laws limits (octets ++ next ∷ more) v is),
+)
+  where
+    found : Refuses limits octets next fault
+    found = refuses_by laws limits octets next fault ((tests limits octets next fault).0 kills.refuses).1
 
 -- ---- one answer
 
