@@ -1,6 +1,14 @@
 -- A stream has one answer: what is refused, what is open and what is an envelope exclude one another.
 use Rattle.std.proofs.Common.{◌≡◌, ◌≢◌, ℕ, zero, suc, ◌-◌, ◌^◌, ◌<◌, ◌≤◌, ◌⊎◌, Bool, false, nat_eq, if◌then◌else◌, List, [], ◌∷◌, ◌++◌, length, take, drop, slice_index, map, refl, ap, sym, subst, ◌∙◌, inl, inr, arith, append-nil, append_assoc, length-append}
-use Rattle.iim_places.proofs.Words.{cases_lt, ne_eqb, same_Some, eqb_tells, map-append, take-append-drop, take-take, Dataset, SpellsTag, SpellsDataset, SpellsStream, head_of, count_octets, Begun, InTag, InData, IsBegun, Reads, BeginsNoTag, handed_on, Head, AreSections, SectionsLive, section_after, data_of, Limits, AreSized, Holds, Octet, End, MessageLanguage, MessageLivesWith, MessageDiesAt, StoryLivesIn, text_so_far, HasCause, MessageCause, Value, Admits, object_of, begun_record, begun_number, tag_cause, refusal_at, message_on, AdmittedOctetsHaveOneValue, NoAdmittedOctetsBeginOthers, IsTextOf, object_so_far, AllCanContinue, IsUnfinished, IsOpen, RefusesByTests, RefusesNext, truncated_in, IsRefusedHead, IsRefusedValue, OpenOctetsBeginWithNoEnvelope, EnvelopesAreBounded, NothingContinuesFromRefusedOctets, RefusalsAreDetermined, StreamsHaveOneAnswer, IsEnvelopeWithin, Finished, Refused, Truncated, IsFinished, IsRefused, IsTruncated, TokenFault, AnswerLaws}
+use Rattle.iim_places.proofs.Words.{cases_lt, ne_eqb, same_Some, eqb_tells, map-append, take-append-drop, take-take, Dataset, SpellsTag, SpellsDataset}
+use Rattle.iim_places.proofs.Words.{SpellsStream, head_of, count_octets, Begun, InTag, InData, IsBegun, Reads, BeginsNoTag, handed_on, Head, AreSections}
+use Rattle.iim_places.proofs.Words.{SectionsLive, section_after, data_of, Limits, AreSized, Holds, Octet, End, MessageLanguage, MessageLivesWith, MessageDiesAt}
+use Rattle.iim_places.proofs.Words.{StoryLivesIn, text_so_far, HasCause, MessageCause, Value, Admits, object_of, begun_record, begun_number, tag_cause}
+use Rattle.iim_places.proofs.Words.{refusal_at, message_on, AdmittedOctetsHaveOneValue, NoAdmittedOctetsBeginOthers, IsTextOf, object_so_far, AllCanContinue}
+use Rattle.iim_places.proofs.Words.{IsUnfinished, IsOpen, RefusesByTests, RefusesNext, truncated_in, IsRefusedHead, IsRefusedValue}
+use Rattle.iim_places.proofs.Words.{OpenOctetsBeginWithNoEnvelope, EnvelopesAreBounded, NothingContinuesFromRefusedOctets, RefusalsAreDetermined}
+use Rattle.iim_places.proofs.Words.{StreamsHaveOneAnswer, IsEnvelopeWithin, Finished, Refused, Truncated, IsFinished, IsRefused, IsTruncated, TokenFault}
+use Rattle.iim_places.proofs.Words.{AnswerLaws}
 use Rattle.iim_dataset.specs.Format.Completing.{CompletesData}
 use Rattle.iim_dataset.specs.Format.Languages as languages
 use Rattle.iim_dataset.proofs.Spelled.{tag_length}
@@ -369,7 +377,8 @@ none_lives laws limits octets more next fault ds (InData h taken) reads (inr (va
 pub nothing_continues : AnswerLaws → RefusalsTellTheLowestCause → NothingContinuesFromRefusedOctets
 nothing_continues laws tests limits octets more next fault kills = (
   λ is. none_lives laws limits octets more next fault found.0 found.1 found.2 found.5 kills.by_octets (lives_open limits (octets ++ next ∷ more) is),
-  λ v is. none_lives laws limits octets more next fault found.0 found.1 found.2 found.5 kills.by_octets (lives_envelope laws limits (octets ++ next ∷ more) v is),
+  λ v is. none_lives laws limits octets more next fault found.0 found.1 found.2 found.5 kills.by_octets
+      (lives_envelope laws limits (octets ++ next ∷ more) v is),
 )
   where
     found : Refuses limits octets next fault

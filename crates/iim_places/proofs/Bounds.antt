@@ -1,7 +1,13 @@
 -- How many octets are open at most.
-use Rattle.std.proofs.Common.{◌≡◌, ℕ, ◌+◌, ◌*◌, ◌<◌, ◌≤◌, ◌⊎◌, ◌||◌, ◌^◌, ◌-◌, nat_eq, cond, if◌then◌else◌, Bool, true, false, List, [], ◌∷◌, ◌++◌, length, map, sum, Option, Some, None, refl, ap, sym, subst, ◌∙◌, inl, inr, arith, append_assoc, length-append}
+use Rattle.std.proofs.Common.{◌≡◌, ℕ, ◌+◌, ◌*◌, ◌<◌, ◌≤◌, ◌⊎◌, ◌||◌, ◌^◌, ◌-◌, nat_eq, cond, if◌then◌else◌, Bool, true, false, List, [], ◌∷◌, ◌++◌, length, map}
+use Rattle.std.proofs.Common.{sum, Option, Some, None, refl, ap, sym, subst, ◌∙◌, inl, inr, arith, append_assoc, length-append}
 use Rattle.std.proofs.Math.Nat.{pow-le-pow_right}
-use Rattle.iim_places.proofs.Words.{AllByRecursion, eqb-true, eq-eqb, Octets, number, greatest_size, within, all_append, all_front, all_back, all_map, Meets, Dataset, SpellsStream, count_octets, of_record, tag_octets, Begun, InTag, InData, IsBegun, Head, within_most_and, sum_cons, number-lt, AreRecords, AreSections, records, IsGoodDataset, SectionsLive, SectionsLiveAt, kept, is_kept, NoSectionsBeginOthers, EnvelopesEndWithTheLastRecord, Limits, ObjectToken, NumberRead, SubfileBegun, ObjectEnded, Confirmed, number_tokens, ending_tokens, tokens_of, place_after, place_after_datasets, place_ended, lengths_of, numbers_of, Stated, AreStated, AreOnce, InRow, number_at, MayContinue, CanContinueAt, ObjectLives, OpenOctetsAreBounded, AreWithin, eqb_tells}
+use Rattle.iim_places.proofs.Words.{AllByRecursion, eqb-true, eq-eqb, Octets, number, greatest_size, within, all_append, all_front, all_back, all_map, Meets}
+use Rattle.iim_places.proofs.Words.{Dataset, SpellsStream, count_octets, of_record, tag_octets, Begun, InTag, InData, IsBegun, Head, within_most_and, sum_cons}
+use Rattle.iim_places.proofs.Words.{number-lt, AreRecords, AreSections, records, IsGoodDataset, SectionsLive, SectionsLiveAt, kept, is_kept}
+use Rattle.iim_places.proofs.Words.{NoSectionsBeginOthers, EnvelopesEndWithTheLastRecord, Limits, ObjectToken, NumberRead, SubfileBegun, ObjectEnded, Confirmed}
+use Rattle.iim_places.proofs.Words.{number_tokens, ending_tokens, tokens_of, place_after, place_after_datasets, place_ended, lengths_of, numbers_of, Stated}
+use Rattle.iim_places.proofs.Words.{AreStated, AreOnce, InRow, number_at, MayContinue, CanContinueAt, ObjectLives, OpenOctetsAreBounded, AreWithin, eqb_tells}
 use Rattle.std.proofs.lemmas.List.Sums.{sum_by-append}
 use Rattle.iim_tables.specs.Format.Numbers.{size_octets}
 use Rattle.iim_tables.specs.Format.Rows.{table, row_of}

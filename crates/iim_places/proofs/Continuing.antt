@@ -1,6 +1,11 @@
 -- Octets that lead to one place continue alike.
-use Rattle.std.proofs.Common.{◌≡◌, ℕ, ◌+◌, nat_eq, cond, if◌then◌else◌, Bool, true, false, List, [], ◌∷◌, ◌++◌, length, Some, refl, ap, sym, subst, ◌∙◌, inl, inr, arith, append_assoc, append-nil}
-use Rattle.iim_places.proofs.Words.{append_cancel_left, Dataset, SpellsStream, count_octets, of_record, Begun, InTag, InData, Reads, Head, SectionsLive, SectionsLiveAt, kept, section_after, AreSections, Limits, ending_of, HaveSizes, mode_number, Sizes, text_so_far, LeadsToSaved, MessagePlace, Value, Admits, object_of, are_ended, AreAlike, ContinueAlike, PlacesContinueAlike, NoAdmittedOctetsBeginOthers, AllCanContinue, object_so_far, Delivers, IsOpen, IsTextOf, IsEnvelopeWithin, CanContinue, TagBegun, AllEnded, IsPlaceOf, heads_of, phase_of, place_of, OpenOctetsBeginWithNoEnvelope, OnwardLaws, nil_from_length}
+use Rattle.std.proofs.Common.{◌≡◌, ℕ, ◌+◌, nat_eq, cond, if◌then◌else◌, Bool, true, false, List, [], ◌∷◌, ◌++◌, length, Some, refl, ap, sym, subst, ◌∙◌, inl}
+use Rattle.std.proofs.Common.{inr, arith, append_assoc, append-nil}
+use Rattle.iim_places.proofs.Words.{append_cancel_left, Dataset, SpellsStream, count_octets, of_record, Begun, InTag, InData, Reads, Head, SectionsLive}
+use Rattle.iim_places.proofs.Words.{SectionsLiveAt, kept, section_after, AreSections, Limits, ending_of, HaveSizes, mode_number, Sizes, text_so_far}
+use Rattle.iim_places.proofs.Words.{LeadsToSaved, MessagePlace, Value, Admits, object_of, are_ended, AreAlike, ContinueAlike, PlacesContinueAlike}
+use Rattle.iim_places.proofs.Words.{NoAdmittedOctetsBeginOthers, AllCanContinue, object_so_far, Delivers, IsOpen, IsTextOf, IsEnvelopeWithin, CanContinue}
+use Rattle.iim_places.proofs.Words.{TagBegun, AllEnded, IsPlaceOf, heads_of, phase_of, place_of, OpenOctetsBeginWithNoEnvelope, OnwardLaws, nil_from_length}
 use Rattle.wire_story.specs.Format.Delivery as story
 use Rattle.wire_message.specs.States.SoFar.{LeadsTo}
 use Rattle.wire_message.specs.declared.place.Place.TheVariants as at_message
@@ -91,7 +96,8 @@ on_data laws limits p q ds es h k t v e r s same pair more =
 
 on_as : OnwardLaws → (limits : Limits) (p q : List ℕ) (ds es : List Dataset) (c d : Begun) → Reads count_octets p ds c → Reads count_octets q es d → OpenPair limits ds es c d → (more : List ℕ) → Onward limits p q ds es c d more
 on_as laws limits p q ds es (InTag x) (InTag y) r s both more W b w goes =
-    tag_on laws limits p q more ds es x r (subst (λ (l : List ℕ). Reads count_octets q es (InTag l)) (sym both.begun) s) (before_of limits ds es x y both.pair) W b w goes
+    tag_on laws limits p q more ds es x r (subst (λ (l : List ℕ). Reads count_octets q es (InTag l)) (sym both.begun) s)
+    (before_of limits ds es x y both.pair) W b w goes
 on_as laws limits p q ds es (InTag x) (InData k v) r s both more W b w goes = absurd both.begun
 on_as laws limits p q ds es (InData h t) (InTag y) r s both more W b w goes = absurd both.begun
 on_as laws limits p q ds es (InData h t) (InData k v) r s both more W b w goes = on_data laws limits p q ds es h k t v both.begun.head r s both.begun both.pair more W b w goes

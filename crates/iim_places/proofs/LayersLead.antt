@@ -1,6 +1,16 @@
 -- A place where each layer alone can be is possible: its plain octets lead there.
-use Rattle.std.proofs.Common.{IsTrue, ◌≡◌, ℕ, ◌+◌, ◌*◌, ◌-◌, ◌<◌, ◌≤◌, ◌^◌, nat_eq, if◌then◌else◌, Bool, true, false, List, [], ◌∷◌, ◌++◌, length, map, sum, take, drop, Option, Some, None, IfSome, refl, ap, sym, subst, ◌∙◌, inl, inr, arith, append-nil, length-append, length-drop}
-use Rattle.iim_places.proofs.Words.{AllByRecursion, unwrap_or, eqb-true, eqb_tells, length-take, take-append-drop, nil_from_length, IsOctet, Octets, greatest_size, Dataset, SpellsTag, SpellsStream, canonical_stream, count_octets, of_record, HasSpellings, Begun, InTag, InData, IsBegun, BeginsTag, Head, all_append, all_front, all_back, front_are, sum_fits, sum_append, SectionsLive, SectionsLiveAt, is_kept, kept, section_after, IsGoodDataset, IsWithin, head_alive, place_after_datasets, place_ended, ending_of, ObjectEnded, Confirmed, SubfileBegun, subfile_datasets, Ending, NotEnded, Ended, ConfirmedAs, place_after, lengths_of, numbers_of, IsPossible, LastIsBegun, stated_numbers, AreStated, number_at, Octet, End, MessageLanguage, LeadsToSaved, MessagePlace, object_of, IsSize, LeadsByLayers, record_datasets, one_of_some, head_of_numbers, AreWithin, object_so_far, section, AllCanContinue, AreSpellable, begun_object, plain_place, Numbers, number_list, filled, plain_end, plain, Possible, AreOpenOrWhole, widest, Phase, TagBegun, DataBegun, AllEnded, IsPlaceOf, place_at, ObjectLives, MayContinue, ByLayersLaws, SizeLaws, begun_count, begun_fields}
+use Rattle.std.proofs.Common.{IsTrue, ◌≡◌, ℕ, ◌+◌, ◌*◌, ◌-◌, ◌<◌, ◌≤◌, ◌^◌, nat_eq, if◌then◌else◌, Bool, true, false, List, [], ◌∷◌, ◌++◌, length, map, sum}
+use Rattle.std.proofs.Common.{take, drop, Option, Some, None, IfSome, refl, ap, sym, subst, ◌∙◌, inl, inr, arith, append-nil, length-append, length-drop}
+use Rattle.iim_places.proofs.Words.{AllByRecursion, unwrap_or, eqb-true, eqb_tells, length-take, take-append-drop, nil_from_length, IsOctet, Octets}
+use Rattle.iim_places.proofs.Words.{greatest_size, Dataset, SpellsTag, SpellsStream, canonical_stream, count_octets, of_record, HasSpellings, Begun, InTag}
+use Rattle.iim_places.proofs.Words.{InData, IsBegun, BeginsTag, Head, all_append, all_front, all_back, front_are, sum_fits, sum_append, SectionsLive}
+use Rattle.iim_places.proofs.Words.{SectionsLiveAt, is_kept, kept, section_after, IsGoodDataset, IsWithin, head_alive, place_after_datasets, place_ended}
+use Rattle.iim_places.proofs.Words.{ending_of, ObjectEnded, Confirmed, SubfileBegun, subfile_datasets, Ending, NotEnded, Ended, ConfirmedAs, place_after}
+use Rattle.iim_places.proofs.Words.{lengths_of, numbers_of, IsPossible, LastIsBegun, stated_numbers, AreStated, number_at, Octet, End, MessageLanguage}
+use Rattle.iim_places.proofs.Words.{LeadsToSaved, MessagePlace, object_of, IsSize, LeadsByLayers, record_datasets, one_of_some, head_of_numbers, AreWithin}
+use Rattle.iim_places.proofs.Words.{object_so_far, section, AllCanContinue, AreSpellable, begun_object, plain_place, Numbers, number_list, filled, plain_end}
+use Rattle.iim_places.proofs.Words.{plain, Possible, AreOpenOrWhole, widest, Phase, TagBegun, DataBegun, AllEnded, IsPlaceOf, place_at, ObjectLives}
+use Rattle.iim_places.proofs.Words.{MayContinue, ByLayersLaws, SizeLaws, begun_count, begun_fields}
 use Rattle.iim_dataset.specs.Format.Languages as languages
 use Rattle.iim_fields.specs.Format.Faults.{joined}
 use Rattle.iim_object.specs.Format.Places as objects
@@ -101,7 +111,8 @@ finish laws place numbers heads object ended begun rest text spellable is_begun 
         let o_is : object_so_far ds begun ≡ object_of ds = ap (object_so_far ds) no_more.0 in
         let m = whole_saved (object_of ds) text place.message (subst (λ (o : List ℕ). LeadsToSaved o text place.message) o_is here) (last section9) in
         let all = enveloped laws.opens widest (canonical_stream ds ++ []) ds m.head m.text m.trailer m.lined.0
-        (subst (SpellsStream count_octets ds) (sym (append-nil (canonical_stream ds))) spelled) (subst (MayContinue widest ds) no_more.0 goes) nine m.message m.lined.1 in
+        (subst (SpellsStream count_octets ds) (sym (append-nil (canonical_stream ds))) spelled)
+        (subst (MayContinue widest ds) no_more.0 goes) nine m.message m.lined.1 in
         subst (λ (r : List ℕ). AreOpenOrWhole widest (canonical_stream ds ++ r)) (sym no_more.1) (inr (_, all.within))
 
     by : (b : Bool) → ended ≡ b → AreOpenOrWhole widest (canonical_stream ds ++ rest)
@@ -274,7 +285,11 @@ lead_whole laws place numbers p ended held o text l end' total alive present is_
         let taken_is : place.taken ≡ length (o ++ []) = sym l.come ∙ sym (ap length (append-nil o)) in
         let heads_are : place.heads ≡ place.heads + 0 = omega arith in
         λ i. record place {
-          section = (sym present ∙ base.on.present) i; phase = phase_is i; numbers = l.numbers_are i; taken = taken_is i; heads = heads_are i;
+          section = (sym present ∙ base.on.present) i;
+          phase = phase_is i;
+          numbers = l.numbers_are i;
+          taken = taken_is i;
+          heads = heads_are i;
         }
 
 abbrev place_with : (section : ℕ) (phase : Phase) (fields : List Dataset) (nums : List (Option ℕ)) (taken heads : ℕ) (m : MessagePlace) → Place
@@ -360,7 +375,8 @@ lead_other laws place numbers p e h left taken o text tag l end' total at sectio
         kept = room_kept place.fields (kept ds) h base.tell.kept_are within;
         subfiles = λ eight. absurd (let bad : true ≡ false = ap (λ (n : ℕ). nat_eq n 8) (sym eight) ∙ not8 in cc);
       };
-      object = lives_at ds (ap ending_of base.tell.nines_are) (after_plain laws place.fields numbers place.heads o false p e base l.same l.is l.many total end');
+      object = lives_at ds (ap ending_of base.tell.nines_are)
+          (after_plain laws place.fields numbers place.heads o false p e base l.same l.is l.many total end');
     })
     (λ bad. absurd (let no' : false ≡ true = bad in cc)) place_is
   where
@@ -383,7 +399,8 @@ lead_other laws place numbers p e h left taken o text tag l end' total at sectio
         let taken_is : place.taken ≡ length (o ++ (if nat_eq h.rec 8 then taken else [])) =
         sym l.come ∙ sym (ap length (append-nil o)) ∙ sym (ap (λ (b : Bool). length (o ++ (if b then taken else []))) not8) in
         let zero' : place.heads ≡ place.heads + 0 = omega arith in
-        let heads_are : place.heads ≡ place.heads + (if nat_eq h.rec 8 then 1 else 0) = zero' ∙ sym (ap (λ (b : Bool). place.heads + (if b then 1 else 0)) not8) in
+        let heads_are : place.heads ≡ place.heads + (if nat_eq h.rec 8 then 1 else 0) =
+        zero' ∙ sym (ap (λ (b : Bool). place.heads + (if b then 1 else 0)) not8) in
         λ i. record place { section = section_is i; phase = phase_is i; numbers = l.numbers_are i; taken = taken_is i; heads = heads_are i }
 
 -- in a subfile
@@ -466,7 +483,8 @@ lead_subfile laws place numbers p set count left o text tag l end' last at secti
         let told = base.tell.numbers_are in
         let here : number_at 20 (numbers_of (of_record 7 ds)) ≡ numbers.largest = cc in
         let largest : number_at 20 p.stated ≡ Some size = sym (numbers_same numbers p.stated l.same).largest ∙ sym here ∙ e in
-        (all_back (λ n. n ≤ size) last.finished (count ∷ []) (subst (AllByRecursion (λ n. n ≤ size)) last.lengths_are (each_small laws.opens.sizes p l.is size largest (omega (arith, lengths_many))))).0
+        (all_back (λ n. n ≤ size) last.finished (count ∷ []) (subst (AllByRecursion (λ n. n ≤ size)) last.lengths_are
+        (each_small laws.opens.sizes p l.is size largest (omega (arith, lengths_many))))).0
 
     lives : ObjectLives (place_after (place_after_datasets ds) (SubfileBegun count))
     lives =
@@ -478,8 +496,10 @@ lead_subfile laws place numbers p set count left o text tag l end' last at secti
         let total = total_of (of_record 8 ds) in
         let object_is = ap length base.tell.object_is in
         let added : sum (ls ++ count ∷ []) ≡ sum ls + count = sum_append ls (count ∷ []) ∙ ap (λ (n : ℕ). sum ls + n) (sum_one count) in
-        (possible_like laws.opens.sizes p q l.is stated (sym l.same ∙ sym base.tell.numbers_are) (omega (arith, count_is, told, longer, heads_are, lengths_many)) (omega (arith, sums, added, total, object_is, object_length, finished_is))
-        (λ size e. all_append (λ n. n ≤ size) ls (count ∷ []) (small_in place.fields numbers heads object false base.tell size e) (small size e, tt)) (end' ∙ sym (ap ending_of base.tell.nines_are))).alive
+        (possible_like laws.opens.sizes p q l.is stated (sym l.same ∙ sym base.tell.numbers_are)
+        (omega (arith, count_is, told, longer, heads_are, lengths_many)) (omega (arith, sums, added, total, object_is, object_length, finished_is))
+        (λ size e. all_append (λ n. n ≤ size) ls (count ∷ []) (small_in place.fields numbers heads object false base.tell size e) (small size e, tt))
+        (end' ∙ sym (ap ending_of base.tell.nines_are))).alive
 
     place_is : place ≡ plain_place place.fields numbers heads object false (InData h begun) place.message
     place_is =
@@ -516,7 +536,8 @@ at_others h not8 not9 ds none lives =
 lead_not_eight : ByLayersLaws → (section set count left : ℕ) (given : List ℕ) (fields : List Dataset) (nums : List (Option ℕ)) (taken heads : ℕ) (m : MessagePlace) → nat_eq section 8 ≡ false
     → LeadsByLayers (place_with section (DataBegun set count left given) fields nums taken heads m) → Possible (place_with section (DataBegun set count left given) fields nums taken heads m)
 lead_not_eight laws section set count left given fields nums taken heads m not8 l =
-    let at : IsAt nums taken None heads l.object.0 = subst (λ (b : Bool). IsAt nums taken (if b then Some (count, left) else None) heads l.object.0) not8 l.object.1 in
+    let at : IsAt nums taken None heads l.object.0 =
+    subst (λ (b : Bool). IsAt nums taken (if b then Some (count, left) else None) heads l.object.0) not8 l.object.1 in
     let total = at.octets ∙ sym l.message.3 in
     by (nat_eq section 9) refl (sym l.numbers_are ∙ at.numbers_are) at.not_ended at.subfiles total l.object.2
   where

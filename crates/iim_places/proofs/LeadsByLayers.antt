@@ -1,6 +1,13 @@
 -- At a possible place each layer alone can be.
-use Rattle.std.proofs.Common.{◌≡◌, ℕ, zero, suc, ◌+◌, ◌-◌, ◌<◌, ◌≤◌, nat_eq, cond, if◌then◌else◌, Bool, true, false, List, [], ◌∷◌, ◌++◌, length, map, Some, None, refl, ap, sym, subst, ◌∙◌, inl, inr, arith, append-nil, length-append}
-use Rattle.iim_places.proofs.Words.{eqb-true, eqb_tells, Octets, Dataset, count_octets, of_record, Begun, InTag, InData, Reads, Head, sum_append, SectionsLive, SectionsLiveAt, kept, section_after, Limits, place_after_datasets, place_ended, ending_of, ObjectEnded, SubfileBegun, NotEnded, ConfirmedAs, place_after, max_subfiles, lengths_of, numbers_of, IsPossible, stated_numbers, Octet, End, MessageLanguage, MessagesEndAfterEot, LeadsToSaved, MessagePlace, object_of, LeadsByLayers, TagsLead, RecordsLive, ObjectLeads, MessageLeads, record_datasets, begun_subfiles, begun_of_object, object_after, one_of_some, are_ended, object_so_far, section, AllCanContinue, plain, Possible, widest, Phase, TagBegun, AllEnded, phase_of, place_of, ObjectLives, CanContinueAt, MayContinue, ByLayersLaws, OpenLaws}
+use Rattle.std.proofs.Common.{◌≡◌, ℕ, zero, suc, ◌+◌, ◌-◌, ◌<◌, ◌≤◌, nat_eq, cond, if◌then◌else◌, Bool, true, false, List, [], ◌∷◌, ◌++◌, length, map, Some}
+use Rattle.std.proofs.Common.{None, refl, ap, sym, subst, ◌∙◌, inl, inr, arith, append-nil, length-append}
+use Rattle.iim_places.proofs.Words.{eqb-true, eqb_tells, Octets, Dataset, count_octets, of_record, Begun, InTag, InData, Reads, Head, sum_append, SectionsLive}
+use Rattle.iim_places.proofs.Words.{SectionsLiveAt, kept, section_after, Limits, place_after_datasets, place_ended, ending_of, ObjectEnded, SubfileBegun}
+use Rattle.iim_places.proofs.Words.{NotEnded, ConfirmedAs, place_after, max_subfiles, lengths_of, numbers_of, IsPossible, stated_numbers, Octet, End}
+use Rattle.iim_places.proofs.Words.{MessageLanguage, MessagesEndAfterEot, LeadsToSaved, MessagePlace, object_of, LeadsByLayers, TagsLead, RecordsLive}
+use Rattle.iim_places.proofs.Words.{ObjectLeads, MessageLeads, record_datasets, begun_subfiles, begun_of_object, object_after, one_of_some, are_ended}
+use Rattle.iim_places.proofs.Words.{object_so_far, section, AllCanContinue, plain, Possible, widest, Phase, TagBegun, AllEnded, phase_of, place_of, ObjectLives}
+use Rattle.iim_places.proofs.Words.{CanContinueAt, MayContinue, ByLayersLaws, OpenLaws}
 use Rattle.iim_dataset.specs.Format.Languages as languages
 use Rattle.iim_object.specs.Format.Places as objects
 use Rattle.iim_object.specs.States.Saved.{IsAt}

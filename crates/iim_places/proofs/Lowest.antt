@@ -469,7 +469,8 @@ pub same_head : (h : Head) (xs : List ℕ) → length xs ≡ h.count → h ≡ h
 same_head h xs many = λ i. record { rec = h.rec; set = h.set; count = sym many i }
 
 by_step : LowestLaws → (limits : Limits) (octets : List ℕ) (next : ℕ) (fault : TokenFault) → IsOctet next → (ds : List Dataset) (b : Begun)
-    → Reads count_octets octets ds b → AllCanContinue limits ds b → (AreSections ds → ⊥) → IsRefusedAt limits ds b next fault → RefusesNext limits octets next fault
+    → Reads count_octets octets ds b → AllCanContinue limits ds b → (AreSections ds → ⊥) → IsRefusedAt limits ds b next fault
+    → RefusesNext limits octets next fault
 by_step laws limits octets next fault low ds b reads all open' = by b reads all
   where
     made : (b : Begun) → Reads count_octets octets ds b → AllCanContinue limits ds b → (f : TokenFault) (token : Token) → Completes limits ds b next token

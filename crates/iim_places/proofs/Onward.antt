@@ -1,6 +1,10 @@
 -- Octets that lead to one place read on alike: what follows the one is read alike after the other, and every layer can continue from it.
 use Rattle.std.proofs.Common.{◌≡◌, ℕ, ◌<◌, ◌≤◌, ◌&&◌, nat_eq, cond, not, if◌then◌else◌, Bool, true, false, List, [], ◌∷◌, ◌++◌, length, map, Option, Some, None, refl, ap, sym, subst, ◌∙◌, inl, inr, arith, append_assoc, append-nil, length-append}
-use Rattle.iim_places.proofs.Words.{append_cancel_left, AllByRecursion, eqb_tells, IsOctet, Octets, greatest_size, within, Dataset, SpellsStream, SpellsTag, head_of, count_octets, of_record, all_back, octets_append, Begun, InTag, InData, Reads, Head, SectionsLive, SectionsLiveAt, fault_by_row, section_after, value_fault, ValuesDieWithTheirFault, AreSections, occurs, data_of, FieldFault, Limits, last_more, max_subfiles, Octet, End, MessageLanguage, MessageLivesWith, StoryLivesIn, object_of, AreWithin, AllCanContinue, object_so_far, section, MayContinue, OnwardLaws, compare}
+use Rattle.iim_places.proofs.Words.{append_cancel_left, AllByRecursion, eqb_tells, IsOctet, Octets, greatest_size, within, Dataset, SpellsStream, SpellsTag}
+use Rattle.iim_places.proofs.Words.{head_of, count_octets, of_record, all_back, octets_append, Begun, InTag, InData, Reads, Head, SectionsLive, SectionsLiveAt}
+use Rattle.iim_places.proofs.Words.{fault_by_row, section_after, value_fault, ValuesDieWithTheirFault, AreSections, occurs, data_of, FieldFault, Limits}
+use Rattle.iim_places.proofs.Words.{last_more, max_subfiles, Octet, End, MessageLanguage, MessageLivesWith, StoryLivesIn, object_of, AreWithin, AllCanContinue}
+use Rattle.iim_places.proofs.Words.{object_so_far, section, MayContinue, OnwardLaws, compare}
 use Rattle.iim_dataset.specs.Format.Languages as languages
 use Rattle.iim_tables.specs.Format.Rows.{table, row_of}
 use Rattle.iim_tables.specs.declared.shape.Row.{Row}
@@ -96,7 +100,8 @@ section_on ds es xs (InData h taken) same = refl
 
 alive_on : (ds es xs : List Dataset) → Before ds es → SectionsLive (ds ++ xs) → SectionsLive (es ++ xs)
 alive_on ds es xs b (later, are) =
-    (later, subst AreSections (sym (append_assoc es xs later)) (follows_as ds es b.there b.present b.twins.seen (xs ++ later) (subst AreSections (append_assoc ds xs later) are)))
+    let both = follows_as ds es b.there b.present b.twins.seen (xs ++ later) (subst AreSections (append_assoc ds xs later) are) in
+    (later, subst AreSections (sym (append_assoc es xs later)) both)
 
 pub bounded_of : OnwardLaws → (limits : Limits) (ds : List Dataset) (c : Begun) → MayContinue limits ds c → AreBounded (sevens ds) (eights ds)
 bounded_of laws limits ds c goes =

@@ -1,5 +1,6 @@
 -- Plain datasets tell their place.
-use Rattle.std.proofs.Common.{◌≡◌, ℕ, zero, suc, ◌+◌, ◌*◌, ◌<◌, ◌≤◌, nat_eq, cond, Bool, true, false, List, [], ◌∷◌, ◌++◌, length, take, drop, Option, Some, None, refl, ap, sym, ◌∙◌, arith, append-nil, length-drop, subst, IfSome, inl, inr}
+use Rattle.std.proofs.Common.{◌≡◌, ℕ, zero, suc, ◌+◌, ◌*◌, ◌<◌, ◌≤◌, nat_eq, cond, Bool, true, false, List, [], ◌∷◌, ◌++◌, length, take, drop, Option, Some}
+use Rattle.std.proofs.Common.{None, refl, ap, sym, ◌∙◌, arith, append-nil, length-drop, subst, IfSome, inl, inr}
 use Rattle.iim_places.proofs.Words.{AllByRecursion, filter, unwrap_or, eqb-true, or_cases, ne_eqb, take-append-drop, length-take, filter-append, few_octets}
 use Rattle.iim_places.proofs.Words.{number_back, IsOctet, Octets, number, greatest_size, Dataset, canonical_stream, of_record, all_append, all_map, front_are}
 use Rattle.iim_places.proofs.Words.{Begun, InTag, InData, HasSpellings, CanonicalStreamsAreSpelled, kept, is_kept, last_record, section_after, numbers_of}

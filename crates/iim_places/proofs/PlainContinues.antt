@@ -1,5 +1,6 @@
 -- Plain datasets continue as those do for which they stand.
-use Rattle.std.proofs.Common.{◌≡◌, ℕ, zero, suc, ◌+◌, ◌≤◌, ◌||◌, nat_eq, cond, Bool, true, false, List, [], ◌∷◌, ◌++◌, length, Option, Some, None, IfSome, is_some, refl, ap, sym, subst, ◌∙◌, inl, inr, arith, append-nil, length-drop, take, drop, append_assoc, ◌⊎◌, ◌*◌}
+use Rattle.std.proofs.Common.{◌≡◌, ℕ, zero, suc, ◌+◌, ◌≤◌, ◌||◌, nat_eq, cond, Bool, true, false, List, [], ◌∷◌, ◌++◌, length, Option, Some, None, IfSome}
+use Rattle.std.proofs.Common.{is_some, refl, ap, sym, subst, ◌∙◌, inl, inr, arith, append-nil, length-drop, take, drop, append_assoc, ◌⊎◌, ◌*◌}
 use Rattle.iim_places.proofs.Words.{length-take, AllByRecursion, flat_map, unwrap_or, eqb-true, eq-eqb, filter-append, list_any-append, Octets, number}
 use Rattle.iim_places.proofs.Words.{greatest_size, Dataset, of_record, all_append, all_back, all_front, front_are, number_back, Meets, SectionsLive, kept}
 use Rattle.iim_places.proofs.Words.{is_kept, section_after, last_record, AreSections, AreRecords, records, IsGoodDataset, IsGoodRecord, occurs, occurrences}
@@ -12,7 +13,8 @@ use Rattle.iim_object.specs.Laws.Packing.{NumberDatasetsAreGood}
 use Rattle.iim_places.proofs.SizeRows.{by_number}
 use Rattle.iim_places.proofs.Plain.{AreOf, one_stated, are_told, four_told, filled_count, all_of, none_of, back_octets, Tell, plain_told}
 use Rattle.iim_places.proofs.PlainPlaces.{all_kept, numbers_in, end_length}
-use Rattle.iim_places.proofs.SameRecords.{occurs_stated, same_stated, same_numbers, stated_after_all, tens_after, SameRecords, same_shape, tens_seen, AreTens, none_in_records}
+use Rattle.iim_places.proofs.SameRecords.{occurs_stated, same_stated, same_numbers, stated_after_all, tens_after, SameRecords, same_shape, tens_seen, AreTens}
+use Rattle.iim_places.proofs.SameRecords.{none_in_records}
 use Rattle.iim_places.proofs.Fronts.{empty_front}
 use Rattle.iim_places.proofs.Taking.{each_good}
 use Rattle.iim_fields.proofs.Follows.{alive_follows, is_coming}
@@ -119,7 +121,8 @@ parted (x ∷ a) b (y ∷ c) d e =
 -- Datasets with others for each run continue alike, and their last record is the same.
 swapped : (own : ℕ → List Dataset) (rs : List ℕ) (ds more : List Dataset) → AreApart rs → MayAll own rs ds → AreRecords rs (ds ++ more)
     → AreRecords rs (flat_map own rs ++ more) × ((k : ℕ) → last_record k ds ≡ last_record k (flat_map own rs))
-swapped own [] ds more apart may none = (ap (λ (xs : List Dataset). xs ++ more) (sym (empty_front ds more none)) ∙ none, λ k. ap (last_record k) (empty_front ds more none))
+swapped own [] ds more apart may none =
+    let nil = empty_front ds more none in (ap (λ (xs : List Dataset). xs ++ more) (sym nil) ∙ none, (λ k. ap (last_record k) nil))
 swapped own (r ∷ rs) ds more apart may (run, rest, parts, good, later) = elim (parted ds more run rest parts) [
   | inl (x, run_is, more_is) ↦
       (let are = are_of r ds (all_front _ ds x (subst (AreGood r) run_is good.each)) in
@@ -138,7 +141,8 @@ swapped own (r ∷ rs) ds more apart may (run, rest, parts, good, later) = elim 
       (let are = are_of r run good.each in
       let all = subst (MayAll own (r ∷ rs)) ds_is may in
       let none : of_record r y ≡ [] =
-      empty_front (of_record r y) (of_record r more) (sym (filter-append (λ (x : Dataset). nat_eq x.rec r) y more) ∙ ap (of_record r) (sym rest_is) ∙ none_in_records r rs rest later apart.0) in
+      empty_front (of_record r y) (of_record r more)
+      (sym (filter-append (λ (x : Dataset). nat_eq x.rec r) y more) ∙ ap (of_record r) (sym rest_is) ∙ none_in_records r rs rest later apart.0) in
       let whole : of_record r (run ++ y) ≡ run =
       filter-append (λ (x : Dataset). nat_eq x.rec r) run y ∙ (λ i. all_of r run (eq-eqb r r refl) are i ++ none i) ∙ append-nil run in
       let here = subst (λ (xs : List Dataset). MayReplace r xs (own r)) whole all.0 in
@@ -168,7 +172,8 @@ good_of r (d ∷ ds) all = by (nat_eq d.rec r) refl (good_of r ds all.1)
     by false is more = more
 
 -- they stand in their order
-kept_runs : (xs ys : List Dataset) → SectionsLive (xs ++ ys) → kept xs ≡ of_record 1 xs ++ of_record 2 xs → kept (xs ++ ys) ≡ of_record 1 (xs ++ ys) ++ of_record 2 (xs ++ ys)
+kept_runs : (xs ys : List Dataset) → SectionsLive (xs ++ ys) → kept xs ≡ of_record 1 xs ++ of_record 2 xs
+    → kept (xs ++ ys) ≡ of_record 1 (xs ++ ys) ++ of_record 2 (xs ++ ys)
 kept_runs xs [] alive before = subst (λ (zs : List Dataset). kept zs ≡ of_record 1 zs ++ of_record 2 zs) (sym (append-nil xs)) before
 kept_runs xs (d ∷ ys) alive before =
     let parts = append_assoc xs (d ∷ []) ys in
@@ -449,6 +454,9 @@ plain_like laws ds fields numbers heads object ended s = record { alive = alive;
       fewer = λ n no'. absurd (let bad : true ≡ false = sym (eights_repeat n) ∙ no' in cc);
     }
 
+    seven : MayReplace 7 (of_record 7 ds) (plain_numbers numbers)
+    seven = subst (λ (n : Numbers). MayReplace 7 (of_record 7 ds) (plain_numbers n)) (sym are) (replace_sevens laws.rows (of_record 7 ds) stated)
+
     nine_seen : (n : ℕ) → occurs n (of_record 9 ds) ≡ occurs n last
     nine_seen n = tens_seen n (of_record 9 ds) last tens.1 (end_tens ended object) (ap one_of_some (s.ends ∙ sym (end_length ended object)))
 
@@ -463,7 +471,7 @@ plain_like laws ds fields numbers heads object ended s = record { alive = alive;
     both =
         swapped own records ds s.alive.0
         records_apart
-        (itself 1, (itself 2, (subst (λ (n : Numbers). MayReplace 7 (of_record 7 ds) (plain_numbers n)) (sym are) (replace_sevens laws.rows (of_record 7 ds) stated), (eight, (nine, tt)))))
+        (itself 1, (itself 2, (seven, (eight, (nine, tt)))))
         s.alive.1
 
     is : flat_map own records ≡ es
@@ -482,9 +490,12 @@ plain_like laws ds fields numbers heads object ended s = record { alive = alive;
     })
 
     seen : SameRecords ds es
-    seen = same_shape laws.follow laws.numbers ds es s.alive alive s.few (let count = tell.heads_are in let many = s.many in omega (arith, count, many)) (record {
-      ended = ap (λ (r : ℕ). nat_eq r 9) (both.1 0 ∙ ap section_after is);
-      fields = s.fields_are ∙ sym tell.kept_are;
-      numbers = s.numbers_are ∙ sym tell.numbers_are;
-      some = s.some ∙ sym (ap one_of_some tell.heads_are);
-    })
+    seen =
+        let count = tell.heads_are in
+        let many = s.many in
+        same_shape laws.follow laws.numbers ds es s.alive alive s.few (omega (arith, count, many)) (record {
+          ended = ap (λ (r : ℕ). nat_eq r 9) (both.1 0 ∙ ap section_after is);
+          fields = s.fields_are ∙ sym tell.kept_are;
+          numbers = s.numbers_are ∙ sym tell.numbers_are;
+          some = s.some ∙ sym (ap one_of_some tell.heads_are);
+        })

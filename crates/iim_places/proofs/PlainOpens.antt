@@ -1,5 +1,6 @@
 -- Plain octets of a possible place are open or an envelope, too.
-use Rattle.std.proofs.Common.{◌≡◌, ℕ, zero, suc, ◌<◌, ◌≤◌, nat_eq, cond, if◌then◌else◌, Bool, true, false, List, [], ◌∷◌, ◌++◌, length, drop, map, sum, Option, refl, ap, sym, subst, ◌∙◌, inl, inr, arith, append-nil, ◌+◌, length-append}
+use Rattle.std.proofs.Common.{◌≡◌, ℕ, zero, suc, ◌<◌, ◌≤◌, nat_eq, cond, if◌then◌else◌, Bool, true, false, List, [], ◌∷◌, ◌++◌, length, drop, map, sum, Option}
+use Rattle.std.proofs.Common.{refl, ap, sym, subst, ◌∙◌, inl, inr, arith, append-nil, ◌+◌, length-append}
 use Rattle.iim_places.proofs.Words.{length-take, AllByRecursion, unwrap_or, number, greatest_size, Dataset, SpellsStream, canonical_stream, count_octets}
 use Rattle.iim_places.proofs.Words.{of_record, Begun, InTag, InData, Reads, SectionsLive, kept, section_after, AreSections, Limits, place_after_datasets}
 use Rattle.iim_places.proofs.Words.{ending_of, subfile_datasets, NotEnded, ConfirmedAs, HasBoth, max_subfiles, lengths_of, numbers_of, Stated, AreStated}
@@ -104,7 +105,7 @@ told laws ds alive few lives =
         seen = continues.seen;
         here = bounded_after laws ds alive few lives;
         bounded = subst (AreBounded (sevens es)) (sym (ap lengths_of tell.eights_are))
-            (bounded_plain ps (sevens es) heads object stated.stated (λ some. stated.duties (let count = count_of (of_record 8 ds) in omega (arith, count, some)))
+            (bounded_plain ps (sevens es) heads object stated.stated (λ some. stated.duties (omega (arith, count_of (of_record 8 ds), some)))
             (same_numbers ps (sevens es) (sym tell.numbers_are)).largest);
       };
     }
@@ -263,7 +264,8 @@ from_whole laws octets v is text message leads =
     let nine = sym t.present ∙ sections_last laws.answer.follow.ends ds goes.sizes.records a.sections in
     let stream = subst (SpellsStream count_octets es) (sym (append-nil (canonical_stream es))) (spelled_of laws (place_of ds (InTag []) message) l) in
     let whole = enveloped laws widest (canonical_stream es ++ []) es v.head a.text v.trailer v.lines stream
-    (may_as laws widest ds es (InTag []) t.alive t.present t.twins goes.sizes) nine (subst (λ (o : List ℕ). IsMessage o v.head a.text v.trailer) t.object a.message) a.lines in
+    (may_as laws widest ds es (InTag []) t.alive t.present t.twins goes.sizes) nine
+    (subst (λ (o : List ℕ). IsMessage o v.head a.text v.trailer) t.object a.message) a.lines in
     (plain_by laws (place_of ds (InTag []) message) l, inr (_, whole.within))
 
 -- Each possible place is led to by plain octets that are open or an envelope.

@@ -1,5 +1,6 @@
 -- Each possible place is one of plain octets.
-use Rattle.std.proofs.Common.{◌≡◌, ℕ, ◌*◌, ◌<◌, ◌≤◌, nat_eq, cond, Bool, true, false, List, [], ◌∷◌, ◌++◌, length, map, sum, Option, Some, None, IfSome, refl, ap, sym, subst, ◌∙◌, inl, inr, arith, append_assoc}
+use Rattle.std.proofs.Common.{◌≡◌, ℕ, ◌*◌, ◌<◌, ◌≤◌, nat_eq, cond, Bool, true, false, List, [], ◌∷◌, ◌++◌, length, map, sum, Option, Some, None, IfSome, refl}
+use Rattle.std.proofs.Common.{ap, sym, subst, ◌∙◌, inl, inr, arith, append_assoc}
 use Rattle.iim_places.proofs.Words.{AllByRecursion, unwrap_or, eqb-true, IsOctet, Octets, Dataset, SpellsStream, count_octets, of_record, octets_append}
 use Rattle.iim_places.proofs.Words.{HasSpellings, sum_fits, some_of, kept, is_kept, ObjectToken, SubfileBegun, ObjectLanguage, number_tokens, ending_tokens}
 use Rattle.iim_places.proofs.Words.{place_after_datasets, lengths_of, numbers_of, Stated, InRow, number_at, object_of, ObjectLives, Numbers, plain_end}

@@ -1,6 +1,9 @@
 -- The object layer lives with other numbers and lengths that tell the same.
-use Rattle.std.proofs.Common.{◌≡◌, ℕ, ◌<◌, ◌≤◌, Bool, List, [], ◌∷◌, ◌++◌, length, map, sum, Option, Some, is_some, IfSome, refl, ap, sym, subst, ◌∙◌, arith, append-nil, append_assoc, None}
-use Rattle.iim_places.proofs.Words.{AllByRecursion, IsAlive, greatest_size, some_of, SubfileBegun, ObjectLanguage, number_tokens, Ending, NotEnded, Ended, ConfirmedAs, HasBoth, ending_tokens, Stated, AreStated, number_at, mode_number, mode_known, ObjectsArePossibleAlike, SizeLaws, max_subfiles, ObjectLives, IsPossible, numbers_of, lengths_of, HaveSizes, Sizes, Dataset, nil_from_length}
+use Rattle.std.proofs.Common.{◌≡◌, ℕ, ◌<◌, ◌≤◌, Bool, List, [], ◌∷◌, ◌++◌, length, map, sum, Option, Some, is_some, IfSome, refl, ap, sym, subst, ◌∙◌, arith}
+use Rattle.std.proofs.Common.{append-nil, append_assoc, None}
+use Rattle.iim_places.proofs.Words.{AllByRecursion, IsAlive, greatest_size, some_of, SubfileBegun, ObjectLanguage, number_tokens, Ending, NotEnded, Ended}
+use Rattle.iim_places.proofs.Words.{ConfirmedAs, HasBoth, ending_tokens, Stated, AreStated, number_at, mode_number, mode_known, ObjectsArePossibleAlike}
+use Rattle.iim_places.proofs.Words.{SizeLaws, max_subfiles, ObjectLives, IsPossible, numbers_of, lengths_of, HaveSizes, Sizes, Dataset, nil_from_length}
 use Rattle.iim_object.specs.Laws.Living.{NoClash, HasDuties, Fit, MeetsAnnounced}
 use Rattle.iim_object.specs.Format.Places as objects
 use Rattle.iim_places.proofs.PlainPlaces.{low_mode, alive_front}

@@ -1,6 +1,9 @@
 -- By the present scale places are possible as they are.
 use Rattle.std.proofs.Common.{◌≡◌, ℕ, ◌≤◌, ◌&&◌, nat_le, true, List, [], ◌∷◌, ◌++◌, length, map, sym, subst, inl, inr, arith}
-use Rattle.iim_places.proofs.Words.{AllByRecursion, leb-true, and_parts, Octets, number, within, greatest_size, Dataset, of_record, all_map, IsAlive, Begun, InTag, InData, within_most_and, Meets, IsGoodDataset, AreSections, ObjectToken, SubfileBegun, ObjectLanguage, number_tokens, Stated, InRow, TokensWithin, LanguageWithin, row_low, within_append, begun_within, Possible, widest, FitsRow, SectionsIn, SectionsLiveIn, PossibleAt, place_in, PresentScaleSaysNothingMore, present_scale, MayContinue}
+use Rattle.iim_places.proofs.Words.{AllByRecursion, leb-true, and_parts, Octets, number, within, greatest_size, Dataset, of_record, all_map, IsAlive, Begun}
+use Rattle.iim_places.proofs.Words.{InTag, InData, within_most_and, Meets, IsGoodDataset, AreSections, ObjectToken, SubfileBegun, ObjectLanguage, number_tokens}
+use Rattle.iim_places.proofs.Words.{Stated, InRow, TokensWithin, LanguageWithin, row_low, within_append, begun_within, Possible, widest, FitsRow, SectionsIn}
+use Rattle.iim_places.proofs.Words.{SectionsLiveIn, PossibleAt, place_in, PresentScaleSaysNothingMore, present_scale, MayContinue}
 use Rattle.iim_tables.specs.Format.Kinds.{is_mode, is_size_from}
 use Rattle.iim_tables.specs.Format.Numbers.{size_octets}
 use Rattle.iim_tables.specs.Format.Rows.{table, row_of}

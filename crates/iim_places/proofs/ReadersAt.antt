@@ -1,6 +1,12 @@
 -- Readers of a possible place stand where octets lead there.
-use Rattle.std.proofs.Common.{◌≡◌, ℕ, ◌+◌, ◌-◌, ◌<◌, ◌≤◌, nat_eq, if◌then◌else◌, Bool, true, false, List, [], ◌∷◌, ◌++◌, length, Option, Some, None, refl, ap, sym, subst, ◌∙◌, inl, inr, arith}
-use Rattle.iim_places.proofs.Words.{AllByRecursion, eqb-true, eqb_tells, Dataset, of_record, count_octets, Begun, InTag, InData, Reads, IsKeptAs, between, Head, DatasetPlace, SectionsLive, is_kept, kept, section_after, Limits, head_alive, place_after_datasets, ObjectEnded, Confirmed, NotEnded, place_after, max_subfiles, lengths_of, numbers_of, IsPossible, stated_numbers, State, AreLines, text_so_far, Header, IsMessage, LeadsToSaved, saved, MessagePlace, object_of, IsSize, RecordsLive, begun_of_object, object_after, one_of_some, are_ended, begun_subfiles, ByLayersLaws, PlaceLaws, FeedLaws, section, Numbers, number_list, plain, are_some, Phase, TagBegun, AllEnded, phase_of, place_at, CanContinue, CanContinueAt}
+use Rattle.std.proofs.Common.{◌≡◌, ℕ, ◌+◌, ◌-◌, ◌<◌, ◌≤◌, nat_eq, if◌then◌else◌, Bool, true, false, List, [], ◌∷◌, ◌++◌, length, Option, Some, None, refl, ap}
+use Rattle.std.proofs.Common.{sym, subst, ◌∙◌, inl, inr, arith}
+use Rattle.iim_places.proofs.Words.{AllByRecursion, eqb-true, eqb_tells, Dataset, of_record, count_octets, Begun, InTag, InData, Reads, IsKeptAs, between, Head}
+use Rattle.iim_places.proofs.Words.{DatasetPlace, SectionsLive, is_kept, kept, section_after, Limits, head_alive, place_after_datasets, ObjectEnded, Confirmed}
+use Rattle.iim_places.proofs.Words.{NotEnded, place_after, max_subfiles, lengths_of, numbers_of, IsPossible, stated_numbers, State, AreLines, text_so_far}
+use Rattle.iim_places.proofs.Words.{Header, IsMessage, LeadsToSaved, saved, MessagePlace, object_of, IsSize, RecordsLive, begun_of_object, object_after}
+use Rattle.iim_places.proofs.Words.{one_of_some, are_ended, begun_subfiles, ByLayersLaws, PlaceLaws, FeedLaws, section, Numbers, number_list, plain, are_some}
+use Rattle.iim_places.proofs.Words.{Phase, TagBegun, AllEnded, phase_of, place_at, CanContinue, CanContinueAt}
 use Rattle.iim_fields.specs.States.Standing as records
 use Rattle.iim_object.specs.Format.Places as objects
 use Rattle.iim_object.specs.States.Reading as reading

@@ -1,6 +1,14 @@
 -- After octets of one place the same octet is refused, for the same fault.
-use Rattle.std.proofs.Common.{◌≡◌, ℕ, ◌+◌, ◌≤◌, ◌&&◌, ◌||◌, ◌⊎◌, not, nat_lt, nat_eq, if◌then◌else◌, Bool, true, false, List, [], ◌∷◌, ◌++◌, length, sum, Option, Some, None, refl, ap, sym, subst, ◌∙◌, inl, inr}
-use Rattle.iim_places.proofs.Words.{ne_eqb, option_or, option_map, Octets, number, Dataset, head_of, of_record, count_octets, Begun, InTag, InData, Reads, Head, sum_append, SectionsLive, SectionsLiveAt, head_fault, kept, section_after, room_fault, value_fault, occurs, data_of, tells_number, Limits, place_after_datasets, place_ended, cause_at, confirmed_cause, end_cause, number_cause, subfile_cause, Confirmed, NumberRead, ObjectEnded, ObjectToken, SubfileBegun, head_token, place_after, value_token, max_subfiles, SizeCause, MessageDiesAt, HasCause, End, object_of, PlacesRefuseAlike, AllCanContinue, IsUnfinished, object_so_far, RefusesByTests, of_field, size_on, too_many_on, message_on, RefusedOctetsWereOpen, OpenOctetsBeginWithNoEnvelope, DiesAtHead, DiesAtValue, CanContinueAt, IsRefusedHead, IsRefusedValue, fault_at_head, fault_at_value, place_at, TokenFault, Layer, OnwardLaws}
+use Rattle.std.proofs.Common.{◌≡◌, ℕ, ◌+◌, ◌≤◌, ◌&&◌, ◌||◌, ◌⊎◌, not, nat_lt, nat_eq, if◌then◌else◌, Bool, true, false, List, [], ◌∷◌, ◌++◌, length, sum}
+use Rattle.std.proofs.Common.{Option, Some, None, refl, ap, sym, subst, ◌∙◌, inl, inr}
+use Rattle.iim_places.proofs.Words.{ne_eqb, option_or, option_map, Octets, number, Dataset, head_of, of_record, count_octets, Begun, InTag, InData, Reads, Head}
+use Rattle.iim_places.proofs.Words.{sum_append, SectionsLive, SectionsLiveAt, head_fault, kept, section_after, room_fault, value_fault, occurs, data_of}
+use Rattle.iim_places.proofs.Words.{tells_number, Limits, place_after_datasets, place_ended, cause_at, confirmed_cause, end_cause, number_cause, subfile_cause}
+use Rattle.iim_places.proofs.Words.{Confirmed, NumberRead, ObjectEnded, ObjectToken, SubfileBegun, head_token, place_after, value_token, max_subfiles}
+use Rattle.iim_places.proofs.Words.{SizeCause, MessageDiesAt, HasCause, End, object_of, PlacesRefuseAlike, AllCanContinue, IsUnfinished, object_so_far}
+use Rattle.iim_places.proofs.Words.{RefusesByTests, of_field, size_on, too_many_on, message_on, RefusedOctetsWereOpen, OpenOctetsBeginWithNoEnvelope}
+use Rattle.iim_places.proofs.Words.{DiesAtHead, DiesAtValue, CanContinueAt, IsRefusedHead, IsRefusedValue, fault_at_head, fault_at_value, place_at, TokenFault}
+use Rattle.iim_places.proofs.Words.{Layer, OnwardLaws}
 use Rattle.iim_dataset.specs.Format.Datasets.{of_record as of_fields}
 use Rattle.iim_fields.specs.Format.Faults.{joined}
 use Rattle.iim_object.specs.Format.Places.{Place}
@@ -14,7 +22,8 @@ use Rattle.iim_places.proofs.Onward.{Pair, ReadAlike, all_as, given_as, head_is,
 use Rattle.iim_places.proofs.SamePlace.{SameMessage, value_as}
 use Rattle.iim_places.proofs.SameRecords.{SameNumbers}
 use Rattle.iim_places.proofs.Taking.{good_at}
-use Rattle.iim_places.proofs.Twins.{Twins, at_as, after_as, eights, numbers_on, room_as, same_tail, twins_on, may_as, alive_at_as, flip, few_as, bounded_after, heads_of}
+use Rattle.iim_places.proofs.Twins.{Twins, at_as, after_as, eights, numbers_on, room_as, same_tail, twins_on, may_as, alive_at_as, flip, few_as, bounded_after}
+use Rattle.iim_places.proofs.Twins.{heads_of}
 
 -- ---- the first fault of a head
 
@@ -66,13 +75,15 @@ head_dies_as laws limits ds es h b layers.Object dies =
     (alive, room, (λ lives. dies.2 (at_as laws.opens es ds h alive dies.0 few room.subfiles (flip ds es b.twins) lives)))
 head_dies_as laws limits ds es h b rest dies = absurd dies
 
-head_as : OnwardLaws → (limits : Limits) (ds es : List Dataset) (h : Head) (fault : TokenFault) → Before ds es → IsRefusedHead limits ds h fault → IsRefusedHead limits es h fault
+head_as : OnwardLaws → (limits : Limits) (ds es : List Dataset) (h : Head) (fault : TokenFault) → Before ds es → IsRefusedHead limits ds h fault
+    → IsRefusedHead limits es h fault
 head_as laws limits ds es h fault t bad = record { first = sym (head_fault_as limits ds es h t.present t.twins) ∙ bad.first; dead = head_dies_as laws limits ds es h t fault.layer bad.dead }
 
 end_dies_as : OnwardLaws → (o r : List ℕ) → SameMessage o r → MessageDiesAt o End → MessageDiesAt r End
 end_dies_as laws o r m dies = ((laws.places.answer.living r m.other m.at m.there).0, λ alive. dies.1 (lives_as laws r o (flip_message o r m) true alive))
 
-unfinished_head_as : OnwardLaws → (limits : Limits) (ds es : List Dataset) (h : Head) (fault : TokenFault) → Before ds es → IsUnfinished limits ds h fault → IsUnfinished limits es h fault
+unfinished_head_as : OnwardLaws → (limits : Limits) (ds es : List Dataset) (h : Head) (fault : TokenFault) → Before ds es → IsUnfinished limits ds h fault
+    → IsUnfinished limits es h fault
 unfinished_head_as laws limits ds es h fault t bad = record {
   last = bad.last;
   leads_on = may_as laws.opens limits ds es (InData h []) t.there t.present t.twins bad.leads_on;
@@ -80,7 +91,8 @@ unfinished_head_as laws limits ds es h fault t bad = record {
   is_fault = bad.is_fault;
 }
 
-either_head : OnwardLaws → (limits : Limits) (ds es : List Dataset) (h : Head) (fault : TokenFault) → Before ds es → IsRefusedHead limits ds h fault ⊎ IsUnfinished limits ds h fault → IsRefusedHead limits es h fault ⊎ IsUnfinished limits es h fault
+either_head : OnwardLaws → (limits : Limits) (ds es : List Dataset) (h : Head) (fault : TokenFault) → Before ds es
+    → IsRefusedHead limits ds h fault ⊎ IsUnfinished limits ds h fault → IsRefusedHead limits es h fault ⊎ IsUnfinished limits es h fault
 either_head laws limits ds es h fault t (inl bad) = inl (head_as laws limits ds es h fault t bad)
 either_head laws limits ds es h fault t (inr bad) = inr (unfinished_head_as laws limits ds es h fault t bad)
 
@@ -198,7 +210,8 @@ refuses_as laws limits p q o r on next fault bad =
     let (ds, c, reads, all, open', dead) = refuses_by laws.opens.answer limits p next fault bad in
     let read = on ds c reads all in
     let none = unfinished_as laws limits ds read.whole c read.begun read.pair open' in
-    tests_of limits q next fault (read.whole, read.begun, read.reads, read.pair.there, none, step_as laws limits ds read.whole c read.begun next fault read.pair dead)
+    let step = step_as laws limits ds read.whole c read.begun next fault read.pair dead in
+    tests_of limits q next fault (read.whole, read.begun, read.reads, read.pair.there, none, step)
 
 -- ---- both
 

@@ -1,6 +1,10 @@
 -- Datasets of one place have the same numbers in each record.
 use Rattle.std.proofs.Common.{◌≡◌, ℕ, ◌+◌, ◌<◌, ◌≤◌, ◌||◌, Bool, true, false, cond, nat_eq, List, [], ◌∷◌, ◌++◌, length, is_some, Some, None, refl, ap, sym, subst, ◌∙◌, inl, inr, arith, append-nil, append_assoc, length-append}
-use Rattle.iim_places.proofs.Words.{AllByRecursion, eqb-true, eqb-false, ne_eqb, eqb_tells, filter-append, list_any-append, number, Dataset, head_of, of_record, Head, all_front, all_map, Meets, AreSections, AreRecords, records, IsGoodDataset, occurs, SectionsLive, SectionsLiveAt, section_after, kept, is_kept, last_more, by_record, max_subfiles, Stated, InRow, AreStated, number_at, numbers_of, ObjectToken, NumberRead, SubfileBegun, ObjectEnded, Confirmed, NotEnded, Ended, HasBoth, MayFollow, place_after, head_token, place_after_datasets, place_ended, RecordsAreByNumber, stated_numbers, one_of_some, place_at, ObjectLaws, FollowLaws}
+use Rattle.iim_places.proofs.Words.{AllByRecursion, eqb-true, eqb-false, ne_eqb, eqb_tells, filter-append, list_any-append, number, Dataset, head_of, of_record}
+use Rattle.iim_places.proofs.Words.{Head, all_front, all_map, Meets, AreSections, AreRecords, records, IsGoodDataset, occurs, SectionsLive, SectionsLiveAt}
+use Rattle.iim_places.proofs.Words.{section_after, kept, is_kept, last_more, by_record, max_subfiles, Stated, InRow, AreStated, number_at, numbers_of}
+use Rattle.iim_places.proofs.Words.{ObjectToken, NumberRead, SubfileBegun, ObjectEnded, Confirmed, NotEnded, Ended, HasBoth, MayFollow, place_after, head_token}
+use Rattle.iim_places.proofs.Words.{place_after_datasets, place_ended, RecordsAreByNumber, stated_numbers, one_of_some, place_at, ObjectLaws, FollowLaws}
 use Rattle.iim_object.specs.Format.Places.{Place}
 use Rattle.iim_places.proofs.Fronts.{empty_front}
 use Rattle.iim_places.proofs.Lasts.{SplitLast, split_last}
@@ -198,7 +202,8 @@ nines laws ds alive = by (split_last ds)
     at_last front d alive =
         let parts = append_assoc front (d ∷ []) alive.0 in
         let more : AreSections (front ++ d ∷ alive.0) = subst AreSections parts alive.1 in
-        let none : of_record 9 front ≡ [] = none_nine laws.sections laws.ends [] front ((d ∷ alive.0), more) (λ s. let bad : d ∷ alive.0 ≡ [] = laws.sections front (d ∷ alive.0) s more in absurd cc) in
+        let none : of_record 9 front ≡ [] = none_nine laws.sections laws.ends [] front ((d ∷ alive.0), more)
+        (λ s. let bad : d ∷ alive.0 ≡ [] = laws.sections front (d ∷ alive.0) s more in absurd cc) in
         ap length (filter-append (λ (x : Dataset). nat_eq x.rec 9) front (d ∷ [])) ∙ ap (λ (xs : List Dataset). length (xs ++ of_record 9 (d ∷ []))) none
         ∙ length_one (nat_eq d.rec 9) d ∙ ap (λ (r : ℕ). cond (nat_eq r 9) 1 0) (sym (last_more 0 front d))
 
@@ -222,7 +227,8 @@ none_in_records r (k ∷ rs) ds (run, rest, parts, good, later) apart =
 
 pub none_other : (r : ℕ) → AllByRecursion (λ k. nat_eq k r ≡ false) records → (ds : List Dataset) → SectionsLive ds → of_record r ds ≡ []
 none_other r apart ds alive =
-    empty_front (of_record r ds) (of_record r alive.0) (sym (filter-append (λ (x : Dataset). nat_eq x.rec r) ds alive.0) ∙ none_in_records r records (ds ++ alive.0) alive.1 apart)
+    empty_front (of_record r ds) (of_record r alive.0)
+    (sym (filter-append (λ (x : Dataset). nat_eq x.rec r) ds alive.0) ∙ none_in_records r records (ds ++ alive.0) alive.1 apart)
 
 -- ---- all records
 

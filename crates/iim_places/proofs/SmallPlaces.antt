@@ -1,6 +1,11 @@
 -- Places that were possible by the first sizes are possible, and keep to these sizes.
 use Rattle.std.proofs.Common.{◌≡◌, ℕ, ◌-◌, ◌≤◌, nat_eq, cond, if◌then◌else◌, Bool, true, false, List, [], ◌∷◌, ◌++◌, length, map, sum, Some, refl, ap, sym, subst, ◌∙◌, inl, inr, arith}
-use Rattle.iim_places.proofs.Words.{AllByRecursion, eqb-true, eq-eqb, number, Dataset, SpellsDataset, SpellsStream, count_octets, head_of, of_record, IsAlive, Begun, InTag, InData, IsBegun, Reads, Head, all_front, all_back, section_after, tells_number, SubfileBegun, ObjectEnded, Confirmed, number_tokens, numbers_of, stated_numbers, Stated, number_at, TokensWithin, LanguageWithin, AnswerLaws, OpenLaws, object_of, AreWithin, IsOpen, object_so_far, section, Possible, IsSmall, IsSmallPhase, IsSmallPlace, greatest_size_before, widest, Scale, FitsRow, SectionsLiveIn, HaveRoomIn, IsOpenIn, IsWholeIn, PossibleAt, place_in, first_scale, IsPlaceOf, TagBegun, AllEnded, phase_of, place_of, MayContinue}
+use Rattle.iim_places.proofs.Words.{AllByRecursion, eqb-true, eq-eqb, number, Dataset, SpellsDataset, SpellsStream, count_octets, head_of, of_record, IsAlive}
+use Rattle.iim_places.proofs.Words.{Begun, InTag, InData, IsBegun, Reads, Head, all_front, all_back, section_after, tells_number, SubfileBegun, ObjectEnded}
+use Rattle.iim_places.proofs.Words.{Confirmed, number_tokens, numbers_of, stated_numbers, Stated, number_at, TokensWithin, LanguageWithin, AnswerLaws, OpenLaws}
+use Rattle.iim_places.proofs.Words.{object_of, AreWithin, IsOpen, object_so_far, section, Possible, IsSmall, IsSmallPhase, IsSmallPlace, greatest_size_before}
+use Rattle.iim_places.proofs.Words.{widest, Scale, FitsRow, SectionsLiveIn, HaveRoomIn, IsOpenIn, IsWholeIn, PossibleAt, place_in, first_scale, IsPlaceOf}
+use Rattle.iim_places.proofs.Words.{TagBegun, AllEnded, phase_of, place_of, MayContinue}
 use Rattle.iim_object.specs.Format.Places as objects
 use Rattle.iim_places.specs.Format.Tickets.{Place}
 use Rattle.iim_places.proofs.Answering.{one_reading, reads_envelope}
@@ -54,7 +59,10 @@ pub still : (s : Scale) → s.octets ≤ count_octets → (place : Place) → Po
 still s le place p = record {
   octets = p.octets;
   leads = p.leads;
-  comes = elim p.comes [ inl open' ↦ inl (open_now s le p.octets open') | inr whole ↦ inr (whole.value, record { admits = whole.admits; within = whole.within }) ];
+  comes = elim p.comes [
+    | inl is ↦ inl (open_now s le p.octets is)
+    | inr is ↦ inr (is.value, record { admits = is.admits; within = is.within })
+  ];
 }
 
 -- ---- sizes of the place
@@ -150,7 +158,11 @@ small_of laws place octets leads ds b reads keeps =
 
 -- What was possible is possible, and keeps to the first sizes.
 pub still_possible : OpenLaws → (place : Place) → PossibleAt first_scale place → Possible place × IsSmallPlace place
-still_possible laws place p = (still first_scale (omega arith) place p, elim p.comes [
-  | inl is ↦ small_of laws.answer place p.octets p.leads is.whole is.begun (wider_reads 4 (omega arith) p.octets is.whole is.begun is.reads) (keeps_open p.octets is)
-  | inr is ↦ small_of laws.answer place p.octets p.leads is.admits.datasets (InTag []) (reads_envelope p.octets is.value is.admits) (keeps_whole p.octets is)
-])
+still_possible laws place p = (
+  still first_scale (omega arith) place p,
+  elim p.comes [
+    | inl is ↦
+        small_of laws.answer place p.octets p.leads is.whole is.begun (wider_reads 4 (omega arith) p.octets is.whole is.begun is.reads) (keeps_open p.octets is)
+    | inr is ↦ small_of laws.answer place p.octets p.leads is.admits.datasets (InTag []) (reads_envelope p.octets is.value is.admits) (keeps_whole p.octets is)
+  ],
+)

@@ -1,6 +1,9 @@
 -- What octets begin with is determined: their layout has one reading.
 use Rattle.std.proofs.Common.{◌≡◌, ℕ, ◌+◌, ◌-◌, ◌<◌, ◌≤◌, ◌^◌, ◌==◌, nat_eq, if◌then◌else◌, pred, Bool, true, false, List, [], ◌∷◌, ◌++◌, length, take, drop, Option, Some, None, refl, ap, sym, subst, ◌∙◌, inl, inr, arith, append_assoc, append-nil, length-append}
-use Rattle.iim_places.proofs.Words.{flat_map-append, take-append-drop, length-take, AllByRecursion, flat_map, Dataset, all_append, Phase, TagBegun, DataBegun, AllEnded, ticket_name, present_version, four, wide, phase_octets, field_octets, fields_octets, text_octets, IsLongField, AreFields, AreNumbersIn, AreTexts, IsSizeIn, IsShort, IsWide, IsVersion, IsPhase, IsFaultOf, HasForm, Split, SplitsTicket, split_octets, came, TicketsHaveOneSplit, AreNoMessage, AreNoBody, BeginsWithNoData, body_octets, message_parts, Form}
+use Rattle.iim_places.proofs.Words.{flat_map-append, take-append-drop, length-take, AllByRecursion, flat_map, Dataset, all_append, Phase, TagBegun, DataBegun}
+use Rattle.iim_places.proofs.Words.{AllEnded, ticket_name, present_version, four, wide, phase_octets, field_octets, fields_octets, text_octets, IsLongField}
+use Rattle.iim_places.proofs.Words.{AreFields, AreNumbersIn, AreTexts, IsSizeIn, IsShort, IsWide, IsVersion, IsPhase, IsFaultOf, HasForm, Split, SplitsTicket}
+use Rattle.iim_places.proofs.Words.{split_octets, came, TicketsHaveOneSplit, AreNoMessage, AreNoBody, BeginsWithNoData, body_octets, message_parts, Form}
 use Rattle.std.specs.Int.{w64, from_be_bytes, to_be_bytes}
 use Rattle.std.proofs.lemmas.Nat.{from_be_bytes-to_be_bytes_8}
 use Rattle.iim_dataset.specs.Parting.{same_front}

@@ -1,6 +1,13 @@
 -- Datasets that tell the same, and what follows them.
-use Rattle.std.proofs.Common.{◌≡◌, ℕ, ◌+◌, ◌<◌, ◌≤◌, ◌||◌, ◌⊎◌, Bool, true, false, cond, nat_eq, if◌then◌else◌, List, [], ◌∷◌, ◌++◌, length, sum, Option, Some, refl, ap, sym, subst, ◌∙◌, inl, inr, arith, append-nil, length-append, None, append_assoc}
-use Rattle.iim_places.proofs.Words.{AllByRecursion, option_or, filter-append, same_Some, list_any-append, eqb-true, Dataset, of_record, SpellsStream, count_octets, all_append, all_front, all_back, Head, sum_append, SectionsLive, SectionsLiveAt, kept, last_record, section_after, AreSections, AreRecords, after, IsGoodRecord, occurs, occurrences_append, IsWithin, Limits, ending_of, place_after_datasets, place_ended, SubfileBegun, max_subfiles, lengths_of, numbers_of, HaveSizes, IsPossible, stated_numbers, Stated, number_at, AreWithin, OpenLaws, SizeLaws, place_at, ObjectLives, HaveRoom, CanContinue, CanContinueAt, MayContinue, last_of_joined, NotEnded, ConfirmedAs, number, Begun, InTag, InData, Sizes, Header, IsMessage, IsEnvelopeWithin, IsText, object_of, nil_from_length}
+use Rattle.std.proofs.Common.{◌≡◌, ℕ, ◌+◌, ◌<◌, ◌≤◌, ◌||◌, ◌⊎◌, Bool, true, false, cond, nat_eq, if◌then◌else◌, List, [], ◌∷◌, ◌++◌, length, sum, Option, Some}
+use Rattle.std.proofs.Common.{refl, ap, sym, subst, ◌∙◌, inl, inr, arith, append-nil, length-append, None, append_assoc}
+use Rattle.iim_places.proofs.Words.{AllByRecursion, option_or, filter-append, same_Some, list_any-append, eqb-true, Dataset, of_record, SpellsStream}
+use Rattle.iim_places.proofs.Words.{count_octets, all_append, all_front, all_back, Head, sum_append, SectionsLive, SectionsLiveAt, kept, last_record}
+use Rattle.iim_places.proofs.Words.{section_after, AreSections, AreRecords, after, IsGoodRecord, occurs, occurrences_append, IsWithin, Limits, ending_of}
+use Rattle.iim_places.proofs.Words.{place_after_datasets, place_ended, SubfileBegun, max_subfiles, lengths_of, numbers_of, HaveSizes, IsPossible}
+use Rattle.iim_places.proofs.Words.{stated_numbers, Stated, number_at, AreWithin, OpenLaws, SizeLaws, place_at, ObjectLives, HaveRoom, CanContinue}
+use Rattle.iim_places.proofs.Words.{CanContinueAt, MayContinue, last_of_joined, NotEnded, ConfirmedAs, number, Begun, InTag, InData, Sizes, Header, IsMessage}
+use Rattle.iim_places.proofs.Words.{IsEnvelopeWithin, IsText, object_of, nil_from_length}
 use Rattle.iim_fields.specs.Format.Faults.{joined}
 use Rattle.iim_object.specs.Format.Places as objects
 use Rattle.iim_places.proofs.Limits.{kept_append}
@@ -261,9 +268,12 @@ at_as laws ds es h alive there few room twins =
         (subst (λ (ps : List Stated). AreBounded ps (eights ds ++ h.count ∷ [])) (sym (append-nil (sevens ds))) here)) in
         place_as laws.sizes p q was room' is twins.numbers
         (length-append (eights ds) (h.count ∷ []) ∙ ap (λ (n : ℕ). n + 1) twins.heads ∙ sym (length-append (eights es) (h.count ∷ [])))
-        (sum_append (eights ds) (h.count ∷ []) ∙ ap (λ (n : ℕ). n + sum (h.count ∷ [])) twins.octets ∙ sym (sum_append (eights es) (h.count ∷ []))) bounded twins.ending lives
+        (sum_append (eights ds) (h.count ∷ []) ∙ ap (λ (n : ℕ). n + sum (h.count ∷ [])) twins.octets ∙ sym (sum_append (eights es) (h.count ∷ [])))
+        bounded twins.ending lives
     by false true eight was is lives = place_as laws.sizes (place_ended ds) (place_ended es) was (omega (arith, few, count)) is twins.numbers twins.heads twins.octets twins.bounded refl lives
-    by false false eight was is lives = place_as laws.sizes (place_after_datasets ds) (place_after_datasets es) was (omega (arith, few, count)) is twins.numbers twins.heads twins.octets twins.bounded twins.ending lives
+    by false false eight was is lives =
+        place_as laws.sizes (place_after_datasets ds) (place_after_datasets es) was (omega (arith, few, count)) is
+        twins.numbers twins.heads twins.octets twins.bounded twins.ending lives
 
 -- ---- every layer but the message
 

@@ -1,6 +1,15 @@
 -- Possible places that keep to the first sizes were possible by them.
 use Rattle.std.proofs.Common.{◌≡◌, ℕ, zero, suc, ◌-◌, ◌^◌, ◌<◌, ◌≤◌, nat_eq, if◌then◌else◌, Bool, true, false, List, [], ◌∷◌, ◌++◌, length, drop, map, sum, Option, Some, None, refl, ap, sym, subst, ◌∙◌, inl, inr, arith, append-nil, length-append}
-use Rattle.iim_places.proofs.Words.{AllByRecursion, unwrap_or, eqb-true, cases_lt, lt-ltb, le-ltb, length-take, eqb_tells, IsOctet, Dataset, SpellsCount, SpellsTag, SpellsStream, canonical_count, canonical_tag, canonical_dataset, canonical_stream, count_octets, head_of, of_record, written_number, all_append, all_map, IsAlive, HasSpellings, Begun, InTag, InData, IsBegun, Reads, Head, is_kept, section_after, AreSections, tells_number, place_after_datasets, place_ended, ending_of, SubfileBegun, number_tokens, number_dataset, subfile_datasets, ending_tokens, lengths_of, numbers_of, Stated, TokensWithin, LanguageWithin, within_append, begun_within, OpenLaws, object_of, AllCanContinue, object_so_far, section, Possible, AreOpenOrWhole, IsSmall, IsSmallPhase, IsSmallPlace, AreHeadsWithin, greatest_size_before, widest, LimitsAreToldByPlace, SmallPlacesWerePossible, FitsRow, SectionsLiveIn, HaveRoomIn, PossibleAt, place_in, first_scale, IsPlaceOf, TagBegun, AllEnded, phase_of, MayContinue, place_at, plain_place, plain_octets, IsPlain, begun_object, Numbers, number_list, mode_dataset, one_dataset, plain_numbers, filled, plain_end, plain, number_back}
+use Rattle.iim_places.proofs.Words.{AllByRecursion, unwrap_or, eqb-true, cases_lt, lt-ltb, le-ltb, length-take, eqb_tells, IsOctet, Dataset, SpellsCount}
+use Rattle.iim_places.proofs.Words.{SpellsTag, SpellsStream, canonical_count, canonical_tag, canonical_dataset, canonical_stream, count_octets, head_of}
+use Rattle.iim_places.proofs.Words.{of_record, written_number, all_append, all_map, IsAlive, HasSpellings, Begun, InTag, InData, IsBegun, Reads, Head, is_kept}
+use Rattle.iim_places.proofs.Words.{section_after, AreSections, tells_number, place_after_datasets, place_ended, ending_of, SubfileBegun, number_tokens}
+use Rattle.iim_places.proofs.Words.{number_dataset, subfile_datasets, ending_tokens, lengths_of, numbers_of, Stated, TokensWithin, LanguageWithin}
+use Rattle.iim_places.proofs.Words.{within_append, begun_within, OpenLaws, object_of, AllCanContinue, object_so_far, section, Possible, AreOpenOrWhole, IsSmall}
+use Rattle.iim_places.proofs.Words.{IsSmallPhase, IsSmallPlace, AreHeadsWithin, greatest_size_before, widest, LimitsAreToldByPlace, SmallPlacesWerePossible}
+use Rattle.iim_places.proofs.Words.{FitsRow, SectionsLiveIn, HaveRoomIn, PossibleAt, place_in, first_scale, IsPlaceOf, TagBegun, AllEnded, phase_of}
+use Rattle.iim_places.proofs.Words.{MayContinue, place_at, plain_place, plain_octets, IsPlain, begun_object, Numbers, number_list, mode_dataset, one_dataset}
+use Rattle.iim_places.proofs.Words.{plain_numbers, filled, plain_end, plain, number_back}
 use Rattle.byteorder.specs.Numbers.{big_number-reads_back}
 use Rattle.iim_fields.specs.Format.Faults.{joined}
 use Rattle.iim_object.specs.Format.Places as objects
@@ -147,7 +156,8 @@ object_in laws law ds (InTag held) keeps low goes =
     let possible = possible_of (place_after_datasets ds) stated (let count = count_of (of_record 8 ds) in let few = goes.within.subfiles in omega (arith, count, few)) goes.object in
     law greatest_size_before (place_after_datasets ds) (omega arith) possible (within_at ds 0 false false keeps) low
 object_in laws law ds (InData h taken) keeps low goes =
-    law greatest_size_before (place_at ds h) (omega arith) (possible_at laws widest ds h goes) (within_at ds h.count (nat_eq h.rec 8) (nat_eq h.rec 9) keeps) low
+    law greatest_size_before (place_at ds h) (omega arith) (possible_at laws widest ds h goes)
+    (within_at ds h.count (nat_eq h.rec 8) (nat_eq h.rec 9) keeps) low
 
 -- how many octets the subfiles have with a begun one
 sum_in : (ds : List Dataset) (b : Begun) (rest : List ℕ) → IsBegun count_octets b rest → length (object_so_far ds b) ≤ greatest_size_before → IsSmallPhase (section ds b) (length (object_so_far ds b)) (phase_of ds b) → sum (place_in ds b).lengths ≤ greatest_size_before
@@ -211,7 +221,9 @@ was_possible laws law told place poss small = by (plain_open laws place poss)
           let begun = small_begun laws ds p.begun p.rest p.is_begun goes.sizes unfinished phase in
           record {
             octets = canonical_stream ds ++ begun.0;
-            leads = subst (IsPlaceOf (canonical_stream ds ++ begun.0)) (sym p.is_place) (plain_led laws.spelled place.fields p.numbers p.heads p.object p.ended p.begun begun.0 p.text p.message p.spellable (wider_rest 4 (omega arith) p.begun begun.0 begun.1) p.leads);
+            leads = subst (IsPlaceOf (canonical_stream ds ++ begun.0)) (sym p.is_place)
+                (plain_led laws.spelled place.fields p.numbers p.heads p.object p.ended p.begun begun.0 p.text p.message p.spellable
+                (wider_rest 4 (omega arith) p.begun begun.0 begun.1) p.leads);
             comes = inl (record {
               whole = ds;
               begun = p.begun;
@@ -272,7 +284,9 @@ was_possible laws law told place poss small = by (plain_open laws place poss)
         front = few_stream ds (plain_spelled place.fields p.numbers p.heads p.object p.ended p.spellable) (fews ds low)
 
         reads : Reads count_octets (plain_octets place p) ds p.begun
-        reads = record { front = canonical_stream ds; rest = p.rest; is_front = wider_stream 4 (omega arith) ds (canonical_stream ds) front; is_rest = p.is_begun; parts = refl }
+        reads =
+            let spelled = wider_stream 4 (omega arith) ds (canonical_stream ds) front in
+            record { front = canonical_stream ds; rest = p.rest; is_front = spelled; is_rest = p.is_begun; parts = refl }
 
         keeps : ObjectKeeps ds
         keeps = record {
