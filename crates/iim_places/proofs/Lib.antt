@@ -31,9 +31,8 @@ pub mod HeadsWithin
 pub mod PlainContinues
 pub mod PlainSizes
 pub mod PlainOpens
-pub mod LeadsByLayers
+pub mod ByLayers
 pub mod MessageOctets
-pub mod LayersLead
 pub mod Taking
 pub mod AtPlaces
 pub mod ObjectPlaces
@@ -46,9 +45,7 @@ pub mod Saved
 pub mod TicketFaults
 pub mod SmallTags
 pub mod SmallSections
-pub mod SmallPlaces
-pub mod WerePossible
-pub mod PresentScale
+pub mod Scales
 pub mod Listings
 pub mod PlacesTold
 pub mod Restoring

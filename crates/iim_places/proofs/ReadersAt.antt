@@ -18,8 +18,7 @@ use Rattle.wire_message.specs.declared.place.Place.TheVariants as at_message
 use Rattle.wire_message.specs.declared.saved.MessagePart.TheVariants as part
 use Rattle.iim_places.specs.States.Readers.{RecordsStand, MessageStands, has_come, tag_place}
 use Rattle.iim_places.specs.Format.Tickets.{Place}
-use Rattle.iim_places.proofs.LayersLead.{less_none}
-use Rattle.iim_places.proofs.LeadsByLayers.{opened_at, confirmed_at, nine_ended, one_same, few_subfiles, led_at, possible_at}
+use Rattle.iim_places.proofs.ByLayers.{less_none, opened_at, confirmed_at, nine_ended, one_same, few_subfiles, led_at, possible_at}
 use Rattle.iim_places.proofs.PlainOpens.{fit_in_rows}
 use Rattle.iim_places.proofs.SamePlace.{has_begun, none_present}
 use Rattle.iim_places.proofs.SameRecords.{SameRecords, same_shape, stated_after_all}

@@ -38,7 +38,7 @@ use Rattle.iim_unpack.proofs.Feeding.{TellsSizes, done_by}
 use Rattle.iim_places.proofs.Following.{alive_of}
 use Rattle.iim_places.proofs.Lasts.{sections_last}
 use Rattle.iim_places.proofs.Plain.{present_ended}
-use Rattle.iim_places.proofs.LeadsByLayers.{whole_at, begun_same}
+use Rattle.iim_places.proofs.ByLayers.{whole_at, begun_same}
 use Rattle.iim_places.proofs.PlainSizes.{possible_of}
 use Rattle.iim_places.proofs.SamePlace.{opened, fields_after, fields_in, some_read}
 use Rattle.iim_places.proofs.SameRecords.{stated_after_all}
