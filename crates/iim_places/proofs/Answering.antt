@@ -1,14 +1,15 @@
 -- A stream has one answer: what is refused, what is open and what is an envelope exclude one another.
-use Rattle.std.proofs.Common.{◌≡◌, ◌≢◌, ℕ, zero, suc, ◌-◌, ◌^◌, ◌<◌, ◌≤◌, ◌⊎◌, Bool, false, nat_eq, if◌then◌else◌, List, [], ◌∷◌, ◌++◌, length, take, drop, slice_index, map, refl, ap, sym, subst, ◌∙◌, inl, inr, arith, append-nil, append_assoc, length-append}
+use Rattle.std.proofs.Common.{◌≡◌, ◌≢◌, ℕ, zero, suc, ◌-◌, ◌^◌, ◌<◌, ◌≤◌, ◌⊎◌, Bool, false, nat_eq, if◌then◌else◌, List, [], ◌∷◌, ◌++◌, length, take, drop}
+use Rattle.std.proofs.Common.{slice_index, map, refl, ap, sym, subst, ◌∙◌, inl, inr, arith, append-nil, append_assoc, length-append}
 use Rattle.iim_places.proofs.Words.{cases_lt, ne_eqb, same_Some, eqb_tells, map-append, take-append-drop, take-take, Dataset, SpellsTag, SpellsDataset}
 use Rattle.iim_places.proofs.Words.{SpellsStream, head_of, count_octets, Begun, InTag, InData, IsBegun, Reads, BeginsNoTag, handed_on, Head, AreSections}
 use Rattle.iim_places.proofs.Words.{SectionsLive, section_after, data_of, Limits, AreSized, Holds, Octet, End, MessageLanguage, MessageLivesWith, MessageDiesAt}
 use Rattle.iim_places.proofs.Words.{StoryLivesIn, text_so_far, HasCause, MessageCause, Value, Admits, object_of, begun_record, begun_number, tag_cause}
 use Rattle.iim_places.proofs.Words.{refusal_at, message_on, AdmittedOctetsHaveOneValue, NoAdmittedOctetsBeginOthers, IsTextOf, object_so_far, AllCanContinue}
-use Rattle.iim_places.proofs.Words.{IsUnfinished, IsOpen, RefusesByTests, RefusesNext, truncated_in, IsRefusedHead, IsRefusedValue}
-use Rattle.iim_places.proofs.Words.{OpenOctetsBeginWithNoEnvelope, EnvelopesAreBounded, NothingContinuesFromRefusedOctets, RefusalsAreDetermined}
-use Rattle.iim_places.proofs.Words.{StreamsHaveOneAnswer, IsEnvelopeWithin, Finished, Refused, Truncated, IsFinished, IsRefused, IsTruncated, TokenFault}
-use Rattle.iim_places.proofs.Words.{AnswerLaws}
+use Rattle.iim_places.proofs.Words.{IsUnfinished, RefusesByTests, RefusesNext, truncated_in, IsRefusedHead, IsRefusedValue, OpenOctetsBeginWithNoEnvelope}
+use Rattle.iim_places.proofs.Words.{EnvelopesAreBounded, NothingContinuesFromRefusedOctets, RefusalsAreDetermined, StreamsHaveOneAnswer, IsEnvelopeWithin}
+use Rattle.iim_places.proofs.Words.{Finished, Refused, Truncated, IsFinished, IsRefused, IsTruncated, TokenFault, AnswerLaws, IsPlaceOf, place_of, LeadsToSaved}
+use Rattle.iim_places.proofs.Words.{MessagePlace, IsOpen}
 use Rattle.iim_dataset.specs.Format.Completing.{CompletesData}
 use Rattle.iim_dataset.specs.Format.Languages as languages
 use Rattle.iim_dataset.proofs.Spelled.{tag_length}
@@ -20,13 +21,15 @@ use Rattle.iim_places.specs.declared.refusal.Refusal.{Refusal}
 use Rattle.iim_places.specs.declared.refusal.Layer.TheVariants as layers
 use Rattle.iim_places.specs.declared.refusal.Cause.TheVariants as causes
 use Rattle.iim_places.proofs.ObjectOctets.{lives_whole}
-use Rattle.iim_places.proofs.Following.{Follows, in_front, follows, alive_of, within_of, head_lives, value_lives, object_lives_after, object_on, message_of, story_of, message_ends, ends_tokens}
+use Rattle.iim_places.proofs.Following.{Follows, in_front, follows, alive_of, within_of, head_lives, value_lives, object_lives_after, object_on, message_of}
+use Rattle.iim_places.proofs.Following.{story_of, message_ends, ends_tokens}
 use Rattle.iim_places.proofs.Bounds.{head_fits}
 use Rattle.iim_places.proofs.Frames.{no_sections}
 use Rattle.iim_places.proofs.Lasts.{SplitLast, split_last, last_sections}
 use Rattle.iim_places.proofs.Places.{lives_after}
 use Rattle.iim_places.proofs.Refused.{no_dead_head, no_dead_value}
 use Rattle.iim_places.proofs.Admitted.{sized_by}
+use Rattle.iim_places.specs.Format.Tickets.{Place}
 
 -- Every layer can continue from the octets, within the limits.
 pub record Lives (limits : Limits) (octets : List ℕ) : Type 0 where
@@ -199,6 +202,34 @@ pub one_reading : AnswerLaws → (octets : List ℕ) (whole other : List Dataset
 one_reading laws octets whole other b c r s =
     let way = laws.way octets (handed_on whole b) (handed_on other c) b c (record { whole = whole; reads = r; handed = refl }) (record { whole = other; reads = s; handed = refl }) in
     record { whole_is = (laws.tell whole other b c way.0).0; begun_is = way.1 }
+
+-- the octets of the place are read so
+pub record Coming (place : Place) (whole : List Dataset) (begun : Begun) : Type 0 where
+  pub text : List ℕ
+  pub message : MessagePlace
+  pub leads : LeadsToSaved (object_so_far whole begun) text message
+  pub is_place : place ≡ place_of whole begun message
+
+pub coming : AnswerLaws → (place : Place) (octets : List ℕ) → IsPlaceOf octets place → (whole : List Dataset) (begun : Begun)
+    → Reads count_octets octets whole begun → Coming place whole begun
+coming laws place octets is whole begun reads =
+    let same = one_reading laws octets is.whole whole is.begun begun is.reads reads in
+    record {
+      text = is.text;
+      message = is.message;
+      leads = subst (λ (b : Begun). LeadsToSaved (object_so_far whole b) is.text is.message) same.begun_is
+          (subst (λ (ds : List Dataset). LeadsToSaved (object_so_far ds is.begun) is.text is.message) same.whole_is is.leads);
+      is_place = is.is_place ∙ (λ i. place_of (same.whole_is i) (same.begun_is i) is.message);
+    }
+
+-- with what open octets read every layer can continue, and it is no envelope
+pub open_at : AnswerLaws → (limits : Limits) (octets : List ℕ) (ds : List Dataset) (b : Begun) → Reads count_octets octets ds b → IsOpen limits octets
+    → AllCanContinue limits ds b × (AreSections ds → ⊥)
+open_at laws limits octets ds b reads is =
+    let same = one_reading laws octets is.whole ds is.begun b is.reads reads in (
+      subst (AllCanContinue limits ds) same.begun_is (subst (λ (xs : List Dataset). AllCanContinue limits xs is.begun) same.whole_is is.leads_on),
+      (λ sections. is.unfinished (subst AreSections (sym same.whole_is) sections)),
+    )
 
 same_head : AnswerLaws → (h k : Head) (held tag : List ℕ) (next : ℕ) → held ≡ tag → SpellsTag count_octets h (held ++ next ∷ []) → SpellsTag count_octets k (tag ++ next ∷ []) → h ≡ k
 same_head laws h k held tag next same s t =

@@ -2,15 +2,15 @@
 use Rattle.std.proofs.Common.{◌≡◌, ℕ, ◌+◌, nat_eq, cond, if◌then◌else◌, Bool, true, false, List, [], ◌∷◌, ◌++◌, length, Some, refl, ap, sym, subst, ◌∙◌, inl}
 use Rattle.std.proofs.Common.{inr, arith, append_assoc, append-nil}
 use Rattle.iim_places.proofs.Words.{append_cancel_left, Dataset, SpellsStream, count_octets, of_record, Begun, InTag, InData, Reads, Head, SectionsLive}
-use Rattle.iim_places.proofs.Words.{SectionsLiveAt, kept, section_after, AreSections, Limits, ending_of, HaveSizes, mode_number, Sizes, text_so_far}
-use Rattle.iim_places.proofs.Words.{LeadsToSaved, MessagePlace, Value, Admits, object_of, are_ended, AreAlike, ContinueAlike, PlacesContinueAlike}
-use Rattle.iim_places.proofs.Words.{NoAdmittedOctetsBeginOthers, AllCanContinue, object_so_far, Delivers, IsOpen, IsTextOf, IsEnvelopeWithin, CanContinue}
-use Rattle.iim_places.proofs.Words.{TagBegun, AllEnded, IsPlaceOf, heads_of, phase_of, place_of, OpenOctetsBeginWithNoEnvelope, OnwardLaws, nil_from_length}
+use Rattle.iim_places.proofs.Words.{SectionsLiveAt, kept, section_after, AreSections, Limits, ending_of, HaveSizes, mode_number, Sizes, text_so_far, Value}
+use Rattle.iim_places.proofs.Words.{Admits, object_of, are_ended, AreAlike, ContinueAlike, PlacesContinueAlike, NoAdmittedOctetsBeginOthers, AllCanContinue}
+use Rattle.iim_places.proofs.Words.{object_so_far, Delivers, IsOpen, IsTextOf, IsEnvelopeWithin, CanContinue, TagBegun, AllEnded, IsPlaceOf, heads_of, phase_of}
+use Rattle.iim_places.proofs.Words.{place_of, OpenOctetsBeginWithNoEnvelope, OnwardLaws, nil_from_length}
 use Rattle.wire_story.specs.Format.Delivery as story
 use Rattle.wire_message.specs.States.SoFar.{LeadsTo}
 use Rattle.wire_message.specs.declared.place.Place.TheVariants as at_message
 use Rattle.iim_places.specs.Format.Tickets.{Place}
-use Rattle.iim_places.proofs.Answering.{Lives, goes_envelope, leads_to, lives_envelope, lives_open, one_reading, reads_envelope}
+use Rattle.iim_places.proofs.Answering.{Lives, goes_envelope, leads_to, lives_envelope, lives_open, one_reading, reads_envelope, coming}
 use Rattle.iim_places.proofs.Following.{alive_of, message_of, story_of, within_of}
 use Rattle.iim_places.proofs.Lasts.{last_sections, sections_last}
 use Rattle.iim_places.proofs.Onward.{Pair, ReadAlike, bounded_of, data_on, given_as, tag_on, before_of}
@@ -245,24 +245,6 @@ both_open laws limits p q place is are opens goes more =
           adds_as laws limits p q more is.whole are.whole is.begun are.begun is.reads are.reads all.message lives.whole lives.begun lives.reads (on lives.whole lives.begun lives.reads lives.leads_on) events;
     }
 
--- where an envelope has ended
-record AtEnvelope (place : Place) (ds : List Dataset) : Type 0 where
-  text : List ℕ
-  message : MessagePlace
-  leads : LeadsToSaved (object_of ds) text message
-  is_place : place ≡ place_of ds (InTag []) message
-
-at_envelope : OnwardLaws → (limits : Limits) (p : List ℕ) (v : Value) (place : Place) → IsPlaceOf p place → (whole : IsEnvelopeWithin limits p v) → AtEnvelope place whole.admits.datasets
-at_envelope laws limits p v place is whole =
-    let ds = whole.admits.datasets in
-    let same = one_reading laws.opens.answer p is.whole ds is.begun (InTag []) is.reads (reads_envelope p v whole.admits) in
-    record {
-      text = is.text;
-      message = is.message;
-      leads = subst (λ (b : Begun). LeadsToSaved (object_so_far ds b) is.text is.message) same.begun_is (subst (λ (es : List Dataset). LeadsToSaved (object_so_far es is.begun) is.text is.message) same.whole_is is.leads);
-      is_place = is.is_place ∙ ap (λ (es : List Dataset). place_of es is.begun is.message) same.whole_is ∙ ap (λ (b : Begun). place_of ds b is.message) same.begun_is;
-    }
-
 nine_at : OnwardLaws → (limits : Limits) (p : List ℕ) (v : Value) (whole : IsEnvelopeWithin limits p v) → section_after whole.admits.datasets ≡ 9
 nine_at laws limits p v whole =
     sections_last laws.opens.answer.follow.ends whole.admits.datasets (goes_envelope laws.opens.answer limits p v whole).sizes.records whole.admits.sections
@@ -279,7 +261,7 @@ phase_ended ds (InData h taken) open' = refl
 pub not_both : OnwardLaws → (limits : Limits) (p q : List ℕ) (place : Place) → IsPlaceOf p place → IsPlaceOf q place → IsOpen limits p → (v : Value) → IsEnvelopeWithin limits q v → ⊥
 not_both laws limits p q place is are opens v whole =
     let was = opened laws.places limits p is.whole is.begun is.reads opens in
-    let there = at_envelope laws limits q v place are whole in
+    let there = coming laws.opens.answer place q are whole.admits.datasets (InTag []) (reads_envelope q v whole.admits) in
     let ended : are_ended place.phase ≡ true = ap (λ (x : Place). are_ended x.phase) there.is_place ∙ ended_phase (nat_eq (section_after whole.admits.datasets) 9) [] ∙ ap (λ (n : ℕ). nat_eq n 9) (nine_at laws limits q v whole) in
     let more : are_ended place.phase ≡ false = ap (λ (x : Place). are_ended x.phase) is.is_place ∙ phase_ended is.whole is.begun was.ended in
     let bad : false ≡ true = sym more ∙ ended in
@@ -291,8 +273,8 @@ whole_alike : OnwardLaws → (limits : Limits) (p q : List ℕ) (place : Place) 
 whole_alike laws limits p q place is are w other v whole =
     let ds = whole.admits.datasets in
     let es = other.admits.datasets in
-    let here = at_envelope laws limits p v place is whole in
-    let there = at_envelope laws limits q w place are other in
+    let here = coming laws.opens.answer place p is ds (InTag []) (reads_envelope p v whole.admits) in
+    let there = coming laws.opens.answer place q are es (InTag []) (reads_envelope q w other.admits) in
     let e : place_of ds (InTag []) here.message ≡ place_of es (InTag []) there.message = sym here.is_place ∙ there.is_place in
     whole_as laws limits p q v whole.admits es (reads_envelope q w other.admits)
     (record {

@@ -34,7 +34,7 @@ pub record Lived (place : Place) : Type 0 where
   pub leads : LeadsToSaved (object_so_far whole begun) text message
   pub is_place : place ≡ place_of whole begun message
 
-pub lived : AnswerLaws → (place : Place) → Possible place → Lived place
+unfoldable pub lived : AnswerLaws → (place : Place) → Possible place → Lived place
 lived laws place p =
     let is = p.leads in
     let lives : Lives widest p.octets = elim p.comes [ inl o ↦ lives_open widest p.octets o | inr e ↦ lives_envelope laws widest p.octets e.0 e.1 ] in

@@ -2,17 +2,17 @@
 use Rattle.std.proofs.Common.{◌≡◌, ℕ, zero, suc, ◌<◌, ◌≤◌, nat_eq, cond, if◌then◌else◌, Bool, true, false, List, [], ◌∷◌, ◌++◌, length, drop, map, sum, Option}
 use Rattle.std.proofs.Common.{refl, ap, sym, subst, ◌∙◌, inl, inr, arith, append-nil, ◌+◌, length-append}
 use Rattle.iim_places.proofs.Words.{length-take, AllByRecursion, unwrap_or, number, greatest_size, Dataset, SpellsStream, canonical_stream, count_octets}
-use Rattle.iim_places.proofs.Words.{of_record, Begun, InTag, InData, Reads, SectionsLive, kept, section_after, AreSections, Limits, place_after_datasets}
-use Rattle.iim_places.proofs.Words.{ending_of, subfile_datasets, NotEnded, ConfirmedAs, HasBoth, max_subfiles, lengths_of, numbers_of, Stated, AreStated}
-use Rattle.iim_places.proofs.Words.{number_at, Octet, End, MessageLanguage, StoryLivesIn, IsMessage, LeadsToSaved, MessagePlace, Value, object_of}
-use Rattle.iim_places.proofs.Words.{object_so_far, section, AllCanContinue, plain_of, plain_octets, IsPlain, PlainOctetsAreOpenOrWhole, begun_object}
-use Rattle.iim_places.proofs.Words.{begun_heads, filled, plain_end, number_list, plain, AreOpenOrWhole, widest, IsEnvelopeWithin, IsPlaceOf, place_of, heads_of}
-use Rattle.iim_places.proofs.Words.{phase_of, AllEnded, TagBegun, ObjectLives, AnswerLaws, OpenLaws, SizeLaws, all_map, all_front, IsGoodDataset}
+use Rattle.iim_places.proofs.Words.{of_record, Begun, InData, SectionsLive, kept, section_after, Limits, place_after_datasets, ending_of, subfile_datasets}
+use Rattle.iim_places.proofs.Words.{NotEnded, ConfirmedAs, HasBoth, max_subfiles, lengths_of, numbers_of, Stated, AreStated, number_at, Octet, End}
+use Rattle.iim_places.proofs.Words.{MessageLanguage, StoryLivesIn, IsMessage, LeadsToSaved, MessagePlace, object_of, object_so_far, section, AllCanContinue}
+use Rattle.iim_places.proofs.Words.{plain_of, plain_octets, IsPlain, PlainOctetsAreOpenOrWhole, begun_object, begun_heads, filled, plain_end, number_list}
+use Rattle.iim_places.proofs.Words.{plain, AreOpenOrWhole, widest, place_of, heads_of, phase_of, AllEnded, TagBegun, ObjectLives, OpenLaws, SizeLaws, all_map}
+use Rattle.iim_places.proofs.Words.{all_front, IsGoodDataset, IsBegun, CanContinue, MayContinue, Value, IsEnvelopeWithin, InTag, AreSections}
 use Rattle.iim_dataset.specs.Format.Languages as languages
 use Rattle.iim_object.specs.Format.Places as objects
 use Rattle.iim_places.specs.Format.Tickets.{Place}
-use Rattle.iim_places.proofs.Answering.{one_reading, reads_envelope, goes_envelope, nothing_held}
-use Rattle.iim_places.proofs.Fitting.{object_low, Lived, each_low, ones_in, numbers_fit, taken_fits, each_octets}
+use Rattle.iim_places.proofs.Answering.{one_reading, reads_envelope, open_at}
+use Rattle.iim_places.proofs.Fitting.{object_low, Lived, each_low, ones_in, numbers_fit, taken_fits, each_octets, lived}
 use Rattle.iim_places.proofs.Following.{alive_of, within_of, object_lives_after}
 use Rattle.iim_places.proofs.Lasts.{sections_last, last_sections}
 use Rattle.iim_places.proofs.Plain.{plain_told, plain_spelled, taken_told, heads_told}
@@ -130,25 +130,6 @@ leads_on laws limits ds es b t goes = record {
 
 -- ---- the octets
 
--- The octets of the place are read so.
-record Coming (place : Place) (whole : List Dataset) (begun : Begun) : Type 0 where
-  text : List ℕ
-  message : MessagePlace
-  leads : LeadsToSaved (object_so_far whole begun) text message
-  is_place : place ≡ place_of whole begun message
-
-coming : AnswerLaws → (place : Place) (octets : List ℕ) → IsPlaceOf octets place → (whole : List Dataset) (begun : Begun) → Reads count_octets octets whole begun → Coming place whole begun
-coming laws place octets is whole begun reads =
-    let same = one_reading laws octets is.whole whole is.begun begun is.reads reads in
-    record {
-      text = is.text;
-      message = is.message;
-      leads =
-          subst (λ (b : Begun). LeadsToSaved (object_so_far whole b) is.text is.message) same.begun_is
-          (subst (λ (ds : List Dataset). LeadsToSaved (object_so_far ds is.begun) is.text is.message) same.whole_is is.leads);
-      is_place = is.is_place ∙ ap (λ (ds : List Dataset). place_of ds is.begun is.message) same.whole_is ∙ ap (λ (b : Begun). place_of whole b is.message) same.begun_is;
-    }
-
 -- The place is one of plain octets.
 unfoldable plain_by : OpenLaws → (place : Place) (l : Lived place) → IsPlain (place_of l.whole l.begun l.message)
 plain_by laws place l =
@@ -241,52 +222,30 @@ from_open laws place l unfinished =
       }),
     )
 
-from_whole : OpenLaws → (octets : List ℕ) (v : Value) (is : IsEnvelopeWithin widest octets v) (text : List ℕ) (message : MessagePlace) → LeadsToSaved (object_so_far is.admits.datasets (InTag [])) text message
-    → Opens (place_of is.admits.datasets (InTag []) message)
+from_whole : OpenLaws → (place : Place) (l : Lived place) (v : Value) → IsEnvelopeWithin widest l.octets v → Opens (place_of l.whole l.begun l.message)
 unfolding plain_by
-from_whole laws octets v is text message leads =
-    let ds = is.admits.datasets in
+from_whole laws place l v is =
     let a = is.admits in
-    let goes = goes_envelope laws.answer widest octets v is in
-    let l : Lived (place_of ds (InTag []) message) = record {
-      whole = ds;
-      begun = InTag [];
-      octets = octets;
-      reads = record { front = octets; rest = []; is_front = a.spelled; is_rest = nothing_held; parts = sym (append-nil octets) };
-      leads_on = goes;
-      text = text;
-      message = message;
-      leads = leads;
-      is_place = refl;
-    } in
+    let ds = l.whole in
     let es = plain_of ds in
-    let t = told_of laws (place_of ds (InTag []) message) l in
-    let nine = sym t.present ∙ sections_last laws.answer.follow.ends ds goes.sizes.records a.sections in
-    let stream = subst (SpellsStream count_octets es) (sym (append-nil (canonical_stream es))) (spelled_of laws (place_of ds (InTag []) message) l) in
+    let t = told_of laws place l in
+    let same = one_reading laws.answer l.octets a.datasets ds (InTag []) l.begun (reads_envelope l.octets v a) l.reads in
+    let none : l.reads.rest ≡ [] = (subst (λ (b : Begun). IsBegun count_octets b l.reads.rest) (sym same.begun_is) l.reads.is_rest).0 in
+    let goes : CanContinue widest ds = subst (MayContinue widest ds) (sym same.begun_is) l.leads_on.sizes in
+    let nine = sym t.present ∙ sections_last laws.answer.follow.ends ds goes.records (subst AreSections same.whole_is a.sections) in
+    let stream = subst (SpellsStream count_octets es) (sym (append-nil (canonical_stream es))) (spelled_of laws place l) in
+    let message = subst (λ (o : List ℕ). IsMessage o v.head a.text v.trailer) (ap object_of same.whole_is ∙ t.object) a.message in
     let whole = enveloped laws widest (canonical_stream es ++ []) es v.head a.text v.trailer v.lines stream
-    (may_as laws widest ds es (InTag []) t.alive t.present t.twins goes.sizes) nine
-    (subst (λ (o : List ℕ). IsMessage o v.head a.text v.trailer) t.object a.message) a.lines in
-    (plain_by laws (place_of ds (InTag []) message) l, inr (_, whole.within))
+    (may_as laws widest ds es (InTag []) t.alive t.present t.twins goes) nine message a.lines in
+    (plain_by laws place l, subst (λ (xs : List ℕ). AreOpenOrWhole widest (canonical_stream es ++ xs)) (sym none) (inr (_, whole.within)))
 
 -- Each possible place is led to by plain octets that are open or an envelope.
 pub plain_open : OpenLaws → PlainOctetsAreOpenOrWhole
-plain_open laws place poss = elim poss.comes [
-  | inl o ↦
-      let c = coming laws.answer place poss.octets poss.leads o.whole o.begun o.reads in
-      let l : Lived place = record {
-        whole = o.whole;
-        begun = o.begun;
-        octets = poss.octets;
-        reads = o.reads;
-        leads_on = o.leads_on;
-        text = c.text;
-        message = c.message;
-        leads = c.leads;
-        is_place = c.is_place;
-      } in
-      subst Opens (sym c.is_place) (from_open laws place l o.unfinished)
-  | inr e ↦
-      let is = e.1 in
-      let c = coming laws.answer place poss.octets poss.leads is.admits.datasets (InTag []) (reads_envelope poss.octets e.0 is.admits) in
-      subst Opens (sym c.is_place) (from_whole laws poss.octets e.0 is c.text c.message c.leads)
-]
+unfolding lived
+plain_open laws place poss =
+    let l = lived laws.answer place poss in
+    let opens : Opens (place_of l.whole l.begun l.message) = elim poss.comes [
+      | inl is ↦ from_open laws place l (open_at laws.answer widest poss.octets l.whole l.begun l.reads is).1
+      | inr e ↦ from_whole laws place l e.0 e.1
+    ] in
+    subst Opens (sym l.is_place) opens

@@ -1,10 +1,11 @@
 -- Octets of one place: what stands on the one stands on the other.
-use Rattle.std.proofs.Common.{◌≡◌, ℕ, ◌+◌, ◌-◌, ◌<◌, Bool, true, false, cond, if◌then◌else◌, ◌==◌, nat_eq, List, [], ◌∷◌, ◌++◌, length, sum, Option, Some, refl, ap, sym, subst, ◌∙◌, inl, inr, arith, append-nil, length-append}
-use Rattle.iim_places.proofs.Words.{eqb_tells, Octets, filter-append, Dataset, head_of, of_record, count_octets, Begun, InTag, InData, Reads, handed_on}
-use Rattle.iim_places.proofs.Words.{IsKeptAs, Head, DatasetPlace, sum_append, AreSections, occurs, HasChecked, HasTaken, kept, section_after, SectionsLive}
-use Rattle.iim_places.proofs.Words.{SectionsLiveAt, ValuesDieWithTheirFault, Limits, RecordPlace, last_more, SubfileBegun, numbers_of, place_after_datasets}
-use Rattle.iim_places.proofs.Words.{place_ended, State, stated_numbers, text_so_far, LeadsToSaved, MessagePlace, object_of, PlaceLaws, place_at, ObjectLives}
-use Rattle.iim_places.proofs.Words.{object_so_far, section, AllCanContinue, IsOpen, are_some, Phase, TagBegun, DataBegun, AllEnded, phase_of, heads_of}
+use Rattle.std.proofs.Common.{◌≡◌, ℕ, ◌+◌, ◌-◌, ◌<◌, Bool, true, false, cond, if◌then◌else◌, ◌==◌, nat_eq, List, [], ◌∷◌, ◌++◌, length, sum, Option, Some, refl}
+use Rattle.std.proofs.Common.{ap, sym, subst, ◌∙◌, inl, inr, arith, append-nil, length-append}
+use Rattle.iim_places.proofs.Words.{eqb_tells, Octets, filter-append, Dataset, head_of, of_record, count_octets, Begun, InTag, InData, Reads, IsKeptAs, Head}
+use Rattle.iim_places.proofs.Words.{DatasetPlace, sum_append, occurs, HasChecked, HasTaken, kept, section_after, SectionsLive, SectionsLiveAt}
+use Rattle.iim_places.proofs.Words.{ValuesDieWithTheirFault, Limits, RecordPlace, last_more, SubfileBegun, numbers_of, place_after_datasets, place_ended, State}
+use Rattle.iim_places.proofs.Words.{stated_numbers, text_so_far, LeadsToSaved, MessagePlace, object_of, PlaceLaws, place_at, ObjectLives, object_so_far}
+use Rattle.iim_places.proofs.Words.{section, AllCanContinue, IsOpen, are_some, Phase, TagBegun, DataBegun, AllEnded, phase_of, heads_of}
 use Rattle.iim_dataset.specs.declared.place.DatasetPlace.TheVariants.{Tag, Inside}
 use Rattle.iim_fields.specs.States.Orders as orders
 use Rattle.iim_fields.specs.Format.Faults.{joined}
@@ -20,6 +21,7 @@ use Rattle.iim_places.proofs.Following.{alive_of}
 use Rattle.iim_places.proofs.Lasts.{SplitLast, split_last, last_sections}
 use Rattle.iim_places.proofs.Tickets.{count_of, total_of}
 use Rattle.iim_places.proofs.SameRecords.{SameRecords, SameFields, SameNumbers, IsStated, same_more, same_numbers, none_other}
+use Rattle.iim_places.proofs.Answering.{open_at}
 
 -- ---- what is begun
 
@@ -280,13 +282,11 @@ pub record Opened (limits : Limits) (ds : List Dataset) (c : Begun) : Type 0 whe
 
 pub opened : PlaceLaws → (limits : Limits) (p : List ℕ) (ds : List Dataset) (c : Begun) → Reads count_octets p ds c → IsOpen limits p → Opened limits ds c
 opened laws limits p ds c r is =
-    let same = laws.answer.way p (handed_on is.whole is.begun) (handed_on ds c) is.begun c (record { whole = is.whole; reads = is.reads; handed = refl }) (record { whole = ds; reads = r; handed = refl }) in
-    let told = (laws.answer.tell is.whole ds is.begun c same.0).0 in
-    let goes : AllCanContinue limits ds c = subst (AllCanContinue limits ds) same.1 (subst (λ (es : List Dataset). AllCanContinue limits es is.begun) told is.leads_on) in
+    let (goes, none) = open_at laws.answer limits p ds c r is in
     record {
       goes = goes;
       ended = elim (eqb_tells (section_after ds) 9) [
-        | inl nine ↦ absurd (is.unfinished (subst AreSections (sym told) (last_sections laws.answer.follow.ends ds (alive_of limits ds c goes.sizes) nine.1)))
+        | inl nine ↦ absurd (none (last_sections laws.answer.follow.ends ds (alive_of limits ds c goes.sizes) nine.1))
         | inr apart ↦ apart.0
       ];
     }

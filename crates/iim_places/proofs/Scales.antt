@@ -6,16 +6,16 @@ use Rattle.iim_places.proofs.Words.{Begun, InTag, InData, IsBegun, Reads, Head, 
 use Rattle.iim_places.proofs.Words.{Confirmed, number_tokens, numbers_of, stated_numbers, Stated, number_at, TokensWithin, LanguageWithin, AnswerLaws, OpenLaws}
 use Rattle.iim_places.proofs.Words.{object_of, AreWithin, IsOpen, object_so_far, section, Possible, IsSmall, IsSmallPhase, IsSmallPlace, greatest_size_before}
 use Rattle.iim_places.proofs.Words.{widest, Scale, FitsRow, SectionsLiveIn, HaveRoomIn, IsOpenIn, IsWholeIn, PossibleAt, place_in, first_scale, IsPlaceOf}
-use Rattle.iim_places.proofs.Words.{TagBegun, AllEnded, phase_of, place_of, MayContinue, unwrap_or, cases_lt, lt-ltb, le-ltb, length-take, eqb_tells, IsOctet}
+use Rattle.iim_places.proofs.Words.{TagBegun, AllEnded, phase_of, MayContinue, unwrap_or, cases_lt, lt-ltb, le-ltb, length-take, eqb_tells, IsOctet}
 use Rattle.iim_places.proofs.Words.{SpellsCount, SpellsTag, canonical_count, canonical_tag, canonical_dataset, canonical_stream, written_number, all_append}
 use Rattle.iim_places.proofs.Words.{all_map, HasSpellings, is_kept, AreSections, place_after_datasets, place_ended, ending_of, number_dataset, subfile_datasets}
-use Rattle.iim_places.proofs.Words.{ending_tokens, lengths_of, within_append, begun_within, AllCanContinue, AreOpenOrWhole, AreHeadsWithin}
-use Rattle.iim_places.proofs.Words.{LimitsAreToldByPlace, SmallPlacesWerePossible, place_at, plain_place, plain_octets, IsPlain, begun_object, Numbers}
-use Rattle.iim_places.proofs.Words.{number_list, mode_dataset, one_dataset, plain_numbers, filled, plain_end, plain, number_back, leb-true, and_parts, Octets}
-use Rattle.iim_places.proofs.Words.{within, greatest_size, within_most_and, Meets, IsGoodDataset, ObjectToken, ObjectLanguage, InRow, row_low, SectionsIn}
-use Rattle.iim_places.proofs.Words.{PresentScaleSaysNothingMore, present_scale}
+use Rattle.iim_places.proofs.Words.{ending_tokens, lengths_of, within_append, begun_within, AreOpenOrWhole, AreHeadsWithin, LimitsAreToldByPlace}
+use Rattle.iim_places.proofs.Words.{SmallPlacesWerePossible, place_at, plain_place, plain_octets, IsPlain, begun_object, Numbers, number_list, mode_dataset}
+use Rattle.iim_places.proofs.Words.{one_dataset, plain_numbers, filled, plain_end, plain, number_back, leb-true, and_parts, Octets, within, greatest_size}
+use Rattle.iim_places.proofs.Words.{within_most_and, Meets, IsGoodDataset, ObjectToken, ObjectLanguage, InRow, row_low, SectionsIn, PresentScaleSaysNothingMore}
+use Rattle.iim_places.proofs.Words.{present_scale}
 use Rattle.iim_places.specs.Format.Tickets.{Place}
-use Rattle.iim_places.proofs.Answering.{one_reading, reads_envelope}
+use Rattle.iim_places.proofs.Answering.{one_reading, reads_envelope, open_at, coming}
 use Rattle.iim_places.proofs.Bounds.{object_total, is_one, low}
 use Rattle.iim_places.proofs.Fitting.{begins_tag, so_far_fits, lives_in}
 use Rattle.iim_places.proofs.SmallTags.{wider_tag}
@@ -176,9 +176,8 @@ keeps_whole octets is = record { numbers = small_numbers is.admits.datasets is.r
 
 small_of : AnswerLaws → (place : Place) (octets : List ℕ) → (leads : IsPlaceOf octets place) → (ds : List Dataset) (b : Begun) → Reads count_octets octets ds b → Keeps ds b → IsSmallPlace place
 small_of laws place octets leads ds b reads keeps =
-    let one = one_reading laws octets leads.whole ds leads.begun b leads.reads reads in
-    let is : place ≡ place_of ds b leads.message = leads.is_place ∙ (λ i. place_of (one.whole_is i) (one.begun_is i) leads.message) in
-    subst IsSmallPlace (sym is) (record { numbers = keeps.numbers; taken = keeps.taken; begun = keeps.begun })
+    let c = coming laws place octets leads ds b reads in
+    subst IsSmallPlace (sym c.is_place) (record { numbers = keeps.numbers; taken = keeps.taken; begun = keeps.begun })
 
 -- What was possible is possible, and keeps to the first sizes.
 pub still_possible : OpenLaws → (place : Place) → PossibleAt first_scale place → Possible place × IsSmallPlace place
@@ -378,9 +377,7 @@ was_possible laws law told place poss small = by (plain_open laws place poss)
     by : ((p : IsPlain place) × AreOpenOrWhole widest (plain_octets place p)) → PossibleAt first_scale place
     by (p, comes) = elim comes [
       | inl open' ↦
-          let same = one_reading laws.answer (plain_octets place p) open'.whole ds open'.begun p.begun open'.reads reads in
-          let goes : AllCanContinue widest ds p.begun = subst (λ (b : Begun). AllCanContinue widest ds b) same.begun_is (subst (λ (es : List Dataset). AllCanContinue widest es open'.begun) same.whole_is open'.leads_on) in
-          let unfinished : AreSections ds → ⊥ = subst (λ (es : List Dataset). AreSections es → ⊥) same.whole_is open'.unfinished in
+          let (goes, unfinished) = open_at laws.answer widest (plain_octets place p) ds p.begun reads open' in
           let begun = small_begun laws ds p.begun p.rest p.is_begun goes.sizes unfinished phase in
           record {
             octets = canonical_stream ds ++ begun.0;
