@@ -1,14 +1,15 @@
 -- What the table of the causes tells is what tests find.
-use Rattle.std.proofs.Common.{◌≡◌, ◌≢◌, ℕ, zero, suc, ◌<◌, ◌≤◌, ◌⊎◌, Bool, true, false, not, ◌&&◌, ◌||◌, nat_eq, nat_lt, if◌then◌else◌, List, [], ◌∷◌, ◌++◌, length, map, Option, Some, None, refl, ap, sym, subst, ◌∙◌, inl, inr, arith}
+use Rattle.std.proofs.Common.{◌≡◌, ◌≢◌, ℕ, zero, suc, ◌<◌, ◌≤◌, ◌⊎◌, Bool, true, false, not, ◌&&◌, ◌||◌, nat_eq, nat_lt, if◌then◌else◌, List, [], ◌∷◌, ◌++◌}
+use Rattle.std.proofs.Common.{length, map, Option, Some, None, refl, ap, sym, subst, ◌∙◌, inl, inr, arith}
 use Rattle.iim_places.proofs.Words.{option_or, option_map, cases_Bool, cases_lt, eq-eqb, lt-ltb, ltb-true, eqb_tells, same_Some, Dataset, head_of, of_record}
-use Rattle.iim_places.proofs.Words.{count_octets, IsAlive, IsOctet, Octets, number, Begun, InTag, InData, Reads, Head, SectionsLive, SectionsLiveAt}
-use Rattle.iim_places.proofs.Words.{first_fault, record_fault, limits_fault, value_fault, fault_on, is_kept, data_of, tells_number, Limits, FieldFault}
-use Rattle.iim_places.proofs.Words.{cause_at, place_after_datasets, ObjectToken, head_token, value_token, max_subfiles, SizeCause, Holds, Octet, StoryLanguage}
+use Rattle.iim_places.proofs.Words.{count_octets, IsAlive, Octets, number, Begun, InTag, InData, Reads, Head, SectionsLive, SectionsLiveAt, first_fault}
+use Rattle.iim_places.proofs.Words.{record_fault, limits_fault, value_fault, fault_on, is_kept, data_of, tells_number, Limits, FieldFault, cause_at}
+use Rattle.iim_places.proofs.Words.{place_after_datasets, ObjectToken, head_token, value_token, max_subfiles, SizeCause, Holds, Octet, StoryLanguage}
 use Rattle.iim_places.proofs.Words.{MessageLanguage, MessageLivesWith, StoryLivesIn, text_so_far, HasCause, MessageCause, object_of, Token, AtOctet, AtHead}
 use Rattle.iim_places.proofs.Words.{AtValue, Names, TellsTheLowest, rule_of, AreWithin, AllCanContinue, Completes, Dies, IsUnfinished, RefusesByTests}
 use Rattle.iim_places.proofs.Words.{RefusesNext, cause_of, layer_of, cause_of_size, cause_of_message, layer_of_message, of_field, size_on, too_many_on}
 use Rattle.iim_places.proofs.Words.{message_on, tag_cause, begun_record, begun_number, DiesAtHead, DiesAtValue, HaveRoom, IsRefusedHead, IsRefusedValue}
-use Rattle.iim_places.proofs.Words.{fault_at_head, fault_at_value, place_at, subfile_fault, object_fault, number_fault, TokenFault, Layer}
+use Rattle.iim_places.proofs.Words.{fault_at_head, fault_at_value, place_at, subfile_fault, object_fault, number_fault, TokenFault, Layer, octets_append}
 use Rattle.iim_fields.specs.Format.Causes.{number_of_cause}
 use Rattle.iim_fields.specs.declared.fault.FieldCause.{FieldCause}
 use Rattle.iim_fields.specs.declared.fault.FieldCause.TheVariants as fields
@@ -22,7 +23,8 @@ use Rattle.iim_places.specs.declared.refusal.Cause.{Cause}
 use Rattle.iim_places.specs.declared.refusal.Cause.TheVariants as causes
 use Rattle.iim_places.proofs.Answering.{tests_of, IsRefusedAt}
 use Rattle.iim_places.proofs.Living.{alive_front}
-use Rattle.iim_places.proofs.Lowest.{LowestLaws, InLayer, one_of, numbered, Holds', OfField, field_layer, field_number, field_holds, head_names, value_names, size_layer, size_number, leads_at, one_token}
+use Rattle.iim_places.proofs.Lowest.{LowestLaws, InLayer, one_of, numbered, Holds', OfField, field_layer, field_number, field_holds, head_names, value_names}
+use Rattle.iim_places.proofs.Lowest.{size_layer, size_number, leads_at, one_token}
 use Rattle.iim_places.proofs.Places.{number_leads}
 use Rattle.iim_places.proofs.SameRecords.{stated_after_all, stated_at}
 use Rattle.iim_places.proofs.SizeConditions.{OfSize, size_holds}
@@ -404,10 +406,6 @@ tag_back limits ds held b fault dies tells names = by fault.layer refl dies
 
 -- ---- what is told is what tests find
 
-all_octets : (xs : List ℕ) (b : ℕ) → Octets xs → IsOctet b → Octets (xs ++ b ∷ [])
-all_octets [] b h low = (low, tt)
-all_octets (x ∷ xs) b h low = (h.0, all_octets xs b h.1 low)
-
 pub found_by_tests : LowestLaws → (limits : Limits) (octets : List ℕ) (next : ℕ) (fault : TokenFault) → RefusesNext limits octets next fault → RefusesByTests limits octets next fault
 found_by_tests laws limits octets next fault r =
     let step = by r.before.begun r.token r.before.reads r.before.leads_on r.completes r.dies r.tells r.names in
@@ -434,7 +432,7 @@ found_by_tests laws limits octets next fault r =
         let back = value_back laws limits ds d fault on.sizes.within (subst Octets (sym none) tt) dies tells names in
         inr (head_of d, tag, inr (other, ap length none, on, subst (λ (x : Dataset). IsRefusedValue ds x fault) is back))
     by (InData h taken) (AtValue d) reads all (other, is, many) dies tells names =
-        let good : Octets (taken ++ next ∷ []) = all_octets taken next reads.is_rest.3 r.is_octet in
+        let good : Octets (taken ++ next ∷ []) = octets_append taken (next ∷ []) reads.is_rest.3 (r.is_octet, tt) in
         let back = value_back laws limits ds d fault all.sizes.within (subst (λ (x : Dataset). Octets x.octets) (sym is) good) dies tells names in
         inr (
           (λ eight. other (ap (λ (x : Dataset). x.rec) is ∙ eight)),

@@ -6,7 +6,7 @@ use Rattle.iim_places.proofs.Words.{number_back, IsOctet, Octets, number, greate
 use Rattle.iim_places.proofs.Words.{Begun, InTag, InData, HasSpellings, CanonicalStreamsAreSpelled, kept, is_kept, last_record, section_after, numbers_of}
 use Rattle.iim_places.proofs.Words.{number_dataset, subfile_datasets, stated_numbers, Stated, number_at, LeadsToSaved, object_of, IsSize, object_so_far}
 use Rattle.iim_places.proofs.Words.{section, phase_of, heads_of, AreSpellable, begun_object, begun_heads, PlainOctetsLeadToTheirPlace, Numbers, number_list}
-use Rattle.iim_places.proofs.Words.{mode_dataset, one_dataset, plain_numbers, filled, plain_end, plain, last_of_joined}
+use Rattle.iim_places.proofs.Words.{mode_dataset, one_dataset, plain_numbers, filled, plain_end, plain, last_of_joined, map-append}
 use Rattle.iim_dataset.proofs.WrittenNumbers.{number_octets}
 use Rattle.iim_fields.specs.Format.Faults.{joined}
 
@@ -25,29 +25,31 @@ pub record Tell (ds fields : List Dataset) (numbers : Numbers) (heads : ℕ) (ob
 abbrev pub AreOf : ℕ → List Dataset → Type 0
 AreOf r ds = AllByRecursion (λ (d : Dataset). d.rec ≡ r) ds
 
+filter_all : (p : Dataset → Bool) (ds : List Dataset) → AllByRecursion (λ (d : Dataset). p d ≡ true) ds → filter p ds ≡ ds
+filter_all p [] all = refl
+filter_all p (d ∷ ds) all = ap (λ (b : Bool). cond b (d ∷ filter p ds) (filter p ds)) all.0 ∙ ap (λ (xs : List Dataset). d ∷ xs) (filter_all p ds all.1)
+
+filter_none : (p : Dataset → Bool) (ds : List Dataset) → AllByRecursion (λ (d : Dataset). p d ≡ false) ds → filter p ds ≡ []
+filter_none p [] all = refl
+filter_none p (d ∷ ds) all = ap (λ (b : Bool). cond b (d ∷ filter p ds) (filter p ds)) all.0 ∙ filter_none p ds all.1
+
 pub kept_fields : (ds : List Dataset) → AllByRecursion (λ (d : Dataset). is_kept d.rec ≡ true) ds → kept ds ≡ ds
-kept_fields [] all = refl
-kept_fields (d ∷ ds) all = ap (λ (b : Bool). cond b (d ∷ kept ds) (kept ds)) all.0 ∙ ap (λ (xs : List Dataset). d ∷ xs) (kept_fields ds all.1)
+kept_fields ds all = filter_all (λ (d : Dataset). is_kept d.rec) ds all
 
 none_kept : (r : ℕ) (ds : List Dataset) → is_kept r ≡ false → AreOf r ds → kept ds ≡ []
-none_kept r [] is all = refl
-none_kept r (d ∷ ds) is all = ap (λ (b : Bool). cond b (d ∷ kept ds) (kept ds)) (ap is_kept all.0 ∙ is) ∙ none_kept r ds is all.1
+none_kept r ds is all = filter_none (λ (d : Dataset). is_kept d.rec) ds (all_map _ _ ds (λ d e. ap is_kept e ∙ is) all)
 
 pub all_of : (r : ℕ) (ds : List Dataset) → nat_eq r r ≡ true → AreOf r ds → of_record r ds ≡ ds
-all_of r [] same all = refl
-all_of r (d ∷ ds) same all = ap (λ (b : Bool). cond b (d ∷ of_record r ds) (of_record r ds)) (ap (λ (n : ℕ). nat_eq n r) all.0 ∙ same) ∙ ap (λ (xs : List Dataset). d ∷ xs) (all_of r ds same all.1)
+all_of r ds same all = filter_all (λ (d : Dataset). nat_eq d.rec r) ds (all_map _ _ ds (λ d e. ap (λ (n : ℕ). nat_eq n r) e ∙ same) all)
 
 pub none_of : (r s : ℕ) (ds : List Dataset) → nat_eq s r ≡ false → AreOf s ds → of_record r ds ≡ []
-none_of r s [] apart all = refl
-none_of r s (d ∷ ds) apart all = ap (λ (b : Bool). cond b (d ∷ of_record r ds) (of_record r ds)) (ap (λ (n : ℕ). nat_eq n r) all.0 ∙ apart) ∙ none_of r s ds apart all.1
+none_of r s ds apart all = filter_none (λ (d : Dataset). nat_eq d.rec r) ds (all_map _ _ ds (λ d e. ap (λ (n : ℕ). nat_eq n r) e ∙ apart) all)
 
-pub none_in_fields : (r : ℕ) (ds : List Dataset) → is_kept r ≡ false → AllByRecursion (λ (d : Dataset). is_kept d.rec ≡ true) ds → of_record r ds ≡ []
-none_in_fields r [] is all = refl
-none_in_fields r (d ∷ ds) is all = by (nat_eq d.rec r) refl (none_in_fields r ds is all.1)
+none_in_fields : (r : ℕ) (ds : List Dataset) → is_kept r ≡ false → AllByRecursion (λ (d : Dataset). is_kept d.rec ≡ true) ds → of_record r ds ≡ []
+none_in_fields r ds is all = filter_none (λ (d : Dataset). nat_eq d.rec r) ds (all_map _ _ ds (λ d keeps. ne_eqb d.rec r (apart d keeps)) all)
   where
-    by : (b : Bool) → nat_eq d.rec r ≡ b → of_record r ds ≡ [] → cond b (d ∷ of_record r ds) (of_record r ds) ≡ []
-    by true same more = absurd (let bad : true ≡ false = sym all.0 ∙ ap is_kept (eqb-true d.rec r same) ∙ is in cc)
-    by false same more = more
+    apart : (d : Dataset) → is_kept d.rec ≡ true → d.rec ≡ r → ⊥
+    apart d keeps same = let bad : true ≡ false = sym keeps ∙ ap is_kept same ∙ is in cc
 
 -- ---- record 7
 
@@ -55,14 +57,10 @@ are_one : (made : ℕ → Dataset) → ((n : ℕ) → (made n).rec ≡ 7) → (o
 are_one made is None = tt
 are_one made is (Some n) = (is n, tt)
 
-are_both : (r : ℕ) (xs ys : List Dataset) → AreOf r xs → AreOf r ys → AreOf r (xs ++ ys)
-are_both r [] ys a b = b
-are_both r (x ∷ xs) ys a b = (a.0, are_both r xs ys a.1 b)
-
 pub are_sevens : (n : Numbers) → AreOf 7 (plain_numbers n)
 are_sevens n =
-    are_both 7 _ _ (are_one mode_dataset (λ k. refl) n.mode)
-    (are_both 7 _ _ (are_one (number_dataset 7 20) (λ k. refl) n.largest) (are_both 7 _ _ (are_one (number_dataset 7 90) (λ k. refl) n.announced) (are_one (number_dataset 7 95) (λ k. refl) n.maximum)))
+    all_append _ _ _ (are_one mode_dataset (λ k. refl) n.mode)
+    (all_append _ _ _ (are_one (number_dataset 7 20) (λ k. refl) n.largest) (all_append _ _ _ (are_one (number_dataset 7 90) (λ k. refl) n.announced) (are_one (number_dataset 7 95) (λ k. refl) n.maximum)))
 
 abbrev pub one_stated : ℕ → Option ℕ → List Stated
 one_stated set None = []
@@ -80,8 +78,7 @@ abbrev pub all_stated : Numbers → List Stated
 all_stated n = one_stated 10 n.mode ++ (one_stated 20 n.largest ++ (one_stated 90 n.announced ++ one_stated 95 n.maximum))
 
 pub numbers_join : (xs ys : List Dataset) → numbers_of (xs ++ ys) ≡ numbers_of xs ++ numbers_of ys
-numbers_join [] ys = refl
-numbers_join (x ∷ xs) ys = ap (λ (ps : List Stated). record { set = x.set; number = number x.octets } ∷ ps) (numbers_join xs ys)
+numbers_join xs ys = map-append (λ (d : Dataset). record { set = d.set; number = number d.octets }) xs ys
 
 both_lists : {a b c d : List Stated} → a ≡ c → b ≡ d → a ++ b ≡ c ++ d
 both_lists {b = b} {c = c} e f = ap (λ (xs : List Stated). xs ++ b) e ∙ ap (λ (xs : List Stated). c ++ xs) f

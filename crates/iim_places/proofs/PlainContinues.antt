@@ -7,7 +7,7 @@ use Rattle.iim_places.proofs.Words.{is_kept, section_after, last_record, AreSect
 use Rattle.iim_places.proofs.Words.{repeats, mandatory, number_dataset, subfile_datasets, numbers_of, Stated, InRow, number_at, stated_numbers, IsSize}
 use Rattle.iim_places.proofs.Words.{AnswerLaws, Numbers, number_list, mode_dataset, one_dataset, plain_numbers, filled, plain_end, plain, good_elsewhere}
 use Rattle.iim_places.proofs.Words.{occurrences_cons, part_meets, none_counts, occurrences_append, some_counts, last_more, last_of_joined, front_alive}
-use Rattle.iim_places.proofs.Words.{max_subfiles, one_of_some, eqb_tells}
+use Rattle.iim_places.proofs.Words.{max_subfiles, one_of_some, eqb_tells, all_map}
 use Rattle.iim_tables.specs.Format.Rows.{table, row_of}
 use Rattle.iim_object.specs.Laws.Packing.{NumberDatasetsAreGood}
 use Rattle.iim_places.proofs.SizeRows.{by_number}
@@ -56,8 +56,7 @@ good_with r xs ys more may good = record {
     all_seen (n ∷ ns) all = (sym (seen n) ∙ all.0, all_seen ns all.1)
 
 are_of : (r : ℕ) (ds : List Dataset) → AreGood r ds → AreOf r ds
-are_of r [] all = tt
-are_of r (d ∷ ds) all = (all.0.0, are_of r ds all.1)
+are_of r ds all = all_map _ _ ds (λ d h. h.0) all
 
 none_seen : (xs : List Dataset) → ((n : ℕ) → false ≡ occurs n xs) → xs ≡ []
 none_seen [] none = refl

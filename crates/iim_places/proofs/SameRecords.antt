@@ -1,10 +1,12 @@
 -- Datasets of one place have the same numbers in each record.
-use Rattle.std.proofs.Common.{◌≡◌, ℕ, ◌+◌, ◌<◌, ◌≤◌, ◌||◌, Bool, true, false, cond, nat_eq, List, [], ◌∷◌, ◌++◌, length, is_some, Some, None, refl, ap, sym, subst, ◌∙◌, inl, inr, arith, append-nil, append_assoc, length-append}
+use Rattle.std.proofs.Common.{◌≡◌, ℕ, ◌+◌, ◌<◌, ◌≤◌, ◌||◌, Bool, true, false, cond, nat_eq, List, [], ◌∷◌, ◌++◌, length, is_some, Some, None, refl, ap, sym}
+use Rattle.std.proofs.Common.{subst, ◌∙◌, inl, inr, arith, append-nil, append_assoc, length-append}
 use Rattle.iim_places.proofs.Words.{AllByRecursion, eqb-true, eqb-false, ne_eqb, eqb_tells, filter-append, list_any-append, number, Dataset, head_of, of_record}
-use Rattle.iim_places.proofs.Words.{Head, all_front, all_map, Meets, AreSections, AreRecords, records, IsGoodDataset, occurs, SectionsLive, SectionsLiveAt}
+use Rattle.iim_places.proofs.Words.{Head, all_front, Meets, AreSections, AreRecords, records, IsGoodDataset, occurs, SectionsLive, SectionsLiveAt}
 use Rattle.iim_places.proofs.Words.{section_after, kept, is_kept, last_more, by_record, max_subfiles, Stated, InRow, AreStated, number_at, numbers_of}
 use Rattle.iim_places.proofs.Words.{ObjectToken, NumberRead, SubfileBegun, ObjectEnded, Confirmed, NotEnded, Ended, HasBoth, MayFollow, place_after, head_token}
 use Rattle.iim_places.proofs.Words.{place_after_datasets, place_ended, RecordsAreByNumber, stated_numbers, one_of_some, place_at, ObjectLaws, FollowLaws}
+use Rattle.iim_places.proofs.Words.{all_map}
 use Rattle.iim_object.specs.Format.Places.{Place}
 use Rattle.iim_places.proofs.Fronts.{empty_front}
 use Rattle.iim_places.proofs.Lasts.{SplitLast, split_last}
@@ -12,6 +14,7 @@ use Rattle.iim_places.proofs.Objects.{records_alive}
 use Rattle.iim_places.proofs.SizeRows.{HasTen, Unstated, by_number, by_ten, eight_has, nine_has}
 use Rattle.iim_places.proofs.Places.{is_one, at_other, at_number, subfile_leads, end_leads}
 use Rattle.iim_places.proofs.Bounds.{none_nine}
+use Rattle.iim_places.proofs.Plain.{none_of}
 
 -- The datasets have the same numbers in each record.
 pub record SameRecords (ds es : List Dataset) : Type 0 where
@@ -213,17 +216,11 @@ nines laws ds alive = by (split_last ds)
 
 -- ---- there are no other records
 
-none_in : (r k : ℕ) → nat_eq k r ≡ false → (ds : List Dataset) → AllByRecursion (λ d. (d.rec ≡ k) × IsGoodDataset d) ds → of_record r ds ≡ []
-none_in r k apart [] all = refl
-none_in r k apart (d ∷ ds) all =
-    let test : nat_eq d.rec r ≡ false = ap (λ (x : ℕ). nat_eq x r) all.0.0 ∙ apart in
-    ap (λ (b : Bool). cond b (d ∷ of_record r ds) (of_record r ds)) test ∙ none_in r k apart ds all.1
-
 pub none_in_records : (r : ℕ) (rs : List ℕ) (ds : List Dataset) → AreRecords rs ds → AllByRecursion (λ k. nat_eq k r ≡ false) rs → of_record r ds ≡ []
 none_in_records r [] ds none apart = ap (of_record r) none
 none_in_records r (k ∷ rs) ds (run, rest, parts, good, later) apart =
     ap (of_record r) parts ∙ filter-append (λ (x : Dataset). nat_eq x.rec r) run rest
-    ∙ ap (λ (xs : List Dataset). xs ++ of_record r rest) (none_in r k apart.0 run good.each) ∙ none_in_records r rs rest later apart.1
+    ∙ ap (λ (xs : List Dataset). xs ++ of_record r rest) (none_of r k run apart.0 (all_map _ _ run (λ d h. h.0) good.each)) ∙ none_in_records r rs rest later apart.1
 
 pub none_other : (r : ℕ) → AllByRecursion (λ k. nat_eq k r ≡ false) records → (ds : List Dataset) → SectionsLive ds → of_record r ds ≡ []
 none_other r apart ds alive =

@@ -7,7 +7,7 @@ use Rattle.iim_places.proofs.Words.{section_after, AreSections, AreRecords, afte
 use Rattle.iim_places.proofs.Words.{place_after_datasets, place_ended, SubfileBegun, max_subfiles, lengths_of, numbers_of, HaveSizes, IsPossible}
 use Rattle.iim_places.proofs.Words.{stated_numbers, Stated, number_at, AreWithin, OpenLaws, SizeLaws, place_at, ObjectLives, HaveRoom, CanContinue}
 use Rattle.iim_places.proofs.Words.{CanContinueAt, MayContinue, last_of_joined, NotEnded, ConfirmedAs, number, Begun, InTag, InData, Sizes, Header, IsMessage}
-use Rattle.iim_places.proofs.Words.{IsEnvelopeWithin, IsText, object_of, nil_from_length}
+use Rattle.iim_places.proofs.Words.{IsEnvelopeWithin, IsText, object_of, nil_from_length, map-append}
 use Rattle.iim_fields.specs.Format.Faults.{joined}
 use Rattle.iim_object.specs.Format.Places as objects
 use Rattle.iim_places.proofs.Limits.{kept_append}
@@ -87,12 +87,8 @@ numbers_on ps qs rs same = record { mode = on 10 same.mode; largest = on 20 same
 abbrev pub eights : List Dataset → List ℕ
 eights ds = lengths_of (of_record 8 ds)
 
-lengths_join : (xs ys : List Dataset) → lengths_of (xs ++ ys) ≡ lengths_of xs ++ lengths_of ys
-lengths_join [] ys = refl
-lengths_join (x ∷ xs) ys = ap (λ (ns : List ℕ). length x.octets ∷ ns) (lengths_join xs ys)
-
 eights_both : (xs ys : List Dataset) → eights (xs ++ ys) ≡ eights xs ++ eights ys
-eights_both xs ys = ap lengths_of (of_both 8 xs ys) ∙ lengths_join (of_record 8 xs) (of_record 8 ys)
+eights_both xs ys = ap lengths_of (of_both 8 xs ys) ∙ map-append (λ (d : Dataset). length d.octets) (of_record 8 xs) (of_record 8 ys)
 
 -- ---- no subfile is longer than 7:20
 
