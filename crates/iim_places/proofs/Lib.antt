@@ -11,7 +11,6 @@ pub mod Limits
 pub mod Refused
 pub mod SizeConditions
 pub mod Lowest
-pub mod ByTable
 pub mod Results
 pub mod Lasts
 pub mod Opens
