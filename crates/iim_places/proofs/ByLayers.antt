@@ -27,7 +27,7 @@ use Rattle.iim_places.proofs.PlainPlaces.{numbers_in, all_kept, low_mode, mode_o
 use Rattle.iim_places.proofs.SameRecords.{IsStated, nines, stated_after_all, stated_at}
 use Rattle.iim_places.proofs.Tickets.{total_of, count_of, sum_one}
 use Rattle.iim_places.proofs.PlainSizes.{possible_of, duties_of, possible_like, each_small}
-use Rattle.iim_places.proofs.Twins.{alive_at_as, enveloped}
+use Rattle.iim_places.proofs.Twins.{alive_at_as, enveloped, value_of}
 use Rattle.iim_places.specs.Format.Tokens.{place_at}
 use Rattle.iim_fields.specs.Format.Faults.{joined}
 use Rattle.iim_places.proofs.Answering.{nothing_held}
@@ -373,7 +373,8 @@ finish laws place numbers heads object ended begun rest text spellable is_begun 
         let all = enveloped laws.opens widest (canonical_stream ds ++ []) ds m.head m.text m.trailer m.lined.0
         (subst (SpellsStream count_octets ds) (sym (append-nil (canonical_stream ds))) spelled)
         (subst (MayContinue widest ds) no_more.0 goes) nine m.message m.lined.1 in
-        subst (λ (r : List ℕ). AreOpenOrWhole widest (canonical_stream ds ++ r)) (sym no_more.1) (inr (_, all.within))
+        subst (λ (r : List ℕ). AreOpenOrWhole widest (canonical_stream ds ++ r)) (sym no_more.1)
+        (inr (value_of ds m.head m.lined.0 m.trailer all.sizes, all.within))
 
     by : (b : Bool) → ended ≡ b → AreOpenOrWhole widest (canonical_stream ds ++ rest)
     by true is = whole is

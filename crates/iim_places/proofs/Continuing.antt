@@ -17,7 +17,7 @@ use Rattle.iim_places.proofs.Onward.{Pair, ReadAlike, bounded_of, data_on, given
 use Rattle.iim_places.proofs.SamePlace.{SameAll, SameBegun, SameData, SameMessage, count_as, held_open, opened, same_begun, same_message, total_as}
 use Rattle.iim_places.proofs.SameRecords.{SameNumbers, nines, same_numbers, same_records}
 use Rattle.iim_places.proofs.Tickets.{count_of, total_of}
-use Rattle.iim_places.proofs.Twins.{Twins, sevens, enveloped}
+use Rattle.iim_places.proofs.Twins.{Twins, sevens, enveloped, value_of}
 
 -- ---- where both stand
 
@@ -172,7 +172,7 @@ whole_as laws limits octets others v a es reads same goes nine =
     subst (SpellsStream count_octets es) (sym (append-nil reads.front) ∙ ap (λ (l : List ℕ). reads.front ++ l) (sym reads.is_rest.0) ∙ sym reads.parts)
     reads.is_front in
     let all = enveloped laws.opens limits others es v.head same.message.other v.trailer led.story.0 stream goes nine led.spelled.0 led.story.1 in (
-      _,
+      value_of es v.head led.story.0 v.trailer all.sizes,
       all.within,
       record { fields = sym a.fields ∙ same.fields; head = refl; trailer = refl; sizes = sizes_as a.datasets es v.sizes all.sizes same a.sizes all.have },
     )

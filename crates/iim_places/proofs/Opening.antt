@@ -1,14 +1,13 @@
 -- Octets from which every layer can continue are open, where no envelope stands at their front.
 use Rattle.std.proofs.Common.{ℕ, nat_eq, if◌then◌else◌, [], ◌∷◌, ◌++◌, map, subst}
-use Rattle.iim_places.proofs.Words.{count_octets, Begun, InTag, InData, Reads, AreSections, Octet, End, with_end, MessageLanguage, MessageLivesWith, object_of}
-use Rattle.iim_places.proofs.Words.{AllCanContinue, LivingOctetsAreOpen, OnwardLaws}
+use Rattle.iim_places.proofs.Words.{count_octets, Begun, InTag, InData, Reads, AreSections, Octet, End, with_end, MessageLanguage, MessageLivesWith, object_of, AllCanContinue, LivingOctetsAreOpen, OnwardLaws}
 use Rattle.iim_dataset.specs.Format.Languages as languages
 use Rattle.wire_message.specs.States.SoFar.{LeadsTo}
 use Rattle.wire_message.specs.declared.place.Place.{Place}
 use Rattle.iim_places.proofs.AfterEnd.{ended_at}
 use Rattle.iim_places.proofs.Lasts.{not_all, sections_last}
 use Rattle.iim_places.proofs.Living.{alive_front}
-use Rattle.iim_places.proofs.Twins.{enveloped}
+use Rattle.iim_places.proofs.Twins.{enveloped, value_of}
 
 pub open_where_none : OnwardLaws → (start : Place) → LeadsTo [] [] start → LivingOctetsAreOpen
 open_where_none laws start begins limits octets whole begun reads all none =
@@ -24,4 +23,4 @@ open_where_none laws start begins limits octets whole begun reads all none =
         let (text, place, leads) = laws.on [] (object_of whole) [] start begins lives all.story in
         let e = ended_at (object_of whole) text place leads ((laws.ends (object_of whole) text place leads).0 ends) in
         let is = enveloped laws.opens limits reads.front whole e.head e.text e.trailer e.lined.0 reads.is_front all.sizes nine e.message e.lined.1 in
-        none reads.front reads.rest _ reads.parts is.within.admits
+        none reads.front reads.rest (value_of whole e.head e.lined.0 e.trailer is.sizes) reads.parts is.within.admits

@@ -60,7 +60,8 @@ are_one made is (Some n) = (is n, tt)
 pub are_sevens : (n : Numbers) → AreOf 7 (plain_numbers n)
 are_sevens n =
     all_append _ _ _ (are_one mode_dataset (λ k. refl) n.mode)
-    (all_append _ _ _ (are_one (number_dataset 7 20) (λ k. refl) n.largest) (all_append _ _ _ (are_one (number_dataset 7 90) (λ k. refl) n.announced) (are_one (number_dataset 7 95) (λ k. refl) n.maximum)))
+    (all_append _ _ _ (are_one (number_dataset 7 20) (λ k. refl) n.largest)
+    (all_append _ _ _ (are_one (number_dataset 7 90) (λ k. refl) n.announced) (are_one (number_dataset 7 95) (λ k. refl) n.maximum)))
 
 abbrev pub one_stated : ℕ → Option ℕ → List Stated
 one_stated set None = []

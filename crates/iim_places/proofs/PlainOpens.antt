@@ -22,7 +22,7 @@ use Rattle.iim_places.proofs.PlainPlaces.{numbers_in, all_kept, room_for, object
 use Rattle.iim_places.proofs.PlainSizes.{duties_of, Lives}
 use Rattle.iim_places.proofs.SameRecords.{nines, same_numbers, stated_after_all}
 use Rattle.iim_places.proofs.Tickets.{total_of, count_of}
-use Rattle.iim_places.proofs.Twins.{Twins, AreBounded, eights, sevens, may_as, enveloped, bounded_after}
+use Rattle.iim_places.proofs.Twins.{Twins, AreBounded, eights, sevens, may_as, enveloped, bounded_after, value_of}
 use Rattle.iim_places.proofs.Taking.{each_good}
 
 -- ---- the plain datasets
@@ -236,8 +236,11 @@ from_whole laws place l v is =
     let stream = subst (SpellsStream count_octets es) (sym (append-nil (canonical_stream es))) (spelled_of laws place l) in
     let message = subst (λ (o : List ℕ). IsMessage o v.head a.text v.trailer) (ap object_of same.whole_is ∙ t.object) a.message in
     let whole = enveloped laws widest (canonical_stream es ++ []) es v.head a.text v.trailer v.lines stream
-    (may_as laws widest ds es (InTag []) t.alive t.present t.twins goes) nine message a.lines in
-    (plain_by laws place l, subst (λ (xs : List ℕ). AreOpenOrWhole widest (canonical_stream es ++ xs)) (sym none) (inr (_, whole.within)))
+    (may_as laws widest ds es (InTag []) t.alive t.present t.twins goes) nine message a.lines in (
+      plain_by laws place l,
+      subst (λ (xs : List ℕ). AreOpenOrWhole widest (canonical_stream es ++ xs)) (sym none)
+          (inr (value_of es v.head v.lines v.trailer whole.sizes, whole.within)),
+    )
 
 -- Each possible place is led to by plain octets that are open or an envelope.
 pub plain_open : OpenLaws → PlainOctetsAreOpenOrWhole

@@ -220,7 +220,8 @@ pub none_in_records : (r : ℕ) (rs : List ℕ) (ds : List Dataset) → AreRecor
 none_in_records r [] ds none apart = ap (of_record r) none
 none_in_records r (k ∷ rs) ds (run, rest, parts, good, later) apart =
     ap (of_record r) parts ∙ filter-append (λ (x : Dataset). nat_eq x.rec r) run rest
-    ∙ ap (λ (xs : List Dataset). xs ++ of_record r rest) (none_of r k run apart.0 (all_map _ _ run (λ d h. h.0) good.each)) ∙ none_in_records r rs rest later apart.1
+    ∙ ap (λ (xs : List Dataset). xs ++ of_record r rest)
+    (none_of r k run apart.0 (all_map _ _ run (λ d h. h.0) good.each)) ∙ none_in_records r rs rest later apart.1
 
 pub none_other : (r : ℕ) → AllByRecursion (λ k. nat_eq k r ≡ false) records → (ds : List Dataset) → SectionsLive ds → of_record r ds ≡ []
 none_other r apart ds alive =

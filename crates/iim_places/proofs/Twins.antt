@@ -7,7 +7,7 @@ use Rattle.iim_places.proofs.Words.{section_after, AreSections, AreRecords, afte
 use Rattle.iim_places.proofs.Words.{place_after_datasets, place_ended, SubfileBegun, max_subfiles, lengths_of, numbers_of, HaveSizes, IsPossible}
 use Rattle.iim_places.proofs.Words.{stated_numbers, Stated, number_at, AreWithin, OpenLaws, SizeLaws, place_at, ObjectLives, HaveRoom, CanContinue}
 use Rattle.iim_places.proofs.Words.{CanContinueAt, MayContinue, last_of_joined, NotEnded, ConfirmedAs, number, Begun, InTag, InData, Sizes, Header, IsMessage}
-use Rattle.iim_places.proofs.Words.{IsEnvelopeWithin, IsText, object_of, nil_from_length, map-append}
+use Rattle.iim_places.proofs.Words.{IsEnvelopeWithin, IsText, object_of, nil_from_length, map-append, Value}
 use Rattle.iim_fields.specs.Format.Faults.{joined}
 use Rattle.iim_object.specs.Format.Places as objects
 use Rattle.iim_places.proofs.Limits.{kept_append}
@@ -305,11 +305,14 @@ may_as laws limits ds es (InData h taken) there present twins goes =
 
 -- ---- an envelope, told by its datasets
 
+abbrev pub value_of : List Dataset → Header → List (List ℕ) → List ℕ → Sizes → Value
+value_of ds head lines trailer sizes = record { fields = kept ds; head = head; lines = lines; trailer = trailer; sizes = sizes }
+
 -- The datasets are those of an envelope with such a message.
 pub record Enveloped (limits : Limits) (octets : List ℕ) (ds : List Dataset) (head : Header) (lines : List (List ℕ)) (trailer : List ℕ) : Type 0 where
   pub sizes : Sizes
   pub have : HaveSizes (of_record 7 ds) (of_record 8 ds) (of_record 9 ds) sizes
-  pub within : IsEnvelopeWithin limits octets (record { fields = kept ds; head = head; lines = lines; trailer = trailer; sizes = sizes })
+  pub within : IsEnvelopeWithin limits octets (value_of ds head lines trailer sizes)
 
 one_nine : (xs : List Dataset) → length xs ≡ 1 → AreTens xs → (n : ℕ) × (ending_of xs ≡ ConfirmedAs n) × (number_at 10 (numbers_of xs) ≡ Some n)
 one_nine [] one tens = absurd (omega (arith, one))
