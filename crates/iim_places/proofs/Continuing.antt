@@ -26,17 +26,15 @@ no_nine laws ds alive open' = nil_from_length (of_record 9 ds) (nines laws.opens
 
 heads_as : (ds es : List Dataset) (c d : Begun) → SameBegun c d → heads_of ds c ≡ heads_of es d → length (of_record 8 ds) ≡ length (of_record 8 es)
 heads_as ds es (InTag x) (InTag y) same e = e
-heads_as ds es (InTag x) (InData k v) same e = absurd same
-heads_as ds es (InData h t) (InTag y) same e = absurd same
 heads_as ds es (InData h t) (InData k v) same e =
     count_as (length (of_record 8 ds)) (length (of_record 8 es)) (if nat_eq h.rec 8 then 1 else 0) (e ∙ ap (λ (x : Head). length (of_record 8 es) + (if nat_eq x.rec 8 then 1 else 0)) (sym same.head))
+heads_as ds es c d same e = absurd same
 
 taken_as : (ds es : List Dataset) (c d : Begun) → SameBegun c d → length (object_so_far ds c) ≡ length (object_so_far es d) → length (object_of ds) ≡ length (object_of es)
 taken_as ds es (InTag x) (InTag y) same e = e
-taken_as ds es (InTag x) (InData k v) same e = absurd same
-taken_as ds es (InData h t) (InTag y) same e = absurd same
 taken_as ds es (InData h t) (InData k v) same e =
     total_as (nat_eq h.rec 8) (object_of ds) (object_of es) t v same.many (e ∙ ap (λ (x : Head). length (object_of es ++ (if nat_eq x.rec 8 then v else []))) (sym same.head))
+taken_as ds es c d same e = absurd same
 
 -- what the place says of both
 all_told : OnwardLaws → (p q : List ℕ) (place : Place) (is : IsPlaceOf p place) (are : IsPlaceOf q place) → SameAll is.whole are.whole is.begun are.begun
@@ -98,9 +96,8 @@ on_as : OnwardLaws → (limits : Limits) (p q : List ℕ) (ds es : List Dataset)
 on_as laws limits p q ds es (InTag x) (InTag y) r s both more W b w goes =
     tag_on laws limits p q more ds es x r (subst (λ (l : List ℕ). Reads count_octets q es (InTag l)) (sym both.begun) s)
     (before_of limits ds es x y both.pair) W b w goes
-on_as laws limits p q ds es (InTag x) (InData k v) r s both more W b w goes = absurd both.begun
-on_as laws limits p q ds es (InData h t) (InTag y) r s both more W b w goes = absurd both.begun
 on_as laws limits p q ds es (InData h t) (InData k v) r s both more W b w goes = on_data laws limits p q ds es h k t v both.begun.head r s both.begun both.pair more W b w goes
+on_as laws limits p q ds es c d r s both more W b w goes = absurd both.begun
 
 pub on_open : OnwardLaws → (limits : Limits) (p q : List ℕ) (place : Place) (is : IsPlaceOf p place) (are : IsPlaceOf q place) → IsOpen limits p → IsOpen limits q → (more : List ℕ) → Onward limits p q is.whole are.whole is.begun are.begun more
 on_open laws limits p q place is are opens goes more = on_as laws limits p q is.whole are.whole is.begun are.begun is.reads are.reads (open_pair laws limits p q place is are opens goes) more
@@ -116,9 +113,8 @@ pub unfinished_as : OnwardLaws → (limits : Limits) (ds es : List Dataset) (c d
 unfinished_as laws limits ds es (InTag x) (InTag y) pair none sections =
     let ends = laws.opens.answer.follow.ends in
     none (last_sections ends ds pair.here.sizes.records (pair.section_is ∙ sections_last ends es pair.there.sizes.records sections))
-unfinished_as laws limits ds es (InTag x) (InData k v) pair none sections = absurd pair.begun
-unfinished_as laws limits ds es (InData h t) (InTag y) pair none sections = absurd pair.begun
 unfinished_as laws limits ds es (InData h t) (InData k v) pair none sections = no_sections_inside laws es k pair.there.sizes.records sections
+unfinished_as laws limits ds es c d pair none sections = absurd pair.begun
 
 pub open_as : OnwardLaws → (limits : Limits) (q o r : List ℕ) (p : List ℕ) (opens : IsOpen limits p) → ReadAlike limits q o r opens.whole opens.begun → IsOpen limits q
 open_as laws limits q o r p opens read = record {
@@ -144,9 +140,8 @@ some_number e = cc
 
 known_as : (a b : Bool) → mode_number a ≡ mode_number b → a ≡ b
 known_as true true e = refl
-known_as true false e = absurd (omega (arith, e))
-known_as false true e = absurd (omega (arith, e))
 known_as false false e = refl
+known_as a b e = absurd (omega (arith, e))
 
 sizes_as : (ds es : List Dataset) (s t : Sizes) → SameEnvelope ds es → HaveSizes (of_record 7 ds) (of_record 8 ds) (of_record 9 ds) s → HaveSizes (of_record 7 es) (of_record 8 es) (of_record 9 es) t → s ≡ t
 sizes_as ds es s t same here there =

@@ -84,13 +84,12 @@ no_more laws (g ∷ es) (f ∷ fs) x y all_e all_f e =
 same_lists : {limits : Limits} → ListingLaws limits → (es fs : List Listed) (x y : List ℕ) → AllByRecursion (IsListed limits) es → AllByRecursion (IsListed limits) fs
     → length es ≡ length fs → joined es ++ x ≡ joined fs ++ y → (es ≡ fs) × (x ≡ y)
 same_lists laws [] [] x y all_e all_f n e = (refl, e)
-same_lists laws [] (f ∷ fs) x y all_e all_f n e = absurd (omega (arith, n))
-same_lists laws (g ∷ es) [] x y all_e all_f n e = absurd (omega (arith, n))
 same_lists laws (g ∷ es) (f ∷ fs) x y all_e all_f n e =
     let same = same_front laws g f (joined es ++ x) (joined fs ++ y) all_e.0 all_f.0
     (sym (append_assoc g.octets (joined es) x) ∙ e ∙ append_assoc f.octets (joined fs) y) in
     let more = same_lists laws es fs x y all_e.1 all_f.1 (omega (arith, n)) same.1 in
     ((let p = same.0 in let q = more.0 in cc), more.1)
+same_lists laws es fs x y all_e all_f n e = absurd (omega (arith, n))
 
 -- ---- endings
 

@@ -1,6 +1,7 @@
 -- Octets from which every layer can continue are open, where no envelope stands at their front.
 use Rattle.std.proofs.Common.{ℕ, nat_eq, if◌then◌else◌, [], ◌∷◌, ◌++◌, map, subst}
-use Rattle.iim_places.proofs.Words.{count_octets, Begun, InTag, InData, Reads, AreSections, Octet, End, with_end, MessageLanguage, MessageLivesWith, object_of, AllCanContinue, LivingOctetsAreOpen, OnwardLaws}
+use Rattle.iim_places.proofs.Words.{count_octets, Begun, InTag, InData, Reads, AreSections, Octet, End, with_end, MessageLanguage, MessageLivesWith, object_of}
+use Rattle.iim_places.proofs.Words.{AllCanContinue, LivingOctetsAreOpen, OnwardLaws}
 use Rattle.iim_dataset.specs.Format.Languages as languages
 use Rattle.wire_message.specs.States.SoFar.{LeadsTo}
 use Rattle.wire_message.specs.declared.place.Place.{Place}

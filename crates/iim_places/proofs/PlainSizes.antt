@@ -78,9 +78,8 @@ lives_like laws ps qs [] [] e are goes same both none many total each lives =
     let open' = none refl in
     let alive : IsAlive ObjectLanguage (number_tokens ps) = subst (λ (A : Type 0). A) (sym (none_ended ps)) (subst (Lives ps []) open' lives) in
     subst (Lives qs []) (sym open') (subst (λ (A : Type 0). A) (none_ended qs) ((laws.numbers qs goes).1 (clash_like ps qs same ((laws.numbers ps are).0 alive))))
-lives_like laws ps qs [] (k ∷ ks) e are goes same both none many total each lives = absurd (omega (arith, many))
-lives_like laws ps qs (l ∷ ls) [] e are goes same both none many total each lives = absurd (omega (arith, many))
 lives_like laws ps qs (l ∷ ls) (k ∷ ks) e are goes same both none many total each lives = some_like laws ps qs (l ∷ ls) (k ∷ ks) e are goes same (both (omega arith)) (omega arith) (omega arith) total each lives
+lives_like laws ps qs ls ks e are goes same both none many total each lives = absurd (omega (arith, many))
 
 both_like : (ps qs : List Stated) → SameNumbers ps qs → HasBoth ps → HasBoth qs
 both_like ps qs same both = (ap is_some (sym same.mode) ∙ both.0, ap is_some (sym same.largest) ∙ both.1)

@@ -175,8 +175,6 @@ step_as laws limits ds es (InTag x) (InTag y) next fault pair bad = subst (λ (l
     by : IsRefusedAt limits ds (InTag x) next fault → IsRefusedAt limits es (InTag x) next fault
     by (inl dead) = inl dead
     by (inr (h, tag, with')) = inr (h, tag, with_as laws limits ds es h fault (before_of limits ds es x y pair) with')
-step_as laws limits ds es (InTag x) (InData k v) next fault pair bad = absurd pair.begun
-step_as laws limits ds es (InData h t) (InTag y) next fault pair bad = absurd pair.begun
 step_as laws limits ds es (InData h t) (InData k v) next fault pair bad = by bad
   where
     head : h ≡ k
@@ -203,6 +201,7 @@ step_as laws limits ds es (InData h t) (InData k v) next fault pair bad = by bad
         let there = fewer_data limits es h v given other (subst (λ (x : Head). AllCanContinue limits es (InData x v)) (sym head) pair.there) in
         subst (λ (x : Head). IsRefusedAt limits es (InData x v) next fault) head (subst (λ (l : List ℕ). IsRefusedAt limits es (InData h l) next fault) same
         (inr (other, many, value_at laws limits fault ds es h given other many here there pair.twins bad)))
+step_as laws limits ds es c d next fault pair bad = absurd pair.begun
 
 refuses_as : OnwardLaws → (limits : Limits) (p q o r : List ℕ) → OnTo limits p q o r → (next : ℕ) (fault : TokenFault) → RefusesByTests limits p next fault
     → RefusesByTests limits q next fault

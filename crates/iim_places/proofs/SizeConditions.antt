@@ -179,11 +179,9 @@ of_table sizes.SizeClash limits ds (AtValue d) (seven, above) =
         (announced, most, subst (λ (ps : List Stated). number_at 90 ps ≡ Some announced) all at, subst (λ (ps : List Stated). number_at 95 ps ≡ Some most) all is, less),
       ),
     )
-of_table sizes.SubfileTooLong limits ds (AtValue d) is = absurd is
-of_table sizes.PastSize limits ds (AtValue d) is = absurd is
-of_table sizes.Short limits ds (AtValue d) is = absurd is
 of_table sizes.ConfirmedWrong limits ds (AtValue d) (nine, other) =
     (inr nine, (number d.octets, confirmed_token d.rec d.set (number d.octets) nine, λ same. other (same ∙ confirmed_total ds d nine)))
+of_table other limits ds (AtValue d) is = absurd is
 
 pub size_holds : (s : SizeCause) (limits : Limits) (ds : List Dataset) (token : Token) → (InTable s limits ds token → OfSize s ds token) × (OfSize s ds token → InTable s limits ds token)
 size_holds s limits ds token = (of_table s limits ds token, to_table s limits ds token)

@@ -39,9 +39,8 @@ one_short x y a b hx hy e = one_text x y a b e
 
 pub one_number : (version : ℕ) → HasOne (IsSizeIn version) (number_octets version)
 one_number version None None a b hx hy e = (refl, rest_same e)
-one_number version None (Some n) a b hx hy e = absurd (let bad = first_same e in omega (arith, bad))
-one_number version (Some m) None a b hx hy e = absurd (let bad = first_same e in omega (arith, bad))
 one_number version (Some m) (Some n) a b hx hy e = let both = one_wide version m n a b hx hy (rest_same e) in (ap Some both.0, both.1)
+one_number version x y a b hx hy e = absurd (let bad = first_same e in omega (arith, bad))
 
 -- ---- lists of them
 
@@ -62,14 +61,13 @@ others Is spelled one (d ∷ done) (x ∷ xs) rest more h k few e =
 pub one_list : {X : Type 0} (Is : X → Type 0) (spelled : X → List ℕ) → HasOne Is spelled → (xs ys : List X) (a b : List ℕ) → AllByRecursion Is xs → AllByRecursion Is ys
     → length xs ≡ length ys → flat_map spelled xs ++ a ≡ flat_map spelled ys ++ b → (xs ≡ ys) × (a ≡ b)
 one_list Is spelled one [] [] a b h k n e = (refl, e)
-one_list Is spelled one [] (y ∷ ys) a b h k n e = absurd (omega (arith, n))
-one_list Is spelled one (x ∷ xs) [] a b h k n e = absurd (omega (arith, n))
 one_list Is spelled one (x ∷ xs) (y ∷ ys) a b h k n e =
     let is : spelled x ++ (flat_map spelled xs ++ a) ≡ spelled y ++ (flat_map spelled ys ++ b) =
     sym (append_assoc (spelled x) (flat_map spelled xs) a) ∙ e ∙ append_assoc (spelled y) (flat_map spelled ys) b in
     let first = one x y _ _ h.0 k.0 is in
     let more = one_list Is spelled one xs ys a b h.1 k.1 (ap pred n) first.1 in
     (let a = first.0 in let b = more.0 in cc, more.1)
+one_list Is spelled one xs ys a b h k n e = absurd (omega (arith, n))
 
 -- one, and then others
 pub spelled_then : {X : Type 0} (spelled : X → List ℕ) (x : X) (xs : List X) (octets rest more : List ℕ) → octets ≡ spelled x ++ rest → rest ≡ flat_map spelled xs ++ more → octets ≡ flat_map spelled (x ∷ xs) ++ more
