@@ -250,19 +250,19 @@ head_lowest laws limits ds h fault alive within refused = by (first_fault limits
 
 -- ---- values
 
+not_eight : {A : Type 0} (r : ℕ) → (r ≡ 7) ⊎ (r ≡ 9) → r ≡ 8 → A
+not_eight r (inl seven) eight = absurd (omega (arith, seven, eight))
+not_eight r (inr nine) eight = absurd (omega (arith, nine, eight))
+
 value_lowest : LowestLaws → (limits : Limits) (ds : List Dataset) (d : Dataset) (fault : TokenFault) → AreWithin limits ds → IsRefusedValue ds d fault → IsTold limits ds (AtValue d) fault
 value_lowest laws limits ds d fault within refused = by (value_fault d) (number_fault ds d) refl refl refused.first
   where
-    not_eight : (d.rec ≡ 7) ⊎ (d.rec ≡ 9) → d.rec ≡ 8 → length (of_record 8 ds) < max_subfiles
-    not_eight (inl seven) eight = absurd (omega (arith, seven, eight))
-    not_eight (inr nine) eight = absurd (omega (arith, nine, eight))
-
     by_object : Mapped (tells_number d.rec) (cause_at (place_at ds (head_of d)) (value_token d.rec d.set (number d.octets))) (size_on (head_of d)) fault → IsTold limits ds (AtValue d) fault
     by_object m =
         let dead = subst (λ (f : TokenFault). DiesAtValue f.layer ds d) (sym m.fault) refused.dead in
         let is = either d.rec 7 9 m.on in
         let leads = number_leads laws.answer.follow.objects ds d dead.0 m.on in
-        let stated = (stated_at laws.answer.follow.objects ds (head_of d) (d, refl, dead.0) within.subfiles (not_eight is)).stated in
+        let stated = (stated_at laws.answer.follow.objects ds (head_of d) (d, refl, dead.0) within.subfiles (λ eight. not_eight d.rec is eight)).stated in
         let first = (laws.objects (place_at ds (head_of d)) (value_token d.rec d.set (number d.octets)) m.cause stated leads.0).0 m.is in
         subst (IsTold limits ds (AtValue d)) m.fault (record {
           tells = size_lowest limits ds (AtValue d) (head_of d) (place_at ds (head_of d)) (value_token d.rec d.set (number d.octets)) m.cause first (is, first.holds) (λ r has. has.1);
@@ -758,10 +758,6 @@ value_back laws limits ds d fault within octets dies tells names = by fault.laye
         }) in
         ap (λ (o : Option FieldFault). option_or (option_map of_field o) (number_fault ds d)) first ∙ ap Some (field_fault fault f is tells.layer)
 
-    not_eight : (d.rec ≡ 7) ⊎ (d.rec ≡ 9) → d.rec ≡ 8 → length (of_record 8 ds) < max_subfiles
-    not_eight (inl seven) eight = absurd (omega (arith, seven, eight))
-    not_eight (inr nine) eight = absurd (omega (arith, nine, eight))
-
     of_object : SectionsLive (ds ++ d ∷ []) → (s : SizeCause) → fault.cause ≡ cause_of_size s → fault_at_value ds d ≡ Some fault
     of_object alive s is =
         let none : value_fault d ≡ None = (laws.values_die ds d (d, refl, alive) octets).1 alive in
@@ -770,7 +766,7 @@ value_back laws limits ds d fault within octets dies tells names = by fault.laye
         let holds = (size_holds s limits ds (AtValue d)).0 (subst (Holds' limits ds (AtValue d)) is tells.holds) in
         let on : tells_number d.rec ≡ true = one_of_two d.rec 7 9 holds.0 in
         let leads = number_leads laws.answer.follow.objects ds d alive on in
-        let stated = (stated_at laws.answer.follow.objects ds (head_of d) (d, refl, alive) within.subfiles (not_eight holds.0)).stated in
+        let stated = (stated_at laws.answer.follow.objects ds (head_of d) (d, refl, alive) within.subfiles (λ eight. not_eight d.rec holds.0 eight)).stated in
         let first = first_size limits ds (AtValue d) fault p t s is tells (λ r has. has.1) (λ r has. (holds.0, has)) in
         let found : number_fault ds d ≡ Some (size_on (head_of d) s) = let_through (tells_number d.rec) (cause_at p t) (size_on (head_of d)) s on ((laws.objects p t s stated leads.0).1 first) in
         ap (λ (o : Option FieldFault). option_or (option_map of_field o) (number_fault ds d)) none ∙ found
@@ -873,22 +869,20 @@ some_held (a ∷ held) some = refl
 
 tag_back : (limits : Limits) (ds : List Dataset) (held : List ℕ) (b : ℕ) (fault : TokenFault) → Dies fault.layer limits ds (AtOctet (InTag held) b) → TellsTheLowest limits ds (AtOctet (InTag held) b) fault
     → Names fault.cause ds (AtOctet (InTag held) b) fault.rec fault.set
-    → Dies layers.Dataset limits ds (AtOctet (InTag held) b) × (fault ≡ record { layer = layers.Dataset; rec = begun_record (InTag held); set = begun_number (InTag held); cause = tag_cause held })
+    → Dies layers.Dataset limits ds (AtOctet (InTag held) b) × (fault ≡ tag_fault held)
 tag_back limits ds held b fault dies tells names = by fault.layer refl dies
   where
-    Fault : TokenFault → Type 0
-    Fault f = f ≡ record { layer = layers.Dataset; rec = begun_record (InTag held); set = begun_number (InTag held); cause = tag_cause held }
-
     holds_for : (c : Cause) → fault.cause ≡ c → Holds' limits ds (AtOctet (InTag held) b) c
     holds_for c is = subst (Holds' limits ds (AtOctet (InTag held) b)) is tells.holds
 
     named : (c : Cause) → fault.cause ≡ c → Names c ds (AtOctet (InTag held) b) fault.rec fault.set
     named c is = subst (λ (x : Cause). Names x ds (AtOctet (InTag held) b) fault.rec fault.set) is names
 
-    made : fault.layer ≡ layers.Dataset → (fault.rec ≡ begun_record (InTag held)) × (fault.set ≡ begun_number (InTag held)) → fault.cause ≡ tag_cause held → Fault fault
+    made : fault.layer ≡ layers.Dataset → (fault.rec ≡ begun_record (InTag held)) × (fault.set ≡ begun_number (InTag held)) → fault.cause ≡ tag_cause held
+        → fault ≡ tag_fault held
     made same name cause = same_fault fault _ same name.0 name.1 cause
 
-    by_cause : fault.layer ≡ layers.Dataset → InLayer layers.Dataset fault.cause → Fault fault
+    by_cause : fault.layer ≡ layers.Dataset → InLayer layers.Dataset fault.cause → fault ≡ tag_fault held
     by_cause same (inl is) = made same (named causes.Marker is) (is ∙ ap tag_cause (sym (holds_for causes.Marker is).0))
     by_cause same (inr (inl is)) = made same (named causes.CountForm is) (is ∙ sym (some_held held (some (holds_for causes.CountForm is))))
       where
@@ -897,7 +891,8 @@ tag_back limits ds held b fault dies tells names = by fault.layer refl dies
         some (inr h) = let long = h.0 in omega (arith, long)
     by_cause same (inr (inr is)) = absurd (holds_for causes.Truncated is)
 
-    by : (l : Layer) → fault.layer ≡ l → Dies l limits ds (AtOctet (InTag held) b) → Dies layers.Dataset limits ds (AtOctet (InTag held) b) × Fault fault
+    by : (l : Layer) → fault.layer ≡ l → Dies l limits ds (AtOctet (InTag held) b)
+        → Dies layers.Dataset limits ds (AtOctet (InTag held) b) × (fault ≡ tag_fault held)
     by layers.Dataset same dead = (dead, by_cause same (one_of layers.Dataset fault.cause (tells.layer ∙ same)))
     by other same dead = absurd dead
 
