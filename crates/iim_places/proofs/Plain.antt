@@ -2,13 +2,14 @@
 use Rattle.std.proofs.Common.{◌≡◌, ℕ, zero, suc, ◌+◌, ◌*◌, ◌<◌, ◌≤◌, nat_eq, cond, Bool, true, false, List, [], ◌∷◌, ◌++◌, length, take, drop, Option, Some}
 use Rattle.std.proofs.Common.{None, refl, ap, sym, ◌∙◌, arith, append-nil, length-drop, subst, IfSome, inl, inr}
 use Rattle.iim_places.proofs.Words.{AllByRecursion, filter, unwrap_or, eqb-true, or_cases, ne_eqb, take-append-drop, length-take, filter-append, few_octets}
-use Rattle.iim_places.proofs.Words.{number_back, IsOctet, Octets, number, greatest_size, Dataset, canonical_stream, of_record, all_append, all_map, front_are}
-use Rattle.iim_places.proofs.Words.{Begun, InTag, InData, HasSpellings, CanonicalStreamsAreSpelled, kept, is_kept, last_record, section_after, numbers_of}
-use Rattle.iim_places.proofs.Words.{number_dataset, subfile_datasets, stated_numbers, Stated, number_at, LeadsToSaved, object_of, IsSize, object_so_far}
-use Rattle.iim_places.proofs.Words.{section, phase_of, heads_of, AreSpellable, begun_object, begun_heads, PlainOctetsLeadToTheirPlace, Numbers, number_list}
-use Rattle.iim_places.proofs.Words.{mode_dataset, one_dataset, plain_numbers, filled, plain_end, plain, last_of_joined, map-append}
+use Rattle.iim_places.proofs.Words.{number_back, IsOctet, Octets, number, Dataset, canonical_stream, of_record, all_append, all_map, front_are, Begun, InTag}
+use Rattle.iim_places.proofs.Words.{InData, HasSpellings, CanonicalStreamsAreSpelled, kept, is_kept, last_record, section_after, numbers_of, number_dataset}
+use Rattle.iim_places.proofs.Words.{subfile_datasets, stated_numbers, Stated, number_at, LeadsToSaved, object_of, IsSize, object_so_far, section, phase_of}
+use Rattle.iim_places.proofs.Words.{heads_of, AreSpellable, begun_object, begun_heads, PlainOctetsLeadToTheirPlace, Numbers, number_list, mode_dataset}
+use Rattle.iim_places.proofs.Words.{one_dataset, plain_numbers, filled, plain_end, plain, last_of_joined, map-append}
 use Rattle.iim_dataset.proofs.WrittenNumbers.{number_octets}
 use Rattle.iim_fields.specs.Format.Faults.{joined}
+use Rattle.iim_object.specs.Format.Packing.{subfile_dataset}
 
 -- The datasets tell these fields, numbers, object octets and heads.
 pub record Tell (ds fields : List Dataset) (numbers : Numbers) (heads : ℕ) (object : List ℕ) (ended : Bool) : Type 0 where
@@ -51,17 +52,44 @@ none_in_fields r ds is all = filter_none (λ (d : Dataset). nat_eq d.rec r) ds (
     apart : (d : Dataset) → is_kept d.rec ≡ true → d.rec ≡ r → ⊥
     apart d keeps same = let bad : true ≡ false = sym keeps ∙ ap is_kept same ∙ is in cc
 
+-- ---- what holds of each
+
+pub back_octets : (k : ℕ) (xs : List ℕ) → Octets xs → Octets (drop k xs)
+back_octets zero xs all = all
+back_octets (suc k) [] all = tt
+back_octets (suc k) (x ∷ xs) all = back_octets k xs all.1
+
+one_each : (P : Dataset → Type 0) (made : ℕ → Dataset) (o : Option ℕ) → ((n : ℕ) → o ≡ Some n → P (made n)) → AllByRecursion P (one_dataset made o)
+one_each P made None each = tt
+one_each P made (Some n) each = (each n refl, tt)
+
+pub numbers_each : (P : Dataset → Type 0) (n : Numbers) → ((k : ℕ) → n.mode ≡ Some k → P (mode_dataset k))
+    → ((k : ℕ) → n.largest ≡ Some k → P (number_dataset 7 20 k)) → ((k : ℕ) → n.announced ≡ Some k → P (number_dataset 7 90 k))
+    → ((k : ℕ) → n.maximum ≡ Some k → P (number_dataset 7 95 k)) → AllByRecursion P (plain_numbers n)
+numbers_each P n mode largest announced maximum =
+    all_append P _ _ (one_each P mode_dataset n.mode mode)
+    (all_append P _ _ (one_each P (number_dataset 7 20) n.largest largest)
+    (all_append P _ _ (one_each P (number_dataset 7 90) n.announced announced) (one_each P (number_dataset 7 95) n.maximum maximum)))
+
+pub parts_each : (P : Dataset → Type 0) (size count : ℕ) (xs : List ℕ)
+    → ((ys : List ℕ) → length ys ≤ size → length ys ≤ length xs → (Octets xs → Octets ys) → P (subfile_dataset ys))
+    → AllByRecursion P (subfile_datasets (filled size count xs))
+parts_each P size zero xs each = tt
+parts_each P size (suc count) xs each =
+    let first = length-take size xs in
+    let rest = length-drop size xs in (
+      each (take size xs) (omega (arith, first)) (omega (arith, first)) (front_are size xs),
+      parts_each P size count (drop size xs) (λ ys short few good. each ys short (omega (arith, few, rest)) (λ all. good (back_octets size xs all))),
+    )
+
+pub end_each : (P : Dataset → Type 0) (ended : Bool) (object : List ℕ) → P (number_dataset 9 10 (length object)) → AllByRecursion P (plain_end ended object)
+end_each P true object is = (is, tt)
+end_each P false object is = tt
+
 -- ---- record 7
 
-are_one : (made : ℕ → Dataset) → ((n : ℕ) → (made n).rec ≡ 7) → (o : Option ℕ) → AreOf 7 (one_dataset made o)
-are_one made is None = tt
-are_one made is (Some n) = (is n, tt)
-
 pub are_sevens : (n : Numbers) → AreOf 7 (plain_numbers n)
-are_sevens n =
-    all_append _ _ _ (are_one mode_dataset (λ k. refl) n.mode)
-    (all_append _ _ _ (are_one (number_dataset 7 20) (λ k. refl) n.largest)
-    (all_append _ _ _ (are_one (number_dataset 7 90) (λ k. refl) n.announced) (are_one (number_dataset 7 95) (λ k. refl) n.maximum)))
+are_sevens n = numbers_each (λ d. d.rec ≡ 7) n (λ k is. refl) (λ k is. refl) (λ k is. refl) (λ k is. refl)
 
 abbrev pub one_stated : ℕ → Option ℕ → List Stated
 one_stated set None = []
@@ -140,8 +168,7 @@ filled_all size (suc count) xs fits =
 -- ---- record 9
 
 pub are_nines : (ended : Bool) (object : List ℕ) → AreOf 9 (plain_end ended object)
-are_nines true object = (refl, tt)
-are_nines false object = tt
+are_nines ended object = end_each (λ d. d.rec ≡ 9) ended object refl
 
 -- ---- all of it
 
@@ -227,42 +254,24 @@ present_ended fields numbers heads object false keeps =
 
 -- ---- spellings
 
-mode_spelled : (o : Option ℕ) → IfSome o IsOctet → AllByRecursion HasSpellings (one_dataset mode_dataset o)
-mode_spelled None h = tt
-mode_spelled (Some n) h = (record { rec = omega arith; set = omega arith; octets = (h, tt); few = omega arith }, tt)
-
 one_spelled : (rec set n : ℕ) → rec < 256 → set < 256 → HasSpellings (number_dataset rec set n)
 one_spelled rec set n r s = record { rec = r; set = s; octets = number_octets n; few = let few = few_octets n in omega (arith, few) }
 
-number_spelled : (set : ℕ) → set < 256 → (o : Option ℕ) → AllByRecursion HasSpellings (one_dataset (number_dataset 7 set) o)
-number_spelled set small None = tt
-number_spelled set small (Some n) = (one_spelled 7 set n (omega arith) small, tt)
-
-end_spelled : (ended : Bool) (object : List ℕ) → AllByRecursion HasSpellings (plain_end ended object)
-end_spelled true object = (one_spelled 9 10 (length object) (omega arith) (omega arith), tt)
-end_spelled false object = tt
-
 numbers_spelled : (n : Numbers) → IfSome n.mode IsOctet → AllByRecursion HasSpellings (plain_numbers n)
 numbers_spelled n mode =
-    all_append HasSpellings _ _ (mode_spelled n.mode mode)
-    (all_append HasSpellings _ _ (number_spelled 20 (omega arith) n.largest) (all_append HasSpellings _ _ (number_spelled 90 (omega arith) n.announced) (number_spelled 95 (omega arith) n.maximum)))
-
-pub back_octets : (k : ℕ) (xs : List ℕ) → Octets xs → Octets (drop k xs)
-back_octets zero xs all = all
-back_octets (suc k) [] all = tt
-back_octets (suc k) (x ∷ xs) all = back_octets k xs all.1
-
-parts_spelled : (size count : ℕ) (xs : List ℕ) → Octets xs → length xs ≤ greatest_size → AllByRecursion HasSpellings (subfile_datasets (filled size count xs))
-parts_spelled size zero xs all few = tt
-parts_spelled size (suc count) xs all few =
-    let first = length-take size xs in
-    let rest = length-drop size xs in
-    (record { rec = omega arith; set = omega arith; octets = front_are size xs all; few = omega (arith, few, first) }, parts_spelled size count (drop size xs) (back_octets size xs all) (omega (arith, few, rest)))
+    numbers_each HasSpellings n
+    (λ k is. record { rec = omega arith; set = omega arith; octets = (subst (λ (o : Option ℕ). IfSome o IsOctet) is mode, tt); few = omega arith })
+    (λ k is. one_spelled 7 20 k (omega arith) (omega arith)) (λ k is. one_spelled 7 90 k (omega arith) (omega arith))
+    (λ k is. one_spelled 7 95 k (omega arith) (omega arith))
 
 pub plain_spelled : (fields : List Dataset) (numbers : Numbers) (heads : ℕ) (object : List ℕ) (ended : Bool) → AreSpellable fields numbers heads object → AllByRecursion HasSpellings (plain fields numbers heads object ended)
 plain_spelled fields numbers heads object ended are =
     all_append HasSpellings fields _ are.spelled
-    (all_append HasSpellings _ _ (numbers_spelled numbers are.mode) (all_append HasSpellings _ _ (parts_spelled (unwrap_or numbers.largest 0) heads object are.octets are.few) (end_spelled ended object)))
+    (all_append HasSpellings _ _ (numbers_spelled numbers are.mode)
+    (all_append HasSpellings _ _
+    (parts_each HasSpellings (unwrap_or numbers.largest 0) heads object
+    (λ ys short few good. record { rec = omega arith; set = omega arith; octets = good are.octets; few = let low = are.few in omega (arith, few, low) }))
+    (end_each HasSpellings ended object (one_spelled 9 10 (length object) (omega arith) (omega arith)))))
 
 -- ---- the place
 

@@ -1,17 +1,17 @@
 -- Plain datasets continue as those do for which they stand.
 use Rattle.std.proofs.Common.{◌≡◌, ℕ, zero, suc, ◌+◌, ◌≤◌, ◌||◌, nat_eq, cond, Bool, true, false, List, [], ◌∷◌, ◌++◌, length, Option, Some, None, IfSome}
-use Rattle.std.proofs.Common.{is_some, refl, ap, sym, subst, ◌∙◌, inl, inr, arith, append-nil, length-drop, take, drop, append_assoc, ◌⊎◌, ◌*◌}
-use Rattle.iim_places.proofs.Words.{length-take, AllByRecursion, flat_map, unwrap_or, eqb-true, eq-eqb, filter-append, list_any-append, Octets, number}
-use Rattle.iim_places.proofs.Words.{greatest_size, Dataset, of_record, all_append, all_back, all_front, front_are, number_back, Meets, SectionsLive, kept}
-use Rattle.iim_places.proofs.Words.{is_kept, section_after, last_record, AreSections, AreRecords, records, IsGoodDataset, IsGoodRecord, occurs, occurrences}
-use Rattle.iim_places.proofs.Words.{repeats, mandatory, number_dataset, subfile_datasets, numbers_of, Stated, InRow, number_at, stated_numbers, IsSize}
-use Rattle.iim_places.proofs.Words.{AnswerLaws, Numbers, number_list, mode_dataset, one_dataset, plain_numbers, filled, plain_end, plain, good_elsewhere}
-use Rattle.iim_places.proofs.Words.{occurrences_cons, part_meets, none_counts, occurrences_append, some_counts, last_more, last_of_joined, front_alive}
-use Rattle.iim_places.proofs.Words.{max_subfiles, one_of_some, eqb_tells, all_map}
+use Rattle.std.proofs.Common.{is_some, refl, ap, sym, subst, ◌∙◌, inl, inr, arith, append-nil, append_assoc, ◌⊎◌, ◌*◌}
+use Rattle.iim_places.proofs.Words.{AllByRecursion, flat_map, unwrap_or, eqb-true, eq-eqb, filter-append, list_any-append, Octets, number, greatest_size}
+use Rattle.iim_places.proofs.Words.{Dataset, of_record, all_append, all_back, all_front, number_back, Meets, SectionsLive, kept, is_kept, section_after}
+use Rattle.iim_places.proofs.Words.{last_record, AreSections, AreRecords, records, IsGoodDataset, IsGoodRecord, occurs, occurrences, repeats, mandatory}
+use Rattle.iim_places.proofs.Words.{number_dataset, subfile_datasets, numbers_of, Stated, InRow, number_at, stated_numbers, IsSize, AnswerLaws, Numbers}
+use Rattle.iim_places.proofs.Words.{number_list, mode_dataset, one_dataset, plain_numbers, filled, plain_end, plain, good_elsewhere, occurrences_cons}
+use Rattle.iim_places.proofs.Words.{part_meets, none_counts, occurrences_append, some_counts, last_more, last_of_joined, front_alive, max_subfiles, one_of_some}
+use Rattle.iim_places.proofs.Words.{eqb_tells, all_map}
 use Rattle.iim_tables.specs.Format.Rows.{table, row_of}
 use Rattle.iim_object.specs.Laws.Packing.{NumberDatasetsAreGood}
 use Rattle.iim_places.proofs.SizeRows.{by_number}
-use Rattle.iim_places.proofs.Plain.{AreOf, one_stated, are_told, four_told, filled_count, all_of, none_of, back_octets, Tell, plain_told}
+use Rattle.iim_places.proofs.Plain.{AreOf, one_stated, are_told, four_told, filled_count, all_of, none_of, Tell, plain_told, parts_each, end_each}
 use Rattle.iim_places.proofs.PlainPlaces.{all_kept, numbers_in, end_length}
 use Rattle.iim_places.proofs.SameRecords.{occurs_stated, same_stated, same_numbers, stated_after_all, tens_after, SameRecords, same_shape, tens_seen, AreTens}
 use Rattle.iim_places.proofs.SameRecords.{none_in_records}
@@ -296,8 +296,7 @@ part_tens [] = tt
 part_tens (p ∷ parts) = (refl, part_tens parts)
 
 pub end_tens : (ended : Bool) (object : List ℕ) → AreTens (plain_end ended object)
-end_tens true object = (refl, tt)
-end_tens false object = tt
+end_tens ended object = end_each (λ d. d.set ≡ 10) ended object refl
 
 end_once : (n : ℕ) (ended : Bool) (object : List ℕ) → occurrences n (plain_end ended object) ≤ 1
 end_once n true object = let all = occurrences_cons n (number_dataset 9 10 (length object)) [] in by (nat_eq 10 n) all
@@ -308,17 +307,11 @@ end_once n true object = let all = occurrences_cons n (number_dataset 9 10 (leng
 end_once n false object = omega arith
 
 pub good_parts : (size count : ℕ) (xs : List ℕ) → Octets xs → length xs ≤ greatest_size → AreGood 8 (subfile_datasets (filled size count xs))
-good_parts size zero xs all few = tt
-good_parts size (suc count) xs all few =
-    let first = length-take size xs in
-    let rest = length-drop size xs in (
-      (refl, good_elsewhere refl (omega arith) (front_are size xs all) (part_meets (take size xs) (omega (arith, few, first)))),
-      good_parts size count (drop size xs) (back_octets size xs all) (omega (arith, few, rest)),
-    )
+good_parts size count xs all few =
+    parts_each _ size count xs (λ ys short less good. (refl, good_elsewhere refl (omega arith) (good all) (part_meets ys (omega (arith, less, few)))))
 
 pub good_end : NumberDatasetsAreGood → (ended : Bool) (object : List ℕ) → length object ≤ greatest_size → AreGood 9 (plain_end ended object)
-good_end rows true object few = ((refl, rows.confirmed (length object) few), tt)
-good_end rows false object few = tt
+good_end rows ended object few = end_each _ ended object (refl, rows.confirmed (length object) few)
 
 in_one : (set : ℕ) (o : Option ℕ) → InRowAt set o → AllByRecursion InRow (one_stated set o)
 in_one set None h = tt

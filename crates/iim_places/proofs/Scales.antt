@@ -1,19 +1,18 @@
 -- Places that were possible by smaller sizes, and by the sizes that there are.
 use Rattle.std.proofs.Common.{◌≡◌, ℕ, ◌-◌, ◌≤◌, nat_eq, cond, if◌then◌else◌, Bool, true, false, List, [], ◌∷◌, ◌++◌, length, map, sum, Some, refl, ap, sym}
-use Rattle.std.proofs.Common.{subst, ◌∙◌, inl, inr, arith, zero, suc, ◌^◌, ◌<◌, drop, Option, None, append-nil, length-append, ◌&&◌, nat_le}
+use Rattle.std.proofs.Common.{subst, ◌∙◌, inl, inr, arith, ◌^◌, ◌<◌, Option, None, append-nil, length-append, ◌&&◌, nat_le}
 use Rattle.iim_places.proofs.Words.{AllByRecursion, eqb-true, eq-eqb, number, Dataset, SpellsDataset, SpellsStream, count_octets, head_of, of_record, IsAlive}
 use Rattle.iim_places.proofs.Words.{Begun, InTag, InData, IsBegun, Reads, Head, all_front, all_back, section_after, tells_number, SubfileBegun, ObjectEnded}
 use Rattle.iim_places.proofs.Words.{Confirmed, number_tokens, numbers_of, stated_numbers, Stated, number_at, TokensWithin, LanguageWithin, AnswerLaws, OpenLaws}
 use Rattle.iim_places.proofs.Words.{object_of, AreWithin, IsOpen, object_so_far, section, Possible, IsSmall, IsSmallPhase, IsSmallPlace, greatest_size_before}
 use Rattle.iim_places.proofs.Words.{widest, Scale, FitsRow, SectionsLiveIn, HaveRoomIn, IsOpenIn, IsWholeIn, PossibleAt, place_in, first_scale, IsPlaceOf}
-use Rattle.iim_places.proofs.Words.{TagBegun, AllEnded, phase_of, MayContinue, unwrap_or, cases_lt, lt-ltb, le-ltb, length-take, eqb_tells, IsOctet}
-use Rattle.iim_places.proofs.Words.{SpellsCount, SpellsTag, canonical_count, canonical_tag, canonical_dataset, canonical_stream, written_number, all_append}
-use Rattle.iim_places.proofs.Words.{all_map, HasSpellings, is_kept, AreSections, place_after_datasets, place_ended, ending_of, number_dataset, subfile_datasets}
-use Rattle.iim_places.proofs.Words.{ending_tokens, lengths_of, within_append, begun_within, AreOpenOrWhole, AreHeadsWithin, LimitsAreToldByPlace}
-use Rattle.iim_places.proofs.Words.{SmallPlacesWerePossible, place_at, plain_place, plain_octets, IsPlain, begun_object, Numbers, number_list, mode_dataset}
-use Rattle.iim_places.proofs.Words.{one_dataset, plain_numbers, filled, plain_end, plain, number_back, leb-true, and_parts, Octets, within, greatest_size}
-use Rattle.iim_places.proofs.Words.{within_most_and, Meets, IsGoodDataset, ObjectToken, ObjectLanguage, InRow, row_low, SectionsIn, PresentScaleSaysNothingMore}
-use Rattle.iim_places.proofs.Words.{present_scale}
+use Rattle.iim_places.proofs.Words.{TagBegun, AllEnded, phase_of, MayContinue, unwrap_or, cases_lt, lt-ltb, le-ltb, eqb_tells, IsOctet, SpellsCount, SpellsTag}
+use Rattle.iim_places.proofs.Words.{canonical_count, canonical_tag, canonical_dataset, canonical_stream, written_number, all_append, all_map, HasSpellings}
+use Rattle.iim_places.proofs.Words.{is_kept, AreSections, place_after_datasets, place_ended, ending_of, number_dataset, ending_tokens, lengths_of}
+use Rattle.iim_places.proofs.Words.{within_append, begun_within, AreOpenOrWhole, AreHeadsWithin, LimitsAreToldByPlace, SmallPlacesWerePossible, place_at}
+use Rattle.iim_places.proofs.Words.{plain_place, plain_octets, IsPlain, begun_object, Numbers, number_list, plain_numbers, plain_end, plain, number_back}
+use Rattle.iim_places.proofs.Words.{leb-true, and_parts, Octets, within, greatest_size, within_most_and, Meets, IsGoodDataset, ObjectToken, ObjectLanguage}
+use Rattle.iim_places.proofs.Words.{InRow, row_low, SectionsIn, PresentScaleSaysNothingMore, present_scale}
 use Rattle.iim_places.specs.Format.Tickets.{Place}
 use Rattle.iim_places.proofs.Answering.{one_reading, reads_envelope, open_at, coming}
 use Rattle.iim_places.proofs.Bounds.{object_total, is_one, low}
@@ -26,7 +25,8 @@ use Rattle.iim_object.specs.Laws.Within.{PlacesLiveWithin}
 use Rattle.iim_places.proofs.Following.{within_of}
 use Rattle.iim_places.proofs.Lasts.{last_sections}
 use Rattle.iim_places.proofs.ByLayers.{possible_at}
-use Rattle.iim_places.proofs.Plain.{Tell, all_stated, are_told, one_stated, plain_led, plain_spelled, plain_told, taken_told}
+use Rattle.iim_places.proofs.Plain.{Tell, all_stated, are_told, one_stated, plain_led, plain_spelled, plain_told, taken_told, numbers_each, parts_each}
+use Rattle.iim_places.proofs.Plain.{end_each}
 use Rattle.iim_places.proofs.PlainOpens.{plain_open}
 use Rattle.iim_places.proofs.SameRecords.{stated_after_all}
 use Rattle.iim_places.proofs.SmallSections.{Short, told_in, sections_live_small, sections_small}
@@ -241,24 +241,6 @@ low_text n low = rw (lt-ltb n (2 ^ 32) (omega (arith, low))) refl
 low_one : (rec set n : ℕ) → n ≤ greatest_size_before → Low (number_dataset rec set n)
 low_one rec set n low = let four = low_text n low in (((λ told. omega (arith, four)), (λ eight. omega (arith, four))), omega (arith, four))
 
-low_mode : (o : Option ℕ) → AllByRecursion Low (one_dataset mode_dataset o)
-low_mode None = tt
-low_mode (Some n) = ((((λ told. omega arith), (λ eight. omega arith)), omega arith), tt)
-
-low_number : (set : ℕ) (o : Option ℕ) → IsSmall o → AllByRecursion Low (one_dataset (number_dataset 7 set) o)
-low_number set None low = tt
-low_number set (Some n) low = (low_one 7 set n low, tt)
-
-low_parts : (size count : ℕ) (xs : List ℕ) → size ≤ greatest_size_before → AllByRecursion Low (subfile_datasets (filled size count xs))
-low_parts size zero xs low = tt
-low_parts size (suc count) xs low =
-    let first = length-take size xs in
-    ((((λ told. absurd (let bad : false ≡ true = told in cc)), (λ eight. omega (arith, first, low))), omega (arith, first, low)), low_parts size count (drop size xs) low)
-
-low_end : (ended : Bool) (object : List ℕ) → length object ≤ greatest_size_before → AllByRecursion Low (plain_end ended object)
-low_end true object low = (low_one 9 10 (length object) low, tt)
-low_end false object low = tt
-
 size_low : (o : Option ℕ) → IsSmall o → unwrap_or o 0 ≤ greatest_size_before
 size_low None low = omega arith
 size_low (Some n) low = low
@@ -268,8 +250,14 @@ low_plain : (fields : List Dataset) (numbers : Numbers) (heads : ℕ) (object : 
 low_plain fields numbers heads object ended kept few small low =
     all_append Low fields _ (low_fields fields kept few)
     (all_append Low (plain_numbers numbers) _
-    (all_append Low _ _ (low_mode numbers.mode) (all_append Low _ _ (low_number 20 numbers.largest small.1.0) (all_append Low _ _ (low_number 90 numbers.announced small.1.1.0) (low_number 95 numbers.maximum small.1.1.1.0))))
-    (all_append Low _ _ (low_parts (unwrap_or numbers.largest 0) heads object (size_low numbers.largest small.1.0)) (low_end ended object low)))
+    (numbers_each Low numbers (λ n is. (((λ told. omega arith), (λ eight. omega arith)), omega arith)) (λ n is. low_one 7 20 n (subst IsSmall is small.1.0))
+    (λ n is. low_one 7 90 n (subst IsSmall is small.1.1.0)) (λ n is. low_one 7 95 n (subst IsSmall is small.1.1.1.0)))
+    (all_append Low _ _
+    (parts_each Low (unwrap_or numbers.largest 0) heads object
+    (λ ys short few good.
+    let most = size_low numbers.largest small.1.0 in
+    (((λ told. absurd (let bad : false ≡ true = told in cc)), (λ eight. omega (arith, short, most))), omega (arith, short, most))))
+    (end_each Low ended object (low_one 9 10 (length object) low))))
 
 shorts : (ds : List Dataset) → AllByRecursion Low ds → AllByRecursion Short ds
 shorts ds all = all_map Low Short ds (λ d h. h.0) all
