@@ -1,14 +1,13 @@
 -- After octets of one place the same octet is refused, for the same fault.
-use Rattle.std.proofs.Common.{◌≡◌, ℕ, ◌+◌, ◌≤◌, ◌&&◌, ◌||◌, ◌⊎◌, not, nat_lt, nat_eq, if◌then◌else◌, Bool, true, false, List, [], ◌∷◌, ◌++◌, length, sum}
-use Rattle.std.proofs.Common.{Option, Some, None, refl, ap, sym, subst, ◌∙◌, inl, inr}
+use Rattle.std.proofs.Common.{◌≡◌, ℕ, ◌≤◌, ◌&&◌, ◌||◌, ◌⊎◌, not, nat_lt, nat_eq, if◌then◌else◌, Bool, true, List, [], ◌∷◌, ◌++◌, length, sum, Option, Some}
+use Rattle.std.proofs.Common.{None, refl, ap, sym, subst, ◌∙◌, inl, inr}
 use Rattle.iim_places.proofs.Words.{ne_eqb, option_or, option_map, Octets, number, Dataset, head_of, of_record, count_octets, Begun, InTag, InData, Reads, Head}
-use Rattle.iim_places.proofs.Words.{sum_append, SectionsLive, SectionsLiveAt, head_fault, kept, section_after, room_fault, value_fault, occurs, data_of}
-use Rattle.iim_places.proofs.Words.{tells_number, Limits, place_after_datasets, place_ended, cause_at, confirmed_cause, end_cause, number_cause, subfile_cause}
-use Rattle.iim_places.proofs.Words.{Confirmed, NumberRead, ObjectEnded, ObjectToken, SubfileBegun, head_token, place_after, value_token, max_subfiles}
-use Rattle.iim_places.proofs.Words.{SizeCause, MessageDiesAt, HasCause, End, object_of, PlacesRefuseAlike, AllCanContinue, IsUnfinished, object_so_far}
-use Rattle.iim_places.proofs.Words.{RefusesByTests, of_field, size_on, too_many_on, message_on, RefusedOctetsWereOpen, OpenOctetsBeginWithNoEnvelope}
-use Rattle.iim_places.proofs.Words.{DiesAtHead, DiesAtValue, CanContinueAt, IsRefusedHead, IsRefusedValue, fault_at_head, fault_at_value, place_at, TokenFault}
-use Rattle.iim_places.proofs.Words.{Layer, OnwardLaws}
+use Rattle.iim_places.proofs.Words.{SectionsLive, SectionsLiveAt, head_fault, kept, section_after, room_fault, value_fault, occurs, data_of, tells_number}
+use Rattle.iim_places.proofs.Words.{Limits, place_after_datasets, cause_at, confirmed_cause, end_cause, number_cause, subfile_cause, Confirmed, NumberRead}
+use Rattle.iim_places.proofs.Words.{ObjectEnded, ObjectToken, SubfileBegun, head_token, value_token, max_subfiles, SizeCause, MessageDiesAt, HasCause, End}
+use Rattle.iim_places.proofs.Words.{object_of, PlacesRefuseAlike, AllCanContinue, IsUnfinished, object_so_far, RefusesByTests, of_field, size_on, too_many_on}
+use Rattle.iim_places.proofs.Words.{message_on, RefusedOctetsWereOpen, OpenOctetsBeginWithNoEnvelope, DiesAtHead, DiesAtValue, CanContinueAt, IsRefusedHead}
+use Rattle.iim_places.proofs.Words.{IsRefusedValue, fault_at_head, fault_at_value, place_at, TokenFault, Layer, OnwardLaws}
 use Rattle.iim_dataset.specs.Format.Datasets.{of_record as of_fields}
 use Rattle.iim_fields.specs.Format.Faults.{joined}
 use Rattle.iim_object.specs.Format.Places.{Place}
@@ -19,10 +18,10 @@ use Rattle.iim_places.proofs.ObjectOctets.{few_more, no_object}
 use Rattle.iim_places.proofs.Continuing.{not_both, on_open, unfinished_as}
 use Rattle.iim_places.proofs.Following.{with_data}
 use Rattle.iim_places.proofs.Onward.{Pair, ReadAlike, all_as, given_as, head_is, lives_as, Before, before_of}
-use Rattle.iim_places.proofs.SamePlace.{SameMessage, value_as}
+use Rattle.iim_places.proofs.SamePlace.{SameMessage, value_as, object_at}
 use Rattle.iim_places.proofs.SameRecords.{SameNumbers}
 use Rattle.iim_places.proofs.Taking.{good_at}
-use Rattle.iim_places.proofs.Twins.{Twins, at_as, after_as, eights, numbers_on, room_as, same_tail, twins_on, may_as, alive_at_as, flip, few_as, bounded_after}
+use Rattle.iim_places.proofs.Twins.{Twins, at_as, after_as, numbers_on, room_as, same_tail, twins_on, may_as, alive_at_as, flip, few_as, bounded_after}
 use Rattle.iim_places.proofs.Twins.{heads_of}
 
 -- ---- the first fault of a head
@@ -98,21 +97,10 @@ either_head laws limits ds es h fault t (inr bad) = inr (unfinished_head_as laws
 
 -- ---- where a value is refused
 
-place_told : (ds es : List Dataset) (h : Head) → Twins ds es → SameNumbers (place_at ds h).stated (place_at es h).stated × (sum (place_at ds h).lengths ≡ sum (place_at es h).lengths)
-place_told ds es h twins = by (nat_eq h.rec 8) (nat_eq h.rec 9)
-  where
-    at : Bool → Bool → List Dataset → Place
-    at b c xs = if b then place_after (place_after_datasets xs) (SubfileBegun h.count) else if c then place_ended xs else place_after_datasets xs
-
-    by : (b c : Bool) → SameNumbers (at b c ds).stated (at b c es).stated × (sum (at b c ds).lengths ≡ sum (at b c es).lengths)
-    by true c = (twins.numbers, sum_append (eights ds) (h.count ∷ []) ∙ ap (λ (n : ℕ). n + sum (h.count ∷ [])) twins.octets ∙ sym (sum_append (eights es) (h.count ∷ [])))
-    by false true = (twins.numbers, twins.octets)
-    by false false = (twins.numbers, twins.octets)
-
 value_fault_as : (ds es : List Dataset) (d : Dataset) → Twins ds es → fault_at_value ds d ≡ fault_at_value es d
 value_fault_as ds es d twins =
-    let at = place_told ds es (head_of d) twins in
-    let cause = cause_as (place_at ds (head_of d)) (place_at es (head_of d)) at.0 at.1 (value_token d.rec d.set (number d.octets)) in
+    let at = object_at ds es (head_of d) (record { numbers = twins.numbers; heads = twins.heads; octets = twins.octets }) in
+    let cause = cause_as (place_at ds (head_of d)) (place_at es (head_of d)) at.numbers at.octets (value_token d.rec d.set (number d.octets)) in
     λ i. option_or (option_map of_field (value_fault d)) (if tells_number d.rec then option_map (size_on (head_of d)) (cause i) else None)
 
 octets_alive : (ds : List Dataset) (d : Dataset) → SectionsLive (ds ++ d ∷ []) → Octets d.octets

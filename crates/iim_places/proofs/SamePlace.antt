@@ -172,17 +172,19 @@ more_object p q count same = record {
   octets = sum_append p.lengths (count ∷ []) ∙ ap (λ n. n + sum (count ∷ [])) same.octets ∙ sym (sum_append q.lengths (count ∷ []));
 }
 
-pub object_at_as : (ds es : List Dataset) (h : Head) → SameWhole ds es → SameObject (place_at ds h) (place_at es h)
-object_at_as ds es h same = by (nat_eq h.rec 8) (nat_eq h.rec 9)
+pub object_at : (ds es : List Dataset) (h : Head) → SameObject (place_after_datasets ds) (place_after_datasets es) → SameObject (place_at ds h) (place_at es h)
+object_at ds es h before = by (nat_eq h.rec 8) (nat_eq h.rec 9)
   where
-    before : SameObject (place_after_datasets ds) (place_after_datasets es)
-    before = object_lives_after_as ds es same
+    at : Bool → Bool → List Dataset → objects.Place
+    at b c xs = if b then objects.place_after (place_after_datasets xs) (SubfileBegun h.count) else if c then place_ended xs else place_after_datasets xs
 
-    by : (b c : Bool) → SameObject (if b then objects.place_after (place_after_datasets ds) (SubfileBegun h.count) else if c then place_ended ds else place_after_datasets ds)
-        (if b then objects.place_after (place_after_datasets es) (SubfileBegun h.count) else if c then place_ended es else place_after_datasets es)
+    by : (b c : Bool) → SameObject (at b c ds) (at b c es)
     by true c = more_object (place_after_datasets ds) (place_after_datasets es) h.count before
     by false true = record { numbers = before.numbers; heads = before.heads; octets = before.octets }
     by false false = before
+
+pub object_at_as : (ds es : List Dataset) (h : Head) → SameWhole ds es → SameObject (place_at ds h) (place_at es h)
+object_at_as ds es h same = object_at ds es h (object_lives_after_as ds es same)
 
 -- ---- the message
 
