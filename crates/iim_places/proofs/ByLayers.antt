@@ -23,10 +23,9 @@ use Rattle.iim_places.proofs.HeadsWithin.{told_by}
 use Rattle.iim_places.proofs.Lasts.{last_sections, not_all, sections_last}
 use Rattle.iim_places.proofs.PlainContinues.{low_number, Continues, plain_like, fit_in_rows, two_at_most, numbers_same}
 use Rattle.iim_places.proofs.PlainOpens.{ending_like, part_small}
-use Rattle.iim_places.proofs.PlainPlaces.{numbers_in, all_kept, low_mode, mode_octet, end_length}
+use Rattle.iim_places.proofs.PlainSizes.{numbers_in, all_kept, low_mode, mode_octet, end_length, possible_of, duties_of, possible_like, each_small}
 use Rattle.iim_places.proofs.SameRecords.{IsStated, nines, stated_after_all, stated_at}
 use Rattle.iim_places.proofs.Tickets.{total_of, count_of, sum_one}
-use Rattle.iim_places.proofs.PlainSizes.{possible_of, duties_of, possible_like, each_small}
 use Rattle.iim_places.proofs.Twins.{alive_at_as, enveloped, value_of}
 use Rattle.iim_places.specs.Format.Tokens.{place_at}
 use Rattle.iim_fields.specs.Format.Faults.{joined}

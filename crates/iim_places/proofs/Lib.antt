@@ -25,10 +25,9 @@ pub mod SamePlace
 pub mod Splitting
 pub mod Fitting
 pub mod Plain
-pub mod PlainPlaces
+pub mod PlainSizes
 pub mod HeadsWithin
 pub mod PlainContinues
-pub mod PlainSizes
 pub mod PlainOpens
 pub mod ByLayers
 pub mod MessageOctets
@@ -38,8 +37,6 @@ pub mod ObjectPlaces
 pub mod Twins
 pub mod Onward
 pub mod Continuing
-pub mod Opening
-pub mod Refusing
 pub mod Saved
 pub mod TicketFaults
 pub mod SmallTags

@@ -8,7 +8,7 @@ use Rattle.iim_object.specs.declared.reading.fault.ObjectFault.{ObjectFault}
 use Rattle.iim_object.specs.declared.reading.fault.ObjectFault.TheVariants.{Size, Stopped}
 use Rattle.iim_places.specs.Nowhere.{goes_nowhere, stops_nowhere}
 use Rattle.iim_places.specs.declared.ticket.object.Nowhere.{Nowhere}
-use Rattle.iim_places.proofs.PlainPlaces.{alive_front}
+use Rattle.iim_places.proofs.PlainSizes.{alive_front}
 
 some_lengths : (p : Place) → (p.lengths ≡ [] → Ended ≡ NotEnded) → 0 < length p.lengths
 some_lengths p none = by p.lengths none

@@ -12,7 +12,7 @@ use Rattle.iim_tables.specs.Format.Rows.{table, row_of}
 use Rattle.iim_object.specs.Laws.Packing.{NumberDatasetsAreGood}
 use Rattle.iim_places.proofs.SizeRows.{by_number}
 use Rattle.iim_places.proofs.Plain.{AreOf, one_stated, are_told, four_told, filled_count, all_of, none_of, Tell, plain_told, parts_each, end_each}
-use Rattle.iim_places.proofs.PlainPlaces.{all_kept, numbers_in, end_length}
+use Rattle.iim_places.proofs.PlainSizes.{all_kept, numbers_in, end_length}
 use Rattle.iim_places.proofs.SameRecords.{occurs_stated, same_stated, same_numbers, stated_after_all, tens_after, SameRecords, same_shape, tens_seen, AreTens}
 use Rattle.iim_places.proofs.SameRecords.{none_in_records}
 use Rattle.iim_places.proofs.Fronts.{empty_front}

@@ -18,8 +18,7 @@ use Rattle.iim_places.proofs.Lasts.{sections_last, last_sections}
 use Rattle.iim_places.proofs.Plain.{plain_told, plain_spelled, taken_told, heads_told}
 use Rattle.iim_places.proofs.PlainContinues.{low_number, plain_like, fit_in_rows}
 pub use Rattle.iim_places.proofs.PlainContinues.{fit_in_rows}
-use Rattle.iim_places.proofs.PlainPlaces.{numbers_in, all_kept, room_for, object_octets, each_spelled, mode_octet, low_mode}
-use Rattle.iim_places.proofs.PlainSizes.{duties_of, Lives}
+use Rattle.iim_places.proofs.PlainSizes.{numbers_in, all_kept, room_for, object_octets, each_spelled, mode_octet, low_mode, duties_of, Lives}
 use Rattle.iim_places.proofs.SameRecords.{nines, same_numbers, stated_after_all}
 use Rattle.iim_places.proofs.Tickets.{total_of, count_of}
 use Rattle.iim_places.proofs.Twins.{Twins, AreBounded, eights, sevens, may_as, enveloped, bounded_after, value_of}

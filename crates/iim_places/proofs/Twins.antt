@@ -143,14 +143,14 @@ pub record Twins (ds es : List Dataset) : Type 0 where
   pub here : AreBounded (sevens ds) (eights ds)
   pub bounded : AreBounded (sevens es) (eights es)
 
-pub heads_of : (ds es : List Dataset) → Twins ds es → length (of_record 8 ds) ≡ length (of_record 8 es)
-heads_of ds es twins = sym (count_of (of_record 8 ds)) ∙ twins.heads ∙ count_of (of_record 8 es)
+pub heads_same : (ds es : List Dataset) → Twins ds es → length (of_record 8 ds) ≡ length (of_record 8 es)
+heads_same ds es twins = sym (count_of (of_record 8 ds)) ∙ twins.heads ∙ count_of (of_record 8 es)
 
 pub few_as : (ds es : List Dataset) → Twins ds es → length (of_record 8 ds) ≤ max_subfiles → length (of_record 8 es) ≤ max_subfiles
-few_as ds es twins few = subst (λ (n : ℕ). n ≤ max_subfiles) (heads_of ds es twins) few
+few_as ds es twins few = subst (λ (n : ℕ). n ≤ max_subfiles) (heads_same ds es twins) few
 
 less_as : (ds es : List Dataset) → Twins ds es → length (of_record 8 ds) < max_subfiles → length (of_record 8 es) < max_subfiles
-less_as ds es twins less = subst (λ (n : ℕ). n < max_subfiles) (heads_of ds es twins) less
+less_as ds es twins less = subst (λ (n : ℕ). n < max_subfiles) (heads_same ds es twins) less
 
 pub flip : (ds es : List Dataset) → Twins ds es → Twins es ds
 flip ds es twins = record {
