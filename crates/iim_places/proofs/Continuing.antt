@@ -174,7 +174,8 @@ sizes_as ds es s t same here there =
     λ i. record { known = known i; subfile = subfile i; announced = announced i; maximum = maximum i; subfiles = subfiles i; total = total i }
 
 -- the message of an envelope, led to the same end
-ends_alike : OnwardLaws → (octets : List ℕ) (v : Value) (a : Admits octets v) (r : List ℕ) (m : SameMessage (object_of a.datasets) r) → LeadsTo r m.other (at_message.AfterEnd v.head (record { items = v.trailer }) (length a.message.after))
+ends_alike : OnwardLaws → (octets : List ℕ) (v : Value) (a : Admits octets v) (r : List ℕ) (m : SameMessage (object_of a.datasets) r)
+    → LeadsTo r m.other (at_message.AfterEnd v.head (record { items = v.trailer }) (length a.message.after))
 ends_alike laws octets v a r m =
     let same : m.at ≡ at_message.AfterEnd v.head (record { items = v.trailer }) (length a.message.after) = (laws.places.one_place (object_of a.datasets) m.text a.text m.at _ m.here (leads_to octets v a)).1 in
     subst (LeadsTo r m.other) same m.there
