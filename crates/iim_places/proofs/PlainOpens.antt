@@ -9,7 +9,6 @@ use Rattle.iim_places.proofs.Words.{plain_of, plain_octets, IsPlain, PlainOctets
 use Rattle.iim_places.proofs.Words.{plain, AreOpenOrWhole, widest, place_of, heads_of, phase_of, AllEnded, TagBegun, ObjectLives, OpenLaws, SizeLaws, all_map}
 use Rattle.iim_places.proofs.Words.{all_front, IsGoodDataset, IsBegun, CanContinue, MayContinue, Value, IsEnvelopeWithin, InTag, AreSections}
 use Rattle.iim_dataset.specs.Format.Languages as languages
-use Rattle.iim_object.specs.Format.Places as objects
 use Rattle.iim_places.specs.Format.Tickets.{Place}
 use Rattle.iim_places.proofs.Answering.{one_reading, reads_envelope, open_at}
 use Rattle.iim_places.proofs.Fitting.{object_low, Lived, each_low, ones_in, numbers_fit, taken_fits, each_octets, lived}
