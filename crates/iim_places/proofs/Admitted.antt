@@ -1,18 +1,9 @@
 -- Admitted octets have one value, and end where they end.
 use Rattle.std.proofs.Common.{◌≡◌, ℕ, List, [], ap, sym, ◌∙◌, subst, append-nil}
-use Rattle.iim_dataset.specs.Format.Datasets.{Dataset, SpellsStream, count_octets, of_record}
-use Rattle.iim_dataset.specs.Laws.Datasets.{NoDatasetBeginsAnother}
-use Rattle.iim_fields.specs.Format.Faults.{kept}
-use Rattle.iim_fields.specs.Laws.Records.{NoSectionsBeginOthers}
-use Rattle.iim_object.specs.Laws.Numbers.{RecordsAreByNumber}
-use Rattle.iim_object.specs.Laws.Records.{AreSized, SizesAreDetermined}
-use Rattle.iim_object.specs.Format.Records.{HaveSizes}
-use Rattle.wire_message.specs.Format.Messages.{IsMessage}
-use Rattle.wire_message.specs.Laws.Messages.{MessagesHaveOneReading}
-use Rattle.wire_story.specs.Format.Texts.{IsText}
+use Rattle.iim_places.proofs.Words.{Dataset, SpellsStream, count_octets, of_record, NoDatasetBeginsAnother, kept, NoSectionsBeginOthers, RecordsAreByNumber}
+use Rattle.iim_places.proofs.Words.{AreSized, SizesAreDetermined, HaveSizes, IsMessage, MessagesHaveOneReading, IsText, Value, Admits, object_of}
+use Rattle.iim_places.proofs.Words.{AdmittedOctetsHaveOneValue, NoAdmittedOctetsBeginOthers, AdmittedOctetsAreFramed}
 use Rattle.wire_story.specs.Laws.Texts.{TextsHaveOneReading}
-use Rattle.iim_places.specs.Format.Admitted.{Value, Admits, object_of}
-use Rattle.iim_places.specs.Laws.Admitted.{AdmittedOctetsHaveOneValue, NoAdmittedOctetsBeginOthers, AdmittedOctetsAreFramed}
 use Rattle.iim_places.proofs.Frames.{envelope_alone}
 use Rattle.iim_places.proofs.Objects.{are_records}
 

@@ -1,9 +1,7 @@
 -- After EOT the octets are a message.
 use Rattle.std.proofs.Common.{◌≡◌, IsTrue, List, ℕ, None, Some, refl}
-use Rattle.wire_story.specs.Format.Texts.{AreLines}
-use Rattle.wire_message.specs.Format.Messages.{Header, IsMessage}
+use Rattle.iim_places.proofs.Words.{AreLines, Header, IsMessage, saved}
 use Rattle.wire_message.specs.States.Reading.{is_ended}
-use Rattle.wire_message.specs.States.Saved.{saved}
 use Rattle.wire_message.specs.States.SoFar.{LeadsTo}
 use Rattle.wire_message.specs.declared.place.Place.{Place}
 use Rattle.wire_message.specs.declared.place.Place.TheVariants.{AfterEnd, Text}

@@ -1,52 +1,35 @@
 -- A stream has one answer: what is refused, what is open and what is an envelope exclude one another.
-use Rattle.std.proofs.Common.{◌≡◌, ◌≢◌, ℕ, zero, suc, ◌-◌, ◌^◌, ◌<◌, ◌≤◌, ◌⊎◌, Bool, false, nat_eq, if◌then◌else◌, List, [], ◌∷◌, ◌++◌, length, take, drop, slice_index, map, refl, ap, sym, subst, ◌∙◌, inl, inr, arith, append-nil, append_assoc, length-append}
-use Rattle.std.proofs.lemmas.Bool.{cases_lt, ne_eqb}
-use Rattle.std.proofs.lemmas.Option.{same_Some}
-use Rattle.std.proofs.lemmas.Bool.Decides.{eqb_tells}
-use Rattle.std.proofs.lemmas.List.{map-append, take-append-drop, take-take}
-use Rattle.iim_dataset.specs.Format.Datasets.{Dataset, SpellsTag, SpellsDataset, SpellsStream, head_of, count_octets}
-use Rattle.iim_dataset.specs.Format.Splits.{Begun, InTag, InData, IsBegun, Reads}
-use Rattle.iim_dataset.specs.Format.Tags.{BeginsNoTag}
+use Rattle.std.proofs.Common.{◌≡◌, ◌≢◌, ℕ, zero, suc, ◌-◌, ◌^◌, ◌<◌, ◌≤◌, ◌⊎◌, Bool, false, nat_eq, if◌then◌else◌, List, [], ◌∷◌, ◌++◌, length, take, drop}
+use Rattle.std.proofs.Common.{slice_index, map, refl, ap, sym, subst, ◌∙◌, inl, inr, arith, append-nil, append_assoc, length-append}
+use Rattle.iim_places.proofs.Words.{cases_lt, ne_eqb, same_Some, eqb_tells, map-append, take-append-drop, take-take, Dataset, SpellsTag, SpellsDataset}
+use Rattle.iim_places.proofs.Words.{SpellsStream, head_of, count_octets, Begun, InTag, InData, IsBegun, Reads, BeginsNoTag, handed_on, Head, AreSections}
+use Rattle.iim_places.proofs.Words.{SectionsLive, section_after, data_of, Limits, AreSized, Holds, Octet, End, MessageLanguage, MessageLivesWith, MessageDiesAt}
+use Rattle.iim_places.proofs.Words.{StoryLivesIn, text_so_far, HasCause, MessageCause, Value, Admits, object_of, begun_record, begun_number, tag_cause}
+use Rattle.iim_places.proofs.Words.{refusal_at, message_on, AdmittedOctetsHaveOneValue, NoAdmittedOctetsBeginOthers, IsTextOf, object_so_far, AllCanContinue}
+use Rattle.iim_places.proofs.Words.{IsUnfinished, RefusesByTests, RefusesNext, truncated_in, IsRefusedHead, IsRefusedValue, OpenOctetsBeginWithNoEnvelope}
+use Rattle.iim_places.proofs.Words.{EnvelopesAreBounded, NothingContinuesFromRefusedOctets, RefusalsAreDetermined, StreamsHaveOneAnswer, IsEnvelopeWithin}
+use Rattle.iim_places.proofs.Words.{Finished, Refused, Truncated, IsFinished, IsRefused, IsTruncated, TokenFault, AnswerLaws, IsPlaceOf, place_of, LeadsToSaved}
+use Rattle.iim_places.proofs.Words.{MessagePlace, IsOpen}
 use Rattle.iim_dataset.specs.Format.Completing.{CompletesData}
-use Rattle.iim_dataset.specs.States.Events.{handed_on}
 use Rattle.iim_dataset.specs.Format.Languages as languages
-use Rattle.iim_dataset.specs.declared.head.Head.{Head}
 use Rattle.iim_dataset.proofs.Spelled.{tag_length}
-use Rattle.iim_fields.specs.Format.Records.{AreSections}
-use Rattle.iim_fields.specs.Format.Alive.{SectionsLive}
-use Rattle.iim_fields.specs.Format.Faults.{section_after}
-use Rattle.iim_fields.specs.Format.Values.{data_of}
-use Rattle.iim_fields.specs.declared.limits.Limits.{Limits}
-use Rattle.iim_object.specs.Laws.Records.{AreSized}
-use Rattle.wire_story.specs.Format.Texts.{Holds}
-use Rattle.wire_story.specs.Format.Tokens.{Octet, End}
-use Rattle.wire_message.specs.Format.Layers.{MessageLanguage, MessageLivesWith, MessageDiesAt, StoryLivesIn, text_so_far}
-use Rattle.wire_message.specs.Format.Causes.{HasCause}
 use Rattle.wire_message.specs.States.SoFar.{LeadsTo}
 use Rattle.wire_message.specs.declared.place.Place.TheVariants.{AfterEnd}
-use Rattle.wire_message.specs.declared.fault.MessageCause.{MessageCause}
 use Rattle.wire_message.specs.declared.fault.MessageCause.TheVariants as messages
-use Rattle.iim_places.specs.Format.Admitted.{Value, Admits, object_of}
-use Rattle.iim_places.specs.Format.Refusals.{begun_record, begun_number, tag_cause, refusal_at, message_on}
-use Rattle.iim_places.specs.Laws.Admitted.{AdmittedOctetsHaveOneValue, NoAdmittedOctetsBeginOthers}
-use Rattle.iim_places.specs.Format.Open.{IsTextOf, object_so_far, AllCanContinue, IsUnfinished, IsOpen, IsBadTagAt, IsBadHeadAt, IsBadOctetAt, IsBadValueAt, RefusesByTests, RefusesNext, truncated_in}
-use Rattle.iim_places.specs.Format.Tokens.{IsRefusedHead, IsRefusedValue}
 use Rattle.iim_places.specs.Laws.Conditions.{RefusalsTellTheLowestCause}
-use Rattle.iim_places.specs.Laws.Streams.{OpenOctetsBeginWithNoEnvelope, EnvelopesAreBounded, NothingContinuesFromRefusedOctets, RefusalsAreDetermined, StreamsHaveOneAnswer}
-use Rattle.iim_places.specs.Format.Streams.{IsEnvelopeWithin, Finished, Refused, Truncated, IsFinished, IsRefused, IsTruncated}
-use Rattle.iim_places.specs.declared.fault.TokenFault.{TokenFault}
 use Rattle.iim_places.specs.declared.refusal.Refusal.{Refusal}
 use Rattle.iim_places.specs.declared.refusal.Layer.TheVariants as layers
 use Rattle.iim_places.specs.declared.refusal.Cause.TheVariants as causes
 use Rattle.iim_places.proofs.ObjectOctets.{lives_whole}
-use Rattle.iim_places.proofs.Following.{Follows, in_front, follows, alive_of, within_of, head_lives, value_lives, object_lives_after, object_on, message_of, story_of, message_ends, ends_tokens}
+use Rattle.iim_places.proofs.Following.{Follows, in_front, follows, alive_of, within_of, head_lives, value_lives, object_lives_after, object_on, message_of}
+use Rattle.iim_places.proofs.Following.{story_of, message_ends, ends_tokens}
 use Rattle.iim_places.proofs.Bounds.{head_fits}
 use Rattle.iim_places.proofs.Frames.{no_sections}
 use Rattle.iim_places.proofs.Lasts.{SplitLast, split_last, last_sections}
 use Rattle.iim_places.proofs.Places.{lives_after}
 use Rattle.iim_places.proofs.Refused.{no_dead_head, no_dead_value}
 use Rattle.iim_places.proofs.Admitted.{sized_by}
-use Rattle.iim_places.specs.Laws.Lower.{AnswerLaws}
+use Rattle.iim_places.specs.Format.Tickets.{Place}
 
 -- Every layer can continue from the octets, within the limits.
 pub record Lives (limits : Limits) (octets : List ℕ) : Type 0 where
@@ -101,7 +84,7 @@ pub lives_envelope : AnswerLaws → (limits : Limits) (octets : List ℕ) (v : V
 lives_envelope laws limits octets v is =
     record { whole = is.admits.datasets; begun = InTag []; reads = reads_envelope octets v is.admits; leads_on = goes_envelope laws limits octets v is }
 
--- ---- with a refused octet nothing lives
+-- ---- a next octet
 
 message_dead : (o : List ℕ) (next : ℕ) → MessageLivesWith (o ++ next ∷ []) → MessageDiesAt o (Octet next) → ⊥
 message_dead o next lives dies = dies.1 (subst (languages.IsAlive MessageLanguage) (map-append Octet o (next ∷ [])) lives)
@@ -142,38 +125,6 @@ head_dead : AnswerLaws → (limits : Limits) (W : List Dataset) (c : Begun) → 
     → IsRefusedHead limits whole h fault ⊎ IsUnfinished limits whole h fault → ⊥
 head_dead laws limits W c all whole h z fault f (inl refused) = no_dead_head fault.layer limits whole h (head_lives laws.follow limits W c all whole h z f) refused.dead
 head_dead laws limits W c all whole h z fault f (inr unfinished) = unfinished.dies.1 (message_ends laws.follow limits W c all whole h z f unfinished.last)
-
-value_dead : AnswerLaws → (limits : Limits) (octets more : List ℕ) (next : ℕ) (W : List Dataset) (c : Begun) → Reads count_octets (octets ++ next ∷ more) W c → AllCanContinue limits W c → (whole : List Dataset) (h : Head) (given : List ℕ) (fault : TokenFault)
-    → CompletesData octets next whole h given → IsRefusedValue whole (data_of h given) fault → ⊥
-value_dead laws limits octets more next W c r all whole h given fault (inl (taken, reads, parts, many)) refused =
-    no_value laws limits W c all whole h (taken ++ next ∷ more) given more fault (data_follows laws octets more next W c r whole h taken reads)
-    (sym (append_assoc taken (next ∷ []) more) ∙ ap (λ (l : List ℕ). l ++ more) (sym parts)) many refused
-value_dead laws limits octets more next W c r all whole h given fault (inr (held, reads, tag, none, is)) refused =
-    no_value laws limits W c all whole h more given more fault (tag_follows laws octets more next W c r whole held h reads tag)
-    (ap (λ (l : List ℕ). l ++ more) (sym is)) (ap length is ∙ sym none) refused
-
-none_lives : AnswerLaws → (limits : Limits) (octets more : List ℕ) (next : ℕ) (fault : TokenFault) → RefusesByTests limits octets next fault → fault.cause ≢ causes.Sink → Lives limits (octets ++ next ∷ more) → ⊥
-none_lives laws limits octets more next fault (inl bad) other lives =
-    laws.stuck octets more next bad.whole bad.held lives.whole lives.begun bad.reads bad.dead lives.reads
-none_lives laws limits octets more next fault (inr (inl bad)) other lives =
-    head_dead laws limits lives.whole lives.begun lives.leads_on bad.whole bad.head more fault (tag_follows laws octets more next lives.whole lives.begun lives.reads bad.whole bad.held bad.head bad.reads bad.tag) bad.refuses
-none_lives laws limits octets more next fault (inr (inr (inl bad))) other lives =
-    let f = data_follows laws octets more next lives.whole lives.begun lives.reads bad.whole bad.head bad.taken bad.reads in
-    let (tail, is) = object_on lives.whole lives.begun bad.whole bad.head bad.taken more next bad.subfile bad.reads.is_rest.2 f in
-    let o : List ℕ = object_of bad.whole ++ bad.taken in
-    octet_dead bad.cause o next (λ sink. other (ap (λ (x : TokenFault). x.cause) bad.is_fault ∙ ap (λ (x : MessageCause). (message_on bad.head x).cause) sink)) bad.has_cause
-    (message_of limits lives.whole lives.begun lives.leads_on (o ++ next ∷ []) tail is) (story_of limits lives.whole lives.begun lives.leads_on (o ++ next ∷ []) tail is)
-none_lives laws limits octets more next fault (inr (inr (inr bad))) other lives =
-    value_dead laws limits octets more next lives.whole lives.begun lives.reads lives.leads_on bad.whole bad.head bad.given fault bad.completes bad.refuses
-
-pub nothing_continues : AnswerLaws → RefusalsTellTheLowestCause → NothingContinuesFromRefusedOctets
-nothing_continues laws tests limits octets more next fault kills = (
-  λ is. none_lives laws limits octets more next fault found kills.by_octets (lives_open limits (octets ++ next ∷ more) is),
-  λ v is. none_lives laws limits octets more next fault found kills.by_octets (lives_envelope laws limits (octets ++ next ∷ more) v is),
-)
-  where
-    found : RefusesByTests limits octets next fault
-    found = ((tests limits octets next fault).0 kills.refuses).1
 
 -- ---- an envelope is bounded
 
@@ -252,28 +203,33 @@ one_reading laws octets whole other b c r s =
     let way = laws.way octets (handed_on whole b) (handed_on other c) b c (record { whole = whole; reads = r; handed = refl }) (record { whole = other; reads = s; handed = refl }) in
     record { whole_is = (laws.tell whole other b c way.0).0; begun_is = way.1 }
 
-tag_is : {x y : List ℕ} → InTag x ≡ InTag y → x ≡ y
-tag_is e = cc
+-- the octets of the place are read so
+pub record Coming (place : Place) (whole : List Dataset) (begun : Begun) : Type 0 where
+  pub text : List ℕ
+  pub message : MessagePlace
+  pub leads : LeadsToSaved (object_so_far whole begun) text message
+  pub is_place : place ≡ place_of whole begun message
 
-head_is : {h k : Head} {x y : List ℕ} → InData h x ≡ InData k y → h ≡ k
-head_is e = cc
+pub coming : AnswerLaws → (place : Place) (octets : List ℕ) → IsPlaceOf octets place → (whole : List Dataset) (begun : Begun)
+    → Reads count_octets octets whole begun → Coming place whole begun
+coming laws place octets is whole begun reads =
+    let same = one_reading laws octets is.whole whole is.begun begun is.reads reads in
+    record {
+      text = is.text;
+      message = is.message;
+      leads = subst (λ (b : Begun). LeadsToSaved (object_so_far whole b) is.text is.message) same.begun_is
+          (subst (λ (ds : List Dataset). LeadsToSaved (object_so_far ds is.begun) is.text is.message) same.whole_is is.leads);
+      is_place = is.is_place ∙ (λ i. place_of (same.whole_is i) (same.begun_is i) is.message);
+    }
 
-data_is : {h k : Head} {x y : List ℕ} → InData h x ≡ InData k y → x ≡ y
-data_is e = cc
-
-not_data : {A : Type 0} {h : Head} {x y : List ℕ} → InTag x ≡ InData h y → A
-not_data e = absurd cc
-
-not_in_tag : AnswerLaws → {A : Type 0} → (octets : List ℕ) (whole other : List Dataset) (held taken : List ℕ) (h : Head) → Reads count_octets octets whole (InTag held) → Reads count_octets octets other (InData h taken) → A
-not_in_tag laws octets whole other held taken h r s = not_data (one_reading laws octets whole other (InTag held) (InData h taken) r s).begun_is
-
-same_tag : AnswerLaws → (octets : List ℕ) (whole other : List Dataset) (held tag : List ℕ) → Reads count_octets octets whole (InTag held) → Reads count_octets octets other (InTag tag) → (whole ≡ other) × (held ≡ tag)
-same_tag laws octets whole other held tag r s =
-    let same = one_reading laws octets whole other (InTag held) (InTag tag) r s in (same.whole_is, tag_is same.begun_is)
-
-same_data : AnswerLaws → (octets : List ℕ) (whole other : List Dataset) (h k : Head) (x y : List ℕ) → Reads count_octets octets whole (InData h x) → Reads count_octets octets other (InData k y) → (whole ≡ other) × (h ≡ k) × (x ≡ y)
-same_data laws octets whole other h k x y r s =
-    let same = one_reading laws octets whole other (InData h x) (InData k y) r s in (same.whole_is, head_is same.begun_is, data_is same.begun_is)
+-- with what open octets read every layer can continue, and it is no envelope
+pub open_at : AnswerLaws → (limits : Limits) (octets : List ℕ) (ds : List Dataset) (b : Begun) → Reads count_octets octets ds b → IsOpen limits octets
+    → AllCanContinue limits ds b × (AreSections ds → ⊥)
+open_at laws limits octets ds b reads is =
+    let same = one_reading laws octets is.whole ds is.begun b is.reads reads in (
+      subst (AllCanContinue limits ds) same.begun_is (subst (λ (xs : List Dataset). AllCanContinue limits xs is.begun) same.whole_is is.leads_on),
+      (λ sections. is.unfinished (subst AreSections (sym same.whole_is) sections)),
+    )
 
 same_head : AnswerLaws → (h k : Head) (held tag : List ℕ) (next : ℕ) → held ≡ tag → SpellsTag count_octets h (held ++ next ∷ []) → SpellsTag count_octets k (tag ++ next ∷ []) → h ≡ k
 same_head laws h k held tag next same s t =
@@ -316,109 +272,148 @@ one_cause laws messages.ControlOctet messages.LoneReturn o next h k = not_held l
 one_cause laws a messages.Sink o next h k = absurd (h.1.1 k.1)
 one_cause laws messages.Sink b o next h k = absurd (k.1.1 h.1)
 
--- ---- each two refusals
+-- ---- one step
 
-tags_agree : AnswerLaws → (limits : Limits) (octets : List ℕ) (next : ℕ) (f g : TokenFault) → IsBadTagAt limits octets next f → IsBadTagAt limits octets next g → f ≡ g
-tags_agree laws limits octets next f g a b =
-    let same = (same_tag laws octets a.whole b.whole a.held b.held a.reads b.reads).1 in
-    a.is_fault ∙ ap (λ (held : List ℕ). record { layer = layers.Dataset; rec = begun_record (InTag held); set = begun_number (InTag held); cause = tag_cause held }) same
-    ∙ sym b.is_fault
+-- the fault of a tag that no octet continues
+abbrev pub tag_fault : List ℕ → TokenFault
+tag_fault held = record { layer = layers.Dataset; rec = begun_record (InTag held); set = begun_number (InTag held); cause = tag_cause held }
 
-tag_not_head : AnswerLaws → {A : Type 0} → (limits : Limits) (octets : List ℕ) (next : ℕ) (f g : TokenFault) → IsBadTagAt limits octets next f → IsBadHeadAt limits octets next g → A
-tag_not_head laws limits octets next f g a b =
-    not_tag a.held b.held next b.head (same_tag laws octets a.whole b.whole a.held b.held a.reads b.reads).1 a.dead b.tag
+-- A head that has come is refused, or its value of no octets.
+abbrev pub IsRefusedWith : Limits → List Dataset → Head → TokenFault → Type 0
+IsRefusedWith limits ds h fault =
+    (IsRefusedHead limits ds h fault ⊎ IsUnfinished limits ds h fault)
+    ⊎ ((h.rec ≡ 8 → ⊥) × (h.count ≡ 0) × AllCanContinue limits ds (InData h []) × IsRefusedValue ds (data_of h []) fault)
 
-tag_not_octet : AnswerLaws → {A : Type 0} → (limits : Limits) (octets : List ℕ) (next : ℕ) (f g : TokenFault) → IsBadTagAt limits octets next f → IsBadOctetAt limits octets next g → A
-tag_not_octet laws limits octets next f g a b = not_in_tag laws octets a.whole b.whole a.held b.taken b.head a.reads b.reads
+-- The octet is refused after these datasets and what is begun.
+abbrev pub IsRefusedAt : Limits → List Dataset → Begun → ℕ → TokenFault → Type 0
+IsRefusedAt limits ds (InTag held) next fault =
+    (BeginsNoTag count_octets (held ++ next ∷ []) × (fault ≡ tag_fault held))
+    ⊎ ((h : Head) × SpellsTag count_octets h (held ++ next ∷ []) × IsRefusedWith limits ds h fault)
+IsRefusedAt limits ds (InData h taken) next fault =
+    ((h.rec ≡ 8) × (cause : MessageCause) × HasCause cause (object_of ds ++ taken) next × (fault ≡ message_on h cause))
+    ⊎ ((h.rec ≡ 8 → ⊥) × (length (taken ++ next ∷ []) ≡ h.count) × IsRefusedValue ds (data_of h (taken ++ next ∷ [])) fault)
 
-tag_not_value : AnswerLaws → {A : Type 0} → (limits : Limits) (octets : List ℕ) (next : ℕ) (f g : TokenFault) → IsBadTagAt limits octets next f → IsBadValueAt limits octets next g → A
-tag_not_value laws {A} limits octets next f g a b = by b.completes
+-- what octets read, where they are open, and the step with which the next one is refused
+abbrev pub Refuses : Limits → List ℕ → ℕ → TokenFault → Type 0
+Refuses limits octets next fault =
+    (ds : List Dataset) × (b : Begun) × Reads count_octets octets ds b × AllCanContinue limits ds b × (AreSections ds → ⊥) × IsRefusedAt limits ds b next fault
+
+pub refuses_by : AnswerLaws → (limits : Limits) (octets : List ℕ) (next : ℕ) (fault : TokenFault) → RefusesByTests limits octets next fault
+    → Refuses limits octets next fault
+refuses_by laws limits octets next fault (inl bad) = (bad.whole, InTag bad.held, bad.reads, bad.leads_on, bad.unfinished, inl (bad.dead, bad.is_fault))
+refuses_by laws limits octets next fault (inr (inl bad)) =
+    (bad.whole, InTag bad.held, bad.reads, bad.leads_on, bad.unfinished, inr (bad.head, bad.tag, inl bad.refuses))
+refuses_by laws limits octets next fault (inr (inr (inl bad))) =
+    (bad.whole, InData bad.head bad.taken, bad.reads, bad.leads_on, bad.unfinished, inl (bad.subfile, bad.cause, bad.has_cause, bad.is_fault))
+refuses_by laws limits octets next fault (inr (inr (inr bad))) = by bad.completes
   where
-    by : CompletesData octets next b.whole b.head b.given → A
-    by (inl (taken, reads, parts, many)) = not_in_tag laws octets a.whole b.whole a.held taken b.head a.reads reads
-    by (inr (held, reads, tag, none, is)) = not_tag a.held held next b.head (same_tag laws octets a.whole b.whole a.held held a.reads reads).1 a.dead tag
+    ds : List Dataset
+    ds = bad.whole
 
-heads_agree : AnswerLaws → (limits : Limits) (octets : List ℕ) (next : ℕ) (f g : TokenFault) → IsBadHeadAt limits octets next f → IsBadHeadAt limits octets next g → f ≡ g
-heads_agree laws limits octets next f g a b =
-    let same = same_tag laws octets a.whole b.whole a.held b.held a.reads b.reads in
-    let head = same_head laws a.head b.head a.held b.held next same.1 a.tag b.tag in
-    one_head_fault limits b.whole b.head f g
-    (subst (λ (h : Head). IsRefusedHead limits b.whole h f ⊎ IsUnfinished limits b.whole h f) head (subst (λ (ds : List Dataset). IsRefusedHead limits ds a.head f ⊎ IsUnfinished limits ds a.head f) same.0 a.refuses)) b.refuses
+    h : Head
+    h = bad.head
 
-head_not_octet : AnswerLaws → {A : Type 0} → (limits : Limits) (octets : List ℕ) (next : ℕ) (f g : TokenFault) → IsBadHeadAt limits octets next f → IsBadOctetAt limits octets next g → A
-head_not_octet laws limits octets next f g a b = not_in_tag laws octets a.whole b.whole a.held b.taken b.head a.reads b.reads
+    to : {xs : List ℕ} → bad.given ≡ xs → IsRefusedValue ds (data_of h xs) fault
+    to is = subst (λ (xs : List ℕ). IsRefusedValue ds (data_of h xs) fault) is bad.refuses
 
-head_not_value : AnswerLaws → {A : Type 0} → (limits : Limits) (octets : List ℕ) (next : ℕ) (f g : TokenFault) → IsBadHeadAt limits octets next f → IsBadValueAt limits octets next g → A
-head_not_value laws {A} limits octets next f g a b = by b.completes
-  where
-    by : CompletesData octets next b.whole b.head b.given → A
-    by (inl (taken, reads, parts, many)) = not_in_tag laws octets a.whole b.whole a.held taken b.head a.reads reads
-    by (inr (held, reads, tag, none, is)) =
-        let same = same_tag laws octets a.whole b.whole a.held held a.reads reads in
-        let head = same_head laws a.head b.head a.held held next same.1 a.tag tag in
-        not_both laws limits b.whole b.head b.given f b.leads_on
-        (subst (λ (h : Head). IsRefusedHead limits b.whole h f ⊎ IsUnfinished limits b.whole h f) head (subst (λ (ds : List Dataset). IsRefusedHead limits ds a.head f ⊎ IsUnfinished limits ds a.head f) same.0 a.refuses))
-
-octets_agree : AnswerLaws → (limits : Limits) (octets : List ℕ) (next : ℕ) (f g : TokenFault) → IsBadOctetAt limits octets next f → IsBadOctetAt limits octets next g → f ≡ g
-octets_agree laws limits octets next f g a b =
-    let same = same_data laws octets a.whole b.whole a.head b.head a.taken b.taken a.reads b.reads in
-    let has : HasCause a.cause (object_of b.whole ++ b.taken) next =
-    subst (λ (xs : List ℕ). HasCause a.cause (object_of b.whole ++ xs) next) same.2 (subst (λ (ds : List Dataset). HasCause a.cause (object_of ds ++ a.taken) next) same.0 a.has_cause) in
-    let cause = one_cause laws a.cause b.cause (object_of b.whole ++ b.taken) next has b.has_cause in
-    a.is_fault ∙ ap (λ (h : Head). message_on h a.cause) same.1 ∙ ap (message_on b.head) cause ∙ sym b.is_fault
-
-octet_not_value : AnswerLaws → {A : Type 0} → (limits : Limits) (octets : List ℕ) (next : ℕ) (f g : TokenFault) → IsBadOctetAt limits octets next f → IsBadValueAt limits octets next g → A
-octet_not_value laws {A} limits octets next f g a b = by b.completes
-  where
-    by : CompletesData octets next b.whole b.head b.given → A
+    by : CompletesData octets next ds h bad.given → Refuses limits octets next fault
     by (inl (taken, reads, parts, many)) =
-        let same = same_data laws octets a.whole b.whole a.head b.head a.taken taken a.reads reads in
-        absurd (b.is_value (sym (ap (λ (h : Head). h.rec) same.1) ∙ a.subfile))
-    by (inr (held, reads, tag, none, is)) = not_in_tag laws octets b.whole a.whole held a.taken a.head reads a.reads
+        let all = fewer_data limits ds h bad.given taken bad.is_value bad.leads_on in
+        (ds, InData h taken, reads, all, bad.unfinished, inr (bad.is_value, sym (ap length parts) ∙ many, to parts))
+    by (inr (held, reads, tag, none, is)) =
+        let all = fewer_data limits ds h bad.given [] bad.is_value bad.leads_on in
+        let before = before_it laws limits ds h held bad.is_value bad.unfinished all in
+        (ds, InTag held, reads, before, bad.unfinished, inr (h, tag, inr (bad.is_value, none, all, to is)))
 
-record SameValue (a b : List Dataset) (h k : Head) (x y : List ℕ) : Type 0 where
-  pub whole_is : a ≡ b
-  pub head_is : h ≡ k
-  pub given_is : x ≡ y
+pub tests_of : (limits : Limits) (octets : List ℕ) (next : ℕ) (fault : TokenFault) → Refuses limits octets next fault → RefusesByTests limits octets next fault
+tests_of limits octets next fault (ds, InTag held, reads, all, open', inl (dead, is)) =
+    inl (record { whole = ds; held = held; reads = reads; leads_on = all; unfinished = open'; dead = dead; is_fault = is })
+tests_of limits octets next fault (ds, InTag held, reads, all, open', inr (h, tag, inl bad)) =
+    inr (inl (record { whole = ds; held = held; head = h; reads = reads; leads_on = all; unfinished = open'; tag = tag; refuses = bad }))
+tests_of limits octets next fault (ds, InTag held, reads, all, open', inr (h, tag, inr (other, none, more, bad))) =
+    let done = inr (held, reads, tag, none, refl) in
+    inr (inr (inr (record { whole = ds; head = h; given = []; is_value = other; completes = done; leads_on = more; unfinished = open'; refuses = bad })))
+tests_of limits octets next fault (ds, InData h xs, reads, all, open', inl (eight, c, has, is)) =
+    inr (inr (inl (record {
+      whole = ds;
+      head = h;
+      taken = xs;
+      reads = reads;
+      leads_on = all;
+      unfinished = open';
+      subfile = eight;
+      cause = c;
+      has_cause = has;
+      is_fault = is;
+    })))
+tests_of limits octets next fault (ds, InData h xs, reads, all, open', inr (other, many, bad)) =
+    let ys = xs ++ next ∷ [] in
+    let more = fewer_data limits ds h xs ys other all in
+    let done = inl (xs, reads, refl, many) in
+    inr (inr (inr (record { whole = ds; head = h; given = ys; is_value = other; completes = done; leads_on = more; unfinished = open'; refuses = bad })))
 
-one_value : AnswerLaws → (octets : List ℕ) (next : ℕ) (whole other : List Dataset) (h k : Head) (x y : List ℕ) → CompletesData octets next whole h x → CompletesData octets next other k y → SameValue whole other h k x y
-one_value laws octets next whole other h k x y (inl (taken, reads, parts, many)) (inl (took, are, pieces, count)) =
-    let same = same_data laws octets whole other h k taken took reads are in
-    record { whole_is = same.0; head_is = same.1; given_is = parts ∙ ap (λ (l : List ℕ). l ++ next ∷ []) same.2 ∙ sym pieces }
-one_value laws octets next whole other h k x y (inl (taken, reads, parts, many)) (inr (held, are, tag, none, is)) = not_in_tag laws octets other whole held taken h are reads
-one_value laws octets next whole other h k x y (inr (held, reads, tag, none, is)) (inl (took, are, pieces, count)) = not_in_tag laws octets whole other held took k reads are
-one_value laws octets next whole other h k x y (inr (held, reads, tag, none, is)) (inr (holds, are, that, zero', empty)) =
-    let same = same_tag laws octets whole other held holds reads are in
-    record { whole_is = same.0; head_is = same_head laws h k held holds next same.1 tag that; given_is = is ∙ sym empty }
+one_with : AnswerLaws → (limits : Limits) (ds : List Dataset) (h : Head) (f g : TokenFault) → IsRefusedWith limits ds h f → IsRefusedWith limits ds h g → f ≡ g
+one_with laws limits ds h f g (inl a) (inl b) = one_head_fault limits ds h f g a b
+one_with laws limits ds h f g (inl a) (inr b) = not_both laws limits ds h [] f b.2 a
+one_with laws limits ds h f g (inr a) (inl b) = not_both laws limits ds h [] g a.2 b
+one_with laws limits ds h f g (inr a) (inr b) = same_Some _ _ (sym a.3.first ∙ b.3.first)
 
-values_agree : AnswerLaws → (limits : Limits) (octets : List ℕ) (next : ℕ) (f g : TokenFault) → IsBadValueAt limits octets next f → IsBadValueAt limits octets next g → f ≡ g
-values_agree laws limits octets next f g a b =
-    let same = one_value laws octets next a.whole b.whole a.head b.head a.given b.given a.completes b.completes in
-    let refused : IsRefusedValue b.whole (data_of b.head b.given) f =
-    subst (λ (x : List ℕ). IsRefusedValue b.whole (data_of b.head x) f) same.given_is
-    (subst (λ (h : Head). IsRefusedValue b.whole (data_of h a.given) f) same.head_is (subst (λ (ds : List Dataset). IsRefusedValue ds (data_of a.head a.given) f) same.whole_is a.refuses)) in
-    same_Some _ _ (sym refused.first ∙ b.refuses.first)
-
-one_by_tests : AnswerLaws → (limits : Limits) (octets : List ℕ) (next : ℕ) (f g : TokenFault) → RefusesByTests limits octets next f → RefusesByTests limits octets next g → f ≡ g
-one_by_tests laws limits octets next f g (inl a) (inl b) = tags_agree laws limits octets next f g a b
-one_by_tests laws limits octets next f g (inl a) (inr (inl b)) = tag_not_head laws limits octets next f g a b
-one_by_tests laws limits octets next f g (inl a) (inr (inr (inl b))) = tag_not_octet laws limits octets next f g a b
-one_by_tests laws limits octets next f g (inl a) (inr (inr (inr b))) = tag_not_value laws limits octets next f g a b
-one_by_tests laws limits octets next f g (inr (inl a)) (inl b) = tag_not_head laws limits octets next g f b a
-one_by_tests laws limits octets next f g (inr (inl a)) (inr (inl b)) = heads_agree laws limits octets next f g a b
-one_by_tests laws limits octets next f g (inr (inl a)) (inr (inr (inl b))) = head_not_octet laws limits octets next f g a b
-one_by_tests laws limits octets next f g (inr (inl a)) (inr (inr (inr b))) = head_not_value laws limits octets next f g a b
-one_by_tests laws limits octets next f g (inr (inr (inl a))) (inl b) = tag_not_octet laws limits octets next g f b a
-one_by_tests laws limits octets next f g (inr (inr (inl a))) (inr (inl b)) = head_not_octet laws limits octets next g f b a
-one_by_tests laws limits octets next f g (inr (inr (inl a))) (inr (inr (inl b))) = octets_agree laws limits octets next f g a b
-one_by_tests laws limits octets next f g (inr (inr (inl a))) (inr (inr (inr b))) = octet_not_value laws limits octets next f g a b
-one_by_tests laws limits octets next f g (inr (inr (inr a))) (inl b) = tag_not_value laws limits octets next g f b a
-one_by_tests laws limits octets next f g (inr (inr (inr a))) (inr (inl b)) = head_not_value laws limits octets next g f b a
-one_by_tests laws limits octets next f g (inr (inr (inr a))) (inr (inr (inl b))) = octet_not_value laws limits octets next g f b a
-one_by_tests laws limits octets next f g (inr (inr (inr a))) (inr (inr (inr b))) = values_agree laws limits octets next f g a b
+one_step : AnswerLaws → (limits : Limits) (ds : List Dataset) (b : Begun) (next : ℕ) (f g : TokenFault) → IsRefusedAt limits ds b next f
+    → IsRefusedAt limits ds b next g → f ≡ g
+one_step laws limits ds (InTag held) next f g (inl a) (inl b) = a.1 ∙ sym b.1
+one_step laws limits ds (InTag held) next f g (inl a) (inr (h, tag, b)) = not_tag held held next h refl a.0 tag
+one_step laws limits ds (InTag held) next f g (inr (h, tag, a)) (inl b) = not_tag held held next h refl b.0 tag
+one_step laws limits ds (InTag held) next f g (inr (h, tag, a)) (inr (k, spelled, b)) =
+    let same = same_head laws h k held held next refl tag spelled in
+    one_with laws limits ds k f g (subst (λ (x : Head). IsRefusedWith limits ds x f) same a) b
+one_step laws limits ds (InData h taken) next f g (inl a) (inl b) =
+    a.3 ∙ ap (message_on h) (one_cause laws a.1 b.1 (object_of ds ++ taken) next a.2 b.2) ∙ sym b.3
+one_step laws limits ds (InData h taken) next f g (inl a) (inr b) = absurd (b.0 a.0)
+one_step laws limits ds (InData h taken) next f g (inr a) (inl b) = absurd (a.0 b.0)
+one_step laws limits ds (InData h taken) next f g (inr a) (inr b) = same_Some _ _ (sym a.2.first ∙ b.2.first)
 
 pub one_refusal : AnswerLaws → RefusalsTellTheLowestCause → RefusalsAreDetermined
-one_refusal laws tests limits octets next f g a b = one_by_tests laws limits octets next f g ((tests limits octets next f).0 a).1 ((tests limits octets next g).0 b).1
+one_refusal laws tests limits octets next f g a b =
+    let (ds, c, reads, all, open', bad) = refuses_by laws limits octets next f ((tests limits octets next f).0 a).1 in
+    let (es, d, are, goes, more, dead) = refuses_by laws limits octets next g ((tests limits octets next g).0 b).1 in
+    let same = one_reading laws octets ds es c d reads are in
+    let here = subst (λ (x : Begun). IsRefusedAt limits es x next f) same.begun_is
+    (subst (λ (xs : List Dataset). IsRefusedAt limits xs c next f) same.whole_is bad) in
+    one_step laws limits es d next f g here dead
+
+-- ---- with a refused octet nothing lives
+
+none_lives : AnswerLaws → (limits : Limits) (octets more : List ℕ) (next : ℕ) (fault : TokenFault) (ds : List Dataset) (b : Begun)
+    → Reads count_octets octets ds b → IsRefusedAt limits ds b next fault → fault.cause ≢ causes.Sink → Lives limits (octets ++ next ∷ more) → ⊥
+none_lives laws limits octets more next fault ds (InTag held) reads (inl (dead, is)) other lives =
+    laws.stuck octets more next ds held lives.whole lives.begun reads dead lives.reads
+none_lives laws limits octets more next fault ds (InTag held) reads (inr (h, tag, inl bad)) other lives =
+    let f = tag_follows laws octets more next lives.whole lives.begun lives.reads ds held h reads tag in
+    head_dead laws limits lives.whole lives.begun lives.leads_on ds h more fault f bad
+none_lives laws limits octets more next fault ds (InTag held) reads (inr (h, tag, inr (value, none, all, bad))) other lives =
+    let f = tag_follows laws octets more next lives.whole lives.begun lives.reads ds held h reads tag in
+    no_value laws limits lives.whole lives.begun lives.leads_on ds h more [] more fault f refl (sym none) bad
+none_lives laws limits octets more next fault ds (InData h taken) reads (inl (eight, cause, has, is)) other lives =
+    let f = data_follows laws octets more next lives.whole lives.begun lives.reads ds h taken reads in
+    let (tail, object_is) = object_on lives.whole lives.begun ds h taken more next eight reads.is_rest.2 f in
+    let o : List ℕ = object_of ds ++ taken in
+    octet_dead cause o next (λ sink. other (ap (λ (x : TokenFault). x.cause) is ∙ ap (λ (x : MessageCause). (message_on h x).cause) sink)) has
+    (message_of limits lives.whole lives.begun lives.leads_on (o ++ next ∷ []) tail object_is)
+    (story_of limits lives.whole lives.begun lives.leads_on (o ++ next ∷ []) tail object_is)
+none_lives laws limits octets more next fault ds (InData h taken) reads (inr (value, many, bad)) other lives =
+    let f = data_follows laws octets more next lives.whole lives.begun lives.reads ds h taken reads in
+    no_value laws limits lives.whole lives.begun lives.leads_on ds h (taken ++ next ∷ more) (taken ++ next ∷ []) more fault f
+    (sym (append_assoc taken (next ∷ []) more)) many bad
+
+pub nothing_continues : AnswerLaws → RefusalsTellTheLowestCause → NothingContinuesFromRefusedOctets
+nothing_continues laws tests limits octets more next fault kills = (
+  λ is. none_lives laws limits octets more next fault found.0 found.1 found.2 found.5 kills.by_octets (lives_open limits (octets ++ next ∷ more) is),
+  λ v is. none_lives laws limits octets more next fault found.0 found.1 found.2 found.5 kills.by_octets
+      (lives_envelope laws limits (octets ++ next ∷ more) v is),
+)
+  where
+    found : Refuses limits octets next fault
+    found = refuses_by laws limits octets next fault ((tests limits octets next fault).0 kills.refuses).1
 
 -- ---- one answer
 

@@ -1,32 +1,15 @@
 -- Readers at a place: the message that a ticket tells, and what the record layer can continue with.
 use Rattle.std.proofs.Common.{◌≡◌, ℕ, ◌<◌, ◌≤◌, ◌↔◌, Bool, true, false, cond, IsTrue, IsSome, IfSome, IfNone, OnOk, Option, Some, None, Result, Ok, Err, is_ok, List, [], ◌∷◌, zero, suc, length, map, get_or, refl, ap, sym, subst, ◌∙◌, arith, Bor}
-use Rattle.std.proofs.lemmas.Option.{same_Some}
-use Rattle.std.specs.List.{AllByRecursion}
-use Rattle.iim_dataset.specs.Format.Datasets.{Dataset, count_octets}
-use Rattle.iim_dataset.specs.States.Events.{DatasetEvent}
+use Rattle.iim_places.proofs.Words.{same_Some, AllByRecursion, Dataset, count_octets, DatasetEvent, Head, DatasetPlace, nothing_fits, SectionsLive}
+use Rattle.iim_places.proofs.Words.{SectionsLiveAt, HasChecked, HasTaken, kept, kept_octets, IsWithin, RecordPlace, FieldFault, head_alive, taken_alive}
+use Rattle.iim_places.proofs.Words.{LeadsToSaved, MessagePlace, AreNumbers, IsSize, RecordsLive, head_of_numbers, number_list, widest, AreKept}
+use Rattle.iim_places.proofs.Words.{CanContinueWithin, IsMessageOf, numbers_told, told_datasets, texts_of, Phase, TagBegun, DataBegun, AllEnded}
 use Rattle.iim_dataset.specs.States.Places.{IsPlace, LeadsTo}
-use Rattle.iim_dataset.specs.declared.head.Head.{Head}
-use Rattle.iim_dataset.specs.declared.place.DatasetPlace.{DatasetPlace}
-use Rattle.iim_dataset.proofs.Lists.{nothing_fits}
-use Rattle.iim_fields.specs.Format.Alive.{SectionsLive, SectionsLiveAt}
-use Rattle.iim_fields.specs.States.Checks.{HasChecked, HasTaken}
-use Rattle.iim_fields.specs.Format.Faults.{joined, kept, kept_octets}
-use Rattle.iim_fields.specs.Format.Bounds.{IsWithin}
-use Rattle.iim_fields.specs.declared.check.RecordPlace.{RecordPlace}
-use Rattle.iim_fields.specs.declared.fault.FieldFault.{FieldFault}
-use Rattle.iim_fields.proofs.Sections.{head_alive, taken_alive}
+use Rattle.iim_fields.specs.Format.Faults.{joined}
 use Rattle.wire_message.specs.States.Reading.{StandsAt}
 use Rattle.wire_message.specs.States.SoFar.{LeadsTo as LeadTo}
-use Rattle.wire_message.specs.States.Saved.{IsAt, LeadsToSaved}
+use Rattle.wire_message.specs.States.Saved.{IsAt}
 use Rattle.wire_message.specs.declared.place.Place.{Place as Message}
-use Rattle.wire_message.specs.declared.saved.MessagePlace.{MessagePlace}
-use Rattle.iim_places.specs.TicketParts.{AreNumbers, IsSize}
-use Rattle.iim_places.specs.States.ByLayers.{RecordsLive, head_of_numbers}
-use Rattle.iim_places.specs.States.PlainDatasets.{number_list}
-use Rattle.iim_places.specs.States.Possible.{widest}
-use Rattle.iim_places.specs.Taking.{AreKept, CanContinueWithin, IsMessageOf, numbers_told, told_datasets}
-use Rattle.iim_places.specs.Laws.Tickets.{texts_of}
-use Rattle.iim_places.specs.Format.Tickets.{Phase, TagBegun, DataBegun, AllEnded}
 use Rattle.iim_places.proofs.Fitting.{message_told}
 use Rattle.iim_places.proofs.Plain.{kept_fields, plain_told}
 use Rattle.iim_places.proofs.TicketLengths.{texts_led}
@@ -63,11 +46,17 @@ four_back numbers is = absurd (omega (arith, is))
 pub fits_told : (numbers : List (Option ℕ)) → AreNumbers numbers → AllByRecursion IsSize (number_list (numbers_told numbers))
 fits_told numbers fit = subst (AllByRecursion IsSize) (four_back numbers fit.four) fit.each
 
+-- the told datasets keep the fields
+pub kept_told : (fields : List Dataset) (numbers : List (Option ℕ)) (some ended : Bool) → AreNumbers numbers → AreKept fields
+    → kept (told_datasets fields numbers some ended) ≡ fields
+kept_told fields numbers some ended fit each =
+    (plain_told fields (numbers_told numbers) (cond some 1 0) [] ended (record { kept = each; fit = fits_told numbers fit; room = nothing_fits _ })).kept_are
+
 pub leads_on_told : (section : ℕ) (phase : Phase) (fields : List Dataset) (numbers : List (Option ℕ)) (some ended : Bool) → AreNumbers numbers → AreKept fields → IsWithin widest (kept_octets fields) (length fields)
     → RecordsLive section phase (told_datasets fields numbers some ended) → CanContinueWithin widest (told_datasets fields numbers some ended)
 leads_on_told section phase fields numbers some ended fit each within lives =
     let told = told_datasets fields numbers some ended in
-    let are : kept told ≡ fields = (plain_told fields (numbers_told numbers) (cond some 1 0) [] ended each (fits_told numbers fit) (nothing_fits _)).kept_are in
+    let are : kept told ≡ fields = kept_told fields numbers some ended fit each in
     let octets : kept_octets told ≡ kept_octets fields = ap (λ (ds : List Dataset). length (joined ds)) (are ∙ sym (kept_fields fields each)) in
     let many : length (kept told) ≡ length fields = ap length are in
     record { alive = live_alive section phase told lives; within = record { octets_in = omega (arith, octets, within.octets_in); fields_in = omega (arith, many, within.fields_in) } }

@@ -1,35 +1,22 @@
 -- How many octets are open at most.
-use Rattle.std.proofs.Common.{◌≡◌, ℕ, ◌+◌, ◌*◌, ◌<◌, ◌≤◌, ◌⊎◌, ◌||◌, ◌^◌, ◌-◌, nat_eq, cond, if◌then◌else◌, Bool, true, false, List, [], ◌∷◌, ◌++◌, length, map, sum, Option, Some, None, refl, ap, sym, subst, ◌∙◌, inl, inr, arith, append-nil, append_assoc, length-append}
+use Rattle.std.proofs.Common.{◌≡◌, ℕ, ◌+◌, ◌*◌, ◌<◌, ◌≤◌, ◌⊎◌, ◌||◌, ◌^◌, ◌-◌, nat_eq, cond, if◌then◌else◌, Bool, true, false, List, [], ◌∷◌, ◌++◌, length, map}
+use Rattle.std.proofs.Common.{sum, Option, Some, None, refl, ap, sym, subst, ◌∙◌, inl, inr, arith, append_assoc, length-append}
 use Rattle.std.proofs.Math.Nat.{pow-le-pow_right}
-use Rattle.std.specs.List.{AllByRecursion}
-use Rattle.std.proofs.lemmas.Bool.{eqb-true, eq-eqb}
+use Rattle.iim_places.proofs.Words.{AllByRecursion, eqb-true, eq-eqb, Octets, number, greatest_size, within, all_append, all_front, all_back, all_map, Meets}
+use Rattle.iim_places.proofs.Words.{Dataset, SpellsStream, count_octets, of_record, tag_octets, Begun, InTag, InData, IsBegun, Head, within_most_and, sum_cons}
+use Rattle.iim_places.proofs.Words.{number-lt, AreRecords, AreSections, records, IsGoodDataset, SectionsLive, SectionsLiveAt, kept, is_kept}
+use Rattle.iim_places.proofs.Words.{NoSectionsBeginOthers, EnvelopesEndWithTheLastRecord, Limits, ObjectToken, NumberRead, SubfileBegun, ObjectEnded, Confirmed}
+use Rattle.iim_places.proofs.Words.{number_tokens, ending_tokens, tokens_of, place_after, place_after_datasets, place_ended, lengths_of, numbers_of, Stated}
+use Rattle.iim_places.proofs.Words.{AreStated, AreOnce, InRow, number_at, MayContinue, CanContinueAt, ObjectLives, OpenOctetsAreBounded, AreWithin, eqb_tells}
 use Rattle.std.proofs.lemmas.List.Sums.{sum_by-append}
-use Rattle.iim_dataset.specs.Format.Octets.{Octets, number, greatest_size, within}
-use Rattle.iim_dataset.proofs.Each.{all_append, all_front, all_back, all_map}
 use Rattle.iim_tables.specs.Format.Numbers.{size_octets}
-use Rattle.iim_tables.specs.Format.Rows.{table, row_of, Meets}
-use Rattle.iim_dataset.specs.Format.Datasets.{Dataset, SpellsStream, count_octets, of_record, tag_octets}
-use Rattle.iim_dataset.specs.Format.Splits.{Begun, InTag, InData, IsBegun}
-use Rattle.iim_dataset.specs.declared.head.Head.{Head}
+use Rattle.iim_tables.specs.Format.Rows.{table, row_of}
 use Rattle.iim_dataset.proofs.Spelled.{tag_length}
-use Rattle.iim_dataset.proofs.Lists.{within_most_and, sum_cons}
-use Rattle.iim_dataset.proofs.OctetLists.{number-lt}
-use Rattle.iim_fields.specs.Format.Records.{AreRecords, AreSections, records}
-use Rattle.iim_tables.specs.Format.Records.{IsGoodDataset}
-use Rattle.iim_fields.specs.Format.Alive.{SectionsLive, SectionsLiveAt}
-use Rattle.iim_fields.specs.Format.Faults.{kept, joined, is_kept}
-use Rattle.iim_fields.specs.Laws.Records.{NoSectionsBeginOthers, EnvelopesEndWithTheLastRecord}
-use Rattle.iim_fields.specs.declared.limits.Limits.{Limits}
-use Rattle.iim_object.specs.Format.Objects.{ObjectToken, NumberRead, SubfileBegun, ObjectEnded, Confirmed, number_tokens}
-use Rattle.iim_object.specs.Format.Places.{Place, ending_tokens, tokens_of, place_after}
-use Rattle.iim_object.specs.Format.Numbers.{place_after_datasets, place_ended}
-use Rattle.iim_object.specs.Format.Records.{lengths_of, numbers_of}
+use Rattle.iim_fields.specs.Format.Faults.{joined}
+use Rattle.iim_object.specs.Format.Places.{Place}
 use Rattle.iim_places.proofs.Fronts.{empty_front}
 use Rattle.iim_places.proofs.SizeRows.{by_seven, by_ten, nine_has}
-use Rattle.iim_object.specs.Format.Sizes.{Stated, AreStated, AreOnce, InRow, number_at}
-use Rattle.iim_places.specs.Format.Tokens.{MayContinue, CanContinueAt, ObjectLives}
-use Rattle.iim_places.specs.Laws.Streams.{OpenOctetsAreBounded}
-use Rattle.iim_places.specs.Format.Framed.{AreWithin}
+use Rattle.iim_fields.proofs.Sections.{front_alive}
 
 -- how many octets datasets take at most: thirteen for each tag, and the data
 abbrev pub weight : List Dataset → ℕ
@@ -132,25 +119,23 @@ object_fits p (rest, is) = let all = object_total p (rest, is) in let fits = is.
 
 -- ---- no dataset of record 9
 
-pub no_nine : NoSectionsBeginOthers → EnvelopesEndWithTheLastRecord → (whole xs ys : List Dataset) → SectionsLive whole → (AreSections whole → ⊥) → whole ≡ xs ++ ys → weight (of_record 9 ys) ≡ 0
-no_nine law ends whole xs [] alive unfinished is = refl
-no_nine law ends whole xs (d ∷ ys) alive unfinished is = by (no_nine law ends whole (xs ++ d ∷ []) ys alive unfinished whole_is) (nat_eq d.rec 9) refl
+pub none_nine : NoSectionsBeginOthers → EnvelopesEndWithTheLastRecord → (xs ys : List Dataset) → SectionsLive (xs ++ ys) → (AreSections (xs ++ ys) → ⊥)
+    → of_record 9 ys ≡ []
+none_nine law ends xs [] alive open' = refl
+none_nine law ends xs (d ∷ ys) alive open' = elim (eqb_tells d.rec 9) [
+  | inl nine ↦
+      (let front : SectionsLive (xs ++ d ∷ []) = front_alive (xs ++ d ∷ []) ys (subst SectionsLive (sym parts) alive) in
+      let sections : AreSections (xs ++ d ∷ []) = (ends xs d front).0 nine.1 in
+      let later : ys ++ alive.0 ≡ [] = law (xs ++ d ∷ []) (ys ++ alive.0) sections
+      (subst AreSections (append_assoc xs (d ∷ ys) alive.0 ∙ sym (append_assoc xs (d ∷ []) (ys ++ alive.0))) alive.1) in
+      absurd (open' (subst (λ (zs : List Dataset). AreSections (xs ++ d ∷ zs)) (sym (empty_front ys alive.0 later)) sections)))
+  | inr apart ↦
+      ap (λ (b : Bool). cond b (d ∷ of_record 9 ys) (of_record 9 ys)) apart.0
+      ∙ none_nine law ends (xs ++ d ∷ []) ys (subst SectionsLive (sym parts) alive) (λ s. open' (subst AreSections parts s))
+]
   where
-    whole_is : whole ≡ (xs ++ d ∷ []) ++ ys
-    whole_is = is ∙ sym (append_assoc xs (d ∷ []) ys)
-
-    there : SectionsLive (xs ++ d ∷ [])
-    there = (ys ++ alive.0, subst AreSections (ap (λ (t : List Dataset). t ++ alive.0) whole_is ∙ append_assoc (xs ++ d ∷ []) ys alive.0) alive.1)
-
-    bad : d.rec ≡ 9 → ⊥
-    bad nine =
-        let sections : AreSections (xs ++ d ∷ []) = (ends xs d there).0 nine in
-        let none : ys ≡ [] = empty_front ys alive.0 (law (xs ++ d ∷ []) (ys ++ alive.0) sections there.1) in
-        unfinished (subst AreSections (sym (whole_is ∙ ap (λ (t : List Dataset). (xs ++ d ∷ []) ++ t) none ∙ append-nil (xs ++ d ∷ []))) sections)
-
-    by : weight (of_record 9 ys) ≡ 0 → (b : Bool) → nat_eq d.rec 9 ≡ b → weight (cond b (d ∷ of_record 9 ys) (of_record 9 ys)) ≡ 0
-    by more true same = absurd (bad (eqb-true d.rec 9 same))
-    by more false same = more
+    parts : (xs ++ d ∷ []) ++ ys ≡ xs ++ (d ∷ ys)
+    parts = append_assoc xs (d ∷ []) ys
 
 -- ---- record 7
 
@@ -276,7 +261,7 @@ whole_fits law ends limits octets fields ds xs spelled alive within few more siz
       weight_lengths (of_record 8 ds),
       within.subfiles,
       size,
-      no_nine law ends ds [] ds alive unfinished refl,
+      ap weight (none_nine law ends [] ds alive unfinished),
     )
 
 -- what the place at a head says of the datasets before it

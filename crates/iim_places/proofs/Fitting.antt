@@ -1,36 +1,17 @@
 -- The ticket of a possible place has the form of a ticket: each number fits its octets.
 use Rattle.std.proofs.Common.{◌≡◌, ℕ, ◌+◌, ◌-◌, ◌<◌, ◌≤◌, ◌^◌, nat_eq, cond, if◌then◌else◌, Bool, true, false, List, [], ◌∷◌, ◌++◌, length, sum, get_or, Option, Some, None, ◌⊎◌, refl, ap, sym, subst, ◌∙◌, inl, inr, arith, append_assoc, append-nil, length-append}
-use Rattle.std.specs.List.{AllByRecursion, flat_map}
-use Rattle.std.proofs.lemmas.Bool.{eqb-true}
-use Rattle.iim_dataset.specs.Format.Octets.{Octets, greatest_size}
-use Rattle.iim_dataset.specs.Format.Datasets.{Dataset, SpellsStream, SpellsTag, count_octets, of_record}
-use Rattle.iim_dataset.specs.Format.Splits.{Begun, InTag, InData, Reads}
-use Rattle.iim_dataset.proofs.Each.{all_back}
-use Rattle.iim_fields.specs.Format.Faults.{kept, kept_octets, joined, is_kept, section_after}
-use Rattle.iim_fields.specs.Format.Values.{tells_number}
-use Rattle.iim_fields.specs.Format.Alive.{SectionsLiveAt}
-use Rattle.iim_dataset.specs.declared.head.Head.{Head}
-use Rattle.iim_dataset.specs.Format.Tags.{BeginsTag}
-use Rattle.iim_object.specs.Format.Numbers.{place_after_datasets}
-use Rattle.iim_object.specs.Format.Records.{numbers_of}
-use Rattle.iim_object.specs.States.Saved.{stated_numbers}
-use Rattle.iim_object.specs.Format.Sizes.{Stated, number_at}
-use Rattle.wire_message.specs.States.Saved.{LeadsToSaved}
+use Rattle.iim_places.proofs.Words.{AllByRecursion, flat_map, eqb-true, Octets, greatest_size, Dataset, SpellsStream, SpellsTag, count_octets, of_record, Begun}
+use Rattle.iim_places.proofs.Words.{InTag, InData, Reads, all_back, kept, kept_octets, is_kept, section_after, tells_number, SectionsLiveAt, Head, BeginsTag}
+use Rattle.iim_places.proofs.Words.{place_after_datasets, numbers_of, stated_numbers, Stated, number_at, LeadsToSaved, MessagePlace, object_of, AnswerLaws}
+use Rattle.iim_places.proofs.Words.{object_so_far, section, AllCanContinue, ObjectLives, MayContinue, Phase, TagBegun, DataBegun, AllEnded, present_version}
+use Rattle.iim_places.proofs.Words.{phase_of, heads_of, place_of, ticket_in, layout, text_octets, texts_octets, part_number, IsLongField, IsSizeIn, AreTexts}
+use Rattle.iim_places.proofs.Words.{IsSize, AreNumbers, IsVersion, IsPhase, HasForm, Split, SplitsTicket, split_octets, place_in, Possible, IsSmall}
+use Rattle.iim_places.proofs.Words.{IsSmallPhase, IsSmallPlace, widest, SmallPlacesWerePossible, TicketsTellOnePlace, TicketsOfPlacesAreSplit, texts_of}
+use Rattle.iim_places.proofs.Words.{split_of}
+use Rattle.iim_fields.specs.Format.Faults.{joined}
 use Rattle.wire_message.specs.declared.saved.MessagePart.{MessagePart}
 use Rattle.wire_message.specs.declared.saved.MessagePart.TheVariants as part
-use Rattle.wire_message.specs.declared.saved.MessagePlace.{MessagePlace}
-use Rattle.iim_places.specs.Format.Admitted.{object_of}
-use Rattle.iim_places.specs.Laws.Lower.{AnswerLaws}
-use Rattle.iim_places.specs.Format.Open.{object_so_far, section, AllCanContinue}
-use Rattle.iim_places.specs.Format.Tokens.{ObjectLives, MayContinue}
-use Rattle.iim_places.specs.Format.Tickets.{Place, Phase, TagBegun, DataBegun, AllEnded, present_version, phase_of, heads_of, place_of, ticket_in, layout, text_octets, texts_octets, part_number}
-use Rattle.iim_places.specs.States.Begins.{IsLongField, IsSizeIn, AreTexts}
-use Rattle.iim_places.specs.TicketParts.{IsSize, AreNumbers}
-use Rattle.iim_places.specs.Format.TicketForm.{IsVersion, IsPhase, HasForm, Split, SplitsTicket, split_octets}
-use Rattle.iim_places.specs.States.Scales.{place_in}
-use Rattle.iim_places.specs.States.Possible.{Possible, IsSmall, IsSmallPhase, IsSmallPlace, widest}
-use Rattle.iim_places.specs.Laws.Places.{SmallPlacesWerePossible, TicketsTellOnePlace}
-use Rattle.iim_places.specs.Laws.Tickets.{TicketsOfPlacesAreSplit, texts_of, split_of}
+use Rattle.iim_places.specs.Format.Tickets.{Place}
 use Rattle.iim_dataset.proofs.Counts.{tag-lt}
 use Rattle.iim_places.proofs.Answering.{Lives, lives_open, lives_envelope, one_reading}
 use Rattle.iim_places.proofs.Bounds.{low, object_fits, IsOne, alive_ones, is_one, few_in_seven, IsFive, alive_five}
@@ -53,7 +34,7 @@ pub record Lived (place : Place) : Type 0 where
   pub leads : LeadsToSaved (object_so_far whole begun) text message
   pub is_place : place ≡ place_of whole begun message
 
-pub lived : AnswerLaws → (place : Place) → Possible place → Lived place
+unfoldable pub lived : AnswerLaws → (place : Place) → Possible place → Lived place
 lived laws place p =
     let is = p.leads in
     let lives : Lives widest p.octets = elim p.comes [ inl o ↦ lives_open widest p.octets o | inr e ↦ lives_envelope laws widest p.octets e.0 e.1 ] in

@@ -1,36 +1,18 @@
 -- What octets that every layer can continue from say of each token among them.
 use Rattle.std.proofs.Common.{◌≡◌, ℕ, ◌<◌, ◌≤◌, ◌⊎◌, cond, nat_eq, if◌then◌else◌, List, [], ◌∷◌, ◌++◌, length, map, refl, ap, sym, subst, ◌∙◌, inl, inr, arith, append-nil, append_assoc, length-append}
-use Rattle.std.proofs.lemmas.List.Concat.{flat_map-append}
-use Rattle.std.proofs.lemmas.List.Elements.{filter-append}
-use Rattle.iim_dataset.specs.Format.Datasets.{Dataset, SpellsTag, SpellsStream, head_of, count_octets, of_record}
-use Rattle.iim_dataset.specs.Format.Splits.{Begun, InTag, InData, IsBegun, Reads}
-use Rattle.iim_dataset.specs.Laws.Datasets.{NoTagBeginsAnother}
+use Rattle.iim_places.proofs.Words.{flat_map-append, filter-append, Dataset, SpellsTag, SpellsStream, head_of, count_octets, of_record, Begun, InTag, InData}
+use Rattle.iim_places.proofs.Words.{IsBegun, Reads, NoTagBeginsAnother, Head, AreSections, SectionsLive, section_after, data_of, Limits, last_more}
+use Rattle.iim_places.proofs.Words.{ObjectLanguage, place_after, head_token, tokens_of, AreSized, place_after_datasets, Octet, End, MessageLanguage}
+use Rattle.iim_places.proofs.Words.{MessageLivesWith, StoryLivesIn, object_of, MayContinue, CanContinueAt, ObjectLives, place_at, AreWithin, object_so_far}
+use Rattle.iim_places.proofs.Words.{section, message_tokens, AllCanContinue, compare, FollowLaws, ObjectLaws}
 use Rattle.iim_dataset.specs.Format.Languages as languages
-use Rattle.iim_dataset.specs.declared.head.Head.{Head}
-use Rattle.iim_fields.specs.Format.Records.{AreSections}
-use Rattle.iim_fields.specs.Format.Alive.{SectionsLive}
-use Rattle.iim_fields.specs.Format.Faults.{section_after, joined}
-use Rattle.iim_fields.specs.Format.Values.{data_of}
-use Rattle.iim_fields.specs.declared.limits.Limits.{Limits}
-use Rattle.iim_fields.proofs.Sections.{last_more}
-use Rattle.iim_object.specs.Format.Objects.{ObjectLanguage}
-use Rattle.iim_object.specs.Format.Places.{place_after, head_token, tokens_of}
-use Rattle.iim_object.specs.Laws.Records.{AreSized}
-use Rattle.iim_object.specs.Format.Numbers.{place_after_datasets}
-use Rattle.wire_story.specs.Format.Tokens.{Octet, End}
-use Rattle.wire_message.specs.Format.Layers.{MessageLanguage, MessageLivesWith, StoryLivesIn}
-use Rattle.iim_places.specs.Format.Admitted.{object_of}
-use Rattle.iim_places.specs.Format.Tokens.{MayContinue, CanContinueAt, ObjectLives, place_at}
-use Rattle.iim_places.specs.Format.Framed.{AreWithin}
-use Rattle.iim_places.specs.Format.Open.{object_so_far, section, message_tokens, AllCanContinue}
-use Rattle.iim_dataset.proofs.Agreeing.{compare}
+use Rattle.iim_fields.specs.Format.Faults.{joined}
 use Rattle.iim_places.proofs.Fronts.{begun_none, empty_front, no_longer}
 use Rattle.iim_places.proofs.Lasts.{not_all}
 use Rattle.iim_places.proofs.Limits.{leaves_room, within_front}
 use Rattle.iim_places.proofs.Living.{alive_front, message_front, story_front}
 use Rattle.iim_places.proofs.Objects.{records_alive}
 use Rattle.iim_places.proofs.Places.{HeadLeads, subfile_leads, end_leads, lives_at, is_one, at_number, at_other}
-use Rattle.iim_places.specs.Laws.Lower.{FollowLaws, ObjectLaws}
 
 -- ---- lists
 

@@ -1,13 +1,8 @@
 -- Framed octets.
 use Rattle.std.proofs.Common.{◌≡◌, ℕ, true, false, List, [], ◌∷◌, ◌++◌, ap, sym, subst, ◌∙◌, inl, inr}
-use Rattle.std.proofs.lemmas.List.{append-nil}
-use Rattle.iim_dataset.specs.Format.Datasets.{Dataset, SpellsStream, count_octets}
-use Rattle.iim_dataset.specs.Laws.Datasets.{NoDatasetBeginsAnother}
-use Rattle.iim_dataset.proofs.Agreeing.{compare}
+use Rattle.iim_places.proofs.Words.{append-nil, Dataset, SpellsStream, count_octets, NoDatasetBeginsAnother, compare, AreSections, NoSectionsBeginOthers}
+use Rattle.iim_places.proofs.Words.{NoEnvelopeIsEmpty}
 use Rattle.iim_tables.specs.Format.Rows.{table}
-use Rattle.iim_fields.specs.Format.Records.{AreSections}
-use Rattle.iim_fields.specs.Laws.Records.{NoSectionsBeginOthers}
-use Rattle.iim_places.specs.Laws.Admitted.{NoEnvelopeIsEmpty}
 
 -- ---- no envelope is empty
 

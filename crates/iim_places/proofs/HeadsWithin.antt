@@ -1,17 +1,9 @@
 -- Whether octets keep to limits is told by their place.
 use Rattle.std.proofs.Common.{◌≡◌, ℕ, ◌+◌, nat_eq, if◌then◌else◌, Bool, true, false, List, [], length, refl, sym, subst, inl, inr, arith}
-use Rattle.iim_dataset.specs.Format.Datasets.{Dataset, count_octets}
-use Rattle.iim_dataset.specs.Format.Splits.{Begun, InTag, InData, Reads}
-use Rattle.iim_fields.specs.Format.Faults.{kept, kept_octets, is_kept, section_after}
-use Rattle.iim_fields.specs.Format.Bounds.{IsWithin}
-use Rattle.iim_fields.specs.declared.limits.Limits.{Limits}
-use Rattle.wire_message.specs.declared.saved.MessagePlace.{MessagePlace}
-use Rattle.iim_places.specs.Laws.Lower.{AnswerLaws}
-use Rattle.iim_places.specs.Format.Open.{AllCanContinue}
-use Rattle.iim_places.specs.Format.Tokens.{MayContinue}
-use Rattle.iim_places.specs.Format.Tickets.{Place, AllEnded, TagBegun, IsPlaceOf, place_of}
-use Rattle.iim_places.specs.States.Possible.{widest, AreOpenOrWhole, AreHeadsWithin, begun_count, begun_fields}
-use Rattle.iim_places.specs.Laws.Places.{LimitsAreToldByPlace}
+use Rattle.iim_places.proofs.Words.{Dataset, count_octets, Begun, InTag, InData, Reads, kept, kept_octets, is_kept, section_after, IsWithin, Limits}
+use Rattle.iim_places.proofs.Words.{MessagePlace, AnswerLaws, AllCanContinue, MayContinue, AllEnded, TagBegun, IsPlaceOf, place_of, widest, AreOpenOrWhole}
+use Rattle.iim_places.proofs.Words.{AreHeadsWithin, begun_count, begun_fields, LimitsAreToldByPlace}
+use Rattle.iim_places.specs.Format.Tickets.{Place}
 use Rattle.iim_places.proofs.Answering.{Lives, lives_open, lives_envelope, one_reading, reads_envelope}
 
 -- ---- a begun dataset

@@ -1,12 +1,7 @@
 -- The last record of whole datasets.
 use Rattle.std.proofs.Common.{◌≡◌, ◌⊎◌, List, [], ◌∷◌, ◌++◌, refl, ap, sym, subst, ◌∙◌, inl, inr, arith, append_assoc}
-use Rattle.iim_dataset.specs.Format.Datasets.{Dataset}
-use Rattle.iim_dataset.specs.declared.head.Head.{Head}
-use Rattle.iim_fields.specs.Format.Records.{AreSections}
-use Rattle.iim_fields.specs.Format.Alive.{SectionsLive, SectionsLiveAt}
-use Rattle.iim_fields.specs.Format.Faults.{section_after}
-use Rattle.iim_fields.specs.Laws.Records.{EnvelopesEndWithTheLastRecord, NoSectionsBeginOthers}
-use Rattle.iim_fields.proofs.Sections.{last_more}
+use Rattle.iim_places.proofs.Words.{Dataset, Head, AreSections, SectionsLive, SectionsLiveAt, section_after, EnvelopesEndWithTheLastRecord}
+use Rattle.iim_places.proofs.Words.{NoSectionsBeginOthers, last_more}
 use Rattle.iim_places.proofs.Frames.{no_sections}
 
 abbrev pub SplitLast : List Dataset → Type 0

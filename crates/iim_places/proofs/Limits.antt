@@ -1,11 +1,7 @@
 -- What datasets after others add to the limits.
 use Rattle.std.proofs.Common.{◌≡◌, ◌+◌, ◌≤◌, Bool, true, false, cond, nat_eq, List, [], ◌∷◌, ◌++◌, length, ap, ◌∙◌, arith, length-append}
-use Rattle.std.proofs.lemmas.List.Elements.{filter-append}
-use Rattle.iim_dataset.specs.Format.Datasets.{Dataset, head_of, of_record}
-use Rattle.iim_fields.specs.Format.Faults.{kept, kept_octets, is_kept, joined}
-use Rattle.iim_fields.specs.declared.limits.Limits.{Limits}
-use Rattle.iim_places.specs.Format.Framed.{AreWithin}
-use Rattle.iim_places.specs.Format.Tokens.{HaveRoom}
+use Rattle.iim_places.proofs.Words.{filter-append, Dataset, head_of, of_record, kept, kept_octets, is_kept, Limits, AreWithin, HaveRoom}
+use Rattle.iim_fields.specs.Format.Faults.{joined}
 
 -- ---- datasets after others
 

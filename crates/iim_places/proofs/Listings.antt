@@ -1,19 +1,10 @@
 -- Envelopes one after another.
 use Rattle.std.proofs.Common.{◌≡◌, ◌≤◌, ◌<◌, ◌⊎◌, ◌^◌, ◌-◌, ℕ, List, [], ◌∷◌, ◌++◌, length, take, slice_index, Bool, true, false, refl, ap, sym, subst, ◌∙◌, inl, inr, arith, append_assoc, length-append}
-use Rattle.std.specs.List.{AllByRecursion}
-use Rattle.std.proofs.lemmas.List.{append-nil, length-take-le, append_cancel_left}
-use Rattle.std.proofs.lemmas.Bool.{false≢true}
-use Rattle.std.proofs.Math.Seq.{take-append_seam}
-use Rattle.iim_fields.specs.declared.limits.Limits.{Limits}
-use Rattle.iim_places.specs.Format.Admitted.{Value, Admits}
+use Rattle.iim_places.proofs.Words.{AllByRecursion, append-nil, length-take-le, append_cancel_left, false≢true, take-append_seam, Limits, Value, Admits, Framed}
+use Rattle.iim_places.proofs.Words.{OpenOctetsAreBounded, StreamsHaveOneAnswer, RefusedOctetsWereOpen, AdmittedOctetsAreFramed, AdmittedOctetsHaveOneValue}
+use Rattle.iim_places.proofs.Words.{NoAdmittedOctetsBeginOthers, NoEnvelopeIsEmpty, refusal_at, Answer, Answers, IsEnvelopeWithin, Kills, Finished, Refused}
+use Rattle.iim_places.proofs.Words.{Truncated, IsTruncatedAt, raised}
 use Rattle.iim_places.proofs.Fronts.{empty_front}
-use Rattle.iim_places.specs.Format.Framed.{Framed}
-use Rattle.iim_places.specs.Laws.Streams.{OpenOctetsAreBounded, StreamsHaveOneAnswer, RefusedOctetsWereOpen}
-use Rattle.iim_places.specs.Laws.Admitted.{AdmittedOctetsAreFramed, AdmittedOctetsHaveOneValue, NoAdmittedOctetsBeginOthers, NoEnvelopeIsEmpty}
-use Rattle.iim_places.specs.Format.Refusals.{refusal_at}
-use Rattle.iim_places.specs.Format.Streams.{Answer, Answers, IsEnvelopeWithin, Kills, Finished, Refused, Truncated}
-use Rattle.iim_places.specs.Format.Open.{IsTruncatedAt}
-use Rattle.iim_places.specs.States.Counts.{raised}
 use Rattle.iim_places.specs.declared.refusal.Refusal.{Refusal}
 use Rattle.iim_places.specs.Format.Listing.{max_envelopes, joined, Listed, IsListed, InputEnding, Whole, RefusedBy, TooMany, EndsBy, IsDeadAfter, EndsTruncated, IsRefusedAfter, Divides, IsListing}
 use Rattle.iim_places.specs.Laws.Listing.{InputsHaveOneListing, ListingsAreLongest}
@@ -93,13 +84,12 @@ no_more laws (g ∷ es) (f ∷ fs) x y all_e all_f e =
 same_lists : {limits : Limits} → ListingLaws limits → (es fs : List Listed) (x y : List ℕ) → AllByRecursion (IsListed limits) es → AllByRecursion (IsListed limits) fs
     → length es ≡ length fs → joined es ++ x ≡ joined fs ++ y → (es ≡ fs) × (x ≡ y)
 same_lists laws [] [] x y all_e all_f n e = (refl, e)
-same_lists laws [] (f ∷ fs) x y all_e all_f n e = absurd (omega (arith, n))
-same_lists laws (g ∷ es) [] x y all_e all_f n e = absurd (omega (arith, n))
 same_lists laws (g ∷ es) (f ∷ fs) x y all_e all_f n e =
     let same = same_front laws g f (joined es ++ x) (joined fs ++ y) all_e.0 all_f.0
     (sym (append_assoc g.octets (joined es) x) ∙ e ∙ append_assoc f.octets (joined fs) y) in
     let more = same_lists laws es fs x y all_e.1 all_f.1 (omega (arith, n)) same.1 in
     ((let p = same.0 in let q = more.0 in cc), more.1)
+same_lists laws es fs x y all_e all_f n e = absurd (omega (arith, n))
 
 -- ---- endings
 

@@ -1,12 +1,9 @@
 -- What is alive with octets is alive with fewer of them.
 use Rattle.std.proofs.Common.{◌≡◌, ℕ, ◌+◌, ◌<◌, Bool, true, false, not, ◌||◌, ◌==◌, cond, if◌then◌else◌, List, [], ◌∷◌, ◌++◌, length, take, drop, map, refl, ap, sym, subst, ◌∙◌, arith, append-nil, append_assoc}
-use Rattle.std.specs.List.{list_any, position_or_len, before_first, after_first}
-use Rattle.std.proofs.lemmas.List.{drop-append-le, take-append-le, map-append}
-use Rattle.std.proofs.lemmas.List.Folds.{list_any-append}
-use Rattle.std.proofs.Math.Seq.{drop-append-add, take-append-add, take-length}
+use Rattle.iim_places.proofs.Words.{list_any, position_or_len, before_first, after_first, drop-append-le, take-append-le, map-append, list_any-append}
+use Rattle.iim_places.proofs.Words.{drop-append-add, take-append-add, take-length, OctetOrEnd, Octet, End, StoryLanguage, MessageLanguage, MessageLivesWith}
+use Rattle.iim_places.proofs.Words.{StoryLivesIn, after_stx}
 use Rattle.iim_dataset.specs.Format.Languages as languages
-use Rattle.wire_story.specs.Format.Tokens.{OctetOrEnd, Octet, End, StoryLanguage}
-use Rattle.wire_message.specs.Format.Layers.{MessageLanguage, MessageLivesWith, StoryLivesIn, after_stx}
 
 pub alive_front : {T : Type 0} (L : List T → Type 0) (xs ys : List T) → languages.IsAlive L (xs ++ ys) → languages.IsAlive L xs
 alive_front L xs ys alive = (ys ++ alive.0, subst L (append_assoc xs ys alive.0) alive.1)

@@ -1,9 +1,7 @@
 -- The octets from which a message can be completed are octets.
 use Rattle.std.proofs.Common.{ℕ, List, subst}
-use Rattle.iim_dataset.specs.Format.Octets.{IsOctet, Octets}
-use Rattle.iim_dataset.proofs.Each.{all_front}
+use Rattle.iim_places.proofs.Words.{IsOctet, Octets, all_front, MessageLivesWith}
 use Rattle.wire_story.proofs.SoFar.{front_of}
-use Rattle.wire_message.specs.Format.Layers.{MessageLivesWith}
 use Rattle.wire_message.proofs.MessageOctets.{message_octets}
 
 pub living_octets : (o : List ℕ) → MessageLivesWith o → Octets o

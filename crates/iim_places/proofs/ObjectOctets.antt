@@ -1,19 +1,10 @@
 -- The octets of the object: with one dataset more, and with its end.
 use Rattle.std.proofs.Common.{◌≡◌, ℕ, ◌⊎◌, Bool, true, false, nat_eq, if◌then◌else◌, List, [], ◌++◌, ap, ◌∙◌, inl, inr, append-nil, ◌<◌, ◌≤◌, cond, ◌∷◌, length, refl, arith, map, sym, subst}
-use Rattle.std.proofs.lemmas.Bool.Decides.{eqb_tells}
-use Rattle.iim_dataset.specs.Format.Datasets.{Dataset, of_record}
-use Rattle.iim_dataset.specs.Format.Splits.{InData}
-use Rattle.iim_dataset.specs.declared.head.Head.{Head}
-use Rattle.iim_places.specs.Format.Admitted.{object_of}
-use Rattle.iim_places.specs.Format.Open.{object_so_far}
-use Rattle.std.proofs.lemmas.List.Concat.{flat_map-append}
-use Rattle.std.proofs.lemmas.List.Elements.{filter-append}
+use Rattle.iim_places.proofs.Words.{eqb_tells, Dataset, of_record, InData, Head, object_of, object_so_far, flat_map-append, filter-append, max_subfiles, End}
+use Rattle.iim_places.proofs.Words.{Octet, with_end, MessageLanguage, MessageLivesWith}
 use Rattle.iim_fields.specs.Format.Faults.{joined}
-use Rattle.iim_object.specs.Format.Plans.{max_subfiles}
 use Rattle.iim_places.proofs.Places.{one_more}
 use Rattle.iim_dataset.specs.Format.Languages as languages
-use Rattle.wire_story.specs.Format.Tokens.{End, Octet, with_end}
-use Rattle.wire_message.specs.Format.Layers.{MessageLanguage, MessageLivesWith}
 
 -- data of another record than 8 are no part of the object
 pub no_object : (ds : List Dataset) (h : Head) (taken : List ℕ) → (h.rec ≡ 8 → ⊥) → object_so_far ds (InData h taken) ≡ object_of ds

@@ -1,17 +1,14 @@
 -- Places of the object at its end, and before it.
 use Rattle.std.proofs.Common.{◌≡◌, ℕ, ◌<◌, List, [], ◌∷◌, ◌++◌, length, Option, refl, subst, arith}
-use Rattle.iim_dataset.specs.Format.Languages.{IsAlive}
-use Rattle.iim_object.specs.Laws.Numbers.{TokensFollow}
-use Rattle.iim_object.specs.Format.Objects.{ObjectToken, ObjectEnded, Confirmed, ObjectLanguage}
-use Rattle.iim_object.specs.Format.Places.{Place, NotEnded, Ended, ConfirmedAs, MayFollow, place_after, tokens_of}
-use Rattle.iim_object.specs.States.Saved.{IsPossible}
+use Rattle.iim_places.proofs.Words.{IsAlive, TokensFollow, ObjectToken, ObjectEnded, Confirmed, ObjectLanguage, NotEnded, Ended, ConfirmedAs, MayFollow}
+use Rattle.iim_places.proofs.Words.{place_after, tokens_of, IsPossible, State}
+use Rattle.iim_object.specs.Format.Places.{Place}
 use Rattle.iim_object.specs.States.Reading.{RefusesHead, RefusesValue, StandsAt}
-use Rattle.iim_object.specs.declared.reading.state.State.{State}
 use Rattle.iim_object.specs.declared.reading.fault.ObjectFault.{ObjectFault}
 use Rattle.iim_object.specs.declared.reading.fault.ObjectFault.TheVariants.{Size, Stopped}
 use Rattle.iim_places.specs.Nowhere.{goes_nowhere, stops_nowhere}
 use Rattle.iim_places.specs.declared.ticket.object.Nowhere.{Nowhere}
-use Rattle.iim_places.proofs.PlainPlaces.{alive_front}
+use Rattle.iim_places.proofs.PlainSizes.{alive_front}
 
 some_lengths : (p : Place) → (p.lengths ≡ [] → Ended ≡ NotEnded) → 0 < length p.lengths
 some_lengths p none = by p.lengths none

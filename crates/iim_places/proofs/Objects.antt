@@ -1,13 +1,7 @@
 -- The records of an envelope are those that state the sizes of its object.
 use Rattle.std.proofs.Common.{◌≡◌, ℕ, ◌<◌, List, [], ◌∷◌, ◌++◌, ap, sym, ◌∙◌, arith, append-nil, append_assoc}
-use Rattle.std.specs.List.{AllByRecursion}
-use Rattle.iim_dataset.specs.Format.Datasets.{Dataset}
-use Rattle.iim_dataset.specs.Format.Languages.{IsAlive}
-use Rattle.iim_dataset.proofs.Each.{all_append}
-use Rattle.iim_fields.specs.Format.Records.{AreSections}
-use Rattle.iim_tables.specs.Format.Records.{IsGoodDataset}
+use Rattle.iim_places.proofs.Words.{AllByRecursion, Dataset, IsAlive, all_append, AreSections, IsGoodDataset, AreObjectRecords}
 use Rattle.iim_fields.specs.Format.Alive as sections
-use Rattle.iim_object.specs.Format.Records.{AreObjectRecords}
 
 -- ---- the records of an envelope
 

@@ -1,50 +1,24 @@
 -- Octets that lead to one place read on alike: what follows the one is read alike after the other, and every layer can continue from it.
 use Rattle.std.proofs.Common.{◌≡◌, ℕ, ◌<◌, ◌≤◌, ◌&&◌, nat_eq, cond, not, if◌then◌else◌, Bool, true, false, List, [], ◌∷◌, ◌++◌, length, map, Option, Some, None, refl, ap, sym, subst, ◌∙◌, inl, inr, arith, append_assoc, append-nil, length-append}
-use Rattle.std.proofs.lemmas.List.{append_cancel_left}
-use Rattle.std.specs.List.{AllByRecursion}
-use Rattle.std.proofs.lemmas.Bool.Decides.{eqb_tells}
-use Rattle.iim_dataset.specs.Format.Octets.{IsOctet, Octets, greatest_size, within}
+use Rattle.iim_places.proofs.Words.{append_cancel_left, AllByRecursion, eqb_tells, IsOctet, Octets, greatest_size, within, Dataset, SpellsStream, SpellsTag}
+use Rattle.iim_places.proofs.Words.{head_of, count_octets, of_record, all_back, octets_append, Begun, InTag, InData, Reads, Head, SectionsLive, SectionsLiveAt}
+use Rattle.iim_places.proofs.Words.{fault_by_row, section_after, value_fault, ValuesDieWithTheirFault, AreSections, occurs, data_of, FieldFault, Limits}
+use Rattle.iim_places.proofs.Words.{last_more, max_subfiles, Octet, End, MessageLanguage, MessageLivesWith, StoryLivesIn, object_of, AreWithin, AllCanContinue}
+use Rattle.iim_places.proofs.Words.{object_so_far, section, MayContinue, OnwardLaws, compare}
 use Rattle.iim_dataset.specs.Format.Languages as languages
-use Rattle.iim_dataset.specs.Format.Datasets.{Dataset, SpellsStream, SpellsTag, head_of, count_octets, of_record}
-use Rattle.iim_dataset.proofs.Each.{all_back}
-use Rattle.iim_dataset.proofs.OctetLists.{octets_append}
-use Rattle.iim_dataset.specs.Format.Splits.{Begun, InTag, InData, Reads}
-use Rattle.iim_dataset.specs.declared.head.Head.{Head}
 use Rattle.iim_tables.specs.Format.Rows.{table, row_of}
 use Rattle.iim_tables.specs.declared.shape.Row.{Row}
-use Rattle.iim_fields.specs.Format.Alive.{SectionsLive, SectionsLiveAt}
-use Rattle.iim_fields.specs.Format.Faults.{fault_by_row, section_after, value_fault}
-use Rattle.iim_fields.specs.Laws.Records.{ValuesDieWithTheirFault}
-use Rattle.iim_fields.specs.Format.Records.{AreSections}
-use Rattle.iim_tables.specs.Format.Records.{occurs}
-use Rattle.iim_fields.specs.Format.Values.{data_of}
-use Rattle.iim_fields.specs.declared.fault.FieldFault.{FieldFault}
 use Rattle.iim_fields.specs.declared.fault.FieldCause.TheVariants.{BadValue}
-use Rattle.iim_fields.specs.declared.limits.Limits.{Limits}
-use Rattle.iim_fields.proofs.Sections.{last_more}
-use Rattle.iim_object.specs.Format.Numbers.{place_after_datasets}
-use Rattle.iim_object.specs.Format.Plans.{max_subfiles}
-use Rattle.wire_story.specs.Format.Tokens.{Octet, End}
-use Rattle.wire_message.specs.Format.Layers.{MessageLanguage, MessageLivesWith, StoryLivesIn}
-use Rattle.iim_places.specs.Format.Admitted.{object_of}
-use Rattle.iim_places.specs.Format.Framed.{AreWithin}
-use Rattle.iim_places.specs.Format.Open.{AllCanContinue, object_so_far, section}
-use Rattle.iim_places.specs.Format.Tokens.{MayContinue, ObjectLives}
-use Rattle.iim_places.specs.Onward.{OnwardLaws}
 use Rattle.iim_places.proofs.Answering.{nothing_held}
 use Rattle.iim_places.proofs.ObjectOctets.{object_of_more}
 use Rattle.iim_places.proofs.Fitting.{each_octets}
 use Rattle.iim_places.proofs.Following.{alive_of, follows, in_front, longer_front, message_of, object_lives_after, objects_append, same_data, story_of, within_of}
-use Rattle.iim_dataset.proofs.Agreeing.{compare}
 use Rattle.iim_places.proofs.Fronts.{begun_none}
 use Rattle.iim_places.proofs.Limits.{within_front}
 use Rattle.iim_places.proofs.Places.{lives_after}
-use Rattle.iim_places.proofs.PlainOpens.{possible_of}
 use Rattle.iim_places.proofs.SamePlace.{SameBegun, SameMessage}
-use Rattle.iim_places.proofs.SameRecords.{stated_after_all}
 use Rattle.iim_places.proofs.SizeRows.{eight_has}
-use Rattle.iim_places.proofs.Tickets.{count_of}
-use Rattle.iim_places.proofs.Twins.{AreBounded, SameTail, Twins, bounded_at, eights, follows_as, goes_as, goes_at_as, present_on, same_tail, sevens, twins_on}
+use Rattle.iim_places.proofs.Twins.{AreBounded, SameTail, Twins, eights, follows_as, present_on, same_tail, sevens, twins_on, may_as, bounded_after}
 
 -- ---- the message
 
@@ -101,8 +75,20 @@ stream_both (d ∷ ds) es x y (first, rest, spelled, later, parts) t = (first, r
 pub record Before (ds es : List Dataset) : Type 0 where
   pub present : section_after ds ≡ section_after es
   pub twins : Twins ds es
-  pub alive : SectionsLive es
+  pub here : SectionsLive ds
+  pub there : SectionsLive es
+  pub few : length (of_record 8 ds) ≤ max_subfiles
   pub message : SameMessage (object_of ds) (object_of es)
+
+pub before_of : (limits : Limits) (ds es : List Dataset) (x y : List ℕ) → Pair limits ds es (InTag x) (InTag y) → Before ds es
+before_of limits ds es x y pair = record {
+  present = pair.section_is;
+  twins = pair.twins;
+  here = pair.here.sizes.records;
+  there = pair.there.sizes.records;
+  few = pair.here.sizes.within.subfiles;
+  message = pair.message;
+}
 
 same_begun : (c : Begun) → SameBegun c c
 same_begun (InTag held) = refl
@@ -114,22 +100,13 @@ section_on ds es xs (InData h taken) same = refl
 
 alive_on : (ds es xs : List Dataset) → Before ds es → SectionsLive (ds ++ xs) → SectionsLive (es ++ xs)
 alive_on ds es xs b (later, are) =
-    (later, subst AreSections (sym (append_assoc es xs later)) (follows_as ds es b.alive b.present b.twins.seen (xs ++ later) (subst AreSections (append_assoc ds xs later) are)))
-
-alive_at_on : (ds es xs : List Dataset) (h : Head) → Before ds es → SectionsLiveAt (ds ++ xs) h → SectionsLiveAt (es ++ xs) h
-alive_at_on ds es xs h b (d, is, alive) =
-    (d, is, subst SectionsLive (sym (append_assoc es xs (d ∷ []))) (alive_on ds es (xs ++ d ∷ []) b (subst SectionsLive (append_assoc ds xs (d ∷ [])) alive)))
+    let both = follows_as ds es b.there b.present b.twins.seen (xs ++ later) (subst AreSections (append_assoc ds xs later) are) in
+    (later, subst AreSections (sym (append_assoc es xs later)) both)
 
 pub bounded_of : OnwardLaws → (limits : Limits) (ds : List Dataset) (c : Begun) → MayContinue limits ds c → AreBounded (sevens ds) (eights ds)
 bounded_of laws limits ds c goes =
-    let objects = laws.opens.answer.follow.objects in
-    let few = (within_of limits ds c goes).subfiles in
-    let count = count_of (of_record 8 ds) in
-    bounded_at laws.opens.sizes (place_after_datasets ds) (possible_of (place_after_datasets ds) (stated_after_all objects ds (alive_of limits ds c goes) few) (omega (arith, few, count)) (object_lives_after objects limits ds c goes))
-
-leads_on_as : OnwardLaws → (limits : Limits) (ds es xs : List Dataset) (c : Begun) → Before ds es → Twins (ds ++ xs) (es ++ xs) → MayContinue limits (ds ++ xs) c → MayContinue limits (es ++ xs) c
-leads_on_as laws limits ds es xs (InTag held) b twins goes = goes_as laws.opens limits (ds ++ xs) (es ++ xs) (alive_on ds es xs b goes.records) twins goes
-leads_on_as laws limits ds es xs (InData h taken) b twins goes = goes_at_as laws.opens limits (ds ++ xs) (es ++ xs) h (alive_at_on ds es xs h b goes.records) twins goes
+    let lives = object_lives_after laws.opens.answer.follow.objects limits ds c goes in
+    bounded_after laws.opens ds (alive_of limits ds c goes) (within_of limits ds c goes).subfiles lives
 
 pair_on : OnwardLaws → (limits : Limits) (ds es xs : List Dataset) (c : Begun) → Before ds es → AllCanContinue limits (ds ++ xs) c → Pair limits (ds ++ xs) (es ++ xs) c c
 pair_on laws limits ds es xs c b goes =
@@ -141,13 +118,15 @@ pair_on laws limits ds es xs c b goes =
     let message : SameMessage (object_so_far (ds ++ xs) c) (object_so_far (es ++ xs) c) =
     subst (SameMessage (object_so_far (ds ++ xs) c)) (sym (so_far_both es xs c)) (subst (λ (o : List ℕ). SameMessage o (object_of es ++ more)) (sym (so_far_both ds xs c)) m) in
     let same = section_on ds es xs c b.present in
+    let alive = alive_on ds es xs b (alive_of limits (ds ++ xs) c goes.sizes) in
+    let sizes = may_as laws.opens limits (ds ++ xs) (es ++ xs) c alive (present_on ds es xs b.present) twins goes.sizes in
     record {
       section_is = same;
       begun = same_begun c;
       twins = twins;
       message = message;
       here = goes;
-      there = all_as laws limits (ds ++ xs) (es ++ xs) c c goes (leads_on_as laws limits ds es xs c b twins goes.sizes) same message;
+      there = all_as laws limits (ds ++ xs) (es ++ xs) c c goes sizes same message;
     }
 
 pub tag_on : OnwardLaws → (limits : Limits) (p q more : List ℕ) (ds es : List Dataset) (held : List ℕ) → Reads count_octets p ds (InTag held) → Reads count_octets q es (InTag held) → Before ds es → (W : List Dataset) (c : Begun) → Reads count_octets (p ++ more) W c → AllCanContinue limits W c
@@ -333,9 +312,7 @@ closed_before laws limits ds es ws h t v z W c are pair goes is many left right 
     let front = in_front follow limits W c goes.sizes ds ws d is in
     let regroup : W ≡ (ds ++ d ∷ []) ++ ws = is ∙ sym (append_assoc ds (d ∷ []) ws) in
     let few = within_few limits (ds ++ d ∷ []) ws (subst (AreWithin limits) regroup (within_of limits W c goes.sizes)) in
-    let count = count_of (of_record 8 (ds ++ d ∷ [])) in
-    let lives : ObjectLives (place_after_datasets (ds ++ d ∷ [])) = lives_after follow.live (ds ++ d ∷ []) front.alive front.sized in
-    let bounded = bounded_at laws.opens.sizes (place_after_datasets (ds ++ d ∷ [])) (possible_of (place_after_datasets (ds ++ d ∷ [])) (stated_after_all follow.objects (ds ++ d ∷ []) front.alive few) (omega (arith, few, count)) lives) in
+    let bounded = bounded_after laws.opens (ds ++ d ∷ []) front.alive few (lives_after follow.live (ds ++ d ∷ []) front.alive front.sized) in
     let e = brought (nat_eq h.rec 8) z in
     let o = object_so_far ds (InData h t) in
     let so_far : object_so_far W c ≡ (o ++ e) ++ object_so_far ws c = ap (λ (zs : List Dataset). object_so_far zs c) regroup ∙ so_far_both (ds ++ d ∷ []) ws c ∙ ap (λ (l : List ℕ). l ++ object_so_far ws c) (closed_object ds h t z) in
@@ -343,7 +320,9 @@ closed_before laws limits ds es ws h t v z W c are pair goes is many left right 
     record {
       present = last_more 0 ds d ∙ sym (last_more 0 es x);
       twins = twins_on ds es (d ∷ []) (x ∷ []) pair.twins (tail_as h (t ++ z) (v ++ z) both) bounded;
-      alive = alive_with laws.places.values ds es h (t ++ z) (v ++ z) both (sym both.0 ∙ many) left right front.alive pair.there.sizes.records;
+      here = front.alive;
+      there = alive_with laws.places.values ds es h (t ++ z) (v ++ z) both (sym both.0 ∙ many) left right front.alive pair.there.sizes.records;
+      few = few;
       message = subst (SameMessage (object_of (ds ++ d ∷ []))) (sym (closed_object es h v z)) (subst (λ (l : List ℕ). SameMessage l (object_so_far es (InData h v) ++ e)) (sym (closed_object ds h t z)) m);
     }
 

@@ -1,14 +1,7 @@
 -- Open octets begin with no admitted ones.
 use Rattle.std.proofs.Common.{◌≡◌, List, [], ◌∷◌, ◌++◌, ap, sym, subst, ◌∙◌, inl, inr, append-nil, append_assoc}
-use Rattle.iim_dataset.specs.Format.Datasets.{Dataset}
-use Rattle.iim_dataset.specs.Format.Splits.{Begun, InTag, InData}
-use Rattle.iim_dataset.specs.Laws.Datasets.{NoTagBeginsAnother, NoDatasetBeginsAnother}
-use Rattle.iim_fields.specs.Format.Records.{AreSections}
-use Rattle.iim_fields.specs.Laws.Records.{NoSectionsBeginOthers}
-use Rattle.iim_fields.specs.declared.limits.Limits.{Limits}
-use Rattle.iim_places.specs.Format.Tokens.{MayContinue}
-use Rattle.iim_places.specs.Laws.Streams.{OpenOctetsBeginWithNoEnvelope}
-use Rattle.iim_dataset.proofs.Agreeing.{compare}
+use Rattle.iim_places.proofs.Words.{Dataset, Begun, InTag, InData, NoTagBeginsAnother, NoDatasetBeginsAnother, AreSections, NoSectionsBeginOthers, Limits}
+use Rattle.iim_places.proofs.Words.{MayContinue, OpenOctetsBeginWithNoEnvelope, compare}
 use Rattle.iim_places.proofs.Fronts.{begun_none, empty_front}
 
 not_begun : NoSectionsBeginOthers → (limits : Limits) (ds whole more : List Dataset) (begun : Begun) → MayContinue limits whole begun → AreSections ds → ds ++ more ≡ whole → more ≡ []

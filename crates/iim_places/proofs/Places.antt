@@ -1,25 +1,12 @@
 -- Where heads and values lead the object.
 use Rattle.std.proofs.Common.{◌≡◌, ℕ, ◌+◌, ◌<◌, ◌⊎◌, Bool, true, false, cond, if◌then◌else◌, nat_eq, List, [], ◌∷◌, ◌++◌, length, refl, ap, sym, subst, ◌∙◌, inl, inr, arith, append_assoc, length-append}
-use Rattle.std.specs.List.{AllByRecursion}
-use Rattle.std.proofs.lemmas.List.Elements.{filter-append}
-use Rattle.std.proofs.lemmas.Bool.{or_cases, eqb-true, ne_eqb}
-use Rattle.iim_dataset.specs.Format.Octets.{number}
-use Rattle.iim_dataset.specs.Format.Datasets.{Dataset, head_of, of_record}
+use Rattle.iim_places.proofs.Words.{AllByRecursion, filter-append, or_cases, eqb-true, ne_eqb, number, Dataset, head_of, of_record, Head, all_append, all_front}
+use Rattle.iim_places.proofs.Words.{all_back, all_map, SectionsLive, SectionsLiveAt, tells_number, max_subfiles, ObjectToken, NumberRead, SubfileBegun}
+use Rattle.iim_places.proofs.Words.{ObjectEnded, Confirmed, MayFollow, place_after, head_token, value_token, AreObjectRecords, AreSized, place_after_datasets}
+use Rattle.iim_places.proofs.Words.{place_ended, DatasetsLiveWithTheirTokens, DatasetsEndWithTheirTokens, place_at, ObjectLives, ObjectLaws}
 use Rattle.iim_dataset.specs.Format.Languages as languages
-use Rattle.iim_dataset.specs.declared.head.Head.{Head}
-use Rattle.iim_dataset.proofs.Each.{all_append, all_front, all_back, all_map}
-use Rattle.iim_fields.specs.Format.Alive.{SectionsLive, SectionsLiveAt}
-use Rattle.iim_fields.specs.Format.Values.{tells_number}
-use Rattle.iim_object.specs.Format.Plans.{max_subfiles}
-use Rattle.iim_object.specs.Format.Objects.{ObjectToken, NumberRead, SubfileBegun, ObjectEnded, Confirmed}
-use Rattle.iim_object.specs.Format.Places.{Place, MayFollow, place_after, head_token, value_token}
-use Rattle.iim_object.specs.Format.Records.{AreObjectRecords}
-use Rattle.iim_object.specs.Laws.Records.{AreSized}
-use Rattle.iim_object.specs.Format.Numbers.{place_after_datasets, place_ended}
-use Rattle.iim_object.specs.Laws.Numbers.{DatasetsLiveWithTheirTokens, DatasetsEndWithTheirTokens}
-use Rattle.iim_places.specs.Format.Tokens.{place_at, ObjectLives}
+use Rattle.iim_object.specs.Format.Places.{Place}
 use Rattle.iim_places.proofs.Objects.{records_alive}
-use Rattle.iim_places.specs.Laws.Lower.{ObjectLaws}
 
 -- ---- the records of datasets that are alive
 

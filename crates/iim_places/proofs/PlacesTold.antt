@@ -1,34 +1,24 @@
 -- The place that the parts of a ticket tell, and whether an envelope can be there.
 use Rattle.std.proofs.Common.{◌≡◌, ℕ, ◌+◌, ◌-◌, ◌≤◌, ◌<◌, ◌^◌, cond, Bool, List, [], ◌∷◌, length, Option, None, Some, IsSome, refl, ap, sym, subst, ◌∙◌, arith}
-use Rattle.std.specs.List.{AllByRecursion}
+use Rattle.iim_places.proofs.Words.{AllByRecursion, Dataset, kept_octets, IsWithin, Limits, IsPossible, LeadsToSaved, MessagePlace, LeadsByLayers}
+use Rattle.iim_places.proofs.Words.{PlacesArePossibleByLayers, TagsLead, RecordsLive, are_ended, begun_of_object, begun_subfiles, object_after, one_of_some}
+use Rattle.iim_places.proofs.Words.{record_datasets, Numbers, number_list, plain, TicketsOfPlacesAreSplit, split_of, TicketsHaveOneSplit, IsSmall, IsSmallPhase}
+use Rattle.iim_places.proofs.Words.{IsSmallPlace, greatest_size_before, AreHeadsWithin, begun_count, begun_fields, widest, SmallPlacesWerePossible, octets_told}
+use Rattle.iim_places.proofs.Words.{IsLimitFault, IsRestoreFault, IsTicketAt, AreKept, IsMessageOf, numbers_told, told_datasets, IsSizeIn, IsWide, HasForm}
+use Rattle.iim_places.proofs.Words.{Split, SplitsTicket, split_octets, HeaderFull, TooManyFields}
 use Rattle.iim_dataset.specs.States.Reading.{TakesCalls}
-use Rattle.iim_dataset.specs.Format.Datasets.{Dataset}
-use Rattle.iim_fields.specs.Format.Faults.{kept_octets, joined}
-use Rattle.iim_fields.specs.Format.Bounds.{IsWithin}
-use Rattle.iim_fields.specs.declared.limits.Limits.{Limits}
+use Rattle.iim_fields.specs.Format.Faults.{joined}
 use Rattle.iim_object.specs.Format.Places as objects
 use Rattle.iim_object.specs.States.Reading as reading
-use Rattle.iim_object.specs.States.Saved.{IsAt, IsPossible}
+use Rattle.iim_object.specs.States.Saved.{IsAt}
 use Rattle.wire_message.specs.States.Reading as wire
-use Rattle.wire_message.specs.States.Saved.{LeadsToSaved}
 use Rattle.wire_message.specs.declared.saved.MessagePart.TheVariants.{AfterEnd}
-use Rattle.wire_message.specs.declared.saved.MessagePlace.{MessagePlace}
-use Rattle.iim_places.specs.States.ByLayers.{LeadsByLayers, PlacesArePossibleByLayers, TagsLead, RecordsLive, are_ended, begun_of_object, begun_subfiles, object_after, one_of_some, record_datasets}
-use Rattle.iim_places.specs.States.PlainDatasets.{Numbers, number_list, plain}
-use Rattle.iim_places.specs.Laws.Tickets.{TicketsOfPlacesAreSplit, split_of, TicketsHaveOneSplit}
-use Rattle.iim_places.specs.States.Possible.{IsSmall, IsSmallPhase, IsSmallPlace, greatest_size_before, AreHeadsWithin, begun_count, begun_fields, widest}
-use Rattle.iim_places.specs.Laws.Places.{SmallPlacesWerePossible}
 use Rattle.iim_places.specs.States.Readers.{FieldsStand, RecordsStand, AreAt, LeadsNowhereIn, has_come, tag_place}
 use Rattle.iim_fields.specs.States.Standing.{FieldsPlace}
 use Rattle.iim_places.specs.Restoring.{LeadsNowhere}
-use Rattle.iim_places.specs.States.Restored.{octets_told, IsLimitFault, IsRestoreFault, IsTicketAt}
-use Rattle.iim_places.specs.Taking.{AreKept, IsMessageOf, numbers_told, told_datasets}
-use Rattle.iim_places.specs.States.Begins.{IsSizeIn, IsWide}
-use Rattle.iim_places.specs.Format.TicketForm.{HasForm, Split, SplitsTicket, split_octets}
 use Rattle.iim_places.specs.Format.Tickets.{Place}
 use Rattle.iim_places.specs.declared.ticket.possible.Readers.{Readers}
 use Rattle.iim_places.specs.declared.ticket.fault.TicketFault.{TicketFault}
-use Rattle.iim_places.specs.declared.ticket.fault.TicketFault.TheVariants.{HeaderFull, TooManyFields}
 use Rattle.iim_places.proofs.AtPlaces.{four_back}
 use Rattle.iim_places.proofs.Fitting.{part_told, spelled}
 use Rattle.iim_places.proofs.Plain.{kept_fields}

@@ -1,29 +1,15 @@
 -- Plain datasets tell their place.
-use Rattle.std.proofs.Common.{◌≡◌, ℕ, zero, suc, ◌+◌, ◌*◌, ◌<◌, ◌≤◌, nat_eq, cond, Bool, true, false, List, [], ◌∷◌, ◌++◌, length, take, drop, Option, Some, None, refl, ap, sym, ◌∙◌, arith, append-nil, length-drop, subst, IfSome}
-use Rattle.std.specs.List.{AllByRecursion, filter}
-use Rattle.std.specs.Option.{unwrap_or}
-use Rattle.std.proofs.lemmas.Bool.{eqb-true}
-use Rattle.std.proofs.lemmas.List.{take-append-drop, length-take}
-use Rattle.std.proofs.lemmas.List.Elements.{filter-append}
-use Rattle.iim_dataset.proofs.WrittenNumbers.{few_octets, number_back, number_octets}
-use Rattle.iim_dataset.specs.Format.Octets.{IsOctet, Octets, number, greatest_size}
-use Rattle.iim_dataset.specs.Format.Datasets.{Dataset, canonical_stream, of_record}
-use Rattle.iim_dataset.proofs.Each.{all_append}
-use Rattle.iim_dataset.proofs.OctetLists.{front_are}
-use Rattle.iim_dataset.specs.Format.Splits.{Begun, InTag, InData}
-use Rattle.iim_dataset.specs.Laws.Datasets.{HasSpellings, CanonicalStreamsAreSpelled}
-use Rattle.iim_fields.specs.Format.Faults.{kept, is_kept, joined}
-use Rattle.iim_object.specs.Format.Records.{numbers_of}
-use Rattle.iim_object.specs.Format.Packing.{number_dataset, subfile_datasets}
-use Rattle.iim_object.specs.States.Saved.{stated_numbers}
-use Rattle.iim_object.specs.Format.Sizes.{Stated, number_at}
-use Rattle.wire_message.specs.States.Saved.{LeadsToSaved}
-use Rattle.iim_places.specs.Format.Admitted.{object_of}
-use Rattle.iim_places.specs.TicketParts.{IsSize}
-use Rattle.iim_places.specs.Format.Open.{object_so_far, section}
-use Rattle.iim_places.specs.Format.Tickets.{phase_of, heads_of}
-use Rattle.iim_places.specs.Plain.{AreSpellable, begun_object, begun_heads, PlainOctetsLeadToTheirPlace}
-use Rattle.iim_places.specs.States.PlainDatasets.{Numbers, number_list, mode_dataset, one_dataset, plain_numbers, filled, plain_end, plain}
+use Rattle.std.proofs.Common.{◌≡◌, ℕ, zero, suc, ◌+◌, ◌*◌, ◌<◌, ◌≤◌, nat_eq, cond, Bool, true, false, List, [], ◌∷◌, ◌++◌, length, take, drop, Option, Some}
+use Rattle.std.proofs.Common.{None, refl, ap, sym, ◌∙◌, arith, append-nil, length-drop, subst, IfSome, inl, inr}
+use Rattle.iim_places.proofs.Words.{AllByRecursion, filter, unwrap_or, eqb-true, or_cases, ne_eqb, take-append-drop, length-take, filter-append, few_octets}
+use Rattle.iim_places.proofs.Words.{number_back, IsOctet, Octets, number, Dataset, canonical_stream, of_record, all_append, all_map, front_are, Begun, InTag}
+use Rattle.iim_places.proofs.Words.{InData, HasSpellings, CanonicalStreamsAreSpelled, kept, is_kept, last_record, section_after, numbers_of, number_dataset}
+use Rattle.iim_places.proofs.Words.{subfile_datasets, stated_numbers, Stated, number_at, LeadsToSaved, object_of, IsSize, object_so_far, section, phase_of}
+use Rattle.iim_places.proofs.Words.{heads_of, AreSpellable, begun_object, begun_heads, PlainOctetsLeadToTheirPlace, Numbers, number_list, mode_dataset}
+use Rattle.iim_places.proofs.Words.{one_dataset, plain_numbers, filled, plain_end, plain, last_of_joined, map-append}
+use Rattle.iim_dataset.proofs.WrittenNumbers.{number_octets}
+use Rattle.iim_fields.specs.Format.Faults.{joined}
+use Rattle.iim_object.specs.Format.Packing.{subfile_dataset}
 
 -- The datasets tell these fields, numbers, object octets and heads.
 pub record Tell (ds fields : List Dataset) (numbers : Numbers) (heads : ℕ) (object : List ℕ) (ended : Bool) : Type 0 where
@@ -40,44 +26,70 @@ pub record Tell (ds fields : List Dataset) (numbers : Numbers) (heads : ℕ) (ob
 abbrev pub AreOf : ℕ → List Dataset → Type 0
 AreOf r ds = AllByRecursion (λ (d : Dataset). d.rec ≡ r) ds
 
+filter_all : (p : Dataset → Bool) (ds : List Dataset) → AllByRecursion (λ (d : Dataset). p d ≡ true) ds → filter p ds ≡ ds
+filter_all p [] all = refl
+filter_all p (d ∷ ds) all = ap (λ (b : Bool). cond b (d ∷ filter p ds) (filter p ds)) all.0 ∙ ap (λ (xs : List Dataset). d ∷ xs) (filter_all p ds all.1)
+
+filter_none : (p : Dataset → Bool) (ds : List Dataset) → AllByRecursion (λ (d : Dataset). p d ≡ false) ds → filter p ds ≡ []
+filter_none p [] all = refl
+filter_none p (d ∷ ds) all = ap (λ (b : Bool). cond b (d ∷ filter p ds) (filter p ds)) all.0 ∙ filter_none p ds all.1
+
 pub kept_fields : (ds : List Dataset) → AllByRecursion (λ (d : Dataset). is_kept d.rec ≡ true) ds → kept ds ≡ ds
-kept_fields [] all = refl
-kept_fields (d ∷ ds) all = ap (λ (b : Bool). cond b (d ∷ kept ds) (kept ds)) all.0 ∙ ap (λ (xs : List Dataset). d ∷ xs) (kept_fields ds all.1)
+kept_fields ds all = filter_all (λ (d : Dataset). is_kept d.rec) ds all
 
 none_kept : (r : ℕ) (ds : List Dataset) → is_kept r ≡ false → AreOf r ds → kept ds ≡ []
-none_kept r [] is all = refl
-none_kept r (d ∷ ds) is all = ap (λ (b : Bool). cond b (d ∷ kept ds) (kept ds)) (ap is_kept all.0 ∙ is) ∙ none_kept r ds is all.1
+none_kept r ds is all = filter_none (λ (d : Dataset). is_kept d.rec) ds (all_map _ _ ds (λ d e. ap is_kept e ∙ is) all)
 
 pub all_of : (r : ℕ) (ds : List Dataset) → nat_eq r r ≡ true → AreOf r ds → of_record r ds ≡ ds
-all_of r [] same all = refl
-all_of r (d ∷ ds) same all = ap (λ (b : Bool). cond b (d ∷ of_record r ds) (of_record r ds)) (ap (λ (n : ℕ). nat_eq n r) all.0 ∙ same) ∙ ap (λ (xs : List Dataset). d ∷ xs) (all_of r ds same all.1)
+all_of r ds same all = filter_all (λ (d : Dataset). nat_eq d.rec r) ds (all_map _ _ ds (λ d e. ap (λ (n : ℕ). nat_eq n r) e ∙ same) all)
 
 pub none_of : (r s : ℕ) (ds : List Dataset) → nat_eq s r ≡ false → AreOf s ds → of_record r ds ≡ []
-none_of r s [] apart all = refl
-none_of r s (d ∷ ds) apart all = ap (λ (b : Bool). cond b (d ∷ of_record r ds) (of_record r ds)) (ap (λ (n : ℕ). nat_eq n r) all.0 ∙ apart) ∙ none_of r s ds apart all.1
+none_of r s ds apart all = filter_none (λ (d : Dataset). nat_eq d.rec r) ds (all_map _ _ ds (λ d e. ap (λ (n : ℕ). nat_eq n r) e ∙ apart) all)
 
-pub none_in_fields : (r : ℕ) (ds : List Dataset) → is_kept r ≡ false → AllByRecursion (λ (d : Dataset). is_kept d.rec ≡ true) ds → of_record r ds ≡ []
-none_in_fields r [] is all = refl
-none_in_fields r (d ∷ ds) is all = by (nat_eq d.rec r) refl (none_in_fields r ds is all.1)
+none_in_fields : (r : ℕ) (ds : List Dataset) → is_kept r ≡ false → AllByRecursion (λ (d : Dataset). is_kept d.rec ≡ true) ds → of_record r ds ≡ []
+none_in_fields r ds is all = filter_none (λ (d : Dataset). nat_eq d.rec r) ds (all_map _ _ ds (λ d keeps. ne_eqb d.rec r (apart d keeps)) all)
   where
-    by : (b : Bool) → nat_eq d.rec r ≡ b → of_record r ds ≡ [] → cond b (d ∷ of_record r ds) (of_record r ds) ≡ []
-    by true same more = absurd (let bad : true ≡ false = sym all.0 ∙ ap is_kept (eqb-true d.rec r same) ∙ is in cc)
-    by false same more = more
+    apart : (d : Dataset) → is_kept d.rec ≡ true → d.rec ≡ r → ⊥
+    apart d keeps same = let bad : true ≡ false = sym keeps ∙ ap is_kept same ∙ is in cc
+
+-- ---- what holds of each
+
+pub back_octets : (k : ℕ) (xs : List ℕ) → Octets xs → Octets (drop k xs)
+back_octets zero xs all = all
+back_octets (suc k) [] all = tt
+back_octets (suc k) (x ∷ xs) all = back_octets k xs all.1
+
+one_each : (P : Dataset → Type 0) (made : ℕ → Dataset) (o : Option ℕ) → ((n : ℕ) → o ≡ Some n → P (made n)) → AllByRecursion P (one_dataset made o)
+one_each P made None each = tt
+one_each P made (Some n) each = (each n refl, tt)
+
+pub numbers_each : (P : Dataset → Type 0) (n : Numbers) → ((k : ℕ) → n.mode ≡ Some k → P (mode_dataset k))
+    → ((k : ℕ) → n.largest ≡ Some k → P (number_dataset 7 20 k)) → ((k : ℕ) → n.announced ≡ Some k → P (number_dataset 7 90 k))
+    → ((k : ℕ) → n.maximum ≡ Some k → P (number_dataset 7 95 k)) → AllByRecursion P (plain_numbers n)
+numbers_each P n mode largest announced maximum =
+    all_append P _ _ (one_each P mode_dataset n.mode mode)
+    (all_append P _ _ (one_each P (number_dataset 7 20) n.largest largest)
+    (all_append P _ _ (one_each P (number_dataset 7 90) n.announced announced) (one_each P (number_dataset 7 95) n.maximum maximum)))
+
+pub parts_each : (P : Dataset → Type 0) (size count : ℕ) (xs : List ℕ)
+    → ((ys : List ℕ) → length ys ≤ size → length ys ≤ length xs → (Octets xs → Octets ys) → P (subfile_dataset ys))
+    → AllByRecursion P (subfile_datasets (filled size count xs))
+parts_each P size zero xs each = tt
+parts_each P size (suc count) xs each =
+    let first = length-take size xs in
+    let rest = length-drop size xs in (
+      each (take size xs) (omega (arith, first)) (omega (arith, first)) (front_are size xs),
+      parts_each P size count (drop size xs) (λ ys short few good. each ys short (omega (arith, few, rest)) (λ all. good (back_octets size xs all))),
+    )
+
+pub end_each : (P : Dataset → Type 0) (ended : Bool) (object : List ℕ) → P (number_dataset 9 10 (length object)) → AllByRecursion P (plain_end ended object)
+end_each P true object is = (is, tt)
+end_each P false object is = tt
 
 -- ---- record 7
 
-are_one : (made : ℕ → Dataset) → ((n : ℕ) → (made n).rec ≡ 7) → (o : Option ℕ) → AreOf 7 (one_dataset made o)
-are_one made is None = tt
-are_one made is (Some n) = (is n, tt)
-
-are_both : (r : ℕ) (xs ys : List Dataset) → AreOf r xs → AreOf r ys → AreOf r (xs ++ ys)
-are_both r [] ys a b = b
-are_both r (x ∷ xs) ys a b = (a.0, are_both r xs ys a.1 b)
-
 pub are_sevens : (n : Numbers) → AreOf 7 (plain_numbers n)
-are_sevens n =
-    are_both 7 _ _ (are_one mode_dataset (λ k. refl) n.mode)
-    (are_both 7 _ _ (are_one (number_dataset 7 20) (λ k. refl) n.largest) (are_both 7 _ _ (are_one (number_dataset 7 90) (λ k. refl) n.announced) (are_one (number_dataset 7 95) (λ k. refl) n.maximum)))
+are_sevens n = numbers_each (λ d. d.rec ≡ 7) n (λ k is. refl) (λ k is. refl) (λ k is. refl) (λ k is. refl)
 
 abbrev pub one_stated : ℕ → Option ℕ → List Stated
 one_stated set None = []
@@ -95,8 +107,7 @@ abbrev pub all_stated : Numbers → List Stated
 all_stated n = one_stated 10 n.mode ++ (one_stated 20 n.largest ++ (one_stated 90 n.announced ++ one_stated 95 n.maximum))
 
 pub numbers_join : (xs ys : List Dataset) → numbers_of (xs ++ ys) ≡ numbers_of xs ++ numbers_of ys
-numbers_join [] ys = refl
-numbers_join (x ∷ xs) ys = ap (λ (ps : List Stated). record { set = x.set; number = number x.octets } ∷ ps) (numbers_join xs ys)
+numbers_join xs ys = map-append (λ (d : Dataset). record { set = d.set; number = number d.octets }) xs ys
 
 both_lists : {a b c d : List Stated} → a ≡ c → b ≡ d → a ++ b ≡ c ++ d
 both_lists {b = b} {c = c} e f = ap (λ (xs : List Stated). xs ++ b) e ∙ ap (λ (xs : List Stated). c ++ xs) f
@@ -157,15 +168,23 @@ filled_all size (suc count) xs fits =
 -- ---- record 9
 
 pub are_nines : (ended : Bool) (object : List ℕ) → AreOf 9 (plain_end ended object)
-are_nines true object = (refl, tt)
-are_nines false object = tt
+are_nines ended object = end_each (λ d. d.rec ≡ 9) ended object refl
 
 -- ---- all of it
 
+-- what plain datasets have: their fields are of records 1 and 2, each number fits its octets, and the subfiles have room for the object
+pub record Fits (fields : List Dataset) (numbers : Numbers) (heads : ℕ) (object : List ℕ) : Type 0 where
+  pub kept : AllByRecursion (λ (d : Dataset). is_kept d.rec ≡ true) fields
+  pub fit : AllByRecursion IsSize (number_list numbers)
+  pub room : length object ≤ heads * unwrap_or numbers.largest 0
+
 -- The plain datasets tell what they are made of.
-pub plain_told : (fields : List Dataset) (numbers : Numbers) (heads : ℕ) (object : List ℕ) (ended : Bool) → AllByRecursion (λ (d : Dataset). is_kept d.rec ≡ true) fields → AllByRecursion IsSize (number_list numbers)
-    → length object ≤ heads * unwrap_or numbers.largest 0 → Tell (plain fields numbers heads object ended) fields numbers heads object ended
-plain_told fields numbers heads object ended each fit room =
+pub plain_told : (fields : List Dataset) (numbers : Numbers) (heads : ℕ) (object : List ℕ) (ended : Bool) → Fits fields numbers heads object
+    → Tell (plain fields numbers heads object ended) fields numbers heads object ended
+plain_told fields numbers heads object ended fits =
+    let each = fits.kept in
+    let fit = fits.fit in
+    let room = fits.room in
     let parts = filled (unwrap_or numbers.largest 0) heads object in
     let sevens = plain_numbers numbers in
     let eights = subfile_datasets parts in
@@ -203,44 +222,56 @@ plain_told fields numbers heads object ended each fit room =
         ap (λ (xs : List Dataset). xs ++ (b ++ (c ++ d))) e
         ∙ ap (λ (xs : List Dataset). w ++ xs) (ap (λ (xs : List Dataset). xs ++ (c ++ d)) f ∙ ap (λ (xs : List Dataset). x ++ xs) (ap (λ (xs : List Dataset). xs ++ d) g ∙ ap (λ (xs : List Dataset). y ++ xs) h))
 
--- ---- spellings
+-- ---- whether they have ended
 
-mode_spelled : (o : Option ℕ) → IfSome o IsOctet → AllByRecursion HasSpellings (one_dataset mode_dataset o)
-mode_spelled None h = tt
-mode_spelled (Some n) h = (record { rec = omega arith; set = omega arith; octets = (h, tt); few = omega arith }, tt)
+last_low : (r : ℕ) (ds : List Dataset) → r ≤ 8 → AllByRecursion (λ (d : Dataset). d.rec ≤ 8) ds → last_record r ds ≤ 8
+last_low r [] low all = low
+last_low r (d ∷ ds) low all = last_low d.rec ds all.0 all.1
+
+kept_low : (r : ℕ) → is_kept r ≡ true → r ≤ 8
+kept_low r is = elim (or_cases (nat_eq r 1) (nat_eq r 2) is) [
+  | inl one ↦ let e = eqb-true r 1 one in omega (arith, e)
+  | inr two ↦ let e = eqb-true r 2 two in omega (arith, e)
+]
+
+pub present_ended : (fields : List Dataset) (numbers : Numbers) (heads : ℕ) (object : List ℕ) (ended : Bool)
+    → AllByRecursion (λ (d : Dataset). is_kept d.rec ≡ true) fields → nat_eq (section_after (plain fields numbers heads object ended)) 9 ≡ ended
+present_ended fields numbers heads object true keeps =
+    let eights = subfile_datasets (filled (unwrap_or numbers.largest 0) heads object) in
+    let last = plain_end true object in
+    let front = last_record 0 fields in
+    ap (λ (r : ℕ). nat_eq r 9)
+    (last_of_joined 0 fields (plain_numbers numbers ++ (eights ++ last)) ∙ last_of_joined front (plain_numbers numbers) (eights ++ last)
+    ∙ last_of_joined (last_record front (plain_numbers numbers)) eights last)
+present_ended fields numbers heads object false keeps =
+    let parts = filled (unwrap_or numbers.largest 0) heads object in
+    let low : AllByRecursion (λ (d : Dataset). d.rec ≤ 8) (plain fields numbers heads object false) =
+    all_append _ fields _ (all_map _ _ fields (λ d is. kept_low d.rec is) keeps)
+    (all_append _ (plain_numbers numbers) _ (all_map _ _ (plain_numbers numbers) (λ d is. omega (arith, is)) (are_sevens numbers))
+    (all_append _ (subfile_datasets parts) [] (all_map _ _ (subfile_datasets parts) (λ d is. omega (arith, is)) (are_eights parts)) tt)) in
+    let last = last_low 0 (plain fields numbers heads object false) (omega arith) low in
+    ne_eqb (section_after (plain fields numbers heads object false)) 9 (λ nine. omega (arith, nine, last))
+
+-- ---- spellings
 
 one_spelled : (rec set n : ℕ) → rec < 256 → set < 256 → HasSpellings (number_dataset rec set n)
 one_spelled rec set n r s = record { rec = r; set = s; octets = number_octets n; few = let few = few_octets n in omega (arith, few) }
 
-number_spelled : (set : ℕ) → set < 256 → (o : Option ℕ) → AllByRecursion HasSpellings (one_dataset (number_dataset 7 set) o)
-number_spelled set small None = tt
-number_spelled set small (Some n) = (one_spelled 7 set n (omega arith) small, tt)
-
-end_spelled : (ended : Bool) (object : List ℕ) → AllByRecursion HasSpellings (plain_end ended object)
-end_spelled true object = (one_spelled 9 10 (length object) (omega arith) (omega arith), tt)
-end_spelled false object = tt
-
 numbers_spelled : (n : Numbers) → IfSome n.mode IsOctet → AllByRecursion HasSpellings (plain_numbers n)
 numbers_spelled n mode =
-    all_append HasSpellings _ _ (mode_spelled n.mode mode)
-    (all_append HasSpellings _ _ (number_spelled 20 (omega arith) n.largest) (all_append HasSpellings _ _ (number_spelled 90 (omega arith) n.announced) (number_spelled 95 (omega arith) n.maximum)))
-
-pub back_octets : (k : ℕ) (xs : List ℕ) → Octets xs → Octets (drop k xs)
-back_octets zero xs all = all
-back_octets (suc k) [] all = tt
-back_octets (suc k) (x ∷ xs) all = back_octets k xs all.1
-
-parts_spelled : (size count : ℕ) (xs : List ℕ) → Octets xs → length xs ≤ greatest_size → AllByRecursion HasSpellings (subfile_datasets (filled size count xs))
-parts_spelled size zero xs all few = tt
-parts_spelled size (suc count) xs all few =
-    let first = length-take size xs in
-    let rest = length-drop size xs in
-    (record { rec = omega arith; set = omega arith; octets = front_are size xs all; few = omega (arith, few, first) }, parts_spelled size count (drop size xs) (back_octets size xs all) (omega (arith, few, rest)))
+    numbers_each HasSpellings n
+    (λ k is. record { rec = omega arith; set = omega arith; octets = (subst (λ (o : Option ℕ). IfSome o IsOctet) is mode, tt); few = omega arith })
+    (λ k is. one_spelled 7 20 k (omega arith) (omega arith)) (λ k is. one_spelled 7 90 k (omega arith) (omega arith))
+    (λ k is. one_spelled 7 95 k (omega arith) (omega arith))
 
 pub plain_spelled : (fields : List Dataset) (numbers : Numbers) (heads : ℕ) (object : List ℕ) (ended : Bool) → AreSpellable fields numbers heads object → AllByRecursion HasSpellings (plain fields numbers heads object ended)
 plain_spelled fields numbers heads object ended are =
     all_append HasSpellings fields _ are.spelled
-    (all_append HasSpellings _ _ (numbers_spelled numbers are.mode) (all_append HasSpellings _ _ (parts_spelled (unwrap_or numbers.largest 0) heads object are.octets are.few) (end_spelled ended object)))
+    (all_append HasSpellings _ _ (numbers_spelled numbers are.mode)
+    (all_append HasSpellings _ _
+    (parts_each HasSpellings (unwrap_or numbers.largest 0) heads object
+    (λ ys short few good. record { rec = omega arith; set = omega arith; octets = good are.octets; few = let low = are.few in omega (arith, few, low) }))
+    (end_each HasSpellings ended object (one_spelled 9 10 (length object) (omega arith) (omega arith)))))
 
 -- ---- the place
 
@@ -256,7 +287,7 @@ heads_told ds heads (InData h taken) is = ap (λ (n : ℕ). n + begun_heads (InD
 pub plain_led : CanonicalStreamsAreSpelled → PlainOctetsLeadToTheirPlace
 plain_led law fields numbers heads object ended begun rest text message are is leads =
     let ds = plain fields numbers heads object ended in
-    let tell = plain_told fields numbers heads object ended are.kept are.fit are.room in
+    let tell = plain_told fields numbers heads object ended (record { kept = are.kept; fit = are.fit; room = are.room }) in
     let taken : object_so_far ds begun ≡ object ++ begun_object begun = taken_told ds object begun tell.object_is in
     let count : heads_of ds begun ≡ heads + begun_heads begun = heads_told ds heads begun tell.heads_are in
     record {

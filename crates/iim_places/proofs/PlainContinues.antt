@@ -1,37 +1,23 @@
--- Plain datasets continue as those of their place do.
-use Rattle.std.proofs.Common.{◌≡◌, ℕ, zero, suc, ◌+◌, ◌<◌, ◌≤◌, ◌||◌, nat_eq, cond, Bool, true, false, List, [], ◌∷◌, ◌++◌, length, Option, Some, None, IfSome, is_some, refl, ap, sym, subst, ◌∙◌, inl, inr, arith, append-nil, length-drop, take, drop}
-use Rattle.std.proofs.lemmas.List.{length-take}
-use Rattle.std.specs.List.{AllByRecursion}
-use Rattle.std.specs.Option.{unwrap_or}
-use Rattle.std.proofs.lemmas.Bool.{eqb-true, ne_eqb}
-use Rattle.std.proofs.lemmas.List.Elements.{filter-append}
-use Rattle.std.proofs.lemmas.List.Folds.{list_any-append}
-use Rattle.iim_dataset.specs.Format.Octets.{Octets, number, greatest_size}
-use Rattle.iim_dataset.specs.Format.Datasets.{Dataset, of_record}
-use Rattle.iim_dataset.proofs.Each.{all_append, all_back}
-use Rattle.iim_dataset.proofs.OctetLists.{front_are, octets_append}
-use Rattle.iim_dataset.proofs.WrittenNumbers.{number_back}
-use Rattle.iim_tables.specs.Format.Rows.{table, row_of, Meets}
-use Rattle.iim_fields.specs.Format.Alive.{SectionsLive}
-use Rattle.iim_fields.specs.Format.Faults.{joined, kept, is_kept, section_after, last_record}
-use Rattle.iim_fields.specs.Format.Records.{AreSections}
-use Rattle.iim_tables.specs.Format.Records.{IsGoodDataset, IsGoodRecord, occurs, occurrences, repeats, mandatory}
+-- Plain datasets continue as those do for which they stand.
+use Rattle.std.proofs.Common.{◌≡◌, ℕ, zero, suc, ◌+◌, ◌≤◌, ◌||◌, nat_eq, cond, Bool, true, false, List, [], ◌∷◌, ◌++◌, length, Option, Some, None, IfSome}
+use Rattle.std.proofs.Common.{is_some, refl, ap, sym, subst, ◌∙◌, inl, inr, arith, append-nil, append_assoc, ◌⊎◌, ◌*◌}
+use Rattle.iim_places.proofs.Words.{AllByRecursion, flat_map, unwrap_or, eqb-true, eq-eqb, filter-append, list_any-append, Octets, number, greatest_size}
+use Rattle.iim_places.proofs.Words.{Dataset, of_record, all_append, all_back, all_front, number_back, Meets, SectionsLive, kept, is_kept, section_after}
+use Rattle.iim_places.proofs.Words.{last_record, AreSections, AreRecords, records, IsGoodDataset, IsGoodRecord, occurs, occurrences, repeats, mandatory}
+use Rattle.iim_places.proofs.Words.{number_dataset, subfile_datasets, numbers_of, Stated, InRow, number_at, stated_numbers, IsSize, AnswerLaws, Numbers}
+use Rattle.iim_places.proofs.Words.{number_list, mode_dataset, one_dataset, plain_numbers, filled, plain_end, plain, good_elsewhere, occurrences_cons}
+use Rattle.iim_places.proofs.Words.{part_meets, none_counts, occurrences_append, some_counts, last_more, last_of_joined, front_alive, max_subfiles, one_of_some}
+use Rattle.iim_places.proofs.Words.{eqb_tells, all_map}
+use Rattle.iim_tables.specs.Format.Rows.{table, row_of}
 use Rattle.iim_object.specs.Laws.Packing.{NumberDatasetsAreGood}
-use Rattle.iim_object.specs.Format.Packing.{number_dataset, subfile_datasets}
-use Rattle.iim_object.specs.Format.Records.{numbers_of}
-use Rattle.iim_object.specs.Format.Sizes.{Stated, InRow, number_at}
-use Rattle.iim_object.specs.States.Saved.{stated_numbers}
-use Rattle.iim_places.specs.Format.Admitted.{object_of}
-use Rattle.iim_places.specs.TicketParts.{IsSize}
-use Rattle.iim_places.specs.Laws.Lower.{AnswerLaws}
-use Rattle.iim_places.specs.Plain.{PlainDatasetsContinueAlike}
-use Rattle.iim_places.specs.States.PlainDatasets.{Numbers, number_list, mode_dataset, one_dataset, plain_numbers, filled, plain_end}
-use Rattle.iim_tables.proofs.GoodDatasets.{good_elsewhere, occurrences_cons, part_meets, none_counts, occurrences_append, some_counts}
-use Rattle.iim_places.proofs.Bounds.{IsFive, alive_five}
 use Rattle.iim_places.proofs.SizeRows.{by_number}
-use Rattle.iim_places.proofs.Plain.{AreOf, one_stated, are_told, four_told, filled_count, all_of, none_of, none_in_fields, are_sevens, are_eights, are_nines, back_octets}
-use Rattle.iim_places.proofs.PlainPlaces.{IsOrdered, none_below, sections_ordered, front_ordered, all_kept, numbers_in, end_length, present_same}
-use Rattle.iim_places.proofs.SameRecords.{of_kept, occurs_stated, same_stated, same_numbers, stated_after_all, tens_after, nines}
+use Rattle.iim_places.proofs.Plain.{AreOf, one_stated, are_told, four_told, filled_count, all_of, none_of, Tell, plain_told, parts_each, end_each}
+use Rattle.iim_places.proofs.PlainSizes.{all_kept, numbers_in, end_length}
+use Rattle.iim_places.proofs.SameRecords.{occurs_stated, same_stated, same_numbers, stated_after_all, tens_after, SameRecords, same_shape, tens_seen, AreTens}
+use Rattle.iim_places.proofs.SameRecords.{none_in_records}
+use Rattle.iim_places.proofs.Fronts.{empty_front}
+use Rattle.iim_places.proofs.Taking.{each_good}
+use Rattle.iim_fields.proofs.Follows.{alive_follows, is_coming}
 
 -- ---- counts
 
@@ -69,131 +55,156 @@ good_with r xs ys more may good = record {
     all_seen [] all = tt
     all_seen (n ∷ ns) all = (sym (seen n) ∙ all.0, all_seen ns all.1)
 
--- ---- sections, run by run
+are_of : (r : ℕ) (ds : List Dataset) → AreGood r ds → AreOf r ds
+are_of r ds all = all_map _ _ ds (λ d h. h.0) all
 
-abbrev joined5 : (a b c d e : List Dataset) → List Dataset
-joined5 a b c d e = a ++ (b ++ (c ++ (d ++ e)))
+none_seen : (xs : List Dataset) → ((n : ℕ) → false ≡ occurs n xs) → xs ≡ []
+none_seen [] none = refl
+none_seen (x ∷ xs) none = absurd (let bad : false ≡ true = none x.set ∙ ap (λ (b : Bool). b || occurs x.set xs) (eq-eqb x.set x.set refl) in cc)
 
-abbrev IsSorted : List Dataset → Type 0
-IsSorted ds = ds ≡ joined5 (of_record 1 ds) (of_record 2 ds) (of_record 7 ds) (of_record 8 ds) (of_record 9 ds)
+last_run : (k r : ℕ) (x : Dataset) (xs : List Dataset) → AreOf r (x ∷ xs) → last_record k (x ∷ xs) ≡ r
+last_run k r x [] all = all.0
+last_run k r x (y ∷ ys) all = last_run x.rec r y ys all.1
 
-sorted_step : (d : Dataset) (ds : List Dataset) → IsOrdered d.rec ds → IsSorted ds → IsFive d.rec → IsSorted (d ∷ ds)
-sorted_step d ds is more five = elim five [
-  | inl one ↦ subst Goal (sym one) first
-  | inr (inl two) ↦
-      (let no1 = none_below 1 d.rec ds is (omega (arith, two)) in
-      subst Goal (sym two) (first ∙ (λ i. d ∷ joined5 (no1 i) (of_record 2 ds) (of_record 7 ds) (of_record 8 ds) (of_record 9 ds)) ∙ sym (λ i. joined5 (no1 i) (d ∷ of_record 2 ds) (of_record 7 ds) (of_record 8 ds) (of_record 9 ds))))
-  | inr (inr (inl seven)) ↦
-      (let no1 = none_below 1 d.rec ds is (omega (arith, seven)) in
-      let no2 = none_below 2 d.rec ds is (omega (arith, seven)) in
-      subst Goal (sym seven) (first ∙ (λ i. d ∷ joined5 (no1 i) (no2 i) (of_record 7 ds) (of_record 8 ds) (of_record 9 ds)) ∙ sym (λ i. joined5 (no1 i) (no2 i) (d ∷ of_record 7 ds) (of_record 8 ds) (of_record 9 ds))))
-  | inr (inr (inr (inl eight))) ↦
-      (let no1 = none_below 1 d.rec ds is (omega (arith, eight)) in
-      let no2 = none_below 2 d.rec ds is (omega (arith, eight)) in
-      let no7 = none_below 7 d.rec ds is (omega (arith, eight)) in
-      subst Goal (sym eight) (first ∙ (λ i. d ∷ joined5 (no1 i) (no2 i) (no7 i) (of_record 8 ds) (of_record 9 ds)) ∙ sym (λ i. joined5 (no1 i) (no2 i) (no7 i) (d ∷ of_record 8 ds) (of_record 9 ds))))
-  | inr (inr (inr (inr nine))) ↦
-      (let no1 = none_below 1 d.rec ds is (omega (arith, nine)) in
-      let no2 = none_below 2 d.rec ds is (omega (arith, nine)) in
-      let no7 = none_below 7 d.rec ds is (omega (arith, nine)) in
-      let no8 = none_below 8 d.rec ds is (omega (arith, nine)) in
-      subst Goal (sym nine) (first ∙ (λ i. d ∷ joined5 (no1 i) (no2 i) (no7 i) (no8 i) (of_record 9 ds)) ∙ sym (λ i. joined5 (no1 i) (no2 i) (no7 i) (no8 i) (d ∷ of_record 9 ds))))
-]
-  where
-    Goal : ℕ → Type 0
-    Goal k =
-        d ∷ ds
-        ≡ joined5 (cond (nat_eq k 1) (d ∷ of_record 1 ds) (of_record 1 ds)) (cond (nat_eq k 2) (d ∷ of_record 2 ds) (of_record 2 ds)) (cond (nat_eq k 7) (d ∷ of_record 7 ds) (of_record 7 ds))
-        (cond (nat_eq k 8) (d ∷ of_record 8 ds) (of_record 8 ds)) (cond (nat_eq k 9) (d ∷ of_record 9 ds) (of_record 9 ds))
+last_alike : (k r : ℕ) (xs ys : List Dataset) → AreOf r xs → AreOf r ys → ((n : ℕ) → occurs n xs ≡ occurs n ys) → last_record k xs ≡ last_record k ys
+last_alike k r [] ys a b seen = ap (last_record k) (sym (none_seen ys seen))
+last_alike k r (x ∷ xs) [] a b seen = ap (last_record k) (none_seen (x ∷ xs) (λ n. sym (seen n)))
+last_alike k r (x ∷ xs) (y ∷ ys) a b seen = last_run k r x xs a ∙ sym (last_run k r y ys b)
 
-    first : d ∷ ds ≡ d ∷ joined5 (of_record 1 ds) (of_record 2 ds) (of_record 7 ds) (of_record 8 ds) (of_record 9 ds)
-    first = ap (λ (xs : List Dataset). d ∷ xs) more
+-- ---- each run for another
 
-pub ordered_sorted : (r : ℕ) (ds : List Dataset) → IsOrdered r ds → AllByRecursion (λ d. IsFive d.rec) ds → IsSorted ds
-ordered_sorted r [] is five = refl
-ordered_sorted r (d ∷ ds) is five = sorted_step d ds is.1 (ordered_sorted d.rec ds is.1 five.1) five.0
+abbrev AreApart : List ℕ → Type 0
+AreApart [] = Unit {0}
+AreApart (r ∷ rs) = AllByRecursion (λ k. nat_eq k r ≡ false) rs × AllByRecursion (λ k. nat_eq r k ≡ false) rs × AreApart rs
 
--- every record of the datasets is good
-pub record AreAllGood (ds : List Dataset) : Type 0 where
-  pub one : IsGoodRecord 1 (of_record 1 ds)
-  pub two : IsGoodRecord 2 (of_record 2 ds)
-  pub seven : IsGoodRecord 7 (of_record 7 ds)
-  pub eight : IsGoodRecord 8 (of_record 8 ds)
-  pub nine : IsGoodRecord 9 (of_record 9 ds)
-
-pub rebuilt : (ds : List Dataset) → IsSorted ds → AreAllGood ds → AreSections ds
-rebuilt ds sorted good = (
-  of_record 1 ds,
-  of_record 2 ds ++ (of_record 7 ds ++ (of_record 8 ds ++ of_record 9 ds)),
-  sorted,
-  good.one,
-  (
-    of_record 2 ds,
-    of_record 7 ds ++ (of_record 8 ds ++ of_record 9 ds),
-    refl,
-    good.two,
-    (
-      of_record 7 ds,
-      of_record 8 ds ++ of_record 9 ds,
-      refl,
-      good.seven,
-      (of_record 8 ds, of_record 9 ds, refl, good.eight, (of_record 9 ds, [], sym (append-nil (of_record 9 ds)), good.nine, refl)),
-    ),
-  ),
+records_apart : AreApart records
+records_apart = (
+  (refl, (refl, (refl, (refl, tt)))),
+  (refl, (refl, (refl, (refl, tt)))),
+  ((refl, (refl, (refl, tt))), (refl, (refl, (refl, tt))), ((refl, (refl, tt)), (refl, (refl, tt)), ((refl, tt), (refl, tt), (tt, tt, tt)))),
 )
 
-are_of : (r : ℕ) (ds : List Dataset) → AreGood r ds → AreOf r ds
-are_of r [] all = tt
-are_of r (d ∷ ds) all = (all.0.0, are_of r ds all.1)
+-- each run may be replaced by one of these
+abbrev MayAll : (ℕ → List Dataset) → List ℕ → List Dataset → Type 0
+MayAll own rs ds = AllByRecursion (λ r. MayReplace r (of_record r ds) (own r)) rs
 
-pub all_good : (ds : List Dataset) → AreSections ds → AreAllGood ds
-all_good ds (r1, from2, one, good1, (r2, from7, two, good2, (r7, from8, seven, good7, (r8, from9, eight, good8, (r9, none, nine, good9, end))))) =
-    let a1 = are_of 1 r1 good1.each in
-    let a2 = are_of 2 r2 good2.each in
-    let a7 = are_of 7 r7 good7.each in
-    let a8 = are_of 8 r8 good8.each in
-    let a9 = are_of 9 r9 good9.each in
-    let is9 : from9 ≡ r9 = nine ∙ ap (λ (xs : List Dataset). r9 ++ xs) end ∙ append-nil r9 in
-    let is8 : from8 ≡ r8 ++ r9 = eight ∙ ap (λ (xs : List Dataset). r8 ++ xs) is9 in
-    let is7 : from7 ≡ r7 ++ (r8 ++ r9) = seven ∙ ap (λ (xs : List Dataset). r7 ++ xs) is8 in
-    let is2 : from2 ≡ r2 ++ (r7 ++ (r8 ++ r9)) = two ∙ ap (λ (xs : List Dataset). r2 ++ xs) is7 in
-    let is : ds ≡ joined5 r1 r2 r7 r8 r9 = one ∙ ap (λ (xs : List Dataset). r1 ++ xs) is2 in
-    record {
-      one = subst (IsGoodRecord 1) (sym (ap (of_record 1) is ∙ split5 1 r1 r2 r7 r8 r9 ∙ (λ i. joined5 (all_of 1 r1 refl a1 i) (none_of 1 2 r2 refl a2 i) (none_of 1 7 r7 refl a7 i) (none_of 1 8 r8 refl a8 i) (none_of 1 9 r9 refl a9 i)) ∙ append-nil r1)) good1;
-      two = subst (IsGoodRecord 2) (sym (ap (of_record 2) is ∙ split5 2 r1 r2 r7 r8 r9 ∙ (λ i. joined5 (none_of 2 1 r1 refl a1 i) (all_of 2 r2 refl a2 i) (none_of 2 7 r7 refl a7 i) (none_of 2 8 r8 refl a8 i) (none_of 2 9 r9 refl a9 i)) ∙ append-nil r2)) good2;
-      seven = subst (IsGoodRecord 7) (sym (ap (of_record 7) is ∙ split5 7 r1 r2 r7 r8 r9 ∙ (λ i. joined5 (none_of 7 1 r1 refl a1 i) (none_of 7 2 r2 refl a2 i) (all_of 7 r7 refl a7 i) (none_of 7 8 r8 refl a8 i) (none_of 7 9 r9 refl a9 i)) ∙ append-nil r7)) good7;
-      eight = subst (IsGoodRecord 8) (sym (ap (of_record 8) is ∙ split5 8 r1 r2 r7 r8 r9 ∙ (λ i. joined5 (none_of 8 1 r1 refl a1 i) (none_of 8 2 r2 refl a2 i) (none_of 8 7 r7 refl a7 i) (all_of 8 r8 refl a8 i) (none_of 8 9 r9 refl a9 i)) ∙ append-nil r8)) good8;
-      nine = subst (IsGoodRecord 9) (sym (ap (of_record 9) is ∙ split5 9 r1 r2 r7 r8 r9 ∙ (λ i. joined5 (none_of 9 1 r1 refl a1 i) (none_of 9 2 r2 refl a2 i) (none_of 9 7 r7 refl a7 i) (none_of 9 8 r8 refl a8 i) (all_of 9 r9 refl a9 i)))) good9;
-    }
+later_all : (own : ℕ → List Dataset) (r : ℕ) (rs : List ℕ) (run ds : List Dataset) → AreOf r run → AllByRecursion (λ k. nat_eq r k ≡ false) rs
+    → MayAll own rs (run ++ ds) → MayAll own rs ds
+later_all own r [] run ds are apart may = tt
+later_all own r (k ∷ rs) run ds are apart may = (
+  subst (λ (xs : List Dataset). MayReplace k xs (own k))
+      (filter-append (λ (x : Dataset). nat_eq x.rec k) run ds ∙ ap (λ (xs : List Dataset). xs ++ of_record k ds) (none_of k r run apart.0 are)) may.0,
+  later_all own r rs run ds are apart.1 may.1,
+)
+
+none_later : (own : ℕ → List Dataset) (r : ℕ) (rs : List ℕ) (ds : List Dataset) → AreOf r ds → AllByRecursion (λ k. nat_eq r k ≡ false) rs → MayAll own rs ds
+    → flat_map own rs ≡ []
+none_later own r [] ds are apart may = refl
+none_later own r (k ∷ rs) ds are apart may =
+    ap (λ (xs : List Dataset). xs ++ flat_map own rs) (none_seen (own k) (λ n. ap (occurs n) (sym (none_of k r ds apart.0 are)) ∙ may.0.seen n))
+    ∙ none_later own r rs ds are apart.1 may.1
+
+-- where one list is parted in two ways
+parted : (a b c d : List Dataset) → a ++ b ≡ c ++ d
+    → ((x : List Dataset) × (c ≡ a ++ x) × (b ≡ x ++ d)) ⊎ ((y : List Dataset) × (a ≡ c ++ y) × (d ≡ y ++ b))
+parted [] b c d e = inl (c, refl, e)
+parted (x ∷ a) b [] d e = inr (x ∷ a, refl, sym e)
+parted (x ∷ a) b (y ∷ c) d e =
+    let first : x ≡ y = cc in
+    let rest : a ++ b ≡ c ++ d = cc in
+    elim (parted a b c d rest) [
+      | inl (z, left, right) ↦ inl (z, (λ i. sym first i ∷ left i), right)
+      | inr (z, left, right) ↦ inr (z, (λ i. first i ∷ left i), right)
+    ]
+
+-- Datasets with others for each run continue alike, and their last record is the same.
+swapped : (own : ℕ → List Dataset) (rs : List ℕ) (ds more : List Dataset) → AreApart rs → MayAll own rs ds → AreRecords rs (ds ++ more)
+    → AreRecords rs (flat_map own rs ++ more) × ((k : ℕ) → last_record k ds ≡ last_record k (flat_map own rs))
+swapped own [] ds more apart may none =
+    let nil = empty_front ds more none in (ap (λ (xs : List Dataset). xs ++ more) (sym nil) ∙ none, (λ k. ap (last_record k) nil))
+swapped own (r ∷ rs) ds more apart may (run, rest, parts, good, later) = elim (parted ds more run rest parts) [
+  | inl (x, run_is, more_is) ↦
+      (let are = are_of r ds (all_front _ ds x (subst (AreGood r) run_is good.each)) in
+      let here = subst (λ (xs : List Dataset). MayReplace r xs (own r)) (all_of r ds (eq-eqb r r refl) are) may.0 in
+      let is : own r ++ flat_map own rs ≡ own r = ap (λ (xs : List Dataset). own r ++ xs) (none_later own r rs ds are apart.1 may.1) ∙ append-nil (own r) in (
+        (
+          own r ++ x,
+          rest,
+          ap (λ (xs : List Dataset). xs ++ more) is ∙ ap (λ (xs : List Dataset). own r ++ xs) more_is ∙ sym (append_assoc (own r) x rest),
+          good_with r ds (own r) x here (subst (IsGoodRecord r) run_is good),
+          later,
+        ),
+        (λ k. last_alike k r ds (own r) are (are_of r (own r) here.each) here.seen ∙ ap (last_record k) (sym is)),
+      ))
+  | inr (y, ds_is, rest_is) ↦
+      (let are = are_of r run good.each in
+      let all = subst (MayAll own (r ∷ rs)) ds_is may in
+      let none : of_record r y ≡ [] =
+      empty_front (of_record r y) (of_record r more)
+      (sym (filter-append (λ (x : Dataset). nat_eq x.rec r) y more) ∙ ap (of_record r) (sym rest_is) ∙ none_in_records r rs rest later apart.0) in
+      let whole : of_record r (run ++ y) ≡ run =
+      filter-append (λ (x : Dataset). nat_eq x.rec r) run y ∙ (λ i. all_of r run (eq-eqb r r refl) are i ++ none i) ∙ append-nil run in
+      let here = subst (λ (xs : List Dataset). MayReplace r xs (own r)) whole all.0 in
+      let (sections, last) = swapped own rs y more apart.2 (later_all own r rs run y are apart.1 all.1) (subst (AreRecords rs) rest_is later) in (
+        (
+          own r,
+          flat_map own rs ++ more,
+          append_assoc (own r) (flat_map own rs) more,
+          subst (IsGoodRecord r) (append-nil (own r)) (good_with r run (own r) [] here (subst (IsGoodRecord r) (sym (append-nil run)) good)),
+          sections,
+        ),
+        (λ k.
+            ap (last_record k) ds_is ∙ last_of_joined k run y ∙ last (last_record k run)
+            ∙ ap (λ (j : ℕ). last_record j (flat_map own rs)) (last_alike k r run (own r) are (are_of r (own r) here.each) here.seen)
+            ∙ sym (last_of_joined k (own r) (flat_map own rs))),
+      ))
+]
+
+-- ---- records 1 and 2
+
+good_of : (r : ℕ) (ds : List Dataset) → AllByRecursion IsGoodDataset ds → AreGood r (of_record r ds)
+good_of r [] all = tt
+good_of r (d ∷ ds) all = by (nat_eq d.rec r) refl (good_of r ds all.1)
   where
-    split5 : (k : ℕ) (a b c d e : List Dataset) → of_record k (joined5 a b c d e) ≡ joined5 (of_record k a) (of_record k b) (of_record k c) (of_record k d) (of_record k e)
-    split5 k a b c d e =
-        filter-append (λ (x : Dataset). nat_eq x.rec k) a (b ++ (c ++ (d ++ e)))
-        ∙ ap (λ (xs : List Dataset). of_record k a ++ xs)
-        (filter-append (λ (x : Dataset). nat_eq x.rec k) b (c ++ (d ++ e))
-        ∙ ap (λ (xs : List Dataset). of_record k b ++ xs) (filter-append (λ (x : Dataset). nat_eq x.rec k) c (d ++ e) ∙ ap (λ (xs : List Dataset). of_record k c ++ xs) (filter-append (λ (x : Dataset). nat_eq x.rec k) d e)))
+    by : (b : Bool) → nat_eq d.rec r ≡ b → AreGood r (of_record r ds) → AreGood r (cond b (d ∷ of_record r ds) (of_record r ds))
+    by true is more = ((eqb-true d.rec r is, all.0), more)
+    by false is more = more
 
--- ---- order
-
-pub join_ordered : (r : ℕ) (xs ys : List Dataset) → IsOrdered r xs → IsOrdered (last_record r xs) ys → IsOrdered r (xs ++ ys)
-join_ordered r [] ys a b = b
-join_ordered r (x ∷ xs) ys a b = (a.0, join_ordered x.rec xs ys a.1 b)
-
-pub back_ordered : (r : ℕ) (xs ys : List Dataset) → IsOrdered r (xs ++ ys) → IsOrdered (last_record r xs) ys
-back_ordered r [] ys a = a
-back_ordered r (x ∷ xs) ys a = back_ordered x.rec xs ys a.1
-
-lower_ordered : (r s : ℕ) (ds : List Dataset) → r ≤ s → IsOrdered s ds → IsOrdered r ds
-lower_ordered r s [] le is = tt
-lower_ordered r s (d ∷ ds) le is = (omega (arith, le, is.0), is.1)
-
-kept_ordered : (r : ℕ) (ds : List Dataset) → IsOrdered r ds → IsOrdered r (kept ds)
-kept_ordered r [] is = tt
-kept_ordered r (d ∷ ds) is = by (is_kept d.rec) (kept_ordered d.rec ds is.1)
+-- they stand in their order
+kept_runs : (xs ys : List Dataset) → SectionsLive (xs ++ ys) → kept xs ≡ of_record 1 xs ++ of_record 2 xs
+    → kept (xs ++ ys) ≡ of_record 1 (xs ++ ys) ++ of_record 2 (xs ++ ys)
+kept_runs xs [] alive before = subst (λ (zs : List Dataset). kept zs ≡ of_record 1 zs ++ of_record 2 zs) (sym (append-nil xs)) before
+kept_runs xs (d ∷ ys) alive before =
+    let parts = append_assoc xs (d ∷ []) ys in
+    subst (λ (zs : List Dataset). kept zs ≡ of_record 1 zs ++ of_record 2 zs) parts (kept_runs (xs ++ d ∷ []) ys (subst SectionsLive (sym parts) alive) here)
   where
-    by : (b : Bool) → IsOrdered d.rec (kept ds) → IsOrdered r (cond b (d ∷ kept ds) (kept ds))
-    by true more = (is.0, more)
-    by false more = lower_ordered r d.rec (kept ds) is.0 more
+    a : List Dataset
+    a = of_record 1 xs
+
+    b : List Dataset
+    b = of_record 2 xs
+
+    none : nat_eq d.rec 1 ≡ true → b ≡ []
+    none one =
+        let front : SectionsLive (xs ++ d ∷ []) = front_alive (xs ++ d ∷ []) ys (subst SectionsLive (sym (append_assoc xs (d ∷ []) ys)) alive) in
+        let is : section_after (xs ++ d ∷ []) ≡ 1 = last_more 0 xs d ∙ eqb-true d.rec 1 one in
+        empty_front b (of_record 2 (d ∷ []))
+        (sym (filter-append (λ (x : Dataset). nat_eq x.rec 2) xs (d ∷ [])) ∙ (alive_follows (xs ++ d ∷ []) front).fresh 2 (ap (λ (s : ℕ). is_coming s 2) is))
+
+    by : (one two : Bool) → nat_eq d.rec 1 ≡ one → nat_eq d.rec 2 ≡ two
+        → kept xs ++ cond (one || two) (d ∷ []) [] ≡ (a ++ cond one (d ∷ []) []) ++ (b ++ cond two (d ∷ []) [])
+    by true true one two = absurd (let e = eqb-true d.rec 1 one in let f = eqb-true d.rec 2 two in omega (arith, e, f))
+    by true false one two =
+        ap (λ (ks : List Dataset). ks ++ d ∷ []) (before ∙ ap (λ (zs : List Dataset). a ++ zs) (none one) ∙ append-nil a)
+        ∙ sym (append-nil (a ++ d ∷ [])) ∙ sym (ap (λ (zs : List Dataset). (a ++ d ∷ []) ++ (zs ++ [])) (none one))
+    by false true one two =
+        ap (λ (ks : List Dataset). ks ++ d ∷ []) before ∙ append_assoc a b (d ∷ []) ∙ sym (ap (λ (zs : List Dataset). zs ++ (b ++ d ∷ [])) (append-nil a))
+    by false false one two = append-nil (kept xs) ∙ before ∙ sym (λ i. append-nil a i ++ append-nil b i)
+
+    here : kept (xs ++ d ∷ []) ≡ of_record 1 (xs ++ d ∷ []) ++ of_record 2 (xs ++ d ∷ [])
+    here =
+        filter-append (λ (x : Dataset). is_kept x.rec) xs (d ∷ []) ∙ by (nat_eq d.rec 1) (nat_eq d.rec 2) refl refl
+        ∙ sym (λ i. filter-append (λ (x : Dataset). nat_eq x.rec 1) xs (d ∷ []) i ++ filter-append (λ (x : Dataset). nat_eq x.rec 2) xs (d ∷ []) i)
 
 pub two_at_most : (r : ℕ) → is_kept r ≡ true → r ≤ 2
 two_at_most r is = by (nat_eq r 1) (nat_eq r 2) refl refl is
@@ -202,95 +213,6 @@ two_at_most r is = by (nat_eq r 1) (nat_eq r 2) refl refl is
     by true c one two yes' = let e = eqb-true r 1 one in omega (arith, e)
     by false true one two yes' = let e = eqb-true r 2 two in omega (arith, e)
     by false false one two bad = absurd (let no' : false ≡ true = bad in cc)
-
-pub fields_low : (r : ℕ) (ds : List Dataset) → r ≤ 2 → AllByRecursion (λ (d : Dataset). is_kept d.rec ≡ true) ds → last_record r ds ≤ 2
-fields_low r [] le all = le
-fields_low r (d ∷ ds) le all = fields_low d.rec ds (two_at_most d.rec all.0) all.1
-
-run_low : (k r : ℕ) (ds : List Dataset) → r ≤ k → AreOf k ds → last_record r ds ≤ k
-run_low k r [] le all = le
-run_low k r (d ∷ ds) le all = run_low k d.rec ds (let e = all.0 in omega (arith, e)) all.1
-
-of_ordered : (k r : ℕ) (ds : List Dataset) → r ≤ k → AreOf k ds → IsOrdered r ds
-of_ordered k r [] le all = tt
-of_ordered k r (d ∷ ds) le all = ((let e = all.0 in omega (arith, e, le)), of_ordered k d.rec ds (let e = all.0 in omega (arith, e)) all.1)
-
-three_ordered : (r : ℕ) (a b c : List Dataset) → r ≤ 7 → AreOf 7 a → AreOf 8 b → AreOf 9 c → IsOrdered r (a ++ (b ++ c))
-three_ordered r a b c le is7 is8 is9 =
-    let low7 = run_low 7 r a le is7 in
-    let low8 = run_low 8 (last_record r a) b (omega (arith, low7)) is8 in
-    join_ordered r a (b ++ c) (of_ordered 7 r a le is7)
-    (join_ordered (last_record r a) b c (of_ordered 8 (last_record r a) b (omega (arith, low7)) is8) (of_ordered 9 (last_record (last_record r a) b) c (omega (arith, low8)) is9))
-
--- ---- five records
-
-five_of : (k : ℕ) → IsFive k → (ds : List Dataset) → AreOf k ds → AllByRecursion (λ d. IsFive d.rec) ds
-five_of k is [] all = tt
-five_of k is (d ∷ ds) all = (subst IsFive (sym all.0) is, five_of k is ds all.1)
-
-five_kept : (ds : List Dataset) → AllByRecursion (λ (d : Dataset). is_kept d.rec ≡ true) ds → AllByRecursion (λ d. IsFive d.rec) ds
-five_kept [] all = tt
-five_kept (d ∷ ds) all = (by (nat_eq d.rec 1) (nat_eq d.rec 2) refl refl all.0, five_kept ds all.1)
-  where
-    by : (b c : Bool) → nat_eq d.rec 1 ≡ b → nat_eq d.rec 2 ≡ c → (b || c) ≡ true → IsFive d.rec
-    by true c one two yes' = inl (eqb-true d.rec 1 one)
-    by false true one two yes' = inr (inl (eqb-true d.rec 2 two))
-    by false false one two bad = absurd (let no' : false ≡ true = bad in cc)
-
-not_same : (s k : ℕ) → k < s → nat_eq s k ≡ false
-not_same s k less = ne_eqb s k (λ same. omega (arith, less, same))
-
--- ---- the datasets of a place, replaced
-
--- others for the datasets of records 7, 8 and 9
-pub record AreLike (ds sevens eights nines : List Dataset) : Type 0 where
-  pub is7 : AreOf 7 sevens
-  pub is8 : AreOf 8 eights
-  pub is9 : AreOf 9 nines
-  pub seven : MayReplace 7 (of_record 7 ds) sevens
-  pub eight : MayReplace 8 (of_record 8 ds) eights
-  pub nine : MayReplace 9 (of_record 9 ds) nines
-  pub present : section_after ds ≡ section_after (kept ds ++ (sevens ++ (eights ++ nines)))
-
-pub sections_continue : (ds more sevens eights nines : List Dataset) → AllByRecursion (λ d. IsFive d.rec) (ds ++ more) → AreLike ds sevens eights nines → AreSections (ds ++ more) → AreSections ((kept ds ++ (sevens ++ (eights ++ nines))) ++ more)
-sections_continue ds more sevens eights nines five like sections =
-    let es = kept ds ++ (sevens ++ (eights ++ nines)) in
-    let keeps = all_kept ds in
-    let good = all_good (ds ++ more) sections in
-    let order = sections_ordered (ds ++ more) sections in
-    let low = fields_low 0 (kept ds) (omega arith) keeps in
-    let first : IsOrdered 0 es = join_ordered 0 (kept ds) (sevens ++ (eights ++ nines)) (kept_ordered 0 ds (front_ordered 0 ds more order)) (three_ordered (last_record 0 (kept ds)) sevens eights nines (omega (arith, low)) like.is7 like.is8 like.is9) in
-    let ordered : IsOrdered 0 (es ++ more) = join_ordered 0 es more first (subst (λ (r : ℕ). IsOrdered r more) like.present (back_ordered 0 ds more order)) in
-    let fives = all_append _ es more (all_append _ (kept ds) (sevens ++ (eights ++ nines)) (five_kept (kept ds) keeps) (all_append _ sevens (eights ++ nines) (five_of 7 (inr (inr (inl refl))) sevens like.is7)
-    (all_append _ eights nines (five_of 8 (inr (inr (inr (inl refl)))) eights like.is8) (five_of 9 (inr (inr (inr (inr refl)))) nines like.is9)))) (all_back _ ds more five) in
-    rebuilt (es ++ more) (ordered_sorted 0 (es ++ more) ordered fives) (record {
-      one = subst (IsGoodRecord 1) (low_same 1 refl) good.one;
-      two = subst (IsGoodRecord 2) (low_same 2 refl) good.two;
-      seven = subst (IsGoodRecord 7) (sym (high 7 sevens refl (all_of 7 sevens refl like.is7) (none_of 7 8 eights refl like.is8) (none_of 7 9 nines refl like.is9) (append-nil sevens))) (good_with 7 (of_record 7 ds) sevens (of_record 7 more) like.seven (subst (IsGoodRecord 7) (filter-append (λ (x : Dataset). nat_eq x.rec 7) ds more) good.seven));
-      eight = subst (IsGoodRecord 8) (sym (high 8 eights refl (none_of 8 7 sevens refl like.is7) (all_of 8 eights refl like.is8) (none_of 8 9 nines refl like.is9) (append-nil eights))) (good_with 8 (of_record 8 ds) eights (of_record 8 more) like.eight (subst (IsGoodRecord 8) (filter-append (λ (x : Dataset). nat_eq x.rec 8) ds more) good.eight));
-      nine = subst (IsGoodRecord 9) (sym (high 9 nines refl (none_of 9 7 sevens refl like.is7) (none_of 9 8 eights refl like.is8) (all_of 9 nines refl like.is9) refl)) (good_with 9 (of_record 9 ds) nines (of_record 9 more) like.nine (subst (IsGoodRecord 9) (filter-append (λ (x : Dataset). nat_eq x.rec 9) ds more) good.nine));
-    })
-  where
-    split : (k : ℕ) → of_record k ((kept ds ++ (sevens ++ (eights ++ nines))) ++ more) ≡ (of_record k (kept ds) ++ (of_record k sevens ++ (of_record k eights ++ of_record k nines))) ++ of_record k more
-    split k =
-        filter-append (λ (x : Dataset). nat_eq x.rec k) (kept ds ++ (sevens ++ (eights ++ nines))) more
-        ∙ ap (λ (xs : List Dataset). xs ++ of_record k more)
-        (filter-append (λ (x : Dataset). nat_eq x.rec k) (kept ds) (sevens ++ (eights ++ nines))
-        ∙ ap (λ (xs : List Dataset). of_record k (kept ds) ++ xs)
-        (filter-append (λ (x : Dataset). nat_eq x.rec k) sevens (eights ++ nines) ∙ ap (λ (xs : List Dataset). of_record k sevens ++ xs) (filter-append (λ (x : Dataset). nat_eq x.rec k) eights nines)))
-
-    low_same : (k : ℕ) → is_kept k ≡ true → of_record k (ds ++ more) ≡ of_record k ((kept ds ++ (sevens ++ (eights ++ nines))) ++ more)
-    low_same k is =
-        let le = two_at_most k is in
-        filter-append (λ (x : Dataset). nat_eq x.rec k) ds more
-        ∙ ap (λ (xs : List Dataset). xs ++ of_record k more) (sym (of_kept k is ds) ∙ sym (append-nil (of_record k (kept ds)))
-        ∙ sym (λ i. of_record k (kept ds) ++ (none_of k 7 sevens (not_same 7 k (omega (arith, le))) like.is7 i ++ (none_of k 8 eights (not_same 8 k (omega (arith, le))) like.is8 i ++ none_of k 9 nines (not_same 9 k (omega (arith, le))) like.is9 i))))
-        ∙ sym (split k)
-
-    high : (k : ℕ) (run : List Dataset) {a b c : List Dataset} → is_kept k ≡ false → of_record k sevens ≡ a → of_record k eights ≡ b → of_record k nines ≡ c → a ++ (b ++ c) ≡ run
-        → of_record k ((kept ds ++ (sevens ++ (eights ++ nines))) ++ more) ≡ run ++ of_record k more
-    high k run not e f g all =
-        split k ∙ ap (λ (xs : List Dataset). xs ++ of_record k more) ((λ i. none_in_fields k (kept ds) not (all_kept ds) i ++ (e i ++ (f i ++ g i))) ∙ all)
 
 -- ---- record 7
 
@@ -367,52 +289,29 @@ sevens_once n numbers =
         by_number (λ (k : ℕ). cond (nat_eq 10 k) 1 0 + (cond (nat_eq 20 k) 1 0 + (cond (nat_eq 90 k) 1 0 + cond (nat_eq 95 k) 1 0)) ≤ 1) (omega arith) (omega arith) (omega arith) (omega arith)
         (λ k other. rw (other.mode, other.largest, other.announced, other.maximum) (omega arith)) n
 
--- records 8 and 9, whose one number is 10
-abbrev pub AreTens : List Dataset → Type 0
-AreTens ds = AllByRecursion (λ d. d.set ≡ 10) ds
-
-tens_same : (n : ℕ) (xs ys : List Dataset) → AreTens xs → AreTens ys → length xs ≡ length ys → (occurs n xs ≡ occurs n ys) × (occurrences n xs ≡ occurrences n ys)
-tens_same n [] [] a b e = (refl, refl)
-tens_same n [] (y ∷ ys) a b e = absurd (omega (arith, e))
-tens_same n (x ∷ xs) [] a b e = absurd (omega (arith, e))
-tens_same n (x ∷ xs) (y ∷ ys) a b e =
-    let more = tens_same n xs ys a.1 b.1 (omega (arith, e)) in
-    let set : x.set ≡ y.set = a.0 ∙ sym b.0 in
-    let first = ap (λ (s : ℕ). cond {A = ℕ} (nat_eq s n) 1 0) set in
-    let left = occurrences_cons n x xs in
-    let right = occurrences_cons n y ys in
-    let rest = more.1 in
-    ((λ i. nat_eq (set i) n || more.0 i), omega (arith, first, left, right, rest))
-
-pub replace_tens : (r : ℕ) (xs ys : List Dataset) → AreTens xs → AreTens ys → length xs ≡ length ys → AreGood r ys → MayReplace r xs ys
-replace_tens r xs ys a b e good = record {
-  each = good;
-  seen = λ n. (tens_same n xs ys a b e).0;
-  fewer = λ n no'. let same = (tens_same n xs ys a b e).1 in omega (arith, same);
-}
+-- ---- records 8 and 9, whose one number is 10
 
 pub part_tens : (parts : List (List ℕ)) → AreTens (subfile_datasets parts)
 part_tens [] = tt
 part_tens (p ∷ parts) = (refl, part_tens parts)
 
 pub end_tens : (ended : Bool) (object : List ℕ) → AreTens (plain_end ended object)
-end_tens true object = (refl, tt)
-end_tens false object = tt
+end_tens ended object = end_each (λ d. d.set ≡ 10) ended object refl
+
+end_once : (n : ℕ) (ended : Bool) (object : List ℕ) → occurrences n (plain_end ended object) ≤ 1
+end_once n true object = let all = occurrences_cons n (number_dataset 9 10 (length object)) [] in by (nat_eq 10 n) all
+  where
+    by : (b : Bool) → occurrences n (plain_end true object) ≡ cond b 1 0 + 0 → occurrences n (plain_end true object) ≤ 1
+    by true e = omega (arith, e)
+    by false e = omega (arith, e)
+end_once n false object = omega arith
 
 pub good_parts : (size count : ℕ) (xs : List ℕ) → Octets xs → length xs ≤ greatest_size → AreGood 8 (subfile_datasets (filled size count xs))
-good_parts size zero xs all few = tt
-good_parts size (suc count) xs all few =
-    let first = length-take size xs in
-    let rest = length-drop size xs in (
-      (refl, good_elsewhere refl (omega arith) (front_are size xs all) (part_meets (take size xs) (omega (arith, few, first)))),
-      good_parts size count (drop size xs) (back_octets size xs all) (omega (arith, few, rest)),
-    )
+good_parts size count xs all few =
+    parts_each _ size count xs (λ ys short less good. (refl, good_elsewhere refl (omega arith) (good all) (part_meets ys (omega (arith, less, few)))))
 
 pub good_end : NumberDatasetsAreGood → (ended : Bool) (object : List ℕ) → length object ≤ greatest_size → AreGood 9 (plain_end ended object)
-good_end rows true object few = ((refl, rows.confirmed (length object) few), tt)
-good_end rows false object few = tt
-
--- ---- the plain datasets
+good_end rows ended object few = end_each _ ended object (refl, rows.confirmed (length object) few)
 
 in_one : (set : ℕ) (o : Option ℕ) → InRowAt set o → AllByRecursion InRow (one_stated set o)
 in_one set None h = tt
@@ -462,32 +361,133 @@ replace_sevens rows es all = record { each = good_sevens rows ps all; seen = see
     seen : (n : ℕ) → occurs n es ≡ occurs n sevens
     seen n = occurs_stated n es ∙ ap is_some (same_stated n ps (numbers_of sevens) (same_numbers ps (numbers_of sevens) same) all stated) ∙ sym (occurs_stated n sevens)
 
-good_octets : (r : ℕ) (es more : List Dataset) → AreGood r (es ++ more) → Octets (joined es)
-good_octets r [] more all = tt
-good_octets r (e ∷ es) more all = octets_append e.octets (joined es) all.0.1.octets (good_octets r es more all.1)
+-- the numbers of record 7 are those that a place of the object has
+pub record SameStated (numbers : Numbers) (ps : List Stated) : Type 0 where
+  pub mode : numbers.mode ≡ number_at 10 ps
+  pub largest : numbers.largest ≡ number_at 20 ps
+  pub are : numbers ≡ numbers_in ps
 
--- Datasets that follow some to sections follow their plain ones too.
-pub plain_on : AnswerLaws → PlainDatasetsContinueAlike
-plain_on laws ds more sections few fits =
-    let alive : SectionsLive ds = (more, sections) in
-    let stated = stated_after_all laws.follow.objects ds alive few in
-    let ps = numbers_of (of_record 7 ds) in
-    let numbers = numbers_in ps in
-    let heads = length (of_record 8 ds) in
-    let object = object_of ds in
-    let ended = nat_eq (section_after ds) 9 in
-    let size = unwrap_or numbers.largest 0 in
-    let tens = tens_after laws.numbers ds alive in
-    let good = all_good (ds ++ more) sections in
-    let octets : Octets object = good_octets 8 (of_record 8 ds) (of_record 8 more) (subst (λ (xs : List Dataset). AreGood 8 xs) (filter-append (λ (x : Dataset). nat_eq x.rec 8) ds more) good.eight.each) in
-    sections_continue ds more (plain_numbers numbers) (subfile_datasets (filled size heads object)) (plain_end ended object) (alive_five (ds ++ more) ([], subst AreSections (sym (append-nil (ds ++ more))) sections))
-    (record {
-      is7 = are_sevens numbers;
-      is8 = are_eights (filled size heads object);
-      is9 = are_nines ended object;
-      seven = replace_sevens laws.rows (of_record 7 ds) stated.stated.each;
-      eight = replace_tens 8 (of_record 8 ds) (subfile_datasets (filled size heads object)) tens.0 (part_tens (filled size heads object)) (sym (filled_count size heads object)) (good_parts size heads object octets fits);
-      nine = replace_tens 9 (of_record 9 ds) (plain_end ended object) tens.1 (end_tens ended object) (nines laws.follow ds alive ∙ sym (end_length ended object)) (good_end laws.rows ended object fits);
-      present = present_same laws ds alive stated;
+pub numbers_same : (numbers : Numbers) (ps : List Stated) → number_list numbers ≡ stated_numbers ps → SameStated numbers ps
+numbers_same numbers ps e =
+    let mode : numbers.mode ≡ number_at 10 ps = cc in
+    let largest : numbers.largest ≡ number_at 20 ps = cc in
+    let announced : numbers.announced ≡ number_at 90 ps = cc in
+    let maximum : numbers.maximum ≡ number_at 95 ps = cc in
+    record { mode = mode; largest = largest; are = λ i. record { mode = mode i; largest = largest i; announced = announced i; maximum = maximum i } }
+
+-- subfiles may repeat, and there are no others than 8:10 that could not
+eights_repeat : (n : ℕ) → repeats 8 n ≡ true
+unfolding row_of table
+eights_repeat n = elim (eqb_tells 10 n) [
+  | inl is ↦ subst (λ (k : ℕ). repeats 8 k ≡ true) is.1 refl
+  | inr other ↦ rw (other.0) refl
+]
+
+-- ---- the plain datasets
+
+-- The plain datasets with these fields, numbers and subfiles stand for others.
+pub record StandsFor (ds fields : List Dataset) (numbers : Numbers) (heads : ℕ) (object : List ℕ) (ended : Bool) : Type 0 where
+  pub alive : SectionsLive ds
+  pub few : length (of_record 8 ds) ≤ max_subfiles
+  pub fields_are : kept ds ≡ fields
+  pub numbers_are : stated_numbers (numbers_of (of_record 7 ds)) ≡ number_list numbers
+  pub some : one_of_some (length (of_record 8 ds)) ≡ one_of_some heads
+  pub ends : length (of_record 9 ds) ≡ cond ended 1 0
+  pub many : heads ≤ max_subfiles
+  pub octets : Octets object
+  pub fits : length object ≤ greatest_size
+  pub room : length object ≤ heads * unwrap_or numbers.largest 0
+
+-- The others continue as the one do.
+pub record Continues (ds es : List Dataset) : Type 0 where
+  pub alive : SectionsLive es
+  pub present : section_after ds ≡ section_after es
+  pub seen : SameRecords ds es
+
+pub plain_like : AnswerLaws → (ds fields : List Dataset) (numbers : Numbers) (heads : ℕ) (object : List ℕ) (ended : Bool)
+    → StandsFor ds fields numbers heads object ended → Continues ds (plain fields numbers heads object ended)
+plain_like laws ds fields numbers heads object ended s = record { alive = alive; present = both.1 0 ∙ ap section_after is; seen = seen }
+  where
+    ps : List Stated
+    ps = numbers_of (of_record 7 ds)
+
+    eights : List Dataset
+    eights = subfile_datasets (filled (unwrap_or numbers.largest 0) heads object)
+
+    last : List Dataset
+    last = plain_end ended object
+
+    es : List Dataset
+    es = plain fields numbers heads object ended
+
+    own : ℕ → List Dataset
+    own r = cond (nat_eq r 7) (plain_numbers numbers) (cond (nat_eq r 8) eights (cond (nat_eq r 9) last (of_record r ds)))
+
+    stated : AllByRecursion InRow ps
+    stated = (stated_after_all laws.follow.objects ds s.alive s.few).stated.each
+
+    are : numbers ≡ numbers_in ps
+    are = (numbers_same numbers ps (sym s.numbers_are)).are
+
+    tens : AreTens (of_record 8 ds) × AreTens (of_record 9 ds)
+    tens = tens_after laws.numbers ds s.alive
+
+    good : AllByRecursion IsGoodDataset ds
+    good = all_front _ ds s.alive.0 (each_good (ds ++ s.alive.0) s.alive.1)
+
+    itself : (r : ℕ) → MayReplace r (of_record r ds) (of_record r ds)
+    itself r = record { each = good_of r ds good; seen = λ n. refl; fewer = λ n no'. omega arith }
+
+    eight : MayReplace 8 (of_record 8 ds) eights
+    eight = record {
+      each = good_parts (unwrap_or numbers.largest 0) heads object s.octets s.fits;
+      seen = λ n. tens_seen n (of_record 8 ds) eights tens.0 (part_tens (filled (unwrap_or numbers.largest 0) heads object))
+          (s.some ∙ sym (ap one_of_some (filled_count (unwrap_or numbers.largest 0) heads object)));
+      fewer = λ n no'. absurd (let bad : true ≡ false = sym (eights_repeat n) ∙ no' in cc);
+    }
+
+    seven : MayReplace 7 (of_record 7 ds) (plain_numbers numbers)
+    seven = subst (λ (n : Numbers). MayReplace 7 (of_record 7 ds) (plain_numbers n)) (sym are) (replace_sevens laws.rows (of_record 7 ds) stated)
+
+    nine_seen : (n : ℕ) → occurs n (of_record 9 ds) ≡ occurs n last
+    nine_seen n = tens_seen n (of_record 9 ds) last tens.1 (end_tens ended object) (ap one_of_some (s.ends ∙ sym (end_length ended object)))
+
+    nine : MayReplace 9 (of_record 9 ds) last
+    nine = record {
+      each = good_end laws.rows ended object s.fits;
+      seen = nine_seen;
+      fewer = λ n no'. fewer_by n (of_record 9 ds) last (nine_seen n) (end_once n ended object);
+    }
+
+    both : AreSections (flat_map own records ++ s.alive.0) × ((k : ℕ) → last_record k ds ≡ last_record k (flat_map own records))
+    both =
+        swapped own records ds s.alive.0
+        records_apart
+        (itself 1, (itself 2, (seven, (eight, (nine, tt)))))
+        s.alive.1
+
+    is : flat_map own records ≡ es
+    is =
+        sym (append_assoc (of_record 1 ds) (of_record 2 ds) (plain_numbers numbers ++ (eights ++ (last ++ []))))
+        ∙ (λ i. (sym (kept_runs [] ds s.alive refl) ∙ s.fields_are) i ++ (plain_numbers numbers ++ (eights ++ append-nil last i)))
+
+    alive : SectionsLive es
+    alive = (s.alive.0, subst (λ (xs : List Dataset). AreSections (xs ++ s.alive.0)) is both.0)
+
+    tell : Tell es fields numbers heads object ended
+    tell = plain_told fields numbers heads object ended (record {
+      kept = subst (AllByRecursion (λ (d : Dataset). is_kept d.rec ≡ true)) s.fields_are (all_kept ds);
+      fit = subst (λ (n : Numbers). AllByRecursion IsSize (number_list n)) (sym are) (fit_in_rows ps stated);
+      room = s.room;
     })
-    sections
+
+    seen : SameRecords ds es
+    seen =
+        let count = tell.heads_are in
+        let many = s.many in
+        same_shape laws.follow laws.numbers ds es s.alive alive s.few (omega (arith, count, many)) (record {
+          ended = ap (λ (r : ℕ). nat_eq r 9) (both.1 0 ∙ ap section_after is);
+          fields = s.fields_are ∙ sym tell.kept_are;
+          numbers = s.numbers_are ∙ sym tell.numbers_are;
+          some = s.some ∙ sym (ap one_of_some tell.heads_are);
+        })

@@ -1,53 +1,29 @@
 -- Readers of a possible place stand where octets lead there.
-use Rattle.std.proofs.Common.{◌≡◌, ℕ, zero, suc, ◌+◌, ◌-◌, ◌<◌, ◌≤◌, nat_eq, if◌then◌else◌, Bool, true, false, List, [], ◌∷◌, ◌++◌, length, Option, Some, None, refl, ap, sym, subst, ◌∙◌, inl, inr, arith, append-nil}
-use Rattle.std.specs.List.{AllByRecursion}
-use Rattle.std.proofs.lemmas.Bool.{eqb-true}
-use Rattle.std.proofs.lemmas.Bool.Decides.{eqb_tells}
-use Rattle.iim_dataset.specs.Format.Datasets.{Dataset, of_record, count_octets}
-use Rattle.iim_dataset.specs.Format.Splits.{Begun, InTag, InData, Reads}
-use Rattle.iim_dataset.specs.States.Places.{IsKeptAs, between}
-use Rattle.iim_dataset.specs.declared.head.Head.{Head}
-use Rattle.iim_dataset.specs.declared.place.DatasetPlace.{DatasetPlace}
-use Rattle.iim_fields.specs.Format.Alive.{SectionsLive}
-use Rattle.iim_fields.specs.Format.Faults.{is_kept, kept, section_after}
+use Rattle.std.proofs.Common.{◌≡◌, ℕ, ◌+◌, ◌-◌, ◌<◌, ◌≤◌, nat_eq, if◌then◌else◌, Bool, true, false, List, [], ◌∷◌, ◌++◌, length, Option, Some, None, refl, ap}
+use Rattle.std.proofs.Common.{sym, subst, ◌∙◌, inl, inr, arith}
+use Rattle.iim_places.proofs.Words.{AllByRecursion, eqb-true, eqb_tells, Dataset, of_record, count_octets, Begun, InTag, InData, Reads, IsKeptAs, between, Head}
+use Rattle.iim_places.proofs.Words.{DatasetPlace, SectionsLive, is_kept, kept, section_after, Limits, head_alive, place_after_datasets, ObjectEnded, Confirmed}
+use Rattle.iim_places.proofs.Words.{NotEnded, place_after, max_subfiles, lengths_of, numbers_of, IsPossible, stated_numbers, State, AreLines, text_so_far}
+use Rattle.iim_places.proofs.Words.{Header, IsMessage, LeadsToSaved, saved, MessagePlace, object_of, IsSize, RecordsLive, begun_of_object, object_after}
+use Rattle.iim_places.proofs.Words.{one_of_some, are_ended, begun_subfiles, ByLayersLaws, PlaceLaws, FeedLaws, section, Numbers, number_list, plain, are_some}
+use Rattle.iim_places.proofs.Words.{Phase, TagBegun, AllEnded, phase_of, place_at, CanContinue, CanContinueAt}
 use Rattle.iim_fields.specs.States.Standing as records
-use Rattle.iim_fields.specs.declared.limits.Limits.{Limits}
-use Rattle.iim_fields.proofs.Sections.{head_alive}
-use Rattle.iim_object.specs.Format.Numbers.{place_after_datasets, place_ended, ending_of}
-use Rattle.iim_object.specs.Format.Objects.{ObjectEnded, Confirmed, SubfileBegun}
-use Rattle.iim_object.specs.Format.Places.{NotEnded, place_after}
 use Rattle.iim_object.specs.Format.Places as objects
-use Rattle.iim_object.specs.Format.Plans.{max_subfiles}
 use Rattle.iim_object.specs.States.Reading as reading
-use Rattle.iim_object.specs.Format.Records.{lengths_of, numbers_of}
-use Rattle.iim_object.specs.States.Saved.{IsAt, IsPossible, stated_numbers}
-use Rattle.iim_object.specs.declared.reading.state.State.{State}
-use Rattle.wire_story.specs.Format.Texts.{AreLines}
-use Rattle.wire_message.specs.Format.Layers.{text_so_far}
-use Rattle.wire_message.specs.Format.Messages.{Header, IsMessage}
+use Rattle.iim_object.specs.States.Saved.{IsAt}
 use Rattle.wire_message.specs.States.Reading as wire
-use Rattle.wire_message.specs.States.Saved.{LeadsToSaved, saved}
 use Rattle.wire_message.specs.States.SoFar.{LeadsTo}
 use Rattle.wire_message.specs.declared.place.Place.{Place as Message}
 use Rattle.wire_message.specs.declared.place.Place.TheVariants as at_message
 use Rattle.wire_message.specs.declared.saved.MessagePart.TheVariants as part
-use Rattle.wire_message.specs.declared.saved.MessagePlace.{MessagePlace}
-use Rattle.iim_places.specs.Format.Admitted.{object_of}
-use Rattle.iim_places.specs.TicketParts.{IsSize}
-use Rattle.iim_places.specs.States.ByLayers.{RecordsLive, begun_of_object, object_after, one_of_some, are_ended, begun_subfiles}
-use Rattle.iim_places.specs.Laws.Lower.{ByLayersLaws, PlaceLaws, FeedLaws}
-use Rattle.iim_places.specs.Format.Open.{section}
-use Rattle.iim_places.specs.States.PlainDatasets.{Numbers, number_list, plain}
 use Rattle.iim_places.specs.States.Readers.{RecordsStand, MessageStands, has_come, tag_place}
-use Rattle.iim_places.specs.States.Counts.{are_some}
-use Rattle.iim_places.specs.Format.Tickets.{Place, Phase, TagBegun, AllEnded, phase_of}
-use Rattle.iim_places.specs.Format.Tokens.{place_at, ObjectLives, CanContinue, CanContinueAt}
-use Rattle.iim_places.proofs.Alike.{Fits, told_by}
-use Rattle.iim_places.proofs.LayersLead.{less_none, same_stated, present_ended}
-use Rattle.iim_places.proofs.LeadsByLayers.{whole_at, subfile_at, opened_at, confirmed_at, few_heads, few_with_head, nine_ended, one_same}
-use Rattle.iim_places.proofs.PlainOpens.{fit_in_rows, possible_of}
+use Rattle.iim_places.specs.Format.Tickets.{Place}
+use Rattle.iim_places.proofs.ByLayers.{less_none, opened_at, confirmed_at, nine_ended, one_same, few_subfiles, led_at, possible_at}
+use Rattle.iim_places.proofs.PlainOpens.{fit_in_rows}
 use Rattle.iim_places.proofs.SamePlace.{has_begun, none_present}
-use Rattle.iim_places.proofs.SameRecords.{IsStated, SameRecords, same_shape, stated_after_all, stated_at}
+use Rattle.iim_places.proofs.SameRecords.{SameRecords, same_shape, stated_after_all}
+use Rattle.iim_places.proofs.Plain.{Fits, plain_told, present_ended}
+use Rattle.iim_places.proofs.PlainContinues.{numbers_same}
 
 -- by which an unpacker is made of readers
 pub record RestoreLaws : Type 0 where
@@ -62,10 +38,6 @@ pub record Like (es ds : List Dataset) : Type 0 where
   pub kept_are : kept es ≡ kept ds
   pub same : SameRecords es ds
 
-few_subfiles : (n : ℕ) → one_of_some n ≤ max_subfiles
-few_subfiles zero = omega arith
-few_subfiles (suc n) = omega arith
-
 pub like : RestoreLaws → (fields : List Dataset) (numbers : Numbers) (some : ℕ) (ended : Bool) (ds : List Dataset) → AllByRecursion (λ (d : Dataset). is_kept d.rec ≡ true) fields
     → number_list numbers ≡ stated_numbers (numbers_of (of_record 7 ds)) → SectionsLive (plain fields numbers (one_of_some some) [] ended) → SectionsLive ds → length (of_record 8 ds) ≤ max_subfiles → fields ≡ kept ds
     → some ≡ length (of_record 8 ds) → nat_eq (section_after ds) 9 ≡ ended → Like (plain fields numbers (one_of_some some) [] ended) ds
@@ -73,9 +45,9 @@ like laws fields numbers some ended ds keeps same alive there few fields_are som
     let es = plain fields numbers (one_of_some some) [] ended in
     let ps = numbers_of (of_record 7 ds) in
     let stated = stated_after_all laws.layers.opens.answer.follow.objects ds there few in
-    let is = same_stated numbers ps same in
+    let is = numbers_same numbers ps same in
     let fits : Fits fields numbers (one_of_some some) [] = record { kept = keeps; fit = subst (λ (n : Numbers). AllByRecursion IsSize (number_list n)) (sym is.are) (fit_in_rows ps stated.stated.each); room = omega arith } in
-    let tell = told_by fields numbers (one_of_some some) [] ended fits in
+    let tell = plain_told fields numbers (one_of_some some) [] ended fits in
     let heads = tell.heads_are in
     record {
       kept_are = tell.kept_are ∙ fields_are;
@@ -160,31 +132,10 @@ pub object_data : RestoreLaws → (limits : Limits) (reader : Option State) (ds 
     → ((p : objects.Place) → IsAt (stated_numbers (numbers_of (of_record 7 ds))) (length (object_of ds ++ (if nat_eq h.rec 8 then xs else []))) (if nat_eq h.rec 8 then Some (h.count, h.count - length xs) else None)
     (length (of_record 8 ds) + (if nat_eq h.rec 8 then 1 else 0)) p → IsPossible (if nat_eq h.rec 9 then place_after p ObjectEnded else p) → reading.StandsAt reader (if nat_eq h.rec 9 then place_after p ObjectEnded else p))
     → reading.StandsAt reader (place_at ds h)
-object_data laws limits reader ds h xs goes open' less = by (nat_eq h.rec 8) (nat_eq h.rec 9) refl refl
-    (stated_at laws.layers.opens.answer.follow.objects ds h goes.records goes.within.subfiles goes.room.subfiles) goes.object
-  where
-    none : ending_of (of_record 9 ds) ≡ NotEnded
-    none = nine_ended laws.layers.opens ds (head_alive ds h goes.records) open'
-
-    at : Bool → Bool → objects.Place
-    at b c = if b then place_after (place_after_datasets ds) (SubfileBegun h.count) else if c then place_ended ds else place_after_datasets ds
-
-    by : (b c : Bool) → nat_eq h.rec 8 ≡ b → nat_eq h.rec 9 ≡ c → IsStated (at b c) → ObjectLives (at b c)
-        → ((p : objects.Place) → IsAt (stated_numbers (numbers_of (of_record 7 ds))) (length (object_of ds ++ (if b then xs else []))) (if b then Some (h.count, h.count - length xs) else None) (length (of_record 8 ds) + (if b then 1 else 0)) p
-        → IsPossible (if c then place_after p ObjectEnded else p) → reading.StandsAt reader (if c then place_after p ObjectEnded else p))
-        → reading.StandsAt reader (at b c)
-    by true true eight nine stated lives stands = absurd (let e = eqb-true h.rec 8 eight in let f = eqb-true h.rec 9 nine in omega (arith, e, f))
-    by true false eight nine stated lives stands =
-        let is : place_after (record (place_after_datasets ds) { ending = NotEnded }) (SubfileBegun h.count) ≡ place_after (place_after_datasets ds) (SubfileBegun h.count) = ap (λ (p : objects.Place). place_after p (SubfileBegun h.count)) (opened_at ds none) in
-        subst (reading.StandsAt reader) is
-        (stands (place_after (record (place_after_datasets ds) { ending = NotEnded }) (SubfileBegun h.count)) (subfile_at ds h xs less)
-        (subst IsPossible (sym is) (possible_of (place_after (place_after_datasets ds) (SubfileBegun h.count)) stated (few_with_head limits ds h goes eight) lives)))
-    by false true eight nine stated lives stands =
-        stands (record (place_after_datasets ds) { ending = NotEnded }) (whole_at ds (length (object_of ds ++ [])) (length (of_record 8 ds) + 0) (ap length (append-nil (object_of ds))) (omega arith)) (possible_of (place_ended ds) stated (few_heads limits ds h goes) lives)
-    by false false eight nine stated lives stands =
-        subst (reading.StandsAt reader) (opened_at ds none)
-        (stands (record (place_after_datasets ds) { ending = NotEnded }) (whole_at ds (length (object_of ds ++ [])) (length (of_record 8 ds) + 0) (ap length (append-nil (object_of ds))) (omega arith))
-        (subst IsPossible (sym (opened_at ds none)) (possible_of (place_after_datasets ds) stated (few_heads limits ds h goes) lives)))
+object_data laws limits reader ds h xs goes open' less stands =
+    let none = nine_ended laws.layers.opens ds (head_alive ds h goes.records) open' in
+    let (p, at, is) = led_at laws.layers.opens limits ds h xs goes none less in
+    subst (reading.StandsAt reader) is (stands p at (subst IsPossible (sym is) (possible_at laws.layers.opens limits ds h goes)))
 
 -- ---- the reader of tags
 

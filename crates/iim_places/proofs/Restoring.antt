@@ -1,25 +1,12 @@
 -- What the parts of a ticket say of its place.
-use Rattle.std.proofs.Common.{◌≡◌, ℕ, ◌+◌, ◌-◌, ◌≤◌, nat_eq, cond, if◌then◌else◌, Bool, true, false, List, [], length, Option, ap, sym, subst, arith}
-use Rattle.std.proofs.lemmas.List.{nil_from_length}
-use Rattle.iim_dataset.specs.Format.Datasets.{Dataset}
-use Rattle.iim_dataset.proofs.Lists.{nothing_fits}
-use Rattle.iim_fields.specs.Format.Faults.{kept, kept_octets, joined}
-use Rattle.iim_fields.specs.Format.Bounds.{IsWithin}
-use Rattle.iim_fields.specs.declared.limits.Limits.{Limits}
-use Rattle.iim_places.specs.TicketParts.{AreNumbers}
-use Rattle.iim_places.specs.States.ByLayers.{TagsLead, RecordsLive, head_of_numbers}
-use Rattle.iim_places.specs.States.Possible.{begun_count, begun_fields}
+use Rattle.std.proofs.Common.{◌≡◌, ℕ, ◌+◌, ◌-◌, ◌≤◌, nat_eq, if◌then◌else◌, Bool, true, false, List, length, Option, ap, sym, subst, arith}
+use Rattle.iim_places.proofs.Words.{nil_from_length, Dataset, kept, kept_octets, IsWithin, Limits, AreNumbers, TagsLead, RecordsLive, head_of_numbers}
+use Rattle.iim_places.proofs.Words.{begun_count, begun_fields, AreKept, CanContinueWithin, told_datasets, Phase, DataBegun}
+use Rattle.iim_fields.specs.Format.Faults.{joined}
 use Rattle.iim_places.specs.Restoring.{HasFew, MayBegin, AreWithinWith}
-use Rattle.iim_places.specs.Taking.{AreKept, CanContinueWithin, numbers_told, told_datasets}
-use Rattle.iim_places.specs.Format.Tickets.{Phase, DataBegun}
-use Rattle.iim_places.proofs.AtPlaces.{fits_told, live_alive}
-use Rattle.iim_places.proofs.Plain.{plain_told}
+use Rattle.iim_places.proofs.AtPlaces.{live_alive, kept_told}
 
 -- ---- what a ticket's parts tell
-
--- the told datasets keep the fields
-pub kept_told : (fields : List Dataset) (numbers : List (Option ℕ)) (some ended : Bool) → AreNumbers numbers → AreKept fields → kept (told_datasets fields numbers some ended) ≡ fields
-kept_told fields numbers some ended fit each = (plain_told fields (numbers_told numbers) (cond some 1 0) [] ended each (fits_told numbers fit) (nothing_fits _)).kept_are
 
 pub with_told : (limits : Limits) (section : ℕ) (phase : Phase) (fields : List Dataset) (numbers : List (Option ℕ)) (some ended : Bool) → AreNumbers numbers → AreKept fields
     → IsWithin limits (length (joined fields) + begun_count section phase) (length fields + begun_fields section phase) → AreWithinWith limits section phase (told_datasets fields numbers some ended)

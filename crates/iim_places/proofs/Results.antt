@@ -1,5 +1,5 @@
 -- Clauses of results that are handed on.
-use Rattle.std.proofs.Common.{◌≡◌, if◌then◌else◌, Result, Ok, Err, OnOk, Option, Some, None, IfNone}
+use Rattle.std.proofs.Common.{Result, Ok, Err, OnOk, Option, Some, None, IfNone}
 
 pub on_both : {T E : Type 0} (A B : Type 0) (r : Result T E) → OnOk r A → OnOk r B → OnOk r (A × B)
 on_both A B (Ok x) h k = (h, k)

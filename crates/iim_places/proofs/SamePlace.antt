@@ -1,52 +1,27 @@
 -- Octets of one place: what stands on the one stands on the other.
-use Rattle.std.proofs.Common.{◌≡◌, ℕ, ◌+◌, ◌-◌, ◌<◌, Bool, true, false, cond, if◌then◌else◌, ◌==◌, nat_eq, List, [], ◌∷◌, ◌++◌, length, sum, Option, Some, refl, ap, sym, subst, ◌∙◌, inl, inr, arith, append-nil, length-append}
-use Rattle.std.proofs.lemmas.Bool.Decides.{eqb_tells}
-use Rattle.iim_dataset.specs.Format.Octets.{Octets}
-use Rattle.std.proofs.lemmas.List.Elements.{filter-append}
-use Rattle.iim_dataset.specs.Format.Datasets.{Dataset, head_of, of_record, count_octets}
-use Rattle.iim_dataset.specs.Format.Splits.{Begun, InTag, InData, Reads}
-use Rattle.iim_dataset.specs.States.Events.{handed_on}
-use Rattle.iim_dataset.specs.States.Places.{IsKeptAs}
-use Rattle.iim_dataset.specs.declared.head.Head.{Head}
-use Rattle.iim_dataset.specs.declared.place.DatasetPlace.{DatasetPlace}
+use Rattle.std.proofs.Common.{◌≡◌, ℕ, ◌+◌, ◌-◌, ◌<◌, Bool, true, false, cond, if◌then◌else◌, ◌==◌, nat_eq, List, [], ◌∷◌, ◌++◌, length, sum, Option, Some, refl}
+use Rattle.std.proofs.Common.{ap, sym, subst, ◌∙◌, inl, inr, arith, append-nil, length-append}
+use Rattle.iim_places.proofs.Words.{eqb_tells, Octets, filter-append, Dataset, head_of, of_record, count_octets, Begun, InTag, InData, Reads, IsKeptAs, Head}
+use Rattle.iim_places.proofs.Words.{DatasetPlace, sum_append, occurs, HasChecked, HasTaken, kept, section_after, SectionsLive, SectionsLiveAt}
+use Rattle.iim_places.proofs.Words.{ValuesDieWithTheirFault, Limits, RecordPlace, last_more, SubfileBegun, numbers_of, place_after_datasets, place_ended, State}
+use Rattle.iim_places.proofs.Words.{stated_numbers, text_so_far, LeadsToSaved, MessagePlace, object_of, PlaceLaws, place_at, ObjectLives, object_so_far}
+use Rattle.iim_places.proofs.Words.{section, AllCanContinue, IsOpen, are_some, Phase, TagBegun, DataBegun, AllEnded, phase_of, heads_of}
 use Rattle.iim_dataset.specs.declared.place.DatasetPlace.TheVariants.{Tag, Inside}
-use Rattle.iim_dataset.proofs.Lists.{sum_append}
-use Rattle.iim_fields.specs.Format.Records.{AreSections}
-use Rattle.iim_tables.specs.Format.Records.{occurs}
 use Rattle.iim_fields.specs.States.Orders as orders
-use Rattle.iim_fields.specs.States.Checks.{HasChecked, HasTaken}
-use Rattle.iim_fields.specs.Format.Faults.{kept, joined, section_after}
-use Rattle.iim_fields.specs.Format.Alive.{SectionsLive, SectionsLiveAt}
-use Rattle.iim_fields.specs.Laws.Records.{ValuesDieWithTheirFault}
+use Rattle.iim_fields.specs.Format.Faults.{joined}
 use Rattle.iim_fields.specs.States.Standing as records
 use Rattle.iim_fields.specs.Format.Bounds as records_format
-use Rattle.iim_fields.specs.declared.limits.Limits.{Limits}
 use Rattle.iim_fields.specs.declared.order.Order.{Order}
-use Rattle.iim_fields.specs.declared.check.RecordPlace.{RecordPlace}
-use Rattle.iim_fields.proofs.Sections.{last_more}
-use Rattle.iim_object.specs.Format.Objects.{SubfileBegun}
 use Rattle.iim_object.specs.Format.Places as objects
 use Rattle.iim_object.specs.States.Reading as reading
-use Rattle.iim_object.specs.Format.Records.{numbers_of}
-use Rattle.iim_object.specs.Format.Numbers.{place_after_datasets, place_ended}
-use Rattle.iim_object.specs.declared.reading.state.State.{State}
-use Rattle.iim_object.specs.States.Saved.{stated_numbers}
-use Rattle.wire_message.specs.Format.Layers.{text_so_far}
 use Rattle.wire_message.specs.States.Reading as wire
 use Rattle.wire_message.specs.States.SoFar.{LeadsTo}
-use Rattle.wire_message.specs.States.Saved.{LeadsToSaved}
 use Rattle.wire_message.specs.declared.place.Place.{Place as Message}
-use Rattle.wire_message.specs.declared.saved.MessagePlace.{MessagePlace}
-use Rattle.iim_places.specs.Format.Admitted.{object_of}
-use Rattle.iim_places.specs.Laws.Lower.{PlaceLaws}
-use Rattle.iim_places.specs.Format.Tokens.{place_at, ObjectLives}
-use Rattle.iim_places.specs.Format.Open.{object_so_far, section, AllCanContinue, IsOpen}
-use Rattle.iim_places.specs.States.Counts.{are_some}
-use Rattle.iim_places.specs.Format.Tickets.{Phase, TagBegun, DataBegun, AllEnded, phase_of, heads_of}
 use Rattle.iim_places.proofs.Following.{alive_of}
 use Rattle.iim_places.proofs.Lasts.{SplitLast, split_last, last_sections}
 use Rattle.iim_places.proofs.Tickets.{count_of, total_of}
 use Rattle.iim_places.proofs.SameRecords.{SameRecords, SameFields, SameNumbers, IsStated, same_more, same_numbers, none_other}
+use Rattle.iim_places.proofs.Answering.{open_at}
 
 -- ---- what is begun
 
@@ -197,17 +172,19 @@ more_object p q count same = record {
   octets = sum_append p.lengths (count ∷ []) ∙ ap (λ n. n + sum (count ∷ [])) same.octets ∙ sym (sum_append q.lengths (count ∷ []));
 }
 
-pub object_at_as : (ds es : List Dataset) (h : Head) → SameWhole ds es → SameObject (place_at ds h) (place_at es h)
-object_at_as ds es h same = by (nat_eq h.rec 8) (nat_eq h.rec 9)
+pub object_at : (ds es : List Dataset) (h : Head) → SameObject (place_after_datasets ds) (place_after_datasets es) → SameObject (place_at ds h) (place_at es h)
+object_at ds es h before = by (nat_eq h.rec 8) (nat_eq h.rec 9)
   where
-    before : SameObject (place_after_datasets ds) (place_after_datasets es)
-    before = object_lives_after_as ds es same
+    at : Bool → Bool → List Dataset → objects.Place
+    at b c xs = if b then objects.place_after (place_after_datasets xs) (SubfileBegun h.count) else if c then place_ended xs else place_after_datasets xs
 
-    by : (b c : Bool) → SameObject (if b then objects.place_after (place_after_datasets ds) (SubfileBegun h.count) else if c then place_ended ds else place_after_datasets ds)
-        (if b then objects.place_after (place_after_datasets es) (SubfileBegun h.count) else if c then place_ended es else place_after_datasets es)
+    by : (b c : Bool) → SameObject (at b c ds) (at b c es)
     by true c = more_object (place_after_datasets ds) (place_after_datasets es) h.count before
     by false true = record { numbers = before.numbers; heads = before.heads; octets = before.octets }
     by false false = before
+
+pub object_at_as : (ds es : List Dataset) (h : Head) → SameWhole ds es → SameObject (place_at ds h) (place_at es h)
+object_at_as ds es h same = object_at ds es h (object_lives_after_as ds es same)
 
 -- ---- the message
 
@@ -307,13 +284,11 @@ pub record Opened (limits : Limits) (ds : List Dataset) (c : Begun) : Type 0 whe
 
 pub opened : PlaceLaws → (limits : Limits) (p : List ℕ) (ds : List Dataset) (c : Begun) → Reads count_octets p ds c → IsOpen limits p → Opened limits ds c
 opened laws limits p ds c r is =
-    let same = laws.answer.way p (handed_on is.whole is.begun) (handed_on ds c) is.begun c (record { whole = is.whole; reads = is.reads; handed = refl }) (record { whole = ds; reads = r; handed = refl }) in
-    let told = (laws.answer.tell is.whole ds is.begun c same.0).0 in
-    let goes : AllCanContinue limits ds c = subst (AllCanContinue limits ds) same.1 (subst (λ (es : List Dataset). AllCanContinue limits es is.begun) told is.leads_on) in
+    let (goes, none) = open_at laws.answer limits p ds c r is in
     record {
       goes = goes;
       ended = elim (eqb_tells (section_after ds) 9) [
-        | inl nine ↦ absurd (is.unfinished (subst AreSections (sym told) (last_sections laws.answer.follow.ends ds (alive_of limits ds c goes.sizes) nine.1)))
+        | inl nine ↦ absurd (none (last_sections laws.answer.follow.ends ds (alive_of limits ds c goes.sizes) nine.1))
         | inr apart ↦ apart.0
       ];
     }

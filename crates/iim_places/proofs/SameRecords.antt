@@ -1,36 +1,20 @@
 -- Datasets of one place have the same numbers in each record.
-use Rattle.std.proofs.Common.{◌≡◌, ℕ, ◌+◌, ◌<◌, ◌≤◌, ◌||◌, Bool, true, false, cond, nat_eq, List, [], ◌∷◌, ◌++◌, length, is_some, Some, None, refl, ap, sym, subst, ◌∙◌, inl, inr, arith, append-nil, append_assoc, length-append}
-use Rattle.std.specs.List.{AllByRecursion}
-use Rattle.std.proofs.lemmas.Bool.{eqb-true, eqb-false, ne_eqb}
-use Rattle.std.proofs.lemmas.Bool.Decides.{eqb_tells}
-use Rattle.std.proofs.lemmas.List.Elements.{filter-append}
-use Rattle.std.proofs.lemmas.List.Folds.{list_any-append}
-use Rattle.iim_dataset.specs.Format.Octets.{number}
-use Rattle.iim_dataset.specs.Format.Datasets.{Dataset, head_of, of_record}
-use Rattle.iim_dataset.specs.declared.head.Head.{Head}
-use Rattle.iim_dataset.proofs.Each.{all_front, all_map}
-use Rattle.iim_tables.specs.Format.Rows.{Meets}
-use Rattle.iim_fields.specs.Format.Records.{AreSections, AreRecords, records}
-use Rattle.iim_tables.specs.Format.Records.{IsGoodDataset, occurs}
-use Rattle.iim_fields.specs.Format.Alive.{SectionsLive, SectionsLiveAt}
-use Rattle.iim_fields.specs.Format.Faults.{section_after, kept, is_kept}
-use Rattle.iim_fields.proofs.Sections.{last_more, by_record}
-use Rattle.iim_object.specs.Format.Plans.{max_subfiles}
-use Rattle.iim_object.specs.Format.Sizes.{Stated, InRow, AreStated, number_at}
-use Rattle.iim_object.specs.Format.Records.{numbers_of}
-use Rattle.iim_object.specs.Format.Objects.{ObjectToken, NumberRead, SubfileBegun, ObjectEnded, Confirmed}
-use Rattle.iim_object.specs.Format.Places.{Place, NotEnded, Ended, HasBoth, MayFollow, place_after, head_token}
-use Rattle.iim_object.specs.Format.Numbers.{place_after_datasets, place_ended}
-use Rattle.iim_object.specs.Laws.Numbers.{RecordsAreByNumber}
-use Rattle.iim_object.specs.States.Saved.{stated_numbers}
-use Rattle.iim_places.specs.States.ByLayers.{one_of_some}
-use Rattle.iim_places.specs.Format.Tokens.{place_at}
-use Rattle.iim_places.specs.Laws.Lower.{ObjectLaws, FollowLaws}
+use Rattle.std.proofs.Common.{◌≡◌, ℕ, ◌+◌, ◌<◌, ◌≤◌, ◌||◌, Bool, true, false, cond, nat_eq, List, [], ◌∷◌, ◌++◌, length, is_some, Some, None, refl, ap, sym}
+use Rattle.std.proofs.Common.{subst, ◌∙◌, inl, inr, arith, append-nil, append_assoc, length-append}
+use Rattle.iim_places.proofs.Words.{AllByRecursion, eqb-true, eqb-false, ne_eqb, eqb_tells, filter-append, list_any-append, number, Dataset, head_of, of_record}
+use Rattle.iim_places.proofs.Words.{Head, all_front, Meets, AreSections, AreRecords, records, IsGoodDataset, occurs, SectionsLive, SectionsLiveAt}
+use Rattle.iim_places.proofs.Words.{section_after, kept, is_kept, last_more, by_record, max_subfiles, Stated, InRow, AreStated, number_at, numbers_of}
+use Rattle.iim_places.proofs.Words.{ObjectToken, NumberRead, SubfileBegun, ObjectEnded, Confirmed, NotEnded, Ended, HasBoth, MayFollow, place_after, head_token}
+use Rattle.iim_places.proofs.Words.{place_after_datasets, place_ended, RecordsAreByNumber, stated_numbers, one_of_some, place_at, ObjectLaws, FollowLaws}
+use Rattle.iim_places.proofs.Words.{all_map}
+use Rattle.iim_object.specs.Format.Places.{Place}
 use Rattle.iim_places.proofs.Fronts.{empty_front}
 use Rattle.iim_places.proofs.Lasts.{SplitLast, split_last}
 use Rattle.iim_places.proofs.Objects.{records_alive}
 use Rattle.iim_places.proofs.SizeRows.{HasTen, Unstated, by_number, by_ten, eight_has, nine_has}
 use Rattle.iim_places.proofs.Places.{is_one, at_other, at_number, subfile_leads, end_leads}
+use Rattle.iim_places.proofs.Bounds.{none_nine}
+use Rattle.iim_places.proofs.Plain.{none_of}
 
 -- The datasets have the same numbers in each record.
 pub record SameRecords (ds es : List Dataset) : Type 0 where
@@ -207,20 +191,6 @@ tens_seen n (x ∷ xs) (y ∷ ys) a b e = first x xs a ∙ sym (first y ys b)
 
 -- ---- record 9 is the last
 
-none_nine : FollowLaws → (xs ys : List Dataset) → SectionsLive (xs ++ ys) → (AreSections (xs ++ ys) → ⊥) → of_record 9 ys ≡ []
-none_nine laws xs [] alive open' = refl
-none_nine laws xs (d ∷ ys) alive open' = elim (eqb_tells d.rec 9) [
-  | inl nine ↦
-      (let sections : AreSections (xs ++ d ∷ []) = (laws.ends xs d (front_alive xs d ys alive)).0 nine.1 in
-      let later : ys ++ alive.0 ≡ [] = laws.sections (xs ++ d ∷ []) (ys ++ alive.0) sections
-      (subst AreSections (append_assoc xs (d ∷ ys) alive.0 ∙ sym (append_assoc xs (d ∷ []) (ys ++ alive.0))) alive.1) in
-      absurd (open' (subst (λ (zs : List Dataset). AreSections (xs ++ d ∷ zs)) (sym (empty_front ys alive.0 later)) sections)))
-  | inr apart ↦
-      (let parts = append_assoc xs (d ∷ []) ys in
-      ap (λ (b : Bool). cond b (d ∷ of_record 9 ys) (of_record 9 ys)) apart.0
-      ∙ none_nine laws (xs ++ d ∷ []) ys (subst SectionsLive (sym parts) alive) (λ s. open' (subst AreSections parts s)))
-]
-
 length_one : (b : Bool) (d : Dataset) → length (cond b (d ∷ []) []) ≡ cond b 1 0
 length_one true d = refl
 length_one false d = refl
@@ -235,7 +205,8 @@ nines laws ds alive = by (split_last ds)
     at_last front d alive =
         let parts = append_assoc front (d ∷ []) alive.0 in
         let more : AreSections (front ++ d ∷ alive.0) = subst AreSections parts alive.1 in
-        let none : of_record 9 front ≡ [] = none_nine laws [] front ((d ∷ alive.0), more) (λ s. let bad : d ∷ alive.0 ≡ [] = laws.sections front (d ∷ alive.0) s more in absurd cc) in
+        let none : of_record 9 front ≡ [] = none_nine laws.sections laws.ends [] front ((d ∷ alive.0), more)
+        (λ s. let bad : d ∷ alive.0 ≡ [] = laws.sections front (d ∷ alive.0) s more in absurd cc) in
         ap length (filter-append (λ (x : Dataset). nat_eq x.rec 9) front (d ∷ [])) ∙ ap (λ (xs : List Dataset). length (xs ++ of_record 9 (d ∷ []))) none
         ∙ length_one (nat_eq d.rec 9) d ∙ ap (λ (r : ℕ). cond (nat_eq r 9) 1 0) (sym (last_more 0 front d))
 
@@ -245,21 +216,17 @@ nines laws ds alive = by (split_last ds)
 
 -- ---- there are no other records
 
-none_in : (r k : ℕ) → nat_eq k r ≡ false → (ds : List Dataset) → AllByRecursion (λ d. (d.rec ≡ k) × IsGoodDataset d) ds → of_record r ds ≡ []
-none_in r k apart [] all = refl
-none_in r k apart (d ∷ ds) all =
-    let test : nat_eq d.rec r ≡ false = ap (λ (x : ℕ). nat_eq x r) all.0.0 ∙ apart in
-    ap (λ (b : Bool). cond b (d ∷ of_record r ds) (of_record r ds)) test ∙ none_in r k apart ds all.1
-
-none_of : (r : ℕ) (rs : List ℕ) (ds : List Dataset) → AreRecords rs ds → AllByRecursion (λ k. nat_eq k r ≡ false) rs → of_record r ds ≡ []
-none_of r [] ds none apart = ap (of_record r) none
-none_of r (k ∷ rs) ds (run, rest, parts, good, later) apart =
+pub none_in_records : (r : ℕ) (rs : List ℕ) (ds : List Dataset) → AreRecords rs ds → AllByRecursion (λ k. nat_eq k r ≡ false) rs → of_record r ds ≡ []
+none_in_records r [] ds none apart = ap (of_record r) none
+none_in_records r (k ∷ rs) ds (run, rest, parts, good, later) apart =
     ap (of_record r) parts ∙ filter-append (λ (x : Dataset). nat_eq x.rec r) run rest
-    ∙ ap (λ (xs : List Dataset). xs ++ of_record r rest) (none_in r k apart.0 run good.each) ∙ none_of r rs rest later apart.1
+    ∙ ap (λ (xs : List Dataset). xs ++ of_record r rest)
+    (none_of r k run apart.0 (all_map _ _ run (λ d h. h.0) good.each)) ∙ none_in_records r rs rest later apart.1
 
 pub none_other : (r : ℕ) → AllByRecursion (λ k. nat_eq k r ≡ false) records → (ds : List Dataset) → SectionsLive ds → of_record r ds ≡ []
 none_other r apart ds alive =
-    empty_front (of_record r ds) (of_record r alive.0) (sym (filter-append (λ (x : Dataset). nat_eq x.rec r) ds alive.0) ∙ none_of r records (ds ++ alive.0) alive.1 apart)
+    empty_front (of_record r ds) (of_record r alive.0)
+    (sym (filter-append (λ (x : Dataset). nat_eq x.rec r) ds alive.0) ∙ none_in_records r records (ds ++ alive.0) alive.1 apart)
 
 -- ---- all records
 

@@ -1,23 +1,11 @@
 -- What a ticket is restored to stands where the saved unpacker stood; and octets have a place.
 use Rattle.std.proofs.Common.{◌≡◌, ℕ, ◌<◌, ◌^◌, List, [], get_or, ap, refl, sym, subst, ◌∙◌, inl, inr, arith, append-nil}
-use Rattle.iim_dataset.specs.Format.Datasets.{Dataset}
-use Rattle.iim_dataset.specs.Format.Splits.{Begun, InTag, InData}
-use Rattle.iim_fields.specs.Format.Bounds.{IsWithin}
-use Rattle.iim_fields.specs.declared.limits.Limits.{Limits}
-use Rattle.wire_message.specs.States.Saved.{saved}
+use Rattle.iim_places.proofs.Words.{Dataset, Begun, InTag, InData, IsWithin, Limits, saved, Value, OctetsHaveOnePlace, TicketsTellOnePlace, AreWithin}
+use Rattle.iim_places.proofs.Words.{OnwardLaws, object_so_far, IsOpen, AreOpenOrWhole, widest, IsPossibleIn, IsTicketAt, IsEnvelopeWithin, IsPlaceOf}
+use Rattle.iim_places.proofs.Words.{present_version, place_of, ticket_in, ticket_of, MayContinue}
 use Rattle.wire_message.specs.States.SoFar.{LeadsTo}
 use Rattle.wire_message.specs.declared.place.Place.{Place as Message}
-use Rattle.iim_places.specs.Format.Admitted.{Value}
-use Rattle.iim_places.specs.Laws.Places.{OctetsHaveOnePlace, TicketsTellOnePlace}
-use Rattle.iim_places.specs.Format.Framed.{AreWithin}
-use Rattle.iim_places.specs.Onward.{OnwardLaws}
-use Rattle.iim_places.specs.Format.Open.{object_so_far, IsOpen}
-use Rattle.iim_places.specs.States.Possible.{AreOpenOrWhole, widest}
-use Rattle.iim_places.specs.States.Scales.{IsPossibleIn}
-use Rattle.iim_places.specs.States.Restored.{IsTicketAt}
-use Rattle.iim_places.specs.Format.Streams.{IsEnvelopeWithin}
-use Rattle.iim_places.specs.Format.Tickets.{Place, IsPlaceOf, present_version, place_of, ticket_in, ticket_of}
-use Rattle.iim_places.specs.Format.Tokens.{MayContinue}
+use Rattle.iim_places.specs.Format.Tickets.{Place}
 use Rattle.iim_places.proofs.Answering.{Lives, lives_envelope, lives_open, one_reading}
 use Rattle.iim_places.proofs.Following.{message_of, story_of}
 use Rattle.iim_places.proofs.Tickets.{same_place}

@@ -1,21 +1,11 @@
 -- The conditions on sizes, as the table of the causes has them, and as the object layer has them at a place and a token.
 use Rattle.std.proofs.Common.{◌≡◌, ◌≢◌, ℕ, ◌+◌, ◌<◌, ◌⊎◌, nat_eq, if◌then◌else◌, List, [], ◌∷◌, ◌++◌, sum, Option, Some, None, IsSomeAnd, refl, sym, ap, subst, ◌∙◌, inl, inr}
-use Rattle.std.proofs.lemmas.List.{map-append}
-use Rattle.std.proofs.lemmas.List.Elements.{filter-append}
-use Rattle.iim_dataset.specs.Format.Datasets.{Dataset, head_of, of_record}
-use Rattle.iim_dataset.specs.Format.Octets.{number}
-use Rattle.iim_fields.specs.declared.limits.Limits.{Limits}
+use Rattle.iim_places.proofs.Words.{map-append, filter-append, Dataset, head_of, of_record, number, Limits, place_after_datasets, NumberRead, SubfileBegun}
+use Rattle.iim_places.proofs.Words.{ObjectEnded, Confirmed, head_token, value_token, numbers_of, Stated, number_at, SizeCause, Token, AtOctet, AtHead, AtValue}
+use Rattle.iim_places.proofs.Words.{rule_of, stated, total, cause_of_size, place_at}
 use Rattle.iim_object.specs.Format.Conditions as objects
-use Rattle.iim_object.specs.Format.Numbers.{place_after_datasets}
-use Rattle.iim_object.specs.Format.Objects.{NumberRead, SubfileBegun, ObjectEnded, Confirmed}
-use Rattle.iim_object.specs.Format.Places.{Place, head_token, value_token}
-use Rattle.iim_object.specs.Format.Records.{numbers_of}
-use Rattle.iim_object.specs.Format.Sizes.{Stated, number_at}
-use Rattle.iim_object.specs.declared.reading.fault.SizeCause.{SizeCause}
+use Rattle.iim_object.specs.Format.Places.{Place}
 use Rattle.iim_object.specs.declared.reading.fault.SizeCause.TheVariants as sizes
-use Rattle.iim_places.specs.Format.Conditions.{Token, AtOctet, AtHead, AtValue, rule_of, stated, total}
-use Rattle.iim_places.specs.Format.Refusals.{cause_of_size}
-use Rattle.iim_places.specs.Format.Tokens.{place_at}
 use Rattle.iim_places.proofs.Places.{at_end, at_number}
 
 -- as the object layer has them, at the head of a subfile or of 9:10, and at a number of record 7 or 9
@@ -189,11 +179,9 @@ of_table sizes.SizeClash limits ds (AtValue d) (seven, above) =
         (announced, most, subst (λ (ps : List Stated). number_at 90 ps ≡ Some announced) all at, subst (λ (ps : List Stated). number_at 95 ps ≡ Some most) all is, less),
       ),
     )
-of_table sizes.SubfileTooLong limits ds (AtValue d) is = absurd is
-of_table sizes.PastSize limits ds (AtValue d) is = absurd is
-of_table sizes.Short limits ds (AtValue d) is = absurd is
 of_table sizes.ConfirmedWrong limits ds (AtValue d) (nine, other) =
     (inr nine, (number d.octets, confirmed_token d.rec d.set (number d.octets) nine, λ same. other (same ∙ confirmed_total ds d nine)))
+of_table other limits ds (AtValue d) is = absurd is
 
 pub size_holds : (s : SizeCause) (limits : Limits) (ds : List Dataset) (token : Token) → (InTable s limits ds token → OfSize s ds token) × (OfSize s ds token → InTable s limits ds token)
 size_holds s limits ds token = (of_table s limits ds token, to_table s limits ds token)

@@ -1,8 +1,7 @@
 -- The rows of records 7, 8 and 9, number by number.
 use Rattle.std.proofs.Common.{◌≡◌, ℕ, false, nat_eq, List, None, refl, subst, inl, inr}
-use Rattle.std.proofs.lemmas.Bool.Decides.{eqb_tells}
-use Rattle.iim_tables.specs.Format.Rows.{table, row_of, Meets}
-use Rattle.iim_tables.proofs.GoodDatasets.{none_meets}
+use Rattle.iim_places.proofs.Words.{eqb_tells, Meets, none_meets}
+use Rattle.iim_tables.specs.Format.Rows.{table, row_of}
 
 -- a number that no row of record 7 has
 pub record Unstated (n : ℕ) : Type 0 where

@@ -1,22 +1,11 @@
 -- What the record layer can continue with by smaller sizes.
 use Rattle.std.proofs.Common.{◌≡◌, ℕ, ◌+◌, ◌<◌, ◌≤◌, ◌⊎◌, ◌&&◌, ◌||◌, nat_eq, nat_le, not, cond, if◌then◌else◌, Bool, true, false, List, [], ◌∷◌, ◌++◌, length, map, refl, ap, sym, subst, ◌∙◌, inl, inr, arith}
-use Rattle.std.specs.List.{AllByRecursion, fold}
-use Rattle.std.proofs.lemmas.Bool.{or_cases, eqb-true, eq-eqb, leb-true, le-leb}
-use Rattle.std.proofs.lemmas.Bool.Decides.{nat_tests}
-use Rattle.std.proofs.lemmas.List.{map-append}
-use Rattle.iim_dataset.specs.Format.Octets.{IsOctet}
-use Rattle.iim_dataset.specs.Format.Datasets.{Dataset}
-use Rattle.iim_dataset.proofs.Each.{all_append}
-use Rattle.iim_dataset.specs.Format.Languages.{IsAlive}
-use Rattle.iim_dataset.proofs.Lists.{within_most_and}
-use Rattle.iim_tables.specs.Format.Rows.{table, row_of, Meets}
-use Rattle.iim_tables.specs.Format.Records.{IsGoodDataset, IsGoodRecord, occurs, occurrences, mandatory}
-use Rattle.iim_fields.specs.Format.Records.{AreRecords, AreSections, records}
-use Rattle.iim_fields.specs.Format.Values.{tells_number}
-use Rattle.iim_tables.proofs.GoodDatasets.{good_elsewhere}
+use Rattle.iim_places.proofs.Words.{AllByRecursion, fold, or_cases, eqb-true, eq-eqb, leb-true, le-leb, nat_tests, map-append, IsOctet, Dataset, all_append}
+use Rattle.iim_places.proofs.Words.{IsAlive, within_most_and, Meets, IsGoodDataset, IsGoodRecord, occurs, occurrences, mandatory, AreRecords, AreSections}
+use Rattle.iim_places.proofs.Words.{records, tells_number, good_elsewhere, FitsRow, SectionsIn, first_scale}
+use Rattle.iim_tables.specs.Format.Rows.{table, row_of}
 use Rattle.iim_places.proofs.Bounds.{low}
 use Rattle.iim_places.proofs.SizeRows.{by_seven, by_ten, eight_has, nine_has}
-use Rattle.iim_places.specs.States.Scales.{FitsRow, SectionsIn, first_scale}
 
 -- ---- data that are too long, replaced by short ones
 

@@ -1,11 +1,6 @@
 -- Tags whose counts have fewer octets.
 use Rattle.std.proofs.Common.{◌≡◌, ℕ, zero, suc, ◌<◌, ◌≤◌, List, [], ◌∷◌, ◌++◌, length, take, drop, get_or, refl, ap, sym, ◌∙◌, inl, inr, arith}
-use Rattle.std.proofs.lemmas.Bool.{cases_lt}
-use Rattle.std.proofs.lemmas.List.{take-append-drop, length-drop}
-use Rattle.std.proofs.Math.Seq.{take-append_seam}
-use Rattle.iim_dataset.specs.Format.Datasets.{SpellsCount, SpellsTag, count_octets}
-use Rattle.iim_dataset.specs.Format.Tags.{BeginsTag}
-use Rattle.iim_dataset.specs.declared.head.Head.{Head}
+use Rattle.iim_places.proofs.Words.{cases_lt, take-append-drop, length-drop, take-append_seam, SpellsCount, SpellsTag, count_octets, BeginsTag, Head}
 
 -- a count of fewer octets is one of more
 wider_count : (limit most n : ℕ) (xs : List ℕ) → limit ≤ most → SpellsCount limit n xs → SpellsCount most n xs

@@ -1,22 +1,16 @@
 -- What octets begin with is determined: their layout has one reading.
 use Rattle.std.proofs.Common.{◌≡◌, ℕ, ◌+◌, ◌-◌, ◌<◌, ◌≤◌, ◌^◌, ◌==◌, nat_eq, if◌then◌else◌, pred, Bool, true, false, List, [], ◌∷◌, ◌++◌, length, take, drop, Option, Some, None, refl, ap, sym, subst, ◌∙◌, inl, inr, arith, append_assoc, append-nil, length-append}
-use Rattle.std.proofs.lemmas.List.Concat.{flat_map-append}
-use Rattle.std.proofs.lemmas.List.{take-append-drop, length-take}
+use Rattle.iim_places.proofs.Words.{flat_map-append, take-append-drop, length-take, AllByRecursion, flat_map, Dataset, all_append, Phase, TagBegun, DataBegun}
+use Rattle.iim_places.proofs.Words.{AllEnded, ticket_name, present_version, four, wide, phase_octets, field_octets, fields_octets, text_octets, IsLongField}
+use Rattle.iim_places.proofs.Words.{AreFields, AreNumbersIn, AreTexts, IsSizeIn, IsShort, IsWide, IsVersion, IsPhase, IsFaultOf, HasForm, Split, SplitsTicket}
+use Rattle.iim_places.proofs.Words.{split_octets, came, TicketsHaveOneSplit, AreNoMessage, AreNoBody, BeginsWithNoData, body_octets, message_parts, Form}
 use Rattle.std.specs.Int.{w64, from_be_bytes, to_be_bytes}
-use Rattle.std.specs.List.{AllByRecursion, flat_map}
 use Rattle.std.proofs.lemmas.Nat.{from_be_bytes-to_be_bytes_8}
-use Rattle.iim_dataset.specs.Format.Datasets.{Dataset}
-use Rattle.iim_dataset.proofs.Each.{all_append}
 use Rattle.iim_dataset.specs.Parting.{same_front}
-use Rattle.iim_places.specs.Format.Tickets.{Phase, TagBegun, DataBegun, AllEnded, ticket_name, present_version, four, wide, phase_octets, field_octets, fields_octets, number_octets, text_octets}
-use Rattle.iim_places.specs.States.Begins.{IsLongField, AreFields, AreNumbersIn, AreTexts, IsSizeIn, IsShort, IsWide}
+use Rattle.iim_places.specs.Format.Tickets.{number_octets}
 use Rattle.iim_places.specs.TicketFields.{HoldsFields}
 use Rattle.iim_places.specs.Shortfalls.{BeginsWithNone, BeginsWithFewer, FieldsBefore, IsFour}
 use Rattle.iim_places.specs.FieldLaws.{first_same, rest_same, one_four, one_field, some_octets, same_fields}
-use Rattle.iim_places.specs.Format.TicketForm.{IsVersion, IsPhase, IsFaultOf, HasForm, Split, SplitsTicket, split_octets, came}
-use Rattle.iim_places.specs.Laws.Tickets.{TicketsHaveOneSplit}
-use Rattle.iim_places.specs.TicketParts.{AreNoMessage, AreNoBody, BeginsWithNoData, body_octets, message_parts}
-use Rattle.iim_places.specs.declared.ticket.fault.TicketFault.TheVariants.{Form}
 
 -- octets that two spellings begin have one reading
 abbrev pub HasOne : {X : Type 0} → (X → Type 0) → (X → List ℕ) → Type 0
@@ -45,9 +39,8 @@ one_short x y a b hx hy e = one_text x y a b e
 
 pub one_number : (version : ℕ) → HasOne (IsSizeIn version) (number_octets version)
 one_number version None None a b hx hy e = (refl, rest_same e)
-one_number version None (Some n) a b hx hy e = absurd (let bad = first_same e in omega (arith, bad))
-one_number version (Some m) None a b hx hy e = absurd (let bad = first_same e in omega (arith, bad))
 one_number version (Some m) (Some n) a b hx hy e = let both = one_wide version m n a b hx hy (rest_same e) in (ap Some both.0, both.1)
+one_number version x y a b hx hy e = absurd (let bad = first_same e in omega (arith, bad))
 
 -- ---- lists of them
 
@@ -68,14 +61,13 @@ others Is spelled one (d ∷ done) (x ∷ xs) rest more h k few e =
 pub one_list : {X : Type 0} (Is : X → Type 0) (spelled : X → List ℕ) → HasOne Is spelled → (xs ys : List X) (a b : List ℕ) → AllByRecursion Is xs → AllByRecursion Is ys
     → length xs ≡ length ys → flat_map spelled xs ++ a ≡ flat_map spelled ys ++ b → (xs ≡ ys) × (a ≡ b)
 one_list Is spelled one [] [] a b h k n e = (refl, e)
-one_list Is spelled one [] (y ∷ ys) a b h k n e = absurd (omega (arith, n))
-one_list Is spelled one (x ∷ xs) [] a b h k n e = absurd (omega (arith, n))
 one_list Is spelled one (x ∷ xs) (y ∷ ys) a b h k n e =
     let is : spelled x ++ (flat_map spelled xs ++ a) ≡ spelled y ++ (flat_map spelled ys ++ b) =
     sym (append_assoc (spelled x) (flat_map spelled xs) a) ∙ e ∙ append_assoc (spelled y) (flat_map spelled ys) b in
     let first = one x y _ _ h.0 k.0 is in
     let more = one_list Is spelled one xs ys a b h.1 k.1 (ap pred n) first.1 in
     (let a = first.0 in let b = more.0 in cc, more.1)
+one_list Is spelled one xs ys a b h k n e = absurd (omega (arith, n))
 
 -- one, and then others
 pub spelled_then : {X : Type 0} (spelled : X → List ℕ) (x : X) (xs : List X) (octets rest more : List ℕ) → octets ≡ spelled x ++ rest → rest ≡ flat_map spelled xs ++ more → octets ≡ flat_map spelled (x ∷ xs) ++ more
@@ -189,9 +181,6 @@ no_wider version m n le h = omega (arith, le, h)
 
 one_phase : (version section : ℕ) → HasOne (IsPhase version section) (phase_octets version)
 one_phase version section (TagBegun h) (TagBegun k) a b hx hy e = let held = one_text h k a b (rest_same e) in (ap TagBegun held.0, held.1)
-one_phase version section (TagBegun h) (DataBegun set count left taken) a b hx hy e = absurd (let bad = first_same e in omega (arith, bad))
-one_phase version section (TagBegun h) AllEnded a b hx hy e = absurd (let bad = first_same e in omega (arith, bad))
-one_phase version section (DataBegun set count left taken) (TagBegun k) a b hx hy e = absurd (let bad = first_same e in omega (arith, bad))
 one_phase version section (DataBegun s m l t) (DataBegun u n k v) a b hx hy e =
     let set : s ≡ u = first_same (rest_same e) in
     let moved : wide version m ++ (wide version l ++ (t ++ a)) ≡ wide version n ++ (wide version k ++ (v ++ b)) =
@@ -202,10 +191,8 @@ one_phase version section (DataBegun s m l t) (DataBegun u n k v) a b hx hy e =
     let d = left.0 in
     let taken = same_front t v a b (hx.2 ∙ (let same : came section m l ≡ came section n k = cc in same) ∙ sym hy.2) left.1 in
     ((λ i. DataBegun (set i) (c i) (d i) (taken.0 i)), taken.1)
-one_phase version section (DataBegun set count left taken) AllEnded a b hx hy e = absurd (let bad = first_same e in omega (arith, bad))
-one_phase version section AllEnded (TagBegun k) a b hx hy e = absurd (let bad = first_same e in omega (arith, bad))
-one_phase version section AllEnded (DataBegun set count left taken) a b hx hy e = absurd (let bad = first_same e in omega (arith, bad))
 one_phase version section AllEnded AllEnded a b hx hy e = (refl, rest_same e)
+one_phase version section p q a b hx hy e = absurd (let bad = first_same e in omega (arith, bad))
 
 pub texts_after : (count : ℕ) (x octets rest : List ℕ) → IsShort x → octets ≡ text_octets x ++ rest → BeginsWithFewer IsShort text_octets count rest → BeginsWithFewer IsShort text_octets (count + 1) octets
 texts_after = fewer_after IsShort text_octets one_short

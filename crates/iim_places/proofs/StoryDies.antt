@@ -1,20 +1,12 @@
 -- With which octets the story of an object dies.
 use Rattle.std.proofs.Common.{◌≡◌, ℕ, zero, suc, ◌+◌, ◌<◌, ◌⊎◌, Bool, true, false, not, ◌||◌, ◌&&◌, nat_eq, nat_lt, cond, if◌then◌else◌, List, [], ◌∷◌, ◌++◌, length, drop, map, replicate, refl, ap, sym, subst, ◌∙◌, inl, inr, arith, append-nil, append_assoc}
-use Rattle.std.specs.List.{list_any, position_or_len, before_first, after_first}
-use Rattle.std.proofs.lemmas.Bool.{cases_Bool, cases_lt, lt-ltb, ne_eqb}
-use Rattle.std.proofs.lemmas.Bool.Decides.{eqb_tells}
-use Rattle.std.proofs.lemmas.List.Folds.{list_any-append, list_all-append}
-use Rattle.std.proofs.Math.Seq.{drop-append-add}
+use Rattle.iim_places.proofs.Words.{list_any, position_or_len, before_first, after_first, cases_Bool, cases_lt, lt-ltb, ne_eqb, eqb_tells, list_any-append}
+use Rattle.iim_places.proofs.Words.{list_all-append, drop-append-add, IsOctet, IsTextSoFar, Holds, is_line_octet, line_end, OctetOrEnd, Octet, End}
+use Rattle.iim_places.proofs.Words.{StoryLanguage, StoryLivesIn, after_stx, text_so_far, StoryDiesWith, IsInText}
 use Rattle.iim_dataset.specs.Format.Languages as languages
-use Rattle.iim_dataset.specs.Format.Octets.{IsOctet}
 use Rattle.wire_story.specs.Laws.Texts.{StoriesLiveAsTextsSoFar, StoriesEndAsTexts, TextsEndInNoReturn}
 use Rattle.wire_story.specs.States.Reading.{IsLoneReturn}
 use Rattle.wire_story.proofs.SoFar.{so_far_two}
-use Rattle.wire_story.specs.Format.Texts.{IsTextSoFar, Holds, is_line_octet, line_end}
-use Rattle.wire_story.specs.Format.Tokens.{OctetOrEnd, Octet, End, StoryLanguage}
-use Rattle.wire_message.specs.Format.Layers.{StoryLivesIn, after_stx, text_so_far}
-use Rattle.wire_message.specs.Format.Causes.{StoryDiesWith}
-use Rattle.iim_places.specs.Format.Conditions.{IsInText}
 use Rattle.iim_places.proofs.Living.{after_found, after_none, before_found, before_later, before_all, place_later, is_etx, is_stx, tokens_after_stx}
 
 -- how texts so far live, and end

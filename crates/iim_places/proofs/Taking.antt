@@ -1,22 +1,9 @@
 -- What takes whole datasets one after another: takes joined, and datasets that can continue.
 use Rattle.std.proofs.Common.{◌≡◌, ℕ, ◌<◌, ◌≤◌, ◌≢◌, Bool, true, false, Option, Result, Ok, Err, OnOk, IfOk, IfErr, is_ok, List, [], ◌∷◌, ◌++◌, refl, sym, subst, ◌∙◌, arith, append_assoc}
-use Rattle.std.specs.List.{AllByRecursion}
-use Rattle.iim_dataset.specs.Format.Datasets.{Dataset, head_of}
-use Rattle.iim_dataset.specs.declared.head.Head.{Head}
-use Rattle.iim_dataset.proofs.Each.{all_front, all_back}
-use Rattle.iim_fields.specs.States.Checks.{TakesHead, HasChecked, HasTaken, IsChecking, IsValueFault}
-use Rattle.iim_fields.specs.Format.Alive.{SectionsLive}
-use Rattle.iim_fields.specs.Format.Records.{AreSections, records}
-use Rattle.iim_tables.specs.Format.Records.{IsGoodDataset}
+use Rattle.iim_places.proofs.Words.{AllByRecursion, Dataset, head_of, Head, all_front, all_back, TakesHead, HasChecked, HasTaken, IsChecking, IsValueFault}
+use Rattle.iim_places.proofs.Words.{SectionsLive, AreSections, records, IsGoodDataset, data_of, number_told, RecordPlace, FieldFault, Limits, front_alive}
+use Rattle.iim_places.proofs.Words.{mode_dataset, widest, CanContinueWithin, TookDatasets}
 use Rattle.iim_fields.specs.States.Standing.{FieldsPlace, IsBetween, IsOf, StandsAfter, StandsIn, limits_of}
-use Rattle.iim_fields.specs.Format.Values.{data_of, number_told}
-use Rattle.iim_fields.specs.declared.check.RecordPlace.{RecordPlace}
-use Rattle.iim_fields.specs.declared.fault.FieldFault.{FieldFault}
-use Rattle.iim_fields.specs.declared.limits.Limits.{Limits}
-use Rattle.iim_fields.proofs.Sections.{front_alive}
-use Rattle.iim_places.specs.States.PlainDatasets.{mode_dataset}
-use Rattle.iim_places.specs.States.Possible.{widest}
-use Rattle.iim_places.specs.Taking.{CanContinueWithin, TookDatasets}
 use Rattle.iim_places.proofs.Bounds.{each_in}
 use Rattle.iim_places.proofs.Limits.{kept_octets_append, kept_length_append}
 

@@ -1,13 +1,9 @@
 -- Why the ticket of a possible place is refused.
 use Rattle.std.proofs.Common.{◌≡◌, ℕ, ◌<◌, ◌≤◌, List, ◌∷◌, ◌++◌, codes, get_or, refl, ap, sym, subst, ◌∙◌, arith}
-use Rattle.iim_places.specs.States.Possible.{AreHeadsWithin}
-use Rattle.iim_places.specs.States.Scales.{IsPossibleIn}
-use Rattle.iim_places.specs.Laws.Places.{TicketsTellOnePlace, PossiblePlacesAreTaken}
-use Rattle.iim_places.specs.Laws.Tickets.{TicketsOfPlacesAreSplit, split_of}
-use Rattle.iim_places.specs.States.Restored.{IsTicketAt, fields_told, octets_told}
-use Rattle.iim_places.specs.Format.TicketForm.{IsVersion, HasOtherVersion, SplitsTicket}
-use Rattle.iim_places.specs.Format.Tickets.{Place, ticket_in}
-use Rattle.iim_places.specs.declared.ticket.fault.TicketFault.TheVariants.{Form, Version, Impossible, HeaderFull, TooManyFields, OutOfMemory}
+use Rattle.iim_places.proofs.Words.{AreHeadsWithin, IsPossibleIn, TicketsTellOnePlace, PossiblePlacesAreTaken, TicketsOfPlacesAreSplit, split_of, IsTicketAt}
+use Rattle.iim_places.proofs.Words.{fields_told, octets_told, IsVersion, HasOtherVersion, SplitsTicket, ticket_in, Form, Version, Impossible, HeaderFull}
+use Rattle.iim_places.proofs.Words.{TooManyFields, OutOfMemory}
+use Rattle.iim_places.specs.Format.Tickets.{Place}
 
 parts_of : TicketsOfPlacesAreSplit → (ticket : List ℕ) (place : Place) → (is : IsTicketAt ticket place) → SplitsTicket ticket (split_of is.version place)
 parts_of split ticket place is = subst (λ (xs : List ℕ). SplitsTicket xs (split_of is.version place)) (sym is.spelled) (split is.version place is.is_version is.possible)

@@ -1,17 +1,13 @@
 -- How long a ticket is at most.
 use Rattle.std.proofs.Common.{◌≡◌, ℕ, ◌+◌, ◌*◌, ◌≤◌, nat_eq, Bool, true, false, if◌then◌else◌, List, [], ◌∷◌, ◌++◌, length, Option, Some, None, refl, ap, sym, subst, ◌∙◌, inl, inr, arith, length-append}
-use Rattle.std.specs.List.{flat_map}
-use Rattle.iim_dataset.specs.Format.Datasets.{Dataset, SpellsTag, SpellsCount, count_octets}
-use Rattle.iim_dataset.specs.Format.Splits.{InTag, Reads}
-use Rattle.iim_dataset.specs.declared.head.Head.{Head}
-use Rattle.iim_dataset.proofs.Lists.{nothing_fits}
-use Rattle.iim_fields.specs.Format.Faults.{joined, kept}
-use Rattle.wire_message.specs.States.Saved.{saved, LeadsToSaved}
+use Rattle.iim_places.proofs.Words.{flat_map, Dataset, SpellsTag, SpellsCount, count_octets, InTag, Reads, Head, nothing_fits, kept, saved, LeadsToSaved}
+use Rattle.iim_places.proofs.Words.{MessagePlace, TagBegun, DataBegun, AllEnded, four, wide, present_version, phase_octets, field_octets, fields_octets}
+use Rattle.iim_places.proofs.Words.{text_octets, texts_octets, part_number, ticket_name, ticket_of}
+use Rattle.iim_fields.specs.Format.Faults.{joined}
 use Rattle.wire_message.specs.States.SoFar.{IsPlace}
 use Rattle.wire_message.specs.declared.place.Place.{Place as Message}
 use Rattle.wire_message.specs.declared.place.Place.TheVariants as at
-use Rattle.wire_message.specs.declared.saved.MessagePlace.{MessagePlace}
-use Rattle.iim_places.specs.Format.Tickets.{TagBegun, DataBegun, AllEnded, Place, four, wide, present_version, phase_octets, field_octets, fields_octets, number_octets, text_octets, texts_octets, part_number, message_octets, ticket_name, ticket_of}
+use Rattle.iim_places.specs.Format.Tickets.{Place, number_octets, message_octets}
 
 -- ---- joined lists
 

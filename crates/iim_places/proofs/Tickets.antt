@@ -1,27 +1,14 @@
 -- The ticket that an unpacker spells is that of the octets on which it stands.
 use Rattle.std.proofs.Common.{◌≡◌, ℕ, ◌+◌, ◌-◌, Bool, true, false, if◌then◌else◌, List, [], ◌∷◌, ◌++◌, length, sum, Option, refl, ap, sym, subst, ◌∙◌, arith, append-nil, length-append}
-use Rattle.std.proofs.lemmas.Option.{same_Some}
-use Rattle.std.proofs.lemmas.List.{length-map}
-use Rattle.iim_dataset.specs.Format.Datasets.{Dataset, of_record}
-use Rattle.iim_dataset.specs.Format.Splits.{Begun}
-use Rattle.iim_dataset.specs.States.Events.{handed_on}
-use Rattle.iim_dataset.specs.Laws.Datasets.{OctetsAreHandedOnOneWay, EventsTellTheDatasets}
-use Rattle.iim_dataset.proofs.Lists.{sum_cons, sum_append}
+use Rattle.iim_places.proofs.Words.{same_Some, length-map, Dataset, of_record, Begun, handed_on, OctetsAreHandedOnOneWay, EventsTellTheDatasets, sum_cons}
+use Rattle.iim_places.proofs.Words.{sum_append, SubfileBegun, lengths_of, numbers_of, place_after_datasets, place_ended, OctetsLeadToOnePlace, saved}
+use Rattle.iim_places.proofs.Words.{LeadsToSaved, MessagePlace, object_of, object_so_far, place_of, ticket_of, OctetsHaveOneTicket}
 use Rattle.iim_fields.specs.Format.Faults.{joined}
-use Rattle.iim_object.specs.Format.Objects.{SubfileBegun}
 use Rattle.iim_object.specs.Format.Places as objects
-use Rattle.iim_object.specs.Format.Records.{lengths_of, numbers_of}
-use Rattle.iim_object.specs.Format.Numbers.{place_after_datasets, place_ended}
-use Rattle.wire_message.specs.Laws.Messages.{OctetsLeadToOnePlace}
 use Rattle.wire_message.specs.States.Reading as wire
 use Rattle.wire_message.specs.States.SoFar.{LeadsTo}
-use Rattle.wire_message.specs.States.Saved.{saved, IsAt, LeadsToSaved}
+use Rattle.wire_message.specs.States.Saved.{IsAt}
 use Rattle.wire_message.specs.declared.place.Place.{Place as Message}
-use Rattle.wire_message.specs.declared.saved.MessagePlace.{MessagePlace}
-use Rattle.iim_places.specs.Format.Admitted.{object_of}
-use Rattle.iim_places.specs.Format.Open.{object_so_far}
-use Rattle.iim_places.specs.Format.Tickets.{place_of, ticket_of}
-use Rattle.iim_places.specs.Laws.Tickets.{OctetsHaveOneTicket}
 
 -- ---- lengths
 

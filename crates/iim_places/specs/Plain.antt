@@ -7,8 +7,6 @@ use Rattle.iim_dataset.specs.Format.Datasets.{Dataset, canonical_stream, count_o
 use Rattle.iim_dataset.specs.Format.Splits.{Begun, InTag, InData, IsBegun}
 use Rattle.iim_dataset.specs.Laws.Datasets.{HasSpellings}
 use Rattle.iim_fields.specs.Format.Faults.{is_kept, kept, section_after}
-use Rattle.iim_fields.specs.Format.Records.{AreSections}
-use Rattle.iim_object.specs.Format.Plans.{max_subfiles}
 use Rattle.iim_object.specs.Format.Records.{numbers_of}
 use Rattle.iim_object.specs.Format.Places as objects
 use Rattle.iim_object.specs.States.Saved.{IsPossible, stated_numbers}
@@ -76,10 +74,6 @@ pub record IsPlain (place : Place) : Type 0 where
   pub leads : LeadsToSaved (object ++ begun_object begun) text message
   pub is_place : place ≡ plain_place place.fields numbers heads object ended begun message
 
--- Each possible place is led to by plain octets.
-abbrev pub PossiblePlacesArePlain : Type 0
-PossiblePlacesArePlain = (place : Place) → Possible place → IsPlain place
-
 -- its plain octets
 abbrev pub plain_octets : (place : Place) → IsPlain place → List ℕ
 plain_octets place p = canonical_stream (plain place.fields p.numbers p.heads p.object p.ended) ++ p.rest
@@ -99,10 +93,6 @@ plain_of ds =
       maximum = number_at 95 (numbers_of (of_record 7 ds));
     })
     (length (of_record 8 ds)) (object_of ds) (section_after ds == 9)
-
--- What follows datasets to the sections of an envelope follows their plain ones to such too.
-abbrev pub PlainDatasetsContinueAlike : Type 0
-PlainDatasetsContinueAlike = (ds more : List Dataset) → AreSections (ds ++ more) → length (of_record 8 ds) ≤ max_subfiles → length (object_of ds) ≤ greatest_size → AreSections (plain_of ds ++ more)
 
 -- Places of an object whose numbers, whose ends and whose subfiles in number and in octets are the same are possible alike, where no
 -- subfile is longer than 7:20.

@@ -37,9 +37,9 @@ use Rattle.iim_unpack.proofs.Ended.{ended_by_record, unended_inside}
 use Rattle.iim_unpack.proofs.Feeding.{TellsSizes, done_by}
 use Rattle.iim_places.proofs.Following.{alive_of}
 use Rattle.iim_places.proofs.Lasts.{sections_last}
-use Rattle.iim_places.proofs.LayersLead.{present_ended}
-use Rattle.iim_places.proofs.LeadsByLayers.{whole_at, begun_same}
-use Rattle.iim_places.proofs.PlainOpens.{possible_of}
+use Rattle.iim_places.proofs.Plain.{present_ended}
+use Rattle.iim_places.proofs.ByLayers.{whole_at, begun_same}
+use Rattle.iim_places.proofs.PlainSizes.{possible_of}
 use Rattle.iim_places.proofs.SamePlace.{opened, fields_after, fields_in, some_read}
 use Rattle.iim_places.proofs.SameRecords.{stated_after_all}
 use Rattle.iim_places.proofs.Tickets.{count_of}

@@ -1,4 +1,4 @@
-use Rattle.iim_places.proofs.Opening.{open_where_none}
+use Rattle.iim_places.proofs.Continuing.{open_where_none}
 use Rattle.iim_places.proofs.laws.living_octets_are_open.Goals as goal
 
 pub returns : goal.returns

@@ -1,5 +1,5 @@
-use Rattle.iim_places.proofs.LeadsByLayers.{leads_by_layers}
-use Rattle.iim_places.proofs.LayersLead.{layers_lead}
+use Rattle.iim_places.proofs.ByLayers.{leads_by_layers}
+use Rattle.iim_places.proofs.ByLayers.{layers_lead}
 use Rattle.iim_places.proofs.laws.places_are_possible_by_layers.Goals as goal
 
 pub returns : goal.returns

@@ -1,4 +1,4 @@
-use Rattle.iim_places.proofs.Refusing.{refuse_alike}
+use Rattle.iim_places.proofs.Continuing.{refuse_alike}
 use Rattle.iim_places.proofs.laws.places_refuse_alike.Goals as goal
 
 pub returns : goal.returns

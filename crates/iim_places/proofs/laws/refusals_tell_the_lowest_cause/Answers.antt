@@ -1,4 +1,4 @@
-use Rattle.iim_places.proofs.ByTable.{found_by_tests}
+use Rattle.iim_places.proofs.Lowest.{found_by_tests}
 use Rattle.iim_places.proofs.Lowest.{LowestLaws, told_by_table}
 use Rattle.iim_places.proofs.laws.refusals_tell_the_lowest_cause.Goals as goal
 

@@ -1,4 +1,4 @@
-use Rattle.iim_places.proofs.WerePossible.{small_places}
+use Rattle.iim_places.proofs.Scales.{small_places}
 use Rattle.iim_places.proofs.laws.small_places_were_possible.Goals as goal
 
 pub returns : goal.returns

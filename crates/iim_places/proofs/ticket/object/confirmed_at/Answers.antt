@@ -1,6 +1,5 @@
 use Rattle.std.proofs.Common.{refl}
-use Rattle.iim_object.specs.Format.Objects.{ObjectEnded}
-use Rattle.iim_object.specs.Format.Places.{place_after}
+use Rattle.iim_places.proofs.Words.{ObjectEnded, place_after}
 use Rattle.iim_places.proofs.ObjectPlaces.{before_size}
 use Rattle.iim_places.proofs.Results.{if_none}
 use Rattle.iim_places.proofs.ticket.object.confirmed_at.Goals as goal

@@ -1,11 +1,6 @@
 use Rattle.std.proofs.Common.{◌≡◌, ◌+◌, List, length, subst, arith}
-use Rattle.iim_dataset.specs.Format.Datasets.{Dataset}
-use Rattle.iim_fields.specs.Format.Faults.{kept_octets, joined}
-use Rattle.iim_fields.specs.Format.Bounds.{IsWithin}
-use Rattle.iim_places.specs.States.ByLayers.{RecordsLive, are_ended}
-use Rattle.iim_places.specs.States.Possible.{begun_count, begun_fields, widest}
-use Rattle.iim_places.specs.Taking.{AreKept, told_datasets}
-use Rattle.iim_places.specs.Format.TicketForm.{Split}
+use Rattle.iim_places.proofs.Words.{Dataset, kept_octets, IsWithin, RecordsLive, are_ended, begun_count, begun_fields, widest, AreKept, told_datasets, Split}
+use Rattle.iim_fields.specs.Format.Faults.{joined}
 use Rattle.iim_places.specs.States.TicketsTold.{split_told}
 use Rattle.iim_places.specs.declared.ticket.possible.Readers.{Readers}
 use Rattle.iim_places.proofs.PlacesTold.{no_records, no_message, are_at}

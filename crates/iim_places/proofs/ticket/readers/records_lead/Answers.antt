@@ -1,9 +1,5 @@
 use Rattle.std.proofs.Common.{Bool, true, false, List, [], ap}
-use Rattle.iim_dataset.specs.Format.Datasets.{Dataset}
-use Rattle.iim_fields.specs.States.Checks.{TakesHead, HasChecked}
-use Rattle.iim_places.specs.States.ByLayers.{are_ended}
-use Rattle.iim_places.specs.States.Possible.{widest}
-use Rattle.iim_places.specs.Taking.{TookDatasets, told_datasets}
+use Rattle.iim_places.proofs.Words.{Dataset, TakesHead, HasChecked, are_ended, widest, TookDatasets, told_datasets}
 use Rattle.iim_places.specs.States.TicketsTold.{phase_told}
 use Rattle.iim_places.proofs.AtPlaces.{leads_on_told}
 use Rattle.iim_places.proofs.Taking.{took_as}

@@ -1,10 +1,6 @@
 use Rattle.std.proofs.Common.{sym, subst}
-use Rattle.iim_dataset.specs.Format.Datasets.{count_octets}
-use Rattle.iim_dataset.specs.Format.Tags.{BeginsTag}
+use Rattle.iim_places.proofs.Words.{count_octets, BeginsTag, TagsLead, head_of_numbers, IsPhase, present_version}
 use Rattle.iim_dataset.specs.declared.place.DatasetPlace.TheVariants.{Tag, Inside}
-use Rattle.iim_places.specs.States.ByLayers.{TagsLead, head_of_numbers}
-use Rattle.iim_places.specs.Format.TicketForm.{IsPhase}
-use Rattle.iim_places.specs.Format.Tickets.{present_version}
 use Rattle.iim_places.specs.States.TicketsTold.{phase_told}
 use Rattle.iim_places.specs.declared.ticket.split.TicketPhase.{TicketPhase}
 use Rattle.iim_places.proofs.AtPlaces.{some_place, no_place}

@@ -1,11 +1,8 @@
 use Rattle.std.proofs.Common.{List, subst}
 use Rattle.std.proofs.lemmas.Result.{IfOk-weaker}
-use Rattle.iim_dataset.specs.Format.Datasets.{Dataset}
+use Rattle.iim_places.proofs.Words.{Dataset, are_ended, told_datasets, Split}
 use Rattle.iim_fields.specs.States.Standing.{FieldsPlace}
-use Rattle.iim_places.specs.States.ByLayers.{are_ended}
 use Rattle.iim_places.specs.States.Readers.{FieldsStand, RecordsStand}
-use Rattle.iim_places.specs.Taking.{told_datasets}
-use Rattle.iim_places.specs.Format.TicketForm.{Split}
 use Rattle.iim_places.specs.States.TicketsTold.{split_told}
 use Rattle.iim_places.proofs.PlacesTold.{stands_told}
 use Rattle.iim_places.proofs.Splitting.{wider_numbers}

@@ -1,10 +1,7 @@
 use Rattle.std.proofs.Common.{Bool, true, false, List, [], sym, ap, subst, ◌∙◌}
-use Rattle.iim_dataset.specs.Format.Datasets.{Dataset}
+use Rattle.iim_places.proofs.Words.{Dataset, Limits, are_ended, CanContinueWithin, TookDatasets, told_datasets}
 use Rattle.iim_fields.specs.States.Standing.{IsBetween, StandsAfter, limits_of}
-use Rattle.iim_fields.specs.declared.limits.Limits.{Limits}
-use Rattle.iim_places.specs.States.ByLayers.{are_ended}
 use Rattle.iim_places.specs.Restoring.{AreWithinWith}
-use Rattle.iim_places.specs.Taking.{CanContinueWithin, TookDatasets, told_datasets}
 use Rattle.iim_places.specs.States.TicketsTold.{phase_told}
 use Rattle.iim_places.proofs.Restoring.{with_told, goes_told}
 use Rattle.iim_places.proofs.Taking.{took_as}

@@ -1,9 +1,8 @@
 use Rattle.std.proofs.Common.{◌≡◌, sym, ap, subst}
 use Rattle.iim_fields.specs.States.Standing.{limits_of}
-use Rattle.iim_places.specs.States.ByLayers.{TagsLead, RecordsLive}
+use Rattle.iim_places.proofs.Words.{TagsLead, RecordsLive, Phase, DataBegun}
 use Rattle.iim_places.specs.Restoring.{AreWithinWith}
 use Rattle.iim_places.specs.States.Readers.{RecordsStand}
-use Rattle.iim_places.specs.Format.Tickets.{Phase, DataBegun}
 use Rattle.iim_places.specs.States.TicketsTold.{phase_told}
 use Rattle.iim_places.proofs.Restoring.{few_in, may_begin}
 use Rattle.iim_places.proofs.ticket.records.take_phase.Goals as goal

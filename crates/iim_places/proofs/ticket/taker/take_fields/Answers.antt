@@ -1,10 +1,7 @@
 use Rattle.std.proofs.Common.{◌≡◌, Bool, true, false, List, [], ◌∷◌, ◌++◌, sym, ap, subst, ◌∙◌, append_assoc}
-use Rattle.iim_dataset.specs.Format.Datasets.{Dataset}
-use Rattle.iim_fields.specs.Format.Faults.{is_kept}
+use Rattle.iim_places.proofs.Words.{Dataset, is_kept, AreKept, CanContinueWithin, TookDatasets, all_append}
 use Rattle.iim_places.specs.TicketParts.{dataset}
-use Rattle.iim_places.specs.Taking.{AreKept, CanContinueWithin, TookDatasets}
 use Rattle.iim_places.proofs.Taking.{took_more, took_none}
-use Rattle.iim_dataset.proofs.Each.{all_append}
 use Rattle.iim_places.proofs.ticket.taker.take_fields.Goals as goal
 
 -- one of these is not kept

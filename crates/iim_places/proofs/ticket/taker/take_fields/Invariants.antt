@@ -1,6 +1,5 @@
 use Rattle.std.proofs.Common.{◌≡◌, List, ◌++◌, length, true}
-use Rattle.iim_dataset.specs.Format.Datasets.{Dataset}
-use Rattle.iim_places.specs.Taking.{AreKept, TookDatasets}
+use Rattle.iim_places.proofs.Words.{Dataset, AreKept, TookDatasets}
 use Rattle.iim_places.proofs.ticket.taker.take_fields.Given as goal
 
 -- some datasets are taken

@@ -1,6 +1,5 @@
 use Rattle.std.proofs.Common.{ℕ, ◌++◌, Option, subst}
-use Rattle.iim_places.specs.States.PlainDatasets.{mode_dataset, one_dataset}
-use Rattle.iim_places.specs.Taking.{CanContinueWithin}
+use Rattle.iim_places.proofs.Words.{mode_dataset, one_dataset, CanContinueWithin}
 use Rattle.iim_places.proofs.Taking.{no_wide_mode}
 use Rattle.iim_places.proofs.ticket.taker.take_mode.Goals as goal
 

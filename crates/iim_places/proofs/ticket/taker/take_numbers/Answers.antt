@@ -1,8 +1,5 @@
 use Rattle.std.proofs.Common.{◌≡◌, ℕ, false, List, [], ◌∷◌, ◌++◌, length, get_or, Option, None, subst, ◌∙◌, arith, append_assoc}
-use Rattle.iim_dataset.specs.Format.Datasets.{Dataset}
-use Rattle.iim_object.specs.Format.Packing.{number_dataset}
-use Rattle.iim_places.specs.States.PlainDatasets.{mode_dataset, one_dataset, plain_numbers}
-use Rattle.iim_places.specs.Taking.{TookDatasets, numbers_told}
+use Rattle.iim_places.proofs.Words.{Dataset, number_dataset, mode_dataset, one_dataset, plain_numbers, TookDatasets, numbers_told}
 use Rattle.iim_places.proofs.Taking.{took_then, took_else}
 use Rattle.iim_places.proofs.ticket.taker.take_numbers.Goals.{then-take_size, else-take_size, then-take_mode, else-take_mode}
 use Rattle.iim_places.proofs.ticket.taker.take_numbers.Goals as goal

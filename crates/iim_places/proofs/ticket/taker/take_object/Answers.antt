@@ -1,7 +1,6 @@
 use Rattle.std.proofs.Common.{[], ◌∷◌, List, cond, refl}
-use Rattle.iim_dataset.specs.Format.Datasets.{Dataset}
+use Rattle.iim_places.proofs.Words.{Dataset, plain_end}
 use Rattle.iim_places.specs.TicketParts.{dataset}
-use Rattle.iim_places.specs.States.PlainDatasets.{plain_end}
 use Rattle.iim_places.proofs.Taking.{took_else, took_then}
 use Rattle.iim_places.proofs.ticket.taker.take_object.Goals as goal
 

@@ -1,6 +1,5 @@
 use Rattle.std.proofs.Common.{refl}
-use Rattle.iim_places.specs.States.PlainDatasets.{plain_numbers}
-use Rattle.iim_places.specs.Taking.{numbers_told}
+use Rattle.iim_places.proofs.Words.{plain_numbers, numbers_told}
 use Rattle.iim_places.proofs.Taking.{took_else, took_then}
 use Rattle.iim_places.proofs.ticket.taker.take_records.Goals as goal
 

@@ -1,11 +1,8 @@
 use Rattle.std.proofs.Common.{◌≡◌, ℕ, Bool, true, false, cond, List, [], ◌∷◌, ◌++◌, refl, ap, sym, subst, ◌∙◌, append_assoc}
 use Rattle.std.proofs.Math.Seq.{take-nil}
-use Rattle.std.specs.Option.{unwrap_or}
-use Rattle.iim_dataset.specs.Format.Datasets.{Dataset}
-use Rattle.iim_object.specs.Format.Packing.{subfile_dataset, subfile_datasets}
+use Rattle.iim_places.proofs.Words.{unwrap_or, Dataset, subfile_datasets, Numbers, filled, plain, plain_end, plain_numbers, TookDatasets, numbers_told}
+use Rattle.iim_object.specs.Format.Packing.{subfile_dataset}
 use Rattle.iim_places.specs.TicketParts.{dataset}
-use Rattle.iim_places.specs.States.PlainDatasets.{Numbers, filled, plain, plain_end, plain_numbers}
-use Rattle.iim_places.specs.Taking.{TookDatasets, numbers_told}
 use Rattle.iim_places.proofs.Taking.{took_else, took_then}
 use Rattle.iim_places.proofs.ticket.taker.take_told.Goals as goal
 

@@ -1,8 +1,7 @@
 use Rattle.std.proofs.Common.{◌≡◌, ℕ, ◌-◌, Bool, [], ◌∷◌, length, refl, sym, subst, ◌∙◌, inr, arith}
-use Rattle.iim_dataset.specs.declared.head.Head.{Head}
+use Rattle.iim_places.proofs.Words.{Head, TookDatasets}
 use Rattle.iim_fields.specs.States.Standing.{FieldsPlace, IsBetween, StandsAfter, limits_of}
 use Rattle.iim_places.specs.TicketParts.{dataset}
-use Rattle.iim_places.specs.Taking.{TookDatasets}
 use Rattle.iim_dataset.proofs.OctetLists.{are_octets}
 use Rattle.iim_places.proofs.Taking.{closed_took}
 use Rattle.iim_places.proofs.ticket.taker.FieldsDatasetTaker.take.Goals as goal

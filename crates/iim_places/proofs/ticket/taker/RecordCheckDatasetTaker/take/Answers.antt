@@ -1,9 +1,7 @@
 use Rattle.std.proofs.Common.{Bool, [], ◌∷◌, refl, subst, sym, arith}
 use Rattle.iim_dataset.proofs.OctetLists.{are_octets}
-use Rattle.iim_fields.specs.States.Checks.{TakesHead, HasChecked}
+use Rattle.iim_places.proofs.Words.{TakesHead, HasChecked, widest, TookDatasets}
 use Rattle.iim_places.specs.TicketParts.{dataset}
-use Rattle.iim_places.specs.States.Possible.{widest}
-use Rattle.iim_places.specs.Taking.{TookDatasets}
 use Rattle.iim_places.proofs.Taking.{value_took}
 use Rattle.iim_places.proofs.ticket.taker.RecordCheckDatasetTaker.take.Goals as goal
 
