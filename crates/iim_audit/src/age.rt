@@ -3,7 +3,7 @@
 ghost use Rattle.std.specs.Prelude.{◌≡◌, ◌-ℤ◌};
 ghost use Rattle.iim_audit.specs.Format.Ages.{age_at, whole_seconds, WholeSecondsAreFloors};
 
-use iim_fields::EnvelopeRef;
+use iim_fields::{EnvelopeRef, instants};
 use jiff::Timestamp;
 
 /// The nanoseconds of a second.
@@ -21,7 +21,7 @@ pub(crate) fn seconds_between(sent: Timestamp, now: Timestamp) -> i64
 pub(crate) fn age_at(envelope: &EnvelopeRef<'_>, now: Timestamp) -> Option<i64>
     ensures { result ≡ age_at now.nanosecond envelope.now }
 {
-    envelope.sent().map(|sent| seconds_between(sent, now))
+    instants::sent(envelope).map(|sent| seconds_between(sent, now))
 }
 
 /// Whole seconds are rounded down: they are the greatest whole number that is not above the exact one.

@@ -4,7 +4,7 @@ ghost use Rattle.std.specs.Prelude.{◌≡◌, ◌≤◌, length, Some};
 ghost use Rattle.iim_audit.specs.Format.Copies.{copy_at};
 ghost use Rattle.iim_audit.specs.Format.Texts.{copy_word};
 
-use iim_fields::EnvelopeRef;
+use iim_fields::{EnvelopeRef, instants};
 use jiff::Timestamp;
 use std::fmt;
 use std::fmt::{Display, Formatter};
@@ -46,12 +46,12 @@ impl CopyState {
 pub(crate) fn copy_at(envelope: &EnvelopeRef<'_>, now: Timestamp) -> CopyState
     ensures { result ≡ copy_at now.nanosecond envelope.now }
 {
-    if let Some(release) = envelope.release() {
+    if let Some(release) = instants::release(envelope) {
         if release.as_nanosecond() > now.as_nanosecond() {
             return CopyState::Held;
         }
     }
-    if let Some(expiration) = envelope.expires() {
+    if let Some(expiration) = instants::expires(envelope) {
         if now.as_nanosecond() > expiration.as_nanosecond() {
             return CopyState::Expired;
         }

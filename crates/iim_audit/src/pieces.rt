@@ -8,7 +8,7 @@ ghost use Rattle.iim_audit.specs.Lines.{IsShort};
 
 use crate::row::{AuditRow, Taken, row_of};
 use iim_dataset::laws::{events_tell_the_datasets, octets_are_handed_on_one_way};
-use iim_fields::Limits;
+use iim_fields::{Limits, instants};
 use iim_unpack::laws::unpackers_stand_somewhere;
 use iim_unpack::{Progress, Refusal, Unpacker};
 use jiff::Timestamp;
@@ -109,8 +109,8 @@ impl PieceAudit {
         let Some(unpacked) = self.unpacker.unpacked() else {
             unreachable!()
         };
-        let release = unpacked.envelope.release();
-        let expires = unpacked.envelope.expires();
+        let release = instants::release(&unpacked.envelope);
+        let expires = instants::expires(&unpacked.envelope);
         let words = self.count.words();
         PieceRow {
             used,

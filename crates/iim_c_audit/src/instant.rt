@@ -48,7 +48,7 @@ pub(crate) fn told(instant: Option<Timestamp>) -> (bool, IimInstant)
 
 impl IimInstant {
     /// The instant that it tells. None where it has more nanoseconds than a second, or lies outside the years -9999 to 9999.
-    pub fn told(self) -> Option<Timestamp>
+    pub(crate) fn told(self) -> Option<Timestamp>
         ensures some { IfSome result (λ t. IsToldAs self t.nanosecond) }
         ensures none { IfNone result (IsInstant self → ⊥) }
     {

@@ -5,7 +5,6 @@ pub mod Table
 pub mod Heads
 pub mod Numbers
 pub mod Runs
-pub mod Follows
 pub mod Dies
 pub mod Checking
 pub mod Stand
@@ -23,4 +22,5 @@ pub mod Wholes
 pub mod Admitted
 pub mod Subfiles
 -- What proofs of other crates cite.
+pub mod Follows
 pub mod Sections

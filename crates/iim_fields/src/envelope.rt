@@ -6,8 +6,6 @@ use crate::store::Store;
 use crate::walk::{DataIter, FieldIter};
 use iim_tables::date_of;
 use iim_tables::records::{APPLICATION, ENVELOPE};
-use jiff::Timestamp;
-use jiff::civil::Date;
 use std::marker::Model;
 
 /// The datasets of a whole record 1 and a whole record 2, each good. It is seen as the list of them, in order.
@@ -32,13 +30,12 @@ impl Model for Envelope {
 impl Envelope {
     ghost use Rattle.std.specs.Prelude.{◌≡◌, ◌≤◌, [], ◌∷◌, length, Some, ◌↔◌, IsTrue, IsSomeAnd, IfSome, pos};
     ghost use Rattle.std.specs.Option.{option_map};
-    ghost use Rattle.jiff.specs.Words.{IsYmd};
-    ghost use Rattle.iim_tables.specs.Format.Dates.{is_date, year_in, month_in, day_in};
+    ghost use Rattle.iim_tables.specs.Format.Dates.{is_date};
     ghost use Rattle.iim_fields.specs.States.Walks.{rest_of, data_left};
     ghost use Rattle.iim_fields.specs.Format.Envelopes.{IsEnvelope};
     ghost use Rattle.iim_fields.specs.States.Builders.{AreFew};
     ghost use Rattle.iim_fields.specs.Format.Faults.{joined};
-    ghost use Rattle.iim_fields.specs.Format.Views.{first_data, all_data, instant_sent, instant_of_pair, instant_of_release, instant_of_expiration};
+    ghost use Rattle.iim_fields.specs.Format.Views.{first_data, all_data};
     ghost use Rattle.iim_fields.specs.Building.{IsInEach};
     ghost use Rattle.iim_tables.specs.Format.Rows.{Meets};
 
@@ -119,22 +116,6 @@ impl Envelope {
         self.borrowed().date_sent_text()
     }
 
-    /// The day of 1:70 Date Sent.
-    pub fn date_sent(&self) -> Date
-        ensures { IsSomeAnd (first_data 1 70 self.now)
-            (λ date. IsYmd (pos (year_in date)) (pos (month_in date)) (pos (day_in date)) result) }
-    {
-        date_of(self.date_sent_text()).unwrap()
-    }
-
-    /// The instant of 1:70 Date Sent and 1:80 Time Sent: local time less its offset. None where no time was sent, or where
-    /// `jiff` has no such instant: its last is 9999-12-30T22:00:00.999999999Z.
-    pub fn sent(&self) -> Option<Timestamp>
-        ensures { option_map (λ t. t.nanosecond) result ≡ instant_sent self.now }
-    {
-        self.borrowed().sent()
-    }
-
     /// What the envelope is known by: 1:30 Service Identifier, 1:40 Envelope Number and 1:70 Date Sent.
     pub fn id(&self) -> EnvelopeId
         ensures service { first_data 1 30 self.now ≡ Some result.service }
@@ -170,23 +151,6 @@ impl Envelope {
         ensures { option_map (λ digit. digit ∷ []) result ≡ first_data 1 60 self.now }
     {
         self.borrowed().priority()
-    }
-
-    /// The instant from which on the copy may be used: 2:30 Release Date and 2:35 Release Time, local time less its offset, or the
-    /// beginning of that day in universal time where no time was sent. None where no date was sent, or where `jiff` has no such instant.
-    pub fn release(&self) -> Option<Timestamp>
-        ensures { option_map (λ t. t.nanosecond) result ≡ instant_of_release self.now }
-    {
-        self.borrowed().release()
-    }
-
-    /// The last instant at which the copy may be used: 2:37 Expiration Date and 2:38 Expiration Time, local time less its offset, or
-    /// the last second of that day in universal time where no time was sent. None where no date was sent, or where `jiff` has no such
-    /// instant.
-    pub fn expires(&self) -> Option<Timestamp>
-        ensures { option_map (λ t. t.nanosecond) result ≡ instant_of_expiration self.now }
-    {
-        self.borrowed().expires()
     }
 
     /// 1:80 Time Sent, where it was sent.

@@ -3,9 +3,7 @@
 use crate::id::EnvelopeId;
 use crate::store::Store;
 use crate::walk::FieldIter;
-use iim_tables::instant_of;
-use iim_tables::records::{APPLICATION, ENVELOPE};
-use jiff::Timestamp;
+use iim_tables::records::ENVELOPE;
 use std::marker::Model;
 
 /// The datasets of a whole record 1 and a whole record 2, each good, where they lie: in an [`Envelope`](crate::Envelope), or in a
@@ -36,7 +34,7 @@ impl<'a> EnvelopeRef<'a> {
     ghost use Rattle.iim_fields.specs.States.Walks.{rest_of};
     ghost use Rattle.iim_fields.specs.Format.Envelopes.{IsEnvelope};
     ghost use Rattle.iim_fields.specs.States.Builders.{AreFew};
-    ghost use Rattle.iim_fields.specs.Format.Views.{first_data, instant_sent, instant_of_pair, instant_of_release, instant_of_expiration};
+    ghost use Rattle.iim_fields.specs.Format.Views.{first_data};
     ghost use Rattle.iim_fields.specs.Building.{IsInEach};
     ghost use Rattle.iim_tables.specs.Format.Rows.{Meets};
 
@@ -103,14 +101,6 @@ impl<'a> EnvelopeRef<'a> {
         self.mandatory(ENVELOPE, 70)
     }
 
-    /// The instant of 1:70 Date Sent and 1:80 Time Sent: local time less its offset. None where no time was sent, or where
-    /// `jiff` has no such instant: its last is 9999-12-30T22:00:00.999999999Z.
-    pub fn sent(&self) -> Option<Timestamp>
-        ensures { option_map (λ t. t.nanosecond) result ≡ instant_sent self.now }
-    {
-        self.instant(ENVELOPE, 70, 80, None)
-    }
-
     /// What the envelope is known by: 1:30 Service Identifier, 1:40 Envelope Number and 1:70 Date Sent.
     pub fn id(&self) -> EnvelopeId
         ensures service { first_data 1 30 self.now ≡ Some result.service }
@@ -125,41 +115,5 @@ impl<'a> EnvelopeRef<'a> {
         ensures { option_map (λ digit. digit ∷ []) result ≡ first_data 1 60 self.now }
     {
         self.first(ENVELOPE, 60)?.first().copied()
-    }
-
-    /// The instant of this date and time of the record. Where no time was sent, `absent` stands for it. None where there is no date or no
-    /// time, or where they name no instant.
-    fn instant(
-        &self,
-        rec: u8,
-        date_set: u8,
-        time_set: u8,
-        absent: Option<&[u8]>,
-    ) -> Option<Timestamp>
-        ensures { option_map (λ t. t.nanosecond) result ≡ instant_of_pair rec date_set time_set
-            (option_map (λ x. x.now) absent.entry) self.now }
-    {
-        let date = self.first(rec, date_set)?;
-        let time = self.first(rec, time_set).or(absent)?;
-        instant_of(date, time)
-    }
-
-    /// The instant from which on the copy may be used: 2:30 Release Date and 2:35 Release Time, local time less its offset, or the
-    /// beginning of that day in universal time where no time was sent. None where no date was sent, or where `jiff` has no such instant.
-    pub fn release(&self) -> Option<Timestamp>
-        ensures { option_map (λ t. t.nanosecond) result ≡ instant_of_release self.now }
-    {
-        let first: &[u8] = b"000000+0000";
-        self.instant(APPLICATION, 30, 35, Some(first))
-    }
-
-    /// The last instant at which the copy may be used: 2:37 Expiration Date and 2:38 Expiration Time, local time less its offset, or
-    /// the last second of that day in universal time where no time was sent. None where no date was sent, or where `jiff` has no such
-    /// instant.
-    pub fn expires(&self) -> Option<Timestamp>
-        ensures { option_map (λ t. t.nanosecond) result ≡ instant_of_expiration self.now }
-    {
-        let last: &[u8] = b"235959+0000";
-        self.instant(APPLICATION, 37, 38, Some(last))
     }
 }

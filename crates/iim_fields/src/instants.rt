@@ -1,0 +1,67 @@
+//! The instants and the day that an envelope names.
+//!
+//! They stand apart from the envelope's own methods: a crate that names an envelope alone then reads nothing of `jiff` when it is built.
+
+ghost use Rattle.std.specs.Prelude.{◌≡◌, IsSomeAnd, pos};
+ghost use Rattle.std.specs.Option.{option_map};
+ghost use Rattle.jiff.specs.Words.{IsYmd};
+ghost use Rattle.iim_tables.specs.Format.Dates.{year_in, month_in, day_in};
+ghost use Rattle.iim_fields.specs.Format.Views.{first_data, instant_sent, instant_of_pair, instant_of_release, instant_of_expiration};
+
+use crate::envelope_ref::EnvelopeRef;
+use iim_tables::records::{APPLICATION, ENVELOPE};
+use iim_tables::{date_of, instant_of};
+use jiff::Timestamp;
+use jiff::civil::Date;
+
+/// The instant of this date and time of the record. Where no time was sent, `absent` stands for it. None where there is no date or no
+/// time, or where they name no instant.
+fn instant(
+    envelope: &EnvelopeRef<'_>,
+    rec: u8,
+    date_set: u8,
+    time_set: u8,
+    absent: Option<&[u8]>,
+) -> Option<Timestamp>
+    ensures { option_map (λ t. t.nanosecond) result ≡ instant_of_pair rec date_set time_set
+        (option_map (λ x. x.now) absent.entry) envelope.now }
+{
+    let date = envelope.first(rec, date_set)?;
+    let time = envelope.first(rec, time_set).or(absent)?;
+    instant_of(date, time)
+}
+
+/// The day of 1:70 Date Sent.
+pub fn date_sent(envelope: &EnvelopeRef<'_>) -> Date
+    ensures { IsSomeAnd (first_data 1 70 envelope.now)
+        (λ date. IsYmd (pos (year_in date)) (pos (month_in date)) (pos (day_in date)) result) }
+{
+    date_of(envelope.date_sent_text()).unwrap()
+}
+
+/// The instant of 1:70 Date Sent and 1:80 Time Sent: local time less its offset. None where no time was sent, or where
+/// `jiff` has no such instant: its last is 9999-12-30T22:00:00.999999999Z.
+pub fn sent(envelope: &EnvelopeRef<'_>) -> Option<Timestamp>
+    ensures { option_map (λ t. t.nanosecond) result ≡ instant_sent envelope.now }
+{
+    instant(envelope, ENVELOPE, 70, 80, None)
+}
+
+/// The instant from which on the copy may be used: 2:30 Release Date and 2:35 Release Time, local time less its offset, or the
+/// beginning of that day in universal time where no time was sent. None where no date was sent, or where `jiff` has no such instant.
+pub fn release(envelope: &EnvelopeRef<'_>) -> Option<Timestamp>
+    ensures { option_map (λ t. t.nanosecond) result ≡ instant_of_release envelope.now }
+{
+    let first: &[u8] = b"000000+0000";
+    instant(envelope, APPLICATION, 30, 35, Some(first))
+}
+
+/// The last instant at which the copy may be used: 2:37 Expiration Date and 2:38 Expiration Time, local time less its offset, or
+/// the last second of that day in universal time where no time was sent. None where no date was sent, or where `jiff` has no such
+/// instant.
+pub fn expires(envelope: &EnvelopeRef<'_>) -> Option<Timestamp>
+    ensures { option_map (λ t. t.nanosecond) result ≡ instant_of_expiration envelope.now }
+{
+    let last: &[u8] = b"235959+0000";
+    instant(envelope, APPLICATION, 37, 38, Some(last))
+}
