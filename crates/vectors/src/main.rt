@@ -7,7 +7,6 @@
 
 mod auditing;
 
-use anyhow::{Context, Result, bail};
 use std::alloc::Global;
 use std::io::{self, BufRead, BufReader, Write};
 use vectors_envelopes::{Envelopes, Packing};
@@ -76,18 +75,18 @@ fn answer_alone(
 }
 
 /// Prints the answers to a question. It is an error if one can't be told.
-fn print_answers(rt: &impl Print, vectors: &mut Vectors, question: &[u8]) -> Result<()> {
+fn print_answers(rt: &impl Print, vectors: &mut Vectors, question: &[u8]) -> io::Result<()> {
     let mut answers = Answers::new(vectors.alloc);
     vectors.answer(&mut answers, question);
     io::writer(rt).write_all(answers.text())?;
-    if let Some(fault) = answers.fault() {
-        bail!(fault);
+    match answers.fault() {
+        Some(fault) => Err(io::Error::other(fault)),
+        None => Ok(()),
     }
-    Ok(())
 }
 
 /// Prints a line, and its answers where it is a question.
-fn pass(rt: &impl Print, vectors: &mut Vectors, line: &str) -> Result<()> {
+fn pass(rt: &impl Print, vectors: &mut Vectors, line: &str) -> io::Result<()> {
     rt.println(line)?;
     let question = line.as_bytes();
     if question.is_empty() || question.starts_with(b"#") {
@@ -97,15 +96,17 @@ fn pass(rt: &impl Print, vectors: &mut Vectors, line: &str) -> Result<()> {
 }
 
 /// Passes each line of the input.
-fn pass_lines(rt: &(impl Input + Print), alloc: Global, vectors: &mut Vectors) -> Result<()> {
+fn pass_lines(rt: &(impl Input + Print), alloc: Global, vectors: &mut Vectors) -> io::Result<()> {
     for line in BufReader::new(alloc, rt.reader())?.lines(alloc) {
         pass(rt, vectors, line?.as_str())?;
     }
     Ok(())
 }
 
-fn main(rt: HostRuntime) -> Result<()> {
+fn main(rt: HostRuntime) -> io::Result<()> {
     let alloc = rt.alloc();
-    let mut vectors = Vectors::new(alloc).context("memory was refused")?;
-    pass_lines(&rt, alloc, &mut vectors)
+    match Vectors::new(alloc) {
+        Some(mut vectors) => pass_lines(&rt, alloc, &mut vectors),
+        None => Err(io::Error::other("memory was refused")),
+    }
 }
