@@ -1,32 +1,31 @@
 //! Streams of envelopes, audited.
 
-use anyhow::{Result, bail};
 use iim_audit::{AuditCause, AuditFault, Report, audit, report_text};
 use iim_dataset::FromRead;
 use iim_fields::Limits;
 use iim_unpack::Intake;
 use jiff::Timestamp;
 use std::alloc::Global;
-use vectors_questions::{Answers, Names, Words};
+use vectors_layers::{Answers, Names, Words};
 
-/// The instant that a word tells, as jiff reads it.
-fn instant(word: &str) -> Result<Timestamp> {
-    match word.parse() {
-        Ok(instant) => Ok(instant),
-        Err(_) => bail!("no instant"),
+/// Prints a text, line by line.
+fn print_text(out: &mut Answers, text: &[u8]) {
+    match str::from_utf8(text) {
+        Ok(text) => {
+            for line in text.lines() {
+                out.line(line);
+            }
+        }
+        Err(_) => out.fail("the report is no text"),
     }
 }
 
 /// Prints a report, line by line.
-fn print_report(out: &mut Answers, alloc: Global, report: &Report) -> Result<()> {
-    let text = report_text(alloc, report)?;
-    let Ok(text) = str::from_utf8(text.as_slice()) else {
-        bail!("the report is no text");
-    };
-    for line in text.lines() {
-        out.line(line);
+fn print_report(out: &mut Answers, alloc: Global, report: &Report) {
+    match report_text(alloc, report) {
+        Ok(text) => print_text(out, text.as_slice()),
+        Err(_) => out.lack_memory(),
     }
-    Ok(())
 }
 
 /// Prints the number of the envelope that is refused, and what is told then.
@@ -47,29 +46,29 @@ fn print_audit(
     alloc: Global,
     intake: &mut Intake<FromRead<&[u8]>>,
     now: Timestamp,
-) -> Result<()> {
+) {
     match audit(alloc, intake, Limits::WIRE, now) {
         Ok(report) => print_report(out, alloc, &report),
-        Err(fault) => {
-            print_fault(out, fault);
-            Ok(())
-        }
+        Err(fault) => print_fault(out, fault),
     }
 }
 
 /// Prints the reports of octets that are audited so many times, from one intake.
-fn print_audits(
-    out: &mut Answers,
-    alloc: Global,
-    octets: &[u8],
-    now: Timestamp,
-    times: u8,
-) -> Result<()> {
+fn print_audits(out: &mut Answers, alloc: Global, octets: &[u8], now: Timestamp, times: u8) {
     let mut intake = Intake::new(FromRead::new(octets));
     for _ in 0..times {
-        print_audit(out, alloc, &mut intake, now)?;
+        print_audit(out, alloc, &mut intake, now);
     }
-    Ok(())
+}
+
+/// Prints the reports of the octets that the next words tell, at the instant that they tell, as jiff reads it.
+fn print_next(out: &mut Answers, alloc: Global, names: &Names, words: &mut Words, times: u8) {
+    let now = words.text().parse();
+    let octets = words.octets(names);
+    match now {
+        Ok(now) => print_audits(out, alloc, octets.as_slice(), now, times),
+        Err(_) => words.refuse(),
+    }
 }
 
 /// Answers the words of audits; false where the word is none of them.
@@ -79,13 +78,11 @@ pub(crate) fn answer(
     names: &Names,
     word: &str,
     words: &mut Words,
-) -> Result<bool> {
-    let times = match word {
-        "audit" => 1,
-        "audits" => 2,
-        _ => return Ok(false),
-    };
-    let now = instant(words.text())?;
-    print_audits(out, alloc, words.octets(names).as_slice(), now, times)?;
-    Ok(true)
+) -> bool {
+    match word {
+        "audit" => print_next(out, alloc, names, words, 1),
+        "audits" => print_next(out, alloc, names, words, 2),
+        _ => return false,
+    }
+    true
 }

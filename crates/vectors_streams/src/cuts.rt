@@ -8,7 +8,7 @@ pub(crate) const LONGEST: usize = 64;
 
 /// How long the pieces are: all alike, or random numbers by a linear congruence modulo 2^64, with Knuth's factor.
 #[derive(Clone, Copy)]
-pub struct Cuts {
+pub(crate) struct Cuts {
     least: usize,
     span: u64,
     state: u64,
@@ -56,7 +56,7 @@ fn feed_piece<S: StorySink>(
 
 /// Feeds octets in pieces, with an empty one before each, up to the first answer that is not More: Done with the sum of the octets
 /// that were used.
-pub fn feed_cut<S: StorySink>(
+pub(crate) fn feed_cut<S: StorySink>(
     unpacker: &mut Unpacker,
     octets: &[u8],
     mut cuts: Cuts,

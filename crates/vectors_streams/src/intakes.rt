@@ -1,20 +1,17 @@
 //! One envelope after another, from octets that an intake reads.
 
-use anyhow::Result;
+use crate::values::limits_of;
 use iim_dataset::FromRead;
 use iim_fields::Limits;
 use iim_unpack::{Intake, IntakeFault, Unpacked, Unpacker};
 use std::alloc::Global;
-use vectors_questions::{Answers, Names, Words};
-use vectors_records::limits_of;
+use vectors_layers::{Answers, Names, Words};
 use wire_story::Discard;
 
 /// Prints how many octets an envelope and its object have.
 fn print_sums(out: &mut Answers, octets: u64, total: u64) {
-    out.put("  ");
-    out.show(&octets);
-    out.put(" octets, ");
-    out.show(&total);
+    out.number("  ", octets);
+    out.number(" octets, ", total);
     out.put(" total\n");
 }
 
@@ -41,47 +38,42 @@ fn print_envelope(
     alloc: Global,
     limits: Limits,
     intake: &mut Intake<FromRead<&[u8]>>,
-) -> Result<bool> {
-    let unpacker = Unpacker::new(alloc, limits)?;
+) -> bool {
+    let Ok(unpacker) = Unpacker::new(alloc, limits) else {
+        out.lack_memory();
+        return false;
+    };
     let answer = intake.next_envelope(unpacker, &mut Discard);
-    Ok(print_answer(out, answer, intake.octets()))
+    print_answer(out, answer, intake.octets())
 }
 
 /// Prints all envelopes of the octets, up to their end or to what is refused.
-pub(crate) fn print_envelopes(
-    out: &mut Answers,
-    alloc: Global,
-    names: &Names,
-    words: &mut Words,
-) -> Result<()> {
+pub(crate) fn print_envelopes(out: &mut Answers, alloc: Global, names: &Names, words: &mut Words) {
     let limits = limits_of(words);
     let octets = words.octets(names);
     let mut intake = Intake::new(FromRead::new(octets.as_slice()));
     for _ in 0..=octets.len() {
-        if !print_envelope(out, alloc, limits, &mut intake)? {
+        if !print_envelope(out, alloc, limits, &mut intake) {
             break;
         }
     }
-    Ok(())
 }
 
 /// Prints what an intake over the octets answers to an unpacker that may have taken some, and to two new ones after it.
-pub fn print_next(
+pub(crate) fn print_next(
     out: &mut Answers,
     alloc: Global,
     limits: Limits,
     unpacker: Unpacker,
     octets: &[u8],
-) -> Result<()> {
+) {
     if unpacker.is_done() || unpacker.is_failed() {
         out.line("none");
-        return Ok(());
+        return;
     }
     let mut intake = Intake::new(FromRead::new(octets));
     let answer = intake.next_envelope(unpacker, &mut Discard);
     print_answer(out, answer, intake.octets());
-    for _ in 0..2 {
-        print_envelope(out, alloc, limits, &mut intake)?;
-    }
-    Ok(())
+    print_envelope(out, alloc, limits, &mut intake);
+    print_envelope(out, alloc, limits, &mut intake);
 }

@@ -1,26 +1,25 @@
-//! Answers questions about whole streams: an envelope at once, in pieces and from its tickets, and one envelope after another.
+//! Answers questions about streams of envelopes: a stream at once, in pieces and from its tickets, one envelope after another, an envelope
+//! that is taken apart, and tickets.
 //!
-//! Stands on `vectors_questions`, the parts on records, objects and messages, `iim_unpack`, `iim_fields`, `iim_dataset`, `wire_story` and
-//! `anyhow`. The program `vectors` asks it, and the part on unpacking feeds its unpacker in pieces and prints values as it does.
+//! Stands on `vectors_layers`, `iim_unpack`, `iim_fields`, `iim_dataset`, `wire_message` and `wire_story`. The program `vectors` asks it.
 #![tactic(auto)]
 
+mod causes;
 mod cuts;
 mod intakes;
 mod lines;
 mod pieces;
 mod streams;
+mod tickets;
+mod unpacking;
 mod values;
 
-use anyhow::Result;
-pub use cuts::{Cuts, feed_cut};
 use intakes::print_envelopes;
-pub use intakes::print_next;
-pub use lines::print_lines;
 use pieces::print_pieces;
 use std::alloc::Global;
 use streams::print_stream;
-pub use values::{print_done, print_value};
-use vectors_questions::{Answers, Names, Words};
+pub use unpacking::Bench;
+use vectors_layers::{Answers, Names, Words};
 
 /// Answers the words of streams; false where the word is none of them.
 pub fn answer(
@@ -29,13 +28,12 @@ pub fn answer(
     names: &Names,
     word: &str,
     words: &mut Words,
-) -> Result<bool> {
-    let answer = match word {
+) -> bool {
+    match word {
         "stream" => print_stream(out, alloc, names, words),
         "pieces" => print_pieces(out, alloc, names, words),
         "intake" => print_envelopes(out, alloc, names, words),
-        _ => return Ok(false),
-    };
-    answer?;
-    Ok(true)
+        _ => return false,
+    }
+    true
 }

@@ -1,6 +1,6 @@
 //! The lines of a story, as they are printed.
 
-use vectors_questions::Answers;
+use vectors_layers::Answers;
 use wire_story::Lines;
 
 /// The most octets of a line that are printed one by one where they are all alike.
@@ -8,8 +8,11 @@ const LONG: usize = 100;
 
 /// Whether all octets of a line are the same.
 fn are_alike(line: &[u8]) -> bool {
-    for octet in line {
-        if Some(octet) != line.first() {
+    let [first, others @ ..] = line else {
+        return true;
+    };
+    for octet in others {
+        if *octet != *first {
             return false;
         }
     }
@@ -20,8 +23,7 @@ fn are_alike(line: &[u8]) -> bool {
 fn print_repeated(out: &mut Answers, line: &[u8]) {
     out.put("(");
     out.octets(line.get(..1).unwrap_or(&[]));
-    out.put(")*");
-    out.show(&line.len());
+    out.number(")*", line.len() as u64);
 }
 
 /// Prints a line.
@@ -36,7 +38,7 @@ pub(crate) fn print_line(out: &mut Answers, line: &[u8]) {
 }
 
 /// Prints the lines.
-pub fn print_lines(out: &mut Answers, lines: &Lines) {
+pub(crate) fn print_lines(out: &mut Answers, lines: &Lines) {
     for line in lines.iter() {
         print_line(out, line);
     }

@@ -2,16 +2,14 @@
 
 use crate::cuts::{Cuts, LONGEST, feed_cut};
 use crate::lines::print_line;
-use crate::values::{are_same, print_done};
-use anyhow::{Result, ensure};
+use crate::values::{are_same, limits_of, print_done};
 use iim_dataset::FromRead;
 use iim_fields::Limits;
 use iim_unpack::{
     Cause, Intake, IntakeFault, Layer, Progress, Refusal, SaveFault, Unpacked, Unpacker,
 };
 use std::alloc::Global;
-use vectors_questions::{Answers, Names, Words};
-use vectors_records::limits_of;
+use vectors_layers::{Answers, Names, Words};
 use wire_story::{Discard, Lines};
 
 /// How many places a stream is saved at, or a few more.
@@ -87,66 +85,86 @@ impl Told {
     }
 }
 
+/// How many octets there are before the first LF.
+fn line_len(text: &[u8]) -> usize {
+    let mut len = 0usize;
+    for octet in text {
+        if *octet == b'\n' {
+            break;
+        }
+        len = len.saturating_add(1);
+    }
+    len
+}
+
 /// Prints the lines of a text, each of which an LF ends.
 fn print_text(out: &mut Answers, text: &[u8]) {
     let mut rest = text;
     for _ in 0..text.len() {
-        let Some(end) = rest.iter().position(|octet| *octet == b'\n') else {
+        if rest.is_empty() {
             break;
-        };
-        print_line(out, rest.get(..end).unwrap_or(&[]));
-        rest = rest.get(end.saturating_add(1)..).unwrap_or(&[]);
+        }
+        let (line, more) = rest.split_at(line_len(rest).min(rest.len()));
+        print_line(out, line);
+        rest = more.get(1..).unwrap_or(&[]);
     }
 }
 
-/// Adds lines to a text that ends in the midst of one, or is empty, with an LF after each.
-fn push_lines(text: &mut Vec<u8>, lines: &Lines) -> Result<()> {
-    if text.last() == Some(&b'\n') {
+/// Adds lines to a text that ends in the midst of one, or is empty, with an LF after each; None where memory was refused.
+fn push_lines(text: &mut Vec<u8>, lines: &Lines) -> Option<()> {
+    if matches!(text.last(), Some(b'\n')) {
         text.truncate(text.len().saturating_sub(1));
     }
     for line in lines.iter() {
-        text.extend_from_slice(line)?;
-        text.push(b'\n')?;
+        text.extend_from_slice(line).ok()?;
+        text.push(b'\n').ok()?;
     }
-    Ok(())
+    Some(())
 }
 
-/// The lines of a text, those before a ticket and those after it, with an LF after each.
-fn text_of(alloc: Global, before: &Lines, lines: &Lines) -> Result<Vec<u8>> {
+/// The lines of a text, those before a ticket and those after it, with an LF after each; None where memory was refused.
+fn text_of(alloc: Global, before: &Lines, lines: &Lines) -> Option<Vec<u8>> {
     let mut text = Vec::new(alloc);
     push_lines(&mut text, before)?;
     push_lines(&mut text, lines)?;
-    Ok(text)
+    Some(text)
 }
 
-/// That something holds; an error that says what does not.
-fn hold(holds: bool, what: &str) -> Result<()> {
-    ensure!(holds, "{what}");
-    Ok(())
-}
-
-/// That something holds after so many octets; an error that says what does not.
-fn hold_after(octets: u64, holds: bool, what: &str) -> Result<()> {
-    ensure!(holds, "{what} after {octets} octets");
-    Ok(())
+/// That something holds of so many octets. Where it does not, the answers say of how many, and fail.
+fn hold(out: &mut Answers, octets: u64, holds: bool, fault: &'static str) {
+    if !holds {
+        out.number_line("  not at ", octets);
+        out.fail(fault);
+    }
 }
 
 /// That an unpacker which refused something says so from then on, at the same octet, and has no ticket.
-fn check_failed(alloc: Global, unpacker: &mut Unpacker, refusal: Refusal) -> Result<()> {
+fn check_failed(out: &mut Answers, alloc: Global, unpacker: &mut Unpacker, refusal: Refusal) {
+    let at = refusal.octet;
     let failed = Refusal {
         layer: Layer::Outside,
         rec: 0,
         set: 0,
-        octet: refusal.octet,
+        octet: at,
         cause: Cause::Failed,
     };
-    let again = unpacker.feed(b"\x1c", &mut Discard);
-    hold(again == Err(failed), "another answer after a refusal")?;
+    let again = unpacker.feed(b"\x1c", &mut Discard).err();
+    hold(
+        out,
+        at,
+        again == Some(failed),
+        "another answer after a refusal",
+    );
     let end = unpacker.end_of_input();
-    hold(end == Some(failed), "the end of input after a refusal")?;
-    hold(!unpacker.is_done(), "done after a refusal")?;
+    hold(
+        out,
+        at,
+        end == Some(failed),
+        "the end of input after a refusal",
+    );
+    hold(out, at, !unpacker.is_done(), "done after a refusal");
     let has_failed = matches!(unpacker.save(alloc), Err(SaveFault::Failed));
-    hold(has_failed, "a ticket after a refusal")
+    hold(out, at, has_failed, "a ticket after a refusal")
 }
 
 /// Whether two unpackers have taken as many octets, both are done or have failed or neither, and say the same of the end of input.
@@ -158,55 +176,52 @@ fn answer_alike(one: &Unpacker, other: &Unpacker) -> bool {
 }
 
 /// Whether an unpacker has a ticket.
-fn has_ticket(alloc: Global, unpacker: &Unpacker, ticket: &[u8]) -> Result<bool> {
-    Ok(unpacker.save(alloc)?.as_slice() == ticket)
-}
-
-/// That a restored unpacker answers as the one that was saved, and has the same ticket.
-fn check_restored(
-    alloc: Global,
-    unpacker: &Unpacker,
-    saved: &Unpacker,
-    ticket: &[u8],
-) -> Result<()> {
-    let at = saved.octets();
-    let has_ticket = has_ticket(alloc, unpacker, ticket)?;
-    hold_after(at, has_ticket, "another ticket")?;
-    hold_after(at, answer_alike(unpacker, saved), "other answers")
+fn has_ticket(alloc: Global, unpacker: &Unpacker, ticket: &[u8]) -> bool {
+    match unpacker.save(alloc) {
+        Ok(saved) => saved.as_slice() == ticket,
+        Err(_) => false,
+    }
 }
 
 /// What an unpacker answers where no octets follow those that it was given last, before which `at` came: how many the envelope has,
 /// or why they are refused.
 fn settled(
+    out: &mut Answers,
     alloc: Global,
     unpacker: &mut Unpacker,
     at: u64,
     answer: Result<Progress, Refusal>,
-) -> Result<Result<u64, Refusal>> {
+) -> Result<u64, Refusal> {
     let used = match answer {
         Ok(Progress::Done { used }) => at.saturating_add(used as u64),
         Ok(Progress::More) => 0,
         Err(refusal) => {
-            check_failed(alloc, unpacker, refusal)?;
-            return Ok(Err(refusal));
+            check_failed(out, alloc, unpacker, refusal);
+            return Err(refusal);
         }
     };
     if let Some(refusal) = unpacker.end_of_input() {
-        return Ok(Err(refusal));
+        return Err(refusal);
     }
-    ensure!(used == unpacker.octets(), "used {used} octets");
-    Ok(Ok(used))
+    hold(
+        out,
+        used,
+        used == unpacker.octets(),
+        "so many octets were used",
+    );
+    Ok(used)
 }
 
-/// What an unpacker comes to that answered so: its text has the lines before a ticket and those after it.
+/// What an unpacker comes to that answered so: its text has the lines before a ticket and those after it. None where memory was
+/// refused.
 fn told_by(
     alloc: Global,
     unpacker: Unpacker,
     before: &Lines,
     lines: &Lines,
     answer: Result<u64, Refusal>,
-) -> Result<Told> {
-    Ok(Told {
+) -> Option<Told> {
+    Some(Told {
         answer,
         text: text_of(alloc, before, lines)?,
         value: unpacker.into_unpacked().ok(),
@@ -224,10 +239,8 @@ fn print_told(out: &mut Answers, whole: &Told) {
 
 /// Prints how many tickets came to the same.
 fn print_places(out: &mut Answers, places: u64) {
-    out.put("  the same in pieces of 1 to ");
-    out.show(&LONGEST);
-    out.put(", and from ");
-    out.show(&places);
+    out.number("  the same in pieces of 1 to ", LONGEST as u64);
+    out.number(", and from ", places);
     out.put(" tickets\n");
 }
 
@@ -235,86 +248,118 @@ impl Stream<'_> {
     /// Feeds all at once, or in pieces of a size with an empty one before each.
     fn feed(
         self,
+        out: &mut Answers,
         size: Option<usize>,
         unpacker: &mut Unpacker,
         lines: &mut Lines,
-    ) -> Result<Result<u64, Refusal>> {
+    ) -> Result<u64, Refusal> {
         let answer = match size {
             Some(size) => feed_cut(unpacker, self.octets, Cuts::of(size), lines),
             None => unpacker.feed(self.octets, lines),
         };
-        settled(self.alloc, unpacker, 0, answer)
+        settled(out, self.alloc, unpacker, 0, answer)
     }
 
-    /// What the octets come to, at once or in such pieces.
-    fn told(self, size: Option<usize>) -> Result<Told> {
+    /// What the octets come to, at once or in such pieces; None where memory was refused.
+    fn told(self, out: &mut Answers, size: Option<usize>) -> Option<Told> {
+        let mut unpacker = Unpacker::new(self.alloc, self.limits).ok()?;
         let mut lines = Lines::new(self.alloc);
-        let mut unpacker = Unpacker::new(self.alloc, self.limits)?;
-        let answer = self.feed(size, &mut unpacker, &mut lines)?;
+        let answer = self.feed(out, size, &mut unpacker, &mut lines);
         let before = Lines::new(self.alloc);
         told_by(self.alloc, unpacker, &before, &lines, answer)
     }
 
     /// That pieces of each size come to the same as the whole.
-    fn check_pieces(self, whole: &Told) -> Result<()> {
+    fn check_pieces(self, out: &mut Answers, whole: &Told) {
         for size in 1..=LONGEST {
-            let is_same = self.told(Some(size))?.is(whole);
-            ensure!(is_same, "in pieces of {size} octets");
+            let is_same = match self.told(out, Some(size)) {
+                Some(told) => told.is(whole),
+                None => false,
+            };
+            hold(out, size as u64, is_same, "another answer in pieces");
         }
-        Ok(())
     }
 
-    /// The unpacker that is restored from the ticket of another. It answers as that one, and has the same ticket.
-    fn restored(self, saved: &Unpacker) -> Result<Unpacker> {
+    /// The unpacker that is restored from the ticket of another. It answers as that one, and has the same ticket. None where there is no
+    /// ticket, or it is not restored.
+    fn restored(self, out: &mut Answers, saved: &Unpacker) -> Option<Unpacker> {
         let at = saved.octets();
-        let ticket = saved.save(self.alloc)?;
-        let unpacker = Unpacker::restore(self.alloc, self.limits, ticket.as_slice(), at)?;
-        check_restored(self.alloc, &unpacker, saved, ticket.as_slice())?;
-        Ok(unpacker)
+        let ticket = saved.save(self.alloc).ok()?;
+        let ticket = ticket.as_slice();
+        let unpacker = Unpacker::restore(self.alloc, self.limits, ticket, at).ok()?;
+        let has_ticket = has_ticket(self.alloc, &unpacker, ticket);
+        hold(out, at, has_ticket, "another ticket");
+        hold(out, at, answer_alike(&unpacker, saved), "other answers");
+        Some(unpacker)
     }
 
-    /// What the rest of the octets comes to, from the ticket of an unpacker that took those before it.
-    fn continued(self, saved: &Unpacker, before: &Lines, rest: &[u8]) -> Result<Told> {
+    /// What the rest of the octets comes to, from the ticket of an unpacker that took those before it; None where it has none.
+    fn continued(
+        self,
+        out: &mut Answers,
+        saved: &Unpacker,
+        before: &Lines,
+        rest: &[u8],
+    ) -> Option<Told> {
+        let mut unpacker = self.restored(out, saved)?;
         let mut lines = Lines::new(self.alloc);
-        let mut unpacker = self.restored(saved)?;
         let fed = unpacker.feed(rest, &mut lines);
-        let answer = settled(self.alloc, &mut unpacker, saved.octets(), fed)?;
+        let answer = settled(out, self.alloc, &mut unpacker, saved.octets(), fed);
         told_by(self.alloc, unpacker, before, &lines, answer)
     }
 
     /// That the rest of the octets comes to the same as the whole by an intake, from the ticket of an unpacker that is not done.
-    fn check_intake(self, saved: &Unpacker, rest: &[u8], whole: &Told) -> Result<()> {
-        let unpacker = self.restored(saved)?;
+    fn check_intake(self, out: &mut Answers, saved: &Unpacker, rest: &[u8], whole: &Told) {
+        let Some(unpacker) = self.restored(out, saved) else {
+            out.fail("no ticket");
+            return;
+        };
         if unpacker.is_done() || unpacker.is_failed() {
-            return Ok(());
+            return;
         }
         let at = saved.octets();
         let mut intake = Intake::new(FromRead::new(rest));
         let answer = intake.next_envelope(unpacker, &mut Discard);
         let octets = at.saturating_add(intake.octets());
         let is_same = whole.is_given(answer, octets, rest.is_empty());
-        hold_after(at, is_same, "by an intake")
+        hold(out, at, is_same, "another answer by an intake")
     }
 
     /// That the rest of the octets comes to the same as the whole, from the ticket of an unpacker that took those before it.
-    fn check_rest(self, saved: &Unpacker, before: &Lines, rest: &[u8], whole: &Told) -> Result<()> {
-        let is_same = self.continued(saved, before, rest)?.is(whole);
-        hold_after(saved.octets(), is_same, "from the ticket")?;
-        self.check_intake(saved, rest, whole)
+    fn check_rest(
+        self,
+        out: &mut Answers,
+        saved: &Unpacker,
+        before: &Lines,
+        rest: &[u8],
+        whole: &Told,
+    ) {
+        let is_same = match self.continued(out, saved, before, rest) {
+            Some(told) => told.is(whole),
+            None => false,
+        };
+        hold(
+            out,
+            saved.octets(),
+            is_same,
+            "another answer from the ticket",
+        );
+        self.check_intake(out, saved, rest, whole)
     }
 
     /// Saves the octets at each place after so many, and checks what follows. Answers how many places.
     fn check_places(
         self,
+        out: &mut Answers,
         size: usize,
         saved: &mut Unpacker,
         before: &mut Lines,
         whole: &Told,
-    ) -> Result<u64> {
+    ) -> u64 {
         let mut rest = self.octets;
         let mut places = 0u64;
         for _ in 0..=self.octets.len() {
-            self.check_rest(saved, before, rest, whole)?;
+            self.check_rest(out, saved, before, rest, whole);
             places = places.saturating_add(1);
             let (piece, more) = rest.split_at(rest.len().min(size));
             if piece.is_empty() || saved.feed(piece, before).is_err() {
@@ -322,46 +367,41 @@ impl Stream<'_> {
             }
             rest = more;
         }
-        Ok(places)
+        places
     }
 
     /// Saves the octets at up to 400 places, each of them where they are few, and checks what follows. Answers how many places.
-    fn check_tickets(self, whole: &Told) -> Result<u64> {
+    fn check_tickets(self, out: &mut Answers, whole: &Told) -> u64 {
         let size = (self.octets.len() / PLACES).saturating_add(1);
-        let mut saved = Unpacker::new(self.alloc, self.limits)?;
+        let Ok(mut saved) = Unpacker::new(self.alloc, self.limits) else {
+            out.lack_memory();
+            return 0;
+        };
         let mut before = Lines::new(self.alloc);
-        self.check_places(size, &mut saved, &mut before, whole)
-    }
-
-    /// That the octets come to the same in pieces, and from tickets. Answers from how many.
-    fn check(self, whole: &Told) -> Result<u64> {
-        self.check_pieces(whole)?;
-        self.check_tickets(whole)
+        self.check_places(out, size, &mut saved, &mut before, whole)
     }
 
     /// Prints what the octets come to at once. It is an error if they come to something else in pieces, or from a ticket.
-    fn print(self, out: &mut Answers) -> Result<()> {
-        let whole = self.told(None)?;
+    fn print(self, out: &mut Answers) {
+        let Some(whole) = self.told(out, None) else {
+            out.lack_memory();
+            return;
+        };
         print_told(out, &whole);
-        print_places(out, self.check(&whole)?);
-        Ok(())
+        self.check_pieces(out, &whole);
+        let places = self.check_tickets(out, &whole);
+        print_places(out, places)
     }
 }
 
 /// Prints what the octets of a stream come to.
-pub(crate) fn print_stream(
-    out: &mut Answers,
-    alloc: Global,
-    names: &Names,
-    words: &mut Words,
-) -> Result<()> {
+pub(crate) fn print_stream(out: &mut Answers, alloc: Global, names: &Names, words: &mut Words) {
     let limits = limits_of(words);
     let octets = words.octets(names);
-    let octets = octets.as_slice();
     let stream = Stream {
         alloc,
         limits,
-        octets,
+        octets: octets.as_slice(),
     };
     stream.print(out)
 }

@@ -1,34 +1,45 @@
-//! The value of an envelope, as it is printed.
+//! Limits, and the value of an envelope, as they are told and printed.
 
+use iim_fields::Limits;
 use iim_unpack::Unpacked;
-use vectors_messages::{header_parts, tell_header};
-use vectors_objects::print_sizes;
-use vectors_questions::Answers;
-use vectors_records::print_field;
+use vectors_layers::{Answers, Words, print_sizes, tell_header};
+use wire_message::MessageHead;
+
+/// The limits that the next word tells, as `65536/512`.
+pub(crate) fn limits_of(words: &mut Words) -> Limits {
+    let (octets, fields) = words.pair();
+    Limits { octets, fields }
+}
 
 /// Prints that an envelope is done, and how many octets it has.
-pub fn print_done(out: &mut Answers, octets: u64) {
-    out.put("  done ");
-    out.show(&octets);
-    out.end();
+pub(crate) fn print_done(out: &mut Answers, octets: u64) {
+    out.number_line("  done ", octets);
 }
 
 /// Prints the datasets, the message's header and trailer, and the sizes of the object.
-pub fn print_value(out: &mut Answers, got: &Unpacked) {
+pub(crate) fn print_value(out: &mut Answers, got: &Unpacked) {
     for (rec, set, octets) in got.envelope.fields() {
-        print_field(out, rec, set, octets);
+        out.field_line("  field ", rec, set, octets);
     }
     tell_header(out, "message", &got.head);
-    out.put("  trailer ");
-    out.octets(got.trailer.as_slice());
-    out.end();
+    out.octets_line("  trailer ", got.trailer.as_slice());
     print_sizes(out, &got.sizes)
+}
+
+/// Whether two headers have the same parts.
+fn are_same_headers(one: &MessageHead, other: &MessageHead) -> bool {
+    one.source() == other.source()
+        && one.number() == other.number()
+        && one.priority() == other.priority()
+        && one.category() == other.category()
+        && one.words() == other.words()
+        && one.info() == other.info()
 }
 
 /// Whether two envelopes have the same datasets, header, trailer and sizes.
 pub(crate) fn are_same(one: &Unpacked, other: &Unpacked) -> bool {
     one.envelope.same(&other.envelope)
-        && header_parts(&one.head) == header_parts(&other.head)
+        && are_same_headers(&one.head, &other.head)
         && one.trailer.as_slice() == other.trailer.as_slice()
         && one.sizes == other.sizes
 }

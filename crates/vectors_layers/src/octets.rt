@@ -1,0 +1,349 @@
+//! The words of a question, and octets as they are written there.
+
+use std::alloc::Global;
+
+/// The most octets that a question may have repeated.
+const MOST: u64 = 1_000_000;
+
+/// The most arguments of a question that may have any number of them.
+pub const MOST_ARGUMENTS: u32 = 1_000;
+
+/// The value of a hexadecimal digit of upper case.
+fn digit(octet: u8) -> Option<u8> {
+    match octet {
+        b'0'..=b'9' => octet.checked_sub(b'0'),
+        b'A'..=b'F' => octet.checked_sub(b'A' - 10),
+        _ => None,
+    }
+}
+
+/// The decimal number that octets spell.
+pub fn number_of(digits: &[u8]) -> Option<u64> {
+    if digits.is_empty() {
+        return None;
+    }
+    let mut number = 0u64;
+    for octet in digits {
+        let digit = octet.checked_sub(b'0')?;
+        if digit > 9 {
+            return None;
+        }
+        number = number.checked_mul(10)?.checked_add(u64::from(digit))?;
+    }
+    Some(number)
+}
+
+/// The octets before a place, and those from it on.
+fn parted(octets: &[u8], at: usize) -> (&[u8], &[u8]) {
+    (
+        octets.get(..at).unwrap_or(octets),
+        octets.get(at..).unwrap_or(&[]),
+    )
+}
+
+/// How many octets there are before the first `end`.
+fn len_before(octets: &[u8], end: u8) -> usize {
+    let mut len = 0usize;
+    for octet in octets {
+        if *octet == end {
+            break;
+        }
+        len = len.saturating_add(1);
+    }
+    len
+}
+
+/// The octets before the first `end`, and those after it; None where there is none.
+fn cut_at(octets: &[u8], end: u8) -> Option<(&[u8], &[u8])> {
+    match parted(octets, len_before(octets, end)) {
+        (before, [_, after @ ..]) => Some((before, after)),
+        _ => None,
+    }
+}
+
+/// Whether a name can have an octet.
+fn is_in_name(octet: u8) -> bool {
+    octet == b'_' || octet.is_ascii_lowercase()
+}
+
+/// How many octets there are before the first that a name can't have.
+fn name_len(octets: &[u8]) -> usize {
+    let mut len = 0usize;
+    for octet in octets {
+        if !is_in_name(*octet) {
+            break;
+        }
+        len = len.saturating_add(1);
+    }
+    len
+}
+
+/// How many octets there are before the first that is no decimal digit.
+fn digits_len(octets: &[u8]) -> usize {
+    let mut len = 0usize;
+    for octet in octets {
+        if !octet.is_ascii_digit() {
+            break;
+        }
+        len = len.saturating_add(1);
+    }
+    len
+}
+
+/// The words of a question that have not been read. A word that has not its form is taken for nothing, and told at the end.
+#[derive(Clone, Copy)]
+pub struct Words<'q> {
+    rest: &'q [u8],
+    is_wrong: bool,
+}
+
+/// How many octets the first word has: up to a space outside of quotes.
+fn word_len(octets: &[u8]) -> usize {
+    let mut is_quoted = false;
+    let mut len = 0usize;
+    for octet in octets {
+        if *octet == b'"' {
+            is_quoted = !is_quoted;
+        }
+        if *octet == b' ' && !is_quoted {
+            break;
+        }
+        len = len.saturating_add(1);
+    }
+    len
+}
+
+impl<'q> Words<'q> {
+    /// All words of a question.
+    pub fn new(question: &'q [u8]) -> Words<'q> {
+        Words {
+            rest: question,
+            is_wrong: false,
+        }
+    }
+
+    /// The next word.
+    pub fn word(&mut self) -> &'q [u8] {
+        let (word, rest) = parted(self.rest, word_len(self.rest));
+        self.is_wrong |= word.is_empty();
+        self.rest = rest.get(1..).unwrap_or(&[]);
+        word
+    }
+
+    /// The next word, as text.
+    pub fn text(&mut self) -> &'q str {
+        match str::from_utf8(self.word()) {
+            Ok(text) => text,
+            Err(_) => {
+                self.is_wrong = true;
+                ""
+            }
+        }
+    }
+
+    /// Whether there are words left.
+    pub fn has_more(&self) -> bool {
+        !self.rest.is_empty()
+    }
+
+    /// That a word had not its form.
+    pub fn refuse(&mut self) {
+        self.is_wrong = true;
+    }
+
+    /// The next word, a decimal number.
+    pub fn number(&mut self) -> u64 {
+        let number = number_of(self.word());
+        self.is_wrong |= number.is_none();
+        number.unwrap_or(0)
+    }
+
+    /// The next word, a number of one octet.
+    pub fn octet(&mut self) -> u8 {
+        match u8::try_from(self.number()) {
+            Ok(octet) => octet,
+            Err(_) => {
+                self.is_wrong = true;
+                0
+            }
+        }
+    }
+
+    /// The next word, a number or `-` for none.
+    pub fn number_or_none(&mut self) -> Option<u64> {
+        let word = self.word();
+        if matches!(word, b"-") {
+            return None;
+        }
+        let number = number_of(word);
+        self.is_wrong |= number.is_none();
+        number
+    }
+
+    /// The next word, two numbers of four octets at most with a stroke between them.
+    pub fn pair(&mut self) -> (u32, u32) {
+        let pair = pair_of(self.word());
+        self.is_wrong |= pair.is_none();
+        pair.unwrap_or((0, 0))
+    }
+
+    /// The next word, octets.
+    pub fn octets(&mut self, names: &Names) -> Vec<u8> {
+        let octets = names.octets_of(self.word());
+        self.is_wrong |= octets.is_none();
+        octets.unwrap_or(Vec::new(names.alloc))
+    }
+
+    /// Whether each word had its form, and none is left.
+    pub fn are_right(&self) -> bool {
+        !self.is_wrong && self.rest.is_empty()
+    }
+}
+
+/// The decimal number of four octets at most that octets spell.
+fn short_number_of(digits: &[u8]) -> Option<u32> {
+    u32::try_from(number_of(digits)?).ok()
+}
+
+/// Two numbers with a stroke between them.
+fn pair_of(word: &[u8]) -> Option<(u32, u32)> {
+    let (first, second) = cut_at(word, b'/')?;
+    Some((short_number_of(first)?, short_number_of(second)?))
+}
+
+/// A name, and the octets that it stands for.
+#[derive(Drop)]
+struct Named {
+    name: Vec<u8>,
+    octets: Vec<u8>,
+}
+
+/// The octets that were named so far.
+#[derive(Drop)]
+pub struct Names {
+    alloc: Global,
+    named: Vec<Named>,
+}
+
+impl Names {
+    /// No names.
+    pub fn new(alloc: Global) -> Names {
+        Names {
+            alloc,
+            named: Vec::new(alloc),
+        }
+    }
+
+    /// Names octets: the name and the octets are the next words.
+    pub fn name(&mut self, words: &mut Words) {
+        let word = words.word();
+        let octets = words.octets(self);
+        let mut name = Vec::new(self.alloc);
+        let is_kept = name.extend_from_slice(word).is_ok()
+            && name_len(word) == word.len()
+            && self.named.push(Named { name, octets }).is_ok();
+        if !is_kept {
+            words.refuse();
+        }
+    }
+
+    /// What a name stands for: what it was given last.
+    fn find(&self, name: &[u8]) -> Option<&[u8]> {
+        let mut found = None;
+        for named in self.named.as_slice() {
+            if named.name.as_slice() == name {
+                found = Some(named.octets.as_slice());
+            }
+        }
+        found
+    }
+
+    /// The octets that a word writes.
+    fn octets_of(&self, word: &[u8]) -> Option<Vec<u8>> {
+        let mut octets = Vec::new(self.alloc);
+        if matches!(word, b"-") {
+            return Some(octets);
+        }
+        let mut rest = word;
+        for _ in 0..word.len() {
+            rest = match rest {
+                [] => break,
+                [b'(', more @ ..] => self.push_repeated(&mut octets, more)?,
+                _ => self.push_item(&mut octets, rest)?,
+            };
+        }
+        Some(octets)
+    }
+
+    /// Adds items as often as the number after them says, and answers what follows.
+    fn push_repeated<'w>(&self, octets: &mut Vec<u8>, rest: &'w [u8]) -> Option<&'w [u8]> {
+        let Some((items, [b'*', more @ ..])) = cut_at(rest, b')') else {
+            return None;
+        };
+        let (times, more) = parted(more, digits_len(more));
+        let mut once = Vec::new(self.alloc);
+        self.push_items(&mut once, items)?;
+        for _ in 0..number_of(times)?.min(MOST) {
+            octets.extend_from_slice(once.as_slice()).ok()?;
+        }
+        Some(more)
+    }
+
+    /// Adds items of which none is repeated.
+    fn push_items(&self, octets: &mut Vec<u8>, items: &[u8]) -> Option<()> {
+        let mut rest = items;
+        for _ in 0..items.len() {
+            if rest.is_empty() {
+                break;
+            }
+            rest = self.push_item(octets, rest)?;
+        }
+        Some(())
+    }
+
+    /// Adds the first item, and answers what follows.
+    fn push_item<'w>(&self, octets: &mut Vec<u8>, rest: &'w [u8]) -> Option<&'w [u8]> {
+        match rest {
+            [b'.', more @ ..] => Some(more),
+            [b'"', more @ ..] => push_text(octets, more),
+            [b'$', more @ ..] => self.push_named(octets, more),
+            [high, low, more @ ..] => {
+                octets.push((digit(*high)? << 4) | digit(*low)?).ok()?;
+                Some(more)
+            }
+            _ => None,
+        }
+    }
+
+    /// Adds octets that have a name, all or those between two places, and answers what follows.
+    fn push_named<'w>(&self, octets: &mut Vec<u8>, rest: &'w [u8]) -> Option<&'w [u8]> {
+        let (name, more) = parted(rest, name_len(rest));
+        let named = self.find(name)?;
+        let [b'[', more @ ..] = more else {
+            octets.extend_from_slice(named).ok()?;
+            return Some(more);
+        };
+        let (places, more) = cut_at(more, b']')?;
+        octets.extend_from_slice(between(named, places)?).ok()?;
+        Some(more)
+    }
+}
+
+/// Adds the octets up to a quote, and answers what follows it.
+fn push_text<'w>(octets: &mut Vec<u8>, rest: &'w [u8]) -> Option<&'w [u8]> {
+    let (text, more) = cut_at(rest, b'"')?;
+    octets.extend_from_slice(text).ok()?;
+    Some(more)
+}
+
+/// The octets between two places, which are written with a colon between them.
+fn between<'n>(named: &'n [u8], places: &[u8]) -> Option<&'n [u8]> {
+    let (from, to) = cut_at(places, b':')?;
+    let from = if from.is_empty() { 0 } else { number_of(from)? };
+    let to = if to.is_empty() {
+        named.len() as u64
+    } else {
+        number_of(to)?
+    };
+    named.get(from as usize..to as usize)
+}

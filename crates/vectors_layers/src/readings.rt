@@ -1,0 +1,138 @@
+//! Octets cut into pieces, in each way that a reader may be given them, and numbers as ranges.
+
+use crate::answers::Answers;
+
+/// The longest octets that are cut in two at each place. Longer ones are cut in the middle.
+const MOST_CUT: usize = 128;
+
+/// How octets are cut into pieces.
+#[derive(Clone, Copy)]
+pub enum Cut {
+    /// In one piece.
+    Whole,
+    /// Octet by octet, with an empty piece before each.
+    Each,
+    /// In two, the first of so many octets.
+    At(usize),
+}
+
+impl Cut {
+    /// The piece of this number, and how many octets stand before it.
+    pub fn piece(self, octets: &[u8], number: usize) -> Option<(usize, &[u8])> {
+        let at = number / 2;
+        let (from, to) = match self {
+            Cut::Whole if number == 0 => (0, octets.len()),
+            Cut::At(end) if number == 0 => (0, end),
+            Cut::At(end) if number == 1 => (end, octets.len()),
+            Cut::Each => (at, at.saturating_add(number % 2)),
+            _ => return None,
+        };
+        Some((from, octets.get(from..to)?))
+    }
+
+    /// The most pieces that octets are cut into.
+    pub fn most_pieces(octets: &[u8]) -> usize {
+        octets.len().saturating_mul(2).saturating_add(2)
+    }
+}
+
+/// A reading of octets, which answers in lines.
+pub trait Reading {
+    /// Reads the octets in these pieces.
+    fn read(&self, octets: &[u8], cut: Cut) -> Answers;
+}
+
+/// The cut of this number, of those of so many octets but for one piece.
+fn other_cut(len: usize, number: usize) -> Option<Cut> {
+    match number {
+        0 => Some(Cut::Each),
+        1 if len > MOST_CUT => Some(Cut::At(len / 2)),
+        _ if number <= len && len <= MOST_CUT => Some(Cut::At(number)),
+        _ => None,
+    }
+}
+
+/// Tells a cut.
+fn tell_cut(answers: &mut Answers, cut: Cut) {
+    match cut {
+        Cut::Whole => answers.line("but whole"),
+        Cut::Each => answers.line("but Each"),
+        Cut::At(len) => {
+            answers.number("  but At(", len as u64);
+            answers.put(")\n");
+        }
+    }
+}
+
+/// Tells what the octets are read as in one piece, and what another cut makes of them where that differs.
+pub fn tell_reading<R: Reading>(answers: &mut Answers, reading: &R, octets: &[u8]) {
+    let whole = reading.read(octets, Cut::Whole);
+    answers.join(&whole);
+    for number in 0..=MOST_CUT {
+        let Some(cut) = other_cut(octets.len(), number) else {
+            break;
+        };
+        let other = reading.read(octets, cut);
+        if !other.are(&whole) {
+            tell_cut(answers, cut);
+            answers.join(&other);
+        }
+    }
+}
+
+/// Numbers, of which some are in.
+pub trait Class {
+    /// Whether the number is in.
+    fn has(&self, number: u64) -> bool;
+}
+
+/// How numbers are written.
+#[derive(Clone, Copy)]
+pub enum Digits {
+    /// As octets, in hexadecimal.
+    Octets,
+    /// In decimal.
+    Decimal,
+}
+
+/// Tells a number.
+fn tell_digits(answers: &mut Answers, number: u64, digits: Digits) {
+    match digits {
+        Digits::Octets => {
+            let [.., octet] = number.to_be_bytes();
+            answers.digits(octet);
+        }
+        Digits::Decimal => answers.show(&number),
+    }
+}
+
+/// Tells a range of numbers, from first to last.
+fn tell_range(answers: &mut Answers, first: u64, last: u64, digits: Digits) {
+    answers.put(" ");
+    tell_digits(answers, first, digits);
+    if first != last {
+        answers.put("..");
+        tell_digits(answers, last, digits);
+    }
+}
+
+/// Tells the numbers that are in, of those up to the greatest, as ranges in a line.
+pub fn tell_class<C: Class>(answers: &mut Answers, class: &C, greatest: u64, digits: Digits) {
+    let mut first = None;
+    let mut is_none = true;
+    answers.put(" ");
+    for number in 0..=greatest.saturating_add(1) {
+        let is_in = number <= greatest && class.has(number);
+        match first {
+            None if is_in => first = Some(number),
+            Some(from) if !is_in => {
+                tell_range(answers, from, number.saturating_sub(1), digits);
+                first = None;
+                is_none = false;
+            }
+            _ => {}
+        }
+    }
+    answers.put(if is_none { " none" } else { "" });
+    answers.end();
+}

@@ -1,0 +1,229 @@
+//! An envelope that is taken apart in pieces: what was fed so far, and what is asked of it.
+
+use crate::causes::{print_causes, print_layers};
+use crate::cuts::{Cuts, feed_cut};
+use crate::intakes::print_next;
+use crate::lines::print_lines;
+use crate::tickets::{self, fault_name, print_ticket};
+use crate::values::{limits_of, print_done, print_value};
+use iim_fields::Limits;
+use iim_unpack::{Progress, Refusal, Unpacker};
+use std::alloc::Global;
+use std::mem;
+use vectors_layers::{Answers, Names, Words};
+use wire_story::Lines;
+
+/// An envelope that is being taken apart.
+#[derive(Drop)]
+pub struct Bench {
+    alloc: Global,
+    limits: Limits,
+    unpacker: Unpacker,
+    lines: Lines,
+}
+
+/// Prints what was answered to octets.
+fn print_progress(out: &mut Answers, answer: Result<Progress, Refusal>) {
+    match answer {
+        Ok(Progress::More) => out.line("more"),
+        Ok(Progress::Done { used }) => print_done(out, used as u64),
+        Err(refusal) => out.tell(&refusal),
+    }
+}
+
+impl Bench {
+    /// A new envelope, under the program's limits; None where memory was refused.
+    pub fn new(alloc: Global) -> Option<Bench> {
+        Some(Bench {
+            alloc,
+            limits: Limits::WIRE,
+            unpacker: Unpacker::new(alloc, Limits::WIRE).ok()?,
+            lines: Lines::new(alloc),
+        })
+    }
+
+    /// The unpacker. A new one takes its place. None where memory was refused.
+    fn take_unpacker(&mut self, out: &mut Answers) -> Option<Unpacker> {
+        match Unpacker::new(self.alloc, self.limits) {
+            Ok(next) => Some(mem::replace(&mut self.unpacker, next)),
+            Err(_) => {
+                out.lack_memory();
+                None
+            }
+        }
+    }
+
+    /// A new envelope, under limits.
+    fn renew(&mut self, out: &mut Answers, limits: Limits) {
+        match Unpacker::new(self.alloc, limits) {
+            Ok(unpacker) => self.unpacker = unpacker,
+            Err(_) => out.lack_memory(),
+        }
+        self.limits = limits;
+        self.lines = Lines::new(self.alloc);
+    }
+
+    /// The next envelope of the same unpacker.
+    fn again(&mut self) {
+        self.unpacker.again();
+        self.lines = Lines::new(self.alloc);
+    }
+
+    /// Feeds the octets of the next word.
+    fn feed(&mut self, out: &mut Answers, names: &Names, words: &mut Words) {
+        let octets = words.octets(names);
+        let answer = self.unpacker.feed(octets.as_slice(), &mut self.lines);
+        print_progress(out, answer);
+    }
+
+    /// Feeds the octets of the next word in pieces.
+    fn cut(&mut self, out: &mut Answers, names: &Names, words: &mut Words, cuts: Cuts) {
+        let octets = words.octets(names);
+        let answer = feed_cut(&mut self.unpacker, octets.as_slice(), cuts, &mut self.lines);
+        print_progress(out, answer);
+    }
+
+    /// Puts an unpacker that is restored from the ticket of the present one in its place; None where that can't be.
+    fn carry_over(&mut self) -> Option<()> {
+        let at = self.unpacker.octets();
+        let ticket = self.unpacker.save(self.alloc).ok()?;
+        let ticket = ticket.as_slice();
+        self.unpacker = Unpacker::restore(self.alloc, self.limits, ticket, at).ok()?;
+        Some(())
+    }
+
+    /// Feeds octet by octet, each to an unpacker that is restored from the ticket of the one before it.
+    fn carry_octets(&mut self, out: &mut Answers, octets: &[u8]) -> Result<Progress, Refusal> {
+        let mut sum = 0usize;
+        for octet in octets {
+            if self.carry_over().is_none() {
+                out.fail("there is no ticket, or it is not restored");
+                break;
+            }
+            sum = sum.saturating_add(1);
+            let fed = self.unpacker.feed(&[*octet], &mut self.lines)?;
+            if matches!(fed, Progress::Done { used: _ }) {
+                return Ok(Progress::Done { used: sum });
+            }
+        }
+        Ok(Progress::More)
+    }
+
+    /// Feeds the octets of the next word so.
+    fn carry(&mut self, out: &mut Answers, names: &Names, words: &mut Words) {
+        let octets = words.octets(names);
+        let answer = self.carry_octets(out, octets.as_slice());
+        print_progress(out, answer);
+    }
+
+    /// Prints the value.
+    fn value(&mut self, out: &mut Answers) {
+        let Some(unpacker) = self.take_unpacker(out) else {
+            return;
+        };
+        match unpacker.into_unpacked() {
+            Ok(got) => print_value(out, &got),
+            Err(unpacker) => {
+                self.unpacker = unpacker;
+                out.line("none");
+            }
+        }
+    }
+
+    /// Puts a restored unpacker in the place of the present one.
+    fn restore(&mut self, out: &mut Answers, limits: Limits, at: u64, ticket: &[u8]) {
+        match Unpacker::restore(self.alloc, limits, ticket, at) {
+            Ok(unpacker) => {
+                self.unpacker = unpacker;
+                self.limits = limits;
+                out.line("restored");
+            }
+            Err(fault) => out.line(fault_name(fault)),
+        }
+    }
+
+    /// Restores the ticket that the next words tell.
+    fn restore_next(&mut self, out: &mut Answers, names: &Names, words: &mut Words) {
+        let limits = limits_of(words);
+        let at = words.number();
+        let ticket = words.octets(names);
+        self.restore(out, limits, at, ticket.as_slice());
+    }
+
+    /// Prints whether the ticket is the one that the next word tells.
+    fn print_wanted(&self, out: &mut Answers, names: &Names, words: &mut Words) {
+        let wanted = words.octets(names);
+        print_ticket(out, self.alloc, &self.unpacker, Some(wanted.as_slice()));
+    }
+
+    /// Prints what the unpacker says where no octets follow.
+    fn print_end(&self, out: &mut Answers) {
+        match self.unpacker.end_of_input() {
+            Some(refusal) => out.tell(&refusal),
+            None => out.line("none"),
+        }
+    }
+
+    /// Prints how many octets the unpacker took, and whether it is done or has failed.
+    fn print_state(&self, out: &mut Answers) {
+        out.number("  octets ", self.unpacker.octets());
+        out.holds(" done ", self.unpacker.is_done());
+        out.holds(" failed ", self.unpacker.is_failed());
+        out.end();
+    }
+
+    /// Prints what comes next of an input.
+    fn print_next(&mut self, out: &mut Answers, names: &Names, words: &mut Words) {
+        let octets = words.octets(names);
+        if let Some(unpacker) = self.take_unpacker(out) {
+            print_next(out, self.alloc, self.limits, unpacker, octets.as_slice());
+        }
+    }
+
+    /// Answers the words of unpacking; false where the word is none of them.
+    pub fn answer(
+        &mut self,
+        out: &mut Answers,
+        names: &Names,
+        word: &str,
+        words: &mut Words,
+    ) -> bool {
+        match word {
+            "new" => self.renew(out, limits_of(words)),
+            "again" => self.again(),
+            "feed" => self.feed(out, names, words),
+            "each" => self.cut(out, names, words, Cuts::of(1)),
+            "cut" => {
+                let cuts = Cuts::random(words.number());
+                self.cut(out, names, words, cuts);
+            }
+            "carry" => self.carry(out, names, words),
+            "restore" => self.restore_next(out, names, words),
+            "next" => self.print_next(out, names, words),
+            _ => return self.answer_told(out, names, word, words),
+        }
+        true
+    }
+
+    /// Answers the words of what was fed, and of all layers and causes; false where the word is none of them.
+    fn answer_told(
+        &mut self,
+        out: &mut Answers,
+        names: &Names,
+        word: &str,
+        words: &mut Words,
+    ) -> bool {
+        match word {
+            "end" => self.print_end(out),
+            "lines" => print_lines(out, &self.lines),
+            "state" => self.print_state(out),
+            "value" => self.value(out),
+            "save" => print_ticket(out, self.alloc, &self.unpacker, None),
+            "saves" => self.print_wanted(out, names, words),
+            "layers" => print_layers(out),
+            "causes" => print_causes(out),
+            _ => return tickets::answer(out, self.alloc, names, word, words),
+        }
+        true
+    }
+}
