@@ -18,9 +18,9 @@ pub mod Saved
 pub mod Leading
 pub mod Alike
 pub mod Within
-pub mod Bounded
 -- What proofs of other crates cite.
 pub mod PlanLengths
 pub mod PlanParts
 pub mod Outputs
 pub mod Written
+pub mod Bounded
