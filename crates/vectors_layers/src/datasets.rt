@@ -229,7 +229,7 @@ fn tell_held(answers: &mut Answers, words: &mut Words, octets: &[u8]) {
 }
 
 /// Answers the words of datasets; false where the word is none of them.
-pub fn answer(
+pub(crate) fn answer(
     answers: &mut Answers,
     alloc: Global,
     names: &Names,

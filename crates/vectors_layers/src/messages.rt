@@ -434,7 +434,7 @@ fn print_part(out: &mut Answers, words: &mut Words) {
 }
 
 /// Answers the words of messages; false where the word is none of them.
-pub fn answer(
+pub(crate) fn answer(
     out: &mut Answers,
     alloc: Global,
     names: &Names,

@@ -393,7 +393,7 @@ fn print_pack_causes(out: &mut Answers) {
 }
 
 /// Answers the words of objects; false where the word is none of them.
-pub fn answer(
+pub(crate) fn answer(
     out: &mut Answers,
     alloc: Global,
     names: &Names,

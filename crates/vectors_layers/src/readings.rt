@@ -65,7 +65,7 @@ fn tell_cut(answers: &mut Answers, cut: Cut) {
 }
 
 /// Tells what the octets are read as in one piece, and what another cut makes of them where that differs.
-pub fn tell_reading<R: Reading>(answers: &mut Answers, reading: &R, octets: &[u8]) {
+pub(crate) fn tell_reading<R: Reading>(answers: &mut Answers, reading: &R, octets: &[u8]) {
     let whole = reading.read(octets, Cut::Whole);
     answers.join(&whole);
     for number in 0..=MOST_CUT {
@@ -117,7 +117,12 @@ fn tell_range(answers: &mut Answers, first: u64, last: u64, digits: Digits) {
 }
 
 /// Tells the numbers that are in, of those up to the greatest, as ranges in a line.
-pub fn tell_class<C: Class>(answers: &mut Answers, class: &C, greatest: u64, digits: Digits) {
+pub(crate) fn tell_class<C: Class>(
+    answers: &mut Answers,
+    class: &C,
+    greatest: u64,
+    digits: Digits,
+) {
     let mut first = None;
     let mut is_none = true;
     answers.put(" ");

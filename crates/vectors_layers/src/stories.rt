@@ -188,7 +188,7 @@ fn tell_line_end(answers: &mut Answers) {
 }
 
 /// Answers the words of texts; false where the word is none of them.
-pub fn answer(
+pub(crate) fn answer(
     answers: &mut Answers,
     alloc: Global,
     names: &Names,

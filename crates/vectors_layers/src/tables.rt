@@ -201,7 +201,7 @@ fn answer_values(out: &mut Answers, names: &Names, word: &str, words: &mut Words
 }
 
 /// Answers the words of the tables; false where the word is none of them.
-pub fn answer(
+pub(crate) fn answer(
     out: &mut Answers,
     alloc: Global,
     names: &Names,
