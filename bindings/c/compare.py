@@ -74,8 +74,8 @@ def by_rules(octets, limits):
 
 def checked(parts, limits=rules.LIMITS, asked=(0, 0)):
     """Holds the answers of `iim_check` and of `iim_feed` to the rules."""
+    want = [by_rules(part, limits) for part in parts]
     for program in PROGRAMS:
-        want = [by_rules(part, limits) for part in parts]
         same(told(program, "check", asked, parts), want)
         same(told(program, "feed", asked, parts), want)
 
@@ -85,32 +85,43 @@ def lines_of(octets):
     return run(COMMAND, "check", octets=octets)
 
 
-def tells_as_the_command(word, command, pieces):
+# Sizes of pieces, from the first to the last of each pair.
+SIZES = (1, 64), (4096, 4096)
+
+
+def by_each_size(answer, first, last):
+    """What the C program tells that tells this answer by pieces of each size."""
+    status, out, errors = answer
+    sizes = range(first, last + 1)
+    return status, b"".join(out + b"\x1e%d\n" % piece for piece in sizes), errors * len(sizes)
+
+
+def tells_as_the_command(word, command, sizes):
     """Holds what the C program tells of each sample, in pieces of each size, to what the command prints, some side by side."""
 
     def hold(asked):
-        path, program, piece = asked
-        same((asked, run(program, word, str(piece), path)), (asked, wanted[path]))
+        path, program, first, last = asked
+        same((asked, run(program, word, str(first), str(last), path)), (asked, by_each_size(wanted[path], first, last)))
 
     wanted = {path: run(COMMAND, command, path) for path in ALL}
     with ThreadPoolExecutor(os.cpu_count()) as pool:
-        list(pool.map(hold, [(path, program, piece) for piece in pieces for path in ALL for program in PROGRAMS]))
+        list(pool.map(hold, [(path, program, *pair) for pair in sizes for path in ALL for program in PROGRAMS]))
 
 
 @test
 def lists_the_samples_as_the_command_does():
-    tells_as_the_command("list", "check", [*range(1, 65), 4096])
+    tells_as_the_command("list", "check", SIZES)
 
 
 @test
 def shows_the_samples_as_the_command_does():
     # (the command tells a refusal as `check` does)
-    tells_as_the_command("show", "show", (1, 7, 64, 4096))
+    tells_as_the_command("show", "show", [(piece, piece) for piece in (1, 7, 64, 4096)])
 
 
 @test
 def tells_the_stories_of_the_samples_as_the_command_does():
-    tells_as_the_command("story", "story", [*range(1, 65), 4096])
+    tells_as_the_command("story", "story", SIZES)
 
 
 @test
@@ -316,11 +327,12 @@ def tells_the_place_after_each_front_of_both_worked_envelopes():
 
 @test
 def tells_the_octets_that_can_come_next():
+    whole = octets_of(f"{SAMPLES}/smallest.iim")
+    fits = [[octet for octet in range(256) if rules.read(whole[:count] + bytes([octet])).refusal is None] for count in range(len(whole))]
+    want = [["1", set_of(octets)] for octets in fits] + [["0", set_of([])]]
     for program in PROGRAMS:
-        lines, whole = told_places(program, "smallest.iim")
-        for count, line in enumerate(lines):
-            fits = [octet for octet in range(256) if rules.read(whole[:count] + bytes([octet])).refusal is None] if count < len(whole) else []
-            same((count, line[13:15]), (count, ["1" if count < len(whole) else "0", set_of(fits)]))
+        lines, _ = told_places(program, "smallest.iim")
+        same([line[13:15] for line in lines], want)
         # (a tag begins with 1C alone, the priority is a digit, and in the text all but SOH, STX, ETX and EOT can stand, and the end)
         same([lines[at][14] for at in (0, 55, 95)], [set_of([0x1C]), set_of([0x1C]), set_of(range(0x30, 0x3A))])
         same(lines[103][14], set_of([octet for octet in range(256) if octet not in (1, 2, 4)]))
@@ -351,14 +363,15 @@ NOON = 1709294400
 
 
 def audits(asked):
-    """Holds the rows of a file, by pieces and room of some size, to what is written out."""
-    program, piece, room, second, path, want = asked
-    same((asked, run(program, "audit", str(piece), str(room), str(second), path)), (asked, (int("at" in want), want.encode(), b"")))
+    """Holds the rows of a file, by pieces of some sizes and room for so many, to what is written out."""
+    program, first, last, room, second, path, want = asked
+    told = run(program, "audit", *map(str, (first, last, room, second)), path)
+    same((asked, told), (asked, by_each_size((int("at" in want), want.encode(), b""), first, last)))
 
 
 @test
 def tells_the_rows_of_the_samples_whatever_the_pieces():
-    ways = [(piece, room) for piece in (*range(1, 65), 4096) for room in (1, 2, 5)]
+    ways = [(*pair, room) for pair in SIZES for room in (1, 2, 5)]
     with ThreadPoolExecutor(os.cpu_count()) as pool:
         list(pool.map(audits, [(program, *way, NOON, f"{SAMPLES}/{name}", want) for name, want in ROWS.items() for way in ways for program in PROGRAMS]))
 
@@ -371,7 +384,7 @@ def tells_the_rows_before_a_refused_envelope():
     want = f"{ROWS['stream.iim']}at 360: 2 2 14 1 70 46\n"
     for program in PROGRAMS:
         for piece in (1, 7, 64, 4096):
-            audits((program, piece, 5, NOON, path, want))
+            audits((program, piece, piece, 5, NOON, path, want))
 
 
 @test
@@ -380,7 +393,7 @@ def tells_ages_rounded_down():
     first = ROWS["audit.iim"].splitlines()[0]
     for second, age in ((NOON - 3600, 0), (NOON - 3601, -1), (NOON + 1, 3601)):
         for program in PROGRAMS:
-            status, out, errors = run(program, "audit", "64", "5", str(second), f"{SAMPLES}/audit.iim")
+            status, out, errors = run(program, "audit", "64", "64", "5", str(second), f"{SAMPLES}/audit.iim")
             same((status, out.decode().splitlines()[0], errors), (0, first.replace(" 1 3600 ", f" 1 {age} "), b""))
 
 

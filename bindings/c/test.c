@@ -3,19 +3,20 @@
  *
  *   test check OCTETS FIELDS     answers of iim_check to the octets on standard input: batches, see below
  *   test feed OCTETS FIELDS      the same by iim_feed, octet by octet, and iim_end
- *   test list PIECE FILE         what `iimwire check FILE` prints, by pieces of PIECE octets
- *   test show PIECE FILE         what `iimwire show FILE` prints
- *   test story PIECE FILE        what `iimwire story FILE` prints
+ *   test list FIRST LAST FILE    what `iimwire check FILE` prints, by pieces of each size from FIRST to LAST octets: after each a line, see below
+ *   test show FIRST LAST FILE    what `iimwire show FILE` prints
+ *   test story FIRST LAST FILE   what `iimwire story FILE` prints
  *   test pack S U H M FILE       what `iimwire pack` writes, by these members of an iim_packing
  *   test places FILE             what iim_place and iim_next tell after each front of FILE, which is an envelope
- *   test audit PIECE ROOM SECOND FILE   the rows of FILE, by pieces of PIECE octets with room for ROOM rows, at a second
+ *   test audit FIRST LAST ROOM SECOND FILE   the rows of FILE, by pieces of these sizes with room for ROOM rows, at a second
  *   test texts                   the causes, each with what it means
  *   test admits                  answers of iim_admits to batches: record, number and octets
  *   test tables                  rows and names by their numbers
  *   test values FILE SCRIPT      answers of each kind, by their numbers: FILE is the smallest envelope, SCRIPT its script
  *   test buffers FILE ..         tries buffers that are too short, tickets that are none, and memory that is refused
  *
- * A batch is a number of four octets, low octet first, and so many octets.
+ * A batch is a number of four octets, low octet first, and so many octets. The line after a size is RS and the size; the status is that of
+ * each, or 3 where they differ.
  */
 #define _DEFAULT_SOURCE
 #include "iim.h"
@@ -263,6 +264,20 @@ static int stream(const char *how, size_t piece, const char *path) {
     free(r);
     free(file.octets);
     return answer.status == IIM_DONE || file.count == 0 ? 0 : 1;
+}
+
+/* Ends what is printed by pieces of a size, and answers the status of it and of those before it. */
+static int end_size(size_t piece, size_t first, int before, int status) {
+    printf("\x1e%zu\n", piece);
+    return piece == first || before == status ? status : 3;
+}
+
+/* Goes through a file by pieces of each size. */
+static int streams(const char *how, size_t first, size_t last, const char *path) {
+    int status = 0;
+    for (size_t piece = first; piece <= last; piece++)
+        status = end_size(piece, first, status, stream(how, piece, path));
+    return status;
 }
 
 /* ---- Batches */
@@ -706,6 +721,14 @@ static int print_audit(size_t piece, size_t room, int64_t second, const char *pa
     return answer.status == IIM_DONE || answer.status == IIM_MORE ? 0 : 1;
 }
 
+/* The rows of a file by pieces of each size. */
+static int print_audits(size_t first, size_t last, char **words) {
+    int status = 0;
+    for (size_t piece = first; piece <= last; piece++)
+        status = end_size(piece, first, status, print_audit(piece, (size_t)atol(words[0]), atoll(words[1]), words[2]));
+    return status;
+}
+
 /* What each cause means. */
 static int print_texts(void) {
     char text[128];
@@ -1012,14 +1035,14 @@ int main(int count, char **words) {
         return check_batches((iim_limits){(uint32_t)atol(words[2]), (uint32_t)atol(words[3])});
     if (count == 4 && strcmp(words[1], "feed") == 0)
         return feed_batches((iim_limits){(uint32_t)atol(words[2]), (uint32_t)atol(words[3])});
-    if (count == 4 && (strcmp(words[1], "list") == 0 || strcmp(words[1], "show") == 0 || strcmp(words[1], "story") == 0))
-        return stream(words[1], (size_t)atol(words[2]), words[3]);
+    if (count == 5 && (strcmp(words[1], "list") == 0 || strcmp(words[1], "show") == 0 || strcmp(words[1], "story") == 0))
+        return streams(words[1], (size_t)atol(words[2]), (size_t)atol(words[3]), words[4]);
     if (count == 7 && strcmp(words[1], "pack") == 0)
         return pack(words + 2);
     if (count == 3 && strcmp(words[1], "places") == 0)
         return print_places(words[2]);
-    if (count == 6 && strcmp(words[1], "audit") == 0)
-        return print_audit((size_t)atol(words[2]), (size_t)atol(words[3]), atoll(words[4]), words[5]);
+    if (count == 7 && strcmp(words[1], "audit") == 0)
+        return print_audits((size_t)atol(words[2]), (size_t)atol(words[3]), words + 4);
     if (count == 2 && strcmp(words[1], "texts") == 0)
         return print_texts();
     if (count == 2 && strcmp(words[1], "admits") == 0)

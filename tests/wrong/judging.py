@@ -1,15 +1,15 @@
 """Judges wrong bodies: rounds of many side by side, and again alone what a round does not plainly refuse."""
 import math
 import os
-import re
 import time
 from concurrent.futures import FIRST_COMPLETED, ThreadPoolExecutor, wait
 
 from wrong import prover, rounds, sources, store, verdicts
 
-ENDED = re.compile(r"^only=\d+ (proved|holes)=\d+$", re.M)
 # A round of so many wrong bodies is never parted: what each round takes besides them would be more than theirs.
 LEAST = 16
+# No more wrong bodies than these stand in one check, but those of one round: it holds all of them in memory.
+TOGETHER = 80
 
 
 class Crate:
@@ -44,18 +44,32 @@ def first_error(text):
     return lines[0][:160]
 
 
-def tried(these):
-    """Checks a round: of each of its wrong bodies what it comes to, or None where the check came to nothing; and the seconds that it took."""
-    said = prover.check(these.crate, these.texts, these.asked())
+def log(these, text):
+    """Writes what the prover said of a round, where a folder is named for that."""
     if folder := os.environ.get("WRONG_LOGS"):
         with open(f"{folder}/{these.crate}.{these.bodies[0].word}.{len(these.bodies)}", "w", encoding="utf-8") as file:
-            file.write(said.text)
-    if ENDED.search(said.text):
-        found = verdicts.hear(said.text)
-        return [(body, verdicts.judge(body, these.functions[body.name], found)) for body in these.bodies], said.seconds
-    if len(these.bodies) == 1:
-        return [(these.bodies[0], (verdicts.UNHEARD, first_error(said.text)))], said.seconds
-    return None, said.seconds
+            file.write(text)
+
+
+def judged(these, text):
+    """Of each of the wrong bodies of a round what it comes to by what the prover said."""
+    found = verdicts.hear(text)
+    return [(body, verdicts.judge(body, these.functions[body.name], found)) for body in these.bodies]
+
+
+def tried(task):
+    """Checks rounds, all in one check: of each its verdicts, or None where the check came to nothing; and the seconds that it took."""
+    if len(task) > 1:
+        texts, said = prover.check_together(task)
+    else:
+        said = prover.check(task[0])
+        texts = [said.text if prover.ENDED.search(said.text) else None]
+    for these, text in zip(task, texts):
+        log(these, said.text if text is None else text)
+    found = [None if text is None else judged(these, text) for these, text in zip(task, texts)]
+    if found == [None] and len(task[0].bodies) == 1:
+        found = [[(task[0].bodies[0], (verdicts.UNHEARD, first_error(said.text)))]]
+    return found, said.seconds
 
 
 class Judging:
@@ -63,7 +77,7 @@ class Judging:
 
     def __init__(self, crates, jobs, passed, proofs):
         self.pool, self.running, self.waiting, self.crates = ThreadPoolExecutor(jobs), {}, [], crates
-        self.jobs, self.passed, self.proofs = jobs, passed, proofs
+        self.jobs, self.passed, self.proofs, self.apart = jobs, passed, proofs, []
         # (what takes longest begins first)
         for crate in sorted(crates, key=lambda crate: -crate.size()):
             self.waiting += [(crate, these) for these in crate.planned]
@@ -71,15 +85,25 @@ class Judging:
                 print(crate.sums(), flush=True)
 
     def next(self):
-        """The first task that waits and whose crate is proved, or None."""
-        at = next((at for at, (crate, _) in enumerate(self.waiting) if self.proofs.has(crate.name)), None)
-        return None if at is None else self.waiting.pop(at)
+        """What waits and can be checked together, the first of it first: rounds of crates that are proved; none where there are none."""
+        most = min(TOGETHER, math.ceil(sum(len(these.bodies) for _, these in self.waiting) / self.jobs))
+        found, count = [], 0
+        for task in [task for task in self.waiting if self.proofs.has(task[0].name)]:
+            if not found or count + len(task[1].bodies) <= most and self.goes_with(found[0], task):
+                found.append(task)
+                count += len(task[1].bodies)
+        self.waiting = [task for task in self.waiting if task not in found]
+        return found
+
+    def goes_with(self, first, second):
+        """Whether two rounds can be in one check."""
+        return all(prover.is_plain_library(crate.name) and these not in self.apart for crate, these in (first, second))
 
     def begin(self):
         """Begins what waits, as long as there is a processor."""
         self.proofs.look()
-        while len(self.running) < self.proofs.share(self.jobs) and (task := self.next()):
-            self.running[self.pool.submit(tried, task[1])] = task
+        while len(self.running) < self.proofs.share(self.jobs) and (tasks := self.next()):
+            self.running[self.pool.submit(tried, [these for _, these in tasks])] = tasks
 
     def again(self, crate, these):
         """Adds rounds of a crate, before those of other crates."""
@@ -87,20 +111,30 @@ class Judging:
         self.waiting[:0] = [(crate, each) for each in these]
 
     def end(self, future):
+        """Takes what rounds came to. Where their check came to nothing, each is tried apart from the others."""
+        tasks = self.running.pop(future)
+        found, seconds = future.result()
+        bodies = sum(len(these.bodies) for _, these in tasks)
+        for (crate, these), verdicts_of in zip(tasks, found):
+            crate.seconds, crate.checks, crate.open = crate.seconds + seconds * len(these.bodies) / bodies, crate.checks + 1, crate.open - 1
+            if verdicts_of is None and len(tasks) > 1:
+                self.apart.append(these)
+                self.again(crate, [these])
+            else:
+                self.take(crate, these, verdicts_of)
+            if crate.open == 0:
+                print(crate.sums(), flush=True)
+
+    def take(self, crate, these, found):
         """Takes what a round came to: what is not plainly refused beside others is tried again alone."""
-        crate, these = self.running.pop(future)
-        judged, seconds = future.result()
-        crate.seconds, crate.checks, crate.open = crate.seconds + seconds, crate.checks + 1, crate.open - 1
-        if judged is None:
+        if found is None:
             half = len(these.bodies) // 2
             self.again(crate, [each for part in (these.bodies[:half], these.bodies[half:]) for each in rounds.plan(crate.name, part)])
-        for body, verdict in judged or []:
+        for body, verdict in found or []:
             if verdict[0] in self.passed or these.is_plain():
                 self.decide(crate, body, verdict)
             else:
                 self.again(crate, [rounds.alone(body)])
-        if crate.open == 0:
-            print(crate.sums(), flush=True)
 
     def decide(self, crate, body, verdict):
         """Notes what a wrong body comes to, and tells it unless it plainly passes."""
@@ -139,6 +173,6 @@ def judge(chosen, jobs, anew, proofs, passed=verdicts.PASSED):
     crates = [Crate(name, bodies, anew or bool(sources.CHANGED), most) for name, bodies in chosen.items()]
     if proofs.ended:
         for crate in crates:
-            prover.words_of(crate.name)
+            prover.below([crate.name])
     Judging(crates, jobs, passed, proofs).run()
     return [verdict for crate in crates for verdict, _ in crate.verdicts.values()]

@@ -1,5 +1,6 @@
 """Asks the prover for the functions of a round."""
 import os
+import re
 import resource
 import shutil
 import subprocess
@@ -11,6 +12,8 @@ from wrong import assumed, sources
 PARTS = "src", "specs", "proofs"
 # The octets of a file that a check may write: less than it makes of any function.
 LONGEST = 100 * 1024
+# The last line of a check that came to its end.
+ENDED = re.compile(r"^only=\d+ (proved|holes)=\d+$", re.M)
 
 
 class Missing(Exception):
@@ -34,22 +37,40 @@ def kit():
     return os.path.dirname(os.path.dirname(os.path.realpath(rt)))
 
 
-def words_of(crate):
-    """The words of a check of a crate, without the functions that are asked for: the libraries below it are those that `rt ci` has proved."""
-    at, listed = kit(), sources.order_of_crates()
-    below, is_static = listed[crate]
-    root = "src/main.rt" if os.path.exists(f"{sources.TOP}/crates/{crate}/src/main.rt") else "src/lib.rt"
-    words = [f"{at}/bin/rattle", "check", "--crate-name", crate, root]
-    for name in ["std", *below]:
+def root_of(crate):
+    """The root file of a crate."""
+    return "src/main.rt" if sources.is_there(crate, "src/main.rt") else "src/lib.rt"
+
+
+def is_plain_library(crate):
+    """Whether other crates may stand on a crate: it is no program, and no library for C."""
+    return root_of(crate) == "src/lib.rt" and not sources.order_of_crates()[crate][1]
+
+
+def below(crates):
+    """The libraries that crates stand on, and the folders in which they are: those of the repository as `rt ci` has proved them."""
+    at, listed, found = kit(), sources.order_of_crates(), {"std": None}
+    for crate in crates:
+        found |= dict.fromkeys(listed[crate][0], crate)
+    for name, crate in found.items():
         folder = f"{sources.TOP}/crates/{name}/out/rlib" if name in listed else f"{at}/rlibs"
-        words += ["--extern", f"{name}={folder}/{name}.rlib"]
-        if not os.path.exists(f"{folder}/{name}.rlib"):
+        found[name] = f"{folder}/{name}.rlib"
+        if not os.path.exists(found[name]):
             raise Missing(f"{crate}: the library {name} is not built: run `rt ci {crate}` first, or `rt lib` in the folders of those below it")
-    own = [f"{sources.TOP}/crates/{name}/out/rlib" for name in listed]
+    return found
+
+
+def words_of(crates, name, root):
+    """The words of a check of a crate of this name and root file over the libraries of crates, without the functions that are asked for."""
+    at, listed = kit(), sources.order_of_crates()
+    words = [f"{at}/bin/rattle", "check", "--crate-name", name, root]
+    for library, path in below(crates).items():
+        words += ["--extern", f"{library}={path}"]
+    own = [f"{sources.TOP}/crates/{crate}/out/rlib" for crate in listed]
     for folder in [f"{at}/rlibs", *filter(os.path.isdir, own)]:
         words += ["-L", f"dependency={folder}"]
-    words += ["--crate-type", "staticlib"] if is_static else []
-    return [*words, "--antt-project", f"{at}/rattle/logic/antt-project.json", "--logic-built", f"{at}/logic_built", "--jobs", "1"]
+    words += ["--antt-project", f"{at}/rattle/logic/antt-project.json", "--logic-built", f"{at}/logic_built"]
+    return [*words, "--jobs", "1", "--allow-holes"]
 
 
 def run(words, room):
@@ -65,16 +86,53 @@ def run(words, room):
     return Said(text, ran.returncode, used.ru_utime + used.ru_stime)
 
 
-def check(crate, texts, functions):
-    """What the prover says of the functions of a crate with these texts in the place of its own."""
+def lay(room, these, name):
+    """Lays a crate's folders with the texts of a round into the folder of a check, under another name."""
+    for part in PARTS:
+        if os.path.isdir(f"{sources.TOP}/crates/{these.crate}/{part}"):
+            shutil.copytree(f"{sources.TOP}/crates/{these.crate}/{part}", f"{room}/{part}")
+    for path, text in these.texts.items():
+        os.makedirs(os.path.dirname(f"{room}/{path}"), exist_ok=True)
+        with open(f"{room}/{path}", "w", encoding="utf-8") as file:
+            file.write(text)
+    assumed.write(these.crate, room, these.asked())
+    for path in (f"{at}/{file}" for at, _, files in os.walk(room) for file in files):
+        text = sources.text_of(path).replace(f"Rattle.{these.crate}.", f"Rattle.{name}.")
+        with open(path, "w", encoding="utf-8") as file:
+            file.write(text)
+
+
+def asked(functions):
+    """The words that ask for functions."""
+    return [word for function in functions for word in ("--only", function)]
+
+
+def check(these):
+    """What the prover says of the functions of a round."""
     with tempfile.TemporaryDirectory(prefix="wrong-bodies-") as room:
-        for part in PARTS:
-            if os.path.isdir(f"{sources.TOP}/crates/{crate}/{part}"):
-                shutil.copytree(f"{sources.TOP}/crates/{crate}/{part}", f"{room}/{part}")
-        for path, text in texts.items():
-            os.makedirs(os.path.dirname(f"{room}/{path}"), exist_ok=True)
-            with open(f"{room}/{path}", "w", encoding="utf-8") as file:
-                file.write(text)
-        assumed.write(crate, room, functions)
-        asked = [word for function in functions for word in ("--only", function)]
-        return run([*words_of(crate), "--allow-holes", *asked], room)
+        lay(room, these, these.crate)
+        static = ["--crate-type", "staticlib"] if sources.order_of_crates()[these.crate][1] else []
+        return run([*words_of([these.crate], these.crate, root_of(these.crate)), *static, *asked(these.asked())], room)
+
+
+def said_of(text, room, name):
+    """What is said of one of the crates that are checked together, as it would be said of it alone."""
+    lines = re.sub(r"\n  +(?=\S)", " ", text).splitlines()
+    return "\n".join(line.replace(f"{room}/{name}/", "./") for line in lines if re.search(rf"{re.escape(room)}/{name}/|\b{name}::", line))
+
+
+def check_together(rounds):
+    """What the prover says of the functions of rounds, which stand in one check, each as a library of a name of its own: what a check reads
+    first, it reads once for all of them. None of any where the check came to nothing."""
+    with tempfile.TemporaryDirectory(prefix="wrong-bodies-") as room:
+        named = [(f"{these.crate}_{number}", these) for number, these in enumerate(rounds)]
+        words = words_of(dict.fromkeys(these.crate for these in rounds), "judged", "judged/src/lib.rt")
+        os.makedirs(f"{room}/judged/src")
+        with open(f"{room}/judged/src/lib.rt", "w", encoding="utf-8") as file:
+            file.write("//! Stands on what is judged.\n#![tactic(auto)]\n")
+        for name, these in named:
+            lay(f"{room}/{name}", these, name)
+            words += ["--lib", f"{name}={room}/{name}/src/lib.rt", *asked(f"{name}::{function}" for function in these.asked())]
+        said = run(words, room)
+        ended = ENDED.search(said.text)
+        return [said_of(said.text, room, name) if ended else None for name, _ in named], said

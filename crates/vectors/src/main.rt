@@ -9,9 +9,8 @@ mod auditing;
 
 use std::alloc::Global;
 use std::io::{self, BufRead, BufReader, Write};
-use vectors_envelopes::{Envelopes, Packing};
+use vectors_envelopes::{Bench, Envelopes, Packing};
 use vectors_layers::{Answers, Names, Words};
-use vectors_streams::Bench;
 
 /// What the questions so far have made.
 #[derive(Drop)]
@@ -70,7 +69,7 @@ fn answer_alone(
     words: &mut Words,
 ) -> bool {
     vectors_layers::answer(answers, alloc, names, word, words)
-        || vectors_streams::answer(answers, alloc, names, word, words)
+        || vectors_envelopes::answer(answers, alloc, names, word, words)
         || auditing::answer(answers, alloc, names, word, words)
 }
 
