@@ -1,7 +1,9 @@
 //! Callers of the libraries for which no example stands: one module for each, which the library's page, `CALLING.md`, shows.
+//!
+//! The caller that names a type of `jiff` stands in a private module: a crate whose public items name one is built over all of `jiff`.
 #![tactic(auto)]
 
-pub mod audits;
+mod audits;
 pub mod devices;
 pub mod messages;
 pub mod objects;

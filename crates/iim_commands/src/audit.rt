@@ -16,6 +16,7 @@ use iim_output::fault::CommandFault;
 use iim_output::limits::LIMITS;
 use iim_output::lines::{TOO_MANY, add, add_last, push_refused};
 use iim_output::status::{ACCEPTED, REFUSED};
+use iim_request::instant::Instant;
 use iim_unpack::Intake;
 use jiff::Timestamp;
 use std::alloc::Global;
@@ -53,11 +54,21 @@ fn add_report<W: Target>(
     add_last(output, report.last_line().as_slice())
 }
 
+/// The instant, for `jiff`.
+fn timestamp_of(instant: Instant) -> Timestamp
+    ensures { result.nanosecond ≡ instant.nanosecond }
+{
+    match Timestamp::from_nanosecond(instant.nanosecond()) {
+        Ok(timestamp) => timestamp,
+        Err(_) => unreachable!(),
+    }
+}
+
 /// Writes the report of an input, or the line that tells why there is none, where nothing is held before. Nothing is held afterwards,
 /// but where a write failed.
 fn report_input<R: Source, W: Target>(
     alloc: Global,
-    now: Timestamp,
+    now: Instant,
     intake: &mut Intake<R>,
     output: &mut BlockWriter<'_, W>,
 ) -> Result<u8, CommandFault>
@@ -70,7 +81,7 @@ fn report_input<R: Source, W: Target>(
     ensures same { KeepsWriter output.old output.new }
     ensures leads { R.leads intake.old.reader intake.new.reader }
 {
-    match audit(alloc, intake, LIMITS, now) {
+    match audit(alloc, intake, LIMITS, timestamp_of(now)) {
         Ok(report) => {
             add_report(output, &report)?;
             Ok(ACCEPTED)
@@ -87,7 +98,7 @@ fn report_input<R: Source, W: Target>(
 /// written; where a write fails, what of the text is not out is lost.
 pub fn write_audit<R: Source, W: Target>(
     alloc: Global,
-    now: Timestamp,
+    now: Instant,
     intake: &mut Intake<R>,
     output: &mut W,
 ) -> Result<u8, CommandFault>

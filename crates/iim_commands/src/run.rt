@@ -96,7 +96,7 @@ fn review<R: Source + Drop, W: Target, E: Target>(
     let mut intake = Intake::new(reader);
     let mut output = output;
     let mut errors = errors;
-    let answer = write_audit(alloc, now.timestamp(), &mut intake, &mut output);
+    let answer = write_audit(alloc, now, &mut intake, &mut output);
     let status = finish(&mut errors, answer);
     (status, output, errors)
 }

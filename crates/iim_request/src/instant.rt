@@ -1,11 +1,13 @@
 //! Instants.
+//!
+//! No public item here names a type of `jiff`: the crates above then read little of it when they are built.
 
-ghost use Rattle.std.specs.Prelude.{◌≡◌};
+ghost use Rattle.std.specs.Prelude.{◌≡◌, IfSome, IfNone};
 ghost use Rattle.jiff.specs.Words.{IsTimestampNanos};
 
 use jiff::Timestamp;
 
-/// An instant, as its nanoseconds from 1970-01-01T00:00:00Z: that of a [`Timestamp`], in a form that requests can hold.
+/// An instant that `jiff` has, as its nanoseconds from 1970-01-01T00:00:00Z: in a form that requests can hold.
 #[derive(Clone, Copy, Debug, PartialEq, Eq)]
 pub struct Instant {
     nanosecond: i128,
@@ -13,22 +15,31 @@ pub struct Instant {
 }
 
 impl Instant {
-    /// The instant that `jiff` tells.
-    pub fn new(timestamp: Timestamp) -> Instant
-        ensures { result.nanosecond ≡ timestamp.nanosecond }
+    /// The instant so many nanoseconds after 1970-01-01T00:00:00Z. None where `jiff` has no such instant.
+    pub fn new(nanosecond: i128) -> Option<Instant>
+        ensures some { IfSome result (λ instant. instant.nanosecond ≡ nanosecond) }
+        ensures none { IfNone result (IsTimestampNanos nanosecond → ⊥) }
     {
-        Instant {
-            nanosecond: timestamp.as_nanosecond(),
+        match Timestamp::from_nanosecond(nanosecond) {
+            Ok(_) => Some(Instant { nanosecond }),
+            Err(_) => None,
         }
     }
 
-    /// The instant, for `jiff`.
-    pub fn timestamp(self) -> Timestamp
-        ensures { result.nanosecond ≡ self.nanosecond }
+    /// Its nanoseconds from 1970-01-01T00:00:00Z: `jiff` has an instant of so many.
+    pub fn nanosecond(self) -> i128
+        ensures value { result ≡ self.nanosecond }
+        ensures in_range { IsTimestampNanos result }
     {
-        match Timestamp::from_nanosecond(self.nanosecond) {
-            Ok(timestamp) => timestamp,
-            Err(_) => unreachable!(),
-        }
+        self.nanosecond
+    }
+}
+
+/// The instant that `jiff` tells.
+pub(crate) fn instant_of(timestamp: Timestamp) -> Instant
+    ensures { result.nanosecond ≡ timestamp.nanosecond }
+{
+    Instant {
+        nanosecond: timestamp.as_nanosecond(),
     }
 }

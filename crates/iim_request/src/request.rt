@@ -5,7 +5,7 @@ ghost use Rattle.clap.specs.Words.{Text, found_of, rows_of};
 ghost use Rattle.iim_dataset.specs.Format.Octets.{greatest_size};
 
 use crate::commands::command;
-use crate::instant::Instant;
+use crate::instant::{Instant, instant_of};
 use crate::pack_request::PackRequest;
 use clap::error::ErrorKind;
 use clap::{ArgMatches, Error};
@@ -167,7 +167,7 @@ fn audit_job(found: &ArgMatches<'_>) -> Result<Job, UsageFault>
     };
     match text.parse::<Timestamp>() {
         Ok(now) => Ok(Job::Audit {
-            now: Instant::new(now),
+            now: instant_of(now),
         }),
         Err(_) => Err(UsageFault::BadNow),
     }

@@ -1,4 +1,4 @@
-use Rattle.std.proofs.Common.{rules, refl, inl, inr}
+use Rattle.std.proofs.Common.{rules, ℤ, refl, subst, inl, inr}
 use Rattle.iim_dataset.proofs.Lists.{handed_on}
 use Rattle.iim_audit.specs.Format.Auditing.{FailsAt, IsAudited}
 use Rattle.iim_audit.specs.Format.Texts.{printed_report}
@@ -19,7 +19,8 @@ returns-in_err-add_report-in-Ok-clause-err g c =
     let old = c.args.output.now in
     let new = c.add_report.new.output in
     let fault = c.in_err-add_report-in-Ok.field-0.0 in
-    let whole : IsAudited limits now source rest c.in-Ok.report = c.in-Ok.ensures.audited c.requires.alive in
+    let whole : IsAudited limits now source rest c.in-Ok.report =
+    subst (λ (instant : ℤ). IsAudited limits instant source rest c.in-Ok.report) c.timestamp_of.ensures (c.in-Ok.ensures.audited c.requires.alive) in
     handed_on (IsUnaudited now source rest (device_of state old) (device_of state new)) c.from_residual.result fault c.from_residual.ensures.1
     (unsaid now source rest (device_of state old) (device_of state new) (printed_report c.in-Ok.report) 0 fault (inl (c.in-Ok.report, whole, refl, refl))
     (unsaid_in state old new (printed_report c.in-Ok.report) fault c.requires.held c.in_err-add_report-in-Ok.ensures.err))
@@ -31,7 +32,8 @@ returns-in_ok-add_report-in-Ok-clause-ok g c =
     let source = in_line g.R.Source.state c.args.intake.now in
     let rest = in_line g.R.Source.state c.audit.new.intake in
     let words = printed_report c.in-Ok.report in
-    let whole : IsAudited limits now source rest c.in-Ok.report = c.in-Ok.ensures.audited c.requires.alive in (
+    let whole : IsAudited limits now source rest c.in-Ok.report =
+    subst (λ (instant : ℤ). IsAudited limits instant source rest c.in-Ok.report) c.timestamp_of.ensures (c.in-Ok.ensures.audited c.requires.alive) in (
       words,
       inl (c.in-Ok.report, whole, refl, refl),
       all_out state c.args.output.now c.add_report.new.output words c.requires.held c.in_ok-add_report-in-Ok.ensures.held c.in_ok-add_report-in-Ok.ensures.ok,

@@ -8,7 +8,7 @@ returns-in_default-clause-err c = (refl, none_of (found_of c.args.found.now) c.g
 
 pub returns-in-Ok-clause-ok : goal.returns-in-Ok-clause-ok
 returns-in-Ok-clause-ok c =
-    (refl, instant_of (found_of c.args.found.now) c.get_str.result c.in-Some.text c.in-Ok.now.nanosecond c.new.result.nanosecond c.in-Some.is c.get_str.ensures c.in-Ok.ensures.value c.new.ensures)
+    (refl, instant_of (found_of c.args.found.now) c.get_str.result c.in-Some.text c.in-Ok.now.nanosecond c.instant_of.result.nanosecond c.in-Some.is c.get_str.ensures c.in-Ok.ensures.value c.instant_of.ensures)
 
 pub returns-in-Err-clause-err : goal.returns-in-Err-clause-err
 returns-in-Err-clause-err c =
