@@ -220,10 +220,10 @@ def names_the_kinds_and_duties_as_the_header_does():
     saved = open(f"{TOP}/crates/wire_message/src/saved.rt").read()
     parts = re.findall(r"^    (\w+),", re.search(r"pub enum MessagePart \{\n(.*?)^\}", saved, re.M | re.S)[1], re.M)
     same({f"PART_{upper(name)}": str(n) for n, name in enumerate(parts)}, {w: n for w, n in words.items() if w.startswith("PART")})
-    begun = re.findall(r"^pub const (\w+): u8 = (\d+);", open(f"{TOP}/crates/iim_c_places/src/begun.rt").read(), re.M)
+    begun = re.findall(r"^pub const (\w+): u8 = (\d+);", open(f"{TOP}/crates/iim_c/src/begun.rt").read(), re.M)
     same({f"BEGUN_{name}": number for name, number in begun}, {w: n for w, n in words.items() if w.startswith("BEGUN")})
     same(words["BEGUN_NOTHING"] + words["BEGUN_TAG"] + words["BEGUN_DATA"] + words["BEGUN_ENDED"], "0123")
-    copies = re.findall(r"^pub const (\w+): u8 = (\d+);", open(f"{TOP}/crates/iim_c_audit/src/row.rt").read(), re.M)
+    copies = re.findall(r"^pub const (\w+): u8 = (\d+);", open(f"{TOP}/crates/iim_c/src/row.rt").read(), re.M)
     same({f"COPY_{name}": number for name, number in copies}, {w: n for w, n in words.items() if w.startswith("COPY")})
     same(words["COPY_FREE"] + words["COPY_HELD"] + words["COPY_EXPIRED"], "012")
     status = open(f"{TOP}/crates/iim_c/src/status.rt").read()
@@ -481,7 +481,7 @@ def declares_each_struct_with_its_members():
     code = re.sub(r"/\*.*?\*/", "", open(HEADER).read(), flags=re.S)
     found = {name: [tuple(plain(each).rsplit(" ", 1)) for each in body.split(";") if each.strip()] for body, name in re.findall(r"typedef struct iim_\w+ \{(.*?)\} (iim_\w+);", code, re.S)}
     want = {}
-    for path in sorted(path for crate in ("iim_c", "iim_c_places", "iim_c_audit") for path in glob.glob(f"{TOP}/crates/{crate}/src/*.rt")):
+    for path in sorted(glob.glob(f"{TOP}/crates/iim_c/src/*.rt")):
         for name, body in re.findall(r"#\[repr\(C\)\]\n#\[derive\([^)]*\)\]\npub struct (\w+) \{\n(.*?)^\}", open(path).read(), re.M | re.S):
             # (an array stands with its length after the name)
             members = re.findall(r"^    pub (\w+): \[?(\w+)(?:; (\d+)\])?,", body, re.M)

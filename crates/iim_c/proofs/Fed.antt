@@ -16,9 +16,9 @@ use Rattle.iim_unpack.specs.declared.unpacker.Progress.TheVariants as progress
 use Rattle.iim_places.specs.declared.refusal.Refusal.{Refusal}
 use Rattle.iim_places.specs.declared.ticket.fault.TicketFault.{TicketFault}
 use Rattle.iim_c.specs.declared.answer.IimAnswer.{IimAnswer}
-use Rattle.iim_c.specs.Format.Beginning.{IsBegun, IsNotBegun}
-use Rattle.iim_c.specs.Format.Saving.{IsSaved, saved_with, short_with}
-use Rattle.iim_c.specs.Steps.{HasFedText, HasRefusedText, refused_with, used_in}
+use Rattle.iim_c.specs.Beginning.{IsBegun, IsNotBegun}
+use Rattle.iim_c.specs.Saving.{IsSaved, saved_with, short_with}
+use Rattle.iim_c.specs.FeedSteps.{HasFedText, HasRefusedText, refused_with, used_in}
 use Rattle.iim_c.specs.Format.Answers.{status_answer, refusal_answer, ticket_answer}
 use Rattle.iim_c.specs.Format.Statuses as status
 use Rattle.iim_c.specs.Format.Feeding.{Outcome, More, Done, Refused, BadTicket, NoMemory, IsOutcome, IsAnswered, IsFed, IsEnd, most_of_ticket, text_for, text_of, next_of, answer_of, short_answer}

@@ -12,7 +12,7 @@ use Rattle.iim_places.specs.Format.Streams.{IsEnvelopeWithin}
 use Rattle.iim_places.specs.Format.TicketForm.{IsVersion}
 use Rattle.iim_places.specs.Format.Tickets.{Place, IsPlaceOf, ticket_in}
 use Rattle.iim_unpack.specs.States.Unpacking.{Unpacking, Stands, IsDoneWith, limits_in}
-use Rattle.iim_c.specs.Format.Beginning.{IsBegun}
+use Rattle.iim_c.specs.Beginning.{IsBegun}
 use Rattle.iim_c.specs.Format.Feeding.{LedTo, StandsAt, EndsAt, IsPlace}
 
 -- ---- a ticket tells one place

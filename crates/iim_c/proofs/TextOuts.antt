@@ -10,7 +10,7 @@ use Rattle.iim_places.specs.declared.refusal.Cause.{Cause}
 use Rattle.iim_places.specs.declared.refusal.Cause.TheVariants.{Sink}
 use Rattle.iim_c.specs.declared.text_out.TextOut.{TextOut}
 use Rattle.iim_c.specs.Format.Writing.{HasTaken, WritesLines}
-use Rattle.iim_c.specs.Steps.{HasFedText, HasRefusedText}
+use Rattle.iim_c.specs.FeedSteps.{HasFedText, HasRefusedText}
 
 -- ---- causes
 

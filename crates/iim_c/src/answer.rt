@@ -31,7 +31,7 @@ pub struct IimAnswer {
 }
 
 /// The answer that has a status alone.
-pub fn status_answer(status: u8) -> IimAnswer
+pub(crate) fn status_answer(status: u8) -> IimAnswer
     ensures { result ≡ status_answer status }
 {
     IimAnswer {
@@ -63,7 +63,7 @@ fn layer_number(layer: Layer) -> u8
 }
 
 /// The answer for a refusal.
-pub fn refusal_answer(status: u8, refusal: Refusal) -> IimAnswer
+pub(crate) fn refusal_answer(status: u8, refusal: Refusal) -> IimAnswer
     ensures { result ≡ refusal_answer status refusal }
 {
     IimAnswer {
@@ -94,7 +94,7 @@ fn ticket_number(fault: TicketFault) -> u8
 }
 
 /// The answer for a ticket that is refused; refused memory has a status of its own.
-pub fn ticket_answer(fault: TicketFault) -> IimAnswer
+pub(crate) fn ticket_answer(fault: TicketFault) -> IimAnswer
     ensures { result ≡ ticket_answer fault }
 {
     if fault == TicketFault::OutOfMemory {

@@ -1,14 +1,19 @@
 //! The unpacker that a ticket begins.
 
 ghost use Rattle.std.specs.Prelude.{IfOk, IfErr};
-ghost use Rattle.iim_c.specs.Format.Beginning.{IsBegun, IsNotBegun};
+ghost use Rattle.iim_c.specs.Beginning.{IsBegun, IsNotBegun};
 
 use iim_fields::Limits;
 use iim_unpack::{TicketFault, Unpacker};
 use std::alloc::Global;
 
 /// The unpacker at the place of a ticket, or of none: at the beginning of an envelope.
-pub fn begin(alloc: Global, limits: Limits, ticket: &[u8], at: u64) -> Result<Unpacker, TicketFault>
+pub(crate) fn begin(
+    alloc: Global,
+    limits: Limits,
+    ticket: &[u8],
+    at: u64,
+) -> Result<Unpacker, TicketFault>
     ensures begun { IfOk result (IsBegun limits ticket.now at) }
     ensures fault { IfErr result (IsNotBegun limits ticket.now) }
 {

@@ -4,8 +4,8 @@ ghost use Rattle.std.specs.Prelude.{◌≡◌, None, Ok, IfOk, IfErr, OnOk};
 ghost use Rattle.iim_unpack.specs.States.Unpacking.{IsDone, limits_in};
 ghost use Rattle.iim_c.specs.Format.Checking.{limits_for};
 ghost use Rattle.iim_c.specs.Format.Feeding.{IsFed};
-ghost use Rattle.iim_c.specs.Format.Saving.{IsSaved, short_with};
-ghost use Rattle.iim_c.specs.Steps.{HasFedText, HasRefusedText, refused_with, used_in};
+ghost use Rattle.iim_c.specs.Saving.{IsSaved, short_with};
+ghost use Rattle.iim_c.specs.FeedSteps.{HasFedText, HasRefusedText, refused_with, used_in};
 
 use crate::answer::{IimAnswer, refusal_answer, status_answer, ticket_answer};
 use crate::begin::begin;
@@ -96,7 +96,7 @@ fn used_of(progress: Progress, piece: usize) -> (u8, usize)
 /// The answer for progress, `told` as a status and how many octets of a piece were used: writes the ticket of the place that the
 /// unpacker has come to. Of what else is written it is said how much there is, and for how much there was room. Where either buffer is
 /// too short the answer tells the lengths that are needed; where memory is refused, it tells that.
-pub fn saved(
+pub(crate) fn saved(
     alloc: Global,
     unpacker: &Unpacker,
     told: (u8, usize),

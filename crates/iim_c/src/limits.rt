@@ -24,7 +24,7 @@ fn given_or(given: u32, other: u32) -> u32
 
 impl IimLimits {
     /// The limits for these.
-    pub fn told(self) -> Limits
+    pub(crate) fn told(self) -> Limits
         ensures { result ≡ limits_for self }
     {
         Limits {

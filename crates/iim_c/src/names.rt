@@ -94,7 +94,7 @@ fn layer_named(number: u8) -> Option<&'static str>
 }
 
 /// Writes a name with a NUL after it, where there is room for both, and answers how many octets it has: 0 where there is none.
-pub fn put_name(name: Option<&str>, out: &mut [u8]) -> usize
+pub(crate) fn put_name(name: Option<&str>, out: &mut [u8]) -> usize
     ensures { IsNamed (name_told name.entry) out.old out.new result }
 {
     let name = name.unwrap_or("").as_bytes();

@@ -1,30 +1,28 @@
 //! The interface for C: a static library, whose header is `bindings/c/iim.h`.
 //!
-//! Each export is the call of `iim_c`, `iim_c_places` or `iim_c_audit` of the same name, and says again what that says. The toolchain exports the
-//! functions of a static library alone, and nothing can stand on one: so what the calls do stands in those, which are proved once and
-//! kept.
+//! Each export is the call of `iim_c` of the same name, and says again what that says. The toolchain exports the functions of a static
+//! library alone, and nothing can stand on one: so what the calls do stands in `iim_c`, which is proved once and kept.
 #![tactic(auto)]
 
 ghost use Rattle.std.specs.Prelude.{◌≡◌, ◌↔◌, ℕ, List, IsTrue, is_some};
 ghost use Rattle.iim_places.specs.Format.Tickets.{IsPlaceOf, Place};
 ghost use Rattle.iim_places.specs.States.Restored.{IsTicketAt};
 ghost use Rattle.iim_tables.specs.Format.Rows.{Meets, row_of};
+ghost use Rattle.iim_c.specs.Format.Auditing.{IsAudited};
+ghost use Rattle.iim_c.specs.Format.Begun.{IsBegunTold, TellsOctets, TellsToken};
 ghost use Rattle.iim_c.specs.Format.Checking.{IsChecked, IsOnly, limits_for};
 ghost use Rattle.iim_c.specs.Format.Feeding.{IsEnd, IsFed};
 ghost use Rattle.iim_c.specs.Format.Names.{IsNamed, cause_named, dataset_named, layer_named, name_or_none};
+ghost use Rattle.iim_c.specs.Format.Next.{IsNext};
 ghost use Rattle.iim_c.specs.Format.Packing.{IsPacked, IsSized};
 ghost use Rattle.iim_c.specs.Format.Tables.{rule_for};
+ghost use Rattle.iim_c.specs.Format.Texts.{cause_text};
 ghost use Rattle.iim_c.specs.Format.TicketAnswers.{AreSizes, IsField, IsHeader};
-ghost use Rattle.iim_c_audit.specs.Format.Auditing.{IsAudited};
-ghost use Rattle.iim_c_places.specs.Format.Begun.{IsBegunTold, TellsOctets, TellsToken};
-ghost use Rattle.iim_c_places.specs.Format.Next.{IsNext};
-ghost use Rattle.iim_c_places.specs.Format.Texts.{cause_text};
 
 use iim_c::{
-    IimAnswer, IimDataset, IimLimits, IimMessage, IimObject, IimPacking, IimRule, VERSION,
+    IimAnswer, IimAuditRow, IimBegun, IimDataset, IimInstant, IimLimits, IimMessage, IimObject,
+    IimOctetSet, IimPacking, IimRule, IimSoFar, VERSION,
 };
-use iim_c_audit::{IimAuditRow, IimInstant, IimSoFar};
-use iim_c_places::{IimBegun, IimOctetSet};
 use std::alloc::Global;
 
 /// Tells what the octets begin with: an envelope, or why there is none.
@@ -111,7 +109,7 @@ pub extern "C" fn iim_next(
 )
     ensures { IsNext (limits_for limits) ticket.now next.new.bits answer.new }
 {
-    iim_c_places::iim_next(alloc, limits, ticket, next, answer);
+    iim_c::iim_next(alloc, limits, ticket, next, answer);
 }
 
 /// Tells what is begun after the `at` octets that have led to a ticket, and the part of the message that they have led to.
@@ -123,7 +121,7 @@ pub extern "C" fn iim_place(ticket: &[u8], at: u64, begun: &mut IimBegun, answer
     ensures token { (p : List ℕ) (place : Place) → IsTicketAt ticket.now place → IsPlaceOf p place
         → TellsToken p at begun.new }
 {
-    iim_c_places::iim_place(ticket, at, begun, answer);
+    iim_c::iim_place(ticket, at, begun, answer);
 }
 
 /// Tells a row for each envelope that ends in a piece of an input, at the instant `now`: from the place of a ticket on, or of a new
@@ -146,7 +144,7 @@ pub extern "C" fn iim_audit(
     ensures { IsAudited (limits_for limits) ticket.now so_far.old piece.now now rows.old rows.new ticket_out.new
         so_far.new answer.new }
 {
-    iim_c_audit::iim_audit(
+    iim_c::iim_audit(
         alloc, limits, ticket, so_far, piece, now, rows, ticket_out, answer,
     );
 }
@@ -208,7 +206,7 @@ pub extern "C" fn iim_cause_name(cause: u8, out: &mut [u8]) -> usize
 pub extern "C" fn iim_cause_text(cause: u8, out: &mut [u8]) -> usize
     ensures { IsNamed (name_or_none (cause_text cause)) out.old out.new result }
 {
-    iim_c_places::iim_cause_text(cause, out)
+    iim_c::iim_cause_text(cause, out)
 }
 
 /// Writes the name of a layer with a NUL after it, where there is room for both, and answers how many octets it has.

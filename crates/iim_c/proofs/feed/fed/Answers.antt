@@ -2,7 +2,7 @@ use Rattle.std.proofs.Common.{◌≡◌, ◌<◌, ◌^◌, length, Result, IfOk,
 use Rattle.iim_unpack.specs.States.Unpacking.{limits_in}
 use Rattle.iim_unpack.specs.declared.unpacker.Progress.{Progress}
 use Rattle.iim_places.specs.declared.refusal.Refusal.{Refusal}
-use Rattle.iim_c.specs.Steps.{HasFedText, HasRefusedText}
+use Rattle.iim_c.specs.FeedSteps.{HasFedText, HasRefusedText}
 use Rattle.iim_c.proofs.Fed.{begun, alive_after, fed_ok, fed_refused, fed_not_begun}
 use Rattle.iim_c.proofs.Places.{begun_alive}
 use Rattle.iim_c.proofs.feed.fed.Goals as goal

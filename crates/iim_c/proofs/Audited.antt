@@ -1,0 +1,248 @@
+-- What a piece comes to that is audited from the place of a ticket on.
+use Rattle.std.proofs.Common.{◌≡◌, ◌≢◌, ℕ, ◌<◌, ◌≤◌, ℤ, List, ◌⊎◌, inl, inr, length, take, drop, refl, sym, ap, subst, ◌∙◌, arith}
+use Rattle.std.proofs.lemmas.List.{length-take-le}
+use Rattle.iim_fields.specs.declared.limits.Limits.{Limits}
+use Rattle.wire_story.specs.Format.Words.{WordsSoFar}
+use Rattle.iim_places.specs.Format.Open.{IsOpen}
+use Rattle.iim_places.specs.Format.Tickets.{IsTicketOf}
+use Rattle.iim_places.specs.declared.refusal.Refusal.{Refusal}
+use Rattle.iim_places.specs.declared.ticket.fault.TicketFault.{TicketFault}
+use Rattle.iim_unpack.specs.States.Unpacking.{Unpacking, Stands, IsDone, IsDoneWith, limits_in}
+use Rattle.iim_audit.specs.Format.Pieces.{HaveWords, StandsOn}
+use Rattle.iim_audit.specs.declared.pieces.PieceAudit.{PieceAudit}
+use Rattle.iim_c.specs.Format.Answers.{status_answer, refusal_answer, ticket_answer}
+use Rattle.iim_c.specs.Beginning.{IsNotBegun}
+use Rattle.iim_c.specs.Format.Feeding.{most_of_ticket}
+use Rattle.iim_c.specs.Format.Statuses as status
+use Rattle.iim_c.specs.Saving.{HasSaved, saved_with, short_with}
+use Rattle.iim_c.specs.declared.answer.IimAnswer.{IimAnswer}
+use Rattle.iim_c.proofs.Fed.{Begun}
+use Rattle.iim_c.proofs.Places.{stands_at, ends_at, place_of, begun_limits}
+use Rattle.iim_c.specs.Format.Auditing.{InHand, IsAuditedAt, IsSaidOf, GoesOn, UsesAll, UsesSome, RefusesOne, IsTold, IsShort, More, Full, Refused, Ended, BadTicket, NoMemory, with_more}
+use Rattle.iim_c.specs.Format.SoFar.{words_so_far, begins_at}
+use Rattle.iim_c.specs.AuditSteps.{HasFound, IsWithin, LivesOn, IsKept, kept_of, refused_for}
+use Rattle.iim_c.specs.declared.finding.Ending.TheVariants as ending
+use Rattle.iim_c.specs.declared.finding.Found.{Found}
+use Rattle.iim_c.specs.declared.row.IimAuditRow.{IimAuditRow}
+use Rattle.iim_c.specs.declared.so_far.IimSoFar.{IimSoFar}
+use Rattle.iim_c.proofs.Rows.{stand_first}
+
+-- ---- where an audit begins
+
+is_done : (u : Unpacking) (p : List ℕ) (a : ℕ) → IsDoneWith u p a → IsDone u
+is_done u p a d = (d.taking, d.ended)
+
+-- It is resumed from an unpacker that was begun, with which no envelope has ended, and from the words so far.
+pub record Start (limits : Limits) (ticket : List ℕ) (so_far : IimSoFar) (audit : PieceAudit) : Type 0 where
+  pub begun : Begun limits ticket so_far.octets audit.unpacker
+  pub going : IsDone audit.unpacker → ⊥
+  pub words : audit.count ≡ words_so_far ticket so_far
+
+-- what holds of all octets that it stands on is said of the ticket
+said : (limits : Limits) (ticket : List ℕ) (so_far : IimSoFar) (audit : PieceAudit) (tells : InHand → Type 0) → Start limits ticket so_far audit
+    → ((p : List ℕ) (a : ℕ) → StandsOn audit p a → tells (record { at = so_far.at; octets = p; count = a })) → IsSaidOf limits ticket so_far tells
+said limits ticket so_far audit tells s of_all = record {
+  some = place_of limits ticket so_far.octets audit.unpacker s.begun.is_begun;
+  open_octets = λ p a stands have.
+      of_all p a (record {
+        unpacker = stands_at s.begun.laws.one_place limits ticket so_far.octets audit.unpacker p a s.begun.is_begun stands;
+        words = subst (HaveWords p) (sym s.words) have;
+      });
+  envelopes = λ p a ends. s.going (is_done audit.unpacker p a (ends_at s.begun.laws limits ticket so_far.octets audit.unpacker p a s.begun.is_begun ends));
+}
+
+-- ---- what is kept
+
+goes_on : (limits : Limits) (audit : PieceAudit) (found : Found) (hand : InHand) (next : List ℕ) → StandsOn audit hand.octets hand.count → limits_in audit.unpacker ≡ limits → hand.at ≡ found.at
+    → ((p : List ℕ) (a : ℕ) → Stands audit.unpacker p a ⊎ IsDoneWith audit.unpacker p a → IsTicketOf p next) → GoesOn limits hand next (kept_of audit found)
+goes_on limits audit found hand next stands same at is_ticket = record {
+  is_open = subst (λ (l : Limits). IsOpen l hand.octets) same stands.unpacker.is_open;
+  ticket = is_ticket hand.octets hand.count (inl stands.unpacker);
+  keeps = record { at = sym at; octets = stands.unpacker.counts; words = stands.words };
+}
+
+-- the ticket has room, or not
+written : (state used : ℕ) (audit : PieceAudit) (found : Found) (room : ℕ) (rows : List IimAuditRow) (old new : IimSoFar) (out : List ℕ) (answer : IimAnswer)
+    → IsKept audit found (state, used) room old new out answer → (s : HasSaved audit.unpacker (state, used) found.rows room out answer) → found.rows ≤ room → length rows ≡ found.rows → state ≢ status.short
+    → IsTold state used rows s.next (kept_of audit found) out new answer ⊎ IsShort rows s.next out old new answer
+written state used audit found room rows old new out answer k s within many other =
+    elim s.fits as (λ _. IsTold state used rows s.next (kept_of audit found) out new answer ⊎ IsShort rows s.next out old new answer) [
+      | inl fits ↦
+          inl (record {
+            fits = fits.1;
+            ticket = s.stands fits.1;
+            keeps = k.keeps (ap (λ (x : IimAnswer). x.status) fits.2);
+            answer = fits.2 ∙ ap (λ (n : ℕ). saved_with audit.unpacker (state, used) n (length s.next)) (sym many);
+          })
+      | inr short ↦
+          inr (record {
+            lacks = elim short.0 as (λ _. length out < length s.next) [ inl over ↦ absurd (omega (arith, over, within)) | inr lacks ↦ lacks ];
+            keeps = k.stays (λ is. other (sym is ∙ ap (λ (x : IimAnswer). x.status) short.1));
+            answer = short.1 ∙ ap (λ (n : ℕ). short_with n (length s.next)) (sym many);
+          })
+    ]
+
+few_in : (limits : Limits) (audit : PieceAudit) (next : List ℕ) → limits_in audit.unpacker ≡ limits → length next ≤ most_of_ticket (limits_in audit.unpacker) → length next ≤ most_of_ticket limits
+few_in limits audit next same few = subst (λ (l : Limits). length next ≤ most_of_ticket l) same few
+
+no_memory : (limits : Limits) (ticket : List ℕ) (old new : IimSoFar) (piece : List ℕ) (now : ℤ) (array array_new : List IimAuditRow) (out : List ℕ) (told : IimAnswer) → new ≡ old
+    → told ≡ status_answer status.no_memory → IsAuditedAt limits ticket old piece now array array_new out new told
+no_memory limits ticket old new piece now array array_new out told same is = (NoMemory, tt, omega arith, (same, is))
+
+-- memory is refused for the ticket
+unsaved : (state used : ℕ) (limits : Limits) (ticket : List ℕ) (audit : PieceAudit) (found : Found) (room : ℕ) (old new : IimSoFar) (piece : List ℕ) (now : ℤ) (array array_new : List IimAuditRow) (out : List ℕ) (told : IimAnswer)
+    → IsKept audit found (state, used) room old new out told → state ≢ status.no_memory → told ≡ status_answer status.no_memory → IsAuditedAt limits ticket old piece now array array_new out new told
+unsaved state used limits ticket audit found room old new piece now array array_new out told k other is =
+    no_memory limits ticket old new piece now array array_new out told (k.stays (λ same. other (sym same ∙ ap (λ (x : IimAnswer). x.status) is))) is
+
+pub all_used : (limits : Limits) (ticket : List ℕ) (old new : IimSoFar) (piece : List ℕ) (now : ℤ) (array array_new : List IimAuditRow) (out : List ℕ) (told : IimAnswer) (first audit : PieceAudit) (found : Found)
+    → Start limits ticket old first
+    → ((p : List ℕ) (a : ℕ) → StandsOn first p a → HasFound (limits_in first.unpacker) now (record { at = old.at; octets = p; count = a }) piece array_new audit found ending.Used)
+    → IsWithin piece array array_new found ending.Used → LivesOn first audit ending.Used → length array_new ≡ length array
+    → IsKept audit found (status.more, length piece) (length array) old new out told → IsAuditedAt limits ticket old piece now array array_new out new told
+all_used limits ticket old new piece now array array_new out told first audit found start finds within lives many k =
+    elim k.saved as (λ _. IsAuditedAt limits ticket old piece now array array_new out new told) [
+      | inl s ↦ saved s
+      | inr none ↦ unsaved status.more (length piece) limits ticket audit found (length array) old new piece now array array_new out told k (λ is. omega (arith, is)) none
+    ]
+  where
+    limits_are : limits_in first.unpacker ≡ limits
+    limits_are = begun_limits limits ticket old.octets first.unpacker start.begun.is_begun
+
+    rows : List IimAuditRow
+    rows = take found.rows array_new
+
+    room : found.rows < length array
+    room = within.room
+
+    of_rows : length rows ≡ found.rows
+    of_rows = length-take-le found.rows array_new (omega (arith, room, many))
+
+    saved : HasSaved audit.unpacker (status.more, length piece) found.rows (length array) out told → IsAuditedAt limits ticket old piece now array array_new out new told
+    saved s = (
+      More (length piece) rows s.next (kept_of audit found),
+      (
+        said limits ticket old first (UsesAll limits now piece rows s.next (kept_of audit found)) start
+            (λ p a stands.
+            let had = subst (λ (l : Limits). HasFound l now (record { at = old.at; octets = p; count = a }) piece array_new audit found ending.Used) limits_are (finds p a stands) in
+            record {
+              used = found.used;
+              fits = within.used;
+              last = had.last;
+              rows_are = had.rows_are;
+              goes_on = goes_on limits audit found (with_more had.last (drop found.used piece)) s.next had.ends (lives.1 ∙ limits_are) had.at_is s.is_ticket;
+            }),
+        refl,
+        omega (arith, of_rows, room),
+      ),
+      few_in limits audit s.next (lives.1 ∙ limits_are) s.few,
+      (
+        stand_first array array_new found.rows (omega (arith, room, many)) within.others,
+        written status.more (length piece) audit found (length array) rows old new out told k s (omega (arith, room)) of_rows (λ is. omega (arith, is)),
+      ),
+    )
+
+pub room_used : (limits : Limits) (ticket : List ℕ) (old new : IimSoFar) (piece : List ℕ) (now : ℤ) (array array_new : List IimAuditRow) (out : List ℕ) (told : IimAnswer) (first audit : PieceAudit) (found : Found)
+    → Start limits ticket old first
+    → ((p : List ℕ) (a : ℕ) → StandsOn first p a → HasFound (limits_in first.unpacker) now (record { at = old.at; octets = p; count = a }) piece array_new audit found ending.Full)
+    → IsWithin piece array array_new found ending.Full → LivesOn first audit ending.Full → length array_new ≡ length array
+    → IsKept audit found (status.done, found.used) (length array) old new out told → IsAuditedAt limits ticket old piece now array array_new out new told
+room_used limits ticket old new piece now array array_new out told first audit found start finds within lives many k =
+    elim k.saved as (λ _. IsAuditedAt limits ticket old piece now array array_new out new told) [
+      | inl s ↦ saved s
+      | inr none ↦ unsaved status.done found.used limits ticket audit found (length array) old new piece now array array_new out told k (λ is. omega (arith, is)) none
+    ]
+  where
+    limits_are : limits_in first.unpacker ≡ limits
+    limits_are = begun_limits limits ticket old.octets first.unpacker start.begun.is_begun
+
+    rows : List IimAuditRow
+    rows = take found.rows array_new
+
+    room : found.rows ≡ length array
+    room = within.room
+
+    of_rows : length rows ≡ found.rows
+    of_rows = length-take-le found.rows array_new (omega (arith, room, many))
+
+    saved : HasSaved audit.unpacker (status.done, found.used) found.rows (length array) out told → IsAuditedAt limits ticket old piece now array array_new out new told
+    saved s = (
+      Full found.used rows s.next (kept_of audit found),
+      (
+        said limits ticket old first (UsesSome limits now piece found.used rows s.next (kept_of audit found)) start
+            (λ p a stands.
+            let had = subst (λ (l : Limits). HasFound l now (record { at = old.at; octets = p; count = a }) piece array_new audit found ending.Full) limits_are (finds p a stands) in
+            record {
+              last = had.last;
+              rows_are = had.rows_are;
+              goes_on = goes_on limits audit found had.last s.next had.ends (lives.1 ∙ limits_are) had.at_is s.is_ticket;
+            }),
+        within.used,
+        of_rows ∙ room,
+      ),
+      few_in limits audit s.next (lives.1 ∙ limits_are) s.few,
+      (
+        stand_first array array_new found.rows (omega (arith, room, many)) within.others,
+        written status.done found.used audit found (length array) rows old new out told k s (omega (arith, room)) of_rows (λ is. omega (arith, is)),
+      ),
+    )
+
+pub one_refused : (limits : Limits) (ticket : List ℕ) (old new : IimSoFar) (piece : List ℕ) (now : ℤ) (array array_new : List IimAuditRow) (out : List ℕ) (told : IimAnswer) (first audit : PieceAudit) (found : Found) (e : Refusal)
+    → Start limits ticket old first
+    → ((p : List ℕ) (a : ℕ) → StandsOn first p a → HasFound (limits_in first.unpacker) now (record { at = old.at; octets = p; count = a }) piece array_new audit found (ending.Refused e))
+    → IsWithin piece array array_new found (ending.Refused e) → length array_new ≡ length array
+    → new ≡ begins_at found.at → told ≡ refused_for found e → IsAuditedAt limits ticket old piece now array array_new out new told
+one_refused limits ticket old new piece now array array_new out told first audit found e start finds within many kept is =
+    let limits_are : limits_in first.unpacker ≡ limits = begun_limits limits ticket old.octets first.unpacker start.begun.is_begun in
+    let rows : List IimAuditRow = take found.rows array_new in
+    let room : found.rows < length array = within.room in
+    let of_rows : length rows ≡ found.rows = length-take-le found.rows array_new (omega (arith, room, many)) in (
+      Refused found.used rows e (begins_at found.at),
+      (
+        said limits ticket old first (RefusesOne limits now piece found.used rows e (begins_at found.at)) start
+            (λ p a stands.
+            let had = subst (λ (l : Limits). HasFound l now (record { at = old.at; octets = p; count = a }) piece array_new audit found (ending.Refused e)) limits_are (finds p a stands) in
+            record { last = had.last; rows_are = had.rows_are; refuses = had.ends; keeps = ap begins_at (sym had.at_is) }),
+        within.used,
+        omega (arith, of_rows, room),
+      ),
+      omega arith,
+      (
+        stand_first array array_new found.rows (omega (arith, room, many)) within.others,
+        kept,
+        is ∙ ap (λ (n : ℕ). record (refusal_answer status.refused e) { used = found.used; written = n }) (sym of_rows),
+      ),
+    )
+
+-- ---- no audit
+
+pub has_ended : (limits : Limits) (ticket : List ℕ) (so_far : IimSoFar) (piece : List ℕ) (now : ℤ) (array : List IimAuditRow) (out : List ℕ) (told : IimAnswer) (u : Unpacking) → Begun limits ticket so_far.octets u → IsDone u
+    → ((p : List ℕ) (a : ℕ) → Stands u p a → ⊥) → told ≡ status_answer status.bad_ticket → IsAuditedAt limits ticket so_far piece now array array out so_far told
+has_ended limits ticket so_far piece now array out told u b done not_open is = (
+  Ended,
+  record {
+    some = place_of limits ticket so_far.octets u b.is_begun;
+    open_octets = λ p a stands. not_open p a (stands_at b.laws.one_place limits ticket so_far.octets u p a b.is_begun stands);
+    envelopes = λ p a ends. tt;
+  },
+  omega arith,
+  (refl, refl, is),
+)
+
+pub not_begun : (limits : Limits) (ticket : List ℕ) (so_far : IimSoFar) (piece : List ℕ) (now : ℤ) (array : List IimAuditRow) (out : List ℕ) (told : IimAnswer) (fault : TicketFault) → IsNotBegun limits ticket fault
+    → told ≡ ticket_answer fault → IsAuditedAt limits ticket so_far piece now array array out so_far told
+not_begun limits ticket so_far piece now array out told fault (inl memory) is = no_memory limits ticket so_far so_far piece now array array out told refl (is ∙ ap ticket_answer memory)
+not_begun limits ticket so_far piece now array out told fault (inr why) is = (BadTicket fault, why, omega arith, (refl, refl, is))
+
+-- ---- where it is resumed
+
+pub resumed : (limits : Limits) (ticket : List ℕ) (so_far : IimSoFar) (u : Unpacking) (audit : PieceAudit) (count : WordsSoFar) → Begun limits ticket so_far.octets u → (IsDone u → ⊥) → audit.unpacker ≡ u → audit.count ≡ count
+    → count ≡ words_so_far ticket so_far → Start limits ticket so_far audit
+resumed limits ticket so_far u audit count b going is counts words = record {
+  begun = subst (Begun limits ticket so_far.octets) (sym is) b;
+  going = λ done. going (subst IsDone is done);
+  words = counts ∙ words;
+}
+
+pub not_open : (u : Unpacking) → IsDone u → (p : List ℕ) (a : ℕ) → Stands u p a → ⊥
+not_open u done p a stands = let h = sym stands.unended ∙ done.1 in cc

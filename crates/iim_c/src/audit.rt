@@ -1,0 +1,149 @@
+//! The audit of a piece.
+
+ghost use Rattle.std.specs.Prelude.{◌≡◌, None};
+ghost use Rattle.iim_c.specs.Format.Checking.{limits_for};
+ghost use Rattle.iim_c.specs.Format.Auditing.{IsAudited, IsAuditedAt};
+ghost use Rattle.iim_c.specs.AuditSteps.{IsKept, refused_for};
+
+use crate::answer::{IimAnswer, refusal_answer, status_answer, ticket_answer};
+use crate::begin::begin;
+use crate::feed::saved;
+use crate::finding::{Ending, Found, find_rows};
+use crate::instant::IimInstant;
+use crate::limits::IimLimits;
+use crate::row::IimAuditRow;
+use crate::so_far::IimSoFar;
+use crate::status::{BAD_INSTANT, BAD_TICKET, DONE, MORE, REFUSED};
+use iim_audit::PieceAudit;
+use iim_fields::Limits;
+use iim_unpack::Refusal;
+use iim_unpack::laws::{admitted_octets_are_framed, no_envelope_is_empty, tickets_tell_one_place};
+use jiff::Timestamp;
+use std::alloc::Global;
+
+/// The answer for rows after which the audit goes on: writes the ticket of the place that it has come to, and tells what is kept beside
+/// it. Where the ticket has no room, or no memory, what was kept stays.
+fn kept(
+    alloc: Global,
+    audit: &PieceAudit,
+    found: Found,
+    told: (u8, usize),
+    room: usize,
+    so_far: &mut IimSoFar,
+    ticket_out: &mut [u8],
+) -> IimAnswer
+    requires { audit.now.unpacker.refused ≡ None }
+    ensures { IsKept audit.now found told room so_far.old so_far.new ticket_out.new result }
+{
+    let unpacker = audit.unpacker();
+    let answer = saved(alloc, unpacker, told, found.rows, room, ticket_out);
+    if answer.status == told.0 {
+        let (words, inside) = audit.words();
+        *so_far = IimSoFar {
+            at: found.at,
+            octets: unpacker.octets(),
+            words,
+            inside,
+        };
+    }
+    answer
+}
+
+/// The answer for a refusal, after rows.
+fn refused(found: Found, refusal: Refusal) -> IimAnswer
+    ensures { result ≡ refused_for found refusal }
+{
+    IimAnswer {
+        used: found.used,
+        written: found.rows,
+        ..refusal_answer(REFUSED, refusal)
+    }
+}
+
+/// The answer for a piece that is audited from the place of a ticket on.
+fn audited(
+    alloc: Global,
+    limits: Limits,
+    ticket: &[u8],
+    so_far: &mut IimSoFar,
+    piece: &[u8],
+    now: Timestamp,
+    rows: &mut [IimAuditRow],
+    ticket_out: &mut [u8],
+) -> IimAnswer
+    ensures { IsAuditedAt limits ticket.now so_far.old piece.now now.nanosecond rows.old rows.new ticket_out.new
+        so_far.new result }
+{
+    tickets_tell_one_place();
+    no_envelope_is_empty();
+    admitted_octets_are_framed();
+    let unpacker = match begin(alloc, limits, ticket, so_far.octets) {
+        Ok(unpacker) => unpacker,
+        Err(fault) => return ticket_answer(fault),
+    };
+    if unpacker.is_done() {
+        return status_answer(BAD_TICKET);
+    }
+    let (words, inside) = so_far.words(ticket);
+    let mut audit = PieceAudit::resume(unpacker, words, inside);
+    let room = rows.len();
+    let (found, ending) = find_rows(&mut audit, so_far.at, piece, now, rows);
+    match ending {
+        Ending::Used => kept(
+            alloc,
+            &audit,
+            found,
+            (MORE, piece.len()),
+            room,
+            so_far,
+            ticket_out,
+        ),
+        Ending::Full => kept(
+            alloc,
+            &audit,
+            found,
+            (DONE, found.used),
+            room,
+            so_far,
+            ticket_out,
+        ),
+        Ending::Refused(refusal) => {
+            *so_far = IimSoFar::begins(found.at);
+            refused(found, refusal)
+        }
+    }
+}
+
+/// Tells a row for each envelope that ends in a piece of an input, at the instant `now`: from the place of a ticket on, or of a new
+/// envelope where there is none. It writes the ticket of the place that the piece leads to, and what is kept beside it for the next
+/// call. Where there is no room for another row it stops, and tells how many octets were used. Where an octet is refused, the rows of
+/// the envelopes before it are told. Where the buffer of the ticket is too short, what is kept stays, and the same call can be made
+/// again.
+pub fn iim_audit(
+    alloc: Global,
+    limits: IimLimits,
+    ticket: &[u8],
+    so_far: &mut IimSoFar,
+    piece: &[u8],
+    now: IimInstant,
+    rows: &mut [IimAuditRow],
+    ticket_out: &mut [u8],
+    answer: &mut IimAnswer,
+)
+    ensures { IsAudited (limits_for limits) ticket.now so_far.old piece.now now rows.old rows.new ticket_out.new
+        so_far.new answer.new }
+{
+    *answer = match now.told() {
+        Some(now) => audited(
+            alloc,
+            limits.told(),
+            ticket,
+            so_far,
+            piece,
+            now,
+            rows,
+            ticket_out,
+        ),
+        None => status_answer(BAD_INSTANT),
+    };
+}

@@ -1,0 +1,71 @@
+//! The rows of the envelopes that end in a piece.
+
+ghost use Rattle.std.specs.Prelude.{◌≡◌, ◌≤◌, ◌<◌, ℕ, List, length, drop, None, OnErr};
+ghost use Rattle.iim_audit.specs.Format.Pieces.{StandsOn};
+ghost use Rattle.iim_unpack.specs.States.Unpacking.{limits_in};
+ghost use Rattle.iim_c.specs.AuditSteps.{HasFound, IsWithin, LivesOn};
+
+use crate::row::{IimAuditRow, row_for};
+use iim_audit::PieceAudit;
+use iim_unpack::Refusal;
+use jiff::Timestamp;
+
+/// The rows that were found in a piece.
+#[derive(Clone, Copy)]
+pub(crate) struct Found {
+    /// How many there are.
+    pub(crate) rows: usize,
+    /// How many octets of the piece their envelopes used.
+    pub(crate) used: usize,
+    /// The offset in the input at which the next envelope begins.
+    pub(crate) at: u64,
+}
+
+/// Why no more rows were looked for.
+#[derive(Clone, Copy)]
+pub(crate) enum Ending {
+    /// All octets of the piece were used.
+    Used,
+    /// There is no room for another row.
+    Full,
+    /// An octet is refused.
+    Refused(Refusal),
+}
+
+/// Writes a row for each envelope that ends in a piece, as long as there is room for it. The envelope in hand begins at an offset of
+/// the input.
+pub(crate) fn find_rows(
+    audit: &mut PieceAudit,
+    at: u64,
+    piece: &[u8],
+    now: Timestamp,
+    rows: &mut [IimAuditRow],
+) -> (Found, Ending)
+    requires { audit.old.unpacker.refused ≡ None }
+    ensures found { (p : List ℕ) (a : ℕ) → StandsOn audit.old p a
+        → HasFound (limits_in audit.old.unpacker) now.nanosecond (record { at = at; octets = p; count = a })
+        piece.now rows.new audit.new result.0 result.1 }
+    ensures within { IsWithin piece.now rows.old rows.new result.0 result.1 }
+    ensures lives { LivesOn audit.old audit.new result.1 }
+{
+    let mut found = Found {
+        rows: 0,
+        used: 0,
+        at,
+    };
+    'envelopes: while found.rows < rows.len() {
+        match audit.next_row(&piece[found.used..], now) {
+            Ok(Some(next)) => {
+                rows[found.rows] = row_for(found.at, &next);
+                found = Found {
+                    rows: found.rows + 1,
+                    used: found.used + next.used,
+                    at: found.at.saturating_add(next.octets),
+                };
+            }
+            Ok(None) => return (found, Ending::Used),
+            Err(refusal) => return (found, Ending::Refused(refusal)),
+        }
+    }
+    (found, Ending::Full)
+}

@@ -1,0 +1,64 @@
+//! Instants.
+
+ghost use Rattle.std.specs.Prelude.{◌≡◌, IfSome, IfNone};
+ghost use Rattle.std.specs.Option.{option_map};
+ghost use Rattle.iim_c.specs.Format.Instants.{IsInstant, IsInstantOf, IsToldAs, TellsInstant};
+
+use jiff::Timestamp;
+
+/// The nanoseconds of a second.
+const SECOND: i128 = 1_000_000_000;
+
+/// An instant, from 1970-01-01T00:00:00Z on.
+#[repr(C)]
+#[derive(Clone, Copy)]
+pub struct IimInstant {
+    /// The whole seconds, rounded down: below zero before then.
+    pub second: i64,
+    /// The nanoseconds after that second, below 1,000,000,000.
+    pub nanosecond: u32,
+}
+
+/// No instant.
+const NO_INSTANT: IimInstant = IimInstant {
+    second: 0,
+    nanosecond: 0,
+};
+
+/// The instant for C.
+fn instant_of(instant: Timestamp) -> IimInstant
+    ensures { IsInstantOf instant.nanosecond result }
+{
+    let nanosecond = instant.as_nanosecond();
+    IimInstant {
+        second: nanosecond.div_euclid(SECOND) as i64,
+        nanosecond: nanosecond.rem_euclid(SECOND) as u32,
+    }
+}
+
+/// Whether there is an instant, and which.
+pub(crate) fn told(instant: Option<Timestamp>) -> (bool, IimInstant)
+    ensures { TellsInstant (option_map (λ t. t.nanosecond) instant) result.0 result.1 }
+{
+    match instant {
+        Some(instant) => (true, instant_of(instant)),
+        None => (false, NO_INSTANT),
+    }
+}
+
+impl IimInstant {
+    /// The instant that it tells. None where it has more nanoseconds than a second, or lies outside the years -9999 to 9999.
+    pub(crate) fn told(self) -> Option<Timestamp>
+        ensures some { IfSome result (λ t. IsToldAs self t.nanosecond) }
+        ensures none { IfNone result (IsInstant self → ⊥) }
+    {
+        let nanosecond = i128::from(self.nanosecond);
+        if nanosecond >= SECOND {
+            return None;
+        }
+        match Timestamp::from_nanosecond(i128::from(self.second) * SECOND + nanosecond) {
+            Ok(instant) => Some(instant),
+            Err(_) => None,
+        }
+    }
+}

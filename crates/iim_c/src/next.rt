@@ -1,0 +1,116 @@
+//! The octets that can come next.
+
+ghost use Rattle.std.specs.Prelude.{◌≡◌, true, false, IfOk, IfErr};
+ghost use Rattle.iim_c.specs.Beginning.{IsNotBegun};
+ghost use Rattle.iim_c.specs.Format.Checking.{limits_for};
+ghost use Rattle.iim_c.specs.Format.Next.{IsNext};
+ghost use Rattle.iim_c.specs.PlaceSteps.{AreTried, IsSet, IsTried};
+
+use crate::answer::{IimAnswer, status_answer, ticket_answer};
+use crate::begin::begin;
+use crate::limits::IimLimits;
+use crate::status::{DONE, MORE};
+use iim_fields::Limits;
+use iim_unpack::TicketFault;
+use iim_unpack::laws::{
+    admitted_octets_are_framed, no_envelope_is_empty, nothing_continues_from_refused_octets,
+    open_octets_begin_with_no_envelope, tickets_tell_one_place,
+};
+use std::alloc::Global;
+use wire_story::Discard;
+
+/// A set of octets.
+#[repr(C)]
+#[derive(Clone, Copy)]
+pub struct IimOctetSet {
+    /// A bit for each octet: that of the octet `o` is bit `o % 8` of `bits[o / 8]`.
+    pub bits: [u8; 32],
+}
+
+/// The set that has no octet.
+const NO_OCTETS: [u8; 32] = [0; 32];
+
+/// Sets the bit of an octet.
+fn set_bit(bits: &mut [u8; 32], octet: u8)
+    ensures { IsSet bits.old bits.new octet }
+{
+    bits[usize::from(octet / 8)] |= 1 << (octet % 8);
+}
+
+/// Sets the bit of an octet that is taken.
+fn put_bit(bits: &mut [u8; 32], octet: u8, taken: bool)
+    ensures set { taken ≡ true → IsSet bits.old bits.new octet }
+    ensures same { taken ≡ false → bits.new ≡ bits.old }
+{
+    if taken {
+        set_bit(bits, octet);
+    }
+}
+
+/// Whether every layer takes the octet next at the place of a ticket, or of none. None where an envelope has ended there.
+fn takes(
+    alloc: Global,
+    limits: Limits,
+    ticket: &[u8],
+    octet: u8,
+) -> Result<Option<bool>, TicketFault>
+    ensures tried { IfOk result (IsTried limits ticket.now octet) }
+    ensures fault { IfErr result (IsNotBegun limits ticket.now) }
+{
+    tickets_tell_one_place();
+    no_envelope_is_empty();
+    admitted_octets_are_framed();
+    open_octets_begin_with_no_envelope();
+    nothing_continues_from_refused_octets();
+    let mut unpacker = begin(alloc, limits, ticket, 0)?;
+    if unpacker.is_done() {
+        return Ok(None);
+    }
+    match unpacker.feed(&[octet], &mut Discard) {
+        Ok(_) => Ok(Some(true)),
+        Err(_) => Ok(Some(false)),
+    }
+}
+
+/// The bits of all octets that every layer takes next, each tried from the place. None where an envelope has ended there.
+fn try_all(alloc: Global, limits: Limits, ticket: &[u8]) -> Result<Option<[u8; 32]>, TicketFault>
+    ensures tried { IfOk result (AreTried limits ticket.now) }
+    ensures fault { IfErr result (IsNotBegun limits ticket.now) }
+{
+    let mut bits = NO_OCTETS;
+    for next in 0..256u16 {
+        let octet = next as u8;
+        let Some(taken) = takes(alloc, limits, ticket, octet)? else {
+            return Ok(None);
+        };
+        put_bit(&mut bits, octet, taken);
+    }
+    Ok(Some(bits))
+}
+
+/// The octets that come next, and the answer.
+fn next_of(alloc: Global, limits: Limits, ticket: &[u8]) -> ([u8; 32], IimAnswer)
+    ensures { IsNext limits ticket.now result.0 result.1 }
+{
+    match try_all(alloc, limits, ticket) {
+        Ok(Some(bits)) => (bits, status_answer(MORE)),
+        Ok(None) => (NO_OCTETS, status_answer(DONE)),
+        Err(fault) => (NO_OCTETS, ticket_answer(fault)),
+    }
+}
+
+/// Tells which octets every layer takes next, after the octets that have led to a ticket, or of a new envelope where there is none. An
+/// octet is in the set exactly where the envelope could continue or would end with it.
+pub fn iim_next(
+    alloc: Global,
+    limits: IimLimits,
+    ticket: &[u8],
+    next: &mut IimOctetSet,
+    answer: &mut IimAnswer,
+)
+    ensures { IsNext (limits_for limits) ticket.now next.new.bits answer.new }
+{
+    let (bits, told) = next_of(alloc, limits.told(), ticket);
+    next.bits = bits;
+    *answer = told;
+}

@@ -1,2 +1,0 @@
-pub mod Audited
-pub mod Rows

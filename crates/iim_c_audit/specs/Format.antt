@@ -1,4 +1,0 @@
-pub mod Auditing
-pub mod Instants
-pub mod Rows
-pub mod SoFar

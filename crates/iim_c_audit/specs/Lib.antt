@@ -1,4 +1,0 @@
--- What rows are, and what is said of them.
-pub mod Format
--- What only proofs and private clauses cite.
-pub mod Steps

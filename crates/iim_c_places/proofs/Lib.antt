@@ -1,4 +1,0 @@
-pub mod BegunThere
-pub mod Bits
-pub mod RefusedTokens
-pub mod Tried

@@ -1,5 +1,0 @@
-use Rattle.iim_c_places.specs.Steps.{TellsFirst}
-use Rattle.iim_c_places.proofs.next.try_all.Given as goal
-
-abbrev pub invariant-loop-next : goal.invariant-loop-next
-invariant-loop-next l = TellsFirst l.limits l.ticket l.next l.bits
