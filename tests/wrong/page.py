@@ -8,8 +8,7 @@ PAGE = f"{sources.TOP}/docs/WRONG_BODIES.md"
 FOREWORD = """# Wrong bodies
 
 A contract that no wrong body breaks says little. These are edits of the code, of definitions or of both, {count} in all, each of which
-the prover has to refuse. They stand in `crates/CRATE/wrong-bodies/`, in a file for each file of the code, and this page is written from
-them (`tests/wrong_bodies --document`).
+the prover has to refuse. They stand in `crates/CRATE/wrong-bodies.edits`, and this page is written from them (`tests/wrong_bodies --document`).
 
 `tests/wrong_bodies` judges each by itself. Many stand in one check, each in a copy of its function under another name, and the prover is
 asked for these copies alone: all else is taken at its word and without its body, since `rt ci` has proved it. A copy requires what its

@@ -1,4 +1,4 @@
-"""The wrong bodies as they are committed: crates/CRATE/wrong-bodies/*.edits.
+"""The wrong bodies as they are committed: crates/CRATE/wrong-bodies.edits.
 
 A file has many, each with lines in front of what it changes:
 
@@ -14,7 +14,6 @@ A file has many, each with lines in front of what it changes:
 A clause is `ensures` (one without a name, or where the prover doesn't say which of them fails), `ensures NAME`, `requires of CALLEE`, `loop` (what holds at each turn),
 `invariant` (its type's), `ensures of std's METHOD`, or `lemma NAME in FILE.antt` (a lemma on which the function's proof stands).
 """
-import glob
 import os
 import re
 from dataclasses import dataclass, field
@@ -96,8 +95,8 @@ def read(crate, path):
 
 def bodies(crate):
     """The wrong bodies of a crate, in the order of their names."""
-    paths = sorted(glob.glob(f"{TOP}/crates/{crate}/wrong-bodies/*.edits"))
-    return sorted((body for path in paths for body in read(crate, path)), key=lambda body: body.name)
+    found = read(crate, f"{TOP}/crates/{crate}/wrong-bodies.edits") if is_there(crate, "wrong-bodies.edits") else []
+    return sorted(found, key=lambda body: body.name)
 
 
 def order_of_crates():
@@ -113,7 +112,7 @@ def order_of_crates():
 
 def crates():
     """The crates that have wrong bodies, lowest first."""
-    return [crate for crate in order_of_crates() if glob.glob(f"{TOP}/crates/{crate}/wrong-bodies/*.edits")]
+    return [crate for crate in order_of_crates() if is_there(crate, "wrong-bodies.edits")]
 
 
 def text_in(crate, path):

@@ -14,7 +14,7 @@ use jiff::Timestamp;
 use std::alloc::Global;
 
 /// The text of the report of an input's envelopes, at the instant `now`.
-pub fn report_of<R: Source>(
+pub(crate) fn report_of<R: Source>(
     alloc: Global,
     intake: &mut Intake<R>,
     limits: Limits,
