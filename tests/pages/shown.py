@@ -6,7 +6,7 @@ from pages.items import TOP, text_of
 
 def cut(lines, name):
     """The lines of a function or a constant, with what stands above it, at the margin."""
-    (at,) = [at for at, line in enumerate(lines) if re.match(rf'\s*(?:pub )?(?:extern "C" )?(?:fn|const) {name}\b', line)]
+    (at,) = [at for at, line in enumerate(lines) if re.match(rf'\s*(?:pub(?:\(crate\))? )?(?:extern "C" )?(?:fn|const) {name}\b', line)]
     margin = re.match(r"\s*", lines[at])[0]
     begin = at
     while re.match(r"\s*(///|#\[)", lines[begin - 1]):
