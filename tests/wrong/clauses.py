@@ -29,19 +29,13 @@ def kept_alone(function, clause):
     return function
 
 
-def is_asked(clause, goal):
-    """Whether a wrong body that is held to a clause asks about a goal that a file of answers answers: about those of its clause, and where
-    that is none of what is returned, about all but what is returned."""
-    kind, _, held = clause.partition(" ")
-    of_result = goal.startswith("returns")
-    if kind != "ensures":
-        return not of_result
-    said = re.match(r"returns\S*-clause-(\w+?)(-\d+)?$", goal)
-    return of_result and is_kept(clause, said and said[1])
+def answered(part):
+    """The clause whose goal an answer is for: its name, or None where it has none or the goal is no clause's of what is returned."""
+    said = re.match(r"pub returns\S*-clause-(\w+?)(-\d+)? :", part)
+    return said and said[1]
 
 
 def answers_alone(text, clause):
-    """A file of answers without those for goals that nobody asks about in a copy."""
+    """A file of answers without those for clauses that say nothing in a copy."""
     parts = re.split(r"\n(?=pub )", text)
-    answered = [re.match(r"pub (\S+) : goal\.", part) for part in parts]
-    return "\n".join(part for part, said in zip(parts, answered) if not said or is_asked(clause, said[1]))
+    return "\n".join(part for part in parts if not re.match(r"pub returns", part) or is_kept(clause, answered(part)))

@@ -59,11 +59,7 @@ def judged(these, text):
 
 def tried(task):
     """Checks rounds, all in one check: of each its verdicts, or None where the check came to nothing; and the seconds that it took."""
-    if len(task) > 1:
-        texts, said = prover.check_together(task)
-    else:
-        said = prover.check(task[0])
-        texts = [said.text if prover.ENDED.search(said.text) else None]
+    texts, said = prover.check(task)
     for these, text in zip(task, texts):
         log(these, said.text if text is None else text)
     found = [None if text is None else judged(these, text) for these, text in zip(task, texts)]
@@ -88,16 +84,13 @@ class Judging:
         """What waits and can be checked together, the first of it first: rounds of crates that are proved; none where there are none."""
         most = min(TOGETHER, math.ceil(sum(len(these.bodies) for _, these in self.waiting) / self.jobs))
         found, count = [], 0
-        for task in [task for task in self.waiting if self.proofs.has(task[0].name)]:
-            if not found or count + len(task[1].bodies) <= most and self.goes_with(found[0], task):
-                found.append(task)
-                count += len(task[1].bodies)
+        for crate, these in self.waiting:
+            apart = these in self.apart or found and found[0][1] in self.apart
+            if self.proofs.has(crate.name) and (not found or count + len(these.bodies) <= most and not apart):
+                found.append((crate, these))
+                count += len(these.bodies)
         self.waiting = [task for task in self.waiting if task not in found]
         return found
-
-    def goes_with(self, first, second):
-        """Whether two rounds can be in one check."""
-        return all(prover.is_plain_library(crate.name) and these not in self.apart for crate, these in (first, second))
 
     def begin(self):
         """Begins what waits, as long as there is a processor."""

@@ -13,9 +13,8 @@ the prover has to refuse. They stand in `crates/CRATE/wrong-bodies.edits`, and t
 `tests/wrong_bodies` judges each by itself. Many stand in one check, each in a copy of its function under another name, and the prover is
 asked for these copies alone: all else is taken at its word and without its body, since `rt ci` has proved it. A copy requires what its
 function requires, and keeps its loops and what is known at each turn of them; of what the function tells of its result the copy has to show
-the clause that the row names, and no other. Where that is what is asked, the copy need not show either that its calls are allowed or that
-what it looks for is there. A method of a trait's impl can't be copied and is changed itself, as is what several functions change; an edit of
-more than the bodies of functions stands in a copy of its crate. A wrong body passes where the prover does not prove its copy, and the goal that fails there is of the clause that its
+the clause that the row names, and no other. A method of a trait's impl can't be copied and is changed itself, as is what several functions
+change; an edit of more than the bodies of functions stands in a copy of its crate. A wrong body passes where the prover does not prove its copy, and the goal that fails there is of the clause that its
 row names. What is not plainly refused so is tried again alone, in the function itself with all of its contract, and fails where the
 function is proved, where another clause refuses it, and where only a name is gone that a written answer cites. *Weak* are those that pass
 since an answer that is written by hand for that clause no longer fits: that says less, as the clause may be true all the same. The run

@@ -4,7 +4,7 @@ import re
 
 PROVED = re.compile(r"^rt: (\w+) (?:proved$|is kept: )", re.M)
 # Checks beside those of `rt ci`, at the most: they are for the processors that it leaves idle.
-BESIDE = 2
+BESIDE = 3
 
 
 class AllProved:

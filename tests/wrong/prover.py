@@ -37,16 +37,6 @@ def kit():
     return os.path.dirname(os.path.dirname(os.path.realpath(rt)))
 
 
-def root_of(crate):
-    """The root file of a crate."""
-    return "src/main.rt" if sources.is_there(crate, "src/main.rt") else "src/lib.rt"
-
-
-def is_plain_library(crate):
-    """Whether other crates may stand on a crate: it is no program, and no library for C."""
-    return root_of(crate) == "src/lib.rt" and not sources.order_of_crates()[crate][1]
-
-
 def below(crates):
     """The libraries that crates stand on, and the folders in which they are: those of the repository as `rt ci` has proved them."""
     at, listed, found = kit(), sources.order_of_crates(), {"std": None}
@@ -60,12 +50,12 @@ def below(crates):
     return found
 
 
-def words_of(crates, name, root):
-    """The words of a check of a crate of this name and root file over the libraries of crates, without the functions that are asked for."""
+def words_of(crates):
+    """The words of a check over the libraries that crates stand on, without what stands in it and is asked for."""
     at, listed = kit(), sources.order_of_crates()
-    words = [f"{at}/bin/rattle", "check", "--crate-name", name, root]
-    for library, path in below(crates).items():
-        words += ["--extern", f"{library}={path}"]
+    words = [f"{at}/bin/rattle", "check", "--crate-name", "judged", "judged/src/lib.rt"]
+    for name, path in below(crates).items():
+        words += ["--extern", f"{name}={path}"]
     own = [f"{sources.TOP}/crates/{crate}/out/rlib" for crate in listed]
     for folder in [f"{at}/rlibs", *filter(os.path.isdir, own)]:
         words += ["-L", f"dependency={folder}"]
@@ -87,7 +77,8 @@ def run(words, room):
 
 
 def lay(room, these, name):
-    """Lays a crate's folders with the texts of a round into the folder of a check, under another name."""
+    """Lays a crate's folders with the texts of a round into the folder of a check, as a library of another name: of a program the function
+    that begins it is one like others, and nothing that it calls is linked."""
     for part in PARTS:
         if os.path.isdir(f"{sources.TOP}/crates/{these.crate}/{part}"):
             shutil.copytree(f"{sources.TOP}/crates/{these.crate}/{part}", f"{room}/{part}")
@@ -96,23 +87,12 @@ def lay(room, these, name):
         with open(f"{room}/{path}", "w", encoding="utf-8") as file:
             file.write(text)
     assumed.write(these.crate, room, these.asked())
+    if os.path.exists(f"{room}/src/main.rt"):
+        os.rename(f"{room}/src/main.rt", f"{room}/src/lib.rt")
     for path in (f"{at}/{file}" for at, _, files in os.walk(room) for file in files):
-        text = sources.text_of(path).replace(f"Rattle.{these.crate}.", f"Rattle.{name}.")
+        text = sources.text_of(path).replace(f"Rattle.{these.crate}.", f"Rattle.{name}.").replace("\nfn main(", "\nfn begin_program(")
         with open(path, "w", encoding="utf-8") as file:
             file.write(text)
-
-
-def asked(functions):
-    """The words that ask for functions."""
-    return [word for function in functions for word in ("--only", function)]
-
-
-def check(these):
-    """What the prover says of the functions of a round."""
-    with tempfile.TemporaryDirectory(prefix="wrong-bodies-") as room:
-        lay(room, these, these.crate)
-        static = ["--crate-type", "staticlib"] if sources.order_of_crates()[these.crate][1] else []
-        return run([*words_of([these.crate], these.crate, root_of(these.crate)), *static, *asked(these.asked())], room)
 
 
 def said_of(text, room, name):
@@ -121,18 +101,19 @@ def said_of(text, room, name):
     return "\n".join(line.replace(f"{room}/{name}/", "./") for line in lines if re.search(rf"{re.escape(room)}/{name}/|\b{name}::", line))
 
 
-def check_together(rounds):
-    """What the prover says of the functions of rounds, which stand in one check, each as a library of a name of its own: what a check reads
-    first, it reads once for all of them. None of any where the check came to nothing."""
+def check(rounds):
+    """What the prover says of the functions of each of some rounds, and all that it says. They stand in one check, each as a library of a
+    name of its own: what a check reads first, it reads once for all of them. None of any where the check came to nothing."""
     with tempfile.TemporaryDirectory(prefix="wrong-bodies-") as room:
         named = [(f"{these.crate}_{number}", these) for number, these in enumerate(rounds)]
-        words = words_of(dict.fromkeys(these.crate for these in rounds), "judged", "judged/src/lib.rt")
+        words = words_of(dict.fromkeys(these.crate for these in rounds))
         os.makedirs(f"{room}/judged/src")
         with open(f"{room}/judged/src/lib.rt", "w", encoding="utf-8") as file:
             file.write("//! Stands on what is judged.\n#![tactic(auto)]\n")
         for name, these in named:
             lay(f"{room}/{name}", these, name)
-            words += ["--lib", f"{name}={room}/{name}/src/lib.rt", *asked(f"{name}::{function}" for function in these.asked())]
+            words += ["--lib", f"{name}={room}/{name}/src/lib.rt"]
+            words += [word for function in these.asked() for word in ("--only", f"{name}::{function}")]
         said = run(words, room)
         ended = ENDED.search(said.text)
         return [said_of(said.text, room, name) if ended else None for name, _ in named], said

@@ -7,7 +7,7 @@ import math
 import os
 import re
 
-from wrong import clauses, code, sources, unasked
+from wrong import clauses, code, sources
 
 
 def called(body):
@@ -45,8 +45,7 @@ def copied(body, text, at, named):
             return None
         copy = copy.replace(old, new)
     copy = copy.replace(f"fn {name}", f"fn {named}", 1)
-    copy = clauses.kept_alone(copy, body.clause) if shows_one(body, text) else copy
-    return unasked.left(copy) if body.clause.startswith("ensures") else copy
+    return clauses.kept_alone(copy, body.clause) if shows_one(body, text) else copy
 
 
 def copied_proof(body, text, named):

@@ -23,15 +23,13 @@ ANSWERS = "Answers", "Invariants", "Proof"
 
 @dataclass
 class Heard:
-    """What is said of a function: its line, its goals that fail, those at which only an answer by hand fails, names that are gone, and goals at
-    which no tactic was tried."""
+    """What is said of a function: its line, its goals that fail, those at which only an answer by hand fails, and names that are gone."""
 
     line: str = ""
     open: list = field(default_factory=list)
     by_hand: list = field(default_factory=list)
     gone: list = field(default_factory=list)
     rests: list = field(default_factory=list)
-    left: list = field(default_factory=list)
     waits: bool = False
 
 
@@ -50,12 +48,6 @@ def read_error(said, errors):
         found.by_hand.append(said[2])
 
 
-def goals_in(line, words):
-    """The goals that a function's line names after these words."""
-    named = re.search(words + r" (.*?)(;|$)", line)
-    return re.findall(r"`([^`]+)`", named[1] if named else "")
-
-
 def hear(text):
     """What is said of each function, and of each file of lemmas."""
     found, goals, errors, waits = {}, [], {}, set()
@@ -69,7 +61,8 @@ def hear(text):
         elif said := OPEN.match(line):
             goals.append(said[1])
         elif said := LINE.match(line):
-            found[said[1]] = Heard(said[2], goals + goals_in(said[2], "did not prove"), left=goals_in(said[2], r"`#\[tactic\(none\)\]` leaves"))
+            named = re.search(r"did not prove (.*?)(;|$)", said[2])
+            found[said[1]] = Heard(said[2], goals + re.findall(r"`([^`]+)`", named[1] if named else ""))
             goals = []
     for owner, error in errors.items():
         heard = found.setdefault(owner, Heard())
@@ -131,5 +124,4 @@ def judge(body, function, found):
         return OTHER, ", ".join(dict.fromkeys(others))
     if heard.gone:
         return GONE, ", ".join(heard.gone)
-    untried = [goal for goal in heard.left if of_clause(body.clause, goal)]
-    return (ACCEPTED, "") if PROVED.match(heard.line) or heard.left and not untried else (UNTRIED, ", ".join(untried) or heard.line[:120])
+    return (ACCEPTED, "") if PROVED.match(heard.line) else (UNTRIED, heard.line[:120])
