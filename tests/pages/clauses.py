@@ -1,22 +1,26 @@
-"""The tables of docs/PROMISES.md that tell of each call which clauses it has, as they are written from the sources.
+"""The lists of docs/PROMISES.md that tell of each call which clauses it has, as they are written from the sources.
 
-Each crate has a section there. Its table is made: of each call what its doc comment says first, its clauses by their names, each with the
+Each crate has a section there. Its list is made: of each call what its doc comment says first, its clauses by their names, each with the
 public definitions that it cites, and the wrong bodies of the function itself. All else in a section is written by hand.
 """
 import itertools
 import re
+import textwrap
 
 from pages import callers, items
 from pages.items import TOP
 from wrong import sources as wrong_bodies
 
 PAGE = f"{TOP}/docs/PROMISES.md"
-HEAD = ["| Call | What it does | Clauses | Wrong bodies |", "|---|---|---|---|"]
+# What stands before a list that is made.
+HEAD = "Its calls:\n\n"
 # Where public definitions stand: what octets are, where readers and writers stand, and what the laws say.
 ROOMS = ("Format", "States", "Laws")
-# The longest clause without a name that stands in a table as it is.
+# The longest clause without a name that stands in a list as it is.
 SHORT = 60
-TABLE = re.compile(r"^(?:[|].*\n)+", re.M)
+LIST = re.compile(rf"^{HEAD}(?:(?:- |  ).*\n)+", re.M)
+# The columns of a line.
+WIDTH = 140
 
 
 def first_sentence(doc):
@@ -58,26 +62,27 @@ def path_of(item):
 
 
 def name_of(item):
-    """A call, as a row names it."""
+    """A call, as a list names it."""
     return f"{item.owner}::{item.name}" if item.owner and item.kind == "fn" else f"{item.owner} as {item.name}" if item.owner else item.name
 
 
-def rows(crate):
-    """The rows of a crate's table: its calls, and then the wrong bodies of functions below these."""
+def told(crate):
+    """The parts of a crate's list: its calls, and then the wrong bodies of functions below these."""
     bodies = {}
     for body in wrong_bodies.bodies(crate):
         bodies.setdefault(body.function, []).append(f"`{body.word}`")
     for item in (item for _, found in callers.files_of(crate) for item in found):
         if item.kind == "fn" or item.kind == "given" and (item.clauses or path_of(item) in bodies):
             held = bodies.pop(path_of(item), [])
-            yield line([f"`{name_of(item)}`", first_sentence(item.doc), told_clauses(item, brought_in(item.path)), ", ".join(held)])
+            yield part(f"`{name_of(item)}`: {first_sentence(item.doc)}", told_clauses(item, brought_in(item.path)), held)
     if bodies:
-        yield line(["", "Functions below these", "", ", ".join(sorted(itertools.chain(*bodies.values())))])
+        yield part("Functions below these.", "", sorted(itertools.chain(*bodies.values())))
 
 
-def line(cells):
-    """A row of a table."""
-    return re.sub(" +", " ", f"| {' | '.join(cells)} |")
+def part(said, clauses, bodies):
+    """A part of a list, in lines."""
+    words = [said, *(f"*Clauses:* {clauses}." for _ in clauses[:1]), *(f"*Wrong bodies:* {', '.join(bodies)}." for _ in bodies[:1])]
+    return textwrap.fill(" ".join(words), WIDTH, initial_indent="- ", subsequent_indent="  ", break_long_words=False, break_on_hyphens=False)
 
 
 def sections(page):
@@ -90,17 +95,17 @@ def sections(page):
 
 
 def made(page):
-    """The page with its tables made anew, and all else as it is."""
+    """The page with its lists made anew, and all else as it is."""
     text = ""
     for crate, section in sections(page):
-        listed = list(rows(crate)) if crate else []
-        text += TABLE.sub(lambda _: "\n".join([*HEAD, *listed]) + "\n", section, count=1) if listed else section
+        listed = list(told(crate)) if crate else []
+        text += LIST.sub(lambda _: HEAD + "\n".join(listed) + "\n", section, count=1) if listed else section
     return text
 
 
 def by_hand(page):
     """The page without what is made."""
-    return "".join(TABLE.sub("", section, count=1) if crate else section for crate, section in sections(page))
+    return "".join(LIST.sub("", section, count=1) if crate else section for crate, section in sections(page))
 
 
 def wanted():
