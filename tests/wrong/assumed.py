@@ -9,6 +9,9 @@ import re
 
 from wrong import code, sources
 
+# With what a program begins: the file, and the function.
+BEGINS = "main", "lib"
+
 # A proof that says nothing.
 HOLE = """use Rattle.{crate}.proofs.{path}.Statement.{{statement}}
 
@@ -17,12 +20,18 @@ pub {name}_spec : {{M : Type 1}} → statement M
 """
 
 
-def stated(crate):
-    """The functions that the built library of a crate states, each by the words of its path; none of a program."""
+def texts(folder):
+    """The path of each source below a folder, from there, and its text."""
+    paths = [f"{at}/{file}" for at, _, files in os.walk(folder) for file in files]
+    return [(os.path.relpath(path, folder), sources.text_of(path)) for path in paths]
+
+
+def listed(crate):
+    """The functions that the built library of a crate states, each by the words of its path; None where it is a program, which nobody links."""
     at = f"{sources.TOP}/crates/{crate}/out/rlib/{crate}.rlib/toolchain/checked.json"
     front, end = f"Rattle-{crate}-proofs.", ".TheLink"
     if not os.path.exists(at):
-        return []
+        return None
     with open(at, encoding="utf-8") as index:
         modules = [json.loads(line)[0].split("/")[-1] for line in index]
     # (what is made of closures and of dropping has a sign in its name)
@@ -30,11 +39,18 @@ def stated(crate):
     return [path for path in paths if path[-2:-1] not in traits(crate)]
 
 
+def free(crate):
+    """The free functions of a program, each by the words of its path, but that with which it begins."""
+    found = []
+    for path, text in texts(f"{sources.TOP}/crates/{crate}/src"):
+        module = [word for word in path.removesuffix(".rt").split("/") if word not in BEGINS]
+        found += [[*module, name] for name, start, *_ in code.functions(text) if code.is_free(text, start) and name not in BEGINS]
+    return found
+
+
 def traits(crate):
     """The traits of a crate, each in a list: what they only declare has no proof."""
-    walked = os.walk(f"{sources.TOP}/crates/{crate}/src")
-    texts = [sources.text_of(f"{at}/{file}") for at, _, files in walked for file in files]
-    return [[name] for text in texts for name in re.findall(r"\btrait (\w+)", text)]
+    return [[name] for _, text in texts(f"{sources.TOP}/crates/{crate}/src") for name in re.findall(r"\btrait (\w+)", text)]
 
 
 def owner(path):
@@ -42,23 +58,26 @@ def owner(path):
     return [word for word in path[:-1] if word != "fn"] if "fn" in path else path
 
 
-def empty(room, kept):
-    """Empties the functions in the folder of a check, but those of the names that are kept, and returns the names of those that have a body."""
+def empty(room, kept, only):
+    """Empties the functions in the folder of a check, but those of the names that are kept, and where `only` names some no others. Returns the
+    names of those that have a body."""
     whole = set()
-    for at, _, files in os.walk(f"{room}/src"):
-        for file in files:
-            text, named = code.emptied(sources.text_of(f"{at}/{file}"), kept)
-            whole |= named
-            with open(f"{at}/{file}", "w", encoding="utf-8") as source:
-                source.write(text)
+    for path, text in texts(f"{room}/src"):
+        text, named = code.emptied(text, kept, only)
+        whole |= named
+        with open(f"{room}/src/{path}", "w", encoding="utf-8") as source:
+            source.write(text)
     return whole
 
 
 def write(crate, room, asked):
-    """Writes into the folder of a check proofs with holes for all functions but those that are asked for, and takes their bodies away."""
+    """Writes into the folder of a check proofs with holes for all functions but those that are asked for, and takes their bodies away. Of a
+    program these are the free ones."""
     kept = {tuple(function.split("::")) for function in asked}
-    whole = empty(room, {path[-1] for path in kept}) if stated(crate) else set()
-    for path in stated(crate):
+    linked = listed(crate)
+    paths = free(crate) if linked is None else linked
+    whole = empty(room, {path[-1] for path in kept}, None if linked is not None else {path[-1] for path in paths})
+    for path in paths:
         own = owner(path)
         if tuple(own) in kept or ("fn" in path and own[-1] not in whole):
             continue

@@ -50,15 +50,20 @@ def is_const(text, at):
     return bool(re.search(r"\bconst (?:unsafe )?$", text[:at]))
 
 
-def emptied(text, kept):
-    """A source whose functions have a body that is never reached, but those of the names that are kept; and the names of those that have
-    theirs still. What makes constants keeps its body: it is run where they are made."""
+def is_free(text, at):
+    """Whether the function whose name begins after this `fn` stands in no other item."""
+    return not text[text.rfind("\n", 0, at) + 1 : at].startswith(" ")
+
+
+def emptied(text, kept, only=None):
+    """A source whose functions have a body that is never reached, but those of the names that are kept, and where `only` names some no
+    others; and the names of those that have theirs still. What makes constants keeps its body: it is run where they are made."""
     whole, parts, copied, past = set(), [], 0, 0
     for name, start, body, end in functions(text):
         if body < past:
             continue
         past = end
-        if name in kept or is_const(text, start):
+        if name in kept or is_const(text, start) or (only is not None and name not in only):
             whole.add(name)
         else:
             parts += [text[copied:body], "{ unreachable!() }"]

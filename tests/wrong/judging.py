@@ -81,7 +81,8 @@ class Judging:
                 print(crate.sums(), flush=True)
 
     def next(self):
-        """What waits and can be checked together, the first of it first: rounds of crates that are proved; none where there are none."""
+        """What waits and can be checked together, the first of it first: rounds of crates that are proved. None while these are few and more
+        crates are still to be proved: what a check reads first, it would read for few."""
         most = min(TOGETHER, math.ceil(sum(len(these.bodies) for _, these in self.waiting) / self.jobs))
         found, count = [], 0
         for crate, these in self.waiting:
@@ -89,6 +90,8 @@ class Judging:
             if self.proofs.has(crate.name) and (not found or count + len(these.bodies) <= most and not apart):
                 found.append((crate, these))
                 count += len(these.bodies)
+        if count < most - LEAST and not self.proofs.ended and not any(these in self.apart for _, these in found):
+            return []
         self.waiting = [task for task in self.waiting if task not in found]
         return found
 

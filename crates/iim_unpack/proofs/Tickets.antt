@@ -1,5 +1,5 @@
 -- The ticket that is spelled of an unpacker is that of its place.
-use Rattle.std.proofs.Common.{◌≡◌, ℕ, ◌-◌, ◌≤◌, nat_eq, Bool, false, if◌then◌else◌, List, length, sum, refl, ap, sym, ◌∙◌, inl, inr, ◌⊎◌, arith}
+use Rattle.std.proofs.Common.{◌≡◌, ℕ, ◌-◌, nat_eq, Bool, false, if◌then◌else◌, List, length, sum, refl, ap, sym, ◌∙◌, inl, inr, ◌⊎◌, arith}
 use Rattle.iim_dataset.specs.Format.Datasets.{Dataset, of_record, count_octets}
 use Rattle.iim_dataset.specs.Format.Splits.{Begun, InTag, InData, Reads}
 use Rattle.iim_dataset.specs.States.Places.{IsKeptAs}

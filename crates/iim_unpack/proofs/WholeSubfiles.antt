@@ -1,6 +1,7 @@
 -- A whole subfile leads the parts of an unpacker on, or is refused at an octet: its head, its data and its end. What is answered.
-use Rattle.std.proofs.Common.{◌≡◌, ℕ, Bool, true, false, nat_eq, List, [], ◌∷◌, ◌++◌, map, Option, Some, None, refl, ap, sym, subst, ◌∙◌}
+use Rattle.std.proofs.Common.{◌≡◌, ℕ, Bool, true, false, nat_eq, List, [], ◌∷◌, ◌++◌, map, Option, Some, refl, ap, sym, subst, ◌∙◌}
 use Rattle.std.specs.Prelude.{IsSome, is_none, ◌&&◌}
+use Rattle.std.specs.Bool.{then_some}
 use Rattle.iim_dataset.specs.Format.Octets.{Octets}
 use Rattle.iim_dataset.specs.States.Events.{HeadRead, DataOctet, DatasetEnd}
 use Rattle.iim_dataset.specs.States.Reading.{AfterStep}
@@ -94,7 +95,7 @@ subfile_takes p new h t eight between section object message = record {
 
 -- a dataset that was taken, or left
 pub answered : {S : Type 0} (goes : S → List story.StoryEvent → S → Type 0) (failures : S → ℕ) → ((a : S) → goes a [] a) → (old new : Parts) (a : S) (h : Head) (xs : List ℕ) (b : Bool) (step : Step) (o : Option Step)
-    → (b ≡ true → o ≡ Some step) → (b ≡ false → o ≡ None) → (b ≡ true → TellsWhole old h xs new) → (b ≡ false → new ≡ old) → (b ≡ true → AfterStep Takes HasEnded new step) → TookWhole goes failures (old, a) h xs (new, a) o
-answered goes failures nothing old new a h xs true step o some none went left after =
-    subst (TookWhole goes failures (old, a) h xs (new, a)) (sym (some refl)) (tells_parts_whole goes failures old new h xs a (nothing a) (went refl), after refl)
-answered goes failures nothing old new a h xs false step o some none went left after = subst (TookWhole goes failures (old, a) h xs (new, a)) (sym (none refl)) (left refl, refl)
+    → o ≡ then_some b step → (b ≡ true → TellsWhole old h xs new) → (b ≡ false → new ≡ old) → (b ≡ true → AfterStep Takes HasEnded new step) → TookWhole goes failures (old, a) h xs (new, a) o
+answered goes failures nothing old new a h xs true step o is went left after =
+    subst (TookWhole goes failures (old, a) h xs (new, a)) (sym is) (tells_parts_whole goes failures old new h xs a (nothing a) (went refl), after refl)
+answered goes failures nothing old new a h xs false step o is went left after = subst (TookWhole goes failures (old, a) h xs (new, a)) (sym is) (left refl, refl)

@@ -93,13 +93,6 @@ fn missing_at_end(unpacker: &Unpacker) -> Option<Refusal>
     unpacker.end_of_input()
 }
 
-/// A count of octets, and so many more; it stays at the greatest number of 64 bits.
-fn summed(used: u64, more: u64) -> u64
-    ensures { result ≡ raised used more }
-{
-    used.saturating_add(more)
-}
-
 /// The octets of a source, from which envelopes are taken one after another, a block of 4,096 at a time. No octet is lost or read
 /// twice. After a fault each call answers it as a refusal of cause 61.
 #[derive(Drop)]
@@ -161,11 +154,11 @@ impl<R: Source> Intake<R> {
         match unpacker.feed(self.block.held(), sink) {
             Ok(Progress::More) => {
                 self.block.pass(count);
-                Ok(Fed::More(raised(0, count)))
+                Ok(Fed::More(raised(0, count as u64)))
             }
             Ok(Progress::Done { used: last }) => {
                 self.block.pass(last);
-                Ok(Fed::Done(raised(0, last)))
+                Ok(Fed::Done(raised(0, last as u64)))
             }
             Err(refusal) => {
                 self.block.pass(count);
@@ -249,9 +242,9 @@ impl<R: Source> Intake<R> {
         let mut used: u64 = 0;
         'feeding: loop {
             match self.next_piece(unpacker, sink) {
-                Ok(Fed::More(more)) => used = summed(used, more),
+                Ok(Fed::More(more)) => used = raised(used, more),
                 Ok(Fed::Done(last)) => {
-                    self.octets = summed(used, last);
+                    self.octets = raised(used, last);
                     return Ok(true);
                 }
                 Ok(Fed::End) => return Ok(false),

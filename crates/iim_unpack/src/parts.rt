@@ -105,15 +105,6 @@ fn tell_number(object: &mut ObjectReader, head: Head, number: u64) -> Result<(),
     }
 }
 
-/// The answer to a whole dataset that was taken, or not.
-#[inline(always)]
-fn answer(taken: bool, step: Step) -> Option<Step>
-    ensures took { taken ≡ true → result ≡ Some step }
-    ensures left { taken ≡ false → result ≡ None }
-{
-    if taken { Some(step) } else { None }
-}
-
 /// Whether the message is whole, and the object lives with its end and this number of 9:10.
 #[inline(always)]
 fn may_end(object: &ObjectReader, message: &MessageReader, number: u64) -> bool
@@ -282,9 +273,9 @@ impl Parts {
     {
         match head.rec {
             OBJECT => self.whole_subfile(head, octets, sink),
-            POST_OBJECT => Ok(answer(self.whole_end(head.set, head.count, octets), Step::Last)),
-            PRE_OBJECT => Ok(answer(self.whole_number(head.set, head.count, octets), Step::More)),
-            _ => Ok(answer(self.whole_field(head, octets), Step::More)),
+            POST_OBJECT => Ok(self.whole_end(head.set, head.count, octets).then_some(Step::Last)),
+            PRE_OBJECT => Ok(self.whole_number(head.set, head.count, octets).then_some(Step::More)),
+            _ => Ok(self.whole_field(head, octets).then_some(Step::More)),
         }
     }
 

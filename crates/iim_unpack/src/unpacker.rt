@@ -205,10 +205,10 @@ pub(crate) fn failed_at(octet: u64) -> Refusal
 }
 
 /// A count, raised; it stays at the greatest number of 64 bits.
-pub(crate) fn raised(octets: u64, more: usize) -> u64
+pub(crate) fn raised(octets: u64, more: u64) -> u64
     ensures { result ≡ raised octets more }
 {
-    octets.saturating_add(more as u64)
+    octets.saturating_add(more)
 }
 
 /// Writes octets at the front of a buffer, where that has room for them.
@@ -366,7 +366,7 @@ impl Unpacker {
         }
         match advance(&mut self.reader, &mut self.parts, piece, sink) {
             Ok(used) => {
-                self.octets = raised(self.octets, used);
+                self.octets = raised(self.octets, used as u64);
                 self.begun = begins(self.begun, piece);
                 if self.parts.has_ended() {
                     return Ok(Progress::Done { used });
@@ -374,7 +374,7 @@ impl Unpacker {
                 Ok(Progress::More)
             }
             Err(halt) => {
-                let octet = raised(self.octets, halt.taken);
+                let octet = raised(self.octets, halt.taken as u64);
                 self.refused = Some(octet);
                 Err(refusal_at(octet, halt.fault))
             }

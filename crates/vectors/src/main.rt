@@ -6,10 +6,31 @@
 #![tactic(auto)]
 
 mod auditing;
+mod calls;
+mod causes;
+mod cuts;
+mod intakes;
+mod lines;
+mod packing;
+mod pieces;
+mod plans;
+mod records;
+mod scripts;
+mod streams;
+mod tickets;
+mod unpacking;
+mod values;
+mod views;
+mod writers;
 
+use intakes::print_envelopes;
+use packing::Packing;
+use pieces::print_pieces;
+use records::Envelopes;
 use std::alloc::Global;
 use std::io::{self, BufRead, BufReader, Write};
-use vectors_envelopes::{Bench, Envelopes, Packing};
+use streams::print_stream;
+use unpacking::Bench;
 use vectors_layers::{Answers, Names, Words};
 
 /// What the questions so far have made.
@@ -60,6 +81,23 @@ impl Vectors {
     }
 }
 
+/// Answers the words of streams; false where the word is none of them.
+fn answer_streams(
+    out: &mut Answers,
+    alloc: Global,
+    names: &Names,
+    word: &str,
+    words: &mut Words,
+) -> bool {
+    match word {
+        "stream" => print_stream(out, alloc, names, words),
+        "pieces" => print_pieces(out, alloc, names, words),
+        "intake" => print_envelopes(out, alloc, names, words),
+        _ => return false,
+    }
+    true
+}
+
 /// Answers the words that ask for no more than names; false where the word is none of them.
 fn answer_alone(
     answers: &mut Answers,
@@ -69,7 +107,7 @@ fn answer_alone(
     words: &mut Words,
 ) -> bool {
     vectors_layers::answer(answers, alloc, names, word, words)
-        || vectors_envelopes::answer(answers, alloc, names, word, words)
+        || answer_streams(answers, alloc, names, word, words)
         || auditing::answer(answers, alloc, names, word, words)
 }
 

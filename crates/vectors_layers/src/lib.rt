@@ -1,7 +1,7 @@
 //! Questions about octets and their answers, and those of the layers below the unpacker: tables, datasets, objects, stories and messages.
 //!
 //! Stands on `wire_message`, `wire_story`, `iim_object`, `iim_tables`, `iim_dataset` and `arrayvec`. `docs/VECTORS.md` says how
-//! questions and answers are written. The program `vectors` and its other parts read and answer theirs by these.
+//! questions and answers are written. The program `vectors` reads and answers its own by these.
 #![tactic(auto)]
 
 mod answers;

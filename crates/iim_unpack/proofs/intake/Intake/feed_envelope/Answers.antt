@@ -22,15 +22,15 @@ feeding-smaller g c =
     let on = c.feeding.invariant.fed.0 in
     let here = somewhere c.args.unpacker.now c.requires.ready c.stands_somewhere.ensures.stood in
     let more = more_of c.in-Ok-More.field-0-is (c.in-Ok-More.ensures.fed c.feeding.invariant.alive) in
-    smaller c.feeding.used c.summed-used.result c.in-Ok-More.more c.summed-used.ensures more.0
+    smaller c.feeding.used c.raised-used.result c.in-Ok-More.more c.raised-used.ensures more.0
     (fed_few c.open_octets_are_bounded.ensures on
     (subst (λ (l : Limits). l.octets < 4294967296) (sym on.limits) c.stands_somewhere.ensures.octets) (subst (λ (l : Limits). l.fields < 4294967296) (sym on.limits) c.stands_somewhere.ensures.fields) here.0 here.1 here.2)
 
 pub feeding-preserved : goal.feeding-preserved
 feeding-preserved g c =
     let more = more_of c.in-Ok-More.field-0-is (c.in-Ok-More.ensures.fed c.feeding.invariant.alive) in
-    let fed = fed_then g.met.S.StorySink.joined c.gifts_join.ensures c.delivery_may_be_cut.ensures c.feeding.invariant.fed.0 more.2 c.summed-used.ensures in
-    let some : 0 < c.summed-used.result = raised_on c.feeding.used c.in-Ok-More.more c.summed-used.result more.0 c.summed-used.ensures in
+    let fed = fed_then g.met.S.StorySink.joined c.gifts_join.ensures c.delivery_may_be_cut.ensures c.feeding.invariant.fed.0 more.2 c.raised-used.ensures in
+    let some : 0 < c.raised-used.result = raised_on c.feeding.used c.in-Ok-More.more c.raised-used.result more.0 c.raised-used.ensures in
     record {
       alive = c.in-Ok-More.ensures.calm.0;
       octets = c.next_piece.ensures.octets ∙ c.feeding.invariant.octets;
@@ -43,7 +43,7 @@ feeding-preserved g c =
 pub returns-in-Ok-Done-clause-fed : goal.returns-in-Ok-Done-clause-fed
 returns-in-Ok-Done-clause-fed g c =
     let done = done_of c.in-Ok-Done.field-0-is (c.in-Ok-Done.ensures.fed c.feeding.invariant.alive) in
-    fed_and_done g.met.S.StorySink.joined c.gifts_join.ensures c.delivery_may_be_cut.ensures c.feeding.invariant.fed.0 done c.summed-self.ensures
+    fed_and_done g.met.S.StorySink.joined c.gifts_join.ensures c.delivery_may_be_cut.ensures c.feeding.invariant.fed.0 done c.raised-self.ensures
 
 pub returns-in-Ok-End-clause-fed : goal.returns-in-Ok-End-clause-fed
 returns-in-Ok-End-clause-fed g c =

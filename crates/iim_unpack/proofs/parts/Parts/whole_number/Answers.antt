@@ -1,4 +1,4 @@
-use Rattle.std.proofs.Common.{◌≡◌, ℕ, refl, subst, arith}
+use Rattle.std.proofs.Common.{ℕ, refl, subst, arith}
 use Rattle.iim_dataset.specs.declared.head.Head.{Head}
 use Rattle.iim_object.specs.Format.Objects.{NumberRead}
 use Rattle.iim_object.specs.States.Reading.{LeadsOn}

@@ -8,7 +8,7 @@ use trials::{TrialWriter, Trouble};
 use vectors_layers::{Answers, Words};
 
 /// Memory.
-pub type Memory = FromWrite<Vec<u8>>;
+pub(crate) type Memory = FromWrite<Vec<u8>>;
 
 /// Memory that is empty.
 pub(crate) fn memory(alloc: Global) -> Memory {
@@ -16,10 +16,10 @@ pub(crate) fn memory(alloc: Global) -> Memory {
 }
 
 /// A writer that takes an octet a call, up to 512, and meets trouble after some.
-pub type Trial = TrialWriter<512>;
+pub(crate) type Trial = TrialWriter<512>;
 
 /// A target that keeps what it took.
-pub trait Keeps: Target + Drop {
+pub(crate) trait Keeps: Target + Drop {
     /// What it took; None where memory was refused.
     fn kept(self, alloc: Global) -> Option<Vec<u8>>;
 

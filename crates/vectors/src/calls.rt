@@ -17,7 +17,7 @@ pub(crate) enum Begun {
 
 /// The packer that is asked.
 #[derive(Drop)]
-pub struct Calls {
+pub(crate) struct Calls {
     alloc: Global,
     begun: Option<Begun>,
 }
@@ -158,12 +158,12 @@ impl Begun {
 
 impl Calls {
     /// No packer.
-    pub fn new(alloc: Global) -> Calls {
+    pub(crate) fn new(alloc: Global) -> Calls {
         Calls { alloc, begun: None }
     }
 
     /// Begins a packer, over memory where the words tell no other writer.
-    pub fn start(&mut self, out: &mut Answers, script: &Value, plan: Plan, words: &mut Words) {
+    pub(crate) fn start(&mut self, out: &mut Answers, script: &Value, plan: Plan, words: &mut Words) {
         self.begun = match trial_of(words) {
             Some(trial) => started(self.alloc, out, script, plan, trial),
             None => started(self.alloc, out, script, plan, memory(self.alloc)),
@@ -171,7 +171,7 @@ impl Calls {
     }
 
     /// Answers the words of a packer's calls; false where the word is none of them.
-    pub fn answer(
+    pub(crate) fn answer(
         &mut self,
         out: &mut Answers,
         names: &Names,

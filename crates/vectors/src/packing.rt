@@ -13,7 +13,7 @@ use wire_story::Lines;
 
 /// The value that is packed, and a packer that is asked call by call.
 #[derive(Drop)]
-pub struct Packing {
+pub(crate) struct Packing {
     alloc: Global,
     told: Option<Value>,
     calls: Calls,
@@ -21,7 +21,7 @@ pub struct Packing {
 
 impl Packing {
     /// No value, and no packer.
-    pub fn new(alloc: Global) -> Packing {
+    pub(crate) fn new(alloc: Global) -> Packing {
         Packing {
             alloc,
             told: None,
@@ -30,7 +30,7 @@ impl Packing {
     }
 
     /// Answers the words of scripts and of packing; false where the word is none of them.
-    pub fn answer(
+    pub(crate) fn answer(
         &mut self,
         out: &mut Answers,
         names: &Names,

@@ -1,5 +1,5 @@
 use Rattle.iim_fields.specs.States.Checks.{TakesHead}
-use Rattle.vectors_envelopes.proofs.records.check_datasets.Given as goal
+use Rattle.vectors.proofs.records.check_datasets.Given as goal
 
 abbrev pub invariant-loop : goal.invariant-loop
 invariant-loop l = TakesHead l.records

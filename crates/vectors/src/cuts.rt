@@ -16,7 +16,7 @@ pub(crate) struct Cuts {
 
 impl Cuts {
     /// Pieces of `size` octets.
-    pub fn of(size: usize) -> Cuts {
+    pub(crate) fn of(size: usize) -> Cuts {
         Cuts {
             least: size,
             span: 1,
@@ -25,7 +25,7 @@ impl Cuts {
     }
 
     /// Pieces of 1 to 64 octets, the same for the same seed.
-    pub fn random(seed: u64) -> Cuts {
+    pub(crate) fn random(seed: u64) -> Cuts {
         Cuts {
             least: 1,
             span: LONGEST as u64,

@@ -15,7 +15,7 @@ use wire_story::Lines;
 
 /// An envelope that is being taken apart.
 #[derive(Drop)]
-pub struct Bench {
+pub(crate) struct Bench {
     alloc: Global,
     limits: Limits,
     unpacker: Unpacker,
@@ -33,7 +33,7 @@ fn print_progress(out: &mut Answers, answer: Result<Progress, Refusal>) {
 
 impl Bench {
     /// A new envelope, under the program's limits; None where memory was refused.
-    pub fn new(alloc: Global) -> Option<Bench> {
+    pub(crate) fn new(alloc: Global) -> Option<Bench> {
         Some(Bench {
             alloc,
             limits: Limits::WIRE,
@@ -181,7 +181,7 @@ impl Bench {
     }
 
     /// Answers the words of unpacking; false where the word is none of them.
-    pub fn answer(
+    pub(crate) fn answer(
         &mut self,
         out: &mut Answers,
         names: &Names,

@@ -307,7 +307,7 @@ fn print_passed(out: &mut Answers, words: &mut Words) {
 
 /// Envelopes that are read and built.
 #[derive(Drop)]
-pub struct Envelopes {
+pub(crate) struct Envelopes {
     alloc: Global,
     builder: Option<EnvelopeBuilder>,
     fields: Option<Fields>,
@@ -317,7 +317,7 @@ pub struct Envelopes {
 
 impl Envelopes {
     /// No envelopes.
-    pub fn new(alloc: Global) -> Envelopes {
+    pub(crate) fn new(alloc: Global) -> Envelopes {
         Envelopes {
             alloc,
             builder: None,
@@ -460,7 +460,7 @@ impl Envelopes {
     }
 
     /// Answers the words of readers and builders; false where the word is none of them.
-    pub fn answer(
+    pub(crate) fn answer(
         &mut self,
         out: &mut Answers,
         names: &Names,

@@ -1,6 +1,6 @@
 use Rattle.std.proofs.Common.{◌≡◌, ℕ, ◌+◌, ◌-◌, length, subst, arith}
 use Rattle.iim_fields.specs.States.Standing.{IsInside}
-use Rattle.vectors_envelopes.proofs.records.give.Goals as goal
+use Rattle.vectors.proofs.records.give.Goals as goal
 
 pub returns-then-not-one_by_one : goal.returns-then-not-one_by_one
 returns-then-not-one_by_one c =

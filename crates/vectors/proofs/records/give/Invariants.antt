@@ -1,6 +1,6 @@
 use Rattle.std.proofs.Common.{◌-◌, length}
 use Rattle.iim_fields.specs.States.Standing.{IsInside}
-use Rattle.vectors_envelopes.proofs.records.give.Given as goal
+use Rattle.vectors.proofs.records.give.Given as goal
 
 abbrev pub invariant-loop-octet : goal.invariant-loop-octet
 invariant-loop-octet l = IsInside l.fields l.fn.head (length l.octets - l.octet-index)
