@@ -1,5 +1,5 @@
 use Rattle.std.proofs.Common.{◌≡◌, None}
-use Rattle.json_copy.proofs.print_all.Given as goal
+use Rattle.examples.proofs.json.print_all.Given as goal
 
 abbrev pub invariant-receiving : goal.invariant-receiving
 invariant-receiving g l = l.intake.failed ≡ None

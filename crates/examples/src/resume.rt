@@ -1,5 +1,4 @@
 //! Receives an envelope in parts: each run continues at the place that the run before has kept in a file.
-#![tactic(auto)]
 
 ghost use Rattle.std.specs.Prelude.{◌↔◌, IsTrue, IfOk};
 ghost use Rattle.iim_unpack.specs.States.Unpacking.{IsDone};
@@ -9,8 +8,8 @@ use byteorder::{BigEndian, ByteOrder};
 use iim_dataset::{FromRead, FromWrite, Source, take};
 use iim_fields::Limits;
 use iim_unpack::{Progress, Unpacker};
+use std::fs;
 use std::process::ExitCode;
-use std::{env, fs};
 use wire_story::{LineWriter, StorySink};
 
 /// The most that records 1 and 2 of an envelope may have, the same in each run.
@@ -18,20 +17,17 @@ const LIMITS: Limits = Limits::WIRE;
 
 /// Receives a part. Where it is refused or something fails, the file stays as it was, and the part can be sent again: the text that came
 /// of it before is out already, and then comes once more.
-fn main(rt: HostRuntime) -> Result<ExitCode> {
-    let Some(name) = env::args(&rt)?.nth(1) else {
-        bail!("usage: resume_copy PLACE");
-    };
-    let mut unpacker = load(&rt, name.as_str())?;
+pub fn run(rt: &HostRuntime, name: &str) -> Result<ExitCode> {
+    let mut unpacker = load(rt, name)?;
     // A sink has no place of its own: lines are written as they come, joined by LF, and the next run continues a begun one.
     let mut lines = LineWriter::new(FromWrite::new(rt.stdout()));
     if !receive(&mut unpacker, &mut FromRead::new(rt.stdin()), &mut lines)? {
-        store(&rt, name.as_str(), &unpacker)?;
+        store(rt, name, &unpacker)?;
         return Ok(ExitCode::from(4));
     }
     println!(rt; "")?;
-    if fs::exists(&rt, name.as_str())? {
-        fs::remove_file(&rt, name.as_str())?;
+    if fs::exists(rt, name)? {
+        fs::remove_file(rt, name)?;
     }
     Ok(ExitCode::SUCCESS)
 }

@@ -1,6 +1,5 @@
 //! Sends copy: builds an envelope from a few values, and packs it to standard output with the lines of standard input, which are read as
 //! UTF-8 and have to be that.
-#![tactic(auto)]
 
 ghost use Rattle.std.specs.Prelude.{◌≡◌, map, IfOk};
 
@@ -34,14 +33,15 @@ const FIELDS: [(u8, u8, &[u8]); 9] = [
     (2, 80, b"A. Moor"),
 ];
 
-fn main(rt: HostRuntime) -> Result<()> {
+/// Sends one envelope.
+pub fn run(rt: &HostRuntime) -> Result<()> {
     let envelope = build(rt.alloc())?;
     // Source, number, priority, category, announced words and info of the message.
     let head = MessageHead::new(b"TST", b"0007", b"4", b"ECO", b"4", b"rates");
     let head = head.context("bad header")?;
     // Subfiles of 1,024 octets. How long the story will be isn't known yet.
     let plan = Plan::new(1_024, Size::Unknown(None)).context("bad plan")?;
-    send(&rt, &envelope, &head, plan)
+    send(rt, &envelope, &head, plan)
 }
 
 /// Packs the envelope with the lines of the input.

@@ -1,5 +1,4 @@
 //! Prints copy as JSON: each envelope of standard input as a line of standard output.
-#![tactic(auto)]
 
 ghost use Rattle.std.specs.Prelude.{◌≡◌, None, IfOk, string_bytes};
 ghost use Rattle.std.specs.Io.KnownBytes.{IsAtEnd};
@@ -15,7 +14,8 @@ use std::alloc::Global;
 use std::io::Write;
 use wire_story::Lines;
 
-fn main(rt: HostRuntime) -> Result<()> {
+/// Prints the envelopes of standard input.
+pub fn run(rt: &HostRuntime) -> Result<()> {
     let mut intake = Intake::new(FromRead::new(rt.stdin()));
     print_all(rt.alloc(), &mut intake, &mut rt.stdout())
 }
