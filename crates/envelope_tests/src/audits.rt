@@ -2,22 +2,18 @@
 
 ghost use Rattle.std.specs.Prelude.{◌<◌};
 
-use crate::unpacking::joined;
+use crate::given::{LIMITS, joined};
+use crate::outcome::{Trouble, right, right_at};
+use crate::told::Told;
 use iim_audit::{AuditCause, AuditFault, AuditRow, CopyState, Report, audit};
 use iim_dataset::{FromRead, Source};
-use iim_fields::Limits;
 use iim_unpack::Intake;
 use jiff::Timestamp;
 use std::alloc::Global;
 use std::io;
 use std::io::Read;
-use std::process::Abort;
-use std::test::Fail;
-use trials::{TrialReader, Trouble};
+use trials::{TrialReader, Trouble as DeviceTrouble};
 use worked::SMALLEST;
-
-/// What the command allows.
-const LIMITS: Limits = Limits::WIRE;
 
 /// The smallest envelope, urgent and with a time: 1:60 and 1:80 stand before and after 1:70.
 const TIMED: &[u8] =
@@ -28,10 +24,10 @@ const TIMED: &[u8] =
 \x1c\x08\x0a\x00\x0e\x01X1 4 N 0\r\n\x02\x03\x04\x1c\x09\x0a\x00\x04\x00\x00\x00\x0e";
 
 /// Noon on 1 March 2024, in UTC.
-fn noon(rt: &impl Abort) -> Timestamp {
+fn noon() -> Result<Timestamp, Trouble> {
     match Timestamp::from_second(1_709_294_400) {
-        Ok(noon) => noon,
-        Err(_) => panic!(rt; "no instant"),
+        Ok(noon) => Ok(noon),
+        Err(_) => Err(Trouble::Wrong),
     }
 }
 
@@ -52,29 +48,30 @@ fn rows_of(answer: Result<Report, AuditFault>) -> Result<usize, AuditFault> {
     }
 }
 
-/// Expects what is told of the urgent envelope.
-fn expect_row(rt: &impl Abort, row: &AuditRow) {
+/// Expects what is told of the urgent envelope. What is wrong is told by its number.
+fn expect_row(row: &AuditRow) -> Result<(), Trouble> {
     let id = [row.id.service(), row.id.number(), row.id.date_sent()];
-    assert!(rt;
-        id == [b"TST".as_slice(), b"00000001", b"20240301"],
-        "another id"
-    );
+    right_at(1, id == [b"TST".as_slice(), b"00000001", b"20240301"])?;
     let numbers = [row.size, row.subfiles, row.announced, row.counted];
-    assert!(rt; numbers == [14, 1, 0, 0], "other numbers");
-    assert!(rt; row.priority == Some(b'5'), "another priority");
-    assert!(rt; row.age == Some(3600), "another age");
-    assert!(rt; row.first.is_none(), "an id that came before");
-    assert!(rt; row.copy == CopyState::Free, "another copy");
+    right_at(2, numbers == [14, 1, 0, 0])?;
+    right_at(3, row.priority == Some(b'5'))?;
+    right_at(4, row.age == Some(3600))?;
+    right_at(5, row.first.is_none())?;
+    right_at(6, row.copy == CopyState::Free)
 }
 
-#[test]
-fn rows_of_a_report(rt: HostRuntime) {
-    match report_of(rt.alloc(), FromRead::new(TIMED), noon(&rt)) {
-        Ok(report) => match report.rows() {
-            [row] => expect_row(&rt, row),
-            _ => panic!(rt; "not one row"),
-        },
-        Err(_) => panic!(rt; "no report"),
+/// Expects these rows to be that of the urgent envelope.
+fn expect_rows(rows: &[AuditRow]) -> Result<(), Trouble> {
+    match rows {
+        [row] => expect_row(row),
+        _ => Err(Trouble::WrongAt(rows.len())),
+    }
+}
+
+fn rows_of_a_report(alloc: Global) -> Result<(), Trouble> {
+    match report_of(alloc, FromRead::new(TIMED), noon()?) {
+        Ok(report) => expect_rows(report.rows()),
+        Err(_) => Err(Trouble::Wrong),
     }
 }
 
@@ -82,44 +79,44 @@ fn rows_of_a_report(rt: HostRuntime) {
 fn troubled(
     alloc: Global,
     octets: &[u8],
-    good: u64,
-    trouble: Trouble,
+    good: usize,
+    trouble: DeviceTrouble,
     now: Timestamp,
 ) -> Result<usize, AuditFault> {
-    let reader = TrialReader::new(octets, good, trouble);
+    let reader = TrialReader::new(octets, good as u64, trouble);
     rows_of(report_of(alloc, reader, now))
 }
 
 /// Expects a reader of two envelopes that fails to be a fault of the one that it was to give.
-fn expect_failures(rt: &impl Abort, alloc: Global, octets: &[u8]) {
-    let now = noon(rt);
+fn expect_failures(alloc: Global, octets: &[u8]) -> Result<(), Trouble> {
+    let now = noon()?;
     let cause = AuditCause::Read;
     for (good, envelope) in [(0, 1), (113, 1), (114, 2), (227, 2), (228, 3)] {
-        let answer = troubled(alloc, octets, good, Trouble::Failure, now);
-        assert!(rt; answer == Err(AuditFault { envelope, cause }));
+        let answer = troubled(alloc, octets, good, DeviceTrouble::Failure, now);
+        right_at(good, answer == Err(AuditFault { envelope, cause }))?;
     }
+    Ok(())
 }
 
 /// Expects a million interruptions in a row to be a fault, and one fewer to be none.
-fn expect_interruptions(rt: &impl Abort, alloc: Global, octets: &[u8]) {
-    let now = noon(rt);
+fn expect_interruptions(alloc: Global, octets: &[u8]) -> Result<(), Trouble> {
+    let now = noon()?;
     let fault = AuditFault {
         envelope: 2,
         cause: AuditCause::Interrupted,
     };
     let rows = [(1_000_000, Err(fault)), (999_999, Ok(2))];
     for (count, want) in rows {
-        let answer = troubled(alloc, octets, 120, Trouble::Interruptions(count), now);
-        assert!(rt; answer == want);
+        let trouble = DeviceTrouble::Interruptions(count);
+        right(troubled(alloc, octets, 120, trouble, now) == want)?;
     }
+    Ok(())
 }
 
-#[test]
-fn failing_readers(rt: HostRuntime) -> Result<(), Fail> {
-    let octets = joined(rt.alloc(), &[SMALLEST.as_slice(), SMALLEST])?;
-    expect_failures(&rt, rt.alloc(), &octets);
-    expect_interruptions(&rt, rt.alloc(), &octets);
-    Ok(())
+fn failing_readers(alloc: Global) -> Result<(), Trouble> {
+    let octets = joined(alloc, &[SMALLEST.as_slice(), SMALLEST])?;
+    expect_failures(alloc, &octets)?;
+    expect_interruptions(alloc, &octets)
 }
 
 /// Gives an envelope `left` times, each with a number of its own.
@@ -181,13 +178,19 @@ impl Read for Again {
     }
 }
 
-#[test]
-fn one_envelope_too_many(rt: HostRuntime) {
+fn one_envelope_too_many(alloc: Global) -> Result<(), Trouble> {
     let reader = FromRead::new(Again::new(1_000_001));
-    let answer = rows_of(report_of(rt.alloc(), reader, noon(&rt)));
+    let answer = rows_of(report_of(alloc, reader, noon()?));
     let fault = AuditFault {
         envelope: 1_000_001,
         cause: AuditCause::TooManyEnvelopes,
     };
-    assert!(rt; answer == Err(fault));
+    right(answer == Err(fault))
+}
+
+/// Tells the trials of audits.
+pub(crate) fn tell(rt: &impl Print, told: &mut Told, alloc: Global) -> io::Result<()> {
+    told.trial(rt, "rows_of_a_report", rows_of_a_report(alloc))?;
+    told.trial(rt, "failing_readers", failing_readers(alloc))?;
+    told.trial(rt, "one_envelope_too_many", one_envelope_too_many(alloc))
 }

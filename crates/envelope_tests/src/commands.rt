@@ -3,6 +3,8 @@
 ghost use Rattle.std.specs.Prelude.{◌≡◌};
 ghost use Rattle.wire_story.specs.States.Writing.{stops_of};
 
+use crate::outcome::{Trouble, right, right_at};
+use crate::told::Told;
 use iim_listing::check::Check;
 use iim_listing::list::list;
 use iim_listing::story::narrate;
@@ -11,7 +13,8 @@ use iim_output::status::ACCEPTED;
 use iim_pack_script::packing::{PackRequest, pack_script};
 use iim_unpack::Intake;
 use std::alloc::Global;
-use trials::{TrialReader, TrialWriter, Trouble};
+use std::io;
+use trials::{TrialReader, TrialWriter, Trouble as DeviceTrouble};
 use wire_story::LineWriter;
 use worked::STORY;
 
@@ -28,10 +31,10 @@ const LINE: &[u8] = b"1 accepted 246 octets\n";
 const TOO_MANY: u32 = 1_000_000;
 
 /// As many interruptions as are no fault.
-const BORNE: Trouble = Trouble::Interruptions(TOO_MANY - 1);
+const BORNE: DeviceTrouble = DeviceTrouble::Interruptions(TOO_MANY - 1);
 
 /// So many that they are one.
-const FAULT: Trouble = Trouble::Interruptions(TOO_MANY);
+const FAULT: DeviceTrouble = DeviceTrouble::Interruptions(TOO_MANY);
 
 /// What a command answers and writes, and the lines that it tells beside it.
 #[derive(Clone, Copy)]
@@ -70,9 +73,9 @@ const fn cut(octets: &'static [u8]) -> Want {
 }
 
 /// How many calls of a device are good, and its trouble then.
-type Calls = (u64, Trouble);
+type Calls = (u64, DeviceTrouble);
 
-const CALM: Calls = (0, Trouble::Interruptions(0));
+const CALM: Calls = (0, DeviceTrouble::Interruptions(0));
 
 /// Whether a command that answers and writes this does as it is to.
 fn is_met(answer: Result<u8, CommandFault>, output: &[u8], errors: &[u8], want: Want) -> bool {
@@ -130,48 +133,54 @@ fn packed(alloc: Global, input: Calls) -> (Result<u8, CommandFault>, usize, usiz
 }
 
 /// Whether `check` and `pack` do as they are to with trouble after 50 good reads: `pack` writes so many octets.
-fn reads_past(alloc: Global, trouble: Trouble, want: Want, octets: usize) -> bool {
+fn reads_past(alloc: Global, trouble: DeviceTrouble, want: Want, octets: usize) -> bool {
     let input = (50, trouble);
     is_checked(alloc, input, writer(CALM), want) && packed(alloc, input) == (want.answer, octets, 0)
 }
 
-#[test]
-fn reads_past_interruptions(rt: HostRuntime) {
-    assert!(rt; reads_past(rt.alloc(), BORNE, CHECKED, 114));
-    assert!(rt; reads_past(rt.alloc(), FAULT, UNREAD, 0));
+fn reads_past_interruptions(alloc: Global) -> Result<(), Trouble> {
+    right(reads_past(alloc, BORNE, CHECKED, 114))?;
+    right(reads_past(alloc, FAULT, UNREAD, 0))
 }
 
-#[test]
-fn tells_past_interruptions(rt: HostRuntime) {
-    for good in [0, 1, 7, 11, 12, 21, 22] {
-        let (front, _) = TEXT.split_at(TEXT.len().min(good as usize));
-        assert!(rt;
-            is_told(rt.alloc(), (good, FAULT), CALM, cut(front)),
-            "story at {good}"
-        );
+fn tells_past_interruptions(alloc: Global) -> Result<(), Trouble> {
+    for good in [0usize, 1, 7, 11, 12, 21, 22] {
+        let (front, _) = TEXT.split_at(TEXT.len().min(good));
+        let output = (good as u64, FAULT);
+        right_at(good, is_told(alloc, output, CALM, cut(front)))?;
     }
+    Ok(())
 }
 
-#[test]
-fn writes_past_interruptions(rt: HostRuntime) {
-    for good in [0, 1, 7, 21] {
-        let (front, _) = LINE.split_at(LINE.len().min(good as usize));
-        assert!(rt;
-            is_checked(rt.alloc(), CALM, writer((good, FAULT)), cut(front)),
-            "check at {good}"
-        );
+fn writes_past_interruptions(alloc: Global) -> Result<(), Trouble> {
+    for good in [0usize, 1, 7, 21] {
+        let (front, _) = LINE.split_at(LINE.len().min(good));
+        let output = writer((good as u64, FAULT));
+        right_at(good, is_checked(alloc, CALM, output, cut(front)))?;
     }
+    Ok(())
 }
 
-#[test]
-fn bears_interruptions(rt: HostRuntime) {
+fn bears_interruptions(alloc: Global) -> Result<(), Trouble> {
     let slow = (4, BORNE);
-    assert!(rt; is_checked(rt.alloc(), CALM, writer(slow), CHECKED));
-    assert!(rt; is_told(rt.alloc(), slow, slow, TOLD));
+    right(is_checked(alloc, CALM, writer(slow), CHECKED))?;
+    right(is_told(alloc, slow, slow, TOLD))
 }
 
-#[test]
-fn a_full_output_takes_nothing(rt: HostRuntime) {
-    let output: TrialWriter<3> = TrialWriter::new(0, Trouble::Interruptions(0));
-    assert!(rt; is_checked(rt.alloc(), CALM, output, cut(b"1 a")));
+fn a_full_output_takes_nothing(alloc: Global) -> Result<(), Trouble> {
+    let output: TrialWriter<3> = TrialWriter::new(0, DeviceTrouble::Interruptions(0));
+    right(is_checked(alloc, CALM, output, cut(b"1 a")))
+}
+
+/// Tells the trials of commands.
+pub(crate) fn tell(rt: &impl Print, told: &mut Told, alloc: Global) -> io::Result<()> {
+    let read = reads_past_interruptions(alloc);
+    told.trial(rt, "reads_past_interruptions", read)?;
+    let text = tells_past_interruptions(alloc);
+    told.trial(rt, "tells_past_interruptions", text)?;
+    let line = writes_past_interruptions(alloc);
+    told.trial(rt, "writes_past_interruptions", line)?;
+    told.trial(rt, "bears_interruptions", bears_interruptions(alloc))?;
+    let full = a_full_output_takes_nothing(alloc);
+    told.trial(rt, "a_full_output_takes_nothing", full)
 }

@@ -4,64 +4,18 @@ mod broken;
 mod failing;
 mod great;
 
-use iim_fields::{Envelope, EnvelopeBuilder, Limits};
+use crate::told::Told;
 use iim_object::{Plan, Size};
 use iim_pack::laws::{
     packed_octets_are_few, packed_octets_are_one, packed_octets_carry_the_value,
     packed_subfiles_are_few,
 };
 use std::alloc::{AllocError, Global};
-use std::process::Abort;
-use wire_message::MessageHead;
-use worked::{STORY_FIELDS, STORY_FRONT, STORY_OBJECT};
-
-/// Those of the program.
-const LIMITS: Limits = Limits::WIRE;
+use std::io;
+use worked::{STORY_FRONT, STORY_OBJECT};
 
 /// A dataset's record, number and data.
 type Field<'o> = (u8, u8, &'o [u8]);
-
-/// The envelope of these datasets.
-fn built(alloc: Global, fields: &[Field<'_>]) -> Option<Envelope> {
-    let mut builder = EnvelopeBuilder::new(alloc, LIMITS).ok()?;
-    if takes(&mut builder, fields) {
-        builder.finish().ok()
-    } else {
-        None
-    }
-}
-
-/// Whether a builder takes these datasets.
-fn takes(builder: &mut EnvelopeBuilder, fields: &[Field<'_>]) -> bool {
-    for (rec, set, octets) in fields {
-        if builder.add(*rec, *set, octets).is_err() {
-            return false;
-        }
-    }
-    true
-}
-
-/// The worked story's envelope.
-fn story(rt: &impl Abort, alloc: Global) -> Envelope {
-    match built(alloc, &STORY_FIELDS) {
-        Some(envelope) => envelope,
-        None => panic!(rt; "no envelope"),
-    }
-}
-
-fn story_head(rt: &impl Abort) -> MessageHead {
-    match MessageHead::new(b"TST", b"0007", b"4", b"ECO", b"5", b"rates") {
-        Some(head) => head,
-        None => panic!(rt; "head"),
-    }
-}
-
-fn plan(rt: &impl Abort, subfile: u64, size: Size) -> Plan {
-    match Plan::new(subfile, size) {
-        Some(plan) => plan,
-        None => panic!(rt; "plan"),
-    }
-}
 
 /// A dataset of fewer than 256 octets, as it is written.
 fn put_dataset(all: &mut Vec<u8>, (rec, set, data): Field<'_>) -> Result<(), AllocError> {
@@ -106,10 +60,18 @@ fn expected(alloc: Global, plan: Plan) -> Result<Vec<u8>, AllocError> {
     Ok(all)
 }
 
-#[test]
 fn laws_can_be_called() {
     packed_octets_are_few();
     packed_octets_are_one();
     packed_octets_carry_the_value();
     packed_subfiles_are_few();
+}
+
+/// Tells the trials of the packer.
+pub(crate) fn tell(rt: &impl Print, told: &mut Told, alloc: Global) -> io::Result<()> {
+    laws_can_be_called();
+    told.trial(rt, "laws_can_be_called of packing", Ok(()))?;
+    broken::tell(rt, told, alloc)?;
+    failing::tell(rt, told, alloc)?;
+    great::tell(rt, told, alloc)
 }

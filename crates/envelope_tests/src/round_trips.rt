@@ -2,20 +2,19 @@
 
 ghost use Rattle.std.specs.Prelude.{◌<◌};
 
+use crate::given::LIMITS;
+use crate::outcome::{Trouble, right, right_at};
+use crate::told::Told;
 use iim_dataset::FromWrite;
-use iim_fields::Limits;
 use iim_object::{Plan, Size, Sizes};
 use iim_pack::{pack, packed_size};
 use iim_round_trip::{Story, UnpackFault, unpack_packed, unpack_story};
 use iim_unpack::{Cause, Unpacked};
 use std::alloc::Global;
-use std::process::Abort;
+use std::io;
 use wire_message::MessageHead;
 use wire_story::Lines;
 use worked::{FIRST_LINE, LAST_LINE, SMALLEST, STORY};
-
-/// Those of the program.
-const LIMITS: Limits = Limits::WIRE;
 
 /// An envelope that was unpacked, and its lines.
 #[derive(Drop)]
@@ -101,20 +100,19 @@ impl Got {
     }
 
     /// Packs it by every small plan, as an object of so many octets, and unpacks it.
-    fn expect_each_plan(&self, rt: &impl Abort, alloc: Global, object: u64) {
-        assert!(rt; self.has_size(object));
+    fn expect_each_plan(&self, alloc: Global, object: u64) -> Result<(), Trouble> {
+        right(self.has_size(object))?;
         for subfile in 1..61 {
             for size in [
                 Size::Known(object),
                 Size::Unknown(None),
                 Size::Unknown(Some(1000)),
             ] {
-                assert!(rt;
-                    self.comes_back_from(alloc, subfile, size, object),
-                    "{subfile}, {size:?}"
-                );
+                let is_back = self.comes_back_from(alloc, subfile, size, object);
+                right_at(subfile as usize, is_back)?;
             }
         }
+        Ok(())
     }
 }
 
@@ -130,14 +128,14 @@ fn parts_of(head: &MessageHead) -> [&[u8]; 6] {
     ]
 }
 
-#[test]
-fn every_small_plan_comes_back(rt: HostRuntime) {
+fn every_small_plan_comes_back(alloc: Global) -> Result<(), Trouble> {
     for (octets, object) in [(SMALLEST.as_slice(), 14), (STORY.as_slice(), 50)] {
-        match Got::of(rt.alloc(), &[octets]) {
-            Some(got) => got.expect_each_plan(&rt, rt.alloc(), object),
-            None => panic!(rt; "refused"),
+        match Got::of(alloc, &[octets]) {
+            Some(got) => got.expect_each_plan(alloc, object)?,
+            None => return Err(Trouble::Wrong),
         }
     }
+    Ok(())
 }
 
 /// The first so many octets of the worked envelope.
@@ -160,11 +158,11 @@ fn is_truncated(alloc: Global, count: usize) -> bool {
     refusal_of(answer) == Some((Cause::Truncated, count as u64))
 }
 
-#[test]
-fn a_packed_front_alone_is_truncated(rt: HostRuntime) {
+fn a_packed_front_alone_is_truncated(alloc: Global) -> Result<(), Trouble> {
     for count in 0..246 {
-        assert!(rt; is_truncated(rt.alloc(), count), "{count} octets");
+        right_at(count, is_truncated(alloc, count))?;
     }
+    Ok(())
 }
 
 /// The sizes of the worked envelope.
@@ -185,21 +183,31 @@ fn is_worked(story: &Story) -> bool {
         && story.lines.iter().eq([FIRST_LINE, LAST_LINE])
 }
 
-#[test]
-fn a_story_comes_back_before_others(rt: HostRuntime) {
+fn a_story_comes_back_before_others(alloc: Global) -> Result<(), Trouble> {
     let (first, back) = STORY.split_at(200.min(STORY.len()));
-    let is_back = match unpack_story(rt.alloc(), LIMITS, &[first, b"", back, SMALLEST]) {
+    let is_back = match unpack_story(alloc, LIMITS, &[first, b"", back, SMALLEST]) {
         Ok(story) => is_worked(&story),
         Err(_) => false,
     };
-    assert!(rt; is_back);
+    right(is_back)
 }
 
 /// The last octet of the first says 49 in place of 50.
-#[test]
-fn a_story_is_refused_at_its_octet(rt: HostRuntime) {
-    let wrong = unpack_story(rt.alloc(), LIMITS, &[front(245), b"\x31"]);
-    assert!(rt; refusal_of(wrong) == Some((Cause::ConfirmedWrong, 245)));
-    let short = unpack_story(rt.alloc(), LIMITS, &[front(200)]);
-    assert!(rt; refusal_of(short) == Some((Cause::Truncated, 200)));
+fn a_story_is_refused_at_its_octet(alloc: Global) -> Result<(), Trouble> {
+    let wrong = unpack_story(alloc, LIMITS, &[front(245), b"\x31"]);
+    right(refusal_of(wrong) == Some((Cause::ConfirmedWrong, 245)))?;
+    let short = unpack_story(alloc, LIMITS, &[front(200)]);
+    right(refusal_of(short) == Some((Cause::Truncated, 200)))
+}
+
+/// Tells the trials of round trips.
+pub(crate) fn tell(rt: &impl Print, told: &mut Told, alloc: Global) -> io::Result<()> {
+    let plans = every_small_plan_comes_back(alloc);
+    told.trial(rt, "every_small_plan_comes_back", plans)?;
+    let fronts = a_packed_front_alone_is_truncated(alloc);
+    told.trial(rt, "a_packed_front_alone_is_truncated", fronts)?;
+    let before = a_story_comes_back_before_others(alloc);
+    told.trial(rt, "a_story_comes_back_before_others", before)?;
+    let refused = a_story_is_refused_at_its_octet(alloc);
+    told.trial(rt, "a_story_is_refused_at_its_octet", refused)
 }

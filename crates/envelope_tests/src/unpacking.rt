@@ -3,21 +3,10 @@
 mod calls;
 mod intakes;
 
-use iim_fields::Limits;
+use crate::told::Told;
 use iim_unpack::{Cause, Layer, Refusal};
-use std::alloc::{AllocError, Global};
-
-/// Those of the program.
-const LIMITS: Limits = Limits::WIRE;
-
-/// The pieces, joined.
-pub(crate) fn joined(alloc: Global, pieces: &[&[u8]]) -> Result<Vec<u8>, AllocError> {
-    let mut all = Vec::new(alloc);
-    for piece in pieces {
-        all.extend_from_slice(piece)?;
-    }
-    Ok(all)
-}
+use std::alloc::Global;
+use std::io;
 
 /// A refusal of the dataset with these numbers.
 fn refusal(layer: Layer, (rec, set): (u8, u8), octet: usize, cause: Cause) -> Refusal {
@@ -28,4 +17,10 @@ fn refusal(layer: Layer, (rec, set): (u8, u8), octet: usize, cause: Cause) -> Re
         octet: octet as u64,
         cause,
     }
+}
+
+/// Tells the trials of the unpacker.
+pub(crate) fn tell(rt: &impl Print, told: &mut Told, alloc: Global) -> io::Result<()> {
+    calls::tell(rt, told, alloc)?;
+    intakes::tell(rt, told, alloc)
 }

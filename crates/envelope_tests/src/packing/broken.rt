@@ -1,14 +1,17 @@
 //! A writer that fails within each call of a packer, and within a whole `pack`.
 
-use super::{expected, plan, story, story_head};
+use super::expected;
+use crate::given::{head, plan};
+use crate::memory::records::built;
+use crate::outcome::{Trouble, right, right_at};
+use crate::told::Told;
 use iim_dataset::Target;
 use iim_fields::Envelope;
 use iim_object::{PackCause, Plan, Size, StartFault};
 use iim_pack::{Packer, pack};
-use std::alloc::{AllocError, Global};
-use std::process::Abort;
-use std::test::Fail;
-use trials::{TrialWriter, Trouble};
+use std::alloc::Global;
+use std::io;
+use trials::{TrialWriter, Trouble as DeviceTrouble};
 use wire_message::MessageHead;
 use wire_story::{Lines, StorySink};
 
@@ -89,7 +92,7 @@ struct Work<'w> {
 
 /// A target that takes `good` octets, one a call, and then fails.
 fn target(good: usize) -> TrialWriter<512> {
-    TrialWriter::new(good as u64, Trouble::Failure)
+    TrialWriter::new(good as u64, DeviceTrouble::Failure)
 }
 
 impl Work<'_> {
@@ -147,30 +150,30 @@ impl Work<'_> {
     }
 
     /// Packs at once with a target that fails at each of its calls.
-    fn expect_each_failure(self, rt: &impl Abort) {
+    fn expect_each_failure(self) -> Result<(), Trouble> {
         let count = self.whole.len();
         for good in 0..count {
             let end = End::Within(Call::All, good as u64);
-            assert!(rt; self.at_once(good) == end, "after {good} good calls");
+            right_at(good, self.at_once(good) == end)?;
         }
-        assert!(rt; self.at_once(count) == End::Whole);
+        right_at(count, self.at_once(count) == End::Whole)
     }
 
     /// Packs call by call with a target that fails at each of 271 calls.
-    fn expect_each_call(self, rt: &impl Abort) {
-        assert_eq!(rt; self.whole.len(), 271);
+    fn expect_each_call(self) -> Result<(), Trouble> {
+        right(self.whole.len() == 271)?;
         for good in 0..271usize {
             let end = End::Within(call_after(good), good as u64);
-            assert!(rt; self.call_by_call(good) == end, "after {good} good calls");
+            right_at(good, self.call_by_call(good) == end)?;
         }
-        assert!(rt; self.call_by_call(271) == End::Whole);
+        right_at(271, self.call_by_call(271) == End::Whole)
     }
 
     /// Packs in one of the ways with targets that fail.
-    fn expect_failures(self, rt: &impl Abort, way: Way) {
+    fn expect_failures(self, way: Way) -> Result<(), Trouble> {
         match way {
-            Way::CallByCall => self.expect_each_call(rt),
-            Way::AtOnce => self.expect_each_failure(rt),
+            Way::CallByCall => self.expect_each_call(),
+            Way::AtOnce => self.expect_each_failure(),
         }
     }
 }
@@ -183,10 +186,10 @@ enum Way {
 }
 
 /// The lines of the worked story.
-fn lines_of_story(rt: &impl Abort, alloc: Global) -> Lines {
+fn lines_of_story(alloc: Global) -> Result<Lines, Trouble> {
     let mut lines = Lines::new(alloc);
-    assert!(rt; takes_story(&mut lines));
-    lines
+    right(takes_story(&mut lines))?;
+    Ok(lines)
 }
 
 /// Whether lines take those of the worked story.
@@ -197,32 +200,36 @@ fn takes_story(lines: &mut Lines) -> bool {
 }
 
 /// Packs by a plan, in one of the ways, with targets that fail.
-fn expect_failures(rt: &impl Abort, alloc: Global, plan: Plan, way: Way) -> Result<(), AllocError> {
+fn expect_failures(alloc: Global, plan: Plan, way: Way) -> Result<(), Trouble> {
     let whole = expected(alloc, plan)?;
     let work = Work {
         alloc,
-        story: &story(rt, alloc),
-        head: &story_head(rt),
-        lines: &lines_of_story(rt, alloc),
+        story: &built(alloc)?,
+        head: &head()?,
+        lines: &lines_of_story(alloc)?,
         plan,
         whole: &whole,
     };
-    work.expect_failures(rt, way);
-    Ok(())
+    work.expect_failures(way)
 }
 
-#[test]
-fn each_call_fails_where_its_subfile_is_full(rt: HostRuntime) -> Result<(), Fail> {
-    let plan = plan(&rt, 9, Size::Known(50));
-    expect_failures(&rt, rt.alloc(), plan, Way::CallByCall)?;
-    Ok(())
+fn each_call_fails_where_its_subfile_is_full(alloc: Global) -> Result<(), Trouble> {
+    let plan = plan(9, Size::Known(50))?;
+    expect_failures(alloc, plan, Way::CallByCall)
 }
 
-#[test]
-fn a_whole_pack_fails_at_each_call(rt: HostRuntime) -> Result<(), Fail> {
+fn a_whole_pack_fails_at_each_call(alloc: Global) -> Result<(), Trouble> {
     for subfile in [1, 9, 1024] {
-        let plan = plan(&rt, subfile, Size::Unknown(Some(64)));
-        expect_failures(&rt, rt.alloc(), plan, Way::AtOnce)?;
+        let plan = plan(subfile, Size::Unknown(Some(64)))?;
+        expect_failures(alloc, plan, Way::AtOnce)?;
     }
     Ok(())
+}
+
+/// Tells the trials of a writer that fails within each call.
+pub(crate) fn tell(rt: &impl Print, told: &mut Told, alloc: Global) -> io::Result<()> {
+    let calls = each_call_fails_where_its_subfile_is_full(alloc);
+    told.trial(rt, "each_call_fails_where_its_subfile_is_full", calls)?;
+    let whole = a_whole_pack_fails_at_each_call(alloc);
+    told.trial(rt, "a_whole_pack_fails_at_each_call", whole)
 }

@@ -1,11 +1,14 @@
 //! A packer whose writer fails.
 
-use super::{plan, story, story_head};
+use crate::given::{head, plan};
+use crate::memory::records::built;
+use crate::outcome::{Trouble, right_at};
+use crate::told::Told;
 use iim_object::{PackCause, Size, StartFault};
 use iim_pack::Packer;
 use std::alloc::Global;
-use std::process::Abort;
-use trials::{TrialWriter, Trouble};
+use std::io;
+use trials::{TrialWriter, Trouble as DeviceTrouble};
 use worked::{FIRST_LINE, LAST_LINE, STORY_FRONT, STORY_REST};
 
 /// Whether these octets begin the worked envelope.
@@ -42,13 +45,12 @@ fn end_in_start<const N: usize>(fault: &StartFault<TrialWriter<N>>) -> End {
 }
 
 /// Packs the worked envelope. After a failed write, later calls are asked too.
-fn pack_story<const N: usize>(rt: &impl Abort, alloc: Global, writer: TrialWriter<N>) -> End {
-    let story = story(rt, alloc);
-    let head = story_head(rt);
-    let plan = plan(rt, 1024, Size::Known(50));
-    match Packer::start(alloc, &story, &head, plan, writer) {
-        Ok(packer) => end_of(packer),
-        Err(fault) => end_in_start(&fault),
+fn pack_story<const N: usize>(alloc: Global, writer: TrialWriter<N>) -> Result<End, Trouble> {
+    let story = built(alloc)?;
+    let plan = plan(1024, Size::Known(50))?;
+    match Packer::start(alloc, &story, &head()?, plan, writer) {
+        Ok(packer) => Ok(end_of(packer)),
+        Err(fault) => Ok(end_in_start(&fault)),
     }
 }
 
@@ -129,30 +131,41 @@ fn end_of_failed<const N: usize>(
     }
 }
 
-#[test]
-fn writes_fail_call_by_call(rt: HostRuntime) {
-    for good in 0..247 {
-        let writer: TrialWriter<512> = TrialWriter::new(good, Trouble::Failure);
-        let end = pack_story(&rt, rt.alloc(), writer);
-        let right = if good < 182 {
-            End::InStart(good)
-        } else if good < 246 {
-            End::InFinish(good)
-        } else {
-            End::Whole
-        };
-        assert!(rt; end == right, "after {good} good calls");
+/// How packing ends where a write fails after so many good calls, each of one octet.
+fn end_after_calls(good: usize) -> End {
+    if good < 182 {
+        End::InStart(good as u64)
+    } else if good < 246 {
+        End::InFinish(good as u64)
+    } else {
+        End::Whole
     }
 }
 
-#[test]
-fn a_full_writer_takes_nothing(rt: HostRuntime) {
-    let none: TrialWriter<0> = TrialWriter::new(1000, Trouble::Failure);
-    assert!(rt; pack_story(&rt, rt.alloc(), none) == End::InStart(0));
-    let some: TrialWriter<100> = TrialWriter::new(1000, Trouble::Failure);
-    assert!(rt; pack_story(&rt, rt.alloc(), some) == End::InStart(100));
-    let most: TrialWriter<200> = TrialWriter::new(1000, Trouble::Failure);
-    assert!(rt; pack_story(&rt, rt.alloc(), most) == End::InFinish(200));
-    let all: TrialWriter<246> = TrialWriter::new(1000, Trouble::Failure);
-    assert!(rt; pack_story(&rt, rt.alloc(), all) == End::Whole);
+fn writes_fail_call_by_call(alloc: Global) -> Result<(), Trouble> {
+    for good in 0..247usize {
+        let writer: TrialWriter<512> = TrialWriter::new(good as u64, DeviceTrouble::Failure);
+        let end = pack_story(alloc, writer)?;
+        right_at(good, end == end_after_calls(good))?;
+    }
+    Ok(())
+}
+
+fn a_full_writer_takes_nothing(alloc: Global) -> Result<(), Trouble> {
+    let none: TrialWriter<0> = TrialWriter::new(1000, DeviceTrouble::Failure);
+    right_at(0, pack_story(alloc, none)? == End::InStart(0))?;
+    let some: TrialWriter<100> = TrialWriter::new(1000, DeviceTrouble::Failure);
+    right_at(100, pack_story(alloc, some)? == End::InStart(100))?;
+    let most: TrialWriter<200> = TrialWriter::new(1000, DeviceTrouble::Failure);
+    right_at(200, pack_story(alloc, most)? == End::InFinish(200))?;
+    let all: TrialWriter<246> = TrialWriter::new(1000, DeviceTrouble::Failure);
+    right_at(246, pack_story(alloc, all)? == End::Whole)
+}
+
+/// Tells the trials of a packer whose writer fails.
+pub(crate) fn tell(rt: &impl Print, told: &mut Told, alloc: Global) -> io::Result<()> {
+    let calls = writes_fail_call_by_call(alloc);
+    told.trial(rt, "writes_fail_call_by_call", calls)?;
+    let full = a_full_writer_takes_nothing(alloc);
+    told.trial(rt, "a_full_writer_takes_nothing", full)
 }

@@ -3,13 +3,15 @@
 ghost use Rattle.std.specs.Prelude.{None};
 ghost use Rattle.iim_dataset.specs.States.Devices.{unbroken};
 
-use super::{plan, story, story_head};
+use crate::given::{head, plan};
+use crate::memory::records::built;
+use crate::outcome::{Trouble, right};
+use crate::told::Told;
 use iim_dataset::{IoFault, Target};
 use iim_object::{PackCause, Size};
 use iim_pack::Packer;
 use std::alloc::Global;
-use std::process::Abort;
-use std::test::Fail;
+use std::io;
 
 /// A target that counts octets.
 #[derive(Drop)]
@@ -62,29 +64,32 @@ fn count_of(packer: Packer<Count>) -> Option<u64> {
 }
 
 /// Expects a packer that has begun to be filled, and so many octets of all.
-fn expect_filled(rt: &impl Abort, mut packer: Packer<Count>, piece: &[u8]) {
+fn expect_filled(mut packer: Packer<Count>, piece: &[u8]) -> Result<(), Trouble> {
     let is_filled = is_filled(&mut packer, piece);
     let count = count_of(packer);
-    assert!(rt; is_filled);
-    assert_eq!(rt; count, Some(4_295_557_328));
+    right(is_filled)?;
+    right(count == Some(4_295_557_328))
 }
 
 /// Expects the packed octets of an object of 4,294,967,300 octets, whose text comes in pieces.
-fn expect_great(rt: &impl Abort, alloc: Global, piece: &[u8]) {
-    let plan = plan(rt, 65_536, Size::Known(4_294_967_300));
-    let story = story(rt, alloc);
-    let head = story_head(rt);
-    match Packer::start(alloc, &story, &head, plan, Count { octets: 0 }) {
-        Ok(packer) => expect_filled(rt, packer, piece),
-        Err(_) => panic!(rt; "not begun"),
+fn expect_great(alloc: Global, piece: &[u8]) -> Result<(), Trouble> {
+    let plan = plan(65_536, Size::Known(4_294_967_300))?;
+    let story = built(alloc)?;
+    match Packer::start(alloc, &story, &head()?, plan, Count { octets: 0 }) {
+        Ok(packer) => expect_filled(packer, piece),
+        Err(_) => Err(Trouble::Wrong),
     }
 }
 
 /// The header has 25 octets and the least ending 2. After 65,535 pieces the text may have 65,513 more. Records 1 and 2 have 158 octets,
 /// record 7 has 28, since 7:90 has eight octets of data; the tag of a full subfile has 9; the last subfile has 4 octets.
-#[test]
-fn an_object_above_four_octets_of_size(rt: HostRuntime) -> Result<(), Fail> {
-    let piece = vec![in rt.alloc(); b'a'; 65_536]?;
-    expect_great(&rt, rt.alloc(), &piece);
-    Ok(())
+fn an_object_above_four_octets_of_size(alloc: Global) -> Result<(), Trouble> {
+    let piece = vec![in alloc; b'a'; 65_536]?;
+    expect_great(alloc, &piece)
+}
+
+/// Tells the trial.
+pub(crate) fn tell(rt: &impl Print, told: &mut Told, alloc: Global) -> io::Result<()> {
+    let came = an_object_above_four_octets_of_size(alloc);
+    told.trial(rt, "an_object_above_four_octets_of_size", came)
 }

@@ -1,11 +1,13 @@
 //! The calls that a sink gets.
 
-use super::{LIMITS, joined, refusal};
+use super::refusal;
+use crate::given::{LIMITS, joined};
+use crate::outcome::{Trouble, right, right_at};
+use crate::told::Told;
 use iim_dataset::Stop;
 use iim_unpack::{Cause, Layer, Progress, Refusal, Unpacker};
 use std::alloc::{AllocError, Global};
-use std::process::Abort;
-use std::test::Fail;
+use std::io;
 use trials::TrialSink;
 use wire_story::{Lines, StorySink};
 use worked::{SMALLEST, STORY};
@@ -51,17 +53,15 @@ const NONE: Calls = Calls {
     first: [0; 4],
 };
 
-#[test]
-fn two_lines(rt: HostRuntime) -> Result<(), Fail> {
+fn two_lines(alloc: Global) -> Result<(), Trouble> {
     let mut calls = NONE;
     let answer = {
-        let mut unpacker = Unpacker::new(rt.alloc(), LIMITS)?;
+        let mut unpacker = Unpacker::new(alloc, LIMITS)?;
         unpacker.feed(STORY, &mut calls)
     };
-    assert!(rt; answer == Ok(Progress::Done { used: 246 }));
-    assert!(rt; calls.count == 3);
-    assert!(rt; calls.first == [11, 0, 10, 0]);
-    Ok(())
+    right(answer == Ok(Progress::Done { used: 246 }))?;
+    right(calls.count == 3)?;
+    right(calls.first == [11, 0, 10, 0])
 }
 
 /// An envelope whose story is one line of 32,754 octets.
@@ -86,14 +86,12 @@ fn fed_long(alloc: Global, calls: &mut Calls) -> Result<Result<Progress, Refusal
     Ok(unpacker.feed(&octets, calls))
 }
 
-#[test]
-fn one_long_line(rt: HostRuntime) -> Result<(), Fail> {
+fn one_long_line(alloc: Global) -> Result<(), Trouble> {
     let mut calls = NONE;
-    let answer = fed_long(rt.alloc(), &mut calls)?;
-    assert!(rt; answer == Ok(Progress::Done { used: 32_872 }));
-    assert!(rt; calls.count == 1);
-    assert!(rt; calls.first == [32_754, 0, 0, 0]);
-    Ok(())
+    let answer = fed_long(alloc, &mut calls)?;
+    right(answer == Ok(Progress::Done { used: 32_872 }))?;
+    right(calls.count == 1)?;
+    right(calls.first == [32_754, 0, 0, 0])
 }
 
 /// The lines, with an LF after each.
@@ -107,18 +105,12 @@ fn text_of(alloc: Global, lines: &Lines) -> Result<Vec<u8>, AllocError> {
 }
 
 /// Expects a new unpacker to stop at an octet of the worked story, and to refuse all from then on.
-fn expect_stop(
-    rt: &impl Abort,
-    alloc: Global,
-    sink: &mut TrialSink<Lines>,
-    octet: usize,
-) -> Result<(), AllocError> {
+fn expect_stop(alloc: Global, sink: &mut TrialSink<Lines>, octet: usize) -> Result<(), Trouble> {
     let stopped = refusal(Layer::Outside, (8, 10), octet, Cause::Sink);
     let failed = refusal(Layer::Outside, (0, 0), octet, Cause::Failed);
     let answers = fed_twice(alloc, sink)?;
-    assert!(rt; answers == [Err(stopped), Err(failed)]);
-    assert!(rt; sink.failures() == 1);
-    Ok(())
+    right_at(octet, answers == [Err(stopped), Err(failed)])?;
+    right(sink.failures() == 1)
 }
 
 /// What a new unpacker answers to the worked story, and to the same again.
@@ -133,19 +125,17 @@ fn fed_twice(
 
 /// What a sink has taken that stops after `good` calls and `front` octets of a run, where the story stops at an octet by it.
 fn text_before(
-    rt: &impl Abort,
     alloc: Global,
     (good, front): (u64, usize),
     octet: usize,
-) -> Result<Vec<u8>, AllocError> {
+) -> Result<Vec<u8>, Trouble> {
     let mut sink = TrialSink::new(Lines::new(alloc), good, front);
-    expect_stop(rt, alloc, &mut sink, octet)?;
-    text_of(alloc, &sink.into_sink())
+    expect_stop(alloc, &mut sink, octet)?;
+    Ok(text_of(alloc, &sink.into_sink())?)
 }
 
 /// At the first octet of the text, within a line, at the end of one, and before and within the next.
-#[test]
-fn sinks_that_stop(rt: HostRuntime) -> Result<(), Fail> {
+fn sinks_that_stop(alloc: Global) -> Result<(), Trouble> {
     let rows: [((u64, usize), usize, &[u8]); 5] = [
         ((0, 0), 212, b"\n"),
         ((0, 4), 216, b"Rate\n"),
@@ -154,8 +144,15 @@ fn sinks_that_stop(rt: HostRuntime) -> Result<(), Fail> {
         ((2, 4), 229, b"Rates stay.\nNo c\n"),
     ];
     for (stop, octet, lines) in rows {
-        let text = text_before(&rt, rt.alloc(), stop, octet)?;
-        assert!(rt; text.as_slice() == lines);
+        let text = text_before(alloc, stop, octet)?;
+        right_at(octet, text.as_slice() == lines)?;
     }
     Ok(())
+}
+
+/// Tells the trials of sinks.
+pub(crate) fn tell(rt: &impl Print, told: &mut Told, alloc: Global) -> io::Result<()> {
+    told.trial(rt, "two_lines", two_lines(alloc))?;
+    told.trial(rt, "one_long_line", one_long_line(alloc))?;
+    told.trial(rt, "sinks_that_stop", sinks_that_stop(alloc))
 }

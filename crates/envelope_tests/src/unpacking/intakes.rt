@@ -1,11 +1,13 @@
 //! Envelopes from a source of one octet a call, which fails.
 
-use super::{LIMITS, refusal};
+use super::refusal;
+use crate::given::LIMITS;
+use crate::outcome::{Trouble, right_at};
+use crate::told::Told;
 use iim_unpack::{Cause, Intake, IntakeFault, Layer, Unpacked, Unpacker};
 use std::alloc::{AllocError, Global};
-use std::process::Abort;
-use std::test::Fail;
-use trials::{TrialReader, Trouble};
+use std::io;
+use trials::{TrialReader, Trouble as DeviceTrouble};
 use wire_story::Discard;
 use worked::{SMALLEST, STORY};
 
@@ -30,31 +32,29 @@ fn size_of(answer: Result<Option<Unpacked>, IntakeFault>) -> Result<Option<u64>,
 
 /// Expects an intake's fault at the first envelope, and the same octet from then on.
 fn expect_faults(
-    rt: &impl Abort,
     alloc: Global,
     intake: &mut Intake<TrialReader<'_>>,
     fault: IntakeFault,
     octet: usize,
-) -> Result<(), AllocError> {
+) -> Result<(), Trouble> {
     let failed = IntakeFault::Refused(refusal(Layer::Outside, (0, 0), octet, Cause::Failed));
     for want in [fault, failed, failed] {
         let answer = next(alloc, intake)?;
-        assert!(rt; answer == (Err(want), 0));
+        right_at(octet, answer == (Err(want), 0))?;
     }
     Ok(())
 }
 
 /// Expects that of a reader of these octets, with trouble after `good` calls.
 fn expect_fault(
-    rt: &impl Abort,
     alloc: Global,
     octets: &[u8],
     good: usize,
-    trouble: Trouble,
+    trouble: DeviceTrouble,
     fault: IntakeFault,
-) -> Result<(), AllocError> {
+) -> Result<(), Trouble> {
     let mut intake = Intake::new(TrialReader::new(octets, good as u64, trouble));
-    expect_faults(rt, alloc, &mut intake, fault, good)
+    expect_faults(alloc, &mut intake, fault, good)
 }
 
 /// What an intake of the smallest envelope answers after fewer interruptions than are a fault.
@@ -62,32 +62,45 @@ fn patient(
     alloc: Global,
     good: usize,
 ) -> Result<(Result<Option<u64>, IntakeFault>, u64), AllocError> {
-    let trouble = Trouble::Interruptions(999_999);
+    let trouble = DeviceTrouble::Interruptions(999_999);
     let mut intake = Intake::new(TrialReader::new(SMALLEST, good as u64, trouble));
     next(alloc, &mut intake)
 }
 
-#[test]
-fn a_reader_that_fails_at_each_call(rt: HostRuntime) -> Result<(), Fail> {
+fn a_reader_that_fails_at_each_call(alloc: Global) -> Result<(), Trouble> {
     for good in 0..246usize {
         let fault = IntakeFault::Read;
-        expect_fault(&rt, rt.alloc(), STORY, good, Trouble::Failure, fault)?;
+        expect_fault(alloc, STORY, good, DeviceTrouble::Failure, fault)?;
     }
     Ok(())
 }
 
-#[test]
-fn a_failing_reader(rt: HostRuntime) -> Result<(), Fail> {
+/// Expects a failure and a million interruptions after so many good calls to be faults, and fewer interruptions to be none.
+fn expect_troubles(alloc: Global, good: usize) -> Result<(), Trouble> {
     let faults = [
-        (Trouble::Failure, IntakeFault::Read),
-        (Trouble::Interruptions(1_000_000), IntakeFault::Interrupted),
+        (DeviceTrouble::Failure, IntakeFault::Read),
+        (
+            DeviceTrouble::Interruptions(1_000_000),
+            IntakeFault::Interrupted,
+        ),
     ];
+    for (trouble, fault) in faults {
+        expect_fault(alloc, SMALLEST, good, trouble, fault)?;
+    }
+    let answer = patient(alloc, good)?;
+    right_at(good, answer == (Ok(Some(14)), 114))
+}
+
+fn a_failing_reader(alloc: Global) -> Result<(), Trouble> {
     for good in [0usize, 1, 60, 113] {
-        for (trouble, fault) in faults {
-            expect_fault(&rt, rt.alloc(), SMALLEST, good, trouble, fault)?;
-        }
-        let answer = patient(rt.alloc(), good)?;
-        assert!(rt; answer == (Ok(Some(14)), 114));
+        expect_troubles(alloc, good)?;
     }
     Ok(())
+}
+
+/// Tells the trials of intakes.
+pub(crate) fn tell(rt: &impl Print, told: &mut Told, alloc: Global) -> io::Result<()> {
+    let each = a_reader_that_fails_at_each_call(alloc);
+    told.trial(rt, "a_reader_that_fails_at_each_call", each)?;
+    told.trial(rt, "a_failing_reader", a_failing_reader(alloc))
 }

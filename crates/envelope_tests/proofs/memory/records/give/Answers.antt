@@ -1,6 +1,6 @@
 use Rattle.std.proofs.Common.{◌≡◌, ℕ, ◌-◌, length, subst, arith}
 use Rattle.iim_fields.specs.States.Standing.{IsInside}
-use Rattle.refusals.proofs.records.give.Goals as goal
+use Rattle.envelope_tests.proofs.memory.records.give.Goals as goal
 
 pub returns : goal.returns
 returns c =

@@ -1,5 +1,6 @@
 //! Calls of the object: subfiles written.
 
+use crate::given;
 use crate::outcome::{Trouble, right};
 use iim_object::{Plan, Size, SubfileBuffer, SubfileWriter};
 use std::alloc::Global;
@@ -13,7 +14,7 @@ pub(crate) fn writer() -> TrialWriter<512> {
 
 /// A known size, and subfiles of up to so many octets.
 pub(crate) fn plan(subfile: u64) -> Result<Plan, Trouble> {
-    Plan::new(subfile, Size::Known(50)).ok_or(Trouble::Wrong)
+    given::plan(subfile, Size::Known(50))
 }
 
 /// The worked object in one subfile: after `reserve` nothing takes memory.

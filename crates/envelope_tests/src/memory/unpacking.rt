@@ -1,9 +1,9 @@
 //! Calls that take envelopes apart.
 
+use super::lines::size_of;
+use super::records::is_worked;
 use crate::given::{IMPOSSIBLE, LIMITS};
-use crate::lines::size_of;
 use crate::outcome::{Trouble, right, right_after};
-use crate::records::is_worked;
 use iim_dataset::FromRead;
 use iim_fields::Limits;
 use iim_unpack::{

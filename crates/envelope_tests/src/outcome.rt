@@ -1,9 +1,9 @@
-//! What calls answer, and why no further call is made.
+//! What calls answer and trials come to, and why no further call is made.
 
 use std::alloc::AllocError;
 use std::{fmt, io};
 
-/// Why a call didn't answer as worked.
+/// Why a call or a trial didn't answer as worked.
 #[derive(Clone, Copy)]
 pub enum Trouble {
     /// Memory was refused, and nothing else changed.
@@ -12,6 +12,8 @@ pub enum Trouble {
     OutOfMemoryAt(u64),
     /// The lines were refused memory for the octet of this number. Then come the number of lines, and that of their octets.
     StoppedAt(u64, usize, usize),
+    /// Anything else, in the row or after the calls of this number.
+    WrongAt(usize),
     /// Anything else.
     Wrong,
 }
@@ -27,6 +29,7 @@ impl fmt::Display for Trouble {
                     "stopped at octet {octet}, lines {lines}, octets {octets}"
                 )
             }
+            Trouble::WrongAt(place) => write!(f, "wrong at {place}"),
             Trouble::Wrong => f.write_str("wrong"),
         }
     }
@@ -47,6 +50,15 @@ pub(crate) fn right(is_right: bool) -> Result<(), Trouble> {
     }
 }
 
+/// Whether an answer is as worked, in the row or after the calls of this number.
+pub(crate) fn right_at(place: usize, is_right: bool) -> Result<(), Trouble> {
+    if is_right {
+        Ok(())
+    } else {
+        Err(Trouble::WrongAt(place))
+    }
+}
+
 /// Whether an answer is as worked, of a call that was perhaps refused memory before.
 pub(crate) fn right_after(is_right: bool, was_refused: bool) -> Result<(), Trouble> {
     match (is_right, was_refused) {
@@ -63,6 +75,8 @@ pub enum End {
     Refused,
     /// The output can't be written.
     CannotWrite,
+    /// A trial came to something else than is worked out.
+    Wrong,
 }
 
 impl From<io::Error> for End {

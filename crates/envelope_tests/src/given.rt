@@ -2,6 +2,8 @@
 
 use crate::outcome::Trouble;
 use iim_fields::Limits;
+use iim_object::{Plan, Size};
+use std::alloc::{AllocError, Global};
 use wire_message::MessageHead;
 
 /// Those of the command.
@@ -16,4 +18,18 @@ pub const IMPOSSIBLE: [u8; 38] = [
 /// The longer envelope's header.
 pub(crate) fn head() -> Result<MessageHead, Trouble> {
     MessageHead::new(b"TST", b"0007", b"4", b"ECO", b"5", b"rates").ok_or(Trouble::Wrong)
+}
+
+/// A size, and subfiles of up to so many octets.
+pub(crate) fn plan(subfile: u64, size: Size) -> Result<Plan, Trouble> {
+    Plan::new(subfile, size).ok_or(Trouble::Wrong)
+}
+
+/// The pieces, joined.
+pub(crate) fn joined(alloc: Global, pieces: &[&[u8]]) -> Result<Vec<u8>, AllocError> {
+    let mut all = Vec::new(alloc);
+    for piece in pieces {
+        all.extend_from_slice(piece)?;
+    }
+    Ok(all)
 }

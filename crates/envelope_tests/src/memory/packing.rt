@@ -1,7 +1,7 @@
 //! Calls that pack envelopes.
 
+use super::objects::{plan, writer};
 use crate::given::head;
-use crate::objects::{plan, writer};
 use crate::outcome::{Trouble, right};
 use iim_fields::Envelope;
 use iim_object::{PackCause, StartFault};

@@ -1,7 +1,7 @@
 //! The calls, in their order, and what they make.
 
+use super::{auditing, lines, objects, packing, records, scripts, unpacking};
 use crate::outcome::{End, Trouble};
-use crate::{auditing, lines, objects, packing, records, scripts, unpacking};
 use iim_audit::Report;
 use iim_fields::Envelope;
 use std::alloc::Global;
