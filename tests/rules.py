@@ -403,9 +403,14 @@ class Envelope:
 
     def read(self, octets):
         """Reads up to the end of the envelope, of the octets, or to the first refusal."""
+        while not self.is_done and self.refusal is None and self.at < len(octets):
+            self.read_one(octets)
+        return self
+
+    def read_one(self, octets):
+        """Reads a dataset, or up to its refusal."""
         try:
-            while not self.is_done and self.at < len(octets):
-                self.dataset(octets)
+            self.dataset(octets)
         except Refused as refusal:
             self.refusal = refusal
         return self
@@ -562,6 +567,18 @@ class Envelope:
 
 def read(octets, limits=LIMITS):
     return Envelope(limits).read(octets)
+
+
+def read_changes(octets, limits=LIMITS):
+    """Octets of an envelope with each one of them as each octet in turn, and how far they are read: what stands before the dataset of the
+    change is read once."""
+    before = Envelope(limits)
+    for at in range(len(octets)):
+        while (after := before.copy().read_one(octets)).refusal is None and after.at <= at:
+            before = after
+        for octet in range(256):
+            changed = octets[:at] + bytes([octet]) + octets[at + 1 :]
+            yield changed, before.copy().read(changed)
 
 
 # --- What the packer writes ---

@@ -7,7 +7,9 @@
 The command is crates/iimwire/out/iimwire, which the gate and the first run of ./iimwire make. Prints each failure, and then
 'N passed, M failed'. The status is 1 where something failed.
 """
+import functools
 import glob
+import io
 import os
 import re
 import subprocess
@@ -61,9 +63,8 @@ def told(program, how, limits, parts):
     return [tuple(map(int, line.split())) for line in out.split(b"\n")[:-1]]
 
 
-def by_rules(octets, limits):
-    """The same answer, by the rules."""
-    read = rules.read(octets, limits)
+def by_rules(read):
+    """The same answer, as the rules have read them."""
     if read.is_done:
         return DONE, 0, 0, 0, 0, read.at, read.at, 0, 0
     text = str(read.refusal or read.end())
@@ -74,7 +75,11 @@ def by_rules(octets, limits):
 
 def checked(parts, limits=rules.LIMITS, asked=(0, 0)):
     """Holds the answers of `iim_check` and of `iim_feed` to the rules."""
-    want = [by_rules(part, limits) for part in parts]
+    answered(parts, [by_rules(rules.read(part, limits)) for part in parts], asked)
+
+
+def answered(parts, want, asked=(0, 0)):
+    """Holds both answers to these."""
     for program in PROGRAMS:
         same(told(program, "check", asked, parts), want)
         same(told(program, "feed", asked, parts), want)
@@ -87,6 +92,8 @@ def lines_of(octets):
 
 # Sizes of pieces, from the first to the last of each pair.
 SIZES = (1, 64), (4096, 4096)
+# What the C program tells of a file for each size, in this order.
+TOLD = "check", "show", "story"
 
 
 def by_each_size(answer, first, last):
@@ -96,32 +103,56 @@ def by_each_size(answer, first, last):
     return status, b"".join(out + b"\x1e%d\n" % piece for piece in sizes), errors * len(sizes)
 
 
-def tells_as_the_command(word, command, sizes):
-    """Holds what the C program tells of each sample, in pieces of each size, to what the command prints, some side by side."""
+def each_told(octets):
+    """For each size what is told by its pieces: the size, the status and the octets of each command."""
+    told = io.BytesIO(octets)
+    while line := told.readline():
+        size, status, *counts = map(int, line.split())
+        yield size, status, dict(zip(TOLD, map(told.read, counts), strict=True))
+    same(told.read(), b"")
 
-    def hold(asked):
-        path, program, first, last = asked
-        same((asked, run(program, word, str(first), str(last), path)), (asked, by_each_size(wanted[path], first, last)))
 
-    wanted = {path: run(COMMAND, command, path) for path in ALL}
+def told_of(asked):
+    """What the C program tells of a file, by pieces of each size: a size after another."""
+    program, path = asked
+    ran = [run(program, "streams", str(first), str(last), path) for first, last in SIZES]
+    same((path, [(status, errors) for status, _, errors in ran]), (path, [(0, b"")] * len(SIZES)))
+    return [each for _, out, _ in ran for each in each_told(out)]
+
+
+@functools.lru_cache(maxsize=None)
+def streams():
+    """What each C program tells of each sample, which takes a while: some side by side."""
+    asked = [(program, path) for path in ALL for program in PROGRAMS]
     with ThreadPoolExecutor(os.cpu_count()) as pool:
-        list(pool.map(hold, [(path, program, *pair) for pair in sizes for path in ALL for program in PROGRAMS]))
+        return dict(zip(asked, pool.map(told_of, asked), strict=True))
+
+
+def tells_as_the_command(command):
+    """Holds what the C program tells of each sample, in pieces of each size, to what the command prints."""
+    want = {path: run(COMMAND, command, path) for path in ALL}
+    sizes = [size for first, last in SIZES for size in range(first, last + 1)]
+    for (program, path), told in streams().items():
+        status, out, errors = want[path]
+        got = [(size, by_size, parts[command], parts["check"] if command == "story" else b"") for size, by_size, parts in told]
+        same((program, path, got), (program, path, [(size, status, out, errors) for size in sizes]))
 
 
 @test
 def lists_the_samples_as_the_command_does():
-    tells_as_the_command("list", "check", SIZES)
+    tells_as_the_command("check")
 
 
 @test
 def shows_the_samples_as_the_command_does():
     # (the command tells a refusal as `check` does)
-    tells_as_the_command("show", "show", [(piece, piece) for piece in (1, 7, 64, 4096)])
+    tells_as_the_command("show")
 
 
 @test
 def tells_the_stories_of_the_samples_as_the_command_does():
-    tells_as_the_command("story", "story", SIZES)
+    # (the lines of `check` are its errors)
+    tells_as_the_command("story")
 
 
 @test
@@ -140,8 +171,9 @@ def checks_each_prefix_of_both_worked_envelopes():
 @test
 def checks_each_changed_octet_of_the_smallest_envelope():
     whole = octets_of(f"{SAMPLES}/smallest.iim")
-    changed = [whole[:at] + bytes([octet]) + whole[at + 1 :] for at in range(len(whole)) for octet in range(256)]
-    checked(changed)
+    parts, want = zip(*((changed, by_rules(read)) for changed, read in rules.read_changes(whole)))
+    same(len(parts), 114 * 256)
+    answered(parts, list(want))
 
 
 @test

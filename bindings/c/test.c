@@ -3,9 +3,7 @@
  *
  *   test check OCTETS FIELDS     answers of iim_check to the octets on standard input: batches, see below
  *   test feed OCTETS FIELDS      the same by iim_feed, octet by octet, and iim_end
- *   test list FIRST LAST FILE    what `iimwire check FILE` prints, by pieces of each size from FIRST to LAST octets: after each a line, see below
- *   test show FIRST LAST FILE    what `iimwire show FILE` prints
- *   test story FIRST LAST FILE   what `iimwire story FILE` prints
+ *   test streams FIRST LAST FILE   what `iimwire` prints of FILE, by pieces of each size from FIRST to LAST octets: see below
  *   test pack S U H M FILE       what `iimwire pack` writes, by these members of an iim_packing
  *   test places FILE             what iim_place and iim_next tell after each front of FILE, which is an envelope
  *   test audit FIRST LAST ROOM SECOND FILE   the rows of FILE, by pieces of these sizes with room for ROOM rows, at a second
@@ -15,8 +13,9 @@
  *   test values FILE SCRIPT      answers of each kind, by their numbers: FILE is the smallest envelope, SCRIPT its script
  *   test buffers FILE ..         tries buffers that are too short, tickets that are none, and memory that is refused
  *
- * A batch is a number of four octets, low octet first, and so many octets. The line after a size is RS and the size; the status is that of
- * each, or 3 where they differ.
+ * A batch is a number of four octets, low octet first, and so many octets. Of streams there stands for each size a line with the size, the
+ * status, and how many octets `check`, `show` and `story` print; and then these. Of audits there is a line after each size, of RS and the size;
+ * the status is that of each, or 3 where they differ.
  */
 #define _DEFAULT_SOURCE
 #include "iim.h"
@@ -85,6 +84,15 @@ void __wrap_free(void *at) {
 }
 
 void *__wrap_realloc(void *old, size_t size) { return is_refused() ? NULL : __real_realloc(old, size); }
+
+/* The library's memmove: the sanitizer moves octets one by one, but copies them at once, and looks at the same ones for both. */
+void *__real_memmove(void *to, const void *from, size_t count);
+void *__wrap_memmove(void *to, const void *from, size_t count);
+
+void *__wrap_memmove(void *to, const void *from, size_t count) {
+    bool is_apart = (uintptr_t)to - (uintptr_t)from >= count && (uintptr_t)from - (uintptr_t)to >= count;
+    return is_apart ? memcpy(to, from, count) : __real_memmove(to, from, count);
+}
 
 /* ---- Files */
 
@@ -176,80 +184,78 @@ static iim_answer feed(receiver *r, iim_limits limits, const uint8_t *piece, siz
     return answer;
 }
 
-static void print_shown(const uint8_t *octets, size_t count) {
+static void print_shown(FILE *to, const uint8_t *octets, size_t count) {
     for (size_t i = 0; i < count; i++) {
         if (octets[i] == '\\')
-            printf("\\\\");
+            fputs("\\\\", to);
         else if (octets[i] >= 0x20 && octets[i] <= 0x7E)
-            putchar(octets[i]);
+            putc(octets[i], to);
         else
-            printf("\\x%02X", octets[i]);
+            fprintf(to, "\\x%02X", octets[i]);
     }
 }
 
-static void print_span(const uint8_t *ticket, const char *before, iim_span span) {
-    fputs(before, stdout);
-    print_shown(ticket + span.offset, span.count);
+static void print_span(FILE *to, const uint8_t *ticket, const char *before, iim_span span) {
+    fputs(before, to);
+    print_shown(to, ticket + span.offset, span.count);
 }
 
-static void print_number(bool has, uint64_t number) {
+static void print_number(FILE *to, bool has, uint64_t number) {
     if (has)
-        printf("%" PRIu64, number);
+        fprintf(to, "%" PRIu64, number);
     else
-        printf("-");
+        putc('-', to);
 }
 
 /* What `iimwire show` prints of an envelope. */
-static void print_envelope(const receiver *r, long number) {
+static void print_envelope(FILE *to, const receiver *r, long number) {
     const uint8_t *ticket = r->tickets[r->now];
     iim_answer answer;
     iim_dataset d;
     iim_message m;
     iim_object o;
-    printf("envelope %ld\n", number);
+    fprintf(to, "envelope %ld\n", number);
     for (size_t n = 0; iim_field(ticket, r->ticket, n, &d, &answer), answer.status == IIM_DONE; n++) {
-        printf("%d:%02d%s", d.rec, d.set, d.data.count > 0 ? " " : "");
-        print_span(ticket, "", d.data);
-        putchar('\n');
+        fprintf(to, "%d:%02d%s", d.rec, d.set, d.data.count > 0 ? " " : "");
+        print_span(to, ticket, "", d.data);
+        putc('\n', to);
     }
     iim_header(ticket, r->ticket, &m, &answer);
-    print_span(ticket, "message ", m.source);
-    print_span(ticket, " ", m.number);
-    print_span(ticket, " ", m.priority);
-    print_span(ticket, " ", m.category);
-    print_span(ticket, " ", m.words);
-    print_span(ticket, m.info.count > 0 ? " " : "", m.info);
-    print_span(ticket, m.trailer.count > 0 ? "\ntrailer " : "\ntrailer", m.trailer);
+    print_span(to, ticket, "message ", m.source);
+    print_span(to, ticket, " ", m.number);
+    print_span(to, ticket, " ", m.priority);
+    print_span(to, ticket, " ", m.category);
+    print_span(to, ticket, " ", m.words);
+    print_span(to, ticket, m.info.count > 0 ? " " : "", m.info);
+    print_span(to, ticket, m.trailer.count > 0 ? "\ntrailer " : "\ntrailer", m.trailer);
     iim_sizes(ticket, r->ticket, &o, &answer);
-    printf("\nobject %" PRIu64 " octets, %" PRIu64 " subfiles, mode %" PRIu64 ", limit %" PRIu64 ", announced ", o.octets,
+    fprintf(to, "\nobject %" PRIu64 " octets, %" PRIu64 " subfiles, mode %" PRIu64 ", limit %" PRIu64 ", announced ", o.octets,
            o.subfiles, o.mode, o.subfile);
-    print_number(o.has_announced, o.announced);
-    printf(", maximum ");
-    print_number(o.has_maximum, o.maximum);
-    putchar('\n');
+    print_number(to, o.has_announced, o.announced);
+    fprintf(to, ", maximum ");
+    print_number(to, o.has_maximum, o.maximum);
+    putc('\n', to);
 }
 
+/* What the command prints of a file: by `check`, by `show` and by `story`, on its output alone. */
+enum { CHECK, SHOW, STORY, KINDS };
+
 /* Goes through a file as the command does, and answers its status. */
-static int stream(const char *how, size_t piece, const char *path) {
-    octets file = file_of(path);
+static int stream(FILE *const *to, octets file, size_t piece) {
     receiver *r = new_receiver();
-    FILE *text = strcmp(how, "story") == 0 ? stdout : NULL, *lines = text != NULL ? stderr : stdout;
     long number = 1;
     size_t at = 0;
     iim_answer answer = {0};
     while (at < file.count) {
         size_t count = file.count - at < piece ? file.count - at : piece;
-        answer = feed(r, DEFAULTS, file.octets + at, count, text);
+        answer = feed(r, DEFAULTS, file.octets + at, count, to[STORY]);
         if (answer.status == IIM_MORE) {
             at += count;
         } else if (answer.status == IIM_DONE) {
             at += answer.used;
-            if (strcmp(how, "show") == 0)
-                print_envelope(r, number);
-            else
-                fprintf(lines, "%ld accepted %" PRIu64 " octets\n", number, answer.octet);
-            if (text != NULL)
-                putchar('\n');
+            fprintf(to[CHECK], "%ld accepted %" PRIu64 " octets\n", number, answer.octet);
+            print_envelope(to[SHOW], r, number);
+            putc('\n', to[STORY]);
             number++;
             r->ticket = 0;
             r->at = 0;
@@ -259,25 +265,40 @@ static int stream(const char *how, size_t piece, const char *path) {
     }
     if (answer.status == IIM_MORE)
         iim_end(DEFAULTS, r->tickets[r->now], r->ticket, r->at, &answer);
-    if (answer.status == IIM_REFUSED || answer.status == IIM_TRUNCATED)
-        print_refusal(lines, number, &answer);
+    for (int kind = CHECK; kind <= SHOW && (answer.status == IIM_REFUSED || answer.status == IIM_TRUNCATED); kind++)
+        print_refusal(to[kind], number, &answer);
     free(r);
-    free(file.octets);
     return answer.status == IIM_DONE || file.count == 0 ? 0 : 1;
+}
+
+/* Goes through a file by pieces of each size. */
+static int streams(size_t first, size_t last, const char *path) {
+    octets file = file_of(path);
+    for (size_t piece = first; piece <= last; piece++) {
+        char *told[KINDS];
+        size_t counts[KINDS];
+        FILE *to[KINDS];
+        for (int kind = 0; kind < KINDS; kind++) {
+            if ((to[kind] = open_memstream(&told[kind], &counts[kind])) == NULL)
+                exit(3);
+        }
+        int status = stream(to, file, piece);
+        for (int kind = 0; kind < KINDS; kind++)
+            fclose(to[kind]);
+        printf("%zu %d %zu %zu %zu\n", piece, status, counts[CHECK], counts[SHOW], counts[STORY]);
+        for (int kind = 0; kind < KINDS; kind++) {
+            fwrite(told[kind], 1, counts[kind], stdout);
+            free(told[kind]);
+        }
+    }
+    free(file.octets);
+    return 0;
 }
 
 /* Ends what is printed by pieces of a size, and answers the status of it and of those before it. */
 static int end_size(size_t piece, size_t first, int before, int status) {
     printf("\x1e%zu\n", piece);
     return piece == first || before == status ? status : 3;
-}
-
-/* Goes through a file by pieces of each size. */
-static int streams(const char *how, size_t first, size_t last, const char *path) {
-    int status = 0;
-    for (size_t piece = first; piece <= last; piece++)
-        status = end_size(piece, first, status, stream(how, piece, path));
-    return status;
 }
 
 /* ---- Batches */
@@ -294,24 +315,65 @@ static int check_batches(iim_limits limits) {
     return 0;
 }
 
-/* The same answer, of octets that come one by one. */
+/* Where a receiver stood after each front of a batch, and of how many. */
+enum { FRONTS = 1024 };
+
+typedef struct {
+    octets ticket[FRONTS];
+    uint64_t at[FRONTS];
+    size_t count;
+} fronts;
+
+/* Notes where a receiver stands after the next octet. */
+static void keep_front(fronts *kept, const receiver *r) {
+    if (kept->count == FRONTS)
+        return;
+    octets ticket = room_for(r->ticket);
+    memcpy(ticket.octets, r->tickets[r->now], r->ticket);
+    kept->ticket[kept->count] = ticket;
+    kept->at[kept->count++] = r->at;
+}
+
+/* Puts a receiver where it stood after the octets that two batches both begin with, and answers how many. */
+static size_t stand_after_same(receiver *r, fronts *kept, octets last, octets batch) {
+    size_t same = 0;
+    while (same < kept->count && same < batch.count && batch.octets[same] == last.octets[same])
+        same++;
+    while (kept->count > same)
+        free(kept->ticket[--kept->count].octets);
+    r->ticket = same > 0 ? kept->ticket[same - 1].count : 0;
+    r->at = same > 0 ? kept->at[same - 1] : 0;
+    if (same > 0)
+        memcpy(r->tickets[r->now], kept->ticket[same - 1].octets, r->ticket);
+    return same;
+}
+
+/* The same answer, of octets that come one by one. What a batch begins with as the one before it did is not fed again: the calls would be
+ * the same. */
 static int feed_batches(iim_limits limits) {
-    octets batch;
+    octets last = room_for(0), batch;
+    receiver *r = new_receiver();
+    static fronts kept;
     while (next_batch(&batch)) {
-        receiver *r = new_receiver();
         iim_answer answer = {0};
-        size_t at = 0;
+        size_t at = stand_after_same(r, &kept, last, batch);
         answer.status = IIM_MORE;
-        while (at < batch.count && answer.status == IIM_MORE)
+        while (at < batch.count && answer.status == IIM_MORE) {
             answer = feed(r, limits, batch.octets + at++, 1, NULL);
+            if (answer.status == IIM_MORE)
+                keep_front(&kept, r);
+        }
         if (answer.status == IIM_MORE)
             iim_end(limits, r->tickets[r->now], r->ticket, r->at, &answer);
         answer.used = answer.status == IIM_DONE ? answer.octet : 0;
         answer.written = answer.ticket = 0;
         print_answer(&answer);
-        free(r);
-        free(batch.octets);
+        free(last.octets);
+        last = batch;
     }
+    while (kept.count > 0)
+        free(kept.ticket[--kept.count].octets);
+    free(r), free(last.octets);
     return 0;
 }
 
@@ -643,11 +705,11 @@ static int print_places(const char *path) {
 
 static void print_row(const iim_audit_row *r) {
     printf("%" PRIu64 " %" PRIu64 " ", r->at, r->octets);
-    print_shown(r->service, r->service_octets);
+    print_shown(stdout, r->service, r->service_octets);
     putchar(' ');
-    print_shown(r->number, sizeof r->number);
+    print_shown(stdout, r->number, sizeof r->number);
     putchar(' ');
-    print_shown(r->date_sent, sizeof r->date_sent);
+    print_shown(stdout, r->date_sent, sizeof r->date_sent);
     printf(" %d %" PRIu64 " %" PRIu64 " %" PRIu64 " %" PRIu64 " %d %" PRId64 " %d %d %" PRId64 " %" PRIu32 " %d %" PRId64 " %" PRIu32 "\n", r->priority, r->size,
            r->subfiles, r->announced, r->counted, r->has_age, r->age, r->copy, r->has_release, r->release.second, r->release.nanosecond, r->has_expires,
            r->expires.second, r->expires.nanosecond);
@@ -1035,8 +1097,8 @@ int main(int count, char **words) {
         return check_batches((iim_limits){(uint32_t)atol(words[2]), (uint32_t)atol(words[3])});
     if (count == 4 && strcmp(words[1], "feed") == 0)
         return feed_batches((iim_limits){(uint32_t)atol(words[2]), (uint32_t)atol(words[3])});
-    if (count == 5 && (strcmp(words[1], "list") == 0 || strcmp(words[1], "show") == 0 || strcmp(words[1], "story") == 0))
-        return streams(words[1], (size_t)atol(words[2]), (size_t)atol(words[3]), words[4]);
+    if (count == 5 && strcmp(words[1], "streams") == 0)
+        return streams((size_t)atol(words[2]), (size_t)atol(words[3]), words[4]);
     if (count == 7 && strcmp(words[1], "pack") == 0)
         return pack(words + 2);
     if (count == 3 && strcmp(words[1], "places") == 0)

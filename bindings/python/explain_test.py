@@ -131,12 +131,16 @@ def samples():
 # --- What it names, and what could stand there
 
 
+# (an answer for all: a receiver and a refusal for each would cost more than what is asked)
+ANSWER, LIMITS = iim._Answer(), iim._Limits(*iim.WIRE)
+
+
 def by_check(octets):
     """What the library says of an envelope at one go: how far it goes, and whether it is whole."""
-    try:
-        return iim.check(octets), True
-    except iim.Refused as refusal:
-        return refusal.octet, False
+    iim._library.iim_check(LIMITS, octets, len(octets), ANSWER)
+    status = ANSWER.status
+    holds(status in (iim._DONE, iim._REFUSED, iim._TRUNCATED), f"iim_check answers {status}")
+    return ANSWER.octet, status == iim._DONE
 
 
 def by_rules(octets):
@@ -253,7 +257,7 @@ def names_the_octet_of_each_change(folder):
     changes = [SMALLEST[:at] + bytes([value]) + SMALLEST[at + 1 :] for at in range(len(SMALLEST)) for value in range(256) if value != SMALLEST[at]]
     same(len(changes), 114 * 255)
     refused = sum(side_by_side(named, changes))
-    same(refused, sum(side_by_side(refused_by_rules, changes)))
+    same(refused, sum(envelope.refusal is not None for _, envelope in rules.read_changes(SMALLEST)))
     # (and all that is tried and printed of some)
     some = random.Random(11).sample(changes, PRINTED)
     same(sum(side_by_side(all_explained, some)), refused_by_rules(some))

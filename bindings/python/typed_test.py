@@ -17,7 +17,9 @@ TOP = os.path.dirname(os.path.dirname(HERE))
 SECONDS = 300
 sys.path.insert(0, HERE)
 sys.dont_write_bytecode = True
-MYPY = ["mypy", "--strict", "--config-file", f"{HERE}/mypy.ini", "--no-color-output"]
+# (what a run has read of the standard library serves the next ones)
+CACHE = tempfile.TemporaryDirectory()
+MYPY = ["mypy", "--strict", "--config-file", f"{HERE}/mypy.ini", "--no-color-output", "--cache-dir", CACHE.name]
 
 TESTS = []
 
@@ -42,9 +44,9 @@ def run(words, **env):
     return ran.returncode, ran.stdout, ran.stderr
 
 
-def typed(folder, *paths):
+def typed(*paths):
     """What a type checker says of files that import the module."""
-    return run([*MYPY, "--cache-dir", f"{folder}/cache", *paths], MYPYPATH=HERE)
+    return run([*MYPY, *paths], MYPYPATH=HERE)
 
 
 @test
@@ -74,9 +76,9 @@ def has_an_attribute_for_each_dataset_with_a_name(folder):
 def is_silent_of_the_module_and_the_archive(folder):
     names = [path for path in sorted(glob.glob(f"{HERE}/*.py")) if re.fullmatch("(archive|explain|iim_).*(?<!_test)[.]py", os.path.basename(path))]
     same("archive.py" in map(os.path.basename, names), True)
-    same(typed(folder, *names), (0, f"Success: no issues found in {len(names)} source file{'s' * (len(names) > 1)}\n", ""))
+    same(typed(*names), (0, f"Success: no issues found in {len(names)} source file{'s' * (len(names) > 1)}\n", ""))
     # (its own code, where the stub doesn't stand for it)
-    same(run([*MYPY, "--cache-dir", f"{folder}/own", f"{HERE}/iim.py"]), (0, "Success: no issues found in 1 source file\n", ""))
+    same(run([*MYPY, f"{HERE}/iim.py"]), (0, "Success: no issues found in 1 source file\n", ""))
 
 
 @test
@@ -87,7 +89,7 @@ def is_silent_of_the_programs_of_the_page(folder):
         path = f"{folder}/program{number}.py"
         with open(path, "w") as to:
             to.write(program)
-        same(typed(folder, path), (0, "Success: no issues found in 1 source file\n", ""))
+        same(typed(path), (0, "Success: no issues found in 1 source file\n", ""))
 
 
 @test
@@ -95,7 +97,7 @@ def finds_a_name_that_no_dataset_has(folder):
     path = f"{folder}/wrong.py"
     with open(path, "w") as to:
         to.write("import iim\n\nfor envelope in iim.read('copy.iim'):\n    print(envelope.headlin)\n    print(envelope.bylines.text('ascii'))\n")
-    status, told, _ = typed(folder, path)
+    status, told, _ = typed(path)
     same((status, [(int(line), name) for line, name in re.findall(r":(\d+): error: .* has no attribute \"(\w+)\"", told)]), (1, [(4, "headlin"), (5, "text")]))
 
 
