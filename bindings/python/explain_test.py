@@ -257,7 +257,7 @@ def names_the_octet_of_each_change(folder):
     changes = [SMALLEST[:at] + bytes([value]) + SMALLEST[at + 1 :] for at in range(len(SMALLEST)) for value in range(256) if value != SMALLEST[at]]
     same(len(changes), 114 * 255)
     refused = sum(side_by_side(named, changes))
-    same(refused, sum(envelope.refusal is not None for _, envelope in rules.read_changes(SMALLEST)))
+    same(refused, sum(not envelope.is_done for _, envelope in rules.read_changes(SMALLEST)))
     # (and all that is tried and printed of some)
     some = random.Random(11).sample(changes, PRINTED)
     same(sum(side_by_side(all_explained, some)), refused_by_rules(some))
