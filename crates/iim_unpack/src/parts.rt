@@ -273,8 +273,14 @@ impl Parts {
     {
         match head.rec {
             OBJECT => self.whole_subfile(head, octets, sink),
-            POST_OBJECT => Ok(self.whole_end(head.set, head.count, octets).then_some(Step::Last)),
-            PRE_OBJECT => Ok(self.whole_number(head.set, head.count, octets).then_some(Step::More)),
+            POST_OBJECT => Ok(
+                self.whole_end(head.set, head.count, octets)
+                    .then_some(Step::Last),
+            ),
+            PRE_OBJECT => Ok(
+                self.whole_number(head.set, head.count, octets)
+                    .then_some(Step::More),
+            ),
             _ => Ok(self.whole_field(head, octets).then_some(Step::More)),
         }
     }

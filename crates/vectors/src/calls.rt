@@ -163,7 +163,13 @@ impl Calls {
     }
 
     /// Begins a packer, over memory where the words tell no other writer.
-    pub(crate) fn start(&mut self, out: &mut Answers, script: &Value, plan: Plan, words: &mut Words) {
+    pub(crate) fn start(
+        &mut self,
+        out: &mut Answers,
+        script: &Value,
+        plan: Plan,
+        words: &mut Words,
+    ) {
         self.begun = match trial_of(words) {
             Some(trial) => started(self.alloc, out, script, plan, trial),
             None => started(self.alloc, out, script, plan, memory(self.alloc)),
