@@ -1,5 +1,5 @@
 -- What `story` writes.
-use Rattle.std.proofs.Common.{◌≡◌, ℕ, ◌+◌, ◌<◌, ◌≤◌, ◌⊎◌, inl, inr, refl, sym, ap, subst, ◌∙◌, arith, List, [], ◌∷◌, ◌++◌, length, map, take, append-nil, append_assoc, length-append, Option, Some, Result, Ok, Err}
+use Rattle.std.proofs.Common.{◌≡◌, ℕ, ◌+◌, ◌<◌, ◌≤◌, ◌⊎◌, inl, inr, refl, sym, ap, subst, ◌∙◌, arith, List, [], ◌∷◌, ◌++◌, length, map, take, append-nil, append_assoc, length-append, Ok, Err}
 use Rattle.std.specs.List.{AllByRecursion}
 use Rattle.std.specs.Borrow.{MutBor}
 use Rattle.std.proofs.Math.Seq.{take-length, take-append_seam}
@@ -43,6 +43,8 @@ use Rattle.iim_listing.specs.Format.Narration.{AreEnvelope, AreToldWith, IsTextI
 use Rattle.iim_listing.specs.Narrating.{EndsStory, HoldsLines, IsLost, IsSettled, IsStuck, IsUnended, IsUntold, KeepsTargets, LetsOut, TellsOn, errors_of, output_of, stops_of}
 use Rattle.iim_listing.specs.declared.narrator.Narrator.{Narrator}
 use Rattle.iim_output.specs.declared.fault.CommandFault.{CommandFault}
+use Rattle.iim_listing.specs.declared.coming.Next.{Next}
+use Rattle.iim_listing.specs.declared.coming.Next.TheVariants.{Envelope}
 use Rattle.iim_output.specs.declared.fault.CommandFault.TheVariants.{CannotRead, CannotWrite, OutOfMemory}
 use Rattle.iim_listing.specs.Turns.{AreNarrated, AreTaken, HasText, Stands}
 use Rattle.iim_listing.proofs.Listings.{consumes_holds, divides, given_then, none_taken, taken_more, texts_parts}
@@ -296,7 +298,7 @@ pub record TextIsTaken {W E : Type 0} {ws : W → Device} {es : E → Device} {f
   pub stands : Stands ws first.output (errors_of es first) r.envelopes (text_of come.envelope) b.output (errors_of es b) b.lines.items
 
 pub text_taken : {W E : Type 0} {ws : W → Device} {es : E → Device} {first : Narrator W E} {source mid : Device} {a : Narrator W E} {count : ℕ} → EnvelopesAreDeliveredAsLines → LinesAreJoinedByLineFeeds → TextsJoin → (r : AreNarrated ws es first source mid a count)
-    (rest : Device) (v : Unpacking) (b : Narrator W E) (x : Result (Option ℕ) Refusal) (octets : ℕ) → x ≡ Ok (Some octets) → IsNext (TellsOn ws es) stops_of IsSettled (IsStuck ws es) (mid, a) (rest, v, b) (Ok x) → TextIsTaken r rest v b octets
+    (rest : Device) (v : Unpacking) (b : Narrator W E) (x : Next) (octets : ℕ) → x ≡ Envelope octets → IsNext (TellsOn ws es) stops_of IsSettled (IsStuck ws es) (mid, a) (rest, v, b) (Ok x) → TextIsTaken r rest v b octets
 text_taken {ws = ws} {es = es} {first = first} {mid = mid} {a = a} law joins texts r rest v b x octets is n =
     let h = come_as (TellsOn ws es) stops_of IsSettled (IsStuck ws es) mid rest v a b x octets is n in
     let text = envelope_text law joins h.envelope h.more h.is h.delivered in

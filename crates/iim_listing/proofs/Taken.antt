@@ -24,6 +24,8 @@ use Rattle.iim_places.specs.declared.refusal.Cause.{Cause}
 use Rattle.iim_places.specs.declared.refusal.Cause.TheVariants.{Sink, Truncated}
 use Rattle.iim_listing.specs.Feeding.{IsOfFault}
 use Rattle.iim_output.specs.declared.fault.CommandFault.{CommandFault}
+use Rattle.iim_listing.specs.declared.coming.Next.{Next}
+use Rattle.iim_listing.specs.declared.coming.Next.TheVariants as next
 use Rattle.iim_output.specs.declared.fault.CommandFault.TheVariants.{CannotRead, CannotWrite, OutOfMemory}
 use Rattle.iim_listing.specs.States.Coming.{CanAskForMore, EnvelopeHasCome, IsCalm, IsCutOff, IsHeldUp, IsNext, IsRefusal, IsUnheard}
 use Rattle.iim_output.specs.Format.Limits.{limits}
@@ -132,33 +134,29 @@ pub calm_of : {S : Type 0} (goes : S → List StoryEvent → S → Type 0) (fail
 calm_of goes failures old new u v a b e other (inl w) = calm_counts e.cause (failures a) (failures b) other w.counts
 calm_of goes failures old new u v a b e other (inr w) = w.calm
 
--- what an input has next, by what stands in it
-pub found : {x : Result (Option ℕ) Refusal} {o p : Option ℕ} → x ≡ Ok o → o ≡ p → x ≡ Ok p
-found {x = x} is same = subst (λ (q : Option ℕ). x ≡ Ok q) same is
-
 -- an envelope came
-pub come_as : {S : Type 0} (goes : S → List StoryEvent → S → Type 0) (failures : S → ℕ) (settled : S → Type 0) (stuck : S → S → Type 0) (old new : Device) (u : Unpacking) (a b : S) (x : Result (Option ℕ) Refusal) (octets : ℕ)
-    → x ≡ Ok (Some octets) → IsNext goes failures settled stuck (old, a) (new, u, b) (Ok x) → EnvelopeHasCome goes old new u a b octets
-come_as goes failures settled stuck old new u a b x octets is n = subst (λ (y : Result (Option ℕ) Refusal). IsNext goes failures settled stuck (old, a) (new, u, b) (Ok y)) is n
+pub come_as : {S : Type 0} (goes : S → List StoryEvent → S → Type 0) (failures : S → ℕ) (settled : S → Type 0) (stuck : S → S → Type 0) (old new : Device) (u : Unpacking) (a b : S) (x : Next) (octets : ℕ)
+    → x ≡ next.Envelope octets → IsNext goes failures settled stuck (old, a) (new, u, b) (Ok x) → EnvelopeHasCome goes old new u a b octets
+come_as goes failures settled stuck old new u a b x octets is n = subst (λ (y : Next). IsNext goes failures settled stuck (old, a) (new, u, b) (Ok y)) is n
 
-pub lives_as : (failed : Option ℕ) (x : Result (Option ℕ) Refusal) (octets : ℕ) → x ≡ Ok (Some octets) → CanAskForMore failed (Ok x) → failed ≡ None
-lives_as failed x octets is n = subst (λ (y : Result (Option ℕ) Refusal). CanAskForMore failed (Ok y)) is n
+pub lives_as : (failed : Option ℕ) (x : Next) (octets : ℕ) → x ≡ next.Envelope octets → CanAskForMore failed (Ok x) → failed ≡ None
+lives_as failed x octets is n = subst (λ (y : Next). CanAskForMore failed (Ok y)) is n
 
-pub refusal_as : {S : Type 0} (goes : S → List StoryEvent → S → Type 0) (failures : S → ℕ) (settled : S → Type 0) (stuck : S → S → Type 0) (old new : Device) (u : Unpacking) (a b : S) (x : Result (Option ℕ) Refusal) (e : Refusal)
-    → x ≡ Err e → IsNext goes failures settled stuck (old, a) (new, u, b) (Ok x) → IsRefusal goes old new a b e
-refusal_as goes failures settled stuck old new u a b x e is n = subst (λ (y : Result (Option ℕ) Refusal). IsNext goes failures settled stuck (old, a) (new, u, b) (Ok y)) is n
+pub refusal_as : {S : Type 0} (goes : S → List StoryEvent → S → Type 0) (failures : S → ℕ) (settled : S → Type 0) (stuck : S → S → Type 0) (old new : Device) (u : Unpacking) (a b : S) (x : Next) (e : Refusal)
+    → x ≡ next.Refused e → IsNext goes failures settled stuck (old, a) (new, u, b) (Ok x) → IsRefusal goes old new a b e
+refusal_as goes failures settled stuck old new u a b x e is n = subst (λ (y : Next). IsNext goes failures settled stuck (old, a) (new, u, b) (Ok y)) is n
 
-pub end_as : {S : Type 0} (goes : S → List StoryEvent → S → Type 0) (failures : S → ℕ) (settled : S → Type 0) (stuck : S → S → Type 0) (old new : Device) (u : Unpacking) (a b : S) (x : Result (Option ℕ) Refusal)
-    → x ≡ Ok None → IsNext goes failures settled stuck (old, a) (new, u, b) (Ok x) → HasGiven old new [] × IsAtEnd new.octets × goes a [] b × settled b
-end_as goes failures settled stuck old new u a b x is n = subst (λ (y : Result (Option ℕ) Refusal). IsNext goes failures settled stuck (old, a) (new, u, b) (Ok y)) is n
+pub end_as : {S : Type 0} (goes : S → List StoryEvent → S → Type 0) (failures : S → ℕ) (settled : S → Type 0) (stuck : S → S → Type 0) (old new : Device) (u : Unpacking) (a b : S) (x : Next)
+    → x ≡ next.End → IsNext goes failures settled stuck (old, a) (new, u, b) (Ok x) → HasGiven old new [] × IsAtEnd new.octets × goes a [] b × settled b
+end_as goes failures settled stuck old new u a b x is n = subst (λ (y : Next). IsNext goes failures settled stuck (old, a) (new, u, b) (Ok y)) is n
 
 -- what is so of what a sink is told, and stays so where it is held up, is so of what comes next
 pub kept_next : {S : Type 0} (goes : S → List StoryEvent → S → Type 0) (failures : S → ℕ) (settled : S → Type 0) (stuck : S → S → Type 0) (K : S → S → Type 0)
-    → ((a b : S) (more : List StoryEvent) → goes a more b → K a b) → ((a b d : S) → K a b → stuck b d → K a d) → (old new : Device) (u : Unpacking) (a b : S) (result : Result (Result (Option ℕ) Refusal) CommandFault)
+    → ((a b : S) (more : List StoryEvent) → goes a more b → K a b) → ((a b d : S) → K a b → stuck b d → K a d) → (old new : Device) (u : Unpacking) (a b : S) (result : Result Next CommandFault)
     → IsNext goes failures settled stuck (old, a) (new, u, b) result → K a b
-kept_next goes failures settled stuck K keep then old new u a b (Ok (Ok (Some octets))) c = keep a b c.more c.came.told
-kept_next goes failures settled stuck K keep then old new u a b (Ok (Ok None)) c = keep a b [] c.2
-kept_next goes failures settled stuck K keep then old new u a b (Ok (Err refusal)) c = keep a b c.more c.came.told
+kept_next goes failures settled stuck K keep then old new u a b (Ok (next.Envelope octets)) c = keep a b c.more c.came.told
+kept_next goes failures settled stuck K keep then old new u a b (Ok next.End) c = keep a b [] c.2
+kept_next goes failures settled stuck K keep then old new u a b (Ok (next.Refused refusal)) c = keep a b c.more c.came.told
 kept_next goes failures settled stuck K keep then old new u a b (Err CannotRead) (c, rests) = keep a b c.more c.told
 kept_next goes failures settled stuck K keep then old new u a b (Err CannotWrite) (inl c) = keep a b c.more c.came.told
 kept_next goes failures settled stuck K keep then old new u a b (Err CannotWrite) (inr c) = then a c.told b (keep a c.told c.more c.came.told) c.holds_back
@@ -203,7 +201,7 @@ taken_faults failures settled joined joins cut new w e block failed fault h calm
 
 -- ---- of faults
 
-pub fault_next : {S : Type 0} (goes : S → List StoryEvent → S → Type 0) (failures : S → ℕ) (settled : S → Type 0) (stuck : S → S → Type 0) (old new : Device) (u v : Unpacking) (a b : S) (fault : IntakeFault) (result : Result (Result (Option ℕ) Refusal) CommandFault) → limits_in u ≡ limits → Stands u [] 0
+pub fault_next : {S : Type 0} (goes : S → List StoryEvent → S → Type 0) (failures : S → ℕ) (settled : S → Type 0) (stuck : S → S → Type 0) (old new : Device) (u v : Unpacking) (a b : S) (fault : IntakeFault) (result : Result Next CommandFault) → limits_in u ≡ limits → Stands u [] 0
     → ((kept : ℕ) × Faults goes failures old new u v a b kept fault) × (IsOfReader fault → settled b) → IsOfFault fault result → IsNext goes failures settled stuck (old, a) (new, v, b) result
 fault_next goes failures settled stuck old new u v a b (Refused e) result same at ((kept, f), rests) (inl (sink, is)) =
     subst (IsNext goes failures settled stuck (old, a) (new, v, b)) (sym is) (inl (is_unheard goes failures old new u v a b e at sink f.1))
@@ -214,7 +212,7 @@ fault_next goes failures settled stuck old new u v a b Read result same at ((kep
 fault_next goes failures settled stuck old new u v a b Interrupted result same at ((kept, f), rests) is =
     subst (IsNext goes failures settled stuck (old, a) (new, v, b)) (sym is) (is_cut_off goes failures old new u v a b kept io.Interrupted same at f, rests tt)
 
-pub fault_calm : {S : Type 0} (goes : S → List StoryEvent → S → Type 0) (failures : S → ℕ) (settled : S → Type 0) (stuck : S → S → Type 0) (old new : Device) (u v : Unpacking) (a b : S) (fault : IntakeFault) (result : Result (Result (Option ℕ) Refusal) CommandFault)
+pub fault_calm : {S : Type 0} (goes : S → List StoryEvent → S → Type 0) (failures : S → ℕ) (settled : S → Type 0) (stuck : S → S → Type 0) (old new : Device) (u v : Unpacking) (a b : S) (fault : IntakeFault) (result : Result Next CommandFault)
     → ((kept : ℕ) × Faults goes failures old new u v a b kept fault) × (IsOfReader fault → settled b) → IsOfFault fault result → IsCalm (failures a) (failures b) result
 fault_calm goes failures settled stuck old new u v a b (Refused e) result ((kept, f), rests) (inl (sink, is)) = subst (IsCalm (failures a) (failures b)) (sym is) tt
 fault_calm goes failures settled stuck old new u v a b (Refused e) result ((kept, f), rests) (inr (other, is)) =
@@ -222,7 +220,7 @@ fault_calm goes failures settled stuck old new u v a b (Refused e) result ((kept
 fault_calm goes failures settled stuck old new u v a b Read result ((kept, f), rests) is = subst (IsCalm (failures a) (failures b)) (sym is) f.calm
 fault_calm goes failures settled stuck old new u v a b Interrupted result ((kept, f), rests) is = subst (IsCalm (failures a) (failures b)) (sym is) f.calm
 
-pub fault_lives : (failed : Option ℕ) (fault : IntakeFault) (result : Result (Result (Option ℕ) Refusal) CommandFault) → IsOfFault fault result → CanAskForMore failed result
+pub fault_lives : (failed : Option ℕ) (fault : IntakeFault) (result : Result Next CommandFault) → IsOfFault fault result → CanAskForMore failed result
 fault_lives failed (Refused e) result (inl (sink, is)) = subst (CanAskForMore failed) (sym is) tt
 fault_lives failed (Refused e) result (inr (other, is)) = subst (CanAskForMore failed) (sym is) tt
 fault_lives failed Read result is = subst (CanAskForMore failed) (sym is) tt

@@ -16,6 +16,17 @@ use iim_unpack::laws::open_octets_are_bounded;
 use iim_unpack::{Cause, Fed, Intake, IntakeFault, Refusal, Unpacker};
 use wire_story::laws::delivery_may_be_cut;
 
+/// What an input has next.
+#[derive(Clone, Copy, Debug, PartialEq, Eq)]
+pub enum Next {
+    /// An envelope of so many octets, with which the unpacker is done.
+    Envelope(u64),
+    /// Nothing.
+    End,
+    /// Octets that are refused.
+    Refused(Refusal),
+}
+
 /// Lets out what the sink holds, where the intake holds no octets and so has to read.
 fn let_out_before_read<R: Source, S: Outlet>(intake: &Intake<R>, sink: &mut S) -> Result<(), Stop>
     ensures told { OnOk result (S.goes sink.old [] sink.new) }
@@ -30,17 +41,17 @@ fn let_out_before_read<R: Source, S: Outlet>(intake: &Intake<R>, sink: &mut S) -
 }
 
 /// What octets that are refused come to, which may be a fault of the sink.
-fn next_of_refusal(refusal: Refusal) -> Result<Result<Option<u64>, Refusal>, CommandFault>
+fn next_of_refusal(refusal: Refusal) -> Result<Next, CommandFault>
     ensures { IsOfRefusal refusal result }
 {
     if refusal.cause == Cause::Sink {
         return Err(CommandFault::CannotWrite);
     }
-    Ok(Err(refusal))
+    Ok(Next::Refused(refusal))
 }
 
 /// What a fault of an intake comes to.
-fn next_of_fault(fault: IntakeFault) -> Result<Result<Option<u64>, Refusal>, CommandFault>
+fn next_of_fault(fault: IntakeFault) -> Result<Next, CommandFault>
     ensures { IsOfFault fault result }
 {
     match fault {
@@ -51,13 +62,12 @@ fn next_of_fault(fault: IntakeFault) -> Result<Result<Option<u64>, Refusal>, Com
 }
 
 /// Begins an unpacker again, feeds it what comes next, and tells the sink the text of it. Before the input is read, the sink lets out
-/// what it holds. It answers an envelope of so many octets, with which the unpacker is done; None at the end of the input; or octets that
-/// are refused. A fault is of the devices.
+/// what it holds. A fault is of the devices.
 pub fn take_next<R: Source, S: Outlet>(
     intake: &mut Intake<R>,
     unpacker: &mut Unpacker,
     sink: &mut S,
-) -> Result<Result<Option<u64>, Refusal>, CommandFault>
+) -> Result<Next, CommandFault>
     requires alive { intake.old.failed ≡ None }
     requires limits { limits_in unpacker.old ≡ limits }
     ensures next { IsNext S.goes S.failures S.settled S.stuck (in_line R.state intake.old, sink.old)
@@ -77,8 +87,8 @@ pub fn take_next<R: Source, S: Outlet>(
         }
         match intake.next_piece(unpacker, sink) {
             Ok(Fed::More(_)) => {}
-            Ok(Fed::Done(_)) => return Ok(Ok(Some(unpacker.octets()))),
-            Ok(Fed::End) => return Ok(Ok(None)),
+            Ok(Fed::Done(_)) => return Ok(Next::Envelope(unpacker.octets())),
+            Ok(Fed::End) => return Ok(Next::End),
             Err(fault) => return next_of_fault(fault),
         }
     }

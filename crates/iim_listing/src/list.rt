@@ -12,7 +12,7 @@ ghost use Rattle.iim_output.specs.States.Holding.{HoldsNothing, KeepsWriter, dev
 ghost use Rattle.iim_listing.specs.Listing.{IsUnlisted, Settles};
 ghost use Rattle.iim_listing.specs.Turns.{GoesOn, IsShown, ListsNext, ListsNoMore};
 
-use crate::coming::{LIMITS, take_next};
+use crate::coming::{LIMITS, Next, take_next};
 use iim_dataset::device_laws::{gifts_join, texts_join};
 use iim_dataset::{Source, Target};
 use iim_output::block_writer::BlockWriter;
@@ -67,7 +67,7 @@ fn list_next<P: EnvelopeLines, R: Source, W: Target>(
     texts_join();
     text.clear();
     match take_next(intake, unpacker, silent)? {
-        Ok(Some(octets)) => {
+        Next::Envelope(octets) => {
             if count == MAX_ENVELOPES {
                 add_last(&mut silent.output, TOO_MANY.as_bytes())?;
                 return Ok(Some(REFUSED));
@@ -76,8 +76,8 @@ fn list_next<P: EnvelopeLines, R: Source, W: Target>(
             add(&mut silent.output, text.as_slice())?;
             Ok(None)
         }
-        Ok(None) => Ok(Some(ACCEPTED)),
-        Err(refusal) => {
+        Next::End => Ok(Some(ACCEPTED)),
+        Next::Refused(refusal) => {
             push_refused(text, count + 1, refusal)?;
             add_last(&mut silent.output, text.as_slice())?;
             Ok(Some(REFUSED))

@@ -11,7 +11,7 @@ ghost use Rattle.iim_listing.specs.Turns.{GoesOn, TellsNext, TellsNoMore};
 ghost use Rattle.iim_unpack.specs.States.Unpacking.{limits_in};
 ghost use Rattle.iim_output.specs.Format.Limits.{limits};
 
-use crate::coming::{LIMITS, take_next};
+use crate::coming::{LIMITS, Next, take_next};
 use crate::laws::envelopes_are_delivered_as_lines;
 use crate::narrator::Narrator;
 use iim_dataset::device_laws::{gifts_join, texts_join};
@@ -48,7 +48,7 @@ fn tell_next<R: Source, W: Target, E: Target>(
     envelopes_are_delivered_as_lines();
     lines_are_joined_by_line_feeds();
     match take_next(intake, unpacker, narrator)? {
-        Ok(Some(octets)) => {
+        Next::Envelope(octets) => {
             if count == MAX_ENVELOPES {
                 narrator.tell_last(TOO_MANY.as_bytes())?;
                 return Ok(Some(REFUSED));
@@ -56,8 +56,8 @@ fn tell_next<R: Source, W: Target, E: Target>(
             narrator.end_story(count + 1, octets)?;
             Ok(None)
         }
-        Ok(None) => Ok(Some(ACCEPTED)),
-        Err(refusal) => {
+        Next::End => Ok(Some(ACCEPTED)),
+        Next::Refused(refusal) => {
             narrator.tell_refusal(count + 1, refusal)?;
             Ok(Some(REFUSED))
         }

@@ -1,5 +1,5 @@
 -- What comes next of an input.
-use Rattle.std.specs.Prelude.{◌≡◌, ℕ, ◌<◌, ◌⊎◌, ⊤, List, [], length, take, Option, Some, None, Result, Ok, Err}
+use Rattle.std.specs.Prelude.{◌≡◌, ℕ, ◌<◌, ◌⊎◌, ⊤, List, [], length, take, Option, None, Result, Ok, Err}
 use Rattle.std.specs.Io.KnownBytes.{IsAtEnd}
 use Rattle.iim_dataset.specs.States.Devices.{Device, HasGiven, MissedAfter}
 use Rattle.iim_dataset.specs.Format.Counts.{Rose}
@@ -13,6 +13,8 @@ use Rattle.iim_output.specs.Format.Limits.{limits}
 use Rattle.iim_listing.specs.Format.Listings.{told, IsDelivered}
 use Rattle.iim_places.specs.Format.Listing.{Listed, IsListed, IsRefusedAfter}
 use Rattle.iim_output.specs.declared.fault.CommandFault.{CommandFault}
+use Rattle.iim_listing.specs.declared.coming.Next.{Next}
+use Rattle.iim_listing.specs.declared.coming.Next.TheVariants as next
 use Rattle.iim_output.specs.declared.fault.CommandFault.TheVariants.{CannotRead, CannotWrite, OutOfMemory}
 
 -- An envelope came, the unpacker is done with it, and the sink was told its text.
@@ -70,20 +72,20 @@ pub record IsHeldUp {S : Type 0} (goes : S → List StoryEvent → S → Type 0)
 -- What comes next, or why nothing does; it takes no memory. (What it is for a sink to hold nothing, and to fail to let out what it
 -- holds; the input and the sink, before and after; after, the unpacker.)
 abbrev pub IsNext : {S : Type 0} → (S → List StoryEvent → S → Type 0) → (S → ℕ) → (S → Type 0) → (S → S → Type 0) → Device × S
-    → Device × Unpacking × S → Result (Result (Option ℕ) Refusal) CommandFault → Type 0
-IsNext goes failures settled stuck (old, a) (new, u, b) (Ok (Ok (Some octets))) = EnvelopeHasCome goes old new u a b octets
-IsNext goes failures settled stuck (old, a) (new, u, b) (Ok (Ok None)) = HasGiven old new [] × IsAtEnd new.octets × goes a [] b × settled b
-IsNext goes failures settled stuck (old, a) (new, u, b) (Ok (Err refusal)) = IsRefusal goes old new a b refusal
+    → Device × Unpacking × S → Result Next CommandFault → Type 0
+IsNext goes failures settled stuck (old, a) (new, u, b) (Ok (next.Envelope octets)) = EnvelopeHasCome goes old new u a b octets
+IsNext goes failures settled stuck (old, a) (new, u, b) (Ok next.End) = HasGiven old new [] × IsAtEnd new.octets × goes a [] b × settled b
+IsNext goes failures settled stuck (old, a) (new, u, b) (Ok (next.Refused refusal)) = IsRefusal goes old new a b refusal
 IsNext goes failures settled stuck (old, a) (new, u, b) (Err CannotRead) = IsCutOff goes old new a b × settled b
 IsNext goes failures settled stuck (old, a) (new, u, b) (Err CannotWrite) = IsUnheard goes failures old new a b ⊎ IsHeldUp goes failures stuck old new a b
 IsNext goes failures settled stuck (old, a) (new, u, b) (Err OutOfMemory) = ⊥
 
 -- The sink counted a failure only where it refused.
-abbrev pub IsCalm : ℕ → ℕ → Result (Result (Option ℕ) Refusal) CommandFault → Type 0
+abbrev pub IsCalm : ℕ → ℕ → Result Next CommandFault → Type 0
 IsCalm before now (Err CannotWrite) = ⊤
 IsCalm before now _ = now ≡ before
 
 -- After an envelope more can be asked for. (The octet that a failed intake keeps.)
-abbrev pub CanAskForMore : Option ℕ → Result (Result (Option ℕ) Refusal) CommandFault → Type 0
-CanAskForMore failed (Ok (Ok (Some octets))) = failed ≡ None
+abbrev pub CanAskForMore : Option ℕ → Result Next CommandFault → Type 0
+CanAskForMore failed (Ok (next.Envelope octets)) = failed ≡ None
 CanAskForMore failed _ = ⊤

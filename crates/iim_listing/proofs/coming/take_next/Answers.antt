@@ -1,11 +1,11 @@
-use Rattle.std.proofs.Common.{◌∙◌, ℕ, refl, inr, Option, Result}
+use Rattle.std.proofs.Common.{◌∙◌, refl, inr, Result}
 use Rattle.iim_unpack.specs.States.Intakes.{in_line}
 use Rattle.iim_unpack.proofs.Intakes.{more_of, done_of, end_of}
 use Rattle.iim_listing.proofs.Feeding.{take_none, take_out, take_more, take_ended, is_ready, fewer_left}
 use Rattle.iim_listing.proofs.Taken.{taken_whole, taken_faults, held_up, fault_next, fault_calm, fault_lives}
 use Rattle.iim_listing.specs.Feeding.{IsOfFault}
 use Rattle.iim_listing.specs.States.Coming.{IsCalm, IsNext}
-use Rattle.iim_places.specs.declared.refusal.Refusal.{Refusal}
+use Rattle.iim_listing.specs.declared.coming.Next.{Next}
 use Rattle.iim_output.specs.declared.fault.CommandFault.{CommandFault}
 use Rattle.iim_listing.proofs.coming.take_next.Given.{Over}
 use Rattle.iim_listing.proofs.coming.take_next.Goals.{In-Err-next_piece}
@@ -60,7 +60,7 @@ returns-in-Err-clause-next g c =
     inr (held_up g.S.StorySink.failures g.S.Outlet.stuck c.let_out_before_read.new.sink c.feeding.invariant.taken c.feeding.invariant.calm c.in-Err.ensures.stuck)
 
 -- why the intake gave nothing
-after_fault : (g : Over) (c : In-Err-next_piece g) (result : Result (Result (Option ℕ) Refusal) CommandFault) → IsOfFault c.in-Err-next_piece.fault result
+after_fault : (g : Over) (c : In-Err-next_piece g) (result : Result Next CommandFault) → IsOfFault c.in-Err-next_piece.fault result
     → IsNext g.S.StorySink.goes g.S.StorySink.failures g.S.Outlet.settled g.S.Outlet.stuck (in_line g.R.Source.state c.args.intake.now, c.args.sink.now)
     (in_line g.R.Source.state c.next_piece.new.self, c.next_piece.new.unpacker, c.next_piece.new.sink) result
     × IsCalm (g.S.StorySink.failures c.args.sink.now) (g.S.StorySink.failures c.next_piece.new.sink) result

@@ -10,27 +10,27 @@ use Rattle.iim_output.specs.declared.block_writer.BlockWriter.{BlockWriter}
 use Rattle.iim_output.specs.declared.fault.CommandFault.TheVariants.{OutOfMemory}
 use Rattle.iim_listing.proofs.Listings.{ends_refused, failed, left_of, none_left, listed, listed_more, listed_out, starved, unended, unsaid_of}
 use Rattle.iim_output.specs.HoldingLaws.{put_nothing}
-use Rattle.iim_listing.proofs.Taken.{come_as, end_as, kept_next, lives_as, refusal_as, found}
+use Rattle.iim_listing.proofs.Taken.{come_as, end_as, kept_next, lives_as, refusal_as}
 use Rattle.iim_listing.proofs.Told.{added}
 use Rattle.iim_listing.specs.States.Coming.{EnvelopeHasCome, IsRefusal}
 use Rattle.iim_listing.specs.Turns.{AreListed}
 use Rattle.iim_listing.proofs.list.list_next.Given.{Over}
-use Rattle.iim_listing.proofs.list.list_next.Goals.{After-take_next, In-Ok-Some, In-Err}
+use Rattle.iim_listing.proofs.list.list_next.Goals.{After-take_next, In-Envelope, In-Refused}
 use Rattle.iim_listing.proofs.list.list_next.Goals as goal
 
 -- what came of an envelope, or of refused octets
-envelope : (g : Over) (c : In-Ok-Some g) → EnvelopeHasCome (PassesOver g.W.Target.state) (in_line g.R.Source.state c.args.intake.now) (in_line g.R.Source.state c.take_next.new.intake) c.take_next.new.unpacker c.args.silent.now c.take_next.new.sink
-    c.in-Ok-Some.octets
+envelope : (g : Over) (c : In-Envelope g) → EnvelopeHasCome (PassesOver g.W.Target.state) (in_line g.R.Source.state c.args.intake.now) (in_line g.R.Source.state c.take_next.new.intake) c.take_next.new.unpacker c.args.silent.now c.take_next.new.sink
+    c.in-Envelope.octets
 envelope g c =
     let state = g.W.Target.state in
     come_as (PassesOver state) refuses_never IsSettled (IsStuck state) (in_line g.R.Source.state c.args.intake.now) (in_line g.R.Source.state c.take_next.new.intake) c.take_next.new.unpacker c.args.silent.now c.take_next.new.sink c.in_ok-octets.field-0
-    c.in-Ok-Some.octets (found c.in-Ok-Some.is c.in-Ok-Some.field-0-is) c.in_ok-octets.ensures.next
+    c.in-Envelope.octets c.in-Envelope.is c.in_ok-octets.ensures.next
 
-refusal : (g : Over) (c : In-Err g) → IsRefusal (PassesOver g.W.Target.state) (in_line g.R.Source.state c.args.intake.now) (in_line g.R.Source.state c.take_next.new.intake) c.args.silent.now c.take_next.new.sink c.in-Err.refusal
+refusal : (g : Over) (c : In-Refused g) → IsRefusal (PassesOver g.W.Target.state) (in_line g.R.Source.state c.args.intake.now) (in_line g.R.Source.state c.take_next.new.intake) c.args.silent.now c.take_next.new.sink c.in-Refused.refusal
 refusal g c =
     let state = g.W.Target.state in
     refusal_as (PassesOver state) refuses_never IsSettled (IsStuck state) (in_line g.R.Source.state c.args.intake.now) (in_line g.R.Source.state c.take_next.new.intake) c.take_next.new.unpacker c.args.silent.now c.take_next.new.sink c.in_ok-octets.field-0
-    c.in-Err.refusal c.in-Err.is c.in_ok-octets.ensures.next
+    c.in-Refused.refusal c.in-Refused.is c.in_ok-octets.ensures.next
 
 -- the writer is over the same target
 kept : (g : Over) (c : After-take_next g) → (source : Device) (old : BlockWriter _)
@@ -42,7 +42,7 @@ kept g c source old r =
 
 pub push_envelope-requires : goal.push_envelope-requires
 push_envelope-requires g c =
-    let h = envelope g (goal.at.push_envelope-requires g c).In-Ok-Some in
+    let h = envelope g (goal.at.push_envelope-requires g c).In-Envelope in
     (h.done.taking, h.done.ended)
 
 pub returns-in_err-octets-clause-err : goal.returns-in_err-octets-clause-err
@@ -56,118 +56,118 @@ returns-in_err-octets-clause-err g c =
       kept g at source old r,
     ))
 
-pub returns-in_err-add_last-in-Ok-Some-clause-err : goal.returns-in_err-add_last-in-Ok-Some-clause-err
-returns-in_err-add_last-in-Ok-Some-clause-err g c =
-    let at = goal.at.returns-in_err-add_last-in-Ok-Some-clause-err g c in
-    let h = envelope g at.In-Ok-Some in
+pub returns-in_err-add_last-in-Envelope-clause-err : goal.returns-in_err-add_last-in-Envelope-clause-err
+returns-in_err-add_last-in-Envelope-clause-err g c =
+    let at = goal.at.returns-in_err-add_last-in-Envelope-clause-err g c in
+    let h = envelope g at.In-Envelope in
     let full : c.args.count ≡ max_envelopes = search rules in
-    let fault = c.in_err-add_last-in-Ok-Some.field-0.0 in
+    let fault = c.in_err-add_last-in-Envelope.field-0.0 in
     let words : c.as_bytes.result.now ≡ too_many_line = search rules in
-    handed_on _ c.from_residual-in_err-add_last-in-Ok-Some.result fault c.from_residual-in_err-add_last-in-Ok-Some.ensures.1
+    handed_on _ c.from_residual-in_err-add_last-in-Envelope.result fault c.from_residual-in_err-add_last-in-Envelope.ensures.1
     (λ source old r empty. (
       unended c.gifts_join.ensures c.texts_join.ensures (in_line g.R.Source.state c.take_next.new.intake) c.add_last.new.output h.envelope.octets c.as_bytes.result.now TooMany fault (listed_out _ _ _ _ _ _ _ _ r h.came.told) empty
-          h.came.given (full, h.envelope, h.is, [], sym (append-nil h.envelope.octets)) words c.in_err-add_last-in-Ok-Some.ensures.err,
-      c.in_err-add_last-in-Ok-Some.ensures.err.1.same ∙ kept g at.After-take_next source old r,
+          h.came.given (full, h.envelope, h.is, [], sym (append-nil h.envelope.octets)) words c.in_err-add_last-in-Envelope.ensures.err,
+      c.in_err-add_last-in-Envelope.ensures.err.1.same ∙ kept g at.After-take_next source old r,
     ))
 
 pub returns-then-count-eq-MAX_ENVELOPES-clause-ok : goal.returns-then-count-eq-MAX_ENVELOPES-clause-ok
 returns-then-count-eq-MAX_ENVELOPES-clause-ok g c =
     let rest = in_line g.R.Source.state c.take_next.new.intake in
     let at = goal.at.returns-then-count-eq-MAX_ENVELOPES-clause-ok g c in
-    let h = envelope g at.In-Ok-Some in
+    let h = envelope g at.In-Envelope in
     let full : c.args.count ≡ max_envelopes = search rules in
     let words : c.as_bytes.result.now ≡ too_many_line = search rules in
     let more = left_of rest.octets in (
       tt,
       λ source old r empty. (
         listed c.gifts_join.ensures rest c.add_last.new.output 1 h.envelope.octets more.0 c.as_bytes.result.now TooMany (listed_out _ _ _ _ _ _ _ _ r h.came.told)
-            h.came.given more.1 (full, h.envelope, h.is, more.0, refl) refl words empty c.in_ok-add_last-in-Ok-Some.ensures.ok c.in_ok-add_last-in-Ok-Some.ensures.held,
-        c.in_ok-add_last-in-Ok-Some.ensures.ok.same ∙ kept g at.After-take_next source old r,
+            h.came.given more.1 (full, h.envelope, h.is, more.0, refl) refl words empty c.in_ok-add_last-in-Envelope.ensures.ok c.in_ok-add_last-in-Envelope.ensures.held,
+        c.in_ok-add_last-in-Envelope.ensures.ok.same ∙ kept g at.After-take_next source old r,
       ),
     )
 
-pub returns-in_err-push_envelope-in-Ok-Some-clause-err : goal.returns-in_err-push_envelope-in-Ok-Some-clause-err
-returns-in_err-push_envelope-in-Ok-Some-clause-err g c =
-    let at = goal.at.returns-in_err-push_envelope-in-Ok-Some-clause-err g c in
-    let h = envelope g at.In-Ok-Some in
-    handed_on _ c.from_residual-in_err-push_envelope-in-Ok-Some.result OutOfMemory c.from_residual-in_err-push_envelope-in-Ok-Some.ensures.1
+pub returns-in_err-push_envelope-in-Envelope-clause-err : goal.returns-in_err-push_envelope-in-Envelope-clause-err
+returns-in_err-push_envelope-in-Envelope-clause-err g c =
+    let at = goal.at.returns-in_err-push_envelope-in-Envelope-clause-err g c in
+    let h = envelope g at.In-Envelope in
+    handed_on _ c.from_residual-in_err-push_envelope-in-Envelope.result OutOfMemory c.from_residual-in_err-push_envelope-in-Envelope.ensures.1
     (λ source old r empty. (starved c.gifts_join.ensures (in_line g.R.Source.state c.take_next.new.intake) h.envelope.octets (listed_out _ _ _ _ _ _ _ _ r h.came.told) h.came.given, kept g at.After-take_next source old r))
 
-pub returns-in_err-add-in-Ok-Some-clause-err : goal.returns-in_err-add-in-Ok-Some-clause-err
-returns-in_err-add-in-Ok-Some-clause-err g c =
-    let at = goal.at.returns-in_err-add-in-Ok-Some-clause-err g c in
-    let h = envelope g at.In-Ok-Some in
+pub returns-in_err-add-in-Envelope-clause-err : goal.returns-in_err-add-in-Envelope-clause-err
+returns-in_err-add-in-Envelope-clause-err g c =
+    let at = goal.at.returns-in_err-add-in-Envelope-clause-err g c in
+    let h = envelope g at.In-Envelope in
     let words = added c.clear.new.self.items c.push_envelope.new.text.items (g.P.EnvelopeLines.written (c.args.count + 1) h.envelope) c.as_slice.result.now c.clear.ensures.items
-    (c.in_ok-push_envelope-in-Ok-Some.ensures h.envelope (h.done, h.is.admits, h.counts)) c.as_slice.ensures.value in
+    (c.in_ok-push_envelope-in-Envelope.ensures h.envelope (h.done, h.is.admits, h.counts)) c.as_slice.ensures.value in
     let below : c.args.count ≡ max_envelopes → ⊥ = search rules in
-    let fault = c.in_err-add-in-Ok-Some.field-0.0 in
-    handed_on _ c.from_residual-in_err-add-in-Ok-Some.result fault c.from_residual-in_err-add-in-Ok-Some.ensures.1
+    let fault = c.in_err-add-in-Envelope.field-0.0 in
+    handed_on _ c.from_residual-in_err-add-in-Envelope.result fault c.from_residual-in_err-add-in-Envelope.ensures.1
     (λ source old r empty. (
       unsaid_of c.gifts_join.ensures c.texts_join.ensures (in_line g.R.Source.state c.take_next.new.intake) c.add.new.output c.as_slice.result.now h.envelope fault (listed_out _ _ _ _ _ _ _ _ r h.came.told) empty h.is h.came.given
-          below words c.in_err-add-in-Ok-Some.ensures.err,
-      c.in_err-add-in-Ok-Some.ensures.err.1.same ∙ kept g at.After-take_next source old r,
+          below words c.in_err-add-in-Envelope.ensures.err,
+      c.in_err-add-in-Envelope.ensures.err.1.same ∙ kept g at.After-take_next source old r,
     ))
 
-pub returns-in_ok-add-in-Ok-Some-clause-ok : goal.returns-in_ok-add-in-Ok-Some-clause-ok
-returns-in_ok-add-in-Ok-Some-clause-ok g c =
-    let h = envelope g (goal.at.returns-in_ok-add-in-Ok-Some-clause-ok g c).In-Ok-Some in
+pub returns-in_ok-add-in-Envelope-clause-ok : goal.returns-in_ok-add-in-Envelope-clause-ok
+returns-in_ok-add-in-Envelope-clause-ok g c =
+    let h = envelope g (goal.at.returns-in_ok-add-in-Envelope-clause-ok g c).In-Envelope in
     let words = added c.clear.new.self.items c.push_envelope.new.text.items (g.P.EnvelopeLines.written (c.args.count + 1) h.envelope) c.as_slice.result.now c.clear.ensures.items
-    (c.in_ok-push_envelope-in-Ok-Some.ensures h.envelope (h.done, h.is.admits, h.counts)) c.as_slice.ensures.value in
+    (c.in_ok-push_envelope-in-Envelope.ensures h.envelope (h.done, h.is.admits, h.counts)) c.as_slice.ensures.value in
     let below : c.args.count ≡ max_envelopes → ⊥ = search rules in (
       (
-        lives_as c.take_next.new.intake.failed c.in_ok-octets.field-0 c.in-Ok-Some.octets (found c.in-Ok-Some.is c.in-Ok-Some.field-0-is) c.in_ok-octets.ensures.lives,
+        lives_as c.take_next.new.intake.failed c.in_ok-octets.field-0 c.in-Envelope.octets c.in-Envelope.is c.in_ok-octets.ensures.lives,
         h.same,
         omega (arith, c.requires.few, below),
       ),
       λ source old r empty.
           listed_more c.gifts_join.ensures (in_line g.R.Source.state c.take_next.new.intake) c.add.new.output c.as_slice.result.now h.envelope (listed_out _ _ _ _ _ _ _ _ r h.came.told) h.is h.came.given
-          below words c.in_ok-add-in-Ok-Some.ensures.ok,
+          below words c.in_ok-add-in-Envelope.ensures.ok,
     )
 
-pub returns-in-Ok-None-clause-ok : goal.returns-in-Ok-None-clause-ok
-returns-in-Ok-None-clause-ok g c =
+pub returns-in-End-clause-ok : goal.returns-in-End-clause-ok
+returns-in-End-clause-ok g c =
     let state = g.W.Target.state in
     let mid = in_line g.R.Source.state c.args.intake.now in
     let rest = in_line g.R.Source.state c.take_next.new.intake in
     let b = c.take_next.new.sink in
-    let h = end_as (PassesOver state) refuses_never IsSettled (IsStuck state) mid rest c.take_next.new.unpacker c.args.silent.now b c.in_ok-octets.field-0 (found c.in-Ok-None.is c.in-Ok-None.field-0-is) c.in_ok-octets.ensures.next in (
+    let h = end_as (PassesOver state) refuses_never IsSettled (IsStuck state) mid rest c.take_next.new.unpacker c.args.silent.now b c.in_ok-octets.field-0 c.in-End.is c.in_ok-octets.ensures.next in (
       tt,
       λ source old r empty.
           let out = listed_out _ _ _ _ _ _ b.output _ r h.2 in
           (listed c.gifts_join.ensures rest b.output 0 [] [] [] Whole out h.0 (none_left rest.octets h.1) refl refl refl empty (put_nothing state b.output) h.3, out.put.same),
     )
 
-pub returns-in_err-push_refused-in-Err-clause-err : goal.returns-in_err-push_refused-in-Err-clause-err
-returns-in_err-push_refused-in-Err-clause-err g c =
-    let at = goal.at.returns-in_err-push_refused-in-Err-clause-err g c in
-    let h = refusal g at.In-Err in
-    handed_on _ c.from_residual-in_err-push_refused-in-Err.result OutOfMemory c.from_residual-in_err-push_refused-in-Err.ensures.1
+pub returns-in_err-push_refused-in-Refused-clause-err : goal.returns-in_err-push_refused-in-Refused-clause-err
+returns-in_err-push_refused-in-Refused-clause-err g c =
+    let at = goal.at.returns-in_err-push_refused-in-Refused-clause-err g c in
+    let h = refusal g at.In-Refused in
+    handed_on _ c.from_residual-in_err-push_refused-in-Refused.result OutOfMemory c.from_residual-in_err-push_refused-in-Refused.ensures.1
     (λ source old r empty. (starved c.gifts_join.ensures (in_line g.R.Source.state c.take_next.new.intake) h.octets (listed_out _ _ _ _ _ _ _ _ r h.came.told) h.came.given, kept g at.After-take_next source old r))
 
-pub returns-in_err-add_last-in-Err-clause-err : goal.returns-in_err-add_last-in-Err-clause-err
-returns-in_err-add_last-in-Err-clause-err g c =
-    let at = goal.at.returns-in_err-add_last-in-Err-clause-err g c in
-    let h = refusal g at.In-Err in
-    let words : c.as_slice-in-Err.result.now ≡ refused_line (c.args.count + 1) c.in-Err.refusal = search rules in
-    let fault = c.in_err-add_last-in-Err.field-0.0 in
-    handed_on _ c.from_residual-in_err-add_last-in-Err.result fault c.from_residual-in_err-add_last-in-Err.ensures.1
+pub returns-in_err-add_last-in-Refused-clause-err : goal.returns-in_err-add_last-in-Refused-clause-err
+returns-in_err-add_last-in-Refused-clause-err g c =
+    let at = goal.at.returns-in_err-add_last-in-Refused-clause-err g c in
+    let h = refusal g at.In-Refused in
+    let words : c.as_slice-in-Refused.result.now ≡ refused_line (c.args.count + 1) c.in-Refused.refusal = search rules in
+    let fault = c.in_err-add_last-in-Refused.field-0.0 in
+    handed_on _ c.from_residual-in_err-add_last-in-Refused.result fault c.from_residual-in_err-add_last-in-Refused.ensures.1
     (λ source old r empty. (
-      unended c.gifts_join.ensures c.texts_join.ensures (in_line g.R.Source.state c.take_next.new.intake) c.add_last-in-Err.new.output h.octets c.as_slice-in-Err.result.now (RefusedBy c.in-Err.refusal) fault (listed_out _ _ _ _ _ _ _ _ r h.came.told) empty
-          h.came.given (h.k, h.refused) words c.in_err-add_last-in-Err.ensures.err,
-      c.in_err-add_last-in-Err.ensures.err.1.same ∙ kept g at.After-take_next source old r,
+      unended c.gifts_join.ensures c.texts_join.ensures (in_line g.R.Source.state c.take_next.new.intake) c.add_last-in-Refused.new.output h.octets c.as_slice-in-Refused.result.now (RefusedBy c.in-Refused.refusal) fault (listed_out _ _ _ _ _ _ _ _ r h.came.told) empty
+          h.came.given (h.k, h.refused) words c.in_err-add_last-in-Refused.ensures.err,
+      c.in_err-add_last-in-Refused.ensures.err.1.same ∙ kept g at.After-take_next source old r,
     ))
 
-pub returns-in_ok-add_last-in-Err-clause-ok : goal.returns-in_ok-add_last-in-Err-clause-ok
-returns-in_ok-add_last-in-Err-clause-ok g c =
+pub returns-in_ok-add_last-in-Refused-clause-ok : goal.returns-in_ok-add_last-in-Refused-clause-ok
+returns-in_ok-add_last-in-Refused-clause-ok g c =
     let rest = in_line g.R.Source.state c.take_next.new.intake in
-    let at = goal.at.returns-in_ok-add_last-in-Err-clause-ok g c in
-    let h = refusal g at.In-Err in
-    let words : c.as_slice-in-Err.result.now ≡ refused_line (c.args.count + 1) c.in-Err.refusal = search rules in
-    let more = ends_refused (PassesOver g.W.Target.state) (in_line g.R.Source.state c.args.intake.now) rest c.args.silent.now c.take_next.new.sink c.in-Err.refusal h in (
+    let at = goal.at.returns-in_ok-add_last-in-Refused-clause-ok g c in
+    let h = refusal g at.In-Refused in
+    let words : c.as_slice-in-Refused.result.now ≡ refused_line (c.args.count + 1) c.in-Refused.refusal = search rules in
+    let more = ends_refused (PassesOver g.W.Target.state) (in_line g.R.Source.state c.args.intake.now) rest c.args.silent.now c.take_next.new.sink c.in-Refused.refusal h in (
       tt,
       λ source old r empty. (
-        listed c.gifts_join.ensures rest c.add_last-in-Err.new.output 1 h.octets more.0 c.as_slice-in-Err.result.now (RefusedBy c.in-Err.refusal) (listed_out _ _ _ _ _ _ _ _ r h.came.told)
-            h.came.given more.1 (h.k, more.2) refl words empty c.in_ok-add_last-in-Err.ensures.ok c.in_ok-add_last-in-Err.ensures.held,
-        c.in_ok-add_last-in-Err.ensures.ok.same ∙ kept g at.After-take_next source old r,
+        listed c.gifts_join.ensures rest c.add_last-in-Refused.new.output 1 h.octets more.0 c.as_slice-in-Refused.result.now (RefusedBy c.in-Refused.refusal) (listed_out _ _ _ _ _ _ _ _ r h.came.told)
+            h.came.given more.1 (h.k, more.2) refl words empty c.in_ok-add_last-in-Refused.ensures.ok c.in_ok-add_last-in-Refused.ensures.held,
+        c.in_ok-add_last-in-Refused.ensures.ok.same ∙ kept g at.After-take_next source old r,
       ),
     )

@@ -11,24 +11,24 @@ use Rattle.iim_listing.specs.Turns.{IsTelling}
 use Rattle.iim_listing.specs.declared.narrator.Narrator.{Narrator}
 use Rattle.iim_listing.proofs.Narration.{TextIsTaken, all_out, all_settled, ended_keeps, keeps_on, narrated, narrated_more, refused_within, stands_told, text_refused, text_taken, told_keeps, unended, unended_keeps, unfed, untold, untold_keeps, whole_text}
 use Rattle.iim_listing.proofs.Listings.{ends_refused, left_of, none_left}
-use Rattle.iim_listing.proofs.Taken.{come_as, end_as, kept_next, lives_as, refusal_as, found}
+use Rattle.iim_listing.proofs.Taken.{come_as, end_as, kept_next, lives_as, refusal_as}
 use Rattle.iim_listing.specs.States.Coming.{IsRefusal}
 use Rattle.iim_listing.proofs.story.tell_next.Given.{Over}
-use Rattle.iim_listing.proofs.story.tell_next.Goals.{After-take_next, In-Ok-Some, In-Err}
+use Rattle.iim_listing.proofs.story.tell_next.Goals.{After-take_next, In-Envelope, In-Refused}
 use Rattle.iim_listing.proofs.story.tell_next.Goals as goal
 
 -- what came of an envelope, or of refused octets
-taken : (g : Over) (c : In-Ok-Some g) {source : Device} {first : Narrator _ _}
+taken : (g : Over) (c : In-Envelope g) {source : Device} {first : Narrator _ _}
     → (t : IsTelling g.W.Target.state g.E.Target.state first source (in_line g.R.Source.state c.args.intake.now) c.args.narrator.now c.args.count)
-    → TextIsTaken t.narrated (in_line g.R.Source.state c.take_next.new.intake) c.take_next.new.unpacker c.take_next.new.sink c.in-Ok-Some.octets
+    → TextIsTaken t.narrated (in_line g.R.Source.state c.take_next.new.intake) c.take_next.new.unpacker c.take_next.new.sink c.in-Envelope.octets
 taken g c t =
     text_taken c.envelopes_are_delivered_as_lines.ensures c.lines_are_joined_by_line_feeds.ensures c.texts_join.ensures t.narrated (in_line g.R.Source.state c.take_next.new.intake) c.take_next.new.unpacker c.take_next.new.sink
-    c.in_ok-octets.field-0 c.in-Ok-Some.octets (found c.in-Ok-Some.is c.in-Ok-Some.field-0-is) c.in_ok-octets.ensures.next
+    c.in_ok-octets.field-0 c.in-Envelope.octets c.in-Envelope.is c.in_ok-octets.ensures.next
 
-refusal : (g : Over) (c : In-Err g) → IsRefusal (TellsOn g.W.Target.state g.E.Target.state) (in_line g.R.Source.state c.args.intake.now) (in_line g.R.Source.state c.take_next.new.intake) c.args.narrator.now c.take_next.new.sink c.in-Err.refusal
+refusal : (g : Over) (c : In-Refused g) → IsRefusal (TellsOn g.W.Target.state g.E.Target.state) (in_line g.R.Source.state c.args.intake.now) (in_line g.R.Source.state c.take_next.new.intake) c.args.narrator.now c.take_next.new.sink c.in-Refused.refusal
 refusal g c =
     refusal_as (TellsOn g.W.Target.state g.E.Target.state) stops_of IsSettled (IsStuck g.W.Target.state g.E.Target.state) (in_line g.R.Source.state c.args.intake.now) (in_line g.R.Source.state c.take_next.new.intake) c.take_next.new.unpacker
-    c.args.narrator.now c.take_next.new.sink c.in_ok-octets.field-0 c.in-Err.refusal c.in-Err.is c.in_ok-octets.ensures.next
+    c.args.narrator.now c.take_next.new.sink c.in_ok-octets.field-0 c.in-Refused.refusal c.in-Refused.is c.in_ok-octets.ensures.next
 
 -- the targets stay the same
 kept : (g : Over) (c : After-take_next g) (first : Narrator _ _) → KeepsTargets first c.args.narrator.now → KeepsTargets first c.take_next.new.sink
@@ -49,22 +49,22 @@ returns-in_err-octets-clause-err g c =
       kept g at first t.keeps,
     ))
 
-pub returns-in_err-tell_last-in-Ok-Some-clause-err : goal.returns-in_err-tell_last-in-Ok-Some-clause-err
-returns-in_err-tell_last-in-Ok-Some-clause-err g c =
-    let at = goal.at.returns-in_err-tell_last-in-Ok-Some-clause-err g c in
+pub returns-in_err-tell_last-in-Envelope-clause-err : goal.returns-in_err-tell_last-in-Envelope-clause-err
+returns-in_err-tell_last-in-Envelope-clause-err g c =
+    let at = goal.at.returns-in_err-tell_last-in-Envelope-clause-err g c in
     let b = c.take_next.new.sink in
     let d = c.tell_last.new.self in
     let full : c.args.count ≡ max_envelopes = search rules in
     let same : c.as_bytes.result.now ≡ too_many_line = search rules in
-    let fault = c.in_err-tell_last-in-Ok-Some.field-0.0 in
-    handed_on _ c.from_residual-in_err-tell_last-in-Ok-Some.result fault c.from_residual-in_err-tell_last-in-Ok-Some.ensures.1
+    let fault = c.in_err-tell_last-in-Envelope.field-0.0 in
+    handed_on _ c.from_residual-in_err-tell_last-in-Envelope.result fault c.from_residual-in_err-tell_last-in-Envelope.ensures.1
     (λ source first t.
-    let h = taken g at.In-Ok-Some t in
+    let h = taken g at.In-Envelope t in
     let e = h.come.envelope in (
       untold g.E.Target.state c.gifts_join.ensures c.texts_join.ensures (in_line g.R.Source.state c.take_next.new.intake) b d c.as_bytes.result.now e.octets (length e.octets) t.narrated.taken t.narrated.texts h.stands
           (c.in_ok-octets.ensures.calm ∙ t.unbroken) h.come.came.given (omega arith) (whole_text e h.text)
-          (TooMany, (full, e, h.come.is, [], sym (append-nil e.octets)), (e, h.come.is, [], sym (append-nil e.octets), refl), same) fault c.in_err-tell_last-in-Ok-Some.ensures.err,
-      keeps_on first b d (kept g at.After-take_next first t.keeps) (untold_keeps g.W.Target.state g.E.Target.state b d c.as_bytes.result.now fault c.in_err-tell_last-in-Ok-Some.ensures.err),
+          (TooMany, (full, e, h.come.is, [], sym (append-nil e.octets)), (e, h.come.is, [], sym (append-nil e.octets), refl), same) fault c.in_err-tell_last-in-Envelope.ensures.err,
+      keeps_on first b d (kept g at.After-take_next first t.keeps) (untold_keeps g.W.Target.state g.E.Target.state b d c.as_bytes.result.now fault c.in_err-tell_last-in-Envelope.ensures.err),
     ))
 
 pub returns-then-count-eq-MAX_ENVELOPES-clause-ok : goal.returns-then-count-eq-MAX_ENVELOPES-clause-ok
@@ -78,10 +78,10 @@ returns-then-count-eq-MAX_ENVELOPES-clause-ok g c =
     let full : c.args.count ≡ max_envelopes = search rules in
     let same : c.as_bytes.result.now ≡ too_many_line = search rules in
     let more = left_of rest.octets in
-    let out = c.in_ok-tell_last-in-Ok-Some.ensures.ok in (
+    let out = c.in_ok-tell_last-in-Envelope.ensures.ok in (
       tt,
       λ source first t.
-          let h = taken g at.In-Ok-Some t in
+          let h = taken g at.In-Envelope t in
           let e = h.come.envelope in (
             narrated c.gifts_join.ensures rest (output_of ws first) (output_of ws d) (errors_of es first) (errors_of es d) 1 e.octets more.0 (text_of e) c.as_bytes.result.now TooMany t.narrated.taken
                 h.come.came.given more.1 (full, e, h.come.is, more.0, refl) (e, h.come.is, more.0, refl, refl) refl same
@@ -90,35 +90,35 @@ returns-then-count-eq-MAX_ENVELOPES-clause-ok g c =
           ),
     )
 
-pub returns-in_err-end_story-in-Ok-Some-clause-err : goal.returns-in_err-end_story-in-Ok-Some-clause-err
-returns-in_err-end_story-in-Ok-Some-clause-err g c =
-    let at = goal.at.returns-in_err-end_story-in-Ok-Some-clause-err g c in
+pub returns-in_err-end_story-in-Envelope-clause-err : goal.returns-in_err-end_story-in-Envelope-clause-err
+returns-in_err-end_story-in-Envelope-clause-err g c =
+    let at = goal.at.returns-in_err-end_story-in-Envelope-clause-err g c in
     let b = c.take_next.new.sink in
     let d = c.end_story.new.self in
-    let fault = c.in_err-end_story-in-Ok-Some.field-0.0 in
-    handed_on _ c.from_residual-in_err-end_story-in-Ok-Some.result fault c.from_residual-in_err-end_story-in-Ok-Some.ensures.1
+    let fault = c.in_err-end_story-in-Envelope.field-0.0 in
+    handed_on _ c.from_residual-in_err-end_story-in-Envelope.result fault c.from_residual-in_err-end_story-in-Envelope.ensures.1
     (λ source first t. (
-      unended c.gifts_join.ensures c.texts_join.ensures (taken g at.In-Ok-Some t) d (c.in_ok-octets.ensures.calm ∙ t.unbroken) fault c.in_err-end_story-in-Ok-Some.ensures.err,
-      keeps_on first b d (kept g at.After-take_next first t.keeps) (unended_keeps g.W.Target.state g.E.Target.state b d fault c.in_err-end_story-in-Ok-Some.ensures.err),
+      unended c.gifts_join.ensures c.texts_join.ensures (taken g at.In-Envelope t) d (c.in_ok-octets.ensures.calm ∙ t.unbroken) fault c.in_err-end_story-in-Envelope.ensures.err,
+      keeps_on first b d (kept g at.After-take_next first t.keeps) (unended_keeps g.W.Target.state g.E.Target.state b d fault c.in_err-end_story-in-Envelope.ensures.err),
     ))
 
-pub returns-in_ok-end_story-in-Ok-Some-clause-ok : goal.returns-in_ok-end_story-in-Ok-Some-clause-ok
-returns-in_ok-end_story-in-Ok-Some-clause-ok g c =
-    let at = goal.at.returns-in_ok-end_story-in-Ok-Some-clause-ok g c in
+pub returns-in_ok-end_story-in-Envelope-clause-ok : goal.returns-in_ok-end_story-in-Envelope-clause-ok
+returns-in_ok-end_story-in-Envelope-clause-ok g c =
+    let at = goal.at.returns-in_ok-end_story-in-Envelope-clause-ok g c in
     let b = c.take_next.new.sink in
     let d = c.end_story.new.self in
     let below : c.args.count ≡ max_envelopes → ⊥ = search rules in
-    let line = accepted_line (c.args.count + 1) c.in-Ok-Some.octets in
+    let line = accepted_line (c.args.count + 1) c.in-Envelope.octets in
     let ended : EndsStory g.W.Target.state b d line = search rules in
     let come = come_as (TellsOn g.W.Target.state g.E.Target.state) stops_of IsSettled (IsStuck g.W.Target.state g.E.Target.state) (in_line g.R.Source.state c.args.intake.now) (in_line g.R.Source.state c.take_next.new.intake)
-    c.take_next.new.unpacker c.args.narrator.now b c.in_ok-octets.field-0 c.in-Ok-Some.octets (found c.in-Ok-Some.is c.in-Ok-Some.field-0-is) c.in_ok-octets.ensures.next in (
+    c.take_next.new.unpacker c.args.narrator.now b c.in_ok-octets.field-0 c.in-Envelope.octets c.in-Envelope.is c.in_ok-octets.ensures.next in (
       (
-        lives_as c.take_next.new.intake.failed c.in_ok-octets.field-0 c.in-Ok-Some.octets (found c.in-Ok-Some.is c.in-Ok-Some.field-0-is) c.in_ok-octets.ensures.lives,
+        lives_as c.take_next.new.intake.failed c.in_ok-octets.field-0 c.in-Envelope.octets c.in-Envelope.is c.in_ok-octets.ensures.lives,
         come.same,
         omega (arith, c.requires.few, below),
       ),
       λ source first t.
-          let h = taken g at.In-Ok-Some t in
+          let h = taken g at.In-Envelope t in
           record {
             narrated = narrated_more c.gifts_join.ensures h d line below (ap (accepted_line (c.args.count + 1)) h.come.counts) ended;
             keeps = keeps_on first b d (kept g at.After-take_next first t.keeps) (ended_keeps g.W.Target.state b d line ended);
@@ -126,14 +126,14 @@ returns-in_ok-end_story-in-Ok-Some-clause-ok g c =
           },
     )
 
-pub returns-in-Ok-None-clause-ok : goal.returns-in-Ok-None-clause-ok
-returns-in-Ok-None-clause-ok g c =
-    let at = (goal.at.returns-in-Ok-None-clause-ok g c).After-take_next in
+pub returns-in-End-clause-ok : goal.returns-in-End-clause-ok
+returns-in-End-clause-ok g c =
+    let at = (goal.at.returns-in-End-clause-ok g c).After-take_next in
     let ws = g.W.Target.state in
     let es = g.E.Target.state in
     let rest = in_line g.R.Source.state c.take_next.new.intake in
     let b = c.take_next.new.sink in
-    let h = end_as (TellsOn ws es) stops_of IsSettled (IsStuck ws es) (in_line g.R.Source.state c.args.intake.now) rest c.take_next.new.unpacker c.args.narrator.now b c.in_ok-octets.field-0 (found c.in-Ok-None.is c.in-Ok-None.field-0-is)
+    let h = end_as (TellsOn ws es) stops_of IsSettled (IsStuck ws es) (in_line g.R.Source.state c.args.intake.now) rest c.take_next.new.unpacker c.args.narrator.now b c.in_ok-octets.field-0 c.in-End.is
     c.in_ok-octets.ensures.next in (
       tt,
       λ source first t. (
@@ -143,36 +143,36 @@ returns-in-Ok-None-clause-ok g c =
       ),
     )
 
-pub returns-in_err-tell_refusal-in-Err-clause-err : goal.returns-in_err-tell_refusal-in-Err-clause-err
-returns-in_err-tell_refusal-in-Err-clause-err g c =
-    let at = goal.at.returns-in_err-tell_refusal-in-Err-clause-err g c in
-    let f = refusal g at.In-Err in
+pub returns-in_err-tell_refusal-in-Refused-clause-err : goal.returns-in_err-tell_refusal-in-Refused-clause-err
+returns-in_err-tell_refusal-in-Refused-clause-err g c =
+    let at = goal.at.returns-in_err-tell_refusal-in-Refused-clause-err g c in
+    let f = refusal g at.In-Refused in
     let b = c.take_next.new.sink in
     let d = c.tell_refusal.new.self in
-    let line = refused_line (c.args.count + 1) c.in-Err.refusal in
-    let fault = c.in_err-tell_refusal-in-Err.field-0.0 in
-    handed_on _ c.from_residual-in_err-tell_refusal-in-Err.result fault c.from_residual-in_err-tell_refusal-in-Err.ensures.1
+    let line = refused_line (c.args.count + 1) c.in-Refused.refusal in
+    let fault = c.in_err-tell_refusal-in-Refused.field-0.0 in
+    handed_on _ c.from_residual-in_err-tell_refusal-in-Refused.result fault c.from_residual-in_err-tell_refusal-in-Refused.ensures.1
     (λ source first t. (
       untold g.E.Target.state c.gifts_join.ensures c.texts_join.ensures (in_line g.R.Source.state c.take_next.new.intake) b d line f.octets f.k t.narrated.taken t.narrated.texts
-          (stands_told c.texts_join.ensures t.narrated.stands f.came.told) (c.in_ok-octets.ensures.calm ∙ t.unbroken) f.came.given (refused_within f.octets f.k c.in-Err.refusal f.refused) (f.more, f.delivered, refl)
-          (RefusedBy c.in-Err.refusal, (f.k, f.refused), (f.k, f.refused, (f.more, f.delivered, refl)), refl) fault c.in_err-tell_refusal-in-Err.ensures.err,
-      keeps_on first b d (kept g at.After-take_next first t.keeps) (untold_keeps g.W.Target.state g.E.Target.state b d line fault c.in_err-tell_refusal-in-Err.ensures.err),
+          (stands_told c.texts_join.ensures t.narrated.stands f.came.told) (c.in_ok-octets.ensures.calm ∙ t.unbroken) f.came.given (refused_within f.octets f.k c.in-Refused.refusal f.refused) (f.more, f.delivered, refl)
+          (RefusedBy c.in-Refused.refusal, (f.k, f.refused), (f.k, f.refused, (f.more, f.delivered, refl)), refl) fault c.in_err-tell_refusal-in-Refused.ensures.err,
+      keeps_on first b d (kept g at.After-take_next first t.keeps) (untold_keeps g.W.Target.state g.E.Target.state b d line fault c.in_err-tell_refusal-in-Refused.ensures.err),
     ))
 
-pub returns-in_ok-tell_refusal-in-Err-clause-ok : goal.returns-in_ok-tell_refusal-in-Err-clause-ok
-returns-in_ok-tell_refusal-in-Err-clause-ok g c =
-    let at = goal.at.returns-in_ok-tell_refusal-in-Err-clause-ok g c in
-    let f = refusal g at.In-Err in
+pub returns-in_ok-tell_refusal-in-Refused-clause-ok : goal.returns-in_ok-tell_refusal-in-Refused-clause-ok
+returns-in_ok-tell_refusal-in-Refused-clause-ok g c =
+    let at = goal.at.returns-in_ok-tell_refusal-in-Refused-clause-ok g c in
+    let f = refusal g at.In-Refused in
     let ws = g.W.Target.state in
     let es = g.E.Target.state in
     let rest = in_line g.R.Source.state c.take_next.new.intake in
     let b = c.take_next.new.sink in
     let d = c.tell_refusal.new.self in
-    let out = c.in_ok-tell_refusal-in-Err.ensures.ok in
-    let more = ends_refused (TellsOn ws es) (in_line g.R.Source.state c.args.intake.now) rest c.args.narrator.now b c.in-Err.refusal f in (
+    let out = c.in_ok-tell_refusal-in-Refused.ensures.ok in
+    let more = ends_refused (TellsOn ws es) (in_line g.R.Source.state c.args.intake.now) rest c.args.narrator.now b c.in-Refused.refusal f in (
       tt,
       λ source first t. (
-        narrated c.gifts_join.ensures rest (output_of ws first) (output_of ws d) (errors_of es first) (errors_of es d) 1 f.octets more.0 (map octet_for f.more) (refused_line (c.args.count + 1) c.in-Err.refusal) (RefusedBy c.in-Err.refusal)
+        narrated c.gifts_join.ensures rest (output_of ws first) (output_of ws d) (errors_of es first) (errors_of es d) 1 f.octets more.0 (map octet_for f.more) (refused_line (c.args.count + 1) c.in-Refused.refusal) (RefusedBy c.in-Refused.refusal)
             t.narrated.taken f.came.given more.1 (f.k, more.2) (text_refused f more.0 more.2) refl refl
             (all_out c.texts_join.ensures (stands_told c.texts_join.ensures t.narrated.stands f.came.told) (c.in_ok-octets.ensures.calm ∙ t.unbroken) out),
         keeps_on first b d (kept g at.After-take_next first t.keeps) (out.text.0.same, out.keeps),
