@@ -8,7 +8,7 @@ use Rattle.iim_places.proofs.Words.{StoryLivesIn, text_so_far, HasCause, Message
 use Rattle.iim_places.proofs.Words.{refusal_at, message_on, AdmittedOctetsHaveOneValue, NoAdmittedOctetsBeginOthers, IsTextOf, object_so_far, AllCanContinue}
 use Rattle.iim_places.proofs.Words.{IsUnfinished, RefusesByTests, RefusesNext, truncated_in, IsRefusedHead, IsRefusedValue, OpenOctetsBeginWithNoEnvelope}
 use Rattle.iim_places.proofs.Words.{EnvelopesAreBounded, NothingContinuesFromRefusedOctets, RefusalsAreDetermined, StreamsHaveOneAnswer, IsEnvelopeWithin}
-use Rattle.iim_places.proofs.Words.{Finished, Refused, Truncated, IsFinished, IsRefused, IsTruncated, TokenFault, AnswerLaws, IsPlaceOf, place_of, LeadsToSaved}
+use Rattle.iim_places.proofs.Words.{Finished, Refused, Truncated, IsFinished, IsRefused, IsTruncated, TokenFault, LowerLaws, IsPlaceOf, place_of, LeadsToSaved}
 use Rattle.iim_places.proofs.Words.{MessagePlace, IsOpen}
 use Rattle.iim_dataset.specs.Format.Completing.{CompletesData}
 use Rattle.iim_dataset.specs.Format.Languages as languages
@@ -57,17 +57,17 @@ nothing_held = (
 )
 
 -- every layer can continue from whole datasets of an envelope
-pub goes_envelope : AnswerLaws → (limits : Limits) (octets : List ℕ) (v : Value) → (is : IsEnvelopeWithin limits octets v) → AllCanContinue limits is.admits.datasets (InTag [])
+pub goes_envelope : LowerLaws → (limits : Limits) (octets : List ℕ) (v : Value) → (is : IsEnvelopeWithin limits octets v) → AllCanContinue limits is.admits.datasets (InTag [])
 goes_envelope laws limits octets v is =
     let a = is.admits in
     let ds = a.datasets in
     let o : List ℕ = object_of ds in
     let m = a.message in
     let alive : SectionsLive ds = ([], subst AreSections (sym (append-nil ds)) a.sections) in
-    let sized : languages.IsAlive AreSized ds = ([], subst AreSized (sym (append-nil ds)) (sized_by laws.numbers octets v a)) in
+    let sized : languages.IsAlive AreSized ds = ([], subst AreSized (sym (append-nil ds)) (sized_by laws.by_number octets v a)) in
     let both = laws.living o a.text (AfterEnd v.head (record { items = v.trailer }) (length m.after)) (leads_to octets v a) in
     record {
-      sizes = record { records = alive; within = is.within; object = lives_after laws.follow.live ds alive sized };
+      sizes = record { records = alive; within = is.within; object = lives_after laws.live ds alive sized };
       message = lives_whole o (nat_eq (section_after ds) 9) both.0 (λ is'. record { object = o; head = v.head; text = a.text; trailer = v.trailer; message = m; tokens_are = refl });
       story = both.1;
     }
@@ -80,7 +80,7 @@ no_text = ([], InTag [], record { front = []; rest = []; is_front = refl; is_res
 pub reads_envelope : (octets : List ℕ) (v : Value) → (a : Admits octets v) → Reads count_octets octets a.datasets (InTag [])
 reads_envelope octets v a = record { front = octets; rest = []; is_front = a.spelled; is_rest = nothing_held; parts = sym (append-nil octets) }
 
-pub lives_envelope : AnswerLaws → (limits : Limits) (octets : List ℕ) (v : Value) → IsEnvelopeWithin limits octets v → Lives limits octets
+pub lives_envelope : LowerLaws → (limits : Limits) (octets : List ℕ) (v : Value) → IsEnvelopeWithin limits octets v → Lives limits octets
 lives_envelope laws limits octets v is =
     record { whole = is.admits.datasets; begun = InTag []; reads = reads_envelope octets v is.admits; leads_on = goes_envelope laws limits octets v is }
 
@@ -105,26 +105,26 @@ data_on : (octets more : List ℕ) (next : ℕ) (whole : List Dataset) (h : Head
 data_on octets more next whole h taken r =
     ap (λ (l : List ℕ). l ++ next ∷ more) (r.parts ∙ ap (λ (l : List ℕ). r.front ++ l) r.is_rest.4) ∙ append_assoc r.front (r.is_rest.0 ++ taken) (next ∷ more) ∙ ap (λ (l : List ℕ). r.front ++ l) (append_assoc r.is_rest.0 taken (next ∷ more))
 
-tag_follows : AnswerLaws → (octets more : List ℕ) (next : ℕ) (W : List Dataset) (c : Begun) → Reads count_octets (octets ++ next ∷ more) W c → (whole : List Dataset) (held : List ℕ) (h : Head) → Reads count_octets octets whole (InTag held)
+tag_follows : LowerLaws → (octets more : List ℕ) (next : ℕ) (W : List Dataset) (c : Begun) → Reads count_octets (octets ++ next ∷ more) W c → (whole : List Dataset) (held : List ℕ) (h : Head) → Reads count_octets octets whole (InTag held)
     → SpellsTag count_octets h (held ++ next ∷ []) → Follows whole h more W c
 tag_follows laws octets more next W c r whole held h reads tag =
-    follows laws.follow (octets ++ next ∷ more) W c r whole reads.front (held ++ next ∷ []) more h reads.is_front tag (tag_on octets more next whole held reads)
+    follows laws (octets ++ next ∷ more) W c r whole reads.front (held ++ next ∷ []) more h reads.is_front tag (tag_on octets more next whole held reads)
 
-data_follows : AnswerLaws → (octets more : List ℕ) (next : ℕ) (W : List Dataset) (c : Begun) → Reads count_octets (octets ++ next ∷ more) W c → (whole : List Dataset) (h : Head) (taken : List ℕ) → Reads count_octets octets whole (InData h taken)
+data_follows : LowerLaws → (octets more : List ℕ) (next : ℕ) (W : List Dataset) (c : Begun) → Reads count_octets (octets ++ next ∷ more) W c → (whole : List Dataset) (h : Head) (taken : List ℕ) → Reads count_octets octets whole (InData h taken)
     → Follows whole h (taken ++ next ∷ more) W c
 data_follows laws octets more next W c r whole h taken reads =
-    follows laws.follow (octets ++ next ∷ more) W c r whole reads.front reads.is_rest.0 (taken ++ next ∷ more) h reads.is_front reads.is_rest.1 (data_on octets more next whole h taken reads)
+    follows laws (octets ++ next ∷ more) W c r whole reads.front reads.is_rest.0 (taken ++ next ∷ more) h reads.is_front reads.is_rest.1 (data_on octets more next whole h taken reads)
 
-no_value : AnswerLaws → (limits : Limits) (W : List Dataset) (c : Begun) → AllCanContinue limits W c → (whole : List Dataset) (h : Head) (z given y : List ℕ) (fault : TokenFault) → Follows whole h z W c → z ≡ given ++ y
+no_value : LowerLaws → (limits : Limits) (W : List Dataset) (c : Begun) → AllCanContinue limits W c → (whole : List Dataset) (h : Head) (z given y : List ℕ) (fault : TokenFault) → Follows whole h z W c → z ≡ given ++ y
     → length given ≡ h.count → IsRefusedValue whole (data_of h given) fault → ⊥
 no_value laws limits W c all whole h z given y fault f parts many refused =
-    let lives = value_lives laws.follow limits W c all whole h z given y f parts many in
-    no_dead_value laws.follow.live fault.layer whole (data_of h given) lives.0 lives.1 refused.dead
+    let lives = value_lives laws limits W c all whole h z given y f parts many in
+    no_dead_value laws.live fault.layer whole (data_of h given) lives.0 lives.1 refused.dead
 
-head_dead : AnswerLaws → (limits : Limits) (W : List Dataset) (c : Begun) → AllCanContinue limits W c → (whole : List Dataset) (h : Head) (z : List ℕ) (fault : TokenFault) → Follows whole h z W c
+head_dead : LowerLaws → (limits : Limits) (W : List Dataset) (c : Begun) → AllCanContinue limits W c → (whole : List Dataset) (h : Head) (z : List ℕ) (fault : TokenFault) → Follows whole h z W c
     → IsRefusedHead limits whole h fault ⊎ IsUnfinished limits whole h fault → ⊥
-head_dead laws limits W c all whole h z fault f (inl refused) = no_dead_head fault.layer limits whole h (head_lives laws.follow limits W c all whole h z f) refused.dead
-head_dead laws limits W c all whole h z fault f (inr unfinished) = unfinished.dies.1 (message_ends laws.follow limits W c all whole h z f unfinished.last)
+head_dead laws limits W c all whole h z fault f (inl refused) = no_dead_head fault.layer limits whole h (head_lives laws limits W c all whole h z f) refused.dead
+head_dead laws limits W c all whole h z fault f (inr unfinished) = unfinished.dies.1 (message_ends laws limits W c all whole h z f unfinished.last)
 
 -- ---- an envelope is bounded
 
@@ -149,17 +149,17 @@ last_one (c ∷ ds) d octets (first, rest, one, more, parts) =
       parts = parts ∙ ap (λ (l : List ℕ). first ++ l) later.parts ∙ sym (append_assoc first later.front later.last);
     }
 
-pub envelope_bounded : AnswerLaws → EnvelopesAreBounded
+pub envelope_bounded : LowerLaws → EnvelopesAreBounded
 envelope_bounded laws limits octets v low few is = by (split_last is.admits.datasets)
   where
     by : SplitLast is.admits.datasets → length octets < 2 ^ 64 - 1
     by (inl none) = absurd (no_sections (subst AreSections none is.admits.sections))
     by (inr (ds, d, parts)) =
         let one = last_one ds d octets (subst (λ (xs : List Dataset). SpellsStream count_octets xs octets) parts is.admits.spelled) in
-        let goes = (in_front laws.follow limits is.admits.datasets (InTag []) (goes_envelope laws limits octets v is).sizes ds [] d parts).goes_at in
+        let goes = (in_front laws limits is.admits.datasets (InTag []) (goes_envelope laws limits octets v is).sizes ds [] d parts).goes_at in
         let unfinished : AreSections ds → ⊥ = λ sections.
-        let bad : d ∷ [] ≡ [] = laws.follow.sections ds (d ∷ []) sections (subst AreSections parts is.admits.sections) in absurd cc in
-        let front = head_fits laws.follow.sections laws.follow.ends limits low few ds (head_of d) one.front one.is_front goes unfinished in
+        let bad : d ∷ [] ≡ [] = laws.sections ds (d ∷ []) sections (subst AreSections parts is.admits.sections) in absurd cc in
+        let front = head_fits laws.sections laws.last_record limits low few ds (head_of d) one.front one.is_front goes unfinished in
         let s = one.is_last in
         omega (arith, front, ap length one.parts, length-append one.front one.last, ap length s.parts, length-append s.tag d.octets, tag_length (head_of d) s.tag s.is_tag)
 
@@ -177,15 +177,15 @@ fewer_data limits ds h x y other all = record {
 }
 
 -- before a head
-pub before_it : AnswerLaws → (limits : Limits) (ds : List Dataset) (h : Head) (held : List ℕ) → (h.rec ≡ 8 → ⊥) → (AreSections ds → ⊥) → AllCanContinue limits ds (InData h []) → AllCanContinue limits ds (InTag held)
+pub before_it : LowerLaws → (limits : Limits) (ds : List Dataset) (h : Head) (held : List ℕ) → (h.rec ≡ 8 → ⊥) → (AreSections ds → ⊥) → AllCanContinue limits ds (InData h []) → AllCanContinue limits ds (InTag held)
 before_it laws limits ds h held other unfinished all =
     let alive = alive_of limits ds (InData h []) all.sizes in
     let object : object_so_far ds (InData h []) ≡ object_of ds = ap (λ (b : Bool). object_of ds ++ (if b then [] else [])) (ne_eqb h.rec 8 other) ∙ append-nil (object_of ds) in
     let not_nine : nat_eq (section_after ds) 9 ≡ false =
-    elim (eqb_tells (section_after ds) 9) [ inl same ↦ absurd (unfinished (last_sections laws.follow.ends ds alive same.1)) | inr apart ↦ apart.0 ] in
+    elim (eqb_tells (section_after ds) 9) [ inl same ↦ absurd (unfinished (last_sections laws.last_record ds alive same.1)) | inr apart ↦ apart.0 ] in
     let message : MessageLivesWith (object_of ds) = message_of limits ds (InData h []) all (object_of ds) [] (object ∙ sym (append-nil (object_of ds))) in
     record {
-      sizes = record { records = alive; within = within_of limits ds (InData h []) all.sizes; object = object_lives_after laws.follow.objects limits ds (InData h []) all.sizes };
+      sizes = record { records = alive; within = within_of limits ds (InData h []) all.sizes; object = object_lives_after laws limits ds (InData h []) all.sizes };
       message = subst (λ (b : Bool). languages.IsAlive MessageLanguage (map Octet (object_of ds) ++ (if b then End ∷ [] else []))) (sym not_nine)
           (subst (languages.IsAlive MessageLanguage) (sym (append-nil (map Octet (object_of ds)))) message);
       story = subst StoryLivesIn object all.story;
@@ -198,10 +198,10 @@ pub record SameReading (whole other : List Dataset) (b c : Begun) : Type 0 where
   pub whole_is : whole ≡ other
   pub begun_is : b ≡ c
 
-pub one_reading : AnswerLaws → (octets : List ℕ) (whole other : List Dataset) (b c : Begun) → Reads count_octets octets whole b → Reads count_octets octets other c → SameReading whole other b c
+pub one_reading : LowerLaws → (octets : List ℕ) (whole other : List Dataset) (b c : Begun) → Reads count_octets octets whole b → Reads count_octets octets other c → SameReading whole other b c
 one_reading laws octets whole other b c r s =
-    let way = laws.way octets (handed_on whole b) (handed_on other c) b c (record { whole = whole; reads = r; handed = refl }) (record { whole = other; reads = s; handed = refl }) in
-    record { whole_is = (laws.tell whole other b c way.0).0; begun_is = way.1 }
+    let way = laws.one_way octets (handed_on whole b) (handed_on other c) b c (record { whole = whole; reads = r; handed = refl }) (record { whole = other; reads = s; handed = refl }) in
+    record { whole_is = (laws.events_tell whole other b c way.0).0; begun_is = way.1 }
 
 -- the octets of the place are read so
 pub record Coming (place : Place) (whole : List Dataset) (begun : Begun) : Type 0 where
@@ -210,7 +210,7 @@ pub record Coming (place : Place) (whole : List Dataset) (begun : Begun) : Type 
   pub leads : LeadsToSaved (object_so_far whole begun) text message
   pub is_place : place ≡ place_of whole begun message
 
-pub coming : AnswerLaws → (place : Place) (octets : List ℕ) → IsPlaceOf octets place → (whole : List Dataset) (begun : Begun)
+pub coming : LowerLaws → (place : Place) (octets : List ℕ) → IsPlaceOf octets place → (whole : List Dataset) (begun : Begun)
     → Reads count_octets octets whole begun → Coming place whole begun
 coming laws place octets is whole begun reads =
     let same = one_reading laws octets is.whole whole is.begun begun is.reads reads in
@@ -223,7 +223,7 @@ coming laws place octets is whole begun reads =
     }
 
 -- with what open octets read every layer can continue, and it is no envelope
-pub open_at : AnswerLaws → (limits : Limits) (octets : List ℕ) (ds : List Dataset) (b : Begun) → Reads count_octets octets ds b → IsOpen limits octets
+pub open_at : LowerLaws → (limits : Limits) (octets : List ℕ) (ds : List Dataset) (b : Begun) → Reads count_octets octets ds b → IsOpen limits octets
     → AllCanContinue limits ds b × (AreSections ds → ⊥)
 open_at laws limits octets ds b reads is =
     let same = one_reading laws octets is.whole ds is.begun b is.reads reads in (
@@ -231,9 +231,9 @@ open_at laws limits octets ds b reads is =
       (λ sections. is.unfinished (subst AreSections (sym same.whole_is) sections)),
     )
 
-same_head : AnswerLaws → (h k : Head) (held tag : List ℕ) (next : ℕ) → held ≡ tag → SpellsTag count_octets h (held ++ next ∷ []) → SpellsTag count_octets k (tag ++ next ∷ []) → h ≡ k
+same_head : LowerLaws → (h k : Head) (held tag : List ℕ) (next : ℕ) → held ≡ tag → SpellsTag count_octets h (held ++ next ∷ []) → SpellsTag count_octets k (tag ++ next ∷ []) → h ≡ k
 same_head laws h k held tag next same s t =
-    (laws.follow.one_tag count_octets h k (held ++ next ∷ []) (tag ++ next ∷ []) [] [] s t (ap (λ (l : List ℕ). (l ++ next ∷ []) ++ []) same)).0
+    (laws.one_tag count_octets h k (held ++ next ∷ []) (tag ++ next ∷ []) [] [] s t (ap (λ (l : List ℕ). (l ++ next ∷ []) ++ []) same)).0
 
 -- a tag that dies is none
 not_tag : {A : Type 0} → (held tag : List ℕ) (next : ℕ) (h : Head) → held ≡ tag → BeginsNoTag count_octets (held ++ next ∷ []) → SpellsTag count_octets h (tag ++ next ∷ []) → A
@@ -241,7 +241,7 @@ not_tag held tag next h same dead spelled =
     absurd (dead h [] (subst (SpellsTag count_octets h) (sym (append-nil (held ++ next ∷ []) ∙ ap (λ (l : List ℕ). l ++ next ∷ []) same)) spelled))
 
 -- a head that is refused, and one with which all continues
-not_both : AnswerLaws → {A : Type 0} → (limits : Limits) (whole : List Dataset) (h : Head) (given : List ℕ) (fault : TokenFault) → AllCanContinue limits whole (InData h given) → IsRefusedHead limits whole h fault ⊎ IsUnfinished limits whole h fault → A
+not_both : LowerLaws → {A : Type 0} → (limits : Limits) (whole : List Dataset) (h : Head) (given : List ℕ) (fault : TokenFault) → AllCanContinue limits whole (InData h given) → IsRefusedHead limits whole h fault ⊎ IsUnfinished limits whole h fault → A
 not_both laws limits whole h given fault all (inl refused) = absurd (no_dead_head fault.layer limits whole h all.sizes refused.dead)
 not_both laws limits whole h given fault all (inr unfinished) =
     absurd (unfinished.dies.1 (subst (languages.IsAlive MessageLanguage) (ends_tokens whole h given unfinished.last) all.message))
@@ -254,11 +254,11 @@ one_head_fault limits whole h f g (inr a) (inr b) = a.is_fault ∙ sym b.is_faul
 
 -- ---- one cause of an octet
 
-pub not_held : AnswerLaws → {A : Type 0} → (text : List ℕ) (held : ℕ) → 0 < held → Holds text held → Holds text 0 → A
+pub not_held : LowerLaws → {A : Type 0} → (text : List ℕ) (held : ℕ) → 0 < held → Holds text held → Holds text 0 → A
 not_held laws text held some (lines, line, so_far) (others, other, none) =
-    absurd (let same = (laws.texts text lines others line other held 0 so_far none).2 in omega (arith, some, same))
+    absurd (let same = (laws.one_text text lines others line other held 0 so_far none).2 in omega (arith, some, same))
 
-one_cause : AnswerLaws → (a b : MessageCause) (o : List ℕ) (next : ℕ) → HasCause a o next → HasCause b o next → a ≡ b
+one_cause : LowerLaws → (a b : MessageCause) (o : List ℕ) (next : ℕ) → HasCause a o next → HasCause b o next → a ≡ b
 one_cause laws messages.BadOctet messages.BadOctet o next h k = refl
 one_cause laws messages.LoneReturn messages.LoneReturn o next h k = refl
 one_cause laws messages.ControlOctet messages.ControlOctet o next h k = refl
@@ -298,7 +298,7 @@ abbrev pub Refuses : Limits → List ℕ → ℕ → TokenFault → Type 0
 Refuses limits octets next fault =
     (ds : List Dataset) × (b : Begun) × Reads count_octets octets ds b × AllCanContinue limits ds b × (AreSections ds → ⊥) × IsRefusedAt limits ds b next fault
 
-pub refuses_by : AnswerLaws → (limits : Limits) (octets : List ℕ) (next : ℕ) (fault : TokenFault) → RefusesByTests limits octets next fault
+pub refuses_by : LowerLaws → (limits : Limits) (octets : List ℕ) (next : ℕ) (fault : TokenFault) → RefusesByTests limits octets next fault
     → Refuses limits octets next fault
 refuses_by laws limits octets next fault (inl bad) = (bad.whole, InTag bad.held, bad.reads, bad.leads_on, bad.unfinished, inl (bad.dead, bad.is_fault))
 refuses_by laws limits octets next fault (inr (inl bad)) =
@@ -352,13 +352,13 @@ tests_of limits octets next fault (ds, InData h xs, reads, all, open', inr (othe
     let done = inl (xs, reads, refl, many) in
     inr (inr (inr (record { whole = ds; head = h; given = ys; is_value = other; completes = done; leads_on = more; unfinished = open'; refuses = bad })))
 
-one_with : AnswerLaws → (limits : Limits) (ds : List Dataset) (h : Head) (f g : TokenFault) → IsRefusedWith limits ds h f → IsRefusedWith limits ds h g → f ≡ g
+one_with : LowerLaws → (limits : Limits) (ds : List Dataset) (h : Head) (f g : TokenFault) → IsRefusedWith limits ds h f → IsRefusedWith limits ds h g → f ≡ g
 one_with laws limits ds h f g (inl a) (inl b) = one_head_fault limits ds h f g a b
 one_with laws limits ds h f g (inl a) (inr b) = not_both laws limits ds h [] f b.2 a
 one_with laws limits ds h f g (inr a) (inl b) = not_both laws limits ds h [] g a.2 b
 one_with laws limits ds h f g (inr a) (inr b) = same_Some _ _ (sym a.3.first ∙ b.3.first)
 
-one_step : AnswerLaws → (limits : Limits) (ds : List Dataset) (b : Begun) (next : ℕ) (f g : TokenFault) → IsRefusedAt limits ds b next f
+one_step : LowerLaws → (limits : Limits) (ds : List Dataset) (b : Begun) (next : ℕ) (f g : TokenFault) → IsRefusedAt limits ds b next f
     → IsRefusedAt limits ds b next g → f ≡ g
 one_step laws limits ds (InTag held) next f g (inl a) (inl b) = a.1 ∙ sym b.1
 one_step laws limits ds (InTag held) next f g (inl a) (inr (h, tag, b)) = not_tag held held next h refl a.0 tag
@@ -372,7 +372,7 @@ one_step laws limits ds (InData h taken) next f g (inl a) (inr b) = absurd (b.0 
 one_step laws limits ds (InData h taken) next f g (inr a) (inl b) = absurd (a.0 b.0)
 one_step laws limits ds (InData h taken) next f g (inr a) (inr b) = same_Some _ _ (sym a.2.first ∙ b.2.first)
 
-pub one_refusal : AnswerLaws → RefusalsTellTheLowestCause → RefusalsAreDetermined
+pub one_refusal : LowerLaws → RefusalsTellTheLowestCause → RefusalsAreDetermined
 one_refusal laws tests limits octets next f g a b =
     let (ds, c, reads, all, open', bad) = refuses_by laws limits octets next f ((tests limits octets next f).0 a).1 in
     let (es, d, are, goes, more, dead) = refuses_by laws limits octets next g ((tests limits octets next g).0 b).1 in
@@ -383,7 +383,7 @@ one_refusal laws tests limits octets next f g a b =
 
 -- ---- with a refused octet nothing lives
 
-none_lives : AnswerLaws → (limits : Limits) (octets more : List ℕ) (next : ℕ) (fault : TokenFault) (ds : List Dataset) (b : Begun)
+none_lives : LowerLaws → (limits : Limits) (octets more : List ℕ) (next : ℕ) (fault : TokenFault) (ds : List Dataset) (b : Begun)
     → Reads count_octets octets ds b → IsRefusedAt limits ds b next fault → fault.cause ≢ causes.Sink → Lives limits (octets ++ next ∷ more) → ⊥
 none_lives laws limits octets more next fault ds (InTag held) reads (inl (dead, is)) other lives =
     laws.stuck octets more next ds held lives.whole lives.begun reads dead lives.reads
@@ -405,7 +405,7 @@ none_lives laws limits octets more next fault ds (InData h taken) reads (inr (va
     no_value laws limits lives.whole lives.begun lives.leads_on ds h (taken ++ next ∷ more) (taken ++ next ∷ []) more fault f
     (sym (append_assoc taken (next ∷ []) more)) many bad
 
-pub nothing_continues : AnswerLaws → RefusalsTellTheLowestCause → NothingContinuesFromRefusedOctets
+pub nothing_continues : LowerLaws → RefusalsTellTheLowestCause → NothingContinuesFromRefusedOctets
 nothing_continues laws tests limits octets more next fault kills = (
   λ is. none_lives laws limits octets more next fault found.0 found.1 found.2 found.5 kills.by_octets (lives_open limits (octets ++ next ∷ more) is),
   λ v is. none_lives laws limits octets more next fault found.0 found.1 found.2 found.5 kills.by_octets
@@ -432,7 +432,7 @@ front_at (b ∷ stream) (suc k) (suc n) less fits = let (more, is) = front_at st
 
 -- what the laws say of one stream
 pub record StreamLaws : Type 0 where
-  pub answer : AnswerLaws
+  pub lower : LowerLaws
   pub tests : RefusalsTellTheLowestCause
   pub value : AdmittedOctetsHaveOneValue
   pub others : NoAdmittedOctetsBeginOthers
@@ -451,7 +451,7 @@ IsDead limits stream e = IsRefused limits stream e × (e.cause ≢ causes.Sink)
 none_after : StreamLaws → (limits : Limits) (stream : List ℕ) (e : Refusal) → IsDead limits stream e → (more : List ℕ)
     → (IsOpen limits (take e.octet stream ++ slice_index stream e.octet ∷ more) → ⊥) × ((v : Value) → IsEnvelopeWithin limits (take e.octet stream ++ slice_index stream e.octet ∷ more) v → ⊥)
 none_after laws limits stream e (is, calm) more =
-    nothing_continues laws.answer laws.tests limits (take e.octet stream) more (slice_index stream e.octet) is.fault
+    nothing_continues laws.lower laws.tests limits (take e.octet stream) more (slice_index stream e.octet) is.fault
     (record { refuses = is.refuses; by_octets = λ sink. calm (ap (λ (x : Refusal). x.cause) is.refusal ∙ sink) })
 
 -- an envelope, and a refusal
@@ -481,7 +481,7 @@ dies_before laws limits stream e f a b less =
 same_death : StreamLaws → (limits : Limits) (stream : List ℕ) (e f : Refusal) → IsRefused limits stream e → IsRefused limits stream f → e.octet ≡ f.octet → e ≡ f
 same_death laws limits stream e f a b same =
     let refuses : RefusesNext limits (take f.octet stream) (slice_index stream f.octet) a.fault = subst (λ (k : ℕ). RefusesNext limits (take k stream) (slice_index stream k) a.fault) same a.refuses in
-    let fault = one_refusal laws.answer laws.tests limits (take f.octet stream) (slice_index stream f.octet) a.fault b.fault refuses b.refuses in
+    let fault = one_refusal laws.lower laws.tests limits (take f.octet stream) (slice_index stream f.octet) a.fault b.fault refuses b.refuses in
     a.refusal ∙ ap (λ (k : ℕ). refusal_at k a.fault) same ∙ ap (refusal_at f.octet) fault ∙ sym b.refusal
 
 one_end : StreamLaws → (limits : Limits) (stream : List ℕ) (n m : ℕ) (v w : Value) → IsFinished limits stream n v → IsFinished limits stream m w → n ≡ m → Finished n v ≡ Finished m w
@@ -493,7 +493,7 @@ one_break : StreamLaws → (limits : Limits) (stream : List ℕ) (e f : Refusal)
 one_break laws limits stream e f a b =
     let s = a.refusal in
     let t = b.refusal in
-    let same = (one_reading laws.answer stream s.whole t.whole s.begun t.begun s.reads t.reads).begun_is in
+    let same = (one_reading laws.lower stream s.whole t.whole s.begun t.begun s.reads t.reads).begun_is in
     s.refusal ∙ ap (λ (x : Begun). truncated_in (length stream) (begun_record x, begun_number x)) same ∙ sym t.refusal
 
 pub one_answer : StreamLaws → StreamsHaveOneAnswer

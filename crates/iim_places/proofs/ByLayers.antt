@@ -8,11 +8,11 @@ use Rattle.iim_places.proofs.Words.{NotEnded, ConfirmedAs, place_after, max_subf
 use Rattle.iim_places.proofs.Words.{MessageLanguage, MessagesEndAfterEot, LeadsToSaved, MessagePlace, object_of, LeadsByLayers, TagsLead, RecordsLive}
 use Rattle.iim_places.proofs.Words.{ObjectLeads, MessageLeads, record_datasets, begun_subfiles, begun_of_object, object_after, one_of_some, are_ended}
 use Rattle.iim_places.proofs.Words.{object_so_far, section, AllCanContinue, plain, Possible, widest, Phase, TagBegun, AllEnded, phase_of, place_of, ObjectLives}
-use Rattle.iim_places.proofs.Words.{CanContinueAt, MayContinue, ByLayersLaws, OpenLaws, AllByRecursion, unwrap_or, length-take, take-append-drop}
+use Rattle.iim_places.proofs.Words.{CanContinueAt, MayContinue, LowerLaws, AllByRecursion, unwrap_or, length-take, take-append-drop}
 use Rattle.iim_places.proofs.Words.{nil_from_length, IsOctet, greatest_size, SpellsTag, SpellsStream, canonical_stream, HasSpellings, IsBegun, BeginsTag}
 use Rattle.iim_places.proofs.Words.{all_append, all_front, all_back, front_are, sum_fits, is_kept, IsGoodDataset, IsWithin, head_alive, Confirmed}
 use Rattle.iim_places.proofs.Words.{subfile_datasets, Ending, Ended, LastIsBegun, AreStated, number_at, IsSize, head_of_numbers, AreWithin, AreSpellable}
-use Rattle.iim_places.proofs.Words.{begun_object, plain_place, Numbers, number_list, filled, plain_end, AreOpenOrWhole, DataBegun, IsPlaceOf, SizeLaws}
+use Rattle.iim_places.proofs.Words.{begun_object, plain_place, Numbers, number_list, filled, plain_end, AreOpenOrWhole, DataBegun, IsPlaceOf}
 use Rattle.iim_places.proofs.Words.{begun_count, begun_fields}
 use Rattle.iim_object.specs.States.Saved.{IsAt}
 use Rattle.iim_places.specs.Format.Tickets.{Place}
@@ -72,15 +72,15 @@ one_same zero = refl
 one_same (suc n) = refl
 
 -- What the layer says after datasets it says after these.
-fewer : OpenLaws → (ds : List Dataset) → SectionsLive ds → length (of_record 8 ds) ≤ max_subfiles → Continues ds (few_of ds (nat_eq (section_after ds) 9))
-fewer laws ds alive few = plain_like laws.answer ds (kept ds) (numbers_in (numbers_of (of_record 7 ds))) (one_of_some (length (of_record 8 ds))) []
+fewer : LowerLaws → (ds : List Dataset) → SectionsLive ds → length (of_record 8 ds) ≤ max_subfiles → Continues ds (few_of ds (nat_eq (section_after ds) 9))
+fewer laws ds alive few = plain_like laws ds (kept ds) (numbers_in (numbers_of (of_record 7 ds))) (one_of_some (length (of_record 8 ds))) []
     (nat_eq (section_after ds) 9) (record {
       alive = alive;
       few = few;
       fields_are = refl;
       numbers_are = refl;
       some = one_same (length (of_record 8 ds));
-      ends = nines laws.answer.follow ds alive;
+      ends = nines laws ds alive;
       many = few_subfiles (length (of_record 8 ds));
       octets = tt;
       fits = omega arith;
@@ -109,7 +109,7 @@ records_tag ds es held present alive = by (nat_eq (section_after ds) 9) refl
     by true is = (eqb-true (section_after ds) 9 is, alive)
     by false is = (sym present, alive)
 
-records_lead : OpenLaws → (ds : List Dataset) (b : Begun) (m : MessagePlace) → MayContinue widest ds b
+records_lead : LowerLaws → (ds : List Dataset) (b : Begun) (m : MessagePlace) → MayContinue widest ds b
     → RecordsLive (section ds b) (phase_of ds b) (record_datasets (place_of ds b m) (numbers_in (numbers_of (of_record 7 ds))))
 records_lead laws ds (InTag held) m goes =
     let f = fewer laws ds goes.records goes.within.subfiles in
@@ -122,7 +122,7 @@ records_lead laws ds (InData h taken) m goes =
     let alive = alive_of widest ds (InData h taken) goes in
     let f = fewer laws ds alive goes.within.subfiles in
     let open' : nat_eq (section_after ds) 9 ≡ false = elim (eqb_tells (section_after ds) 9) [
-      | inl nine ↦ absurd (not_all laws.answer.follow.sections ds h goes.records (last_sections laws.answer.follow.ends ds alive nine.1))
+      | inl nine ↦ absurd (not_all laws.sections ds h goes.records (last_sections laws.last_record ds alive nine.1))
       | inr other ↦ other.0
     ] in
     let is : few_of ds (nat_eq (section_after ds) 9) ≡ record_datasets (place_of ds (InData h taken) m) (numbers_in (numbers_of (of_record 7 ds))) =
@@ -140,8 +140,8 @@ none_ended : (rs : List Dataset) → length rs ≡ 0 → ending_of rs ≡ NotEnd
 none_ended [] e = refl
 none_ended (r ∷ rs) e = absurd (omega (arith, e))
 
-pub nine_ended : OpenLaws → (ds : List Dataset) → SectionsLive ds → nat_eq (section_after ds) 9 ≡ false → ending_of (of_record 9 ds) ≡ NotEnded
-nine_ended laws ds alive open' = none_ended (of_record 9 ds) (nines laws.answer.follow ds alive ∙ ap (λ (b : Bool). cond b 1 0) open')
+pub nine_ended : LowerLaws → (ds : List Dataset) → SectionsLive ds → nat_eq (section_after ds) 9 ≡ false → ending_of (of_record 9 ds) ≡ NotEnded
+nine_ended laws ds alive open' = none_ended (of_record 9 ds) (nines laws ds alive ∙ ap (λ (b : Bool). cond b 1 0) open')
 
 pub opened_at : (ds : List Dataset) → ending_of (of_record 9 ds) ≡ NotEnded → record (place_after_datasets ds) { ending = NotEnded } ≡ place_after_datasets ds
 opened_at ds none = λ i. record { stated = numbers_of (of_record 7 ds); lengths = lengths_of (of_record 8 ds); ending = sym none i }
@@ -151,19 +151,19 @@ pub whole_at : (ds : List Dataset) (taken heads : ℕ) → taken ≡ length (obj
 whole_at ds taken heads octets many = record { numbers_are = refl; octets = total_of (of_record 8 ds) ∙ sym octets; subfiles = many ∙ sym (count_of (of_record 8 ds)); not_ended = refl }
 
 -- at the end the size of the object is confirmed
-pub confirmed_at : OpenLaws → (ds : List Dataset) → SectionsLive ds → length (of_record 8 ds) ≤ max_subfiles → ObjectLives (place_after_datasets ds) → nat_eq (section_after ds) 9 ≡ true → ending_of (of_record 9 ds) ≡ ConfirmedAs (length (object_of ds))
+pub confirmed_at : LowerLaws → (ds : List Dataset) → SectionsLive ds → length (of_record 8 ds) ≤ max_subfiles → ObjectLives (place_after_datasets ds) → nat_eq (section_after ds) 9 ≡ true → ending_of (of_record 9 ds) ≡ ConfirmedAs (length (object_of ds))
 confirmed_at laws ds alive few lives ended =
-    let stated = stated_after_all laws.answer.follow.objects ds alive few in
+    let stated = stated_after_all laws ds alive few in
     let fits = object_low ds lives in
-    ending_like laws.sizes (numbers_of (of_record 7 ds)) (lengths_of (of_record 8 ds)) (of_record 9 ds) true (object_of ds) stated.stated stated.duties stated.subfiles lives
-    (nines laws.answer.follow ds alive ∙ ap (λ (b : Bool). cond b 1 0) ended) (total_of (of_record 8 ds)) fits
+    ending_like laws (numbers_of (of_record 7 ds)) (lengths_of (of_record 8 ds)) (of_record 9 ds) true (object_of ds) stated.stated stated.duties stated.subfiles lives
+    (nines laws ds alive ∙ ap (λ (b : Bool). cond b 1 0) ended) (total_of (of_record 8 ds)) fits
     ∙ ap ConfirmedAs (low_number (length (object_of ds)) fits)
 
-object_tag : OpenLaws → (ds : List Dataset) (held : List ℕ) (m : MessagePlace) → MayContinue widest ds (InTag held) → ObjectLeads (place_of ds (InTag held) m)
+object_tag : LowerLaws → (ds : List Dataset) (held : List ℕ) (m : MessagePlace) → MayContinue widest ds (InTag held) → ObjectLeads (place_of ds (InTag held) m)
 object_tag laws ds held m goes = by (nat_eq (section_after ds) 9) refl
   where
     stated : IsStated (place_after_datasets ds)
-    stated = stated_after_all laws.answer.follow.objects ds goes.records goes.within.subfiles
+    stated = stated_after_all laws ds goes.records goes.within.subfiles
 
     possible : IsPossible (place_after_datasets ds)
     possible = possible_of (place_after_datasets ds) stated (let count = count_of (of_record 8 ds) in let few = goes.within.subfiles in omega (arith, count, few)) goes.object
@@ -198,9 +198,9 @@ subfile_at ds h taken less =
     }
 
 -- where every layer can continue with a head, its place is possible
-pub possible_at : OpenLaws → (limits : Limits) (ds : List Dataset) (h : Head) → CanContinueAt limits ds h → IsPossible (place_at ds h)
+pub possible_at : LowerLaws → (limits : Limits) (ds : List Dataset) (h : Head) → CanContinueAt limits ds h → IsPossible (place_at ds h)
 possible_at laws limits ds h goes =
-    possible_of (place_at ds h) (stated_at laws.answer.follow.objects ds h goes.records goes.within.subfiles goes.room.subfiles)
+    possible_of (place_at ds h) (stated_at laws ds h goes.records goes.within.subfiles goes.room.subfiles)
     (few (nat_eq h.rec 8) (nat_eq h.rec 9) refl) goes.object
   where
     ls : List ℕ
@@ -217,7 +217,7 @@ possible_at laws limits ds h goes =
     few false false eight = let few = goes.within.subfiles in omega (arith, count_of (of_record 8 ds), few)
 
 -- in data there is a place that the numbers tell, and with what came last it is that of the datasets and the head
-pub led_at : OpenLaws → (limits : Limits) (ds : List Dataset) (h : Head) (taken : List ℕ) → CanContinueAt limits ds h
+pub led_at : LowerLaws → (limits : Limits) (ds : List Dataset) (h : Head) (taken : List ℕ) → CanContinueAt limits ds h
     → ending_of (of_record 9 ds) ≡ NotEnded → length taken < h.count
     → (p : objects.Place)
     × IsAt (stated_numbers (numbers_of (of_record 7 ds))) (length (object_of ds ++ (if nat_eq h.rec 8 then taken else [])))
@@ -248,12 +248,12 @@ led_at laws limits ds h taken goes open' less = by (nat_eq h.rec 8) (nat_eq h.re
     by false true eight nine = (opened ds, whole, refl)
     by false false eight nine = (opened ds, whole, opened_at ds open')
 
-object_leads : OpenLaws → (octets : List ℕ) (ds : List Dataset) (b : Begun) (m : MessagePlace) → Reads count_octets octets ds b → MayContinue widest ds b → ObjectLeads (place_of ds b m)
+object_leads : LowerLaws → (octets : List ℕ) (ds : List Dataset) (b : Begun) (m : MessagePlace) → Reads count_octets octets ds b → MayContinue widest ds b → ObjectLeads (place_of ds b m)
 object_leads laws octets ds (InTag held) m reads goes = object_tag laws ds held m goes
 object_leads laws octets ds (InData h taken) m reads goes =
     let alive = alive_of widest ds (InData h taken) goes in
     let open' : ending_of (of_record 9 ds) ≡ NotEnded = elim (eqb_tells (section_after ds) 9) [
-      | inl nine ↦ absurd (not_all laws.answer.follow.sections ds h goes.records (last_sections laws.answer.follow.ends ds alive nine.1))
+      | inl nine ↦ absurd (not_all laws.sections ds h goes.records (last_sections laws.last_record ds alive nine.1))
       | inr other ↦ nine_ended laws ds alive other.0
     ] in
     let (p, at, is) = led_at laws widest ds h taken goes open' reads.is_rest.2 in (p, at, subst IsPossible (sym is) (possible_at laws widest ds h goes))
@@ -263,19 +263,19 @@ object_leads laws octets ds (InData h taken) m reads goes =
 ended_message : MessagesEndAfterEot → (o text : List ℕ) (m : MessagePlace) → LeadsToSaved o text m → languages.IsAlive MessageLanguage (map Octet o ++ End ∷ []) → m.part ≡ part.AfterEnd
 ended_message law o text m (at, leads, saves) alive = sym (ap (λ (x : MessagePlace). x.part) saves) ∙ after_end at ((law o text at leads).0 alive)
 
-message_leads : ByLayersLaws → (ds : List Dataset) (b : Begun) (text : List ℕ) (m : MessagePlace) → AllCanContinue widest ds b → LeadsToSaved (object_so_far ds b) text m → MessageLeads (place_of ds b m)
+message_leads : LowerLaws → (ds : List Dataset) (b : Begun) (text : List ℕ) (m : MessagePlace) → AllCanContinue widest ds b → LeadsToSaved (object_so_far ds b) text m → MessageLeads (place_of ds b m)
 message_leads laws ds b text m goes leads = (
   object_so_far ds b,
   text,
   leads,
   refl,
-  (λ nine. ended_message laws.ends (object_so_far ds b) text m leads
+  (λ nine. ended_message laws.message_ends (object_so_far ds b) text m leads
       (subst (λ (c : Bool). languages.IsAlive MessageLanguage (map Octet (object_so_far ds b) ++ (if c then End ∷ [] else []))) (ap (λ (r : ℕ). nat_eq r 9) nine) goes.message)),
 )
 
 -- ---- all of them
 
-leads_of : ByLayersLaws → (place : Place) (l : Lived place) → LeadsByLayers (place_of l.whole l.begun l.message)
+leads_of : LowerLaws → (place : Place) (l : Lived place) → LeadsByLayers (place_of l.whole l.begun l.message)
 leads_of laws place l =
     let ds = l.whole in
     let goes = l.leads_on.sizes in
@@ -284,38 +284,38 @@ leads_of laws place l =
       numbers_are = refl;
       kept = all_kept ds;
       tags = tags_lead l.octets ds l.begun l.reads;
-      records = records_lead laws.opens ds l.begun l.message goes;
-      object = object_leads laws.opens l.octets ds l.begun l.message l.reads goes;
+      records = records_lead laws ds l.begun l.message goes;
+      object = object_leads laws l.octets ds l.begun l.message l.reads goes;
       message = message_leads laws ds l.begun l.text l.message l.leads_on l.leads;
       within = told_by widest ds l.begun l.message goes;
     }
 
 -- At a possible place each layer can be.
-pub leads_by_layers : ByLayersLaws → (place : Place) → Possible place → LeadsByLayers place
-leads_by_layers laws place p = let l = lived laws.opens.answer place p in subst LeadsByLayers (sym l.is_place) (leads_of laws place l)
+pub leads_by_layers : LowerLaws → (place : Place) → Possible place → LeadsByLayers place
+leads_by_layers laws place p = let l = lived laws place p in subst LeadsByLayers (sym l.is_place) (leads_of laws place l)
 
 -- ---- the message
 
 whole_saved : (o text : List ℕ) (m : MessagePlace) → LeadsToSaved o text m → m.part ≡ part.AfterEnd → WholeMessage o
 whole_saved o text m (at, leads, saves) e = ended_at o text at leads (ended_after at (ap (λ (x : MessagePlace). x.part) saves ∙ e))
 
-message_lives : ByLayersLaws → (o text : List ℕ) (m : MessagePlace) → LeadsToSaved o text m → (s : ℕ) → (s ≡ 9 → m.part ≡ part.AfterEnd)
+message_lives : LowerLaws → (o text : List ℕ) (m : MessagePlace) → LeadsToSaved o text m → (s : ℕ) → (s ≡ 9 → m.part ≡ part.AfterEnd)
     → languages.IsAlive MessageLanguage (map Octet o ++ (if nat_eq s 9 then End ∷ [] else []))
 message_lives laws o text m (at, leads, saves) s last = by (nat_eq s 9) refl
   where
     by : (b : Bool) → nat_eq s 9 ≡ b → languages.IsAlive MessageLanguage (map Octet o ++ (if b then End ∷ [] else []))
-    by true nine = (laws.ends o text at leads).1 (ended_after at (ap (λ (x : MessagePlace). x.part) saves ∙ last (eqb-true s 9 nine)))
-    by false other = subst (languages.IsAlive MessageLanguage) (sym (append-nil (map Octet o))) (laws.opens.answer.living o text at leads).0
+    by true nine = (laws.message_ends o text at leads).1 (ended_after at (ap (λ (x : MessagePlace). x.part) saves ∙ last (eqb-true s 9 nine)))
+    by false other = subst (languages.IsAlive MessageLanguage) (sym (append-nil (map Octet o))) (laws.living o text at leads).0
 
 -- ---- all of it
 
 -- Plain octets from which each layer can continue, or with which the envelope ends, make their place possible.
-finish : ByLayersLaws → (place : Place) (numbers : Numbers) (heads : ℕ) (object : List ℕ) (ended : Bool) (begun : Begun) (rest text : List ℕ) → AreSpellable place.fields numbers heads object → IsBegun count_octets begun rest
+finish : LowerLaws → (place : Place) (numbers : Numbers) (heads : ℕ) (object : List ℕ) (ended : Bool) (begun : Begun) (rest text : List ℕ) → AreSpellable place.fields numbers heads object → IsBegun count_octets begun rest
     → LeadsToSaved (object ++ begun_object begun) text place.message → (place.section ≡ 9 → place.message.part ≡ part.AfterEnd) → MayContinue widest (plain place.fields numbers heads object ended) begun
     → (ended ≡ true → (begun ≡ InTag []) × (rest ≡ [])) → place ≡ plain_place place.fields numbers heads object ended begun place.message → Possible place
 finish laws place numbers heads object ended begun rest text spellable is_begun leads last goes nothing same = record {
   octets = canonical_stream ds ++ rest;
-  leads = subst (IsPlaceOf (canonical_stream ds ++ rest)) (sym same) (plain_led laws.opens.spelled place.fields numbers heads object ended begun rest text place.message spellable is_begun leads);
+  leads = subst (IsPlaceOf (canonical_stream ds ++ rest)) (sym same) (plain_led laws.spelled place.fields numbers heads object ended begun rest text place.message spellable is_begun leads);
   comes = by ended refl;
 }
   where
@@ -341,14 +341,14 @@ finish laws place numbers heads object ended begun rest text spellable is_begun 
     all = record {
       sizes = goes;
       message = message_lives laws (object_so_far ds begun) text place.message here (section ds begun) (λ nine. last (section_is ∙ nine));
-      story = (laws.opens.answer.living (object_so_far ds begun) text here.0 here.1).1;
+      story = (laws.living (object_so_far ds begun) text here.0 here.1).1;
     }
 
     alive : SectionsLive ds
     alive = alive_of widest ds begun goes
 
     spelled : SpellsStream count_octets ds (canonical_stream ds)
-    spelled = laws.opens.spelled ds (plain_spelled place.fields numbers heads object ended spellable)
+    spelled = laws.spelled ds (plain_spelled place.fields numbers heads object ended spellable)
 
     open' : ended ≡ false → AreOpenOrWhole widest (canonical_stream ds ++ rest)
     open' more = inl (record {
@@ -357,7 +357,7 @@ finish laws place numbers heads object ended begun rest text spellable is_begun 
       reads = record { front = canonical_stream ds; rest = rest; is_front = spelled; is_rest = is_begun; parts = refl };
       leads_on = all;
       unfinished = λ sections.
-          let nine = sections_last laws.opens.answer.follow.ends ds alive sections in
+          let nine = sections_last laws.last_record ds alive sections in
           let bad : true ≡ false = sym (ap (λ (n : ℕ). nat_eq n 9) nine) ∙ present_ended place.fields numbers heads object ended spellable.kept ∙ more in
           absurd cc;
     })
@@ -369,7 +369,7 @@ finish laws place numbers heads object ended begun rest text spellable is_begun 
         let section9 : place.section ≡ 9 = section_is ∙ ap (section ds) no_more.0 ∙ nine in
         let o_is : object_so_far ds begun ≡ object_of ds = ap (object_so_far ds) no_more.0 in
         let m = whole_saved (object_of ds) text place.message (subst (λ (o : List ℕ). LeadsToSaved o text place.message) o_is here) (last section9) in
-        let all = enveloped laws.opens widest (canonical_stream ds ++ []) ds m.head m.text m.trailer m.lined.0
+        let all = enveloped laws widest (canonical_stream ds ++ []) ds m.head m.text m.trailer m.lined.0
         (subst (SpellsStream count_octets ds) (sym (append-nil (canonical_stream ds))) spelled)
         (subst (MayContinue widest ds) no_more.0 goes) nine m.message m.lined.1 in
         subst (λ (r : List ℕ). AreOpenOrWhole widest (canonical_stream ds ++ r)) (sym no_more.1)
@@ -398,7 +398,7 @@ fields_spelled fields numbers heads object ended keeps (more, sections) few =
     have_spellings fields keeps (all_front IsGoodDataset fields _ (all_front IsGoodDataset ds more (each_good (ds ++ more) sections))) few
 
 -- the first subfiles of a possible place have room for their octets
-room_in : SizeLaws → (p : objects.Place) → IsPossible p → (ls ks : List ℕ) → p.lengths ≡ ls ++ ks → sum ls ≤ length ls * unwrap_or (number_at 20 p.stated) 0
+room_in : LowerLaws → (p : objects.Place) → IsPossible p → (ls ks : List ℕ) → p.lengths ≡ ls ++ ks → sum ls ≤ length ls * unwrap_or (number_at 20 p.stated) 0
 room_in laws p is [] ks parts = omega arith
 room_in laws p is (l ∷ ls) ks parts =
     let many = ap length parts in
@@ -438,7 +438,7 @@ record Filling (fields : List Dataset) (numbers : Numbers) (heads : ℕ) (object
   inside : AreWithin widest (plain fields numbers heads object ended)
   on : Continues (plain fields numbers (one_of_some heads) [] ended) (plain fields numbers heads object ended)
 
-filling : ByLayersLaws → (place : Place) (numbers : Numbers) (p : objects.Place) (o text : List ℕ) → Leading place numbers p o text
+filling : LowerLaws → (place : Place) (numbers : Numbers) (p : objects.Place) (o text : List ℕ) → Leading place numbers p o text
     → (heads : ℕ) (object : List ℕ) (ended : Bool) (ls ks : List ℕ) → p.lengths ≡ ls ++ ks → heads ≡ length ls → sum ls ≡ length object → Octets object
     → SectionsLive (plain place.fields numbers (one_of_some heads) [] ended) → Filling place.fields numbers heads object ended
 filling laws place numbers p o text l heads object ended ls ks parts many total octets alive =
@@ -450,7 +450,7 @@ filling laws place numbers p o text l heads object ended ls ks parts many total 
     let stated = numbers_same numbers p.stated l.same in
     let room : length object ≤ heads * unwrap_or (number_at 20 p.stated) 0 =
     subst (λ (n : ℕ). n ≤ heads * unwrap_or (number_at 20 p.stated) 0) total
-    (subst (λ (k : ℕ). sum ls ≤ k * unwrap_or (number_at 20 p.stated) 0) (sym many) (room_in laws.opens.sizes p l.is ls ks parts)) in
+    (subst (λ (k : ℕ). sum ls ≤ k * unwrap_or (number_at 20 p.stated) 0) (sym many) (room_in laws p l.is ls ks parts)) in
     let few : length object ≤ greatest_size = omega (arith, most, sums, total) in
     let fits : Fits fields numbers heads object = record {
       kept = l.keeps;
@@ -478,7 +478,7 @@ filling laws place numbers p o text l heads object ended ls ks parts many total 
         kept = subst (λ (ks : List Dataset). IsWithin widest (length (joined ks)) (length ks)) (sym tell.kept_are) within;
         subfiles = omega (arith, heads_are, many, counts, least);
       };
-      on = plain_like laws.opens.answer (plain fields numbers (one_of_some heads) [] ended) fields numbers heads object ended (record {
+      on = plain_like laws (plain fields numbers (one_of_some heads) [] ended) fields numbers heads object ended (record {
         alive = alive;
         few = let low = few_subfiles heads in omega (arith, one, low);
         fields_are = less.kept_are;
@@ -493,15 +493,15 @@ filling laws place numbers p o text l heads object ended ls ks parts many total 
     }
 
 -- the object lives after plain datasets as at the place
-after_plain : ByLayersLaws → (fields : List Dataset) (numbers : Numbers) (heads : ℕ) (object : List ℕ) (ended : Bool) (p : objects.Place) (e : Ending)
+after_plain : LowerLaws → (fields : List Dataset) (numbers : Numbers) (heads : ℕ) (object : List ℕ) (ended : Bool) (p : objects.Place) (e : Ending)
     → Filling fields numbers heads object ended → number_list numbers ≡ stated_numbers p.stated → IsPossible p → heads ≡ length p.lengths
     → sum p.lengths ≡ length object → p.ending ≡ e → ObjectLives (record (place_after_datasets (plain fields numbers heads object ended)) { ending = e })
 after_plain laws fields numbers heads object ended p e f same is many total end' =
     let ds = plain fields numbers heads object ended in
     let count = count_of (of_record 8 ds) in
     let heads_are = f.tell.heads_are in
-    let stated = (stated_after_all laws.opens.answer.follow.objects ds f.on.alive f.inside.subfiles).stated in
-    (possible_like laws.opens.sizes p (record (place_after_datasets ds) { ending = e }) is stated (sym same ∙ sym f.tell.numbers_are)
+    let stated = (stated_after_all laws ds f.on.alive f.inside.subfiles).stated in
+    (possible_like laws p (record (place_after_datasets ds) { ending = e }) is stated (sym same ∙ sym f.tell.numbers_are)
     (omega (arith, count, heads_are, many)) (total ∙ sym (ap length f.tell.object_is) ∙ sym (total_of (of_record 8 ds)))
     (small_in fields numbers heads object ended f.tell) end').alive
 
@@ -511,7 +511,7 @@ ending_plain : (ended : Bool) (o : List ℕ) → length o ≤ greatest_size → 
 ending_plain true o few = ap ConfirmedAs (sym (low_number (length o) few))
 ending_plain false o few = refl
 
-lead_whole : ByLayersLaws → (place : Place) (numbers : Numbers) (p : objects.Place) (ended : Bool) (held o text : List ℕ) → Leading place numbers p o text
+lead_whole : LowerLaws → (place : Place) (numbers : Numbers) (p : objects.Place) (ended : Bool) (held o text : List ℕ) → Leading place numbers p o text
     → p.ending ≡ (if ended then ConfirmedAs (length o) else NotEnded) → sum p.lengths ≡ length o
     → SectionsLive (plain place.fields numbers (one_of_some place.heads) [] ended)
     → section_after (plain place.fields numbers (one_of_some place.heads) [] ended) ≡ place.section → IsBegun count_octets (InTag held) held
@@ -529,7 +529,7 @@ lead_whole laws place numbers p ended held o text l end' total alive present is_
   where
     base : Filling place.fields numbers place.heads o ended
     base = filling laws place numbers p o text l place.heads o ended p.lengths [] (sym (append-nil p.lengths)) l.many total
-        (living_octets o (laws.opens.answer.living o text l.leads.0 l.leads.1).0) alive
+        (living_octets o (laws.living o text l.leads.0 l.leads.1).0) alive
 
     ds : List Dataset
     ds = plain place.fields numbers place.heads o ended
@@ -580,7 +580,7 @@ leading place l p same is many = record {
   within = within_whole place.fields (begun_count place.section place.phase) (begun_fields place.section place.phase) l.within;
 }
 
-lead_tag : ByLayersLaws → (section : ℕ) (held : List ℕ) (fields : List Dataset) (nums : List (Option ℕ)) (taken heads : ℕ) (m : MessagePlace)
+lead_tag : LowerLaws → (section : ℕ) (held : List ℕ) (fields : List Dataset) (nums : List (Option ℕ)) (taken heads : ℕ) (m : MessagePlace)
     → LeadsByLayers (place_with section (TagBegun held) fields nums taken heads m)
     → Possible (place_with section (TagBegun held) fields nums taken heads m)
 lead_tag laws section held fields nums taken heads m l =
@@ -593,7 +593,7 @@ lead_tag laws section held fields nums taken heads m l =
     (subst SectionsLive is l.records.1) (ap section_after (sym is) ∙ l.records.0) (held_begun held l.tags)
     (λ bad. absurd (let no' : false ≡ true = bad in cc)) refl
 
-lead_ended : ByLayersLaws → (section : ℕ) (fields : List Dataset) (nums : List (Option ℕ)) (taken heads : ℕ) (m : MessagePlace)
+lead_ended : LowerLaws → (section : ℕ) (fields : List Dataset) (nums : List (Option ℕ)) (taken heads : ℕ) (m : MessagePlace)
     → LeadsByLayers (place_with section AllEnded fields nums taken heads m)
     → Possible (place_with section AllEnded fields nums taken heads m)
 lead_ended laws section fields nums taken heads m l =
@@ -616,7 +616,7 @@ room_kept fields ks h same within is =
     (subst (λ (b : Bool). IsWithin widest (length (joined fields) + (if b then h.count else 0)) (length fields + (if b then 1 else 0))) is within)
 
 -- in data that are no subfile's
-lead_other : ByLayersLaws → (place : Place) (numbers : Numbers) (p : objects.Place) (e : Ending) (h : Head) (left : ℕ) (taken o text tag : List ℕ)
+lead_other : LowerLaws → (place : Place) (numbers : Numbers) (p : objects.Place) (e : Ending) (h : Head) (left : ℕ) (taken o text tag : List ℕ)
     → Leading place numbers p o text → p.ending ≡ e → sum p.lengths ≡ length o
     → SectionsLiveAt (plain place.fields numbers (one_of_some place.heads) [] false) h → place.section ≡ h.rec → nat_eq h.rec 8 ≡ false
     → SpellsTag count_octets h tag → Octets taken → length taken + left ≡ h.count → 0 < left → place.phase ≡ DataBegun h.set h.count left taken
@@ -645,7 +645,7 @@ lead_other laws place numbers p e h left taken o text tag l end' total at sectio
 
     base : Filling place.fields numbers place.heads o false
     base = filling laws place numbers p o text l place.heads o false p.lengths [] (sym (append-nil p.lengths)) l.many total
-        (living_octets o (laws.opens.answer.living o text l.leads.0 l.leads.1).0) (head_alive less h at)
+        (living_octets o (laws.living o text l.leads.0 l.leads.1).0) (head_alive less h at)
 
     ds : List Dataset
     ds = plain place.fields numbers place.heads o false
@@ -664,7 +664,7 @@ lead_other laws place numbers p e h left taken o text tag l end' total at sectio
         λ i. record place { section = section_is i; phase = phase_is i; numbers = l.numbers_are i; taken = taken_is i; heads = heads_are i }
 
 -- in a subfile
-lead_subfile : ByLayersLaws → (place : Place) (numbers : Numbers) (p : objects.Place) (set count left : ℕ) (o text tag : List ℕ)
+lead_subfile : LowerLaws → (place : Place) (numbers : Numbers) (p : objects.Place) (set count left : ℕ) (o text tag : List ℕ)
     → Leading place numbers p o text → p.ending ≡ NotEnded → (last : LastIsBegun p.lengths place.taken count left)
     → SectionsLiveAt (plain place.fields numbers (one_of_some (place.heads - 1)) [] false) (head_of_numbers 8 set count) → place.section ≡ 8
     → SpellsTag count_octets (head_of_numbers 8 set count) tag → place.phase ≡ DataBegun set count left [] → Possible place
@@ -723,7 +723,7 @@ lead_subfile laws place numbers p set count left o text tag l end' last at secti
     heads_are = omega (arith, l.many, lengths_many)
 
     octets : Octets o
-    octets = living_octets o (laws.opens.answer.living o text l.leads.0 l.leads.1).0
+    octets = living_octets o (laws.living o text l.leads.0 l.leads.1).0
 
     less : List Dataset
     less = plain place.fields numbers (one_of_some heads) [] false
@@ -736,7 +736,7 @@ lead_subfile laws place numbers p set count left o text tag l end' last at secti
     ds = plain place.fields numbers heads object false
 
     stated : AreStated (numbers_of (of_record 7 ds))
-    stated = (stated_after_all laws.opens.answer.follow.objects ds base.on.alive base.inside.subfiles).stated
+    stated = (stated_after_all laws ds base.on.alive base.inside.subfiles).stated
 
     small : (size : ℕ) → number_at 20 (numbers_of (of_record 7 ds)) ≡ Some size → count ≤ size
     small size e =
@@ -744,7 +744,7 @@ lead_subfile laws place numbers p set count left o text tag l end' last at secti
         let here : number_at 20 (numbers_of (of_record 7 ds)) ≡ numbers.largest = cc in
         let largest : number_at 20 p.stated ≡ Some size = sym (numbers_same numbers p.stated l.same).largest ∙ sym here ∙ e in
         (all_back (λ n. n ≤ size) last.finished (count ∷ []) (subst (AllByRecursion (λ n. n ≤ size)) last.lengths_are
-        (each_small laws.opens.sizes p l.is size largest (omega (arith, lengths_many))))).0
+        (each_small laws p l.is size largest (omega (arith, lengths_many))))).0
 
     lives : ObjectLives (place_after (place_after_datasets ds) (SubfileBegun count))
     lives =
@@ -756,7 +756,7 @@ lead_subfile laws place numbers p set count left o text tag l end' last at secti
         let total = total_of (of_record 8 ds) in
         let object_is = ap length base.tell.object_is in
         let added : sum (ls ++ count ∷ []) ≡ sum ls + count = sum_append ls (count ∷ []) ∙ ap (λ (n : ℕ). sum ls + n) (sum_one count) in
-        (possible_like laws.opens.sizes p q l.is stated (sym l.same ∙ sym base.tell.numbers_are)
+        (possible_like laws p q l.is stated (sym l.same ∙ sym base.tell.numbers_are)
         (omega (arith, count_is, told, longer, heads_are, lengths_many)) (omega (arith, sums, added, total, object_is, object_length, finished_is))
         (λ size e. all_append (λ n. n ≤ size) ls (count ∷ []) (small_in place.fields numbers heads object false base.tell size e) (small size e, tt))
         (end' ∙ sym (ap ending_of base.tell.nines_are))).alive
@@ -771,7 +771,7 @@ lead_subfile laws place numbers p set count left o text tag l end' last at secti
 
 -- ---- every phase
 
-lead_eight : ByLayersLaws → (set count left : ℕ) (given : List ℕ) (fields : List Dataset) (nums : List (Option ℕ)) (taken heads : ℕ) (m : MessagePlace) → LeadsByLayers (place_with 8 (DataBegun set count left given) fields nums taken heads m)
+lead_eight : LowerLaws → (set count left : ℕ) (given : List ℕ) (fields : List Dataset) (nums : List (Option ℕ)) (taken heads : ℕ) (m : MessagePlace) → LeadsByLayers (place_with 8 (DataBegun set count left given) fields nums taken heads m)
     → Possible (place_with 8 (DataBegun set count left given) fields nums taken heads m)
 lead_eight laws set count left given fields nums taken heads m l =
     let place = place_with 8 (DataBegun set count left given) fields nums taken heads m in
@@ -793,7 +793,7 @@ at_others h not8 not9 ds none lives =
     ap (λ (b : Bool). if b then place_after (place_after_datasets ds) (SubfileBegun h.count) else if nat_eq h.rec 9 then place_ended ds else place_after_datasets ds) not8 ∙ ap (λ (c : Bool). if c then place_ended ds else place_after_datasets ds) not9 in
     subst ObjectLives (sym is) (subst (λ (e : Ending). ObjectLives (record (place_after_datasets ds) { ending = e })) (sym none) lives)
 
-lead_not_eight : ByLayersLaws → (section set count left : ℕ) (given : List ℕ) (fields : List Dataset) (nums : List (Option ℕ)) (taken heads : ℕ) (m : MessagePlace) → nat_eq section 8 ≡ false
+lead_not_eight : LowerLaws → (section set count left : ℕ) (given : List ℕ) (fields : List Dataset) (nums : List (Option ℕ)) (taken heads : ℕ) (m : MessagePlace) → nat_eq section 8 ≡ false
     → LeadsByLayers (place_with section (DataBegun set count left given) fields nums taken heads m) → Possible (place_with section (DataBegun set count left given) fields nums taken heads m)
 lead_not_eight laws section set count left given fields nums taken heads m not8 l =
     let at : IsAt nums taken None heads l.object.0 =
@@ -829,7 +829,7 @@ lead_not_eight laws section set count left given fields nums taken heads m not8 
     by true nine same end' many total is = lead (place_after l.object.0 ObjectEnded) Ended same is refl many total (at_nine h nine)
     by false other same end' many total is = lead l.object.0 NotEnded same is end' many total (at_others h not8 other)
 
-lead_data : ByLayersLaws → (section set count left : ℕ) (given : List ℕ) (fields : List Dataset) (nums : List (Option ℕ)) (taken heads : ℕ) (m : MessagePlace) → LeadsByLayers (place_with section (DataBegun set count left given) fields nums taken heads m)
+lead_data : LowerLaws → (section set count left : ℕ) (given : List ℕ) (fields : List Dataset) (nums : List (Option ℕ)) (taken heads : ℕ) (m : MessagePlace) → LeadsByLayers (place_with section (DataBegun set count left given) fields nums taken heads m)
     → Possible (place_with section (DataBegun set count left given) fields nums taken heads m)
 lead_data laws section set count left given fields nums taken heads m l = elim (eqb_tells section 8) [
   | inl eight ↦
@@ -838,7 +838,7 @@ lead_data laws section set count left given fields nums taken heads m l = elim (
   | inr other ↦ lead_not_eight laws section set count left given fields nums taken heads m other.0 l
 ]
 
-lead_by : ByLayersLaws → (section : ℕ) (phase : Phase) (fields : List Dataset) (nums : List (Option ℕ)) (taken heads : ℕ) (m : MessagePlace)
+lead_by : LowerLaws → (section : ℕ) (phase : Phase) (fields : List Dataset) (nums : List (Option ℕ)) (taken heads : ℕ) (m : MessagePlace)
     → LeadsByLayers (place_with section phase fields nums taken heads m)
     → Possible (place_with section phase fields nums taken heads m)
 lead_by laws section (TagBegun held) fields nums taken heads m l = lead_tag laws section held fields nums taken heads m l
@@ -846,5 +846,5 @@ lead_by laws section (DataBegun set count left given) fields nums taken heads m 
 lead_by laws section AllEnded fields nums taken heads m l = lead_ended laws section fields nums taken heads m l
 
 -- A place where each layer can be is possible.
-pub layers_lead : ByLayersLaws → (place : Place) → LeadsByLayers place → Possible place
+pub layers_lead : LowerLaws → (place : Place) → LeadsByLayers place → Possible place
 layers_lead laws place l = lead_by laws place.section place.phase place.fields place.numbers place.taken place.heads place.message l

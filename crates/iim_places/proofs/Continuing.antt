@@ -5,7 +5,7 @@ use Rattle.iim_places.proofs.Words.{append_cancel_left, Dataset, SpellsStream, c
 use Rattle.iim_places.proofs.Words.{SectionsLiveAt, kept, section_after, AreSections, Limits, ending_of, HaveSizes, mode_number, Sizes, text_so_far, Value}
 use Rattle.iim_places.proofs.Words.{Admits, object_of, are_ended, AreAlike, ContinueAlike, PlacesContinueAlike, NoAdmittedOctetsBeginOthers, AllCanContinue}
 use Rattle.iim_places.proofs.Words.{object_so_far, Delivers, IsOpen, IsTextOf, IsEnvelopeWithin, CanContinue, TagBegun, AllEnded, IsPlaceOf, heads_of, phase_of}
-use Rattle.iim_places.proofs.Words.{place_of, OpenOctetsBeginWithNoEnvelope, OnwardLaws, nil_from_length, ne_eqb, option_or, option_map, Octets, number}
+use Rattle.iim_places.proofs.Words.{place_of, OpenOctetsBeginWithNoEnvelope, LowerLaws, nil_from_length, ne_eqb, option_or, option_map, Octets, number}
 use Rattle.iim_places.proofs.Words.{head_of, head_fault, room_fault, value_fault, occurs, data_of, tells_number, place_after_datasets, cause_at}
 use Rattle.iim_places.proofs.Words.{confirmed_cause, end_cause, number_cause, subfile_cause, Confirmed, NumberRead, ObjectEnded, ObjectToken, SubfileBegun}
 use Rattle.iim_places.proofs.Words.{head_token, value_token, max_subfiles, SizeCause, MessageDiesAt, HasCause, End, PlacesRefuseAlike, IsUnfinished}
@@ -41,8 +41,8 @@ use Rattle.iim_dataset.specs.Format.Languages as languages
 
 -- ---- where both stand
 
-no_nine : OnwardLaws → (ds : List Dataset) → SectionsLive ds → nat_eq (section_after ds) 9 ≡ false → of_record 9 ds ≡ []
-no_nine laws ds alive open' = nil_from_length (of_record 9 ds) (nines laws.opens.answer.follow ds alive ∙ ap (λ (b : Bool). cond b 1 0) open')
+no_nine : LowerLaws → (ds : List Dataset) → SectionsLive ds → nat_eq (section_after ds) 9 ≡ false → of_record 9 ds ≡ []
+no_nine laws ds alive open' = nil_from_length (of_record 9 ds) (nines laws ds alive ∙ ap (λ (b : Bool). cond b 1 0) open')
 
 heads_as : (ds es : List Dataset) (c d : Begun) → SameBegun c d → heads_of ds c ≡ heads_of es d → length (of_record 8 ds) ≡ length (of_record 8 es)
 heads_as ds es (InTag x) (InTag y) same e = e
@@ -57,7 +57,7 @@ taken_as ds es (InData h t) (InData k v) same e =
 taken_as ds es c d same e = absurd same
 
 -- what the place says of both
-all_told : OnwardLaws → (p q : List ℕ) (place : Place) (is : IsPlaceOf p place) (are : IsPlaceOf q place) → SameAll is.whole are.whole is.begun are.begun
+all_told : LowerLaws → (p q : List ℕ) (place : Place) (is : IsPlaceOf p place) (are : IsPlaceOf q place) → SameAll is.whole are.whole is.begun are.begun
 all_told laws p q place is are =
     let e : place_of is.whole is.begun is.message ≡ place_of are.whole are.begun are.message = sym is.is_place ∙ are.is_place in
     record {
@@ -66,7 +66,7 @@ all_told laws p q place is are =
       numbers = ap (λ (x : Place). x.numbers) e;
       taken = ap (λ (x : Place). x.taken) e;
       heads = ap (λ (x : Place). x.heads) e;
-      message = same_message laws.places (object_so_far is.whole is.begun) (object_so_far are.whole are.begun) is.text are.text is.message are.message (ap (λ (x : Place). x.message) e) is.leads are.leads;
+      message = same_message laws (object_so_far is.whole is.begun) (object_so_far are.whole are.begun) is.text are.text is.message are.message (ap (λ (x : Place). x.message) e) is.leads are.leads;
     }
 
 -- at one place, and open
@@ -74,16 +74,15 @@ record OpenPair (limits : Limits) (ds es : List Dataset) (c d : Begun) : Type 0 
   begun : SameBegun c d
   pair : Pair limits ds es c d
 
-open_pair : OnwardLaws → (limits : Limits) (p q : List ℕ) (place : Place) (is : IsPlaceOf p place) (are : IsPlaceOf q place) → IsOpen limits p → IsOpen limits q → OpenPair limits is.whole are.whole is.begun are.begun
+open_pair : LowerLaws → (limits : Limits) (p q : List ℕ) (place : Place) (is : IsPlaceOf p place) (are : IsPlaceOf q place) → IsOpen limits p → IsOpen limits q → OpenPair limits is.whole are.whole is.begun are.begun
 open_pair laws limits p q place is are opens goes =
     let ds = is.whole in
     let es = are.whole in
     let all = all_told laws p q place is are in
-    let was = opened laws.places limits p ds is.begun is.reads opens in
-    let now = opened laws.places limits q es are.begun are.reads goes in
+    let was = opened laws limits p ds is.begun is.reads opens in
+    let now = opened laws limits q es are.begun are.reads goes in
     let e : place_of ds is.begun is.message ≡ place_of es are.begun are.message = sym is.is_place ∙ are.is_place in
     let begun = same_begun p q ds es is.begun are.begun is.reads are.reads all.section (ap (λ (x : Place). x.phase) e) (held_open ds is.begun are.begun was.ended) in
-    let follow = laws.opens.answer.follow in
     let left = alive_of limits ds is.begun was.goes.sizes in
     let right = alive_of limits es are.begun now.goes.sizes in
     let heads = heads_as ds es is.begun are.begun begun all.heads in
@@ -94,7 +93,7 @@ open_pair laws limits p q place is are opens goes =
       heads = count_of (of_record 8 ds) ∙ heads ∙ sym (count_of (of_record 8 es));
       octets = total_of (of_record 8 ds) ∙ octets ∙ sym (total_of (of_record 8 es));
       ending = ap ending_of (no_nine laws ds left was.ended ∙ sym (no_nine laws es right now.ended));
-      seen = same_records follow laws.opens.answer.numbers ds es left right (within_of limits ds is.begun was.goes.sizes).subfiles (within_of limits es are.begun now.goes.sizes).subfiles
+      seen = same_records laws ds es left right (within_of limits ds is.begun was.goes.sizes).subfiles (within_of limits es are.begun now.goes.sizes).subfiles
           (record { ended = was.ended ∙ sym now.ended; fields = all.fields; numbers = all.numbers; heads = heads });
       here = bounded_of laws limits ds is.begun was.goes.sizes;
       bounded = bounded_of laws limits es are.begun now.goes.sizes;
@@ -106,37 +105,37 @@ open_pair laws limits p q place is are opens goes =
 abbrev pub Onward : Limits → List ℕ → List ℕ → List Dataset → List Dataset → Begun → Begun → List ℕ → Type 0
 Onward limits p q ds es c d more = (W : List Dataset) (b : Begun) → Reads count_octets (p ++ more) W b → AllCanContinue limits W b → ReadAlike limits (q ++ more) (object_so_far ds c) (object_so_far es d) W b
 
-on_data : OnwardLaws → (limits : Limits) (p q : List ℕ) (ds es : List Dataset) (h k : Head) (t v : List ℕ) → h ≡ k → Reads count_octets p ds (InData h t) → Reads count_octets q es (InData k v) → SameData h t k v → Pair limits ds es (InData h t) (InData k v) → (more : List ℕ)
+on_data : LowerLaws → (limits : Limits) (p q : List ℕ) (ds es : List Dataset) (h k : Head) (t v : List ℕ) → h ≡ k → Reads count_octets p ds (InData h t) → Reads count_octets q es (InData k v) → SameData h t k v → Pair limits ds es (InData h t) (InData k v) → (more : List ℕ)
     → Onward limits p q ds es (InData h t) (InData k v) more
 on_data laws limits p q ds es h k t v e r s same pair more =
     subst (λ (x : Head). Reads count_octets q es (InData x v) → SameData h t x v → Pair limits ds es (InData h t) (InData x v) → Onward limits p q ds es (InData h t) (InData x v) more) e
     (λ s same pair W b w goes. data_on laws limits p q more ds es h t v r s (same.many, given_as (nat_eq h.rec 8) t v same.given) pair W b w goes) s same pair
 
-on_as : OnwardLaws → (limits : Limits) (p q : List ℕ) (ds es : List Dataset) (c d : Begun) → Reads count_octets p ds c → Reads count_octets q es d → OpenPair limits ds es c d → (more : List ℕ) → Onward limits p q ds es c d more
+on_as : LowerLaws → (limits : Limits) (p q : List ℕ) (ds es : List Dataset) (c d : Begun) → Reads count_octets p ds c → Reads count_octets q es d → OpenPair limits ds es c d → (more : List ℕ) → Onward limits p q ds es c d more
 on_as laws limits p q ds es (InTag x) (InTag y) r s both more W b w goes =
     tag_on laws limits p q more ds es x r (subst (λ (l : List ℕ). Reads count_octets q es (InTag l)) (sym both.begun) s)
     (before_of limits ds es x y both.pair) W b w goes
 on_as laws limits p q ds es (InData h t) (InData k v) r s both more W b w goes = on_data laws limits p q ds es h k t v both.begun.head r s both.begun both.pair more W b w goes
 on_as laws limits p q ds es c d r s both more W b w goes = absurd both.begun
 
-pub on_open : OnwardLaws → (limits : Limits) (p q : List ℕ) (place : Place) (is : IsPlaceOf p place) (are : IsPlaceOf q place) → IsOpen limits p → IsOpen limits q → (more : List ℕ) → Onward limits p q is.whole are.whole is.begun are.begun more
+pub on_open : LowerLaws → (limits : Limits) (p q : List ℕ) (place : Place) (is : IsPlaceOf p place) (are : IsPlaceOf q place) → IsOpen limits p → IsOpen limits q → (more : List ℕ) → Onward limits p q is.whole are.whole is.begun are.begun more
 on_open laws limits p q place is are opens goes more = on_as laws limits p q is.whole are.whole is.begun are.begun is.reads are.reads (open_pair laws limits p q place is are opens goes) more
 
 -- ---- open octets
 
-no_sections_inside : OnwardLaws → (ds : List Dataset) (h : Head) → SectionsLiveAt ds h → AreSections ds → ⊥
+no_sections_inside : LowerLaws → (ds : List Dataset) (h : Head) → SectionsLiveAt ds h → AreSections ds → ⊥
 no_sections_inside laws ds h (d, is, (later, alive)) sections =
-    let none : d ∷ later ≡ [] = laws.opens.answer.follow.sections ds (d ∷ later) sections (subst AreSections (append_assoc ds (d ∷ []) later) alive) in
+    let none : d ∷ later ≡ [] = laws.sections ds (d ∷ later) sections (subst AreSections (append_assoc ds (d ∷ []) later) alive) in
     absurd cc
 
-pub unfinished_as : OnwardLaws → (limits : Limits) (ds es : List Dataset) (c d : Begun) → Pair limits ds es c d → (AreSections ds → ⊥) → AreSections es → ⊥
+pub unfinished_as : LowerLaws → (limits : Limits) (ds es : List Dataset) (c d : Begun) → Pair limits ds es c d → (AreSections ds → ⊥) → AreSections es → ⊥
 unfinished_as laws limits ds es (InTag x) (InTag y) pair none sections =
-    let ends = laws.opens.answer.follow.ends in
+    let ends = laws.last_record in
     none (last_sections ends ds pair.here.sizes.records (pair.section_is ∙ sections_last ends es pair.there.sizes.records sections))
 unfinished_as laws limits ds es (InData h t) (InData k v) pair none sections = no_sections_inside laws es k pair.there.sizes.records sections
 unfinished_as laws limits ds es c d pair none sections = absurd pair.begun
 
-pub open_as : OnwardLaws → (limits : Limits) (q o r : List ℕ) (p : List ℕ) (opens : IsOpen limits p) → ReadAlike limits q o r opens.whole opens.begun → IsOpen limits q
+pub open_as : LowerLaws → (limits : Limits) (q o r : List ℕ) (p : List ℕ) (opens : IsOpen limits p) → ReadAlike limits q o r opens.whole opens.begun → IsOpen limits q
 open_as laws limits q o r p opens read = record {
   whole = read.whole;
   begun = read.begun;
@@ -174,27 +173,27 @@ sizes_as ds es s t same here there =
     λ i. record { known = known i; subfile = subfile i; announced = announced i; maximum = maximum i; subfiles = subfiles i; total = total i }
 
 -- the message of an envelope, led to the same end
-ends_alike : OnwardLaws → (octets : List ℕ) (v : Value) (a : Admits octets v) (r : List ℕ) (m : SameMessage (object_of a.datasets) r)
+ends_alike : LowerLaws → (octets : List ℕ) (v : Value) (a : Admits octets v) (r : List ℕ) (m : SameMessage (object_of a.datasets) r)
     → LeadsTo r m.other (at_message.AfterEnd v.head (record { items = v.trailer }) (length a.message.after))
 ends_alike laws octets v a r m =
-    let same : m.at ≡ at_message.AfterEnd v.head (record { items = v.trailer }) (length a.message.after) = (laws.places.one_place (object_of a.datasets) m.text a.text m.at _ m.here (leads_to octets v a)).1 in
+    let same : m.at ≡ at_message.AfterEnd v.head (record { items = v.trailer }) (length a.message.after) = (laws.one_place (object_of a.datasets) m.text a.text m.at _ m.here (leads_to octets v a)).1 in
     subst (LeadsTo r m.other) same m.there
 
-pub whole_as : OnwardLaws → (limits : Limits) (octets others : List ℕ) (v : Value) (a : Admits octets v) (es : List Dataset) → Reads count_octets others es (InTag []) → SameEnvelope a.datasets es → CanContinue limits es → section_after es ≡ 9
+pub whole_as : LowerLaws → (limits : Limits) (octets others : List ℕ) (v : Value) (a : Admits octets v) (es : List Dataset) → Reads count_octets others es (InTag []) → SameEnvelope a.datasets es → CanContinue limits es → section_after es ≡ 9
     → (w : Value) × IsEnvelopeWithin limits others w × AreAlike v w
 whole_as laws limits octets others v a es reads same goes nine =
     let led = ends_alike laws octets v a (object_of es) same.message in
     let stream : SpellsStream count_octets es others =
     subst (SpellsStream count_octets es) (sym (append-nil reads.front) ∙ ap (λ (l : List ℕ). reads.front ++ l) (sym reads.is_rest.0) ∙ sym reads.parts)
     reads.is_front in
-    let all = enveloped laws.opens limits others es v.head same.message.other v.trailer led.story.0 stream goes nine led.spelled.0 led.story.1 in (
+    let all = enveloped laws limits others es v.head same.message.other v.trailer led.story.0 stream goes nine led.spelled.0 led.story.1 in (
       value_of es v.head led.story.0 v.trailer all.sizes,
       all.within,
       record { fields = sym a.fields ∙ same.fields; head = refl; trailer = refl; sizes = sizes_as a.datasets es v.sizes all.sizes same a.sizes all.have },
     )
 
 -- what is read after the one as an envelope is read after the other as one
-pub envelope_as : OnwardLaws → (limits : Limits) (p q o r : List ℕ) (v : Value) (is : IsEnvelopeWithin limits p v) → ReadAlike limits q o r is.admits.datasets (InTag []) → (w : Value) × IsEnvelopeWithin limits q w × AreAlike v w
+pub envelope_as : LowerLaws → (limits : Limits) (p q o r : List ℕ) (v : Value) (is : IsEnvelopeWithin limits p v) → ReadAlike limits q o r is.admits.datasets (InTag []) → (w : Value) × IsEnvelopeWithin limits q w × AreAlike v w
 envelope_as laws limits p q o r v is read = by read.begun read.reads read.pair
   where
     ds : List Dataset
@@ -203,7 +202,7 @@ envelope_as laws limits p q o r v is read = by read.begun read.reads read.pair
     by : (c : Begun) → Reads count_octets q read.whole c → Pair limits ds read.whole (InTag []) c → (w : Value) × IsEnvelopeWithin limits q w × AreAlike v w
     by (InTag held) reads pair =
         let alive = pair.here.sizes.records in
-        let nine = sections_last laws.opens.answer.follow.ends ds alive is.admits.sections in
+        let nine = sections_last laws.last_record ds alive is.admits.sections in
         let twins = pair.twins in
         whole_as laws limits p q v is.admits read.whole (subst (λ (l : List ℕ). Reads count_octets q read.whole (InTag l)) (sym pair.begun) reads)
         (record {
@@ -218,18 +217,18 @@ envelope_as laws limits p q o r v is read = by read.begun read.reads read.pair
 
 -- ---- the text
 
-text_of : OnwardLaws → (p : List ℕ) (ds : List Dataset) (c : Begun) → Reads count_octets p ds c → (text : List ℕ) → IsTextOf p text → text ≡ text_so_far (object_so_far ds c)
+text_of : LowerLaws → (p : List ℕ) (ds : List Dataset) (c : Begun) → Reads count_octets p ds c → (text : List ℕ) → IsTextOf p text → text ≡ text_so_far (object_so_far ds c)
 text_of laws p ds c reads text (whole, begun, other, is) =
-    let same = one_reading laws.opens.answer p whole ds begun c other reads in
+    let same = one_reading laws p whole ds begun c other reads in
     is ∙ ap (λ (zs : List Dataset). text_so_far (object_so_far zs begun)) same.whole_is ∙ ap (λ (b : Begun). text_so_far (object_so_far ds b)) same.begun_is
 
-pub adds_as : OnwardLaws → (limits : Limits) (p q more : List ℕ) (ds es : List Dataset) (c d : Begun) → Reads count_octets p ds c → Reads count_octets q es d → SameMessage (object_so_far ds c) (object_so_far es d) → (W : List Dataset) (b : Begun) → Reads count_octets (p ++ more) W b
+pub adds_as : LowerLaws → (limits : Limits) (p q more : List ℕ) (ds es : List Dataset) (c d : Begun) → Reads count_octets p ds c → Reads count_octets q es d → SameMessage (object_so_far ds c) (object_so_far es d) → (W : List Dataset) (b : Begun) → Reads count_octets (p ++ more) W b
     → ReadAlike limits (q ++ more) (object_so_far ds c) (object_so_far es d) W b → (events : List story.StoryEvent) → Delivers p more events → Delivers q more events
 adds_as laws limits p q more ds es c d r s m W b w read events adds text is =
     let o = object_so_far ds c in
     let x = object_so_far es d in
     let e = read.added in
-    let texts = laws.places.texts in
+    let texts = laws.texts in
     let goes = read.pair.here in
     let lives = message_of limits W b goes (o ++ e) [] (read.here ∙ sym (append-nil (o ++ e))) in
     let story' = story_of limits W b goes (o ++ e) [] (read.here ∙ sym (append-nil (o ++ e))) in
@@ -246,24 +245,23 @@ adds_as laws limits p q more ds es c d r s m W b w read events adds text is =
 -- ---- both
 
 -- where more octets are read of open octets
-pub both_open : OnwardLaws → (limits : Limits) (p q : List ℕ) (place : Place) → IsPlaceOf p place → IsPlaceOf q place → IsOpen limits p → IsOpen limits q → (more : List ℕ) → ContinueAlike limits p q more
+pub both_open : LowerLaws → (limits : Limits) (p q : List ℕ) (place : Place) → IsPlaceOf p place → IsPlaceOf q place → IsOpen limits p → IsOpen limits q → (more : List ℕ) → ContinueAlike limits p q more
 both_open laws limits p q place is are opens goes more =
     let on = on_open laws limits p q place is are opens goes more in
     let all = all_told laws p q place is are in
     let o = object_so_far is.whole is.begun in
     let r = object_so_far are.whole are.begun in
-    let answer = laws.opens.answer in
     record {
       are_open = λ open'. open_as laws limits (q ++ more) o r (p ++ more) open' (on open'.whole open'.begun open'.reads open'.leads_on);
-      are_whole = λ v whole. envelope_as laws limits (p ++ more) (q ++ more) o r v whole (on whole.admits.datasets (InTag []) (reads_envelope (p ++ more) v whole.admits) (goes_envelope answer limits (p ++ more) v whole));
+      are_whole = λ v whole. envelope_as laws limits (p ++ more) (q ++ more) o r v whole (on whole.admits.datasets (InTag []) (reads_envelope (p ++ more) v whole.admits) (goes_envelope laws limits (p ++ more) v whole));
       add = λ events comes.
-          let lives : Lives limits (p ++ more) = (elim comes [ inl open' ↦ lives_open limits (p ++ more) open' | inr (v, whole) ↦ lives_envelope answer limits (p ++ more) v whole ]) in
+          let lives : Lives limits (p ++ more) = (elim comes [ inl open' ↦ lives_open limits (p ++ more) open' | inr (v, whole) ↦ lives_envelope laws limits (p ++ more) v whole ]) in
           adds_as laws limits p q more is.whole are.whole is.begun are.begun is.reads are.reads all.message lives.whole lives.begun lives.reads (on lives.whole lives.begun lives.reads lives.leads_on) events;
     }
 
-nine_at : OnwardLaws → (limits : Limits) (p : List ℕ) (v : Value) (whole : IsEnvelopeWithin limits p v) → section_after whole.admits.datasets ≡ 9
+nine_at : LowerLaws → (limits : Limits) (p : List ℕ) (v : Value) (whole : IsEnvelopeWithin limits p v) → section_after whole.admits.datasets ≡ 9
 nine_at laws limits p v whole =
-    sections_last laws.opens.answer.follow.ends whole.admits.datasets (goes_envelope laws.opens.answer limits p v whole).sizes.records whole.admits.sections
+    sections_last laws.last_record whole.admits.datasets (goes_envelope laws limits p v whole).sizes.records whole.admits.sections
 
 ended_phase : (b : Bool) (held : List ℕ) → are_ended (if b then AllEnded else TagBegun held) ≡ b
 ended_phase true held = refl
@@ -274,23 +272,23 @@ phase_ended ds (InTag held) open' = ended_phase (nat_eq (section_after ds) 9) he
 phase_ended ds (InData h taken) open' = refl
 
 -- No place is that of open octets and that of an envelope.
-pub not_both : OnwardLaws → (limits : Limits) (p q : List ℕ) (place : Place) → IsPlaceOf p place → IsPlaceOf q place → IsOpen limits p → (v : Value) → IsEnvelopeWithin limits q v → ⊥
+pub not_both : LowerLaws → (limits : Limits) (p q : List ℕ) (place : Place) → IsPlaceOf p place → IsPlaceOf q place → IsOpen limits p → (v : Value) → IsEnvelopeWithin limits q v → ⊥
 not_both laws limits p q place is are opens v whole =
-    let was = opened laws.places limits p is.whole is.begun is.reads opens in
-    let there = coming laws.opens.answer place q are whole.admits.datasets (InTag []) (reads_envelope q v whole.admits) in
+    let was = opened laws limits p is.whole is.begun is.reads opens in
+    let there = coming laws place q are whole.admits.datasets (InTag []) (reads_envelope q v whole.admits) in
     let ended : are_ended place.phase ≡ true = ap (λ (x : Place). are_ended x.phase) there.is_place ∙ ended_phase (nat_eq (section_after whole.admits.datasets) 9) [] ∙ ap (λ (n : ℕ). nat_eq n 9) (nine_at laws limits q v whole) in
     let more : are_ended place.phase ≡ false = ap (λ (x : Place). are_ended x.phase) is.is_place ∙ phase_ended is.whole is.begun was.ended in
     let bad : false ≡ true = sym more ∙ ended in
     cc
 
 -- An envelope of a place is as each other of it.
-whole_alike : OnwardLaws → (limits : Limits) (p q : List ℕ) (place : Place) → IsPlaceOf p place → IsPlaceOf q place → (w : Value) → IsEnvelopeWithin limits q w → (v : Value) → IsEnvelopeWithin limits p v
+whole_alike : LowerLaws → (limits : Limits) (p q : List ℕ) (place : Place) → IsPlaceOf p place → IsPlaceOf q place → (w : Value) → IsEnvelopeWithin limits q w → (v : Value) → IsEnvelopeWithin limits p v
     → (w : Value) × IsEnvelopeWithin limits q w × AreAlike v w
 whole_alike laws limits p q place is are w other v whole =
     let ds = whole.admits.datasets in
     let es = other.admits.datasets in
-    let here = coming laws.opens.answer place p is ds (InTag []) (reads_envelope p v whole.admits) in
-    let there = coming laws.opens.answer place q are es (InTag []) (reads_envelope q w other.admits) in
+    let here = coming laws place p is ds (InTag []) (reads_envelope p v whole.admits) in
+    let there = coming laws place q are es (InTag []) (reads_envelope q w other.admits) in
     let e : place_of ds (InTag []) here.message ≡ place_of es (InTag []) there.message = sym here.is_place ∙ there.is_place in
     whole_as laws limits p q v whole.admits es (reads_envelope q w other.admits)
     (record {
@@ -298,15 +296,15 @@ whole_alike laws limits p q place is are w other v whole =
       numbers = same_numbers (sevens ds) (sevens es) (ap (λ (x : Place). x.numbers) e);
       heads = ap (λ (x : Place). x.heads) e;
       octets = ap (λ (x : Place). x.taken) e;
-      message = same_message laws.places (object_of ds) (object_of es) here.text there.text here.message there.message (ap (λ (x : Place). x.message) e) here.leads there.leads;
+      message = same_message laws (object_of ds) (object_of es) here.text there.text here.message there.message (ap (λ (x : Place). x.message) e) here.leads there.leads;
     })
-    (goes_envelope laws.opens.answer limits q w other).sizes (nine_at laws limits q w other)
+    (goes_envelope laws limits q w other).sizes (nine_at laws limits q w other)
 
 back_none : (t added : List ℕ) → t ++ added ≡ t → added ≡ []
 back_none t added e = append_cancel_left t added [] (e ∙ sym (append-nil t))
 
 -- nothing follows an envelope but nothing
-both_whole : OnwardLaws → OpenOctetsBeginWithNoEnvelope → NoAdmittedOctetsBeginOthers → (limits : Limits) (p q : List ℕ) (place : Place) → IsPlaceOf p place → IsPlaceOf q place → (v w : Value) → IsEnvelopeWithin limits p v → IsEnvelopeWithin limits q w
+both_whole : LowerLaws → OpenOctetsBeginWithNoEnvelope → NoAdmittedOctetsBeginOthers → (limits : Limits) (p q : List ℕ) (place : Place) → IsPlaceOf p place → IsPlaceOf q place → (v w : Value) → IsEnvelopeWithin limits p v → IsEnvelopeWithin limits q w
     → (more : List ℕ) → ContinueAlike limits p q more
 both_whole laws no_front no_more limits p q place is are v w whole other more = record {
   are_open = λ open'. absurd (no_front limits (p ++ more) p more v open' refl whole.admits);
@@ -328,7 +326,7 @@ both_whole laws no_front no_more limits p q place is are v w whole other more = 
     same_front : (x more : List ℕ) → more ≡ [] → x ++ more ≡ x
     same_front x more none = ap (λ (l : List ℕ). x ++ l) none ∙ append-nil x
 
-pub continue_alike : OnwardLaws → OpenOctetsBeginWithNoEnvelope → NoAdmittedOctetsBeginOthers → PlacesContinueAlike
+pub continue_alike : LowerLaws → OpenOctetsBeginWithNoEnvelope → NoAdmittedOctetsBeginOthers → PlacesContinueAlike
 continue_alike laws no_front no_more limits p q place is are (inl opens) (inl goes) more = both_open laws limits p q place is are opens goes more
 continue_alike laws no_front no_more limits p q place is are (inl opens) (inr (w, other)) more = absurd (not_both laws limits p q place is are opens w other)
 continue_alike laws no_front no_more limits p q place is are (inr (v, whole)) (inl goes) more = absurd (not_both laws limits q p place are is goes v whole)
@@ -373,7 +371,7 @@ lives_at ds es h b = alive_at_as ds es h b.there b.present b.twins.seen
 back_at : (ds es : List Dataset) (h : Head) → Before ds es → SectionsLiveAt es h → SectionsLiveAt ds h
 back_at ds es h b = alive_at_as es ds h b.here (sym b.present) (flip ds es b.twins).seen
 
-head_dies_as : OnwardLaws → (limits : Limits) (ds es : List Dataset) (h : Head) → Before ds es → (layer : Layer) → DiesAtHead layer limits ds h
+head_dies_as : LowerLaws → (limits : Limits) (ds es : List Dataset) (h : Head) → Before ds es → (layer : Layer) → DiesAtHead layer limits ds h
     → DiesAtHead layer limits es h
 head_dies_as laws limits ds es h b layers.Record dies = λ alive. dies (back_at ds es h b alive)
 head_dies_as laws limits ds es h b layers.Limits dies = (lives_at ds es h b dies.0, (λ room. dies.1 (room_as limits es ds h (flip ds es b.twins) room)))
@@ -381,26 +379,26 @@ head_dies_as laws limits ds es h b layers.Object dies =
     let alive = lives_at ds es h b dies.0 in
     let room = room_as limits ds es h b.twins dies.1 in
     let few = few_as ds es b.twins b.few in
-    (alive, room, (λ lives. dies.2 (at_as laws.opens es ds h alive dies.0 few room.subfiles (flip ds es b.twins) lives)))
+    (alive, room, (λ lives. dies.2 (at_as laws es ds h alive dies.0 few room.subfiles (flip ds es b.twins) lives)))
 head_dies_as laws limits ds es h b rest dies = absurd dies
 
-head_as : OnwardLaws → (limits : Limits) (ds es : List Dataset) (h : Head) (fault : TokenFault) → Before ds es → IsRefusedHead limits ds h fault
+head_as : LowerLaws → (limits : Limits) (ds es : List Dataset) (h : Head) (fault : TokenFault) → Before ds es → IsRefusedHead limits ds h fault
     → IsRefusedHead limits es h fault
 head_as laws limits ds es h fault t bad = record { first = sym (head_fault_as limits ds es h t.present t.twins) ∙ bad.first; dead = head_dies_as laws limits ds es h t fault.layer bad.dead }
 
-end_dies_as : OnwardLaws → (o r : List ℕ) → SameMessage o r → MessageDiesAt o End → MessageDiesAt r End
-end_dies_as laws o r m dies = ((laws.places.answer.living r m.other m.at m.there).0, λ alive. dies.1 (lives_as laws r o (flip_message o r m) true alive))
+end_dies_as : LowerLaws → (o r : List ℕ) → SameMessage o r → MessageDiesAt o End → MessageDiesAt r End
+end_dies_as laws o r m dies = ((laws.living r m.other m.at m.there).0, λ alive. dies.1 (lives_as laws r o (flip_message o r m) true alive))
 
-unfinished_head_as : OnwardLaws → (limits : Limits) (ds es : List Dataset) (h : Head) (fault : TokenFault) → Before ds es → IsUnfinished limits ds h fault
+unfinished_head_as : LowerLaws → (limits : Limits) (ds es : List Dataset) (h : Head) (fault : TokenFault) → Before ds es → IsUnfinished limits ds h fault
     → IsUnfinished limits es h fault
 unfinished_head_as laws limits ds es h fault t bad = record {
   last = bad.last;
-  leads_on = may_as laws.opens limits ds es (InData h []) t.there t.present t.twins bad.leads_on;
+  leads_on = may_as laws limits ds es (InData h []) t.there t.present t.twins bad.leads_on;
   dies = end_dies_as laws (object_of ds) (object_of es) t.message bad.dies;
   is_fault = bad.is_fault;
 }
 
-either_head : OnwardLaws → (limits : Limits) (ds es : List Dataset) (h : Head) (fault : TokenFault) → Before ds es
+either_head : LowerLaws → (limits : Limits) (ds es : List Dataset) (h : Head) (fault : TokenFault) → Before ds es
     → IsRefusedHead limits ds h fault ⊎ IsUnfinished limits ds h fault → IsRefusedHead limits es h fault ⊎ IsUnfinished limits es h fault
 either_head laws limits ds es h fault t (inl bad) = inl (head_as laws limits ds es h fault t bad)
 either_head laws limits ds es h fault t (inr bad) = inr (unfinished_head_as laws limits ds es h fault t bad)
@@ -416,13 +414,13 @@ value_fault_as ds es d twins =
 octets_alive : (ds : List Dataset) (d : Dataset) → SectionsLive (ds ++ d ∷ []) → Octets d.octets
 octets_alive ds d alive = (good_at ds d alive).octets
 
-value_lives_as : OnwardLaws → (ds es : List Dataset) (d : Dataset) → SectionsLiveAt es (head_of d) → SectionsLive (ds ++ d ∷ []) → SectionsLive (es ++ d ∷ [])
-value_lives_as laws ds es d there alive = value_as laws.places.values ds es d (octets_alive ds d alive) alive there
+value_lives_as : LowerLaws → (ds es : List Dataset) (d : Dataset) → SectionsLiveAt es (head_of d) → SectionsLive (ds ++ d ∷ []) → SectionsLive (es ++ d ∷ [])
+value_lives_as laws ds es d there alive = value_as laws.values_die ds es d (octets_alive ds d alive) alive there
 
 few_with : (ds : List Dataset) (d : Dataset) → (d.rec ≡ 8 → ⊥) → length (of_record 8 ds) ≤ max_subfiles → length (of_record 8 (ds ++ d ∷ [])) ≤ max_subfiles
 few_with ds d other few = few_more ds d few (λ eight. absurd (other eight))
 
-value_dies_as : OnwardLaws → (limits : Limits) (ds es : List Dataset) (d : Dataset) → (d.rec ≡ 8 → ⊥) → Twins ds es → CanContinueAt limits ds (head_of d)
+value_dies_as : LowerLaws → (limits : Limits) (ds es : List Dataset) (d : Dataset) → (d.rec ≡ 8 → ⊥) → Twins ds es → CanContinueAt limits ds (head_of d)
     → CanContinueAt limits es (head_of d) → (layer : Layer) → DiesAtValue layer ds d → DiesAtValue layer es d
 value_dies_as laws limits ds es d other twins here there layers.Record dies = λ alive. dies (value_lives_as laws es ds d here.records alive)
 value_dies_as laws limits ds es d other twins here there layers.Object dies =
@@ -430,9 +428,9 @@ value_dies_as laws limits ds es d other twins here there layers.Object dies =
     let few = few_with es d other there.within.subfiles in (
       alive,
       (λ lives.
-          let bounded = bounded_after laws.opens (es ++ d ∷ []) alive few lives in
+          let bounded = bounded_after laws (es ++ d ∷ []) alive few lives in
           let back = twins_on es ds (d ∷ []) (d ∷ []) (flip ds es twins) (same_tail (d ∷ [])) bounded in
-          dies.1 (after_as laws.opens (es ++ d ∷ []) (ds ++ d ∷ []) alive dies.0 few back lives)),
+          dies.1 (after_as laws (es ++ d ∷ []) (ds ++ d ∷ []) alive dies.0 few back lives)),
     )
 value_dies_as laws limits ds es d other twins here there rest dies = absurd dies
 
@@ -443,7 +441,7 @@ abbrev OnTo : Limits → List ℕ → List ℕ → List ℕ → List ℕ → Typ
 OnTo limits p q o r = (W : List Dataset) (c : Begun) → Reads count_octets p W c → AllCanContinue limits W c → ReadAlike limits q o r W c
 
 -- a value, where every layer can continue with its data
-value_at : OnwardLaws → (limits : Limits) (fault : TokenFault) (ds es : List Dataset) (h : Head) (given : List ℕ) → (h.rec ≡ 8 → ⊥) → length given ≡ h.count
+value_at : LowerLaws → (limits : Limits) (fault : TokenFault) (ds es : List Dataset) (h : Head) (given : List ℕ) → (h.rec ≡ 8 → ⊥) → length given ≡ h.count
     → AllCanContinue limits ds (InData h given) → AllCanContinue limits es (InData h given) → Twins ds es → IsRefusedValue ds (data_of h given) fault
     → IsRefusedValue es (data_of h given) fault
 value_at laws limits fault ds es h given other many here there twins bad =
@@ -455,18 +453,18 @@ value_at laws limits fault ds es h given other many here there twins bad =
           fault.layer bad.dead;
     }
 
-with_as : OnwardLaws → (limits : Limits) (ds es : List Dataset) (h : Head) (fault : TokenFault) → Before ds es → IsRefusedWith limits ds h fault
+with_as : LowerLaws → (limits : Limits) (ds es : List Dataset) (h : Head) (fault : TokenFault) → Before ds es → IsRefusedWith limits ds h fault
     → IsRefusedWith limits es h fault
 with_as laws limits ds es h fault t (inl bad) = inl (either_head laws limits ds es h fault t bad)
 with_as laws limits ds es h fault t (inr (other, none, all, bad)) =
-    let sizes = may_as laws.opens limits ds es (InData h []) t.there t.present t.twins all.sizes in
+    let sizes = may_as laws limits ds es (InData h []) t.there t.present t.twins all.sizes in
     let message : SameMessage (object_so_far ds (InData h [])) (object_so_far es (InData h [])) =
     subst (SameMessage (object_so_far ds (InData h []))) (sym (no_object es h [] other))
     (subst (λ (l : List ℕ). SameMessage l (object_of es)) (sym (no_object ds h [] other)) t.message) in
     let there = all_as laws limits ds es (InData h []) (InData h []) all sizes refl message in
     inr (other, none, there, value_at laws limits fault ds es h [] other (sym none) all there t.twins bad)
 
-step_as : OnwardLaws → (limits : Limits) (ds es : List Dataset) (c d : Begun) (next : ℕ) (fault : TokenFault) → Pair limits ds es c d
+step_as : LowerLaws → (limits : Limits) (ds es : List Dataset) (c d : Begun) (next : ℕ) (fault : TokenFault) → Pair limits ds es c d
     → IsRefusedAt limits ds c next fault → IsRefusedAt limits es d next fault
 step_as laws limits ds es (InTag x) (InTag y) next fault pair bad = subst (λ (l : List ℕ). IsRefusedAt limits es (InTag l) next fault) pair.begun (by bad)
   where
@@ -501,10 +499,10 @@ step_as laws limits ds es (InData h t) (InData k v) next fault pair bad = by bad
         (inr (other, many, value_at laws limits fault ds es h given other many here there pair.twins bad)))
 step_as laws limits ds es c d next fault pair bad = absurd pair.begun
 
-refuses_as : OnwardLaws → (limits : Limits) (p q o r : List ℕ) → OnTo limits p q o r → (next : ℕ) (fault : TokenFault) → RefusesByTests limits p next fault
+refuses_as : LowerLaws → (limits : Limits) (p q o r : List ℕ) → OnTo limits p q o r → (next : ℕ) (fault : TokenFault) → RefusesByTests limits p next fault
     → RefusesByTests limits q next fault
 refuses_as laws limits p q o r on next fault bad =
-    let (ds, c, reads, all, open', dead) = refuses_by laws.opens.answer limits p next fault bad in
+    let (ds, c, reads, all, open', dead) = refuses_by laws limits p next fault bad in
     let read = on ds c reads all in
     let none = unfinished_as laws limits ds read.whole c read.begun read.pair open' in
     let step = step_as laws limits ds read.whole c read.begun next fault read.pair dead in
@@ -512,7 +510,7 @@ refuses_as laws limits p q o r on next fault bad =
 
 -- ---- both
 
-pub refuse_alike : OnwardLaws → RefusalsTellTheLowestCause → OpenOctetsBeginWithNoEnvelope → RefusedOctetsWereOpen → PlacesRefuseAlike
+pub refuse_alike : LowerLaws → RefusalsTellTheLowestCause → OpenOctetsBeginWithNoEnvelope → RefusedOctetsWereOpen → PlacesRefuseAlike
 refuse_alike laws tests no_front was_open limits p q place is are (inl opens) (inl goes) more next fault bad =
     let (low, found) = (tests limits (p ++ more) next fault).0 bad in
     (tests limits (q ++ more) next fault).1 (
@@ -523,18 +521,18 @@ refuse_alike laws tests no_front was_open limits p q place is are (inl opens) (i
 refuse_alike laws tests no_front was_open limits p q place is are (inr (v, whole)) comes more next fault bad =
     absurd (no_front limits (p ++ more) p more v (was_open limits (p ++ more) next fault bad) refl whole.admits)
 
-pub open_where_none : OnwardLaws → (start : Message) → LeadsTo [] [] start → LivingOctetsAreOpen
+pub open_where_none : LowerLaws → (start : Message) → LeadsTo [] [] start → LivingOctetsAreOpen
 open_where_none laws start begins limits octets whole begun reads all none =
     record { whole = whole; begun = begun; reads = reads; leads_on = all; unfinished = by begun reads all }
   where
     by : (b : Begun) → Reads count_octets octets whole b → AllCanContinue limits whole b → AreSections whole → ⊥
-    by (InData h taken) reads all sections = not_all laws.opens.answer.follow.sections whole h all.sizes.records sections
+    by (InData h taken) reads all sections = not_all laws.sections whole h all.sizes.records sections
     by (InTag held) reads all sections =
-        let nine = sections_last laws.opens.answer.follow.ends whole all.sizes.records sections in
+        let nine = sections_last laws.last_record whole all.sizes.records sections in
         let ends : languages.IsAlive MessageLanguage (with_end (object_of whole)) =
         subst (λ (n : ℕ). languages.IsAlive MessageLanguage (map Octet (object_of whole) ++ (if nat_eq n 9 then End ∷ [] else []))) nine all.message in
         let lives : MessageLivesWith (object_of whole) = alive_front MessageLanguage (map Octet (object_of whole)) (End ∷ []) ends in
         let (text, place, leads) = laws.on [] (object_of whole) [] start begins lives all.story in
-        let e = ended_at (object_of whole) text place leads ((laws.ends (object_of whole) text place leads).0 ends) in
-        let is = enveloped laws.opens limits reads.front whole e.head e.text e.trailer e.lined.0 reads.is_front all.sizes nine e.message e.lined.1 in
+        let e = ended_at (object_of whole) text place leads ((laws.message_ends (object_of whole) text place leads).0 ends) in
+        let is = enveloped laws limits reads.front whole e.head e.text e.trailer e.lined.0 reads.is_front all.sizes nine e.message e.lined.1 in
         none reads.front reads.rest (value_of whole e.head e.lined.0 e.trailer is.sizes) reads.parts is.within.admits

@@ -2,7 +2,7 @@
 use Rattle.std.proofs.Common.{◌≡◌, ℕ, ◌+◌, ◌-◌, ◌<◌, ◌≤◌, ◌^◌, nat_eq, cond, if◌then◌else◌, Bool, true, false, List, [], ◌∷◌, ◌++◌, length, sum, get_or, Option, Some, None, ◌⊎◌, refl, ap, sym, subst, ◌∙◌, inl, inr, arith, append_assoc, append-nil, length-append}
 use Rattle.iim_places.proofs.Words.{AllByRecursion, flat_map, eqb-true, Octets, greatest_size, Dataset, SpellsStream, SpellsTag, count_octets, of_record, Begun}
 use Rattle.iim_places.proofs.Words.{InTag, InData, Reads, all_back, kept, kept_octets, is_kept, section_after, tells_number, SectionsLiveAt, Head, BeginsTag}
-use Rattle.iim_places.proofs.Words.{place_after_datasets, numbers_of, stated_numbers, Stated, number_at, LeadsToSaved, MessagePlace, object_of, AnswerLaws}
+use Rattle.iim_places.proofs.Words.{place_after_datasets, numbers_of, stated_numbers, Stated, number_at, LeadsToSaved, MessagePlace, object_of, LowerLaws}
 use Rattle.iim_places.proofs.Words.{object_so_far, section, AllCanContinue, ObjectLives, MayContinue, Phase, TagBegun, DataBegun, AllEnded, present_version}
 use Rattle.iim_places.proofs.Words.{phase_of, heads_of, place_of, ticket_in, layout, text_octets, texts_octets, part_number, IsLongField, IsSizeIn, AreTexts}
 use Rattle.iim_places.proofs.Words.{IsSize, AreNumbers, IsVersion, IsPhase, HasForm, Split, SplitsTicket, split_octets, place_in, Possible, IsSmall}
@@ -34,7 +34,7 @@ pub record Lived (place : Place) : Type 0 where
   pub leads : LeadsToSaved (object_so_far whole begun) text message
   pub is_place : place ≡ place_of whole begun message
 
-unfoldable pub lived : AnswerLaws → (place : Place) → Possible place → Lived place
+unfoldable pub lived : LowerLaws → (place : Place) → Possible place → Lived place
 lived laws place p =
     let is = p.leads in
     let lives : Lives widest p.octets = elim p.comes [ inl o ↦ lives_open widest p.octets o | inr e ↦ lives_envelope laws widest p.octets e.0 e.1 ] in
@@ -248,7 +248,7 @@ form_in version place (inl one) low small form =
 form_in version place (inr two) low small form = subst (λ (v : ℕ). HasForm (split_of v place)) (sym two) form
 
 -- The ticket of a possible place has the form of a ticket, with the parts of the place.
-pub tickets_split : AnswerLaws → SmallPlacesWerePossible → TicketsOfPlacesAreSplit
+pub tickets_split : LowerLaws → SmallPlacesWerePossible → TicketsOfPlacesAreSplit
 tickets_split laws scales version place is p =
     let l = lived laws place p.0 in
     let form : HasForm (split_of present_version place) = subst (λ (q : Place). HasForm (split_of present_version q)) (sym l.is_place) (form_of place l) in
@@ -301,7 +301,7 @@ same_place version p q e =
     λ i. record { section = (e i).section; phase = (e i).phase; fields = (e i).fields; numbers = (e i).numbers; taken = (e i).taken; heads = (e i).heads; message = message i }
 
 -- A ticket tells one possible place.
-pub one_told : AnswerLaws → SmallPlacesWerePossible → TicketsTellOnePlace
+pub one_told : LowerLaws → SmallPlacesWerePossible → TicketsTellOnePlace
 one_told laws scales version p q told is are e =
     same_place version p q
     (one_split (ticket_in version p) (split_of version p) (split_of version q) (tickets_split laws scales version p told is)

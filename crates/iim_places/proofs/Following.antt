@@ -4,7 +4,7 @@ use Rattle.iim_places.proofs.Words.{flat_map-append, filter-append, Dataset, Spe
 use Rattle.iim_places.proofs.Words.{IsBegun, Reads, NoTagBeginsAnother, Head, AreSections, SectionsLive, section_after, data_of, Limits, last_more}
 use Rattle.iim_places.proofs.Words.{ObjectLanguage, place_after, head_token, tokens_of, AreSized, place_after_datasets, Octet, End, MessageLanguage}
 use Rattle.iim_places.proofs.Words.{MessageLivesWith, StoryLivesIn, object_of, MayContinue, CanContinueAt, ObjectLives, place_at, AreWithin, object_so_far}
-use Rattle.iim_places.proofs.Words.{section, message_tokens, AllCanContinue, compare, FollowLaws, ObjectLaws}
+use Rattle.iim_places.proofs.Words.{section, message_tokens, AllCanContinue, compare, LowerLaws}
 use Rattle.iim_dataset.specs.Format.Languages as languages
 use Rattle.iim_fields.specs.Format.Faults.{joined}
 use Rattle.iim_places.proofs.Fronts.{begun_none, empty_front, no_longer}
@@ -48,7 +48,7 @@ Follows whole head z W c =
     ((d : Dataset) × (ws : List Dataset) × (tail : List ℕ) × (W ≡ whole ++ d ∷ ws) × (head_of d ≡ head) × (z ≡ d.octets ++ tail))
     ⊎ ((W ≡ whole) × (c ≡ InData head z) × (length z < head.count))
 
-begun_as : FollowLaws → (head : Head) (tag z rest : List ℕ) → SpellsTag count_octets head tag → (c : Begun) → IsBegun count_octets c rest → tag ++ z ≡ rest → (c ≡ InData head z) × (length z < head.count)
+begun_as : LowerLaws → (head : Head) (tag z rest : List ℕ) → SpellsTag count_octets head tag → (c : Begun) → IsBegun count_octets c rest → tag ++ z ≡ rest → (c ≡ InData head z) × (length z < head.count)
 begun_as laws head tag z rest st (InTag held) b e =
     absurd (no_longer laws.one_tag head b.1 tag z b.4.0 st b.4.1 (subst (SpellsTag count_octets b.1) (sym b.4.2 ∙ ap (λ l. l ++ b.4.0) (sym b.0 ∙ sym e)) b.3))
 begun_as laws head tag z rest st (InData h taken) b e =
@@ -58,7 +58,7 @@ begun_as laws head tag z rest st (InData h taken) b e =
     let less = b.2 in
     (λ i. InData (sym one.0 i) (sym one.2 i), omega (arith, less, count, many))
 
-pub follows : FollowLaws → (octets : List ℕ) (W : List Dataset) (c : Begun) → Reads count_octets octets W c → (whole : List Dataset) (F tag z : List ℕ) (head : Head) → SpellsStream count_octets whole F
+pub follows : LowerLaws → (octets : List ℕ) (W : List Dataset) (c : Begun) → Reads count_octets octets W c → (whole : List Dataset) (F tag z : List ℕ) (head : Head) → SpellsStream count_octets whole F
     → SpellsTag count_octets head tag → octets ≡ F ++ (tag ++ z) → Follows whole head z W c
 follows laws octets W c r whole F tag z head sw st parts =
     elim (compare laws.one_dataset whole W F r.front (tag ++ z) r.rest sw r.is_front (sym parts ∙ r.parts)) [
@@ -87,13 +87,13 @@ within_of limits W (InTag held) goes = goes.within
 within_of limits W (InData h taken) goes = goes.within
 
 -- where a token of a head has led, the layer can continue from before it
-before_head : ObjectLaws → (W : List Dataset) (h : Head) → HeadLeads W h → ObjectLives (place_at W h) → ObjectLives (place_after_datasets W)
+before_head : LowerLaws → (W : List Dataset) (h : Head) → HeadLeads W h → ObjectLives (place_at W h) → ObjectLives (place_after_datasets W)
 before_head laws W h leads lives =
     let token = head_token h.rec h.count in
     let there : ObjectLives (place_after (place_after_datasets W) token) = subst ObjectLives (sym leads.1) lives in
     alive_front ObjectLanguage (tokens_of (place_after_datasets W)) (token ∷ []) (subst (languages.IsAlive ObjectLanguage) (laws.tokens (place_after_datasets W) token leads.0) there)
 
-pub object_lives_after : ObjectLaws → (limits : Limits) (W : List Dataset) (c : Begun) → MayContinue limits W c → ObjectLives (place_after_datasets W)
+pub object_lives_after : LowerLaws → (limits : Limits) (W : List Dataset) (c : Begun) → MayContinue limits W c → ObjectLives (place_after_datasets W)
 object_lives_after laws limits W (InTag held) goes = goes.object
 object_lives_after laws limits W (InData h taken) goes =
     let (d, head, alive) = goes.records in
@@ -106,8 +106,8 @@ object_lives_after laws limits W (InData h taken) goes =
     ]
 
 -- whole datasets that are followed continue to some that have sizes
-pub sized_of : FollowLaws → (limits : Limits) (W : List Dataset) (c : Begun) → MayContinue limits W c → languages.IsAlive AreSized W
-sized_of laws limits W c goes = (laws.live W (records_alive W (alive_of limits W c goes))).1 (object_lives_after laws.objects limits W c goes)
+pub sized_of : LowerLaws → (limits : Limits) (W : List Dataset) (c : Begun) → MayContinue limits W c → languages.IsAlive AreSized W
+sized_of laws limits W c goes = (laws.live W (records_alive W (alive_of limits W c goes))).1 (object_lives_after laws limits W c goes)
 
 -- what stands in front of further datasets
 pub record InFront (limits : Limits) (whole : List Dataset) (d : Dataset) : Type 0 where
@@ -115,7 +115,7 @@ pub record InFront (limits : Limits) (whole : List Dataset) (d : Dataset) : Type
   pub sized : languages.IsAlive AreSized (whole ++ d ∷ [])
   pub goes_at : CanContinueAt limits whole (head_of d)
 
-pub in_front : FollowLaws → (limits : Limits) (W : List Dataset) (c : Begun) → MayContinue limits W c → (whole ws : List Dataset) (d : Dataset) → W ≡ whole ++ d ∷ ws → InFront limits whole d
+pub in_front : LowerLaws → (limits : Limits) (W : List Dataset) (c : Begun) → MayContinue limits W c → (whole ws : List Dataset) (d : Dataset) → W ≡ whole ++ d ∷ ws → InFront limits whole d
 in_front laws limits W c goes whole ws d is =
     let alive = alive_of limits W c goes in
     let sized = sized_of laws limits W c goes in
@@ -131,12 +131,12 @@ in_front laws limits W c goes whole ws d is =
         records = (d, refl, front);
         within = within_front limits whole (d ∷ ws) within;
         room = room;
-        object = lives_at laws.objects laws.live laws.ended whole d front sizes room.subfiles;
+        object = lives_at laws whole d front sizes room.subfiles;
       };
     }
 
 -- Every layer that is asked before the message can continue with a head that has come.
-pub head_lives : FollowLaws → (limits : Limits) (W : List Dataset) (c : Begun) → AllCanContinue limits W c → (whole : List Dataset) (head : Head) (z : List ℕ) → Follows whole head z W c → CanContinueAt limits whole head
+pub head_lives : LowerLaws → (limits : Limits) (W : List Dataset) (c : Begun) → AllCanContinue limits W c → (whole : List Dataset) (head : Head) (z : List ℕ) → Follows whole head z W c → CanContinueAt limits whole head
 head_lives laws limits W c all whole head z (inl (d, ws, tail, is, h, rest)) = subst (CanContinueAt limits whole) h (in_front laws limits W c all.sizes whole ws d is).goes_at
 head_lives laws limits W c all whole head z (inr (same, begun, less)) = (subst (AllCanContinue limits whole) begun (subst (λ (ds : List Dataset). AllCanContinue limits ds c) same all)).sizes
 
@@ -146,7 +146,7 @@ pub same_data : (d : Dataset) (head : Head) (given : List ℕ) → head_of d ≡
 same_data d head given h o = λ i. record { rec = (h i).rec; set = (h i).set; octets = o i }
 
 -- The records and the sizes can continue with a value that has come.
-pub value_lives : FollowLaws → (limits : Limits) (W : List Dataset) (c : Begun) → AllCanContinue limits W c → (whole : List Dataset) (head : Head) (z given y : List ℕ) → Follows whole head z W c → z ≡ given ++ y
+pub value_lives : LowerLaws → (limits : Limits) (W : List Dataset) (c : Begun) → AllCanContinue limits W c → (whole : List Dataset) (head : Head) (z given y : List ℕ) → Follows whole head z W c → z ≡ given ++ y
     → length given ≡ head.count → SectionsLive (whole ++ data_of head given ∷ []) × languages.IsAlive AreSized (whole ++ data_of head given ∷ [])
 value_lives laws limits W c all whole head z given y (inl (d, ws, tail, is, h, rest)) parts many =
     let front = in_front laws limits W c all.sizes whole ws d is in
@@ -218,14 +218,14 @@ after_last ds d nine =
     ∙ ap (λ (r : ℕ). map Octet (object_of ds) ++ (if nat_eq r 9 then End ∷ [] else [])) (last_more 0 ds d ∙ nine)
 
 -- Where the head of 9:10 has come, a message can end with the octets of the object.
-pub message_ends : FollowLaws → (limits : Limits) (W : List Dataset) (c : Begun) → AllCanContinue limits W c → (whole : List Dataset) (head : Head) (z : List ℕ) → Follows whole head z W c → head.rec ≡ 9
+pub message_ends : LowerLaws → (limits : Limits) (W : List Dataset) (c : Begun) → AllCanContinue limits W c → (whole : List Dataset) (head : Head) (z : List ℕ) → Follows whole head z W c → head.rec ≡ 9
     → languages.IsAlive MessageLanguage (map Octet (object_of whole) ++ End ∷ [])
 message_ends laws limits W c all whole head z (inr (same, begun, less)) nine =
     subst (languages.IsAlive MessageLanguage) (ends_tokens whole head z nine) (subst (AllCanContinue limits whole) begun (subst (λ (ds : List Dataset). AllCanContinue limits ds c) same all)).message
 message_ends laws limits W c all whole head z (inl (d, ws, tail, is, h, rest)) nine =
     let rec : d.rec ≡ 9 = ap (λ (k : Head). k.rec) h ∙ nine in
     let front = in_front laws limits W c all.sizes whole ws d is in
-    let sections : AreSections (whole ++ d ∷ []) = (laws.ends whole d front.alive).0 rec in
+    let sections : AreSections (whole ++ d ∷ []) = (laws.last_record whole d front.alive).0 rec in
     let alive = alive_of limits W c all.sizes in
     let later : ws ++ alive.0 ≡ [] = laws.sections (whole ++ d ∷ []) (ws ++ alive.0) sections
     (subst AreSections (ap (λ (xs : List Dataset). xs ++ alive.0) is ∙ append_assoc whole (d ∷ ws) alive.0 ∙ sym (append_assoc whole (d ∷ []) (ws ++ alive.0))) alive.1) in

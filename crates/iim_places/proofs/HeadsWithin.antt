@@ -1,7 +1,7 @@
 -- Whether octets keep to limits is told by their place.
 use Rattle.std.proofs.Common.{◌≡◌, ℕ, ◌+◌, nat_eq, if◌then◌else◌, Bool, true, false, List, [], length, refl, sym, subst, inl, inr, arith}
 use Rattle.iim_places.proofs.Words.{Dataset, count_octets, Begun, InTag, InData, Reads, kept, kept_octets, is_kept, section_after, IsWithin, Limits}
-use Rattle.iim_places.proofs.Words.{MessagePlace, AnswerLaws, AllCanContinue, MayContinue, AllEnded, TagBegun, IsPlaceOf, place_of, widest, AreOpenOrWhole}
+use Rattle.iim_places.proofs.Words.{MessagePlace, LowerLaws, AllCanContinue, MayContinue, AllEnded, TagBegun, IsPlaceOf, place_of, widest, AreOpenOrWhole}
 use Rattle.iim_places.proofs.Words.{AreHeadsWithin, begun_count, begun_fields, LimitsAreToldByPlace}
 use Rattle.iim_places.specs.Format.Tickets.{Place}
 use Rattle.iim_places.proofs.Answering.{Lives, lives_open, lives_envelope, one_reading, reads_envelope}
@@ -49,14 +49,14 @@ goes_by limits ds b m goes within = record { sizes = within_by limits ds b m goe
 
 -- ---- both ways
 
-told : AnswerLaws → (limits : Limits) (octets : List ℕ) (place : Place) → IsPlaceOf octets place → Lives limits octets → AreHeadsWithin limits place
+told : LowerLaws → (limits : Limits) (octets : List ℕ) (place : Place) → IsPlaceOf octets place → Lives limits octets → AreHeadsWithin limits place
 told laws limits octets place is lives =
     let same = one_reading laws octets lives.whole is.whole lives.begun is.begun lives.reads is.reads in
     let goes : MayContinue limits is.whole is.begun = subst (λ (ds : List Dataset). MayContinue limits ds is.begun) same.whole_is (subst (λ (b : Begun). MayContinue limits lives.whole b) same.begun_is lives.leads_on.sizes) in
     subst (AreHeadsWithin limits) (sym is.is_place) (told_by limits is.whole is.begun is.message goes)
 
 -- the place by another reading of its octets
-placed_by : AnswerLaws → (limits : Limits) (octets : List ℕ) (place : Place) (is : IsPlaceOf octets place) (whole : List Dataset) (begun : Begun) → Reads count_octets octets whole begun → AreHeadsWithin limits place
+placed_by : LowerLaws → (limits : Limits) (octets : List ℕ) (place : Place) (is : IsPlaceOf octets place) (whole : List Dataset) (begun : Begun) → Reads count_octets octets whole begun → AreHeadsWithin limits place
     → AreHeadsWithin limits (place_of whole begun is.message)
 placed_by laws limits octets place is whole begun reads within =
     let same = one_reading laws octets whole is.whole begun is.begun reads is.reads in
@@ -64,7 +64,7 @@ placed_by laws limits octets place is whole begun reads within =
     subst (λ (ds : List Dataset). AreHeadsWithin limits (place_of ds begun is.message)) (sym same.whole_is)
     (subst (λ (b : Begun). AreHeadsWithin limits (place_of is.whole b is.message)) (sym same.begun_is) at)
 
-back : AnswerLaws → (limits : Limits) (octets : List ℕ) (place : Place) → IsPlaceOf octets place → AreOpenOrWhole widest octets → AreHeadsWithin limits place → AreOpenOrWhole limits octets
+back : LowerLaws → (limits : Limits) (octets : List ℕ) (place : Place) → IsPlaceOf octets place → AreOpenOrWhole widest octets → AreHeadsWithin limits place → AreOpenOrWhole limits octets
 back laws limits octets place is (inl open') within =
     let at = placed_by laws limits octets place is open'.whole open'.begun open'.reads within in
     inl (record { whole = open'.whole; begun = open'.begun; reads = open'.reads; leads_on = goes_by limits open'.whole open'.begun is.message open'.leads_on at; unfinished = open'.unfinished })
@@ -74,7 +74,7 @@ back laws limits octets place is (inr (value, envelope)) within =
 
 -- Octets that are open or an envelope under the widest limits are so under others exactly where the heads that their place tells
 -- are within these.
-pub limits_told : AnswerLaws → LimitsAreToldByPlace
+pub limits_told : LowerLaws → LimitsAreToldByPlace
 limits_told laws limits octets place is comes = (
   (λ at. told laws limits octets place is (elim at [ inl o ↦ lives_open limits octets o | inr e ↦ lives_envelope laws limits octets e.0 e.1 ])),
   (λ within. back laws limits octets place is comes within),

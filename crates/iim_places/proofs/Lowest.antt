@@ -3,13 +3,13 @@ use Rattle.std.proofs.Common.{◌≡◌, ◌≢◌, ℕ, zero, suc, ◌<◌, ◌
 use Rattle.std.proofs.Common.{length, map, replicate, Option, Some, None, refl, ap, sym, subst, ◌∙◌, inl, inr, arith, length-append}
 use Rattle.iim_places.proofs.Words.{option_or, option_map, cases_lt, eqb-true, lt-ltb, or_cases, same_Some, length-replicate, map-append, IsAlive, IsOctet}
 use Rattle.iim_places.proofs.Words.{Octets, IsProperPrefix, number, zeros_are, Dataset, SpellsTag, SpellsCount, head_of, of_record, count_octets, InTag, InData}
-use Rattle.iim_places.proofs.Words.{Begun, Reads, BeginsNoTag, Head, SectionsLive, SectionsLiveAt, first_fault, value_fault, HeadsDieWithTheirFault}
-use Rattle.iim_places.proofs.Words.{HeadsTellTheLowestCause, ValuesDieWithTheirFault, ValuesTellTheLowestCause, data_of, tells_number, Limits, FieldFault}
+use Rattle.iim_places.proofs.Words.{Begun, Reads, BeginsNoTag, Head, SectionsLive, SectionsLiveAt, first_fault, value_fault}
+use Rattle.iim_places.proofs.Words.{data_of, tells_number, Limits, FieldFault}
 use Rattle.iim_places.proofs.Words.{cause_at, place_after_datasets, ObjectToken, head_token, value_token, max_subfiles, SizeCause, Holds, Octet}
 use Rattle.iim_places.proofs.Words.{MessageLanguage, text_so_far, HasCause, MessageCause, object_of, Token, AtOctet, AtHead, AtValue, IsNoCount, Names}
 use Rattle.iim_places.proofs.Words.{TellsTheLowest, rule_of, AreWithin, AllCanContinue, Dies, IsUnfinished, RefusesByTests, RefusesNext, Completes, cause_of}
 use Rattle.iim_places.proofs.Words.{layer_of, cause_of_size, cause_of_message, layer_of_message, of_field, size_on, too_many_on, message_on, DiesAtHead}
-use Rattle.iim_places.proofs.Words.{DiesAtValue, IsRefusedHead, IsRefusedValue, place_at, subfile_fault, object_fault, number_fault, AnswerLaws, TokenFault}
+use Rattle.iim_places.proofs.Words.{DiesAtValue, IsRefusedHead, IsRefusedValue, place_at, subfile_fault, object_fault, number_fault, LowerLaws, TokenFault}
 use Rattle.iim_places.proofs.Words.{Layer, AreSections, cases_Bool, eq-eqb, ltb-true, eqb_tells, record_fault, limits_fault, fault_on, is_kept, StoryLanguage}
 use Rattle.iim_places.proofs.Words.{MessageLivesWith, StoryLivesIn, tag_cause, begun_record, begun_number, HaveRoom, fault_at_head, fault_at_value}
 use Rattle.iim_places.proofs.Words.{octets_append}
@@ -22,7 +22,7 @@ use Rattle.iim_places.proofs.Answering.{not_held, refuses_by, IsRefusedAt, tag_f
 use Rattle.iim_places.proofs.Places.{HeadLeads, subfile_leads, end_leads, number_leads}
 use Rattle.iim_places.proofs.SameRecords.{stated_after_all, stated_at}
 use Rattle.iim_places.proofs.SizeConditions.{OfSize, size_holds}
-use Rattle.iim_places.proofs.StoryDies.{StoryLaws, in_text, lone_return, control}
+use Rattle.iim_places.proofs.StoryDies.{in_text, lone_return, control}
 use Rattle.iim_places.proofs.Living.{alive_front}
 use Rattle.iim_fields.specs.Format.Causes as records
 use Rattle.iim_fields.specs.declared.fault.FieldCause.TheVariants as fields
@@ -32,16 +32,6 @@ use Rattle.iim_object.specs.declared.reading.fault.SizeCause.TheVariants as size
 use Rattle.wire_message.specs.declared.fault.MessageCause.TheVariants as messages
 use Rattle.iim_places.specs.declared.refusal.Layer.TheVariants as layers
 use Rattle.iim_places.specs.declared.refusal.Cause.TheVariants as causes
-
--- the laws by which a refusal tells the lowest cause
-pub record LowestLaws : Type 0 where
-  pub answer : AnswerLaws
-  pub heads : HeadsTellTheLowestCause
-  pub heads_die : HeadsDieWithTheirFault
-  pub values : ValuesTellTheLowestCause
-  pub values_die : ValuesDieWithTheirFault
-  pub objects : objects.CausesAreTheFirst
-  pub story : StoryLaws
 
 -- ---- the causes of a layer
 
@@ -219,11 +209,11 @@ too_many_lowest limits ds h eight many none = record {
       none g ((field_holds g limits ds (AtHead h)).0 (subst (Holds' limits ds (AtHead h)) is has));
 }
 
-pub leads_at : LowestLaws → (ds : List Dataset) (h : Head) → SectionsLiveAt ds h → (h.rec ≡ 8 → length (of_record 8 ds) < max_subfiles) → (h.rec ≡ 8) ⊎ (h.rec ≡ 9) → HeadLeads ds h
-leads_at laws ds h at room (inl eight) = subfile_leads laws.answer.follow.objects ds h at eight (room eight)
-leads_at laws ds h at room (inr nine) = end_leads laws.answer.follow.objects ds h at nine
+pub leads_at : LowerLaws → (ds : List Dataset) (h : Head) → SectionsLiveAt ds h → (h.rec ≡ 8 → length (of_record 8 ds) < max_subfiles) → (h.rec ≡ 8) ⊎ (h.rec ≡ 9) → HeadLeads ds h
+leads_at laws ds h at room (inl eight) = subfile_leads laws ds h at eight (room eight)
+leads_at laws ds h at room (inr nine) = end_leads laws ds h at nine
 
-head_lowest : LowestLaws → (limits : Limits) (ds : List Dataset) (h : Head) (fault : TokenFault) → SectionsLive ds → AreWithin limits ds → IsRefusedHead limits ds h fault → IsTold limits ds (AtHead h) fault
+head_lowest : LowerLaws → (limits : Limits) (ds : List Dataset) (h : Head) (fault : TokenFault) → SectionsLive ds → AreWithin limits ds → IsRefusedHead limits ds h fault → IsTold limits ds (AtHead h) fault
 head_lowest laws limits ds h fault alive within refused = by (first_fault limits ds h) (subfile_fault ds h) (object_fault ds h) refl refl refl refused.first
   where
     by_object : Mapped (nat_eq h.rec 8 || nat_eq h.rec 9) (cause_at (place_after_datasets ds) (head_token h.rec h.count)) (size_on h) fault → IsTold limits ds (AtHead h) fault
@@ -231,19 +221,19 @@ head_lowest laws limits ds h fault alive within refused = by (first_fault limits
         let dead = subst (λ (f : TokenFault). DiesAtHead f.layer limits ds h) (sym m.fault) refused.dead in
         let is = either h.rec 8 9 m.on in
         let leads = leads_at laws ds h dead.0 dead.1.subfiles is in
-        let stated = (stated_after_all laws.answer.follow.objects ds alive within.subfiles).stated in
-        let first = (laws.objects (place_after_datasets ds) (head_token h.rec h.count) m.cause stated leads.0).0 m.is in
+        let stated = (stated_after_all laws ds alive within.subfiles).stated in
+        let first = (laws.first_cause (place_after_datasets ds) (head_token h.rec h.count) m.cause stated leads.0).0 m.is in
         subst (IsTold limits ds (AtHead h)) m.fault (record { tells = size_lowest limits ds (AtHead h) h (place_after_datasets ds) (head_token h.rec h.count) m.cause first (is, first.holds) (λ r has. has.1); names = size_names m.cause ds h })
 
     by : (o : Option FieldFault) (p q : Option TokenFault) → first_fault limits ds h ≡ o → subfile_fault ds h ≡ p → object_fault ds h ≡ q
         → option_or (option_map of_field o) (option_or p q) ≡ Some fault → IsTold limits ds (AtHead h) fault
     by (Some f) p q first second third e =
-        let is = ((laws.heads limits ds h).0 f).0 first in
+        let is = ((laws.heads_tell limits ds h).0 f).0 first in
         subst (IsTold limits ds (AtHead h)) (same_Some _ _ e) (record { tells = field_lowest limits ds (AtHead h) f is.holds is.lowest; names = (head_names f.cause ds h f.rec f.set).0 is.names })
     by None (Some s) q first second third e =
         let many = taken_if (nat_eq h.rec 8) (nat_lt (length (of_record 8 ds)) max_subfiles) (too_many_on h) s second in
         subst (IsTold limits ds (AtHead h)) (many.0 ∙ same_Some _ _ e)
-        (record { tells = too_many_lowest limits ds h (eqb-true h.rec 8 many.1) (not_less (length (of_record 8 ds)) max_subfiles many.2) ((laws.heads limits ds h).1.0 first); names = (refl, refl) })
+        (record { tells = too_many_lowest limits ds h (eqb-true h.rec 8 many.1) (not_less (length (of_record 8 ds)) max_subfiles many.2) ((laws.heads_tell limits ds h).1.0 first); names = (refl, refl) })
     by None None (Some s) first second third e =
         by_object (mapped_if (nat_eq h.rec 8 || nat_eq h.rec 9) (cause_at (place_after_datasets ds) (head_token h.rec h.count)) (size_on h) fault (third ∙ e))
     by None None None first second third e = absurd cc
@@ -254,16 +244,16 @@ not_eight : {A : Type 0} (r : ℕ) → (r ≡ 7) ⊎ (r ≡ 9) → r ≡ 8 → A
 not_eight r (inl seven) eight = absurd (omega (arith, seven, eight))
 not_eight r (inr nine) eight = absurd (omega (arith, nine, eight))
 
-value_lowest : LowestLaws → (limits : Limits) (ds : List Dataset) (d : Dataset) (fault : TokenFault) → AreWithin limits ds → IsRefusedValue ds d fault → IsTold limits ds (AtValue d) fault
+value_lowest : LowerLaws → (limits : Limits) (ds : List Dataset) (d : Dataset) (fault : TokenFault) → AreWithin limits ds → IsRefusedValue ds d fault → IsTold limits ds (AtValue d) fault
 value_lowest laws limits ds d fault within refused = by (value_fault d) (number_fault ds d) refl refl refused.first
   where
     by_object : Mapped (tells_number d.rec) (cause_at (place_at ds (head_of d)) (value_token d.rec d.set (number d.octets))) (size_on (head_of d)) fault → IsTold limits ds (AtValue d) fault
     by_object m =
         let dead = subst (λ (f : TokenFault). DiesAtValue f.layer ds d) (sym m.fault) refused.dead in
         let is = either d.rec 7 9 m.on in
-        let leads = number_leads laws.answer.follow.objects ds d dead.0 m.on in
-        let stated = (stated_at laws.answer.follow.objects ds (head_of d) (d, refl, dead.0) within.subfiles (λ eight. not_eight d.rec is eight)).stated in
-        let first = (laws.objects (place_at ds (head_of d)) (value_token d.rec d.set (number d.octets)) m.cause stated leads.0).0 m.is in
+        let leads = number_leads laws ds d dead.0 m.on in
+        let stated = (stated_at laws ds (head_of d) (d, refl, dead.0) within.subfiles (λ eight. not_eight d.rec is eight)).stated in
+        let first = (laws.first_cause (place_at ds (head_of d)) (value_token d.rec d.set (number d.octets)) m.cause stated leads.0).0 m.is in
         subst (IsTold limits ds (AtValue d)) m.fault (record {
           tells = size_lowest limits ds (AtValue d) (head_of d) (place_at ds (head_of d)) (value_token d.rec d.set (number d.octets)) m.cause first (is, first.holds) (λ r has. has.1);
           names = size_value_names m.cause ds d;
@@ -271,7 +261,7 @@ value_lowest laws limits ds d fault within refused = by (value_fault d) (number_
 
     by : (o : Option FieldFault) (q : Option TokenFault) → value_fault d ≡ o → number_fault ds d ≡ q → option_or (option_map of_field o) q ≡ Some fault → IsTold limits ds (AtValue d) fault
     by (Some f) q first second e =
-        let is = ((laws.values limits ds d).0 f).0 first in
+        let is = ((laws.values_tell limits ds d).0 f).0 first in
         subst (IsTold limits ds (AtValue d)) (same_Some _ _ e) (record { tells = field_lowest limits ds (AtValue d) f is.holds is.lowest; names = (value_names f.cause ds d f.rec f.set).0 is.names })
     by None q first second e = by_object (mapped_if (tells_number d.rec) (cause_at (place_at ds (head_of d)) (value_token d.rec d.set (number d.octets))) (size_on (head_of d)) fault (second ∙ e))
 
@@ -294,17 +284,17 @@ first_of_two other c d (inl is) order less = let n = numbered other c is in omeg
 first_of_two other c d (inr is) order less = let n = numbered other d is in omega (arith, n, order, less)
 
 -- where no CR is held, the octet is no lone return
-no_return : LowestLaws → (limits : Limits) (ds : List Dataset) (h : Head) (taken : List ℕ) (b : ℕ) → Holds (text_so_far (object_of ds ++ taken)) 0 → (other : Cause) → InLayer layers.Story other → (rule_of other).number < 41
+no_return : LowerLaws → (limits : Limits) (ds : List Dataset) (h : Head) (taken : List ℕ) (b : ℕ) → Holds (text_so_far (object_of ds ++ taken)) 0 → (other : Cause) → InLayer layers.Story other → (rule_of other).number < 41
     → Holds' limits ds (AtOctet (InData h taken) b) other → ⊥
 no_return laws limits ds h taken b none other (inl is) less it =
-    let (eight, (text, (held, holds, some, feed, second))) = subst (Holds' limits ds (AtOctet (InData h taken) b)) is it in not_held laws.answer (text_so_far (object_of ds ++ taken)) held some holds none
+    let (eight, (text, (held, holds, some, feed, second))) = subst (Holds' limits ds (AtOctet (InData h taken) b)) is it in not_held laws (text_so_far (object_of ds ++ taken)) held some holds none
 no_return laws limits ds h taken b none other (inr is) less it = let n = numbered other causes.ControlOctet is in omega (arith, n, less)
 
 -- an octet more, as octets and as tokens
 pub one_token : (o : List ℕ) (b : ℕ) → map Octet (o ++ b ∷ []) ≡ map Octet o ++ Octet b ∷ []
 one_token o b = map-append Octet o (b ∷ [])
 
-octet_lowest : LowestLaws → (limits : Limits) (ds : List Dataset) (h : Head) (taken : List ℕ) (b : ℕ) → h.rec ≡ 8 → IsOctet b → (cause : MessageCause) → HasCause cause (object_of ds ++ taken) b
+octet_lowest : LowerLaws → (limits : Limits) (ds : List Dataset) (h : Head) (taken : List ℕ) (b : ℕ) → h.rec ≡ 8 → IsOctet b → (cause : MessageCause) → HasCause cause (object_of ds ++ taken) b
     → TellsTheLowest limits ds (AtOctet (InData h taken) b) (message_on h cause)
 octet_lowest laws limits ds h taken b eight low messages.BadOctet has = record {
   layer = refl;
@@ -315,13 +305,13 @@ octet_lowest laws limits ds h taken b eight low messages.Unfinished has = absurd
 octet_lowest laws limits ds h taken b eight low messages.LoneReturn (lives, dies, (held, some, holds)) = record {
   layer = refl;
   holds =
-      let lone = lone_return laws.story (object_of ds ++ taken) b held dies some holds in
+      let lone = lone_return laws (object_of ds ++ taken) b held dies some holds in
       (eight, (in_text (object_of ds ++ taken) b dies, (held, holds, lone.0, lone.1, lone.2)));
   lowest = λ other same less it. first_of_two other causes.LoneReturn causes.ControlOctet (one_of layers.Story other same) (omega arith) less;
 }
 octet_lowest laws limits ds h taken b eight low messages.ControlOctet (lives, dies, none) = record {
   layer = refl;
-  holds = (eight, (in_text (object_of ds ++ taken) b dies, control laws.story (object_of ds ++ taken) b low dies none));
+  holds = (eight, (in_text (object_of ds ++ taken) b dies, control laws (object_of ds ++ taken) b low dies none));
   lowest = λ other same less it. no_return laws limits ds h taken b none other (one_of layers.Story other same) less it;
 }
 octet_lowest laws limits ds h taken b eight low messages.Sink (lives, story, told, apart) = record {
@@ -472,7 +462,7 @@ octet_dies messages.Sink limits ds h taken b (lives, story, told, apart) = (live
 pub same_head : (h : Head) (xs : List ℕ) → length xs ≡ h.count → h ≡ head_of (data_of h xs)
 same_head h xs many = λ i. record { rec = h.rec; set = h.set; count = sym many i }
 
-by_step : LowestLaws → (limits : Limits) (octets : List ℕ) (next : ℕ) (fault : TokenFault) → IsOctet next → (ds : List Dataset) (b : Begun)
+by_step : LowerLaws → (limits : Limits) (octets : List ℕ) (next : ℕ) (fault : TokenFault) → IsOctet next → (ds : List Dataset) (b : Begun)
     → Reads count_octets octets ds b → AllCanContinue limits ds b → (AreSections ds → ⊥) → IsRefusedAt limits ds b next fault
     → RefusesNext limits octets next fault
 by_step laws limits octets next fault low ds b reads all open' = by b reads all
@@ -520,10 +510,10 @@ by_step laws limits octets next fault low ds b reads all open' = by b reads all
         made (InData h xs) reads all fault (AtValue d) (other, refl, many) (value_dies fault.layer limits ds d bad.dead)
         (value_lowest laws limits ds d fault all.sizes.within bad)
 
-pub told_by_table : LowestLaws → (limits : Limits) (octets : List ℕ) (next : ℕ) (fault : TokenFault) → IsOctet next → RefusesByTests limits octets next fault
+pub told_by_table : LowerLaws → (limits : Limits) (octets : List ℕ) (next : ℕ) (fault : TokenFault) → IsOctet next → RefusesByTests limits octets next fault
     → RefusesNext limits octets next fault
 told_by_table laws limits octets next fault low tests =
-    let (ds, b, reads, all, open', bad) = refuses_by laws.answer limits octets next fault tests in
+    let (ds, b, reads, all, open', bad) = refuses_by laws limits octets next fault tests in
     by_step laws limits octets next fault low ds b reads all open' bad
 
 -- ---- faults of the same parts
@@ -572,16 +562,16 @@ room_number true true false h f e = subst (λ (x : FieldFault). 50 ≤ number_of
 room_number true true true h f e = absurd cc
 
 -- where the record layer can continue with a head, no condition of its own holds
-no_record : LowestLaws → (limits : Limits) (ds : List Dataset) (h : Head) → SectionsLive ds → SectionsLiveAt ds h → (g : FieldCause) → number_of_cause g < 50 → OfField g limits ds (AtHead h) → ⊥
+no_record : LowerLaws → (limits : Limits) (ds : List Dataset) (h : Head) → SectionsLive ds → SectionsLiveAt ds h → (g : FieldCause) → number_of_cause g < 50 → OfField g limits ds (AtHead h) → ⊥
 no_record laws limits ds h alive at g low has = by (first_fault limits ds h) refl
   where
     none : record_fault ds h ≡ None
     none = ((laws.heads_die ds h alive).1 at).0
 
     by : (o : Option FieldFault) → first_fault limits ds h ≡ o → ⊥
-    by None e = (laws.heads limits ds h).1.0 e g has
+    by None e = (laws.heads_tell limits ds h).1.0 e g has
     by (Some f) e =
-        let is = ((laws.heads limits ds h).0 f).0 e in
+        let is = ((laws.heads_tell limits ds h).0 f).0 e in
         let limit : limits_fault limits ds h ≡ Some f = sym (ap (λ (o : Option FieldFault). option_or o (limits_fault limits ds h)) none) ∙ e in
         let high = room_number (is_kept h.rec) _ _ h f limit in
         is.lowest g (omega (arith, high, low)) has
@@ -595,11 +585,11 @@ no_limit limits ds h room other high has = absurd (omega (arith, high))
 -- ---- heads
 
 -- the first fault is one of a field
-field_first : LowestLaws → (limits : Limits) (ds : List Dataset) (h : Head) (fault : TokenFault) (f : FieldCause) → fault.cause ≡ cause_of f → TellsTheLowest limits ds (AtHead h) fault
+field_first : LowerLaws → (limits : Limits) (ds : List Dataset) (h : Head) (fault : TokenFault) (f : FieldCause) → fault.cause ≡ cause_of f → TellsTheLowest limits ds (AtHead h) fault
     → Names fault.cause ds (AtHead h) fault.rec fault.set → ((g : FieldCause) → number_of_cause g < number_of_cause f → OfField g limits ds (AtHead h) → ⊥) → fault_at_head limits ds h ≡ Some fault
 field_first laws limits ds h fault f is tells names lowest =
     let found : FieldFault = record { rec = fault.rec; set = fault.set; cause = f } in
-    let first = ((laws.heads limits ds h).0 found).1 (record {
+    let first = ((laws.heads_tell limits ds h).0 found).1 (record {
       holds = (field_holds f limits ds (AtHead h)).0 (subst (Holds' limits ds (AtHead h)) is tells.holds);
       lowest = lowest;
       names = (head_names f ds h fault.rec fault.set).1 (subst (λ (c : Cause). Names c ds (AtHead h) fault.rec fault.set) is names);
@@ -672,21 +662,21 @@ let_through : (b : Bool) (o : Option SizeCause) (f : SizeCause → TokenFault) (
 let_through true o f s on is = ap (option_map f) is
 let_through false o f s on is = absurd cc
 
-object_first : LowestLaws → (limits : Limits) (ds : List Dataset) (h : Head) (fault : TokenFault) (s : SizeCause) → SectionsLive ds → AreWithin limits ds → SectionsLiveAt ds h → HaveRoom limits ds h
+object_first : LowerLaws → (limits : Limits) (ds : List Dataset) (h : Head) (fault : TokenFault) (s : SizeCause) → SectionsLive ds → AreWithin limits ds → SectionsLiveAt ds h → HaveRoom limits ds h
     → fault.cause ≡ cause_of_size s → TellsTheLowest limits ds (AtHead h) fault → Names fault.cause ds (AtHead h) fault.rec fault.set → fault_at_head limits ds h ≡ Some fault
 object_first laws limits ds h fault s alive within at room is tells names =
-    let none : first_fault limits ds h ≡ None = (laws.heads limits ds h).1.1 (λ g has. elim (cases_lt (number_of_cause g) 50) [ inl low ↦ no_record laws limits ds h alive at g low has | inr high ↦ no_limit limits ds h room g high has ]) in
+    let none : first_fault limits ds h ≡ None = (laws.heads_tell limits ds h).1.1 (λ g has. elim (cases_lt (number_of_cause g) 50) [ inl low ↦ no_record laws limits ds h alive at g low has | inr high ↦ no_limit limits ds h room g high has ]) in
     let holds = (size_holds s limits ds (AtHead h)).0 (subst (Holds' limits ds (AtHead h)) is tells.holds) in
     let leads = leads_at laws ds h at room.subfiles holds.0 in
-    let stated = (stated_after_all laws.answer.follow.objects ds alive within.subfiles).stated in
+    let stated = (stated_after_all laws ds alive within.subfiles).stated in
     let first = first_size limits ds (AtHead h) fault (place_after_datasets ds) (head_token h.rec h.count) s is tells (λ r has. has.1) (λ r has. (holds.0, has)) in
-    let cause = (laws.objects (place_after_datasets ds) (head_token h.rec h.count) s stated leads.0).1 first in
+    let cause = (laws.first_cause (place_after_datasets ds) (head_token h.rec h.count) s stated leads.0).1 first in
     let found : object_fault ds h ≡ Some (size_on h s) = let_through (nat_eq h.rec 8 || nat_eq h.rec 9) (cause_at (place_after_datasets ds) (head_token h.rec h.count)) (size_on h) s (one_of_two h.rec 8 9 holds.0) cause in
     ap (λ (o : Option FieldFault). option_or (option_map of_field o) (option_or (subfile_fault ds h) (object_fault ds h))) none
     ∙ ap (λ (o : Option TokenFault). option_or o (object_fault ds h)) (no_many ds h room.subfiles) ∙ found
     ∙ ap Some (size_fault fault h s is tells.layer (size_named s ds h fault.rec fault.set (subst (λ (c : Cause). Names c ds (AtHead h) fault.rec fault.set) is names)))
 
-head_back : LowestLaws → (limits : Limits) (ds : List Dataset) (h : Head) (fault : TokenFault) → SectionsLive ds → AreWithin limits ds → IsAlive MessageLanguage (map Octet (object_of ds)) → Dies fault.layer limits ds (AtHead h)
+head_back : LowerLaws → (limits : Limits) (ds : List Dataset) (h : Head) (fault : TokenFault) → SectionsLive ds → AreWithin limits ds → IsAlive MessageLanguage (map Octet (object_of ds)) → Dies fault.layer limits ds (AtHead h)
     → TellsTheLowest limits ds (AtHead h) fault → Names fault.cause ds (AtHead h) fault.rec fault.set → IsRefusedHead limits ds h fault ⊎ IsUnfinished limits ds h fault
 head_back laws limits ds h fault alive within message dies tells names = by fault.layer refl dies
   where
@@ -715,7 +705,7 @@ head_back laws limits ds h fault alive within message dies tells names = by faul
     of_limits same at (inl (f, is)) = field_first laws limits ds h fault f is tells names (λ g less has. let n = number_is f is in limit_lower same at g (omega (arith, less, n)) has)
     of_limits same at (inr is) =
         let n = numbered fault.cause causes.TooManySubfiles is in
-        let none : first_fault limits ds h ≡ None = (laws.heads limits ds h).1.1 (λ g has. let last = last_number g in limit_lower same at g (omega (arith, last, n)) has) in
+        let none : first_fault limits ds h ≡ None = (laws.heads_tell limits ds h).1.1 (λ g has. let last = last_number g in limit_lower same at g (omega (arith, last, n)) has) in
         let (eight, many) = subst (Holds' limits ds (AtHead h)) is tells.holds in
         let named = subst (λ (c : Cause). Names c ds (AtHead h) fault.rec fault.set) is names in
         many_first limits ds h fault none eight many (same_fault (too_many_on h) fault (sym same) (sym named.0) (sym named.1) (sym is))
@@ -736,7 +726,7 @@ head_back laws limits ds h fault alive within message dies tells names = by faul
 
 -- ---- values
 
-value_back : LowestLaws → (limits : Limits) (ds : List Dataset) (d : Dataset) (fault : TokenFault) → AreWithin limits ds → Octets d.octets → Dies fault.layer limits ds (AtValue d)
+value_back : LowerLaws → (limits : Limits) (ds : List Dataset) (d : Dataset) (fault : TokenFault) → AreWithin limits ds → Octets d.octets → Dies fault.layer limits ds (AtValue d)
     → TellsTheLowest limits ds (AtValue d) fault → Names fault.cause ds (AtValue d) fault.rec fault.set → IsRefusedValue ds d fault
 value_back laws limits ds d fault within octets dies tells names = by fault.layer refl dies
   where
@@ -751,7 +741,7 @@ value_back laws limits ds d fault within octets dies tells names = by fault.laye
         let low = record_number f (sym (field_layer f) ∙ ap (λ (c : Cause). (rule_of c).layer) (sym is) ∙ tells.layer ∙ same) in
         let n = numbered fault.cause (cause_of f) is ∙ field_number f in
         let found : FieldFault = record { rec = fault.rec; set = fault.set; cause = f } in
-        let first = ((laws.values limits ds d).0 found).1 (record {
+        let first = ((laws.values_tell limits ds d).0 found).1 (record {
           holds = (field_holds f limits ds (AtValue d)).0 (subst (Holds' limits ds (AtValue d)) is tells.holds);
           lowest = λ g less has. not_lower limits ds (AtValue d) fault tells g (low_layer g (omega (arith, less, low)) ∙ sym same) (omega (arith, less, n)) has;
           names = (value_names f ds d fault.rec fault.set).1 (subst (λ (c : Cause). Names c ds (AtValue d) fault.rec fault.set) is names);
@@ -765,10 +755,10 @@ value_back laws limits ds d fault within octets dies tells names = by fault.laye
         let t : ObjectToken = value_token d.rec d.set (number d.octets) in
         let holds = (size_holds s limits ds (AtValue d)).0 (subst (Holds' limits ds (AtValue d)) is tells.holds) in
         let on : tells_number d.rec ≡ true = one_of_two d.rec 7 9 holds.0 in
-        let leads = number_leads laws.answer.follow.objects ds d alive on in
-        let stated = (stated_at laws.answer.follow.objects ds (head_of d) (d, refl, alive) within.subfiles (λ eight. not_eight d.rec holds.0 eight)).stated in
+        let leads = number_leads laws ds d alive on in
+        let stated = (stated_at laws ds (head_of d) (d, refl, alive) within.subfiles (λ eight. not_eight d.rec holds.0 eight)).stated in
         let first = first_size limits ds (AtValue d) fault p t s is tells (λ r has. has.1) (λ r has. (holds.0, has)) in
-        let found : number_fault ds d ≡ Some (size_on (head_of d) s) = let_through (tells_number d.rec) (cause_at p t) (size_on (head_of d)) s on ((laws.objects p t s stated leads.0).1 first) in
+        let found : number_fault ds d ≡ Some (size_on (head_of d) s) = let_through (tells_number d.rec) (cause_at p t) (size_on (head_of d)) s on ((laws.first_cause p t s stated leads.0).1 first) in
         ap (λ (o : Option FieldFault). option_or (option_map of_field o) (number_fault ds d)) none ∙ found
         ∙ ap Some (size_fault fault (head_of d) s is tells.layer (value_named s ds d fault.rec fault.set (subst (λ (c : Cause). Names c ds (AtValue d) fault.rec fault.set) is names)))
 
@@ -806,7 +796,7 @@ no_line_end b (inl is) = (λ e. omega (arith, is, e), λ e. omega (arith, is, e)
 no_line_end b (inr (inl is)) = (λ e. omega (arith, is, e), λ e. omega (arith, is, e))
 no_line_end b (inr (inr is)) = (λ e. omega (arith, is, e), λ e. omega (arith, is, e))
 
-octet_back : LowestLaws → (limits : Limits) (ds : List Dataset) (h : Head) (taken : List ℕ) (b : ℕ) (fault : TokenFault) → AllCanContinue limits ds (InData h taken) → Dies fault.layer limits ds (AtOctet (InData h taken) b)
+octet_back : LowerLaws → (limits : Limits) (ds : List Dataset) (h : Head) (taken : List ℕ) (b : ℕ) (fault : TokenFault) → AllCanContinue limits ds (InData h taken) → Dies fault.layer limits ds (AtOctet (InData h taken) b)
     → TellsTheLowest limits ds (AtOctet (InData h taken) b) fault → Names fault.cause ds (AtOctet (InData h taken) b) fault.rec fault.set → Octet' limits ds h taken b fault
 octet_back laws limits ds h taken b fault all dies tells names = by fault.layer refl dies
   where
@@ -848,7 +838,7 @@ octet_back laws limits ds h taken b fault all dies tells names = by fault.layer 
         let (eight, (text, (held, holds, some, feed, second))) = holds_for causes.LoneReturn is in made messages.LoneReturn is eight (dead.0, (story eight, dead.1), (held, some, holds))
     of_story same dead (inr is) =
         let (eight, (text, which)) = holds_for causes.ControlOctet is in
-        let (held, holds) = (laws.story.live (text_so_far o)).0 (alive_front StoryLanguage (map Octet (text_so_far o)) _ (story eight)) in
+        let (held, holds) = (laws.stories_live (text_so_far o)).0 (alive_front StoryLanguage (map Octet (text_so_far o)) _ (story eight)) in
         made messages.ControlOctet is eight (dead.0, (story eight, dead.1), none_held held same is holds)
 
     of_sink : Dies layers.Outside limits ds (AtOctet (InData h taken) b) → InLayer layers.Outside fault.cause → Octet' limits ds h taken b fault
@@ -898,7 +888,7 @@ tag_back limits ds held b fault dies tells names = by fault.layer refl dies
 
 -- ---- what is told is what tests find
 
-pub found_by_tests : LowestLaws → (limits : Limits) (octets : List ℕ) (next : ℕ) (fault : TokenFault) → RefusesNext limits octets next fault → RefusesByTests limits octets next fault
+pub found_by_tests : LowerLaws → (limits : Limits) (octets : List ℕ) (next : ℕ) (fault : TokenFault) → RefusesNext limits octets next fault → RefusesByTests limits octets next fault
 found_by_tests laws limits octets next fault r =
     let step = by r.before.begun r.token r.before.reads r.before.leads_on r.completes r.dies r.tells r.names in
     tests_of limits octets next fault (r.before.whole, r.before.begun, r.before.reads, r.before.leads_on, r.before.unfinished, step)

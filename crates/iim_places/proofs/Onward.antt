@@ -4,7 +4,7 @@ use Rattle.iim_places.proofs.Words.{append_cancel_left, AllByRecursion, eqb_tell
 use Rattle.iim_places.proofs.Words.{head_of, count_octets, of_record, all_back, octets_append, Begun, InTag, InData, Reads, Head, SectionsLive, SectionsLiveAt}
 use Rattle.iim_places.proofs.Words.{fault_by_row, section_after, value_fault, ValuesDieWithTheirFault, AreSections, occurs, data_of, FieldFault, Limits}
 use Rattle.iim_places.proofs.Words.{last_more, max_subfiles, Octet, End, MessageLanguage, MessageLivesWith, StoryLivesIn, object_of, AreWithin, AllCanContinue}
-use Rattle.iim_places.proofs.Words.{object_so_far, section, MayContinue, OnwardLaws, compare}
+use Rattle.iim_places.proofs.Words.{object_so_far, section, MayContinue, LowerLaws, compare}
 use Rattle.iim_dataset.specs.Format.Languages as languages
 use Rattle.iim_tables.specs.Format.Rows.{table, row_of}
 use Rattle.iim_tables.specs.declared.shape.Row.{Row}
@@ -22,22 +22,22 @@ use Rattle.iim_places.proofs.Twins.{AreBounded, SameTail, Twins, eights, follows
 
 -- ---- the message
 
-pub messages_on : OnwardLaws → (o r e : List ℕ) → SameMessage o r → MessageLivesWith (o ++ e) → StoryLivesIn (o ++ e) → SameMessage (o ++ e) (r ++ e)
+pub messages_on : LowerLaws → (o r e : List ℕ) → SameMessage o r → MessageLivesWith (o ++ e) → StoryLivesIn (o ++ e) → SameMessage (o ++ e) (r ++ e)
 messages_on laws o r e m lives story =
     let (added, new, led) = laws.on o e m.text m.at m.here lives story in
     record { text = m.text ++ added; other = m.other ++ added; at = new; here = led; there = laws.alike o r e m.text m.other added m.at new m.here m.there led }
 
-pub lives_as : OnwardLaws → (o r : List ℕ) → SameMessage o r → (b : Bool) → languages.IsAlive MessageLanguage (map Octet o ++ (if b then End ∷ [] else [])) → languages.IsAlive MessageLanguage (map Octet r ++ (if b then End ∷ [] else []))
-lives_as laws o r m true alive = (laws.ends r m.other m.at m.there).1 ((laws.ends o m.text m.at m.here).0 alive)
-lives_as laws o r m false alive = subst (languages.IsAlive MessageLanguage) (sym (append-nil (map Octet r))) (laws.places.answer.living r m.other m.at m.there).0
+pub lives_as : LowerLaws → (o r : List ℕ) → SameMessage o r → (b : Bool) → languages.IsAlive MessageLanguage (map Octet o ++ (if b then End ∷ [] else [])) → languages.IsAlive MessageLanguage (map Octet r ++ (if b then End ∷ [] else []))
+lives_as laws o r m true alive = (laws.message_ends r m.other m.at m.there).1 ((laws.message_ends o m.text m.at m.here).0 alive)
+lives_as laws o r m false alive = subst (languages.IsAlive MessageLanguage) (sym (append-nil (map Octet r))) (laws.living r m.other m.at m.there).0
 
 -- Every layer can continue from the one, if all but message and story can from the other and these are at one place.
-pub all_as : OnwardLaws → (limits : Limits) (ds es : List Dataset) (c d : Begun) → AllCanContinue limits ds c → MayContinue limits es d → section ds c ≡ section es d → SameMessage (object_so_far ds c) (object_so_far es d) → AllCanContinue limits es d
+pub all_as : LowerLaws → (limits : Limits) (ds es : List Dataset) (c d : Begun) → AllCanContinue limits ds c → MayContinue limits es d → section ds c ≡ section es d → SameMessage (object_so_far ds c) (object_so_far es d) → AllCanContinue limits es d
 all_as laws limits ds es c d goes sizes same m = record {
   sizes = sizes;
   message = subst (λ (n : ℕ). languages.IsAlive MessageLanguage (map Octet (object_so_far es d) ++ (if nat_eq n 9 then End ∷ [] else []))) same
       (lives_as laws (object_so_far ds c) (object_so_far es d) m (nat_eq (section ds c) 9) goes.message);
-  story = (laws.places.answer.living (object_so_far es d) m.other m.at m.there).1;
+  story = (laws.living (object_so_far es d) m.other m.at m.there).1;
 }
 
 -- ---- what has been read
@@ -103,12 +103,12 @@ alive_on ds es xs b (later, are) =
     let both = follows_as ds es b.there b.present b.twins.seen (xs ++ later) (subst AreSections (append_assoc ds xs later) are) in
     (later, subst AreSections (sym (append_assoc es xs later)) both)
 
-pub bounded_of : OnwardLaws → (limits : Limits) (ds : List Dataset) (c : Begun) → MayContinue limits ds c → AreBounded (sevens ds) (eights ds)
+pub bounded_of : LowerLaws → (limits : Limits) (ds : List Dataset) (c : Begun) → MayContinue limits ds c → AreBounded (sevens ds) (eights ds)
 bounded_of laws limits ds c goes =
-    let lives = object_lives_after laws.opens.answer.follow.objects limits ds c goes in
-    bounded_after laws.opens ds (alive_of limits ds c goes) (within_of limits ds c goes).subfiles lives
+    let lives = object_lives_after laws limits ds c goes in
+    bounded_after laws ds (alive_of limits ds c goes) (within_of limits ds c goes).subfiles lives
 
-pair_on : OnwardLaws → (limits : Limits) (ds es xs : List Dataset) (c : Begun) → Before ds es → AllCanContinue limits (ds ++ xs) c → Pair limits (ds ++ xs) (es ++ xs) c c
+pair_on : LowerLaws → (limits : Limits) (ds es xs : List Dataset) (c : Begun) → Before ds es → AllCanContinue limits (ds ++ xs) c → Pair limits (ds ++ xs) (es ++ xs) c c
 pair_on laws limits ds es xs c b goes =
     let twins = twins_on ds es xs xs b.twins (same_tail xs) (bounded_of laws limits (ds ++ xs) c goes.sizes) in
     let more = object_so_far xs c in
@@ -119,7 +119,7 @@ pair_on laws limits ds es xs c b goes =
     subst (SameMessage (object_so_far (ds ++ xs) c)) (sym (so_far_both es xs c)) (subst (λ (o : List ℕ). SameMessage o (object_of es ++ more)) (sym (so_far_both ds xs c)) m) in
     let same = section_on ds es xs c b.present in
     let alive = alive_on ds es xs b (alive_of limits (ds ++ xs) c goes.sizes) in
-    let sizes = may_as laws.opens limits (ds ++ xs) (es ++ xs) c alive (present_on ds es xs b.present) twins goes.sizes in
+    let sizes = may_as laws limits (ds ++ xs) (es ++ xs) c alive (present_on ds es xs b.present) twins goes.sizes in
     record {
       section_is = same;
       begun = same_begun c;
@@ -129,13 +129,12 @@ pair_on laws limits ds es xs c b goes =
       there = all_as laws limits (ds ++ xs) (es ++ xs) c c goes sizes same message;
     }
 
-pub tag_on : OnwardLaws → (limits : Limits) (p q more : List ℕ) (ds es : List Dataset) (held : List ℕ) → Reads count_octets p ds (InTag held) → Reads count_octets q es (InTag held) → Before ds es → (W : List Dataset) (c : Begun) → Reads count_octets (p ++ more) W c → AllCanContinue limits W c
+pub tag_on : LowerLaws → (limits : Limits) (p q more : List ℕ) (ds es : List Dataset) (held : List ℕ) → Reads count_octets p ds (InTag held) → Reads count_octets q es (InTag held) → Before ds es → (W : List Dataset) (c : Begun) → Reads count_octets (p ++ more) W c → AllCanContinue limits W c
     → ReadAlike limits (q ++ more) (object_of ds) (object_of es) W c
 tag_on laws limits p q more ds es held r s b W c w goes =
-    let follow = laws.opens.answer.follow in
     let left : p ++ more ≡ r.front ++ (held ++ more) = ap (λ (l : List ℕ). l ++ more) (r.parts ∙ ap (λ (l : List ℕ). r.front ++ l) r.is_rest.0) ∙ append_assoc r.front held more in
     let right : q ++ more ≡ s.front ++ (held ++ more) = ap (λ (l : List ℕ). l ++ more) (s.parts ∙ ap (λ (l : List ℕ). s.front ++ l) s.is_rest.0) ∙ append_assoc s.front held more in
-    elim (compare follow.one_dataset W ds w.front r.front w.rest (held ++ more) w.is_front r.is_front (sym w.parts ∙ left)) [
+    elim (compare laws.one_dataset W ds w.front r.front w.rest (held ++ more) w.is_front r.is_front (sym w.parts ∙ left)) [
       | inl (xs, f, is, stream, tail) ↦
           record {
             whole = es ++ xs;
@@ -152,7 +151,7 @@ tag_on laws limits p q more ds es held r s b W c w goes =
             here = ap (λ (zs : List Dataset). object_so_far zs c) (sym is) ∙ so_far_both ds xs c;
             there = so_far_both es xs c;
           }
-      | inr n ↦ absurd (begun_none follow.one_tag c w.rest w.is_rest n.dataset n.p (n.q ++ (held ++ more)) n.spelled n.agree)
+      | inr n ↦ absurd (begun_none laws.one_tag c w.rest w.is_rest n.dataset n.p (n.q ++ (held ++ more)) n.spelled n.agree)
     ]
 
 -- ---- inside data
@@ -274,7 +273,7 @@ given_as true t v e is = absurd cc
 given_as false t v e is = e
 
 -- within the data
-inside_on : OnwardLaws → (limits : Limits) (ds es : List Dataset) (h : Head) (t v more : List ℕ) → AreData h t v → Pair limits ds es (InData h t) (InData h v) → AllCanContinue limits ds (InData h (t ++ more)) → Pair limits ds es (InData h (t ++ more)) (InData h (v ++ more))
+inside_on : LowerLaws → (limits : Limits) (ds es : List Dataset) (h : Head) (t v more : List ℕ) → AreData h t v → Pair limits ds es (InData h t) (InData h v) → AllCanContinue limits ds (InData h (t ++ more)) → Pair limits ds es (InData h (t ++ more)) (InData h (v ++ more))
 inside_on laws limits ds es h t v more are pair goes =
     let e = brought (nat_eq h.rec 8) more in
     let o = object_so_far ds (InData h t) in
@@ -302,17 +301,16 @@ within_few : (limits : Limits) (ds ws : List Dataset) → AreWithin limits (ds +
 within_few limits ds ws within = (within_front limits ds ws within).subfiles
 
 -- after the end of the dataset
-closed_before : OnwardLaws → (limits : Limits) (ds es ws : List Dataset) (h : Head) (t v z : List ℕ) (W : List Dataset) (c : Begun) → AreData h t v → Pair limits ds es (InData h t) (InData h v) → AllCanContinue limits W c
+closed_before : LowerLaws → (limits : Limits) (ds es ws : List Dataset) (h : Head) (t v z : List ℕ) (W : List Dataset) (c : Begun) → AreData h t v → Pair limits ds es (InData h t) (InData h v) → AllCanContinue limits W c
     → W ≡ ds ++ data_of h (t ++ z) ∷ ws → length (t ++ z) ≡ h.count → Octets (t ++ z) → Octets (v ++ z) → Before (ds ++ data_of h (t ++ z) ∷ []) (es ++ data_of h (v ++ z) ∷ [])
 closed_before laws limits ds es ws h t v z W c are pair goes is many left right =
     let d = data_of h (t ++ z) in
     let x = data_of h (v ++ z) in
     let both = data_more h t v z are in
-    let follow = laws.opens.answer.follow in
-    let front = in_front follow limits W c goes.sizes ds ws d is in
+    let front = in_front laws limits W c goes.sizes ds ws d is in
     let regroup : W ≡ (ds ++ d ∷ []) ++ ws = is ∙ sym (append_assoc ds (d ∷ []) ws) in
     let few = within_few limits (ds ++ d ∷ []) ws (subst (AreWithin limits) regroup (within_of limits W c goes.sizes)) in
-    let bounded = bounded_after laws.opens (ds ++ d ∷ []) front.alive few (lives_after follow.live (ds ++ d ∷ []) front.alive front.sized) in
+    let bounded = bounded_after laws (ds ++ d ∷ []) front.alive few (lives_after laws.live (ds ++ d ∷ []) front.alive front.sized) in
     let e = brought (nat_eq h.rec 8) z in
     let o = object_so_far ds (InData h t) in
     let so_far : object_so_far W c ≡ (o ++ e) ++ object_so_far ws c = ap (λ (zs : List Dataset). object_so_far zs c) regroup ∙ so_far_both (ds ++ d ∷ []) ws c ∙ ap (λ (l : List ℕ). l ++ object_so_far ws c) (closed_object ds h t z) in
@@ -321,7 +319,7 @@ closed_before laws limits ds es ws h t v z W c are pair goes is many left right 
       present = last_more 0 ds d ∙ sym (last_more 0 es x);
       twins = twins_on ds es (d ∷ []) (x ∷ []) pair.twins (tail_as h (t ++ z) (v ++ z) both) bounded;
       here = front.alive;
-      there = alive_with laws.places.values ds es h (t ++ z) (v ++ z) both (sym both.0 ∙ many) left right front.alive pair.there.sizes.records;
+      there = alive_with laws.values_die ds es h (t ++ z) (v ++ z) both (sym both.0 ∙ many) left right front.alive pair.there.sizes.records;
       few = few;
       message = subst (SameMessage (object_of (ds ++ d ∷ []))) (sym (closed_object es h v z)) (subst (λ (l : List ℕ). SameMessage l (object_so_far es (InData h v) ++ e)) (sym (closed_object ds h t z)) m);
     }
@@ -338,12 +336,12 @@ after_more limits q x y o r e W c left right read = record {
   there = read.there ∙ ap (λ (l : List ℕ). l ++ read.added) right ∙ append_assoc r e read.added;
 }
 
-pub data_on : OnwardLaws → (limits : Limits) (p q more : List ℕ) (ds es : List Dataset) (h : Head) (t v : List ℕ) → Reads count_octets p ds (InData h t) → Reads count_octets q es (InData h v) → AreData h t v → Pair limits ds es (InData h t) (InData h v)
+pub data_on : LowerLaws → (limits : Limits) (p q more : List ℕ) (ds es : List Dataset) (h : Head) (t v : List ℕ) → Reads count_octets p ds (InData h t) → Reads count_octets q es (InData h v) → AreData h t v → Pair limits ds es (InData h t) (InData h v)
     → (W : List Dataset) (c : Begun) → Reads count_octets (p ++ more) W c → AllCanContinue limits W c → ReadAlike limits (q ++ more) (object_so_far ds (InData h t)) (object_so_far es (InData h v)) W c
 data_on laws limits p q more ds es h t v r s are pair W c w goes =
     let (tag, spelled, less, given, parts) = r.is_rest in
     let whole : p ++ more ≡ r.front ++ (tag ++ (t ++ more)) = ap (λ (l : List ℕ). l ++ more) (r.parts ∙ ap (λ (l : List ℕ). r.front ++ l) parts) ∙ append_assoc r.front (tag ++ t) more ∙ ap (λ (l : List ℕ). r.front ++ l) (append_assoc tag t more) in
-    elim (follows laws.opens.answer.follow (p ++ more) W c w ds r.front tag (t ++ more) h r.is_front spelled whole) [
+    elim (follows laws (p ++ more) W c w ds r.front tag (t ++ more) h r.is_front spelled whole) [
       | inl (d, ws, tail, is, head, rest) ↦
           (let count : length d.octets ≡ h.count = ap (λ (k : Head). k.count) head in
           let (z, octets_are) = longer_front t more d.octets tail rest (omega (arith, less, count)) in

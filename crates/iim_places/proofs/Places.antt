@@ -3,7 +3,7 @@ use Rattle.std.proofs.Common.{◌≡◌, ℕ, ◌+◌, ◌<◌, ◌⊎◌, Bool,
 use Rattle.iim_places.proofs.Words.{AllByRecursion, filter-append, or_cases, eqb-true, ne_eqb, number, Dataset, head_of, of_record, Head, all_append, all_front}
 use Rattle.iim_places.proofs.Words.{all_back, all_map, SectionsLive, SectionsLiveAt, tells_number, max_subfiles, ObjectToken, NumberRead, SubfileBegun}
 use Rattle.iim_places.proofs.Words.{ObjectEnded, Confirmed, MayFollow, place_after, head_token, value_token, AreObjectRecords, AreSized, place_after_datasets}
-use Rattle.iim_places.proofs.Words.{place_ended, DatasetsLiveWithTheirTokens, DatasetsEndWithTheirTokens, place_at, ObjectLives, ObjectLaws}
+use Rattle.iim_places.proofs.Words.{place_ended, DatasetsLiveWithTheirTokens, place_at, ObjectLives, LowerLaws}
 use Rattle.iim_dataset.specs.Format.Languages as languages
 use Rattle.iim_object.specs.Format.Places.{Place}
 use Rattle.iim_places.proofs.Objects.{records_alive}
@@ -47,19 +47,19 @@ at_other ds h less =
 abbrev pub HeadLeads : List Dataset → Head → Type 0
 HeadLeads ds h = MayFollow (place_after_datasets ds) (head_token h.rec h.count) × (place_after (place_after_datasets ds) (head_token h.rec h.count) ≡ place_at ds h)
 
-pub subfile_leads : ObjectLaws → (ds : List Dataset) (h : Head) → SectionsLiveAt ds h → h.rec ≡ 8 → length (of_record 8 ds) < max_subfiles → HeadLeads ds h
+pub subfile_leads : LowerLaws → (ds : List Dataset) (h : Head) → SectionsLiveAt ds h → h.rec ≡ 8 → length (of_record 8 ds) < max_subfiles → HeadLeads ds h
 subfile_leads laws ds h (d, is, alive) eight few =
     let rec : d.rec ≡ 8 = ap (λ (k : Head). k.rec) is ∙ eight in
-    let leads = laws.subfiles ds d (records_alive (ds ++ d ∷ []) alive) rec few in
+    let leads = laws.subfiles_lead ds d (records_alive (ds ++ d ∷ []) alive) rec few in
     let token : head_token h.rec h.count ≡ SubfileBegun h.count = ap (λ (r : ℕ). head_token r h.count) eight in (
       subst (MayFollow (place_after_datasets ds)) (sym token) leads.0,
       ap (place_after (place_after_datasets ds)) token ∙ sym (at_subfile ds h eight),
     )
 
-pub end_leads : ObjectLaws → (ds : List Dataset) (h : Head) → SectionsLiveAt ds h → h.rec ≡ 9 → HeadLeads ds h
+pub end_leads : LowerLaws → (ds : List Dataset) (h : Head) → SectionsLiveAt ds h → h.rec ≡ 9 → HeadLeads ds h
 end_leads laws ds h (d, is, alive) nine =
     let rec : d.rec ≡ 9 = ap (λ (k : Head). k.rec) is ∙ nine in
-    let leads = (laws.ends ds d (records_alive (ds ++ d ∷ []) alive) rec).0 in
+    let leads = (laws.ends_lead ds d (records_alive (ds ++ d ∷ []) alive) rec).0 in
     let token : head_token h.rec h.count ≡ ObjectEnded = ap (λ (r : ℕ). head_token r h.count) nine in (
       subst (MayFollow (place_after_datasets ds)) (sym token) leads.0,
       ap (place_after (place_after_datasets ds)) token ∙ leads.1 ∙ sym (at_end ds h nine),
@@ -76,16 +76,16 @@ leads_as : (p q r : Place) (t u : ObjectToken) → p ≡ q → t ≡ u → MayFo
 leads_as p q r t u is same leads =
     subst (λ (x : Place). MayFollow x t × (place_after x t ≡ r)) (sym is) (subst (λ (x : ObjectToken). MayFollow q x × (place_after q x ≡ r)) (sym same) leads)
 
-pub number_leads : ObjectLaws → (ds : List Dataset) (d : Dataset) → SectionsLive (ds ++ d ∷ []) → tells_number d.rec ≡ true → ValueLeads ds d
+pub number_leads : LowerLaws → (ds : List Dataset) (d : Dataset) → SectionsLive (ds ++ d ∷ []) → tells_number d.rec ≡ true → ValueLeads ds d
 number_leads laws ds d alive tells = elim (or_cases (nat_eq d.rec 7) (nat_eq d.rec 9) tells) [
   | inl seven ↦
       let is = eqb-true d.rec 7 seven in
       leads_as _ (place_after_datasets ds) _ _ (NumberRead d.set (number d.octets)) (at_number ds (head_of d) is) (ap (λ (r : ℕ). value_token r d.set (number d.octets)) is)
-      (laws.numbers ds d (records_alive (ds ++ d ∷ []) alive) is)
+      (laws.numbers_lead ds d (records_alive (ds ++ d ∷ []) alive) is)
   | inr nine ↦
       let is = eqb-true d.rec 9 nine in
       leads_as _ (place_ended ds) _ _ (Confirmed (number d.octets)) (at_end ds (head_of d) is) (ap (λ (r : ℕ). value_token r d.set (number d.octets)) is)
-      (laws.ends ds d (records_alive (ds ++ d ∷ []) alive) is).1
+      (laws.ends_lead ds d (records_alive (ds ++ d ∷ []) alive) is).1
 ]
 
 not_told : (r : ℕ) → r ≡ 7 ⊎ r ≡ 9 → tells_number r ≡ false → ⊥
@@ -93,12 +93,12 @@ not_told r (inl seven) none = let bad : true ≡ false = sym (ap tells_number se
 not_told r (inr nine) none = let bad : true ≡ false = sym (ap tells_number nine) ∙ none in cc
 
 -- a value that tells no number leads nowhere else than its head
-pub silent_leads : ObjectLaws → (ds : List Dataset) (d : Dataset) → SectionsLive (ds ++ d ∷ []) → tells_number d.rec ≡ false → (d.rec ≡ 8 → length (of_record 8 ds) < max_subfiles)
+pub silent_leads : LowerLaws → (ds : List Dataset) (d : Dataset) → SectionsLive (ds ++ d ∷ []) → tells_number d.rec ≡ false → (d.rec ≡ 8 → length (of_record 8 ds) < max_subfiles)
     → place_at ds (head_of d) ≡ place_after_datasets (ds ++ d ∷ [])
 silent_leads laws ds d alive none few = elim (is_one ds d alive) [
   | inl less ↦ at_other ds (head_of d) less ∙ sym (laws.others ds d less)
   | inr (inl seven) ↦ absurd (not_told d.rec (inl seven) none)
-  | inr (inr (inl eight)) ↦ at_subfile ds (head_of d) eight ∙ (laws.subfiles ds d (records_alive (ds ++ d ∷ []) alive) eight (few eight)).1
+  | inr (inr (inl eight)) ↦ at_subfile ds (head_of d) eight ∙ (laws.subfiles_lead ds d (records_alive (ds ++ d ∷ []) alive) eight (few eight)).1
   | inr (inr (inr nine)) ↦ absurd (not_told d.rec (inr nine) none)
 ]
 
@@ -125,15 +125,15 @@ less_records : (ds : List Dataset) (d : Dataset) → SectionsLive (ds ++ d ∷ [
 less_records ds d alive = let r = records_alive (ds ++ d ∷ []) alive in (d ∷ r.0, subst AreObjectRecords (append_assoc ds (d ∷ []) r.0) r.1)
 
 -- the object layer can continue with the head of a dataset that continues to sized ones
-pub lives_at : ObjectLaws → DatasetsLiveWithTheirTokens → DatasetsEndWithTheirTokens → (ds : List Dataset) (d : Dataset) → SectionsLive (ds ++ d ∷ [])
+pub lives_at : LowerLaws → (ds : List Dataset) (d : Dataset) → SectionsLive (ds ++ d ∷ [])
     → languages.IsAlive AreSized (ds ++ d ∷ []) → (d.rec ≡ 8 → length (of_record 8 ds) < max_subfiles) → ObjectLives (place_at ds (head_of d))
-lives_at laws live ended ds d alive sized few =
-    let before : ObjectLives (place_after_datasets ds) = (live ds (less_records ds d alive)).0 (less_alive ds d sized) in
+lives_at laws ds d alive sized few =
+    let before : ObjectLives (place_after_datasets ds) = (laws.live ds (less_records ds d alive)).0 (less_alive ds d sized) in
     elim (is_one ds d alive) [
       | inl less ↦ subst ObjectLives (sym (at_other ds (head_of d) less)) before
       | inr (inl seven) ↦ subst ObjectLives (sym (at_number ds (head_of d) seven)) before
       | inr (inr (inl eight)) ↦
-          subst ObjectLives (sym (at_subfile ds (head_of d) eight ∙ (laws.subfiles ds d (records_alive (ds ++ d ∷ []) alive) eight (few eight)).1)) (lives_after live (ds ++ d ∷ []) alive sized)
+          subst ObjectLives (sym (at_subfile ds (head_of d) eight ∙ (laws.subfiles_lead ds d (records_alive (ds ++ d ∷ []) alive) eight (few eight)).1)) (lives_after laws.live (ds ++ d ∷ []) alive sized)
       | inr (inr (inr nine)) ↦
-          subst ObjectLives (sym (at_end ds (head_of d) nine)) ((ended ds d (records_alive (ds ++ d ∷ []) alive) nine).0 (d, nine, sized))
+          subst ObjectLives (sym (at_end ds (head_of d) nine)) ((laws.ended ds d (records_alive (ds ++ d ∷ []) alive) nine).0 (d, nine, sized))
     ]

@@ -4,7 +4,7 @@ use Rattle.std.proofs.Common.{is_some, refl, ap, sym, subst, ◌∙◌, inl, inr
 use Rattle.iim_places.proofs.Words.{AllByRecursion, flat_map, unwrap_or, eqb-true, eq-eqb, filter-append, list_any-append, Octets, number, greatest_size}
 use Rattle.iim_places.proofs.Words.{Dataset, of_record, all_append, all_back, all_front, number_back, Meets, SectionsLive, kept, is_kept, section_after}
 use Rattle.iim_places.proofs.Words.{last_record, AreSections, AreRecords, records, IsGoodDataset, IsGoodRecord, occurs, occurrences, repeats, mandatory}
-use Rattle.iim_places.proofs.Words.{number_dataset, subfile_datasets, numbers_of, Stated, InRow, number_at, stated_numbers, IsSize, AnswerLaws, Numbers}
+use Rattle.iim_places.proofs.Words.{number_dataset, subfile_datasets, numbers_of, Stated, InRow, number_at, stated_numbers, IsSize, LowerLaws, Numbers}
 use Rattle.iim_places.proofs.Words.{number_list, mode_dataset, one_dataset, plain_numbers, filled, plain_end, plain, good_elsewhere, occurrences_cons}
 use Rattle.iim_places.proofs.Words.{part_meets, none_counts, occurrences_append, some_counts, last_more, last_of_joined, front_alive, max_subfiles, one_of_some}
 use Rattle.iim_places.proofs.Words.{eqb_tells, all_map}
@@ -404,7 +404,7 @@ pub record Continues (ds es : List Dataset) : Type 0 where
   pub present : section_after ds ≡ section_after es
   pub seen : SameRecords ds es
 
-pub plain_like : AnswerLaws → (ds fields : List Dataset) (numbers : Numbers) (heads : ℕ) (object : List ℕ) (ended : Bool)
+pub plain_like : LowerLaws → (ds fields : List Dataset) (numbers : Numbers) (heads : ℕ) (object : List ℕ) (ended : Bool)
     → StandsFor ds fields numbers heads object ended → Continues ds (plain fields numbers heads object ended)
 plain_like laws ds fields numbers heads object ended s = record { alive = alive; present = both.1 0 ∙ ap section_after is; seen = seen }
   where
@@ -424,13 +424,13 @@ plain_like laws ds fields numbers heads object ended s = record { alive = alive;
     own r = cond (nat_eq r 7) (plain_numbers numbers) (cond (nat_eq r 8) eights (cond (nat_eq r 9) last (of_record r ds)))
 
     stated : AllByRecursion InRow ps
-    stated = (stated_after_all laws.follow.objects ds s.alive s.few).stated.each
+    stated = (stated_after_all laws ds s.alive s.few).stated.each
 
     are : numbers ≡ numbers_in ps
     are = (numbers_same numbers ps (sym s.numbers_are)).are
 
     tens : AreTens (of_record 8 ds) × AreTens (of_record 9 ds)
-    tens = tens_after laws.numbers ds s.alive
+    tens = tens_after laws.by_number ds s.alive
 
     good : AllByRecursion IsGoodDataset ds
     good = all_front _ ds s.alive.0 (each_good (ds ++ s.alive.0) s.alive.1)
@@ -485,7 +485,7 @@ plain_like laws ds fields numbers heads object ended s = record { alive = alive;
     seen =
         let count = tell.heads_are in
         let many = s.many in
-        same_shape laws.follow laws.numbers ds es s.alive alive s.few (omega (arith, count, many)) (record {
+        same_shape laws ds es s.alive alive s.few (omega (arith, count, many)) (record {
           ended = ap (λ (r : ℕ). nat_eq r 9) (both.1 0 ∙ ap section_after is);
           fields = s.fields_are ∙ sym tell.kept_are;
           numbers = s.numbers_are ∙ sym tell.numbers_are;

@@ -6,7 +6,7 @@ use Rattle.iim_places.proofs.Words.{of_record, Begun, InData, SectionsLive, kept
 use Rattle.iim_places.proofs.Words.{NotEnded, ConfirmedAs, HasBoth, max_subfiles, lengths_of, numbers_of, Stated, AreStated, number_at, Octet, End}
 use Rattle.iim_places.proofs.Words.{MessageLanguage, StoryLivesIn, IsMessage, LeadsToSaved, MessagePlace, object_of, object_so_far, section, AllCanContinue}
 use Rattle.iim_places.proofs.Words.{plain_of, plain_octets, IsPlain, PlainOctetsAreOpenOrWhole, begun_object, begun_heads, filled, plain_end, number_list}
-use Rattle.iim_places.proofs.Words.{plain, AreOpenOrWhole, widest, place_of, heads_of, phase_of, AllEnded, TagBegun, ObjectLives, OpenLaws, SizeLaws, all_map}
+use Rattle.iim_places.proofs.Words.{plain, AreOpenOrWhole, widest, place_of, heads_of, phase_of, AllEnded, TagBegun, ObjectLives, LowerLaws, all_map}
 use Rattle.iim_places.proofs.Words.{all_front, IsGoodDataset, IsBegun, CanContinue, MayContinue, Value, IsEnvelopeWithin, InTag, AreSections}
 use Rattle.iim_dataset.specs.Format.Languages as languages
 use Rattle.iim_places.specs.Format.Tickets.{Place}
@@ -49,39 +49,39 @@ bounded_plain ps qs (suc heads) object stated both same =
           (sym d.largest) (part_small d.size (suc heads) object);
     })
 
-pub confirmed_by : SizeLaws → (ps : List Stated) (ls : List ℕ) (n : ℕ) → AreStated ps → (0 < length ls → HasBoth ps) → (ls ≡ [] → ConfirmedAs n ≡ NotEnded) → Lives ps ls (ConfirmedAs n) → n ≡ sum ls
+pub confirmed_by : LowerLaws → (ps : List Stated) (ls : List ℕ) (n : ℕ) → AreStated ps → (0 < length ls → HasBoth ps) → (ls ≡ [] → ConfirmedAs n ≡ NotEnded) → Lives ps ls (ConfirmedAs n) → n ≡ sum ls
 confirmed_by laws ps [] n are both none lives = absurd (let bad : ConfirmedAs n ≡ NotEnded = none refl in cc)
 confirmed_by laws ps (l ∷ ls) n are both none lives =
     let d = duties_of ps are (both (omega arith)) in
     ((laws.confirmed d.known d.size ps (l ∷ ls) n (record { stated = are; mode = d.mode; largest = d.largest }) (omega arith)).0 lives).2
 
-pub ending_like : SizeLaws → (ps : List Stated) (ls : List ℕ) (rs : List Dataset) (ended : Bool) (object : List ℕ) → AreStated ps → (0 < length ls → HasBoth ps) → (ls ≡ [] → ending_of rs ≡ NotEnded) → Lives ps ls (ending_of rs)
+pub ending_like : LowerLaws → (ps : List Stated) (ls : List ℕ) (rs : List Dataset) (ended : Bool) (object : List ℕ) → AreStated ps → (0 < length ls → HasBoth ps) → (ls ≡ [] → ending_of rs ≡ NotEnded) → Lives ps ls (ending_of rs)
     → length rs ≡ cond ended 1 0 → sum ls ≡ length object → length object ≤ greatest_size → ending_of rs ≡ ending_of (plain_end ended object)
 ending_like laws ps ls [] true object are both none lives many total fits = absurd (omega (arith, many))
 ending_like laws ps ls [] false object are both none lives many total fits = refl
 ending_like laws ps ls (r ∷ rs) false object are both none lives many total fits = absurd (omega (arith, many))
 ending_like laws ps ls (r ∷ rs) true object are both none lives many total fits = ap ConfirmedAs (confirmed_by laws ps ls (number r.octets) are both none lives ∙ total ∙ sym (low_number (length object) fits))
 
-told : OpenLaws → (ds : List Dataset) → SectionsLive ds → length (of_record 8 ds) ≤ max_subfiles → ObjectLives (place_after_datasets ds) → Told ds (plain_of ds)
+told : LowerLaws → (ds : List Dataset) → SectionsLive ds → length (of_record 8 ds) ≤ max_subfiles → ObjectLives (place_after_datasets ds) → Told ds (plain_of ds)
 told laws ds alive few lives =
-    let stated = stated_after_all laws.answer.follow.objects ds alive few in
+    let stated = stated_after_all laws ds alive few in
     let ps = numbers_of (of_record 7 ds) in
     let numbers = numbers_in ps in
     let heads = length (of_record 8 ds) in
     let object = object_of ds in
     let ended = nat_eq (section_after ds) 9 in
     let fits = object_low ds lives in
-    let room = room_for laws.sizes.fit ds stated lives in
+    let room = room_for laws.fit ds stated lives in
     let tell = plain_told (kept ds) numbers heads object ended (record { kept = all_kept ds; fit = fit_in_rows ps stated.stated.each; room = room }) in
     let es = plain_of ds in
     let good = each_good (ds ++ alive.0) alive.1 in
-    let continues = plain_like laws.answer ds (kept ds) numbers heads object ended (record {
+    let continues = plain_like laws ds (kept ds) numbers heads object ended (record {
       alive = alive;
       few = few;
       fields_are = refl;
       numbers_are = refl;
       some = refl;
-      ends = nines laws.answer.follow ds alive;
+      ends = nines laws ds alive;
       many = few;
       octets = object_octets ds (all_map IsGoodDataset _ ds (λ d is. is.octets) (all_front IsGoodDataset ds alive.0 good));
       fits = fits;
@@ -98,8 +98,8 @@ told laws ds alive few lives =
         heads = count_of (of_record 8 ds) ∙ sym many ∙ sym (count_of (of_record 8 es));
         octets = total_of (of_record 8 ds) ∙ ap length (sym tell.object_is) ∙ sym (total_of (of_record 8 es));
         ending =
-            ending_like laws.sizes ps (eights ds) (of_record 9 ds) ended object stated.stated stated.duties stated.subfiles lives
-            (nines laws.answer.follow ds alive) (total_of (of_record 8 ds)) fits ∙ sym (ap ending_of tell.nines_are);
+            ending_like laws ps (eights ds) (of_record 9 ds) ended object stated.stated stated.duties stated.subfiles lives
+            (nines laws ds alive) (total_of (of_record 8 ds)) fits ∙ sym (ap ending_of tell.nines_are);
         seen = continues.seen;
         here = bounded_after laws ds alive few lives;
         bounded = subst (AreBounded (sevens es)) (sym (ap lengths_of tell.eights_are))
@@ -117,7 +117,7 @@ same_section ds es (InTag held) t = t.present
 same_section ds es (InData h taken) t = refl
 
 -- Every layer that can continue after datasets can continue after their plain ones.
-leads_on : OpenLaws → (limits : Limits) (ds es : List Dataset) (b : Begun) → Told ds es → AllCanContinue limits ds b → AllCanContinue limits es b
+leads_on : LowerLaws → (limits : Limits) (ds es : List Dataset) (b : Begun) → Told ds es → AllCanContinue limits ds b → AllCanContinue limits es b
 leads_on laws limits ds es b t goes = record {
   sizes = may_as laws limits ds es b t.alive t.present t.twins goes.sizes;
   message =
@@ -129,14 +129,14 @@ leads_on laws limits ds es b t goes = record {
 -- ---- the octets
 
 -- The place is one of plain octets.
-unfoldable plain_by : OpenLaws → (place : Place) (l : Lived place) → IsPlain (place_of l.whole l.begun l.message)
+unfoldable plain_by : LowerLaws → (place : Place) (l : Lived place) → IsPlain (place_of l.whole l.begun l.message)
 plain_by laws place l =
     let ds = l.whole in
     let goes = l.leads_on.sizes in
     let alive = alive_of widest ds l.begun goes in
     let within = within_of widest ds l.begun goes in
-    let stated = stated_after_all laws.answer.follow.objects ds alive within.subfiles in
-    let lives = object_lives_after laws.answer.follow.objects widest ds l.begun goes in
+    let stated = stated_after_all laws ds alive within.subfiles in
+    let lives = object_lives_after laws widest ds l.begun goes in
     let ps = numbers_of (of_record 7 ds) in
     let numbers = numbers_in ps in
     let heads = length (of_record 8 ds) in
@@ -163,7 +163,7 @@ plain_by laws place l =
         fit = (numbers_fit ps (each_low ds (ones_in ds l.begun goes) octets)).each;
         octets = object_octets ds octets;
         few = omega (arith, taken, both, long);
-        room = room_for laws.sizes.fit ds stated lives;
+        room = room_for laws.fit ds stated lives;
       };
       is_begun = l.reads.is_rest;
       leads = subst (λ (xs : List ℕ). LeadsToSaved xs l.text l.message) more l.leads;
@@ -190,26 +190,26 @@ abbrev Opens : Place → Type 0
 Opens place = (p : IsPlain place) × AreOpenOrWhole widest (plain_octets place p)
 
 -- what is told of datasets that octets of a possible place spell
-told_of : OpenLaws → (place : Place) (l : Lived place) → Told l.whole (plain_of l.whole)
+told_of : LowerLaws → (place : Place) (l : Lived place) → Told l.whole (plain_of l.whole)
 told_of laws place l =
     let goes = l.leads_on.sizes in
-    told laws l.whole (alive_of widest l.whole l.begun goes) (within_of widest l.whole l.begun goes).subfiles (object_lives_after laws.answer.follow.objects widest l.whole l.begun goes)
+    told laws l.whole (alive_of widest l.whole l.begun goes) (within_of widest l.whole l.begun goes).subfiles (object_lives_after laws widest l.whole l.begun goes)
 
-spelled_of : OpenLaws → (place : Place) (l : Lived place) → SpellsStream count_octets (plain_of l.whole) (canonical_stream (plain_of l.whole))
+spelled_of : LowerLaws → (place : Place) (l : Lived place) → SpellsStream count_octets (plain_of l.whole) (canonical_stream (plain_of l.whole))
 unfolding plain_by
 spelled_of laws place l =
     let ds = l.whole in
     let p = plain_by laws place l in
     laws.spelled (plain_of ds) (plain_spelled (kept ds) (numbers_in (numbers_of (of_record 7 ds))) (length (of_record 8 ds)) (object_of ds) (nat_eq (section_after ds) 9) p.spellable)
 
-from_open : OpenLaws → (place : Place) (l : Lived place) → (AreSections l.whole → ⊥) → Opens (place_of l.whole l.begun l.message)
+from_open : LowerLaws → (place : Place) (l : Lived place) → (AreSections l.whole → ⊥) → Opens (place_of l.whole l.begun l.message)
 unfolding plain_by
 from_open laws place l unfinished =
     let ds = l.whole in
     let es = plain_of ds in
     let t = told_of laws place l in
     let alive = alive_of widest ds l.begun l.leads_on.sizes in
-    let ends = laws.answer.follow.ends in (
+    let ends = laws.last_record in (
       plain_by laws place l,
       inl (record {
         whole = es;
@@ -220,17 +220,17 @@ from_open laws place l unfinished =
       }),
     )
 
-from_whole : OpenLaws → (place : Place) (l : Lived place) (v : Value) → IsEnvelopeWithin widest l.octets v → Opens (place_of l.whole l.begun l.message)
+from_whole : LowerLaws → (place : Place) (l : Lived place) (v : Value) → IsEnvelopeWithin widest l.octets v → Opens (place_of l.whole l.begun l.message)
 unfolding plain_by
 from_whole laws place l v is =
     let a = is.admits in
     let ds = l.whole in
     let es = plain_of ds in
     let t = told_of laws place l in
-    let same = one_reading laws.answer l.octets a.datasets ds (InTag []) l.begun (reads_envelope l.octets v a) l.reads in
+    let same = one_reading laws l.octets a.datasets ds (InTag []) l.begun (reads_envelope l.octets v a) l.reads in
     let none : l.reads.rest ≡ [] = (subst (λ (b : Begun). IsBegun count_octets b l.reads.rest) (sym same.begun_is) l.reads.is_rest).0 in
     let goes : CanContinue widest ds = subst (MayContinue widest ds) (sym same.begun_is) l.leads_on.sizes in
-    let nine = sym t.present ∙ sections_last laws.answer.follow.ends ds goes.records (subst AreSections same.whole_is a.sections) in
+    let nine = sym t.present ∙ sections_last laws.last_record ds goes.records (subst AreSections same.whole_is a.sections) in
     let stream = subst (SpellsStream count_octets es) (sym (append-nil (canonical_stream es))) (spelled_of laws place l) in
     let message = subst (λ (o : List ℕ). IsMessage o v.head a.text v.trailer) (ap object_of same.whole_is ∙ t.object) a.message in
     let whole = enveloped laws widest (canonical_stream es ++ []) es v.head a.text v.trailer v.lines stream
@@ -241,12 +241,12 @@ from_whole laws place l v is =
     )
 
 -- Each possible place is led to by plain octets that are open or an envelope.
-pub plain_open : OpenLaws → PlainOctetsAreOpenOrWhole
+pub plain_open : LowerLaws → PlainOctetsAreOpenOrWhole
 unfolding lived
 plain_open laws place poss =
-    let l = lived laws.answer place poss in
+    let l = lived laws place poss in
     let opens : Opens (place_of l.whole l.begun l.message) = elim poss.comes [
-      | inl is ↦ from_open laws place l (open_at laws.answer widest poss.octets l.whole l.begun l.reads is).1
+      | inl is ↦ from_open laws place l (open_at laws widest poss.octets l.whole l.begun l.reads is).1
       | inr e ↦ from_whole laws place l e.0 e.1
     ] in
     subst Opens (sym l.is_place) opens

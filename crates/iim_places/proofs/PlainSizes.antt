@@ -5,7 +5,7 @@ use Rattle.iim_places.proofs.Words.{AllByRecursion, unwrap_or, eqb-true, IsOctet
 use Rattle.iim_places.proofs.Words.{HasSpellings, sum_fits, some_of, kept, is_kept, ObjectToken, SubfileBegun, ObjectLanguage, number_tokens, ending_tokens}
 use Rattle.iim_places.proofs.Words.{place_after_datasets, lengths_of, numbers_of, Stated, InRow, number_at, object_of, ObjectLives, Numbers, plain_end}
 use Rattle.iim_places.proofs.Words.{mode_known, IsAlive, greatest_size, Ending, NotEnded, Ended, ConfirmedAs, HasBoth, AreStated, mode_number}
-use Rattle.iim_places.proofs.Words.{ObjectsArePossibleAlike, SizeLaws, max_subfiles, IsPossible, HaveSizes, Sizes, nil_from_length}
+use Rattle.iim_places.proofs.Words.{ObjectsArePossibleAlike, LowerLaws, max_subfiles, IsPossible, HaveSizes, Sizes, nil_from_length}
 use Rattle.iim_dataset.proofs.Counts.{tag-lt}
 use Rattle.iim_fields.specs.Format.Faults.{joined}
 use Rattle.iim_object.specs.Laws.Living.{SubfilesLiveWhileTheyFit, NoClash, HasDuties, Fit, MeetsAnnounced}
@@ -147,7 +147,7 @@ none_ended ps = ap (IsAlive ObjectLanguage) (sym (append-nil (number_tokens ps))
 open_ended : (ps : List Stated) (ls : List ℕ) → IsAlive ObjectLanguage (number_tokens ps ++ map SubfileBegun ls) ≡ Lives ps ls NotEnded
 open_ended ps ls = ap (λ (ts : List _). IsAlive ObjectLanguage (number_tokens ps ++ ts)) (sym (append-nil (map SubfileBegun ls)))
 
-some_like : SizeLaws → (ps qs : List Stated) (ls ks : List ℕ) (e : Ending) → AreStated ps → AreStated qs → SameNumbers ps qs → HasBoth ps → 0 < length ls → 0 < length ks → sum ls ≡ sum ks
+some_like : LowerLaws → (ps qs : List Stated) (ls ks : List ℕ) (e : Ending) → AreStated ps → AreStated qs → SameNumbers ps qs → HasBoth ps → 0 < length ls → 0 < length ks → sum ls ≡ sum ks
     → ((size : ℕ) → number_at 20 qs ≡ Some size → AllByRecursion (λ n. n ≤ size) ks) → Lives ps ls e → Lives qs ks e
 some_like laws ps qs ls ks e are goes same both some more total each lives =
     let d = duties_of ps are both in
@@ -160,18 +160,18 @@ some_like laws ps qs ls ks e are goes same both some more total each lives =
         let fit = (laws.fit known size ps ls left some).0 (subst (λ (A : Type 0). A) (sym (open_ended ps ls)) lives) in
         subst (λ (A : Type 0). A) (open_ended qs ks) ((laws.fit known size qs ks right more).1 (fit_like known size ps qs ls ks same small total fit))
     by known size left right small Ended lives =
-        let fit = (laws.ends known size ps ls left some).0 lives in
-        (laws.ends known size qs ks right more).1 (fit_like known size ps qs ls ks same small total fit.0, whole_like ps qs ls ks same total fit.1)
+        let fit = (laws.whole_ends known size ps ls left some).0 lives in
+        (laws.whole_ends known size qs ks right more).1 (fit_like known size ps qs ls ks same small total fit.0, whole_like ps qs ls ks same total fit.1)
     by known size left right small (ConfirmedAs n) lives =
         let fit = (laws.confirmed known size ps ls n left some).0 lives in
         (laws.confirmed known size qs ks n right more).1 (fit_like known size ps qs ls ks same small total fit.0, whole_like ps qs ls ks same total fit.1, fit.2 ∙ total)
 
-lives_like : SizeLaws → (ps qs : List Stated) (ls ks : List ℕ) (e : Ending) → AreStated ps → AreStated qs → SameNumbers ps qs → (0 < length ls → HasBoth ps) → (ls ≡ [] → e ≡ NotEnded) → length ls ≡ length ks → sum ls ≡ sum ks
+lives_like : LowerLaws → (ps qs : List Stated) (ls ks : List ℕ) (e : Ending) → AreStated ps → AreStated qs → SameNumbers ps qs → (0 < length ls → HasBoth ps) → (ls ≡ [] → e ≡ NotEnded) → length ls ≡ length ks → sum ls ≡ sum ks
     → ((size : ℕ) → number_at 20 qs ≡ Some size → AllByRecursion (λ n. n ≤ size) ks) → Lives ps ls e → Lives qs ks e
 lives_like laws ps qs [] [] e are goes same both none many total each lives =
     let open' = none refl in
     let alive : IsAlive ObjectLanguage (number_tokens ps) = subst (λ (A : Type 0). A) (sym (none_ended ps)) (subst (Lives ps []) open' lives) in
-    subst (Lives qs []) (sym open') (subst (λ (A : Type 0). A) (none_ended qs) ((laws.numbers qs goes).1 (clash_like ps qs same ((laws.numbers ps are).0 alive))))
+    subst (Lives qs []) (sym open') (subst (λ (A : Type 0). A) (none_ended qs) ((laws.no_clash qs goes).1 (clash_like ps qs same ((laws.no_clash ps are).0 alive))))
 lives_like laws ps qs (l ∷ ls) (k ∷ ks) e are goes same both none many total each lives = some_like laws ps qs (l ∷ ls) (k ∷ ks) e are goes same (both (omega arith)) (omega arith) (omega arith) total each lives
 lives_like laws ps qs ls ks e are goes same both none many total each lives = absurd (omega (arith, many))
 
@@ -179,7 +179,7 @@ both_like : (ps qs : List Stated) → SameNumbers ps qs → HasBoth ps → HasBo
 both_like ps qs same both = (ap is_some (sym same.mode) ∙ both.0, ap is_some (sym same.largest) ∙ both.1)
 
 -- Places that tell the same are possible alike.
-pub possible_like : SizeLaws → ObjectsArePossibleAlike
+pub possible_like : LowerLaws → ObjectsArePossibleAlike
 possible_like laws p q is goes same many total each end =
     let nums = same_numbers p.stated q.stated same in
     record {
@@ -194,7 +194,7 @@ pub possible_of : (p : objects.Place) → IsStated p → length p.lengths ≤ ma
 possible_of p is few lives = record { stated = is.stated; subfiles = is.subfiles; duties = is.duties; few = few; alive = lives }
 
 -- subfiles of a possible place are no longer than 7:20
-pub each_small : SizeLaws → (p : objects.Place) → IsPossible p → (size : ℕ) → number_at 20 p.stated ≡ Some size → 0 < length p.lengths → AllByRecursion (λ n. n ≤ size) p.lengths
+pub each_small : LowerLaws → (p : objects.Place) → IsPossible p → (size : ℕ) → number_at 20 p.stated ≡ Some size → 0 < length p.lengths → AllByRecursion (λ n. n ≤ size) p.lengths
 each_small laws p is size largest some =
     let d = duties_of p.stated is.stated (is.duties some) in
     let alive : IsAlive ObjectLanguage (number_tokens p.stated ++ map SubfileBegun p.lengths) =
@@ -203,7 +203,7 @@ each_small laws p is size largest some =
     ((laws.fit d.known size p.stated p.lengths (record { stated = is.stated; mode = d.mode; largest = largest }) some).0 alive).each
 
 -- the sizes of an object that has ended
-pub sizes_of : SizeLaws → (r7 r8 r9 : List Dataset) (n : ℕ) → AreStated (numbers_of r7) → (0 < length (lengths_of r8) → HasBoth (numbers_of r7))
+pub sizes_of : LowerLaws → (r7 r8 r9 : List Dataset) (n : ℕ) → AreStated (numbers_of r7) → (0 < length (lengths_of r8) → HasBoth (numbers_of r7))
     → (lengths_of r8 ≡ [] → ConfirmedAs n ≡ NotEnded) → Lives (numbers_of r7) (lengths_of r8) (ConfirmedAs n) → number_at 10 (numbers_of r9) ≡ Some n
     → (s : Sizes) × HaveSizes r7 r8 r9 s
 sizes_of laws r7 [] r9 n are both none lives last = absurd (let bad : ConfirmedAs n ≡ NotEnded = none refl in cc)

@@ -5,7 +5,7 @@ use Rattle.iim_places.proofs.Words.{AllByRecursion, eqb-true, eqb_tells, Dataset
 use Rattle.iim_places.proofs.Words.{DatasetPlace, SectionsLive, is_kept, kept, section_after, Limits, head_alive, place_after_datasets, ObjectEnded, Confirmed}
 use Rattle.iim_places.proofs.Words.{NotEnded, place_after, max_subfiles, lengths_of, numbers_of, IsPossible, stated_numbers, State, AreLines, text_so_far}
 use Rattle.iim_places.proofs.Words.{Header, IsMessage, LeadsToSaved, saved, MessagePlace, object_of, IsSize, RecordsLive, begun_of_object, object_after}
-use Rattle.iim_places.proofs.Words.{one_of_some, are_ended, begun_subfiles, ByLayersLaws, PlaceLaws, FeedLaws, section, Numbers, number_list, plain, are_some}
+use Rattle.iim_places.proofs.Words.{one_of_some, are_ended, begun_subfiles, LowerLaws, section, Numbers, number_list, plain, are_some}
 use Rattle.iim_places.proofs.Words.{Phase, TagBegun, AllEnded, phase_of, place_at, CanContinue, CanContinueAt}
 use Rattle.iim_fields.specs.States.Standing as records
 use Rattle.iim_object.specs.Format.Places as objects
@@ -25,12 +25,6 @@ use Rattle.iim_places.proofs.SameRecords.{SameRecords, same_shape, stated_after_
 use Rattle.iim_places.proofs.Plain.{Fits, plain_told, present_ended}
 use Rattle.iim_places.proofs.PlainContinues.{numbers_same}
 
--- by which an unpacker is made of readers
-pub record RestoreLaws : Type 0 where
-  pub layers : ByLayersLaws
-  pub places : PlaceLaws
-  pub feed : FeedLaws
-
 -- ---- the records
 
 -- What the datasets by which the record layer is told say of others of the same place.
@@ -38,20 +32,20 @@ pub record Like (es ds : List Dataset) : Type 0 where
   pub kept_are : kept es ≡ kept ds
   pub same : SameRecords es ds
 
-pub like : RestoreLaws → (fields : List Dataset) (numbers : Numbers) (some : ℕ) (ended : Bool) (ds : List Dataset) → AllByRecursion (λ (d : Dataset). is_kept d.rec ≡ true) fields
+pub like : LowerLaws → (fields : List Dataset) (numbers : Numbers) (some : ℕ) (ended : Bool) (ds : List Dataset) → AllByRecursion (λ (d : Dataset). is_kept d.rec ≡ true) fields
     → number_list numbers ≡ stated_numbers (numbers_of (of_record 7 ds)) → SectionsLive (plain fields numbers (one_of_some some) [] ended) → SectionsLive ds → length (of_record 8 ds) ≤ max_subfiles → fields ≡ kept ds
     → some ≡ length (of_record 8 ds) → nat_eq (section_after ds) 9 ≡ ended → Like (plain fields numbers (one_of_some some) [] ended) ds
 like laws fields numbers some ended ds keeps same alive there few fields_are some_are ended_is =
     let es = plain fields numbers (one_of_some some) [] ended in
     let ps = numbers_of (of_record 7 ds) in
-    let stated = stated_after_all laws.layers.opens.answer.follow.objects ds there few in
+    let stated = stated_after_all laws ds there few in
     let is = numbers_same numbers ps same in
     let fits : Fits fields numbers (one_of_some some) [] = record { kept = keeps; fit = subst (λ (n : Numbers). AllByRecursion IsSize (number_list n)) (sym is.are) (fit_in_rows ps stated.stated.each); room = omega arith } in
     let tell = plain_told fields numbers (one_of_some some) [] ended fits in
     let heads = tell.heads_are in
     record {
       kept_are = tell.kept_are ∙ fields_are;
-      same = same_shape laws.layers.opens.answer.follow laws.layers.opens.answer.numbers es ds alive there (let low = few_subfiles some in omega (arith, heads, low)) few
+      same = same_shape laws es ds alive there (let low = few_subfiles some in omega (arith, heads, low)) few
           (record {
             ended = present_ended fields numbers (one_of_some some) [] ended keeps ∙ sym ended_is;
             fields = tell.kept_are ∙ fields_are;
@@ -79,15 +73,15 @@ whole_place reader (at_message.AfterEnd h t count) is e = subst wire.IsWhole (sy
 whole_place reader (at_message.Text h None) is e = absurd cc
 whole_place reader other is e = absurd cc
 
-pub ended_reader : RestoreLaws → (reader : Option Message) (place : Place) (o text : List ℕ) → MessageStands reader place → LeadsToSaved o text place.message → place.message.part ≡ part.AfterEnd → wire.IsWhole reader
+pub ended_reader : LowerLaws → (reader : Option Message) (place : Place) (o text : List ℕ) → MessageStands reader place → LeadsToSaved o text place.message → place.message.part ≡ part.AfterEnd → wire.IsWhole reader
 ended_reader laws reader place o text stands leads last =
     let (at, is, here) = stands o text leads in
-    let one = (laws.places.one_place o text text at leads.0 here leads.1).1 in
+    let one = (laws.one_place o text text at leads.0 here leads.1).1 in
     whole_place reader at is (ap (λ (m : Message). (saved m).part) one ∙ ap (λ (m : MessagePlace). m.part) leads.2 ∙ last)
 
-pub text_led : RestoreLaws → (reader : Option Message) (place : Place) (o text : List ℕ) → MessageStands reader place → LeadsToSaved o text place.message → wire.StandsAt reader o (text_so_far o)
+pub text_led : LowerLaws → (reader : Option Message) (place : Place) (o text : List ℕ) → MessageStands reader place → LeadsToSaved o text place.message → wire.StandsAt reader o (text_so_far o)
 text_led laws reader place o text stands leads =
-    let is = laws.places.texts o text leads.0 leads.1 in
+    let is = laws.texts o text leads.0 leads.1 in
     subst (wire.StandsAt reader o) is (stands o text leads)
 
 -- ---- between datasets, or in a tag, or at the end
@@ -119,23 +113,23 @@ pub object_tag : (b : Bool) (reader : Option State) (numbers : List (Option ℕ)
 object_tag true reader numbers section taken heads held p q stands at is possible = subst (reading.StandsAt reader) is (stands p at (subst IsPossible (sym is) possible))
 object_tag false reader numbers section taken heads held p q stands at is possible = subst (reading.StandsAt reader) is (stands p at (subst IsPossible (sym is) possible))
 
-pub ending_tag : RestoreLaws → (limits : Limits) (ds : List Dataset) → CanContinue limits ds → (b : Bool) → nat_eq (section_after ds) 9 ≡ b
+pub ending_tag : LowerLaws → (limits : Limits) (ds : List Dataset) → CanContinue limits ds → (b : Bool) → nat_eq (section_after ds) 9 ≡ b
     → (if b then place_after (place_after (record (place_after_datasets ds) { ending = NotEnded }) ObjectEnded) (Confirmed (length (object_of ds))) else record (place_after_datasets ds) { ending = NotEnded }) ≡ place_after_datasets ds
 ending_tag laws limits ds goes true is =
-    let end' = confirmed_at laws.layers.opens ds goes.records goes.within.subfiles goes.object is in
+    let end' = confirmed_at laws ds goes.records goes.within.subfiles goes.object is in
     λ i. record { stated = numbers_of (of_record 7 ds); lengths = lengths_of (of_record 8 ds); ending = sym end' i }
-ending_tag laws limits ds goes false is = opened_at ds (nine_ended laws.layers.opens ds goes.records is)
+ending_tag laws limits ds goes false is = opened_at ds (nine_ended laws ds goes.records is)
 
 -- ---- in data
 
-pub object_data : RestoreLaws → (limits : Limits) (reader : Option State) (ds : List Dataset) (h : Head) (xs : List ℕ) → CanContinueAt limits ds h → nat_eq (section_after ds) 9 ≡ false → length xs < h.count
+pub object_data : LowerLaws → (limits : Limits) (reader : Option State) (ds : List Dataset) (h : Head) (xs : List ℕ) → CanContinueAt limits ds h → nat_eq (section_after ds) 9 ≡ false → length xs < h.count
     → ((p : objects.Place) → IsAt (stated_numbers (numbers_of (of_record 7 ds))) (length (object_of ds ++ (if nat_eq h.rec 8 then xs else []))) (if nat_eq h.rec 8 then Some (h.count, h.count - length xs) else None)
     (length (of_record 8 ds) + (if nat_eq h.rec 8 then 1 else 0)) p → IsPossible (if nat_eq h.rec 9 then place_after p ObjectEnded else p) → reading.StandsAt reader (if nat_eq h.rec 9 then place_after p ObjectEnded else p))
     → reading.StandsAt reader (place_at ds h)
 object_data laws limits reader ds h xs goes open' less stands =
-    let none = nine_ended laws.layers.opens ds (head_alive ds h goes.records) open' in
-    let (p, at, is) = led_at laws.layers.opens limits ds h xs goes none less in
-    subst (reading.StandsAt reader) is (stands p at (subst IsPossible (sym is) (possible_at laws.layers.opens limits ds h goes)))
+    let none = nine_ended laws ds (head_alive ds h goes.records) open' in
+    let (p, at, is) = led_at laws limits ds h xs goes none less in
+    subst (reading.StandsAt reader) is (stands p at (subst IsPossible (sym is) (possible_at laws limits ds h goes)))
 
 -- ---- the reader of tags
 

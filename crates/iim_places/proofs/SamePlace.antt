@@ -4,7 +4,7 @@ use Rattle.std.proofs.Common.{ap, sym, subst, ◌∙◌, inl, inr, arith, append
 use Rattle.iim_places.proofs.Words.{eqb_tells, Octets, filter-append, Dataset, head_of, of_record, count_octets, Begun, InTag, InData, Reads, IsKeptAs, Head}
 use Rattle.iim_places.proofs.Words.{DatasetPlace, sum_append, occurs, HasChecked, HasTaken, kept, section_after, SectionsLive, SectionsLiveAt}
 use Rattle.iim_places.proofs.Words.{ValuesDieWithTheirFault, Limits, RecordPlace, last_more, SubfileBegun, numbers_of, place_after_datasets, place_ended, State}
-use Rattle.iim_places.proofs.Words.{stated_numbers, text_so_far, LeadsToSaved, MessagePlace, object_of, PlaceLaws, place_at, ObjectLives, object_so_far}
+use Rattle.iim_places.proofs.Words.{stated_numbers, text_so_far, LeadsToSaved, MessagePlace, object_of, LowerLaws, place_at, ObjectLives, object_so_far}
 use Rattle.iim_places.proofs.Words.{section, AllCanContinue, IsOpen, are_some, Phase, TagBegun, DataBegun, AllEnded, phase_of, heads_of}
 use Rattle.iim_dataset.specs.declared.place.DatasetPlace.TheVariants.{Tag, Inside}
 use Rattle.iim_fields.specs.States.Orders as orders
@@ -188,7 +188,7 @@ object_at_as ds es h same = object_at ds es h (object_lives_after_as ds es same)
 
 -- ---- the message
 
-pub message_as : PlaceLaws → (reader : Option Message) (o r t v : List ℕ) (m : Message) → wire.StandsAt reader o (text_so_far o) → LeadsTo o t m → LeadsTo r v m → wire.StandsAt reader r (text_so_far r)
+pub message_as : LowerLaws → (reader : Option Message) (o r t v : List ℕ) (m : Message) → wire.StandsAt reader o (text_so_far o) → LeadsTo o t m → LeadsTo r v m → wire.StandsAt reader r (text_so_far r)
 message_as laws reader o r t v m at here there =
     let same : at.0 ≡ m = (laws.one_place o (text_so_far o) t at.0 m at.2 here).1 in
     (m, at.1 ∙ ap Some same, subst (λ (x : List ℕ). LeadsTo r x m) (laws.texts r v m there) there)
@@ -201,7 +201,7 @@ pub record SameMessage (o r : List ℕ) : Type 0 where
   pub here : LeadsTo o text at
   pub there : LeadsTo r other at
 
-pub same_message : PlaceLaws → (o r t v : List ℕ) (m n : MessagePlace) → m ≡ n → LeadsToSaved o t m → LeadsToSaved r v n → SameMessage o r
+pub same_message : LowerLaws → (o r t v : List ℕ) (m n : MessagePlace) → m ≡ n → LeadsToSaved o t m → LeadsToSaved r v n → SameMessage o r
 same_message laws o r t v m n is (at, leads, saves) (other, goes, keeps) =
     let one : at ≡ other = laws.apart at other leads.is_place goes.is_place (saves ∙ is ∙ sym keeps) in
     record { text = t; other = v; at = at; here = leads; there = subst (λ (x : Message). LeadsTo r v x) (sym one) goes }
@@ -282,13 +282,13 @@ pub record Opened (limits : Limits) (ds : List Dataset) (c : Begun) : Type 0 whe
   pub goes : AllCanContinue limits ds c
   pub ended : nat_eq (section_after ds) 9 ≡ false
 
-pub opened : PlaceLaws → (limits : Limits) (p : List ℕ) (ds : List Dataset) (c : Begun) → Reads count_octets p ds c → IsOpen limits p → Opened limits ds c
+pub opened : LowerLaws → (limits : Limits) (p : List ℕ) (ds : List Dataset) (c : Begun) → Reads count_octets p ds c → IsOpen limits p → Opened limits ds c
 opened laws limits p ds c r is =
-    let (goes, none) = open_at laws.answer limits p ds c r is in
+    let (goes, none) = open_at laws limits p ds c r is in
     record {
       goes = goes;
       ended = elim (eqb_tells (section_after ds) 9) [
-        | inl nine ↦ absurd (none (last_sections laws.answer.follow.ends ds (alive_of limits ds c goes.sizes) nine.1))
+        | inl nine ↦ absurd (none (last_sections laws.last_record ds (alive_of limits ds c goes.sizes) nine.1))
         | inr apart ↦ apart.0
       ];
     }

@@ -5,7 +5,7 @@ use Rattle.iim_places.proofs.Words.{AllByRecursion, eqb-true, eqb-false, ne_eqb,
 use Rattle.iim_places.proofs.Words.{Head, all_front, Meets, AreSections, AreRecords, records, IsGoodDataset, occurs, SectionsLive, SectionsLiveAt}
 use Rattle.iim_places.proofs.Words.{section_after, kept, is_kept, last_more, by_record, max_subfiles, Stated, InRow, AreStated, number_at, numbers_of}
 use Rattle.iim_places.proofs.Words.{ObjectToken, NumberRead, SubfileBegun, ObjectEnded, Confirmed, NotEnded, Ended, HasBoth, MayFollow, place_after, head_token}
-use Rattle.iim_places.proofs.Words.{place_after_datasets, place_ended, RecordsAreByNumber, stated_numbers, one_of_some, place_at, ObjectLaws, FollowLaws}
+use Rattle.iim_places.proofs.Words.{place_after_datasets, place_ended, RecordsAreByNumber, stated_numbers, one_of_some, place_at, LowerLaws}
 use Rattle.iim_places.proofs.Words.{all_map}
 use Rattle.iim_object.specs.Format.Places.{Place}
 use Rattle.iim_places.proofs.Fronts.{empty_front}
@@ -77,13 +77,13 @@ few_front xs d ys few eight =
     let one : length (of_record 8 (d ∷ ys)) ≡ 1 + length (of_record 8 ys) = ap (λ (r : ℕ). length (cond (nat_eq r 8) (d ∷ of_record 8 ys) (of_record 8 ys))) eight ∙ omega arith in
     omega (arith, few, parts, both, one)
 
-stated_step : ObjectLaws → (xs : List Dataset) (d : Dataset) → SectionsLive (xs ++ d ∷ []) → (d.rec ≡ 8 → length (of_record 8 xs) < max_subfiles) → IsStated (place_after_datasets xs) → IsStated (place_after_datasets (xs ++ d ∷ []))
+stated_step : LowerLaws → (xs : List Dataset) (d : Dataset) → SectionsLive (xs ++ d ∷ []) → (d.rec ≡ 8 → length (of_record 8 xs) < max_subfiles) → IsStated (place_after_datasets xs) → IsStated (place_after_datasets (xs ++ d ∷ []))
 stated_step laws xs d alive few is = elim (is_one xs d alive) [
   | inl less ↦ subst IsStated (sym (laws.others xs d less)) is
-  | inr (inl seven) ↦ (let leads = laws.numbers xs d (records_alive (xs ++ d ∷ []) alive) seven in subst IsStated leads.1 (stated_after (place_after_datasets xs) (NumberRead d.set (number d.octets)) leads.0 is))
-  | inr (inr (inl eight)) ↦ (let leads = laws.subfiles xs d (records_alive (xs ++ d ∷ []) alive) eight (few eight) in subst IsStated leads.1 (stated_after (place_after_datasets xs) (SubfileBegun (length d.octets)) leads.0 is))
+  | inr (inl seven) ↦ (let leads = laws.numbers_lead xs d (records_alive (xs ++ d ∷ []) alive) seven in subst IsStated leads.1 (stated_after (place_after_datasets xs) (NumberRead d.set (number d.octets)) leads.0 is))
+  | inr (inr (inl eight)) ↦ (let leads = laws.subfiles_lead xs d (records_alive (xs ++ d ∷ []) alive) eight (few eight) in subst IsStated leads.1 (stated_after (place_after_datasets xs) (SubfileBegun (length d.octets)) leads.0 is))
   | inr (inr (inr nine)) ↦
-      (let leads = laws.ends xs d (records_alive (xs ++ d ∷ []) alive) nine in
+      (let leads = laws.ends_lead xs d (records_alive (xs ++ d ∷ []) alive) nine in
       let ended = subst IsStated leads.0.1 (stated_after (place_after_datasets xs) ObjectEnded leads.0.0 is) in
       subst IsStated leads.1.1 (stated_after (place_ended xs) (Confirmed (number d.octets)) leads.1.0 ended))
 ]
@@ -91,7 +91,7 @@ stated_step laws xs d alive few is = elim (is_one xs d alive) [
 front_alive : (xs : List Dataset) (d : Dataset) (ys : List Dataset) → SectionsLive (xs ++ d ∷ ys) → SectionsLive (xs ++ d ∷ [])
 front_alive xs d ys alive = (ys ++ alive.0, subst AreSections (append_assoc xs (d ∷ ys) alive.0 ∙ sym (append_assoc xs (d ∷ []) (ys ++ alive.0))) alive.1)
 
-stated_on : ObjectLaws → (xs ys : List Dataset) → SectionsLive (xs ++ ys) → length (of_record 8 (xs ++ ys)) ≤ max_subfiles → IsStated (place_after_datasets xs) → IsStated (place_after_datasets (xs ++ ys))
+stated_on : LowerLaws → (xs ys : List Dataset) → SectionsLive (xs ++ ys) → length (of_record 8 (xs ++ ys)) ≤ max_subfiles → IsStated (place_after_datasets xs) → IsStated (place_after_datasets (xs ++ ys))
 stated_on laws xs [] alive few is = subst (λ (zs : List Dataset). IsStated (place_after_datasets zs)) (sym (append-nil xs)) is
 stated_on laws xs (d ∷ ys) alive few is =
     let parts = append_assoc xs (d ∷ []) ys in
@@ -99,10 +99,10 @@ stated_on laws xs (d ∷ ys) alive few is =
     (stated_on laws (xs ++ d ∷ []) ys (subst SectionsLive (sym parts) alive) (subst (λ (zs : List Dataset). length (of_record 8 zs) ≤ max_subfiles) (sym parts) few)
     (stated_step laws xs d (front_alive xs d ys alive) (few_front xs d ys few) is))
 
-pub stated_after_all : ObjectLaws → (ds : List Dataset) → SectionsLive ds → length (of_record 8 ds) ≤ max_subfiles → IsStated (place_after_datasets ds)
+pub stated_after_all : LowerLaws → (ds : List Dataset) → SectionsLive ds → length (of_record 8 ds) ≤ max_subfiles → IsStated (place_after_datasets ds)
 stated_after_all laws ds alive few = stated_on laws [] ds alive few (record { stated = record { each = tt; once = tt }; subfiles = λ e. refl; duties = λ some. absurd (omega (arith, some)) })
 
-pub stated_at : ObjectLaws → (ds : List Dataset) (h : Head) → SectionsLiveAt ds h → length (of_record 8 ds) ≤ max_subfiles → (h.rec ≡ 8 → length (of_record 8 ds) < max_subfiles) → IsStated (place_at ds h)
+pub stated_at : LowerLaws → (ds : List Dataset) (h : Head) → SectionsLiveAt ds h → length (of_record 8 ds) ≤ max_subfiles → (h.rec ≡ 8 → length (of_record 8 ds) < max_subfiles) → IsStated (place_at ds h)
 stated_at laws ds h at few room =
     let (d, is, alive) = at in
     let rec : d.rec ≡ h.rec = ap (λ (k : Head). k.rec) is in
@@ -198,14 +198,14 @@ length_one false d = refl
 abbrev pub CountsNines : List Dataset → Type 0
 CountsNines ds = length (of_record 9 ds) ≡ cond (nat_eq (section_after ds) 9) 1 0
 
-pub nines : FollowLaws → (ds : List Dataset) → SectionsLive ds → CountsNines ds
+pub nines : LowerLaws → (ds : List Dataset) → SectionsLive ds → CountsNines ds
 nines laws ds alive = by (split_last ds)
   where
     at_last : (front : List Dataset) (d : Dataset) → SectionsLive (front ++ d ∷ []) → CountsNines (front ++ d ∷ [])
     at_last front d alive =
         let parts = append_assoc front (d ∷ []) alive.0 in
         let more : AreSections (front ++ d ∷ alive.0) = subst AreSections parts alive.1 in
-        let none : of_record 9 front ≡ [] = none_nine laws.sections laws.ends [] front ((d ∷ alive.0), more)
+        let none : of_record 9 front ≡ [] = none_nine laws.sections laws.last_record [] front ((d ∷ alive.0), more)
         (λ s. let bad : d ∷ alive.0 ≡ [] = laws.sections front (d ∷ alive.0) s more in absurd cc) in
         ap length (filter-append (λ (x : Dataset). nat_eq x.rec 9) front (d ∷ [])) ∙ ap (λ (xs : List Dataset). length (xs ++ of_record 9 (d ∷ []))) none
         ∙ length_one (nat_eq d.rec 9) d ∙ ap (λ (r : ℕ). cond (nat_eq r 9) 1 0) (sym (last_more 0 front d))
@@ -251,9 +251,9 @@ same_kept : (ds es : List Dataset) (r : ℕ) → is_kept r ≡ true → kept ds 
 same_kept ds es r is same n =
     ap (occurs n) (sym (of_kept r is ds)) ∙ ap (λ (xs : List Dataset). occurs n (of_record r xs)) same ∙ ap (occurs n) (of_kept r is es)
 
-pub same_shape : FollowLaws → RecordsAreByNumber → (ds es : List Dataset) → SectionsLive ds → SectionsLive es → length (of_record 8 ds) ≤ max_subfiles → length (of_record 8 es) ≤ max_subfiles → SameShape ds es
+pub same_shape : LowerLaws → (ds es : List Dataset) → SectionsLive ds → SectionsLive es → length (of_record 8 ds) ≤ max_subfiles → length (of_record 8 es) ≤ max_subfiles → SameShape ds es
     → SameRecords ds es
-same_shape laws numbers ds es a b few less same = record { seen = seen }
+same_shape laws ds es a b few less same = record { seen = seen }
   where
     one : SameIn ds es 1
     one = same_kept ds es 1 refl same.fields
@@ -265,15 +265,15 @@ same_shape laws numbers ds es a b few less same = record { seen = seen }
     seven n =
         occurs_stated n (of_record 7 ds)
         ∙ ap is_some (same_stated n (numbers_of (of_record 7 ds)) (numbers_of (of_record 7 es)) (same_numbers _ _ same.numbers)
-        (stated_after_all laws.objects ds a few).stated.each (stated_after_all laws.objects es b less).stated.each)
+        (stated_after_all laws ds a few).stated.each (stated_after_all laws es b less).stated.each)
         ∙ sym (occurs_stated n (of_record 7 es))
 
     eight : SameIn ds es 8
-    eight n = tens_seen n (of_record 8 ds) (of_record 8 es) (tens_after numbers ds a).0 (tens_after numbers es b).0 same.some
+    eight n = tens_seen n (of_record 8 ds) (of_record 8 es) (tens_after laws.by_number ds a).0 (tens_after laws.by_number es b).0 same.some
 
     nine : SameIn ds es 9
     nine n =
-        tens_seen n (of_record 9 ds) (of_record 9 es) (tens_after numbers ds a).1 (tens_after numbers es b).1
+        tens_seen n (of_record 9 ds) (of_record 9 es) (tens_after laws.by_number ds a).1 (tens_after laws.by_number es b).1
         (ap one_of_some (nines laws ds a ∙ ap (λ (b : Bool). cond b 1 0) same.ended ∙ sym (nines laws es b)))
 
     other : (r : ℕ) → AllByRecursion (λ k. nat_eq k r ≡ false) records → SameIn ds es r
@@ -287,7 +287,7 @@ same_shape laws numbers ds es a b few less same = record { seen = seen }
         apart : (k : ℕ) → nat_eq r k ≡ false → nat_eq k r ≡ false
         apart k not = ne_eqb k r (λ same. eqb-false r k not (sym same))
 
-pub same_records : FollowLaws → RecordsAreByNumber → (ds es : List Dataset) → SectionsLive ds → SectionsLive es → length (of_record 8 ds) ≤ max_subfiles → length (of_record 8 es) ≤ max_subfiles → SameFields ds es
+pub same_records : LowerLaws → (ds es : List Dataset) → SectionsLive ds → SectionsLive es → length (of_record 8 ds) ≤ max_subfiles → length (of_record 8 es) ≤ max_subfiles → SameFields ds es
     → SameRecords ds es
-same_records laws numbers ds es a b few less same =
-    same_shape laws numbers ds es a b few less (record { ended = same.ended; fields = same.fields; numbers = same.numbers; some = ap one_of_some same.heads })
+same_records laws ds es a b few less same =
+    same_shape laws ds es a b few less (record { ended = same.ended; fields = same.fields; numbers = same.numbers; some = ap one_of_some same.heads })

@@ -1,7 +1,7 @@
 -- What a ticket is restored to stands where the saved unpacker stood; and octets have a place.
 use Rattle.std.proofs.Common.{◌≡◌, ℕ, ◌<◌, ◌^◌, List, [], get_or, ap, refl, sym, subst, ◌∙◌, inl, inr, arith, append-nil}
 use Rattle.iim_places.proofs.Words.{Dataset, Begun, InTag, InData, IsWithin, Limits, saved, Value, OctetsHaveOnePlace, TicketsTellOnePlace, AreWithin}
-use Rattle.iim_places.proofs.Words.{OnwardLaws, object_so_far, IsOpen, AreOpenOrWhole, widest, IsPossibleIn, IsTicketAt, IsEnvelopeWithin, IsPlaceOf}
+use Rattle.iim_places.proofs.Words.{LowerLaws, object_so_far, IsOpen, AreOpenOrWhole, widest, IsPossibleIn, IsTicketAt, IsEnvelopeWithin, IsPlaceOf}
 use Rattle.iim_places.proofs.Words.{present_version, place_of, ticket_in, ticket_of, MayContinue}
 use Rattle.wire_message.specs.States.SoFar.{LeadsTo}
 use Rattle.wire_message.specs.declared.place.Place.{Place as Message}
@@ -12,11 +12,11 @@ use Rattle.iim_places.proofs.Tickets.{same_place}
 
 -- ---- the place of octets
 
-lives_as : OnwardLaws → (limits : Limits) (octets : List ℕ) → AreOpenOrWhole limits octets → Lives limits octets
+lives_as : LowerLaws → (limits : Limits) (octets : List ℕ) → AreOpenOrWhole limits octets → Lives limits octets
 lives_as laws limits octets (inl opens) = lives_open limits octets opens
-lives_as laws limits octets (inr (v, whole)) = lives_envelope laws.opens.answer limits octets v whole
+lives_as laws limits octets (inr (v, whole)) = lives_envelope laws limits octets v whole
 
-pub one_place : OnwardLaws → (start : Message) → LeadsTo [] [] start → OctetsHaveOnePlace
+pub one_place : LowerLaws → (start : Message) → LeadsTo [] [] start → OctetsHaveOnePlace
 one_place laws start begins limits octets comes =
     let lives = lives_as laws limits octets comes in
     let ds = lives.whole in
@@ -29,8 +29,8 @@ one_place laws start begins limits octets comes =
       place,
       record { whole = ds; begun = b; reads = lives.reads; text = text; message = saved at; leads = (at, led, refl); is_place = refl },
       λ other is.
-          let same = one_reading laws.opens.answer octets is.whole ds is.begun b is.reads lives.reads in
-          is.is_place ∙ same_place laws.places.one_place is.whole ds is.begun b is.message (saved at) is.text text same.whole_is same.begun_is is.leads (at, led, refl),
+          let same = one_reading laws octets is.whole ds is.begun b is.reads lives.reads in
+          is.is_place ∙ same_place laws.one_place is.whole ds is.begun b is.message (saved at) is.text text same.whole_is same.begun_is is.leads (at, led, refl),
     )
 
 -- ---- under wider limits

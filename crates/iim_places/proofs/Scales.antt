@@ -3,7 +3,7 @@ use Rattle.std.proofs.Common.{◌≡◌, ℕ, ◌-◌, ◌≤◌, nat_eq, cond, 
 use Rattle.std.proofs.Common.{subst, ◌∙◌, inl, inr, arith, ◌^◌, ◌<◌, Option, None, append-nil, length-append, ◌&&◌, nat_le}
 use Rattle.iim_places.proofs.Words.{AllByRecursion, eqb-true, eq-eqb, number, Dataset, SpellsDataset, SpellsStream, count_octets, head_of, of_record, IsAlive}
 use Rattle.iim_places.proofs.Words.{Begun, InTag, InData, IsBegun, Reads, Head, all_front, all_back, section_after, tells_number, SubfileBegun, ObjectEnded}
-use Rattle.iim_places.proofs.Words.{Confirmed, number_tokens, numbers_of, stated_numbers, Stated, number_at, TokensWithin, LanguageWithin, AnswerLaws, OpenLaws}
+use Rattle.iim_places.proofs.Words.{Confirmed, number_tokens, numbers_of, stated_numbers, Stated, number_at, TokensWithin, LanguageWithin, LowerLaws}
 use Rattle.iim_places.proofs.Words.{object_of, AreWithin, IsOpen, object_so_far, section, Possible, IsSmall, IsSmallPhase, IsSmallPlace, greatest_size_before}
 use Rattle.iim_places.proofs.Words.{widest, Scale, FitsRow, SectionsLiveIn, HaveRoomIn, IsOpenIn, IsWholeIn, PossibleAt, place_in, first_scale, IsPlaceOf}
 use Rattle.iim_places.proofs.Words.{TagBegun, AllEnded, phase_of, MayContinue, unwrap_or, cases_lt, lt-ltb, le-ltb, eqb_tells, IsOctet, SpellsCount, SpellsTag}
@@ -174,19 +174,19 @@ keeps_whole octets is = record { numbers = small_numbers is.admits.datasets is.r
       whole = record { rec = omega arith; set = omega arith; count = 0 ∷ 0 ∷ []; is_count = inl (omega arith, omega arith, refl, refl); parts = refl };
     }
 
-small_of : AnswerLaws → (place : Place) (octets : List ℕ) → (leads : IsPlaceOf octets place) → (ds : List Dataset) (b : Begun) → Reads count_octets octets ds b → Keeps ds b → IsSmallPlace place
+small_of : LowerLaws → (place : Place) (octets : List ℕ) → (leads : IsPlaceOf octets place) → (ds : List Dataset) (b : Begun) → Reads count_octets octets ds b → Keeps ds b → IsSmallPlace place
 small_of laws place octets leads ds b reads keeps =
     let c = coming laws place octets leads ds b reads in
     subst IsSmallPlace (sym c.is_place) (record { numbers = keeps.numbers; taken = keeps.taken; begun = keeps.begun })
 
 -- What was possible is possible, and keeps to the first sizes.
-pub still_possible : OpenLaws → (place : Place) → PossibleAt first_scale place → Possible place × IsSmallPlace place
+pub still_possible : LowerLaws → (place : Place) → PossibleAt first_scale place → Possible place × IsSmallPlace place
 still_possible laws place p = (
   still first_scale (omega arith) place p,
   elim p.comes [
     | inl is ↦
-        small_of laws.answer place p.octets p.leads is.whole is.begun (wider_reads 4 (omega arith) p.octets is.whole is.begun is.reads) (keeps_open p.octets is)
-    | inr is ↦ small_of laws.answer place p.octets p.leads is.admits.datasets (InTag []) (reads_envelope p.octets is.value is.admits) (keeps_whole p.octets is)
+        small_of laws place p.octets p.leads is.whole is.begun (wider_reads 4 (omega arith) p.octets is.whole is.begun is.reads) (keeps_open p.octets is)
+    | inr is ↦ small_of laws place p.octets p.leads is.admits.datasets (InTag []) (reads_envelope p.octets is.value is.admits) (keeps_whole p.octets is)
   ],
 )
 
@@ -300,9 +300,9 @@ within_at ds n false true keeps =
 within_at ds n false false keeps =
     within_append greatest_size_before (number_tokens (numbers_of (of_record 7 ds))) _ keeps.numbers (within_append greatest_size_before (map SubfileBegun (lengths_of (of_record 8 ds))) _ (begun_within greatest_size_before (lengths_of (of_record 8 ds))) keeps.ending)
 
-object_in : OpenLaws → PlacesLiveWithin → (ds : List Dataset) (b : Begun) → ObjectKeeps ds → sum (place_in ds b).lengths ≤ greatest_size_before → MayContinue widest ds b → IsAlive (LanguageWithin greatest_size_before) (objects.tokens_of (place_in ds b))
+object_in : LowerLaws → PlacesLiveWithin → (ds : List Dataset) (b : Begun) → ObjectKeeps ds → sum (place_in ds b).lengths ≤ greatest_size_before → MayContinue widest ds b → IsAlive (LanguageWithin greatest_size_before) (objects.tokens_of (place_in ds b))
 object_in laws law ds (InTag held) keeps low goes =
-    let stated = stated_after_all laws.answer.follow.objects ds goes.records goes.within.subfiles in
+    let stated = stated_after_all laws ds goes.records goes.within.subfiles in
     let possible = possible_of (place_after_datasets ds) stated (let count = count_of (of_record 8 ds) in let few = goes.within.subfiles in omega (arith, count, few)) goes.object in
     law greatest_size_before (place_after_datasets ds) (omega arith) possible (within_at ds 0 false false keeps) low
 object_in laws law ds (InData h taken) keeps low goes =
@@ -323,11 +323,11 @@ sum_in ds (InData h got) rest is low small =
 -- ---- what is begun
 
 -- some octets that spell it with few count octets
-small_begun : OpenLaws → (ds : List Dataset) (b : Begun) (rest : List ℕ) → IsBegun count_octets b rest → MayContinue widest ds b → (AreSections ds → ⊥) → IsSmallPhase (section ds b) (length (object_so_far ds b)) (phase_of ds b) → (r : List ℕ) × IsBegun 4 b r
+small_begun : LowerLaws → (ds : List Dataset) (b : Begun) (rest : List ℕ) → IsBegun count_octets b rest → MayContinue widest ds b → (AreSections ds → ⊥) → IsSmallPhase (section ds b) (length (object_so_far ds b)) (phase_of ds b) → (r : List ℕ) × IsBegun 4 b r
 small_begun laws ds (InTag held) rest is goes unfinished small = by (nat_eq (section_after ds) 9) refl small
   where
     by : (c : Bool) → nat_eq (section_after ds) 9 ≡ c → IsSmallPhase (section_after ds) (length (object_of ds)) (if c then AllEnded else TagBegun held) → (r : List ℕ) × IsBegun 4 (InTag held) r
-    by true nine s = absurd (unfinished (last_sections laws.answer.follow.ends ds goes.records (eqb-true (section_after ds) 9 nine)))
+    by true nine s = absurd (unfinished (last_sections laws.last_record ds goes.records (eqb-true (section_after ds) 9 nine)))
     by false other s = (held, (refl, s.head, held ++ s.more, s.whole, (s.more, s.some_more, refl)))
 small_begun laws ds (InData h got) rest (tag, spelled, less, octets, parts) goes unfinished small = (canonical_tag h ++ got, (canonical_tag h, few_tag h spelled.rec spelled.set few, less, octets, refl))
   where
@@ -356,7 +356,7 @@ room_in ds (InData h got) goes = goes.room
 
 -- ---- both
 
-pub was_possible : OpenLaws → PlacesLiveWithin → LimitsAreToldByPlace → (place : Place) → Possible place → IsSmallPlace place → PossibleAt first_scale place
+pub was_possible : LowerLaws → PlacesLiveWithin → LimitsAreToldByPlace → (place : Place) → Possible place → IsSmallPlace place → PossibleAt first_scale place
 was_possible laws law told place poss small = by (plain_open laws place poss)
   where
     within : AreHeadsWithin widest place
@@ -365,7 +365,7 @@ was_possible laws law told place poss small = by (plain_open laws place poss)
     by : ((p : IsPlain place) × AreOpenOrWhole widest (plain_octets place p)) → PossibleAt first_scale place
     by (p, comes) = elim comes [
       | inl open' ↦
-          let (goes, unfinished) = open_at laws.answer widest (plain_octets place p) ds p.begun reads open' in
+          let (goes, unfinished) = open_at laws widest (plain_octets place p) ds p.begun reads open' in
           let begun = small_begun laws ds p.begun p.rest p.is_begun goes.sizes unfinished phase in
           record {
             octets = canonical_stream ds ++ begun.0;
@@ -386,7 +386,7 @@ was_possible laws law told place poss small = by (plain_open laws place poss)
             });
           }
       | inr (v, is) ↦
-          let same = one_reading laws.answer (plain_octets place p) is.admits.datasets ds (InTag []) p.begun (reads_envelope (plain_octets place p) v is.admits) reads in
+          let same = one_reading laws (plain_octets place p) is.admits.datasets ds (InTag []) p.begun (reads_envelope (plain_octets place p) v is.admits) reads in
           let none : p.rest ≡ [] = (subst (λ (b : Begun). IsBegun count_octets b p.rest) (sym same.begun_is) p.is_begun).0 in
           let all : plain_octets place p ≡ canonical_stream ds = ap (λ (xs : List ℕ). canonical_stream ds ++ xs) none ∙ append-nil (canonical_stream ds) in
           let sections = sections_small ds (subst AreSections same.whole_is is.admits.sections) (shorts ds low) in
@@ -442,7 +442,7 @@ was_possible laws law told place poss small = by (plain_open laws place poss)
           ending = subst (λ (rs : List Dataset). TokensWithin greatest_size_before (ending_tokens (ending_of rs))) (sym tell.nines_are) (end_within p.ended p.object object_low);
         }
 
-pub small_places : OpenLaws → PlacesLiveWithin → LimitsAreToldByPlace → SmallPlacesWerePossible
+pub small_places : LowerLaws → PlacesLiveWithin → LimitsAreToldByPlace → SmallPlacesWerePossible
 small_places laws law told place = (still_possible laws place, λ both. was_possible laws law told place both.0 both.1)
 
 -- ---- rows

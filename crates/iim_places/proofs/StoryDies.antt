@@ -2,18 +2,11 @@
 use Rattle.std.proofs.Common.{◌≡◌, ℕ, zero, suc, ◌+◌, ◌<◌, ◌⊎◌, Bool, true, false, not, ◌||◌, ◌&&◌, nat_eq, nat_lt, cond, if◌then◌else◌, List, [], ◌∷◌, ◌++◌, length, drop, map, replicate, refl, ap, sym, subst, ◌∙◌, inl, inr, arith, append-nil, append_assoc}
 use Rattle.iim_places.proofs.Words.{list_any, position_or_len, before_first, after_first, cases_Bool, cases_lt, lt-ltb, ne_eqb, eqb_tells, list_any-append}
 use Rattle.iim_places.proofs.Words.{list_all-append, drop-append-add, IsOctet, IsTextSoFar, Holds, is_line_octet, line_end, OctetOrEnd, Octet, End}
-use Rattle.iim_places.proofs.Words.{StoryLanguage, StoryLivesIn, after_stx, text_so_far, StoryDiesWith, IsInText}
+use Rattle.iim_places.proofs.Words.{LowerLaws, StoryLanguage, StoryLivesIn, after_stx, text_so_far, StoryDiesWith, IsInText}
 use Rattle.iim_dataset.specs.Format.Languages as languages
-use Rattle.wire_story.specs.Laws.Texts.{StoriesLiveAsTextsSoFar, StoriesEndAsTexts, TextsEndInNoReturn}
 use Rattle.wire_story.specs.States.Reading.{IsLoneReturn}
 use Rattle.wire_story.proofs.SoFar.{so_far_two}
 use Rattle.iim_places.proofs.Living.{after_found, after_none, before_found, before_later, before_all, place_later, is_etx, is_stx, tokens_after_stx}
-
--- how texts so far live, and end
-pub record StoryLaws : Type 0 where
-  pub live : StoriesLiveAsTextsSoFar
-  pub ends : StoriesEndAsTexts
-  pub none : TextsEndInNoReturn
 
 -- ---- the text has begun, and has not ended
 
@@ -75,12 +68,12 @@ lives_by o b tokens is same alive =
     subst (λ (t : List ℕ). languages.IsAlive StoryLanguage (tokens_after_stx t)) (sym (after_found is_stx o (b ∷ []) is.0)) (subst (languages.IsAlive StoryLanguage) (sym same) alive)
 
 -- an octet of the text that leads to a text so far
-no_death : StoryLaws → (o : List ℕ) (b held : ℕ) → StoryDiesWith o b → (b ≡ 3 → ⊥) → Holds (text_so_far o ++ b ∷ []) held → ⊥
+no_death : LowerLaws → (o : List ℕ) (b held : ℕ) → StoryDiesWith o b → (b ≡ 3 → ⊥) → Holds (text_so_far o ++ b ∷ []) held → ⊥
 no_death laws o b held dies other holds =
     let is = in_text o b dies in
     let s = after_stx o in
     let apart : nat_eq b 3 ≡ false = ne_eqb b 3 other in
-    let alive : languages.IsAlive StoryLanguage (map Octet (s ++ b ∷ [])) = (laws.live (s ++ b ∷ [])).1 (held, subst (λ (t : List ℕ). Holds (t ++ b ∷ []) held) (text_is o is) holds) in
+    let alive : languages.IsAlive StoryLanguage (map Octet (s ++ b ∷ [])) = (laws.stories_live (s ++ b ∷ [])).1 (held, subst (λ (t : List ℕ). Holds (t ++ b ∷ []) held) (text_is o is) holds) in
     dies.1 (lives_by o b (map Octet (s ++ b ∷ [])) is (with_octet s b is.1 apart) alive)
 
 -- ---- texts so far with one octet more
@@ -124,7 +117,7 @@ octet_after x (first ∷ lines) line b may (good, returns, few, rest, parts, mor
 -- ---- why it dies
 
 -- where CR are held: an octet that is neither LF nor the second CR
-pub lone_return : StoryLaws → (o : List ℕ) (b held : ℕ) → StoryDiesWith o b → 0 < held → Holds (text_so_far o) held → IsLoneReturn held b
+pub lone_return : LowerLaws → (o : List ℕ) (b held : ℕ) → StoryDiesWith o b → 0 < held → Holds (text_so_far o) held → IsLoneReturn held b
 lone_return laws o b held dies some (lines, line, so_far) = (
   some,
   (λ feed. no_death laws o b 0 dies (λ three. let bad : 3 ≡ 10 = sym three ∙ feed in omega (arith, bad))
@@ -142,7 +135,7 @@ may_stand : (b : ℕ) → b < 256 → nat_eq b 1 ≡ false → nat_eq b 2 ≡ fa
 may_stand b low e1 e2 e3 e4 e10 e13 = let small : nat_lt b 256 ≡ true = lt-ltb b 256 low in rw (small, e1, e2, e3, e4, e10, e13) refl
 
 -- where none are held: SOH, STX or EOT
-pub control : StoryLaws → (o : List ℕ) (b : ℕ) → IsOctet b → StoryDiesWith o b → Holds (text_so_far o) 0 → (b ≡ 1) ⊎ ((b ≡ 2) ⊎ (b ≡ 4))
+pub control : LowerLaws → (o : List ℕ) (b : ℕ) → IsOctet b → StoryDiesWith o b → Holds (text_so_far o) 0 → (b ≡ 1) ⊎ ((b ≡ 2) ⊎ (b ≡ 4))
 control laws o b low dies (lines, line, so_far) =
     elim (eqb_tells b 1) [
       | inl is ↦ inl is.1
@@ -168,7 +161,7 @@ control laws o b low dies (lines, line, so_far) =
         let is = in_text o b dies in
         let s = after_stx o in
         let ends : languages.IsAlive StoryLanguage (map Octet s ++ End ∷ []) =
-        (laws.ends s).1 ((laws.none s).1 (subst (λ (t : List ℕ). Holds t 0) (text_is o is) (lines, line, so_far))) in
+        (laws.stories_end s).1 ((laws.no_return s).1 (subst (λ (t : List ℕ). Holds t 0) (text_is o is) (lines, line, so_far))) in
         dies.1 (lives_by o b (map Octet s ++ End ∷ []) is (ap (λ (n : ℕ). tokens_after_stx (s ++ n ∷ [])) three ∙ with_etx s is.1) ends)
 
     others : nat_eq b 1 ≡ false → nat_eq b 2 ≡ false → nat_eq b 4 ≡ false → ⊥

@@ -5,7 +5,7 @@ use Rattle.iim_places.proofs.Words.{AllByRecursion, option_or, filter-append, sa
 use Rattle.iim_places.proofs.Words.{count_octets, all_append, all_front, all_back, Head, sum_append, SectionsLive, SectionsLiveAt, kept, last_record}
 use Rattle.iim_places.proofs.Words.{section_after, AreSections, AreRecords, after, IsGoodRecord, occurs, occurrences_append, IsWithin, Limits, ending_of}
 use Rattle.iim_places.proofs.Words.{place_after_datasets, place_ended, SubfileBegun, max_subfiles, lengths_of, numbers_of, HaveSizes, IsPossible}
-use Rattle.iim_places.proofs.Words.{stated_numbers, Stated, number_at, AreWithin, OpenLaws, SizeLaws, place_at, ObjectLives, HaveRoom, CanContinue}
+use Rattle.iim_places.proofs.Words.{stated_numbers, Stated, number_at, AreWithin, LowerLaws, place_at, ObjectLives, HaveRoom, CanContinue}
 use Rattle.iim_places.proofs.Words.{CanContinueAt, MayContinue, last_of_joined, NotEnded, ConfirmedAs, number, Begun, InTag, InData, Sizes, Header, IsMessage}
 use Rattle.iim_places.proofs.Words.{IsEnvelopeWithin, IsText, object_of, nil_from_length, map-append, Value}
 use Rattle.iim_fields.specs.Format.Faults.{joined}
@@ -101,7 +101,7 @@ pub record HasLargest (ps : List Stated) (ls : List ℕ) : Type 0 where
 abbrev pub AreBounded : List Stated → List ℕ → Type 0
 AreBounded ps ls = ls ≡ [] ⊎ HasLargest ps ls
 
-pub bounded_at : SizeLaws → (p : objects.Place) → IsPossible p → AreBounded p.stated p.lengths
+pub bounded_at : LowerLaws → (p : objects.Place) → IsPossible p → AreBounded p.stated p.lengths
 bounded_at laws p is = by p.lengths refl
   where
     by : (ls : List ℕ) → p.lengths ≡ ls → AreBounded p.stated p.lengths
@@ -215,24 +215,23 @@ each_by ps ls (inl none) size is = subst (AllByRecursion (λ n. n ≤ size)) (sy
 each_by ps ls (inr all) size is = subst (λ (n : ℕ). AllByRecursion (λ m. m ≤ n) ls) (same_Some _ _ (sym all.stated ∙ is)) all.each
 
 -- one place of the object for another
-pub place_as : SizeLaws → (p q : objects.Place) → IsStated p → length p.lengths ≤ max_subfiles → IsStated q → SameNumbers p.stated q.stated → length p.lengths ≡ length q.lengths → sum p.lengths ≡ sum q.lengths → AreBounded q.stated q.lengths
+pub place_as : LowerLaws → (p q : objects.Place) → IsStated p → length p.lengths ≤ max_subfiles → IsStated q → SameNumbers p.stated q.stated → length p.lengths ≡ length q.lengths → sum p.lengths ≡ sum q.lengths → AreBounded q.stated q.lengths
     → p.ending ≡ q.ending → ObjectLives p → ObjectLives q
 place_as laws p q was few is same many total bounded ending lives =
     (possible_like laws p q (possible_of p was few lives) is.stated (stated_as p.stated q.stated same) many total (each_by q.stated q.lengths bounded) ending).alive
 
-pub bounded_after : OpenLaws → (ds : List Dataset) → SectionsLive ds → length (of_record 8 ds) ≤ max_subfiles → ObjectLives (place_after_datasets ds)
+pub bounded_after : LowerLaws → (ds : List Dataset) → SectionsLive ds → length (of_record 8 ds) ≤ max_subfiles → ObjectLives (place_after_datasets ds)
     → AreBounded (sevens ds) (eights ds)
 bounded_after laws ds alive few lives =
     let p = place_after_datasets ds in
     let count = count_of (of_record 8 ds) in
-    bounded_at laws.sizes p (possible_of p (stated_after_all laws.answer.follow.objects ds alive few) (omega (arith, few, count)) lives)
+    bounded_at laws p (possible_of p (stated_after_all laws ds alive few) (omega (arith, few, count)) lives)
 
-pub after_as : OpenLaws → (ds es : List Dataset) → SectionsLive ds → SectionsLive es → length (of_record 8 ds) ≤ max_subfiles → Twins ds es → ObjectLives (place_after_datasets ds) → ObjectLives (place_after_datasets es)
+pub after_as : LowerLaws → (ds es : List Dataset) → SectionsLive ds → SectionsLive es → length (of_record 8 ds) ≤ max_subfiles → Twins ds es → ObjectLives (place_after_datasets ds) → ObjectLives (place_after_datasets es)
 after_as laws ds es alive there few twins lives =
-    let objects = laws.answer.follow.objects in
     let count = count_of (of_record 8 ds) in
-    place_as laws.sizes (place_after_datasets ds) (place_after_datasets es) (stated_after_all objects ds alive few) (omega (arith, count, few))
-    (stated_after_all objects es there (few_as ds es twins few)) twins.numbers twins.heads twins.octets twins.bounded twins.ending lives
+    place_as laws (place_after_datasets ds) (place_after_datasets es) (stated_after_all laws ds alive few) (omega (arith, count, few))
+    (stated_after_all laws es there (few_as ds es twins few)) twins.numbers twins.heads twins.octets twins.bounded twins.ending lives
 
 nil_bounded : (ps : List Stated) (ls : List ℕ) → AreBounded (ps ++ []) ls → AreBounded ps ls
 nil_bounded ps ls bounded = subst (λ (qs : List Stated). AreBounded qs ls) (append-nil ps) bounded
@@ -240,11 +239,11 @@ nil_bounded ps ls bounded = subst (λ (qs : List Stated). AreBounded qs ls) (app
 one_more : (ls : List ℕ) (n most : ℕ) → length ls < most → length (ls ++ n ∷ []) ≤ most
 one_more ls n most less = let more = length-append ls (n ∷ []) in omega (arith, less, more)
 
-pub at_as : OpenLaws → (ds es : List Dataset) (h : Head) → SectionsLiveAt ds h → SectionsLiveAt es h → length (of_record 8 ds) ≤ max_subfiles → (h.rec ≡ 8 → length (of_record 8 ds) < max_subfiles) → Twins ds es
+pub at_as : LowerLaws → (ds es : List Dataset) (h : Head) → SectionsLiveAt ds h → SectionsLiveAt es h → length (of_record 8 ds) ≤ max_subfiles → (h.rec ≡ 8 → length (of_record 8 ds) < max_subfiles) → Twins ds es
     → ObjectLives (place_at ds h) → ObjectLives (place_at es h)
 at_as laws ds es h alive there few room twins =
-    by (nat_eq h.rec 8) (nat_eq h.rec 9) refl (stated_at laws.answer.follow.objects ds h alive few room)
-    (stated_at laws.answer.follow.objects es h there (few_as ds es twins few) (λ eight. less_as ds es twins (room eight)))
+    by (nat_eq h.rec 8) (nat_eq h.rec 9) refl (stated_at laws ds h alive few room)
+    (stated_at laws es h there (few_as ds es twins few) (λ eight. less_as ds es twins (room eight)))
   where
     count : length (eights ds) ≡ length (of_record 8 ds)
     count = count_of (of_record 8 ds)
@@ -258,17 +257,17 @@ at_as laws ds es h alive there few room twins =
         let q = objects.place_after (place_after_datasets es) (SubfileBegun h.count) in
         let less = room (eqb-true h.rec 8 eight) in
         let room' : length p.lengths ≤ max_subfiles = one_more (eights ds) h.count max_subfiles (omega (arith, less, count)) in
-        let here : AreBounded (sevens ds) (eights ds ++ h.count ∷ []) = bounded_at laws.sizes p (possible_of p was room' lives) in
+        let here : AreBounded (sevens ds) (eights ds ++ h.count ∷ []) = bounded_at laws p (possible_of p was room' lives) in
         let bounded : AreBounded (sevens es) (eights es ++ h.count ∷ []) =
         nil_bounded (sevens es) (eights es ++ h.count ∷ []) (bounded_on (sevens ds) (sevens es) [] (eights ds) (eights es) (h.count ∷ []) twins.numbers twins.heads twins.bounded
         (subst (λ (ps : List Stated). AreBounded ps (eights ds ++ h.count ∷ [])) (sym (append-nil (sevens ds))) here)) in
-        place_as laws.sizes p q was room' is twins.numbers
+        place_as laws p q was room' is twins.numbers
         (length-append (eights ds) (h.count ∷ []) ∙ ap (λ (n : ℕ). n + 1) twins.heads ∙ sym (length-append (eights es) (h.count ∷ [])))
         (sum_append (eights ds) (h.count ∷ []) ∙ ap (λ (n : ℕ). n + sum (h.count ∷ [])) twins.octets ∙ sym (sum_append (eights es) (h.count ∷ [])))
         bounded twins.ending lives
-    by false true eight was is lives = place_as laws.sizes (place_ended ds) (place_ended es) was (omega (arith, few, count)) is twins.numbers twins.heads twins.octets twins.bounded refl lives
+    by false true eight was is lives = place_as laws (place_ended ds) (place_ended es) was (omega (arith, few, count)) is twins.numbers twins.heads twins.octets twins.bounded refl lives
     by false false eight was is lives =
-        place_as laws.sizes (place_after_datasets ds) (place_after_datasets es) was (omega (arith, few, count)) is
+        place_as laws (place_after_datasets ds) (place_after_datasets es) was (omega (arith, few, count)) is
         twins.numbers twins.heads twins.octets twins.bounded twins.ending lives
 
 -- ---- every layer but the message
@@ -285,11 +284,11 @@ room_as limits ds es h twins room = record {
   subfiles = λ eight. less_as ds es twins (room.subfiles eight);
 }
 
-pub goes_as : OpenLaws → (limits : Limits) (ds es : List Dataset) → SectionsLive es → Twins ds es → CanContinue limits ds → CanContinue limits es
+pub goes_as : LowerLaws → (limits : Limits) (ds es : List Dataset) → SectionsLive es → Twins ds es → CanContinue limits ds → CanContinue limits es
 goes_as laws limits ds es there twins goes =
     record { records = there; within = within_as limits ds es twins goes.within; object = after_as laws ds es goes.records there goes.within.subfiles twins goes.object }
 
-pub goes_at_as : OpenLaws → (limits : Limits) (ds es : List Dataset) (h : Head) → SectionsLiveAt es h → Twins ds es → CanContinueAt limits ds h → CanContinueAt limits es h
+pub goes_at_as : LowerLaws → (limits : Limits) (ds es : List Dataset) (h : Head) → SectionsLiveAt es h → Twins ds es → CanContinueAt limits ds h → CanContinueAt limits es h
 goes_at_as laws limits ds es h there twins goes = record {
   records = there;
   within = within_as limits ds es twins goes.within;
@@ -297,7 +296,7 @@ goes_at_as laws limits ds es h there twins goes = record {
   object = at_as laws ds es h goes.records there goes.within.subfiles goes.room.subfiles twins goes.object;
 }
 
-pub may_as : OpenLaws → (limits : Limits) (ds es : List Dataset) (b : Begun) → SectionsLive es → section_after ds ≡ section_after es → Twins ds es
+pub may_as : LowerLaws → (limits : Limits) (ds es : List Dataset) (b : Begun) → SectionsLive es → section_after ds ≡ section_after es → Twins ds es
     → MayContinue limits ds b → MayContinue limits es b
 may_as laws limits ds es (InTag held) there present twins goes = goes_as laws limits ds es there twins goes
 may_as laws limits ds es (InData h taken) there present twins goes =
@@ -320,15 +319,14 @@ one_nine (d ∷ []) one tens = (number d.octets, refl, ap (λ (set : ℕ). cond 
 one_nine (d ∷ x ∷ xs) one tens = absurd (omega (arith, one))
 
 -- Where every layer can continue after datasets, of which the last is 9:10, they are those of an envelope.
-pub enveloped : OpenLaws → (limits : Limits) (octets : List ℕ) (ds : List Dataset) (head : Header) (text trailer : List ℕ) (lines : List (List ℕ))
+pub enveloped : LowerLaws → (limits : Limits) (octets : List ℕ) (ds : List Dataset) (head : Header) (text trailer : List ℕ) (lines : List (List ℕ))
     → SpellsStream count_octets ds octets → CanContinue limits ds → section_after ds ≡ 9 → IsMessage (object_of ds) head text trailer → IsText text lines
     → Enveloped limits octets ds head lines trailer
 enveloped laws limits octets ds head text trailer lines spelled goes nine message lined =
-    let follow = laws.answer.follow in
-    let stated = stated_after_all follow.objects ds goes.records goes.within.subfiles in
-    let one : length (of_record 9 ds) ≡ 1 = nines follow ds goes.records ∙ ap (λ (n : ℕ). cond (nat_eq n 9) 1 0) nine in
-    let (n, ending, confirmed) = one_nine (of_record 9 ds) one (tens_after laws.answer.numbers ds goes.records).1 in
-    let (s, have) = sizes_of laws.sizes (of_record 7 ds) (of_record 8 ds) (of_record 9 ds) n stated.stated stated.duties
+    let stated = stated_after_all laws ds goes.records goes.within.subfiles in
+    let one : length (of_record 9 ds) ≡ 1 = nines laws ds goes.records ∙ ap (λ (n : ℕ). cond (nat_eq n 9) 1 0) nine in
+    let (n, ending, confirmed) = one_nine (of_record 9 ds) one (tens_after laws.by_number ds goes.records).1 in
+    let (s, have) = sizes_of laws (of_record 7 ds) (of_record 8 ds) (of_record 9 ds) n stated.stated stated.duties
     (λ none. sym ending ∙ stated.subfiles none) (subst (Lives (sevens ds) (eights ds)) ending goes.object) confirmed in
     record {
       sizes = s;
@@ -337,7 +335,7 @@ enveloped laws limits octets ds head text trailer lines spelled goes nine messag
         admits = record {
           datasets = ds;
           spelled = spelled;
-          sections = last_sections follow.ends ds goes.records nine;
+          sections = last_sections laws.last_record ds goes.records nine;
           fields = refl;
           text = text;
           message = message;

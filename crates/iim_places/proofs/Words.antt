@@ -85,13 +85,12 @@ pub use Rattle.iim_places.specs.Format.Tickets.{ticket_name, ticket_of, wide}
 pub use Rattle.iim_places.specs.Format.Tokens.{CanContinue, CanContinueAt, DiesAtHead, DiesAtValue, HaveRoom, IsRefusedHead, IsRefusedValue, MayContinue}
 pub use Rattle.iim_places.specs.Format.Tokens.{ObjectLives, fault_at_head, fault_at_value, number_fault, object_fault, place_at, subfile_fault}
 pub use Rattle.iim_places.specs.Laws.Admitted.{AdmittedOctetsAreFramed, AdmittedOctetsHaveOneValue, NoAdmittedOctetsBeginOthers, NoEnvelopeIsEmpty}
-pub use Rattle.iim_places.specs.Laws.Lower.{AnswerLaws, ByLayersLaws, FeedLaws, FollowLaws, ObjectLaws, OpenLaws, PlaceLaws, SizeLaws}
+pub use Rattle.iim_places.specs.Laws.Lower.{LowerLaws}
 pub use Rattle.iim_places.specs.Laws.Places.{AreAlike, ContinueAlike, LimitsAreToldByPlace, OctetsHaveOnePlace, PlacesContinueAlike, PlacesRefuseAlike}
 pub use Rattle.iim_places.specs.Laws.Places.{PossiblePlacesAreTaken, PresentScaleSaysNothingMore, SmallPlacesWerePossible, TicketsTellOnePlace, present_scale}
 pub use Rattle.iim_places.specs.Laws.Streams.{EnvelopesAreBounded, LivingOctetsAreOpen, NothingContinuesFromRefusedOctets, OpenOctetsAreBounded}
 pub use Rattle.iim_places.specs.Laws.Streams.{OpenOctetsBeginWithNoEnvelope, RefusalsAreDetermined, RefusedOctetsWereOpen, StreamsHaveOneAnswer}
 pub use Rattle.iim_places.specs.Laws.Tickets.{OctetsHaveOneTicket, TicketsHaveOneSplit, TicketsOfPlacesAreSplit, split_of, texts_of}
-pub use Rattle.iim_places.specs.Onward.{OnwardLaws}
 pub use Rattle.iim_places.specs.Plain.{AreSpellable, IsPlain, ObjectsArePossibleAlike, PlainOctetsAreOpenOrWhole, PlainOctetsLeadToTheirPlace, begun_heads}
 pub use Rattle.iim_places.specs.Plain.{begun_object, plain_octets, plain_of, plain_place}
 pub use Rattle.iim_places.specs.States.Begins.{AreFields, AreNumbersIn, AreTexts, IsLongField, IsShort, IsSizeIn, IsWide}

@@ -11,6 +11,5 @@ pub mod FieldLaws
 pub mod TicketParts
 pub mod Plain
 pub mod Taking
-pub mod Onward
 pub mod Restoring
 pub mod Nowhere

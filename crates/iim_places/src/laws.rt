@@ -5,8 +5,7 @@ ghost use Rattle.iim_places.specs.Laws.Admitted.{AdmittedOctetsAreFramed, Admitt
 ghost use Rattle.iim_places.specs.Laws.Streams.{OpenOctetsAreBounded, EnvelopesAreBounded, NothingContinuesFromRefusedOctets, RefusalsAreDetermined, RefusedOctetsWereOpen, StreamsHaveOneAnswer, LivingOctetsAreOpen, OpenOctetsBeginWithNoEnvelope};
 ghost use Rattle.iim_places.specs.States.ByLayers.{PlacesArePossibleByLayers};
 ghost use Rattle.iim_places.specs.Laws.Places.{OctetsHaveOnePlace, PlacesContinueAlike, PlacesRefuseAlike, LimitsAreToldByPlace, PossiblePlacesAreTaken, PresentScaleSaysNothingMore, SmallPlacesWerePossible, TicketsTellOnePlace};
-ghost use Rattle.iim_places.specs.Laws.Lower.{AnswerLaws, ByLayersLaws, FeedLaws, ObjectLaws, OpenLaws, PlaceLaws, SizeLaws};
-ghost use Rattle.iim_places.specs.Onward.{OnwardLaws};
+ghost use Rattle.iim_places.specs.Laws.Lower.{LowerLaws};
 ghost use Rattle.iim_places.specs.Laws.Listing.{InputsHaveOneListing, ListingsAreLongest};
 ghost use Rattle.iim_places.specs.Laws.Tickets.{TicketsOfPlacesAreSplit, TicketsHaveOneSplit, OctetsHaveOneTicket};
 
@@ -36,88 +35,44 @@ use wire_story::laws::{
     texts_have_one_reading, texts_so_far_have_one_reading,
 };
 
-/// The laws by which datasets lead the object from place to place.
-pub fn object_laws()
-    ensures { ObjectLaws }
+/// The laws of the lower crates, as one record, on which those below and the proofs of the crates above rest.
+pub fn lower_laws()
+    ensures { LowerLaws }
 {
-    datasets_lead_from_place_to_place();
-}
-
-/// The laws by which an unpacker can continue.
-pub fn feed_laws()
-    ensures { FeedLaws }
-{
-    what_an_octet_completes();
-    octets_are_handed_on_one_way();
-    events_tell_the_datasets();
-    envelopes_end_with_the_last_record();
-    no_sections_begin_others();
-    readers_stand_at_living_octets();
-    records_are_by_number();
-}
-
-/// The laws by which a stream has one answer.
-fn answer_laws()
-    ensures { AnswerLaws }
-{
-    feed_laws();
     no_tag_begins_another();
     no_dataset_begins_another();
-    object_laws();
-    datasets_live_with_their_tokens();
-    number_datasets_are_good();
+    octets_are_handed_on_one_way();
+    events_tell_the_datasets();
+    what_an_octet_completes();
     no_octets_continue();
-    texts_so_far_have_one_reading();
-}
-
-/// The laws of how long the object layer lives.
-fn size_laws()
-    ensures { SizeLaws }
-{
+    canonical_streams_are_spelled();
+    no_sections_begin_others();
+    envelopes_end_with_the_last_record();
+    heads_die_with_their_fault();
+    heads_tell_the_lowest_cause();
+    values_die_with_their_fault();
+    values_tell_the_lowest_cause();
+    datasets_lead_from_place_to_place();
+    datasets_live_with_their_tokens();
+    records_are_by_number();
+    number_datasets_are_good();
     numbers_live_without_clash();
     subfiles_live_while_they_fit();
     objects_end_where_they_are_whole();
     totals_are_confirmed();
-}
-
-/// The laws by which plain octets are open.
-fn open_laws()
-    ensures { OpenLaws }
-{
-    answer_laws();
-    size_laws();
-    canonical_streams_are_spelled();
-}
-
-/// The laws by which one place has one unpacker.
-pub fn place_laws()
-    ensures { PlaceLaws }
-{
-    answer_laws();
+    causes_are_the_first();
+    texts_so_far_have_one_reading();
+    stories_live_as_texts_so_far();
+    stories_end_as_texts();
+    texts_end_in_no_return();
     texts_stand_between_stx_and_etx();
-    octets_lead_to_one_place();
-    places_are_saved_apart();
-    values_die_with_their_fault();
-}
-
-/// The laws by which a place is possible where each layer can be there.
-pub fn by_layers_laws()
-    ensures { ByLayersLaws }
-{
-    open_laws();
-    messages_end_after_eot();
-}
-
-/// The laws by which octets of one place continue alike.
-fn onward_laws()
-    ensures { OnwardLaws }
-{
-    open_laws();
-    place_laws();
+    readers_stand_at_living_octets();
     living_octets_lead_on();
     octets_lead_on_alike();
-    messages_end_after_eot();
     octets_are_refused_alike();
+    octets_lead_to_one_place();
+    places_are_saved_apart();
+    messages_end_after_eot();
 }
 
 /// No envelope is empty.
@@ -162,7 +117,7 @@ pub fn open_octets_begin_with_no_envelope()
 pub fn living_octets_are_open()
     ensures { LivingOctetsAreOpen }
 {
-    onward_laws();
+    lower_laws();
     let _start = MessageReader::new();
 }
 
@@ -178,7 +133,7 @@ pub fn open_octets_are_bounded()
 pub fn envelopes_are_bounded()
     ensures { EnvelopesAreBounded }
 {
-    answer_laws();
+    lower_laws();
 }
 
 /// Octets of which the next one is refused are open.
@@ -190,7 +145,7 @@ pub fn refused_octets_were_open()
 pub fn nothing_continues_from_refused_octets()
     ensures { NothingContinuesFromRefusedOctets }
 {
-    answer_laws();
+    lower_laws();
     refusals_tell_the_lowest_cause();
 }
 
@@ -198,7 +153,7 @@ pub fn nothing_continues_from_refused_octets()
 pub fn refusals_are_determined()
     ensures { RefusalsAreDetermined }
 {
-    answer_laws();
+    lower_laws();
     refusals_tell_the_lowest_cause();
 }
 
@@ -207,22 +162,14 @@ pub fn refusals_are_determined()
 pub fn refusals_tell_the_lowest_cause()
     ensures { RefusalsTellTheLowestCause }
 {
-    answer_laws();
-    heads_die_with_their_fault();
-    heads_tell_the_lowest_cause();
-    values_die_with_their_fault();
-    values_tell_the_lowest_cause();
-    causes_are_the_first();
-    stories_live_as_texts_so_far();
-    stories_end_as_texts();
-    texts_end_in_no_return();
+    lower_laws();
 }
 
 /// A stream has one answer at most: one envelope that it begins with, or one refusal, or one place where it is truncated.
 pub fn streams_have_one_answer()
     ensures { StreamsHaveOneAnswer }
 {
-    answer_laws();
+    lower_laws();
     refusals_tell_the_lowest_cause();
     admitted_octets_have_one_value();
     no_admitted_octets_begin_others();
@@ -256,7 +203,7 @@ pub fn octets_have_one_ticket()
 pub fn octets_have_one_place()
     ensures { OctetsHaveOnePlace }
 {
-    onward_laws();
+    lower_laws();
     let _start = MessageReader::new();
 }
 
@@ -269,7 +216,7 @@ pub fn tickets_have_one_split()
 pub fn tickets_of_places_are_split()
     ensures { TicketsOfPlacesAreSplit }
 {
-    answer_laws();
+    lower_laws();
     small_places_were_possible();
 }
 
@@ -277,7 +224,7 @@ pub fn tickets_of_places_are_split()
 pub fn tickets_tell_one_place()
     ensures { TicketsTellOnePlace }
 {
-    answer_laws();
+    lower_laws();
     small_places_were_possible();
 }
 
@@ -294,14 +241,14 @@ pub fn possible_places_are_taken()
 pub fn places_are_possible_by_layers()
     ensures { PlacesArePossibleByLayers }
 {
-    by_layers_laws();
+    lower_laws();
 }
 
 /// Whether octets keep to limits is told by their place: by the heads of records 1 and 2 that it tells, a begun one among them.
 pub fn limits_are_told_by_place()
     ensures { LimitsAreToldByPlace }
 {
-    answer_laws();
+    lower_laws();
 }
 
 /// Octets that lead to one place, each open or an envelope, have the same continuations: the same open ones, the same envelopes with
@@ -309,7 +256,7 @@ pub fn limits_are_told_by_place()
 pub fn places_continue_alike()
     ensures { PlacesContinueAlike }
 {
-    onward_laws();
+    lower_laws();
     open_octets_begin_with_no_envelope();
     no_admitted_octets_begin_others();
 }
@@ -319,7 +266,7 @@ pub fn places_continue_alike()
 pub fn places_refuse_alike()
     ensures { PlacesRefuseAlike }
 {
-    onward_laws();
+    lower_laws();
     refusals_tell_the_lowest_cause();
     open_octets_begin_with_no_envelope();
     refused_octets_were_open();
@@ -329,7 +276,7 @@ pub fn places_refuse_alike()
 pub fn small_places_were_possible()
     ensures { SmallPlacesWerePossible }
 {
-    open_laws();
+    lower_laws();
     places_live_within();
     limits_are_told_by_place();
 }

@@ -32,7 +32,7 @@ use Rattle.iim_places.specs.Format.Open.{object_so_far, section, AllCanContinue}
 use Rattle.iim_unpack.specs.States.Parts.{AreAfter, Within, StandsFor, AreLed, CountsFor}
 use Rattle.iim_unpack.specs.PartSteps.{TellsParts, PartsRefuse}
 use Rattle.iim_unpack.specs.declared.parts.Parts.{Parts}
-use Rattle.iim_unpack.specs.PartLaws.{MessageLaws}
+use Rattle.iim_places.specs.Laws.Lower.{LowerLaws}
 use Rattle.iim_places.proofs.Lasts.{not_all}
 use Rattle.iim_unpack.proofs.Sequences.{data_more}
 use Rattle.iim_places.proofs.ObjectOctets.{lives_whole}
@@ -187,7 +187,7 @@ object_more ds h taken run eight =
     let yes : nat_eq h.rec 8 ≡ true = is_eight h.rec eight in
     ap (λ (b : Bool). (object_of ds ++ cond b taken []) ++ run) yes ∙ append_assoc (object_of ds) taken run ∙ sym (ap (λ (b : Bool). object_of ds ++ cond b (taken ++ run) []) yes)
 
-pub tells_parts_object : {S : Type 0} (goes : S → List story.StoryEvent → S → Type 0) (failures : S → ℕ) (p : Parts) (a b : S) (run : List ℕ) (message : Option Place) → MessageLaws → (k : Head) → HasBegun p k → k.rec ≡ 8
+pub tells_parts_object : {S : Type 0} (goes : S → List story.StoryEvent → S → Type 0) (failures : S → ℕ) (p : Parts) (a b : S) (run : List ℕ) (message : Option Place) → LowerLaws → (k : Head) → HasBegun p k → k.rec ≡ 8
     → Octets run → TellsMessage goes failures p.message a (map object_events.ObjectOctet run) message b
     → TellsParts goes failures p a (map DataOctet run) (record p { message = message }) b
 tells_parts_object goes failures p a b run message laws k begun eight octets passed = record {
@@ -225,7 +225,7 @@ pub counts_for : (cause : MessageCause) (m n : ℕ) → wire.CountsCause m n cau
 counts_for messages.BadOctet m n h = h
 counts_for other m n h = h
 
-pub stopped_object : {S : Type 0} (goes : S → List story.StoryEvent → S → Type 0) (failures : S → ℕ) (p : Parts) (a b : S) (front : List ℕ) (octet : ℕ) (cause : MessageCause) → MessageLaws → (k : Head) → HasBegun p k → k.rec ≡ 8
+pub stopped_object : {S : Type 0} (goes : S → List story.StoryEvent → S → Type 0) (failures : S → ℕ) (p : Parts) (a b : S) (front : List ℕ) (octet : ℕ) (cause : MessageCause) → LowerLaws → (k : Head) → HasBegun p k → k.rec ≡ 8
     → MessageRefuses goes failures (p.message, a) (map object_events.ObjectOctet front) (object_events.ObjectOctet octet) (Some cause, b)
     → PartsRefuse goes failures (p, a) (map DataOctet front) (DataOctet octet) (Some (message_on k cause), b)
 stopped_object goes failures p a b front octet cause laws k begun eight halted =

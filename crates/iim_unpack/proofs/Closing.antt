@@ -36,7 +36,7 @@ use Rattle.iim_unpack.proofs.Carrying.{HasBegun, in_one, same_head, all_within}
 use Rattle.iim_unpack.proofs.Sequences.{end_told, all_came}
 use Rattle.iim_unpack.proofs.Heading.{quiet_field, counts_size}
 use Rattle.iim_places.proofs.Lasts.{not_all}
-use Rattle.iim_unpack.specs.PartLaws.{CloseLaws}
+use Rattle.iim_places.specs.Laws.Lower.{LowerLaws}
 use Rattle.iim_places.proofs.ObjectOctets.{object_of_more, few_more}
 
 -- ---- numbers
@@ -102,7 +102,7 @@ abbrev pub ClosesFields : FieldsPlace → FieldsPlace → Option ℕ → Type 0
 ClosesFields old new told = (ds : List Dataset) (h : Head) (taken : List ℕ) → records.StandsIn old ds h taken → (d : Dataset) → IsOf h taken d
     → records.StandsAfter new (ds ++ d ∷ []) × (told ≡ number_told d)
 
-pub closed_number : CloseLaws → (p new : Parts) (n : ℕ) (k : Head) → HasBegun p k → limits_of new.fields ≡ limits_of p.fields → ClosesFields p.fields new.fields (Some n)
+pub closed_number : LowerLaws → (p new : Parts) (n : ℕ) (k : Head) → HasBegun p k → limits_of new.fields ≡ limits_of p.fields → ClosesFields p.fields new.fields (Some n)
     → objects.LeadsOn p.object (value_token k.rec k.set n) new.object → new.message ≡ p.message → Closed p new
 closed_number laws p new n k begun same closes goes message =
     closed_by p new k begun same message
@@ -110,7 +110,7 @@ closed_number laws p new n k begun same closes goes message =
     let d : Dataset = data_of h taken in
     let both = closes ds h (if nat_eq h.rec 8 then [] else taken) at.fields d (is_of ds p h taken at whole) in
     let tells = number_tells d n both.1 in
-    let leads = number_leads laws.objects ds d both.0.alive tells.0 in
+    let leads = number_leads laws ds d both.0.alive tells.0 in
     let head : head_of d ≡ h = λ i. record { rec = h.rec; set = h.set; count = whole i } in
     let goes_d : objects.LeadsOn p.object (value_token d.rec d.set (number d.octets)) new.object =
     subst (λ (m : ℕ). objects.LeadsOn p.object (value_token d.rec d.set m) new.object) tells.1 (subst (λ (x : Head). objects.LeadsOn p.object (value_token x.rec x.set n) new.object) (same_head p k ds h taken begun at) goes) in
@@ -119,7 +119,7 @@ closed_number laws p new n k begun same closes goes message =
       object = subst (objects.StandsAt new.object) leads.1 (goes_d (place_at ds (head_of d)) (subst (λ (k : Head). objects.StandsAt p.object (place_at ds k)) (sym head) at.object) leads.0);
     })
 
-pub closed_silent : CloseLaws → (p : Parts) (checker : FieldsPlace) (k : Head) → HasBegun p k → limits_of checker ≡ limits_of p.fields → ClosesFields p.fields checker None → Closed p (record p { fields = checker })
+pub closed_silent : LowerLaws → (p : Parts) (checker : FieldsPlace) (k : Head) → HasBegun p k → limits_of checker ≡ limits_of p.fields → ClosesFields p.fields checker None → Closed p (record p { fields = checker })
 closed_silent laws p checker k begun same closes =
     closed_by p (record p { fields = checker }) k begun same refl
     (λ ds h taken at whole.
@@ -127,7 +127,7 @@ closed_silent laws p checker k begun same closes =
     let both = closes ds h (if nat_eq h.rec 8 then [] else taken) at.fields d (is_of ds p h taken at whole) in
     let silent = silent_by d (tells_number d.rec) refl both.1 in
     let head : head_of d ≡ h = λ i. record { rec = h.rec; set = h.set; count = whole i } in
-    let leads = silent_leads laws.objects ds d both.0.alive silent at.room in
+    let leads = silent_leads laws ds d both.0.alive silent at.room in
     record {
       fields = both.0;
       object = subst (objects.StandsAt p.object) leads (subst (λ (k : Head). objects.StandsAt p.object (place_at ds k)) (sym head) at.object);
@@ -169,7 +169,7 @@ not_closed_field living sections p f k begun is =
     let apart : nat_eq h.rec 8 ≡ false = elim (eqb_tells h.rec 8) [ inl same ↦ absurd (given.value same.1) | inr other ↦ other.0 ] in
     (given.value, field_value ds (data_of h taken) f (subst (λ (xs : List ℕ). IsValueFault ds (data_of h xs) f) (ap (λ (b : Bool). cond b [] taken) apart) given)))
 
-pub not_closed_number : CloseLaws → (p : Parts) (checker : FieldsPlace) (n : ℕ) (fault : TokenFault) (k : Head) → HasBegun p k → ClosesFields p.fields checker (Some n)
+pub not_closed_number : LowerLaws → (p : Parts) (checker : FieldsPlace) (n : ℕ) (fault : TokenFault) (k : Head) → HasBegun p k → ClosesFields p.fields checker (Some n)
     → IsObjectFault p.object (value_token k.rec k.set n) k fault → NotClosed p fault
 not_closed_number laws p checker n fault k begun closes bad =
     not_closed_by p fault laws.living laws.sections k begun
@@ -180,7 +180,7 @@ not_closed_number laws p checker n fault k begun closes bad =
     let tells = number_tells d n both.1 in
     let head : head_of d ≡ h = λ i. record { rec = h.rec; set = h.set; count = whole i } in (
       not_subfile h.rec tells.0,
-      object_value laws.values laws.objects.tokens ds d fault p.object at.octets (subst (SectionsLiveAt ds) (sym head) at.fields.alive) both.0.alive tells.0 (number_leads laws.objects ds d both.0.alive tells.0)
+      object_value laws.values_die laws.tokens ds d fault p.object at.octets (subst (SectionsLiveAt ds) (sym head) at.fields.alive) both.0.alive tells.0 (number_leads laws ds d both.0.alive tells.0)
           (subst (λ (k : Head). objects.StandsAt p.object (place_at ds k)) (sym head) at.object)
           (subst (λ (m : ℕ). IsObjectFault p.object (value_token d.rec d.set m) (head_of d) fault) tells.1
           (subst (λ (x : Head). IsObjectFault p.object (value_token x.rec x.set n) x fault) (same_head p k ds h taken begun at ∙ sym head) bad)),

@@ -59,7 +59,7 @@ use Rattle.iim_places.proofs.Lasts.{sections_last, last_sections, not_all}
 use Rattle.iim_unpack.proofs.Ended.{ended_by_record, unended_inside}
 use Rattle.iim_unpack.proofs.Sequences.{handed_in_order}
 use Rattle.iim_places.specs.Laws.Conditions.{RefusalsTellTheLowestCause}
-use Rattle.iim_places.specs.Laws.Lower.{FeedLaws}
+use Rattle.iim_places.specs.Laws.Lower.{LowerLaws}
 use Rattle.iim_places.proofs.ObjectOctets.{no_object}
 
 -- ---- begun datasets that are told alike
@@ -102,10 +102,10 @@ all_for : ReadersStandAtLivingOctets → (parts : Parts) (ds : List Dataset) (b 
 all_for living parts ds (InTag held) at = all_after living parts ds held at
 all_for living parts ds (InData h taken) at = all_within living parts ds h taken at
 
-pub both : FeedLaws → (parts : Parts) (p : List ℕ) (events : List DatasetEvent) (text : List ℕ) (place : Place) → (leads : LeadsTo count_octets p events place) → AreLed parts events text
+pub both : LowerLaws → (parts : Parts) (p : List ℕ) (events : List DatasetEvent) (text : List ℕ) (place : Place) → (leads : LeadsTo count_octets p events place) → AreLed parts events text
     → Both (limits_of parts.fields) p leads.begun text parts
 both laws parts p events text place leads led =
-    let told = laws.tell leads.hands.whole led.whole leads.begun led.begun (sym leads.hands.handed ∙ led.told) in
+    let told = laws.events_tell leads.hands.whole led.whole leads.begun led.begun (sym leads.hands.handed ∙ led.told) in
     let all : AllCanContinue (limits_of parts.fields) leads.hands.whole led.begun =
     subst (λ (ds : List Dataset). AllCanContinue (limits_of parts.fields) ds led.begun) (sym told.0) (all_for laws.living parts led.whole led.begun led.stands) in
     record {
@@ -119,26 +119,26 @@ both laws parts p events text place leads led =
       same = told.0;
     }
 
-pub text_of : FeedLaws → (parts : Parts) (p : List ℕ) (events : List DatasetEvent) (text : List ℕ) (place : Place) → LeadsTo count_octets p events place → AreLed parts events text → IsTextOf p text
+pub text_of : LowerLaws → (parts : Parts) (p : List ℕ) (events : List DatasetEvent) (text : List ℕ) (place : Place) → LeadsTo count_octets p events place → AreLed parts events text → IsTextOf p text
 text_of laws parts p events text place leads led = let b = both laws parts p events text place leads led in (b.whole, leads.begun, b.reads, b.text_is)
 
 -- octets have one text
-pub one_text : FeedLaws → (p x y : List ℕ) → IsTextOf p x → IsTextOf p y → x ≡ y
+pub one_text : LowerLaws → (p x y : List ℕ) → IsTextOf p x → IsTextOf p y → x ≡ y
 one_text laws p x y (ds, b, reads, is) (es, c, other, that) =
     let hands : HandsOn count_octets p (handed_on ds b) b = record { whole = ds; reads = reads; handed = refl } in
     let gives : HandsOn count_octets p (handed_on es c) c = record { whole = es; reads = other; handed = refl } in
-    let way = laws.way p (handed_on ds b) (handed_on es c) b c hands gives in
-    let told = laws.tell ds es b c way.0 in
+    let way = laws.one_way p (handed_on ds b) (handed_on es c) b c hands gives in
+    let told = laws.events_tell ds es b c way.0 in
     is ∙ ap text_so_far (ap (λ (xs : List Dataset). object_so_far xs b) told.0 ∙ ap (object_so_far es) way.1) ∙ sym that
 
 -- not yet an envelope
-unfinished : FeedLaws → (parts : Parts) (ds : List Dataset) (b : Begun) → StandsFor parts ds b → has_ended parts ≡ false → AreSections ds → ⊥
+unfinished : LowerLaws → (parts : Parts) (ds : List Dataset) (b : Begun) → StandsFor parts ds b → has_ended parts ≡ false → AreSections ds → ⊥
 unfinished laws parts ds (InTag held) at more sections =
-    let nine = sections_last laws.ends ds at.fields.alive sections in
+    let nine = sections_last laws.last_record ds at.fields.alive sections in
     true≢false (sym (ap (λ n. nat_eq n 9) nine) ∙ sym (ended_by_record parts ds at.fields) ∙ more)
 unfinished laws parts ds (InData h taken) at more sections = not_all laws.sections ds h at.fields.alive sections
 
-pub open_by : FeedLaws → (parts : Parts) (p : List ℕ) (events : List DatasetEvent) (text : List ℕ) (place : Place) → LeadsTo count_octets p events place → AreLed parts events text → has_ended parts ≡ false → IsOpen (limits_of parts.fields) p
+pub open_by : LowerLaws → (parts : Parts) (p : List ℕ) (events : List DatasetEvent) (text : List ℕ) (place : Place) → LeadsTo count_octets p events place → AreLed parts events text → has_ended parts ≡ false → IsOpen (limits_of parts.fields) p
 open_by laws parts p events text place leads led more =
     let b = both laws parts p events text place leads led in
     record {
@@ -165,7 +165,7 @@ tells_parts_on : {S : Type 0} (goes : S → List story.StoryEvent → S → Type
 tells_parts_on goes failures old was p octets place q a b advanced events text leads led =
     let next = advanced.brings p events leads in advanced.went.leads events text (handed_in_order (p ++ octets) (events ++ advanced.more) next.begun next.hands) led
 
-pub adds_by : {S : Type 0} (goes : S → List story.StoryEvent → S → Type 0) (failures : S → ℕ) → FeedLaws → (u v : Unpacking) (p octets : List ℕ) (place : Place) (q : Parts) (a b : S)
+pub adds_by : {S : Type 0} (goes : S → List story.StoryEvent → S → Type 0) (failures : S → ℕ) → LowerLaws → (u v : Unpacking) (p octets : List ℕ) (place : Place) (q : Parts) (a b : S)
     → (advanced : Advanced goes failures u.reader.place octets place u.parts a q b) → IsLed u p → Delivers p octets (story.delivered advanced.went.more)
 adds_by goes failures laws u v p octets place q a b advanced led text is =
     let same = one_text laws p text led.text is (text_of laws u.parts p led.events led.text u.reader.place led.leads led.led) in (
@@ -188,7 +188,7 @@ begun_on : (u v : Bool) (p piece : List ℕ) → u ≡ are_some p → v ≡ begi
 begun_on u v [] piece was is = rw was at is
 begun_on u v (x ∷ p) piece was is = rw was at is
 
-pub goes_more : {S : Type 0} (goes : S → List story.StoryEvent → S → Type 0) (failures : S → ℕ) → FeedLaws → (u v : Unpacking) (piece : List ℕ) (used : ℕ) (a b : S)
+pub goes_more : {S : Type 0} (goes : S → List story.StoryEvent → S → Type 0) (failures : S → ℕ) → LowerLaws → (u v : Unpacking) (piece : List ℕ) (used : ℕ) (a b : S)
     → (advanced : Advanced goes failures u.reader.place (take used piece) v.reader.place u.parts a v.parts b) → IsOnward v.reader.place v.parts (length piece) used
     → v.refused ≡ u.refused → has_ended v.parts ≡ false → v.octets ≡ raised u.octets used → v.begun ≡ begins u.begun piece
     → (p : List ℕ) (n : ℕ) → Stands u p n → Stands v (p ++ piece) (raised n (length piece)) × Delivers p piece (story.delivered advanced.went.more)
@@ -243,10 +243,10 @@ at_end v events text last led = by led.begun led.stands led.told
     by (InTag held) after told = record { ds = led.whole; held = held; after = after; told = told }
     by (InData h taken) at told = absurd (true≢false (sym last ∙ unended_inside v.parts h at.fields.inside.0 at.fields.inside.1))
 
-pub whole_parts : FeedLaws → (v : Unpacking) (p : List ℕ) → has_ended v.parts ≡ true → v.reader.place ≡ between → IsLed v p → WholeParts v p
+pub whole_parts : LowerLaws → (v : Unpacking) (p : List ℕ) → has_ended v.parts ≡ true → v.reader.place ≡ between → IsLed v p → WholeParts v p
 whole_parts laws v p last place led =
     let at = at_end v led.events led.text last led.led in
-    let same = (laws.tell at.ds led.leads.hands.whole (InTag at.held) led.leads.begun (sym at.told ∙ led.leads.hands.handed)).0 in
+    let same = (laws.events_tell at.ds led.leads.hands.whole (InTag at.held) led.leads.begun (sym at.told ∙ led.leads.hands.handed)).0 in
     let after = at.after in
     let nine : section_after at.ds ≡ 9 = eqb-true (section_after at.ds) 9 (sym (ended_by_record v.parts at.ds after.fields) ∙ last) in
     let (head, is, message, (lines, lined)) = after.ended nine (object_of at.ds) (text_so_far (object_of at.ds)) after.message in
@@ -255,7 +255,7 @@ whole_parts laws v p last place led =
       after = after;
       stream = subst (λ (ds : List Dataset). SpellsStream count_octets ds p) (sym same)
           (stream_of p led.leads.hands.whole led.leads.begun led.leads.hands.reads (subst (λ (x : Place). IsKeptAs x led.leads.begun) place led.leads.keeps));
-      sections = last_sections laws.ends at.ds after.fields.alive nine;
+      sections = last_sections laws.last_record at.ds after.fields.alive nine;
       head = head;
       head_is = is;
       message = message;
@@ -267,20 +267,20 @@ whole_parts laws v p last place led =
 abbrev pub TellsSizes : Unpacking → Sizes → Type 0
 TellsSizes v s = (ds : List Dataset) (r : AreObjectRecords ds) → objects.StandsAt v.parts.object (place_after_datasets ds) → HaveSizes r.r7 r.r8 r.r9 s
 
-admits_by : FeedLaws → (v : Unpacking) (p : List ℕ) (s : Sizes) → (w : WholeParts v p) → TellsSizes v s
+admits_by : LowerLaws → (v : Unpacking) (p : List ℕ) (s : Sizes) → (w : WholeParts v p) → TellsSizes v s
     → Admits p (record { fields = kept_of w.ds; head = w.head; lines = w.lines; trailer = wire.trailer_read v.parts.message; sizes = s })
 admits_by laws v p s w sizes =
     let r = are_records w.ds w.sections in
-    let by = laws.numbers w.ds r in
+    let by = laws.by_number w.ds r in
     let have = sizes w.ds r w.after.object in
     let have' : HaveSizes (of_record 7 w.ds) (of_record 8 w.ds) (of_record 9 w.ds) s = rw (by.sevens, by.eights, by.nines) have in
     record { datasets = w.ds; spelled = w.stream; sections = w.sections; fields = refl; text = text_so_far (object_of w.ds); message = w.message; lines = w.lined; sizes = have' }
 
-pub done_by : FeedLaws → (v : Unpacking) (p : List ℕ) (n : ℕ) (s : Sizes) → v.refused ≡ None → HasEnded v.parts → v.reader.place ≡ between → v.octets ≡ n → IsLed v p → TellsSizes v s → IsDoneWith v p n
+pub done_by : LowerLaws → (v : Unpacking) (p : List ℕ) (n : ℕ) (s : Sizes) → v.refused ≡ None → HasEnded v.parts → v.reader.place ≡ between → v.octets ≡ n → IsLed v p → TellsSizes v s → IsDoneWith v p n
 done_by laws v p n s taking ended place counts led sizes =
     let w = whole_parts laws v p ended.last place led in
     let r = are_records w.ds w.sections in
-    let by = laws.numbers w.ds r in
+    let by = laws.by_number w.ds r in
     let have = sizes w.ds r w.after.object in
     let have' : HaveSizes (of_record 7 w.ds) (of_record 8 w.ds) (of_record 9 w.ds) s = rw (by.sevens, by.eights, by.nines) have in
     record {
@@ -295,7 +295,7 @@ done_by laws v p n s taking ended place counts led sizes =
     }
 
 -- the value is handed over
-pub tells_value : FeedLaws → AdmittedOctetsHaveOneValue → (u : Unpacking) (p : List ℕ) (n : ℕ) (fields : List Dataset) (head : Header) (trailer : List ℕ) (sizes : Sizes) → IsDoneWith u p n
+pub tells_value : LowerLaws → AdmittedOctetsHaveOneValue → (u : Unpacking) (p : List ℕ) (n : ℕ) (fields : List Dataset) (head : Header) (trailer : List ℕ) (sizes : Sizes) → IsDoneWith u p n
     → wire.head_read u.parts.message ≡ Some head → trailer ≡ wire.trailer_read u.parts.message → TellsSizes u sizes → ((ds : List Dataset) → StandsAfter u.parts.fields ds → fields ≡ kept_of ds)
     → (v : Value) → Admits p v → (fields ≡ v.fields) × (head ≡ v.head) × (trailer ≡ v.trailer) × (sizes ≡ v.sizes)
 tells_value laws one u p n fields head trailer sizes at head_is trailer_is sizes_are envelope v admits =
@@ -311,14 +311,14 @@ tells_value laws one u p n fields head trailer sizes at head_is trailer_is sizes
     some-same : {x y : Header} → Some x ≡ Some y → x ≡ y
     some-same h = cc
 
-pub hands_over : FeedLaws → AdmittedOctetsHaveOneValue → (u : Unpacking) (p : List ℕ) (n : ℕ) (got : Unpacked) → IsDoneWith u p n → wire.head_read u.parts.message ≡ Some got.head
+pub hands_over : LowerLaws → AdmittedOctetsHaveOneValue → (u : Unpacking) (p : List ℕ) (n : ℕ) (got : Unpacked) → IsDoneWith u p n → wire.head_read u.parts.message ≡ Some got.head
     → got.trailer.items ≡ wire.trailer_read u.parts.message → TellsSizes u got.sizes → ((ds : List Dataset) → StandsAfter u.parts.fields ds → got.envelope ≡ kept_of ds)
     → (v : Value) → Admits p v → HasParts got v
 hands_over laws one u p n got at head trailer sizes envelope v admits =
     let told = tells_value laws one u p n got.envelope got.head got.trailer.items got.sizes at head trailer sizes envelope v admits in
     record { fields = told.0; head = told.1; trailer = told.2; sizes = told.3 }
 
-pub shows : FeedLaws → AdmittedOctetsHaveOneValue → (u : Unpacking) (p : List ℕ) (n : ℕ) (got : UnpackedRef) → IsDoneWith u p n → wire.head_read u.parts.message ≡ Some got.head.now
+pub shows : LowerLaws → AdmittedOctetsHaveOneValue → (u : Unpacking) (p : List ℕ) (n : ℕ) (got : UnpackedRef) → IsDoneWith u p n → wire.head_read u.parts.message ≡ Some got.head.now
     → got.trailer.now ≡ wire.trailer_read u.parts.message → TellsSizes u got.sizes → ((ds : List Dataset) → StandsAfter u.parts.fields ds → got.envelope ≡ kept_of ds)
     → (v : Value) → Admits p v → ShowsParts got v
 shows laws one u p n got at head trailer sizes envelope v admits =
@@ -326,10 +326,10 @@ shows laws one u p n got at head trailer sizes envelope v admits =
     record { fields = told.0; head = told.1; trailer = told.2; sizes = told.3 }
 
 -- there is a header
-pub has_head : FeedLaws → (u : Unpacking) (p : List ℕ) (n : ℕ) → IsDoneWith u p n → wire.head_read u.parts.message ≡ None → ⊥
+pub has_head : LowerLaws → (u : Unpacking) (p : List ℕ) (n : ℕ) → IsDoneWith u p n → wire.head_read u.parts.message ≡ None → ⊥
 has_head laws u p n at none = let w = whole_parts laws u p at.ended at.place at.is_led in let bad : None ≡ Some w.head = sym none ∙ w.head_is in cc
 
-pub goes_done : {S : Type 0} (goes : S → List story.StoryEvent → S → Type 0) (failures : S → ℕ) → FeedLaws → (u v : Unpacking) (piece : List ℕ) (used : ℕ) (a b : S) (s : Sizes)
+pub goes_done : {S : Type 0} (goes : S → List story.StoryEvent → S → Type 0) (failures : S → ℕ) → LowerLaws → (u v : Unpacking) (piece : List ℕ) (used : ℕ) (a b : S) (s : Sizes)
     → (advanced : Advanced goes failures u.reader.place (take used piece) v.reader.place u.parts a v.parts b) → IsOnward v.reader.place v.parts (length piece) used
     → v.refused ≡ u.refused → has_ended v.parts ≡ true → v.octets ≡ raised u.octets used → used ≤ length piece
     → ((ds : List Dataset) (r : AreObjectRecords ds) → objects.StandsAt v.parts.object (place_after_datasets ds) → HaveSizes r.r7 r.r8 r.r9 s)
@@ -361,7 +361,7 @@ kept_tag : (held : List ℕ) (begun : Begun) → IsKeptAs (Tag (record { items =
 kept_tag held (InTag octets) keeps = ap InTag (sym keeps)
 kept_tag held (InData h taken) keeps = absurd keeps
 
-bad_tag : FeedLaws → (limits : Limits) (parts : Parts) (p : List ℕ) (events : List DatasetEvent) (text : List ℕ) (place : Place) (next : ℕ) (cause : HeadCause) (fault : TokenFault) → limits_of parts.fields ≡ limits
+bad_tag : LowerLaws → (limits : Limits) (parts : Parts) (p : List ℕ) (events : List DatasetEvent) (text : List ℕ) (place : Place) (next : ℕ) (cause : HeadCause) (fault : TokenFault) → limits_of parts.fields ≡ limits
     → LeadsTo count_octets p events place → AreLed parts events text → has_ended parts ≡ false → TagDies place next cause → fault ≡ tag_fault (named_by place) cause → IsBadTagAt limits p next fault
 bad_tag laws limits parts p events text place next cause fault same leads led more dies is =
     let b = both laws parts p events text place leads led in
@@ -382,9 +382,9 @@ record Told (limits : Limits) (octets text : List ℕ) (next : ℕ) (fault : Tok
   pub text_is : IsTextOf octets text
   pub refuses : RefusesByTests limits octets next fault
 
-head_refused : FeedLaws → (limits : Limits) (octets : List ℕ) (next : ℕ) (events : List DatasetEvent) (text : List ℕ) (h : Head) (fault : TokenFault) → CompletesHead octets next events h
+head_refused : LowerLaws → (limits : Limits) (octets : List ℕ) (next : ℕ) (events : List DatasetEvent) (text : List ℕ) (h : Head) (fault : TokenFault) → CompletesHead octets next events h
     → Refused limits events text (HeadRead h) fault → Told limits octets text next fault
-head_refused laws limits octets next events text h fault c r = by r.begun r.refuses (laws.tell r.whole c.whole r.begun (InTag c.held) (sym r.told ∙ c.told))
+head_refused laws limits octets next events text h fault c r = by r.begun r.refuses (laws.events_tell r.whole c.whole r.begun (InTag c.held) (sym r.told ∙ c.told))
   where
     by : (b : Begun) → RefusesAt limits r.whole b (HeadRead h) fault → (r.whole ≡ c.whole) × (begun_data r.begun ≡ None) → Told limits octets text next fault
     by (InTag held) refuses told = record {
@@ -402,9 +402,9 @@ head_refused laws limits octets next events text h fault c r = by r.begun r.refu
     }
     by (InData k taken) refuses told = absurd refuses
 
-octet_refused : FeedLaws → (limits : Limits) (octets : List ℕ) (next : ℕ) (events : List DatasetEvent) (text : List ℕ) (fault : TokenFault) → CompletesOctet octets next events
+octet_refused : LowerLaws → (limits : Limits) (octets : List ℕ) (next : ℕ) (events : List DatasetEvent) (text : List ℕ) (fault : TokenFault) → CompletesOctet octets next events
     → Refused limits events text (DataOctet next) fault → Told limits octets text next fault
-octet_refused laws limits octets next events text fault c r = by r.begun r.refuses (laws.tell r.whole c.whole r.begun (InData c.head c.taken) (sym r.told ∙ c.told)) refl
+octet_refused laws limits octets next events text fault c r = by r.begun r.refuses (laws.events_tell r.whole c.whole r.begun (InData c.head c.taken) (sym r.told ∙ c.told)) refl
   where
     some-same : {x y : Head × List ℕ} → Some x ≡ Some y → x ≡ y
     some-same e = cc
@@ -440,9 +440,9 @@ end_text : (octets : List ℕ) (next : ℕ) (ds : List Dataset) (h : Head) (give
 end_text octets next ds h given text other is (inl (taken, reads, parts, count)) = (ds, InData h taken, reads, is ∙ ap text_so_far (sym (no_object ds h taken other)))
 end_text octets next ds h given text other is (inr (held, reads, tag, count, none)) = (ds, InTag held, reads, is)
 
-end_refused : FeedLaws → (limits : Limits) (octets : List ℕ) (next : ℕ) (events : List DatasetEvent) (text : List ℕ) (fault : TokenFault) → CompletesEnd octets next events
+end_refused : LowerLaws → (limits : Limits) (octets : List ℕ) (next : ℕ) (events : List DatasetEvent) (text : List ℕ) (fault : TokenFault) → CompletesEnd octets next events
     → Refused limits events text DatasetEnd fault → Told limits octets text next fault
-end_refused laws limits octets next events text fault c r = by r.begun r.refuses (laws.tell r.whole c.whole r.begun (InData c.head c.given) (sym r.told ∙ c.told)) refl
+end_refused laws limits octets next events text fault c r = by r.begun r.refuses (laws.events_tell r.whole c.whole r.begun (InData c.head c.given) (sym r.told ∙ c.told)) refl
   where
     some-same : {x y : Head × List ℕ} → Some x ≡ Some y → x ≡ y
     some-same e = cc
@@ -475,7 +475,7 @@ completed_in_order octets next events event c =
     front_in_order (events ++ event ∷ []) c.later
     (subst AreInOrder (sym (append_assoc events (event ∷ []) c.later)) (handed_in_order (octets ++ next ∷ []) (events ++ event ∷ c.later) c.next_begun c.with_next))
 
-token_refused : FeedLaws → (limits : Limits) (octets : List ℕ) (next : ℕ) (events : List DatasetEvent) (text : List ℕ) (event : DatasetEvent) (fault : TokenFault) → CompletesNow octets next events event
+token_refused : LowerLaws → (limits : Limits) (octets : List ℕ) (next : ℕ) (events : List DatasetEvent) (text : List ℕ) (event : DatasetEvent) (fault : TokenFault) → CompletesNow octets next events event
     → Refused limits events text event fault → Told limits octets text next fault
 token_refused laws limits octets next events text (HeadRead h) fault c r = head_refused laws limits octets next events text h fault c r
 token_refused laws limits octets next events text (DataOctet b) fault c r =
@@ -483,7 +483,7 @@ token_refused laws limits octets next events text (DataOctet b) fault c r =
 token_refused laws limits octets next events text DatasetEnd fault c r = end_refused laws limits octets next events text fault c r
 
 -- the sink's answer at a refusal
-pub refused_in : {S : Type 0} (goes : S → List story.StoryEvent → S → Type 0) (failures : S → ℕ) → FeedLaws → RefusalsTellTheLowestCause → (u : Unpacking) (piece : List ℕ) (k : ℕ) (fault : TokenFault) (a b : S) (e : Refusal)
+pub refused_in : {S : Type 0} (goes : S → List story.StoryEvent → S → Type 0) (failures : S → ℕ) → LowerLaws → RefusalsTellTheLowestCause → (u : Unpacking) (piece : List ℕ) (k : ℕ) (fault : TokenFault) (a b : S) (e : Refusal)
     → k < length piece → IsOctet (slice_index piece k) → e ≡ refusal_at (raised u.octets k) fault → FailsAs goes failures (u.reader.place, u.parts, a) piece k fault b
     → (more : List story.StoryEvent) × goes a more b × ((p : List ℕ) (n : ℕ) → Stands u p n → IsRefusedIn (limits_in u) p n piece more e)
 refused_in goes failures laws tests u piece k fault a b e within low is (inl (cause, new, stuck, is_fault)) =
@@ -516,7 +516,7 @@ refused_in goes failures laws tests u piece k fault a b e within low is (inr sto
       λ p n at.
           let led = at.is_led in
           let completes = stop.completes p led.events led.leads in
-          let now = laws.octet (p ++ take k piece) (slice_index piece k) (led.events ++ stop.more) stop.event completes in
+          let now = laws.completes (p ++ take k piece) (slice_index piece k) (led.events ++ stop.more) stop.event completes in
           let order : AreInOrder ((led.events ++ stop.more) ++ stop.event ∷ []) = completed_in_order (p ++ take k piece) (slice_index piece k) (led.events ++ stop.more) stop.event completes in
           let told = token_refused laws (limits_in u) (p ++ take k piece) (slice_index piece k) (led.events ++ stop.more) (led.text ++ s.more) stop.event fault now
           (subst (λ (f : TokenFault). Refused (limits_in u) (led.events ++ stop.more) (led.text ++ s.more) stop.event f) same_fault (s.why led.events led.text order led.led)) in
@@ -556,7 +556,7 @@ truncated_by u p a at =
     }
 
 -- an unpacker of which no octet has come
-pub stands_new : FeedLaws → (u : Unpacking) → u.refused ≡ None → u.octets ≡ 0 → u.begun ≡ false → LeadsTo count_octets [] [] u.reader.place → AreAfter u.parts [] → Stands u [] 0
+pub stands_new : LowerLaws → (u : Unpacking) → u.refused ≡ None → u.octets ≡ 0 → u.begun ≡ false → LeadsTo count_octets [] [] u.reader.place → AreAfter u.parts [] → Stands u [] 0
 stands_new laws u taking counts none leads after =
     let more : has_ended u.parts ≡ false = ended_by_record u.parts [] after.fields in
     let led : AreLed u.parts [] [] = record { whole = []; begun = InTag []; told = refl; stands = after; is_text = refl } in
@@ -571,7 +571,7 @@ stands_new laws u taking counts none leads after =
 
 -- ---- an unpacker stands somewhere
 
-pub sound_new : FeedLaws → (u : Unpacking) → u.refused ≡ None → u.octets ≡ 0 → u.begun ≡ false → LeadsTo count_octets [] [] u.reader.place → AreAfter u.parts [] → TakesCalls u.reader → u.reader.place ≡ between
+pub sound_new : LowerLaws → (u : Unpacking) → u.refused ≡ None → u.octets ≡ 0 → u.begun ≡ false → LeadsTo count_octets [] [] u.reader.place → AreAfter u.parts [] → TakesCalls u.reader → u.reader.place ≡ between
     → IsSome u.parts.object → IsSome u.parts.message → IsUnpacking u
 sound_new laws u taking counts none leads after calls place object message =
     let more : has_ended u.parts ≡ false = ended_by_record u.parts [] after.fields in
@@ -585,7 +585,7 @@ pub stood_stands : (u : Unpacking) → has_ended u.parts ≡ false → Stood u �
 stood_stands u more (p, a, inl at) = (p, a, at)
 stood_stands u more (p, a, inr at) = absurd (true≢false (sym at.ended ∙ more))
 
-pub sound_more : {S : Type 0} (goes : S → List story.StoryEvent → S → Type 0) (failures : S → ℕ) → FeedLaws → (u v : Unpacking) (piece : List ℕ) (used : ℕ) (a b : S)
+pub sound_more : {S : Type 0} (goes : S → List story.StoryEvent → S → Type 0) (failures : S → ℕ) → LowerLaws → (u v : Unpacking) (piece : List ℕ) (used : ℕ) (a b : S)
     → (advanced : Advanced goes failures u.reader.place (take used piece) v.reader.place u.parts a v.parts b) → IsOnward v.reader.place v.parts (length piece) used → TakesCalls v.reader
     → v.refused ≡ u.refused → has_ended v.parts ≡ false → v.octets ≡ raised u.octets used → v.begun ≡ begins u.begun piece → IsUnpacking u → has_ended u.parts ≡ false → IsUnpacking v
 sound_more goes failures laws u v piece used a b advanced onward calls same more counts some sound unended =
@@ -597,7 +597,7 @@ sound_more goes failures laws u v piece used a b advanced onward calls same more
       stood = (p ++ piece, raised n (length piece), inl both.0);
     }
 
-pub sound_done : {S : Type 0} (goes : S → List story.StoryEvent → S → Type 0) (failures : S → ℕ) → FeedLaws → (u v : Unpacking) (piece : List ℕ) (used : ℕ) (a b : S) (s : Sizes)
+pub sound_done : {S : Type 0} (goes : S → List story.StoryEvent → S → Type 0) (failures : S → ℕ) → LowerLaws → (u v : Unpacking) (piece : List ℕ) (used : ℕ) (a b : S) (s : Sizes)
     → (advanced : Advanced goes failures u.reader.place (take used piece) v.reader.place u.parts a v.parts b) → IsOnward v.reader.place v.parts (length piece) used → TakesCalls v.reader
     → v.refused ≡ u.refused → has_ended v.parts ≡ true → v.octets ≡ raised u.octets used → used ≤ length piece → TellsSizes v s → IsUnpacking u → has_ended u.parts ≡ false → IsUnpacking v
 sound_done goes failures laws u v piece used a b s advanced onward calls same last counts fits sizes sound unended =
@@ -618,15 +618,15 @@ stood_done u last (p, a, inl at) = absurd (true≢false (sym last ∙ at.unended
 stood_done u last (p, a, inr at) = (p, a, at)
 
 -- its trailer is short
-pub short_trailer : FeedLaws → (u : Unpacking) → has_ended u.parts ≡ true → Stood u → length (wire.trailer_read u.parts.message) ≤ 64
+pub short_trailer : LowerLaws → (u : Unpacking) → has_ended u.parts ≡ true → Stood u → length (wire.trailer_read u.parts.message) ≤ 64
 short_trailer laws u last stood =
     let (p, a, at) = stood_done u last stood in
     (whole_parts laws u p at.ended at.place at.is_led).message.is_trailer.2
 
-pub some_head : FeedLaws → (u : Unpacking) → has_ended u.parts ≡ true → Stood u → wire.head_read u.parts.message ≡ None → ⊥
+pub some_head : LowerLaws → (u : Unpacking) → has_ended u.parts ≡ true → Stood u → wire.head_read u.parts.message ≡ None → ⊥
 some_head laws u last stood = let (p, a, at) = stood_done u last stood in has_head laws u p a at
 
-pub all_sections : FeedLaws → (u : Unpacking) → has_ended u.parts ≡ true → Stood u → (((ds : List Dataset) → StandsAfter u.parts.fields ds → AreSections ds → ⊥) → ⊥)
+pub all_sections : LowerLaws → (u : Unpacking) → has_ended u.parts ≡ true → Stood u → (((ds : List Dataset) → StandsAfter u.parts.fields ds → AreSections ds → ⊥) → ⊥)
 all_sections laws u last stood none =
     let (p, a, at) = stood_done u last stood in
     let w = whole_parts laws u p at.ended at.place at.is_led in none w.ds w.after.fields w.sections

@@ -44,7 +44,7 @@ use Rattle.std.proofs.lemmas.List.{length-map}
 use Rattle.iim_places.proofs.Lasts.{sections_last}
 use Rattle.iim_unpack.proofs.Ended.{ended_by_record}
 use Rattle.iim_unpack.proofs.Carrying.{counts_for, passes_on, after_all, all_after}
-use Rattle.iim_unpack.specs.PartLaws.{HeadLaws}
+use Rattle.iim_places.specs.Laws.Lower.{LowerLaws}
 
 -- What stands after a head.
 pub record Begins (new : Parts) (ds : List Dataset) (h : Head) : Type 0 where
@@ -125,15 +125,15 @@ as_many ds = length-map (of_record 8 ds) (λ (d : Dataset). length d.octets)
 few_of : (p : Parts) (ds : List Dataset) → AreAfter p ds → HasFewSubfiles p.object → length (of_record 8 ds) < max_subfiles
 few_of p ds at few = let n = few (place_after_datasets ds) at.object in omega (arith, n, as_many ds)
 
-pub begins_subfile : {S : Type 0} (goes : S → List story.StoryEvent → S → Type 0) (failures : S → ℕ) → HeadLaws → (p : Parts) (a b : S) (ds : List Dataset) (h : Head) (checker : FieldsPlace) (object : Option State) (message : Option Place)
+pub begins_subfile : {S : Type 0} (goes : S → List story.StoryEvent → S → Type 0) (failures : S → ℕ) → LowerLaws → (p : Parts) (a b : S) (ds : List Dataset) (h : Head) (checker : FieldsPlace) (object : Option State) (message : Option Place)
     → h.rec ≡ 8 → AreAfter p ds → records.StandsIn checker ds h [] → objects.LeadsOn p.object (head_token h.rec h.count) object
     → (passed : TellsMessage goes failures p.message a (events_at h.rec) message b) → HasFewSubfiles p.object
     → Begins (record { fields = checker; object = object; message = message }) ds h
     × (text_so_far (object_of ds) ++ passed.more ≡ text_so_far (object_of ds))
 begins_subfile goes failures laws p a b ds h checker object message eight at inside leads_on passed few =
     let room : length (of_record 8 ds) < max_subfiles = few_of p ds at few in
-    let leads = subfile_leads laws.objects ds h inside.alive eight room in
-    let text = same_text laws.message.texts p.message message h.rec (object_of ds) passed.more passed.stands at.message in (
+    let leads = subfile_leads laws ds h inside.alive eight room in
+    let text = same_text laws.texts p.message message h.rec (object_of ds) passed.more passed.stands at.message in (
       record {
         fields = inside;
         object = subst (objects.StandsAt object) leads.1 (leads_on (place_after_datasets ds) at.object leads.0);
@@ -145,14 +145,14 @@ begins_subfile goes failures laws p a b ds h checker object message eight at ins
       text.1,
     )
 
-pub begins_end : {S : Type 0} (goes : S → List story.StoryEvent → S → Type 0) (failures : S → ℕ) → HeadLaws → (p : Parts) (a b : S) (ds : List Dataset) (h : Head) (checker : FieldsPlace) (object : Option State) (message : Option Place)
+pub begins_end : {S : Type 0} (goes : S → List story.StoryEvent → S → Type 0) (failures : S → ℕ) → LowerLaws → (p : Parts) (a b : S) (ds : List Dataset) (h : Head) (checker : FieldsPlace) (object : Option State) (message : Option Place)
     → h.rec ≡ 9 → AreAfter p ds → records.StandsIn checker ds h [] → objects.LeadsOn p.object (head_token h.rec h.count) object
     → (passed : TellsMessage goes failures p.message a (events_at h.rec) message b)
     → Begins (record { fields = checker; object = object; message = message }) ds h
     × (text_so_far (object_of ds) ++ passed.more ≡ text_so_far (object_of ds))
 begins_end goes failures laws p a b ds h checker object message nine at inside leads_on passed =
-    let leads = end_leads laws.objects ds h inside.alive nine in
-    let text = same_text laws.message.texts p.message message h.rec (object_of ds) passed.more passed.stands at.message in
+    let leads = end_leads laws ds h inside.alive nine in
+    let text = same_text laws.texts p.message message h.rec (object_of ds) passed.more passed.stands at.message in
     let is_end : end_is_last false (events_at h.rec) ≡ true = ap (λ n. end_is_last false (events_at n)) nine in (
       record {
         fields = inside;
@@ -191,7 +191,7 @@ counts_size sizes.ModeClash m n e = e
 counts_size other m n e = e
 
 -- a head is refused, and the sink was told what is delivered of no more text
-stopped_head : {S : Type 0} (goes : S → List story.StoryEvent → S → Type 0) (failures : S → ℕ) (p : Parts) (a b : S) (h : Head) (fault : TokenFault) (more : List ℕ) → HeadLaws → has_ended p ≡ false → IsBetween p.fields
+stopped_head : {S : Type 0} (goes : S → List story.StoryEvent → S → Type 0) (failures : S → ℕ) (p : Parts) (a b : S) (h : Head) (fault : TokenFault) (more : List ℕ) → LowerLaws → has_ended p ≡ false → IsBetween p.fields
     → goes a (story.delivered more) b → CountsFor fault.cause (failures a) (failures b)
     → ((ds : List Dataset) → AreAfter p ds → (IsRefusedHead (limits_of p.fields) ds h fault ⊎ IsUnfinished (limits_of p.fields) ds h fault) × (text_so_far (object_of ds) ++ more ≡ text_so_far (object_of ds)))
     → PartsRefuse goes failures (p, a) [] (HeadRead h) (Some fault, b)
@@ -209,28 +209,28 @@ stopped_head goes failures p a b h fault more laws last between told counts refu
         begun = InTag at.held;
         told = append-nil before ∙ at.told;
         is_text = ap (λ (t : List ℕ). t ++ more) at.is_text ∙ next.1;
-        leads_on = all_after laws.message.living p at.ds at.held at.after;
-        unfinished = λ sections. true≢false (sym (ap (λ n. nat_eq n 9) (sections_last laws.ends at.ds at.after.fields.alive sections)) ∙ sym (ended_by_record p at.ds at.after.fields) ∙ last);
+        leads_on = all_after laws.living p at.ds at.held at.after;
+        unfinished = λ sections. true≢false (sym (ap (λ n. nat_eq n 9) (sections_last laws.last_record at.ds at.after.fields.alive sections)) ∙ sym (ended_by_record p at.ds at.after.fields) ∙ last);
         refuses = next.0;
       };
 }
 
-pub stopped_field : {S : Type 0} (goes : S → List story.StoryEvent → S → Type 0) (failures : S → ℕ) (p : Parts) (a : S) (h : Head) (f : FieldFault) → h.set < 256 → HeadLaws → has_ended p ≡ false → IsBetween p.fields → goes a [] a
+pub stopped_field : {S : Type 0} (goes : S → List story.StoryEvent → S → Type 0) (failures : S → ℕ) (p : Parts) (a : S) (h : Head) (f : FieldFault) → h.set < 256 → LowerLaws → has_ended p ≡ false → IsBetween p.fields → goes a [] a
     → ((ds : List Dataset) → records.StandsAfter p.fields ds → IsHeadFault (limits_of p.fields) ds h f) → PartsRefuse goes failures (p, a) [] (HeadRead h) (Some (of_field f), a)
 stopped_field goes failures p a h f small laws last between g is =
     stopped_head goes failures p a a h (of_field f) [] laws last between g (quiet_field f.cause (failures a))
-    (λ ds at. (inl (field_head laws.heads (limits_of p.fields) ds h f small at.fields.alive (is ds at.fields)), append-nil (text_so_far (object_of ds))))
+    (λ ds at. (inl (field_head laws.heads_die (limits_of p.fields) ds h f small at.fields.alive (is ds at.fields)), append-nil (text_so_far (object_of ds))))
 
-pub stopped_many : {S : Type 0} (goes : S → List story.StoryEvent → S → Type 0) (failures : S → ℕ) (p : Parts) (a : S) (h : Head) (checker : FieldsPlace) → HeadLaws → has_ended p ≡ false → IsBetween p.fields → goes a [] a
+pub stopped_many : {S : Type 0} (goes : S → List story.StoryEvent → S → Type 0) (failures : S → ℕ) (p : Parts) (a : S) (h : Head) (checker : FieldsPlace) → LowerLaws → has_ended p ≡ false → IsBetween p.fields → goes a [] a
     → ((ds : List Dataset) → records.StandsAfter p.fields ds → records.StandsIn checker ds h []) → h.rec ≡ 8 → IsFullOfSubfiles p.object
     → PartsRefuse goes failures (p, a) [] (HeadRead h) (Some (too_many_on h), a)
 stopped_many goes failures p a h checker laws last between g inside eight many =
     stopped_head goes failures p a a h (too_many_on h) [] laws last between g refl
     (λ ds at.
     let full : max_subfiles ≤ length (of_record 8 ds) = let n = many (place_after_datasets ds) at.object in omega (arith, n, as_many ds) in
-    (inl (too_many_head laws.heads (limits_of p.fields) ds h (too_many_on h) at.fields.alive (inside ds at.fields).alive eight full refl), append-nil (text_so_far (object_of ds))))
+    (inl (too_many_head laws.heads_die (limits_of p.fields) ds h (too_many_on h) at.fields.alive (inside ds at.fields).alive eight full refl), append-nil (text_so_far (object_of ds))))
 
-pub stopped_size : {S : Type 0} (goes : S → List story.StoryEvent → S → Type 0) (failures : S → ℕ) (p : Parts) (a b : S) (h : Head) (checker : FieldsPlace) (fault : TokenFault) → HeadLaws → has_ended p ≡ false → IsBetween p.fields
+pub stopped_size : {S : Type 0} (goes : S → List story.StoryEvent → S → Type 0) (failures : S → ℕ) (p : Parts) (a b : S) (h : Head) (checker : FieldsPlace) (fault : TokenFault) → LowerLaws → has_ended p ≡ false → IsBetween p.fields
     → ((ds : List Dataset) → records.StandsAfter p.fields ds → records.StandsIn checker ds h []) → (h.rec ≡ 8) ⊎ (h.rec ≡ 9) → (h.rec ≡ 8 → HasFewSubfiles p.object)
     → RefusesBySize goes failures p.object p.message h a b fault → PartsRefuse goes failures (p, a) [] (HeadRead h) (Some fault, b)
 stopped_size goes failures p a b h checker fault laws last between inside is few r =
@@ -239,15 +239,15 @@ stopped_size goes failures p a b h checker fault laws last between inside is few
     (λ ds at.
     let alive = (inside ds at.fields).alive in
     let room : h.rec ≡ 8 → length (of_record 8 ds) < max_subfiles = λ eight. few_of p ds at (few eight) in (
-      inl (object_head laws.heads laws.objects.tokens (limits_of p.fields) ds h fault p.object at.fields.alive alive is room (leads_by is ds alive room) at.object (r.cause, r.refuses, r.is_fault)),
-      somewhere_text laws.message.texts p.message (object_of ds) r.more r.leads at.message,
+      inl (object_head laws.heads_die laws.tokens (limits_of p.fields) ds h fault p.object at.fields.alive alive is room (leads_by is ds alive room) at.object (r.cause, r.refuses, r.is_fault)),
+      somewhere_text laws.texts p.message (object_of ds) r.more r.leads at.message,
     ))
   where
     leads_by : (h.rec ≡ 8) ⊎ (h.rec ≡ 9) → (ds : List Dataset) → SectionsLiveAt ds h → (h.rec ≡ 8 → length (of_record 8 ds) < max_subfiles) → HeadLeads ds h
-    leads_by (inl eight) ds alive room = subfile_leads laws.objects ds h alive eight (room eight)
-    leads_by (inr nine) ds alive room = end_leads laws.objects ds h alive nine
+    leads_by (inl eight) ds alive room = subfile_leads laws ds h alive eight (room eight)
+    leads_by (inr nine) ds alive room = end_leads laws ds h alive nine
 
-pub stopped_end : {S : Type 0} (goes : S → List story.StoryEvent → S → Type 0) (failures : S → ℕ) (p : Parts) (a b : S) (h : Head) (checker : FieldsPlace) (fault : TokenFault) → HeadLaws → has_ended p ≡ false → IsBetween p.fields
+pub stopped_end : {S : Type 0} (goes : S → List story.StoryEvent → S → Type 0) (failures : S → ℕ) (p : Parts) (a b : S) (h : Head) (checker : FieldsPlace) (fault : TokenFault) → LowerLaws → has_ended p ≡ false → IsBetween p.fields
     → ((ds : List Dataset) → records.StandsAfter p.fields ds → records.StandsIn checker ds h []) → h.rec ≡ 9
     → RefusesAtEnd goes failures p.object p.message h a b fault → PartsRefuse goes failures (p, a) [] (HeadRead h) (Some fault, b)
 stopped_end goes failures p a b h checker fault laws last between inside nine r =
@@ -257,9 +257,9 @@ stopped_end goes failures p a b h checker fault laws last between inside nine r 
     (counts_for r.cause (failures a) (failures b) (subst (wire.CountsCause (failures a) (failures b)) same r.halted.counts)))
     (λ ds at.
     let alive = (inside ds at.fields).alive in
-    let leads = end_leads laws.objects ds h alive nine in
+    let leads = end_leads laws ds h alive nine in
     let lives : ObjectLives (place_at ds h) = subst ObjectLives leads.1
-    (subst (languages.IsAlive ObjectLanguage) (sym (laws.objects.tokens (place_after_datasets ds) (head_token h.rec h.count) leads.0)) (r.lives (place_after_datasets ds) at.object leads.0)) in
+    (subst (languages.IsAlive ObjectLanguage) (sym (laws.tokens (place_after_datasets ds) (head_token h.rec h.count) leads.0)) (r.lives (place_after_datasets ds) at.object leads.0)) in
     let has = r.halted.has_cause (object_of ds) (text_so_far (object_of ds)) at.message in (
       inr (record {
         last = nine;
@@ -272,13 +272,13 @@ stopped_end goes failures p a b h checker fault laws last between inside nine r 
         dies = subst (λ (o : List ℕ). MessageDiesAt o End) (append-nil (object_of ds)) has.1;
         is_fault = r.is_fault ∙ ap (message_on h) (sym same ∙ has.0);
       }),
-      somewhere_text laws.message.texts p.message (object_of ds) r.halted.more r.halted.leads at.message,
+      somewhere_text laws.texts p.message (object_of ds) r.halted.more r.halted.leads at.message,
     ))
   where
     some-same : {x y : MessageCause} → Some x ≡ Some y → x ≡ y
     some-same e = cc
 
-pub stopped_subfile : {S : Type 0} (goes : S → List story.StoryEvent → S → Type 0) (failures : S → ℕ) (p : Parts) (a b : S) (h : Head) (checker : FieldsPlace) → HeadLaws → has_ended p ≡ false → IsBetween p.fields → goes a [] a
+pub stopped_subfile : {S : Type 0} (goes : S → List story.StoryEvent → S → Type 0) (failures : S → ℕ) (p : Parts) (a b : S) (h : Head) (checker : FieldsPlace) → LowerLaws → has_ended p ≡ false → IsBetween p.fields → goes a [] a
     → ((ds : List Dataset) → records.StandsAfter p.fields ds → records.StandsIn checker ds h []) → h.rec ≡ 8 → (fault : TokenFault)
     → RefusesSubfile goes failures p.object p.message h a b fault
     → PartsRefuse goes failures (p, a) [] (HeadRead h) (Some fault, b)
@@ -290,7 +290,7 @@ stopped_subfile goes failures p a b h checker laws last between g inside eight f
 stopped_subfile goes failures p a b h checker laws last between g inside eight fault (inr (few, inr r)) =
     absurd (let bad : SubfileBegun h.count ≡ ObjectEnded = sym (ap (λ n. head_token n h.count) eight) ∙ r.token in cc)
 
-pub stopped_last : {S : Type 0} (goes : S → List story.StoryEvent → S → Type 0) (failures : S → ℕ) (p : Parts) (a b : S) (h : Head) (checker : FieldsPlace) → HeadLaws → has_ended p ≡ false → IsBetween p.fields
+pub stopped_last : {S : Type 0} (goes : S → List story.StoryEvent → S → Type 0) (failures : S → ℕ) (p : Parts) (a b : S) (h : Head) (checker : FieldsPlace) → LowerLaws → has_ended p ≡ false → IsBetween p.fields
     → ((ds : List Dataset) → records.StandsAfter p.fields ds → records.StandsIn checker ds h []) → h.rec ≡ 9 → (fault : TokenFault)
     → RefusesObject goes failures p.object p.message h a b fault → PartsRefuse goes failures (p, a) [] (HeadRead h) (Some fault, b)
 stopped_last goes failures p a b h checker laws last between inside nine fault (inl r) =

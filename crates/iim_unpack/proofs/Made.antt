@@ -19,7 +19,7 @@ use Rattle.iim_unpack.specs.UnpackerInside.{IsUnpacking}
 use Rattle.iim_places.specs.Format.Open.{IsOpen}
 use Rattle.iim_unpack.specs.declared.parts.Parts.{Parts}
 use Rattle.iim_unpack.proofs.Ended.{unended_inside}
-use Rattle.iim_places.proofs.ReadersAt.{RestoreLaws}
+use Rattle.iim_places.specs.Laws.Lower.{LowerLaws}
 use Rattle.iim_unpack.proofs.Restored.{AreMadeFor, made_open, made_stands, made_done}
 
 -- What comes next is taken where the readers stand at open octets.
@@ -53,7 +53,7 @@ ended_at parts ds (InTag held) stand last object message = record { last = last;
 ended_at parts ds (InData h xs) stand last object message =
     absurd (let more = unended_inside parts h stand.fields.inside.0 stand.fields.inside.1 in let bad : true ≡ false = sym last ∙ more in cc)
 
-sound_open : RestoreLaws → (place : Place) (limits : Limits) (at : ℕ) (u : Unpacking) → AreMadeFor limits at u place → IsSome u.parts.object → IsSome u.parts.message → (p : List ℕ) → IsPlaceOf p place → IsOpen limits p → IsUnpacking u
+sound_open : LowerLaws → (place : Place) (limits : Limits) (at : ℕ) (u : Unpacking) → AreMadeFor limits at u place → IsSome u.parts.object → IsSome u.parts.message → (p : List ℕ) → IsPlaceOf p place → IsOpen limits p → IsUnpacking u
 sound_open laws place limits at u made object message p is opens =
     let are = made_open laws place limits at u made p is opens in
     record {
@@ -71,7 +71,7 @@ sound_done place limits at u made object message p done =
       stood = (p, at, inr done);
     }
 
-pub readers_make : RestoreLaws → LimitsAreToldByPlace → ReadersTellSizes → ReadersMakeUnpackers
+pub readers_make : LowerLaws → LimitsAreToldByPlace → ReadersTellSizes → ReadersMakeUnpackers
 readers_make laws told sizes place limits at u ticket is within leads made object message =
     let both : AreMadeFor limits at u place = (leads, made) in
     let octets = is.possible.0.octets in

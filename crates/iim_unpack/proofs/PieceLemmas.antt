@@ -13,7 +13,7 @@ use Rattle.wire_message.specs.Laws.Messages.{TextsStandBetweenStxAndEtx}
 use Rattle.wire_message.specs.declared.place.Place.TheVariants.{AfterEnd}
 use Rattle.iim_places.specs.Format.Admitted.{Value, Admits, object_of}
 use Rattle.iim_places.specs.Laws.Streams.{OpenOctetsAreBounded, EnvelopesAreBounded, RefusedOctetsWereOpen, StreamsHaveOneAnswer}
-use Rattle.iim_places.specs.Laws.Lower.{FeedLaws}
+use Rattle.iim_places.specs.Laws.Lower.{LowerLaws}
 use Rattle.iim_unpack.specs.Format.Pieces.{stream_of, IsUnpacked, IsTurnedDown, IsAnswer}
 use Rattle.iim_unpack.specs.PiecesSoFar.{DoneIn, HasFedPieces}
 use Rattle.iim_places.specs.Format.Refusals.{refusal_at}
@@ -149,17 +149,17 @@ was_refused goes joined laws limits low a b c o piece rest more next e told then
 -- ---- the end
 
 -- what is delivered of an envelope is its lines
-lines_of : FeedLaws → TextsStandBetweenStxAndEtx → TextsAreDeliveredAsLines → (octets : List ℕ) (v : Value) (more : List story.StoryEvent) → Admits octets v → Delivers [] octets more → more ≡ story.events_of_lines v.lines
-lines_of laws between delivered octets v more a adds =
+lines_of : LowerLaws → TextsAreDeliveredAsLines → (octets : List ℕ) (v : Value) (more : List story.StoryEvent) → Admits octets v → Delivers [] octets more → more ≡ story.events_of_lines v.lines
+lines_of laws delivered octets v more a adds =
     let (added, is, told) = adds [] no_text in
-    let text : a.text ≡ text_so_far (object_of a.datasets) = between (object_of a.datasets) a.text (AfterEnd v.head (record { items = v.trailer }) (length a.message.after)) (leads_to octets v a) in
+    let text : a.text ≡ text_so_far (object_of a.datasets) = laws.texts (object_of a.datasets) a.text (AfterEnd v.head (record { items = v.trailer }) (length a.message.after)) (leads_to octets v a) in
     let same : added ≡ text_so_far (object_of a.datasets) = one_text laws octets added (text_so_far (object_of a.datasets)) is (a.datasets, InTag [], reads_envelope octets v a, refl) in
     told ∙ ap story.delivered (same ∙ sym text) ∙ delivered a.text v.lines a.lines
 
 -- an unpacker that is done with a front of the stream
-pub is_unpacked : {S : Type 0} (goes : S → List story.StoryEvent → S → Type 0) → FeedLaws → TextsStandBetweenStxAndEtx → TextsAreDeliveredAsLines → (limits : Limits) (v : Unpacking) (a b : S) (stream : List ℕ) (more : List story.StoryEvent) (got : Unpacked) (used : ℕ)
+pub is_unpacked : {S : Type 0} (goes : S → List story.StoryEvent → S → Type 0) → LowerLaws → TextsAreDeliveredAsLines → (limits : Limits) (v : Unpacking) (a b : S) (stream : List ℕ) (more : List story.StoryEvent) (got : Unpacked) (used : ℕ)
     → limits_in v ≡ limits → goes a more b → (d : DoneIn v stream more) → ((p : List ℕ) (n : ℕ) → IsDoneWith v p n → (w : Value) → Admits p w → HasParts got w) → used ≡ v.octets → IsUnpacked goes limits stream a b got used
-is_unpacked goes laws between delivered limits v a b stream more got used same told d value counts =
+is_unpacked goes laws delivered limits v a b stream more got used same told d value counts =
     let is : used ≡ d.used = counts ∙ d.done.counts in
     let within : IsEnvelopeWithin limits (take d.used stream) d.done.value =
     subst (λ (l : Limits). IsEnvelopeWithin l (take d.used stream) d.done.value) same (record { admits = d.done.admits; within = d.done.within }) in
@@ -167,7 +167,7 @@ is_unpacked goes laws between delivered limits v a b stream more got used same t
       value = d.done.value;
       finished = subst (λ (n : ℕ). IsFinished limits stream n d.done.value) (sym is) (record { fits = d.fits; envelope = within });
       parts = value (take d.used stream) d.used d.done d.done.value d.done.admits;
-      told = subst (λ (es : List story.StoryEvent). goes a es b) (lines_of laws between delivered (take d.used stream) d.done.value more d.done.admits d.adds) told;
+      told = subst (λ (es : List story.StoryEvent). goes a es b) (lines_of laws delivered (take d.used stream) d.done.value more d.done.admits d.adds) told;
     }
 
 pub cut_short : {S : Type 0} (goes : S → List story.StoryEvent → S → Type 0) → (limits : Limits) (v : Unpacking) (a b : S) (stream : List ℕ) (more : List story.StoryEvent) (e : Refusal) → limits_in v ≡ limits → goes a more b

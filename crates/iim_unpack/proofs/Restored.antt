@@ -43,7 +43,8 @@ use Rattle.iim_places.proofs.PlainSizes.{possible_of}
 use Rattle.iim_places.proofs.SamePlace.{opened, fields_after, fields_in, some_read}
 use Rattle.iim_places.proofs.SameRecords.{stated_after_all}
 use Rattle.iim_places.proofs.Tickets.{count_of}
-use Rattle.iim_places.proofs.ReadersAt.{RestoreLaws, like, ended_reader, text_led, TagPhase, base_tag, live_tag, stand_tag, present_tag, object_tag, ending_tag, object_data, keeps, come, between_tag}
+use Rattle.iim_places.specs.Laws.Lower.{LowerLaws}
+use Rattle.iim_places.proofs.ReadersAt.{like, ended_reader, text_led, TagPhase, base_tag, live_tag, stand_tag, present_tag, object_tag, ending_tag, object_data, keeps, come, between_tag}
 
 -- ---- between datasets, or in a tag, or at the end
 
@@ -52,7 +53,7 @@ abbrev pub AreMadeFor : Limits → ℕ → Unpacking → Place → Type 0
 AreMadeFor limits at u place = (l : LeadsByLayers place) × IsMadeFor place l.numbers limits at u
 
 -- Readers that were made for the place of whole datasets, and perhaps a tag, stand after them.
-after_datasets : RestoreLaws → (limits : Limits) (at : ℕ) (u : Unpacking) (ds : List Dataset) (held : List ℕ) (m : MessagePlace) (text : List ℕ) → AreMadeFor limits at u (place_of ds (InTag held) m) → CanContinue limits ds
+after_datasets : LowerLaws → (limits : Limits) (at : ℕ) (u : Unpacking) (ds : List Dataset) (held : List ℕ) (m : MessagePlace) (text : List ℕ) → AreMadeFor limits at u (place_of ds (InTag held) m) → CanContinue limits ds
     → LeadsToSaved (object_of ds) text m → AreAfter u.parts ds
 after_datasets laws limits at u ds held m text (l, made) goes leads =
     let ended = nat_eq (section_after ds) 9 in
@@ -63,7 +64,7 @@ after_datasets laws limits at u ds held m text (l, made) goes leads =
     let alive = live_tag ended (section_after ds) held base live in
     let alike = like laws (kept ds) l.numbers heads ended ds l.kept (sym l.numbers_are) alive goes.records goes.within.subfiles refl refl refl in
     let stand = stand_tag ended u.parts.fields (section_after ds) held base (subst (RecordsStand u.parts.fields (section_after ds) (TagPhase ended held)) is made.records) in
-    let stated = stated_after_all laws.layers.opens.answer.follow.objects ds goes.records goes.within.subfiles in
+    let stated = stated_after_all laws ds goes.records goes.within.subfiles in
     let few = goes.within.subfiles in
     let count = count_of (of_record 8 ds) in
     let begun = present_tag ended (section_after ds) held base (present_ended (kept ds) l.numbers (one_of_some heads) [] ended l.kept) live in
@@ -79,7 +80,7 @@ after_datasets laws limits at u ds held m text (l, made) goes leads =
 -- ---- in data
 
 -- Readers that were made for the place of whole datasets and a begun one stand in it.
-within_data : RestoreLaws → (limits : Limits) (at : ℕ) (u : Unpacking) (ds : List Dataset) (h : Head) (xs : List ℕ) (m : MessagePlace) (text : List ℕ) → AreMadeFor limits at u (place_of ds (InData h xs) m) → CanContinueAt limits ds h
+within_data : LowerLaws → (limits : Limits) (at : ℕ) (u : Unpacking) (ds : List Dataset) (h : Head) (xs : List ℕ) (m : MessagePlace) (text : List ℕ) → AreMadeFor limits at u (place_of ds (InData h xs) m) → CanContinueAt limits ds h
     → nat_eq (section_after ds) 9 ≡ false → Octets xs → length xs < h.count → LeadsToSaved (object_so_far ds (InData h xs)) text m → Within u.parts ds h xs
 within_data laws limits at u ds h xs m text (l, made) goes open' octets less leads =
     let heads = length (of_record 8 ds) in
@@ -91,7 +92,7 @@ within_data laws limits at u ds h xs m text (l, made) goes open' octets less lea
     let stand : records.StandsIn u.parts.fields base h given = subst (λ (es : List Dataset). records.StandsIn u.parts.fields es h given) is made.records in
     record {
       octets = octets;
-      fields = fields_in laws.places.values u.parts.fields base ds h given stand goes.records alike.kept_are alike.same;
+      fields = fields_in laws.values_die u.parts.fields base ds h given stand goes.records alike.kept_are alike.same;
       object = object_data laws limits u.parts.object ds h xs goes open' less made.object;
       few = goes.within.subfiles;
       room = goes.room.subfiles;
@@ -101,7 +102,7 @@ within_data laws limits at u ds h xs m text (l, made) goes open' octets less lea
 
 -- ---- open octets
 
-stands_for : RestoreLaws → (limits : Limits) (at : ℕ) (u : Unpacking) (p : List ℕ) (ds : List Dataset) (b : Begun) (m : MessagePlace) (text : List ℕ) → AreMadeFor limits at u (place_of ds b m) → Reads count_octets p ds b → MayContinue limits ds b
+stands_for : LowerLaws → (limits : Limits) (at : ℕ) (u : Unpacking) (p : List ℕ) (ds : List Dataset) (b : Begun) (m : MessagePlace) (text : List ℕ) → AreMadeFor limits at u (place_of ds b m) → Reads count_octets p ds b → MayContinue limits ds b
     → nat_eq (section_after ds) 9 ≡ false → LeadsToSaved (object_so_far ds b) text m → StandsFor u.parts ds b
 stands_for laws limits at u p ds (InTag held) m text made reads goes open' leads = after_datasets laws limits at u ds held m text made goes leads
 stands_for laws limits at u p ds (InData h xs) m text made reads goes open' leads = within_data laws limits at u ds h xs m text made goes open' reads.is_rest.3 reads.is_rest.2 leads
@@ -116,22 +117,22 @@ pub record AreOpenAt (u : Unpacking) (ds : List Dataset) (b : Begun) : Type 0 wh
   pub keeps : IsKeptAs u.reader.place b
   pub unended : has_ended u.parts ≡ false
 
-pub made_open : RestoreLaws → (place : Place) (limits : Limits) (at : ℕ) (u : Unpacking) → AreMadeFor limits at u place → (p : List ℕ) (is : IsPlaceOf p place) → IsOpen limits p → AreOpenAt u is.whole is.begun
+pub made_open : LowerLaws → (place : Place) (limits : Limits) (at : ℕ) (u : Unpacking) → AreMadeFor limits at u place → (p : List ℕ) (is : IsPlaceOf p place) → IsOpen limits p → AreOpenAt u is.whole is.begun
 made_open laws place limits at u made p is opens =
     let ds = is.whole in
     let b = is.begun in
     let here : AreMadeFor limits at u (place_of ds b is.message) = subst (AreMadeFor limits at u) is.is_place made in
-    let was = opened laws.places limits p ds b is.reads opens in
+    let was = opened laws limits p ds b is.reads opens in
     let stand = stands_for laws limits at u p ds b is.message is.text here is.reads was.goes.sizes was.ended is.leads in
     record { stands = stand; keeps = keeps u.reader.place p ds b is.reads was.ended here.1.tags; unended = ended_for u.parts ds b was.ended stand }
 
 -- An unpacker that was made for a place stands on all octets that lead there and are open.
-pub made_stands : RestoreLaws → (place : Place) (limits : Limits) (at : ℕ) (u : Unpacking) → AreMadeFor limits at u place → (p : List ℕ) → IsPlaceOf p place → IsOpen limits p → Stands u p at
+pub made_stands : LowerLaws → (place : Place) (limits : Limits) (at : ℕ) (u : Unpacking) → AreMadeFor limits at u place → (p : List ℕ) → IsPlaceOf p place → IsOpen limits p → Stands u p at
 made_stands laws place limits at u made p is opens =
     let ds = is.whole in
     let b = is.begun in
     let here : AreMadeFor limits at u (place_of ds b is.message) = subst (AreMadeFor limits at u) is.is_place made in
-    let was = opened laws.places limits p ds b is.reads opens in
+    let was = opened laws limits p ds b is.reads opens in
     let alive = alive_of limits ds b was.goes.sizes in
     let are = made_open laws place limits at u made p is opens in
     record {
@@ -151,22 +152,22 @@ made_stands laws place limits at u made p is opens =
 -- ---- envelopes
 
 -- An unpacker that was made for a place is done with all octets that lead there and are an envelope.
-pub made_done : RestoreLaws → (place : Place) (limits : Limits) (at : ℕ) (u : Unpacking) (s : Sizes) → AreMadeFor limits at u place → TellsSizes u s → IsSome u.parts.object → IsSome u.parts.message
+pub made_done : LowerLaws → (place : Place) (limits : Limits) (at : ℕ) (u : Unpacking) (s : Sizes) → AreMadeFor limits at u place → TellsSizes u s → IsSome u.parts.object → IsSome u.parts.message
     → (p : List ℕ) (v : Value) → IsPlaceOf p place → IsEnvelopeWithin limits p v → IsDoneWith u p at
 made_done laws place limits at u s made sizes object message p v is whole =
     let ds = whole.admits.datasets in
     let reads = reads_envelope p v whole.admits in
-    let same = one_reading laws.layers.opens.answer p is.whole ds is.begun (InTag []) is.reads reads in
+    let same = one_reading laws p is.whole ds is.begun (InTag []) is.reads reads in
     let is_place : place ≡ place_of ds (InTag []) is.message = is.is_place ∙ ap (λ (es : List Dataset). place_of es is.begun is.message) same.whole_is ∙ ap (λ (b : Begun). place_of ds b is.message) same.begun_is in
     let leads : LeadsToSaved (object_of ds) is.text is.message =
     subst (λ (b : Begun). LeadsToSaved (object_so_far ds b) is.text is.message) same.begun_is (subst (λ (es : List Dataset). LeadsToSaved (object_so_far es is.begun) is.text is.message) same.whole_is is.leads) in
     let here : AreMadeFor limits at u (place_of ds (InTag []) is.message) = subst (AreMadeFor limits at u) is_place made in
-    let goes = (goes_envelope laws.layers.opens.answer limits p v whole).sizes in
+    let goes = (goes_envelope laws limits p v whole).sizes in
     let stand = after_datasets laws limits at u ds [] is.message is.text here goes leads in
-    let nine : section_after ds ≡ 9 = sections_last laws.layers.opens.answer.follow.ends ds goes.records whole.admits.sections in
+    let nine : section_after ds ≡ 9 = sections_last laws.last_record ds goes.records whole.admits.sections in
     let ended : nat_eq (section_after ds) 9 ≡ true = ap (λ (n : ℕ). nat_eq n 9) nine in
     let tags : u.reader.place ≡ between = between_tag (nat_eq (section_after ds) 9) u.reader.place (section_after ds) ended here.1.tags in
-    done_by laws.feed u p at s here.1.taking (record { last = ended_by_record u.parts ds stand.fields ∙ ended; between = stand.fields.between; object = object; message = message }) tags here.1.counts
+    done_by laws u p at s here.1.taking (record { last = ended_by_record u.parts ds stand.fields ∙ ended; between = stand.fields.between; object = object; message = message }) tags here.1.counts
     (record {
       events = handed_on ds (InTag []);
       text = text_so_far (object_of ds);

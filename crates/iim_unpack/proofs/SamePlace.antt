@@ -13,7 +13,7 @@ use Rattle.iim_fields.proofs.Sections.{head_alive}
 use Rattle.iim_object.specs.Format.Numbers.{place_after_datasets}
 use Rattle.wire_message.specs.Format.Layers.{text_so_far}
 use Rattle.iim_places.specs.Format.Admitted.{object_of}
-use Rattle.iim_places.specs.Laws.Lower.{PlaceLaws}
+use Rattle.iim_places.specs.Laws.Lower.{LowerLaws}
 use Rattle.iim_places.specs.Format.Tokens.{place_at, CanContinue, CanContinueAt}
 use Rattle.iim_places.specs.Format.Open.{object_so_far, AllCanContinue}
 use Rattle.iim_unpack.specs.States.Parts.{AreAfter, Within, StandsFor}
@@ -28,26 +28,26 @@ use Rattle.iim_places.proofs.SamePlace.{fields_after, object_as, SameWhole, obje
 
 -- ---- the parts
 
-after_as : PlaceLaws → (limits : Limits) (parts : Parts) (ds es : List Dataset) → AreAfter parts ds → CanContinue limits es → section_after ds ≡ section_after es → SameWhole ds es → SameMessage (object_of ds) (object_of es)
+after_as : LowerLaws → (limits : Limits) (parts : Parts) (ds es : List Dataset) → AreAfter parts ds → CanContinue limits es → section_after ds ≡ section_after es → SameWhole ds es → SameMessage (object_of ds) (object_of es)
     → AreAfter parts es
 after_as laws limits parts ds es at goes present same m =
-    let recs = same_records laws.answer.follow laws.answer.numbers ds es at.fields.alive goes.records at.few goes.within.subfiles same.fields in record {
+    let recs = same_records laws ds es at.fields.alive goes.records at.few goes.within.subfiles same.fields in record {
       fields = fields_after parts.fields ds es at.fields goes.records present same.fields.fields recs;
       object = object_as parts.object (place_after_datasets ds) (place_after_datasets es) at.object (object_lives_after_as ds es same)
-          (stated_after_all laws.answer.follow.objects es goes.records goes.within.subfiles) goes.object;
+          (stated_after_all laws es goes.records goes.within.subfiles) goes.object;
       few = goes.within.subfiles;
       message = message_as laws parts.message (object_of ds) (object_of es) m.text m.other m.at at.message m.here m.there;
       ended = λ nine. at.ended (present ∙ nine);
     }
 
-within_as : PlaceLaws → (limits : Limits) (parts : Parts) (ds es : List Dataset) (h : Head) (xs ys : List ℕ) → Within parts ds h xs → CanContinueAt limits es h → Octets ys
+within_as : LowerLaws → (limits : Limits) (parts : Parts) (ds es : List Dataset) (h : Head) (xs ys : List ℕ) → Within parts ds h xs → CanContinueAt limits es h → Octets ys
     → (if h.rec == 8 then [] else xs) ≡ (if h.rec == 8 then [] else ys) → SameWhole ds es → SameMessage (object_so_far ds (InData h xs)) (object_so_far es (InData h ys)) → Within parts es h ys
 within_as laws limits parts ds es h xs ys at goes octets given same m =
-    let recs = same_records laws.answer.follow laws.answer.numbers ds es (head_alive ds h at.fields.alive) (head_alive es h goes.records) at.few goes.within.subfiles same.fields in record {
+    let recs = same_records laws ds es (head_alive ds h at.fields.alive) (head_alive es h goes.records) at.few goes.within.subfiles same.fields in record {
       octets = octets;
-      fields = subst (records.StandsIn parts.fields es h) given (fields_in laws.values parts.fields ds es h (if h.rec == 8 then [] else xs) at.fields goes.records same.fields.fields recs);
+      fields = subst (records.StandsIn parts.fields es h) given (fields_in laws.values_die parts.fields ds es h (if h.rec == 8 then [] else xs) at.fields goes.records same.fields.fields recs);
       object = object_as parts.object (place_at ds h) (place_at es h) at.object (object_at_as ds es h same)
-          (stated_at laws.answer.follow.objects es h goes.records goes.within.subfiles goes.room.subfiles) goes.object;
+          (stated_at laws es h goes.records goes.within.subfiles goes.room.subfiles) goes.object;
       few = goes.within.subfiles;
       room = goes.room.subfiles;
       message = message_as laws parts.message (object_so_far ds (InData h xs)) (object_so_far es (InData h ys)) m.text m.other m.at at.message m.here m.there;
@@ -56,7 +56,7 @@ within_as laws limits parts ds es h xs ys at goes octets given same m =
 
 -- ---- the whole unpacker
 
-data_by : PlaceLaws → (limits : Limits) (parts : Parts) (ds es : List Dataset) (h : Head) (xs ys : List ℕ) → length xs ≡ length ys → nat_eq (section_after ds) 9 ≡ nat_eq (section_after es) 9 → Octets ys
+data_by : LowerLaws → (limits : Limits) (parts : Parts) (ds es : List Dataset) (h : Head) (xs ys : List ℕ) → length xs ≡ length ys → nat_eq (section_after ds) 9 ≡ nat_eq (section_after es) 9 → Octets ys
     → Within parts ds h xs → (if h.rec == 8 then [] else xs) ≡ (if h.rec == 8 then [] else ys) → SameAll ds es (InData h xs) (InData h ys) → AllCanContinue limits es (InData h ys) → Within parts es h ys
 data_by laws limits parts ds es h xs ys many ended octets at given all goes =
     within_as laws limits parts ds es h xs ys at goes.sizes octets given
@@ -65,13 +65,13 @@ data_by laws limits parts ds es h xs ys many ended octets at given all goes =
       octets = total_as (h.rec == 8) (object_of ds) (object_of es) xs ys many all.taken;
     }) all.message
 
-data_as : PlaceLaws → (limits : Limits) (parts : Parts) (ds es : List Dataset) (h k : Head) (xs ys : List ℕ) → SameData h xs k ys → nat_eq (section_after ds) 9 ≡ nat_eq (section_after es) 9 → Octets ys
+data_as : LowerLaws → (limits : Limits) (parts : Parts) (ds es : List Dataset) (h k : Head) (xs ys : List ℕ) → SameData h xs k ys → nat_eq (section_after ds) 9 ≡ nat_eq (section_after es) 9 → Octets ys
     → Within parts ds h xs → SameAll ds es (InData h xs) (InData k ys) → AllCanContinue limits es (InData k ys) → Within parts es k ys
 data_as laws limits parts ds es h k xs ys same ended octets at all goes =
     subst (λ (g : Head). (if h.rec == 8 then [] else xs) ≡ (if g.rec == 8 then [] else ys) → SameAll ds es (InData h xs) (InData g ys) → AllCanContinue limits es (InData g ys) → Within parts es g ys) same.head
     (λ given all goes. data_by laws limits parts ds es h xs ys same.many ended octets at given all goes) same.given all goes
 
-parts_as : PlaceLaws → (limits : Limits) (parts : Parts) (q : List ℕ) (ds es : List Dataset) (c d : Begun) → SameBegun c d → nat_eq (section_after ds) 9 ≡ nat_eq (section_after es) 9 → Reads count_octets q es d
+parts_as : LowerLaws → (limits : Limits) (parts : Parts) (q : List ℕ) (ds es : List Dataset) (c d : Begun) → SameBegun c d → nat_eq (section_after ds) 9 ≡ nat_eq (section_after es) 9 → Reads count_octets q es d
     → StandsFor parts ds c → SameAll ds es c d → AllCanContinue limits es d → StandsFor parts es d
 parts_as laws limits parts q ds es (InTag x) (InTag y) same ended reads at all goes =
     after_as laws limits parts ds es at goes.sizes all.section
@@ -91,11 +91,11 @@ told_by parts ds es (InData h t) (InData k v) e same at =
     some-same : {x y : Head × List ℕ} → Some x ≡ Some y → x ≡ y
     some-same e = cc
 
-pub same_stands : PlaceLaws → UnpackersStandByPlace
+pub same_stands : LowerLaws → UnpackersStandByPlace
 same_stands laws u p q a place at there stands opens =
     let led = stands.is_led in
-    let begun = laws.answer.way p led.events (handed_on at.whole at.begun) led.leads.begun at.begun led.leads.hands (record { whole = at.whole; reads = at.reads; handed = refl }) in
-    let told = laws.answer.tell led.led.whole at.whole led.led.begun at.begun (sym led.led.told ∙ begun.0) in
+    let begun = laws.one_way p led.events (handed_on at.whole at.begun) led.leads.begun at.begun led.leads.hands (record { whole = at.whole; reads = at.reads; handed = refl }) in
+    let told = laws.events_tell led.led.whole at.whole led.led.begun at.begun (sym led.led.told ∙ begun.0) in
     let mine : StandsFor u.parts at.whole at.begun = told_by u.parts led.led.whole at.whole led.led.begun at.begun told.0 told.1 led.led.stands in
     let was = opened laws (limits_in u) p at.whole at.begun at.reads stands.is_open in
     let now = opened laws (limits_in u) q there.whole there.begun there.reads opens in

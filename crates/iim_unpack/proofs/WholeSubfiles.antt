@@ -22,7 +22,7 @@ use Rattle.iim_unpack.specs.States.Parts.{has_ended}
 use Rattle.iim_places.specs.Format.Refusals.{message_on}
 use Rattle.iim_unpack.proofs.ToldParts.{tells_parts_closed, tells_parts_whole}
 use Rattle.iim_unpack.specs.Going.{tells_parts_joined, stopped_joined}
-use Rattle.iim_unpack.specs.PartLaws.{CloseLaws, HeadLaws, MessageLaws}
+use Rattle.iim_places.specs.Laws.Lower.{LowerLaws}
 use Rattle.iim_unpack.specs.PartSteps.{TakesHead, TellsParts, TellsWhole, PartsRefuse}
 use Rattle.iim_unpack.specs.Routing.{HasEnded, Takes, TookWhole}
 use Rattle.iim_unpack.specs.Passed.{TellsMessage, MessageRefuses, HasFewSubfiles}
@@ -44,7 +44,7 @@ pub record Entered (p : Parts) (h : Head) (fields : FieldsPlace) (object : Optio
 abbrev pub inside_of : (p : Parts) (h : Head) (fields : FieldsPlace) (object : Option State) → Entered p h fields object → Parts
 inside_of p h fields object e = record { fields = e.passes.inside; object = object; message = p.message }
 
-tells_parts_in : {S : Type 0} (goes : S → List story.StoryEvent → S → Type 0) (failures : S → ℕ) → HeadLaws → (p : Parts) (a : S) (h : Head) (fields : FieldsPlace) (object : Option State) → goes a [] a
+tells_parts_in : {S : Type 0} (goes : S → List story.StoryEvent → S → Type 0) (failures : S → ℕ) → LowerLaws → (p : Parts) (a : S) (h : Head) (fields : FieldsPlace) (object : Option State) → goes a [] a
     → (e : Entered p h fields object) → TellsParts goes failures p a (HeadRead h ∷ []) (inside_of p h fields object e) a
 tells_parts_in goes failures laws p a h fields object g e =
     let none : events_at h.rec ≡ [] = ap events_at e.eight in
@@ -57,29 +57,29 @@ tells_parts_in goes failures laws p a h fields object g e =
 
 pub subfile_went : {S : Type 0} (goes : S → List story.StoryEvent → S → Type 0) (failures : S → ℕ) → ((a : S) → goes a [] a)
     → ((a b c : S) (xs ys : List story.StoryEvent) → goes a xs b → goes b ys c → goes a (xs ++ ys) c)
-    → HeadLaws → MessageLaws → CloseLaws → (p : Parts) (a b : S) (h : Head) (xs : List ℕ) (fields : FieldsPlace) (object : Option State) (message : Option Place) → Entered p h fields object → Octets xs
+    → LowerLaws → (p : Parts) (a b : S) (h : Head) (xs : List ℕ) (fields : FieldsPlace) (object : Option State) (message : Option Place) → Entered p h fields object → Octets xs
     → limits_of fields ≡ limits_of p.fields → TellsMessage goes failures p.message a (map object_events.ObjectOctet xs) message b
     → TellsParts goes failures p a (HeadRead h ∷ (map DataOctet xs ++ DatasetEnd ∷ [])) (record { fields = fields; object = object; message = message }) b
-subfile_went goes failures nothing joined heads messages closes p a b h xs fields object message e octets limits passed =
+subfile_went goes failures nothing joined laws p a b h xs fields object message e octets limits passed =
     let p1 : Parts = inside_of p h fields object e in
     let p2 : Parts = record { fields = e.passes.inside; object = object; message = message } in
     let p3 : Parts = record { fields = fields; object = object; message = message } in
-    let begun = tells_parts_in goes failures heads p a h fields object (nothing a) e in
-    let run = tells_parts_object goes failures p1 a b xs message messages h e.passes.head e.eight octets passed in
-    let closed = closed_silent closes p2 fields h e.passes.head (limits ∙ sym e.passes.limits) e.passes.closes in
+    let begun = tells_parts_in goes failures laws p a h fields object (nothing a) e in
+    let run = tells_parts_object goes failures p1 a b xs message laws h e.passes.head e.eight octets passed in
+    let closed = closed_silent laws p2 fields h e.passes.head (limits ∙ sym e.passes.limits) e.passes.closes in
     let end = tells_parts_closed goes failures p2 p3 b (nothing b) closed in
     tells_parts_joined goes failures joined p p1 p3 a a b (HeadRead h ∷ []) (map DataOctet xs ++ DatasetEnd ∷ []) begun
     (tells_parts_joined goes failures joined p1 p2 p3 a b b (map DataOctet xs) (DatasetEnd ∷ []) run end)
 
 pub subfile_stopped : {S : Type 0} (goes : S → List story.StoryEvent → S → Type 0) (failures : S → ℕ) → ((a : S) → goes a [] a)
     → ((a b c : S) (xs ys : List story.StoryEvent) → goes a xs b → goes b ys c → goes a (xs ++ ys) c)
-    → HeadLaws → MessageLaws → (p : Parts) (a b : S) (h : Head) (front : List ℕ) (octet : ℕ) (cause : MessageCause) (fields : FieldsPlace) (object : Option State) → Entered p h fields object
+    → LowerLaws → (p : Parts) (a b : S) (h : Head) (front : List ℕ) (octet : ℕ) (cause : MessageCause) (fields : FieldsPlace) (object : Option State) → Entered p h fields object
     → MessageRefuses goes failures (p.message, a) (map object_events.ObjectOctet front) (object_events.ObjectOctet octet) (Some cause, b)
     → PartsRefuse goes failures (p, a) (HeadRead h ∷ map DataOctet front) (DataOctet octet) (Some (message_on h cause), b)
-subfile_stopped goes failures nothing joined heads messages p a b h front octet cause fields object e halted =
+subfile_stopped goes failures nothing joined laws p a b h front octet cause fields object e halted =
     let p1 : Parts = inside_of p h fields object e in
-    stopped_joined goes failures joined p p1 a a b (HeadRead h ∷ []) (map DataOctet front) (DataOctet octet) (Some (message_on h cause)) (tells_parts_in goes failures heads p a h fields object (nothing a) e)
-    (stopped_object goes failures p1 a b front octet cause messages h e.passes.head e.eight halted)
+    stopped_joined goes failures joined p p1 a a b (HeadRead h ∷ []) (map DataOctet front) (DataOctet octet) (Some (message_on h cause)) (tells_parts_in goes failures laws p a h fields object (nothing a) e)
+    (stopped_object goes failures p1 a b front octet cause laws h e.passes.head e.eight halted)
 
 -- after it the parts take a head
 pub subfile_takes : (p new : Parts) (h : Head) → TakesHead p → h.rec ≡ 8 → records.IsBetween new.fields → records.section_of new.fields ≡ h.rec → IsSome new.object → IsSome new.message → TakesHead new

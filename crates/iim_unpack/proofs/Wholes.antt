@@ -29,7 +29,7 @@ use Rattle.iim_places.specs.Format.Tokens.{place_at}
 use Rattle.iim_unpack.specs.States.Parts.{AreAfter, has_ended}
 use Rattle.iim_unpack.specs.PartSteps.{TakesHead, TellsWhole}
 use Rattle.iim_unpack.specs.Routing.{HasEnded}
-use Rattle.iim_unpack.specs.PartLaws.{CloseLaws}
+use Rattle.iim_places.specs.Laws.Lower.{LowerLaws}
 use Rattle.iim_unpack.specs.declared.parts.Parts.{Parts}
 use Rattle.iim_places.proofs.Objects.{records_alive}
 use Rattle.iim_places.proofs.Places.{silent_leads}
@@ -96,30 +96,30 @@ after_one p new ds h xs eight nine at fields object message =
       ended = λ is. absurd (let bad : true ≡ false = sym (ap (λ (r : ℕ). nat_eq r 9) (sym (last_more 0 ds d) ∙ is)) ∙ nine in cc);
     }
 
-after_whole : CloseLaws → (p new : Parts) (ds : List Dataset) (h : Head) (xs : List ℕ) → Keeps h.rec → AreAfter p ds → records.StandsAfter new.fields (ds ++ data_of h xs ∷ []) → new.object ≡ p.object → new.message ≡ p.message
+after_whole : LowerLaws → (p new : Parts) (ds : List Dataset) (h : Head) (xs : List ℕ) → Keeps h.rec → AreAfter p ds → records.StandsAfter new.fields (ds ++ data_of h xs ∷ []) → new.object ≡ p.object → new.message ≡ p.message
     → AreAfter new (ds ++ data_of h xs ∷ [])
 after_whole laws p new ds h xs k at fields object message =
     let d : Dataset = data_of h xs in
     let not_eight : d.rec ≡ 8 → ⊥ = λ is. (let bad : true ≡ false = sym (ap (λ (r : ℕ). nat_eq r 8) is) ∙ k.eight in cc) in
     let elsewhere : place_at ds (head_of d) ≡ place_after_datasets ds = rw (k.eight, k.nine) refl in
-    let leads : place_at ds (head_of d) ≡ place_after_datasets (ds ++ d ∷ []) = silent_leads laws.objects ds d fields.alive k.silent (λ is. absurd (not_eight is)) in
+    let leads : place_at ds (head_of d) ≡ place_after_datasets (ds ++ d ∷ []) = silent_leads laws ds d fields.alive k.silent (λ is. absurd (not_eight is)) in
     after_one p new ds h xs k.eight k.nine at fields
     (subst (objects.StandsAt new.object) (sym elsewhere ∙ leads) (subst (λ o. objects.StandsAt o (place_after_datasets ds)) (sym object) at.object)) message
 
-after_number : CloseLaws → (p new : Parts) (ds : List Dataset) (h : Head) (xs : List ℕ) → h.rec ≡ 7 → AreAfter p ds → records.StandsAfter new.fields (ds ++ data_of h xs ∷ []) → objects.LeadsOn p.object (NumberRead h.set (number xs)) new.object
+after_number : LowerLaws → (p new : Parts) (ds : List Dataset) (h : Head) (xs : List ℕ) → h.rec ≡ 7 → AreAfter p ds → records.StandsAfter new.fields (ds ++ data_of h xs ∷ []) → objects.LeadsOn p.object (NumberRead h.set (number xs)) new.object
     → new.message ≡ p.message → AreAfter new (ds ++ data_of h xs ∷ [])
 after_number laws p new ds h xs seven at fields leads message =
     let d : Dataset = data_of h xs in
-    let next = laws.objects.numbers ds d (records_alive (ds ++ d ∷ []) fields.alive) seven in
+    let next = laws.numbers_lead ds d (records_alive (ds ++ d ∷ []) fields.alive) seven in
     after_one p new ds h xs (ap (λ (r : ℕ). nat_eq r 8) seven) (ap (λ (r : ℕ). nat_eq r 9) seven) at fields
     (subst (objects.StandsAt new.object) next.1 (leads (place_after_datasets ds) at.object next.0)) message
 
 -- the object ends, and its size is confirmed
-after_end : CloseLaws → (p new : Parts) (ds : List Dataset) (h : Head) (xs : List ℕ) → h.rec ≡ 9 → AreAfter p ds → records.StandsAfter new.fields (ds ++ data_of h xs ∷ []) → objects.EndsAs p.object (number xs) new.object
+after_end : LowerLaws → (p new : Parts) (ds : List Dataset) (h : Head) (xs : List ℕ) → h.rec ≡ 9 → AreAfter p ds → records.StandsAfter new.fields (ds ++ data_of h xs ∷ []) → objects.EndsAs p.object (number xs) new.object
     → wire.IsWhole p.message → new.message ≡ p.message → AreAfter new (ds ++ data_of h xs ∷ [])
 after_end laws p new ds h xs nine at fields leads whole message =
     let d : Dataset = data_of h xs in
-    let next = laws.objects.ends ds d (records_alive (ds ++ d ∷ []) fields.alive) nine in
+    let next = laws.ends_lead ds d (records_alive (ds ++ d ∷ []) fields.alive) nine in
     let other : nat_eq h.rec 8 ≡ false = ap (λ (r : ℕ). nat_eq r 8) nine in
     let same : object_of (ds ++ d ∷ []) ≡ object_of ds = object_of_more ds d ∙ (ap (λ (b : Bool). object_of ds ++ cond b xs []) other ∙ append-nil (object_of ds)) in
     let ended = subst (objects.StandsAt leads.ended) next.0.1 (leads.at_end (place_after_datasets ds) at.object next.0.0) in
@@ -147,18 +147,18 @@ tells_parts_one p new h xs between eight count limits after = record {
       };
 }
 
-pub whole_went : CloseLaws → (p new : Parts) (h : Head) (xs : List ℕ) → IsBetween p.fields → is_kept h.rec ≡ true → h.count ≡ length xs → records.limits_of new.fields ≡ records.limits_of p.fields
+pub whole_went : LowerLaws → (p new : Parts) (h : Head) (xs : List ℕ) → IsBetween p.fields → is_kept h.rec ≡ true → h.count ≡ length xs → records.limits_of new.fields ≡ records.limits_of p.fields
     → ((ds : List Dataset) → records.StandsAfter p.fields ds → records.StandsAfter new.fields (ds ++ data_of h xs ∷ [])) → new.object ≡ p.object → new.message ≡ p.message → TellsWhole p h xs new
 whole_went laws p new h xs between kept count limits stands object message =
     let k = keeps h.rec kept in
     tells_parts_one p new h xs between k.eight count limits (λ ds at. after_whole laws p new ds h xs k at (stands ds at.fields) object message)
 
-pub number_went : CloseLaws → (p new : Parts) (h : Head) (xs : List ℕ) → IsBetween p.fields → h.rec ≡ 7 → h.count ≡ length xs → records.limits_of new.fields ≡ records.limits_of p.fields
+pub number_went : LowerLaws → (p new : Parts) (h : Head) (xs : List ℕ) → IsBetween p.fields → h.rec ≡ 7 → h.count ≡ length xs → records.limits_of new.fields ≡ records.limits_of p.fields
     → ((ds : List Dataset) → records.StandsAfter p.fields ds → records.StandsAfter new.fields (ds ++ data_of h xs ∷ [])) → objects.LeadsOn p.object (NumberRead h.set (number xs)) new.object → new.message ≡ p.message → TellsWhole p h xs new
 number_went laws p new h xs between seven count limits stands leads message =
     tells_parts_one p new h xs between (ap (λ (r : ℕ). nat_eq r 8) seven) count limits (λ ds at. after_number laws p new ds h xs seven at (stands ds at.fields) leads message)
 
-pub end_went : CloseLaws → (p new : Parts) (h : Head) (xs : List ℕ) → IsBetween p.fields → h.rec ≡ 9 → h.count ≡ length xs → records.limits_of new.fields ≡ records.limits_of p.fields
+pub end_went : LowerLaws → (p new : Parts) (h : Head) (xs : List ℕ) → IsBetween p.fields → h.rec ≡ 9 → h.count ≡ length xs → records.limits_of new.fields ≡ records.limits_of p.fields
     → ((ds : List Dataset) → records.StandsAfter p.fields ds → records.StandsAfter new.fields (ds ++ data_of h xs ∷ [])) → objects.EndsAs p.object (number xs) new.object → wire.IsWhole p.message → new.message ≡ p.message
     → TellsWhole p h xs new
 end_went laws p new h xs between nine count limits stands leads whole message =

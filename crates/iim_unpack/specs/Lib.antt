@@ -12,7 +12,6 @@ pub mod Passed
 pub mod Passing
 pub mod Sequence
 pub mod PartSteps
-pub mod PartLaws
 pub mod Going
 pub mod Routing
 pub mod TicketReading

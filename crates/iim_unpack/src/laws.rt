@@ -5,17 +5,12 @@ ghost use Rattle.iim_unpack.specs.States.Held.{HoldsFew};
 ghost use Rattle.iim_unpack.specs.States.Unpacking.{IsDone, IsDoneWith, Stands};
 ghost use Rattle.iim_unpack.specs.Laws.Alike.{PieceIsAnsweredAlike, PiecesAreAnsweredAlike, RestoredStandAlike};
 ghost use Rattle.iim_unpack.specs.Laws.Places.{RestoredStandAsSaved};
-ghost use Rattle.iim_unpack.specs.PartLaws.{CloseLaws, HeadLaws, MessageLaws};
 ghost use Rattle.iim_unpack.specs.Laws.Tickets.{UnpackersStandByPlace};
 ghost use Rattle.iim_unpack.specs.Restoring.{ReadersMakeUnpackers};
 
 use crate::unpacker::Unpacker;
-use iim_fields::laws::{
-    envelopes_end_with_the_last_record, heads_die_with_their_fault, no_sections_begin_others,
-    values_die_with_their_fault,
-};
 use iim_object::laws::readers_tell_sizes;
-use iim_places::laws::{by_layers_laws, feed_laws, object_laws, place_laws};
+use iim_places::laws::lower_laws;
 pub use iim_places::laws::{
     admitted_octets_are_framed, admitted_octets_have_one_value, envelopes_are_bounded,
     inputs_have_one_listing, limits_are_told_by_place, living_octets_are_open,
@@ -27,36 +22,6 @@ pub use iim_places::laws::{
     the_present_scale_says_nothing_more, tickets_have_one_split, tickets_of_places_are_split,
     tickets_tell_one_place,
 };
-use wire_message::laws::{readers_stand_at_living_octets, texts_stand_between_stx_and_etx};
-
-/// The laws by which octets go to the message.
-pub(crate) fn message_laws()
-    ensures { MessageLaws }
-{
-    texts_stand_between_stx_and_etx();
-    readers_stand_at_living_octets();
-    no_sections_begin_others();
-}
-
-/// The laws by which heads go to the parts of an unpacker.
-pub(crate) fn head_laws()
-    ensures { HeadLaws }
-{
-    object_laws();
-    message_laws();
-    heads_die_with_their_fault();
-    envelopes_end_with_the_last_record();
-}
-
-/// The laws by which datasets end.
-pub(crate) fn close_laws()
-    ensures { CloseLaws }
-{
-    object_laws();
-    values_die_with_their_fault();
-    readers_stand_at_living_octets();
-    no_sections_begin_others();
-}
 
 /// An unpacker that has refused nothing stands on some octets, or is done with some. And it holds what its limits allow, and 256 octets
 /// at most beside that.
@@ -66,7 +31,7 @@ pub fn unpackers_stand_somewhere(unpacker: &Unpacker)
     ensures done { IsDone unpacker.now → (octets : List ℕ) × (count : ℕ) × IsDoneWith unpacker.now octets count }
     ensures held { unpacker.now.refused ≡ None → HoldsFew unpacker.now }
 {
-    feed_laws();
+    lower_laws();
     unpacker.stands_somewhere();
 }
 
@@ -93,9 +58,7 @@ pub fn saved_places_continue()
 pub(crate) fn readers_make_unpackers()
     ensures { ReadersMakeUnpackers }
 {
-    by_layers_laws();
-    place_laws();
-    feed_laws();
+    lower_laws();
     limits_are_told_by_place();
     readers_tell_sizes();
 }
@@ -104,5 +67,5 @@ pub(crate) fn readers_make_unpackers()
 pub fn unpackers_stand_by_place()
     ensures { UnpackersStandByPlace }
 {
-    place_laws();
+    lower_laws();
 }

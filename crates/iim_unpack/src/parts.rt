@@ -17,11 +17,11 @@ ghost use Rattle.iim_unpack.specs.Routing.{HasEnded, TookWhole};
 pub(crate) mod message;
 pub(crate) mod router;
 
-use crate::laws::{close_laws, head_laws, message_laws};
 use crate::parts::message::{pass_head, pass_octets};
 use iim_dataset::{Head, Step};
 use iim_fields::Fields;
 use iim_object::{MAX_SUBFILES, ObjectFault, ObjectReader};
+use iim_places::laws::lower_laws;
 use iim_places::{TokenFault, message_on, of_field, size_on, too_many_on};
 use iim_tables::number_of;
 use iim_tables::records::{OBJECT, POST_OBJECT, PRE_OBJECT};
@@ -134,7 +134,7 @@ impl Parts {
             PartsRefuse S.goes S.failures (self.old, sink.old) [] (HeadRead head) (Some fault, sink.new)) }
         ensures room { room_of self.new.fields ≡ room_of self.old.fields }
     {
-        head_laws();
+        lower_laws();
         if let Err(fault) = self.fields.begin(head) {
             return Err(of_field(fault));
         }
@@ -158,7 +158,7 @@ impl Parts {
         ensures left { result ≡ false → self.new ≡ self.old }
         ensures room { room_of self.new.fields ≡ room_of self.old.fields }
     {
-        close_laws();
+        lower_laws();
         let Some(number) = number_of(octets) else {
             return false;
         };
@@ -186,7 +186,7 @@ impl Parts {
         ensures left { result ≡ false → self.new ≡ self.old }
         ensures room { room_of self.new.fields ≡ room_of self.old.fields }
     {
-        close_laws();
+        lower_laws();
         let Some(number) = number_of(octets) else {
             return false;
         };
@@ -212,7 +212,7 @@ impl Parts {
         ensures left { result ≡ false → self.new ≡ self.old }
         ensures room { room_of self.new.fields ≡ room_of self.old.fields }
     {
-        close_laws();
+        lower_laws();
         self.fields.whole(head, octets)
     }
 
@@ -235,9 +235,7 @@ impl Parts {
             (DataOctet (slice_index octets.now halt.taken)) (Some halt.fault, sink.new)) }
         ensures room { room_of self.new.fields ≡ room_of self.old.fields }
     {
-        head_laws();
-        message_laws();
-        close_laws();
+        lower_laws();
         if !self.object.accepts_subfile(head.count) {
             return Ok(None);
         }
@@ -298,7 +296,7 @@ impl Parts {
             (DataOctet (slice_index run.now halt.taken)) (Some halt.fault, sink.new)) }
         ensures room { room_of self.new.fields ≡ room_of self.old.fields }
     {
-        message_laws();
+        lower_laws();
         let Some(head) = self.fields.begun_head() else {
             unreachable!()
         };
@@ -322,7 +320,7 @@ impl Parts {
         ensures refused { IfErr result (NotClosed self.old) }
         ensures room { room_of self.new.fields ≡ room_of self.old.fields }
     {
-        close_laws();
+        lower_laws();
         let Some(head) = self.fields.begun_head() else {
             unreachable!()
         };

@@ -11,10 +11,9 @@ ghost use Rattle.iim_places.specs.declared.refusal.Cause.TheVariants.{Sink};
 use crate::unpacker::{Unpacked, Unpacker};
 use iim_places::Refusal;
 use iim_places::laws::{
-    envelopes_are_bounded, feed_laws, open_octets_are_bounded, refused_octets_were_open,
+    envelopes_are_bounded, lower_laws, open_octets_are_bounded, refused_octets_were_open,
     streams_have_one_answer,
 };
-use wire_message::laws::texts_stand_between_stx_and_etx;
 use wire_story::StorySink;
 use wire_story::laws::{delivery_may_be_cut, texts_are_delivered_as_lines};
 
@@ -32,7 +31,7 @@ fn feed_pieces<S: StorySink>(
         sink.new) }
     ensures counted { IfErr result (λ e. CountsFor e.cause (S.failures sink.old) (S.failures sink.new)) }
 {
-    feed_laws();
+    lower_laws();
     delivery_may_be_cut();
     open_octets_are_bounded();
     envelopes_are_bounded();
@@ -65,8 +64,7 @@ pub fn unpack_pieces<S: StorySink>(
     ensures calm { OnOk result (S.failures sink.new ≡ S.failures sink.old) }
     ensures counted { IfErr result (λ e. CountsFor e.cause (S.failures sink.old) (S.failures sink.new)) }
 {
-    feed_laws();
-    texts_stand_between_stx_and_etx();
+    lower_laws();
     texts_are_delivered_as_lines();
     streams_have_one_answer();
     let mut unpacker = unpacker;

@@ -28,7 +28,9 @@ use iim_dataset::{Fault as TagFault, FaultCause, HeadReader};
 use iim_fields::{Envelope, EnvelopeRef, Fields, Limits};
 use iim_object::laws::readers_tell_sizes;
 use iim_object::{ObjectReader, Sizes};
-use iim_places::laws::{admitted_octets_have_one_value, feed_laws, refusals_tell_the_lowest_cause};
+use iim_places::laws::{
+    admitted_octets_have_one_value, lower_laws, refusals_tell_the_lowest_cause,
+};
 use iim_places::{Cause, Layer, Refusal, TokenFault};
 use std::alloc::{AllocError, Global};
 use std::marker::Model;
@@ -244,7 +246,7 @@ impl Unpacker {
         ensures limits { limits_in result ≡ limits_of fields }
         ensures room { room_in result ≡ room_of fields }
     {
-        feed_laws();
+        lower_laws();
         Unpacker {
             reader: HeadReader::new(),
             parts: Parts {
@@ -265,7 +267,7 @@ impl Unpacker {
         ensures limits { limits_in self.new ≡ limits_in self.old }
         ensures room { room_in self.new ≡ room_in self.old }
     {
-        feed_laws();
+        lower_laws();
         self.reader = HeadReader::new();
         self.parts.fields.again();
         self.parts.object = ObjectReader::new();
@@ -355,7 +357,7 @@ impl Unpacker {
         // It holds what the limits allow, and 256 octets at most beside that; and whatever it answers, it takes no memory.
         ensures memory { (room_in self.new ≡ room_in self.old) × (self.new.refused ≡ None → HoldsFew self.new) }
     {
-        feed_laws();
+        lower_laws();
         readers_tell_sizes();
         refusals_tell_the_lowest_cause();
         if let Some(octet) = self.refused {
@@ -417,7 +419,7 @@ impl Unpacker {
         if self.refused.is_some() {
             return Err(SaveFault::Failed);
         }
-        feed_laws();
+        lower_laws();
         self.stands_somewhere();
         match spell_ticket(alloc, &self.reader, &self.parts) {
             Ok(ticket) => Ok(ticket),
@@ -432,7 +434,7 @@ impl Unpacker {
         ensures memory { self.now.refused ≡ None → IfErr result (λ fault. fault ≡ SaveFault.OutOfMemory) }
         ensures ticket { IfOk result (HasTicketIn self.now out.new) }
     {
-        feed_laws();
+        lower_laws();
         self.stands_somewhere();
         if self.refused.is_none() {
             if let Some(count) = spell_at(out, &self.reader, &self.parts) {
@@ -450,7 +452,7 @@ impl Unpacker {
         ensures value { IfSome result (λ got. (p : List ℕ) (a : ℕ) → IsDoneWith self.now p a → (v : Value) → Admits p v
             → ShowsParts got v) }
     {
-        feed_laws();
+        lower_laws();
         admitted_octets_have_one_value();
         if !self.is_done() {
             return None;
@@ -477,7 +479,7 @@ impl Unpacker {
         ensures not_done { OnErr result (IsDone self → ⊥) }
         ensures handed_back { IfErr result (λ u. u ≡ self) }
     {
-        feed_laws();
+        lower_laws();
         admitted_octets_have_one_value();
         if !self.is_done() {
             return Err(self);

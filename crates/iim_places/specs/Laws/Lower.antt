@@ -1,73 +1,55 @@
--- The laws of the lower crates, bundled by what rests on them.
+-- The laws of the lower crates, as one record: what rests on any of them takes it whole.
 use Rattle.iim_dataset.specs.Laws.Datasets.{CanonicalStreamsAreSpelled, NoTagBeginsAnother, NoDatasetBeginsAnother, NoOctetsContinue, OctetsAreHandedOnOneWay, EventsTellTheDatasets, WhatAnOctetCompletes}
-use Rattle.iim_fields.specs.Laws.Records.{EnvelopesEndWithTheLastRecord, NoSectionsBeginOthers, ValuesDieWithTheirFault}
+use Rattle.iim_fields.specs.Laws.Records.{EnvelopesEndWithTheLastRecord, HeadsDieWithTheirFault, HeadsTellTheLowestCause, NoSectionsBeginOthers, ValuesDieWithTheirFault, ValuesTellTheLowestCause}
+use Rattle.iim_object.specs.Laws.Conditions.{CausesAreTheFirst}
 use Rattle.iim_object.specs.Laws.Numbers.{TokensFollow, OthersLeadNowhere, NumbersLead, SubfilesLead, EndsLead, DatasetsLiveWithTheirTokens, DatasetsEndWithTheirTokens, RecordsAreByNumber}
 use Rattle.iim_object.specs.Laws.Packing.{NumberDatasetsAreGood}
 use Rattle.iim_object.specs.Laws.Living.{NumbersLiveWithoutClash, ObjectsEndWhereTheyAreWhole, SubfilesLiveWhileTheyFit, TotalsAreConfirmed}
-use Rattle.wire_story.specs.Laws.Texts.{TextsSoFarHaveOneReading}
-use Rattle.wire_message.specs.Laws.Messages.{MessagesEndAfterEot, OctetsLeadToOnePlace, PlacesAreSavedApart, ReadersStandAtLivingOctets, TextsStandBetweenStxAndEtx}
+use Rattle.wire_story.specs.Laws.Texts.{StoriesEndAsTexts, StoriesLiveAsTextsSoFar, TextsEndInNoReturn, TextsSoFarHaveOneReading}
+use Rattle.wire_message.specs.Laws.Messages.{LivingOctetsLeadOn, MessagesEndAfterEot, OctetsAreRefusedAlike, OctetsLeadOnAlike, OctetsLeadToOnePlace, PlacesAreSavedApart, ReadersStandAtLivingOctets, TextsStandBetweenStxAndEtx}
 
--- how datasets lead the object from place to place
-pub record ObjectLaws : Type 0 where
-  pub tokens : TokensFollow
-  pub others : OthersLeadNowhere
-  pub numbers : NumbersLead
-  pub subfiles : SubfilesLead
-  pub ends : EndsLead
-
--- by which an unpacker continues
-pub record FeedLaws : Type 0 where
-  pub octet : WhatAnOctetCompletes
-  pub way : OctetsAreHandedOnOneWay
-  pub tell : EventsTellTheDatasets
-  pub ends : EnvelopesEndWithTheLastRecord
-  pub sections : NoSectionsBeginOthers
-  pub living : ReadersStandAtLivingOctets
-  pub numbers : RecordsAreByNumber
-
--- by which tokens follow one another
-pub record FollowLaws : Type 0 where
+pub record LowerLaws : Type 0 where
+  -- of datasets
   pub one_tag : NoTagBeginsAnother
   pub one_dataset : NoDatasetBeginsAnother
+  pub one_way : OctetsAreHandedOnOneWay
+  pub events_tell : EventsTellTheDatasets
+  pub completes : WhatAnOctetCompletes
+  pub stuck : NoOctetsContinue
+  pub spelled : CanonicalStreamsAreSpelled
+  -- of records
   pub sections : NoSectionsBeginOthers
-  pub ends : EnvelopesEndWithTheLastRecord
-  pub objects : ObjectLaws
+  pub last_record : EnvelopesEndWithTheLastRecord
+  pub heads_die : HeadsDieWithTheirFault
+  pub heads_tell : HeadsTellTheLowestCause
+  pub values_die : ValuesDieWithTheirFault
+  pub values_tell : ValuesTellTheLowestCause
+  -- of objects
+  pub tokens : TokensFollow
+  pub others : OthersLeadNowhere
+  pub numbers_lead : NumbersLead
+  pub subfiles_lead : SubfilesLead
+  pub ends_lead : EndsLead
   pub live : DatasetsLiveWithTheirTokens
   pub ended : DatasetsEndWithTheirTokens
-
--- by which a stream has one answer
-pub record AnswerLaws : Type 0 where
-  pub follow : FollowLaws
-  pub way : OctetsAreHandedOnOneWay
-  pub tell : EventsTellTheDatasets
-  pub stuck : NoOctetsContinue
-  pub living : ReadersStandAtLivingOctets
-  pub numbers : RecordsAreByNumber
+  pub by_number : RecordsAreByNumber
   pub rows : NumberDatasetsAreGood
-  pub texts : TextsSoFarHaveOneReading
-
--- how long the object layer lives
-pub record SizeLaws : Type 0 where
-  pub numbers : NumbersLiveWithoutClash
+  pub no_clash : NumbersLiveWithoutClash
   pub fit : SubfilesLiveWhileTheyFit
-  pub ends : ObjectsEndWhereTheyAreWhole
+  pub whole_ends : ObjectsEndWhereTheyAreWhole
   pub confirmed : TotalsAreConfirmed
-
--- by which plain octets are open
-pub record OpenLaws : Type 0 where
-  pub answer : AnswerLaws
-  pub sizes : SizeLaws
-  pub spelled : CanonicalStreamsAreSpelled
-
--- by which one place has one unpacker
-pub record PlaceLaws : Type 0 where
-  pub answer : AnswerLaws
+  pub first_cause : CausesAreTheFirst
+  -- of texts
+  pub one_text : TextsSoFarHaveOneReading
+  pub stories_live : StoriesLiveAsTextsSoFar
+  pub stories_end : StoriesEndAsTexts
+  pub no_return : TextsEndInNoReturn
+  -- of messages
   pub texts : TextsStandBetweenStxAndEtx
+  pub living : ReadersStandAtLivingOctets
+  pub on : LivingOctetsLeadOn
+  pub alike : OctetsLeadOnAlike
+  pub refused : OctetsAreRefusedAlike
   pub one_place : OctetsLeadToOnePlace
   pub apart : PlacesAreSavedApart
-  pub values : ValuesDieWithTheirFault
-
--- by which places are possible where each layer can be there
-pub record ByLayersLaws : Type 0 where
-  pub opens : OpenLaws
-  pub ends : MessagesEndAfterEot
+  pub message_ends : MessagesEndAfterEot

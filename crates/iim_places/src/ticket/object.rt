@@ -9,7 +9,7 @@ ghost use Rattle.iim_places.specs.States.ByLayers.{begun_of_object, object_after
 ghost use Rattle.iim_places.specs.Nowhere.{goes_nowhere, stops_nowhere, joins_nowhere, joins_stop_nowhere};
 ghost use Rattle.iim_places.specs.States.TicketsTold.{phase_told};
 
-use crate::laws::object_laws;
+use crate::laws::lower_laws;
 use crate::ticket::split::TicketPhase;
 use iim_dataset::Stop;
 use iim_object::{ObjectReader, ObjectSink};
@@ -60,7 +60,7 @@ fn ended(object: ObjectReader) -> Option<ObjectReader>
     ensures none { IfNone result ((p : Place) → StandsAt object p → MayFollow p ObjectEnded
         → IsPossible (place_after p ObjectEnded) → ⊥) }
 {
-    object_laws();
+    lower_laws();
     let mut object = object;
     match object.head(POST_OBJECT, CONFIRMED_SIZE, 0, &mut Nowhere) {
         Ok(()) => Some(object),
@@ -77,7 +77,7 @@ fn confirmed(object: ObjectReader, size: u64) -> Option<ObjectReader>
     ensures none { IfNone result ((p : Place) → StandsAt object p → MayFollow p (Confirmed size)
         → IsPossible (place_after p (Confirmed size)) → ⊥) }
 {
-    object_laws();
+    lower_laws();
     let mut object = object;
     match object.value(POST_OBJECT, CONFIRMED_SIZE, size) {
         Ok(()) => Some(object),
@@ -96,7 +96,7 @@ fn ended_at(numbers: [Option<u64>; 4], taken: u64, heads: u64) -> Option<ObjectR
     ensures none { IfNone result ((p : Place) → IsAt numbers taken None heads p → IsPossible (place_after p ObjectEnded)
         → ⊥) }
 {
-    object_laws();
+    lower_laws();
     let object = ObjectReader::at(numbers, taken, None, heads)?;
     if heads == 0 {
         return None;
@@ -116,7 +116,7 @@ fn confirmed_at(numbers: [Option<u64>; 4], taken: u64, heads: u64) -> Option<Obj
     ensures none { IfNone result ((p : Place) → IsAt numbers taken None heads p
         → IsPossible (place_after (place_after p ObjectEnded) (Confirmed taken)) → ⊥) }
 {
-    object_laws();
+    lower_laws();
     let object = ended_at(numbers, taken, heads)?;
     confirmed(object, taken)
 }

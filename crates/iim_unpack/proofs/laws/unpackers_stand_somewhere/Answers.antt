@@ -16,4 +16,4 @@ pub returns-clause-done : goal.returns-clause-done
 returns-clause-done c = λ done. stood_done c.args.unpacker.now done.1 (c.stands_somewhere.ensures.stood done.0)
 
 pub returns-clause-held : goal.returns-clause-held
-returns-clause-held c = λ none. holds_few c.feed_laws.ensures.tell c.args.unpacker.now (c.stands_somewhere.ensures.stood none)
+returns-clause-held c = λ none. holds_few c.lower_laws.ensures.events_tell c.args.unpacker.now (c.stands_somewhere.ensures.stood none)

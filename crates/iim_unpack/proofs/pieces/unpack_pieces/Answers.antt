@@ -45,7 +45,7 @@ returns-clause-finished g c =
     let stream = stream_of c.args.pieces.now in
     let fed = c.in_ok-feed_pieces.ensures.fed in
     let f = ends_done goes limits v c.args.sink.now c.feed_pieces.new.sink stream c.end_of_input.result fed c.in_default.is c.end_of_input.ensures.truncated in
-    is_unpacked goes c.feed_laws.ensures c.texts_stand_between_stx_and_etx.ensures c.texts_are_delivered_as_lines.ensures limits v c.args.sink.now c.feed_pieces.new.sink stream f.more c.in-Ok.got c.octets-used.result fed.limits_are f.told f.done c.in-Ok.ensures.value c.octets-used.ensures
+    is_unpacked goes c.lower_laws.ensures c.texts_are_delivered_as_lines.ensures limits v c.args.sink.now c.feed_pieces.new.sink stream f.more c.in-Ok.got c.octets-used.result fed.limits_are f.told f.done c.in-Ok.ensures.value c.octets-used.ensures
 
 pub returns-clause-only : goal.returns-clause-only
 returns-clause-only g c =
@@ -55,5 +55,5 @@ returns-clause-only g c =
     let stream = stream_of c.args.pieces.now in
     let fed = c.in_ok-feed_pieces.ensures.fed in
     let f = ends_done goes limits v c.args.sink.now c.feed_pieces.new.sink stream c.end_of_input.result fed c.in_default.is c.end_of_input.ensures.truncated in
-    let up = is_unpacked goes c.feed_laws.ensures c.texts_stand_between_stx_and_etx.ensures c.texts_are_delivered_as_lines.ensures limits v c.args.sink.now c.feed_pieces.new.sink stream f.more c.in-Ok.got c.octets-used.result fed.limits_are f.told f.done c.in-Ok.ensures.value c.octets-used.ensures in
+    let up = is_unpacked goes c.lower_laws.ensures c.texts_are_delivered_as_lines.ensures limits v c.args.sink.now c.feed_pieces.new.sink stream f.more c.in-Ok.got c.octets-used.result fed.limits_are f.told f.done c.in-Ok.ensures.value c.octets-used.ensures in
     λ answer is other. only_up goes c.streams_have_one_answer.ensures limits stream c.args.sink.now c.feed_pieces.new.sink c.in-Ok.got c.octets-used.result up answer is

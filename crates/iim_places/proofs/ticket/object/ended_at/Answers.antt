@@ -3,9 +3,9 @@ use Rattle.iim_places.proofs.Results.{if_none}
 use Rattle.iim_places.proofs.ticket.object.ended_at.Goals as goal
 
 pub returns-in_err-object-clause-none : goal.returns-in_err-object-clause-none
-returns-in_err-object-clause-none c = rw c.from_residual.ensures (λ p at is. let some = c.in_err-object.ensures.exactly.1 (p, at, before_end c.object_laws.ensures.tokens p at.not_ended is) in cc)
+returns-in_err-object-clause-none c = rw c.from_residual.ensures (λ p at is. let some = c.in_err-object.ensures.exactly.1 (p, at, before_end c.lower_laws.ensures.tokens p at.not_ended is) in cc)
 
 pub returns-clause-none : goal.returns-clause-none
 returns-clause-none c =
     if_none _ _ c.ended.result
-    (λ none p at is. none p (c.in_ok-object.ensures.stands p at (before_end c.object_laws.ensures.tokens p at.not_ended is)) (may_end p at.not_ended is) is) c.ended.ensures.none
+    (λ none p at is. none p (c.in_ok-object.ensures.stands p at (before_end c.lower_laws.ensures.tokens p at.not_ended is)) (may_end p at.not_ended is) is) c.ended.ensures.none

@@ -8,12 +8,12 @@ use Rattle.iim_unpack.proofs.parts.Parts.head.Goals as goal
 
 pub returns-in-Err-clause-stopped : goal.returns-in-Err-clause-stopped
 returns-in-Err-clause-stopped g c =
-    let laws = c.head_laws.ensures in
+    let laws = c.lower_laws.ensures in
     rw c.of_field.ensures (stopped_field g.S.StorySink.goes g.S.StorySink.failures c.args.self.now c.args.sink.now c.args.head c.in-Err.fault (omega (arith, c.well_formed)) laws c.requires.more c.requires.fields (g.met.S.StorySink.nothing c.args.sink.now) c.in-Err.ensures.fault)
 
 pub returns-then-head-eq-OBJECT-clause-went : goal.returns-then-head-eq-OBJECT-clause-went
 returns-then-head-eq-OBJECT-clause-went g c =
-    let laws = c.head_laws.ensures in
+    let laws = c.lower_laws.ensures in
     let p = c.args.self.now in
     on_ok_weaker c.subfile.result
     (λ h. tells_parts_head g.S.StorySink.goes g.S.StorySink.failures p _ c.args.sink.now c.subfile.new.sink c.args.head h.1.0.more c.requires.fields c.begin.ensures.bounds.limits h.1.0.told h.1.0.calm
@@ -23,14 +23,14 @@ returns-then-head-eq-OBJECT-clause-went g c =
 
 pub returns-then-head-eq-OBJECT-clause-stopped : goal.returns-then-head-eq-OBJECT-clause-stopped
 returns-then-head-eq-OBJECT-clause-stopped g c =
-    let laws = c.head_laws.ensures in
+    let laws = c.lower_laws.ensures in
     IfErr-weaker c.subfile.result _ _
     (stopped_subfile g.S.StorySink.goes g.S.StorySink.failures c.args.self.now c.args.sink.now c.subfile.new.sink c.args.head c.begin.new.self laws c.requires.more c.requires.fields (g.met.S.StorySink.nothing c.args.sink.now) c.in_default.ensures.stands (omega (arith, c.if-head-eq-OBJECT.true)))
     c.subfile.ensures.refused
 
 pub returns-then-head-eq-POST_OBJECT-clause-went : goal.returns-then-head-eq-POST_OBJECT-clause-went
 returns-then-head-eq-POST_OBJECT-clause-went g c =
-    let laws = c.head_laws.ensures in
+    let laws = c.lower_laws.ensures in
     let p = c.args.self.now in
     on_ok_weaker c.pass_head.result
     (λ h. tells_parts_head g.S.StorySink.goes g.S.StorySink.failures p _ c.args.sink.now c.pass_head.new.sink c.args.head h.1.more c.requires.fields c.begin.ensures.bounds.limits h.1.told h.1.calm
@@ -40,7 +40,7 @@ returns-then-head-eq-POST_OBJECT-clause-went g c =
 
 pub returns-then-head-eq-POST_OBJECT-clause-stopped : goal.returns-then-head-eq-POST_OBJECT-clause-stopped
 returns-then-head-eq-POST_OBJECT-clause-stopped g c =
-    let laws = c.head_laws.ensures in
+    let laws = c.lower_laws.ensures in
     IfErr-weaker c.pass_head.result _ _
     (stopped_last g.S.StorySink.goes g.S.StorySink.failures c.args.self.now c.args.sink.now c.pass_head.new.sink c.args.head c.begin.new.self laws c.requires.more c.requires.fields c.in_default.ensures.stands (omega (arith, c.if-head-eq-POST_OBJECT.true)))
     c.pass_head.ensures.refused

@@ -15,7 +15,7 @@ returns-then-head-ne-OBJECT-clause-went g c =
 pub returns-in-Ok-clause-went : goal.returns-in-Ok-clause-went
 returns-in-Ok-clause-went g c =
     let run = c.args.run.now in
-    let laws = c.message_laws.ensures in
+    let laws = c.lower_laws.ensures in
     rw c.in-Ok.ensures.same (tells_parts_object g.S.StorySink.goes g.S.StorySink.failures c.args.self.now c.args.sink.now c.pass_octets.new.sink run c.pass_octets.new.message laws
     c.in-Some.head (sym c.begun_head.ensures.head ∙ c.in-Some.is) c.if-head-ne-OBJECT.false (are_octets run (λ i. omega (arith, c.type_inv.run i))) c.in-Ok.ensures.told)
 
@@ -23,6 +23,6 @@ pub returns-in-Err-clause-stopped : goal.returns-in-Err-clause-stopped
 returns-in-Err-clause-stopped g c =
     let run = c.args.run.now in
     let f = c.in-Err.fault in
-    let laws = c.message_laws.ensures in
+    let laws = c.lower_laws.ensures in
     rw c.halt_on.ensures (stopped_object g.S.StorySink.goes g.S.StorySink.failures c.args.self.now c.args.sink.now c.pass_octets.new.sink (take f.taken run) (slice_index run f.taken) f.cause laws
     c.in-Some.head (sym c.begun_head.ensures.head ∙ c.in-Some.is) c.if-head-ne-OBJECT.false c.in-Err.ensures.refused)

@@ -27,5 +27,5 @@ returns-clause-ended c is =
 
 pub returns-clause-whole : goal.returns-clause-whole
 returns-clause-whole c is =
-    end_went c.close_laws.ensures c.args.self.now _ (of_nine c.args.set c.args.count) c.args.octets.now c.requires.takes.fields refl c.requires.count c.put_number.ensures.bounds.limits (c.put_number.ensures.took c.args.octets.now (admitted c)).stands
+    end_went c.lower_laws.ensures c.args.self.now _ (of_nine c.args.set c.args.count) c.args.octets.now c.requires.takes.fields refl c.requires.count c.put_number.ensures.bounds.limits (c.put_number.ensures.took c.args.octets.now (admitted c)).stands
     (subst (λ (n : ℕ). EndsAs c.args.self.now.object n c.args.self.now.object) c.in-Some.ensures.value (c.may_end.ensures.ends c.if-not-may_end.false)) (c.may_end.ensures.whole c.if-not-may_end.false) refl

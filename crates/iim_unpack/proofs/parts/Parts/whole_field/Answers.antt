@@ -10,7 +10,7 @@ returns-clause-takes c =
 
 pub returns-clause-whole : goal.returns-clause-whole
 returns-clause-whole c is =
-    whole_went c.close_laws.ensures c.args.self.now _ c.args.head c.args.octets.now c.requires.takes.fields (c.whole.ensures.kept is) c.requires.count c.whole.ensures.bounds.limits (c.whole.ensures.took is).stands refl refl
+    whole_went c.lower_laws.ensures c.args.self.now _ c.args.head c.args.octets.now c.requires.takes.fields (c.whole.ensures.kept is) c.requires.count c.whole.ensures.bounds.limits (c.whole.ensures.took is).stands refl refl
 
 pub returns-clause-left : goal.returns-clause-left
 returns-clause-left c is = ap (λ (f : FieldsPlace). let p : Parts = record c.args.self.now { fields = f } in p) (c.whole.ensures.left is)

@@ -31,6 +31,6 @@ returns-clause-takes c =
 
 pub returns-clause-whole : goal.returns-clause-whole
 returns-clause-whole c is =
-    number_went c.close_laws.ensures c.args.self.now _ (of_seven c.args.set c.args.count) c.args.octets.now c.requires.takes.fields refl c.requires.count c.put_number.ensures.bounds.limits
+    number_went c.lower_laws.ensures c.args.self.now _ (of_seven c.args.set c.args.count) c.args.octets.now c.requires.takes.fields refl c.requires.count c.put_number.ensures.bounds.limits
     (c.put_number.ensures.took c.args.octets.now (admitted c)).stands
     (subst (λ (n : ℕ). LeadsOn c.args.self.now.object (NumberRead c.args.set n) c.put_number-2.new.self) c.in-Some.ensures.value c.put_number-2.ensures.leads_on) refl

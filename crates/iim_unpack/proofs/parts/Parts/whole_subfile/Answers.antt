@@ -13,7 +13,7 @@ returns-in-Ok-clause-taken g c =
     let run = c.args.octets.now in
     let p = c.args.self.now in
     let some : IsSome c.pass_octets.new.object = subst (λ (o : Option State). IsSome o) (sym c.in-Ok.ensures.same) c.put_subfile.ensures.takes_calls in (
-      rw c.in-Ok.ensures.same (subfile_went g.S.StorySink.goes g.S.StorySink.failures g.met.S.StorySink.nothing g.met.S.StorySink.joined c.head_laws.ensures c.message_laws.ensures c.close_laws.ensures p c.args.sink.now c.pass_octets.new.sink
+      rw c.in-Ok.ensures.same (subfile_went g.S.StorySink.goes g.S.StorySink.failures g.met.S.StorySink.nothing g.met.S.StorySink.joined c.lower_laws.ensures p c.args.sink.now c.pass_octets.new.sink
           c.args.head run c.whole_subfile.new.self c.put_subfile.new.self c.pass_octets.new.message (record {
             eight = c.requires.subfile;
             takes = c.requires.takes;
@@ -28,7 +28,7 @@ pub returns-in-Err-clause-stopped : goal.returns-in-Err-clause-stopped
 returns-in-Err-clause-stopped g c =
     let run = c.args.octets.now in
     let f = c.in-Err.fault in
-    rw c.halt_on.ensures (subfile_stopped g.S.StorySink.goes g.S.StorySink.failures g.met.S.StorySink.nothing g.met.S.StorySink.joined c.head_laws.ensures c.message_laws.ensures c.args.self.now c.args.sink.now c.pass_octets.new.sink
+    rw c.halt_on.ensures (subfile_stopped g.S.StorySink.goes g.S.StorySink.failures g.met.S.StorySink.nothing g.met.S.StorySink.joined c.lower_laws.ensures c.args.self.now c.args.sink.now c.pass_octets.new.sink
     c.args.head (take f.taken run) (slice_index run f.taken) f.cause c.whole_subfile.new.self c.put_subfile.new.self (record {
       eight = c.requires.subfile;
       takes = c.requires.takes;

@@ -4,7 +4,7 @@ use Rattle.iim_unpack.proofs.unpacker.Unpacker.again.Goals as goal
 
 pub returns-clause-stands : goal.returns-clause-stands
 returns-clause-stands c =
-    stands_new c.feed_laws.ensures _ refl refl refl c.new-self-inside.ensures.stands (record {
+    stands_new c.lower_laws.ensures _ refl refl refl c.new-self-inside.ensures.stands (record {
       fields = c.again.ensures.stands;
       object = c.new-self-inside-2.ensures.stands;
       few = omega arith;
@@ -14,7 +14,7 @@ returns-clause-stands c =
 
 pub invariant_of-self : goal.invariant_of-self
 invariant_of-self c =
-    λ none. sound_new c.feed_laws.ensures _ refl refl refl c.new-self-inside.ensures.stands (record {
+    λ none. sound_new c.lower_laws.ensures _ refl refl refl c.new-self-inside.ensures.stands (record {
       fields = c.again.ensures.stands;
       object = c.new-self-inside-2.ensures.stands;
       few = omega arith;

@@ -4,7 +4,7 @@ use Rattle.iim_unpack.proofs.unpacker.Unpacker.begin.Goals as goal
 
 pub returns-clause-stands : goal.returns-clause-stands
 returns-clause-stands c =
-    stands_new c.feed_laws.ensures _ refl refl refl c.new.ensures.stands (record {
+    stands_new c.lower_laws.ensures _ refl refl refl c.new.ensures.stands (record {
       fields = c.requires;
       object = c.new-2.ensures.stands;
       few = omega arith;
@@ -14,7 +14,7 @@ returns-clause-stands c =
 
 pub invariant_of-result : goal.invariant_of-result
 invariant_of-result c =
-    λ none. sound_new c.feed_laws.ensures _ refl refl refl c.new.ensures.stands (record {
+    λ none. sound_new c.lower_laws.ensures _ refl refl refl c.new.ensures.stands (record {
       fields = c.requires;
       object = c.new-2.ensures.stands;
       few = omega arith;

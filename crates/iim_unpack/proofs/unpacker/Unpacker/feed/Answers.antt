@@ -34,7 +34,7 @@ returns-then-has_ended-2-clause-goes g c =
       (
         story.delivered h.advanced.went.more,
         h.advanced.went.told,
-        λ p a at. goes_done g.S.StorySink.goes g.S.StorySink.failures c.feed_laws.ensures u v c.args.piece.now c.in-Ok.used c.args.sink.now n.sink (c.readers_tell_sizes.ensures n.parts.object).0 h.advanced h.onward refl (sym c.if-has_ended-2.ensures) c.raised-self-inside.ensures h.within (c.readers_tell_sizes.ensures n.parts.object).1 p a
+        λ p a at. goes_done g.S.StorySink.goes g.S.StorySink.failures c.lower_laws.ensures u v c.args.piece.now c.in-Ok.used c.args.sink.now n.sink (c.readers_tell_sizes.ensures n.parts.object).0 h.advanced h.onward refl (sym c.if-has_ended-2.ensures) c.raised-self-inside.ensures h.within (c.readers_tell_sizes.ensures n.parts.object).1 p a
             (subst (λ (w : Unpacking). Stands w p a) (sym c.self.view_is) at),
       ),
     )
@@ -50,7 +50,7 @@ returns-else-has_ended-2-clause-goes g c =
       (
         story.delivered h.advanced.went.more,
         h.advanced.went.told,
-        λ p a at. goes_more g.S.StorySink.goes g.S.StorySink.failures c.feed_laws.ensures u v c.args.piece.now c.in-Ok.used c.args.sink.now n.sink h.advanced h.onward refl (sym c.if-has_ended-2.ensures) c.raised-self-inside.ensures c.begins-self-inside.ensures p a
+        λ p a at. goes_more g.S.StorySink.goes g.S.StorySink.failures c.lower_laws.ensures u v c.args.piece.now c.in-Ok.used c.args.sink.now n.sink h.advanced h.onward refl (sym c.if-has_ended-2.ensures) c.raised-self-inside.ensures c.begins-self-inside.ensures p a
             (subst (λ (w : Unpacking). Stands w p a) (sym c.self.view_is) at),
       ),
     )
@@ -62,7 +62,7 @@ returns-in-Err-clause-refused g c =
     let h = c.in-Err.ensures in
     let halt = c.in-Err.halt in
     let octet : IsOctet (slice_index c.args.piece.now halt.taken) = omega (arith, c.type_inv.piece halt.taken) in
-    let r = refused_in g.S.StorySink.goes g.S.StorySink.failures c.feed_laws.ensures c.refusals_tell_the_lowest_cause.ensures u c.args.piece.now halt.taken halt.fault c.args.sink.now c.advance.new.sink c.refusal_at.result h.before octet
+    let r = refused_in g.S.StorySink.goes g.S.StorySink.failures c.lower_laws.ensures c.refusals_tell_the_lowest_cause.ensures u c.args.piece.now halt.taken halt.fault c.args.sink.now c.advance.new.sink c.refusal_at.result h.before octet
     (c.refusal_at.ensures ∙ ap (λ (n : ℕ). refusal_at n halt.fault) c.raised-octet.ensures) h.fails in
     (r.0, r.1, λ p a at. subst (λ (w : Unpacking). IsRefusedIn (limits_in w) p a c.args.piece.now r.0 c.refusal_at.result) c.self.view_is (r.2 p a (subst (λ (w : Unpacking). Stands w p a) (sym c.self.view_is) at)))
 
@@ -75,7 +75,7 @@ sound_ended g c none =
     let u : Unpacking = record { reader = i.reader; parts = i.parts; octets = i.octets; begun = i.begun; refused = i.refused } in
     let v : Unpacking = record { reader = n.reader; parts = n.parts; octets = c.raised-self-inside.result; begun = c.begins-self-inside.result; refused = i.refused } in
     let h = c.in-Ok.ensures.taken in
-    sound_done g.S.StorySink.goes g.S.StorySink.failures c.feed_laws.ensures u v c.args.piece.now c.in-Ok.used c.args.sink.now n.sink (c.readers_tell_sizes.ensures n.parts.object).0 h.advanced h.onward h.takes_calls refl (sym c.if-has_ended-2.ensures) c.raised-self-inside.ensures h.within (c.readers_tell_sizes.ensures n.parts.object).1
+    sound_done g.S.StorySink.goes g.S.StorySink.failures c.lower_laws.ensures u v c.args.piece.now c.in-Ok.used c.args.sink.now n.sink (c.readers_tell_sizes.ensures n.parts.object).0 h.advanced h.onward h.takes_calls refl (sym c.if-has_ended-2.ensures) c.raised-self-inside.ensures h.within (c.readers_tell_sizes.ensures n.parts.object).1
     (c.self.invariant none) (sym c.if-has_ended.ensures)
 
 sound_within : (g : Over) (c : Else-has_ended-2 g) → c.self.inside.refused ≡ None
@@ -86,7 +86,7 @@ sound_within g c none =
     let u : Unpacking = record { reader = i.reader; parts = i.parts; octets = i.octets; begun = i.begun; refused = i.refused } in
     let v : Unpacking = record { reader = n.reader; parts = n.parts; octets = c.raised-self-inside.result; begun = c.begins-self-inside.result; refused = i.refused } in
     let h = c.in-Ok.ensures.taken in
-    sound_more g.S.StorySink.goes g.S.StorySink.failures c.feed_laws.ensures u v c.args.piece.now c.in-Ok.used c.args.sink.now n.sink h.advanced h.onward h.takes_calls refl (sym c.if-has_ended-2.ensures) c.raised-self-inside.ensures c.begins-self-inside.ensures
+    sound_more g.S.StorySink.goes g.S.StorySink.failures c.lower_laws.ensures u v c.args.piece.now c.in-Ok.used c.args.sink.now n.sink h.advanced h.onward h.takes_calls refl (sym c.if-has_ended-2.ensures) c.raised-self-inside.ensures c.begins-self-inside.ensures
     (c.self.invariant none) (sym c.if-has_ended.ensures)
 
 pub invariant_of-self : goal.invariant_of-self
@@ -99,16 +99,16 @@ pub returns-then-has_ended-clause-memory : goal.returns-then-has_ended-clause-me
 returns-then-has_ended-clause-memory g c =
     let i = c.self.inside in
     let u : Unpacking = record { reader = i.reader; parts = i.parts; octets = i.octets; begun = i.begun; refused = i.refused } in
-    (refl, λ none. subst HoldsFew c.self.view_is (holds_few c.feed_laws.ensures.tell u (c.self.invariant (ap (λ (w : Unpacking). w.refused) c.self.view_is ∙ none)).stood))
+    (refl, λ none. subst HoldsFew c.self.view_is (holds_few c.lower_laws.ensures.events_tell u (c.self.invariant (ap (λ (w : Unpacking). w.refused) c.self.view_is ∙ none)).stood))
 
 pub returns-then-has_ended-2-clause-memory : goal.returns-then-has_ended-2-clause-memory
 returns-then-has_ended-2-clause-memory g c = (
   c.advance.ensures.room ∙ ap room_in c.self.view_is,
-  λ none. holds_few c.feed_laws.ensures.tell _ (sound_ended g (goal.at.returns-then-has_ended-2-clause-memory g c).Then-has_ended-2 none).stood,
+  λ none. holds_few c.lower_laws.ensures.events_tell _ (sound_ended g (goal.at.returns-then-has_ended-2-clause-memory g c).Then-has_ended-2 none).stood,
 )
 
 pub returns-else-has_ended-2-clause-memory : goal.returns-else-has_ended-2-clause-memory
 returns-else-has_ended-2-clause-memory g c = (
   c.advance.ensures.room ∙ ap room_in c.self.view_is,
-  λ none. holds_few c.feed_laws.ensures.tell _ (sound_within g (goal.at.returns-else-has_ended-2-clause-memory g c).Else-has_ended-2 none).stood,
+  λ none. holds_few c.lower_laws.ensures.events_tell _ (sound_within g (goal.at.returns-else-has_ended-2-clause-memory g c).Else-has_ended-2 none).stood,
 )

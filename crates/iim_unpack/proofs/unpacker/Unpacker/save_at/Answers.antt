@@ -19,9 +19,9 @@ returns-in-Some-clause-ticket c =
     subst (λ (w : Unpacking). HasTicketIn w c.spell_at.new.out c.in-Some.count) c.self.view_is
     (record {
       ticket = ticket;
-      is_ticket = λ p a at. ticket_by c.feed_laws.ensures.tell u p ticket a c.in-Some.ensures.1 at;
+      is_ticket = λ p a at. ticket_by c.lower_laws.ensures.events_tell u p ticket a c.in-Some.ensures.1 at;
       counts = sym counts;
-      few = subst (λ (n : ℕ). n ≤ (limits_in u).octets + 6 * (limits_in u).fields + 256) counts (short_ticket c.feed_laws.ensures.tell u ticket c.in-Some.ensures.1 stood);
+      few = subst (λ (n : ℕ). n ≤ (limits_in u).octets + 6 * (limits_in u).fields + 256) counts (short_ticket c.lower_laws.ensures.events_tell u ticket c.in-Some.ensures.1 stood);
       stands = λ fits. refl;
     })
 

@@ -1,0 +1,47 @@
+use Rattle.iim_places.proofs.laws.lower_laws.Goals as goal
+
+pub returns : goal.returns
+returns c =
+    let live = c.datasets_live_with_their_tokens.ensures in
+    let lead = c.datasets_lead_from_place_to_place.ensures in
+    record {
+      one_tag = c.no_tag_begins_another.ensures;
+      one_dataset = c.no_dataset_begins_another.ensures;
+      one_way = c.octets_are_handed_on_one_way.ensures;
+      events_tell = c.events_tell_the_datasets.ensures;
+      completes = c.what_an_octet_completes.ensures;
+      stuck = c.no_octets_continue.ensures;
+      spelled = c.canonical_streams_are_spelled.ensures;
+      sections = c.no_sections_begin_others.ensures;
+      last_record = c.envelopes_end_with_the_last_record.ensures;
+      heads_die = c.heads_die_with_their_fault.ensures;
+      heads_tell = c.heads_tell_the_lowest_cause.ensures;
+      values_die = c.values_die_with_their_fault.ensures;
+      values_tell = c.values_tell_the_lowest_cause.ensures;
+      tokens = lead.tokens;
+      others = lead.others;
+      numbers_lead = lead.numbers;
+      subfiles_lead = lead.subfiles;
+      ends_lead = lead.ends;
+      live = live.after;
+      ended = live.ended;
+      by_number = c.records_are_by_number.ensures;
+      rows = c.number_datasets_are_good.ensures;
+      no_clash = c.numbers_live_without_clash.ensures;
+      fit = c.subfiles_live_while_they_fit.ensures;
+      whole_ends = c.objects_end_where_they_are_whole.ensures;
+      confirmed = c.totals_are_confirmed.ensures;
+      first_cause = c.causes_are_the_first.ensures;
+      one_text = c.texts_so_far_have_one_reading.ensures;
+      stories_live = c.stories_live_as_texts_so_far.ensures;
+      stories_end = c.stories_end_as_texts.ensures;
+      no_return = c.texts_end_in_no_return.ensures;
+      texts = c.texts_stand_between_stx_and_etx.ensures;
+      living = c.readers_stand_at_living_octets.ensures;
+      on = c.living_octets_lead_on.ensures;
+      alike = c.octets_lead_on_alike.ensures;
+      refused = c.octets_are_refused_alike.ensures;
+      one_place = c.octets_lead_to_one_place.ensures;
+      apart = c.places_are_saved_apart.ensures;
+      message_ends = c.messages_end_after_eot.ensures;
+    }
