@@ -6,7 +6,7 @@ use crate::given::LIMITS;
 use crate::outcome::{Trouble, right, right_at};
 use crate::told::Told;
 use iim_dataset::FromWrite;
-use iim_object::{Plan, Size, Sizes};
+use iim_object::{Plan, Size, SizeCause, Sizes};
 use iim_pack::{pack, packed_size};
 use iim_round_trip::{Story, UnpackFault, unpack_packed, unpack_story};
 use iim_unpack::{Cause, Unpacked};
@@ -195,7 +195,7 @@ fn a_story_comes_back_before_others(alloc: Global) -> Result<(), Trouble> {
 /// The last octet of the first says 49 in place of 50.
 fn a_story_is_refused_at_its_octet(alloc: Global) -> Result<(), Trouble> {
     let wrong = unpack_story(alloc, LIMITS, &[front(245), b"\x31"]);
-    right(refusal_of(wrong) == Some((Cause::ConfirmedWrong, 245)))?;
+    right(refusal_of(wrong) == Some((Cause::Size(SizeCause::ConfirmedWrong), 245)))?;
     let short = unpack_story(alloc, LIMITS, &[front(200)]);
     right(refusal_of(short) == Some((Cause::Truncated, 200)))
 }

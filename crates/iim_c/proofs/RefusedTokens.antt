@@ -13,7 +13,9 @@ use Rattle.iim_fields.specs.declared.limits.Limits.{Limits}
 use Rattle.iim_places.specs.Format.Conditions.{Token, AtOctet, AtHead, AtValue, rule_of}
 use Rattle.iim_places.specs.Format.Open.{AllCanContinue, Completes}
 use Rattle.iim_places.specs.declared.refusal.Cause.{Cause}
-use Rattle.iim_places.specs.declared.refusal.Cause.TheVariants.{Marker, CountForm, Truncated, RecordOrder, UnknownDataset, Repeated, CountRange, Missing, BadValue, FileFormat, ModeClash, SizeClash, SubfileTooLong, PastSize, Short, ConfirmedWrong, BadOctet, Unfinished, LoneReturn, ControlOctet, HeaderFull, TooManyFields, TooManySubfiles, Sink, Failed}
+use Rattle.iim_places.specs.declared.refusal.Cause.TheVariants.{Marker, CountForm, Truncated, Field, Size, Message, TooManySubfiles, Failed}
+use Rattle.iim_object.specs.declared.reading.fault.SizeCause.TheVariants as sizes
+use Rattle.wire_message.specs.declared.fault.MessageCause.TheVariants as messages
 use Rattle.iim_places.proofs.Lasts.{last_sections}
 use Rattle.iim_c.specs.declared.begun.IimBegun.{IimBegun}
 use Rattle.iim_c.specs.Format.Begun.{AreOctetsOf, HaveEnded, TellsBegun, TellsOctets, TellsToken, token_of}
@@ -40,27 +42,12 @@ in_subfile : (cause : Cause) (limits : Limits) (ds : List Dataset) (h : Head) (t
 in_subfile Marker limits ds h taken octet holds = absurd holds
 in_subfile CountForm limits ds h taken octet holds = absurd holds
 in_subfile Truncated limits ds h taken octet holds = absurd holds
-in_subfile RecordOrder limits ds h taken octet holds = absurd holds
-in_subfile UnknownDataset limits ds h taken octet holds = absurd holds
-in_subfile Repeated limits ds h taken octet holds = absurd holds
-in_subfile CountRange limits ds h taken octet holds = absurd holds
-in_subfile Missing limits ds h taken octet holds = absurd holds
-in_subfile BadValue limits ds h taken octet holds = absurd holds
-in_subfile FileFormat limits ds h taken octet holds = absurd holds
-in_subfile ModeClash limits ds h taken octet holds = absurd holds
-in_subfile SizeClash limits ds h taken octet holds = absurd holds
-in_subfile SubfileTooLong limits ds h taken octet holds = absurd holds
-in_subfile PastSize limits ds h taken octet holds = absurd holds
-in_subfile Short limits ds h taken octet holds = absurd holds
-in_subfile ConfirmedWrong limits ds h taken octet holds = absurd holds
-in_subfile BadOctet limits ds h taken octet holds = holds.0
-in_subfile Unfinished limits ds h taken octet holds = absurd holds
-in_subfile LoneReturn limits ds h taken octet holds = holds.0
-in_subfile ControlOctet limits ds h taken octet holds = holds.0
-in_subfile HeaderFull limits ds h taken octet holds = absurd holds
-in_subfile TooManyFields limits ds h taken octet holds = absurd holds
+in_subfile (Field cause) limits ds h taken octet holds = absurd holds
+in_subfile (Size sizes.ModeClash) limits ds h taken octet holds = absurd holds
+in_subfile (Size other) limits ds h taken octet holds = absurd holds
+in_subfile (Message messages.Unfinished) limits ds h taken octet holds = absurd holds
+in_subfile (Message other) limits ds h taken octet holds = holds.0
 in_subfile TooManySubfiles limits ds h taken octet holds = absurd holds
-in_subfile Sink limits ds h taken octet holds = holds.0
 in_subfile Failed limits ds h taken octet holds = absurd holds
 
 -- an octet that is judged by itself, of what is begun

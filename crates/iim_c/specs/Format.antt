@@ -1,6 +1,7 @@
 pub mod Answers
 pub mod Auditing
 pub mod Begun
+pub mod Causes
 pub mod Checking
 pub mod Feeding
 pub mod Instants
@@ -11,6 +12,5 @@ pub mod Rows
 pub mod SoFar
 pub mod Statuses
 pub mod Tables
-pub mod Texts
 pub mod TicketAnswers
 pub mod Writing

@@ -12,11 +12,11 @@ ghost use Rattle.iim_c.specs.Format.Auditing.{IsAudited};
 ghost use Rattle.iim_c.specs.Format.Begun.{IsBegunTold, TellsOctets, TellsToken};
 ghost use Rattle.iim_c.specs.Format.Checking.{IsChecked, IsOnly, limits_for};
 ghost use Rattle.iim_c.specs.Format.Feeding.{IsEnd, IsFed};
-ghost use Rattle.iim_c.specs.Format.Names.{IsNamed, cause_named, dataset_named, layer_named, name_or_none};
+ghost use Rattle.iim_c.specs.Format.Names.{IsNamed, dataset_named, layer_named, name_or_none};
 ghost use Rattle.iim_c.specs.Format.Next.{IsNext};
 ghost use Rattle.iim_c.specs.Format.Packing.{IsPacked, IsSized};
 ghost use Rattle.iim_c.specs.Format.Tables.{rule_for};
-ghost use Rattle.iim_c.specs.Format.Texts.{cause_text};
+ghost use Rattle.iim_c.specs.Format.Causes.{cause_named, cause_text};
 ghost use Rattle.iim_c.specs.Format.TicketAnswers.{AreSizes, IsField, IsHeader};
 
 use iim_c::{

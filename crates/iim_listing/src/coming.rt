@@ -44,7 +44,7 @@ fn let_out_before_read<R: Source, S: Outlet>(intake: &Intake<R>, sink: &mut S) -
 fn next_of_refusal(refusal: Refusal) -> Result<Next, CommandFault>
     ensures { IsOfRefusal refusal result }
 {
-    if refusal.cause == Cause::Sink {
+    if refusal.cause == Cause::SINK {
         return Err(CommandFault::CannotWrite);
     }
     Ok(Next::Refused(refusal))

@@ -7,14 +7,13 @@ use Rattle.iim_places.proofs.Words.{Begun, Reads, BeginsNoTag, Head, SectionsLiv
 use Rattle.iim_places.proofs.Words.{data_of, tells_number, Limits, FieldFault}
 use Rattle.iim_places.proofs.Words.{cause_at, place_after_datasets, ObjectToken, head_token, value_token, max_subfiles, SizeCause, Holds, Octet}
 use Rattle.iim_places.proofs.Words.{MessageLanguage, text_so_far, HasCause, MessageCause, object_of, Token, AtOctet, AtHead, AtValue, IsNoCount, Names}
-use Rattle.iim_places.proofs.Words.{TellsTheLowest, rule_of, AreWithin, AllCanContinue, Dies, IsUnfinished, RefusesByTests, RefusesNext, Completes, cause_of}
-use Rattle.iim_places.proofs.Words.{layer_of, cause_of_size, cause_of_message, layer_of_message, of_field, size_on, too_many_on, message_on, DiesAtHead}
+use Rattle.iim_places.proofs.Words.{TellsTheLowest, rule_of, AreWithin, AllCanContinue, Dies, IsUnfinished, RefusesByTests, RefusesNext, Completes}
+use Rattle.iim_places.proofs.Words.{layer_of, layer_of_message, of_field, size_on, too_many_on, message_on, DiesAtHead}
 use Rattle.iim_places.proofs.Words.{DiesAtValue, IsRefusedHead, IsRefusedValue, place_at, subfile_fault, object_fault, number_fault, LowerLaws, TokenFault}
 use Rattle.iim_places.proofs.Words.{Layer, AreSections, cases_Bool, eq-eqb, ltb-true, eqb_tells, record_fault, limits_fault, fault_on, is_kept, StoryLanguage}
 use Rattle.iim_places.proofs.Words.{MessageLivesWith, StoryLivesIn, tag_cause, begun_record, begun_number, HaveRoom, fault_at_head, fault_at_value}
 use Rattle.iim_places.proofs.Words.{octets_append}
 use Rattle.iim_fields.specs.Format.Causes.{number_of_cause}
-use Rattle.iim_fields.specs.Format.Causes.Token.{AtHead as HeadToken, AtValue as ValueToken}
 use Rattle.iim_fields.specs.declared.fault.FieldCause.{FieldCause}
 use Rattle.iim_object.specs.Format.Places.{Place}
 use Rattle.iim_places.specs.declared.refusal.Cause.{Cause}
@@ -24,11 +23,9 @@ use Rattle.iim_places.proofs.SameRecords.{stated_after_all, stated_at}
 use Rattle.iim_places.proofs.SizeConditions.{OfSize, size_holds}
 use Rattle.iim_places.proofs.StoryDies.{in_text, lone_return, control}
 use Rattle.iim_places.proofs.Living.{alive_front}
-use Rattle.iim_fields.specs.Format.Causes as records
 use Rattle.iim_fields.specs.declared.fault.FieldCause.TheVariants as fields
 use Rattle.iim_object.specs.Laws.Conditions as objects
 use Rattle.iim_object.specs.Format.Conditions as objects_format
-use Rattle.iim_object.specs.declared.reading.fault.SizeCause.TheVariants as sizes
 use Rattle.wire_message.specs.declared.fault.MessageCause.TheVariants as messages
 use Rattle.iim_places.specs.declared.refusal.Layer.TheVariants as layers
 use Rattle.iim_places.specs.declared.refusal.Cause.TheVariants as causes
@@ -37,38 +34,27 @@ use Rattle.iim_places.specs.declared.refusal.Cause.TheVariants as causes
 
 abbrev pub InLayer : Layer → Cause → Type 0
 InLayer layers.Dataset c = (c ≡ causes.Marker) ⊎ ((c ≡ causes.CountForm) ⊎ (c ≡ causes.Truncated))
-InLayer layers.Record c = (f : FieldCause) × (c ≡ cause_of f)
-InLayer layers.Limits c = ((f : FieldCause) × (c ≡ cause_of f)) ⊎ (c ≡ causes.TooManySubfiles)
-InLayer layers.Object c = (s : SizeCause) × (c ≡ cause_of_size s)
-InLayer layers.Message c = (c ≡ causes.BadOctet) ⊎ (c ≡ causes.Unfinished)
-InLayer layers.Story c = (c ≡ causes.LoneReturn) ⊎ (c ≡ causes.ControlOctet)
-InLayer layers.Outside c = (c ≡ causes.Sink) ⊎ (c ≡ causes.Failed)
+InLayer layers.Record c = (f : FieldCause) × (c ≡ causes.Field f)
+InLayer layers.Limits c = ((f : FieldCause) × (c ≡ causes.Field f)) ⊎ (c ≡ causes.TooManySubfiles)
+InLayer layers.Object c = (s : SizeCause) × (c ≡ causes.Size s)
+InLayer layers.Message c = (c ≡ causes.Message messages.BadOctet) ⊎ (c ≡ causes.Message messages.Unfinished)
+InLayer layers.Story c = (c ≡ causes.Message messages.LoneReturn) ⊎ (c ≡ causes.Message messages.ControlOctet)
+InLayer layers.Outside c = (c ≡ causes.Message messages.Sink) ⊎ (c ≡ causes.Failed)
 
 in_layer : (c : Cause) → InLayer (rule_of c).layer c
 in_layer causes.Marker = inl refl
 in_layer causes.CountForm = inr (inl refl)
 in_layer causes.Truncated = inr (inr refl)
-in_layer causes.RecordOrder = (fields.RecordOrder, refl)
-in_layer causes.UnknownDataset = (fields.UnknownDataset, refl)
-in_layer causes.Repeated = (fields.Repeated, refl)
-in_layer causes.CountRange = (fields.CountRange, refl)
-in_layer causes.Missing = (fields.Missing, refl)
-in_layer causes.BadValue = (fields.BadValue, refl)
-in_layer causes.FileFormat = (fields.FileFormat, refl)
-in_layer causes.ModeClash = (sizes.ModeClash, refl)
-in_layer causes.SizeClash = (sizes.SizeClash, refl)
-in_layer causes.SubfileTooLong = (sizes.SubfileTooLong, refl)
-in_layer causes.PastSize = (sizes.PastSize, refl)
-in_layer causes.Short = (sizes.Short, refl)
-in_layer causes.ConfirmedWrong = (sizes.ConfirmedWrong, refl)
-in_layer causes.BadOctet = inl refl
-in_layer causes.Unfinished = inr refl
-in_layer causes.LoneReturn = inl refl
-in_layer causes.ControlOctet = inr refl
-in_layer causes.HeaderFull = inl (fields.HeaderFull, refl)
-in_layer causes.TooManyFields = inl (fields.TooManyFields, refl)
+in_layer (causes.Field fields.HeaderFull) = inl (fields.HeaderFull, refl)
+in_layer (causes.Field fields.TooManyFields) = inl (fields.TooManyFields, refl)
+in_layer (causes.Field other) = (other, refl)
+in_layer (causes.Size cause) = (cause, refl)
+in_layer (causes.Message messages.BadOctet) = inl refl
+in_layer (causes.Message messages.Unfinished) = inr refl
+in_layer (causes.Message messages.LoneReturn) = inl refl
+in_layer (causes.Message messages.ControlOctet) = inr refl
+in_layer (causes.Message messages.Sink) = inl refl
 in_layer causes.TooManySubfiles = inr refl
-in_layer causes.Sink = inl refl
 in_layer causes.Failed = inr refl
 
 pub one_of : (l : Layer) (c : Cause) → (rule_of c).layer ≡ l → InLayer l c
@@ -83,44 +69,9 @@ Holds' limits ds token c = (rule_of c).holds limits ds token
 
 -- ---- the record layer and the limits
 
-pub field_layer : (f : FieldCause) → (rule_of (cause_of f)).layer ≡ layer_of f
-field_layer fields.RecordOrder = refl
-field_layer other = refl
-
-pub field_number : (f : FieldCause) → (rule_of (cause_of f)).number ≡ number_of_cause f
-field_number fields.RecordOrder = refl
-field_number other = refl
-
 -- as the record layer and the limits have it
-abbrev pub OfField : FieldCause → Limits → List Dataset → Token → Type 0
-OfField cause limits ds (AtOctet begun octet) = ⊥
-OfField cause limits ds (AtHead h) = records.HasCause cause limits ds (HeadToken h)
-OfField cause limits ds (AtValue d) = records.HasCause cause limits ds (ValueToken d)
-
-pub field_holds : (f : FieldCause) (limits : Limits) (ds : List Dataset) (token : Token) → (Holds' limits ds token (cause_of f) → OfField f limits ds token) × (OfField f limits ds token → Holds' limits ds token (cause_of f))
-field_holds fields.RecordOrder limits ds (AtOctet begun octet) = (λ h. h, λ h. h)
-field_holds other limits ds (AtOctet begun octet) = (λ h. h, λ h. h)
-field_holds fields.RecordOrder limits ds (AtHead h) = (λ h. h, λ h. h)
-field_holds other limits ds (AtHead h) = (λ h. h, λ h. h)
-field_holds fields.RecordOrder limits ds (AtValue d) = (λ h. h, λ h. h)
-field_holds other limits ds (AtValue d) = (λ h. h, λ h. h)
-
--- the dataset that is named
-pub head_names : (f : FieldCause) (ds : List Dataset) (h : Head) (rec set : ℕ) → (records.Names f ds (HeadToken h) rec set → Names (cause_of f) ds (AtHead h) rec set) × (Names (cause_of f) ds (AtHead h) rec set → records.Names f ds (HeadToken h) rec set)
-head_names fields.Missing ds h rec set = (λ n. n, λ n. n)
-head_names other ds h rec set = (λ n. n, λ n. n)
-
-pub value_names : (f : FieldCause) (ds : List Dataset) (d : Dataset) (rec set : ℕ) → (records.Names f ds (ValueToken d) rec set → Names (cause_of f) ds (AtValue d) rec set) × (Names (cause_of f) ds (AtValue d) rec set → records.Names f ds (ValueToken d) rec set)
-value_names fields.Missing ds d rec set = (λ n. n, λ n. n)
-value_names other ds d rec set = (λ n. n, λ n. n)
-
-size_names : (s : SizeCause) (ds : List Dataset) (h : Head) → Names (cause_of_size s) ds (AtHead h) h.rec h.set
-size_names sizes.ModeClash ds h = (refl, refl)
-size_names other ds h = (refl, refl)
-
-size_value_names : (s : SizeCause) (ds : List Dataset) (d : Dataset) → Names (cause_of_size s) ds (AtValue d) d.rec d.set
-size_value_names sizes.ModeClash ds d = (refl, refl)
-size_value_names other ds d = (refl, refl)
+abbrev pub HasField : FieldCause → Limits → List Dataset → Token → Type 0
+HasField cause limits ds token = Holds' limits ds token (causes.Field cause)
 
 -- what is told of a token
 pub record IsTold (limits : Limits) (ds : List Dataset) (token : Token) (fault : TokenFault) : Type 0 where
@@ -128,50 +79,38 @@ pub record IsTold (limits : Limits) (ds : List Dataset) (token : Token) (fault :
   pub names : Names fault.cause ds token fault.rec fault.set
 
 -- of the limits a lower number than 52 is a cause of fields
-few_limits : (c : Cause) (n : ℕ) → InLayer layers.Limits c → (rule_of c).number < n → n ≤ 52 → (g : FieldCause) × (c ≡ cause_of g)
+few_limits : (c : Cause) (n : ℕ) → InLayer layers.Limits c → (rule_of c).number < n → n ≤ 52 → (g : FieldCause) × (c ≡ causes.Field g)
 few_limits c n (inl field) less low = field
 few_limits c n (inr last) less low = absurd (let is = numbered c causes.TooManySubfiles last in omega (arith, less, low, is))
 
-lower_field : (f : FieldCause) (c : Cause) → (rule_of c).layer ≡ layer_of f → (rule_of c).number < number_of_cause f → (g : FieldCause) × (c ≡ cause_of g)
+lower_field : (f : FieldCause) (c : Cause) → (rule_of c).layer ≡ layer_of f → (rule_of c).number < number_of_cause f → (g : FieldCause) × (c ≡ causes.Field g)
 lower_field fields.HeaderFull c same less = few_limits c 50 (one_of layers.Limits c same) less (omega arith)
 lower_field fields.TooManyFields c same less = few_limits c 51 (one_of layers.Limits c same) less (omega arith)
 lower_field other c same less = one_of layers.Record c same
 
-field_lowest : (limits : Limits) (ds : List Dataset) (token : Token) (f : FieldFault) → OfField f.cause limits ds token
-    → ((g : FieldCause) → number_of_cause g < number_of_cause f.cause → OfField g limits ds token → ⊥) → TellsTheLowest limits ds token (of_field f)
+field_lowest : (limits : Limits) (ds : List Dataset) (token : Token) (f : FieldFault) → HasField f.cause limits ds token
+    → ((g : FieldCause) → number_of_cause g < number_of_cause f.cause → HasField g limits ds token → ⊥) → TellsTheLowest limits ds token (of_field f)
 field_lowest limits ds token f holds lowest = record {
-  layer = field_layer f.cause;
-  holds = (field_holds f.cause limits ds token).1 holds;
+  layer = refl;
+  holds = holds;
   lowest = λ other same less has.
-      let number_is = field_number f.cause in
-      let (g, is) = lower_field f.cause other same (omega (arith, less, number_is)) in
-      let other_is = numbered other (cause_of g) is in
-      let g_is = field_number g in
-      lowest g (omega (arith, less, number_is, other_is, g_is)) ((field_holds g limits ds token).0 (subst (Holds' limits ds token) is has));
+      let (g, is) = lower_field f.cause other same less in
+      let other_is = numbered other (causes.Field g) is in
+      lowest g (omega (arith, less, other_is)) (subst (Holds' limits ds token) is has);
 }
 
 -- ---- the object layer
 
-pub size_layer : (s : SizeCause) → (rule_of (cause_of_size s)).layer ≡ layers.Object
-size_layer sizes.ModeClash = refl
-size_layer other = refl
-
-pub size_number : (s : SizeCause) → (rule_of (cause_of_size s)).number ≡ objects_format.number_of s
-size_number sizes.ModeClash = refl
-size_number other = refl
-
 size_lowest : (limits : Limits) (ds : List Dataset) (token : Token) (h : Head) (p : Place) (t : ObjectToken) (s : SizeCause) → objects.IsFirstCause p t s
     → OfSize s ds token → ((r : SizeCause) → OfSize r ds token → objects_format.HasCause r p t) → TellsTheLowest limits ds token (size_on h s)
 size_lowest limits ds token h p t s first holds back = record {
-  layer = size_layer s;
-  holds = (size_holds s limits ds token).1 holds;
+  layer = refl;
+  holds = (size_holds s ds token).1 holds;
   lowest = λ other same less has.
       let (r, is) = one_of layers.Object other same in
-      let low = first.lowest r (back r ((size_holds r limits ds token).0 (subst (Holds' limits ds token) is has))) in
-      let number_is = size_number s in
-      let other_is = numbered other (cause_of_size r) is in
-      let r_is = size_number r in
-      omega (arith, less, low, number_is, other_is, r_is);
+      let low = first.lowest r (back r ((size_holds r ds token).0 (subst (Holds' limits ds token) is has))) in
+      let other_is = numbered other (causes.Size r) is in
+      omega (arith, less, low, other_is);
 }
 
 -- ---- heads
@@ -200,13 +139,13 @@ pub either : (r a b : ℕ) → (nat_eq r a || nat_eq r b) ≡ true → (r ≡ a)
 either r a b is = elim (or_cases (nat_eq r a) (nat_eq r b) is) [ inl same ↦ inl (eqb-true r a same) | inr same ↦ inr (eqb-true r b same) ]
 
 too_many_lowest : (limits : Limits) (ds : List Dataset) (h : Head) → h.rec ≡ 8 → max_subfiles ≤ length (of_record 8 ds)
-    → ((f : FieldCause) → OfField f limits ds (AtHead h) → ⊥) → TellsTheLowest limits ds (AtHead h) (too_many_on h)
+    → ((f : FieldCause) → HasField f limits ds (AtHead h) → ⊥) → TellsTheLowest limits ds (AtHead h) (too_many_on h)
 too_many_lowest limits ds h eight many none = record {
   layer = refl;
   holds = (eight, many);
   lowest = λ other same less has.
       let (g, is) = few_limits other 52 (one_of layers.Limits other same) less (omega arith) in
-      none g ((field_holds g limits ds (AtHead h)).0 (subst (Holds' limits ds (AtHead h)) is has));
+      none g (subst (Holds' limits ds (AtHead h)) is has);
 }
 
 pub leads_at : LowerLaws → (ds : List Dataset) (h : Head) → SectionsLiveAt ds h → (h.rec ≡ 8 → length (of_record 8 ds) < max_subfiles) → (h.rec ≡ 8) ⊎ (h.rec ≡ 9) → HeadLeads ds h
@@ -223,13 +162,13 @@ head_lowest laws limits ds h fault alive within refused = by (first_fault limits
         let leads = leads_at laws ds h dead.0 dead.1.subfiles is in
         let stated = (stated_after_all laws ds alive within.subfiles).stated in
         let first = (laws.first_cause (place_after_datasets ds) (head_token h.rec h.count) m.cause stated leads.0).0 m.is in
-        subst (IsTold limits ds (AtHead h)) m.fault (record { tells = size_lowest limits ds (AtHead h) h (place_after_datasets ds) (head_token h.rec h.count) m.cause first (is, first.holds) (λ r has. has.1); names = size_names m.cause ds h })
+        subst (IsTold limits ds (AtHead h)) m.fault (record { tells = size_lowest limits ds (AtHead h) h (place_after_datasets ds) (head_token h.rec h.count) m.cause first (is, first.holds) (λ r has. has.1); names = (refl, refl) })
 
     by : (o : Option FieldFault) (p q : Option TokenFault) → first_fault limits ds h ≡ o → subfile_fault ds h ≡ p → object_fault ds h ≡ q
         → option_or (option_map of_field o) (option_or p q) ≡ Some fault → IsTold limits ds (AtHead h) fault
     by (Some f) p q first second third e =
         let is = ((laws.heads_tell limits ds h).0 f).0 first in
-        subst (IsTold limits ds (AtHead h)) (same_Some _ _ e) (record { tells = field_lowest limits ds (AtHead h) f is.holds is.lowest; names = (head_names f.cause ds h f.rec f.set).0 is.names })
+        subst (IsTold limits ds (AtHead h)) (same_Some _ _ e) (record { tells = field_lowest limits ds (AtHead h) f is.holds is.lowest; names = is.names })
     by None (Some s) q first second third e =
         let many = taken_if (nat_eq h.rec 8) (nat_lt (length (of_record 8 ds)) max_subfiles) (too_many_on h) s second in
         subst (IsTold limits ds (AtHead h)) (many.0 ∙ same_Some _ _ e)
@@ -256,13 +195,13 @@ value_lowest laws limits ds d fault within refused = by (value_fault d) (number_
         let first = (laws.first_cause (place_at ds (head_of d)) (value_token d.rec d.set (number d.octets)) m.cause stated leads.0).0 m.is in
         subst (IsTold limits ds (AtValue d)) m.fault (record {
           tells = size_lowest limits ds (AtValue d) (head_of d) (place_at ds (head_of d)) (value_token d.rec d.set (number d.octets)) m.cause first (is, first.holds) (λ r has. has.1);
-          names = size_value_names m.cause ds d;
+          names = (refl, refl);
         })
 
     by : (o : Option FieldFault) (q : Option TokenFault) → value_fault d ≡ o → number_fault ds d ≡ q → option_or (option_map of_field o) q ≡ Some fault → IsTold limits ds (AtValue d) fault
     by (Some f) q first second e =
         let is = ((laws.values_tell limits ds d).0 f).0 first in
-        subst (IsTold limits ds (AtValue d)) (same_Some _ _ e) (record { tells = field_lowest limits ds (AtValue d) f is.holds is.lowest; names = (value_names f.cause ds d f.rec f.set).0 is.names })
+        subst (IsTold limits ds (AtValue d)) (same_Some _ _ e) (record { tells = field_lowest limits ds (AtValue d) f is.holds is.lowest; names = is.names })
     by None q first second e = by_object (mapped_if (tells_number d.rec) (cause_at (place_at ds (head_of d)) (value_token d.rec d.set (number d.octets))) (size_on (head_of d)) fault (second ∙ e))
 
 -- ---- octets of the object, and its end
@@ -276,7 +215,7 @@ end_lowest limits ds h fault is =
   where
     by : (other : Cause) → InLayer layers.Message other → (rule_of other).number < 32 → Holds' limits ds (AtHead h) other → ⊥
     by other (inl bad) less has = subst (Holds' limits ds (AtHead h)) bad has
-    by other (inr same) less has = let is = numbered other causes.Unfinished same in omega (arith, less, is)
+    by other (inr same) less has = let is = numbered other (causes.Message messages.Unfinished) same in omega (arith, less, is)
 
 -- the first of two causes of a layer is the lowest
 first_of_two : (other c d : Cause) → (other ≡ c) ⊎ (other ≡ d) → (rule_of c).number ≤ (rule_of d).number → (rule_of other).number < (rule_of c).number → ⊥
@@ -288,7 +227,7 @@ no_return : LowerLaws → (limits : Limits) (ds : List Dataset) (h : Head) (take
     → Holds' limits ds (AtOctet (InData h taken) b) other → ⊥
 no_return laws limits ds h taken b none other (inl is) less it =
     let (eight, (text, (held, holds, some, feed, second))) = subst (Holds' limits ds (AtOctet (InData h taken) b)) is it in not_held laws (text_so_far (object_of ds ++ taken)) held some holds none
-no_return laws limits ds h taken b none other (inr is) less it = let n = numbered other causes.ControlOctet is in omega (arith, n, less)
+no_return laws limits ds h taken b none other (inr is) less it = let n = numbered other (causes.Message messages.ControlOctet) is in omega (arith, n, less)
 
 -- an octet more, as octets and as tokens
 pub one_token : (o : List ℕ) (b : ℕ) → map Octet (o ++ b ∷ []) ≡ map Octet o ++ Octet b ∷ []
@@ -299,7 +238,7 @@ octet_lowest : LowerLaws → (limits : Limits) (ds : List Dataset) (h : Head) (t
 octet_lowest laws limits ds h taken b eight low messages.BadOctet has = record {
   layer = refl;
   holds = (eight, λ lives. has.1 (subst (IsAlive MessageLanguage) (one_token (object_of ds ++ taken) b) lives));
-  lowest = λ other same less it. first_of_two other causes.BadOctet causes.Unfinished (one_of layers.Message other same) (omega arith) less;
+  lowest = λ other same less it. first_of_two other (causes.Message messages.BadOctet) (causes.Message messages.Unfinished) (one_of layers.Message other same) (omega arith) less;
 }
 octet_lowest laws limits ds h taken b eight low messages.Unfinished has = absurd has
 octet_lowest laws limits ds h taken b eight low messages.LoneReturn (lives, dies, (held, some, holds)) = record {
@@ -307,7 +246,7 @@ octet_lowest laws limits ds h taken b eight low messages.LoneReturn (lives, dies
   holds =
       let lone = lone_return laws (object_of ds ++ taken) b held dies some holds in
       (eight, (in_text (object_of ds ++ taken) b dies, (held, holds, lone.0, lone.1, lone.2)));
-  lowest = λ other same less it. first_of_two other causes.LoneReturn causes.ControlOctet (one_of layers.Story other same) (omega arith) less;
+  lowest = λ other same less it. first_of_two other (causes.Message messages.LoneReturn) (causes.Message messages.ControlOctet) (one_of layers.Story other same) (omega arith) less;
 }
 octet_lowest laws limits ds h taken b eight low messages.ControlOctet (lives, dies, none) = record {
   layer = refl;
@@ -317,12 +256,8 @@ octet_lowest laws limits ds h taken b eight low messages.ControlOctet (lives, di
 octet_lowest laws limits ds h taken b eight low messages.Sink (lives, story, told, apart) = record {
   layer = refl;
   holds = (eight, (told, apart));
-  lowest = λ other same less it. first_of_two other causes.Sink causes.Failed (one_of layers.Outside other same) (omega arith) less;
+  lowest = λ other same less it. first_of_two other (causes.Message messages.Sink) causes.Failed (one_of layers.Outside other same) (omega arith) less;
 }
-
-octet_names : (cause : MessageCause) (ds : List Dataset) (h : Head) (taken : List ℕ) (b : ℕ) → Names (cause_of_message cause) ds (AtOctet (InData h taken) b) h.rec h.set
-octet_names messages.BadOctet ds h taken b = (refl, refl)
-octet_names other ds h taken b = (refl, refl)
 
 -- ---- tags
 
@@ -504,7 +439,7 @@ by_step laws limits octets next fault low ds b reads all open' = by b reads all
     by (InData h xs) reads all (inl (eight, cause, has, is)) =
         subst (RefusesNext limits octets next) (sym is)
         (made (InData h xs) reads all (message_on h cause) (AtOctet (InData h xs) next) (refl, refl) (octet_dies cause limits ds h xs next has)
-        (record { tells = octet_lowest laws limits ds h xs next eight low cause has; names = octet_names cause ds h xs next }))
+        (record { tells = octet_lowest laws limits ds h xs next eight low cause has; names = (refl, refl) }))
     by (InData h xs) reads all (inr (other, many, bad)) =
         let d = data_of h (xs ++ next ∷ []) in
         made (InData h xs) reads all fault (AtValue d) (other, refl, many) (value_dies fault.layer limits ds d bad.dead)
@@ -543,14 +478,14 @@ last_number fields.HeaderFull = omega arith
 last_number other = omega arith
 
 -- the fault that is told of a field
-field_fault : (fault : TokenFault) (f : FieldCause) → fault.cause ≡ cause_of f → (rule_of fault.cause).layer ≡ fault.layer → of_field (record { rec = fault.rec; set = fault.set; cause = f }) ≡ fault
-field_fault fault f is layer = same_fault _ fault (sym (field_layer f) ∙ ap (λ (c : Cause). (rule_of c).layer) (sym is) ∙ layer) refl refl (sym is)
+field_fault : (fault : TokenFault) (f : FieldCause) → fault.cause ≡ causes.Field f → (rule_of fault.cause).layer ≡ fault.layer → of_field (record { rec = fault.rec; set = fault.set; cause = f }) ≡ fault
+field_fault fault f is layer = same_fault _ fault (ap (λ (c : Cause). (rule_of c).layer) (sym is) ∙ layer) refl refl (sym is)
 
 -- a cause of fields that is no lower one of the layer
 not_lower : (limits : Limits) (ds : List Dataset) (token : Token) (fault : TokenFault) → TellsTheLowest limits ds token fault → (g : FieldCause) → layer_of g ≡ fault.layer → number_of_cause g < (rule_of fault.cause).number
-    → OfField g limits ds token → ⊥
+    → HasField g limits ds token → ⊥
 not_lower limits ds token fault tells g layer less has =
-    let number_is = field_number g in tells.lowest (cause_of g) (field_layer g ∙ layer) (omega (arith, less, number_is)) ((field_holds g limits ds token).1 has)
+    tells.lowest (causes.Field g) layer less has
 
 -- ---- limits
 
@@ -562,7 +497,7 @@ room_number true true false h f e = subst (λ (x : FieldFault). 50 ≤ number_of
 room_number true true true h f e = absurd cc
 
 -- where the record layer can continue with a head, no condition of its own holds
-no_record : LowerLaws → (limits : Limits) (ds : List Dataset) (h : Head) → SectionsLive ds → SectionsLiveAt ds h → (g : FieldCause) → number_of_cause g < 50 → OfField g limits ds (AtHead h) → ⊥
+no_record : LowerLaws → (limits : Limits) (ds : List Dataset) (h : Head) → SectionsLive ds → SectionsLiveAt ds h → (g : FieldCause) → number_of_cause g < 50 → HasField g limits ds (AtHead h) → ⊥
 no_record laws limits ds h alive at g low has = by (first_fault limits ds h) refl
   where
     none : record_fault ds h ≡ None
@@ -577,7 +512,7 @@ no_record laws limits ds h alive at g low has = by (first_fault limits ds h) ref
         is.lowest g (omega (arith, high, low)) has
 
 -- where there is room, no condition of the limits on fields holds
-no_limit : (limits : Limits) (ds : List Dataset) (h : Head) → HaveRoom limits ds h → (g : FieldCause) → 50 ≤ number_of_cause g → OfField g limits ds (AtHead h) → ⊥
+no_limit : (limits : Limits) (ds : List Dataset) (h : Head) → HaveRoom limits ds h → (g : FieldCause) → 50 ≤ number_of_cause g → HasField g limits ds (AtHead h) → ⊥
 no_limit limits ds h room fields.HeaderFull high (keeps, more) = let fits = (room.kept keeps).octets_in in omega (arith, fits, more)
 no_limit limits ds h room fields.TooManyFields high (keeps, more) = let fits = (room.kept keeps).fields_in in omega (arith, fits, more)
 no_limit limits ds h room other high has = absurd (omega (arith, high))
@@ -585,14 +520,14 @@ no_limit limits ds h room other high has = absurd (omega (arith, high))
 -- ---- heads
 
 -- the first fault is one of a field
-field_first : LowerLaws → (limits : Limits) (ds : List Dataset) (h : Head) (fault : TokenFault) (f : FieldCause) → fault.cause ≡ cause_of f → TellsTheLowest limits ds (AtHead h) fault
-    → Names fault.cause ds (AtHead h) fault.rec fault.set → ((g : FieldCause) → number_of_cause g < number_of_cause f → OfField g limits ds (AtHead h) → ⊥) → fault_at_head limits ds h ≡ Some fault
+field_first : LowerLaws → (limits : Limits) (ds : List Dataset) (h : Head) (fault : TokenFault) (f : FieldCause) → fault.cause ≡ causes.Field f → TellsTheLowest limits ds (AtHead h) fault
+    → Names fault.cause ds (AtHead h) fault.rec fault.set → ((g : FieldCause) → number_of_cause g < number_of_cause f → HasField g limits ds (AtHead h) → ⊥) → fault_at_head limits ds h ≡ Some fault
 field_first laws limits ds h fault f is tells names lowest =
     let found : FieldFault = record { rec = fault.rec; set = fault.set; cause = f } in
     let first = ((laws.heads_tell limits ds h).0 found).1 (record {
-      holds = (field_holds f limits ds (AtHead h)).0 (subst (Holds' limits ds (AtHead h)) is tells.holds);
+      holds = subst (Holds' limits ds (AtHead h)) is tells.holds;
       lowest = lowest;
-      names = (head_names f ds h fault.rec fault.set).1 (subst (λ (c : Cause). Names c ds (AtHead h) fault.rec fault.set) is names);
+      names = subst (λ (c : Cause). Names c ds (AtHead h) fault.rec fault.set) is names;
     }) in
     ap (λ (o : Option FieldFault). option_or (option_map of_field o) (option_or (subfile_fault ds h) (object_fault ds h))) first ∙ ap Some (field_fault fault f is tells.layer)
 
@@ -623,31 +558,21 @@ no_many ds h room = elim (eqb_tells h.rec 8) [
     by true false (inr e) = absurd cc
 
 -- the cause on sizes is the first at its place and token
-first_size : (limits : Limits) (ds : List Dataset) (token : Token) (fault : TokenFault) (p : Place) (t : ObjectToken) (s : SizeCause) → fault.cause ≡ cause_of_size s → TellsTheLowest limits ds token fault
+first_size : (limits : Limits) (ds : List Dataset) (token : Token) (fault : TokenFault) (p : Place) (t : ObjectToken) (s : SizeCause) → fault.cause ≡ causes.Size s → TellsTheLowest limits ds token fault
     → ((r : SizeCause) → (OfSize r ds token → objects_format.HasCause r p t)) → ((r : SizeCause) → objects_format.HasCause r p t → OfSize r ds token) → objects.IsFirstCause p t s
 first_size limits ds token fault p t s is tells to back = record {
-  holds = to s ((size_holds s limits ds token).0 (subst (Holds' limits ds token) is tells.holds));
+  holds = to s ((size_holds s ds token).0 (subst (Holds' limits ds token) is tells.holds));
   lowest = λ other has. elim (cases_lt (objects_format.number_of other) (objects_format.number_of s)) [
     | inr more ↦ more
     | inl less ↦
-        let mine = numbered fault.cause (cause_of_size s) is in
-        let mine_is = size_number s in
-        let other_is = size_number other in
-        absurd (tells.lowest (cause_of_size other) (size_layer other ∙ sym (size_layer s) ∙ ap (λ (c : Cause). (rule_of c).layer) (sym is) ∙ tells.layer) (omega (arith, less, mine, mine_is, other_is))
-        ((size_holds other limits ds token).1 (back other has)))
+        let mine = numbered fault.cause (causes.Size s) is in
+        absurd (tells.lowest (causes.Size other) (ap (λ (c : Cause). (rule_of c).layer) (sym is) ∙ tells.layer) (omega (arith, less, mine))
+        ((size_holds other ds token).1 (back other has)))
   ];
 }
 
-size_fault : (fault : TokenFault) (h : Head) (s : SizeCause) → fault.cause ≡ cause_of_size s → (rule_of fault.cause).layer ≡ fault.layer → (fault.rec ≡ h.rec) × (fault.set ≡ h.set) → size_on h s ≡ fault
-size_fault fault h s is layer names = same_fault (size_on h s) fault (sym (size_layer s) ∙ ap (λ (c : Cause). (rule_of c).layer) (sym is) ∙ layer) (sym names.0) (sym names.1) (sym is)
-
-size_named : (s : SizeCause) (ds : List Dataset) (h : Head) (rec set : ℕ) → Names (cause_of_size s) ds (AtHead h) rec set → (rec ≡ h.rec) × (set ≡ h.set)
-size_named sizes.ModeClash ds h rec set n = n
-size_named other ds h rec set n = n
-
-value_named : (s : SizeCause) (ds : List Dataset) (d : Dataset) (rec set : ℕ) → Names (cause_of_size s) ds (AtValue d) rec set → (rec ≡ d.rec) × (set ≡ d.set)
-value_named sizes.ModeClash ds d rec set n = n
-value_named other ds d rec set n = n
+size_fault : (fault : TokenFault) (h : Head) (s : SizeCause) → fault.cause ≡ causes.Size s → (rule_of fault.cause).layer ≡ fault.layer → (fault.rec ≡ h.rec) × (fault.set ≡ h.set) → size_on h s ≡ fault
+size_fault fault h s is layer names = same_fault (size_on h s) fault (ap (λ (c : Cause). (rule_of c).layer) (sym is) ∙ layer) (sym names.0) (sym names.1) (sym is)
 
 one_of_two : (r a b : ℕ) → (r ≡ a) ⊎ (r ≡ b) → (nat_eq r a || nat_eq r b) ≡ true
 one_of_two r a b (inl is) = ap (λ (t : Bool). t || nat_eq r b) (eq-eqb r a is)
@@ -663,10 +588,10 @@ let_through true o f s on is = ap (option_map f) is
 let_through false o f s on is = absurd cc
 
 object_first : LowerLaws → (limits : Limits) (ds : List Dataset) (h : Head) (fault : TokenFault) (s : SizeCause) → SectionsLive ds → AreWithin limits ds → SectionsLiveAt ds h → HaveRoom limits ds h
-    → fault.cause ≡ cause_of_size s → TellsTheLowest limits ds (AtHead h) fault → Names fault.cause ds (AtHead h) fault.rec fault.set → fault_at_head limits ds h ≡ Some fault
+    → fault.cause ≡ causes.Size s → TellsTheLowest limits ds (AtHead h) fault → Names fault.cause ds (AtHead h) fault.rec fault.set → fault_at_head limits ds h ≡ Some fault
 object_first laws limits ds h fault s alive within at room is tells names =
     let none : first_fault limits ds h ≡ None = (laws.heads_tell limits ds h).1.1 (λ g has. elim (cases_lt (number_of_cause g) 50) [ inl low ↦ no_record laws limits ds h alive at g low has | inr high ↦ no_limit limits ds h room g high has ]) in
-    let holds = (size_holds s limits ds (AtHead h)).0 (subst (Holds' limits ds (AtHead h)) is tells.holds) in
+    let holds = (size_holds s ds (AtHead h)).0 (subst (Holds' limits ds (AtHead h)) is tells.holds) in
     let leads = leads_at laws ds h at room.subfiles holds.0 in
     let stated = (stated_after_all laws ds alive within.subfiles).stated in
     let first = first_size limits ds (AtHead h) fault (place_after_datasets ds) (head_token h.rec h.count) s is tells (λ r has. has.1) (λ r has. (holds.0, has)) in
@@ -674,7 +599,7 @@ object_first laws limits ds h fault s alive within at room is tells names =
     let found : object_fault ds h ≡ Some (size_on h s) = let_through (nat_eq h.rec 8 || nat_eq h.rec 9) (cause_at (place_after_datasets ds) (head_token h.rec h.count)) (size_on h) s (one_of_two h.rec 8 9 holds.0) cause in
     ap (λ (o : Option FieldFault). option_or (option_map of_field o) (option_or (subfile_fault ds h) (object_fault ds h))) none
     ∙ ap (λ (o : Option TokenFault). option_or o (object_fault ds h)) (no_many ds h room.subfiles) ∙ found
-    ∙ ap Some (size_fault fault h s is tells.layer (size_named s ds h fault.rec fault.set (subst (λ (c : Cause). Names c ds (AtHead h) fault.rec fault.set) is names)))
+    ∙ ap Some (size_fault fault h s is tells.layer (subst (λ (c : Cause). Names c ds (AtHead h) fault.rec fault.set) is names))
 
 head_back : LowerLaws → (limits : Limits) (ds : List Dataset) (h : Head) (fault : TokenFault) → SectionsLive ds → AreWithin limits ds → IsAlive MessageLanguage (map Octet (object_of ds)) → Dies fault.layer limits ds (AtHead h)
     → TellsTheLowest limits ds (AtHead h) fault → Names fault.cause ds (AtHead h) fault.rec fault.set → IsRefusedHead limits ds h fault ⊎ IsUnfinished limits ds h fault
@@ -686,16 +611,16 @@ head_back laws limits ds h fault alive within message dies tells names = by faul
     refused : (l : Layer) → fault.layer ≡ l → fault_at_head limits ds h ≡ Some fault → DiesAtHead l limits ds h → IsRefusedHead limits ds h fault
     refused l same first dead = record { first = first; dead = subst (λ (k : Layer). DiesAtHead k limits ds h) (sym same) dead }
 
-    number_is : (f : FieldCause) → fault.cause ≡ cause_of f → (rule_of fault.cause).number ≡ number_of_cause f
-    number_is f is = numbered fault.cause (cause_of f) is ∙ field_number f
+    number_is : (f : FieldCause) → fault.cause ≡ causes.Field f → (rule_of fault.cause).number ≡ number_of_cause f
+    number_is f is = numbered fault.cause (causes.Field f) is
 
-    of_record_layer : fault.layer ≡ layers.Record → (f : FieldCause) → fault.cause ≡ cause_of f → fault_at_head limits ds h ≡ Some fault
+    of_record_layer : fault.layer ≡ layers.Record → (f : FieldCause) → fault.cause ≡ causes.Field f → fault_at_head limits ds h ≡ Some fault
     of_record_layer same f is =
-        let low = record_number f (sym (field_layer f) ∙ ap (λ (c : Cause). (rule_of c).layer) (sym is) ∙ tells.layer ∙ same) in
+        let low = record_number f (ap (λ (c : Cause). (rule_of c).layer) (sym is) ∙ tells.layer ∙ same) in
         field_first laws limits ds h fault f is tells names
         (λ g less has. let n = number_is f is in not_lower limits ds (AtHead h) fault tells g (low_layer g (omega (arith, less, low)) ∙ sym same) (omega (arith, less, n)) has)
 
-    limit_lower : fault.layer ≡ layers.Limits → SectionsLiveAt ds h → (g : FieldCause) → number_of_cause g < (rule_of fault.cause).number → OfField g limits ds (AtHead h) → ⊥
+    limit_lower : fault.layer ≡ layers.Limits → SectionsLiveAt ds h → (g : FieldCause) → number_of_cause g < (rule_of fault.cause).number → HasField g limits ds (AtHead h) → ⊥
     limit_lower same at g less has = elim (cases_lt (number_of_cause g) 50) [
       | inl low ↦ no_record laws limits ds h alive at g low has
       | inr high ↦ not_lower limits ds (AtHead h) fault tells g (high_layer g high ∙ sym same) less has
@@ -736,31 +661,31 @@ value_back laws limits ds d fault within octets dies tells names = by fault.laye
     refused : (l : Layer) → fault.layer ≡ l → fault_at_value ds d ≡ Some fault → DiesAtValue l ds d → IsRefusedValue ds d fault
     refused l same first dead = record { first = first; dead = subst (λ (k : Layer). DiesAtValue k ds d) (sym same) dead }
 
-    of_record_layer : fault.layer ≡ layers.Record → (f : FieldCause) → fault.cause ≡ cause_of f → fault_at_value ds d ≡ Some fault
+    of_record_layer : fault.layer ≡ layers.Record → (f : FieldCause) → fault.cause ≡ causes.Field f → fault_at_value ds d ≡ Some fault
     of_record_layer same f is =
-        let low = record_number f (sym (field_layer f) ∙ ap (λ (c : Cause). (rule_of c).layer) (sym is) ∙ tells.layer ∙ same) in
-        let n = numbered fault.cause (cause_of f) is ∙ field_number f in
+        let low = record_number f (ap (λ (c : Cause). (rule_of c).layer) (sym is) ∙ tells.layer ∙ same) in
+        let n = numbered fault.cause (causes.Field f) is in
         let found : FieldFault = record { rec = fault.rec; set = fault.set; cause = f } in
         let first = ((laws.values_tell limits ds d).0 found).1 (record {
-          holds = (field_holds f limits ds (AtValue d)).0 (subst (Holds' limits ds (AtValue d)) is tells.holds);
+          holds = subst (Holds' limits ds (AtValue d)) is tells.holds;
           lowest = λ g less has. not_lower limits ds (AtValue d) fault tells g (low_layer g (omega (arith, less, low)) ∙ sym same) (omega (arith, less, n)) has;
-          names = (value_names f ds d fault.rec fault.set).1 (subst (λ (c : Cause). Names c ds (AtValue d) fault.rec fault.set) is names);
+          names = subst (λ (c : Cause). Names c ds (AtValue d) fault.rec fault.set) is names;
         }) in
         ap (λ (o : Option FieldFault). option_or (option_map of_field o) (number_fault ds d)) first ∙ ap Some (field_fault fault f is tells.layer)
 
-    of_object : SectionsLive (ds ++ d ∷ []) → (s : SizeCause) → fault.cause ≡ cause_of_size s → fault_at_value ds d ≡ Some fault
+    of_object : SectionsLive (ds ++ d ∷ []) → (s : SizeCause) → fault.cause ≡ causes.Size s → fault_at_value ds d ≡ Some fault
     of_object alive s is =
         let none : value_fault d ≡ None = (laws.values_die ds d (d, refl, alive) octets).1 alive in
         let p : Place = place_at ds (head_of d) in
         let t : ObjectToken = value_token d.rec d.set (number d.octets) in
-        let holds = (size_holds s limits ds (AtValue d)).0 (subst (Holds' limits ds (AtValue d)) is tells.holds) in
+        let holds = (size_holds s ds (AtValue d)).0 (subst (Holds' limits ds (AtValue d)) is tells.holds) in
         let on : tells_number d.rec ≡ true = one_of_two d.rec 7 9 holds.0 in
         let leads = number_leads laws ds d alive on in
         let stated = (stated_at laws ds (head_of d) (d, refl, alive) within.subfiles (λ eight. not_eight d.rec holds.0 eight)).stated in
         let first = first_size limits ds (AtValue d) fault p t s is tells (λ r has. has.1) (λ r has. (holds.0, has)) in
         let found : number_fault ds d ≡ Some (size_on (head_of d) s) = let_through (tells_number d.rec) (cause_at p t) (size_on (head_of d)) s on ((laws.first_cause p t s stated leads.0).1 first) in
         ap (λ (o : Option FieldFault). option_or (option_map of_field o) (number_fault ds d)) none ∙ found
-        ∙ ap Some (size_fault fault (head_of d) s is tells.layer (value_named s ds d fault.rec fault.set (subst (λ (c : Cause). Names c ds (AtValue d) fault.rec fault.set) is names)))
+        ∙ ap Some (size_fault fault (head_of d) s is tells.layer (subst (λ (c : Cause). Names c ds (AtValue d) fault.rec fault.set) is names))
 
     by : (l : Layer) → fault.layer ≡ l → Dies l limits ds (AtValue d) → IsRefusedValue ds d fault
     by layers.Record same dead = let (f, is) = in_layer layers.Record same in refused layers.Record same (of_record_layer same f is) dead
@@ -769,19 +694,11 @@ value_back laws limits ds d fault within octets dies tells names = by fault.laye
 
 -- ---- octets of the object
 
-octet_named : (c : MessageCause) (ds : List Dataset) (h : Head) (taken : List ℕ) (b rec set : ℕ) → Names (cause_of_message c) ds (AtOctet (InData h taken) b) rec set → (rec ≡ h.rec) × (set ≡ h.set)
-octet_named messages.BadOctet ds h taken b rec set n = n
-octet_named other ds h taken b rec set n = n
-
-message_layer : (c : MessageCause) → (rule_of (cause_of_message c)).layer ≡ layer_of_message c
-message_layer messages.BadOctet = refl
-message_layer other = refl
-
-octet_fault : (fault : TokenFault) (ds : List Dataset) (h : Head) (taken : List ℕ) (b : ℕ) (c : MessageCause) → fault.cause ≡ cause_of_message c → (rule_of fault.cause).layer ≡ fault.layer
+octet_fault : (fault : TokenFault) (ds : List Dataset) (h : Head) (taken : List ℕ) (b : ℕ) (c : MessageCause) → fault.cause ≡ causes.Message c → (rule_of fault.cause).layer ≡ fault.layer
     → Names fault.cause ds (AtOctet (InData h taken) b) fault.rec fault.set → fault ≡ message_on h c
 octet_fault fault ds h taken b c is layer names =
-    let named = octet_named c ds h taken b fault.rec fault.set (subst (λ (x : Cause). Names x ds (AtOctet (InData h taken) b) fault.rec fault.set) is names) in
-    same_fault fault (message_on h c) (sym layer ∙ ap (λ (x : Cause). (rule_of x).layer) is ∙ message_layer c) named.0 named.1 is
+    let named = subst (λ (x : Cause). Names x ds (AtOctet (InData h taken) b) fault.rec fault.set) is names in
+    same_fault fault (message_on h c) (sym layer ∙ ap (λ (x : Cause). (rule_of x).layer) is) named.0 named.1 is
 
 -- why an octet of the object is refused
 record Octet' (limits : Limits) (ds : List Dataset) (h : Head) (taken : List ℕ) (b : ℕ) (fault : TokenFault) : Type 0 where
@@ -815,34 +732,34 @@ octet_back laws limits ds h taken b fault all dies tells names = by fault.layer 
     story : h.rec ≡ 8 → StoryLivesIn o
     story eight = subst StoryLivesIn (so_far eight) all.story
 
-    made : (c : MessageCause) → fault.cause ≡ cause_of_message c → h.rec ≡ 8 → HasCause c o b → Octet' limits ds h taken b fault
+    made : (c : MessageCause) → fault.cause ≡ causes.Message c → h.rec ≡ 8 → HasCause c o b → Octet' limits ds h taken b fault
     made c is eight has = record { subfile = eight; cause = c; has_cause = has; is_fault = octet_fault fault ds h taken b c is tells.layer names }
 
     of_message : Dies layers.Message limits ds (AtOctet (InData h taken) b) → InLayer layers.Message fault.cause → Octet' limits ds h taken b fault
     of_message dead (inl is) =
-        let eight = (holds_for causes.BadOctet is).0 in
+        let eight = (holds_for (causes.Message messages.BadOctet) is).0 in
         made messages.BadOctet is eight (message eight, λ lives. dead (subst (IsAlive MessageLanguage) (sym (one_token o b)) lives))
-    of_message dead (inr is) = absurd (holds_for causes.Unfinished is)
+    of_message dead (inr is) = absurd (holds_for (causes.Message messages.Unfinished) is)
 
     -- a held CR would be told first
-    none_held : (held : ℕ) → fault.layer ≡ layers.Story → fault.cause ≡ causes.ControlOctet → Holds (text_so_far o) held → Holds (text_so_far o) 0
+    none_held : (held : ℕ) → fault.layer ≡ layers.Story → fault.cause ≡ (causes.Message messages.ControlOctet) → Holds (text_so_far o) held → Holds (text_so_far o) 0
     none_held zero same is holds = holds
     none_held (suc n) same is holds =
-        let (eight, (text, which)) = holds_for causes.ControlOctet is in
+        let (eight, (text, which)) = holds_for (causes.Message messages.ControlOctet) is in
         let apart = no_line_end b which in
-        let number_is = numbered fault.cause causes.ControlOctet is in
-        absurd (tells.lowest causes.LoneReturn (sym same) (omega (arith, number_is)) (eight, (text, (suc n, holds, omega arith, apart.0, λ return'. absurd (apart.1 return')))))
+        let number_is = numbered fault.cause (causes.Message messages.ControlOctet) is in
+        absurd (tells.lowest (causes.Message messages.LoneReturn) (sym same) (omega (arith, number_is)) (eight, (text, (suc n, holds, omega arith, apart.0, λ return'. absurd (apart.1 return')))))
 
     of_story : fault.layer ≡ layers.Story → Dies layers.Story limits ds (AtOctet (InData h taken) b) → InLayer layers.Story fault.cause → Octet' limits ds h taken b fault
     of_story same dead (inl is) =
-        let (eight, (text, (held, holds, some, feed, second))) = holds_for causes.LoneReturn is in made messages.LoneReturn is eight (dead.0, (story eight, dead.1), (held, some, holds))
+        let (eight, (text, (held, holds, some, feed, second))) = holds_for (causes.Message messages.LoneReturn) is in made messages.LoneReturn is eight (dead.0, (story eight, dead.1), (held, some, holds))
     of_story same dead (inr is) =
-        let (eight, (text, which)) = holds_for causes.ControlOctet is in
+        let (eight, (text, which)) = holds_for (causes.Message messages.ControlOctet) is in
         let (held, holds) = (laws.stories_live (text_so_far o)).0 (alive_front StoryLanguage (map Octet (text_so_far o)) _ (story eight)) in
         made messages.ControlOctet is eight (dead.0, (story eight, dead.1), none_held held same is holds)
 
     of_sink : Dies layers.Outside limits ds (AtOctet (InData h taken) b) → InLayer layers.Outside fault.cause → Octet' limits ds h taken b fault
-    of_sink lives (inl is) = let (eight, (told, apart)) = holds_for causes.Sink is in made messages.Sink is eight (lives.0, lives.1, told, apart)
+    of_sink lives (inl is) = let (eight, (told, apart)) = holds_for (causes.Message messages.Sink) is in made messages.Sink is eight (lives.0, lives.1, told, apart)
     of_sink lives (inr is) = absurd (holds_for causes.Failed is)
 
     by : (l : Layer) → fault.layer ≡ l → Dies l limits ds (AtOctet (InData h taken) b) → Octet' limits ds h taken b fault

@@ -75,7 +75,7 @@ pub use Rattle.iim_places.specs.Format.Conditions.{AtHead, AtOctet, AtValue, IsI
 pub use Rattle.iim_places.specs.Format.Framed.{AreWithin, Framed}
 pub use Rattle.iim_places.specs.Format.Open.{AllCanContinue, Completes, Delivers, Dies, IsOpen, IsTextOf, IsTruncatedAt, IsUnfinished, RefusesByTests}
 pub use Rattle.iim_places.specs.Format.Open.{RefusesNext, message_tokens, object_so_far, section, truncated_in}
-pub use Rattle.iim_places.specs.Format.Refusals.{begun_number, begun_record, cause_of, cause_of_message, cause_of_size, layer_of, layer_of_message, message_on}
+pub use Rattle.iim_places.specs.Format.Refusals.{begun_number, begun_record, layer_of, layer_of_message, message_on}
 pub use Rattle.iim_places.specs.Format.Refusals.{of_field, refusal_at, size_on, tag_cause, too_many_on}
 pub use Rattle.iim_places.specs.Format.Streams.{Answer, Answers, Finished, IsEnvelopeWithin, IsFinished, IsRefused, IsTruncated, Kills, Refused, Truncated}
 pub use Rattle.iim_places.specs.Format.TicketForm.{HasForm, HasOtherVersion, IsFaultOf, IsPhase, IsVersion, Split, SplitsTicket, came, split_octets}

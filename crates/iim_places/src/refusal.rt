@@ -1,7 +1,6 @@
 //! Why octets are refused.
 
 ghost use Rattle.std.specs.Prelude.{◌≡◌, Some};
-ghost use Rattle.iim_places.specs.Format.Conditions.{rule_of};
 ghost use Rattle.iim_places.specs.Format.Names.{layer_name, cause_number, cause_name, cause_text, refusal_text};
 
 use iim_dataset::DatasetName;
@@ -48,68 +47,46 @@ impl Layer {
     }
 }
 
-/// What was wrong, each with its number. Within one layer the cause of the lowest number is told.
+/// What was wrong, each with its number. Those of a layer are named by that layer, where each stands with its number and its name.
+/// Within one layer the cause of the lowest number is told.
 #[derive(Clone, Copy, Debug, PartialEq, Eq)]
 pub enum Cause {
     /// The first octet of a tag is not 1C hex.
-    Marker = 1,
+    Marker,
     /// The count of a tag has no form that a count may have.
-    CountForm = 2,
+    CountForm,
     /// The octets end inside an envelope.
-    Truncated = 3,
-    /// The record is neither the present one nor the next.
-    RecordOrder = 10,
-    /// Record 7, 8 or 9 has no dataset of this number.
-    UnknownDataset = 11,
-    /// The dataset does not repeat, and has occurred.
-    Repeated = 12,
-    /// The number of octets is outside the bounds of the dataset's row.
-    CountRange = 13,
-    /// The next record begins, and a mandatory dataset of the present one is absent.
-    Missing = 14,
-    /// The octets are not of the dataset's kind.
-    BadValue = 15,
-    /// 1:20 File Format is not 2.
-    FileFormat = 16,
-    /// The size is not known, and 7:90 announces one; or it is known, and at the first subfile none is announced.
-    ModeClash = 20,
-    /// The announced size, 7:90, is above the maximum, 7:95.
-    SizeClash = 21,
-    /// A subfile is longer than 7:20 allows.
-    SubfileTooLong = 22,
-    /// The total passes what is announced, the maximum or the greatest size of an object.
-    PastSize = 23,
-    /// The object ends with fewer octets than were announced.
-    Short = 24,
-    /// The confirmed size, 9:10, is not the total.
-    ConfirmedWrong = 25,
-    /// No message can continue with the octet.
-    BadOctet = 30,
-    /// The object ends before the message does.
-    Unfinished = 32,
-    /// CR came before it in the text that no LF has followed.
-    LoneReturn = 40,
-    /// SOH, STX or EOT stands in the text.
-    ControlOctet = 41,
-    /// The data of records 1 and 2 pass the limit on octets.
-    HeaderFull = 50,
-    /// The datasets of records 1 and 2 pass the limit on their number.
-    TooManyFields = 51,
+    Truncated,
+    /// A head or a value is none of the records, or records 1 and 2 pass a limit.
+    Field(FieldCause),
+    /// The sizes of the object are wrong.
+    Size(SizeCause),
+    /// No message can continue with the octet, or end there; or the caller's sink stopped, which is [`Cause::SINK`].
+    Message(MessageCause),
     /// There are 4,294,967,295 subfiles, and another one begins.
-    TooManySubfiles = 52,
-    /// The caller's sink stopped.
-    Sink = 60,
+    TooManySubfiles,
     /// Something was refused before.
-    Failed = 61,
+    Failed,
 }
 
 impl Cause {
+    /// The caller's sink stopped.
+    pub const SINK: Cause = Cause::Message(MessageCause::Sink);
+
     /// The number, as it is printed.
     pub fn number(self) -> u8
-        ensures number { result ≡ cause_number self }
-        ensures ruled { result ≡ (rule_of self).number }
+        ensures { result ≡ cause_number self }
     {
-        self as u8
+        match self {
+            Cause::Marker => 1,
+            Cause::CountForm => 2,
+            Cause::Truncated => 3,
+            Cause::Field(cause) => cause.number(),
+            Cause::Size(cause) => cause.number(),
+            Cause::Message(cause) => cause.number(),
+            Cause::TooManySubfiles => 52,
+            Cause::Failed => 61,
+        }
     }
 
     /// The name, as it is printed.
@@ -120,28 +97,11 @@ impl Cause {
             Cause::Marker => "Marker",
             Cause::CountForm => "CountForm",
             Cause::Truncated => "Truncated",
-            Cause::RecordOrder => FieldCause::RecordOrder.name(),
-            Cause::UnknownDataset => FieldCause::UnknownDataset.name(),
-            Cause::Repeated => FieldCause::Repeated.name(),
-            Cause::CountRange => FieldCause::CountRange.name(),
-            Cause::Missing => FieldCause::Missing.name(),
-            Cause::BadValue => FieldCause::BadValue.name(),
-            Cause::FileFormat => FieldCause::FileFormat.name(),
-            Cause::ModeClash => SizeCause::ModeClash.name(),
-            Cause::SizeClash => SizeCause::SizeClash.name(),
-            Cause::SubfileTooLong => SizeCause::SubfileTooLong.name(),
-            Cause::PastSize => SizeCause::PastSize.name(),
-            Cause::Short => SizeCause::Short.name(),
-            Cause::ConfirmedWrong => SizeCause::ConfirmedWrong.name(),
-            Cause::BadOctet => MessageCause::BadOctet.name(),
-            Cause::Unfinished => MessageCause::Unfinished.name(),
-            Cause::LoneReturn => MessageCause::LoneReturn.name(),
-            Cause::ControlOctet => MessageCause::ControlOctet.name(),
-            Cause::Sink => MessageCause::Sink.name(),
-            Cause::Failed => "Failed",
-            Cause::HeaderFull => FieldCause::HeaderFull.name(),
-            Cause::TooManyFields => FieldCause::TooManyFields.name(),
+            Cause::Field(cause) => cause.name(),
+            Cause::Size(cause) => cause.name(),
+            Cause::Message(cause) => cause.name(),
             Cause::TooManySubfiles => "TooManySubfiles",
+            Cause::Failed => "Failed",
         }
     }
 }

@@ -20,7 +20,7 @@ use wire_story::{Lines, StorySink};
 pub enum UnpackFault {
     /// Memory was refused for the unpacker.
     OutOfMemory,
-    /// The stream is refused, or the sink stopped ([`iim_unpack::Cause::Sink`]).
+    /// The stream is refused, or the sink stopped ([`iim_unpack::Cause::SINK`]).
     Refused(Refusal),
 }
 
@@ -80,7 +80,7 @@ pub struct Story {
 ///
 /// Where the stream begins with what was packed, within the limits, by whatever plan and whatever follows, that envelope, header,
 /// lines, trailer and the sizes of that plan come back, of just the packed octets. Any other stream has the answer that
-/// [`unpack_packed`] gives: unless memory was refused, for the unpacker or for a line ([`iim_unpack::Cause::Sink`]).
+/// [`unpack_packed`] gives: unless memory was refused, for the unpacker or for a line ([`iim_unpack::Cause::SINK`]).
 pub fn unpack_story(alloc: Global, limits: Limits, pieces: &[&[u8]]) -> Result<Story, UnpackFault>
     // What was packed comes back.
     ensures story { IfOk result (ComesBack limits (stream_of pieces.now)) }

@@ -27,7 +27,7 @@ use Rattle.iim_places.specs.Format.Admitted.{object_of}
 use Rattle.iim_places.specs.Format.Tokens.{MayContinue, CanContinue, CanContinueAt}
 use Rattle.iim_unpack.specs.Passed.{TellsMessage, MessageRefuses}
 use Rattle.iim_unpack.proofs.ToldMessage.{octets_in-octets}
-use Rattle.iim_places.specs.Format.Refusals.{message_on, cause_of_message}
+use Rattle.iim_places.specs.Format.Refusals.{message_on}
 use Rattle.iim_places.specs.Format.Open.{object_so_far, section, AllCanContinue}
 use Rattle.iim_unpack.specs.States.Parts.{AreAfter, Within, StandsFor, AreLed, CountsFor}
 use Rattle.iim_unpack.specs.PartSteps.{TellsParts, PartsRefuse}
@@ -221,10 +221,6 @@ tells_parts_object goes failures p a b run message laws k begun eight octets pas
       };
 }
 
-pub counts_for : (cause : MessageCause) (m n : ℕ) → wire.CountsCause m n cause → CountsFor (cause_of_message cause) m n
-counts_for messages.BadOctet m n h = h
-counts_for other m n h = h
-
 pub stopped_object : {S : Type 0} (goes : S → List story.StoryEvent → S → Type 0) (failures : S → ℕ) (p : Parts) (a b : S) (front : List ℕ) (octet : ℕ) (cause : MessageCause) → LowerLaws → (k : Head) → HasBegun p k → k.rec ≡ 8
     → MessageRefuses goes failures (p.message, a) (map object_events.ObjectOctet front) (object_events.ObjectOctet octet) (Some cause, b)
     → PartsRefuse goes failures (p, a) (map DataOctet front) (DataOctet octet) (Some (message_on k cause), b)
@@ -235,7 +231,7 @@ stopped_object goes failures p a b front octet cause laws k begun eight halted =
       is_fault = refl;
       more = halted.more;
       told = halted.told;
-      counts = counts_for cause (failures a) (failures b) (subst (wire.CountsCause (failures a) (failures b)) same halted.counts);
+      counts = subst (wire.CountsCause (failures a) (failures b)) same halted.counts;
       why = λ before text order led.
           let one = in_one p k before text begun led in
           let at = one.within in

@@ -34,7 +34,6 @@ use Rattle.iim_unpack.proofs.Faults.{field_value, object_value}
 use Rattle.iim_places.proofs.Places.{number_leads, silent_leads}
 use Rattle.iim_unpack.proofs.Carrying.{HasBegun, in_one, same_head, all_within}
 use Rattle.iim_unpack.proofs.Sequences.{end_told, all_came}
-use Rattle.iim_unpack.proofs.Heading.{quiet_field, counts_size}
 use Rattle.iim_places.proofs.Lasts.{not_all}
 use Rattle.iim_places.specs.Laws.Lower.{LowerLaws}
 use Rattle.iim_places.proofs.ObjectOctets.{object_of_more, few_more}
@@ -163,7 +162,7 @@ not_subfile r tells eight = let bad : false ≡ true = sym (ap tells_number eigh
 pub not_closed_field : ReadersStandAtLivingOctets → NoSectionsBeginOthers → (p : Parts) (f : FieldFault) (k : Head) → HasBegun p k
     → ((ds : List Dataset) (h : Head) (taken : List ℕ) → records.StandsIn p.fields ds h taken → IsValueFault ds (data_of h taken) f) → NotClosed p (of_field f)
 not_closed_field living sections p f k begun is =
-    not_closed_by p (of_field f) living sections k begun (quiet_field f.cause)
+    not_closed_by p (of_field f) living sections k begun (λ m. refl)
     (λ ds h taken at whole.
     let given = is ds h (if nat_eq h.rec 8 then [] else taken) at.fields in
     let apart : nat_eq h.rec 8 ≡ false = elim (eqb_tells h.rec 8) [ inl same ↦ absurd (given.value same.1) | inr other ↦ other.0 ] in
@@ -173,7 +172,7 @@ pub not_closed_number : LowerLaws → (p : Parts) (checker : FieldsPlace) (n : �
     → IsObjectFault p.object (value_token k.rec k.set n) k fault → NotClosed p fault
 not_closed_number laws p checker n fault k begun closes bad =
     not_closed_by p fault laws.living laws.sections k begun
-    (λ m. subst (λ (f : TokenFault). CountsFor f.cause m m) (sym bad.2) (counts_size bad.0 m m refl))
+    (λ m. subst (λ (f : TokenFault). CountsFor f.cause m m) (sym bad.2) refl)
     (λ ds h taken at whole.
     let d : Dataset = data_of h taken in
     let both = closes ds h (if nat_eq h.rec 8 then [] else taken) at.fields d (is_of ds p h taken at whole) in

@@ -30,7 +30,7 @@ use Rattle.wire_message.specs.declared.place.Place.{Place}
 use Rattle.iim_places.specs.Format.Admitted.{object_of}
 use Rattle.iim_places.specs.Format.Tokens.{place_at, ObjectLives, IsRefusedHead}
 use Rattle.iim_unpack.specs.Passed.{TellsMessage, HasFewSubfiles, IsFullOfSubfiles, RefusesBySize, RefusesAtEnd, RefusesObject, RefusesSubfile, octets_in, end_is_last}
-use Rattle.iim_places.specs.Format.Refusals.{of_field, too_many_on, message_on, cause_of, cause_of_size}
+use Rattle.iim_places.specs.Format.Refusals.{of_field, too_many_on, message_on}
 use Rattle.iim_places.specs.Format.Open.{object_so_far, IsUnfinished}
 use Rattle.iim_unpack.specs.States.Parts.{AreAfter, Within, CountsFor, has_ended}
 use Rattle.iim_unpack.specs.PartSteps.{TellsParts, PartsRefuse}
@@ -43,7 +43,7 @@ use Rattle.std.proofs.lemmas.Bool.{true≢false, ne_eqb}
 use Rattle.std.proofs.lemmas.List.{length-map}
 use Rattle.iim_places.proofs.Lasts.{sections_last}
 use Rattle.iim_unpack.proofs.Ended.{ended_by_record}
-use Rattle.iim_unpack.proofs.Carrying.{counts_for, passes_on, after_all, all_after}
+use Rattle.iim_unpack.proofs.Carrying.{passes_on, after_all, all_after}
 use Rattle.iim_places.specs.Laws.Lower.{LowerLaws}
 
 -- What stands after a head.
@@ -182,14 +182,6 @@ begins_other p ds h checker other8 other9 at inside =
 
 -- ---- refusals
 
-pub quiet_field : (c : FieldCause) (n : ℕ) → CountsFor (cause_of c) n n
-quiet_field fields.RecordOrder n = refl
-quiet_field other n = refl
-
-pub counts_size : (c : SizeCause) (m n : ℕ) → n ≡ m → CountsFor (cause_of_size c) m n
-counts_size sizes.ModeClash m n e = e
-counts_size other m n e = e
-
 -- a head is refused, and the sink was told what is delivered of no more text
 stopped_head : {S : Type 0} (goes : S → List story.StoryEvent → S → Type 0) (failures : S → ℕ) (p : Parts) (a b : S) (h : Head) (fault : TokenFault) (more : List ℕ) → LowerLaws → has_ended p ≡ false → IsBetween p.fields
     → goes a (story.delivered more) b → CountsFor fault.cause (failures a) (failures b)
@@ -218,7 +210,7 @@ stopped_head goes failures p a b h fault more laws last between told counts refu
 pub stopped_field : {S : Type 0} (goes : S → List story.StoryEvent → S → Type 0) (failures : S → ℕ) (p : Parts) (a : S) (h : Head) (f : FieldFault) → h.set < 256 → LowerLaws → has_ended p ≡ false → IsBetween p.fields → goes a [] a
     → ((ds : List Dataset) → records.StandsAfter p.fields ds → IsHeadFault (limits_of p.fields) ds h f) → PartsRefuse goes failures (p, a) [] (HeadRead h) (Some (of_field f), a)
 stopped_field goes failures p a h f small laws last between g is =
-    stopped_head goes failures p a a h (of_field f) [] laws last between g (quiet_field f.cause (failures a))
+    stopped_head goes failures p a a h (of_field f) [] laws last between g refl
     (λ ds at. (inl (field_head laws.heads_die (limits_of p.fields) ds h f small at.fields.alive (is ds at.fields)), append-nil (text_so_far (object_of ds))))
 
 pub stopped_many : {S : Type 0} (goes : S → List story.StoryEvent → S → Type 0) (failures : S → ℕ) (p : Parts) (a : S) (h : Head) (checker : FieldsPlace) → LowerLaws → has_ended p ≡ false → IsBetween p.fields → goes a [] a
@@ -235,7 +227,7 @@ pub stopped_size : {S : Type 0} (goes : S → List story.StoryEvent → S → Ty
     → RefusesBySize goes failures p.object p.message h a b fault → PartsRefuse goes failures (p, a) [] (HeadRead h) (Some fault, b)
 stopped_size goes failures p a b h checker fault laws last between inside is few r =
     stopped_head goes failures p a b h fault r.more laws last between r.told
-    (subst (λ (f : TokenFault). CountsFor f.cause (failures a) (failures b)) (sym r.is_fault) (counts_size r.cause (failures a) (failures b) r.calm))
+    (subst (λ (f : TokenFault). CountsFor f.cause (failures a) (failures b)) (sym r.is_fault) r.calm)
     (λ ds at.
     let alive = (inside ds at.fields).alive in
     let room : h.rec ≡ 8 → length (of_record 8 ds) < max_subfiles = λ eight. few_of p ds at (few eight) in (
@@ -254,7 +246,7 @@ stopped_end goes failures p a b h checker fault laws last between inside nine r 
     let same : r.halted.why ≡ r.cause = sym (some-same r.halted.is_cause) in
     stopped_head goes failures p a b h fault r.halted.more laws last between r.halted.told
     (subst (λ (f : TokenFault). CountsFor f.cause (failures a) (failures b)) (sym r.is_fault)
-    (counts_for r.cause (failures a) (failures b) (subst (wire.CountsCause (failures a) (failures b)) same r.halted.counts)))
+    (subst (wire.CountsCause (failures a) (failures b)) same r.halted.counts))
     (λ ds at.
     let alive = (inside ds at.fields).alive in
     let leads = end_leads laws ds h alive nine in

@@ -6,7 +6,7 @@ ghost use Rattle.iim_unpack.specs.PiecesSoFar.{HasFedPieces};
 ghost use Rattle.iim_unpack.specs.Format.Pieces.{IsAnswer, IsTurnedDown, IsUnpacked, stream_of};
 ghost use Rattle.iim_places.specs.Format.Streams.{Answer, Answers};
 ghost use Rattle.iim_unpack.specs.States.Unpacking.{Stands, limits_in};
-ghost use Rattle.iim_places.specs.declared.refusal.Cause.TheVariants.{Sink};
+ghost use Rattle.iim_places.specs.Format.Refusals.{sink_stopped};
 
 use crate::unpacker::{Unpacked, Unpacker};
 use iim_places::Refusal;
@@ -47,7 +47,7 @@ fn feed_pieces<S: StorySink>(
 /// has. The unpacker has been fed nothing before.
 ///
 /// Any other stream is refused at the first octet with which a layer is dead, or at its end, where it is truncated; or the
-/// sink stopped ([`crate::Cause::Sink`]). A stream has one of these answers, and no other.
+/// sink stopped ([`crate::Cause::SINK`]). A stream has one of these answers, and no other.
 pub fn unpack_pieces<S: StorySink>(
     unpacker: Unpacker,
     pieces: &[&[u8]],
@@ -60,7 +60,7 @@ pub fn unpack_pieces<S: StorySink>(
 
     // What the stream is answered is the result, unless the sink stopped.
     ensures only { (answer : Answer) → Answers (limits_in unpacker) (stream_of pieces.now) answer
-        → IfErr result (λ e. e.cause ≢ Sink) → IsAnswer result answer }
+        → IfErr result (λ e. e.cause ≢ sink_stopped) → IsAnswer result answer }
     ensures calm { OnOk result (S.failures sink.new ≡ S.failures sink.old) }
     ensures counted { IfErr result (λ e. CountsFor e.cause (S.failures sink.old) (S.failures sink.new)) }
 {

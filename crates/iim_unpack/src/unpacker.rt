@@ -336,7 +336,7 @@ impl Unpacker {
     /// slices of the piece. After the end of the envelope no octet is used.
     ///
     /// An error is the refusal of the first octet with which a layer is dead, or of one at which the sink stopped
-    /// ([`Cause::Sink`]); later calls answer [`Cause::Failed`]. No call takes memory.
+    /// ([`Cause::SINK`]); later calls answer [`Cause::Failed`]. No call takes memory.
     pub fn feed<S: StorySink>(&mut self, piece: &[u8], sink: &mut S) -> Result<Progress, Refusal>
         // It stands on the octets so far, or an envelope ends with them; and the sink was told what they add, and did not fail.
         ensures goes { IfOk result (λ progress. (S.failures sink.new ≡ S.failures sink.old)

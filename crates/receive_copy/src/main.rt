@@ -52,7 +52,7 @@ fn receive<R: Source, W: Write>(alloc: Global, intake: &mut Intake<R>, output: &
             Ok(Some(unpacked)) => file(output, &unpacked.envelope, &lines)?,
             Ok(None) => return Ok(ACCEPTED),
             // The octets are at fault: nothing of this envelope is filed. A refusal names the place and the cause.
-            Err(IntakeFault::Refused(refusal)) if refusal.cause != Cause::Sink => {
+            Err(IntakeFault::Refused(refusal)) if refusal.cause != Cause::SINK => {
                 writeln!(output, "envelope {number} {refusal}")?;
                 return Ok(REFUSED);
             }

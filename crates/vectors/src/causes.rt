@@ -1,7 +1,10 @@
 //! Each layer and each cause, as they are printed.
 
+use iim_fields::FieldCause;
+use iim_object::SizeCause;
 use iim_unpack::{Cause, Layer};
 use vectors_layers::Answers;
+use wire_message::MessageCause;
 
 const LAYERS: [Layer; 7] = [
     Layer::Dataset,
@@ -17,27 +20,27 @@ const CAUSES: [Cause; 25] = [
     Cause::Marker,
     Cause::CountForm,
     Cause::Truncated,
-    Cause::RecordOrder,
-    Cause::UnknownDataset,
-    Cause::Repeated,
-    Cause::CountRange,
-    Cause::Missing,
-    Cause::BadValue,
-    Cause::FileFormat,
-    Cause::ModeClash,
-    Cause::SizeClash,
-    Cause::SubfileTooLong,
-    Cause::PastSize,
-    Cause::Short,
-    Cause::ConfirmedWrong,
-    Cause::BadOctet,
-    Cause::Unfinished,
-    Cause::LoneReturn,
-    Cause::ControlOctet,
-    Cause::HeaderFull,
-    Cause::TooManyFields,
+    Cause::Field(FieldCause::RecordOrder),
+    Cause::Field(FieldCause::UnknownDataset),
+    Cause::Field(FieldCause::Repeated),
+    Cause::Field(FieldCause::CountRange),
+    Cause::Field(FieldCause::Missing),
+    Cause::Field(FieldCause::BadValue),
+    Cause::Field(FieldCause::FileFormat),
+    Cause::Size(SizeCause::ModeClash),
+    Cause::Size(SizeCause::SizeClash),
+    Cause::Size(SizeCause::SubfileTooLong),
+    Cause::Size(SizeCause::PastSize),
+    Cause::Size(SizeCause::Short),
+    Cause::Size(SizeCause::ConfirmedWrong),
+    Cause::Message(MessageCause::BadOctet),
+    Cause::Message(MessageCause::Unfinished),
+    Cause::Message(MessageCause::LoneReturn),
+    Cause::Message(MessageCause::ControlOctet),
+    Cause::Field(FieldCause::HeaderFull),
+    Cause::Field(FieldCause::TooManyFields),
     Cause::TooManySubfiles,
-    Cause::Sink,
+    Cause::Message(MessageCause::Sink),
     Cause::Failed,
 ];
 

@@ -159,7 +159,7 @@ pub(crate) fn taken_in(alloc: Global) -> Result<(), Trouble> {
 fn told_to_lines(answer: Result<Progress, Refusal>, size: (usize, usize)) -> Result<(), Trouble> {
     match answer {
         Ok(progress) => right(progress == Progress::Done { used: 246 } && size == (2, 21)),
-        Err(refusal) if refusal.cause == Cause::Sink && (refusal.rec, refusal.set) == (8, 10) => {
+        Err(refusal) if refusal.cause == Cause::SINK && (refusal.rec, refusal.set) == (8, 10) => {
             Err(Trouble::StoppedAt(refusal.octet, size.0, size.1))
         }
         Err(_) => Err(Trouble::Wrong),

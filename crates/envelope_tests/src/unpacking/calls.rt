@@ -106,7 +106,7 @@ fn text_of(alloc: Global, lines: &Lines) -> Result<Vec<u8>, AllocError> {
 
 /// Expects a new unpacker to stop at an octet of the worked story, and to refuse all from then on.
 fn expect_stop(alloc: Global, sink: &mut TrialSink<Lines>, octet: usize) -> Result<(), Trouble> {
-    let stopped = refusal(Layer::Outside, (8, 10), octet, Cause::Sink);
+    let stopped = refusal(Layer::Outside, (8, 10), octet, Cause::SINK);
     let failed = refusal(Layer::Outside, (0, 0), octet, Cause::Failed);
     let answers = fed_twice(alloc, sink)?;
     right_at(octet, answers == [Err(stopped), Err(failed)])?;

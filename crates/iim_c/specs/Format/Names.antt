@@ -1,20 +1,12 @@
--- The names that are told by numbers.
+-- The names that are told by numbers: of layers and of datasets.
 use Rattle.std.specs.Prelude.{◌≡◌, ℕ, ◌+◌, ◌<◌, ◌≤◌, ◌==◌, ◌&&◌, ◌⊎◌, Bool, List, [], ◌∷◌, ◌++◌, length, drop, codes, Option, Some, None}
 use Rattle.std.specs.Borrow.{Bor}
 use Rattle.std.specs.List.{find}
 use Rattle.std.specs.Option.{option_map}
-use Rattle.iim_places.specs.Format.Names.{cause_name, cause_number, layer_name}
-use Rattle.iim_places.specs.declared.refusal.Cause.TheVariants as causes
-use Rattle.iim_places.specs.declared.refusal.Cause.{Cause}
+use Rattle.iim_places.specs.Format.Names.{layer_name}
 use Rattle.iim_places.specs.declared.refusal.Layer.TheVariants as layers
 use Rattle.iim_places.specs.declared.refusal.Layer.{Layer}
-use Rattle.iim_script.specs.Format.Causes as script_words
-use Rattle.iim_script.specs.declared.fault.ScriptCause.{ScriptCause}
-use Rattle.iim_script.specs.declared.fault.ScriptCause.TheVariants as script
-use Rattle.iim_object.specs.Format.PackCauses.{pack_number}
-use Rattle.iim_object.specs.declared.writing.cause.PackCause.TheVariants as packs
-use Rattle.iim_places.specs.declared.ticket.fault.TicketFault.TheVariants as tickets
-use Rattle.iim_c.specs.Format.Answers.{layer_number, ticket_number}
+use Rattle.iim_c.specs.Format.Answers.{layer_number}
 
 -- ---- tables
 
@@ -30,64 +22,8 @@ named number name = record { number = number; name = name }
 abbrev pub name_in : List Named → ℕ → Option (List ℕ)
 name_in names number = option_map (λ e. e.name) (find (λ e. e.number == number) names)
 
--- a cause of octets, of a script
-abbrev pub of_octets : Cause → Named
-of_octets cause = named (cause_number cause) (cause_name cause)
-
-abbrev pub of_script : ScriptCause → Named
-of_script cause = named (script_words.cause_number cause) (script_words.cause_name cause)
-
 abbrev pub of_layer : Layer → Named
 of_layer layer = named (layer_number layer) (layer_name layer)
-
--- the causes of octets, of memory and readers, of packing, of audits, of scripts and of tickets
--- twins (with layer_names, dataset_names): `tells_the_tables`
-unfoldable pub cause_names : List Named
-cause_names =
-    of_octets causes.Marker
-    ∷ of_octets causes.CountForm
-    ∷ of_octets causes.Truncated
-    ∷ of_octets causes.RecordOrder
-    ∷ of_octets causes.UnknownDataset
-    ∷ of_octets causes.Repeated
-    ∷ of_octets causes.CountRange
-    ∷ of_octets causes.Missing
-    ∷ of_octets causes.BadValue
-    ∷ of_octets causes.FileFormat
-    ∷ of_octets causes.ModeClash
-    ∷ of_octets causes.SizeClash
-    ∷ of_octets causes.SubfileTooLong
-    ∷ of_octets causes.PastSize
-    ∷ of_octets causes.Short
-    ∷ of_octets causes.ConfirmedWrong
-    ∷ of_octets causes.BadOctet
-    ∷ of_octets causes.Unfinished
-    ∷ of_octets causes.LoneReturn
-    ∷ of_octets causes.ControlOctet
-    ∷ of_octets causes.HeaderFull
-    ∷ of_octets causes.TooManyFields
-    ∷ of_octets causes.TooManySubfiles
-    ∷ of_octets causes.Sink
-    ∷ of_octets causes.Failed
-    ∷ of_script script.OutOfMemory
-    ∷ named 71 (codes "Read")
-    ∷ named 72 (codes "Interrupted")
-    ∷ named (pack_number packs.PastAnnounced) (codes "PastAnnounced")
-    ∷ named (pack_number packs.ShortOfAnnounced) (codes "ShortOfAnnounced")
-    ∷ of_script script.BadTextOctet
-    ∷ of_script script.BadTrailer
-    ∷ named (pack_number packs.Write) (codes "Write")
-    ∷ named (pack_number packs.Failed) (codes "Failed")
-    ∷ named 90 (codes "TooManyEnvelopes")
-    ∷ of_script script.ScriptLine
-    ∷ of_script script.ScriptTooLong
-    ∷ named (ticket_number tickets.Form) (codes "TicketForm")
-    ∷ named (ticket_number tickets.Version) (codes "TicketVersion")
-    ∷ named (ticket_number tickets.Impossible) (codes "Impossible")
-    ∷ []
-
-unfoldable pub cause_named : ℕ → Option (List ℕ)
-cause_named number = name_in cause_names number
 
 -- the layers
 unfoldable pub layer_names : List Named

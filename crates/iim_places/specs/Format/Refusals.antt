@@ -6,7 +6,6 @@ use Rattle.iim_fields.specs.declared.fault.FieldFault.{FieldFault}
 use Rattle.iim_fields.specs.declared.fault.FieldCause.{FieldCause}
 use Rattle.iim_fields.specs.declared.fault.FieldCause.TheVariants as fields
 use Rattle.iim_object.specs.declared.reading.fault.SizeCause.{SizeCause}
-use Rattle.iim_object.specs.declared.reading.fault.SizeCause.TheVariants as sizes
 use Rattle.wire_message.specs.declared.fault.MessageCause.{MessageCause}
 use Rattle.wire_message.specs.declared.fault.MessageCause.TheVariants as messages
 use Rattle.iim_places.specs.declared.fault.TokenFault.{TokenFault}
@@ -16,40 +15,20 @@ use Rattle.iim_places.specs.declared.refusal.Layer.TheVariants as layers
 use Rattle.iim_places.specs.declared.refusal.Cause.{Cause}
 use Rattle.iim_places.specs.declared.refusal.Cause.TheVariants as causes
 
--- twins (with layer_of, cause_of_size, layer_of_message, cause_of_message, tag_cause): law `refusals_tell_the_lowest_cause`;
---   `refuses_random_envelopes`, `changes_each_octet`
-abbrev pub cause_of : FieldCause → Cause
-cause_of fields.RecordOrder = causes.RecordOrder
-cause_of fields.UnknownDataset = causes.UnknownDataset
-cause_of fields.Repeated = causes.Repeated
-cause_of fields.CountRange = causes.CountRange
-cause_of fields.Missing = causes.Missing
-cause_of fields.BadValue = causes.BadValue
-cause_of fields.FileFormat = causes.FileFormat
-cause_of fields.HeaderFull = causes.HeaderFull
-cause_of fields.TooManyFields = causes.TooManyFields
-
--- the layer that refuses for it: the limits, or the record layer
+-- the layer that refuses for a cause of the records: the limits, or the record layer
+-- twins (with layer_of_message, tag_cause): law `refusals_tell_the_lowest_cause`; `refuses_random_envelopes`, `changes_each_octet`
 abbrev pub layer_of : FieldCause → Layer
 layer_of fields.HeaderFull = layers.Limits
 layer_of fields.TooManyFields = layers.Limits
 layer_of other = layers.Record
 
-abbrev pub cause_of_size : SizeCause → Cause
-cause_of_size sizes.ModeClash = causes.ModeClash
-cause_of_size sizes.SizeClash = causes.SizeClash
-cause_of_size sizes.SubfileTooLong = causes.SubfileTooLong
-cause_of_size sizes.PastSize = causes.PastSize
-cause_of_size sizes.Short = causes.Short
-cause_of_size sizes.ConfirmedWrong = causes.ConfirmedWrong
-
 -- a fault of the record layer or the limits
 abbrev pub of_field : FieldFault → TokenFault
-of_field f = record { layer = layer_of f.cause; rec = f.rec; set = f.set; cause = cause_of f.cause }
+of_field f = record { layer = layer_of f.cause; rec = f.rec; set = f.set; cause = causes.Field f.cause }
 
 -- a fault of the object layer, on the dataset of the head
 abbrev pub size_on : Head → SizeCause → TokenFault
-size_on h cause = record { layer = layers.Object; rec = h.rec; set = h.set; cause = cause_of_size cause }
+size_on h cause = record { layer = layers.Object; rec = h.rec; set = h.set; cause = causes.Size cause }
 
 -- the head of a subfile too many
 abbrev pub too_many_on : Head → TokenFault
@@ -66,16 +45,13 @@ layer_of_message messages.ControlOctet = layers.Story
 layer_of_message messages.Sink = layers.Outside
 layer_of_message other = layers.Message
 
-abbrev pub cause_of_message : MessageCause → Cause
-cause_of_message messages.BadOctet = causes.BadOctet
-cause_of_message messages.Unfinished = causes.Unfinished
-cause_of_message messages.LoneReturn = causes.LoneReturn
-cause_of_message messages.ControlOctet = causes.ControlOctet
-cause_of_message messages.Sink = causes.Sink
+-- the caller's sink stopped
+abbrev pub sink_stopped : Cause
+sink_stopped = causes.Message messages.Sink
 
 -- a fault of the message, the story or the sink, on the dataset of the head
 abbrev pub message_on : Head → MessageCause → TokenFault
-message_on h cause = record { layer = layer_of_message cause; rec = h.rec; set = h.set; cause = cause_of_message cause }
+message_on h cause = record { layer = layer_of_message cause; rec = h.rec; set = h.set; cause = causes.Message cause }
 
 -- ---- begun datasets
 

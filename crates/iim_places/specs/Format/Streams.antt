@@ -3,11 +3,10 @@ use Rattle.std.specs.Prelude.{◌≡◌, ◌≢◌, ℕ, ◌<◌, ◌≤◌, Lis
 use Rattle.iim_fields.specs.declared.limits.Limits.{Limits}
 use Rattle.iim_places.specs.Format.Admitted.{Value, Admits}
 use Rattle.iim_places.specs.Format.Framed.{AreWithin}
-use Rattle.iim_places.specs.Format.Refusals.{refusal_at}
+use Rattle.iim_places.specs.Format.Refusals.{refusal_at, sink_stopped}
 use Rattle.iim_places.specs.Format.Open.{IsOpen, RefusesNext, IsTruncatedAt}
 use Rattle.iim_places.specs.declared.fault.TokenFault.{TokenFault}
 use Rattle.iim_places.specs.declared.refusal.Refusal.{Refusal}
-use Rattle.iim_places.specs.declared.refusal.Cause.TheVariants.{Sink}
 
 -- The octets are an envelope with this value, within the limits.
 pub record IsEnvelopeWithin (limits : Limits) (octets : List ℕ) (value : Value) : Type 0 where
@@ -17,7 +16,7 @@ pub record IsEnvelopeWithin (limits : Limits) (octets : List ℕ) (value : Value
 -- It is the octets that are refused, and not the sink that stopped.
 pub record Kills (limits : Limits) (octets : List ℕ) (next : ℕ) (fault : TokenFault) : Type 0 where
   pub refuses : RefusesNext limits octets next fault
-  pub by_octets : fault.cause ≢ Sink
+  pub by_octets : fault.cause ≢ sink_stopped
 
 -- an envelope of `used` octets with this value; a refusal of octets; or octets that end too early
 pub data Answer : Type 0 where
@@ -46,5 +45,5 @@ pub record IsTruncated (limits : Limits) (stream : List ℕ) (e : Refusal) : Typ
 -- what the stream is answered, whatever a sink does
 abbrev pub Answers : Limits → List ℕ → Answer → Type 0
 Answers limits stream (Finished used value) = IsFinished limits stream used value
-Answers limits stream (Refused e) = IsRefused limits stream e × (e.cause ≢ Sink)
+Answers limits stream (Refused e) = IsRefused limits stream e × (e.cause ≢ sink_stopped)
 Answers limits stream (Truncated e) = IsTruncated limits stream e

@@ -17,7 +17,7 @@ use Rattle.iim_places.specs.Format.Admitted.{object_of}
 use Rattle.iim_places.specs.Format.Tokens.{place_at}
 use Rattle.iim_unpack.specs.declared.parts.Parts.{Parts}
 use Rattle.iim_places.specs.declared.refusal.Cause.{Cause}
-use Rattle.iim_places.specs.declared.refusal.Cause.TheVariants.{Sink}
+use Rattle.iim_places.specs.declared.refusal.Cause.TheVariants.{Message}
 use Rattle.iim_places.specs.Format.Open.{object_so_far}
 
 -- ---- where the parts stand
@@ -63,5 +63,5 @@ has_ended parts = (records.section_of parts.fields == 9) && is_none (records.beg
 -- the sink's count of failures rose where the sink refused, and nowhere else
 -- twin: `sinks_that_stop`
 abbrev pub CountsFor : Cause → ℕ → ℕ → Type 0
-CountsFor Sink old new = Rose old new
+CountsFor (Message cause) old new = wire.CountsCause old new cause
 CountsFor _ old new = new ≡ old

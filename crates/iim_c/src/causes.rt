@@ -1,0 +1,120 @@
+//! The causes by their numbers: their names, and what they mean.
+
+ghost use Rattle.std.specs.Prelude.{◌≡◌, Some, None, MatchOption};
+ghost use Rattle.iim_c.specs.Format.Causes.{cause_named, cause_text, cause_told};
+ghost use Rattle.iim_c.specs.Format.Names.{IsNamed, name_or_none};
+
+use crate::names::put_name;
+
+/// The name of a cause, and what it means.
+#[derive(Clone, Copy)]
+struct CauseWords {
+    name: &'static str,
+    text: &'static str,
+}
+
+/// A match on a number, with each line as an arm: number, name and sentence.
+macro_rules! words_by {
+    ($number:expr; $($of:literal $name:literal $text:literal)*) => {
+        match $number {
+            $($of => Some(CauseWords { name: $name, text: $text }),)*
+            _ => None,
+        }
+    };
+}
+
+/// The causes by their numbers, as the page on the causes has them.
+macro_rules! cause_in_table {
+    ($number:expr) => {
+        words_by! { $number;
+            // Causes of octets
+            1 "Marker" "a tag doesn't begin with 1C"
+            2 "CountForm" "octet 4 of a tag is above 80, or it is 80 and octet 5 is not 1 to 8"
+            3 "Truncated" "the input ends inside an envelope; the octet is how many there were"
+            10 "RecordOrder" "the record is neither the present one nor the next"
+            11 "UnknownDataset" "record 7, 8 or 9 has no dataset of this number"
+            12 "Repeated" "a dataset that doesn't repeat comes a second time"
+            13 "CountRange" "the dataset has fewer or more octets than its row allows; a subfile, 8:10, more than 9,223,372,036,854,775,807"
+            14 "Missing" "the next record begins, and a mandatory dataset is absent"
+            15 "BadValue" "the octets are not of the dataset's kind"
+            16 "FileFormat" "1:20 is not 2"
+            20 "ModeClash" "mode 0 and 7:90, at the later value; mode 1 without 7:90, at the first head of 8:10"
+            21 "SizeClash" "announced above maximum, at the later value"
+            22 "SubfileTooLong" "a subfile has more octets than 7:20 allows"
+            23 "PastSize" "with this subfile's count the object is longer than announced, than the maximum, or than 9,223,372,036,854,775,807 octets"
+            24 "Short" "the total is below announced, at the head of 9:10"
+            25 "ConfirmedWrong" "9:10 is not the total"
+            30 "BadOctet" "no message can continue with the octet"
+            32 "Unfinished" "the object ends before the message does"
+            40 "LoneReturn" "after held CR comes an octet of the text that is neither LF nor the second CR, or ETX"
+            41 "ControlOctet" "01, 02 or 04 stands in the text, with no CR held"
+            50 "HeaderFull" "with the head's count the data of records 1 and 2 pass the limit on octets"
+            51 "TooManyFields" "with the head the datasets of records 1 and 2 pass the limit on their number"
+            52 "TooManySubfiles" "a head of 8:10 after 4,294,967,295 others"
+            60 "Sink" "the sink of the story refused what it was told; the dataset is 8:10"
+            61 "Failed" "something was refused before, and the reader was called again; the octet is that of the first refusal, the dataset 0:00"
+
+            // Memory and readers
+            70 "OutOfMemory" "memory was refused; no refusal's line has it"
+            71 "Read" "a read failed"
+            72 "Interrupted" "a read was interrupted 1,000,000 times in a row"
+
+            // Packing
+            80 "PastAnnounced" "the object is longer than its announced size or its maximum, or than 4,294,967,295 subfiles hold"
+            81 "ShortOfAnnounced" "the object is shorter than its announced size"
+            82 "BadTextOctet" "a line of the story has 01, 02, 03, 04, CR or LF in it"
+            83 "BadTrailer" "the trailer has more than 64 octets, or one that may not stand there"
+            84 "Write" "a write failed; what is out begins the packed form"
+            85 "Failed" "a write failed before, and the packer was called again"
+
+            // Audits and scripts
+            90 "TooManyEnvelopes" "an input has more than 1,000,000 envelopes; the command prints `too many envelopes`"
+            91 "ScriptLine" "a line has no form that may stand there, or a line is missing"
+            92 "ScriptTooLong" "the script has more than 16,777,216 octets; it is told of line 0"
+
+            // Tickets
+            100 "TicketForm" "the octets have not the form of a ticket"
+            101 "TicketVersion" "the ticket is of a version other than 1 and 2"
+            102 "Impossible" "no envelope can be at the place that the ticket tells; of version 1, none by the sizes of that version"
+        }
+    };
+}
+
+/// The words of a cause by its number: those of octets, of memory and readers, of packing, of audits, of scripts and of tickets.
+#[tactic(auto, unfolding(crate::specs::Format::Causes::cause_told, crate::specs::Format::Causes::causes_told))]
+fn cause_told(number: u8) -> Option<CauseWords>
+    ensures { MatchOption result (cause_told number ≡ None) (λ words.
+        cause_told number ≡ Some (record { number = number; name = words.name.now; text = words.text.now })) }
+{
+    cause_in_table!(number)
+}
+
+/// The name of a cause.
+fn cause_named(number: u8) -> Option<&'static str>
+    ensures { MatchOption result (cause_named number ≡ None) (λ name. cause_named number ≡ Some name.now) }
+{
+    let words = cause_told(number)?;
+    Some(words.name)
+}
+
+/// What a cause means.
+fn cause_text(number: u8) -> Option<&'static str>
+    ensures { MatchOption result (cause_text number ≡ None) (λ text. cause_text number ≡ Some text.now) }
+{
+    let words = cause_told(number)?;
+    Some(words.text)
+}
+
+/// Writes the name of a cause with a NUL after it, where there is room for both, and answers how many octets it has.
+pub fn iim_cause_name(cause: u8, out: &mut [u8]) -> usize
+    ensures { IsNamed (name_or_none (cause_named cause)) out.old out.new result }
+{
+    put_name(cause_named(cause), out)
+}
+
+/// Writes what a cause means with a NUL after it, where there is room for both, and answers how many octets it has.
+pub fn iim_cause_text(cause: u8, out: &mut [u8]) -> usize
+    ensures { IsNamed (name_or_none (cause_text cause)) out.old out.new result }
+{
+    put_name(cause_text(cause), out)
+}
