@@ -22,14 +22,13 @@ use Rattle.wire_message.specs.Format.Causes as wire_format
 use Rattle.wire_message.specs.States.SoFar.{LeadsTo}
 use Rattle.wire_message.specs.declared.place.Place.{Place}
 use Rattle.wire_message.specs.declared.fault.MessageCause.{MessageCause}
-use Rattle.wire_message.specs.declared.fault.MessageCause.TheVariants as messages
 use Rattle.iim_places.specs.Format.Admitted.{object_of}
 use Rattle.iim_places.specs.Format.Tokens.{MayContinue, CanContinue, CanContinueAt}
 use Rattle.iim_unpack.specs.Passed.{TellsMessage, MessageRefuses}
 use Rattle.iim_unpack.proofs.ToldMessage.{octets_in-octets}
 use Rattle.iim_places.specs.Format.Refusals.{message_on}
 use Rattle.iim_places.specs.Format.Open.{object_so_far, section, AllCanContinue}
-use Rattle.iim_unpack.specs.States.Parts.{AreAfter, Within, StandsFor, AreLed, CountsFor}
+use Rattle.iim_unpack.specs.States.Parts.{AreAfter, Within, StandsFor, AreLed}
 use Rattle.iim_unpack.specs.PartSteps.{TellsParts, PartsRefuse}
 use Rattle.iim_unpack.specs.declared.parts.Parts.{Parts}
 use Rattle.iim_places.specs.Laws.Lower.{LowerLaws}

@@ -9,8 +9,6 @@ use Rattle.iim_fields.specs.Format.Alive.{SectionsLiveAt}
 use Rattle.iim_fields.specs.States.Standing as records
 use Rattle.iim_fields.specs.States.Standing.{IsBetween, IsHeadFault, limits_of, FieldsPlace}
 use Rattle.iim_fields.specs.declared.fault.FieldFault.{FieldFault}
-use Rattle.iim_fields.specs.declared.fault.FieldCause.{FieldCause}
-use Rattle.iim_fields.specs.declared.fault.FieldCause.TheVariants as fields
 use Rattle.iim_object.specs.Format.Events.{ObjectEnd}
 use Rattle.iim_object.specs.Format.Plans.{max_subfiles}
 use Rattle.iim_object.specs.Format.Objects.{ObjectLanguage, ObjectEnded, SubfileBegun}
@@ -19,8 +17,6 @@ use Rattle.iim_object.specs.States.Reading as objects
 use Rattle.iim_object.specs.States.Reading.{events_at}
 use Rattle.iim_object.specs.Format.Numbers.{place_after_datasets}
 use Rattle.iim_object.specs.declared.reading.state.State.{State}
-use Rattle.iim_object.specs.declared.reading.fault.SizeCause.{SizeCause}
-use Rattle.iim_object.specs.declared.reading.fault.SizeCause.TheVariants as sizes
 use Rattle.wire_story.specs.Format.Delivery as story
 use Rattle.wire_story.specs.Format.Tokens.{End}
 use Rattle.wire_message.specs.Format.Layers.{text_so_far, MessageDiesAt}

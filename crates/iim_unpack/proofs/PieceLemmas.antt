@@ -9,7 +9,6 @@ use Rattle.iim_fields.specs.declared.limits.Limits.{Limits}
 use Rattle.wire_story.specs.Format.Delivery as story
 use Rattle.wire_story.specs.Laws.Texts.{DeliveryMayBeCut, TextsAreDeliveredAsLines}
 use Rattle.wire_message.specs.Format.Layers.{text_so_far}
-use Rattle.wire_message.specs.Laws.Messages.{TextsStandBetweenStxAndEtx}
 use Rattle.wire_message.specs.declared.place.Place.TheVariants.{AfterEnd}
 use Rattle.iim_places.specs.Format.Admitted.{Value, Admits, object_of}
 use Rattle.iim_places.specs.Laws.Streams.{OpenOctetsAreBounded, EnvelopesAreBounded, RefusedOctetsWereOpen, StreamsHaveOneAnswer}
