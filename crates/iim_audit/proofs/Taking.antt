@@ -14,7 +14,8 @@ use Rattle.iim_unpack.specs.States.Unpacking.{Unpacking, IsDoneWith, Stands, lim
 use Rattle.iim_unpack.specs.declared.intake.IntakeFault.{IntakeFault}
 use Rattle.iim_unpack.specs.declared.intake.IntakeFault.TheVariants as intakes
 use Rattle.iim_places.specs.declared.refusal.Cause.{Cause}
-use Rattle.iim_places.specs.Format.Refusals.{sink_stopped}
+use Rattle.iim_places.specs.declared.refusal.Cause.TheVariants.{Message}
+use Rattle.wire_message.specs.declared.fault.MessageCause.TheVariants.{Sink}
 use Rattle.iim_places.specs.declared.refusal.Refusal.{Refusal}
 use Rattle.iim_audit.specs.Faults.{cause_of}
 use Rattle.iim_audit.specs.Taking.{IsCutOff, IsRefusal, TookEnvelope, TookOne, TookNone}
@@ -46,7 +47,7 @@ took_end limits old new u v a b used whole is fed =
     (was.1.given, was.1.at_end, none)
 
 -- A sink that counts no failure refused nothing.
-pub unsunk : (cause : Cause) (n : ℕ) → n ≡ 0 → CountsFor cause n n → cause ≢ sink_stopped
+pub unsunk : (cause : Cause) (n : ℕ) → n ≡ 0 → CountsFor cause n n → cause ≢ Message Sink
 unsunk cause n zero counts same =
     let P : Cause → Type 0 = λ c. CountsFor c n n in
     ⊎_elim (λ rose. omega arith) (λ full. omega arith) (subst P same counts)

@@ -2,7 +2,8 @@
 use Rattle.std.specs.Prelude.{◌≡◌, ◌≢◌, ℕ, ◌≤◌, List, length, None}
 use Rattle.wire_story.specs.Format.Delivery.{StoryEvent}
 use Rattle.wire_story.specs.Format.Words.{WordsSoFar, CountsWords}
-use Rattle.iim_places.specs.Format.Refusals.{sink_stopped}
+use Rattle.iim_places.specs.declared.refusal.Cause.TheVariants.{Message}
+use Rattle.wire_message.specs.declared.fault.MessageCause.TheVariants.{Sink}
 use Rattle.iim_places.specs.declared.refusal.Refusal.{Refusal}
 use Rattle.iim_unpack.specs.States.Unpacking.{Unpacking, Stands, Goes, IsDone, IsRefusedIn, limits_in}
 use Rattle.iim_unpack.specs.declared.unpacker.Progress.{Progress}
@@ -29,4 +30,4 @@ pub record HasFed (u : Unpacking) (old : WordsSoFar) (piece : List ℕ) (v : Unp
 pub record IsRefusedFor (u : Unpacking) (piece : List ℕ) (e : Refusal) : Type 0 where
   pub more : List StoryEvent
   pub refuses : (p : List ℕ) (a : ℕ) → Stands u p a → IsRefusedIn (limits_in u) p a piece more e
-  pub by_octets : e.cause ≢ sink_stopped
+  pub by_octets : e.cause ≢ Message Sink

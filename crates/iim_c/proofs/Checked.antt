@@ -10,7 +10,8 @@ use Rattle.iim_unpack.specs.States.Unpacking.{Unpacking, Stands, Goes, IsRefused
 use Rattle.iim_places.specs.States.Counts.{raised}
 use Rattle.iim_unpack.specs.declared.unpacker.Progress.TheVariants.{More, Done}
 use Rattle.iim_places.specs.declared.refusal.Refusal.{Refusal}
-use Rattle.iim_places.specs.Format.Refusals.{sink_stopped}
+use Rattle.iim_places.specs.declared.refusal.Cause.TheVariants.{Message}
+use Rattle.wire_message.specs.declared.fault.MessageCause.TheVariants.{Sink}
 use Rattle.iim_c.specs.declared.answer.IimAnswer.{IimAnswer}
 use Rattle.iim_c.specs.Format.Answers.{status_answer, refusal_answer}
 use Rattle.iim_c.specs.Format.Checking.{IsChecked, IsOnly, answer_for, finished}
@@ -54,7 +55,7 @@ truncated_for law limits octets v more e told few same goes short is =
     is
 
 pub refused_for : StreamsHaveOneAnswer → (limits : Limits) (octets : List ℕ) (more : List StoryEvent) (e : Refusal) (told : IimAnswer) → length octets < 2 ^ 63
-    → IsRefusedIn limits [] 0 octets more e → e.cause ≢ sink_stopped → told ≡ refusal_answer status.refused e → Answered limits octets told
+    → IsRefusedIn limits [] 0 octets more e → e.cause ≢ Message Sink → told ≡ refusal_answer status.refused e → Answered limits octets told
 refused_for law limits octets more e told few r by_octets is =
     let at : raised 0 r.k ≡ r.k = exact r.k (let w = r.within in omega (arith, w, few)) in
     let octet : e.octet ≡ r.k = ap (λ (f : Refusal). f.octet) r.refusal ∙ at in

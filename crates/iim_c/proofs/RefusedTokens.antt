@@ -14,6 +14,7 @@ use Rattle.iim_places.specs.Format.Conditions.{Token, AtOctet, AtHead, AtValue, 
 use Rattle.iim_places.specs.Format.Open.{AllCanContinue, Completes}
 use Rattle.iim_places.specs.declared.refusal.Cause.{Cause}
 use Rattle.iim_places.specs.declared.refusal.Cause.TheVariants.{Marker, CountForm, Truncated, Field, Size, Message, TooManySubfiles, Failed}
+use Rattle.iim_fields.specs.declared.fault.FieldCause.TheVariants as fields
 use Rattle.iim_object.specs.declared.reading.fault.SizeCause.TheVariants as sizes
 use Rattle.wire_message.specs.declared.fault.MessageCause.TheVariants as messages
 use Rattle.iim_places.proofs.Lasts.{last_sections}
@@ -42,7 +43,8 @@ in_subfile : (cause : Cause) (limits : Limits) (ds : List Dataset) (h : Head) (t
 in_subfile Marker limits ds h taken octet holds = absurd holds
 in_subfile CountForm limits ds h taken octet holds = absurd holds
 in_subfile Truncated limits ds h taken octet holds = absurd holds
-in_subfile (Field cause) limits ds h taken octet holds = absurd holds
+in_subfile (Field fields.RecordOrder) limits ds h taken octet holds = absurd holds
+in_subfile (Field other) limits ds h taken octet holds = absurd holds
 in_subfile (Size sizes.ModeClash) limits ds h taken octet holds = absurd holds
 in_subfile (Size other) limits ds h taken octet holds = absurd holds
 in_subfile (Message messages.Unfinished) limits ds h taken octet holds = absurd holds

@@ -7,7 +7,8 @@ use Rattle.iim_unpack.specs.States.Unpacking.{Unpacking, Stands, Goes, IsRefused
 use Rattle.iim_unpack.specs.declared.unpacker.Progress.{Progress}
 use Rattle.iim_places.specs.declared.refusal.Refusal.{Refusal}
 use Rattle.iim_places.specs.declared.refusal.Cause.{Cause}
-use Rattle.iim_places.specs.Format.Refusals.{sink_stopped}
+use Rattle.iim_places.specs.declared.refusal.Cause.TheVariants.{Message}
+use Rattle.wire_message.specs.declared.fault.MessageCause.TheVariants.{Sink}
 use Rattle.iim_c.specs.declared.text_out.TextOut.{TextOut}
 use Rattle.iim_c.specs.Format.Writing.{HasTaken, WritesLines}
 use Rattle.iim_c.specs.FeedSteps.{HasFedText, HasRefusedText}
@@ -18,7 +19,7 @@ no_rise : Rose 0 0 → ⊥
 no_rise (inl h) = omega (arith, h)
 no_rise (inr h) = omega (arith, h)
 
-pub not_sink : (cause : Cause) → CountsFor cause 0 0 → cause ≢ sink_stopped
+pub not_sink : (cause : Cause) → CountsFor cause 0 0 → cause ≢ Message Sink
 not_sink cause counts is = no_rise (subst (λ (c : Cause). CountsFor c 0 0) is counts)
 
 -- ---- a piece

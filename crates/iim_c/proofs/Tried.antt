@@ -10,7 +10,8 @@ use Rattle.iim_places.specs.Laws.Streams.{NothingContinuesFromRefusedOctets, Ope
 use Rattle.iim_places.specs.States.Counts.{raised}
 use Rattle.iim_places.specs.declared.refusal.Refusal.{Refusal}
 use Rattle.iim_places.specs.declared.refusal.Cause.{Cause}
-use Rattle.iim_places.specs.Format.Refusals.{sink_stopped}
+use Rattle.iim_places.specs.declared.refusal.Cause.TheVariants.{Message}
+use Rattle.wire_message.specs.declared.fault.MessageCause.TheVariants.{Sink}
 use Rattle.iim_places.specs.declared.ticket.fault.TicketFault.{TicketFault}
 use Rattle.iim_unpack.specs.States.Parts.{CountsFor}
 use Rattle.iim_unpack.specs.States.Unpacking.{Unpacking, Stands, Goes, IsDone, IsDoneWith, IsRefusedIn, limits_in}
@@ -94,10 +95,10 @@ no_rise : Rose 0 0 → ⊥
 no_rise (inl h) = omega (arith, h)
 no_rise (inr h) = omega (arith, h)
 
-by_octets : (cause : Cause) → CountsFor cause 0 0 → cause ≢ sink_stopped
+by_octets : (cause : Cause) → CountsFor cause 0 0 → cause ≢ Message Sink
 by_octets cause counts is = no_rise (subst (λ (c : Cause). CountsFor c 0 0) is counts)
 
-killed_by : (limits : Limits) (p : List ℕ) (a octet : ℕ) (more : List StoryEvent) (e : Refusal) → e.cause ≢ sink_stopped → IsRefusedIn limits p a (octet ∷ []) more e → IsRefusedNext limits p octet
+killed_by : (limits : Limits) (p : List ℕ) (a octet : ℕ) (more : List StoryEvent) (e : Refusal) → e.cause ≢ Message Sink → IsRefusedIn limits p a (octet ∷ []) more e → IsRefusedNext limits p octet
 killed_by limits p a octet more e sinkless r =
     let first : r.k ≡ 0 = (let w = r.within in omega (arith, w)) in
     let refuses : RefusesNext limits (p ++ []) octet r.fault =

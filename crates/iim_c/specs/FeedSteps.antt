@@ -4,7 +4,8 @@ use Rattle.wire_story.specs.Format.Delivery.{StoryEvent, octet_for}
 use Rattle.iim_unpack.specs.States.Unpacking.{Unpacking, Stands, Goes, IsRefusedIn, limits_in}
 use Rattle.iim_unpack.specs.declared.unpacker.Progress.{Progress}
 use Rattle.iim_places.specs.declared.refusal.Refusal.{Refusal}
-use Rattle.iim_places.specs.Format.Refusals.{sink_stopped}
+use Rattle.iim_places.specs.declared.refusal.Cause.TheVariants.{Message}
+use Rattle.wire_message.specs.declared.fault.MessageCause.TheVariants.{Sink}
 use Rattle.iim_unpack.specs.declared.unpacker.Progress.TheVariants.{More, Done}
 use Rattle.iim_c.specs.declared.answer.IimAnswer.{IimAnswer}
 use Rattle.iim_c.specs.Format.Answers.{refusal_answer}
@@ -23,7 +24,7 @@ pub record HasRefusedText (u : Unpacking) (piece out : List ℕ) (count : ℕ) (
   pub more : List StoryEvent
   pub taken : HasTaken out count (map octet_for more)
   pub refuses : (p : List ℕ) (n : ℕ) → Stands u p n → IsRefusedIn (limits_in u) p n piece more e
-  pub by_octets : e.cause ≢ sink_stopped
+  pub by_octets : e.cause ≢ Message Sink
 
 -- ---- the answers
 

@@ -23,7 +23,6 @@ use Rattle.iim_places.specs.declared.refusal.Refusal.{Refusal}
 use Rattle.iim_places.specs.declared.refusal.Cause.{Cause}
 use Rattle.iim_places.specs.declared.refusal.Cause.TheVariants.{Message, Truncated}
 use Rattle.wire_message.specs.declared.fault.MessageCause.TheVariants as messages
-use Rattle.iim_places.specs.Format.Refusals.{sink_stopped}
 use Rattle.iim_listing.specs.Feeding.{IsOfFault}
 use Rattle.iim_output.specs.declared.fault.CommandFault.{CommandFault}
 use Rattle.iim_listing.specs.declared.coming.Next.{Next}
@@ -60,7 +59,7 @@ refused_here : (u : Unpacking) (octets : List ℕ) (more : List StoryEvent) (e :
 refused_here u octets more e same is = subst (λ (l : Limits). IsRefusedOf l [] 0 octets more e) same is
 
 pub is_refusal : {S : Type 0} (goes : S → List StoryEvent → S → Type 0) (failures : S → ℕ) (old new : Device) (u v : Unpacking) (a b : S) (e : Refusal)
-    → limits_in u ≡ limits → Stands u [] 0 → e.cause ≢ sink_stopped → WasRefused goes failures old new u v a b e ⊎ WasTruncated goes failures old new u v a b e
+    → limits_in u ≡ limits → Stands u [] 0 → e.cause ≢ Message messages.Sink → WasRefused goes failures old new u v a b e ⊎ WasTruncated goes failures old new u v a b e
     → IsRefusal goes old new a b e
 is_refusal goes failures old new u v a b e same at other (inl w) =
     let is = refused_here u w.octets w.more e same (w.refuses [] 0 at) in
@@ -91,7 +90,7 @@ is_refusal goes failures old new u v a b e same at other (inr w) =
     }
 
 pub is_unheard : {S : Type 0} (goes : S → List StoryEvent → S → Type 0) (failures : S → ℕ) (old new : Device) (u v : Unpacking) (a b : S) (e : Refusal)
-    → Stands u [] 0 → e.cause ≡ sink_stopped → WasRefused goes failures old new u v a b e ⊎ WasTruncated goes failures old new u v a b e
+    → Stands u [] 0 → e.cause ≡ Message messages.Sink → WasRefused goes failures old new u v a b e ⊎ WasTruncated goes failures old new u v a b e
     → IsUnheard goes failures old new a b
 is_unheard goes failures old new u v a b e at sink (inl w) =
     let is = w.refuses [] 0 at in
@@ -110,7 +109,7 @@ is_unheard goes failures old new u v a b e at sink (inr w) =
     cc
 
 -- the count of the sink where it did not refuse
-pub calm_counts : (cause : Cause) (before now : ℕ) → cause ≢ sink_stopped → CountsFor cause before now → now ≡ before
+pub calm_counts : (cause : Cause) (before now : ℕ) → cause ≢ Message messages.Sink → CountsFor cause before now → now ≡ before
 calm_counts (Message messages.Sink) before now other counts = absurd (other refl)
 calm_counts _ before now other counts = counts
 
@@ -132,7 +131,7 @@ is_cut_off goes failures old new u v a b kept fault same at w =
 
 -- the count of a sink that refused nothing
 pub calm_of : {S : Type 0} (goes : S → List StoryEvent → S → Type 0) (failures : S → ℕ) (old new : Device) (u v : Unpacking) (a b : S) (e : Refusal)
-    → e.cause ≢ sink_stopped → WasRefused goes failures old new u v a b e ⊎ WasTruncated goes failures old new u v a b e → failures b ≡ failures a
+    → e.cause ≢ Message messages.Sink → WasRefused goes failures old new u v a b e ⊎ WasTruncated goes failures old new u v a b e → failures b ≡ failures a
 calm_of goes failures old new u v a b e other (inl w) = calm_counts e.cause (failures a) (failures b) other w.counts
 calm_of goes failures old new u v a b e other (inr w) = w.calm
 

@@ -19,7 +19,8 @@ use Rattle.wire_message.specs.declared.fault.MessageCause.TheVariants as message
 use Rattle.iim_places.specs.Laws.Conditions.{RefusalsTellTheLowestCause}
 use Rattle.iim_places.specs.declared.refusal.Refusal.{Refusal}
 use Rattle.iim_places.specs.declared.refusal.Layer.TheVariants as layers
-use Rattle.iim_places.specs.Format.Refusals.{sink_stopped}
+use Rattle.iim_places.specs.declared.refusal.Cause.TheVariants.{Message}
+use Rattle.wire_message.specs.declared.fault.MessageCause.TheVariants.{Sink}
 use Rattle.iim_places.proofs.ObjectOctets.{lives_whole}
 use Rattle.iim_places.proofs.Following.{Follows, in_front, follows, alive_of, within_of, head_lives, value_lives, object_lives_after, object_on, message_of}
 use Rattle.iim_places.proofs.Following.{story_of, message_ends, ends_tokens}
@@ -384,7 +385,7 @@ one_refusal laws tests limits octets next f g a b =
 -- ---- with a refused octet nothing lives
 
 none_lives : LowerLaws → (limits : Limits) (octets more : List ℕ) (next : ℕ) (fault : TokenFault) (ds : List Dataset) (b : Begun)
-    → Reads count_octets octets ds b → IsRefusedAt limits ds b next fault → fault.cause ≢ sink_stopped → Lives limits (octets ++ next ∷ more) → ⊥
+    → Reads count_octets octets ds b → IsRefusedAt limits ds b next fault → fault.cause ≢ Message Sink → Lives limits (octets ++ next ∷ more) → ⊥
 none_lives laws limits octets more next fault ds (InTag held) reads (inl (dead, is)) other lives =
     laws.stuck octets more next ds held lives.whole lives.begun reads dead lives.reads
 none_lives laws limits octets more next fault ds (InTag held) reads (inr (h, tag, inl bad)) other lives =
@@ -445,7 +446,7 @@ same_length laws stream n m v w short long a b less =
 
 -- an octet that is refused, and no sink
 abbrev IsDead : Limits → List ℕ → Refusal → Type 0
-IsDead limits stream e = IsRefused limits stream e × (e.cause ≢ sink_stopped)
+IsDead limits stream e = IsRefused limits stream e × (e.cause ≢ Message Sink)
 
 -- no octets continue from it
 none_after : StreamLaws → (limits : Limits) (stream : List ℕ) (e : Refusal) → IsDead limits stream e → (more : List ℕ)

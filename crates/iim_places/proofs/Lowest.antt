@@ -14,6 +14,7 @@ use Rattle.iim_places.proofs.Words.{Layer, AreSections, cases_Bool, eq-eqb, ltb-
 use Rattle.iim_places.proofs.Words.{MessageLivesWith, StoryLivesIn, tag_cause, begun_record, begun_number, HaveRoom, fault_at_head, fault_at_value}
 use Rattle.iim_places.proofs.Words.{octets_append}
 use Rattle.iim_fields.specs.Format.Causes.{number_of_cause}
+use Rattle.iim_fields.specs.Format.Causes.Token.{AtHead as HeadToken, AtValue as ValueToken}
 use Rattle.iim_fields.specs.declared.fault.FieldCause.{FieldCause}
 use Rattle.iim_object.specs.Format.Places.{Place}
 use Rattle.iim_places.specs.declared.refusal.Cause.{Cause}
@@ -23,9 +24,12 @@ use Rattle.iim_places.proofs.SameRecords.{stated_after_all, stated_at}
 use Rattle.iim_places.proofs.SizeConditions.{OfSize, size_holds}
 use Rattle.iim_places.proofs.StoryDies.{in_text, lone_return, control}
 use Rattle.iim_places.proofs.Living.{alive_front}
+use Rattle.iim_fields.specs.Format.Causes as records
 use Rattle.iim_fields.specs.declared.fault.FieldCause.TheVariants as fields
 use Rattle.iim_object.specs.Laws.Conditions as objects
 use Rattle.iim_object.specs.Format.Conditions as objects_format
+use Rattle.iim_object.specs.declared.reading.fault.SizeCause.TheVariants as sizes
+use Rattle.wire_message.specs.Format.Causes.{number_of_message}
 use Rattle.wire_message.specs.declared.fault.MessageCause.TheVariants as messages
 use Rattle.iim_places.specs.declared.refusal.Layer.TheVariants as layers
 use Rattle.iim_places.specs.declared.refusal.Cause.TheVariants as causes
@@ -48,7 +52,8 @@ in_layer causes.Truncated = inr (inr refl)
 in_layer (causes.Field fields.HeaderFull) = inl (fields.HeaderFull, refl)
 in_layer (causes.Field fields.TooManyFields) = inl (fields.TooManyFields, refl)
 in_layer (causes.Field other) = (other, refl)
-in_layer (causes.Size cause) = (cause, refl)
+in_layer (causes.Size sizes.ModeClash) = (sizes.ModeClash, refl)
+in_layer (causes.Size other) = (other, refl)
 in_layer (causes.Message messages.BadOctet) = inl refl
 in_layer (causes.Message messages.Unfinished) = inr refl
 in_layer (causes.Message messages.LoneReturn) = inl refl
@@ -69,9 +74,36 @@ Holds' limits ds token c = (rule_of c).holds limits ds token
 
 -- ---- the record layer and the limits
 
+pub field_layer : (f : FieldCause) → (rule_of (causes.Field f)).layer ≡ layer_of f
+field_layer fields.RecordOrder = refl
+field_layer other = refl
+
+pub field_number : (f : FieldCause) → (rule_of (causes.Field f)).number ≡ number_of_cause f
+field_number fields.RecordOrder = refl
+field_number other = refl
+
 -- as the record layer and the limits have it
-abbrev pub HasField : FieldCause → Limits → List Dataset → Token → Type 0
-HasField cause limits ds token = Holds' limits ds token (causes.Field cause)
+abbrev pub OfField : FieldCause → Limits → List Dataset → Token → Type 0
+OfField cause limits ds (AtOctet begun octet) = ⊥
+OfField cause limits ds (AtHead h) = records.HasCause cause limits ds (HeadToken h)
+OfField cause limits ds (AtValue d) = records.HasCause cause limits ds (ValueToken d)
+
+pub field_holds : (f : FieldCause) (limits : Limits) (ds : List Dataset) (token : Token) → (Holds' limits ds token (causes.Field f) → OfField f limits ds token) × (OfField f limits ds token → Holds' limits ds token (causes.Field f))
+field_holds fields.RecordOrder limits ds (AtOctet begun octet) = (λ h. h, λ h. h)
+field_holds other limits ds (AtOctet begun octet) = (λ h. h, λ h. h)
+field_holds fields.RecordOrder limits ds (AtHead h) = (λ h. h, λ h. h)
+field_holds other limits ds (AtHead h) = (λ h. h, λ h. h)
+field_holds fields.RecordOrder limits ds (AtValue d) = (λ h. h, λ h. h)
+field_holds other limits ds (AtValue d) = (λ h. h, λ h. h)
+
+-- the dataset that is named
+pub head_names : (f : FieldCause) (ds : List Dataset) (h : Head) (rec set : ℕ) → (records.Names f ds (HeadToken h) rec set → Names (causes.Field f) ds (AtHead h) rec set) × (Names (causes.Field f) ds (AtHead h) rec set → records.Names f ds (HeadToken h) rec set)
+head_names fields.Missing ds h rec set = (λ n. n, λ n. n)
+head_names other ds h rec set = (λ n. n, λ n. n)
+
+pub value_names : (f : FieldCause) (ds : List Dataset) (d : Dataset) (rec set : ℕ) → (records.Names f ds (ValueToken d) rec set → Names (causes.Field f) ds (AtValue d) rec set) × (Names (causes.Field f) ds (AtValue d) rec set → records.Names f ds (ValueToken d) rec set)
+value_names fields.Missing ds d rec set = (λ n. n, λ n. n)
+value_names other ds d rec set = (λ n. n, λ n. n)
 
 -- what is told of a token
 pub record IsTold (limits : Limits) (ds : List Dataset) (token : Token) (fault : TokenFault) : Type 0 where
@@ -88,29 +120,41 @@ lower_field fields.HeaderFull c same less = few_limits c 50 (one_of layers.Limit
 lower_field fields.TooManyFields c same less = few_limits c 51 (one_of layers.Limits c same) less (omega arith)
 lower_field other c same less = one_of layers.Record c same
 
-field_lowest : (limits : Limits) (ds : List Dataset) (token : Token) (f : FieldFault) → HasField f.cause limits ds token
-    → ((g : FieldCause) → number_of_cause g < number_of_cause f.cause → HasField g limits ds token → ⊥) → TellsTheLowest limits ds token (of_field f)
+field_lowest : (limits : Limits) (ds : List Dataset) (token : Token) (f : FieldFault) → OfField f.cause limits ds token
+    → ((g : FieldCause) → number_of_cause g < number_of_cause f.cause → OfField g limits ds token → ⊥) → TellsTheLowest limits ds token (of_field f)
 field_lowest limits ds token f holds lowest = record {
-  layer = refl;
-  holds = holds;
+  layer = field_layer f.cause;
+  holds = (field_holds f.cause limits ds token).1 holds;
   lowest = λ other same less has.
-      let (g, is) = lower_field f.cause other same less in
+      let number_is = field_number f.cause in
+      let (g, is) = lower_field f.cause other same (omega (arith, less, number_is)) in
       let other_is = numbered other (causes.Field g) is in
-      lowest g (omega (arith, less, other_is)) (subst (Holds' limits ds token) is has);
+      let g_is = field_number g in
+      lowest g (omega (arith, less, number_is, other_is, g_is)) ((field_holds g limits ds token).0 (subst (Holds' limits ds token) is has));
 }
 
 -- ---- the object layer
 
+pub size_layer : (s : SizeCause) → (rule_of (causes.Size s)).layer ≡ layers.Object
+size_layer sizes.ModeClash = refl
+size_layer other = refl
+
+pub size_number : (s : SizeCause) → (rule_of (causes.Size s)).number ≡ objects_format.number_of s
+size_number sizes.ModeClash = refl
+size_number other = refl
+
 size_lowest : (limits : Limits) (ds : List Dataset) (token : Token) (h : Head) (p : Place) (t : ObjectToken) (s : SizeCause) → objects.IsFirstCause p t s
     → OfSize s ds token → ((r : SizeCause) → OfSize r ds token → objects_format.HasCause r p t) → TellsTheLowest limits ds token (size_on h s)
 size_lowest limits ds token h p t s first holds back = record {
-  layer = refl;
-  holds = (size_holds s ds token).1 holds;
+  layer = size_layer s;
+  holds = (size_holds s limits ds token).1 holds;
   lowest = λ other same less has.
       let (r, is) = one_of layers.Object other same in
-      let low = first.lowest r (back r ((size_holds r ds token).0 (subst (Holds' limits ds token) is has))) in
+      let low = first.lowest r (back r ((size_holds r limits ds token).0 (subst (Holds' limits ds token) is has))) in
+      let number_is = size_number s in
       let other_is = numbered other (causes.Size r) is in
-      omega (arith, less, low, other_is);
+      let r_is = size_number r in
+      omega (arith, less, low, number_is, other_is, r_is);
 }
 
 -- ---- heads
@@ -139,13 +183,13 @@ pub either : (r a b : ℕ) → (nat_eq r a || nat_eq r b) ≡ true → (r ≡ a)
 either r a b is = elim (or_cases (nat_eq r a) (nat_eq r b) is) [ inl same ↦ inl (eqb-true r a same) | inr same ↦ inr (eqb-true r b same) ]
 
 too_many_lowest : (limits : Limits) (ds : List Dataset) (h : Head) → h.rec ≡ 8 → max_subfiles ≤ length (of_record 8 ds)
-    → ((f : FieldCause) → HasField f limits ds (AtHead h) → ⊥) → TellsTheLowest limits ds (AtHead h) (too_many_on h)
+    → ((f : FieldCause) → OfField f limits ds (AtHead h) → ⊥) → TellsTheLowest limits ds (AtHead h) (too_many_on h)
 too_many_lowest limits ds h eight many none = record {
   layer = refl;
   holds = (eight, many);
   lowest = λ other same less has.
       let (g, is) = few_limits other 52 (one_of layers.Limits other same) less (omega arith) in
-      none g (subst (Holds' limits ds (AtHead h)) is has);
+      none g ((field_holds g limits ds (AtHead h)).0 (subst (Holds' limits ds (AtHead h)) is has));
 }
 
 pub leads_at : LowerLaws → (ds : List Dataset) (h : Head) → SectionsLiveAt ds h → (h.rec ≡ 8 → length (of_record 8 ds) < max_subfiles) → (h.rec ≡ 8) ⊎ (h.rec ≡ 9) → HeadLeads ds h
@@ -168,7 +212,7 @@ head_lowest laws limits ds h fault alive within refused = by (first_fault limits
         → option_or (option_map of_field o) (option_or p q) ≡ Some fault → IsTold limits ds (AtHead h) fault
     by (Some f) p q first second third e =
         let is = ((laws.heads_tell limits ds h).0 f).0 first in
-        subst (IsTold limits ds (AtHead h)) (same_Some _ _ e) (record { tells = field_lowest limits ds (AtHead h) f is.holds is.lowest; names = is.names })
+        subst (IsTold limits ds (AtHead h)) (same_Some _ _ e) (record { tells = field_lowest limits ds (AtHead h) f is.holds is.lowest; names = (head_names f.cause ds h f.rec f.set).0 is.names })
     by None (Some s) q first second third e =
         let many = taken_if (nat_eq h.rec 8) (nat_lt (length (of_record 8 ds)) max_subfiles) (too_many_on h) s second in
         subst (IsTold limits ds (AtHead h)) (many.0 ∙ same_Some _ _ e)
@@ -201,7 +245,7 @@ value_lowest laws limits ds d fault within refused = by (value_fault d) (number_
     by : (o : Option FieldFault) (q : Option TokenFault) → value_fault d ≡ o → number_fault ds d ≡ q → option_or (option_map of_field o) q ≡ Some fault → IsTold limits ds (AtValue d) fault
     by (Some f) q first second e =
         let is = ((laws.values_tell limits ds d).0 f).0 first in
-        subst (IsTold limits ds (AtValue d)) (same_Some _ _ e) (record { tells = field_lowest limits ds (AtValue d) f is.holds is.lowest; names = is.names })
+        subst (IsTold limits ds (AtValue d)) (same_Some _ _ e) (record { tells = field_lowest limits ds (AtValue d) f is.holds is.lowest; names = (value_names f.cause ds d f.rec f.set).0 is.names })
     by None q first second e = by_object (mapped_if (tells_number d.rec) (cause_at (place_at ds (head_of d)) (value_token d.rec d.set (number d.octets))) (size_on (head_of d)) fault (second ∙ e))
 
 -- ---- octets of the object, and its end
@@ -479,13 +523,13 @@ last_number other = omega arith
 
 -- the fault that is told of a field
 field_fault : (fault : TokenFault) (f : FieldCause) → fault.cause ≡ causes.Field f → (rule_of fault.cause).layer ≡ fault.layer → of_field (record { rec = fault.rec; set = fault.set; cause = f }) ≡ fault
-field_fault fault f is layer = same_fault _ fault (ap (λ (c : Cause). (rule_of c).layer) (sym is) ∙ layer) refl refl (sym is)
+field_fault fault f is layer = same_fault _ fault (sym (field_layer f) ∙ ap (λ (c : Cause). (rule_of c).layer) (sym is) ∙ layer) refl refl (sym is)
 
 -- a cause of fields that is no lower one of the layer
 not_lower : (limits : Limits) (ds : List Dataset) (token : Token) (fault : TokenFault) → TellsTheLowest limits ds token fault → (g : FieldCause) → layer_of g ≡ fault.layer → number_of_cause g < (rule_of fault.cause).number
-    → HasField g limits ds token → ⊥
+    → OfField g limits ds token → ⊥
 not_lower limits ds token fault tells g layer less has =
-    tells.lowest (causes.Field g) layer less has
+    let number_is = field_number g in tells.lowest (causes.Field g) (field_layer g ∙ layer) (omega (arith, less, number_is)) ((field_holds g limits ds token).1 has)
 
 -- ---- limits
 
@@ -497,7 +541,7 @@ room_number true true false h f e = subst (λ (x : FieldFault). 50 ≤ number_of
 room_number true true true h f e = absurd cc
 
 -- where the record layer can continue with a head, no condition of its own holds
-no_record : LowerLaws → (limits : Limits) (ds : List Dataset) (h : Head) → SectionsLive ds → SectionsLiveAt ds h → (g : FieldCause) → number_of_cause g < 50 → HasField g limits ds (AtHead h) → ⊥
+no_record : LowerLaws → (limits : Limits) (ds : List Dataset) (h : Head) → SectionsLive ds → SectionsLiveAt ds h → (g : FieldCause) → number_of_cause g < 50 → OfField g limits ds (AtHead h) → ⊥
 no_record laws limits ds h alive at g low has = by (first_fault limits ds h) refl
   where
     none : record_fault ds h ≡ None
@@ -512,7 +556,7 @@ no_record laws limits ds h alive at g low has = by (first_fault limits ds h) ref
         is.lowest g (omega (arith, high, low)) has
 
 -- where there is room, no condition of the limits on fields holds
-no_limit : (limits : Limits) (ds : List Dataset) (h : Head) → HaveRoom limits ds h → (g : FieldCause) → 50 ≤ number_of_cause g → HasField g limits ds (AtHead h) → ⊥
+no_limit : (limits : Limits) (ds : List Dataset) (h : Head) → HaveRoom limits ds h → (g : FieldCause) → 50 ≤ number_of_cause g → OfField g limits ds (AtHead h) → ⊥
 no_limit limits ds h room fields.HeaderFull high (keeps, more) = let fits = (room.kept keeps).octets_in in omega (arith, fits, more)
 no_limit limits ds h room fields.TooManyFields high (keeps, more) = let fits = (room.kept keeps).fields_in in omega (arith, fits, more)
 no_limit limits ds h room other high has = absurd (omega (arith, high))
@@ -521,13 +565,13 @@ no_limit limits ds h room other high has = absurd (omega (arith, high))
 
 -- the first fault is one of a field
 field_first : LowerLaws → (limits : Limits) (ds : List Dataset) (h : Head) (fault : TokenFault) (f : FieldCause) → fault.cause ≡ causes.Field f → TellsTheLowest limits ds (AtHead h) fault
-    → Names fault.cause ds (AtHead h) fault.rec fault.set → ((g : FieldCause) → number_of_cause g < number_of_cause f → HasField g limits ds (AtHead h) → ⊥) → fault_at_head limits ds h ≡ Some fault
+    → Names fault.cause ds (AtHead h) fault.rec fault.set → ((g : FieldCause) → number_of_cause g < number_of_cause f → OfField g limits ds (AtHead h) → ⊥) → fault_at_head limits ds h ≡ Some fault
 field_first laws limits ds h fault f is tells names lowest =
     let found : FieldFault = record { rec = fault.rec; set = fault.set; cause = f } in
     let first = ((laws.heads_tell limits ds h).0 found).1 (record {
-      holds = subst (Holds' limits ds (AtHead h)) is tells.holds;
+      holds = (field_holds f limits ds (AtHead h)).0 (subst (Holds' limits ds (AtHead h)) is tells.holds);
       lowest = lowest;
-      names = subst (λ (c : Cause). Names c ds (AtHead h) fault.rec fault.set) is names;
+      names = (head_names f ds h fault.rec fault.set).1 (subst (λ (c : Cause). Names c ds (AtHead h) fault.rec fault.set) is names);
     }) in
     ap (λ (o : Option FieldFault). option_or (option_map of_field o) (option_or (subfile_fault ds h) (object_fault ds h))) first ∙ ap Some (field_fault fault f is tells.layer)
 
@@ -561,18 +605,20 @@ no_many ds h room = elim (eqb_tells h.rec 8) [
 first_size : (limits : Limits) (ds : List Dataset) (token : Token) (fault : TokenFault) (p : Place) (t : ObjectToken) (s : SizeCause) → fault.cause ≡ causes.Size s → TellsTheLowest limits ds token fault
     → ((r : SizeCause) → (OfSize r ds token → objects_format.HasCause r p t)) → ((r : SizeCause) → objects_format.HasCause r p t → OfSize r ds token) → objects.IsFirstCause p t s
 first_size limits ds token fault p t s is tells to back = record {
-  holds = to s ((size_holds s ds token).0 (subst (Holds' limits ds token) is tells.holds));
+  holds = to s ((size_holds s limits ds token).0 (subst (Holds' limits ds token) is tells.holds));
   lowest = λ other has. elim (cases_lt (objects_format.number_of other) (objects_format.number_of s)) [
     | inr more ↦ more
     | inl less ↦
         let mine = numbered fault.cause (causes.Size s) is in
-        absurd (tells.lowest (causes.Size other) (ap (λ (c : Cause). (rule_of c).layer) (sym is) ∙ tells.layer) (omega (arith, less, mine))
-        ((size_holds other ds token).1 (back other has)))
+        let mine_is = size_number s in
+        let other_is = size_number other in
+        absurd (tells.lowest (causes.Size other) (size_layer other ∙ sym (size_layer s) ∙ ap (λ (c : Cause). (rule_of c).layer) (sym is) ∙ tells.layer) (omega (arith, less, mine, mine_is, other_is))
+        ((size_holds other limits ds token).1 (back other has)))
   ];
 }
 
 size_fault : (fault : TokenFault) (h : Head) (s : SizeCause) → fault.cause ≡ causes.Size s → (rule_of fault.cause).layer ≡ fault.layer → (fault.rec ≡ h.rec) × (fault.set ≡ h.set) → size_on h s ≡ fault
-size_fault fault h s is layer names = same_fault (size_on h s) fault (ap (λ (c : Cause). (rule_of c).layer) (sym is) ∙ layer) (sym names.0) (sym names.1) (sym is)
+size_fault fault h s is layer names = same_fault (size_on h s) fault (sym (size_layer s) ∙ ap (λ (c : Cause). (rule_of c).layer) (sym is) ∙ layer) (sym names.0) (sym names.1) (sym is)
 
 one_of_two : (r a b : ℕ) → (r ≡ a) ⊎ (r ≡ b) → (nat_eq r a || nat_eq r b) ≡ true
 one_of_two r a b (inl is) = ap (λ (t : Bool). t || nat_eq r b) (eq-eqb r a is)
@@ -591,7 +637,7 @@ object_first : LowerLaws → (limits : Limits) (ds : List Dataset) (h : Head) (f
     → fault.cause ≡ causes.Size s → TellsTheLowest limits ds (AtHead h) fault → Names fault.cause ds (AtHead h) fault.rec fault.set → fault_at_head limits ds h ≡ Some fault
 object_first laws limits ds h fault s alive within at room is tells names =
     let none : first_fault limits ds h ≡ None = (laws.heads_tell limits ds h).1.1 (λ g has. elim (cases_lt (number_of_cause g) 50) [ inl low ↦ no_record laws limits ds h alive at g low has | inr high ↦ no_limit limits ds h room g high has ]) in
-    let holds = (size_holds s ds (AtHead h)).0 (subst (Holds' limits ds (AtHead h)) is tells.holds) in
+    let holds = (size_holds s limits ds (AtHead h)).0 (subst (Holds' limits ds (AtHead h)) is tells.holds) in
     let leads = leads_at laws ds h at room.subfiles holds.0 in
     let stated = (stated_after_all laws ds alive within.subfiles).stated in
     let first = first_size limits ds (AtHead h) fault (place_after_datasets ds) (head_token h.rec h.count) s is tells (λ r has. has.1) (λ r has. (holds.0, has)) in
@@ -612,15 +658,15 @@ head_back laws limits ds h fault alive within message dies tells names = by faul
     refused l same first dead = record { first = first; dead = subst (λ (k : Layer). DiesAtHead k limits ds h) (sym same) dead }
 
     number_is : (f : FieldCause) → fault.cause ≡ causes.Field f → (rule_of fault.cause).number ≡ number_of_cause f
-    number_is f is = numbered fault.cause (causes.Field f) is
+    number_is f is = numbered fault.cause (causes.Field f) is ∙ field_number f
 
     of_record_layer : fault.layer ≡ layers.Record → (f : FieldCause) → fault.cause ≡ causes.Field f → fault_at_head limits ds h ≡ Some fault
     of_record_layer same f is =
-        let low = record_number f (ap (λ (c : Cause). (rule_of c).layer) (sym is) ∙ tells.layer ∙ same) in
+        let low = record_number f (sym (field_layer f) ∙ ap (λ (c : Cause). (rule_of c).layer) (sym is) ∙ tells.layer ∙ same) in
         field_first laws limits ds h fault f is tells names
         (λ g less has. let n = number_is f is in not_lower limits ds (AtHead h) fault tells g (low_layer g (omega (arith, less, low)) ∙ sym same) (omega (arith, less, n)) has)
 
-    limit_lower : fault.layer ≡ layers.Limits → SectionsLiveAt ds h → (g : FieldCause) → number_of_cause g < (rule_of fault.cause).number → HasField g limits ds (AtHead h) → ⊥
+    limit_lower : fault.layer ≡ layers.Limits → SectionsLiveAt ds h → (g : FieldCause) → number_of_cause g < (rule_of fault.cause).number → OfField g limits ds (AtHead h) → ⊥
     limit_lower same at g less has = elim (cases_lt (number_of_cause g) 50) [
       | inl low ↦ no_record laws limits ds h alive at g low has
       | inr high ↦ not_lower limits ds (AtHead h) fault tells g (high_layer g high ∙ sym same) less has
@@ -663,13 +709,13 @@ value_back laws limits ds d fault within octets dies tells names = by fault.laye
 
     of_record_layer : fault.layer ≡ layers.Record → (f : FieldCause) → fault.cause ≡ causes.Field f → fault_at_value ds d ≡ Some fault
     of_record_layer same f is =
-        let low = record_number f (ap (λ (c : Cause). (rule_of c).layer) (sym is) ∙ tells.layer ∙ same) in
-        let n = numbered fault.cause (causes.Field f) is in
+        let low = record_number f (sym (field_layer f) ∙ ap (λ (c : Cause). (rule_of c).layer) (sym is) ∙ tells.layer ∙ same) in
+        let n = numbered fault.cause (causes.Field f) is ∙ field_number f in
         let found : FieldFault = record { rec = fault.rec; set = fault.set; cause = f } in
         let first = ((laws.values_tell limits ds d).0 found).1 (record {
-          holds = subst (Holds' limits ds (AtValue d)) is tells.holds;
+          holds = (field_holds f limits ds (AtValue d)).0 (subst (Holds' limits ds (AtValue d)) is tells.holds);
           lowest = λ g less has. not_lower limits ds (AtValue d) fault tells g (low_layer g (omega (arith, less, low)) ∙ sym same) (omega (arith, less, n)) has;
-          names = subst (λ (c : Cause). Names c ds (AtValue d) fault.rec fault.set) is names;
+          names = (value_names f ds d fault.rec fault.set).1 (subst (λ (c : Cause). Names c ds (AtValue d) fault.rec fault.set) is names);
         }) in
         ap (λ (o : Option FieldFault). option_or (option_map of_field o) (number_fault ds d)) first ∙ ap Some (field_fault fault f is tells.layer)
 
@@ -678,7 +724,7 @@ value_back laws limits ds d fault within octets dies tells names = by fault.laye
         let none : value_fault d ≡ None = (laws.values_die ds d (d, refl, alive) octets).1 alive in
         let p : Place = place_at ds (head_of d) in
         let t : ObjectToken = value_token d.rec d.set (number d.octets) in
-        let holds = (size_holds s ds (AtValue d)).0 (subst (Holds' limits ds (AtValue d)) is tells.holds) in
+        let holds = (size_holds s limits ds (AtValue d)).0 (subst (Holds' limits ds (AtValue d)) is tells.holds) in
         let on : tells_number d.rec ≡ true = one_of_two d.rec 7 9 holds.0 in
         let leads = number_leads laws ds d alive on in
         let stated = (stated_at laws ds (head_of d) (d, refl, alive) within.subfiles (λ eight. not_eight d.rec holds.0 eight)).stated in
@@ -694,11 +740,19 @@ value_back laws limits ds d fault within octets dies tells names = by fault.laye
 
 -- ---- octets of the object
 
+message_layer : (c : MessageCause) → (rule_of (causes.Message c)).layer ≡ layer_of_message c
+message_layer messages.BadOctet = refl
+message_layer other = refl
+
+pub message_number : (c : MessageCause) → (rule_of (causes.Message c)).number ≡ number_of_message c
+message_number messages.BadOctet = refl
+message_number other = refl
+
 octet_fault : (fault : TokenFault) (ds : List Dataset) (h : Head) (taken : List ℕ) (b : ℕ) (c : MessageCause) → fault.cause ≡ causes.Message c → (rule_of fault.cause).layer ≡ fault.layer
     → Names fault.cause ds (AtOctet (InData h taken) b) fault.rec fault.set → fault ≡ message_on h c
 octet_fault fault ds h taken b c is layer names =
     let named = subst (λ (x : Cause). Names x ds (AtOctet (InData h taken) b) fault.rec fault.set) is names in
-    same_fault fault (message_on h c) (sym layer ∙ ap (λ (x : Cause). (rule_of x).layer) is) named.0 named.1 is
+    same_fault fault (message_on h c) (sym layer ∙ ap (λ (x : Cause). (rule_of x).layer) is ∙ message_layer c) named.0 named.1 is
 
 -- why an octet of the object is refused
 record Octet' (limits : Limits) (ds : List Dataset) (h : Head) (taken : List ℕ) (b : ℕ) (fault : TokenFault) : Type 0 where

@@ -8,7 +8,6 @@ use Rattle.iim_unpack.specs.States.Parts as parts
 use Rattle.iim_unpack.specs.Format.Pieces as pieces
 use Rattle.iim_places.specs.Format.Streams.{Answer, Answers, Finished}
 use Rattle.iim_places.specs.declared.refusal.Cause.{Cause}
-use Rattle.iim_places.specs.Format.Refusals.{sink_stopped}
 use Rattle.iim_places.specs.declared.refusal.Cause.TheVariants as causes
 use Rattle.wire_message.specs.declared.fault.MessageCause.TheVariants as messages
 use Rattle.iim_places.specs.declared.refusal.Refusal.{Refusal}
@@ -19,7 +18,7 @@ use Rattle.iim_round_trip.specs.Laws.Packed.{packed_answer, PackedStreamsHaveThe
 use Rattle.iim_round_trip.specs.declared.unpacking.UnpackFault.TheVariants.{Refused}
 
 -- whether a cause is the sink's
-sink_or_not : (c : Cause) → (c ≡ sink_stopped) ⊎ (c ≢ sink_stopped)
+sink_or_not : (c : Cause) → (c ≡ causes.Message messages.Sink) ⊎ (c ≢ causes.Message messages.Sink)
 sink_or_not (causes.Message messages.Sink) = inl refl
 sink_or_not _ = inr (λ e. cc)
 
@@ -51,7 +50,7 @@ answered : (found limits : Limits) (stream : List ℕ) (answer : Answer) → fou
 answered found limits stream answer same h = subst (λ (l : Limits). Answers l stream answer) (sym same) h
 
 pub fails : (found limits : Limits) (stream : List ℕ) (e : Refusal) → found ≡ limits → PackedStreamsHaveTheirAnswer
-    → ((answer : Answer) → Answers found stream answer → e.cause ≢ sink_stopped → pieces.IsAnswer (Err e) answer)
+    → ((answer : Answer) → Answers found stream answer → e.cause ≢ causes.Message messages.Sink → pieces.IsAnswer (Err e) answer)
     → FailsOutside limits stream (Refused e)
 fails found limits stream e same law only fields head lines trailer plan p = elim (sink_or_not e.cause) [
   | inl is ↦ is

@@ -22,11 +22,13 @@ use Rattle.wire_message.specs.Format.Causes as wire_format
 use Rattle.wire_message.specs.States.SoFar.{LeadsTo}
 use Rattle.wire_message.specs.declared.place.Place.{Place}
 use Rattle.wire_message.specs.declared.fault.MessageCause.{MessageCause}
+use Rattle.wire_message.specs.declared.fault.MessageCause.TheVariants as messages
 use Rattle.iim_places.specs.Format.Admitted.{object_of}
 use Rattle.iim_places.specs.Format.Tokens.{MayContinue, CanContinue, CanContinueAt}
 use Rattle.iim_unpack.specs.Passed.{TellsMessage, MessageRefuses}
 use Rattle.iim_unpack.proofs.ToldMessage.{octets_in-octets}
 use Rattle.iim_places.specs.Format.Refusals.{message_on}
+use Rattle.iim_places.specs.declared.refusal.Cause.TheVariants as causes
 use Rattle.iim_places.specs.Format.Open.{object_so_far, section, AllCanContinue}
 use Rattle.iim_unpack.specs.States.Parts.{AreAfter, Within, StandsFor, AreLed}
 use Rattle.iim_unpack.specs.PartSteps.{TellsParts, PartsRefuse}
@@ -220,6 +222,10 @@ tells_parts_object goes failures p a b run message laws k begun eight octets pas
       };
 }
 
+pub counts_for : (cause : MessageCause) (m n : ℕ) → wire.CountsCause m n cause → CountsFor (causes.Message cause) m n
+counts_for messages.BadOctet m n h = h
+counts_for other m n h = h
+
 pub stopped_object : {S : Type 0} (goes : S → List story.StoryEvent → S → Type 0) (failures : S → ℕ) (p : Parts) (a b : S) (front : List ℕ) (octet : ℕ) (cause : MessageCause) → LowerLaws → (k : Head) → HasBegun p k → k.rec ≡ 8
     → MessageRefuses goes failures (p.message, a) (map object_events.ObjectOctet front) (object_events.ObjectOctet octet) (Some cause, b)
     → PartsRefuse goes failures (p, a) (map DataOctet front) (DataOctet octet) (Some (message_on k cause), b)
@@ -230,7 +236,7 @@ stopped_object goes failures p a b front octet cause laws k begun eight halted =
       is_fault = refl;
       more = halted.more;
       told = halted.told;
-      counts = subst (wire.CountsCause (failures a) (failures b)) same halted.counts;
+      counts = counts_for cause (failures a) (failures b) (subst (wire.CountsCause (failures a) (failures b)) same halted.counts);
       why = λ before text order led.
           let one = in_one p k before text begun led in
           let at = one.within in

@@ -39,7 +39,7 @@ use Rattle.std.proofs.lemmas.Bool.{true≢false, ne_eqb}
 use Rattle.std.proofs.lemmas.List.{length-map}
 use Rattle.iim_places.proofs.Lasts.{sections_last}
 use Rattle.iim_unpack.proofs.Ended.{ended_by_record}
-use Rattle.iim_unpack.proofs.Carrying.{passes_on, after_all, all_after}
+use Rattle.iim_unpack.proofs.Carrying.{counts_for, passes_on, after_all, all_after}
 use Rattle.iim_places.specs.Laws.Lower.{LowerLaws}
 
 -- What stands after a head.
@@ -242,7 +242,7 @@ stopped_end goes failures p a b h checker fault laws last between inside nine r 
     let same : r.halted.why ≡ r.cause = sym (some-same r.halted.is_cause) in
     stopped_head goes failures p a b h fault r.halted.more laws last between r.halted.told
     (subst (λ (f : TokenFault). CountsFor f.cause (failures a) (failures b)) (sym r.is_fault)
-    (subst (wire.CountsCause (failures a) (failures b)) same r.halted.counts))
+    (counts_for r.cause (failures a) (failures b) (subst (wire.CountsCause (failures a) (failures b)) same r.halted.counts)))
     (λ ds at.
     let alive = (inside ds at.fields).alive in
     let leads = end_leads laws ds h alive nine in

@@ -24,7 +24,8 @@ use Rattle.iim_unpack.specs.Format.Value.{HasParts}
 use Rattle.iim_places.specs.declared.refusal.Refusal.{Refusal}
 use Rattle.iim_unpack.specs.States.Parts.{CountsFor}
 use Rattle.iim_places.specs.declared.refusal.Cause.{Cause}
-use Rattle.iim_places.specs.Format.Refusals.{sink_stopped}
+use Rattle.iim_places.specs.declared.refusal.Cause.TheVariants.{Message}
+use Rattle.wire_message.specs.declared.fault.MessageCause.TheVariants.{Sink}
 use Rattle.iim_unpack.specs.declared.unpacker.Progress.{Progress}
 use Rattle.iim_unpack.specs.declared.unpacker.Progress.TheVariants.{More, Done}
 use Rattle.iim_unpack.specs.declared.unpacker.Unpacked.{Unpacked}
@@ -203,7 +204,7 @@ turned_down goes joined laws limits low u a b c o piece rest answer e fed is ste
 -- ---- the answer of a stream
 
 pub only_down : {S : Type 0} (goes : S → List story.StoryEvent → S → Type 0) → StreamsHaveOneAnswer → (limits : Limits) (stream : List ℕ) (a b : S) (e : Refusal) → IsTurnedDown goes limits stream a b e → (answer : Answer) → Answers limits stream answer
-    → (e.cause ≡ sink_stopped → ⊥) → IsAnswer (Err e) answer
+    → (e.cause ≡ Message Sink → ⊥) → IsAnswer (Err e) answer
 only_down goes one limits stream a b e (inl (refused, told)) answer is other = subst (λ (x : Answer). IsAnswer (Err e) x) (one limits stream (Refused e) answer (refused, other) is) refl
 only_down goes one limits stream a b e (inr (short, told)) answer is other = subst (λ (x : Answer). IsAnswer (Err e) x) (one limits stream (Truncated e) answer short is) refl
 
@@ -211,11 +212,11 @@ pub only_up : {S : Type 0} (goes : S → List story.StoryEvent → S → Type 0)
     → IsAnswer (Ok (got, used)) answer
 only_up goes one limits stream a b got used up answer is = subst (λ (x : Answer). IsAnswer (Ok (got, used)) x) (one limits stream (Finished used up.value) answer up.finished is) (up.parts, refl)
 
-pub only_on : (limits : Limits) (stream : List ℕ) (r : Result (Unpacked × ℕ) Refusal) (e : Refusal) → IsErrAnd r (λ x. x ≡ e) → ((answer : Answer) → Answers limits stream answer → (e.cause ≡ sink_stopped → ⊥) → IsAnswer (Err e) answer)
-    → (answer : Answer) → Answers limits stream answer → IfErr r (λ x. x.cause ≡ sink_stopped → ⊥) → IsAnswer r answer
+pub only_on : (limits : Limits) (stream : List ℕ) (r : Result (Unpacked × ℕ) Refusal) (e : Refusal) → IsErrAnd r (λ x. x ≡ e) → ((answer : Answer) → Answers limits stream answer → (e.cause ≡ Message Sink → ⊥) → IsAnswer (Err e) answer)
+    → (answer : Answer) → Answers limits stream answer → IfErr r (λ x. x.cause ≡ Message Sink → ⊥) → IsAnswer r answer
 only_on limits stream (Ok got) e is only answer answers other = absurd is
 only_on limits stream (Err f) e is only answer answers other =
-    subst (λ (x : Refusal). IsAnswer (Err x) answer) (sym is) (only answer answers (subst (λ (x : Refusal). x.cause ≡ sink_stopped → ⊥) is other))
+    subst (λ (x : Refusal). IsAnswer (Err x) answer) (sym is) (only answer answers (subst (λ (x : Refusal). x.cause ≡ Message Sink → ⊥) is other))
 
 pub ends_short : {S : Type 0} (goes : S → List story.StoryEvent → S → Type 0) → (limits : Limits) (v : Unpacking) (a b : S) (stream : List ℕ) (answer : Option Refusal) (e : Refusal) → HasFedPieces goes limits v a b stream → answer ≡ Some e
     → ((p : List ℕ) (n : ℕ) → Stands v p n → (f : Refusal) × (answer ≡ Some f) × IsTruncatedAt p n f) → (IsDone v → answer ≡ None) → IsTurnedDown goes limits stream a b e

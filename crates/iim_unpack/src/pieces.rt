@@ -6,7 +6,8 @@ ghost use Rattle.iim_unpack.specs.PiecesSoFar.{HasFedPieces};
 ghost use Rattle.iim_unpack.specs.Format.Pieces.{IsAnswer, IsTurnedDown, IsUnpacked, stream_of};
 ghost use Rattle.iim_places.specs.Format.Streams.{Answer, Answers};
 ghost use Rattle.iim_unpack.specs.States.Unpacking.{Stands, limits_in};
-ghost use Rattle.iim_places.specs.Format.Refusals.{sink_stopped};
+ghost use Rattle.iim_places.specs.declared.refusal.Cause.TheVariants.{Message};
+ghost use Rattle.wire_message.specs.declared.fault.MessageCause.TheVariants.{Sink};
 
 use crate::unpacker::{Unpacked, Unpacker};
 use iim_places::Refusal;
@@ -60,7 +61,7 @@ pub fn unpack_pieces<S: StorySink>(
 
     // What the stream is answered is the result, unless the sink stopped.
     ensures only { (answer : Answer) → Answers (limits_in unpacker) (stream_of pieces.now) answer
-        → IfErr result (λ e. e.cause ≢ sink_stopped) → IsAnswer result answer }
+        → IfErr result (λ e. e.cause ≢ Message Sink) → IsAnswer result answer }
     ensures calm { OnOk result (S.failures sink.new ≡ S.failures sink.old) }
     ensures counted { IfErr result (λ e. CountsFor e.cause (S.failures sink.old) (S.failures sink.new)) }
 {

@@ -10,7 +10,8 @@ use Rattle.iim_places.specs.Format.Tickets.{Place, IsPlaceOf, IsTicketOf}
 use Rattle.iim_unpack.specs.States.Unpacking.{IsRefusedIn}
 use Rattle.iim_places.specs.States.Counts.{raised}
 use Rattle.iim_places.specs.declared.refusal.Refusal.{Refusal}
-use Rattle.iim_places.specs.Format.Refusals.{sink_stopped}
+use Rattle.iim_places.specs.declared.refusal.Cause.TheVariants.{Message}
+use Rattle.wire_message.specs.declared.fault.MessageCause.TheVariants.{Sink}
 use Rattle.iim_places.specs.declared.ticket.fault.TicketFault.{TicketFault}
 use Rattle.iim_c.specs.declared.answer.IimAnswer.{IimAnswer}
 use Rattle.iim_c.specs.Format.Answers.{status_answer, refusal_answer, ticket_answer}
@@ -83,7 +84,7 @@ pub record Refuses (limits : Limits) (piece : List ℕ) (e : Refusal) (text : Li
   pub more : List StoryEvent
   pub refused : IsRefusedIn limits p a piece more e
   pub text_is : text ≡ text_for more
-  pub by_octets : e.cause ≢ sink_stopped
+  pub by_octets : e.cause ≢ Message Sink
 
 -- what a piece comes to: it was used, or up to the end of an envelope, or one of its octets is refused; or the ticket is refused, or
 -- memory

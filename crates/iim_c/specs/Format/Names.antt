@@ -26,6 +26,7 @@ abbrev pub of_layer : Layer → Named
 of_layer layer = named (layer_number layer) (layer_name layer)
 
 -- the layers
+-- twins (with dataset_names): `tells_the_tables`
 unfoldable pub layer_names : List Named
 layer_names =
     of_layer layers.Dataset ∷ of_layer layers.Record ∷ of_layer layers.Limits ∷ of_layer layers.Object ∷ of_layer layers.Message

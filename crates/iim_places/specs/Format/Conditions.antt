@@ -8,24 +8,20 @@ use Rattle.iim_dataset.specs.Format.Datasets.{Dataset, head_of, of_record, count
 use Rattle.iim_dataset.specs.Format.Splits.{Begun, InTag, InData}
 use Rattle.iim_dataset.specs.Format.Languages.{IsAlive}
 use Rattle.iim_dataset.specs.declared.head.Head.{Head}
-use Rattle.iim_fields.specs.Format.Causes as fields
-use Rattle.iim_fields.specs.Format.Causes.{number_of_cause}
-use Rattle.iim_fields.specs.Format.Causes.Token.{AtHead as FieldHead, AtValue as FieldValue}
+use Rattle.iim_fields.specs.Format.Causes.{IsOutOfOrder, HasNoRow, IsRepeated, IsOutOfRange, IsAbsent, EndsTooEarly, IsBad, IsOtherFormat, PassesOctets, PassesFields}
+use Rattle.iim_fields.specs.Format.Faults.{section_after}
+use Rattle.iim_fields.specs.declared.fault.FieldCause.TheVariants as fields
 use Rattle.iim_fields.specs.declared.limits.Limits.{Limits}
-use Rattle.iim_object.specs.Format.Conditions.{number_of}
 use Rattle.iim_object.specs.Format.Plans.{max_subfiles}
 use Rattle.iim_object.specs.Format.Sizes.{number_at}
 use Rattle.iim_object.specs.Format.Records.{numbers_of, lengths_of}
-use Rattle.iim_object.specs.declared.reading.fault.SizeCause.{SizeCause}
 use Rattle.iim_object.specs.declared.reading.fault.SizeCause.TheVariants as sizes
 use Rattle.wire_story.specs.Format.Texts.{Holds, max_returns}
 use Rattle.wire_story.specs.Format.Tokens.{with_end}
-use Rattle.wire_message.specs.Format.Causes.{number_of_message}
-use Rattle.wire_message.specs.declared.fault.MessageCause.{MessageCause}
 use Rattle.wire_message.specs.declared.fault.MessageCause.TheVariants as messages
 use Rattle.wire_message.specs.Format.Layers.{MessageLanguage, MessageLivesWith, after_stx, text_so_far}
 use Rattle.iim_places.specs.Format.Admitted.{object_of}
-use Rattle.iim_places.specs.Format.Refusals.{begun_record, begun_number, layer_of, layer_of_message}
+use Rattle.iim_places.specs.Format.Refusals.{begun_record, begun_number}
 use Rattle.iim_places.specs.declared.fault.TokenFault.{TokenFault}
 use Rattle.iim_places.specs.declared.refusal.Layer.{Layer}
 use Rattle.iim_places.specs.declared.refusal.Layer.TheVariants as layers
@@ -54,12 +50,6 @@ OfHead P _ = ⊥
 abbrev pub OfValue : (Dataset → Type 0) → Token → Type 0
 OfValue P (AtValue d) = P d
 OfValue P _ = ⊥
-
--- a condition on heads and values, as the record layer has it
-abbrev pub OfField : (fields.Token → Type 0) → Token → Type 0
-OfField P (AtOctet begun octet) = ⊥
-OfField P (AtHead h) = P (FieldHead h)
-OfField P (AtValue d) = P (FieldValue d)
 
 -- a condition on octets of the object, after those before them: the data of subfiles
 -- twins (with stated, total): "Before the first octet, and an envelope in one piece", "Empty subfiles among others";
@@ -152,40 +142,40 @@ IsTold before octet = (text_so_far (before ++ octet ∷ []) ≡ text_so_far befo
 
 -- ---- the causes
 
--- when a cause of the sizes holds
-abbrev pub size_condition : SizeCause → List Dataset → Token → Type 0
-size_condition sizes.ModeClash = ClashesInMode
-size_condition sizes.SizeClash = λ ds. OfValue (ClashesInSize ds)
-size_condition sizes.SubfileTooLong = λ ds. OfHead (IsTooLong ds)
-size_condition sizes.PastSize = λ ds. OfHead (IsPast ds)
-size_condition sizes.Short = λ ds. OfHead (IsShort ds)
-size_condition sizes.ConfirmedWrong = λ ds. OfValue (IsConfirmedWrong ds)
-
--- when one of the message holds, of its text, or of the sink
-abbrev pub message_condition : MessageCause → List Dataset → Token → Type 0
-message_condition messages.BadOctet = OfOctet IsNoOctet
-message_condition messages.Unfinished = λ ds. OfHead (IsNoEnd ds)
-message_condition messages.LoneReturn = OfOctet IsAfterReturns
-message_condition messages.ControlOctet = OfOctet IsControlInText
-message_condition messages.Sink = OfOctet IsTold
-
 -- The number of a cause, its layer, and its condition at a token after datasets, under limits.
 pub record Rule : Type 1 where
   pub number : ℕ
   pub layer : Layer
   pub holds : Limits → List Dataset → Token → Type 0
 
--- A cause of a layer has the number that it has there. Those that are told of no token have no condition.
+-- Those that are told of no token have no condition.
 -- twin: law `refusals_tell_the_lowest_cause`; "The names of the layers, in the order in which they look at a token"; `names_each_cause`,
 --   `refuses_random_envelopes`
 abbrev pub rule_of : Cause → Rule
 rule_of Marker = record { number = 1; layer = layers.Dataset; holds = λ limits ds. OfTag IsNoMarker }
 rule_of CountForm = record { number = 2; layer = layers.Dataset; holds = λ limits ds. OfTag IsNoCount }
 rule_of Truncated = record { number = 3; layer = layers.Dataset; holds = λ limits ds token. ⊥ }
-rule_of (Field cause) = record { number = number_of_cause cause; layer = layer_of cause; holds = λ limits ds. OfField (fields.HasCause cause limits ds) }
-rule_of (Size cause) = record { number = number_of cause; layer = layers.Object; holds = λ limits. size_condition cause }
-rule_of (Message cause) = record { number = number_of_message cause; layer = layer_of_message cause; holds = λ limits. message_condition cause }
+rule_of (Field fields.RecordOrder) = record { number = 10; layer = layers.Record; holds = λ limits ds. OfHead (IsOutOfOrder ds) }
+rule_of (Field fields.UnknownDataset) = record { number = 11; layer = layers.Record; holds = λ limits ds. OfHead HasNoRow }
+rule_of (Field fields.Repeated) = record { number = 12; layer = layers.Record; holds = λ limits ds. OfHead (IsRepeated ds) }
+rule_of (Field fields.CountRange) = record { number = 13; layer = layers.Record; holds = λ limits ds. OfHead IsOutOfRange }
+rule_of (Field fields.Missing) = record { number = 14; layer = layers.Record; holds = λ limits ds. OfHead (EndsTooEarly ds) }
+rule_of (Field fields.BadValue) = record { number = 15; layer = layers.Record; holds = λ limits ds. OfValue IsBad }
+rule_of (Field fields.FileFormat) = record { number = 16; layer = layers.Record; holds = λ limits ds. OfValue IsOtherFormat }
+rule_of (Size sizes.ModeClash) = record { number = 20; layer = layers.Object; holds = λ limits. ClashesInMode }
+rule_of (Size sizes.SizeClash) = record { number = 21; layer = layers.Object; holds = λ limits ds. OfValue (ClashesInSize ds) }
+rule_of (Size sizes.SubfileTooLong) = record { number = 22; layer = layers.Object; holds = λ limits ds. OfHead (IsTooLong ds) }
+rule_of (Size sizes.PastSize) = record { number = 23; layer = layers.Object; holds = λ limits ds. OfHead (IsPast ds) }
+rule_of (Size sizes.Short) = record { number = 24; layer = layers.Object; holds = λ limits ds. OfHead (IsShort ds) }
+rule_of (Size sizes.ConfirmedWrong) = record { number = 25; layer = layers.Object; holds = λ limits ds. OfValue (IsConfirmedWrong ds) }
+rule_of (Message messages.BadOctet) = record { number = 30; layer = layers.Message; holds = λ limits. OfOctet IsNoOctet }
+rule_of (Message messages.Unfinished) = record { number = 32; layer = layers.Message; holds = λ limits ds. OfHead (IsNoEnd ds) }
+rule_of (Message messages.LoneReturn) = record { number = 40; layer = layers.Story; holds = λ limits. OfOctet IsAfterReturns }
+rule_of (Message messages.ControlOctet) = record { number = 41; layer = layers.Story; holds = λ limits. OfOctet IsControlInText }
+rule_of (Field fields.HeaderFull) = record { number = 50; layer = layers.Limits; holds = λ limits ds. OfHead (PassesOctets limits ds) }
+rule_of (Field fields.TooManyFields) = record { number = 51; layer = layers.Limits; holds = λ limits ds. OfHead (PassesFields limits ds) }
 rule_of TooManySubfiles = record { number = 52; layer = layers.Limits; holds = λ limits ds. OfHead (IsOneTooMany ds) }
+rule_of (Message messages.Sink) = record { number = 60; layer = layers.Outside; holds = λ limits. OfOctet IsTold }
 rule_of Failed = record { number = 61; layer = layers.Outside; holds = λ limits ds token. ⊥ }
 
 -- ---- what is told of a token
@@ -203,8 +193,7 @@ begun_in (AtOctet begun octet) = begun
 begun_in (AtHead h) = InData h []
 begun_in (AtValue d) = InData (head_of d) []
 
--- The dataset that is named: for a cause of the records the one that these name; else the token's own.
+-- The dataset that is named: where one is missing, the missing one of the lowest number; else the token's own.
 abbrev pub Names : Cause → List Dataset → Token → ℕ → ℕ → Type 0
-Names (Field cause) ds (AtHead h) rec set = fields.Names cause ds (FieldHead h) rec set
-Names (Field cause) ds (AtValue d) rec set = fields.Names cause ds (FieldValue d) rec set
+Names (Field fields.Missing) ds token rec set = (rec ≡ section_after ds) × IsAbsent ds set × ((n : ℕ) → IsAbsent ds n → set ≤ n)
 Names cause ds token rec set = (rec ≡ begun_record (begun_in token)) × (set ≡ begun_number (begun_in token))

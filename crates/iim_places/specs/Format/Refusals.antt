@@ -45,10 +45,6 @@ layer_of_message messages.ControlOctet = layers.Story
 layer_of_message messages.Sink = layers.Outside
 layer_of_message other = layers.Message
 
--- the caller's sink stopped
-abbrev pub sink_stopped : Cause
-sink_stopped = causes.Message messages.Sink
-
 -- a fault of the message, the story or the sink, on the dataset of the head
 abbrev pub message_on : Head → MessageCause → TokenFault
 message_on h cause = record { layer = layer_of_message cause; rec = h.rec; set = h.set; cause = causes.Message cause }

@@ -3,10 +3,12 @@ use Rattle.std.specs.Prelude.{◌≡◌, ◌≢◌, ℕ, ◌<◌, ◌≤◌, Lis
 use Rattle.iim_fields.specs.declared.limits.Limits.{Limits}
 use Rattle.iim_places.specs.Format.Admitted.{Value, Admits}
 use Rattle.iim_places.specs.Format.Framed.{AreWithin}
-use Rattle.iim_places.specs.Format.Refusals.{refusal_at, sink_stopped}
+use Rattle.iim_places.specs.Format.Refusals.{refusal_at}
 use Rattle.iim_places.specs.Format.Open.{IsOpen, RefusesNext, IsTruncatedAt}
 use Rattle.iim_places.specs.declared.fault.TokenFault.{TokenFault}
 use Rattle.iim_places.specs.declared.refusal.Refusal.{Refusal}
+use Rattle.iim_places.specs.declared.refusal.Cause.TheVariants.{Message}
+use Rattle.wire_message.specs.declared.fault.MessageCause.TheVariants.{Sink}
 
 -- The octets are an envelope with this value, within the limits.
 pub record IsEnvelopeWithin (limits : Limits) (octets : List ℕ) (value : Value) : Type 0 where
@@ -16,7 +18,7 @@ pub record IsEnvelopeWithin (limits : Limits) (octets : List ℕ) (value : Value
 -- It is the octets that are refused, and not the sink that stopped.
 pub record Kills (limits : Limits) (octets : List ℕ) (next : ℕ) (fault : TokenFault) : Type 0 where
   pub refuses : RefusesNext limits octets next fault
-  pub by_octets : fault.cause ≢ sink_stopped
+  pub by_octets : fault.cause ≢ Message Sink
 
 -- an envelope of `used` octets with this value; a refusal of octets; or octets that end too early
 pub data Answer : Type 0 where
@@ -45,5 +47,5 @@ pub record IsTruncated (limits : Limits) (stream : List ℕ) (e : Refusal) : Typ
 -- what the stream is answered, whatever a sink does
 abbrev pub Answers : Limits → List ℕ → Answer → Type 0
 Answers limits stream (Finished used value) = IsFinished limits stream used value
-Answers limits stream (Refused e) = IsRefused limits stream e × (e.cause ≢ sink_stopped)
+Answers limits stream (Refused e) = IsRefused limits stream e × (e.cause ≢ Message Sink)
 Answers limits stream (Truncated e) = IsTruncated limits stream e

@@ -6,7 +6,8 @@ use Rattle.wire_story.specs.Format.Delivery as story
 use Rattle.iim_unpack.specs.Format.Pieces as pieces
 use Rattle.iim_places.specs.Format.Streams.{Answer}
 use Rattle.iim_places.specs.declared.refusal.Cause.{Cause}
-use Rattle.iim_places.specs.Format.Refusals.{sink_stopped}
+use Rattle.iim_places.specs.declared.refusal.Cause.TheVariants.{Message}
+use Rattle.wire_message.specs.declared.fault.MessageCause.TheVariants.{Sink}
 use Rattle.iim_unpack.specs.declared.unpacker.Unpacked.{Unpacked}
 use Rattle.iim_round_trip.specs.declared.unpacking.UnpackFault.{UnpackFault}
 use Rattle.iim_round_trip.specs.declared.unpacking.UnpackFault.TheVariants.{OutOfMemory, Refused}
@@ -25,8 +26,8 @@ IsAnswer (Err (Refused e)) answer = pieces.IsAnswer (Err e) answer
 
 -- The sink's count of failures rose where the sink stopped, and nowhere else.
 pub record CountsCause (cause : Cause) (old new : ℕ) : Type 0 where
-  pub stopped : cause ≡ sink_stopped → Rose old new
-  pub others : cause ≢ sink_stopped → new ≡ old
+  pub stopped : cause ≡ Message Sink → Rose old new
+  pub others : cause ≢ Message Sink → new ≡ old
 
 -- no twin: no body has these words; `packed_streams_have_their_answer` ties them to the octets' answer
 abbrev pub CountsFor : UnpackFault → ℕ → ℕ → Type 0

@@ -12,7 +12,8 @@ use Rattle.iim_fields.specs.declared.limits.Limits.{Limits}
 use Rattle.wire_story.specs.Format.Delivery as story
 use Rattle.iim_pack.specs.Format.Packed.{Packed}
 use Rattle.iim_unpack.specs.Format.Value.{HasParts}
-use Rattle.iim_places.specs.Format.Refusals.{sink_stopped}
+use Rattle.iim_places.specs.declared.refusal.Cause.TheVariants.{Message}
+use Rattle.wire_message.specs.declared.fault.MessageCause.TheVariants.{Sink}
 use Rattle.iim_unpack.specs.declared.unpacker.Unpacked.{Unpacked}
 use Rattle.iim_round_trip.specs.declared.unpacking.UnpackFault.{UnpackFault}
 use Rattle.iim_round_trip.specs.declared.unpacking.UnpackFault.TheVariants.{OutOfMemory, Refused}
@@ -55,7 +56,7 @@ GivesBack goes limits stream a b got used = (fields : List Dataset) (head : Head
 -- no twin: no body has these words; `packed_streams_have_their_answer` ties them to the octets' answer
 abbrev pub IsOutside : UnpackFault → Type 0
 IsOutside OutOfMemory = Unit {0}
-IsOutside (Refused e) = e.cause ≡ sink_stopped
+IsOutside (Refused e) = e.cause ≡ Message Sink
 
 -- If the stream begins with what was packed, within the limits, then the octets are not at fault.
 abbrev pub FailsOutside : Limits → List ℕ → UnpackFault → Type 0

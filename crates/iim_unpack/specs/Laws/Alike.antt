@@ -2,7 +2,8 @@
 use Rattle.std.specs.Prelude.{◌≡◌, ◌≢◌, ℕ, ◌^◌, ◌<◌, ◌⊎◌, List, [], ◌∷◌, None, Some, Result, Ok, Err, IfOk, IfErr, OnOk}
 use Rattle.wire_story.specs.Format.Delivery.{StoryEvent}
 use Rattle.iim_places.specs.Format.Tickets.{IsTicketOf}
-use Rattle.iim_places.specs.Format.Refusals.{sink_stopped}
+use Rattle.iim_places.specs.declared.refusal.Cause.TheVariants.{Message}
+use Rattle.wire_message.specs.declared.fault.MessageCause.TheVariants.{Sink}
 use Rattle.iim_places.specs.declared.refusal.Refusal.{Refusal}
 use Rattle.iim_unpack.specs.States.Restored.{IsRestored}
 use Rattle.iim_unpack.specs.States.Unpacking.{Unpacking, Stands, IsDone, IsDoneWith, Goes, IsRefusedIn, failed_at, limits_in}
@@ -22,7 +23,7 @@ pub record AnswersPiece (u v : Unpacking) (piece : List ℕ) (answer : Result Pr
 
 -- The sink did not stop.
 abbrev pub IsOfNoSink : Result Progress Refusal → Type 0
-IsOfNoSink answer = IfErr answer (λ e. e.cause ≢ sink_stopped)
+IsOfNoSink answer = IfErr answer (λ e. e.cause ≢ Message Sink)
 
 -- The pieces were answered so, one after another, and the sink did not stop.
 abbrev pub AnswersPieces : Unpacking → List (List ℕ) → List (Result Progress Refusal) → Type 0

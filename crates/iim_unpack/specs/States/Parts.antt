@@ -2,6 +2,7 @@
 use Rattle.std.specs.Prelude.{◌≡◌, ℕ, ◌<◌, ◌≤◌, ◌==◌, ◌&&◌, if◌then◌else◌, Bool, List, [], length, is_none}
 use Rattle.iim_dataset.specs.Format.Octets.{Octets}
 use Rattle.iim_dataset.specs.Format.Datasets.{Dataset, of_record}
+use Rattle.iim_dataset.specs.Format.Counts.{Rose}
 use Rattle.iim_dataset.specs.Format.Splits.{Begun, InTag, InData}
 use Rattle.iim_dataset.specs.States.Events.{DatasetEvent, handed_on}
 use Rattle.iim_dataset.specs.declared.head.Head.{Head}
@@ -17,6 +18,7 @@ use Rattle.iim_places.specs.Format.Tokens.{place_at}
 use Rattle.iim_unpack.specs.declared.parts.Parts.{Parts}
 use Rattle.iim_places.specs.declared.refusal.Cause.{Cause}
 use Rattle.iim_places.specs.declared.refusal.Cause.TheVariants.{Message}
+use Rattle.wire_message.specs.declared.fault.MessageCause.TheVariants.{Sink}
 use Rattle.iim_places.specs.Format.Open.{object_so_far}
 
 -- ---- where the parts stand
@@ -62,5 +64,5 @@ has_ended parts = (records.section_of parts.fields == 9) && is_none (records.beg
 -- the sink's count of failures rose where the sink refused, and nowhere else
 -- twin: `sinks_that_stop`
 abbrev pub CountsFor : Cause → ℕ → ℕ → Type 0
-CountsFor (Message cause) old new = wire.CountsCause old new cause
+CountsFor (Message Sink) old new = Rose old new
 CountsFor _ old new = new ≡ old
