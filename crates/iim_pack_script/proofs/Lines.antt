@@ -8,9 +8,8 @@ use Rattle.iim_object.specs.States.Writing.{most_of}
 use Rattle.iim_object.specs.declared.plan.Plan.{Plan}
 use Rattle.iim_object.specs.declared.size.Size.{Size}
 use Rattle.wire_message.specs.Format.Fields.{is_trailer_octet}
-use Rattle.wire_message.specs.Format.Messages.{Header, IsTrailer}
-use Rattle.wire_message.specs.Format.Canonical.{canonical, packed_head, packed_tail}
-use Rattle.wire_story.specs.Format.Texts.{IsLine, IsText, packed_text}
+use Rattle.wire_message.specs.Format.Messages.{IsTrailer}
+use Rattle.wire_story.specs.Format.Texts.{IsLine, IsText}
 use Rattle.wire_story.specs.Format.Delivery.{StoryEvent, LineOctet, LineEnd, events_of_lines}
 use Rattle.wire_story.specs.Format.Packing.{lines_of, packed_events}
 use Rattle.wire_story.specs.States.Collecting.{collect}
