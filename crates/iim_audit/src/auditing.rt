@@ -12,7 +12,7 @@ use crate::report::Report;
 use crate::row::Taken;
 use iim_dataset::Source;
 use iim_dataset::device_laws::gifts_join;
-use iim_dataset::laws::{events_tell_the_datasets, octets_are_handed_on_one_way};
+use iim_dataset::laws::dataset_laws;
 use iim_fields::Limits;
 use iim_unpack::{Intake, MAX_ENVELOPES, Unpacker};
 use jiff::Timestamp;
@@ -40,8 +40,7 @@ fn take_envelope<R: Source>(
     ensures leads { R.leads intake.old.reader intake.new.reader }
 {
     gifts_join();
-    octets_are_handed_on_one_way();
-    events_tell_the_datasets();
+    dataset_laws();
     texts_stand_between_stx_and_etx();
     texts_are_counted_as_lines();
     unpacker.again();

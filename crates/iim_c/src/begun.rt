@@ -11,7 +11,7 @@ ghost use Rattle.iim_c.specs.PlaceSteps.{span_of, taken_offset};
 use crate::answer::{IimAnswer, status_answer, ticket_answer};
 use crate::span::IimSpan;
 use crate::status::DONE;
-use iim_dataset::laws::{events_tell_the_datasets, octets_are_handed_on_one_way};
+use iim_dataset::laws::dataset_laws;
 use iim_fields::laws::envelopes_end_with_the_last_record;
 use iim_places::form::FIRST_VERSION;
 use iim_tables::records::OBJECT;
@@ -190,8 +190,7 @@ fn place_told(ticket: &[u8], at: u64) -> (IimBegun, IimAnswer)
     ensures token { (p : List ℕ) (place : Place) → IsTicketAt ticket.now place → IsPlaceOf p place
         → TellsToken p at result.0 }
 {
-    octets_are_handed_on_one_way();
-    events_tell_the_datasets();
+    dataset_laws();
     envelopes_end_with_the_last_record();
     tickets_of_places_are_split();
     tickets_have_one_split();

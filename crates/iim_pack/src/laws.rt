@@ -2,7 +2,7 @@
 
 ghost use Rattle.iim_pack.specs.Laws.Packed.{PackedOctetsAreFew, PackedOctetsAreOne, PackedOctetsCarryTheValue, PackedSubfilesAreFew};
 
-use iim_dataset::laws::canonical_streams_are_spelled;
+use iim_dataset::laws::dataset_laws;
 use iim_object::laws::{
     objects_are_cut_one_way, packed_objects_have_sizes, packed_records_are_good, subfiles_are_few,
 };
@@ -11,7 +11,7 @@ use iim_object::laws::{
 pub fn packed_octets_carry_the_value()
     ensures { PackedOctetsCarryTheValue }
 {
-    canonical_streams_are_spelled();
+    dataset_laws();
     packed_records_are_good();
     packed_objects_have_sizes();
 }

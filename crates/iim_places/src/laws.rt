@@ -9,11 +9,7 @@ ghost use Rattle.iim_places.specs.Laws.Lower.{LowerLaws};
 ghost use Rattle.iim_places.specs.Laws.Listing.{InputsHaveOneListing, ListingsAreLongest};
 ghost use Rattle.iim_places.specs.Laws.Tickets.{TicketsOfPlacesAreSplit, TicketsHaveOneSplit, OctetsHaveOneTicket};
 
-use iim_dataset::laws::{
-    canonical_streams_are_spelled, events_tell_the_datasets, no_dataset_begins_another,
-    no_octets_continue, no_tag_begins_another, octets_are_handed_on_one_way,
-    what_an_octet_completes,
-};
+use iim_dataset::laws::dataset_laws;
 use iim_fields::laws::{
     envelopes_end_with_the_last_record, heads_die_with_their_fault, heads_tell_the_lowest_cause,
     no_sections_begin_others, values_die_with_their_fault, values_tell_the_lowest_cause,
@@ -39,13 +35,7 @@ use wire_story::laws::{
 pub fn lower_laws()
     ensures { LowerLaws }
 {
-    no_tag_begins_another();
-    no_dataset_begins_another();
-    octets_are_handed_on_one_way();
-    events_tell_the_datasets();
-    what_an_octet_completes();
-    no_octets_continue();
-    canonical_streams_are_spelled();
+    dataset_laws();
     no_sections_begin_others();
     envelopes_end_with_the_last_record();
     heads_die_with_their_fault();
@@ -84,7 +74,7 @@ pub fn no_envelope_is_empty()
 pub fn admitted_octets_have_one_value()
     ensures { AdmittedOctetsHaveOneValue }
 {
-    no_dataset_begins_another();
+    dataset_laws();
     no_sections_begin_others();
     sizes_are_determined();
     messages_have_one_reading();
@@ -95,7 +85,7 @@ pub fn admitted_octets_have_one_value()
 pub fn no_admitted_octets_begin_others()
     ensures { NoAdmittedOctetsBeginOthers }
 {
-    no_dataset_begins_another();
+    dataset_laws();
     no_sections_begin_others();
 }
 
@@ -108,8 +98,7 @@ pub fn admitted_octets_are_framed()
 pub fn open_octets_begin_with_no_envelope()
     ensures { OpenOctetsBeginWithNoEnvelope }
 {
-    no_tag_begins_another();
-    no_dataset_begins_another();
+    dataset_laws();
     no_sections_begin_others();
 }
 
@@ -194,8 +183,7 @@ pub fn inputs_have_one_listing()
 pub fn octets_have_one_ticket()
     ensures { OctetsHaveOneTicket }
 {
-    octets_are_handed_on_one_way();
-    events_tell_the_datasets();
+    dataset_laws();
     octets_lead_to_one_place();
 }
 

@@ -13,8 +13,8 @@ returns-in-Ok-true-clause-took g c =
     let old = in_line g.R.Source.state c.args.intake.now in
     let new = in_line g.R.Source.state c.feed_envelope.new.self in
     let laws : TextLaws = record {
-      way = c.octets_are_handed_on_one_way.ensures;
-      tell = c.events_tell_the_datasets.ensures;
+      way = c.dataset_laws.ensures.octets_are_handed_on_one_way;
+      tell = c.dataset_laws.ensures.events_tell_the_datasets;
       texts = c.texts_stand_between_stx_and_etx.ensures;
       counts = c.texts_are_counted_as_lines.ensures;
     } in

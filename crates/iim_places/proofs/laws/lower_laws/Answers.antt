@@ -4,14 +4,15 @@ pub returns : goal.returns
 returns c =
     let live = c.datasets_live_with_their_tokens.ensures in
     let lead = c.datasets_lead_from_place_to_place.ensures in
+    let datasets = c.dataset_laws.ensures in
     record {
-      one_tag = c.no_tag_begins_another.ensures;
-      one_dataset = c.no_dataset_begins_another.ensures;
-      one_way = c.octets_are_handed_on_one_way.ensures;
-      events_tell = c.events_tell_the_datasets.ensures;
-      completes = c.what_an_octet_completes.ensures;
-      stuck = c.no_octets_continue.ensures;
-      spelled = c.canonical_streams_are_spelled.ensures;
+      one_tag = datasets.no_tag_begins_another;
+      one_dataset = datasets.no_dataset_begins_another;
+      one_way = datasets.octets_are_handed_on_one_way;
+      events_tell = datasets.events_tell_the_datasets;
+      completes = datasets.what_an_octet_completes;
+      stuck = datasets.no_octets_continue;
+      spelled = datasets.canonical_streams_are_spelled;
       sections = c.no_sections_begin_others.ensures;
       last_record = c.envelopes_end_with_the_last_record.ensures;
       heads_die = c.heads_die_with_their_fault.ensures;

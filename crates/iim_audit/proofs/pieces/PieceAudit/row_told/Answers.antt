@@ -5,8 +5,8 @@ use Rattle.iim_audit.proofs.pieces.PieceAudit.row_told.Goals as goal
 pub returns-clause-row : goal.returns-clause-row
 returns-clause-row c =
     let laws : TextLaws = record {
-      way = c.octets_are_handed_on_one_way.ensures;
-      tell = c.events_tell_the_datasets.ensures;
+      way = c.dataset_laws.ensures.octets_are_handed_on_one_way;
+      tell = c.dataset_laws.ensures.events_tell_the_datasets;
       texts = c.texts_stand_between_stx_and_etx.ensures;
       counts = c.texts_are_counted_as_lines.ensures;
     } in
