@@ -12,7 +12,7 @@ use crate::answer::{IimAnswer, status_answer, ticket_answer};
 use crate::span::IimSpan;
 use crate::status::DONE;
 use iim_dataset::laws::dataset_laws;
-use iim_fields::laws::envelopes_end_with_the_last_record;
+use iim_fields::laws::record_laws;
 use iim_places::form::FIRST_VERSION;
 use iim_tables::records::OBJECT;
 use iim_unpack::laws::{tickets_have_one_split, tickets_of_places_are_split};
@@ -191,7 +191,7 @@ fn place_told(ticket: &[u8], at: u64) -> (IimBegun, IimAnswer)
         → TellsToken p at result.0 }
 {
     dataset_laws();
-    envelopes_end_with_the_last_record();
+    record_laws();
     tickets_of_places_are_split();
     tickets_have_one_split();
     match split_ticket(ticket) {

@@ -10,10 +10,7 @@ ghost use Rattle.iim_places.specs.Laws.Listing.{InputsHaveOneListing, ListingsAr
 ghost use Rattle.iim_places.specs.Laws.Tickets.{TicketsOfPlacesAreSplit, TicketsHaveOneSplit, OctetsHaveOneTicket};
 
 use iim_dataset::laws::dataset_laws;
-use iim_fields::laws::{
-    envelopes_end_with_the_last_record, heads_die_with_their_fault, heads_tell_the_lowest_cause,
-    no_sections_begin_others, values_die_with_their_fault, values_tell_the_lowest_cause,
-};
+use iim_fields::laws::record_laws;
 use iim_object::laws::{
     causes_are_the_first, datasets_lead_from_place_to_place, datasets_live_with_their_tokens,
     number_datasets_are_good, numbers_live_without_clash, objects_end_where_they_are_whole,
@@ -36,12 +33,7 @@ pub fn lower_laws()
     ensures { LowerLaws }
 {
     dataset_laws();
-    no_sections_begin_others();
-    envelopes_end_with_the_last_record();
-    heads_die_with_their_fault();
-    heads_tell_the_lowest_cause();
-    values_die_with_their_fault();
-    values_tell_the_lowest_cause();
+    record_laws();
     datasets_lead_from_place_to_place();
     datasets_live_with_their_tokens();
     records_are_by_number();
@@ -75,7 +67,7 @@ pub fn admitted_octets_have_one_value()
     ensures { AdmittedOctetsHaveOneValue }
 {
     dataset_laws();
-    no_sections_begin_others();
+    record_laws();
     sizes_are_determined();
     messages_have_one_reading();
     texts_have_one_reading();
@@ -86,7 +78,7 @@ pub fn no_admitted_octets_begin_others()
     ensures { NoAdmittedOctetsBeginOthers }
 {
     dataset_laws();
-    no_sections_begin_others();
+    record_laws();
 }
 
 /// Admitted octets are framed under the limits that they are within, the greatest number of subfiles among them.
@@ -99,7 +91,7 @@ pub fn open_octets_begin_with_no_envelope()
     ensures { OpenOctetsBeginWithNoEnvelope }
 {
     dataset_laws();
-    no_sections_begin_others();
+    record_laws();
 }
 
 /// Octets from which every layer can continue, within the limits, are open, where no envelope stands at their front.
@@ -114,8 +106,7 @@ pub fn living_octets_are_open()
 pub fn open_octets_are_bounded()
     ensures { OpenOctetsAreBounded }
 {
-    no_sections_begin_others();
-    envelopes_end_with_the_last_record();
+    record_laws();
 }
 
 /// Envelopes within their limits are shorter than a count of 64 bits tells.

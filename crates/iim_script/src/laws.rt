@@ -2,7 +2,7 @@
 
 ghost use Rattle.iim_script.specs.Laws.Scripts.{OctetsHaveOneNextLine, LinesTellOneThing, FormsExcludeOneAnother, ScriptsTellOneThing, ScriptsHaveNoFault, OctetsHaveOneFault, PrintedValuesAreScripts};
 
-use iim_fields::laws::datasets_of_envelopes_are_added;
+use iim_fields::laws::record_laws;
 
 /// Octets have one next line, and one thing follows it.
 pub fn octets_have_one_next_line()
@@ -39,5 +39,5 @@ pub fn octets_have_one_fault()
 pub fn printed_values_are_scripts()
     ensures { PrintedValuesAreScripts }
 {
-    datasets_of_envelopes_are_added();
+    record_laws();
 }

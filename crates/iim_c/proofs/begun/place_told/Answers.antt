@@ -13,8 +13,8 @@ returns-in-Err-clause-octets c = no_octets_tell c.tickets_of_places_are_split.en
 
 pub returns-in-Ok-clause-token : goal.returns-in-Ok-clause-token
 returns-in-Ok-clause-token c p place t led =
-    token_told c.dataset_laws.ensures.octets_are_handed_on_one_way c.dataset_laws.ensures.events_tell_the_datasets c.envelopes_end_with_the_last_record.ensures p c.args.at _ (returns-in-Ok-clause-octets c p place t led)
+    token_told c.dataset_laws.ensures.octets_are_handed_on_one_way c.dataset_laws.ensures.events_tell_the_datasets c.record_laws.ensures.envelopes_end_with_the_last_record p c.args.at _ (returns-in-Ok-clause-octets c p place t led)
 
 pub returns-in-Err-clause-token : goal.returns-in-Err-clause-token
 returns-in-Err-clause-token c p place t led =
-    token_told c.dataset_laws.ensures.octets_are_handed_on_one_way c.dataset_laws.ensures.events_tell_the_datasets c.envelopes_end_with_the_last_record.ensures p c.args.at _ (returns-in-Err-clause-octets c p place t led)
+    token_told c.dataset_laws.ensures.octets_are_handed_on_one_way c.dataset_laws.ensures.events_tell_the_datasets c.record_laws.ensures.envelopes_end_with_the_last_record p c.args.at _ (returns-in-Err-clause-octets c p place t led)
