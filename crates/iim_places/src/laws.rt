@@ -11,12 +11,7 @@ ghost use Rattle.iim_places.specs.Laws.Tickets.{TicketsOfPlacesAreSplit, Tickets
 
 use iim_dataset::laws::dataset_laws;
 use iim_fields::laws::record_laws;
-use iim_object::laws::{
-    causes_are_the_first, datasets_lead_from_place_to_place, datasets_live_with_their_tokens,
-    number_datasets_are_good, numbers_live_without_clash, objects_end_where_they_are_whole,
-    places_live_within, records_are_by_number, sizes_are_determined, subfiles_live_while_they_fit,
-    totals_are_confirmed,
-};
+use iim_object::laws::object_laws;
 use wire_message::MessageReader;
 use wire_message::laws::{
     living_octets_lead_on, messages_end_after_eot, messages_have_one_reading,
@@ -34,15 +29,7 @@ pub fn lower_laws()
 {
     dataset_laws();
     record_laws();
-    datasets_lead_from_place_to_place();
-    datasets_live_with_their_tokens();
-    records_are_by_number();
-    number_datasets_are_good();
-    numbers_live_without_clash();
-    subfiles_live_while_they_fit();
-    objects_end_where_they_are_whole();
-    totals_are_confirmed();
-    causes_are_the_first();
+    object_laws();
     texts_so_far_have_one_reading();
     stories_live_as_texts_so_far();
     stories_end_as_texts();
@@ -68,7 +55,7 @@ pub fn admitted_octets_have_one_value()
 {
     dataset_laws();
     record_laws();
-    sizes_are_determined();
+    object_laws();
     messages_have_one_reading();
     texts_have_one_reading();
 }
@@ -256,7 +243,7 @@ pub fn small_places_were_possible()
     ensures { SmallPlacesWerePossible }
 {
     lower_laws();
-    places_live_within();
+    object_laws();
     limits_are_told_by_place();
 }
 

@@ -2,10 +2,9 @@ use Rattle.iim_places.proofs.laws.lower_laws.Goals as goal
 
 pub returns : goal.returns
 returns c =
-    let live = c.datasets_live_with_their_tokens.ensures in
-    let lead = c.datasets_lead_from_place_to_place.ensures in
     let datasets = c.dataset_laws.ensures in
     let records = c.record_laws.ensures in
+    let objects = c.object_laws.ensures in
     record {
       one_tag = datasets.no_tag_begins_another;
       one_dataset = datasets.no_dataset_begins_another;
@@ -20,20 +19,20 @@ returns c =
       heads_tell = records.heads_tell_the_lowest_cause;
       values_die = records.values_die_with_their_fault;
       values_tell = records.values_tell_the_lowest_cause;
-      tokens = lead.tokens;
-      others = lead.others;
-      numbers_lead = lead.numbers;
-      subfiles_lead = lead.subfiles;
-      ends_lead = lead.ends;
-      live = live.after;
-      ended = live.ended;
-      by_number = c.records_are_by_number.ensures;
-      rows = c.number_datasets_are_good.ensures;
-      no_clash = c.numbers_live_without_clash.ensures;
-      fit = c.subfiles_live_while_they_fit.ensures;
-      whole_ends = c.objects_end_where_they_are_whole.ensures;
-      confirmed = c.totals_are_confirmed.ensures;
-      first_cause = c.causes_are_the_first.ensures;
+      tokens = objects.tokens_follow;
+      others = objects.others_lead_nowhere;
+      numbers_lead = objects.numbers_lead;
+      subfiles_lead = objects.subfiles_lead;
+      ends_lead = objects.ends_lead;
+      live = objects.datasets_live_with_their_tokens;
+      ended = objects.datasets_end_with_their_tokens;
+      by_number = objects.records_are_by_number;
+      rows = objects.number_datasets_are_good;
+      no_clash = objects.numbers_live_without_clash;
+      fit = objects.subfiles_live_while_they_fit;
+      whole_ends = objects.objects_end_where_they_are_whole;
+      confirmed = objects.totals_are_confirmed;
+      first_cause = objects.causes_are_the_first;
       one_text = c.texts_so_far_have_one_reading.ensures;
       stories_live = c.stories_live_as_texts_so_far.ensures;
       stories_end = c.stories_end_as_texts.ensures;
