@@ -19,7 +19,7 @@ use jiff::Timestamp;
 use std::alloc::Global;
 use wire_message::laws::texts_stand_between_stx_and_etx;
 use wire_story::WordCount;
-use wire_story::laws::texts_are_counted_as_lines;
+use wire_story::laws::story_laws;
 
 /// Begins an unpacker again and feeds it the next envelope of an intake: answers how many words its lines have, or None at the end of
 /// the input.
@@ -42,7 +42,7 @@ fn take_envelope<R: Source>(
     gifts_join();
     dataset_laws();
     texts_stand_between_stx_and_etx();
-    texts_are_counted_as_lines();
+    story_laws();
     unpacker.again();
     let mut count = WordCount::new();
     match intake.feed_envelope(unpacker, &mut count) {

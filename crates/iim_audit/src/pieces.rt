@@ -15,7 +15,7 @@ use jiff::Timestamp;
 use std::alloc::{AllocError, Global};
 use wire_message::laws::texts_stand_between_stx_and_etx;
 use wire_story::WordCount;
-use wire_story::laws::{delivery_may_be_cut, texts_are_counted_as_lines};
+use wire_story::laws::{delivery_may_be_cut, story_laws};
 
 /// What is told of an envelope that ends in a piece.
 #[derive(Debug, Drop)]
@@ -104,7 +104,7 @@ impl PieceAudit {
     {
         dataset_laws();
         texts_stand_between_stx_and_etx();
-        texts_are_counted_as_lines();
+        story_laws();
         let Some(unpacked) = self.unpacker.unpacked() else {
             unreachable!()
         };

@@ -18,10 +18,7 @@ use wire_message::laws::{
     octets_are_refused_alike, octets_lead_on_alike, octets_lead_to_one_place,
     places_are_saved_apart, readers_stand_at_living_octets, texts_stand_between_stx_and_etx,
 };
-use wire_story::laws::{
-    stories_end_as_texts, stories_live_as_texts_so_far, texts_end_in_no_return,
-    texts_have_one_reading, texts_so_far_have_one_reading,
-};
+use wire_story::laws::story_laws;
 
 /// The laws of the lower crates, as one record, on which those below and the proofs of the crates above rest.
 pub fn lower_laws()
@@ -30,10 +27,7 @@ pub fn lower_laws()
     dataset_laws();
     record_laws();
     object_laws();
-    texts_so_far_have_one_reading();
-    stories_live_as_texts_so_far();
-    stories_end_as_texts();
-    texts_end_in_no_return();
+    story_laws();
     texts_stand_between_stx_and_etx();
     readers_stand_at_living_octets();
     living_octets_lead_on();
@@ -57,7 +51,7 @@ pub fn admitted_octets_have_one_value()
     record_laws();
     object_laws();
     messages_have_one_reading();
-    texts_have_one_reading();
+    story_laws();
 }
 
 /// No admitted octets begin others: they end where they end.

@@ -16,7 +16,7 @@ returns-in-Ok-true-clause-took g c =
       way = c.dataset_laws.ensures.octets_are_handed_on_one_way;
       tell = c.dataset_laws.ensures.events_tell_the_datasets;
       texts = c.texts_stand_between_stx_and_etx.ensures;
-      counts = c.texts_are_counted_as_lines.ensures;
+      counts = c.story_laws.ensures.texts_are_counted_as_lines;
     } in
     took_one laws (limits_in c.args.unpacker.now) old new c.again.new.self c.feed_envelope.new.unpacker c.new-count.result c.feed_envelope.new.sink c.feed_envelope.new.self.octets c.words.result
     c.in-Ok-true.field-0 c.in-Ok-true.field-0-test c.again.ensures.limits c.again.ensures.stands c.new-count.ensures.words c.new-count.ensures.inside c.words.ensures c.in-Ok-true.ensures.fed
