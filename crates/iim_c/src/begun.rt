@@ -15,7 +15,7 @@ use iim_dataset::laws::dataset_laws;
 use iim_fields::laws::record_laws;
 use iim_places::form::FIRST_VERSION;
 use iim_tables::records::OBJECT;
-use iim_unpack::laws::{tickets_have_one_split, tickets_of_places_are_split};
+use iim_unpack::laws::place_laws;
 use iim_unpack::{TicketParts, TicketPhase, split_ticket};
 
 /// Nothing is begun: the place is between datasets.
@@ -192,8 +192,7 @@ fn place_told(ticket: &[u8], at: u64) -> (IimBegun, IimAnswer)
 {
     dataset_laws();
     record_laws();
-    tickets_of_places_are_split();
-    tickets_have_one_split();
+    place_laws();
     match split_ticket(ticket) {
         Ok(parts) => (begun_in(ticket, at, &parts), status_answer(DONE)),
         Err(fault) => (NO_BEGUN, ticket_answer(fault)),

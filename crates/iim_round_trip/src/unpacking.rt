@@ -9,7 +9,7 @@ ghost use Rattle.iim_round_trip.specs.Format.Stories.{ComesBack, IsStoryIn, IsSt
 
 use crate::laws::packed_streams_have_their_answer;
 use iim_fields::Limits;
-use iim_unpack::laws::streams_have_one_answer;
+use iim_unpack::laws::place_laws;
 use iim_unpack::{Refusal, Unpacked, Unpacker, unpack_pieces};
 use std::alloc::Global;
 use wire_story::laws::{story_laws, texts_are_delivered_as_lines};
@@ -94,7 +94,7 @@ pub fn unpack_story(alloc: Global, limits: Limits, pieces: &[&[u8]]) -> Result<S
 {
     texts_are_delivered_as_lines();
     story_laws();
-    streams_have_one_answer();
+    place_laws();
     let mut lines = Lines::new(alloc);
     match unpack_packed(alloc, limits, pieces, &mut lines) {
         Ok((unpacked, used)) => Ok(Story {

@@ -11,17 +11,7 @@ ghost use Rattle.iim_unpack.specs.Restoring.{ReadersMakeUnpackers};
 use crate::unpacker::Unpacker;
 use iim_object::laws::readers_tell_sizes;
 use iim_places::laws::lower_laws;
-pub use iim_places::laws::{
-    admitted_octets_are_framed, admitted_octets_have_one_value, envelopes_are_bounded,
-    inputs_have_one_listing, limits_are_told_by_place, living_octets_are_open,
-    no_admitted_octets_begin_others, no_envelope_is_empty, nothing_continues_from_refused_octets,
-    octets_have_one_place, octets_have_one_ticket, open_octets_are_bounded,
-    open_octets_begin_with_no_envelope, places_continue_alike, places_refuse_alike,
-    possible_places_are_taken, refusals_are_determined, refusals_tell_the_lowest_cause,
-    refused_octets_were_open, small_places_were_possible, streams_have_one_answer,
-    the_present_scale_says_nothing_more, tickets_have_one_split, tickets_of_places_are_split,
-    tickets_tell_one_place,
-};
+pub use iim_places::laws::place_laws;
 
 /// An unpacker that has refused nothing stands on some octets, or is done with some. And it holds what its limits allow, and 256 octets
 /// at most beside that.
@@ -40,7 +30,7 @@ pub fn unpackers_stand_somewhere(unpacker: &Unpacker)
 pub fn restored_unpackers_stand_as_saved()
     ensures { RestoredStandAsSaved }
 {
-    tickets_tell_one_place();
+    place_laws();
 }
 
 /// Saved places continue: unpackers that stand on the same octets under the same limits answer each list of pieces alike, where no sink
@@ -50,7 +40,7 @@ pub fn saved_places_continue()
     ensures pieces { PiecesAreAnsweredAlike }
     ensures restored { RestoredStandAlike }
 {
-    streams_have_one_answer();
+    place_laws();
     restored_unpackers_stand_as_saved();
 }
 
@@ -59,7 +49,7 @@ pub(crate) fn readers_make_unpackers()
     ensures { ReadersMakeUnpackers }
 {
     lower_laws();
-    limits_are_told_by_place();
+    place_laws();
     readers_tell_sizes();
 }
 

@@ -14,7 +14,7 @@ returns-in-Err c =
 
 pub saved-requires : goal.saved-requires
 saved-requires c =
-    let b = begun c.tickets_tell_one_place.ensures c.no_envelope_is_empty.ensures c.admitted_octets_are_framed.ensures c.args.limits c.args.ticket.now c.args.at c.in-Ok.unpacker c.in-Ok.ensures.begun in
+    let b = begun c.place_laws.ensures.tickets_tell_one_place c.place_laws.ensures.no_envelope_is_empty c.place_laws.ensures.admitted_octets_are_framed c.args.limits c.args.ticket.now c.args.at c.in-Ok.unpacker c.in-Ok.ensures.begun in
     let r = c.feed_text-answer in
     alive_after c.in-Ok-answer.progress c.args.limits c.args.ticket.now c.args.at c.in-Ok.unpacker r.new.unpacker c.args.piece.now r.new.out r.result.1 b
     (subst (λ (x : Result Progress Refusal). IfOk x (HasFedText c.in-Ok.unpacker r.new.unpacker c.args.piece.now r.new.out r.result.1)) c.in-Ok-answer.is r.ensures.goes)
@@ -22,7 +22,7 @@ saved-requires c =
 
 pub returns-in-Ok-answer : goal.returns-in-Ok-answer
 returns-in-Ok-answer c =
-    let b = begun c.tickets_tell_one_place.ensures c.no_envelope_is_empty.ensures c.admitted_octets_are_framed.ensures c.args.limits c.args.ticket.now c.args.at c.in-Ok.unpacker c.in-Ok.ensures.begun in
+    let b = begun c.place_laws.ensures.tickets_tell_one_place c.place_laws.ensures.no_envelope_is_empty c.place_laws.ensures.admitted_octets_are_framed c.args.limits c.args.ticket.now c.args.at c.in-Ok.unpacker c.in-Ok.ensures.begun in
     let r = c.feed_text-answer in
     let room : length c.args.text_out.now ≡ length r.new.out = omega arith in
     let few : length c.args.text_out.now < 2 ^ 63 = omega arith in
@@ -35,7 +35,7 @@ returns-in-Ok-answer c =
 
 pub returns : goal.returns
 returns c =
-    let b = begun c.tickets_tell_one_place.ensures c.no_envelope_is_empty.ensures c.admitted_octets_are_framed.ensures c.args.limits c.args.ticket.now c.args.at c.in-Ok.unpacker c.in-Ok.ensures.begun in
+    let b = begun c.place_laws.ensures.tickets_tell_one_place c.place_laws.ensures.no_envelope_is_empty c.place_laws.ensures.admitted_octets_are_framed c.args.limits c.args.ticket.now c.args.at c.in-Ok.unpacker c.in-Ok.ensures.begun in
     let r = c.feed_text-answer in
     let room : length c.args.text_out.now ≡ length r.new.out = omega arith in
     let few : length c.args.text_out.now < 2 ^ 63 = omega arith in
