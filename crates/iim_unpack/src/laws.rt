@@ -3,10 +3,8 @@
 ghost use Rattle.std.specs.Prelude.{◌≡◌, ℕ, List, None};
 ghost use Rattle.iim_unpack.specs.States.Held.{HoldsFew};
 ghost use Rattle.iim_unpack.specs.States.Unpacking.{IsDone, IsDoneWith, Stands};
-ghost use Rattle.iim_unpack.specs.Laws.Alike.{PieceIsAnsweredAlike, PiecesAreAnsweredAlike, RestoredStandAlike};
-ghost use Rattle.iim_unpack.specs.Laws.Places.{RestoredStandAsSaved};
-ghost use Rattle.iim_unpack.specs.Laws.Tickets.{UnpackersStandByPlace};
 ghost use Rattle.iim_unpack.specs.Restoring.{ReadersMakeUnpackers};
+ghost use Rattle.iim_unpack.specs.Laws.All.{UnpackerLaws};
 
 use crate::unpacker::Unpacker;
 use iim_object::laws::readers_tell_sizes;
@@ -25,25 +23,6 @@ pub fn unpackers_stand_somewhere(unpacker: &Unpacker)
     unpacker.stands_somewhere();
 }
 
-/// An unpacker that is restored from another's ticket, under its limits and with its count of octets, stands where the other stands, and
-/// is done with what the other is done with: each call on the one answers as on the other.
-pub fn restored_unpackers_stand_as_saved()
-    ensures { RestoredStandAsSaved }
-{
-    place_laws();
-}
-
-/// Saved places continue: unpackers that stand on the same octets under the same limits answer each list of pieces alike, where no sink
-/// stops; and an unpacker that is restored from another's ticket, under its limits and with its count of octets, stands as the other.
-pub fn saved_places_continue()
-    ensures piece { PieceIsAnsweredAlike }
-    ensures pieces { PiecesAreAnsweredAlike }
-    ensures restored { RestoredStandAlike }
-{
-    place_laws();
-    restored_unpackers_stand_as_saved();
-}
-
 /// An unpacker that is made of the readers of a possible place is sound, and restored from its ticket.
 pub(crate) fn readers_make_unpackers()
     ensures { ReadersMakeUnpackers }
@@ -53,9 +32,10 @@ pub(crate) fn readers_make_unpackers()
     readers_tell_sizes();
 }
 
-/// Where an unpacker stands is told by the place alone: it stands on all open octets that lead there, if on some.
-pub fn unpackers_stand_by_place()
-    ensures { UnpackersStandByPlace }
+/// What holds of unpackers that stand at one place, or are saved and restored: a field for each law.
+pub fn unpacker_laws()
+    ensures { UnpackerLaws }
 {
     lower_laws();
+    place_laws();
 }
