@@ -16,6 +16,7 @@ HAND = f"{TOP}/docs/CALLING.md"
 MADE = "This page is made from the sources and from [`docs/CALLING.md`](../../docs/CALLING.md) (`tests/documents --write`)."
 CLAUSES = "[`docs/PROMISES.md`](../../docs/PROMISES.md) has the clauses of each call."
 LAW = "A law is a function with an empty body, or one that calls others alone. A call of it gives a proof what its clause says."
+LAWS = "What `{}` says is a record: each law is a field of it, by its name."
 # A line of docs/CALLING.md that names a caller: what is shown, its file, and what else is said.
 CALLER = re.compile(r"Caller: ((?:`\w+`(?:, | and )?)+) of `(crates/[\w/.]+\.rt)`(.*)")
 
@@ -51,6 +52,8 @@ def told(item):
     for at, part in enumerate(said):
         yield from [""] if at else []
         yield from wrapped(part, "  ", "  ")
+    for name, _, words in items.laws_at(item):
+        yield from wrapped(f"`{name}`: {words}", "  - ", "    ")
 
 
 def trait_of(code):
@@ -131,7 +134,8 @@ def parts_of_page(crate):
     files = list(files_of(crate))
     laws = [path for path, _ in files if is_laws(path)]
     for path, found in files:
-        yield from ["", "## Laws", "", *wrapped(LAW)] if path in laws[:1] else []
+        records = [LAWS.format(item.name) for item in found if items.laws_at(item)]
+        yield from ["", "## Laws", "", *wrapped(" ".join([LAW, *records]))] if path in laws[:1] else []
         yield from part_of_file(path, found, modules)
 
 

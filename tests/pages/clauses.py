@@ -1,7 +1,8 @@
 """The lists of docs/PROMISES.md that tell of each call which clauses it has, as they are written from the sources.
 
 Each crate has a section there. Its list is made: of each call what its doc comment says first, its clauses by their names, each with the
-public definitions that it cites, and the wrong bodies of the function itself. All else in a section is written by hand.
+public definitions that it cites, and the wrong bodies of the function itself; and of a record of laws each law. All else in a section is
+written by hand.
 """
 import itertools
 import re
@@ -75,14 +76,17 @@ def told(crate):
         if item.kind == "fn" or item.kind == "given" and (item.clauses or path_of(item) in bodies):
             held = bodies.pop(path_of(item), [])
             yield part(f"`{name_of(item)}`: {first_sentence(item.doc)}", told_clauses(item, brought_in(item.path)), held)
+            for name, statement, words in items.laws_at(item):
+                yield part(f"`{name}`: {words}", f"`{statement}`", [], "  ")
     if bodies:
         yield part("Functions below these.", "", sorted(itertools.chain(*bodies.values())))
 
 
-def part(said, clauses, bodies):
+def part(said, clauses, bodies, indent=""):
     """A part of a list, in lines."""
     words = [said, *(f"*Clauses:* {clauses}." for _ in clauses[:1]), *(f"*Wrong bodies:* {', '.join(bodies)}." for _ in bodies[:1])]
-    return textwrap.fill(" ".join(words), WIDTH, initial_indent="- ", subsequent_indent="  ", break_long_words=False, break_on_hyphens=False)
+    indents = {"initial_indent": f"{indent}- ", "subsequent_indent": f"{indent}  "}
+    return textwrap.fill(" ".join(words), WIDTH, **indents, break_long_words=False, break_on_hyphens=False)
 
 
 def sections(page):

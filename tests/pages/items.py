@@ -43,6 +43,24 @@ def sources_of(crate):
     return sorted(glob.glob(f"{TOP}/crates/{crate}/src/**/*.rt", recursive=True))
 
 
+def laws_of(crate):
+    """The laws of a crate that are one record, the contract of one call (specs/Laws/All.antt): the record's name, and of each field its name,
+    its statement and what is said of it. (What ends in a colon is said of several fields.)"""
+    path = f"{TOP}/crates/{crate}/specs/Laws/All.antt"
+    if not os.path.isfile(path):
+        return None, []
+    name, fields = re.search(r"^pub record (\w+) : Type 0 where\n(.*)", text_of(path), re.M | re.S).groups()
+    found = re.findall(r"((?:^  -- .*\n)*)^  pub (\w+) : (\w+)$", fields, re.M)
+    said = [" ".join(line[5:] for line in comment.splitlines() if not line.endswith(":")) for comment, _, _ in found]
+    return name, [(field, statement, words) for (_, field, statement), words in zip(found, said)]
+
+
+def laws_at(item):
+    """The laws that a call has as one record: none but for the call of a crate's laws."""
+    name, laws = laws_of(item.path.split("/")[1])
+    return laws if item.clauses == [f"ensures {{ {name} }}"] else []
+
+
 def handed_on(crate):
     """What the root of a library hands on: the names of its `pub use` lines, and its public modules."""
     root = re.sub("//.*", "", text_of(f"{TOP}/crates/{crate}/src/lib.rt"))

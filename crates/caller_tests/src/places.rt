@@ -4,15 +4,14 @@ ghost use Rattle.std.specs.Prelude.{◌≡◌, IfSome};
 ghost use Rattle.iim_places.specs.Format.Tickets.{Place};
 ghost use Rattle.iim_places.specs.States.Restored.{IsTicketAt};
 
-use iim_places::laws::{tickets_have_one_split, tickets_of_places_are_split};
+use iim_places::laws::place_laws;
 use iim_places::split_ticket;
 
 /// How many octets of the object had come where a ticket was made, or None where the octets are no ticket.
 pub fn octets_of_object(ticket: &[u8]) -> Option<u64>
     ensures { IfSome result (λ taken. (place : Place) → IsTicketAt ticket.now place → taken ≡ place.taken) }
 {
-    tickets_of_places_are_split();
-    tickets_have_one_split();
+    place_laws();
     match split_ticket(ticket) {
         Ok(parts) => Some(parts.taken),
         Err(_) => None,

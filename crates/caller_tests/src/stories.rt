@@ -4,7 +4,7 @@ ghost use Rattle.std.specs.Prelude.{◌≡◌, ℕ, List, IfSome};
 ghost use Rattle.wire_story.specs.Format.Texts.{IsText};
 ghost use Rattle.wire_story.specs.Format.Words.{words, capped};
 
-use wire_story::laws::texts_are_counted_as_lines;
+use wire_story::laws::story_laws;
 use wire_story::{TextReader, WordCount};
 
 /// How many words the lines of a text have, or None where the octets are no text.
@@ -12,7 +12,7 @@ pub fn count_words(text: &[u8]) -> Option<u64>
     ensures { IfSome result (λ count. (lines : List (List ℕ)) × IsText text.now lines
         × (count ≡ capped (words lines))) }
 {
-    texts_are_counted_as_lines();
+    story_laws();
     let mut count = WordCount::new();
     let mut reader = TextReader::new();
     let Ok(()) = reader.run(text, &mut count) else {

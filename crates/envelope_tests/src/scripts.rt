@@ -1,10 +1,7 @@
 //! What is proved of scripts, called.
 
 use crate::told::Told;
-use iim_script::laws::{
-    forms_exclude_one_another, lines_tell_one_thing, octets_have_one_fault,
-    octets_have_one_next_line, scripts_have_no_fault, scripts_tell_one_thing,
-};
+use iim_script::laws::script_laws;
 use std::io;
 
 /// Tells the trial.
@@ -14,10 +11,5 @@ pub(crate) fn tell(rt: &impl Print, told: &mut Told) -> io::Result<()> {
 }
 
 fn laws_can_be_called() {
-    forms_exclude_one_another();
-    lines_tell_one_thing();
-    octets_have_one_fault();
-    octets_have_one_next_line();
-    scripts_have_no_fault();
-    scripts_tell_one_thing();
+    script_laws();
 }

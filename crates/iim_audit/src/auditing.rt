@@ -12,14 +12,14 @@ use crate::report::Report;
 use crate::row::Taken;
 use iim_dataset::Source;
 use iim_dataset::device_laws::gifts_join;
-use iim_dataset::laws::{events_tell_the_datasets, octets_are_handed_on_one_way};
+use iim_dataset::laws::dataset_laws;
 use iim_fields::Limits;
 use iim_unpack::{Intake, MAX_ENVELOPES, Unpacker};
 use jiff::Timestamp;
 use std::alloc::Global;
 use wire_message::laws::texts_stand_between_stx_and_etx;
 use wire_story::WordCount;
-use wire_story::laws::texts_are_counted_as_lines;
+use wire_story::laws::story_laws;
 
 /// Begins an unpacker again and feeds it the next envelope of an intake: answers how many words its lines have, or None at the end of
 /// the input.
@@ -40,10 +40,9 @@ fn take_envelope<R: Source>(
     ensures leads { R.leads intake.old.reader intake.new.reader }
 {
     gifts_join();
-    octets_are_handed_on_one_way();
-    events_tell_the_datasets();
+    dataset_laws();
     texts_stand_between_stx_and_etx();
-    texts_are_counted_as_lines();
+    story_laws();
     unpacker.again();
     let mut count = WordCount::new();
     match intake.feed_envelope(unpacker, &mut count) {

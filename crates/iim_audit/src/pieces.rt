@@ -7,7 +7,7 @@ ghost use Rattle.iim_audit.specs.Counting.{HasFed, IsRefusedFor};
 ghost use Rattle.iim_audit.specs.Lines.{IsShort};
 
 use crate::row::{AuditRow, Taken, row_of};
-use iim_dataset::laws::{events_tell_the_datasets, octets_are_handed_on_one_way};
+use iim_dataset::laws::dataset_laws;
 use iim_fields::{Limits, instants};
 use iim_unpack::laws::unpackers_stand_somewhere;
 use iim_unpack::{Progress, Refusal, Unpacker};
@@ -15,7 +15,7 @@ use jiff::Timestamp;
 use std::alloc::{AllocError, Global};
 use wire_message::laws::texts_stand_between_stx_and_etx;
 use wire_story::WordCount;
-use wire_story::laws::{delivery_may_be_cut, texts_are_counted_as_lines};
+use wire_story::laws::{delivery_may_be_cut, story_laws};
 
 /// What is told of an envelope that ends in a piece.
 #[derive(Debug, Drop)]
@@ -102,10 +102,9 @@ impl PieceAudit {
         ensures row { (p : List ℕ) (a : ℕ) → IsDoneWith self.now.unpacker p a → HaveWords p self.now.count
             → IsRowOf (limits_in self.now.unpacker) now.nanosecond p result }
     {
-        octets_are_handed_on_one_way();
-        events_tell_the_datasets();
+        dataset_laws();
         texts_stand_between_stx_and_etx();
-        texts_are_counted_as_lines();
+        story_laws();
         let Some(unpacked) = self.unpacker.unpacked() else {
             unreachable!()
         };

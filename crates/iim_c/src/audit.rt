@@ -17,7 +17,7 @@ use crate::status::{BAD_INSTANT, BAD_TICKET, DONE, MORE, REFUSED};
 use iim_audit::PieceAudit;
 use iim_fields::Limits;
 use iim_unpack::Refusal;
-use iim_unpack::laws::{admitted_octets_are_framed, no_envelope_is_empty, tickets_tell_one_place};
+use iim_unpack::laws::place_laws;
 use jiff::Timestamp;
 use std::alloc::Global;
 
@@ -74,9 +74,7 @@ fn audited(
     ensures { IsAuditedAt limits ticket.now so_far.old piece.now now.nanosecond rows.old rows.new ticket_out.new
         so_far.new result }
 {
-    tickets_tell_one_place();
-    no_envelope_is_empty();
-    admitted_octets_are_framed();
+    place_laws();
     let unpacker = match begin(alloc, limits, ticket, so_far.octets) {
         Ok(unpacker) => unpacker,
         Err(fault) => return ticket_answer(fault),

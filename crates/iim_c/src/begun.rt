@@ -11,11 +11,11 @@ ghost use Rattle.iim_c.specs.PlaceSteps.{span_of, taken_offset};
 use crate::answer::{IimAnswer, status_answer, ticket_answer};
 use crate::span::IimSpan;
 use crate::status::DONE;
-use iim_dataset::laws::{events_tell_the_datasets, octets_are_handed_on_one_way};
-use iim_fields::laws::envelopes_end_with_the_last_record;
+use iim_dataset::laws::dataset_laws;
+use iim_fields::laws::record_laws;
 use iim_places::form::FIRST_VERSION;
 use iim_tables::records::OBJECT;
-use iim_unpack::laws::{tickets_have_one_split, tickets_of_places_are_split};
+use iim_unpack::laws::place_laws;
 use iim_unpack::{TicketParts, TicketPhase, split_ticket};
 
 /// Nothing is begun: the place is between datasets.
@@ -190,11 +190,9 @@ fn place_told(ticket: &[u8], at: u64) -> (IimBegun, IimAnswer)
     ensures token { (p : List ℕ) (place : Place) → IsTicketAt ticket.now place → IsPlaceOf p place
         → TellsToken p at result.0 }
 {
-    octets_are_handed_on_one_way();
-    events_tell_the_datasets();
-    envelopes_end_with_the_last_record();
-    tickets_of_places_are_split();
-    tickets_have_one_split();
+    dataset_laws();
+    record_laws();
+    place_laws();
     match split_ticket(ticket) {
         Ok(parts) => (begun_in(ticket, at, &parts), status_answer(DONE)),
         Err(fault) => (NO_BEGUN, ticket_answer(fault)),

@@ -7,7 +7,7 @@ use crate::answer::{IimAnswer, refusal_answer, status_answer};
 use crate::limits::IimLimits;
 use crate::status::{DONE, NO_MEMORY, REFUSED, TRUNCATED};
 use iim_fields::Limits;
-use iim_unpack::laws::streams_have_one_answer;
+use iim_unpack::laws::place_laws;
 use iim_unpack::{Progress, Unpacker};
 use std::alloc::Global;
 use wire_story::Discard;
@@ -28,7 +28,7 @@ fn checked(alloc: Global, limits: Limits, octets: &[u8]) -> IimAnswer
     ensures answer { IsChecked limits octets.now result }
     ensures only { IsOnly limits octets.now result }
 {
-    streams_have_one_answer();
+    place_laws();
     let Ok(mut unpacker) = Unpacker::new(alloc, limits) else {
         return status_answer(NO_MEMORY);
     };

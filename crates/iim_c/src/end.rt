@@ -8,16 +8,14 @@ use crate::begin::begin;
 use crate::limits::IimLimits;
 use crate::status::{DONE, TRUNCATED};
 use iim_fields::Limits;
-use iim_unpack::laws::{admitted_octets_are_framed, no_envelope_is_empty, tickets_tell_one_place};
+use iim_unpack::laws::place_laws;
 use std::alloc::Global;
 
 /// What it means that the input ends here.
 fn ended(alloc: Global, limits: Limits, ticket: &[u8], at: u64) -> IimAnswer
     ensures { IsEnd limits ticket.now at result }
 {
-    tickets_tell_one_place();
-    no_envelope_is_empty();
-    admitted_octets_are_framed();
+    place_laws();
     let unpacker = match begin(alloc, limits, ticket, at) {
         Ok(unpacker) => unpacker,
         Err(fault) => return ticket_answer(fault),

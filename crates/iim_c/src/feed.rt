@@ -12,9 +12,9 @@ use crate::begin::begin;
 use crate::limits::IimLimits;
 use crate::status::{DONE, MORE, NO_MEMORY, REFUSED, SHORT};
 use crate::text_out::TextOut;
-use iim_dataset::laws::{no_dataset_begins_another, no_tag_begins_another};
+use iim_dataset::laws::dataset_laws;
 use iim_fields::Limits;
-use iim_unpack::laws::{admitted_octets_are_framed, no_envelope_is_empty, tickets_tell_one_place};
+use iim_unpack::laws::place_laws;
 use iim_unpack::{Progress, Refusal, Unpacker};
 use std::alloc::Global;
 
@@ -135,11 +135,8 @@ fn fed(
 ) -> IimAnswer
     ensures { IsFed limits ticket.now at piece.now text_out.new ticket_out.new result }
 {
-    tickets_tell_one_place();
-    no_envelope_is_empty();
-    admitted_octets_are_framed();
-    no_dataset_begins_another();
-    no_tag_begins_another();
+    place_laws();
+    dataset_laws();
     let mut unpacker = match begin(alloc, limits, ticket, at) {
         Ok(unpacker) => unpacker,
         Err(fault) => return ticket_answer(fault),

@@ -12,10 +12,7 @@ use crate::limits::IimLimits;
 use crate::status::{DONE, MORE};
 use iim_fields::Limits;
 use iim_unpack::TicketFault;
-use iim_unpack::laws::{
-    admitted_octets_are_framed, no_envelope_is_empty, nothing_continues_from_refused_octets,
-    open_octets_begin_with_no_envelope, tickets_tell_one_place,
-};
+use iim_unpack::laws::place_laws;
 use std::alloc::Global;
 use wire_story::Discard;
 
@@ -57,11 +54,7 @@ fn takes(
     ensures tried { IfOk result (IsTried limits ticket.now octet) }
     ensures fault { IfErr result (IsNotBegun limits ticket.now) }
 {
-    tickets_tell_one_place();
-    no_envelope_is_empty();
-    admitted_octets_are_framed();
-    open_octets_begin_with_no_envelope();
-    nothing_continues_from_refused_octets();
+    place_laws();
     let mut unpacker = begin(alloc, limits, ticket, 0)?;
     if unpacker.is_done() {
         return Ok(None);

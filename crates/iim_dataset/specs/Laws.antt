@@ -1,3 +1,4 @@
 pub mod Completing
 pub mod Devices
 pub mod Datasets
+pub mod All

@@ -3,9 +3,8 @@
 //!
 //! Stands on `byteorder` and `arrayvec`. Every crate stands on it, at least for its definitions. The unpacker
 //! feeds [`HeadReader`] with a sink of its own, and relies on the contract of [`HeadReader::feed`] and on
-//! [`laws::what_an_octet_completes`]. Writers of objects and envelopes write each dataset by [`put_dataset`], and spell sizes by
-//! [`number_bytes`]. Sources and targets are reached by
-//! [`take`] and [`put`] alone.
+//! `what_an_octet_completes` of [`laws::dataset_laws`]. Writers of objects and envelopes write each dataset by [`put_dataset`],
+//! and spell sizes by [`number_bytes`]. Sources and targets are reached by [`take`] and [`put`] alone.
 #![tactic(auto)]
 
 mod dash;

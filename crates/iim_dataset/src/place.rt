@@ -7,7 +7,7 @@ ghost use Rattle.iim_dataset.specs.States.Places.{IsPlace};
 ghost use Rattle.iim_dataset.specs.Format.Tags.{BeginsTag, HasTag, HasNoTag};
 
 use crate::head::{Head, HeadFault, TAG_OCTETS, read_head};
-use crate::laws::no_tag_begins_another;
+use crate::laws::dataset_laws;
 use arrayvec::ArrayVec;
 
 /// The most octets of a tag that is not whole.
@@ -65,7 +65,7 @@ pub(crate) fn read_tag(held: &[u8], next: &[u8]) -> Result<Option<(Head, usize)>
 fn begins_tag(octets: &[u8]) -> bool
     ensures { IsTrue result ↔ BeginsTag count_octets octets.now }
 {
-    no_tag_begins_another();
+    dataset_laws();
     matches!(read_head(octets), Ok(None))
 }
 

@@ -8,7 +8,7 @@ use crate::check::RecordCheck;
 use crate::envelope::Envelope;
 use crate::fault::{CopyFault, FieldCause, FieldFault};
 use crate::fields::room_fault;
-use crate::laws::datasets_of_envelopes_are_added;
+use crate::laws::record_laws;
 use crate::limits::Limits;
 use crate::order::fault_on;
 use crate::records::is_kept;
@@ -64,7 +64,7 @@ impl EnvelopeBuilder {
         ensures within { OnOk result (passed_by limits envelope.now ≡ None) }
         ensures refused { IfErr result (λ fault. IsCopyFault limits envelope.now fault) }
     {
-        datasets_of_envelopes_are_added();
+        record_laws();
         let (octets, fields) = envelope.totals();
         if let Some(cause) = limits.passed(octets, fields) {
             return Err(CopyFault::Passed(cause));

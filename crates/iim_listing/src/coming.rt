@@ -12,7 +12,7 @@ use iim_dataset::{Source, Stop};
 use iim_output::fault::CommandFault;
 pub use iim_output::limits::LIMITS;
 use iim_output::outlet::Outlet;
-use iim_unpack::laws::open_octets_are_bounded;
+use iim_unpack::laws::place_laws;
 use iim_unpack::{Cause, Fed, Intake, IntakeFault, Refusal, Unpacker};
 use wire_story::laws::delivery_may_be_cut;
 
@@ -78,7 +78,7 @@ pub fn take_next<R: Source, S: Outlet>(
 {
     gifts_join();
     delivery_may_be_cut();
-    open_octets_are_bounded();
+    place_laws();
     unpacker.again();
     'feeding: loop {
         match let_out_before_read(intake, sink) {

@@ -23,7 +23,7 @@ use iim_output::status::{ACCEPTED, REFUSED};
 use iim_unpack::{Intake, MAX_ENVELOPES, Unpacker};
 use std::alloc::Global;
 use wire_story::LineWriter;
-use wire_story::laws::lines_are_joined_by_line_feeds;
+use wire_story::laws::story_laws;
 
 /// Tells what comes next, after `count` envelopes, and answers the status where it is the last.
 #[inline]
@@ -46,7 +46,7 @@ fn tell_next<R: Source, W: Target, E: Target>(
     gifts_join();
     texts_join();
     envelopes_are_delivered_as_lines();
-    lines_are_joined_by_line_feeds();
+    story_laws();
     match take_next(intake, unpacker, narrator)? {
         Next::Envelope(octets) => {
             if count == MAX_ENVELOPES {

@@ -7,3 +7,4 @@ pub mod Conditions
 pub mod Reading
 pub mod Cuts
 pub mod Packing
+pub mod All

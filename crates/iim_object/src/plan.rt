@@ -58,7 +58,7 @@ impl Plan {
     }
 
     /// The most octets of an object that goes by the plan: the known size, the maximum or the greatest size, and never
-    /// more than 4,294,967,295 full subfiles hold. The law [`crate::laws::subfiles_are_few`] says that it is no less.
+    /// more than 4,294,967,295 full subfiles hold. The law `subfiles_are_few` says that it is no less.
     pub fn bound(&self) -> u64
         ensures { result ≡ bound_of self.now.subfile self.now.size }
     {

@@ -2,18 +2,15 @@
 
 ghost use Rattle.iim_pack.specs.Laws.Packed.{PackedOctetsAreFew, PackedOctetsAreOne, PackedOctetsCarryTheValue, PackedSubfilesAreFew};
 
-use iim_dataset::laws::canonical_streams_are_spelled;
-use iim_object::laws::{
-    objects_are_cut_one_way, packed_objects_have_sizes, packed_records_are_good, subfiles_are_few,
-};
+use iim_dataset::laws::dataset_laws;
+use iim_object::laws::{object_laws, objects_are_cut_one_way};
 
 /// What is packed carries the fields, the object and the sizes of the plan.
 pub fn packed_octets_carry_the_value()
     ensures { PackedOctetsCarryTheValue }
 {
-    canonical_streams_are_spelled();
-    packed_records_are_good();
-    packed_objects_have_sizes();
+    dataset_laws();
+    object_laws();
 }
 
 /// There is one packed form: no other octets are what is packed of the same envelope, header, lines and trailer by the same plan.
@@ -27,7 +24,7 @@ pub fn packed_octets_are_one()
 pub fn packed_subfiles_are_few()
     ensures { PackedSubfilesAreFew }
 {
-    subfiles_are_few();
+    object_laws();
 }
 
 /// A packed form of no more fields than limits can allow has fewer octets than the greatest object and
@@ -35,5 +32,5 @@ pub fn packed_subfiles_are_few()
 pub fn packed_octets_are_few()
     ensures { PackedOctetsAreFew }
 {
-    subfiles_are_few();
+    object_laws();
 }

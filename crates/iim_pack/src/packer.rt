@@ -23,8 +23,7 @@ use std::marker::Model;
 use wire_message::laws::canonical_objects_are_messages;
 use wire_message::{MessageHead, head_text, tail_text};
 use wire_story::laws::{
-    events_are_packed_as_lines, line_ends_are_packed_as_return_and_feed,
-    lines_are_packed_as_their_events,
+    line_ends_are_packed_as_return_and_feed, lines_are_packed_as_their_events, story_laws,
 };
 use wire_story::{LINE_END, is_text};
 
@@ -210,7 +209,7 @@ impl<W: Target> Packer<W> {
         ensures room { IfErr result (λ refused. refused.0.object.room ≡ self.object.room) }
     {
         texts_join();
-        events_are_packed_as_lines();
+        story_laws();
         canonical_objects_are_messages();
         if self.object.is_failed() {
             return Err((self, PackCause::Failed));

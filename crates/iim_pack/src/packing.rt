@@ -19,8 +19,7 @@ use std::alloc::Global;
 use wire_message::{MessageHead, is_trailer};
 use wire_story::Lines;
 use wire_story::laws::{
-    lines_are_packed_as_their_events, packed_lines_are_a_text, texts_are_collected_as_lines,
-    texts_are_delivered_as_lines,
+    lines_are_packed_as_their_events, story_laws, texts_are_delivered_as_lines,
 };
 
 /// Why an envelope may not be packed by a plan.
@@ -82,9 +81,8 @@ pub fn pack<W: Target>(
 {
     texts_join();
     lines_are_packed_as_their_events();
-    packed_lines_are_a_text();
+    story_laws();
     texts_are_delivered_as_lines();
-    texts_are_collected_as_lines();
     if let Some(cause) = pack_cause(head, lines, trailer, plan) {
         return Err(StartFault {
             cause,

@@ -5,3 +5,4 @@ pub mod Places
 pub mod Admitted
 pub mod Tickets
 pub mod Lower
+pub mod All

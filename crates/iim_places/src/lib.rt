@@ -1,8 +1,8 @@
 //! Where octets of an envelope lead: what is open, admitted or refused, places, and their tickets.
 //!
 //! Stands on the layers `iim_dataset`, `iim_fields`, `iim_object`, `wire_message` and `wire_story`, and knows no unpacker. What octets
-//! are is said here ([`laws::streams_have_one_answer`]), how the fault of each layer is told ([`Refusal`]), that octets lead to one
-//! place ([`laws::octets_have_one_place`]) from which they continue alike ([`laws::places_continue_alike`]), what the octets of a ticket
+//! are is said here (`streams_have_one_answer`), how the fault of each layer is told ([`Refusal`]), that octets lead to one
+//! place (`octets_have_one_place`) from which they continue alike (`places_continue_alike`), what the octets of a ticket
 //! tell ([`split_ticket`]), and which readers stand there ([`readers_at`], [`fields_at`]). Its lemmas may be cited by the crates above.
 #![tactic(auto)]
 

@@ -3,9 +3,7 @@
 ghost use Rattle.iim_round_trip.specs.Laws.Packed.{PackedOctetsAreAdmitted, PackedEnvelopesAreFound, PackedOctetsAreWithin, PackedStreamsHaveTheirAnswer};
 
 use iim_pack::laws::{packed_octets_carry_the_value, packed_subfiles_are_few};
-use iim_unpack::laws::{
-    admitted_octets_have_one_value, no_admitted_octets_begin_others, streams_have_one_answer,
-};
+use iim_unpack::laws::place_laws;
 
 /// What is packed is admitted, with the value that was packed and the sizes of the plan.
 pub fn packed_octets_are_admitted()
@@ -19,8 +17,7 @@ pub fn packed_envelopes_are_found()
     ensures { PackedEnvelopesAreFound }
 {
     packed_octets_are_admitted();
-    admitted_octets_have_one_value();
-    no_admitted_octets_begin_others();
+    place_laws();
 }
 
 /// What is packed is within each limits that its fields are within.
@@ -36,5 +33,5 @@ pub fn packed_streams_have_their_answer()
     ensures { PackedStreamsHaveTheirAnswer }
 {
     packed_octets_are_within();
-    streams_have_one_answer();
+    place_laws();
 }

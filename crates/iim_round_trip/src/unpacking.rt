@@ -9,10 +9,10 @@ ghost use Rattle.iim_round_trip.specs.Format.Stories.{ComesBack, IsStoryIn, IsSt
 
 use crate::laws::packed_streams_have_their_answer;
 use iim_fields::Limits;
-use iim_unpack::laws::streams_have_one_answer;
+use iim_unpack::laws::place_laws;
 use iim_unpack::{Refusal, Unpacked, Unpacker, unpack_pieces};
 use std::alloc::Global;
-use wire_story::laws::{texts_are_collected_as_lines, texts_are_delivered_as_lines};
+use wire_story::laws::{story_laws, texts_are_delivered_as_lines};
 use wire_story::{Lines, StorySink};
 
 /// Why nothing is unpacked.
@@ -93,8 +93,8 @@ pub fn unpack_story(alloc: Global, limits: Limits, pieces: &[&[u8]]) -> Result<S
         → IfErr result (λ fault. IsOutside fault → ⊥) → IsStoryAnswer result answer }
 {
     texts_are_delivered_as_lines();
-    texts_are_collected_as_lines();
-    streams_have_one_answer();
+    story_laws();
+    place_laws();
     let mut lines = Lines::new(alloc);
     match unpack_packed(alloc, limits, pieces, &mut lines) {
         Ok((unpacked, used)) => Ok(Story {

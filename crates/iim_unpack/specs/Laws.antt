@@ -1,3 +1,4 @@
 pub mod Places
 pub mod Tickets
 pub mod Alike
+pub mod All

@@ -18,7 +18,7 @@ use crate::unpacker::{Progress, Unpacked, Unpacker, failed_at, raised};
 use iim_dataset::device_laws::gifts_join;
 use iim_dataset::{IoFault, Source};
 use iim_places::Refusal;
-use iim_places::laws::open_octets_are_bounded;
+use iim_places::laws::place_laws;
 use thiserror::Error;
 use wire_story::StorySink;
 use wire_story::laws::delivery_may_be_cut;
@@ -233,7 +233,7 @@ impl<R: Source> Intake<R> {
     {
         gifts_join();
         delivery_may_be_cut();
-        open_octets_are_bounded();
+        place_laws();
         unpacker.stands_somewhere();
         self.octets = 0;
         if let Some(octet) = self.failed {

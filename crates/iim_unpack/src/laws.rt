@@ -3,25 +3,13 @@
 ghost use Rattle.std.specs.Prelude.{◌≡◌, ℕ, List, None};
 ghost use Rattle.iim_unpack.specs.States.Held.{HoldsFew};
 ghost use Rattle.iim_unpack.specs.States.Unpacking.{IsDone, IsDoneWith, Stands};
-ghost use Rattle.iim_unpack.specs.Laws.Alike.{PieceIsAnsweredAlike, PiecesAreAnsweredAlike, RestoredStandAlike};
-ghost use Rattle.iim_unpack.specs.Laws.Places.{RestoredStandAsSaved};
-ghost use Rattle.iim_unpack.specs.Laws.Tickets.{UnpackersStandByPlace};
 ghost use Rattle.iim_unpack.specs.Restoring.{ReadersMakeUnpackers};
+ghost use Rattle.iim_unpack.specs.Laws.All.{UnpackerLaws};
 
 use crate::unpacker::Unpacker;
 use iim_object::laws::readers_tell_sizes;
 use iim_places::laws::lower_laws;
-pub use iim_places::laws::{
-    admitted_octets_are_framed, admitted_octets_have_one_value, envelopes_are_bounded,
-    inputs_have_one_listing, limits_are_told_by_place, living_octets_are_open,
-    no_admitted_octets_begin_others, no_envelope_is_empty, nothing_continues_from_refused_octets,
-    octets_have_one_place, octets_have_one_ticket, open_octets_are_bounded,
-    open_octets_begin_with_no_envelope, places_continue_alike, places_refuse_alike,
-    possible_places_are_taken, refusals_are_determined, refusals_tell_the_lowest_cause,
-    refused_octets_were_open, small_places_were_possible, streams_have_one_answer,
-    the_present_scale_says_nothing_more, tickets_have_one_split, tickets_of_places_are_split,
-    tickets_tell_one_place,
-};
+pub use iim_places::laws::place_laws;
 
 /// An unpacker that has refused nothing stands on some octets, or is done with some. And it holds what its limits allow, and 256 octets
 /// at most beside that.
@@ -35,37 +23,19 @@ pub fn unpackers_stand_somewhere(unpacker: &Unpacker)
     unpacker.stands_somewhere();
 }
 
-/// An unpacker that is restored from another's ticket, under its limits and with its count of octets, stands where the other stands, and
-/// is done with what the other is done with: each call on the one answers as on the other.
-pub fn restored_unpackers_stand_as_saved()
-    ensures { RestoredStandAsSaved }
-{
-    tickets_tell_one_place();
-}
-
-/// Saved places continue: unpackers that stand on the same octets under the same limits answer each list of pieces alike, where no sink
-/// stops; and an unpacker that is restored from another's ticket, under its limits and with its count of octets, stands as the other.
-pub fn saved_places_continue()
-    ensures piece { PieceIsAnsweredAlike }
-    ensures pieces { PiecesAreAnsweredAlike }
-    ensures restored { RestoredStandAlike }
-{
-    streams_have_one_answer();
-    restored_unpackers_stand_as_saved();
-}
-
 /// An unpacker that is made of the readers of a possible place is sound, and restored from its ticket.
 pub(crate) fn readers_make_unpackers()
     ensures { ReadersMakeUnpackers }
 {
     lower_laws();
-    limits_are_told_by_place();
+    place_laws();
     readers_tell_sizes();
 }
 
-/// Where an unpacker stands is told by the place alone: it stands on all open octets that lead there, if on some.
-pub fn unpackers_stand_by_place()
-    ensures { UnpackersStandByPlace }
+/// What holds of unpackers that stand at one place, or are saved and restored: a field for each law.
+pub fn unpacker_laws()
+    ensures { UnpackerLaws }
 {
     lower_laws();
+    place_laws();
 }

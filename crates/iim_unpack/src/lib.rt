@@ -5,8 +5,8 @@
 //! [`Unpacker::feed`], which takes a stream in any pieces and finishes exactly at the end of the envelope that it begins with, or
 //! says at which octet, by which layer, on which dataset and why it is refused; [`Unpacker::save`] and [`Unpacker::restore`], by
 //! which it stops and continues later; [`Intake`], which takes one envelope after another from a source; and the laws that a stream
-//! has one answer ([`laws::streams_have_one_answer`]) and that octets of one place continue alike
-//! ([`laws::places_continue_alike`]).
+//! has one answer (`streams_have_one_answer`) and that octets of one place continue alike
+//! (`places_continue_alike`).
 #![tactic(auto)]
 
 mod intake;

@@ -11,10 +11,7 @@ ghost use Rattle.wire_message.specs.declared.fault.MessageCause.TheVariants.{Sin
 
 use crate::unpacker::{Unpacked, Unpacker};
 use iim_places::Refusal;
-use iim_places::laws::{
-    envelopes_are_bounded, lower_laws, open_octets_are_bounded, refused_octets_were_open,
-    streams_have_one_answer,
-};
+use iim_places::laws::{lower_laws, place_laws};
 use wire_story::StorySink;
 use wire_story::laws::{delivery_may_be_cut, texts_are_delivered_as_lines};
 
@@ -34,9 +31,7 @@ fn feed_pieces<S: StorySink>(
 {
     lower_laws();
     delivery_may_be_cut();
-    open_octets_are_bounded();
-    envelopes_are_bounded();
-    refused_octets_were_open();
+    place_laws();
     unpacker.stands_somewhere();
     for piece in pieces {
         unpacker.feed(piece, sink)?;
@@ -67,7 +62,7 @@ pub fn unpack_pieces<S: StorySink>(
 {
     lower_laws();
     texts_are_delivered_as_lines();
-    streams_have_one_answer();
+    place_laws();
     let mut unpacker = unpacker;
     feed_pieces(&mut unpacker, pieces, sink)?;
     if let Some(refusal) = unpacker.end_of_input() {

@@ -28,9 +28,7 @@ use iim_dataset::{Fault as TagFault, FaultCause, HeadReader};
 use iim_fields::{Envelope, EnvelopeRef, Fields, Limits};
 use iim_object::laws::readers_tell_sizes;
 use iim_object::{ObjectReader, Sizes};
-use iim_places::laws::{
-    admitted_octets_have_one_value, lower_laws, refusals_tell_the_lowest_cause,
-};
+use iim_places::laws::{lower_laws, place_laws};
 use iim_places::{Cause, Layer, Refusal, TokenFault};
 use std::alloc::{AllocError, Global};
 use std::marker::Model;
@@ -359,7 +357,7 @@ impl Unpacker {
     {
         lower_laws();
         readers_tell_sizes();
-        refusals_tell_the_lowest_cause();
+        place_laws();
         if let Some(octet) = self.refused {
             return Err(failed_at(octet));
         }
@@ -453,7 +451,7 @@ impl Unpacker {
             → ShowsParts got v) }
     {
         lower_laws();
-        admitted_octets_have_one_value();
+        place_laws();
         if !self.is_done() {
             return None;
         }
@@ -480,7 +478,7 @@ impl Unpacker {
         ensures handed_back { IfErr result (λ u. u ≡ self) }
     {
         lower_laws();
-        admitted_octets_have_one_value();
+        place_laws();
         if !self.is_done() {
             return Err(self);
         }

@@ -2,10 +2,7 @@
 
 ghost use Rattle.wire_message.specs.Laws.Messages.{MessagesHaveOneReading, CanonicalObjectsAreMessages, TextsStandBetweenStxAndEtx, ReadersStandAtLivingOctets, LivingOctetsLeadOn, HeadersAreToldFromStx, TrailersAreToldFromEtx, MessagesKeepTheirHeader, TrailersStandBetweenEtxAndEot, MessagesEndAfterEot, PlacesAreReached, OctetsLeadToOnePlace, OctetsLeadOnAlike, OctetsAreRefusedAlike, PlacesAreSavedApart};
 
-use wire_story::laws::{
-    packed_lines_are_a_text, stories_end_as_texts, stories_live_as_texts_so_far,
-    texts_end_in_no_return, texts_so_far_have_one_reading,
-};
+use wire_story::laws::story_laws;
 
 /// An object is a message in one way at most.
 pub fn messages_have_one_reading()
@@ -16,7 +13,7 @@ pub fn messages_have_one_reading()
 pub fn canonical_objects_are_messages()
     ensures { CanonicalObjectsAreMessages }
 {
-    packed_lines_are_a_text();
+    story_laws();
 }
 
 /// The text at which a reader stands is that of the octets so far: what stands after STX and before ETX.
@@ -28,16 +25,14 @@ pub fn texts_stand_between_stx_and_etx()
 pub fn readers_stand_at_living_octets()
     ensures { ReadersStandAtLivingOctets }
 {
-    stories_live_as_texts_so_far();
-    stories_end_as_texts();
+    story_laws();
 }
 
 /// Octets lead on from a place where a message can continue from those so far and these, and so can the story in it.
 pub fn living_octets_lead_on()
     ensures { LivingOctetsLeadOn }
 {
-    stories_live_as_texts_so_far();
-    stories_end_as_texts();
+    story_laws();
 }
 
 /// A header is told exactly where the octets so far have reached STX, and its parts are those of the octets.
@@ -74,23 +69,21 @@ pub fn places_are_reached()
 pub fn octets_lead_to_one_place()
     ensures { OctetsLeadToOnePlace }
 {
-    texts_so_far_have_one_reading();
+    story_laws();
 }
 
 /// From the same place the same octets lead on alike: to the same place, and they add the same to the text.
 pub fn octets_lead_on_alike()
     ensures { OctetsLeadOnAlike }
 {
-    texts_end_in_no_return();
-    wire_story::laws::octets_lead_on_alike();
+    story_laws();
 }
 
 /// From the same place an octet is refused for the same cause, whatever octets have led there.
 pub fn octets_are_refused_alike()
     ensures { OctetsAreRefusedAlike }
 {
-    texts_so_far_have_one_reading();
-    texts_end_in_no_return();
+    story_laws();
     octets_lead_on_alike();
     readers_stand_at_living_octets();
     living_octets_lead_on();

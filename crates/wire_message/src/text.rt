@@ -9,10 +9,7 @@ ghost use Rattle.wire_message.specs.Steps.{cause_of, TakesOctets, RefusesInPart}
 use crate::fault::{MessageCause, MessageFault};
 use crate::head::MessageHead;
 use iim_dataset::octets::ETX;
-use wire_story::laws::{
-    places_are_reached, stories_end_as_texts, stories_live_as_texts_so_far, texts_end_in_no_return,
-    texts_so_far_have_one_reading,
-};
+use wire_story::laws::{places_are_reached, story_laws};
 use wire_story::{StorySink, TextCause, TextReader};
 
 /// The cause of a message for a cause of its text.
@@ -58,10 +55,7 @@ pub(crate) fn in_text<S: StorySink>(
         RefusesInPart S.goes S.failures (Place.Text head.now text.old) sink.old rest.now sink.new) }
 {
     let _ = head;
-    stories_live_as_texts_so_far();
-    stories_end_as_texts();
-    texts_end_in_no_return();
-    texts_so_far_have_one_reading();
+    story_laws();
     places_are_reached();
     match text.run(rest, sink) {
         Ok(()) => Ok((rest.len(), false)),

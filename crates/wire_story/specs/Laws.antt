@@ -1,3 +1,4 @@
 pub mod Packing
 pub mod Texts
 pub mod Words
+pub mod All

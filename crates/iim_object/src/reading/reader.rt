@@ -30,7 +30,7 @@ use std::marker::Model;
 ///
 /// What its contracts say holds of tokens that the record layer and the limits have admitted: wherever the reader stands,
 /// a token leads it on, or the object layer dies with it and the fault is the first cause. After datasets that is the
-/// place of `datasets_lead_from_place_to_place`. Contracts see the reader as the numbers that it keeps, and as None after
+/// place of the law `tokens_follow`. Contracts see the reader as the numbers that it keeps, and as None after
 /// a refusal. Whatever a caller hands in, they are numbers to which some tokens lead (`places_are_reached`).
 #[derive(Debug, Drop)]
 pub struct ObjectReader {

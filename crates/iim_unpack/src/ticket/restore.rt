@@ -14,10 +14,7 @@ use crate::laws::readers_make_unpackers;
 use crate::parts::Parts;
 use crate::unpacker::Unpacker;
 use iim_fields::Limits;
-use iim_places::laws::{
-    places_are_possible_by_layers, small_places_were_possible, tickets_have_one_split,
-    tickets_of_places_are_split,
-};
+use iim_places::laws::place_laws;
 use iim_places::{Readers, TicketFault, TicketParts, fields_at, readers_at, split_ticket};
 use std::alloc::{AllocError, Global};
 
@@ -38,8 +35,7 @@ fn unpacker_at(
     ensures room { IfOk result (λ u. room_in u ≡ room_for limits) }
 {
     readers_make_unpackers();
-    places_are_possible_by_layers();
-    small_places_were_possible();
+    place_laws();
     let fields = fields_at(alloc, limits, parts)?;
     let Readers {
         tags,
@@ -77,10 +73,7 @@ impl Unpacker {
         ensures room { IfOk result (λ u. room_in u ≡ room_for limits) }
         ensures fault { IfErr result (IsRestoreFault limits ticket.now) }
     {
-        places_are_possible_by_layers();
-        small_places_were_possible();
-        tickets_of_places_are_split();
-        tickets_have_one_split();
+        place_laws();
         let parts = split_ticket(ticket)?;
         let Some(readers) = readers_at(&parts) else {
             return Err(TicketFault::Impossible);

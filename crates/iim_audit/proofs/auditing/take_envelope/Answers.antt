@@ -13,10 +13,10 @@ returns-in-Ok-true-clause-took g c =
     let old = in_line g.R.Source.state c.args.intake.now in
     let new = in_line g.R.Source.state c.feed_envelope.new.self in
     let laws : TextLaws = record {
-      way = c.octets_are_handed_on_one_way.ensures;
-      tell = c.events_tell_the_datasets.ensures;
+      way = c.dataset_laws.ensures.octets_are_handed_on_one_way;
+      tell = c.dataset_laws.ensures.events_tell_the_datasets;
       texts = c.texts_stand_between_stx_and_etx.ensures;
-      counts = c.texts_are_counted_as_lines.ensures;
+      counts = c.story_laws.ensures.texts_are_counted_as_lines;
     } in
     took_one laws (limits_in c.args.unpacker.now) old new c.again.new.self c.feed_envelope.new.unpacker c.new-count.result c.feed_envelope.new.sink c.feed_envelope.new.self.octets c.words.result
     c.in-Ok-true.field-0 c.in-Ok-true.field-0-test c.again.ensures.limits c.again.ensures.stands c.new-count.ensures.words c.new-count.ensures.inside c.words.ensures c.in-Ok-true.ensures.fed

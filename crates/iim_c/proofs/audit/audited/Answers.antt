@@ -14,7 +14,7 @@ pub returns-then-is_done : goal.returns-then-is_done
 returns-then-is_done c =
     let u = c.in-Ok.unpacker in
     let so_far = c.args.so_far.now in
-    let b = begun c.tickets_tell_one_place.ensures c.no_envelope_is_empty.ensures c.admitted_octets_are_framed.ensures c.args.limits c.args.ticket.now so_far.octets u c.in-Ok.ensures.begun in
+    let b = begun c.place_laws.ensures.tickets_tell_one_place c.place_laws.ensures.no_envelope_is_empty c.place_laws.ensures.admitted_octets_are_framed c.args.limits c.args.ticket.now so_far.octets u c.in-Ok.ensures.begun in
     let done = c.is_done.ensures.0 c.if-is_done.true in
     has_ended c.args.limits c.args.ticket.now so_far c.args.piece.now c.args.now.nanosecond c.args.rows.now c.args.ticket_out.now c.status_answer.result u b done (not_open u done) c.status_answer.ensures
 
@@ -22,7 +22,7 @@ pub returns-in-Used : goal.returns-in-Used
 returns-in-Used c =
     let u = c.in-Ok.unpacker in
     let so_far = c.args.so_far.now in
-    let b = begun c.tickets_tell_one_place.ensures c.no_envelope_is_empty.ensures c.admitted_octets_are_framed.ensures c.args.limits c.args.ticket.now so_far.octets u c.in-Ok.ensures.begun in
+    let b = begun c.place_laws.ensures.tickets_tell_one_place c.place_laws.ensures.no_envelope_is_empty c.place_laws.ensures.admitted_octets_are_framed c.args.limits c.args.ticket.now so_far.octets u c.in-Ok.ensures.begun in
     let first = c.resume-audit.result in
     let f = c.find_rows-ending in
     let start = resumed c.args.limits c.args.ticket.now so_far u first _ b (λ done. let bad = sym (c.is_done.ensures.1 done) ∙ c.if-is_done.false in cc) c.resume-audit.ensures.unpacker c.resume-audit.ensures.count c.words-words.ensures in
@@ -34,7 +34,7 @@ pub returns-in-Full : goal.returns-in-Full
 returns-in-Full c =
     let u = c.in-Ok.unpacker in
     let so_far = c.args.so_far.now in
-    let b = begun c.tickets_tell_one_place.ensures c.no_envelope_is_empty.ensures c.admitted_octets_are_framed.ensures c.args.limits c.args.ticket.now so_far.octets u c.in-Ok.ensures.begun in
+    let b = begun c.place_laws.ensures.tickets_tell_one_place c.place_laws.ensures.no_envelope_is_empty c.place_laws.ensures.admitted_octets_are_framed c.args.limits c.args.ticket.now so_far.octets u c.in-Ok.ensures.begun in
     let first = c.resume-audit.result in
     let f = c.find_rows-ending in
     let start = resumed c.args.limits c.args.ticket.now so_far u first _ b (λ done. let bad = sym (c.is_done.ensures.1 done) ∙ c.if-is_done.false in cc) c.resume-audit.ensures.unpacker c.resume-audit.ensures.count c.words-words.ensures in
@@ -46,7 +46,7 @@ pub returns : goal.returns
 returns c =
     let u = c.in-Ok.unpacker in
     let so_far = c.args.so_far.now in
-    let b = begun c.tickets_tell_one_place.ensures c.no_envelope_is_empty.ensures c.admitted_octets_are_framed.ensures c.args.limits c.args.ticket.now so_far.octets u c.in-Ok.ensures.begun in
+    let b = begun c.place_laws.ensures.tickets_tell_one_place c.place_laws.ensures.no_envelope_is_empty c.place_laws.ensures.admitted_octets_are_framed c.args.limits c.args.ticket.now so_far.octets u c.in-Ok.ensures.begun in
     let first = c.resume-audit.result in
     let f = c.find_rows-ending in
     let start = resumed c.args.limits c.args.ticket.now so_far u first _ b (λ done. let bad = sym (c.is_done.ensures.1 done) ∙ c.if-is_done.false in cc) c.resume-audit.ensures.unpacker c.resume-audit.ensures.count c.words-words.ensures in

@@ -5,16 +5,16 @@ use Rattle.iim_c.proofs.begun.place_told.Goals as goal
 
 pub returns-in-Ok-clause-octets : goal.returns-in-Ok-clause-octets
 returns-in-Ok-clause-octets c =
-    octets_tell c.tickets_of_places_are_split.ensures c.tickets_have_one_split.ensures c.args.ticket.now c.args.at (split_told c.in-Ok.parts) c.begun_in.result
+    octets_tell c.place_laws.ensures.tickets_of_places_are_split c.place_laws.ensures.tickets_have_one_split c.args.ticket.now c.args.at (split_told c.in-Ok.parts) c.begun_in.result
     c.in-Ok.ensures.parts c.begun_in.ensures
 
 pub returns-in-Err-clause-octets : goal.returns-in-Err-clause-octets
-returns-in-Err-clause-octets c = no_octets_tell c.tickets_of_places_are_split.ensures c.args.ticket.now c.args.at _ c.in-Err.fault c.in-Err.ensures.fault
+returns-in-Err-clause-octets c = no_octets_tell c.place_laws.ensures.tickets_of_places_are_split c.args.ticket.now c.args.at _ c.in-Err.fault c.in-Err.ensures.fault
 
 pub returns-in-Ok-clause-token : goal.returns-in-Ok-clause-token
 returns-in-Ok-clause-token c p place t led =
-    token_told c.octets_are_handed_on_one_way.ensures c.events_tell_the_datasets.ensures c.envelopes_end_with_the_last_record.ensures p c.args.at _ (returns-in-Ok-clause-octets c p place t led)
+    token_told c.dataset_laws.ensures.octets_are_handed_on_one_way c.dataset_laws.ensures.events_tell_the_datasets c.record_laws.ensures.envelopes_end_with_the_last_record p c.args.at _ (returns-in-Ok-clause-octets c p place t led)
 
 pub returns-in-Err-clause-token : goal.returns-in-Err-clause-token
 returns-in-Err-clause-token c p place t led =
-    token_told c.octets_are_handed_on_one_way.ensures c.events_tell_the_datasets.ensures c.envelopes_end_with_the_last_record.ensures p c.args.at _ (returns-in-Err-clause-octets c p place t led)
+    token_told c.dataset_laws.ensures.octets_are_handed_on_one_way c.dataset_laws.ensures.events_tell_the_datasets c.record_laws.ensures.envelopes_end_with_the_last_record p c.args.at _ (returns-in-Err-clause-octets c p place t led)

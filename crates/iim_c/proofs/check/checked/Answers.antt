@@ -12,7 +12,7 @@ returns-in-Ok-Done c =
     let v = c.feed.new.self in
     let step = c.in-Ok-Done.ensures.goes.1 in
     let a =
-    finished_for c.streams_have_one_answer.ensures c.args.limits c.args.octets.now v step.0 c.in-Ok-Done.used c.finished.result
+    finished_for c.place_laws.ensures.streams_have_one_answer c.args.limits c.args.octets.now v step.0 c.in-Ok-Done.used c.finished.result
     (c.in-Ok-Done.ensures.limits c.in-Ok.ensures.stands.taking ∙ c.in-Ok.ensures.limits)
     (subst (λ (q : Progress). Goes v [] 0 c.args.octets.now step.0 q) c.in-Ok-Done.field-0-is (step.2 [] 0 c.in-Ok.ensures.stands)) c.finished.ensures in
     record { answer = a.answer; only = a.only }
@@ -23,7 +23,7 @@ returns-in-Some c =
     let step = c.in-Ok-More.ensures.goes.1 in
     let few : length c.args.octets.now < 2 ^ 63 = omega arith in
     let a =
-    truncated_for c.streams_have_one_answer.ensures c.args.limits c.args.octets.now v step.0 c.in-Some.refusal c.refusal_answer.result few
+    truncated_for c.place_laws.ensures.streams_have_one_answer c.args.limits c.args.octets.now v step.0 c.in-Some.refusal c.refusal_answer.result few
     (c.in-Ok-More.ensures.limits c.in-Ok.ensures.stands.taking ∙ c.in-Ok.ensures.limits)
     (subst (λ (q : Progress). Goes v [] 0 c.args.octets.now step.0 q) c.in-Ok-More.field-0-is (step.2 [] 0 c.in-Ok.ensures.stands)) c.in-Some.ensures.truncated
     c.refusal_answer.ensures in
@@ -43,6 +43,6 @@ returns c =
     let step = c.in-Err.ensures.refused in
     let r = subst (λ (l : Limits). IsRefusedIn l [] 0 c.args.octets.now step.0 c.in-Err.refusal) c.in-Ok.ensures.limits (step.2 [] 0 c.in-Ok.ensures.stands) in
     let a =
-    refused_for c.streams_have_one_answer.ensures c.args.limits c.args.octets.now step.0 c.in-Err.refusal c.refusal_answer-in-Err.result few r
+    refused_for c.place_laws.ensures.streams_have_one_answer c.args.limits c.args.octets.now step.0 c.in-Err.refusal c.refusal_answer-in-Err.result few r
     (not_sink c.in-Err.refusal.cause c.in-Err.ensures.counted) c.refusal_answer-in-Err.ensures in
     record { answer = a.answer; only = a.only }

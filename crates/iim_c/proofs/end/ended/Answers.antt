@@ -7,13 +7,13 @@ use Rattle.iim_c.proofs.end.ended.Goals as goal
 
 pub returns-in-Some : goal.returns-in-Some
 returns-in-Some c =
-    let b = begun c.tickets_tell_one_place.ensures c.no_envelope_is_empty.ensures c.admitted_octets_are_framed.ensures c.args.limits c.args.ticket.now c.args.at c.in-Ok.unpacker c.in-Ok.ensures.begun in
+    let b = begun c.place_laws.ensures.tickets_tell_one_place c.place_laws.ensures.no_envelope_is_empty c.place_laws.ensures.admitted_octets_are_framed c.args.limits c.args.ticket.now c.args.at c.in-Ok.unpacker c.in-Ok.ensures.begun in
     ended_short c.args.limits c.args.ticket.now c.args.at c.in-Ok.unpacker c.in-Some.refusal c.refusal_answer.result b c.in-Some.ensures.truncated
     (λ done. let h = c.in-Some.ensures.done done in cc) c.refusal_answer.ensures
 
 pub returns : goal.returns
 returns c =
-    let b = begun c.tickets_tell_one_place.ensures c.no_envelope_is_empty.ensures c.admitted_octets_are_framed.ensures c.args.limits c.args.ticket.now c.args.at c.in-Ok.unpacker c.in-Ok.ensures.begun in
+    let b = begun c.place_laws.ensures.tickets_tell_one_place c.place_laws.ensures.no_envelope_is_empty c.place_laws.ensures.admitted_octets_are_framed c.args.limits c.args.ticket.now c.args.at c.in-Ok.unpacker c.in-Ok.ensures.begun in
     ended_whole c.args.limits c.args.ticket.now c.args.at c.in-Ok.unpacker _ b
     (λ p a stands. let t = c.in-None.ensures.truncated p a stands in let h = t.1 in cc)
     (ap (λ (a : IimAnswer). record a { octet = c.octets.result }) c.status_answer.ensures ∙ ap (λ (n : ℕ). record (status_answer status.done) { octet = n }) c.octets.ensures)

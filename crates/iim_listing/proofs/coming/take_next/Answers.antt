@@ -30,7 +30,7 @@ pub feeding-smaller : goal.feeding-smaller
 feeding-smaller g c =
     let out = take_out g.met.S.StorySink.joined c.feeding.invariant.taken c.in-Ok.ensures.told in
     let more = more_of c.in-Ok-More.field-0-is (c.in-Ok-More.ensures.fed c.feeding.invariant.alive) in
-    fewer_left c.open_octets_are_bounded.ensures g.met.S.StorySink.joined c.gifts_join.ensures c.delivery_may_be_cut.ensures out more
+    fewer_left c.place_laws.ensures.open_octets_are_bounded g.met.S.StorySink.joined c.gifts_join.ensures c.delivery_may_be_cut.ensures out more
 
 pub feeding-preserved : goal.feeding-preserved
 feeding-preserved g c =

@@ -22,7 +22,7 @@ taken : (g : Over) (c : In-Envelope g) {source : Device} {first : Narrator _ _}
     → (t : IsTelling g.W.Target.state g.E.Target.state first source (in_line g.R.Source.state c.args.intake.now) c.args.narrator.now c.args.count)
     → TextIsTaken t.narrated (in_line g.R.Source.state c.take_next.new.intake) c.take_next.new.unpacker c.take_next.new.sink c.in-Envelope.octets
 taken g c t =
-    text_taken c.envelopes_are_delivered_as_lines.ensures c.lines_are_joined_by_line_feeds.ensures c.texts_join.ensures t.narrated (in_line g.R.Source.state c.take_next.new.intake) c.take_next.new.unpacker c.take_next.new.sink
+    text_taken c.envelopes_are_delivered_as_lines.ensures c.story_laws.ensures.lines_are_joined_by_line_feeds c.texts_join.ensures t.narrated (in_line g.R.Source.state c.take_next.new.intake) c.take_next.new.unpacker c.take_next.new.sink
     c.in_ok-octets.field-0 c.in-Envelope.octets c.in-Envelope.is c.in_ok-octets.ensures.next
 
 refusal : (g : Over) (c : In-Refused g) → IsRefusal (TellsOn g.W.Target.state g.E.Target.state) (in_line g.R.Source.state c.args.intake.now) (in_line g.R.Source.state c.take_next.new.intake) c.args.narrator.now c.take_next.new.sink c.in-Refused.refusal

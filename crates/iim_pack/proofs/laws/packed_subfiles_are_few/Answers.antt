@@ -2,4 +2,4 @@ use Rattle.iim_pack.proofs.Ones.{few_subfiles}
 use Rattle.iim_pack.proofs.laws.packed_subfiles_are_few.Goals as goal
 
 pub returns : goal.returns
-returns c = few_subfiles c.subfiles_are_few.ensures
+returns c = few_subfiles c.object_laws.ensures.subfiles_are_few

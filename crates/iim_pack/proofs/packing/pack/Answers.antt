@@ -26,14 +26,14 @@ returns-in-Err-put_lines-clause-fault g c =
 
 pub returns-in-Ok-finish-clause-ok : goal.returns-in-Ok-finish-clause-ok
 returns-in-Ok-finish-clause-ok g c =
-    let again = lines_again c.packed_lines_are_a_text.ensures c.texts_are_delivered_as_lines.ensures c.texts_are_collected_as_lines.ensures c.args.lines.now.lines c.put_lines.ensures.made in
+    let again = lines_again c.story_laws.ensures.packed_lines_are_a_text c.texts_are_delivered_as_lines.ensures c.story_laws.ensures.texts_are_collected_as_lines c.args.lines.now.lines c.put_lines.ensures.made in
     packs g.W.Target.state c.args.writer c.in-Ok-finish.writer c.args.envelope.now c.args.head.now c.args.lines.now.lines c.args.trailer.now c.args.plan c.in-Ok.packer c.put_lines.new.packer c.texts_join.ensures again
     c.in-Ok.ensures.ok c.in-Ok-put_lines.ensures.ok c.in-Ok-finish.ensures.ok
 
 pub returns-in-Err-finish-clause-fault : goal.returns-in-Err-finish-clause-fault
 returns-in-Err-finish-clause-fault g c =
     let lines : List (List ℕ) = c.args.lines.now.lines in
-    let again = lines_again c.packed_lines_are_a_text.ensures c.texts_are_delivered_as_lines.ensures c.texts_are_collected_as_lines.ensures lines c.put_lines.ensures.made in
+    let again = lines_again c.story_laws.ensures.packed_lines_are_a_text c.texts_are_delivered_as_lines.ensures c.story_laws.ensures.texts_are_collected_as_lines lines c.put_lines.ensures.made in
     let may = may_pack c.lines_are_packed_as_their_events.ensures c.args.head.now lines c.args.trailer.now c.args.plan (sym {b = pack_cause c.args.head.now lines c.args.trailer.now c.args.plan} c.pack_cause.ensures ∙ c.in_default.is) in
     let none = may_finish g.W.Target.state c.args.writer c.args.envelope.now c.args.head.now lines c.args.trailer.now c.args.plan c.in-Ok.packer c.put_lines.new.packer may c.in-Ok.ensures.ok c.in-Ok-put_lines.ensures.ok in
     let broke = of_none (finish_cause c.put_lines.new.packer c.args.trailer.now) _ none c.in-Err-finish.ensures.broke in

@@ -2,4 +2,4 @@ use Rattle.iim_unpack.proofs.Made.{readers_make}
 use Rattle.iim_unpack.proofs.laws.readers_make_unpackers.Goals as goal
 
 pub returns : goal.returns
-returns c = readers_make c.lower_laws.ensures c.limits_are_told_by_place.ensures c.readers_tell_sizes.ensures
+returns c = readers_make c.lower_laws.ensures c.place_laws.ensures.limits_are_told_by_place c.readers_tell_sizes.ensures

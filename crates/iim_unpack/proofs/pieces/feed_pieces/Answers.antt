@@ -14,7 +14,7 @@ pub returns-in_err-feed-clause-refused : goal.returns-in_err-feed-clause-refused
 returns-in_err-feed-clause-refused g c =
     let goes = g.S.StorySink.goes in
     let limits = limits_in c.args.unpacker.now in
-    let laws : CountLaws = record { cut = c.delivery_may_be_cut.ensures; open_bounded = c.open_octets_are_bounded.ensures; envelope_bounded = c.envelopes_are_bounded.ensures; were_open = c.refused_octets_were_open.ensures } in
+    let laws : CountLaws = record { cut = c.delivery_may_be_cut.ensures; open_bounded = c.place_laws.ensures.open_octets_are_bounded; envelope_bounded = c.place_laws.ensures.envelopes_are_bounded; were_open = c.place_laws.ensures.refused_octets_were_open } in
     let low : AreLow limits = record { octets = c.stands_somewhere.ensures.octets; fields = c.stands_somewhere.ensures.fields } in
     let none : Bor (List ℕ) = record { ref_ptr = (0, 0); now = [] } in
     let ps = c.args.pieces.now in
@@ -28,7 +28,7 @@ pub loop-piece-preserved : goal.loop-piece-preserved
 loop-piece-preserved g c =
     let goes = g.S.StorySink.goes in
     let limits = limits_in c.args.unpacker.now in
-    let laws : CountLaws = record { cut = c.delivery_may_be_cut.ensures; open_bounded = c.open_octets_are_bounded.ensures; envelope_bounded = c.envelopes_are_bounded.ensures; were_open = c.refused_octets_were_open.ensures } in
+    let laws : CountLaws = record { cut = c.delivery_may_be_cut.ensures; open_bounded = c.place_laws.ensures.open_octets_are_bounded; envelope_bounded = c.place_laws.ensures.envelopes_are_bounded; were_open = c.place_laws.ensures.refused_octets_were_open } in
     let low : AreLow limits = record { octets = c.stands_somewhere.ensures.octets; fields = c.stands_somewhere.ensures.fields } in
     let none : Bor (List ℕ) = record { ref_ptr = (0, 0); now = [] } in
     let ps = c.args.pieces.now in

@@ -3,5 +3,5 @@ use Rattle.wire_message.proofs.laws.canonical_objects_are_messages.Goals as goal
 
 pub returns : goal.returns
 returns c head lines trailer is_head make is_trailer =
-    let packed = c.packed_lines_are_a_text.ensures lines make in
+    let packed = c.story_laws.ensures.packed_lines_are_a_text lines make in
     (canonical_message head lines trailer is_head packed is_trailer, packed)

@@ -44,7 +44,7 @@ returns-then-rest-fault-eq-ETX-clause-ended g c = λ ended trailer none.
       told = (
         take fault.taken rest,
         e.told,
-        ends_at c.texts_end_in_no_return.ensures c.stories_live_as_texts_so_far.ensures c.args.head.now c.args.text.now trailer rest fault.taken fault.cause none e.before
+        ends_at c.story_laws.ensures.texts_end_in_no_return c.story_laws.ensures.stories_live_as_texts_so_far c.args.head.now c.args.text.now trailer rest fault.taken fault.cause none e.before
             control c.if-rest-fault-eq-ETX.true e.refused,
       );
       calm = uncounted fault.cause _ _ control e.counted;
@@ -71,12 +71,12 @@ returns-else-is_control-clause-stops g c =
     record {
       within = e.before;
       refused = subst (λ (cause : MessageCause). Refuses (Some (Text h c.args.text.now)) rest (record { taken = fault.taken; cause = cause })) same
-          (refuses_at c.stories_live_as_texts_so_far.ensures c.stories_end_as_texts.ensures c.texts_end_in_no_return.ensures c.texts_so_far_have_one_reading.ensures
+          (refuses_at c.story_laws.ensures.stories_live_as_texts_so_far c.story_laws.ensures.stories_end_as_texts c.story_laws.ensures.texts_end_in_no_return c.story_laws.ensures.texts_so_far_have_one_reading
           h c.args.text.now rest fault.taken fault.cause (c.type_inv.rest fault.taken).fits other e.refused);
       told = (
         take fault.taken rest,
         e.told,
-        stops_somewhere c.stories_live_as_texts_so_far.ensures h c.args.text.now (take fault.taken rest) (slice_index rest fault.taken) fault.cause e.refused,
+        stops_somewhere c.story_laws.ensures.stories_live_as_texts_so_far h c.args.text.now (take fault.taken rest) (slice_index rest fault.taken) fault.cause e.refused,
       );
       counted = subst (CountsCause _ _) same (counted_as fault.cause _ _ e.counted);
     }

@@ -12,7 +12,7 @@ unwrap-requires c =
     let d : Dataset = record { rec = c.in-Some-next.rec; set = c.in-Some-next.set; octets = c.in-Some-next.octets.now } in
     let same : limit_passed c.args.limits c.totals-octets.result.0 c.totals-octets.result.1 ≡ passed_by c.args.limits c.args.envelope.now =
     λ i. limit_passed c.args.limits (c.totals-octets.ensures i).0 (c.totals-octets.ensures i).1 in
-    takes c.datasets_of_envelopes_are_added.ensures c.args.limits c.loop-rec.builder.limits c.args.envelope.now c.loop-rec.builder.fields (rest_of c.next.new.self) d c.add.result
+    takes c.record_laws.ensures.datasets_of_envelopes_are_added c.args.limits c.loop-rec.builder.limits c.args.envelope.now c.loop-rec.builder.fields (rest_of c.next.new.self) d c.add.result
     c.fields-rest.ensures.envelope (sym same ∙ (sym c.passed.ensures ∙ c.in_default.is)) (c.loop-rec.invariant.limits ∙ ap (λ (b : Building). b.limits) c.in_ok-builder.ensures.empty)
     (ap (λ (ds : List Dataset). c.loop-rec.builder.fields ++ ds) (sym c.in-Some-next.ensures.steps) ∙ (c.loop-rec.invariant.parts ∙ c.fields-rest.ensures.fields))
     c.add.ensures.fault

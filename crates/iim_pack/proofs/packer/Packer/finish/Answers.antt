@@ -24,7 +24,7 @@ returns-in-Ok-clause-ok g c =
     let octets : c.unwrap-tail.result.items ≡ packed_tail trailer = subst (λ o. IfSome o (λ tail. tail.items ≡ packed_tail trailer)) c.unwrap-tail.ensures c.tail_text.ensures.octets in
     let may = may_end old.plan (object.total_of old) trailer (rw (c.plan.ensures, c.total.ensures.total) at (sym c.ending_cause.ensures ∙ c.in_default.is)) in
     let ends : Ends state old (packed_tail trailer) c.in-Ok.writer = subst (λ (t : List ℕ). Ends state old t c.in-Ok.writer) (c.as_slice.ensures.value ∙ octets) c.in-Ok.ensures.ok in
-    subst (λ k. Finishes state k trailer c.in-Ok.writer) c.self.view_is (finished state c.self.inside.before old trailer c.in-Ok.writer c.events_are_packed_as_lines.ensures c.canonical_objects_are_messages.ensures may ends)
+    subst (λ k. Finishes state k trailer c.in-Ok.writer) c.self.view_is (finished state c.self.inside.before old trailer c.in-Ok.writer c.story_laws.ensures.events_are_packed_as_lines c.canonical_objects_are_messages.ensures may ends)
 
 pub returns-in-Err-clause-broke : goal.returns-in-Err-clause-broke
 returns-in-Err-clause-broke g c =
@@ -36,7 +36,7 @@ returns-in-Err-clause-broke g c =
     subst (λ (t : List ℕ). object.BreaksOff state (EndsWithTail old.plan t) old c.in-Err.object) (c.as_slice.ensures.value ∙ octets) c.in-Err.ensures.broke in
     if_none (finish_cause c.args.self trailer) _
     (subst (λ k. BreaksOff state (EndsIn trailer) k (record { before = c.self.inside.before; object = c.in-Err.object })) c.self.view_is
-    (unfinished state c.self.inside.before old c.in-Err.object trailer c.events_are_packed_as_lines.ensures broke))
+    (unfinished state c.self.inside.before old c.in-Err.object trailer c.story_laws.ensures.events_are_packed_as_lines broke))
 
 pub returns-in-Ok-clause-begun : goal.returns-in-Ok-clause-begun
 returns-in-Ok-clause-begun g c = begun_ends g.W.Target.state c.args.self c.args.trailer.now c.in-Ok.writer c.texts_join.ensures (returns-in-Ok-clause-ok g c)

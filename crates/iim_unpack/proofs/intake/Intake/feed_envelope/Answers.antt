@@ -23,7 +23,7 @@ feeding-smaller g c =
     let here = somewhere c.args.unpacker.now c.requires.ready c.stands_somewhere.ensures.stood in
     let more = more_of c.in-Ok-More.field-0-is (c.in-Ok-More.ensures.fed c.feeding.invariant.alive) in
     smaller c.feeding.used c.raised-used.result c.in-Ok-More.more c.raised-used.ensures more.0
-    (fed_few c.open_octets_are_bounded.ensures on
+    (fed_few c.place_laws.ensures.open_octets_are_bounded on
     (subst (λ (l : Limits). l.octets < 4294967296) (sym on.limits) c.stands_somewhere.ensures.octets) (subst (λ (l : Limits). l.fields < 4294967296) (sym on.limits) c.stands_somewhere.ensures.fields) here.0 here.1 here.2)
 
 pub feeding-preserved : goal.feeding-preserved

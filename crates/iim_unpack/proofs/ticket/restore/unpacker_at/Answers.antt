@@ -22,7 +22,7 @@ at_place-requires c =
     let made : IsMadeFor at.place at.leads.numbers c.args.limits c.args.at u =
     made_for s r at c.args.limits c.args.at u refl refl refl refl refl refl c.in_ok-fields.ensures.stands c.in_ok-fields.ensures.limits in
     let ticket = split_octets s in
-    (c.readers_make_unpackers.ensures at.place c.args.limits c.args.at u ticket (ticket_at c.places_are_possible_by_layers.ensures c.small_places_were_possible.ensures ticket s at.place (record { form = c.requires.form; spelled = refl }) at.parts at.leads c.requires.readers.small)
+    (c.readers_make_unpackers.ensures at.place c.args.limits c.args.at u ticket (ticket_at c.place_laws.ensures.places_are_possible_by_layers c.place_laws.ensures.small_places_were_possible ticket s at.place (record { form = c.requires.form; spelled = refl }) at.parts at.leads c.requires.readers.small)
     (heads_within c.args.limits s r at c.requires.within) at.leads made at.some_object at.some_message).0
 
 pub returns-clause-restored : goal.returns-clause-restored
@@ -34,5 +34,5 @@ returns-clause-restored c ticket splits =
     let made : IsMadeFor at.place at.leads.numbers c.args.limits c.args.at u =
     made_for s r at c.args.limits c.args.at u refl refl refl refl refl refl c.in_ok-fields.ensures.stands c.in_ok-fields.ensures.limits in
     subst (λ (v : Unpacking). IsRestored c.args.limits ticket c.args.at v) (sym c.at_place.ensures)
-    (c.readers_make_unpackers.ensures at.place c.args.limits c.args.at u ticket (ticket_at c.places_are_possible_by_layers.ensures c.small_places_were_possible.ensures ticket s at.place splits at.parts at.leads c.requires.readers.small)
+    (c.readers_make_unpackers.ensures at.place c.args.limits c.args.at u ticket (ticket_at c.place_laws.ensures.places_are_possible_by_layers c.place_laws.ensures.small_places_were_possible ticket s at.place splits at.parts at.leads c.requires.readers.small)
     (heads_within c.args.limits s r at c.requires.within) at.leads made at.some_object at.some_message).1

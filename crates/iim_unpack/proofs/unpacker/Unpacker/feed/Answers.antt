@@ -62,7 +62,7 @@ returns-in-Err-clause-refused g c =
     let h = c.in-Err.ensures in
     let halt = c.in-Err.halt in
     let octet : IsOctet (slice_index c.args.piece.now halt.taken) = omega (arith, c.type_inv.piece halt.taken) in
-    let r = refused_in g.S.StorySink.goes g.S.StorySink.failures c.lower_laws.ensures c.refusals_tell_the_lowest_cause.ensures u c.args.piece.now halt.taken halt.fault c.args.sink.now c.advance.new.sink c.refusal_at.result h.before octet
+    let r = refused_in g.S.StorySink.goes g.S.StorySink.failures c.lower_laws.ensures c.place_laws.ensures.refusals_tell_the_lowest_cause u c.args.piece.now halt.taken halt.fault c.args.sink.now c.advance.new.sink c.refusal_at.result h.before octet
     (c.refusal_at.ensures ∙ ap (λ (n : ℕ). refusal_at n halt.fault) c.raised-octet.ensures) h.fails in
     (r.0, r.1, λ p a at. subst (λ (w : Unpacking). IsRefusedIn (limits_in w) p a c.args.piece.now r.0 c.refusal_at.result) c.self.view_is (r.2 p a (subst (λ (w : Unpacking). Stands w p a) (sym c.self.view_is) at)))
 

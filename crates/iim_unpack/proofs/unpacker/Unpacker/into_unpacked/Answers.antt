@@ -30,4 +30,4 @@ pub returns-clause-value : goal.returns-clause-value
 returns-clause-value c =
     let i = c.self.inside in
     let u : Unpacking = record { reader = i.reader; parts = i.parts; octets = i.octets; begun = i.begun; refused = i.refused } in
-    λ p a at. hands_over c.lower_laws.ensures c.admitted_octets_have_one_value.ensures u p a _ (subst (λ (w : Unpacking). IsDoneWith w p a) (sym c.self.view_is) at) (sym c.head.ensures ∙ (ap (option_map (λ h. h.now)) c.in-Some.is ∙ ap Some (sym c.copied-head.ensures))) (c.in-Ok.ensures.ok ∙ ap (λ (xs : List ℕ). xs ++ c.trailer.result.now) c.new-trailer.ensures ∙ c.trailer.ensures) c.sizes-sizes.ensures.records c.in-Ok-into_envelope.ensures.envelope
+    λ p a at. hands_over c.lower_laws.ensures c.place_laws.ensures.admitted_octets_have_one_value u p a _ (subst (λ (w : Unpacking). IsDoneWith w p a) (sym c.self.view_is) at) (sym c.head.ensures ∙ (ap (option_map (λ h. h.now)) c.in-Some.is ∙ ap Some (sym c.copied-head.ensures))) (c.in-Ok.ensures.ok ∙ ap (λ (xs : List ℕ). xs ++ c.trailer.result.now) c.new-trailer.ensures ∙ c.trailer.ensures) c.sizes-sizes.ensures.records c.in-Ok-into_envelope.ensures.envelope

@@ -23,5 +23,5 @@ pub returns-clause-value : goal.returns-clause-value
 returns-clause-value c =
     let i = c.self.inside in
     let u : Unpacking = record { reader = i.reader; parts = i.parts; octets = i.octets; begun = i.begun; refused = i.refused } in
-    λ p a at. shows c.lower_laws.ensures c.admitted_octets_have_one_value.ensures u p a _ (subst (λ (w : Unpacking). IsDoneWith w p a) (sym c.self.view_is) at)
+    λ p a at. shows c.lower_laws.ensures c.place_laws.ensures.admitted_octets_have_one_value u p a _ (subst (λ (w : Unpacking). IsDoneWith w p a) (sym c.self.view_is) at)
     (sym c.head.ensures ∙ ap (option_map (λ h. h.now)) c.in-Some.is) c.trailer.ensures c.sizes.ensures.records c.in-Some-envelope.ensures.envelope

@@ -1,5 +1,0 @@
-use Rattle.iim_places.proofs.Admitted.{one_value}
-use Rattle.iim_places.proofs.laws.admitted_octets_have_one_value.Goals as goal
-
-pub returns : goal.returns
-returns c = one_value c.no_dataset_begins_another.ensures c.no_sections_begin_others.ensures c.sizes_are_determined.ensures c.messages_have_one_reading.ensures c.texts_have_one_reading.ensures

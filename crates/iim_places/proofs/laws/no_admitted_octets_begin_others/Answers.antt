@@ -1,5 +1,0 @@
-use Rattle.iim_places.proofs.Admitted.{no_others}
-use Rattle.iim_places.proofs.laws.no_admitted_octets_begin_others.Goals as goal
-
-pub returns : goal.returns
-returns c = no_others c.no_dataset_begins_another.ensures c.no_sections_begin_others.ensures

@@ -1,5 +1,0 @@
-use Rattle.iim_script.proofs.Whole.{is_script}
-use Rattle.iim_script.proofs.laws.printed_values_are_scripts.Goals as goal
-
-pub returns : goal.returns
-returns c = is_script c.datasets_of_envelopes_are_added.ensures
