@@ -1,19 +1,23 @@
 -- What some of the octets that are left do at a place.
-use Rattle.std.proofs.Common.{◌≡◌, ℕ, ◌+◌, ◌<◌, ◌≤◌, Bool, true, ◌&&◌, ◌||◌, ◌==◌, nat_lt, length, slice_index, List, [], ◌∷◌, ◌++◌, refl, sym, ap, subst, ◌∙◌, arith}
+use Rattle.std.proofs.Common.{◌≡◌, ℕ, ◌+◌, ◌<◌, Bool, true, ◌&&◌, ◌||◌, ◌==◌, nat_lt, length, slice_index, List, [], ◌∷◌, ◌++◌, refl, sym, subst, arith}
 use Rattle.std.proofs.lemmas.Bool.{and_parts, or_right, eqb-true, ltb-true}
 use Rattle.std.proofs.lemmas.List.{take_more}
 use Rattle.arrayvec.specs.ArrayVec.{ArrayVec}
 use Rattle.wire_story.specs.declared.reader.TextReader.{TextReader}
 use Rattle.wire_story.specs.States.Reading as story
-use Rattle.iim_dataset.specs.Format.Octets.{is_digit}
-use Rattle.wire_message.specs.Format.Fields.{IsField, is_alphanumeric, is_filler_octet, max_filler, max_category, max_words}
+use Rattle.wire_message.specs.Format.Fields.{is_filler_octet, max_filler}
 use Rattle.wire_message.specs.Format.Messages.{Header, IsHeader, IsTrailer}
 use Rattle.wire_message.specs.States.SoFar.{IsPlace, Spells, StoryStands}
 use Rattle.wire_message.specs.Steps.{AddsNoText, TakesSome}
+use Rattle.wire_message.specs.States.HeaderSoFar.{text_of, IsHeaderSoFar}
+use Rattle.wire_message.specs.Parts.{ends, begins}
+use Rattle.wire_message.specs.declared.part.HeaderPart.{HeaderPart}
+use Rattle.wire_message.specs.declared.part.HeaderTexts.{HeaderTexts}
 use Rattle.wire_message.specs.declared.place.Place.{Place}
-use Rattle.wire_message.specs.declared.place.Place.TheVariants.{Category, Words, Info, Gap, Text, Trailer, AfterEnd}
-use Rattle.wire_message.proofs.Machine.{of, begun, gap_leads_on}
-use Rattle.wire_message.proofs.Transitions.{field_from, field_none, category_space, words_space, words_gap, info_gap, gap_more, gap_stx, trailer_eot, end_more, one_is}
+use Rattle.wire_message.specs.declared.place.Place.TheVariants.{InHeader, Info, Gap, Text, Trailer, AfterEnd}
+use Rattle.wire_message.proofs.Machine.{gap_leads_on}
+use Rattle.wire_message.proofs.Transitions.{info_gap, gap_more, gap_stx, trailer_eot, end_more, one_is}
+use Rattle.wire_message.proofs.HeaderParts.{next_is, next_spells, next_story}
 
 -- one octet leads from a place to another
 pub takes_one : (p q : Place) (rest : List ℕ) → 0 < length rest → IsPlace q
@@ -27,15 +31,11 @@ takes_one p q rest some i adds tells = record {
   story = tells;
 }
 
-pub words_to_gap : (s n p c w v : ArrayVec ℕ) (h : Header) (rest : List ℕ) (feed : Bool) → 0 < length rest → v ≡ w → h ≡ begun s n p c v → IsHeader h
-    → is_filler_octet (slice_index rest 0) ≡ true → feed ≡ (slice_index rest 0 == 10) → TakesSome (Words s n p c w) rest (Gap h 1 feed) 1
-words_to_gap s n p c w v h rest feed some same head i fills e =
-    takes_one (Words s n p c w) (Gap h 1 feed) rest some (i, omega arith, omega arith, or_right feed true refl)
-    (λ before text l.
-    subst (λ (f : Bool). Spells (before ++ (slice_index rest 0 ∷ [])) text (Gap h 1 f)) (sym e)
-    (subst (λ (k : Header). Spells (before ++ (slice_index rest 0 ∷ [])) text (Gap k 1 (slice_index rest 0 == 10))) (sym (head ∙ ap (begun s n p c) same))
-    (words_gap before text s n p c w (slice_index rest 0) fills l)))
-    (λ text l. l)
+pub part_ends : (part : HeaderPart) (t : HeaderTexts) (rest : List ℕ) → 0 < length rest → IsHeaderSoFar part t → ends part (slice_index rest 0) ≡ true → 0 < length (text_of part t)
+    → TakesSome (InHeader part t) rest (begins part (slice_index rest 0) t) 1
+part_ends part t rest some i on full =
+    let b = slice_index rest 0 in
+    takes_one (InHeader part t) (begins part b t) rest some (next_is part b t i on full) (λ before text l. next_spells part b t before text i on l) (λ text none. next_story part b t text none)
 
 pub info_to_gap : (h k : Header) (rest : List ℕ) (feed : Bool) → 0 < length rest → k ≡ h → IsHeader h
     → is_filler_octet (slice_index rest 0) ≡ true → feed ≡ (slice_index rest 0 == 10) → TakesSome (Info h) rest (Gap k 1 feed) 1
@@ -85,19 +85,3 @@ end_on h t k rest some i on =
     takes_one (AfterEnd h t k) (AfterEnd h t (k + 1)) rest some (i.0, i.1, omega (arith, lt))
     (λ before text l. end_more before text (b ∷ []) h t k (one_is is_filler_octet b fill.0) (omega (arith, lt)) l)
     (λ text l. l)
-
-pub category_ends : (s n p c w : ArrayVec ℕ) (rest : List ℕ) → 0 < length rest → IsPlace (Category s n p c) → w.items ≡ []
-    → (slice_index rest 0 == 32 && nat_lt 0 (length c.items)) ≡ true → TakesSome (Category s n p c) rest (Words s n p c w) 1
-category_ends s n p c w rest some i none on =
-    let ends = and_parts (slice_index rest 0 == 32) (nat_lt 0 (length c.items)) on in
-    let full = field_from is_alphanumeric 1 max_category c.items i.3 (ltb-true 0 (length c.items) ends.1) in
-    let fresh = subst (IsField is_digit 0 max_words) (sym none) (field_none is_digit max_words) in
-    takes_one (Category s n p c) (Words s n p c w) rest some (i.0, i.1, i.2, full, fresh) (λ before text l.
-    subst (λ (b : ℕ). Spells (before ++ (b ∷ [])) text (Words s n p c w)) (sym (eqb-true (slice_index rest 0) 32 ends.0))
-    (subst (λ (xs : List ℕ). Spells (before ++ (32 ∷ [])) text (Words s n p c (of xs))) (sym none) (category_space before text s n p c l))) (λ text l. l)
-
-pub words_to_info : (s n p c w : ArrayVec ℕ) (h : Header) (rest : List ℕ) → 0 < length rest → h ≡ begun s n p c w → IsHeader h
-    → slice_index rest 0 ≡ 32 → TakesSome (Words s n p c w) rest (Info h) 1
-words_to_info s n p c w h rest some head i space =
-    takes_one (Words s n p c w) (Info h) rest some i (λ before text l. subst (λ (b : ℕ). Spells (before ++ (b ∷ [])) text (Info h)) (sym space)
-    (subst (λ (k : Header). Spells (before ++ (32 ∷ [])) text (Info k)) (sym head) (words_space before text s n p c w l))) (λ text l. l)

@@ -4,6 +4,7 @@ pub mod Packed
 pub mod Machine
 pub mod Runs
 pub mod Transitions
+pub mod HeaderParts
 pub mod Alive
 pub mod Stops
 pub mod Goings

@@ -1,3 +1,4 @@
+pub mod HeaderSoFar
 pub mod SoFar
 pub mod Reading
 pub mod Saved

@@ -7,10 +7,7 @@ ghost use Rattle.wire_message.specs.Parts.{EndsPart, BeginsTrailer, EndsTrailer}
 ghost use Rattle.wire_message.specs.Steps.{DiesWith, TakesSome, IsNoText};
 
 use crate::place::Place;
-use crate::step::{
-    after_category, after_filler, after_number, after_priority, after_source, after_words,
-    in_priority,
-};
+use crate::step::{after_filler, after_part};
 use crate::tail::{after_gap, after_info, after_trailer};
 use crate::whole::after;
 use arrayvec::ArrayVec;
@@ -28,27 +25,7 @@ fn next_part(place: Place, rest: &[u8]) -> Option<Place>
 {
     match place {
         Place::Filler { count } => after_filler(count, rest),
-        Place::Source { source } => after_source(source, rest),
-        Place::Number { source, number } => after_number(source, number, rest),
-        Place::Priority { source, number } => in_priority(source, number, rest),
-        Place::PriorityRead {
-            source,
-            number,
-            priority,
-        } => after_priority(source, number, priority, rest),
-        Place::Category {
-            source,
-            number,
-            priority,
-            category,
-        } => after_category(source, number, priority, category, rest),
-        Place::Words {
-            source,
-            number,
-            priority,
-            category,
-            words,
-        } => after_words(source, number, priority, category, words, rest),
+        Place::InHeader { part, texts } => after_part(part, texts, rest),
         Place::Info { head } => after_info(head, rest),
         Place::Gap {
             head,

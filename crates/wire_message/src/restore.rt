@@ -1,19 +1,21 @@
 //! How a saved place is put back: by the parts that it has, and then by whether it is the place that is saved so.
 
-ghost use Rattle.std.specs.Prelude.{◌≡◌, ◌≤◌, ◌↔◌, ◌||◌, nat_lt, IsTrue, IsSome, IfSome};
+ghost use Rattle.std.specs.Prelude.{◌≡◌, ◌≤◌, ◌↔◌, ◌||◌, nat_lt, length, IsTrue, IsSome, IfSome};
 ghost use Rattle.wire_message.specs.declared.place.Place.{Place};
 ghost use Rattle.wire_message.specs.declared.saved.MessagePart.TheVariants as part;
-ghost use Rattle.wire_message.specs.Format.Fields.{IsField, max_filler, max_source, max_number, max_priority};
-ghost use Rattle.iim_dataset.specs.Format.Octets.{is_digit, is_letter};
+ghost use Rattle.wire_message.specs.Classes.{is_in_class};
+ghost use Rattle.wire_message.specs.Format.Fields.{max_filler, max_source, max_number, max_priority, max_category, max_words};
+ghost use Rattle.wire_message.specs.States.HeaderSoFar.{is_octet_of, most_of, begun_before, IsPart, IsHeaderSoFar};
 ghost use Rattle.wire_message.specs.Format.Messages.{IsHeader};
 ghost use Rattle.wire_message.specs.States.SoFar.{IsPlace};
 ghost use Rattle.wire_message.specs.States.Saved.{saved};
-ghost use Rattle.wire_message.specs.Restoring.{head_in, IsOnly};
+ghost use Rattle.wire_message.specs.Restoring.{head_in, texts_in, restored, IsOnly};
 
 use crate::class::Class;
 use crate::field::{is_field, kept};
 use crate::head::MessageHead;
 use crate::lengths::{MAX_CATEGORY, MAX_FILLER, MAX_NUMBER, MAX_PRIORITY, MAX_SOURCE, MAX_WORDS};
+use crate::part::{HeaderPart, HeaderTexts};
 use crate::place::Place;
 use crate::save::save;
 use crate::saved::{MessagePart, MessagePlace};
@@ -28,20 +30,84 @@ fn is_filler(count: u8) -> bool
     count <= MAX_FILLER
 }
 
-/// Whether there may be such a source and number.
-fn is_numbered(place: &MessagePlace) -> bool
-    ensures { IsTrue result ↔
-        IsField is_letter 1 max_source place.now.source.items × IsField is_digit 1 max_number place.now.number.items }
+/// The class of the octets of a part.
+fn class_of(part: HeaderPart) -> Class
+    ensures { is_in_class result ≡ is_octet_of part }
 {
-    is_field(Class::Letter, 1, MAX_SOURCE, &place.source)
-        && is_field(Class::Digit, 1, MAX_NUMBER, &place.number)
+    match part {
+        HeaderPart::Source => Class::Letter,
+        HeaderPart::Category => Class::Alphanumeric,
+        _ => Class::Digit,
+    }
 }
 
-/// Whether there may be such a priority.
-fn is_priority(place: &MessagePlace) -> bool
-    ensures { IsTrue result ↔ IsField is_digit 1 max_priority place.now.priority.items }
+/// How many octets a part has at most.
+fn most_of(part: HeaderPart) -> usize
+    ensures { result ≡ most_of part }
 {
-    is_field(Class::Digit, 1, MAX_PRIORITY, &place.priority)
+    match part {
+        HeaderPart::Source => MAX_SOURCE,
+        HeaderPart::Number => MAX_NUMBER,
+        HeaderPart::Priority => MAX_PRIORITY,
+        HeaderPart::Category => MAX_CATEGORY,
+        HeaderPart::Words => MAX_WORDS,
+    }
+}
+
+/// How many parts have an octet while this one is being read.
+fn begun_before(part: HeaderPart) -> u8
+    ensures { result ≡ begun_before part }
+{
+    match part {
+        HeaderPart::Number => 2,
+        _ => part as u8,
+    }
+}
+
+/// Whether a part may be so while another, or the same, is being read.
+fn is_part(part: HeaderPart, at: HeaderPart, octets: &[u8]) -> bool
+    ensures { IsTrue result ↔ IsPart part at octets.now }
+{
+    let least = if (at as u8) < begun_before(part) {
+        1
+    } else {
+        0
+    };
+    let most = if (part as u8) < (at as u8) {
+        0
+    } else {
+        most_of(at)
+    };
+    is_field(class_of(at), least, most, octets)
+}
+
+/// Whether there may be such parts while this one is being read.
+fn is_header_so_far(part: HeaderPart, place: &MessagePlace) -> bool
+    ensures { IsTrue result ↔ IsHeaderSoFar part (texts_in place.now) }
+{
+    is_part(part, HeaderPart::Source, &place.source)
+        && is_part(part, HeaderPart::Number, &place.number)
+        && is_part(part, HeaderPart::Priority, &place.priority)
+        && is_part(part, HeaderPart::Category, &place.category)
+        && is_part(part, HeaderPart::Words, &place.words)
+}
+
+/// The parts of a header so far.
+fn texts_in(place: &MessagePlace) -> HeaderTexts
+    requires source { length place.now.source.items ≤ max_source }
+    requires number { length place.now.number.items ≤ max_number }
+    requires priority { length place.now.priority.items ≤ max_priority }
+    requires category { length place.now.category.items ≤ max_category }
+    requires words { length place.now.words.items ≤ max_words }
+    ensures { result ≡ texts_in place.now }
+{
+    HeaderTexts {
+        source: kept(&place.source),
+        number: kept(&place.number),
+        priority: kept(&place.priority),
+        category: kept(&place.category),
+        words: kept(&place.words),
+    }
 }
 
 /// Whether STX can still come after `count` octets of a gap, an LF among them or not.
@@ -80,100 +146,15 @@ fn in_filler(place: &MessagePlace) -> Option<Place>
     None
 }
 
-/// A place in the source.
-fn in_source(place: &MessagePlace) -> Option<Place>
-    requires { place.now.part ≡ part.Source }
+/// A place in a part of the header.
+fn in_header(part: HeaderPart, place: &MessagePlace) -> Option<Place>
+    requires { restored place.now.part place.now ≡ Place.InHeader part (texts_in place.now) }
     ensures place { IfSome result IsPlace }
     ensures only { IsOnly result place.now }
 {
-    if is_field(Class::Letter, 0, MAX_SOURCE, &place.source) {
-        return Some(Place::Source {
-            source: kept(&place.source),
-        });
-    }
-    None
-}
-
-/// A place in the number.
-fn in_number(place: &MessagePlace) -> Option<Place>
-    requires { place.now.part ≡ part.Number }
-    ensures place { IfSome result IsPlace }
-    ensures only { IsOnly result place.now }
-{
-    if is_numbered(place) {
-        return Some(Place::Number {
-            source: kept(&place.source),
-            number: kept(&place.number),
-        });
-    }
-    None
-}
-
-/// A place before the priority.
-fn before_priority(place: &MessagePlace) -> Option<Place>
-    requires { place.now.part ≡ part.Priority }
-    ensures place { IfSome result IsPlace }
-    ensures only { IsOnly result place.now }
-{
-    if is_numbered(place) {
-        return Some(Place::Priority {
-            source: kept(&place.source),
-            number: kept(&place.number),
-        });
-    }
-    None
-}
-
-/// A place after the priority.
-fn after_priority(place: &MessagePlace) -> Option<Place>
-    requires { place.now.part ≡ part.PriorityRead }
-    ensures place { IfSome result IsPlace }
-    ensures only { IsOnly result place.now }
-{
-    if is_numbered(place) && is_priority(place) {
-        return Some(Place::PriorityRead {
-            source: kept(&place.source),
-            number: kept(&place.number),
-            priority: kept(&place.priority),
-        });
-    }
-    None
-}
-
-/// A place in the category.
-fn in_category(place: &MessagePlace) -> Option<Place>
-    requires { place.now.part ≡ part.Category }
-    ensures place { IfSome result IsPlace }
-    ensures only { IsOnly result place.now }
-{
-    let is_octets = is_field(Class::Alphanumeric, 0, MAX_CATEGORY, &place.category);
-    if is_numbered(place) && is_priority(place) && is_octets {
-        return Some(Place::Category {
-            source: kept(&place.source),
-            number: kept(&place.number),
-            priority: kept(&place.priority),
-            category: kept(&place.category),
-        });
-    }
-    None
-}
-
-/// A place in the words.
-fn in_words(place: &MessagePlace) -> Option<Place>
-    requires { place.now.part ≡ part.Words }
-    ensures place { IfSome result IsPlace }
-    ensures only { IsOnly result place.now }
-{
-    let is_category = is_field(Class::Alphanumeric, 1, MAX_CATEGORY, &place.category);
-    let is_digits = is_field(Class::Digit, 0, MAX_WORDS, &place.words);
-    if is_numbered(place) && is_priority(place) && is_category && is_digits {
-        return Some(Place::Words {
-            source: kept(&place.source),
-            number: kept(&place.number),
-            priority: kept(&place.priority),
-            category: kept(&place.category),
-            words: kept(&place.words),
-        });
+    if is_header_so_far(part, place) {
+        let texts = texts_in(place);
+        return Some(Place::InHeader { part, texts });
     }
     None
 }
@@ -258,12 +239,12 @@ fn candidate(place: &MessagePlace) -> Option<Place>
 {
     match place.part {
         MessagePart::Filler => in_filler(place),
-        MessagePart::Source => in_source(place),
-        MessagePart::Number => in_number(place),
-        MessagePart::Priority => before_priority(place),
-        MessagePart::PriorityRead => after_priority(place),
-        MessagePart::Category => in_category(place),
-        MessagePart::Words => in_words(place),
+        MessagePart::Source => in_header(HeaderPart::Source, place),
+        MessagePart::Number => in_header(HeaderPart::Number, place),
+        MessagePart::Priority => in_header(HeaderPart::Priority, place),
+        MessagePart::PriorityRead => in_header(HeaderPart::Priority, place),
+        MessagePart::Category => in_header(HeaderPart::Category, place),
+        MessagePart::Words => in_header(HeaderPart::Words, place),
         MessagePart::Info => in_info(place),
         MessagePart::Gap => in_gap(place),
         MessagePart::Text => in_text(place),
