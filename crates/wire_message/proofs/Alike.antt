@@ -1,5 +1,5 @@
 -- From the same place the same octets lead on alike.
-use Rattle.std.proofs.Common.{◌≡◌, ℕ, ◌+◌, ◌<◌, ◌≤◌, Bool, true, false, ◌&&◌, ◌||◌, ◌==◌, cond, nat_lt, List, [], ◌∷◌, ◌++◌, length, Option, Some, None, refl, sym, subst, ◌∙◌, arith, append_assoc, append-nil}
+use Rattle.std.proofs.Common.{◌≡◌, ℕ, ◌+◌, ◌<◌, ◌≤◌, Bool, true, false, ◌&&◌, ◌||◌, ◌==◌, nat_lt, List, [], ◌∷◌, ◌++◌, length, Option, Some, None, refl, sym, subst, ◌∙◌, arith, append_assoc, append-nil}
 use Rattle.std.proofs.lemmas.Bool.{and_parts, or_right, eqb-true, ltb-true}
 use Rattle.std.proofs.lemmas.List.{append_cancel_left}
 use Rattle.std.proofs.lemmas.Option.{same_Some}
@@ -12,10 +12,10 @@ use Rattle.wire_message.specs.Format.Fields.{IsField, is_info_octet, is_trailer_
 use Rattle.wire_message.specs.Format.Messages.{Header, IsHeader}
 use Rattle.wire_message.specs.States.SoFar.{IsPlace, Spells, StoryStands, LeadsTo}
 use Rattle.wire_message.specs.Laws.Messages.{OctetsLeadOnAlike}
-use Rattle.wire_message.specs.States.HeaderSoFar.{is_octet_of, most_of, text_of, begun}
+use Rattle.wire_message.specs.States.HeaderSoFar.{is_octet_of, most_of, text_of}
 use Rattle.wire_message.specs.Parts.{ends, begins}
 use Rattle.wire_message.specs.declared.part.HeaderPart.{HeaderPart}
-use Rattle.wire_message.specs.declared.part.HeaderPart.TheVariants.{Source, Number, Priority, Category, Words}
+use Rattle.wire_message.specs.declared.part.HeaderPart.TheVariants.{Source}
 use Rattle.wire_message.specs.declared.part.HeaderTexts.{HeaderTexts}
 use Rattle.wire_message.specs.declared.place.Place.{Place}
 use Rattle.wire_message.specs.declared.place.Place.TheVariants.{Filler, InHeader, Info, Gap, Text, Trailer, AfterEnd}
@@ -83,16 +83,9 @@ from_filler k b q e = chosen (Continues (Filler k) (b ∷ [])) _ _ _ q e
     (λ t. quiet_at (Filler k) (InHeader Source no_texts) b 1 t (λ xs text s. record { bare = no_texts_yet; spelled = filler_soh xs text k s.spelled }))
     (no_place (Continues (Filler k) (b ∷ [])) q))
 
-begins_bare_words : (t : Bool) (p q : Place) → (IsPlace p → IsBare p) → (IsPlace q → IsBare q) → IsPlace (cond t p q) → IsBare (cond t p q)
-begins_bare_words true p q f g i = f i
-begins_bare_words false p q f g i = g i
-
-begins_bare : (part : HeaderPart) (b : ℕ) (t : HeaderTexts) → IsPlace (begins part b t) → IsBare (begins part b t)
-begins_bare Source b t i = i
-begins_bare Number b t i = i
-begins_bare Priority b t i = i
-begins_bare Category b t i = i
-begins_bare Words b t i = begins_bare_words (b == 32) (Info (begun t)) (Gap (begun t) 1 (b == 10)) (λ j. j) (λ j. j) i
+bare_of : (p : Place) → IsPlace p → IsBare p
+bare_of (Text h reader) i = i.0
+bare_of p i = i
 
 from_part : (part : HeaderPart) (t : HeaderTexts) (b : ℕ) (q : Place) → next (InHeader part t) b ≡ Some q → Continues (InHeader part t) (b ∷ []) q
 from_part part t b q e = chosen (Continues (InHeader part t) (b ∷ [])) _ _ _ q e
@@ -108,7 +101,7 @@ from_part part t b q e = chosen (Continues (InHeader part t) (b ∷ [])) _ _ _ q
     let parts = and_parts (ends part b) (nat_lt 0 (length (text_of part t))) on in
     let some : 0 < length (text_of part t) = ltb-true 0 (length (text_of part t)) parts.1 in
     quiet (InHeader part t) (begins part b t) (b ∷ []) (λ xs text at. record {
-      bare = begins_bare part b t (next_is part b t at.bare parts.0 some);
+      bare = bare_of (begins part b t) (next_is part b t at.bare parts.0 some);
       spelled = next_spells part b t xs text at.bare parts.0 at.spelled;
     }))
     (no_place (Continues (InHeader part t) (b ∷ [])) q))

@@ -54,20 +54,13 @@ completes_gap xs text h k false i low high on l =
 completes_info : (xs text : List ℕ) (h : Header) → IsHeader h → Spells xs text (Info h) → Completes xs
 completes_info xs text h i l = then xs 10 (fed (xs ++ (10 ∷ [])) text h 1 i (omega arith) (omega arith) (info_gap xs text h 10 refl l))
 
--- an octet of a part
-abbrev sample : HeaderPart → ℕ
-sample Source = 65
-sample Number = 49
-sample Priority = 49
-sample Category = 65
-sample Words = 49
-
-sample_is : (part : HeaderPart) → (Are (is_octet_of part) (sample part ∷ [])) × (1 ≤ most_of part)
-sample_is Source = (refl, omega arith)
-sample_is Number = (refl, omega arith)
-sample_is Priority = (refl, omega arith)
-sample_is Category = (refl, omega arith)
-sample_is Words = (refl, omega arith)
+-- a part may have an octet
+sample : (part : HeaderPart) → (b : ℕ) × Are (is_octet_of part) (b ∷ []) × (1 ≤ most_of part)
+sample Source = (65, refl, omega arith)
+sample Number = (49, refl, omega arith)
+sample Priority = (49, refl, omega arith)
+sample Category = (65, refl, omega arith)
+sample Words = (49, refl, omega arith)
 
 text_put : (part : HeaderPart) (t : HeaderTexts) (xs : List ℕ) → text_of part (put part xs t) ≡ xs
 text_put Source t xs = refl
@@ -76,55 +69,50 @@ text_put Priority t xs = refl
 text_put Category t xs = refl
 text_put Words t xs = refl
 
--- where the octet that ends a part comes, once the part has octets
-abbrev Ended : HeaderPart → Type 0
-Ended part = (xs text : List ℕ) (t : HeaderTexts) → IsHeaderSoFar part t → 0 < length (text_of part t) → Spells xs text (InHeader part t) → Completes xs
+abbrev FromAll : (HeaderTexts → Place) → Type 0
+FromAll at = (xs text : List ℕ) (t : HeaderTexts) → IsPlace (at t) → Spells xs text (at t) → Completes xs
 
--- an octet comes first, where the part has none
-completes_part : (part : HeaderPart) → Ended part → (xs text : List ℕ) (t : HeaderTexts) → IsHeaderSoFar part t → Spells xs text (InHeader part t) → Completes xs
-completes_part part ended xs text t i l = elim (cases_lt 0 (length (text_of part t))) [
-  | inl some ↦ ended xs text t i some l
+-- once a part has an octet, the one that ends it comes
+ended : (part : HeaderPart) (b : ℕ) → ends part b ≡ true → FromAll (begins part b)
+    → (xs text : List ℕ) (t : HeaderTexts) → IsHeaderSoFar part t → 0 < length (text_of part t) → Spells xs text (InHeader part t) → Completes xs
+ended part b on more xs text t i some l = then xs b (more (xs ++ (b ∷ [])) text t (next_is part b t i on some) (next_spells part b t xs text i on l))
+
+completes_part : (part : HeaderPart) (b : ℕ) → ends part b ≡ true → FromAll (begins part b) → FromAll (λ t. InHeader part t)
+completes_part part b on more xs text t i l = elim (cases_lt 0 (length (text_of part t))) [
+  | inl some ↦ ended part b on more xs text t i some l
   | inr few ↦
-      let b : ℕ = sample part in
-      let long : List ℕ = text_of part t ++ (b ∷ []) in
-      let size : length long ≡ length (text_of part t) + 1 = length-append (text_of part t) (b ∷ []) in
-      then xs b (ended (xs ++ (b ∷ [])) text (put part long t) (longer_is part t (b ∷ []) i (sample_is part).0 (omega (arith, (sample_is part).1, few)))
-      (omega (arith, ap length (text_put part t long), size)) (longer_spells part t xs text (b ∷ []) l))
+      let one = sample part in
+      let long : List ℕ = text_of part t ++ (one.0 ∷ []) in
+      let size : length long ≡ length (text_of part t) + 1 = length-append (text_of part t) (one.0 ∷ []) in
+      then xs one.0 (ended part b on more (xs ++ (one.0 ∷ [])) text (put part long t) (longer_is part t (one.0 ∷ []) i one.1 (omega (arith, one.2, few)))
+      (omega (arith, ap length (text_put part t long), size)) (longer_spells part t xs text (one.0 ∷ []) l))
 ]
 
--- the next part comes
-ends_with : (part : HeaderPart) (b : ℕ) (xs text : List ℕ) (t : HeaderTexts) → ends part b ≡ true → IsHeaderSoFar part t → 0 < length (text_of part t) → Spells xs text (InHeader part t)
-    → ((ys : List ℕ) → IsPlace (begins part b t) → Spells ys text (begins part b t) → Completes ys) → Completes xs
-ends_with part b xs text t on i some l more = then xs b (more (xs ++ (b ∷ [])) (next_is part b t i on some) (next_spells part b t xs text i on l))
+completes_words : FromAll (λ t. InHeader Words t)
+completes_words = completes_part Words 32 refl (λ xs text t i l. completes_info xs text (begun t) i l)
 
-ended_words : Ended Words
-ended_words xs text t i some l = ends_with Words 32 xs text t refl i some l (λ ys j m. completes_info ys text (begun t) j m)
+completes_category : FromAll (λ t. InHeader Category t)
+completes_category = completes_part Category 32 refl completes_words
 
-ended_category : Ended Category
-ended_category xs text t i some l = ends_with Category 32 xs text t refl i some l (λ ys j m. completes_part Words ended_words ys text t j m)
+completes_priority : FromAll (λ t. InHeader Priority t)
+completes_priority = completes_part Priority 32 refl completes_category
 
-ended_priority : Ended Priority
-ended_priority xs text t i some l = ends_with Priority 32 xs text t refl i some l (λ ys j m. completes_part Category ended_category ys text t j m)
+completes_number : FromAll (λ t. InHeader Number t)
+completes_number = completes_part Number 32 refl completes_priority
 
-ended_number : Ended Number
-ended_number xs text t i some l = ends_with Number 32 xs text t refl i some l (λ ys j m. completes_part Priority ended_priority ys text t j m)
-
-ended_source : Ended Source
-ended_source xs text t i some l = ends_with Source 49 xs text t refl i some l (λ ys j m. completes_part Number ended_number ys text (put Number (49 ∷ []) t) j m)
-
-ended : (part : HeaderPart) → Ended part
-ended Source = ended_source
-ended Number = ended_number
-ended Priority = ended_priority
-ended Category = ended_category
-ended Words = ended_words
+completes_source : FromAll (λ t. InHeader Source t)
+completes_source = completes_part Source 49 refl (λ xs text t i l. completes_number xs text (put Number (49 ∷ []) t) i l)
 
 pub no_texts_yet : IsHeaderSoFar Source no_texts
 no_texts_yet = (field_none is_letter max_source, field_none is_digit 0, field_none is_digit 0, field_none is_alphanumeric 0, field_none is_digit 0)
 
 pub completes : (xs text : List ℕ) (p : Place) → IsPlace p → Spells xs text p → Completes xs
-completes xs text (Filler k) i l = then xs 1 (completes_part Source ended_source (xs ++ (1 ∷ [])) text no_texts no_texts_yet (filler_soh xs text k l))
-completes xs text (InHeader part t) i l = completes_part part (ended part) xs text t i l
+completes xs text (Filler k) i l = then xs 1 (completes_source (xs ++ (1 ∷ [])) text no_texts no_texts_yet (filler_soh xs text k l))
+completes xs text (InHeader Source t) i l = completes_source xs text t i l
+completes xs text (InHeader Number t) i l = completes_number xs text t i l
+completes xs text (InHeader Priority t) i l = completes_priority xs text t i l
+completes xs text (InHeader Category t) i l = completes_category xs text t i l
+completes xs text (InHeader Words t) i l = completes_words xs text t i l
 completes xs text (Info h) i l = completes_info xs text h i l
 completes xs text (Gap h k feed) i l = completes_gap xs text h k feed i.0 i.1 i.2 i.3 l
 completes xs text (Text h reader) i l = completes_text xs text h i.0 l

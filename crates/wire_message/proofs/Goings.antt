@@ -31,11 +31,16 @@ takes_one p q rest some i adds tells = record {
   story = tells;
 }
 
-pub part_ends : (part : HeaderPart) (t : HeaderTexts) (rest : List ℕ) → 0 < length rest → IsHeaderSoFar part t → ends part (slice_index rest 0) ≡ true → 0 < length (text_of part t)
-    → TakesSome (InHeader part t) rest (begins part (slice_index rest 0) t) 1
-part_ends part t rest some i on full =
+pub part_ends : (part : HeaderPart) (t : HeaderTexts) (p q : Place) (rest : List ℕ) → 0 < length rest → p ≡ InHeader part t → q ≡ begins part (slice_index rest 0) t → IsPlace p
+    → (ends part (slice_index rest 0) && nat_lt 0 (length (text_of part t))) ≡ true → TakesSome p rest q 1
+part_ends part t p q rest some is goes i on =
     let b = slice_index rest 0 in
-    takes_one (InHeader part t) (begins part b t) rest some (next_is part b t i on full) (λ before text l. next_spells part b t before text i on l) (λ text none. next_story part b t text none)
+    let at : IsHeaderSoFar part t = subst IsPlace is i in
+    let parts = and_parts (ends part b) (nat_lt 0 (length (text_of part t))) on in
+    subst (λ (u : Place). TakesSome u rest q 1) (sym is)
+    (subst (λ (u : Place). TakesSome (InHeader part t) rest u 1) (sym goes)
+    (takes_one (InHeader part t) (begins part b t) rest some (next_is part b t at parts.0 (ltb-true 0 (length (text_of part t)) parts.1))
+    (λ before text l. next_spells part b t before text at parts.0 l) (λ text none. next_story part b t text none)))
 
 pub info_to_gap : (h k : Header) (rest : List ℕ) (feed : Bool) → 0 < length rest → k ≡ h → IsHeader h
     → is_filler_octet (slice_index rest 0) ≡ true → feed ≡ (slice_index rest 0 == 10) → TakesSome (Info h) rest (Gap k 1 feed) 1

@@ -1,19 +1,13 @@
--- How a part gets longer: by octets of filler that are counted, or by the longest run of its own.
-use Rattle.std.proofs.Common.{◌≡◌, ℕ, ◌+◌, ◌<◌, ◌≤◌, Bool, true, false, ◌&&◌, ◌||◌, ◌==◌, nat_lt, length, length-take, take, slice_index, List, [], ◌++◌, sym, ap, subst, ◌∙◌, arith, append-nil}
+-- An octet of filler lengthens a part where the octets are counted, or it ends it.
+use Rattle.std.proofs.Common.{◌≡◌, ℕ, ◌+◌, ◌<◌, ◌≤◌, Bool, true, false, ◌&&◌, ◌||◌, ◌==◌, nat_lt, length, slice_index, List, sym, ap, subst, arith}
 use Rattle.arrayvec.specs.ArrayVec.{ArrayVec}
-use Rattle.wire_message.specs.Format.Fields.{Are, is_filler_octet, max_filler}
+use Rattle.wire_message.specs.Format.Fields.{is_filler_octet, max_filler}
 use Rattle.wire_message.specs.Format.Messages.{Header}
-use Rattle.wire_message.specs.States.SoFar.{IsPlace, Spells}
-use Rattle.wire_message.specs.States.HeaderSoFar.{is_octet_of, most_of, text_of, IsHeaderSoFar}
+use Rattle.wire_message.specs.States.SoFar.{IsPlace}
 use Rattle.wire_message.specs.Steps.{TakesSome}
 use Rattle.wire_message.specs.Parts.{EndsPart, TakesInPart, lengthens_gap}
-use Rattle.wire_message.specs.declared.part.HeaderPart.{HeaderPart}
-use Rattle.wire_message.specs.declared.part.HeaderPart.TheVariants.{Source, Number, Priority, Category, Words}
-use Rattle.wire_message.specs.declared.part.HeaderTexts.{HeaderTexts}
 use Rattle.wire_message.specs.declared.place.Place.{Place}
-use Rattle.wire_message.specs.declared.place.Place.TheVariants.{InHeader, Gap, AfterEnd}
-use Rattle.wire_message.proofs.Machine.{put}
-use Rattle.wire_message.proofs.HeaderParts.{longer_is, longer_spells}
+use Rattle.wire_message.specs.declared.place.Place.TheVariants.{Gap, AfterEnd}
 use Rattle.wire_message.proofs.Goings.{gap_on, end_on}
 
 -- one octet or none
@@ -41,26 +35,3 @@ gap_longer h k m feed now rest n some i one on ends e fed same =
     one_longer (Gap h k feed) (Gap h m now) rest n one
     (λ p. counted (λ j. Gap h j now) (λ q. TakesSome (Gap h k feed) rest q 1) k m n 1 e p (gap_on h k feed now rest some i (on p) (fed p)))
     (λ none. let a : m ≡ k = omega arith in let b = same none in cc) ends
-
-put_same : (part : HeaderPart) (t : HeaderTexts) → put part (text_of part t ++ []) t ≡ t
-put_same Source t = ap (λ (xs : List ℕ). put Source xs t) (append-nil t.source.items)
-put_same Number t = ap (λ (xs : List ℕ). put Number xs t) (append-nil t.number.items)
-put_same Priority t = ap (λ (xs : List ℕ). put Priority xs t) (append-nil t.priority.items)
-put_same Category t = ap (λ (xs : List ℕ). put Category xs t) (append-nil t.category.items)
-put_same Words t = ap (λ (xs : List ℕ). put Words xs t) (append-nil t.words.items)
-
-pub part_longer : (part : HeaderPart) (t u : HeaderTexts) (rest : List ℕ) (n : ℕ) → IsHeaderSoFar part t → n ≤ length rest → Are (is_octet_of part) (take n rest)
-    → u ≡ put part (text_of part t ++ take n rest) t → length (text_of part t) + n ≤ most_of part
-    → (n < length rest → length (text_of part t) + n < most_of part → is_octet_of part (slice_index rest n) ≡ false) → 0 < length rest
-    → TakesInPart (InHeader part t) rest (InHeader part u) n
-part_longer part t u rest n i within are e fits longest any = record {
-  takes = λ more. record {
-    some = more;
-    within = within;
-    is_place = subst (IsHeaderSoFar part) (sym e) (longer_is part t (take n rest) i are (omega (arith, fits, length-take n rest)));
-    adds = λ before text l. subst (λ (v : HeaderTexts). Spells (before ++ take n rest) text (InHeader part v)) (sym e) (longer_spells part t before text (take n rest) l);
-    story = λ text none. none;
-  };
-  same = λ none. ap (λ (v : HeaderTexts). InHeader part v) (e ∙ subst (λ (k : ℕ). put part (text_of part t ++ take k rest) t ≡ t) (sym none) (put_same part t));
-  ends = λ none lt. subst (λ (k : ℕ). is_octet_of part (slice_index rest k) ≡ false) none (longest (omega (arith, any, none)) (omega (arith, lt, none)));
-}

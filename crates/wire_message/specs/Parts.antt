@@ -27,13 +27,11 @@ EndsPart (Trailer h t) octet = length t.items < max_trailer → is_trailer_octet
 EndsPart (AfterEnd h t count) octet = (is_filler_octet octet && nat_lt count max_filler) ≡ false
 EndsPart _ octet = Unit {0}
 
--- The octet ends a part of the header that has octets.
+-- The octet ends a part of the header, once the part has octets.
 abbrev pub ends : HeaderPart → ℕ → Bool
 ends Source octet = is_digit octet
-ends Number octet = octet == sp
-ends Priority octet = octet == sp
-ends Category octet = octet == sp
 ends Words octet = octet == sp || is_filler_octet octet
+ends _ octet = octet == sp
 
 -- the place after the octet that ends a part: the digit that ends the source begins the number, and after the words SP begins the
 -- info, and filler the gap

@@ -51,22 +51,12 @@ fn is_header(
 ) -> bool
     ensures { IsTrue result ↔ IsHeader (header_of source.now number.now priority.now category.now words.now info.now) }
 {
-    if !is_field(Class::Letter, 1, MAX_SOURCE, source) {
-        return false;
-    }
-    if !is_field(Class::Digit, 1, MAX_NUMBER, number) {
-        return false;
-    }
-    if !is_field(Class::Digit, 1, MAX_PRIORITY, priority) {
-        return false;
-    }
-    if !is_field(Class::Alphanumeric, 1, MAX_CATEGORY, category) {
-        return false;
-    }
-    if !is_field(Class::Digit, 1, MAX_WORDS, words) {
-        return false;
-    }
-    is_field(Class::Info, 0, MAX_INFO, info)
+    is_field(Class::Letter, 1, MAX_SOURCE, source)
+        && is_field(Class::Digit, 1, MAX_NUMBER, number)
+        && is_field(Class::Digit, 1, MAX_PRIORITY, priority)
+        && is_field(Class::Alphanumeric, 1, MAX_CATEGORY, category)
+        && is_field(Class::Digit, 1, MAX_WORDS, words)
+        && is_field(Class::Info, 0, MAX_INFO, info)
 }
 
 impl MessageHead {

@@ -1,6 +1,6 @@
 //! The parts of a header that are read before its info, and what has come of them.
 
-ghost use Rattle.std.specs.Prelude.{◌≡◌, []};
+ghost use Rattle.std.specs.Prelude.{◌≡◌};
 ghost use Rattle.wire_message.specs.States.HeaderSoFar.{text_of};
 
 use crate::lengths::{MAX_CATEGORY, MAX_NUMBER, MAX_PRIORITY, MAX_SOURCE, MAX_WORDS};
@@ -27,23 +27,6 @@ pub(crate) struct HeaderTexts {
 }
 
 impl HeaderTexts {
-    /// Nothing has come.
-    pub(crate) fn new() -> HeaderTexts
-        ensures source { result.source.items ≡ [] }
-        ensures number { result.number.items ≡ [] }
-        ensures priority { result.priority.items ≡ [] }
-        ensures category { result.category.items ≡ [] }
-        ensures words { result.words.items ≡ [] }
-    {
-        HeaderTexts {
-            source: ArrayVec::new(),
-            number: ArrayVec::new(),
-            priority: ArrayVec::new(),
-            category: ArrayVec::new(),
-            words: ArrayVec::new(),
-        }
-    }
-
     /// What has come of a part.
     pub(crate) fn of(&self, part: HeaderPart) -> &[u8]
         ensures { result.now ≡ text_of part self.now }

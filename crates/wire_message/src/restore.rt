@@ -1,11 +1,11 @@
 //! How a saved place is put back: by the parts that it has, and then by whether it is the place that is saved so.
 
-ghost use Rattle.std.specs.Prelude.{◌≡◌, ◌≤◌, ◌↔◌, ◌||◌, nat_lt, length, IsTrue, IsSome, IfSome};
+ghost use Rattle.std.specs.Prelude.{◌≡◌, ◌≤◌, ◌↔◌, ◌||◌, nat_lt, IsTrue, IsSome, IfSome};
 ghost use Rattle.wire_message.specs.declared.place.Place.{Place};
 ghost use Rattle.wire_message.specs.declared.saved.MessagePart.TheVariants as part;
 ghost use Rattle.wire_message.specs.Classes.{is_in_class};
-ghost use Rattle.wire_message.specs.Format.Fields.{max_filler, max_source, max_number, max_priority, max_category, max_words};
-ghost use Rattle.wire_message.specs.States.HeaderSoFar.{is_octet_of, most_of, begun_before, IsPart, IsHeaderSoFar};
+ghost use Rattle.wire_message.specs.Format.Fields.{IsField, max_filler};
+ghost use Rattle.wire_message.specs.States.HeaderSoFar.{least_of, room_of, IsHeaderSoFar};
 ghost use Rattle.wire_message.specs.Format.Messages.{IsHeader};
 ghost use Rattle.wire_message.specs.States.SoFar.{IsPlace};
 ghost use Rattle.wire_message.specs.States.Saved.{saved};
@@ -30,84 +30,54 @@ fn is_filler(count: u8) -> bool
     count <= MAX_FILLER
 }
 
-/// The class of the octets of a part.
-fn class_of(part: HeaderPart) -> Class
-    ensures { is_in_class result ≡ is_octet_of part }
+/// Whether the octets may be a part of the header, while another part, or this one, is being read.
+fn is_part(part: HeaderPart, at: HeaderPart, class: Class, most: usize, octets: &[u8]) -> bool
+    ensures { IsTrue result ↔ IsField (is_in_class class) (least_of part at) (room_of part at most) octets.now }
 {
-    match part {
-        HeaderPart::Source => Class::Letter,
-        HeaderPart::Category => Class::Alphanumeric,
-        _ => Class::Digit,
-    }
-}
-
-/// How many octets a part has at most.
-fn most_of(part: HeaderPart) -> usize
-    ensures { result ≡ most_of part }
-{
-    match part {
-        HeaderPart::Source => MAX_SOURCE,
-        HeaderPart::Number => MAX_NUMBER,
-        HeaderPart::Priority => MAX_PRIORITY,
-        HeaderPart::Category => MAX_CATEGORY,
-        HeaderPart::Words => MAX_WORDS,
-    }
-}
-
-/// How many parts have an octet while this one is being read.
-fn begun_before(part: HeaderPart) -> u8
-    ensures { result ≡ begun_before part }
-{
-    match part {
+    let begun = match part {
         HeaderPart::Number => 2,
         _ => part as u8,
-    }
-}
-
-/// Whether a part may be so while another, or the same, is being read.
-fn is_part(part: HeaderPart, at: HeaderPart, octets: &[u8]) -> bool
-    ensures { IsTrue result ↔ IsPart part at octets.now }
-{
-    let least = if (at as u8) < begun_before(part) {
-        1
-    } else {
-        0
     };
-    let most = if (part as u8) < (at as u8) {
-        0
-    } else {
-        most_of(at)
-    };
-    is_field(class_of(at), least, most, octets)
+    let least = usize::from((at as u8) < begun);
+    let most = if (part as u8) < (at as u8) { 0 } else { most };
+    is_field(class, least, most, octets)
 }
 
 /// Whether there may be such parts while this one is being read.
 fn is_header_so_far(part: HeaderPart, place: &MessagePlace) -> bool
     ensures { IsTrue result ↔ IsHeaderSoFar part (texts_in place.now) }
 {
-    is_part(part, HeaderPart::Source, &place.source)
-        && is_part(part, HeaderPart::Number, &place.number)
-        && is_part(part, HeaderPart::Priority, &place.priority)
-        && is_part(part, HeaderPart::Category, &place.category)
-        && is_part(part, HeaderPart::Words, &place.words)
-}
-
-/// The parts of a header so far.
-fn texts_in(place: &MessagePlace) -> HeaderTexts
-    requires source { length place.now.source.items ≤ max_source }
-    requires number { length place.now.number.items ≤ max_number }
-    requires priority { length place.now.priority.items ≤ max_priority }
-    requires category { length place.now.category.items ≤ max_category }
-    requires words { length place.now.words.items ≤ max_words }
-    ensures { result ≡ texts_in place.now }
-{
-    HeaderTexts {
-        source: kept(&place.source),
-        number: kept(&place.number),
-        priority: kept(&place.priority),
-        category: kept(&place.category),
-        words: kept(&place.words),
-    }
+    is_part(
+        part,
+        HeaderPart::Source,
+        Class::Letter,
+        MAX_SOURCE,
+        &place.source,
+    ) && is_part(
+        part,
+        HeaderPart::Number,
+        Class::Digit,
+        MAX_NUMBER,
+        &place.number,
+    ) && is_part(
+        part,
+        HeaderPart::Priority,
+        Class::Digit,
+        MAX_PRIORITY,
+        &place.priority,
+    ) && is_part(
+        part,
+        HeaderPart::Category,
+        Class::Alphanumeric,
+        MAX_CATEGORY,
+        &place.category,
+    ) && is_part(
+        part,
+        HeaderPart::Words,
+        Class::Digit,
+        MAX_WORDS,
+        &place.words,
+    )
 }
 
 /// Whether STX can still come after `count` octets of a gap, an LF among them or not.
@@ -152,11 +122,17 @@ fn in_header(part: HeaderPart, place: &MessagePlace) -> Option<Place>
     ensures place { IfSome result IsPlace }
     ensures only { IsOnly result place.now }
 {
-    if is_header_so_far(part, place) {
-        let texts = texts_in(place);
-        return Some(Place::InHeader { part, texts });
+    if !is_header_so_far(part, place) {
+        return None;
     }
-    None
+    let texts = HeaderTexts {
+        source: kept(&place.source),
+        number: kept(&place.number),
+        priority: kept(&place.priority),
+        category: kept(&place.category),
+        words: kept(&place.words),
+    };
+    Some(Place::InHeader { part, texts })
 }
 
 /// A place in the info.

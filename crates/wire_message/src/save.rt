@@ -4,7 +4,6 @@ ghost use Rattle.std.specs.Prelude.{◌≡◌, ◌≤◌, [], length};
 ghost use Rattle.wire_message.specs.declared.saved.MessagePart.TheVariants as at;
 ghost use Rattle.wire_message.specs.States.SoFar.{IsPlace};
 ghost use Rattle.wire_message.specs.States.Saved.{place_from, place_with_header, saved, saved_part};
-ghost use Rattle.wire_message.specs.Restoring.{IsAfterWords};
 
 use crate::field::kept;
 use crate::head::MessageHead;
@@ -72,13 +71,14 @@ fn headed(part: Part, counter: u8, flag: u8, head: &MessageHead, trailer: &[u8])
     }
 }
 
-/// A place after the words, as it is saved.
-fn save_after_words(place: &Place) -> MessagePlace
-    requires place { IsPlace place.now }
-    requires later { IsAfterWords place.now }
+/// A place as it is saved.
+pub(crate) fn save(place: &Place) -> MessagePlace
+    requires { IsPlace place.now }
     ensures { result ≡ saved place.now }
 {
     match place {
+        Place::Filler { count } => in_filler(*count),
+        Place::InHeader { part, texts } => in_header(*part, texts),
         Place::Info { head } => headed(Part::Info, 0, 0, head, &[]),
         Place::Gap {
             head,
@@ -92,23 +92,5 @@ fn save_after_words(place: &Place) -> MessagePlace
             trailer,
             count,
         } => headed(Part::AfterEnd, *count, 0, head, trailer),
-        Place::Filler { .. } => unreachable!(),
-        Place::InHeader { .. } => unreachable!(),
-    }
-}
-
-/// A place as it is saved.
-pub(crate) fn save(place: &Place) -> MessagePlace
-    requires { IsPlace place.now }
-    ensures { result ≡ saved place.now }
-{
-    match place {
-        Place::Filler { count } => in_filler(*count),
-        Place::InHeader { part, texts } => in_header(*part, texts),
-        Place::Info { .. } => save_after_words(place),
-        Place::Gap { .. } => save_after_words(place),
-        Place::Text { .. } => save_after_words(place),
-        Place::Trailer { .. } => save_after_words(place),
-        Place::AfterEnd { .. } => save_after_words(place),
     }
 }

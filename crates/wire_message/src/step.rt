@@ -1,6 +1,7 @@
 //! The octets that end the filler and the parts of the header, and the part that comes after each.
 
 ghost use Rattle.std.specs.Prelude.{◌≡◌, ◌<◌, ◌&&◌, nat_lt, IfSome, IfNone, length, slice_index};
+ghost use Rattle.std.specs.Option.{unwrap_or};
 ghost use Rattle.wire_message.specs.States.HeaderSoFar.{text_of};
 ghost use Rattle.wire_message.specs.States.SoFar.{IsPlace};
 ghost use Rattle.wire_message.specs.Parts.{EndsPart, ends, begins};
@@ -11,6 +12,7 @@ use crate::field::part_of_one;
 use crate::head::MessageHead;
 use crate::part::{HeaderPart, HeaderTexts};
 use crate::place::Place;
+use arrayvec::ArrayVec;
 use iim_dataset::octets::{LF, SOH, SP};
 
 /// Takes SOH, which ends the filler.
@@ -26,7 +28,13 @@ pub(crate) fn after_filler(count: u8, rest: &[u8]) -> Option<Place>
     if rest[0] == SOH {
         return Some(Place::InHeader {
             part: HeaderPart::Source,
-            texts: HeaderTexts::new(),
+            texts: HeaderTexts {
+                source: ArrayVec::new(),
+                number: ArrayVec::new(),
+                priority: ArrayVec::new(),
+                category: ArrayVec::new(),
+                words: ArrayVec::new(),
+            },
         });
     }
     None
@@ -46,7 +54,7 @@ fn ends(part: HeaderPart, octet: u8) -> bool
 
 /// Whether an octet ends a part of the header, which has octets.
 #[inline(always)]
-fn ends_part(part: HeaderPart, texts: &HeaderTexts, octet: u8) -> bool
+pub(crate) fn ends_part(part: HeaderPart, texts: &HeaderTexts, octet: u8) -> bool
     ensures { result ≡ (ends part octet && nat_lt 0 (length (text_of part texts.now))) }
 {
     ends(part, octet) && !texts.of(part).is_empty()
@@ -68,39 +76,20 @@ fn after_words(texts: &HeaderTexts, octet: u8) -> Place
     }
 }
 
-/// The place after the octet that ends a part of the header.
-fn begin(part: HeaderPart, texts: HeaderTexts, octet: u8) -> Place
-    requires { IsPlace (begins part octet texts) }
-    ensures { result ≡ begins part octet texts }
+/// Begins the part after one that the octet ends, where they lie, or answers the place that comes after the words.
+pub(crate) fn begin_part(part: &mut HeaderPart, texts: &mut HeaderTexts, octet: u8) -> Option<Place>
+    requires { IsPlace (begins part.old octet texts.old) }
+    ensures { unwrap_or result (Place.InHeader part.new texts.new) ≡ begins part.old octet texts.old }
 {
-    let next = match part {
+    match *part {
         HeaderPart::Source => {
-            let number = part_of_one(octet);
-            return Place::InHeader {
-                part: HeaderPart::Number,
-                texts: HeaderTexts { number, ..texts },
-            };
+            texts.number = part_of_one(octet);
+            *part = HeaderPart::Number;
         }
-        HeaderPart::Number => HeaderPart::Priority,
-        HeaderPart::Priority => HeaderPart::Category,
-        HeaderPart::Category => HeaderPart::Words,
-        HeaderPart::Words => return after_words(&texts, octet),
-    };
-    Place::InHeader { part: next, texts }
-}
-
-/// Takes the octet that ends a part of the header.
-#[inline(never)]
-pub(crate) fn after_part(part: HeaderPart, texts: HeaderTexts, rest: &[u8]) -> Option<Place>
-    requires place { IsPlace (Place.InHeader part texts) }
-    requires some { 0 < length rest.now }
-    requires ends { EndsPart (Place.InHeader part texts) (slice_index rest.now 0) }
-    ensures takes { IfSome result (λ next. TakesSome (Place.InHeader part texts) rest.now next 1) }
-    ensures dies { IfNone result (DiesWith (Place.InHeader part texts) (slice_index rest.now 0)) }
-{
-    let octet = rest[0];
-    if ends_part(part, &texts, octet) {
-        return Some(begin(part, texts, octet));
+        HeaderPart::Number => *part = HeaderPart::Priority,
+        HeaderPart::Priority => *part = HeaderPart::Category,
+        HeaderPart::Category => *part = HeaderPart::Words,
+        HeaderPart::Words => return Some(after_words(texts, octet)),
     }
     None
 }

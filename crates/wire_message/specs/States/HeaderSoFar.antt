@@ -21,10 +21,8 @@ rank Words = 4
 -- the octets that it is made of
 abbrev pub is_octet_of : HeaderPart → ℕ → Bool
 is_octet_of Source = is_letter
-is_octet_of Number = is_digit
-is_octet_of Priority = is_digit
 is_octet_of Category = is_alphanumeric
-is_octet_of Words = is_digit
+is_octet_of _ = is_digit
 
 -- how many of them it has at most
 abbrev pub most_of : HeaderPart → ℕ
@@ -44,22 +42,22 @@ text_of Words t = t.words.items
 
 -- ---- the parts, while one of them is being read
 
--- how many of them have an octet: those before it, and the number as soon as it is being read
-abbrev pub begun_before : HeaderPart → ℕ
-begun_before Number = 2
-begun_before part = rank part
+-- how many octets the part `at` has at least: one before the part that is being read, and one in a number, which its first digit begins
+abbrev pub least_of : HeaderPart → HeaderPart → ℕ
+least_of Number at = if nat_lt (rank at) 2 then 1 else 0
+least_of part at = if nat_lt (rank at) (rank part) then 1 else 0
 
--- A part before the one that is being read is whole, and a part after it is empty.
-abbrev pub IsPart : HeaderPart → HeaderPart → List ℕ → Type 0
-IsPart part at xs = IsField (is_octet_of at)
-    (if nat_lt (rank at) (begun_before part) then 1 else 0)
-    (if nat_lt (rank part) (rank at) then 0 else most_of at)
-    xs
+-- and at most: none after the part that is being read
+abbrev pub room_of : HeaderPart → HeaderPart → ℕ → ℕ
+room_of part at most = if nat_lt (rank part) (rank at) then 0 else most
 
 -- The parts are what may have come of a header.
 abbrev pub IsHeaderSoFar : HeaderPart → HeaderTexts → Type 0
-IsHeaderSoFar part t = IsPart part Source t.source.items × IsPart part Number t.number.items × IsPart part Priority t.priority.items
-    × IsPart part Category t.category.items × IsPart part Words t.words.items
+IsHeaderSoFar part t = IsField is_letter (least_of part Source) (room_of part Source max_source) t.source.items
+    × IsField is_digit (least_of part Number) (room_of part Number max_number) t.number.items
+    × IsField is_digit (least_of part Priority) (room_of part Priority max_priority) t.priority.items
+    × IsField is_alphanumeric (least_of part Category) (room_of part Category max_category) t.category.items
+    × IsField is_digit (least_of part Words) (room_of part Words max_words) t.words.items
 
 -- the header of the parts, its info empty so far
 abbrev pub begun : HeaderTexts → Header

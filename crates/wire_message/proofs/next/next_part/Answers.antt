@@ -14,9 +14,6 @@ as_part octet next is dies = subst (λ (p : Place). IfNone next (DiesWith p octe
 pub returns-in-Filler-clause-dies : goal.returns-in-Filler-clause-dies
 returns-in-Filler-clause-dies c = as_part (slice_index c.args.rest.now 0) c.after_filler.result c.in-Filler.is c.after_filler.ensures.dies
 
-pub returns-in-InHeader-clause-dies : goal.returns-in-InHeader-clause-dies
-returns-in-InHeader-clause-dies c = as_part (slice_index c.args.rest.now 0) c.after_part.result c.in-InHeader.is c.after_part.ensures.dies
-
 pub returns-in-Info-clause-dies : goal.returns-in-Info-clause-dies
 returns-in-Info-clause-dies c = as_part (slice_index c.args.rest.now 0) c.after_info.result c.in-Info.is c.after_info.ensures.dies
 
