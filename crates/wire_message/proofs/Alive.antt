@@ -10,7 +10,7 @@ use Rattle.iim_dataset.specs.Format.Octets.{is_digit, is_letter}
 use Rattle.wire_message.specs.Format.Messages.{Header, IsHeader, IsMessage, IsTrailer}
 use Rattle.wire_message.specs.Format.Layers.{MessageLanguage, MessageLivesWith, MessageDiesAt}
 use Rattle.wire_message.specs.States.SoFar.{IsPlace, Spells}
-use Rattle.wire_message.specs.States.HeaderSoFar.{is_octet_of, most_of, text_of, IsHeaderSoFar, begun}
+use Rattle.wire_message.specs.States.HeaderSoFar.{is_octet_of, most_of, text_of, begun}
 use Rattle.wire_message.specs.Parts.{ends, begins}
 use Rattle.wire_message.specs.declared.part.HeaderPart.{HeaderPart}
 use Rattle.wire_message.specs.declared.part.HeaderPart.TheVariants.{Source, Number, Priority, Category, Words}
@@ -74,7 +74,7 @@ FromAll at = (xs text : List ℕ) (t : HeaderTexts) → IsPlace (at t) → Spell
 
 -- once a part has an octet, the one that ends it comes
 ended : (part : HeaderPart) (b : ℕ) → ends part b ≡ true → FromAll (begins part b)
-    → (xs text : List ℕ) (t : HeaderTexts) → IsHeaderSoFar part t → 0 < length (text_of part t) → Spells xs text (InHeader part t) → Completes xs
+    → (xs text : List ℕ) (t : HeaderTexts) → IsPlace (InHeader part t) → 0 < length (text_of part t) → Spells xs text (InHeader part t) → Completes xs
 ended part b on more xs text t i some l = then xs b (more (xs ++ (b ∷ [])) text t (next_is part b t i on some) (next_spells part b t xs text i on l))
 
 completes_part : (part : HeaderPart) (b : ℕ) → ends part b ≡ true → FromAll (begins part b) → FromAll (λ t. InHeader part t)
@@ -103,7 +103,7 @@ completes_number = completes_part Number 32 refl completes_priority
 completes_source : FromAll (λ t. InHeader Source t)
 completes_source = completes_part Source 49 refl (λ xs text t i l. completes_number xs text (put Number (49 ∷ []) t) i l)
 
-pub no_texts_yet : IsHeaderSoFar Source no_texts
+pub no_texts_yet : IsPlace (InHeader Source no_texts)
 no_texts_yet = (field_none is_letter max_source, field_none is_digit 0, field_none is_digit 0, field_none is_alphanumeric 0, field_none is_digit 0)
 
 pub completes : (xs text : List ℕ) (p : Place) → IsPlace p → Spells xs text p → Completes xs

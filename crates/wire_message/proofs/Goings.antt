@@ -9,7 +9,7 @@ use Rattle.wire_message.specs.Format.Fields.{is_filler_octet, max_filler}
 use Rattle.wire_message.specs.Format.Messages.{Header, IsHeader, IsTrailer}
 use Rattle.wire_message.specs.States.SoFar.{IsPlace, Spells, StoryStands}
 use Rattle.wire_message.specs.Steps.{AddsNoText, TakesSome}
-use Rattle.wire_message.specs.States.HeaderSoFar.{text_of, IsHeaderSoFar}
+use Rattle.wire_message.specs.States.HeaderSoFar.{text_of}
 use Rattle.wire_message.specs.Parts.{ends, begins}
 use Rattle.wire_message.specs.declared.part.HeaderPart.{HeaderPart}
 use Rattle.wire_message.specs.declared.part.HeaderTexts.{HeaderTexts}
@@ -35,7 +35,7 @@ pub part_ends : (part : HeaderPart) (t : HeaderTexts) (p q : Place) (rest : List
     → (ends part (slice_index rest 0) && nat_lt 0 (length (text_of part t))) ≡ true → TakesSome p rest q 1
 part_ends part t p q rest some is goes i on =
     let b = slice_index rest 0 in
-    let at : IsHeaderSoFar part t = subst IsPlace is i in
+    let at : IsPlace (InHeader part t) = subst IsPlace is i in
     let parts = and_parts (ends part b) (nat_lt 0 (length (text_of part t))) on in
     subst (λ (u : Place). TakesSome u rest q 1) (sym is)
     (subst (λ (u : Place). TakesSome (InHeader part t) rest u 1) (sym goes)

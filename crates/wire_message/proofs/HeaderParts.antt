@@ -3,7 +3,7 @@ use Rattle.std.proofs.Common.{◌≡◌, ℕ, ◌+◌, ◌<◌, ◌≤◌, Bool,
 use Rattle.std.proofs.lemmas.Bool.{or_right, eqb-true}
 use Rattle.iim_dataset.specs.Format.Octets.{is_digit, is_letter}
 use Rattle.wire_message.specs.Format.Fields.{Are, IsField, is_alphanumeric, is_filler_octet, max_source, max_number, max_priority, max_category, max_words}
-use Rattle.wire_message.specs.States.HeaderSoFar.{is_octet_of, most_of, text_of, IsHeaderSoFar, so_far, begun}
+use Rattle.wire_message.specs.States.HeaderSoFar.{is_octet_of, most_of, text_of, so_far, begun}
 use Rattle.wire_message.specs.States.SoFar.{IsPlace, Spells, StoryStands}
 use Rattle.wire_message.specs.Parts.{ends, begins}
 use Rattle.wire_message.specs.declared.part.HeaderPart.{HeaderPart}
@@ -16,8 +16,8 @@ use Rattle.wire_message.proofs.Transitions.{field_more, field_one, field_from, o
 
 -- ---- more octets of a part
 
-pub longer_is : (part : HeaderPart) (t : HeaderTexts) (ys : List ℕ) → IsHeaderSoFar part t → Are (is_octet_of part) ys → length (text_of part t) + length ys ≤ most_of part
-    → IsHeaderSoFar part (put part (text_of part t ++ ys) t)
+pub longer_is : (part : HeaderPart) (t : HeaderTexts) (ys : List ℕ) → IsPlace (InHeader part t) → Are (is_octet_of part) ys → length (text_of part t) + length ys ≤ most_of part
+    → IsPlace (InHeader part (put part (text_of part t ++ ys) t))
 longer_is Source t ys i are le = (field_more is_letter 0 0 max_source t.source.items ys i.0 are le (omega arith), i.1, i.2, i.3, i.4)
 longer_is Number t ys i are le = (i.0, field_more is_digit 1 1 max_number t.number.items ys i.1 are le (omega (arith, i.1.1)), i.2, i.3, i.4)
 longer_is Priority t ys i are le = (i.0, i.1, field_more is_digit 0 0 max_priority t.priority.items ys i.2 are le (omega arith), i.3, i.4)
@@ -48,14 +48,14 @@ none test (b ∷ xs) h = absurd (omega (arith, h.2))
 room : (test : ℕ → Bool) (most : ℕ) (xs : List ℕ) → IsField test 0 0 xs → IsField test 0 most xs
 room test most xs h = (h.0, h.1, omega (arith, h.2))
 
-pub begun_is : (t : HeaderTexts) → IsHeaderSoFar Words t → 0 < length t.words.items → IsPlace (Info (begun t))
+pub begun_is : (t : HeaderTexts) → IsPlace (InHeader Words t) → 0 < length t.words.items → IsPlace (Info (begun t))
 begun_is t i some = record { source = i.0; number = i.1; priority = i.2; category = i.3; words = field_from is_digit 1 max_words t.words.items i.4 some; info = (refl, omega arith, omega arith) }
 
 chosen : (C : Place → Type 0) (t : Bool) (p q : Place) → (t ≡ true → C p) → (t ≡ false → C q) → C (cond t p q)
 chosen C true p q f g = f refl
 chosen C false p q f g = g refl
 
-pub next_is : (part : HeaderPart) (b : ℕ) (t : HeaderTexts) → IsHeaderSoFar part t → ends part b ≡ true → 0 < length (text_of part t) → IsPlace (begins part b t)
+pub next_is : (part : HeaderPart) (b : ℕ) (t : HeaderTexts) → IsPlace (InHeader part t) → ends part b ≡ true → 0 < length (text_of part t) → IsPlace (begins part b t)
 next_is Source b t i on some = (field_from is_letter 1 max_source t.source.items i.0 some, field_one is_digit max_number b on (omega arith), i.2, i.3, i.4)
 next_is Number b t i on some = (i.0, i.1, room is_digit max_priority t.priority.items i.2, i.3, i.4)
 next_is Priority b t i on some = (i.0, i.1, field_from is_digit 1 max_priority t.priority.items i.2 some, room is_alphanumeric max_category t.category.items i.3, i.4)
@@ -73,7 +73,7 @@ or_rest : (x y : Bool) → (x || y) ≡ true → x ≡ false → y ≡ true
 or_rest true y h e = absurd cc
 or_rest false y h e = h
 
-pub next_spells : (part : HeaderPart) (b : ℕ) (t : HeaderTexts) (xs text : List ℕ) → IsHeaderSoFar part t → ends part b ≡ true → Spells xs text (InHeader part t) → Spells (xs ++ (b ∷ [])) text (begins part b t)
+pub next_spells : (part : HeaderPart) (b : ℕ) (t : HeaderTexts) (xs text : List ℕ) → IsPlace (InHeader part t) → ends part b ≡ true → Spells xs text (InHeader part t) → Spells (xs ++ (b ∷ [])) text (begins part b t)
 next_spells Source b t xs text i on l = (l.0, l.1, after_soh xs l.0 t.source.items (b ∷ []) _ l.2 refl, l.3)
 next_spells Number b t xs text i on l =
     spaced Number Priority t b xs text on

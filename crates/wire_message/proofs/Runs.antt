@@ -5,7 +5,7 @@ use Rattle.wire_message.specs.Format.Fields.{Are, IsField, is_alphanumeric, is_i
 use Rattle.iim_dataset.specs.Format.Octets.{is_digit}
 use Rattle.wire_message.specs.Format.Messages.{Header, header_of, IsHeader, IsMessage, IsFiller, IsGap, IsTrailer, SpellsInfo, fixed_header, has_feed}
 use Rattle.wire_message.specs.States.SoFar.{IsPlace, Spells}
-use Rattle.wire_message.specs.States.HeaderSoFar.{is_octet_of, most_of, text_of, IsHeaderSoFar, so_far}
+use Rattle.wire_message.specs.States.HeaderSoFar.{is_octet_of, most_of, text_of, so_far}
 use Rattle.wire_message.specs.Parts.{ends, begins}
 use Rattle.wire_message.specs.declared.part.HeaderPart.{HeaderPart}
 use Rattle.wire_message.specs.declared.part.HeaderPart.TheVariants.{Source, Number, Priority, Category, Words}
@@ -42,7 +42,7 @@ reads_next part next t xs rest on some then none h =
 
 -- the parts so far are read, each after the one before it
 abbrev Reads : HeaderPart → Type 0
-Reads part = (t : HeaderTexts) (f rest : List ℕ) → IsFiller f → IsHeaderSoFar part t → run (Filler 0) (f ++ (1 ∷ (so_far part t ++ rest))) ≡ run (InHeader part t) rest
+Reads part = (t : HeaderTexts) (f rest : List ℕ) → IsFiller f → IsPlace (InHeader part t) → run (Filler 0) (f ++ (1 ∷ (so_far part t ++ rest))) ≡ run (InHeader part t) rest
 
 regrouped : (f xs ys : List ℕ) → xs ≡ ys → run (Filler 0) (f ++ (1 ∷ xs)) ≡ run (Filler 0) (f ++ (1 ∷ ys))
 regrouped f xs ys e = ap (λ (u : List ℕ). run (Filler 0) (f ++ (1 ∷ u))) e

@@ -98,17 +98,24 @@ joined_not Words t s n p c w =
     (Are-append (is_not 2) t.number.items (32 ∷ (t.priority.items ++ (32 ∷ (t.category.items ++ (32 ∷ t.words.items))))) n
     (Are-append (is_not 2) t.priority.items (32 ∷ (t.category.items ++ (32 ∷ t.words.items))) p (Are-append (is_not 2) t.category.items (32 ∷ t.words.items) c w)))
 
-so_far_not : (part : HeaderPart) (t : HeaderTexts) → Are is_letter t.source.items → Are is_digit t.number.items → Are is_digit t.priority.items → Are is_alphanumeric t.category.items → Are is_digit t.words.items
+made_not : (part : HeaderPart) (t : HeaderTexts) → Are is_letter t.source.items → Are is_digit t.number.items → Are is_digit t.priority.items → Are is_alphanumeric t.category.items → Are is_digit t.words.items
     → Are (is_not 2) (so_far part t)
-so_far_not part t s n p c w = joined_not part t
+made_not part t s n p c w = joined_not part t
     (each is_letter (is_not 2) t.source.items letter_not s)
     (each is_digit (is_not 2) t.number.items digit_not n)
     (each is_digit (is_not 2) t.priority.items digit_not p)
     (each is_alphanumeric (is_not 2) t.category.items alphanumeric_not c)
     (each is_digit (is_not 2) t.words.items digit_not w)
 
+so_far_not : (part : HeaderPart) (t : HeaderTexts) → IsPlace (InHeader part t) → Are (is_not 2) (so_far part t)
+so_far_not Source t i = made_not Source t i.0.0 i.1.0 i.2.0 i.3.0 i.4.0
+so_far_not Number t i = made_not Number t i.0.0 i.1.0 i.2.0 i.3.0 i.4.0
+so_far_not Priority t i = made_not Priority t i.0.0 i.1.0 i.2.0 i.3.0 i.4.0
+so_far_not Category t i = made_not Category t i.0.0 i.1.0 i.2.0 i.3.0 i.4.0
+so_far_not Words t i = made_not Words t i.0.0 i.1.0 i.2.0 i.3.0 i.4.0
+
 fixed_not : (h : Header) → IsHeader h → Are (is_not 2) (fixed_header h)
-fixed_not h i = so_far_not Words (texts h.source h.number h.priority h.category h.words) i.source.0 i.number.0 i.priority.0 i.category.0 i.words.0
+fixed_not h i = made_not Words (texts h.source h.number h.priority h.category h.words) i.source.0 i.number.0 i.priority.0 i.category.0 i.words.0
 
 info_spelled_not : (info spelled : List ℕ) → IsField is_info_octet 0 max_info info → SpellsInfo info spelled → Are (is_not 2) spelled
 info_spelled_not info spelled i (inl h) = subst (Are (is_not 2)) (sym h.1) refl
@@ -197,7 +204,7 @@ after_soh octets before rest f parts are =
 -- Before STX no octet is one.
 pub no_stx : (octets text : List ℕ) (p : Place) → IsPlace p → Spells octets text p → head_read (Some p) ≡ None → Are (is_not 2) octets
 no_stx octets text (Filler k) i l e = each is_filler_octet (is_not 2) octets filler_not l.0.0
-no_stx octets text (InHeader part t) i l e = after_soh octets l.0 (so_far part t) l.1 l.2 (so_far_not part t i.0.0 i.1.0 i.2.0 i.3.0 i.4.0)
+no_stx octets text (InHeader part t) i l e = after_soh octets l.0 (so_far part t) l.1 l.2 (so_far_not part t i)
 no_stx octets text (Info h) i l e =
     after_soh octets l.0 (fixed_header h ++ (32 ∷ h.info)) l.1 l.2
     (Are-append (is_not 2) (fixed_header h) (32 ∷ h.info) (fixed_not h i) (each is_info_octet (is_not 2) h.info info_not i.info.0))

@@ -1,11 +1,10 @@
 //! How a saved place is put back: by the parts that it has, and then by whether it is the place that is saved so.
 
-ghost use Rattle.std.specs.Prelude.{◌≡◌, ◌≤◌, ◌↔◌, ◌||◌, nat_lt, IsTrue, IsSome, IfSome};
+ghost use Rattle.std.specs.Prelude.{◌≡◌, ◌≤◌, ◌↔◌, ◌||◌, nat_lt, if◌then◌else◌, IsTrue, IsSome, IfSome};
 ghost use Rattle.wire_message.specs.declared.place.Place.{Place};
 ghost use Rattle.wire_message.specs.declared.saved.MessagePart.TheVariants as part;
 ghost use Rattle.wire_message.specs.Classes.{is_in_class};
 ghost use Rattle.wire_message.specs.Format.Fields.{IsField, max_filler};
-ghost use Rattle.wire_message.specs.States.HeaderSoFar.{least_of, room_of, IsHeaderSoFar};
 ghost use Rattle.wire_message.specs.Format.Messages.{IsHeader};
 ghost use Rattle.wire_message.specs.States.SoFar.{IsPlace};
 ghost use Rattle.wire_message.specs.States.Saved.{saved};
@@ -30,54 +29,48 @@ fn is_filler(count: u8) -> bool
     count <= MAX_FILLER
 }
 
-/// Whether the octets may be a part of the header, while another part, or this one, is being read.
-fn is_part(part: HeaderPart, at: HeaderPart, class: Class, most: usize, octets: &[u8]) -> bool
-    ensures { IsTrue result ↔ IsField (is_in_class class) (least_of part at) (room_of part at most) octets.now }
+/// Whether the octets may be those of a part that has begun or not, and has some or may have none.
+fn is_part(class: Class, some: bool, begun: bool, most: usize, octets: &[u8]) -> bool
+    ensures { IsTrue result ↔
+        IsField (is_in_class class) (if some then 1 else 0) (if begun then most else 0) octets.now }
 {
-    let begun = match part {
-        HeaderPart::Number => 2,
-        _ => part as u8,
-    };
-    let least = usize::from((at as u8) < begun);
-    let most = if (part as u8) < (at as u8) { 0 } else { most };
-    is_field(class, least, most, octets)
+    let most = if begun { most } else { 0 };
+    is_field(class, usize::from(some), most, octets)
 }
 
 /// Whether there may be such parts while this one is being read.
 fn is_header_so_far(part: HeaderPart, place: &MessagePlace) -> bool
-    ensures { IsTrue result ↔ IsHeaderSoFar part (texts_in place.now) }
+    ensures { IsTrue result ↔ IsPlace (Place.InHeader part (texts_in place.now)) }
 {
+    let (some, begun) = match part {
+        HeaderPart::Source => (0, 1),
+        HeaderPart::Number => (2, 2),
+        HeaderPart::Priority => (2, 3),
+        HeaderPart::Category => (3, 4),
+        HeaderPart::Words => (4, 5),
+    };
     is_part(
-        part,
-        HeaderPart::Source,
         Class::Letter,
+        some > 0,
+        begun > 0,
         MAX_SOURCE,
         &place.source,
-    ) && is_part(
-        part,
-        HeaderPart::Number,
-        Class::Digit,
-        MAX_NUMBER,
-        &place.number,
-    ) && is_part(
-        part,
-        HeaderPart::Priority,
-        Class::Digit,
-        MAX_PRIORITY,
-        &place.priority,
-    ) && is_part(
-        part,
-        HeaderPart::Category,
-        Class::Alphanumeric,
-        MAX_CATEGORY,
-        &place.category,
-    ) && is_part(
-        part,
-        HeaderPart::Words,
-        Class::Digit,
-        MAX_WORDS,
-        &place.words,
-    )
+    ) && is_part(Class::Digit, some > 1, begun > 1, MAX_NUMBER, &place.number)
+        && is_part(
+            Class::Digit,
+            some > 2,
+            begun > 2,
+            MAX_PRIORITY,
+            &place.priority,
+        )
+        && is_part(
+            Class::Alphanumeric,
+            some > 3,
+            begun > 3,
+            MAX_CATEGORY,
+            &place.category,
+        )
+        && is_part(Class::Digit, some > 4, begun > 4, MAX_WORDS, &place.words)
 }
 
 /// Whether STX can still come after `count` octets of a gap, an LF among them or not.

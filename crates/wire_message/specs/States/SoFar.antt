@@ -3,17 +3,23 @@ use Rattle.std.specs.Prelude.{◌≡◌, ℕ, ◌≤◌, ◌||◌, nat_lt, IsTru
 use Rattle.iim_dataset.specs.Format.Characters.{soh, stx, etx, sp}
 use Rattle.wire_story.specs.Format.Texts.{AreLines}
 use Rattle.wire_story.specs.States.Reading as story
-use Rattle.wire_message.specs.Format.Fields.{Are, is_filler_octet, is_text_octet, max_filler}
+use Rattle.wire_message.specs.Format.Fields.{Are, is_filler_octet, is_text_octet, max_filler, max_source, max_number, max_priority, max_category, max_words}
 use Rattle.wire_message.specs.Format.Messages.{IsHeader, IsTrailer, IsFiller, IsGap, IsMessage, SpellsInfo, fixed_header, has_feed}
-use Rattle.wire_message.specs.States.HeaderSoFar.{IsHeaderSoFar, so_far}
+use Rattle.wire_message.specs.States.HeaderSoFar.{AreParts, so_far}
+use Rattle.wire_message.specs.declared.part.HeaderPart.TheVariants.{Source, Number, Priority, Category, Words}
 use Rattle.wire_message.specs.declared.place.Place.{Place}
 use Rattle.wire_message.specs.declared.place.Place.TheVariants.{Filler, InHeader, Info, Gap, Text, Trailer, AfterEnd}
 
--- What was read has lengths and octets with which a message can continue.
+-- What was read has lengths and octets with which a message can continue. Of a header the parts before the one that is being read
+-- have an octet at least, and so has the number, which its first digit begins; those after it have none.
 -- twins (with Spells): law `places_are_reached`; "No octets lead to these: counters and flags", "And texts: of a later part, too long"
 abbrev pub IsPlace : Place → Type 0
 IsPlace (Filler count) = count ≤ max_filler
-IsPlace (InHeader part t) = IsHeaderSoFar part t
+IsPlace (InHeader Source t) = AreParts 0 max_source 0 0 0 0 0 0 0 0 t
+IsPlace (InHeader Number t) = AreParts 1 max_source 1 max_number 0 0 0 0 0 0 t
+IsPlace (InHeader Priority t) = AreParts 1 max_source 1 max_number 0 max_priority 0 0 0 0 t
+IsPlace (InHeader Category t) = AreParts 1 max_source 1 max_number 1 max_priority 0 max_category 0 0 t
+IsPlace (InHeader Words t) = AreParts 1 max_source 1 max_number 1 max_priority 1 max_category 0 max_words t
 IsPlace (Info h) = IsHeader h
 IsPlace (Gap h count feed) = IsHeader h × (1 ≤ count) × (count ≤ max_filler) × IsTrue (feed || nat_lt count max_filler)
 IsPlace (Text h reader) = IsHeader h × story.IsPlace reader
