@@ -32,7 +32,7 @@ begins_more octets more h b = record {
 
 pub header_kept : MessagesKeepTheirHeader
 header_kept octets more text trailer head other b m =
-    (one_head (octets ++ more) other head (message_begins (octets ++ more) other text trailer m) (begins_more octets more head b)).0
+    one_head (octets ++ more) other head (message_begins (octets ++ more) other text trailer m) (begins_more octets more head b)
 
 begins_has_stx : (octets : List ℕ) (h : Header) → BeginsWithHeader octets h → list_any (λ b. b == 2) octets ≡ true
 begins_has_stx octets h b =
@@ -47,7 +47,7 @@ is_told reader octets h e b = record {
   told = (λ some. begins_has_stx octets h b, λ stx. subst IsSome (sym e) refl);
   parts = λ head. (
     λ same. subst (BeginsWithHeader octets) (some_is h head (sym e ∙ same)) b,
-    λ other. e ∙ ap Some (one_head octets h head b other).0,
+    λ other. e ∙ ap Some (one_head octets h head b other),
   );
 }
 

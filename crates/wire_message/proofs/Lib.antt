@@ -1,5 +1,4 @@
 pub mod Written
-pub mod OneReading
 pub mod Packed
 pub mod Machine
 pub mod Runs
@@ -10,6 +9,7 @@ pub mod Stops
 pub mod Goings
 pub mod Longer
 pub mod TextSoFar
+pub mod OneReading
 pub mod Held
 pub mod Readings
 pub mod Standing

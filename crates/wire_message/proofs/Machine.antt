@@ -14,7 +14,6 @@ use Rattle.wire_message.specs.declared.part.HeaderTexts.{HeaderTexts}
 use Rattle.wire_message.specs.declared.place.Place.{Place}
 use Rattle.wire_message.specs.declared.place.Place.TheVariants.{Filler, InHeader, Info, Gap, Text, Trailer, AfterEnd}
 use Rattle.wire_story.proofs.Spans.{Are-head, Are-tail}
-use Rattle.wire_message.proofs.OneReading.{digit_no_letter}
 
 abbrev pub of : List ℕ → ArrayVec ℕ
 of xs = record { items = xs }
@@ -136,7 +135,7 @@ reads_part Words t xs rest are le =
 
 -- an octet that ends a part is none of its octets
 ends_not : (part : HeaderPart) (b : ℕ) → ends part b ≡ true → is_octet_of part b ≡ false
-ends_not Source b on = digit_no_letter b on
+ends_not Source b on = grind (arith, nat_tests)
 ends_not Number b on = grind (arith, nat_tests)
 ends_not Priority b on = grind (arith, nat_tests)
 ends_not Category b on = grind (arith, nat_tests)

@@ -1,6 +1,6 @@
 -- Octets that spell a place run to it, and a message runs to its end.
-use Rattle.std.proofs.Common.{◌≡◌, ℕ, ◌+◌, ◌≤◌, Bool, true, false, ◌&&◌, ◌||◌, ◌==◌, ◌<◌, nat_lt, cond, List, [], ◌∷◌, ◌++◌, length, Some, None, refl, sym, ap, ◌∙◌, arith, inl, inr, append_assoc, append-nil}
-use Rattle.std.proofs.lemmas.Bool.{and_from, or_right, lt-ltb, and_left}
+use Rattle.std.proofs.Common.{◌≡◌, ℕ, ◌+◌, ◌≤◌, Bool, true, false, ◌&&◌, ◌||◌, ◌==◌, ◌<◌, nat_lt, cond, List, [], ◌∷◌, ◌++◌, length, Some, None, refl, sym, ap, subst, ◌∙◌, arith, inl, inr, append_assoc, append-nil}
+use Rattle.std.proofs.lemmas.Bool.{or_cases, eqb-true, and_from, or_right, lt-ltb, and_left}
 use Rattle.wire_message.specs.Format.Fields.{Are, IsField, is_alphanumeric, is_info_octet, is_trailer_octet, is_filler_octet, is_text_octet, max_filler, max_number, max_words, max_info, max_trailer}
 use Rattle.iim_dataset.specs.Format.Octets.{is_digit}
 use Rattle.wire_message.specs.Format.Messages.{Header, header_of, IsHeader, IsMessage, IsFiller, IsGap, IsTrailer, SpellsInfo, fixed_header, has_feed}
@@ -13,7 +13,6 @@ use Rattle.wire_message.specs.declared.part.HeaderTexts.{HeaderTexts}
 use Rattle.wire_message.specs.declared.place.Place.{Place}
 use Rattle.wire_message.specs.declared.place.Place.TheVariants.{Filler, InHeader, Info, Gap, Text, Trailer, AfterEnd}
 use Rattle.wire_story.proofs.Spans.{Are-head, Are-tail}
-use Rattle.wire_message.proofs.OneReading.{filler_cases}
 use Rattle.wire_message.proofs.Machine.{of, texts, no_texts, put, gap_leads_on, run, guard_yes, guard_no, step_to, field_run, count_run, extends, fill, reads_filler, reads_part, reads_end}
 use Rattle.wire_message.proofs.Transitions.{field_none}
 use Rattle.wire_message.proofs.HeaderParts.{none}
@@ -147,6 +146,20 @@ first_gap h b gap rest g on =
     let count : 1 + length gap ≡ length (b ∷ gap) = omega arith in
     reads_gap h gap 1 (b == 10) rest (Are-tail is_filler_octet b gap g.0) (omega (arith, g.2)) (rw count on)
     ∙ same_gap h (1 + length gap) (length (b ∷ gap)) (has_feed (b ∷ gap)) (has_feed (b ∷ gap)) rest count refl
+
+-- the four filler octets
+filler_cases : (P : ℕ → Type 0) (b : ℕ) → is_filler_octet b ≡ true → P 0 → P 10 → P 13 → P 22 → P b
+filler_cases P b h p0 p10 p13 p22 =
+    elim (or_cases (b == 0 || b == 10 || b == 13) (b == 22) h) [
+      | inr e ↦ subst P (sym (eqb-true b 22 e)) p22
+      | inl t ↦ elim (or_cases (b == 0 || b == 10) (b == 13) t) [
+        | inr e ↦ subst P (sym (eqb-true b 13 e)) p13
+        | inl u ↦ elim (or_cases (b == 0) (b == 10) u) [
+          | inr e ↦ subst P (sym (eqb-true b 10 e)) p10
+          | inl e ↦ subst P (sym (eqb-true b 0 e)) p0
+        ]
+      ]
+    ]
 
 no_space : (b : ℕ) → is_filler_octet b ≡ true → (b == 32) ≡ false
 no_space b fills = filler_cases (λ k. (k == 32) ≡ false) b fills refl refl refl refl
