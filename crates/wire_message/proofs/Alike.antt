@@ -1,6 +1,6 @@
 -- From the same place the same octets lead on alike.
 use Rattle.std.proofs.Common.{◌≡◌, ℕ, ◌+◌, ◌<◌, ◌≤◌, Bool, true, false, ◌&&◌, ◌||◌, ◌==◌, nat_lt, List, [], ◌∷◌, ◌++◌, length, Option, Some, None, refl, sym, subst, ◌∙◌, arith, append_assoc, append-nil}
-use Rattle.std.proofs.lemmas.Bool.{and_parts, or_right, eqb-true, ltb-true}
+use Rattle.std.proofs.lemmas.Bool.{and_parts, eqb-true, ltb-true}
 use Rattle.std.proofs.lemmas.List.{append_cancel_left}
 use Rattle.std.proofs.lemmas.Option.{same_Some}
 use Rattle.arrayvec.specs.ArrayVec.{ArrayVec}
@@ -22,9 +22,11 @@ use Rattle.wire_message.specs.declared.place.Place.TheVariants.{Filler, InHeader
 use Rattle.wire_message.proofs.Machine.{of, no_texts, put, more_info, guarded, next, run, run_parts, and_then_place}
 use Rattle.wire_message.proofs.Runs.{unread, spelled_runs}
 use Rattle.wire_message.proofs.Alive.{no_texts_yet}
-use Rattle.wire_message.proofs.HeaderParts.{longer_is, longer_spells, next_is, next_spells}
+use Rattle.wire_message.specs.Steps.{TakesSome}
+use Rattle.wire_message.proofs.Goings.{part_ends, info_to_gap, gap_on, trailer_ends, end_on}
+use Rattle.wire_message.proofs.HeaderParts.{longer_is, longer_spells}
 use Rattle.wire_message.proofs.TextSoFar.{none_yet, text_at}
-use Rattle.wire_message.proofs.Transitions.{field_more, field_none, one_is, filler_more, filler_soh, info_more, info_gap, gap_more, gap_stx, text_more, text_etx, trailer_more, trailer_eot, end_more}
+use Rattle.wire_message.proofs.Transitions.{field_more, field_none, one_is, filler_more, filler_soh, info_more, gap_stx, text_more, text_etx, trailer_more}
 
 -- ---- octets that stand at a place, whatever its reader of the text
 
@@ -51,6 +53,13 @@ Continues p ys q = (more : List ℕ) × ((xs text : List ℕ) → Stands xs text
 -- they add nothing to the text
 quiet : (p q : Place) (ys : List ℕ) → ((xs text : List ℕ) → Stands xs text p → Stands (xs ++ ys) text q) → Continues p ys q
 quiet p q ys f = ([], λ xs text s. subst (λ (t : List ℕ). Stands (xs ++ ys) t q) (sym (append-nil text)) (f xs text s))
+
+bare_of : (p : Place) → IsPlace p → IsBare p
+bare_of (Text h reader) i = i.0
+bare_of p i = i
+
+quiet_takes : (p q : Place) (b : ℕ) → (IsBare p → TakesSome p (b ∷ []) q 1) → Continues p (b ∷ []) q
+quiet_takes p q b takes = quiet p q (b ∷ []) (λ xs text s. let t = takes s.bare in record { bare = bare_of q t.is_place; spelled = t.adds xs text s.spelled })
 
 quiet_at : (p q : Place) (b k : ℕ) → (b == k) ≡ true → ((xs text : List ℕ) → Stands xs text p → Stands (xs ++ (k ∷ [])) text q) → Continues p (b ∷ []) q
 quiet_at p q b k t f = subst (λ (n : ℕ). Continues p (n ∷ []) q) (sym (eqb-true b k t)) (quiet p q (k ∷ []) f)
@@ -83,10 +92,6 @@ from_filler k b q e = chosen (Continues (Filler k) (b ∷ [])) _ _ _ q e
     (λ t. quiet_at (Filler k) (InHeader Source no_texts) b 1 t (λ xs text s. record { bare = no_texts_yet; spelled = filler_soh xs text k s.spelled }))
     (no_place (Continues (Filler k) (b ∷ [])) q))
 
-bare_of : (p : Place) → IsPlace p → IsBare p
-bare_of (Text h reader) i = i.0
-bare_of p i = i
-
 from_part : (part : HeaderPart) (t : HeaderTexts) (b : ℕ) (q : Place) → next (InHeader part t) b ≡ Some q → Continues (InHeader part t) (b ∷ []) q
 from_part part t b q e = chosen (Continues (InHeader part t) (b ∷ [])) _ _ _ q e
     (λ on.
@@ -97,13 +102,7 @@ from_part part t b q e = chosen (Continues (InHeader part t) (b ∷ [])) _ _ _ q
       spelled = longer_spells part t xs text (b ∷ []) at.spelled;
     }))
     (λ e. chosen (Continues (InHeader part t) (b ∷ [])) _ _ _ q e
-    (λ on.
-    let parts = and_parts (ends part b) (nat_lt 0 (length (text_of part t))) on in
-    let some : 0 < length (text_of part t) = ltb-true 0 (length (text_of part t)) parts.1 in
-    quiet (InHeader part t) (begins part b t) (b ∷ []) (λ xs text at. record {
-      bare = bare_of (begins part b t) (next_is part b t at.bare parts.0 some);
-      spelled = next_spells part b t xs text at.bare parts.0 at.spelled;
-    }))
+    (λ on. quiet_takes (InHeader part t) (begins part b t) b (λ i. part_ends part t _ _ (b ∷ []) (omega arith) refl refl i on))
     (no_place (Continues (InHeader part t) (b ∷ [])) q))
 
 longer_info : (h : Header) (b : ℕ) → IsHeader h → (is_info_octet b && nat_lt (length h.info) max_info) ≡ true → IsHeader (more_info h b)
@@ -123,22 +122,12 @@ from_info h b q e = chosen (Continues (Info h) (b ∷ [])) _ _ _ q e
       spelled = info_more xs text (b ∷ []) h (more_info h b) refl at.spelled;
     }))
     (λ e. chosen (Continues (Info h) (b ∷ [])) _ _ _ q e
-    (λ t. quiet (Info h) (Gap h 1 (b == 10)) (b ∷ []) (λ xs text at. record {
-      bare = (at.bare, omega arith, omega arith, or_right (b == 10) true refl);
-      spelled = info_gap xs text h b t at.spelled;
-    }))
+    (λ t. quiet_takes (Info h) (Gap h 1 (b == 10)) b (λ i. info_to_gap h (b ∷ []) (omega arith) i t))
     (no_place (Continues (Info h) (b ∷ [])) q))
 
 from_gap : (h : Header) (k : ℕ) (feed : Bool) (b : ℕ) (q : Place) → next (Gap h k feed) b ≡ Some q → Continues (Gap h k feed) (b ∷ []) q
 from_gap h k feed b q e = chosen (Continues (Gap h k feed) (b ∷ [])) _ _ _ q e
-    (λ t.
-    let parts = and_parts (is_filler_octet b && nat_lt k max_filler) (feed || b == 10 || nat_lt (k + 1) max_filler) t in
-    let fill = and_parts (is_filler_octet b) (nat_lt k max_filler) parts.0 in
-    let lt : k < max_filler = ltb-true k max_filler fill.1 in
-    quiet (Gap h k feed) (Gap h (k + 1) (feed || b == 10)) (b ∷ []) (λ xs text at. record {
-      bare = (at.bare.0, omega arith, omega (arith, lt), parts.1);
-      spelled = gap_more xs text h k feed b fill.0 at.spelled;
-    }))
+    (λ t. quiet_takes (Gap h k feed) (Gap h (k + 1) (feed || b == 10)) b (λ i. gap_on h k feed (feed || b == 10) (b ∷ []) (omega arith) i t refl))
     (λ e. chosen (Continues (Gap h k feed) (b ∷ [])) _ _ _ q e
     (λ t.
     let parts = and_parts (b == 2) feed t in
@@ -165,21 +154,12 @@ from_trailer h v b q e = chosen (Continues (Trailer h v) (b ∷ [])) _ _ _ q e
       spelled = trailer_more xs text (b ∷ []) h v at.spelled;
     }))
     (λ e. chosen (Continues (Trailer h v) (b ∷ [])) _ _ _ q e
-    (λ t. quiet_at (Trailer h v) (AfterEnd h v 0) b 4 t (λ xs text at. record {
-      bare = (at.bare.0, at.bare.1, omega arith);
-      spelled = trailer_eot xs text h v at.bare.0 at.bare.1 at.spelled;
-    }))
+    (λ t. quiet_takes (Trailer h v) (AfterEnd h v 0) b (λ i. trailer_ends h v (b ∷ []) (omega arith) i (eqb-true b 4 t)))
     (no_place (Continues (Trailer h v) (b ∷ [])) q))
 
 from_end : (h : Header) (v : ArrayVec ℕ) (k b : ℕ) (q : Place) → next (AfterEnd h v k) b ≡ Some q → Continues (AfterEnd h v k) (b ∷ []) q
 from_end h v k b q e = chosen (Continues (AfterEnd h v k) (b ∷ [])) _ _ _ q e
-    (λ t.
-    let fill = and_parts (is_filler_octet b) (nat_lt k max_filler) t in
-    let lt : k < max_filler = ltb-true k max_filler fill.1 in
-    quiet (AfterEnd h v k) (AfterEnd h v (k + 1)) (b ∷ []) (λ xs text at. record {
-      bare = (at.bare.0, at.bare.1, omega (arith, lt));
-      spelled = end_more xs text (b ∷ []) h v k (one_is is_filler_octet b fill.0) (omega (arith, lt)) at.spelled;
-    }))
+    (λ t. quiet_takes (AfterEnd h v k) (AfterEnd h v (k + 1)) b (λ i. end_on h v k (b ∷ []) (omega arith) i t))
     (no_place (Continues (AfterEnd h v k) (b ∷ [])) q)
 
 octet_on : (p q : Place) (b : ℕ) → next p b ≡ Some q → Continues p (b ∷ []) q

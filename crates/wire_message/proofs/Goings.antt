@@ -6,7 +6,7 @@ use Rattle.arrayvec.specs.ArrayVec.{ArrayVec}
 use Rattle.wire_story.specs.declared.reader.TextReader.{TextReader}
 use Rattle.wire_story.specs.States.Reading as story
 use Rattle.wire_message.specs.Format.Fields.{is_filler_octet, max_filler}
-use Rattle.wire_message.specs.Format.Messages.{Header, IsHeader, IsTrailer}
+use Rattle.wire_message.specs.Format.Messages.{Header, IsHeader}
 use Rattle.wire_message.specs.States.SoFar.{IsPlace, Spells, StoryStands}
 use Rattle.wire_message.specs.Steps.{AddsNoText, TakesSome}
 use Rattle.wire_message.specs.States.HeaderSoFar.{text_of}
@@ -42,15 +42,10 @@ part_ends part t p q rest some is goes i on =
     (takes_one (InHeader part t) (begins part b t) rest some (next_is part b t at parts.0 (ltb-true 0 (length (text_of part t)) parts.1))
     (λ before text l. next_spells part b t before text at parts.0 l) (λ text none. next_story part b t text none)))
 
-pub info_to_gap : (h k : Header) (rest : List ℕ) (feed : Bool) → 0 < length rest → k ≡ h → IsHeader h
-    → is_filler_octet (slice_index rest 0) ≡ true → feed ≡ (slice_index rest 0 == 10) → TakesSome (Info h) rest (Gap k 1 feed) 1
-info_to_gap h k rest feed some same i fills e =
-    takes_one (Info h) (Gap k 1 feed) rest some (subst IsHeader (sym same) i, omega arith, omega arith, or_right feed true refl)
-    (λ before text l.
-    subst (λ (f : Bool). Spells (before ++ (slice_index rest 0 ∷ [])) text (Gap k 1 f)) (sym e)
-    (subst (λ (g : Header). Spells (before ++ (slice_index rest 0 ∷ [])) text (Gap g 1 (slice_index rest 0 == 10))) (sym same)
-    (info_gap before text h (slice_index rest 0) fills l)))
-    (λ text l. l)
+pub info_to_gap : (h : Header) (rest : List ℕ) → 0 < length rest → IsHeader h → is_filler_octet (slice_index rest 0) ≡ true → TakesSome (Info h) rest (Gap h 1 (slice_index rest 0 == 10)) 1
+info_to_gap h rest some i fills =
+    let b = slice_index rest 0 in
+    takes_one (Info h) (Gap h 1 (b == 10)) rest some (i, omega arith, omega arith, or_right (b == 10) true refl) (λ before text l. info_gap before text h b fills l) (λ text l. l)
 
 pub gap_on : (h : Header) (k : ℕ) (feed now : Bool) (rest : List ℕ) → 0 < length rest → IsPlace (Gap h k feed) → gap_leads_on k feed (slice_index rest 0) ≡ true
     → now ≡ (feed || slice_index rest 0 == 10) → TakesSome (Gap h k feed) rest (Gap h (k + 1) now) 1
@@ -74,12 +69,10 @@ gap_ends h k feed reader rest some i j stands on =
     (gap_stx before text h k reader i.1 i.2 (subst (λ (f : Bool). Spells before text (Gap h k f)) parts.1 l)))
     (λ text none. subst (story.StandsAt reader) (sym none) stands)
 
-pub trailer_ends : (h : Header) (t v : ArrayVec ℕ) (rest : List ℕ) → 0 < length rest → IsPlace (Trailer h t) → v ≡ t → slice_index rest 0 ≡ 4 → TakesSome (Trailer h t) rest (AfterEnd h v 0) 1
-trailer_ends h t v rest some i same eot =
-    takes_one (Trailer h t) (AfterEnd h v 0) rest some (i.0, subst (λ (u : ArrayVec ℕ). IsTrailer u.items) (sym same) i.1, omega arith)
-    (λ before text l.
-    subst (λ (n : ℕ). Spells (before ++ (n ∷ [])) text (AfterEnd h v 0)) (sym eot)
-    (subst (λ (u : ArrayVec ℕ). Spells (before ++ (4 ∷ [])) text (AfterEnd h u 0)) (sym same) (trailer_eot before text h t i.0 i.1 l)))
+pub trailer_ends : (h : Header) (t : ArrayVec ℕ) (rest : List ℕ) → 0 < length rest → IsPlace (Trailer h t) → slice_index rest 0 ≡ 4 → TakesSome (Trailer h t) rest (AfterEnd h t 0) 1
+trailer_ends h t rest some i eot =
+    takes_one (Trailer h t) (AfterEnd h t 0) rest some (i.0, i.1, omega arith)
+    (λ before text l. subst (λ (n : ℕ). Spells (before ++ (n ∷ [])) text (AfterEnd h t 0)) (sym eot) (trailer_eot before text h t i.0 i.1 l))
     (λ text l. l)
 
 pub end_on : (h : Header) (t : ArrayVec ℕ) (k : ℕ) (rest : List ℕ) → 0 < length rest → IsPlace (AfterEnd h t k) → (is_filler_octet (slice_index rest 0) && nat_lt k max_filler) ≡ true → TakesSome (AfterEnd h t k) rest (AfterEnd h t (k + 1)) 1

@@ -128,16 +128,6 @@ fn in_header(part: HeaderPart, place: &MessagePlace) -> Option<Place>
     Some(Place::InHeader { part, texts })
 }
 
-/// A place in the info.
-fn in_info(place: &MessagePlace) -> Option<Place>
-    requires { place.now.part ≡ part.Info }
-    ensures place { IfSome result IsPlace }
-    ensures only { IsOnly result place.now }
-{
-    let head = head_of(place)?;
-    Some(Place::Info { head })
-}
-
 /// A place in the gap.
 fn in_gap(place: &MessagePlace) -> Option<Place>
     requires { place.now.part ≡ part.Gap }
@@ -176,10 +166,8 @@ fn in_trailer(place: &MessagePlace) -> Option<Place>
 {
     let head = head_of(place)?;
     if is_trailer(&place.trailer) {
-        return Some(Place::Trailer {
-            head,
-            trailer: kept(&place.trailer),
-        });
+        let trailer = kept(&place.trailer);
+        return Some(Place::Trailer { head, trailer });
     }
     None
 }
@@ -214,7 +202,10 @@ fn candidate(place: &MessagePlace) -> Option<Place>
         MessagePart::PriorityRead => in_header(HeaderPart::Priority, place),
         MessagePart::Category => in_header(HeaderPart::Category, place),
         MessagePart::Words => in_header(HeaderPart::Words, place),
-        MessagePart::Info => in_info(place),
+        MessagePart::Info => {
+            let head = head_of(place)?;
+            Some(Place::Info { head })
+        }
         MessagePart::Gap => in_gap(place),
         MessagePart::Text => in_text(place),
         MessagePart::Trailer => in_trailer(place),

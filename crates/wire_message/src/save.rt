@@ -1,9 +1,8 @@
 //! How a place is saved.
 
 ghost use Rattle.std.specs.Prelude.{◌≡◌, ◌≤◌, [], length};
-ghost use Rattle.wire_message.specs.declared.saved.MessagePart.TheVariants as at;
 ghost use Rattle.wire_message.specs.States.SoFar.{IsPlace};
-ghost use Rattle.wire_message.specs.States.Saved.{place_from, place_with_header, saved, saved_part};
+ghost use Rattle.wire_message.specs.States.Saved.{place_with_header, saved, saved_part};
 
 use crate::field::kept;
 use crate::head::MessageHead;
@@ -42,16 +41,6 @@ fn in_header(part: HeaderPart, texts: &HeaderTexts) -> MessagePlace
     }
 }
 
-/// A place in the filler before SOH.
-fn in_filler(count: u8) -> MessagePlace
-    ensures { result ≡ place_from at.Filler count 0 [] [] [] [] [] [] [] }
-{
-    MessagePlace {
-        counter: count,
-        ..MessagePlace::bare(Part::Filler)
-    }
-}
-
 /// A place after a header, with what was read of the trailer.
 fn headed(part: Part, counter: u8, flag: u8, head: &MessageHead, trailer: &[u8]) -> MessagePlace
     requires { length trailer.now ≤ MAX_SAVED }
@@ -77,7 +66,10 @@ pub(crate) fn save(place: &Place) -> MessagePlace
     ensures { result ≡ saved place.now }
 {
     match place {
-        Place::Filler { count } => in_filler(*count),
+        Place::Filler { count } => MessagePlace {
+            counter: *count,
+            ..MessagePlace::bare(Part::Filler)
+        },
         Place::InHeader { part, texts } => in_header(*part, texts),
         Place::Info { head } => headed(Part::Info, 0, 0, head, &[]),
         Place::Gap {
