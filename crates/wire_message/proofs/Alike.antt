@@ -12,8 +12,7 @@ use Rattle.wire_message.specs.Format.Fields.{IsField, is_info_octet, is_trailer_
 use Rattle.wire_message.specs.Format.Messages.{Header, IsHeader}
 use Rattle.wire_message.specs.States.SoFar.{IsPlace, Spells, StoryStands, LeadsTo}
 use Rattle.wire_message.specs.Laws.Messages.{OctetsLeadOnAlike}
-use Rattle.wire_message.specs.States.HeaderSoFar.{is_octet_of, most_of, text_of}
-use Rattle.wire_message.specs.Parts.{ends, begins}
+use Rattle.wire_message.specs.Parts.{ends, begins, is_octet_of, most_of, text_of}
 use Rattle.wire_message.specs.declared.part.HeaderPart.{HeaderPart}
 use Rattle.wire_message.specs.declared.part.HeaderPart.TheVariants.{Source}
 use Rattle.wire_message.specs.declared.part.HeaderTexts.{HeaderTexts}

@@ -10,8 +10,7 @@ use Rattle.iim_dataset.specs.Format.Octets.{is_digit, is_letter}
 use Rattle.wire_message.specs.Format.Messages.{Header, IsHeader, IsMessage, IsTrailer}
 use Rattle.wire_message.specs.Format.Layers.{MessageLanguage, MessageLivesWith, MessageDiesAt}
 use Rattle.wire_message.specs.States.SoFar.{IsPlace, Spells}
-use Rattle.wire_message.specs.States.HeaderSoFar.{is_octet_of, most_of, text_of, begun}
-use Rattle.wire_message.specs.Parts.{ends, begins}
+use Rattle.wire_message.specs.Parts.{ends, begins, is_octet_of, most_of, text_of, begun}
 use Rattle.wire_message.specs.declared.part.HeaderPart.{HeaderPart}
 use Rattle.wire_message.specs.declared.part.HeaderPart.TheVariants.{Source, Number, Priority, Category, Words}
 use Rattle.wire_message.specs.declared.part.HeaderTexts.{HeaderTexts}

@@ -9,8 +9,7 @@ use Rattle.wire_message.specs.Format.Fields.{is_filler_octet, max_filler}
 use Rattle.wire_message.specs.Format.Messages.{Header, IsHeader}
 use Rattle.wire_message.specs.States.SoFar.{IsPlace, Spells, StoryStands}
 use Rattle.wire_message.specs.Steps.{AddsNoText, TakesSome}
-use Rattle.wire_message.specs.States.HeaderSoFar.{text_of}
-use Rattle.wire_message.specs.Parts.{ends, begins}
+use Rattle.wire_message.specs.Parts.{ends, begins, text_of}
 use Rattle.wire_message.specs.declared.part.HeaderPart.{HeaderPart}
 use Rattle.wire_message.specs.declared.part.HeaderTexts.{HeaderTexts}
 use Rattle.wire_message.specs.declared.place.Place.{Place}

@@ -3,9 +3,8 @@ use Rattle.std.proofs.Common.{◌≡◌, ℕ, ◌+◌, ◌<◌, ◌≤◌, Bool,
 use Rattle.std.proofs.lemmas.Bool.{or_right, eqb-true}
 use Rattle.iim_dataset.specs.Format.Octets.{is_digit, is_letter}
 use Rattle.wire_message.specs.Format.Fields.{Are, IsField, is_alphanumeric, is_filler_octet, max_source, max_number, max_priority, max_category, max_words}
-use Rattle.wire_message.specs.States.HeaderSoFar.{is_octet_of, most_of, text_of, so_far, begun}
-use Rattle.wire_message.specs.States.SoFar.{IsPlace, Spells, StoryStands}
-use Rattle.wire_message.specs.Parts.{ends, begins}
+use Rattle.wire_message.specs.States.SoFar.{IsPlace, Spells, StoryStands, so_far}
+use Rattle.wire_message.specs.Parts.{ends, begins, is_octet_of, most_of, text_of, begun}
 use Rattle.wire_message.specs.declared.part.HeaderPart.{HeaderPart}
 use Rattle.wire_message.specs.declared.part.HeaderPart.TheVariants.{Source, Number, Priority, Category, Words}
 use Rattle.wire_message.specs.declared.part.HeaderTexts.{HeaderTexts}

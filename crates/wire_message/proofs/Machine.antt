@@ -6,8 +6,7 @@ use Rattle.arrayvec.specs.ArrayVec.{ArrayVec}
 use Rattle.wire_message.specs.Format.Fields.{Are, is_alphanumeric, is_info_octet, is_trailer_octet, is_filler_octet, is_text_octet, max_filler, max_source, max_number, max_priority, max_category, max_words, max_info, max_trailer}
 use Rattle.iim_dataset.specs.Format.Octets.{is_digit, is_letter}
 use Rattle.wire_message.specs.Format.Messages.{Header, header_of, IsFiller}
-use Rattle.wire_message.specs.States.HeaderSoFar.{is_octet_of, most_of, text_of}
-use Rattle.wire_message.specs.Parts.{ends, begins}
+use Rattle.wire_message.specs.Parts.{ends, begins, is_octet_of, most_of, text_of}
 use Rattle.wire_message.specs.declared.part.HeaderPart.{HeaderPart}
 use Rattle.wire_message.specs.declared.part.HeaderPart.TheVariants.{Source, Number, Priority, Category, Words}
 use Rattle.wire_message.specs.declared.part.HeaderTexts.{HeaderTexts}

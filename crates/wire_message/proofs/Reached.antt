@@ -8,10 +8,9 @@ use Rattle.wire_story.specs.Format.Texts.{IsLine, is_line_octet}
 use Rattle.wire_message.specs.Format.Fields.{Are, is_filler_octet, is_text_octet, max_filler}
 use Rattle.wire_message.specs.Format.Messages.{Header, IsFiller, IsGap, IsMessage, SpellsInfo, fixed_header, has_feed}
 use Rattle.wire_message.specs.Format.Canonical.{packed_info}
-use Rattle.wire_message.specs.States.SoFar.{IsPlace, Spells, StoryStands, LeadsTo}
+use Rattle.wire_message.specs.States.SoFar.{IsPlace, Spells, StoryStands, LeadsTo, so_far}
 use Rattle.wire_message.specs.Format.Lengths.{IsOneOf, fixed_octets, least_head, least_of, greatest_of}
 use Rattle.wire_message.specs.Laws.Messages.{PlacesAreReached}
-use Rattle.wire_message.specs.States.HeaderSoFar.{so_far}
 use Rattle.wire_message.specs.declared.place.Place.{Place}
 use Rattle.wire_message.specs.declared.place.Place.TheVariants.{Filler, InHeader, Info, Gap, Text, Trailer, AfterEnd}
 use Rattle.wire_story.proofs.Spans.{Are-cons, Are-append}

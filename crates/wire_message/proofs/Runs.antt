@@ -4,9 +4,8 @@ use Rattle.std.proofs.lemmas.Bool.{or_cases, eqb-true, and_from, or_right, lt-lt
 use Rattle.wire_message.specs.Format.Fields.{Are, IsField, is_alphanumeric, is_info_octet, is_trailer_octet, is_filler_octet, is_text_octet, max_filler, max_number, max_words, max_info, max_trailer}
 use Rattle.iim_dataset.specs.Format.Octets.{is_digit}
 use Rattle.wire_message.specs.Format.Messages.{Header, header_of, IsHeader, IsMessage, IsFiller, IsGap, IsTrailer, SpellsInfo, fixed_header, has_feed}
-use Rattle.wire_message.specs.States.SoFar.{IsPlace, Spells}
-use Rattle.wire_message.specs.States.HeaderSoFar.{is_octet_of, most_of, text_of, so_far}
-use Rattle.wire_message.specs.Parts.{ends, begins}
+use Rattle.wire_message.specs.States.SoFar.{IsPlace, Spells, so_far}
+use Rattle.wire_message.specs.Parts.{ends, begins, is_octet_of, most_of, text_of}
 use Rattle.wire_message.specs.declared.part.HeaderPart.{HeaderPart}
 use Rattle.wire_message.specs.declared.part.HeaderPart.TheVariants.{Source, Number, Priority, Category, Words}
 use Rattle.wire_message.specs.declared.part.HeaderTexts.{HeaderTexts}

@@ -7,8 +7,7 @@ use Rattle.wire_message.specs.Format.Fields.{is_info_octet, is_trailer_octet, is
 use Rattle.wire_message.specs.Format.Messages.{Header}
 use Rattle.wire_message.specs.States.SoFar.{IsPlace}
 use Rattle.wire_message.specs.Steps.{DiesWith}
-use Rattle.wire_message.specs.States.HeaderSoFar.{is_octet_of, most_of, text_of}
-use Rattle.wire_message.specs.Parts.{ends}
+use Rattle.wire_message.specs.Parts.{ends, is_octet_of, most_of, text_of}
 use Rattle.wire_message.specs.declared.part.HeaderPart.{HeaderPart}
 use Rattle.wire_message.specs.declared.part.HeaderTexts.{HeaderTexts}
 use Rattle.wire_message.specs.declared.place.Place.{Place}

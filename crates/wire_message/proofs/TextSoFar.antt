@@ -10,9 +10,8 @@ use Rattle.wire_message.specs.Format.Fields.{Are, IsField, is_alphanumeric, is_i
 use Rattle.iim_dataset.specs.Format.Octets.{is_digit, is_letter}
 use Rattle.wire_message.specs.Format.Messages.{Header, IsHeader, IsFiller, SpellsInfo, fixed_header}
 use Rattle.wire_message.specs.Format.Layers.{after_stx, text_so_far, story_tokens_of}
-use Rattle.wire_message.specs.States.SoFar.{IsPlace, Spells}
+use Rattle.wire_message.specs.States.SoFar.{IsPlace, Spells, so_far}
 use Rattle.wire_message.specs.States.Reading.{head_read}
-use Rattle.wire_message.specs.States.HeaderSoFar.{so_far}
 use Rattle.wire_message.specs.declared.part.HeaderPart.{HeaderPart}
 use Rattle.wire_message.specs.declared.part.HeaderPart.TheVariants.{Source, Number, Priority, Category, Words}
 use Rattle.wire_message.specs.declared.part.HeaderTexts.{HeaderTexts}

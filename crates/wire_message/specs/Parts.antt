@@ -2,16 +2,45 @@
 use Rattle.std.specs.Prelude.{◌≡◌, ℕ, ◌+◌, ◌<◌, ◌&&◌, ◌||◌, ◌==◌, nat_lt, if◌then◌else◌, Bool, false, List, [], ◌∷◌, length, slice_index}
 use Rattle.iim_dataset.specs.Format.Characters.{lf, sp}
 use Rattle.wire_story.specs.declared.reader.TextReader.{TextReader}
-use Rattle.wire_message.specs.Format.Fields.{is_info_octet, is_trailer_octet, is_filler_octet, max_filler, max_info, max_trailer}
-use Rattle.iim_dataset.specs.Format.Octets.{is_digit}
-use Rattle.wire_message.specs.Format.Messages.{Header}
+use Rattle.wire_message.specs.Format.Fields.{is_alphanumeric, is_info_octet, is_trailer_octet, is_filler_octet, max_filler, max_source, max_number, max_priority, max_category, max_words, max_info, max_trailer}
+use Rattle.iim_dataset.specs.Format.Octets.{is_digit, is_letter}
+use Rattle.wire_message.specs.Format.Messages.{Header, header_of}
 use Rattle.wire_message.specs.Steps.{TakesSome}
-use Rattle.wire_message.specs.States.HeaderSoFar.{is_octet_of, most_of, text_of, begun}
 use Rattle.wire_message.specs.declared.part.HeaderPart.{HeaderPart}
 use Rattle.wire_message.specs.declared.part.HeaderPart.TheVariants.{Source, Number, Priority, Category, Words}
 use Rattle.wire_message.specs.declared.part.HeaderTexts.{HeaderTexts}
 use Rattle.wire_message.specs.declared.place.Place.{Place}
 use Rattle.wire_message.specs.declared.place.Place.TheVariants.{Filler, InHeader, Info, Gap, Text, Trailer, AfterEnd}
+
+-- ---- the parts of a header before its info
+
+-- the octets that it is made of
+abbrev pub is_octet_of : HeaderPart → ℕ → Bool
+is_octet_of Source = is_letter
+is_octet_of Category = is_alphanumeric
+is_octet_of _ = is_digit
+
+-- how many of them it has at most
+abbrev pub most_of : HeaderPart → ℕ
+most_of Source = max_source
+most_of Number = max_number
+most_of Priority = max_priority
+most_of Category = max_category
+most_of Words = max_words
+
+-- what has come of it
+abbrev pub text_of : HeaderPart → HeaderTexts → List ℕ
+text_of Source t = t.source.items
+text_of Number t = t.number.items
+text_of Priority t = t.priority.items
+text_of Category t = t.category.items
+text_of Words t = t.words.items
+
+-- the header of the parts, its info empty so far
+abbrev pub begun : HeaderTexts → Header
+begun t = header_of t.source.items t.number.items t.priority.items t.category.items t.words.items []
+
+-- ---- all parts
 
 -- The octet lengthens a gap of `count` octets, an LF among them or not, so that STX can still come.
 abbrev pub lengthens_gap : ℕ → Bool → ℕ → Bool

@@ -1,4 +1,3 @@
-pub mod HeaderSoFar
 pub mod SoFar
 pub mod Reading
 pub mod Saved

@@ -1,7 +1,7 @@
 //! The parts of a header that are read before its info, and what has come of them.
 
 ghost use Rattle.std.specs.Prelude.{◌≡◌};
-ghost use Rattle.wire_message.specs.States.HeaderSoFar.{text_of};
+ghost use Rattle.wire_message.specs.Parts.{text_of};
 
 use crate::lengths::{MAX_CATEGORY, MAX_NUMBER, MAX_PRIORITY, MAX_SOURCE, MAX_WORDS};
 use arrayvec::ArrayVec;

@@ -2,9 +2,8 @@
 
 ghost use Rattle.std.specs.Prelude.{◌≡◌, ◌<◌, ◌&&◌, nat_lt, IfSome, IfNone, length, slice_index};
 ghost use Rattle.std.specs.Option.{unwrap_or};
-ghost use Rattle.wire_message.specs.States.HeaderSoFar.{text_of};
 ghost use Rattle.wire_message.specs.States.SoFar.{IsPlace};
-ghost use Rattle.wire_message.specs.Parts.{EndsPart, ends, begins};
+ghost use Rattle.wire_message.specs.Parts.{EndsPart, ends, begins, text_of};
 ghost use Rattle.wire_message.specs.Steps.{DiesWith, TakesSome};
 
 use crate::class::{Class, is_in};

@@ -4,7 +4,7 @@ use Rattle.wire_message.specs.Format.Fields.{max_filler}
 use Rattle.wire_message.specs.Format.Messages.{Header, fixed_header}
 use Rattle.wire_message.specs.Format.Canonical.{packed_info}
 use Rattle.wire_message.specs.States.Reading.{StandsAt}
-use Rattle.wire_message.specs.States.HeaderSoFar.{so_far}
+use Rattle.wire_message.specs.States.SoFar.{so_far}
 use Rattle.wire_message.specs.declared.place.Place.{Place}
 use Rattle.wire_message.specs.declared.place.Place.TheVariants.{Filler, InHeader, Info, Gap, Text, Trailer, AfterEnd}
 

@@ -3,12 +3,31 @@ use Rattle.std.specs.Prelude.{◌≡◌, ℕ, ◌≤◌, ◌||◌, nat_lt, IsTru
 use Rattle.iim_dataset.specs.Format.Characters.{soh, stx, etx, sp}
 use Rattle.wire_story.specs.Format.Texts.{AreLines}
 use Rattle.wire_story.specs.States.Reading as story
-use Rattle.wire_message.specs.Format.Fields.{Are, is_filler_octet, is_text_octet, max_filler, max_source, max_number, max_priority, max_category, max_words}
+use Rattle.wire_message.specs.Format.Fields.{Are, IsField, is_alphanumeric, is_filler_octet, is_text_octet, max_filler, max_source, max_number, max_priority, max_category, max_words}
+use Rattle.iim_dataset.specs.Format.Octets.{is_digit, is_letter}
 use Rattle.wire_message.specs.Format.Messages.{IsHeader, IsTrailer, IsFiller, IsGap, IsMessage, SpellsInfo, fixed_header, has_feed}
-use Rattle.wire_message.specs.States.HeaderSoFar.{AreParts, so_far}
+use Rattle.wire_message.specs.declared.part.HeaderPart.{HeaderPart}
 use Rattle.wire_message.specs.declared.part.HeaderPart.TheVariants.{Source, Number, Priority, Category, Words}
+use Rattle.wire_message.specs.declared.part.HeaderTexts.{HeaderTexts}
 use Rattle.wire_message.specs.declared.place.Place.{Place}
 use Rattle.wire_message.specs.declared.place.Place.TheVariants.{Filler, InHeader, Info, Gap, Text, Trailer, AfterEnd}
+
+-- ---- the parts of a header
+
+-- They are made of their octets, and each has so many of them at least, and so many at most.
+abbrev pub AreParts : (s s' n n' p p' c c' w w' : ℕ) → HeaderTexts → Type 0
+AreParts s s' n n' p p' c c' w w' t = IsField is_letter s s' t.source.items × IsField is_digit n n' t.number.items × IsField is_digit p p' t.priority.items
+    × IsField is_alphanumeric c c' t.category.items × IsField is_digit w w' t.words.items
+
+-- the octets after SOH up to the part that is being read: the number follows the source at once, and SP stands between other parts
+abbrev pub so_far : HeaderPart → HeaderTexts → List ℕ
+so_far Source t = t.source.items
+so_far Number t = t.source.items ++ t.number.items
+so_far Priority t = t.source.items ++ (t.number.items ++ (sp ∷ t.priority.items))
+so_far Category t = t.source.items ++ (t.number.items ++ (sp ∷ (t.priority.items ++ (sp ∷ t.category.items))))
+so_far Words t = t.source.items ++ (t.number.items ++ (sp ∷ (t.priority.items ++ (sp ∷ (t.category.items ++ (sp ∷ t.words.items))))))
+
+-- ---- all places
 
 -- What was read has lengths and octets with which a message can continue. Of a header the parts before the one that is being read
 -- have an octet at least, and so has the number, which its first digit begins; those after it have none.
