@@ -5,6 +5,8 @@ use Rattle.iim_places.proofs.Words.{MessagePlace, TagBegun, DataBegun, AllEnded,
 use Rattle.iim_places.proofs.Words.{text_octets, texts_octets, part_number, ticket_name, ticket_of}
 use Rattle.iim_fields.specs.Format.Faults.{joined}
 use Rattle.wire_message.specs.States.SoFar.{IsPlace}
+use Rattle.wire_message.specs.declared.part.HeaderPart.TheVariants as part
+use Rattle.wire_message.specs.declared.part.HeaderTexts.{HeaderTexts}
 use Rattle.wire_message.specs.declared.place.Place.{Place as Message}
 use Rattle.wire_message.specs.declared.place.Place.TheVariants as at
 use Rattle.iim_places.specs.Format.Tickets.{Place, number_octets, message_octets}
@@ -86,14 +88,21 @@ seven_length a b c d e f g short =
 abbrev pub AreShortIn : MessagePlace → Type 0
 AreShortIn m = AreShort m.source.items m.number.items m.priority.items m.category.items m.words.items m.info.items m.trailer.items
 
+none : (n most : ℕ) → n ≤ 0 → n ≤ most
+none n most h = omega (arith, h)
+
+-- the parts of a header so far
+seven_of : (t : HeaderTexts) → length t.source.items ≤ 8 → length t.number.items ≤ 8 → length t.priority.items ≤ 1 → length t.category.items ≤ 8 → length t.words.items ≤ 6
+    → AreShort t.source.items t.number.items t.priority.items t.category.items t.words.items [] []
+seven_of t s n p c w = seven t.source.items t.number.items t.priority.items t.category.items t.words.items [] [] s n p c w (nothing_fits 64) (nothing_fits 64)
+
 pub texts_at : (place : Message) → IsPlace place → AreShortIn (saved place)
 texts_at (at.Filler count) h = seven [] [] [] [] [] [] [] (nothing_fits 8) (nothing_fits 8) (nothing_fits 1) (nothing_fits 8) (nothing_fits 6) (nothing_fits 64) (nothing_fits 64)
-texts_at (at.Source s) h = seven s.items [] [] [] [] [] [] h.2 (nothing_fits 8) (nothing_fits 1) (nothing_fits 8) (nothing_fits 6) (nothing_fits 64) (nothing_fits 64)
-texts_at (at.Number s n) h = seven s.items n.items [] [] [] [] [] h.0.2 h.1.2 (nothing_fits 1) (nothing_fits 8) (nothing_fits 6) (nothing_fits 64) (nothing_fits 64)
-texts_at (at.Priority s n) h = seven s.items n.items [] [] [] [] [] h.0.2 h.1.2 (nothing_fits 1) (nothing_fits 8) (nothing_fits 6) (nothing_fits 64) (nothing_fits 64)
-texts_at (at.PriorityRead s n p) (hs, hn, hp) = seven s.items n.items p.items [] [] [] [] hs.2 hn.2 hp.2 (nothing_fits 8) (nothing_fits 6) (nothing_fits 64) (nothing_fits 64)
-texts_at (at.Category s n p c) (hs, hn, hp, hc) = seven s.items n.items p.items c.items [] [] [] hs.2 hn.2 hp.2 hc.2 (nothing_fits 6) (nothing_fits 64) (nothing_fits 64)
-texts_at (at.Words s n p c w) (hs, hn, hp, hc, hw) = seven s.items n.items p.items c.items w.items [] [] hs.2 hn.2 hp.2 hc.2 hw.2 (nothing_fits 64) (nothing_fits 64)
+texts_at (at.InHeader part.Source t) (hs, hn, hp, hc, hw) = seven_of t hs.2 (none _ 8 hn.2) (none _ 1 hp.2) (none _ 8 hc.2) (none _ 6 hw.2)
+texts_at (at.InHeader part.Number t) (hs, hn, hp, hc, hw) = seven_of t hs.2 hn.2 (none _ 1 hp.2) (none _ 8 hc.2) (none _ 6 hw.2)
+texts_at (at.InHeader part.Priority t) (hs, hn, hp, hc, hw) = seven_of t hs.2 hn.2 hp.2 (none _ 8 hc.2) (none _ 6 hw.2)
+texts_at (at.InHeader part.Category t) (hs, hn, hp, hc, hw) = seven_of t hs.2 hn.2 hp.2 hc.2 (none _ 6 hw.2)
+texts_at (at.InHeader part.Words t) (hs, hn, hp, hc, hw) = seven_of t hs.2 hn.2 hp.2 hc.2 hw.2
 texts_at (at.Info h) k = seven h.source h.number h.priority h.category h.words h.info [] k.source.2 k.number.2 k.priority.2 k.category.2 k.words.2 k.info.2 (nothing_fits 64)
 texts_at (at.Gap h count feed) (k, some, few, feeds) = seven h.source h.number h.priority h.category h.words h.info [] k.source.2 k.number.2 k.priority.2 k.category.2 k.words.2 k.info.2 (nothing_fits 64)
 texts_at (at.Text h (Some held)) (k, more) = seven h.source h.number h.priority h.category h.words h.info [] k.source.2 k.number.2 k.priority.2 k.category.2 k.words.2 k.info.2 (nothing_fits 64)

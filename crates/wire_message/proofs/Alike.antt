@@ -1,6 +1,6 @@
 -- From the same place the same octets lead on alike.
 use Rattle.std.proofs.Common.{◌≡◌, ℕ, ◌+◌, ◌<◌, ◌≤◌, Bool, true, false, ◌&&◌, ◌||◌, ◌==◌, nat_lt, List, [], ◌∷◌, ◌++◌, length, Option, Some, None, refl, sym, subst, ◌∙◌, arith, append_assoc, append-nil}
-use Rattle.std.proofs.lemmas.Bool.{and_parts, or_right, eqb-true, ltb-true}
+use Rattle.std.proofs.lemmas.Bool.{and_parts, eqb-true, ltb-true}
 use Rattle.std.proofs.lemmas.List.{append_cancel_left}
 use Rattle.std.proofs.lemmas.Option.{same_Some}
 use Rattle.arrayvec.specs.ArrayVec.{ArrayVec}
@@ -8,18 +8,24 @@ use Rattle.wire_story.specs.Format.Texts.{AreLines, Holds}
 use Rattle.wire_story.specs.States.Reading as story
 use Rattle.wire_story.specs.Laws.Texts as stories
 use Rattle.wire_story.specs.declared.reader.TextReader.{TextReader}
-use Rattle.wire_message.specs.Format.Fields.{IsField, is_alphanumeric, is_info_octet, is_trailer_octet, is_filler_octet, is_text_octet, max_filler, max_source, max_number, max_category, max_words, max_info, max_trailer}
-use Rattle.iim_dataset.specs.Format.Octets.{is_digit, is_letter}
+use Rattle.wire_message.specs.Format.Fields.{IsField, is_info_octet, is_trailer_octet, is_filler_octet, is_text_octet, max_filler, max_info, max_trailer}
 use Rattle.wire_message.specs.Format.Messages.{Header, IsHeader}
 use Rattle.wire_message.specs.States.SoFar.{IsPlace, Spells, StoryStands, LeadsTo}
 use Rattle.wire_message.specs.Laws.Messages.{OctetsLeadOnAlike}
+use Rattle.wire_message.specs.Parts.{ends, begins, is_octet_of, most_of, text_of}
+use Rattle.wire_message.specs.declared.part.HeaderPart.{HeaderPart}
+use Rattle.wire_message.specs.declared.part.HeaderPart.TheVariants.{Source}
+use Rattle.wire_message.specs.declared.part.HeaderTexts.{HeaderTexts}
 use Rattle.wire_message.specs.declared.place.Place.{Place}
-use Rattle.wire_message.specs.declared.place.Place.TheVariants.{Filler, Source, Number, Priority, PriorityRead, Category, Words, Info, Gap, Text, Trailer, AfterEnd}
-use Rattle.wire_message.proofs.Machine.{of, begun, more_info, guarded, next, run, run_parts, and_then_place}
+use Rattle.wire_message.specs.declared.place.Place.TheVariants.{Filler, InHeader, Info, Gap, Text, Trailer, AfterEnd}
+use Rattle.wire_message.proofs.Machine.{of, no_texts, put, more_info, guarded, next, run, run_parts, and_then_place}
 use Rattle.wire_message.proofs.Runs.{unread, spelled_runs}
-use Rattle.wire_message.proofs.Alive.{begun_header}
+use Rattle.wire_message.proofs.Alive.{no_texts_yet}
+use Rattle.wire_message.specs.Steps.{TakesSome}
+use Rattle.wire_message.proofs.Goings.{part_ends, info_to_gap, gap_on, trailer_ends, end_on}
+use Rattle.wire_message.proofs.HeaderParts.{longer_is, longer_spells}
 use Rattle.wire_message.proofs.TextSoFar.{none_yet, text_at}
-use Rattle.wire_message.proofs.Transitions.{field_more, field_one, field_none, field_from, one_is, filler_more, filler_soh, source_more, source_number, number_more, number_space, space_priority, priority_space, category_more, category_space, words_more, words_space, words_gap, info_more, info_gap, gap_more, gap_stx, text_more, text_etx, trailer_more, trailer_eot, end_more}
+use Rattle.wire_message.proofs.Transitions.{field_more, field_none, one_is, filler_more, filler_soh, info_more, gap_stx, text_more, text_etx, trailer_more}
 
 -- ---- octets that stand at a place, whatever its reader of the text
 
@@ -47,6 +53,13 @@ Continues p ys q = (more : List ℕ) × ((xs text : List ℕ) → Stands xs text
 quiet : (p q : Place) (ys : List ℕ) → ((xs text : List ℕ) → Stands xs text p → Stands (xs ++ ys) text q) → Continues p ys q
 quiet p q ys f = ([], λ xs text s. subst (λ (t : List ℕ). Stands (xs ++ ys) t q) (sym (append-nil text)) (f xs text s))
 
+bare_of : (p : Place) → IsPlace p → IsBare p
+bare_of (Text h reader) i = i.0
+bare_of p i = i
+
+quiet_takes : (p q : Place) (b : ℕ) → (IsBare p → TakesSome p (b ∷ []) q 1) → Continues p (b ∷ []) q
+quiet_takes p q b takes = quiet p q (b ∷ []) (λ xs text s. let t = takes s.bare in record { bare = bare_of q t.is_place; spelled = t.adds xs text s.spelled })
+
 quiet_at : (p q : Place) (b k : ℕ) → (b == k) ≡ true → ((xs text : List ℕ) → Stands xs text p → Stands (xs ++ (k ∷ [])) text q) → Continues p (b ∷ []) q
 quiet_at p q b k t f = subst (λ (n : ℕ). Continues p (n ∷ []) q) (sym (eqb-true b k t)) (quiet p q (k ∷ []) f)
 
@@ -65,12 +78,6 @@ one_more test low least most xs b h t le =
     let lt : length xs < most = ltb-true (length xs) most parts.1 in
     field_more test low least most xs (b ∷ []) h (one_is test b parts.0) (omega (arith, lt)) (omega (arith, le))
 
--- a part has an octet
-some_of : (x : Bool) (test : ℕ → Bool) (most : ℕ) (xs : List ℕ) → (x && nat_lt 0 (length xs)) ≡ true → IsField test 0 most xs → IsField test 1 most xs
-some_of x test most xs t h =
-    let lt : 0 < length xs = ltb-true 0 (length xs) (and_parts x (nat_lt 0 (length xs)) t).1 in
-    field_from test 1 most xs h (omega (arith, lt))
-
 from_filler : (k b : ℕ) (q : Place) → next (Filler k) b ≡ Some q → Continues (Filler k) (b ∷ []) q
 from_filler k b q e = chosen (Continues (Filler k) (b ∷ [])) _ _ _ q e
     (λ t.
@@ -81,82 +88,21 @@ from_filler k b q e = chosen (Continues (Filler k) (b ∷ [])) _ _ _ q e
       spelled = filler_more xs text (b ∷ []) k (one_is is_filler_octet b fill.0) (omega (arith, lt)) s.spelled;
     }))
     (λ e. chosen (Continues (Filler k) (b ∷ [])) _ _ _ q e
-    (λ t. quiet_at (Filler k) (Source (of [])) b 1 t (λ xs text s. record { bare = field_none is_letter max_source; spelled = filler_soh xs text k s.spelled }))
+    (λ t. quiet_at (Filler k) (InHeader Source no_texts) b 1 t (λ xs text s. record { bare = no_texts_yet; spelled = filler_soh xs text k s.spelled }))
     (no_place (Continues (Filler k) (b ∷ [])) q))
 
-from_source : (s : ArrayVec ℕ) (b : ℕ) (q : Place) → next (Source s) b ≡ Some q → Continues (Source s) (b ∷ []) q
-from_source s b q e = chosen (Continues (Source s) (b ∷ [])) _ _ _ q e
-    (λ t. quiet (Source s) (Source (of (s.items ++ (b ∷ [])))) (b ∷ []) (λ xs text at. record {
-      bare = one_more is_letter 0 0 max_source s.items b at.bare t (omega arith);
-      spelled = source_more xs text (b ∷ []) s at.spelled;
+from_part : (part : HeaderPart) (t : HeaderTexts) (b : ℕ) (q : Place) → next (InHeader part t) b ≡ Some q → Continues (InHeader part t) (b ∷ []) q
+from_part part t b q e = chosen (Continues (InHeader part t) (b ∷ [])) _ _ _ q e
+    (λ on.
+    let parts = and_parts (is_octet_of part b) (nat_lt (length (text_of part t)) (most_of part)) on in
+    let lt : length (text_of part t) < most_of part = ltb-true (length (text_of part t)) (most_of part) parts.1 in
+    quiet (InHeader part t) (InHeader part (put part (text_of part t ++ (b ∷ [])) t)) (b ∷ []) (λ xs text at. record {
+      bare = longer_is part t (b ∷ []) at.bare (one_is (is_octet_of part) b parts.0) (omega (arith, lt));
+      spelled = longer_spells part t xs text (b ∷ []) at.spelled;
     }))
-    (λ e. chosen (Continues (Source s) (b ∷ [])) _ _ _ q e
-    (λ t. quiet (Source s) (Number s (of (b ∷ []))) (b ∷ []) (λ xs text at. record {
-      bare = (some_of (is_digit b) is_letter max_source s.items t at.bare, field_one is_digit max_number b (and_parts (is_digit b) (nat_lt 0 (length s.items)) t).0 (omega arith));
-      spelled = source_number xs text s b at.spelled;
-    }))
-    (no_place (Continues (Source s) (b ∷ [])) q))
-
-from_number : (s n : ArrayVec ℕ) (b : ℕ) (q : Place) → next (Number s n) b ≡ Some q → Continues (Number s n) (b ∷ []) q
-from_number s n b q e = chosen (Continues (Number s n) (b ∷ [])) _ _ _ q e
-    (λ t. quiet (Number s n) (Number s (of (n.items ++ (b ∷ [])))) (b ∷ []) (λ xs text at. record {
-      bare = (at.bare.0, one_more is_digit 1 1 max_number n.items b at.bare.1 t (omega arith));
-      spelled = number_more xs text (b ∷ []) s n at.spelled;
-    }))
-    (λ e. chosen (Continues (Number s n) (b ∷ [])) _ _ _ q e
-    (λ t. quiet_at (Number s n) (Priority s n) b 32 t (λ xs text at. record { bare = at.bare; spelled = number_space xs text s n at.spelled }))
-    (no_place (Continues (Number s n) (b ∷ [])) q))
-
-from_priority : (s n : ArrayVec ℕ) (b : ℕ) (q : Place) → next (Priority s n) b ≡ Some q → Continues (Priority s n) (b ∷ []) q
-from_priority s n b q e = chosen (Continues (Priority s n) (b ∷ [])) _ _ _ q e
-    (λ t. quiet (Priority s n) (PriorityRead s n (of (b ∷ []))) (b ∷ []) (λ xs text at. record {
-      bare = (at.bare.0, at.bare.1, field_one is_digit 1 b t (omega arith));
-      spelled = space_priority xs text s n b at.spelled;
-    }))
-    (no_place (Continues (Priority s n) (b ∷ [])) q)
-
-from_read : (s n p : ArrayVec ℕ) (b : ℕ) (q : Place) → next (PriorityRead s n p) b ≡ Some q → Continues (PriorityRead s n p) (b ∷ []) q
-from_read s n p b q e = chosen (Continues (PriorityRead s n p) (b ∷ [])) _ _ _ q e
-    (λ t. quiet_at (PriorityRead s n p) (Category s n p (of [])) b 32 t (λ xs text at. record {
-      bare = (at.bare.0, at.bare.1, at.bare.2, field_none is_alphanumeric max_category);
-      spelled = priority_space xs text s n p at.spelled;
-    }))
-    (no_place (Continues (PriorityRead s n p) (b ∷ [])) q)
-
-from_category : (s n p c : ArrayVec ℕ) (b : ℕ) (q : Place) → next (Category s n p c) b ≡ Some q → Continues (Category s n p c) (b ∷ []) q
-from_category s n p c b q e = chosen (Continues (Category s n p c) (b ∷ [])) _ _ _ q e
-    (λ t. quiet (Category s n p c) (Category s n p (of (c.items ++ (b ∷ [])))) (b ∷ []) (λ xs text at. record {
-      bare = (at.bare.0, at.bare.1, at.bare.2, one_more is_alphanumeric 0 0 max_category c.items b at.bare.3 t (omega arith));
-      spelled = category_more xs text (b ∷ []) s n p c at.spelled;
-    }))
-    (λ e. chosen (Continues (Category s n p c) (b ∷ [])) _ _ _ q e
-    (λ t. quiet_at (Category s n p c) (Words s n p c (of [])) b 32 (and_parts (b == 32) (nat_lt 0 (length c.items)) t).0 (λ xs text at. record {
-      bare = (at.bare.0, at.bare.1, at.bare.2, some_of (b == 32) is_alphanumeric max_category c.items t at.bare.3, field_none is_digit max_words);
-      spelled = category_space xs text s n p c at.spelled;
-    }))
-    (no_place (Continues (Category s n p c) (b ∷ [])) q))
-
--- words and then the header that they end
-with_words : (x : Bool) (s n p c w : ArrayVec ℕ) → (x && nat_lt 0 (length w.items)) ≡ true → IsPlace (Words s n p c w) → IsHeader (begun s n p c w)
-with_words x s n p c w t i = begun_header s n p c w i (some_of x is_digit max_words w.items t i.4)
-
-from_words : (s n p c w : ArrayVec ℕ) (b : ℕ) (q : Place) → next (Words s n p c w) b ≡ Some q → Continues (Words s n p c w) (b ∷ []) q
-from_words s n p c w b q e = chosen (Continues (Words s n p c w) (b ∷ [])) _ _ _ q e
-    (λ t. quiet (Words s n p c w) (Words s n p c (of (w.items ++ (b ∷ [])))) (b ∷ []) (λ xs text at. record {
-      bare = (at.bare.0, at.bare.1, at.bare.2, at.bare.3, one_more is_digit 0 0 max_words w.items b at.bare.4 t (omega arith));
-      spelled = words_more xs text (b ∷ []) s n p c w at.spelled;
-    }))
-    (λ e. chosen (Continues (Words s n p c w) (b ∷ [])) _ _ _ q e
-    (λ t. quiet_at (Words s n p c w) (Info (begun s n p c w)) b 32 (and_parts (b == 32) (nat_lt 0 (length w.items)) t).0 (λ xs text at. record {
-      bare = with_words (b == 32) s n p c w t at.bare;
-      spelled = words_space xs text s n p c w at.spelled;
-    }))
-    (λ e. chosen (Continues (Words s n p c w) (b ∷ [])) _ _ _ q e
-    (λ t. quiet (Words s n p c w) (Gap (begun s n p c w) 1 (b == 10)) (b ∷ []) (λ xs text at. record {
-      bare = (with_words (is_filler_octet b) s n p c w t at.bare, omega arith, omega arith, or_right (b == 10) true refl);
-      spelled = words_gap xs text s n p c w b (and_parts (is_filler_octet b) (nat_lt 0 (length w.items)) t).0 at.spelled;
-    }))
-    (no_place (Continues (Words s n p c w) (b ∷ [])) q)))
+    (λ e. chosen (Continues (InHeader part t) (b ∷ [])) _ _ _ q e
+    (λ on. quiet_takes (InHeader part t) (begins part b t) b (λ i. part_ends part t _ _ (b ∷ []) (omega arith) refl refl i on))
+    (no_place (Continues (InHeader part t) (b ∷ [])) q))
 
 longer_info : (h : Header) (b : ℕ) → IsHeader h → (is_info_octet b && nat_lt (length h.info) max_info) ≡ true → IsHeader (more_info h b)
 longer_info h b i t = record {
@@ -175,22 +121,12 @@ from_info h b q e = chosen (Continues (Info h) (b ∷ [])) _ _ _ q e
       spelled = info_more xs text (b ∷ []) h (more_info h b) refl at.spelled;
     }))
     (λ e. chosen (Continues (Info h) (b ∷ [])) _ _ _ q e
-    (λ t. quiet (Info h) (Gap h 1 (b == 10)) (b ∷ []) (λ xs text at. record {
-      bare = (at.bare, omega arith, omega arith, or_right (b == 10) true refl);
-      spelled = info_gap xs text h b t at.spelled;
-    }))
+    (λ t. quiet_takes (Info h) (Gap h 1 (b == 10)) b (λ i. info_to_gap h (b ∷ []) (omega arith) i t))
     (no_place (Continues (Info h) (b ∷ [])) q))
 
 from_gap : (h : Header) (k : ℕ) (feed : Bool) (b : ℕ) (q : Place) → next (Gap h k feed) b ≡ Some q → Continues (Gap h k feed) (b ∷ []) q
 from_gap h k feed b q e = chosen (Continues (Gap h k feed) (b ∷ [])) _ _ _ q e
-    (λ t.
-    let parts = and_parts (is_filler_octet b && nat_lt k max_filler) (feed || b == 10 || nat_lt (k + 1) max_filler) t in
-    let fill = and_parts (is_filler_octet b) (nat_lt k max_filler) parts.0 in
-    let lt : k < max_filler = ltb-true k max_filler fill.1 in
-    quiet (Gap h k feed) (Gap h (k + 1) (feed || b == 10)) (b ∷ []) (λ xs text at. record {
-      bare = (at.bare.0, omega arith, omega (arith, lt), parts.1);
-      spelled = gap_more xs text h k feed b fill.0 at.spelled;
-    }))
+    (λ t. quiet_takes (Gap h k feed) (Gap h (k + 1) (feed || b == 10)) b (λ i. gap_on h k feed (feed || b == 10) (b ∷ []) (omega arith) i t refl))
     (λ e. chosen (Continues (Gap h k feed) (b ∷ [])) _ _ _ q e
     (λ t.
     let parts = and_parts (b == 2) feed t in
@@ -217,31 +153,17 @@ from_trailer h v b q e = chosen (Continues (Trailer h v) (b ∷ [])) _ _ _ q e
       spelled = trailer_more xs text (b ∷ []) h v at.spelled;
     }))
     (λ e. chosen (Continues (Trailer h v) (b ∷ [])) _ _ _ q e
-    (λ t. quiet_at (Trailer h v) (AfterEnd h v 0) b 4 t (λ xs text at. record {
-      bare = (at.bare.0, at.bare.1, omega arith);
-      spelled = trailer_eot xs text h v at.bare.0 at.bare.1 at.spelled;
-    }))
+    (λ t. quiet_takes (Trailer h v) (AfterEnd h v 0) b (λ i. trailer_ends h v (b ∷ []) (omega arith) i (eqb-true b 4 t)))
     (no_place (Continues (Trailer h v) (b ∷ [])) q))
 
 from_end : (h : Header) (v : ArrayVec ℕ) (k b : ℕ) (q : Place) → next (AfterEnd h v k) b ≡ Some q → Continues (AfterEnd h v k) (b ∷ []) q
 from_end h v k b q e = chosen (Continues (AfterEnd h v k) (b ∷ [])) _ _ _ q e
-    (λ t.
-    let fill = and_parts (is_filler_octet b) (nat_lt k max_filler) t in
-    let lt : k < max_filler = ltb-true k max_filler fill.1 in
-    quiet (AfterEnd h v k) (AfterEnd h v (k + 1)) (b ∷ []) (λ xs text at. record {
-      bare = (at.bare.0, at.bare.1, omega (arith, lt));
-      spelled = end_more xs text (b ∷ []) h v k (one_is is_filler_octet b fill.0) (omega (arith, lt)) at.spelled;
-    }))
+    (λ t. quiet_takes (AfterEnd h v k) (AfterEnd h v (k + 1)) b (λ i. end_on h v k (b ∷ []) (omega arith) i t))
     (no_place (Continues (AfterEnd h v k) (b ∷ [])) q)
 
 octet_on : (p q : Place) (b : ℕ) → next p b ≡ Some q → Continues p (b ∷ []) q
 octet_on (Filler k) q b e = from_filler k b q e
-octet_on (Source s) q b e = from_source s b q e
-octet_on (Number s n) q b e = from_number s n b q e
-octet_on (Priority s n) q b e = from_priority s n b q e
-octet_on (PriorityRead s n p) q b e = from_read s n p b q e
-octet_on (Category s n p c) q b e = from_category s n p c b q e
-octet_on (Words s n p c w) q b e = from_words s n p c w b q e
+octet_on (InHeader part t) q b e = from_part part t b q e
 octet_on (Info h) q b e = from_info h b q e
 octet_on (Gap h k feed) q b e = from_gap h k feed b q e
 octet_on (Text h reader) q b e = from_text h reader b q e

@@ -1,20 +1,25 @@
 -- A message can continue from octets that spell a place, and not with an octet after which there is no place.
-use Rattle.std.proofs.Common.{◌≡◌, ℕ, ◌+◌, ◌<◌, ◌≤◌, Bool, true, false, ◌||◌, nat_lt, List, [], ◌∷◌, ◌++◌, length, Option, Some, None, refl, sym, ap, subst, ◌∙◌, arith, append_assoc, append-nil}
-use Rattle.std.proofs.lemmas.Bool.{ltb-true, or_right}
+use Rattle.std.proofs.Common.{◌≡◌, ℕ, ◌+◌, ◌<◌, ◌≤◌, Bool, true, false, ◌||◌, nat_lt, List, [], ◌∷◌, ◌++◌, length, Option, Some, None, refl, sym, ap, subst, ◌∙◌, arith, inl, inr, append_assoc, append-nil, length-append}
+use Rattle.std.proofs.lemmas.Bool.{ltb-true, or_right, cases_lt}
 use Rattle.arrayvec.specs.ArrayVec.{ArrayVec}
 use Rattle.iim_dataset.specs.Format.Languages.{IsAlive}
 use Rattle.wire_story.specs.Format.Tokens.{Octet, End, with_end}
 use Rattle.wire_story.proofs.SoFar.{with_end-append, map_snoc, front_of, end_of}
-use Rattle.wire_message.specs.Format.Fields.{IsField, is_alphanumeric, is_trailer_octet, max_filler, max_source, max_number, max_category, max_words, max_trailer}
+use Rattle.wire_message.specs.Format.Fields.{Are, is_alphanumeric, is_trailer_octet, max_filler, max_source, max_trailer}
 use Rattle.iim_dataset.specs.Format.Octets.{is_digit, is_letter}
 use Rattle.wire_message.specs.Format.Messages.{Header, IsHeader, IsMessage, IsTrailer}
 use Rattle.wire_message.specs.Format.Layers.{MessageLanguage, MessageLivesWith, MessageDiesAt}
 use Rattle.wire_message.specs.States.SoFar.{IsPlace, Spells}
+use Rattle.wire_message.specs.Parts.{ends, begins, is_octet_of, most_of, text_of, begun}
+use Rattle.wire_message.specs.declared.part.HeaderPart.{HeaderPart}
+use Rattle.wire_message.specs.declared.part.HeaderPart.TheVariants.{Source, Number, Priority, Category, Words}
+use Rattle.wire_message.specs.declared.part.HeaderTexts.{HeaderTexts}
 use Rattle.wire_message.specs.declared.place.Place.{Place}
-use Rattle.wire_message.specs.declared.place.Place.TheVariants.{Filler, Source, Number, Priority, PriorityRead, Category, Words, Info, Gap, Text, Trailer, AfterEnd}
-use Rattle.wire_message.proofs.Machine.{of, begun, next, run, run_parts, first_step}
+use Rattle.wire_message.specs.declared.place.Place.TheVariants.{Filler, InHeader, Info, Gap, Text, Trailer, AfterEnd}
+use Rattle.wire_message.proofs.Machine.{of, no_texts, put, next, run, run_parts, first_step}
 use Rattle.wire_message.proofs.Runs.{unread, message_runs, spelled_runs}
-use Rattle.wire_message.proofs.Transitions.{filler_soh, source_more, source_number, number_space, space_priority, priority_space, category_more, category_space, words_more, words_gap, info_gap, gap_more, gap_stx, text_etx, trailer_eot, field_one, field_none}
+use Rattle.wire_message.proofs.Transitions.{filler_soh, info_gap, gap_more, gap_stx, text_etx, trailer_eot, field_none}
+use Rattle.wire_message.proofs.HeaderParts.{longer_is, longer_spells, next_is, next_spells}
 
 -- ---- each place can continue to a message
 
@@ -48,58 +53,65 @@ completes_gap xs text h k false i low high on l =
 completes_info : (xs text : List ℕ) (h : Header) → IsHeader h → Spells xs text (Info h) → Completes xs
 completes_info xs text h i l = then xs 10 (fed (xs ++ (10 ∷ [])) text h 1 i (omega arith) (omega arith) (info_gap xs text h 10 refl l))
 
-pub begun_header : (s n p c w : ArrayVec ℕ) → IsPlace (Words s n p c w) → IsField is_digit 1 max_words w.items → IsHeader (begun s n p c w)
-begun_header s n p c w i k = record { source = i.0; number = i.1; priority = i.2; category = i.3; words = k; info = (refl, omega arith, omega arith) }
+-- a part may have an octet
+sample : (part : HeaderPart) → (b : ℕ) × Are (is_octet_of part) (b ∷ []) × (1 ≤ most_of part)
+sample Source = (65, refl, omega arith)
+sample Number = (49, refl, omega arith)
+sample Priority = (49, refl, omega arith)
+sample Category = (65, refl, omega arith)
+sample Words = (49, refl, omega arith)
 
--- the words have an octet
-completes_counted : (xs text : List ℕ) (s n p c w : ArrayVec ℕ) → IsPlace (Words s n p c w) → IsField is_digit 1 max_words w.items → Spells xs text (Words s n p c w) → Completes xs
-completes_counted xs text s n p c w i k l =
-    then xs 10 (fed (xs ++ (10 ∷ [])) text (begun s n p c w) 1 (begun_header s n p c w i k) (omega arith) (omega arith) (words_gap xs text s n p c w 10 refl l))
+text_put : (part : HeaderPart) (t : HeaderTexts) (xs : List ℕ) → text_of part (put part xs t) ≡ xs
+text_put Source t xs = refl
+text_put Number t xs = refl
+text_put Priority t xs = refl
+text_put Category t xs = refl
+text_put Words t xs = refl
 
-completes_words : (xs text : List ℕ) (s n p c : ArrayVec ℕ) (w : List ℕ) → IsPlace (Words s n p c (of w)) → Spells xs text (Words s n p c (of w)) → Completes xs
-completes_words xs text s n p c [] i l =
-    let one : IsField is_digit 1 max_words (49 ∷ []) = field_one is_digit max_words 49 refl (omega arith) in
-    then xs 49 (completes_counted (xs ++ (49 ∷ [])) text s n p c (of (49 ∷ [])) (i.0, i.1, i.2, i.3, (one.0, omega arith, one.2)) one (words_more xs text (49 ∷ []) s n p c (of []) l))
-completes_words xs text s n p c (b ∷ w) i l = completes_counted xs text s n p c (of (b ∷ w)) i (i.4.0, omega arith, i.4.2) l
+abbrev FromAll : (HeaderTexts → Place) → Type 0
+FromAll at = (xs text : List ℕ) (t : HeaderTexts) → IsPlace (at t) → Spells xs text (at t) → Completes xs
 
--- the category has an octet
-completes_named : (xs text : List ℕ) (s n p c : ArrayVec ℕ) → IsField is_letter 1 max_source s.items → IsField is_digit 1 max_number n.items → IsField is_digit 1 1 p.items → IsField is_alphanumeric 1 max_category c.items
-    → Spells xs text (Category s n p c) → Completes xs
-completes_named xs text s n p c is' in' ip ic l =
-    then xs 32 (completes_words (xs ++ (32 ∷ [])) text s n p c [] (is', in', ip, ic, field_none is_digit max_words) (category_space xs text s n p c l))
+-- once a part has an octet, the one that ends it comes
+ended : (part : HeaderPart) (b : ℕ) → ends part b ≡ true → FromAll (begins part b)
+    → (xs text : List ℕ) (t : HeaderTexts) → IsPlace (InHeader part t) → 0 < length (text_of part t) → Spells xs text (InHeader part t) → Completes xs
+ended part b on more xs text t i some l = then xs b (more (xs ++ (b ∷ [])) text t (next_is part b t i on some) (next_spells part b t xs text i on l))
 
-completes_category : (xs text : List ℕ) (s n p : ArrayVec ℕ) (c : List ℕ) → IsPlace (Category s n p (of c)) → Spells xs text (Category s n p (of c)) → Completes xs
-completes_category xs text s n p [] i l =
-    then xs 65 (completes_named (xs ++ (65 ∷ [])) text s n p (of (65 ∷ [])) i.0 i.1 i.2 (field_one is_alphanumeric max_category 65 refl (omega arith)) (category_more xs text (65 ∷ []) s n p (of []) l))
-completes_category xs text s n p (b ∷ c) i l = completes_named xs text s n p (of (b ∷ c)) i.0 i.1 i.2 (i.3.0, omega arith, i.3.2) l
+completes_part : (part : HeaderPart) (b : ℕ) → ends part b ≡ true → FromAll (begins part b) → FromAll (λ t. InHeader part t)
+completes_part part b on more xs text t i l = elim (cases_lt 0 (length (text_of part t))) [
+  | inl some ↦ ended part b on more xs text t i some l
+  | inr few ↦
+      let one = sample part in
+      let long : List ℕ = text_of part t ++ (one.0 ∷ []) in
+      let size : length long ≡ length (text_of part t) + 1 = length-append (text_of part t) (one.0 ∷ []) in
+      then xs one.0 (ended part b on more (xs ++ (one.0 ∷ [])) text (put part long t) (longer_is part t (one.0 ∷ []) i one.1 (omega (arith, one.2, few)))
+      (omega (arith, ap length (text_put part t long), size)) (longer_spells part t xs text (one.0 ∷ []) l))
+]
 
-completes_read : (xs text : List ℕ) (s n p : ArrayVec ℕ) → IsPlace (PriorityRead s n p) → Spells xs text (PriorityRead s n p) → Completes xs
-completes_read xs text s n p i l =
-    then xs 32 (completes_category (xs ++ (32 ∷ [])) text s n p [] (i.0, i.1, i.2, field_none is_alphanumeric max_category) (priority_space xs text s n p l))
+completes_words : FromAll (λ t. InHeader Words t)
+completes_words = completes_part Words 32 refl (λ xs text t i l. completes_info xs text (begun t) i l)
 
-completes_priority : (xs text : List ℕ) (s n : ArrayVec ℕ) → IsPlace (Priority s n) → Spells xs text (Priority s n) → Completes xs
-completes_priority xs text s n i l =
-    then xs 49 (completes_read (xs ++ (49 ∷ [])) text s n (of (49 ∷ [])) (i.0, i.1, field_one is_digit 1 49 refl (omega arith)) (space_priority xs text s n 49 l))
+completes_category : FromAll (λ t. InHeader Category t)
+completes_category = completes_part Category 32 refl completes_words
 
-completes_number : (xs text : List ℕ) (s n : ArrayVec ℕ) → IsPlace (Number s n) → Spells xs text (Number s n) → Completes xs
-completes_number xs text s n i l = then xs 32 (completes_priority (xs ++ (32 ∷ [])) text s n i (number_space xs text s n l))
+completes_priority : FromAll (λ t. InHeader Priority t)
+completes_priority = completes_part Priority 32 refl completes_category
 
-completes_sent : (xs text : List ℕ) (s : ArrayVec ℕ) → IsField is_letter 1 max_source s.items → Spells xs text (Source s) → Completes xs
-completes_sent xs text s i l =
-    then xs 49 (completes_number (xs ++ (49 ∷ [])) text s (of (49 ∷ [])) (i, field_one is_digit max_number 49 refl (omega arith)) (source_number xs text s 49 l))
+completes_number : FromAll (λ t. InHeader Number t)
+completes_number = completes_part Number 32 refl completes_priority
 
-completes_source : (xs text : List ℕ) (s : List ℕ) → IsPlace (Source (of s)) → Spells xs text (Source (of s)) → Completes xs
-completes_source xs text [] i l = then xs 65 (completes_sent (xs ++ (65 ∷ [])) text (of (65 ∷ [])) (field_one is_letter max_source 65 refl (omega arith)) (source_more xs text (65 ∷ []) (of []) l))
-completes_source xs text (b ∷ s) i l = completes_sent xs text (of (b ∷ s)) (i.0, omega arith, i.2) l
+completes_source : FromAll (λ t. InHeader Source t)
+completes_source = completes_part Source 49 refl (λ xs text t i l. completes_number xs text (put Number (49 ∷ []) t) i l)
+
+pub no_texts_yet : IsPlace (InHeader Source no_texts)
+no_texts_yet = (field_none is_letter max_source, field_none is_digit 0, field_none is_digit 0, field_none is_alphanumeric 0, field_none is_digit 0)
 
 pub completes : (xs text : List ℕ) (p : Place) → IsPlace p → Spells xs text p → Completes xs
-completes xs text (Filler k) i l = then xs 1 (completes_source (xs ++ (1 ∷ [])) text [] (field_none is_letter max_source) (filler_soh xs text k l))
-completes xs text (Source s) i l = completes_source xs text s.items i l
-completes xs text (Number s n) i l = completes_number xs text s n i l
-completes xs text (Priority s n) i l = completes_priority xs text s n i l
-completes xs text (PriorityRead s n p) i l = completes_read xs text s n p i l
-completes xs text (Category s n p c) i l = completes_category xs text s n p c.items i l
-completes xs text (Words s n p c w) i l = completes_words xs text s n p c w.items i l
+completes xs text (Filler k) i l = then xs 1 (completes_source (xs ++ (1 ∷ [])) text no_texts no_texts_yet (filler_soh xs text k l))
+completes xs text (InHeader Source t) i l = completes_source xs text t i l
+completes xs text (InHeader Number t) i l = completes_number xs text t i l
+completes xs text (InHeader Priority t) i l = completes_priority xs text t i l
+completes xs text (InHeader Category t) i l = completes_category xs text t i l
+completes xs text (InHeader Words t) i l = completes_words xs text t i l
 completes xs text (Info h) i l = completes_info xs text h i l
 completes xs text (Gap h k feed) i l = completes_gap xs text h k feed i.0 i.1 i.2 i.3 l
 completes xs text (Text h reader) i l = completes_text xs text h i.0 l

@@ -1,19 +1,22 @@
 -- What some of the octets that are left do at a place.
-use Rattle.std.proofs.Common.{◌≡◌, ℕ, ◌+◌, ◌<◌, ◌≤◌, Bool, true, ◌&&◌, ◌||◌, ◌==◌, nat_lt, length, slice_index, List, [], ◌∷◌, ◌++◌, refl, sym, ap, subst, ◌∙◌, arith}
+use Rattle.std.proofs.Common.{◌≡◌, ℕ, ◌+◌, ◌<◌, Bool, true, ◌&&◌, ◌||◌, ◌==◌, nat_lt, length, slice_index, List, [], ◌∷◌, ◌++◌, refl, sym, subst, arith}
 use Rattle.std.proofs.lemmas.Bool.{and_parts, or_right, eqb-true, ltb-true}
 use Rattle.std.proofs.lemmas.List.{take_more}
 use Rattle.arrayvec.specs.ArrayVec.{ArrayVec}
 use Rattle.wire_story.specs.declared.reader.TextReader.{TextReader}
 use Rattle.wire_story.specs.States.Reading as story
-use Rattle.iim_dataset.specs.Format.Octets.{is_digit}
-use Rattle.wire_message.specs.Format.Fields.{IsField, is_alphanumeric, is_filler_octet, max_filler, max_category, max_words}
-use Rattle.wire_message.specs.Format.Messages.{Header, IsHeader, IsTrailer}
+use Rattle.wire_message.specs.Format.Fields.{is_filler_octet, max_filler}
+use Rattle.wire_message.specs.Format.Messages.{Header, IsHeader}
 use Rattle.wire_message.specs.States.SoFar.{IsPlace, Spells, StoryStands}
 use Rattle.wire_message.specs.Steps.{AddsNoText, TakesSome}
+use Rattle.wire_message.specs.Parts.{ends, begins, text_of}
+use Rattle.wire_message.specs.declared.part.HeaderPart.{HeaderPart}
+use Rattle.wire_message.specs.declared.part.HeaderTexts.{HeaderTexts}
 use Rattle.wire_message.specs.declared.place.Place.{Place}
-use Rattle.wire_message.specs.declared.place.Place.TheVariants.{Category, Words, Info, Gap, Text, Trailer, AfterEnd}
-use Rattle.wire_message.proofs.Machine.{of, begun, gap_leads_on}
-use Rattle.wire_message.proofs.Transitions.{field_from, field_none, category_space, words_space, words_gap, info_gap, gap_more, gap_stx, trailer_eot, end_more, one_is}
+use Rattle.wire_message.specs.declared.place.Place.TheVariants.{InHeader, Info, Gap, Text, Trailer, AfterEnd}
+use Rattle.wire_message.proofs.Machine.{gap_leads_on}
+use Rattle.wire_message.proofs.Transitions.{info_gap, gap_more, gap_stx, trailer_eot, end_more, one_is}
+use Rattle.wire_message.proofs.HeaderParts.{next_is, next_spells, next_story}
 
 -- one octet leads from a place to another
 pub takes_one : (p q : Place) (rest : List ℕ) → 0 < length rest → IsPlace q
@@ -27,25 +30,21 @@ takes_one p q rest some i adds tells = record {
   story = tells;
 }
 
-pub words_to_gap : (s n p c w v : ArrayVec ℕ) (h : Header) (rest : List ℕ) (feed : Bool) → 0 < length rest → v ≡ w → h ≡ begun s n p c v → IsHeader h
-    → is_filler_octet (slice_index rest 0) ≡ true → feed ≡ (slice_index rest 0 == 10) → TakesSome (Words s n p c w) rest (Gap h 1 feed) 1
-words_to_gap s n p c w v h rest feed some same head i fills e =
-    takes_one (Words s n p c w) (Gap h 1 feed) rest some (i, omega arith, omega arith, or_right feed true refl)
-    (λ before text l.
-    subst (λ (f : Bool). Spells (before ++ (slice_index rest 0 ∷ [])) text (Gap h 1 f)) (sym e)
-    (subst (λ (k : Header). Spells (before ++ (slice_index rest 0 ∷ [])) text (Gap k 1 (slice_index rest 0 == 10))) (sym (head ∙ ap (begun s n p c) same))
-    (words_gap before text s n p c w (slice_index rest 0) fills l)))
-    (λ text l. l)
+pub part_ends : (part : HeaderPart) (t : HeaderTexts) (p q : Place) (rest : List ℕ) → 0 < length rest → p ≡ InHeader part t → q ≡ begins part (slice_index rest 0) t → IsPlace p
+    → (ends part (slice_index rest 0) && nat_lt 0 (length (text_of part t))) ≡ true → TakesSome p rest q 1
+part_ends part t p q rest some is goes i on =
+    let b = slice_index rest 0 in
+    let at : IsPlace (InHeader part t) = subst IsPlace is i in
+    let parts = and_parts (ends part b) (nat_lt 0 (length (text_of part t))) on in
+    subst (λ (u : Place). TakesSome u rest q 1) (sym is)
+    (subst (λ (u : Place). TakesSome (InHeader part t) rest u 1) (sym goes)
+    (takes_one (InHeader part t) (begins part b t) rest some (next_is part b t at parts.0 (ltb-true 0 (length (text_of part t)) parts.1))
+    (λ before text l. next_spells part b t before text at parts.0 l) (λ text none. next_story part b t text none)))
 
-pub info_to_gap : (h k : Header) (rest : List ℕ) (feed : Bool) → 0 < length rest → k ≡ h → IsHeader h
-    → is_filler_octet (slice_index rest 0) ≡ true → feed ≡ (slice_index rest 0 == 10) → TakesSome (Info h) rest (Gap k 1 feed) 1
-info_to_gap h k rest feed some same i fills e =
-    takes_one (Info h) (Gap k 1 feed) rest some (subst IsHeader (sym same) i, omega arith, omega arith, or_right feed true refl)
-    (λ before text l.
-    subst (λ (f : Bool). Spells (before ++ (slice_index rest 0 ∷ [])) text (Gap k 1 f)) (sym e)
-    (subst (λ (g : Header). Spells (before ++ (slice_index rest 0 ∷ [])) text (Gap g 1 (slice_index rest 0 == 10))) (sym same)
-    (info_gap before text h (slice_index rest 0) fills l)))
-    (λ text l. l)
+pub info_to_gap : (h : Header) (rest : List ℕ) → 0 < length rest → IsHeader h → is_filler_octet (slice_index rest 0) ≡ true → TakesSome (Info h) rest (Gap h 1 (slice_index rest 0 == 10)) 1
+info_to_gap h rest some i fills =
+    let b = slice_index rest 0 in
+    takes_one (Info h) (Gap h 1 (b == 10)) rest some (i, omega arith, omega arith, or_right (b == 10) true refl) (λ before text l. info_gap before text h b fills l) (λ text l. l)
 
 pub gap_on : (h : Header) (k : ℕ) (feed now : Bool) (rest : List ℕ) → 0 < length rest → IsPlace (Gap h k feed) → gap_leads_on k feed (slice_index rest 0) ≡ true
     → now ≡ (feed || slice_index rest 0 == 10) → TakesSome (Gap h k feed) rest (Gap h (k + 1) now) 1
@@ -69,12 +68,10 @@ gap_ends h k feed reader rest some i j stands on =
     (gap_stx before text h k reader i.1 i.2 (subst (λ (f : Bool). Spells before text (Gap h k f)) parts.1 l)))
     (λ text none. subst (story.StandsAt reader) (sym none) stands)
 
-pub trailer_ends : (h : Header) (t v : ArrayVec ℕ) (rest : List ℕ) → 0 < length rest → IsPlace (Trailer h t) → v ≡ t → slice_index rest 0 ≡ 4 → TakesSome (Trailer h t) rest (AfterEnd h v 0) 1
-trailer_ends h t v rest some i same eot =
-    takes_one (Trailer h t) (AfterEnd h v 0) rest some (i.0, subst (λ (u : ArrayVec ℕ). IsTrailer u.items) (sym same) i.1, omega arith)
-    (λ before text l.
-    subst (λ (n : ℕ). Spells (before ++ (n ∷ [])) text (AfterEnd h v 0)) (sym eot)
-    (subst (λ (u : ArrayVec ℕ). Spells (before ++ (4 ∷ [])) text (AfterEnd h u 0)) (sym same) (trailer_eot before text h t i.0 i.1 l)))
+pub trailer_ends : (h : Header) (t : ArrayVec ℕ) (rest : List ℕ) → 0 < length rest → IsPlace (Trailer h t) → slice_index rest 0 ≡ 4 → TakesSome (Trailer h t) rest (AfterEnd h t 0) 1
+trailer_ends h t rest some i eot =
+    takes_one (Trailer h t) (AfterEnd h t 0) rest some (i.0, i.1, omega arith)
+    (λ before text l. subst (λ (n : ℕ). Spells (before ++ (n ∷ [])) text (AfterEnd h t 0)) (sym eot) (trailer_eot before text h t i.0 i.1 l))
     (λ text l. l)
 
 pub end_on : (h : Header) (t : ArrayVec ℕ) (k : ℕ) (rest : List ℕ) → 0 < length rest → IsPlace (AfterEnd h t k) → (is_filler_octet (slice_index rest 0) && nat_lt k max_filler) ≡ true → TakesSome (AfterEnd h t k) rest (AfterEnd h t (k + 1)) 1
@@ -85,19 +82,3 @@ end_on h t k rest some i on =
     takes_one (AfterEnd h t k) (AfterEnd h t (k + 1)) rest some (i.0, i.1, omega (arith, lt))
     (λ before text l. end_more before text (b ∷ []) h t k (one_is is_filler_octet b fill.0) (omega (arith, lt)) l)
     (λ text l. l)
-
-pub category_ends : (s n p c w : ArrayVec ℕ) (rest : List ℕ) → 0 < length rest → IsPlace (Category s n p c) → w.items ≡ []
-    → (slice_index rest 0 == 32 && nat_lt 0 (length c.items)) ≡ true → TakesSome (Category s n p c) rest (Words s n p c w) 1
-category_ends s n p c w rest some i none on =
-    let ends = and_parts (slice_index rest 0 == 32) (nat_lt 0 (length c.items)) on in
-    let full = field_from is_alphanumeric 1 max_category c.items i.3 (ltb-true 0 (length c.items) ends.1) in
-    let fresh = subst (IsField is_digit 0 max_words) (sym none) (field_none is_digit max_words) in
-    takes_one (Category s n p c) (Words s n p c w) rest some (i.0, i.1, i.2, full, fresh) (λ before text l.
-    subst (λ (b : ℕ). Spells (before ++ (b ∷ [])) text (Words s n p c w)) (sym (eqb-true (slice_index rest 0) 32 ends.0))
-    (subst (λ (xs : List ℕ). Spells (before ++ (32 ∷ [])) text (Words s n p c (of xs))) (sym none) (category_space before text s n p c l))) (λ text l. l)
-
-pub words_to_info : (s n p c w : ArrayVec ℕ) (h : Header) (rest : List ℕ) → 0 < length rest → h ≡ begun s n p c w → IsHeader h
-    → slice_index rest 0 ≡ 32 → TakesSome (Words s n p c w) rest (Info h) 1
-words_to_info s n p c w h rest some head i space =
-    takes_one (Words s n p c w) (Info h) rest some i (λ before text l. subst (λ (b : ℕ). Spells (before ++ (b ∷ [])) text (Info h)) (sym space)
-    (subst (λ (k : Header). Spells (before ++ (32 ∷ [])) text (Info k)) (sym head) (words_space before text s n p c w l))) (λ text l. l)

@@ -10,7 +10,7 @@ use Rattle.wire_message.specs.States.SoFar.{LeadsTo}
 use Rattle.wire_message.specs.States.Reading.{head_read, trailer_read}
 use Rattle.wire_message.specs.Laws.Messages.{TellsHeaderOf, HeadersAreToldFromStx, TrailersAreToldFromEtx, MessagesKeepTheirHeader, TrailersStandBetweenEtxAndEot}
 use Rattle.wire_message.specs.declared.place.Place.{Place}
-use Rattle.wire_message.specs.declared.place.Place.TheVariants.{Filler, Source, Number, Priority, PriorityRead, Category, Words, Info, Gap, Text, Trailer, AfterEnd}
+use Rattle.wire_message.specs.declared.place.Place.TheVariants.{Filler, InHeader, Info, Gap, Text, Trailer, AfterEnd}
 use Rattle.wire_message.proofs.OneReading.{one_head, message_begins}
 use Rattle.wire_message.proofs.TextSoFar.{is_not, after_is, before_is, before_none, any_none, any_found, none_after, no_stx, no_etx, after_head, each}
 use Rattle.wire_message.proofs.Transitions.{join2, join3}
@@ -32,7 +32,7 @@ begins_more octets more h b = record {
 
 pub header_kept : MessagesKeepTheirHeader
 header_kept octets more text trailer head other b m =
-    (one_head (octets ++ more) other head (message_begins (octets ++ more) other text trailer m) (begins_more octets more head b)).0
+    one_head (octets ++ more) other head (message_begins (octets ++ more) other text trailer m) (begins_more octets more head b)
 
 begins_has_stx : (octets : List ℕ) (h : Header) → BeginsWithHeader octets h → list_any (λ b. b == 2) octets ≡ true
 begins_has_stx octets h b =
@@ -47,7 +47,7 @@ is_told reader octets h e b = record {
   told = (λ some. begins_has_stx octets h b, λ stx. subst IsSome (sym e) refl);
   parts = λ head. (
     λ same. subst (BeginsWithHeader octets) (some_is h head (sym e ∙ same)) b,
-    λ other. e ∙ ap Some (one_head octets h head b other).0,
+    λ other. e ∙ ap Some (one_head octets h head b other),
   );
 }
 
@@ -67,12 +67,7 @@ before_stx octets text p l e = not_told (Some p) octets e (no_stx octets text p 
 
 header_at : (octets text : List ℕ) (p : Place) → LeadsTo octets text p → TellsHeaderOf (Some p) octets
 header_at octets text (Filler k) l = before_stx octets text (Filler k) l refl
-header_at octets text (Source s) l = before_stx octets text (Source s) l refl
-header_at octets text (Number s n) l = before_stx octets text (Number s n) l refl
-header_at octets text (Priority s n) l = before_stx octets text (Priority s n) l refl
-header_at octets text (PriorityRead s n p) l = before_stx octets text (PriorityRead s n p) l refl
-header_at octets text (Category s n p c) l = before_stx octets text (Category s n p c) l refl
-header_at octets text (Words s n p c w) l = before_stx octets text (Words s n p c w) l refl
+header_at octets text (InHeader part t) l = before_stx octets text (InHeader part t) l refl
 header_at octets text (Info h) l = before_stx octets text (Info h) l refl
 header_at octets text (Gap h k feed) l = before_stx octets text (Gap h k feed) l refl
 header_at octets text (Text h r) l =
@@ -133,12 +128,7 @@ no_trailer_yet octets text p l e = no_trailer octets [] (none_after 2 octets (no
 
 trailer_at : (octets text : List ℕ) (p : Place) → LeadsTo octets text p → trailer_read (Some p) ≡ trailer_so_far octets
 trailer_at octets text (Filler k) l = no_trailer_yet octets text (Filler k) l refl
-trailer_at octets text (Source s) l = no_trailer_yet octets text (Source s) l refl
-trailer_at octets text (Number s n) l = no_trailer_yet octets text (Number s n) l refl
-trailer_at octets text (Priority s n) l = no_trailer_yet octets text (Priority s n) l refl
-trailer_at octets text (PriorityRead s n p) l = no_trailer_yet octets text (PriorityRead s n p) l refl
-trailer_at octets text (Category s n p c) l = no_trailer_yet octets text (Category s n p c) l refl
-trailer_at octets text (Words s n p c w) l = no_trailer_yet octets text (Words s n p c w) l refl
+trailer_at octets text (InHeader part t) l = no_trailer_yet octets text (InHeader part t) l refl
 trailer_at octets text (Info h) l = no_trailer_yet octets text (Info h) l refl
 trailer_at octets text (Gap h k feed) l = no_trailer_yet octets text (Gap h k feed) l refl
 trailer_at octets text (Text h r) l =

@@ -1,14 +1,15 @@
 pub mod Written
-pub mod OneReading
 pub mod Packed
 pub mod Machine
 pub mod Runs
 pub mod Transitions
+pub mod HeaderParts
 pub mod Alive
 pub mod Stops
 pub mod Goings
 pub mod Longer
 pub mod TextSoFar
+pub mod OneReading
 pub mod Held
 pub mod Readings
 pub mod Standing

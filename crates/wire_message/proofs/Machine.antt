@@ -1,14 +1,18 @@
 -- Reading a message octet by octet: the place after each octet. A reader of the text is left out of it.
 use Rattle.std.proofs.Common.{◌≡◌, ℕ, ◌+◌, ◌<◌, ◌≤◌, Bool, true, false, ◌&&◌, ◌||◌, ◌==◌, nat_lt, cond, List, [], ◌∷◌, ◌++◌, length, Option, Some, None, refl, sym, ap, ◌∙◌, arith, append_assoc, append-nil, length-append, option_and_then}
 use Rattle.std.proofs.lemmas.Bool.{and_from, lt-ltb, and_left}
+use Rattle.std.proofs.lemmas.Bool.Decides.{nat_tests}
 use Rattle.arrayvec.specs.ArrayVec.{ArrayVec}
-use Rattle.wire_message.specs.Format.Fields.{Are, IsField, is_alphanumeric, is_info_octet, is_trailer_octet, is_filler_octet, is_text_octet, max_filler, max_source, max_number, max_category, max_words, max_info, max_trailer}
+use Rattle.wire_message.specs.Format.Fields.{Are, is_alphanumeric, is_info_octet, is_trailer_octet, is_filler_octet, is_text_octet, max_filler, max_source, max_number, max_priority, max_category, max_words, max_info, max_trailer}
 use Rattle.iim_dataset.specs.Format.Octets.{is_digit, is_letter}
 use Rattle.wire_message.specs.Format.Messages.{Header, header_of, IsFiller}
+use Rattle.wire_message.specs.Parts.{ends, begins, is_octet_of, most_of, text_of}
+use Rattle.wire_message.specs.declared.part.HeaderPart.{HeaderPart}
+use Rattle.wire_message.specs.declared.part.HeaderPart.TheVariants.{Source, Number, Priority, Category, Words}
+use Rattle.wire_message.specs.declared.part.HeaderTexts.{HeaderTexts}
 use Rattle.wire_message.specs.declared.place.Place.{Place}
-use Rattle.wire_message.specs.declared.place.Place.TheVariants.{Filler, Source, Number, Priority, PriorityRead, Category, Words, Info, Gap, Text, Trailer, AfterEnd}
+use Rattle.wire_message.specs.declared.place.Place.TheVariants.{Filler, InHeader, Info, Gap, Text, Trailer, AfterEnd}
 use Rattle.wire_story.proofs.Spans.{Are-head, Are-tail}
-use Rattle.wire_message.proofs.OneReading.{digit_no_letter}
 
 abbrev pub of : List ℕ → ArrayVec ℕ
 of xs = record { items = xs }
@@ -19,8 +23,20 @@ push xs b = of (xs.items ++ (b ∷ []))
 abbrev pub more_info : Header → ℕ → Header
 more_info h b = header_of h.source h.number h.priority h.category h.words (h.info ++ (b ∷ []))
 
-abbrev pub begun : ArrayVec ℕ → ArrayVec ℕ → ArrayVec ℕ → ArrayVec ℕ → ArrayVec ℕ → Header
-begun s n p c w = header_of s.items n.items p.items c.items w.items []
+-- the parts of a header
+abbrev pub texts : List ℕ → List ℕ → List ℕ → List ℕ → List ℕ → HeaderTexts
+texts s n p c w = record { source = of s; number = of n; priority = of p; category = of c; words = of w }
+
+abbrev pub no_texts : HeaderTexts
+no_texts = texts [] [] [] [] []
+
+-- the parts, where this is what has come of one
+abbrev pub put : HeaderPart → List ℕ → HeaderTexts → HeaderTexts
+put Source xs t = record t { source = of xs }
+put Number xs t = record t { number = of xs }
+put Priority xs t = record t { priority = of xs }
+put Category xs t = record t { category = of xs }
+put Words xs t = record t { words = of xs }
 
 abbrev pub may : (ℕ → Bool) → ℕ → ArrayVec ℕ → ℕ → Bool
 may test room xs b = test b && nat_lt (length xs.items) room
@@ -33,14 +49,9 @@ guarded b p o = cond b (Some p) o
 
 -- the place after the octet
 abbrev pub next : Place → ℕ → Option Place
-next (Filler k) b = guarded (is_filler_octet b && nat_lt k max_filler) (Filler (k + 1)) (guarded (b == 1) (Source (of [])) None)
-next (Source s) b = guarded (may is_letter max_source s b) (Source (push s b)) (guarded (is_digit b && nat_lt 0 (length s.items)) (Number s (of (b ∷ []))) None)
-next (Number s n) b = guarded (may is_digit max_number n b) (Number s (push n b)) (guarded (b == 32) (Priority s n) None)
-next (Priority s n) b = guarded (is_digit b) (PriorityRead s n (of (b ∷ []))) None
-next (PriorityRead s n p) b = guarded (b == 32) (Category s n p (of [])) None
-next (Category s n p c) b = guarded (may is_alphanumeric max_category c b) (Category s n p (push c b)) (guarded (b == 32 && nat_lt 0 (length c.items)) (Words s n p c (of [])) None)
-next (Words s n p c w) b = guarded (may is_digit max_words w b) (Words s n p c (push w b))
-    (guarded (b == 32 && nat_lt 0 (length w.items)) (Info (begun s n p c w)) (guarded (is_filler_octet b && nat_lt 0 (length w.items)) (Gap (begun s n p c w) 1 (b == 10)) None))
+next (Filler k) b = guarded (is_filler_octet b && nat_lt k max_filler) (Filler (k + 1)) (guarded (b == 1) (InHeader Source no_texts) None)
+next (InHeader part t) b = guarded (may (is_octet_of part) (most_of part) (of (text_of part t)) b) (InHeader part (put part (text_of part t ++ (b ∷ [])) t))
+    (guarded (ends part b && nat_lt 0 (length (text_of part t))) (begins part b t) None)
 next (Info h) b = guarded (is_info_octet b && nat_lt (length h.info) max_info) (Info (more_info h b)) (guarded (is_filler_octet b) (Gap h 1 (b == 10)) None)
 next (Gap h k feed) b = guarded (gap_leads_on k feed b) (Gap h (k + 1) (feed || b == 10)) (guarded (b == 2 && feed) (Text h None) None)
 next (Text h r) b = guarded (is_text_octet b) (Text h None) (guarded (b == 3) (Trailer h (of [])) None)
@@ -107,31 +118,29 @@ fill k b t lt = and_from (is_filler_octet b) (nat_lt k max_filler) t (lt-ltb k m
 pub reads_filler : (f rest : List ℕ) → IsFiller f → run (Filler 0) (f ++ rest) ≡ run (Filler (length f)) rest
 reads_filler f rest h = count_run (λ k. Filler k) (λ k b t lt. guard_yes _ _ _ (fill k b t lt)) f rest 0 h.0 (omega (arith, h.2)) ∙ ap (λ (n : ℕ). run (Filler n) rest) (let e : 0 + length f ≡ length f = omega arith in e)
 
-pub reads_soh : (f s rest : List ℕ) → IsFiller f → IsField is_letter 0 max_source s → run (Filler 0) (f ++ (1 ∷ (s ++ rest))) ≡ run (Source (of s)) rest
-reads_soh f s rest h k =
-    reads_filler f (1 ∷ (s ++ rest)) h
-    ∙ field_run (λ ys. Source (of ys)) is_letter max_source (λ ys c t lt. guard_yes _ _ _ (extends is_letter max_source ys c t lt)) s [] rest k.0 (omega (arith, k.2))
+-- the octets of a part lengthen it
+pub reads_part : (part : HeaderPart) (t : HeaderTexts) (xs rest : List ℕ) → Are (is_octet_of part) xs → length (text_of part t) + length xs ≤ most_of part
+    → run (InHeader part t) (xs ++ rest) ≡ run (InHeader part (put part (text_of part t ++ xs) t)) rest
+reads_part Source t xs rest are le =
+    field_run (λ ys. InHeader Source (put Source ys t)) is_letter max_source (λ ys b e lt. guard_yes _ _ _ (extends is_letter max_source ys b e lt)) xs t.source.items rest are le
+reads_part Number t xs rest are le =
+    field_run (λ ys. InHeader Number (put Number ys t)) is_digit max_number (λ ys b e lt. guard_yes _ _ _ (extends is_digit max_number ys b e lt)) xs t.number.items rest are le
+reads_part Priority t xs rest are le =
+    field_run (λ ys. InHeader Priority (put Priority ys t)) is_digit max_priority (λ ys b e lt. guard_yes _ _ _ (extends is_digit max_priority ys b e lt)) xs t.priority.items rest are le
+reads_part Category t xs rest are le =
+    field_run (λ ys. InHeader Category (put Category ys t)) is_alphanumeric max_category (λ ys b e lt. guard_yes _ _ _ (extends is_alphanumeric max_category ys b e lt)) xs t.category.items rest are le
+reads_part Words t xs rest are le =
+    field_run (λ ys. InHeader Words (put Words ys t)) is_digit max_words (λ ys b e lt. guard_yes _ _ _ (extends is_digit max_words ys b e lt)) xs t.words.items rest are le
 
-pub reads_number : (s n rest : List ℕ) → IsField is_letter 1 max_source s → IsField is_digit 1 max_number n → run (Source (of s)) (n ++ rest) ≡ run (Number (of s) (of n)) rest
-reads_number s [] rest h k = absurd (omega (arith, k.1))
-reads_number s (b ∷ n) rest h k =
-    let digit : is_digit b ≡ true = Are-head is_digit b n k.0 in
-    step_to (Source (of s)) (Number (of s) (of (b ∷ []))) b (n ++ rest) (guard_no _ _ _ (and_left (is_letter b) (nat_lt (length s) max_source) (digit_no_letter b digit)) ∙ guard_yes _ _ _ (and_from (is_digit b) (nat_lt 0 (length s)) digit (lt-ltb 0 (length s) h.1)))
-    ∙ field_run (λ ys. Number (of s) (of ys)) is_digit max_number (λ ys c t lt. guard_yes _ _ _ (extends is_digit max_number ys c t lt)) n (b ∷ []) rest (Are-tail is_digit b n k.0) (omega (arith, k.2))
+-- an octet that ends a part is none of its octets
+ends_not : (part : HeaderPart) (b : ℕ) → ends part b ≡ true → is_octet_of part b ≡ false
+ends_not Source b on = grind (arith, nat_tests)
+ends_not Number b on = grind (arith, nat_tests)
+ends_not Priority b on = grind (arith, nat_tests)
+ends_not Category b on = grind (arith, nat_tests)
+ends_not Words b on = grind (arith, nat_tests)
 
-pub reads_priority : (s n p rest : List ℕ) → IsField is_digit 1 1 p → run (Priority (of s) (of n)) (p ++ rest) ≡ run (PriorityRead (of s) (of n) (of p)) rest
-reads_priority s n [] rest h = absurd (omega (arith, h.1))
-reads_priority s n (b ∷ []) rest h = step_to (Priority (of s) (of n)) (PriorityRead (of s) (of n) (of (b ∷ []))) b rest (guard_yes _ _ _ (Are-head is_digit b [] h.0))
-reads_priority s n (b ∷ c ∷ p) rest h = absurd (omega (arith, h.2))
-
-pub reads_category : (s n p c rest : List ℕ) → IsField is_alphanumeric 0 max_category c → run (Category (of s) (of n) (of p) (of [])) (c ++ rest) ≡ run (Category (of s) (of n) (of p) (of c)) rest
-reads_category s n p c rest h =
-    field_run (λ ys. Category (of s) (of n) (of p) (of ys)) is_alphanumeric max_category (λ ys b t lt. guard_yes _ _ _ (extends is_alphanumeric max_category ys b t lt)) c [] rest h.0 (omega (arith, h.2))
-
-pub category_ends : (s n p c rest : List ℕ) → IsField is_alphanumeric 1 max_category c → run (Category (of s) (of n) (of p) (of c)) (32 ∷ rest) ≡ run (Words (of s) (of n) (of p) (of c) (of [])) rest
-category_ends s n p c rest h =
-    step_to (Category (of s) (of n) (of p) (of c)) (Words (of s) (of n) (of p) (of c) (of [])) 32 rest (guard_yes _ _ _ (lt-ltb 0 (length c) h.1))
-
-pub reads_words : (s n p c w rest : List ℕ) → IsField is_digit 0 max_words w → run (Words (of s) (of n) (of p) (of c) (of [])) (w ++ rest) ≡ run (Words (of s) (of n) (of p) (of c) (of w)) rest
-reads_words s n p c w rest h =
-    field_run (λ ys. Words (of s) (of n) (of p) (of c) (of ys)) is_digit max_words (λ ys b t lt. guard_yes _ _ _ (extends is_digit max_words ys b t lt)) w [] rest h.0 (omega (arith, h.2))
+pub reads_end : (part : HeaderPart) (t : HeaderTexts) (b : ℕ) (rest : List ℕ) → ends part b ≡ true → 0 < length (text_of part t) → run (InHeader part t) (b ∷ rest) ≡ run (begins part b t) rest
+reads_end part t b rest on some = step_to (InHeader part t) (begins part b t) b rest
+    (guard_no _ _ _ (and_left (is_octet_of part b) (nat_lt (length (text_of part t)) (most_of part)) (ends_not part b on))
+    ∙ guard_yes _ _ _ (and_from (ends part b) (nat_lt 0 (length (text_of part t))) on (lt-ltb 0 (length (text_of part t)) some)))

@@ -8,11 +8,11 @@ use Rattle.wire_story.specs.Format.Texts.{IsLine, is_line_octet}
 use Rattle.wire_message.specs.Format.Fields.{Are, is_filler_octet, is_text_octet, max_filler}
 use Rattle.wire_message.specs.Format.Messages.{Header, IsFiller, IsGap, IsMessage, SpellsInfo, fixed_header, has_feed}
 use Rattle.wire_message.specs.Format.Canonical.{packed_info}
-use Rattle.wire_message.specs.States.SoFar.{IsPlace, Spells, StoryStands, LeadsTo}
+use Rattle.wire_message.specs.States.SoFar.{IsPlace, Spells, StoryStands, LeadsTo, so_far}
 use Rattle.wire_message.specs.Format.Lengths.{IsOneOf, fixed_octets, least_head, least_of, greatest_of}
 use Rattle.wire_message.specs.Laws.Messages.{PlacesAreReached}
 use Rattle.wire_message.specs.declared.place.Place.{Place}
-use Rattle.wire_message.specs.declared.place.Place.TheVariants.{Filler, Source, Number, Priority, PriorityRead, Category, Words, Info, Gap, Text, Trailer, AfterEnd}
+use Rattle.wire_message.specs.declared.place.Place.TheVariants.{Filler, InHeader, Info, Gap, Text, Trailer, AfterEnd}
 use Rattle.wire_story.proofs.Spans.{Are-cons, Are-append}
 use Rattle.wire_message.proofs.Transitions.{field_none}
 use Rattle.wire_message.proofs.Packed.{spells_packed, returns_text}
@@ -193,12 +193,7 @@ IsInHeader _ = Unit {0}
 
 -- SOH and what follows
 abbrev pub from_soh : Place → List ℕ
-from_soh (Source s) = 1 ∷ s.items
-from_soh (Number s n) = 1 ∷ (s.items ++ n.items)
-from_soh (Priority s n) = 1 ∷ (s.items ++ (n.items ++ (32 ∷ [])))
-from_soh (PriorityRead s n p) = 1 ∷ (s.items ++ (n.items ++ (32 ∷ p.items)))
-from_soh (Category s n p c) = 1 ∷ (s.items ++ (n.items ++ (32 ∷ (p.items ++ (32 ∷ c.items)))))
-from_soh (Words s n p c w) = 1 ∷ (s.items ++ (n.items ++ (32 ∷ (p.items ++ (32 ∷ (c.items ++ (32 ∷ w.items)))))))
+from_soh (InHeader part t) = 1 ∷ so_far part t
 from_soh (Info h) = 1 ∷ (fixed_header h ++ (32 ∷ h.info))
 from_soh _ = []
 
@@ -208,9 +203,8 @@ from_soh_length (Gap h k feed) none = absurd none
 from_soh_length (Text h reader) none = absurd none
 from_soh_length (Trailer h t) none = absurd none
 from_soh_length (AfterEnd h t k) none = absurd none
-from_soh_length (Source s) is = omega arith
+from_soh_length (InHeader part t) is = omega arith
 from_soh_length (Info h) is = omega (arith, length-append (fixed_header h) (32 ∷ h.info))
-from_soh_length p is = simp length-append (omega arith)
 
 -- ---- all places
 

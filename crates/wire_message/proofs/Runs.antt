@@ -1,41 +1,93 @@
 -- Octets that spell a place run to it, and a message runs to its end.
-use Rattle.std.proofs.Common.{◌≡◌, ℕ, ◌+◌, ◌≤◌, Bool, true, false, ◌&&◌, ◌||◌, ◌==◌, nat_lt, List, [], ◌∷◌, ◌++◌, length, Some, None, refl, sym, ap, ◌∙◌, arith, inl, inr, append-nil}
-use Rattle.std.proofs.lemmas.Bool.{and_from, or_right, lt-ltb, and_left}
-use Rattle.wire_message.specs.Format.Fields.{Are, IsField, is_alphanumeric, is_info_octet, is_trailer_octet, is_filler_octet, is_text_octet, max_filler, max_source, max_number, max_category, max_words, max_info, max_trailer}
-use Rattle.iim_dataset.specs.Format.Octets.{is_digit, is_letter}
+use Rattle.std.proofs.Common.{◌≡◌, ℕ, ◌+◌, ◌≤◌, Bool, true, false, ◌&&◌, ◌||◌, ◌==◌, ◌<◌, nat_lt, cond, List, [], ◌∷◌, ◌++◌, length, Some, None, refl, sym, ap, subst, ◌∙◌, arith, inl, inr, append_assoc, append-nil}
+use Rattle.std.proofs.lemmas.Bool.{or_cases, eqb-true, and_from, or_right, lt-ltb, and_left}
+use Rattle.wire_message.specs.Format.Fields.{Are, IsField, is_alphanumeric, is_info_octet, is_trailer_octet, is_filler_octet, is_text_octet, max_filler, max_number, max_words, max_info, max_trailer}
+use Rattle.iim_dataset.specs.Format.Octets.{is_digit}
 use Rattle.wire_message.specs.Format.Messages.{Header, header_of, IsHeader, IsMessage, IsFiller, IsGap, IsTrailer, SpellsInfo, fixed_header, has_feed}
-use Rattle.wire_message.specs.States.SoFar.{IsPlace, Spells}
+use Rattle.wire_message.specs.States.SoFar.{IsPlace, Spells, so_far}
+use Rattle.wire_message.specs.Parts.{ends, begins, is_octet_of, most_of, text_of}
+use Rattle.wire_message.specs.declared.part.HeaderPart.{HeaderPart}
+use Rattle.wire_message.specs.declared.part.HeaderPart.TheVariants.{Source, Number, Priority, Category, Words}
+use Rattle.wire_message.specs.declared.part.HeaderTexts.{HeaderTexts}
 use Rattle.wire_message.specs.declared.place.Place.{Place}
-use Rattle.wire_message.specs.declared.place.Place.TheVariants.{Filler, Source, Number, Priority, PriorityRead, Category, Words, Info, Gap, Text, Trailer, AfterEnd}
+use Rattle.wire_message.specs.declared.place.Place.TheVariants.{Filler, InHeader, Info, Gap, Text, Trailer, AfterEnd}
 use Rattle.wire_story.proofs.Spans.{Are-head, Are-tail}
-use Rattle.wire_message.proofs.OneReading.{filler_cases, regroup}
-use Rattle.wire_message.proofs.Machine.{of, gap_leads_on, run, guard_yes, guard_no, step_to, field_run, count_run, extends, fill, reads_filler, reads_soh, reads_number, reads_priority, reads_category, category_ends, reads_words}
+use Rattle.wire_message.proofs.Machine.{of, texts, no_texts, put, gap_leads_on, run, guard_yes, guard_no, step_to, field_run, count_run, extends, fill, reads_filler, reads_part, reads_end}
+use Rattle.wire_message.proofs.Transitions.{field_none}
+use Rattle.wire_message.proofs.HeaderParts.{none}
 
 -- ---- the header
 
-pub to_number : (f s n rest : List ℕ) → IsFiller f → IsField is_letter 1 max_source s → IsField is_digit 1 max_number n → run (Filler 0) (f ++ (1 ∷ (s ++ (n ++ rest)))) ≡ run (Number (of s) (of n)) rest
-to_number f s n rest hf hs hn = reads_soh f s (n ++ rest) hf (hs.0, omega arith, hs.2) ∙ reads_number s n rest hs hn
+-- the parts, where later ones are empty
+same_texts : (t : HeaderTexts) (n p c w : List ℕ) → t.number.items ≡ n → t.priority.items ≡ p → t.category.items ≡ c → t.words.items ≡ w → texts t.source.items n p c w ≡ t
+same_texts t n p c w en ep ec ew = rw (sym en, sym ep, sym ec, sym ew) refl
 
-pub to_read : (f s n p rest : List ℕ) → IsFiller f → IsField is_letter 1 max_source s → IsField is_digit 1 max_number n → IsField is_digit 1 1 p
-    → run (Filler 0) (f ++ (1 ∷ (s ++ (n ++ (32 ∷ (p ++ rest)))))) ≡ run (PriorityRead (of s) (of n) (of p)) rest
-to_read f s n p rest hf hs hn hp = to_number f s n (32 ∷ (p ++ rest)) hf hs hn ∙ reads_priority s n p rest hp
+-- the first digit of the number ends the source
+reads_number : (t : HeaderTexts) (n rest : List ℕ) → 0 < length t.source.items → IsField is_digit 1 max_number n → run (InHeader Source t) (n ++ rest) ≡ run (InHeader Number (put Number n t)) rest
+reads_number t [] rest some h = absurd (omega (arith, h.1))
+reads_number t (b ∷ n) rest some h =
+    reads_end Source t b (n ++ rest) (Are-head is_digit b n h.0) some
+    ∙ reads_part Number (put Number (b ∷ []) t) n rest (Are-tail is_digit b n h.0) (omega (arith, h.2))
 
-pub to_category : (f s n p c rest : List ℕ) → IsFiller f → IsField is_letter 1 max_source s → IsField is_digit 1 max_number n → IsField is_digit 1 1 p → IsField is_alphanumeric 0 max_category c
-    → run (Filler 0) (f ++ (1 ∷ (s ++ (n ++ (32 ∷ (p ++ (32 ∷ (c ++ rest)))))))) ≡ run (Category (of s) (of n) (of p) (of c)) rest
-to_category f s n p c rest hf hs hn hp hc = to_read f s n p (32 ∷ (c ++ rest)) hf hs hn hp ∙ reads_category s n p c rest hc
+-- SP ends a part, and the next one is read
+reads_next : (part next : HeaderPart) (t : HeaderTexts) (xs rest : List ℕ) → ends part 32 ≡ true → 0 < length (text_of part t) → begins part 32 t ≡ InHeader next t → text_of next t ≡ [] → IsField (is_octet_of next) 0 (most_of next) xs
+    → run (InHeader part t) (32 ∷ (xs ++ rest)) ≡ run (InHeader next (put next xs t)) rest
+reads_next part next t xs rest on some then none h =
+    reads_end part t 32 (xs ++ rest) on some
+    ∙ (ap (λ (p : Place). run p (xs ++ rest)) then
+    ∙ (reads_part next t xs rest h.0 (omega (arith, ap length none, h.2))
+    ∙ ap (λ (u : List ℕ). run (InHeader next (put next (u ++ xs) t)) rest) none))
 
-pub to_words : (f s n p c w rest : List ℕ) → IsFiller f → IsField is_letter 1 max_source s → IsField is_digit 1 max_number n → IsField is_digit 1 1 p → IsField is_alphanumeric 1 max_category c → IsField is_digit 0 max_words w
-    → run (Filler 0) (f ++ (1 ∷ (s ++ (n ++ (32 ∷ (p ++ (32 ∷ (c ++ (32 ∷ (w ++ rest)))))))))) ≡ run (Words (of s) (of n) (of p) (of c) (of w)) rest
-to_words f s n p c w rest hf hs hn hp hc hw =
-    to_category f s n p c (32 ∷ (w ++ rest)) hf hs hn hp (hc.0, omega arith, hc.2) ∙ (category_ends s n p c (w ++ rest) hc ∙ reads_words s n p c w rest hw)
+-- the parts so far are read, each after the one before it
+abbrev Reads : HeaderPart → Type 0
+Reads part = (t : HeaderTexts) (f rest : List ℕ) → IsFiller f → IsPlace (InHeader part t) → run (Filler 0) (f ++ (1 ∷ (so_far part t ++ rest))) ≡ run (InHeader part t) rest
+
+regrouped : (f xs ys : List ℕ) → xs ≡ ys → run (Filler 0) (f ++ (1 ∷ xs)) ≡ run (Filler 0) (f ++ (1 ∷ ys))
+regrouped f xs ys e = ap (λ (u : List ℕ). run (Filler 0) (f ++ (1 ∷ u))) e
+
+to_source : Reads Source
+to_source t f rest hf i =
+    reads_filler f (1 ∷ (t.source.items ++ rest)) hf
+    ∙ (reads_part Source no_texts t.source.items rest i.0.0 (omega (arith, i.0.2))
+    ∙ ap (λ (u : HeaderTexts). run (InHeader Source u) rest)
+    (same_texts t [] [] [] [] (none is_digit t.number.items i.1) (none is_digit t.priority.items i.2) (none is_alphanumeric t.category.items i.3) (none is_digit t.words.items i.4)))
+
+to_number : Reads Number
+to_number t f rest hf i =
+    regrouped f _ _ (append_assoc t.source.items t.number.items rest)
+    ∙ (to_source (put Number [] t) f (t.number.items ++ rest) hf ((i.0.0, omega arith, i.0.2), field_none is_digit 0, i.2, i.3, i.4)
+    ∙ reads_number (put Number [] t) t.number.items rest i.0.1 i.1)
+
+to_priority : Reads Priority
+to_priority t f rest hf i =
+    regrouped f (so_far Priority t ++ rest) (so_far Number t ++ (32 ∷ (t.priority.items ++ rest))) (simp append_assoc)
+    ∙ (to_number (put Priority [] t) f (32 ∷ (t.priority.items ++ rest)) hf (i.0, i.1, field_none is_digit 0, i.3, i.4)
+    ∙ reads_next Number Priority (put Priority [] t) t.priority.items rest refl i.1.1 refl refl i.2)
+
+to_category : Reads Category
+to_category t f rest hf i =
+    regrouped f (so_far Category t ++ rest) (so_far Priority t ++ (32 ∷ (t.category.items ++ rest))) (simp append_assoc)
+    ∙ (to_priority (put Category [] t) f (32 ∷ (t.category.items ++ rest)) hf (i.0, i.1, (i.2.0, omega arith, i.2.2), field_none is_alphanumeric 0, i.4)
+    ∙ reads_next Priority Category (put Category [] t) t.category.items rest refl i.2.1 refl refl i.3)
+
+to_words : Reads Words
+to_words t f rest hf i =
+    regrouped f (so_far Words t ++ rest) (so_far Category t ++ (32 ∷ (t.words.items ++ rest))) (simp append_assoc)
+    ∙ (to_category (put Words [] t) f (32 ∷ (t.words.items ++ rest)) hf (i.0, i.1, i.2, (i.3.0, omega arith, i.3.2), field_none is_digit 0)
+    ∙ reads_next Category Words (put Words [] t) t.words.items rest refl i.3.1 refl refl i.4)
+
+to_part : (part : HeaderPart) → Reads part
+to_part Source = to_source
+to_part Number = to_number
+to_part Priority = to_priority
+to_part Category = to_category
+to_part Words = to_words
 
 abbrev pub words_of : Header → Place
-words_of h = Words (of h.source) (of h.number) (of h.priority) (of h.category) (of h.words)
+words_of h = InHeader Words (texts h.source h.number h.priority h.category h.words)
 
 pub to_header : (f : List ℕ) (h : Header) (rest : List ℕ) → IsFiller f → IsHeader h → run (Filler 0) (f ++ (1 ∷ (fixed_header h ++ rest))) ≡ run (words_of h) rest
-to_header f h rest hf p =
-    ap (λ (u : List ℕ). run (Filler 0) (f ++ (1 ∷ u))) (regroup h rest)
-    ∙ to_words f h.source h.number h.priority h.category h.words rest hf p.source p.number p.priority p.category (p.words.0, omega arith, p.words.2)
+to_header f h rest hf p = to_words (texts h.source h.number h.priority h.category h.words) f rest hf (p.source, p.number, p.priority, p.category, (p.words.0, omega arith, p.words.2))
 
 -- ---- the info and the gap
 
@@ -47,7 +99,7 @@ with_info h i = header_of h.source h.number h.priority h.category h.words i
 
 pub reads_info : (h : Header) (i rest : List ℕ) → IsField is_digit 1 max_words h.words → IsField is_info_octet 0 max_info i → run (words_of h) (32 ∷ (i ++ rest)) ≡ run (Info (with_info h i)) rest
 reads_info h i rest hw hi =
-    step_to (words_of h) (Info (bare h)) 32 (i ++ rest) (guard_yes _ _ _ (lt-ltb 0 (length h.words) hw.1))
+    reads_end Words (texts h.source h.number h.priority h.category h.words) 32 (i ++ rest) refl hw.1
     ∙ field_run (λ ys. Info (with_info h ys)) is_info_octet max_info (λ ys d t lt. guard_yes _ _ _ (extends is_info_octet max_info ys d t lt)) i [] rest hi.0 (omega (arith, hi.2))
 
 same_gap : (h : Header) (k j : ℕ) (f g : Bool) (rest : List ℕ) → k ≡ j → f ≡ g → run (Gap h k f) rest ≡ run (Gap h j g) rest
@@ -94,8 +146,19 @@ first_gap h b gap rest g on =
     reads_gap h gap 1 (b == 10) rest (Are-tail is_filler_octet b gap g.0) (omega (arith, g.2)) (rw count on)
     ∙ same_gap h (1 + length gap) (length (b ∷ gap)) (has_feed (b ∷ gap)) (has_feed (b ∷ gap)) rest count refl
 
-no_digit : (b : ℕ) → is_filler_octet b ≡ true → is_digit b ≡ false
-no_digit b fills = filler_cases (λ k. is_digit k ≡ false) b fills refl refl refl refl
+-- the four filler octets
+filler_cases : (P : ℕ → Type 0) (b : ℕ) → is_filler_octet b ≡ true → P 0 → P 10 → P 13 → P 22 → P b
+filler_cases P b h p0 p10 p13 p22 =
+    elim (or_cases (b == 0 || b == 10 || b == 13) (b == 22) h) [
+      | inr e ↦ subst P (sym (eqb-true b 22 e)) p22
+      | inl t ↦ elim (or_cases (b == 0 || b == 10) (b == 13) t) [
+        | inr e ↦ subst P (sym (eqb-true b 13 e)) p13
+        | inl u ↦ elim (or_cases (b == 0) (b == 10) u) [
+          | inr e ↦ subst P (sym (eqb-true b 10 e)) p10
+          | inl e ↦ subst P (sym (eqb-true b 0 e)) p0
+        ]
+      ]
+    ]
 
 no_space : (b : ℕ) → is_filler_octet b ≡ true → (b == 32) ≡ false
 no_space b fills = filler_cases (λ k. (k == 32) ≡ false) b fills refl refl refl refl
@@ -108,10 +171,10 @@ gap_after_words : (h : Header) (gap rest : List ℕ) → h.info ≡ [] → IsFie
 gap_after_words h [] rest none hw g on = absurd (omega (arith, g.1))
 gap_after_words h (b ∷ gap) rest none hw g on =
     let fills : is_filler_octet b ≡ true = Are-head is_filler_octet b gap g.0 in
-    step_to (words_of h) (Gap (bare h) 1 (b == 10)) b (gap ++ rest) (guard_no _ _ _ (and_left (is_digit b) (nat_lt (length h.words) max_words) (no_digit b fills))
-    ∙ (guard_no _ _ _ (and_left (b == 32) (nat_lt 0 (length h.words)) (no_space b fills)) ∙ guard_yes _ _ _ (and_from (is_filler_octet b) (nat_lt 0 (length h.words)) fills (lt-ltb 0 (length h.words) hw.1))))
+    reads_end Words (texts h.source h.number h.priority h.category h.words) b (gap ++ rest) (or_right (b == 32) (is_filler_octet b) fills) hw.1
+    ∙ (ap (λ (k : Bool). run (cond k (Info (bare h)) (Gap (bare h) 1 (b == 10))) (gap ++ rest)) (no_space b fills)
     ∙ (first_gap (bare h) b gap rest g on
-    ∙ ap (λ (u : List ℕ). run (Gap (with_info h u) (length (b ∷ gap)) (has_feed (b ∷ gap))) rest) (sym none))
+    ∙ ap (λ (u : List ℕ). run (Gap (with_info h u) (length (b ∷ gap)) (has_feed (b ∷ gap))) rest) (sym none)))
 
 gap_after_info : (h : Header) (gap rest : List ℕ) → IsField is_filler_octet 1 max_filler gap → GapContinues gap
     → run (Info h) (gap ++ rest) ≡ run (Gap h (length gap) (has_feed gap)) rest
@@ -163,12 +226,7 @@ message_runs object h x t m =
 abbrev pub unread : Place → Place
 unread (Text h reader) = Text h None
 unread (Filler k) = Filler k
-unread (Source s) = Source s
-unread (Number s n) = Number s n
-unread (Priority s n) = Priority s n
-unread (PriorityRead s n p) = PriorityRead s n p
-unread (Category s n p c) = Category s n p c
-unread (Words s n p c w) = Words s n p c w
+unread (InHeader part t) = InHeader part t
 unread (Info h) = Info h
 unread (Gap h k f) = Gap h k f
 unread (Trailer h t) = Trailer h t
@@ -177,21 +235,8 @@ unread (AfterEnd h t k) = AfterEnd h t k
 pub spelled_runs : (octets text : List ℕ) (p : Place) → IsPlace p → Spells octets text p → run (Filler 0) octets ≡ Some (unread p)
 spelled_runs octets text (Filler k) i l =
     ap (run (Filler 0)) (sym (append-nil octets)) ∙ (reads_filler octets [] l.0 ∙ ap (λ (n : ℕ). run (Filler n) []) l.1)
-spelled_runs octets text (Source s) i l =
-    ap (run (Filler 0)) l.2 ∙ (ap (λ (u : List ℕ). run (Filler 0) (l.0 ++ (1 ∷ u))) (sym (append-nil s.items)) ∙ reads_soh l.0 s.items [] l.1 i)
-spelled_runs octets text (Number s n) i l =
-    ap (run (Filler 0)) l.2 ∙ (ap (λ (u : List ℕ). run (Filler 0) (l.0 ++ (1 ∷ (s.items ++ u)))) (sym (append-nil n.items)) ∙ to_number l.0 s.items n.items [] l.1 i.0 i.1)
-spelled_runs octets text (Priority s n) i l =
-    ap (run (Filler 0)) l.2 ∙ to_number l.0 s.items n.items (32 ∷ []) l.1 i.0 i.1
-spelled_runs octets text (PriorityRead s n p) i l =
-    ap (run (Filler 0)) l.2 ∙ (ap (λ (u : List ℕ). run (Filler 0) (l.0 ++ (1 ∷ (s.items ++ (n.items ++ (32 ∷ u)))))) (sym (append-nil p.items))
-    ∙ to_read l.0 s.items n.items p.items [] l.1 i.0 i.1 i.2)
-spelled_runs octets text (Category s n p c) i l =
-    ap (run (Filler 0)) l.2 ∙ (ap (λ (u : List ℕ). run (Filler 0) (l.0 ++ (1 ∷ (s.items ++ (n.items ++ (32 ∷ (p.items ++ (32 ∷ u)))))))) (sym (append-nil c.items))
-    ∙ to_category l.0 s.items n.items p.items c.items [] l.1 i.0 i.1 i.2 i.3)
-spelled_runs octets text (Words s n p c w) i l =
-    ap (run (Filler 0)) l.2 ∙ (ap (λ (u : List ℕ). run (Filler 0) (l.0 ++ (1 ∷ (s.items ++ (n.items ++ (32 ∷ (p.items ++ (32 ∷ (c.items ++ (32 ∷ u)))))))))) (sym (append-nil w.items))
-    ∙ to_words l.0 s.items n.items p.items c.items w.items [] l.1 i.0 i.1 i.2 i.3 i.4)
+spelled_runs octets text (InHeader part t) i l =
+    ap (run (Filler 0)) l.2 ∙ (ap (λ (u : List ℕ). run (Filler 0) (l.0 ++ (1 ∷ u))) (sym (append-nil (so_far part t))) ∙ to_part part t l.0 [] l.1 i)
 spelled_runs octets text (Info h) i l =
     ap (run (Filler 0)) l.2 ∙ (to_header l.0 h (32 ∷ h.info) l.1 i ∙ (ap (λ (u : List ℕ). run (words_of h) (32 ∷ u)) (sym (append-nil h.info))
     ∙ reads_info h h.info [] i.words i.info))

@@ -1,38 +1,27 @@
 -- A place is known by how it is saved.
-use Rattle.std.proofs.Common.{◌≡◌, ◌==◌, true, false, Some, None, refl, sym, ap, ◌∙◌}
+use Rattle.std.proofs.Common.{◌≡◌, ℕ, List, [], ◌∷◌, true, false, Some, None, refl, sym, ap, ◌∙◌}
 use Rattle.wire_message.specs.Laws.Messages.{PlacesAreSavedApart}
-use Rattle.wire_message.specs.States.Saved.{saved}
-use Rattle.wire_message.specs.Restoring.{head_in}
+use Rattle.wire_message.specs.States.Saved.{saved, saved_part}
+use Rattle.wire_message.specs.Restoring.{texts_in, restored}
 use Rattle.wire_message.specs.States.SoFar.{IsPlace}
 use Rattle.wire_message.specs.declared.saved.MessagePart.{MessagePart}
-use Rattle.wire_message.specs.declared.saved.MessagePart.TheVariants as part
+use Rattle.wire_message.specs.declared.part.HeaderPart.{HeaderPart}
+use Rattle.wire_message.specs.declared.part.HeaderPart.TheVariants.{Source, Number, Priority, Category, Words}
 use Rattle.wire_message.specs.declared.saved.MessagePlace.{MessagePlace}
 use Rattle.wire_message.specs.declared.place.Place.{Place}
-use Rattle.wire_message.specs.declared.place.Place.TheVariants.{Filler, Source, Number, Priority, PriorityRead, Category, Words, Info, Gap, Text, Trailer, AfterEnd}
+use Rattle.wire_message.specs.declared.place.Place.TheVariants.{Filler, InHeader, Info, Gap, Text, Trailer, AfterEnd}
 
--- the place of a part, by the octets that were saved
-abbrev pub restored : MessagePart → MessagePlace → Place
-restored part.Filler m = Filler m.counter
-restored part.Source m = Source m.source
-restored part.Number m = Number m.source m.number
-restored part.Priority m = Priority m.source m.number
-restored part.PriorityRead m = PriorityRead m.source m.number m.priority
-restored part.Category m = Category m.source m.number m.priority m.category
-restored part.Words m = Words m.source m.number m.priority m.category m.words
-restored part.Info m = Info (head_in m)
-restored part.Gap m = Gap (head_in m) m.counter (m.flag == 1)
-restored part.Text m = Text (head_in m) (Some m.flag)
-restored part.Trailer m = Trailer (head_in m) m.trailer
-restored part.AfterEnd m = AfterEnd (head_in m) m.trailer m.counter
+restored_part : (at : HeaderPart) (xs : List ℕ) (m : MessagePlace) → restored (saved_part at xs) m ≡ InHeader at (texts_in m)
+restored_part Source xs m = refl
+restored_part Number xs m = refl
+restored_part Priority [] m = refl
+restored_part Priority (b ∷ xs) m = refl
+restored_part Category xs m = refl
+restored_part Words xs m = refl
 
 restored_saved : (p : Place) → IsPlace p → restored (saved p).part (saved p) ≡ p
 restored_saved (Filler k) i = refl
-restored_saved (Source s) i = refl
-restored_saved (Number s n) i = refl
-restored_saved (Priority s n) i = refl
-restored_saved (PriorityRead s n p) i = refl
-restored_saved (Category s n p c) i = refl
-restored_saved (Words s n p c w) i = refl
+restored_saved (InHeader at t) i = restored_part at t.priority.items (saved (InHeader at t))
 restored_saved (Info h) i = refl
 restored_saved (Gap h k true) i = refl
 restored_saved (Gap h k false) i = refl

@@ -1,15 +1,17 @@
 -- With which octet no place comes after a place.
-use Rattle.std.proofs.Common.{◌≡◌, ℕ, ◌<◌, Bool, false, ◌&&◌, ◌==◌, nat_lt, length, ◌++◌, None, ◌∙◌, arith, inl, inr}
+use Rattle.std.proofs.Common.{◌≡◌, ℕ, ◌<◌, Bool, false, ◌&&◌, ◌==◌, nat_lt, length, None, ◌∙◌, arith, inl, inr}
 use Rattle.std.proofs.lemmas.Bool.{and_left, and_right, cases_lt, le-ltb}
 use Rattle.std.proofs.lemmas.Bool.Decides.{nat_tests}
 use Rattle.arrayvec.specs.ArrayVec.{ArrayVec}
-use Rattle.wire_message.specs.Format.Fields.{is_alphanumeric, is_info_octet, is_trailer_octet, is_filler_octet, max_filler, max_source, max_number, max_category, max_words, max_info, max_trailer}
-use Rattle.iim_dataset.specs.Format.Octets.{is_digit, is_letter}
+use Rattle.wire_message.specs.Format.Fields.{is_info_octet, is_trailer_octet, is_filler_octet, max_filler, max_info, max_trailer}
 use Rattle.wire_message.specs.Format.Messages.{Header}
 use Rattle.wire_message.specs.States.SoFar.{IsPlace}
 use Rattle.wire_message.specs.Steps.{DiesWith}
+use Rattle.wire_message.specs.Parts.{ends, is_octet_of, most_of, text_of}
+use Rattle.wire_message.specs.declared.part.HeaderPart.{HeaderPart}
+use Rattle.wire_message.specs.declared.part.HeaderTexts.{HeaderTexts}
 use Rattle.wire_message.specs.declared.place.Place.{Place}
-use Rattle.wire_message.specs.declared.place.Place.TheVariants.{Filler, Source, Number, Priority, PriorityRead, Category, Words, Info, Gap, Trailer, AfterEnd}
+use Rattle.wire_message.specs.declared.place.Place.TheVariants.{Filler, InHeader, Info, Gap, Trailer, AfterEnd}
 use Rattle.wire_message.proofs.Machine.{may, gap_leads_on, guard_no, next}
 use Rattle.wire_message.proofs.Runs.{unread}
 use Rattle.wire_message.proofs.Alive.{message_dies}
@@ -31,24 +33,9 @@ dies p b i none octets text spelled = message_dies octets text p b i spelled non
 pub filler_stops : (k b : ℕ) → (is_filler_octet b && nat_lt k max_filler) ≡ false → (b ≡ 1 → ⊥) → next (Filler k) b ≡ None
 filler_stops k b e d = guard_no _ _ _ e ∙ guard_no _ _ _ (not_eq b 1 d)
 
-pub source_stops : (s : ArrayVec ℕ) (b : ℕ) → (length s.items < max_source → is_letter b ≡ false) → (is_digit b && nat_lt 0 (length s.items)) ≡ false → next (Source s) b ≡ None
-source_stops s b e d = guard_no _ _ _ (stays is_letter max_source s b e) ∙ guard_no _ _ _ d
-
-pub number_stops : (s n : ArrayVec ℕ) (b : ℕ) → (length n.items < max_number → is_digit b ≡ false) → (b ≡ 32 → ⊥) → next (Number s n) b ≡ None
-number_stops s n b e d = guard_no _ _ _ (stays is_digit max_number n b e) ∙ guard_no _ _ _ (not_eq b 32 d)
-
-pub priority_stops : (s n : ArrayVec ℕ) (b : ℕ) → is_digit b ≡ false → next (Priority s n) b ≡ None
-priority_stops s n b e = guard_no _ _ _ e
-
-pub read_stops : (s n p : ArrayVec ℕ) (b : ℕ) → (b ≡ 32 → ⊥) → next (PriorityRead s n p) b ≡ None
-read_stops s n p b d = guard_no _ _ _ (not_eq b 32 d)
-
-pub category_stops : (s n p c : ArrayVec ℕ) (b : ℕ) → (length c.items < max_category → is_alphanumeric b ≡ false) → (b == 32 && nat_lt 0 (length c.items)) ≡ false → next (Category s n p c) b ≡ None
-category_stops s n p c b e d = guard_no _ _ _ (stays is_alphanumeric max_category c b e) ∙ guard_no _ _ _ d
-
-pub words_stops : (s n p c w : ArrayVec ℕ) (b : ℕ) → (length w.items < max_words → is_digit b ≡ false) → (b == 32 && nat_lt 0 (length w.items)) ≡ false
-    → (is_filler_octet b && nat_lt 0 (length w.items)) ≡ false → next (Words s n p c w) b ≡ None
-words_stops s n p c w b e d f = guard_no _ _ _ (stays is_digit max_words w b e) ∙ (guard_no _ _ _ d ∙ guard_no _ _ _ f)
+pub part_stops : (part : HeaderPart) (t : HeaderTexts) (b : ℕ) → (length (text_of part t) < most_of part → is_octet_of part b ≡ false) → (ends part b && nat_lt 0 (length (text_of part t))) ≡ false
+    → next (InHeader part t) b ≡ None
+part_stops part t b e d = guard_no _ _ _ (stays (is_octet_of part) (most_of part) (record { items = text_of part t }) b e) ∙ guard_no _ _ _ d
 
 pub info_stops : (h : Header) (b : ℕ) → (length h.info < max_info → is_info_octet b ≡ false) → is_filler_octet b ≡ false → next (Info h) b ≡ None
 info_stops h b e d = guard_no _ _ _ (stays is_info_octet max_info (record { items = h.info }) b e) ∙ guard_no _ _ _ d

@@ -1,5 +1,5 @@
 -- A trailer of no octet, and EOT, in one step after the text.
-use Rattle.std.proofs.Common.{◌≡◌, ℕ, ◌+◌, ◌<◌, List, [], ◌++◌, length, slice_index, take, Some, refl, sym, subst, append-nil}
+use Rattle.std.proofs.Common.{◌≡◌, ℕ, ◌+◌, ◌<◌, List, [], ◌++◌, length, slice_index, take, Some, sym, subst, append-nil}
 use Rattle.std.specs.List.{slice_range}
 use Rattle.wire_story.specs.Format.Delivery.{StoryEvent, delivered}
 use Rattle.wire_message.specs.Format.Messages.{Header}
@@ -31,4 +31,4 @@ pub tail_taken : {S : Type 0} (goes : S → List StoryEvent → S → Type 0) (f
     → TakesOctets goes failures old a (take (used + 1) rest) (AfterEnd h (of []) 0) b
 tail_taken goes failures old h rest used a b taken some eot =
     takes_both goes failures old (Trailer h (of [])) (AfterEnd h (of []) 0) rest used 1 a b taken
-    (trailer_ends h (of []) (of []) (slice_range rest used (length rest)) some taken.is_place refl eot)
+    (trailer_ends h (of []) (slice_range rest used (length rest)) some taken.is_place eot)

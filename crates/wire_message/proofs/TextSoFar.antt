@@ -10,11 +10,15 @@ use Rattle.wire_message.specs.Format.Fields.{Are, IsField, is_alphanumeric, is_i
 use Rattle.iim_dataset.specs.Format.Octets.{is_digit, is_letter}
 use Rattle.wire_message.specs.Format.Messages.{Header, IsHeader, IsFiller, SpellsInfo, fixed_header}
 use Rattle.wire_message.specs.Format.Layers.{after_stx, text_so_far, story_tokens_of}
-use Rattle.wire_message.specs.States.SoFar.{IsPlace, Spells}
+use Rattle.wire_message.specs.States.SoFar.{IsPlace, Spells, so_far}
 use Rattle.wire_message.specs.States.Reading.{head_read}
+use Rattle.wire_message.specs.declared.part.HeaderPart.{HeaderPart}
+use Rattle.wire_message.specs.declared.part.HeaderPart.TheVariants.{Source, Number, Priority, Category, Words}
+use Rattle.wire_message.specs.declared.part.HeaderTexts.{HeaderTexts}
 use Rattle.wire_message.specs.declared.place.Place.{Place}
-use Rattle.wire_message.specs.declared.place.Place.TheVariants.{Filler, Source, Number, Priority, PriorityRead, Category, Words, Info, Gap, Text, Trailer, AfterEnd}
+use Rattle.wire_message.specs.declared.place.Place.TheVariants.{Filler, InHeader, Info, Gap, Text, Trailer, AfterEnd}
 use Rattle.wire_story.proofs.Spans.{Are-append, Are-head, Are-tail, Are-cons}
+use Rattle.wire_message.proofs.Machine.{texts}
 use Rattle.wire_message.proofs.Transitions.{join2, join3}
 
 -- ---- what stands before and after the first octet of a kind
@@ -79,12 +83,38 @@ info_not b h = grind (arith, nat_tests)
 text_not : (b : ℕ) → is_text_octet b ≡ true → is_not 3 b ≡ true
 text_not b h = (and_parts (nat_lt b 256) (not (b == 3)) h).1
 
+joined_not : (part : HeaderPart) (t : HeaderTexts) → Are (is_not 2) t.source.items → Are (is_not 2) t.number.items → Are (is_not 2) t.priority.items → Are (is_not 2) t.category.items → Are (is_not 2) t.words.items
+    → Are (is_not 2) (so_far part t)
+joined_not Source t s n p c w = s
+joined_not Number t s n p c w = Are-append (is_not 2) t.source.items t.number.items s n
+joined_not Priority t s n p c w =
+    Are-append (is_not 2) t.source.items (t.number.items ++ (32 ∷ t.priority.items)) s (Are-append (is_not 2) t.number.items (32 ∷ t.priority.items) n p)
+joined_not Category t s n p c w =
+    Are-append (is_not 2) t.source.items (t.number.items ++ (32 ∷ (t.priority.items ++ (32 ∷ t.category.items)))) s
+    (Are-append (is_not 2) t.number.items (32 ∷ (t.priority.items ++ (32 ∷ t.category.items))) n (Are-append (is_not 2) t.priority.items (32 ∷ t.category.items) p c))
+joined_not Words t s n p c w =
+    Are-append (is_not 2) t.source.items (t.number.items ++ (32 ∷ (t.priority.items ++ (32 ∷ (t.category.items ++ (32 ∷ t.words.items)))))) s
+    (Are-append (is_not 2) t.number.items (32 ∷ (t.priority.items ++ (32 ∷ (t.category.items ++ (32 ∷ t.words.items))))) n
+    (Are-append (is_not 2) t.priority.items (32 ∷ (t.category.items ++ (32 ∷ t.words.items))) p (Are-append (is_not 2) t.category.items (32 ∷ t.words.items) c w)))
+
+made_not : (part : HeaderPart) (t : HeaderTexts) → Are is_letter t.source.items → Are is_digit t.number.items → Are is_digit t.priority.items → Are is_alphanumeric t.category.items → Are is_digit t.words.items
+    → Are (is_not 2) (so_far part t)
+made_not part t s n p c w = joined_not part t
+    (each is_letter (is_not 2) t.source.items letter_not s)
+    (each is_digit (is_not 2) t.number.items digit_not n)
+    (each is_digit (is_not 2) t.priority.items digit_not p)
+    (each is_alphanumeric (is_not 2) t.category.items alphanumeric_not c)
+    (each is_digit (is_not 2) t.words.items digit_not w)
+
+so_far_not : (part : HeaderPart) (t : HeaderTexts) → IsPlace (InHeader part t) → Are (is_not 2) (so_far part t)
+so_far_not Source t i = made_not Source t i.0.0 i.1.0 i.2.0 i.3.0 i.4.0
+so_far_not Number t i = made_not Number t i.0.0 i.1.0 i.2.0 i.3.0 i.4.0
+so_far_not Priority t i = made_not Priority t i.0.0 i.1.0 i.2.0 i.3.0 i.4.0
+so_far_not Category t i = made_not Category t i.0.0 i.1.0 i.2.0 i.3.0 i.4.0
+so_far_not Words t i = made_not Words t i.0.0 i.1.0 i.2.0 i.3.0 i.4.0
+
 fixed_not : (h : Header) → IsHeader h → Are (is_not 2) (fixed_header h)
-fixed_not h i =
-    Are-append (is_not 2) h.source (h.number ++ (32 ∷ h.priority ++ (32 ∷ h.category ++ (32 ∷ h.words)))) (each is_letter (is_not 2) h.source letter_not i.source.0)
-    (Are-append (is_not 2) h.number (32 ∷ h.priority ++ (32 ∷ h.category ++ (32 ∷ h.words))) (each is_digit (is_not 2) h.number digit_not i.number.0)
-    (Are-append (is_not 2) (32 ∷ h.priority) (32 ∷ h.category ++ (32 ∷ h.words)) (each is_digit (is_not 2) h.priority digit_not i.priority.0)
-    (Are-append (is_not 2) (32 ∷ h.category) (32 ∷ h.words) (each is_alphanumeric (is_not 2) h.category alphanumeric_not i.category.0) (each is_digit (is_not 2) h.words digit_not i.words.0))))
+fixed_not h i = made_not Words (texts h.source h.number h.priority h.category h.words) i.source.0 i.number.0 i.priority.0 i.category.0 i.words.0
 
 info_spelled_not : (info spelled : List ℕ) → IsField is_info_octet 0 max_info info → SpellsInfo info spelled → Are (is_not 2) spelled
 info_spelled_not info spelled i (inl h) = subst (Are (is_not 2)) (sym h.1) refl
@@ -170,34 +200,10 @@ after_soh : (octets before rest : List ℕ) → IsFiller before → octets ≡ b
 after_soh octets before rest f parts are =
     subst (Are (is_not 2)) (sym parts) (Are-append (is_not 2) before (1 ∷ rest) (each is_filler_octet (is_not 2) before filler_not f.0) are)
 
-numbered : (s n rest : List ℕ) → Are is_letter s → Are is_digit n → Are (is_not 2) rest → Are (is_not 2) (s ++ (n ++ rest))
-numbered s n rest is' in' are =
-    Are-append (is_not 2) s (n ++ rest) (each is_letter (is_not 2) s letter_not is') (Are-append (is_not 2) n rest (each is_digit (is_not 2) n digit_not in') are)
-
--- a digit's part, and SP and what follows it
-parted : (p rest : List ℕ) → Are is_digit p → Are (is_not 2) rest → Are (is_not 2) (32 ∷ (p ++ (32 ∷ rest)))
-parted p rest ip are = Are-append (is_not 2) p (32 ∷ rest) (each is_digit (is_not 2) p digit_not ip) are
-
 -- Before STX no octet is one.
 pub no_stx : (octets text : List ℕ) (p : Place) → IsPlace p → Spells octets text p → head_read (Some p) ≡ None → Are (is_not 2) octets
 no_stx octets text (Filler k) i l e = each is_filler_octet (is_not 2) octets filler_not l.0.0
-no_stx octets text (Source s) i l e = after_soh octets l.0 s.items l.1 l.2 (each is_letter (is_not 2) s.items letter_not i.0)
-no_stx octets text (Number s n) i l e =
-    after_soh octets l.0 (s.items ++ n.items) l.1 l.2
-    (Are-append (is_not 2) s.items n.items (each is_letter (is_not 2) s.items letter_not i.0.0) (each is_digit (is_not 2) n.items digit_not i.1.0))
-no_stx octets text (Priority s n) i l e = after_soh octets l.0 (s.items ++ (n.items ++ (32 ∷ []))) l.1 l.2 (numbered s.items n.items (32 ∷ []) i.0.0 i.1.0 refl)
-no_stx octets text (PriorityRead s n p) i l e =
-    after_soh octets l.0 (s.items ++ (n.items ++ (32 ∷ p.items))) l.1 l.2
-    (numbered s.items n.items (32 ∷ p.items) i.0.0 i.1.0 (each is_digit (is_not 2) p.items digit_not i.2.0))
-no_stx octets text (Category s n p c) i l e =
-    after_soh octets l.0 (s.items ++ (n.items ++ (32 ∷ (p.items ++ (32 ∷ c.items))))) l.1 l.2
-    (numbered s.items n.items (32 ∷ (p.items ++ (32 ∷ c.items))) i.0.0 i.1.0
-    (parted p.items c.items i.2.0 (each is_alphanumeric (is_not 2) c.items alphanumeric_not i.3.0)))
-no_stx octets text (Words s n p c w) i l e =
-    after_soh octets l.0 (s.items ++ (n.items ++ (32 ∷ (p.items ++ (32 ∷ (c.items ++ (32 ∷ w.items))))))) l.1 l.2
-    (numbered s.items n.items (32 ∷ (p.items ++ (32 ∷ (c.items ++ (32 ∷ w.items))))) i.0.0 i.1.0
-    (parted p.items (c.items ++ (32 ∷ w.items)) i.2.0
-    (Are-append (is_not 2) c.items (32 ∷ w.items) (each is_alphanumeric (is_not 2) c.items alphanumeric_not i.3.0) (each is_digit (is_not 2) w.items digit_not i.4.0))))
+no_stx octets text (InHeader part t) i l e = after_soh octets l.0 (so_far part t) l.1 l.2 (so_far_not part t i)
 no_stx octets text (Info h) i l e =
     after_soh octets l.0 (fixed_header h ++ (32 ∷ h.info)) l.1 l.2
     (Are-append (is_not 2) (fixed_header h) (32 ∷ h.info) (fixed_not h i) (each is_info_octet (is_not 2) h.info info_not i.info.0))

@@ -1,13 +1,14 @@
 -- What more octets lead to from each place.
-use Rattle.std.proofs.Common.{◌≡◌, ℕ, ◌+◌, ◌≤◌, Bool, true, false, ◌||◌, ◌==◌, List, [], ◌∷◌, ◌++◌, length, refl, sym, ap, subst, ◌∙◌, arith, inl, inr, append_assoc, length-append}
+use Rattle.std.proofs.Common.{◌≡◌, ℕ, ◌+◌, ◌≤◌, Bool, true, false, ◌||◌, ◌==◌, List, [], ◌∷◌, ◌++◌, length, refl, sym, ap, subst, ◌∙◌, arith, inr, append_assoc, length-append}
 use Rattle.std.proofs.lemmas.Bool.{and_from}
 use Rattle.arrayvec.specs.ArrayVec.{ArrayVec}
 use Rattle.wire_message.specs.Format.Fields.{Are, IsField, is_filler_octet, is_text_octet, max_filler}
 use Rattle.wire_message.specs.Format.Messages.{Header, IsHeader, IsTrailer, fixed_header, has_feed}
 use Rattle.wire_message.specs.States.SoFar.{Spells}
-use Rattle.wire_message.specs.declared.place.Place.TheVariants.{Filler, Source, Number, Priority, PriorityRead, Category, Words, Info, Gap, Text, Trailer, AfterEnd}
+use Rattle.wire_message.specs.declared.place.Place.TheVariants.{Filler, InHeader, Info, Gap, Text, Trailer, AfterEnd}
 use Rattle.wire_story.proofs.Spans.{Are-append}
-use Rattle.wire_message.proofs.Machine.{of, begun}
+use Rattle.wire_message.specs.declared.part.HeaderPart.TheVariants.{Source}
+use Rattle.wire_message.proofs.Machine.{of, no_texts}
 use Rattle.wire_story.specs.declared.reader.TextReader.{TextReader}
 
 -- ---- parts with more octets
@@ -47,47 +48,12 @@ join4 a f i g x t ys = join3 a f i g (x ++ (3 ∷ t)) ys ∙ ap (λ (u : List �
 pub filler_more : (xs text ys : List ℕ) (k : ℕ) → Are is_filler_octet ys → k + length ys ≤ max_filler → Spells xs text (Filler k) → Spells (xs ++ ys) text (Filler (k + length ys))
 filler_more xs text ys k t le l = (field_more is_filler_octet 0 0 max_filler xs ys l.0 t (omega (arith, l.1, le)) (omega arith), omega (arith, length-append xs ys, l.1), l.2)
 
-pub filler_soh : (xs text : List ℕ) (k : ℕ) → Spells xs text (Filler k) → Spells (xs ++ (1 ∷ [])) text (Source (of []))
+pub filler_soh : (xs text : List ℕ) (k : ℕ) → Spells xs text (Filler k) → Spells (xs ++ (1 ∷ [])) text (InHeader Source no_texts)
 filler_soh xs text k l = (xs, l.0, refl, l.2)
 
-pub source_more : (xs text ys : List ℕ) (s : ArrayVec ℕ) → Spells xs text (Source s) → Spells (xs ++ ys) text (Source (of (s.items ++ ys)))
-source_more xs text ys s l = (l.0, l.1, ap (λ (u : List ℕ). u ++ ys) l.2 ∙ append_assoc l.0 (1 ∷ s.items) ys, l.3)
-
-pub source_number : (xs text : List ℕ) (s : ArrayVec ℕ) (b : ℕ) → Spells xs text (Source s) → Spells (xs ++ (b ∷ [])) text (Number s (of (b ∷ [])))
-source_number xs text s b l = (l.0, l.1, ap (λ (u : List ℕ). u ++ (b ∷ [])) l.2 ∙ append_assoc l.0 (1 ∷ s.items) (b ∷ []), l.3)
-
-pub number_more : (xs text ys : List ℕ) (s n : ArrayVec ℕ) → Spells xs text (Number s n) → Spells (xs ++ ys) text (Number s (of (n.items ++ ys)))
-number_more xs text ys s n l = (l.0, l.1, ap (λ (u : List ℕ). u ++ ys) l.2 ∙ simp append_assoc, l.3)
-
-pub number_space : (xs text : List ℕ) (s n : ArrayVec ℕ) → Spells xs text (Number s n) → Spells (xs ++ (32 ∷ [])) text (Priority s n)
-number_space xs text s n l = (l.0, l.1, ap (λ (u : List ℕ). u ++ (32 ∷ [])) l.2 ∙ simp append_assoc, l.3)
-
-pub space_priority : (xs text : List ℕ) (s n : ArrayVec ℕ) (b : ℕ) → Spells xs text (Priority s n) → Spells (xs ++ (b ∷ [])) text (PriorityRead s n (of (b ∷ [])))
-space_priority xs text s n b l = (l.0, l.1, ap (λ (u : List ℕ). u ++ (b ∷ [])) l.2 ∙ simp append_assoc, l.3)
-
-pub priority_space : (xs text : List ℕ) (s n p : ArrayVec ℕ) → Spells xs text (PriorityRead s n p) → Spells (xs ++ (32 ∷ [])) text (Category s n p (of []))
-priority_space xs text s n p l = (l.0, l.1, ap (λ (u : List ℕ). u ++ (32 ∷ [])) l.2 ∙ simp append_assoc, l.3)
-
-pub category_more : (xs text ys : List ℕ) (s n p c : ArrayVec ℕ) → Spells xs text (Category s n p c) → Spells (xs ++ ys) text (Category s n p (of (c.items ++ ys)))
-category_more xs text ys s n p c l = (l.0, l.1, ap (λ (u : List ℕ). u ++ ys) l.2 ∙ simp append_assoc, l.3)
-
-pub category_space : (xs text : List ℕ) (s n p c : ArrayVec ℕ) → Spells xs text (Category s n p c) → Spells (xs ++ (32 ∷ [])) text (Words s n p c (of []))
-category_space xs text s n p c l = (l.0, l.1, ap (λ (u : List ℕ). u ++ (32 ∷ [])) l.2 ∙ simp append_assoc, l.3)
-
-pub words_more : (xs text ys : List ℕ) (s n p c w : ArrayVec ℕ) → Spells xs text (Words s n p c w) → Spells (xs ++ ys) text (Words s n p c (of (w.items ++ ys)))
-words_more xs text ys s n p c w l = (l.0, l.1, ap (λ (u : List ℕ). u ++ ys) l.2 ∙ simp append_assoc, l.3)
-
-pub words_space : (xs text : List ℕ) (s n p c w : ArrayVec ℕ) → Spells xs text (Words s n p c w) → Spells (xs ++ (32 ∷ [])) text (Info (begun s n p c w))
-words_space xs text s n p c w l = (l.0, l.1, ap (λ (u : List ℕ). u ++ (32 ∷ [])) l.2 ∙ simp append_assoc, l.3)
-
-one_feed : (x : Bool) → (x || false) ≡ x
+pub one_feed : (x : Bool) → (x || false) ≡ x
 one_feed true = refl
 one_feed false = refl
-
-pub words_gap : (xs text : List ℕ) (s n p c w : ArrayVec ℕ) (b : ℕ) → is_filler_octet b ≡ true → Spells xs text (Words s n p c w)
-    → Spells (xs ++ (b ∷ [])) text (Gap (begun s n p c w) 1 (b == 10))
-words_gap xs text s n p c w b t l =
-    (l.0, [], b ∷ [], l.1, inl (refl, refl), one_is is_filler_octet b t, refl, one_feed (b == 10), ap (λ (u : List ℕ). u ++ (b ∷ [])) l.2 ∙ simp append_assoc, l.3)
 
 pub info_more : (xs text ys : List ℕ) (h k : Header) → k ≡ record h { info = h.info ++ ys } → Spells xs text (Info h) → Spells (xs ++ ys) text (Info k)
 info_more xs text ys h k e l =

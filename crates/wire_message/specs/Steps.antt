@@ -7,7 +7,7 @@ use Rattle.wire_story.specs.declared.fault.TextCause.TheVariants as text_cause
 use Rattle.wire_message.specs.Format.Layers.{MessageDiesAt}
 use Rattle.wire_message.specs.States.SoFar.{IsPlace, Spells, StoryStands}
 use Rattle.wire_message.specs.declared.place.Place.{Place}
-use Rattle.wire_message.specs.declared.place.Place.TheVariants.{Text}
+use Rattle.wire_message.specs.declared.place.Place.TheVariants.{InHeader, Text}
 use Rattle.wire_message.specs.declared.fault.MessageCause.{MessageCause}
 use Rattle.wire_message.specs.declared.fault.MessageCause.TheVariants.{LoneReturn, ControlOctet, Sink}
 use Rattle.wire_message.specs.declared.fault.MessageFault.{MessageFault}
@@ -25,6 +25,11 @@ cause_of text_cause.Sink = Sink
 abbrev pub IsNoText : Place → Type 0
 IsNoText (Text h reader) = ⊥
 IsNoText _ = Unit {0}
+
+-- Neither the text nor a part of the header before its info is being read.
+abbrev pub IsOther : Place → Type 0
+IsOther (InHeader part t) = ⊥
+IsOther place = IsNoText place
 
 -- What octets add to a place, where they add nothing to the text.
 abbrev pub AddsNoText : Place → List ℕ → Place → Type 0

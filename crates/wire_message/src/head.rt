@@ -8,6 +8,7 @@ use crate::field::{append, append_part, front_len, is_field, kept};
 use crate::lengths::{
     MAX_CATEGORY, MAX_INFO, MAX_KEPT, MAX_NUMBER, MAX_PRIORITY, MAX_SOURCE, MAX_WORDS,
 };
+use crate::part::HeaderTexts;
 use arrayvec::ArrayVec;
 use std::marker::Model;
 
@@ -37,6 +38,7 @@ ghost use Rattle.wire_message.specs.Format.Messages.{header_of, IsHeader};
 ghost use Rattle.wire_message.specs.Format.Fields.{is_alphanumeric, is_info_octet, Are, IsField, max_source, max_number, max_priority, max_category, max_words, max_info};
 ghost use Rattle.iim_dataset.specs.Format.Octets.{is_letter, is_digit};
 ghost use Rattle.wire_message.specs.Kept.{parts_in, IsKept};
+ghost use Rattle.wire_message.specs.Parts.{begun};
 
 /// Whether the parts are those of a header.
 fn is_header(
@@ -49,22 +51,12 @@ fn is_header(
 ) -> bool
     ensures { IsTrue result ↔ IsHeader (header_of source.now number.now priority.now category.now words.now info.now) }
 {
-    if !is_field(Class::Letter, 1, MAX_SOURCE, source) {
-        return false;
-    }
-    if !is_field(Class::Digit, 1, MAX_NUMBER, number) {
-        return false;
-    }
-    if !is_field(Class::Digit, 1, MAX_PRIORITY, priority) {
-        return false;
-    }
-    if !is_field(Class::Alphanumeric, 1, MAX_CATEGORY, category) {
-        return false;
-    }
-    if !is_field(Class::Digit, 1, MAX_WORDS, words) {
-        return false;
-    }
-    is_field(Class::Info, 0, MAX_INFO, info)
+    is_field(Class::Letter, 1, MAX_SOURCE, source)
+        && is_field(Class::Digit, 1, MAX_NUMBER, number)
+        && is_field(Class::Digit, 1, MAX_PRIORITY, priority)
+        && is_field(Class::Alphanumeric, 1, MAX_CATEGORY, category)
+        && is_field(Class::Digit, 1, MAX_WORDS, words)
+        && is_field(Class::Info, 0, MAX_INFO, info)
 }
 
 impl MessageHead {
@@ -125,18 +117,18 @@ impl MessageHead {
     }
 
     /// The header of these parts, its info empty so far.
-    pub(crate) fn begun(
-        source: ArrayVec<u8, MAX_SOURCE>,
-        number: ArrayVec<u8, MAX_NUMBER>,
-        priority: ArrayVec<u8, MAX_PRIORITY>,
-        category: ArrayVec<u8, MAX_CATEGORY>,
-        words: ArrayVec<u8, MAX_WORDS>,
-    ) -> MessageHead
-        requires { IsHeader (header_of source.items number.items priority.items category.items words.items []) }
-        ensures parts { result ≡ header_of source.items number.items priority.items category.items words.items [] }
-        ensures is_header { IsHeader result }
+    pub(crate) fn begun(texts: &HeaderTexts) -> MessageHead
+        requires { IsHeader (begun texts.now) }
+        ensures { result ≡ begun texts.now }
     {
-        MessageHead::of_parts(&source, &number, &priority, &category, &words, &[])
+        MessageHead::of_parts(
+            &texts.source,
+            &texts.number,
+            &texts.priority,
+            &texts.category,
+            &texts.words,
+            &[],
+        )
     }
 
     /// Lengthens the info by the octets of it that follow, as many as there is room for, and answers how many.

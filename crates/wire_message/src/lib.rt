@@ -15,6 +15,7 @@ pub mod laws;
 mod lengthen;
 mod lengths;
 mod next;
+mod part;
 mod piece;
 mod place;
 mod reader;

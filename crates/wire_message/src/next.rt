@@ -4,23 +4,21 @@ ghost use Rattle.std.specs.Prelude.{◌<◌, ◌≤◌, ◌≡◌, true, false, 
 ghost use Rattle.iim_dataset.specs.Format.Characters.{eot};
 ghost use Rattle.wire_message.specs.States.SoFar.{IsPlace};
 ghost use Rattle.wire_message.specs.Parts.{EndsPart, BeginsTrailer, EndsTrailer};
-ghost use Rattle.wire_message.specs.Steps.{DiesWith, TakesSome, IsNoText};
+ghost use Rattle.wire_message.specs.Steps.{DiesWith, TakesSome, IsNoText, IsOther};
 
 use crate::place::Place;
-use crate::step::{
-    after_category, after_filler, after_number, after_priority, after_source, after_words,
-    in_priority,
-};
+use crate::step::{after_filler, begin_part, ends_part};
 use crate::tail::{after_gap, after_info, after_trailer};
 use crate::whole::after;
 use arrayvec::ArrayVec;
 use iim_dataset::octets::EOT;
 use std::mem;
 
-/// The place after an octet that does not lengthen the part that is being read, or None where it dies.
+/// The place after an octet that does not lengthen the part that is being read, or None where it dies. The part is none of the
+/// header's before its info.
 fn next_part(place: Place, rest: &[u8]) -> Option<Place>
     requires place { IsPlace place }
-    requires outside { IsNoText place }
+    requires outside { IsOther place }
     requires some { 0 < length rest.now }
     requires ends { EndsPart place (slice_index rest.now 0) }
     ensures takes { IfSome result (λ next. TakesSome place rest.now next 1) }
@@ -28,27 +26,7 @@ fn next_part(place: Place, rest: &[u8]) -> Option<Place>
 {
     match place {
         Place::Filler { count } => after_filler(count, rest),
-        Place::Source { source } => after_source(source, rest),
-        Place::Number { source, number } => after_number(source, number, rest),
-        Place::Priority { source, number } => in_priority(source, number, rest),
-        Place::PriorityRead {
-            source,
-            number,
-            priority,
-        } => after_priority(source, number, priority, rest),
-        Place::Category {
-            source,
-            number,
-            priority,
-            category,
-        } => after_category(source, number, priority, category, rest),
-        Place::Words {
-            source,
-            number,
-            priority,
-            category,
-            words,
-        } => after_words(source, number, priority, category, words, rest),
+        Place::InHeader { .. } => unreachable!(),
         Place::Info { head } => after_info(head, rest),
         Place::Gap {
             head,
@@ -71,6 +49,15 @@ pub(crate) fn begin_next(place: &mut Place, rest: &[u8]) -> bool
     ensures takes { result ≡ true → TakesSome place.old rest.now place.new 1 }
     ensures dies { result ≡ false → DiesWith place.old (slice_index rest.now 0) }
 {
+    if let Place::InHeader { part, texts } = place {
+        if !ends_part(*part, texts, rest[0]) {
+            return false;
+        }
+        if let Some(next) = begin_part(part, texts, rest[0]) {
+            *place = next;
+        }
+        return true;
+    }
     let old = mem::replace(place, Place::Filler { count: 0 });
     match next_part(old, rest) {
         Some(next) => {

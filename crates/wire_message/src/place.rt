@@ -1,7 +1,8 @@
 //! What a reader of messages knows of the octets so far.
 
 use crate::head::MessageHead;
-use crate::lengths::{MAX_CATEGORY, MAX_NUMBER, MAX_PRIORITY, MAX_SOURCE, MAX_TRAILER, MAX_WORDS};
+use crate::lengths::MAX_TRAILER;
+use crate::part::{HeaderPart, HeaderTexts};
 use arrayvec::ArrayVec;
 use wire_story::TextReader;
 
@@ -12,40 +13,10 @@ pub(crate) enum Place {
     Filler {
         count: u8,
     },
-    /// SOH, and the source so far.
-    Source {
-        source: ArrayVec<u8, MAX_SOURCE>,
-    },
-    /// The source, and the number so far.
-    Number {
-        source: ArrayVec<u8, MAX_SOURCE>,
-        number: ArrayVec<u8, MAX_NUMBER>,
-    },
-    /// Source, number and SP.
-    Priority {
-        source: ArrayVec<u8, MAX_SOURCE>,
-        number: ArrayVec<u8, MAX_NUMBER>,
-    },
-    /// Source, number, SP and priority.
-    PriorityRead {
-        source: ArrayVec<u8, MAX_SOURCE>,
-        number: ArrayVec<u8, MAX_NUMBER>,
-        priority: ArrayVec<u8, MAX_PRIORITY>,
-    },
-    /// All up to the second SP, and the category so far.
-    Category {
-        source: ArrayVec<u8, MAX_SOURCE>,
-        number: ArrayVec<u8, MAX_NUMBER>,
-        priority: ArrayVec<u8, MAX_PRIORITY>,
-        category: ArrayVec<u8, MAX_CATEGORY>,
-    },
-    /// All up to the third SP, and the words so far.
-    Words {
-        source: ArrayVec<u8, MAX_SOURCE>,
-        number: ArrayVec<u8, MAX_NUMBER>,
-        priority: ArrayVec<u8, MAX_PRIORITY>,
-        category: ArrayVec<u8, MAX_CATEGORY>,
-        words: ArrayVec<u8, MAX_WORDS>,
+    /// SOH, and the parts of the header up to the one that is being read.
+    InHeader {
+        part: HeaderPart,
+        texts: HeaderTexts,
     },
     /// The header, its info begun by SP.
     Info {

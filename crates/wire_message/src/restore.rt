@@ -1,19 +1,20 @@
 //! How a saved place is put back: by the parts that it has, and then by whether it is the place that is saved so.
 
-ghost use Rattle.std.specs.Prelude.{◌≡◌, ◌≤◌, ◌↔◌, ◌||◌, nat_lt, IsTrue, IsSome, IfSome};
+ghost use Rattle.std.specs.Prelude.{◌≡◌, ◌≤◌, ◌↔◌, ◌||◌, nat_lt, if◌then◌else◌, IsTrue, IsSome, IfSome};
 ghost use Rattle.wire_message.specs.declared.place.Place.{Place};
 ghost use Rattle.wire_message.specs.declared.saved.MessagePart.TheVariants as part;
-ghost use Rattle.wire_message.specs.Format.Fields.{IsField, max_filler, max_source, max_number, max_priority};
-ghost use Rattle.iim_dataset.specs.Format.Octets.{is_digit, is_letter};
+ghost use Rattle.wire_message.specs.Classes.{is_in_class};
+ghost use Rattle.wire_message.specs.Format.Fields.{IsField, max_filler};
 ghost use Rattle.wire_message.specs.Format.Messages.{IsHeader};
 ghost use Rattle.wire_message.specs.States.SoFar.{IsPlace};
 ghost use Rattle.wire_message.specs.States.Saved.{saved};
-ghost use Rattle.wire_message.specs.Restoring.{head_in, IsOnly};
+ghost use Rattle.wire_message.specs.Restoring.{head_in, texts_in, restored, IsOnly};
 
 use crate::class::Class;
 use crate::field::{is_field, kept};
 use crate::head::MessageHead;
 use crate::lengths::{MAX_CATEGORY, MAX_FILLER, MAX_NUMBER, MAX_PRIORITY, MAX_SOURCE, MAX_WORDS};
+use crate::part::{HeaderPart, HeaderTexts};
 use crate::place::Place;
 use crate::save::save;
 use crate::saved::{MessagePart, MessagePlace};
@@ -28,20 +29,48 @@ fn is_filler(count: u8) -> bool
     count <= MAX_FILLER
 }
 
-/// Whether there may be such a source and number.
-fn is_numbered(place: &MessagePlace) -> bool
+/// Whether the octets may be those of a part that has begun or not, and has some or may have none.
+fn is_part(class: Class, some: bool, begun: bool, most: usize, octets: &[u8]) -> bool
     ensures { IsTrue result ↔
-        IsField is_letter 1 max_source place.now.source.items × IsField is_digit 1 max_number place.now.number.items }
+        IsField (is_in_class class) (if some then 1 else 0) (if begun then most else 0) octets.now }
 {
-    is_field(Class::Letter, 1, MAX_SOURCE, &place.source)
-        && is_field(Class::Digit, 1, MAX_NUMBER, &place.number)
+    let most = if begun { most } else { 0 };
+    is_field(class, usize::from(some), most, octets)
 }
 
-/// Whether there may be such a priority.
-fn is_priority(place: &MessagePlace) -> bool
-    ensures { IsTrue result ↔ IsField is_digit 1 max_priority place.now.priority.items }
+/// Whether there may be such parts while this one is being read.
+fn is_header_so_far(part: HeaderPart, place: &MessagePlace) -> bool
+    ensures { IsTrue result ↔ IsPlace (Place.InHeader part (texts_in place.now)) }
 {
-    is_field(Class::Digit, 1, MAX_PRIORITY, &place.priority)
+    let (some, begun) = match part {
+        HeaderPart::Source => (0, 1),
+        HeaderPart::Number => (2, 2),
+        HeaderPart::Priority => (2, 3),
+        HeaderPart::Category => (3, 4),
+        HeaderPart::Words => (4, 5),
+    };
+    is_part(
+        Class::Letter,
+        some > 0,
+        begun > 0,
+        MAX_SOURCE,
+        &place.source,
+    ) && is_part(Class::Digit, some > 1, begun > 1, MAX_NUMBER, &place.number)
+        && is_part(
+            Class::Digit,
+            some > 2,
+            begun > 2,
+            MAX_PRIORITY,
+            &place.priority,
+        )
+        && is_part(
+            Class::Alphanumeric,
+            some > 3,
+            begun > 3,
+            MAX_CATEGORY,
+            &place.category,
+        )
+        && is_part(Class::Digit, some > 4, begun > 4, MAX_WORDS, &place.words)
 }
 
 /// Whether STX can still come after `count` octets of a gap, an LF among them or not.
@@ -80,112 +109,23 @@ fn in_filler(place: &MessagePlace) -> Option<Place>
     None
 }
 
-/// A place in the source.
-fn in_source(place: &MessagePlace) -> Option<Place>
-    requires { place.now.part ≡ part.Source }
+/// A place in a part of the header.
+fn in_header(part: HeaderPart, place: &MessagePlace) -> Option<Place>
+    requires { restored place.now.part place.now ≡ Place.InHeader part (texts_in place.now) }
     ensures place { IfSome result IsPlace }
     ensures only { IsOnly result place.now }
 {
-    if is_field(Class::Letter, 0, MAX_SOURCE, &place.source) {
-        return Some(Place::Source {
-            source: kept(&place.source),
-        });
+    if !is_header_so_far(part, place) {
+        return None;
     }
-    None
-}
-
-/// A place in the number.
-fn in_number(place: &MessagePlace) -> Option<Place>
-    requires { place.now.part ≡ part.Number }
-    ensures place { IfSome result IsPlace }
-    ensures only { IsOnly result place.now }
-{
-    if is_numbered(place) {
-        return Some(Place::Number {
-            source: kept(&place.source),
-            number: kept(&place.number),
-        });
-    }
-    None
-}
-
-/// A place before the priority.
-fn before_priority(place: &MessagePlace) -> Option<Place>
-    requires { place.now.part ≡ part.Priority }
-    ensures place { IfSome result IsPlace }
-    ensures only { IsOnly result place.now }
-{
-    if is_numbered(place) {
-        return Some(Place::Priority {
-            source: kept(&place.source),
-            number: kept(&place.number),
-        });
-    }
-    None
-}
-
-/// A place after the priority.
-fn after_priority(place: &MessagePlace) -> Option<Place>
-    requires { place.now.part ≡ part.PriorityRead }
-    ensures place { IfSome result IsPlace }
-    ensures only { IsOnly result place.now }
-{
-    if is_numbered(place) && is_priority(place) {
-        return Some(Place::PriorityRead {
-            source: kept(&place.source),
-            number: kept(&place.number),
-            priority: kept(&place.priority),
-        });
-    }
-    None
-}
-
-/// A place in the category.
-fn in_category(place: &MessagePlace) -> Option<Place>
-    requires { place.now.part ≡ part.Category }
-    ensures place { IfSome result IsPlace }
-    ensures only { IsOnly result place.now }
-{
-    let is_octets = is_field(Class::Alphanumeric, 0, MAX_CATEGORY, &place.category);
-    if is_numbered(place) && is_priority(place) && is_octets {
-        return Some(Place::Category {
-            source: kept(&place.source),
-            number: kept(&place.number),
-            priority: kept(&place.priority),
-            category: kept(&place.category),
-        });
-    }
-    None
-}
-
-/// A place in the words.
-fn in_words(place: &MessagePlace) -> Option<Place>
-    requires { place.now.part ≡ part.Words }
-    ensures place { IfSome result IsPlace }
-    ensures only { IsOnly result place.now }
-{
-    let is_category = is_field(Class::Alphanumeric, 1, MAX_CATEGORY, &place.category);
-    let is_digits = is_field(Class::Digit, 0, MAX_WORDS, &place.words);
-    if is_numbered(place) && is_priority(place) && is_category && is_digits {
-        return Some(Place::Words {
-            source: kept(&place.source),
-            number: kept(&place.number),
-            priority: kept(&place.priority),
-            category: kept(&place.category),
-            words: kept(&place.words),
-        });
-    }
-    None
-}
-
-/// A place in the info.
-fn in_info(place: &MessagePlace) -> Option<Place>
-    requires { place.now.part ≡ part.Info }
-    ensures place { IfSome result IsPlace }
-    ensures only { IsOnly result place.now }
-{
-    let head = head_of(place)?;
-    Some(Place::Info { head })
+    let texts = HeaderTexts {
+        source: kept(&place.source),
+        number: kept(&place.number),
+        priority: kept(&place.priority),
+        category: kept(&place.category),
+        words: kept(&place.words),
+    };
+    Some(Place::InHeader { part, texts })
 }
 
 /// A place in the gap.
@@ -226,10 +166,8 @@ fn in_trailer(place: &MessagePlace) -> Option<Place>
 {
     let head = head_of(place)?;
     if is_trailer(&place.trailer) {
-        return Some(Place::Trailer {
-            head,
-            trailer: kept(&place.trailer),
-        });
+        let trailer = kept(&place.trailer);
+        return Some(Place::Trailer { head, trailer });
     }
     None
 }
@@ -258,13 +196,16 @@ fn candidate(place: &MessagePlace) -> Option<Place>
 {
     match place.part {
         MessagePart::Filler => in_filler(place),
-        MessagePart::Source => in_source(place),
-        MessagePart::Number => in_number(place),
-        MessagePart::Priority => before_priority(place),
-        MessagePart::PriorityRead => after_priority(place),
-        MessagePart::Category => in_category(place),
-        MessagePart::Words => in_words(place),
-        MessagePart::Info => in_info(place),
+        MessagePart::Source => in_header(HeaderPart::Source, place),
+        MessagePart::Number => in_header(HeaderPart::Number, place),
+        MessagePart::Priority => in_header(HeaderPart::Priority, place),
+        MessagePart::PriorityRead => in_header(HeaderPart::Priority, place),
+        MessagePart::Category => in_header(HeaderPart::Category, place),
+        MessagePart::Words => in_header(HeaderPart::Words, place),
+        MessagePart::Info => {
+            let head = head_of(place)?;
+            Some(Place::Info { head })
+        }
         MessagePart::Gap => in_gap(place),
         MessagePart::Text => in_text(place),
         MessagePart::Trailer => in_trailer(place),

@@ -3,11 +3,12 @@
 ghost use Rattle.std.specs.Prelude.{◌≡◌, ◌≤◌, ◌+◌, Some, None, length};
 ghost use Rattle.wire_message.specs.Format.Fields.{max_filler, max_source, max_number, max_priority, max_category, max_words, max_info};
 ghost use Rattle.wire_message.specs.Format.Canonical.{packed_info};
-ghost use Rattle.wire_message.specs.States.SoFar.{IsPlace};
+ghost use Rattle.wire_message.specs.States.SoFar.{IsPlace, so_far};
 ghost use Rattle.wire_message.specs.Format.Lengths.{fixed_octets, least_head, least_of, greatest_of};
 
 use crate::head::MessageHead;
 use crate::lengths::MAX_FILLER;
+use crate::part::{HeaderPart, HeaderTexts};
 use crate::place::Place;
 
 /// The least and the greatest number of octets, where `octets` of them stand from SOH on, and filler before them or none.
@@ -27,6 +28,22 @@ fn with_text(octets: usize) -> (u64, Option<u64>)
     ensures greatest { result.1 ≡ None }
 {
     (octets as u64, None)
+}
+
+/// The parts of a header up to the one that is being read, with the SP between them.
+fn so_far_len(part: HeaderPart, texts: &HeaderTexts) -> usize
+    ensures sum { result ≡ length (so_far part texts.now) }
+    ensures within { result ≤ 3 + max_source + max_number + max_priority + max_category + max_words }
+{
+    let numbered = texts.source.len() + texts.number.len();
+    let named = numbered + texts.priority.len() + texts.category.len();
+    match part {
+        HeaderPart::Source => texts.source.len(),
+        HeaderPart::Number => numbered,
+        HeaderPart::Priority => 1 + numbered + texts.priority.len(),
+        HeaderPart::Category => 2 + named,
+        HeaderPart::Words => 3 + named + texts.words.len(),
+    }
 }
 
 /// SOH and the parts up to the words, with the SP between them.
@@ -75,30 +92,7 @@ pub(crate) fn lengths_to(place: &Place) -> (u64, Option<u64>)
 {
     match place {
         Place::Filler { count } => (u64::from(*count), Some(u64::from(*count))),
-        Place::Source { source } => after_filler(1 + source.len()),
-        Place::Number { source, number } => after_filler(1 + source.len() + number.len()),
-        Place::Priority { source, number } => after_filler(2 + source.len() + number.len()),
-        Place::PriorityRead {
-            source,
-            number,
-            priority,
-        } => after_filler(2 + source.len() + number.len() + priority.len()),
-        Place::Category {
-            source,
-            number,
-            priority,
-            category,
-        } => after_filler(3 + source.len() + number.len() + priority.len() + category.len()),
-        Place::Words {
-            source,
-            number,
-            priority,
-            category,
-            words,
-        } => {
-            let parts = source.len() + number.len() + priority.len() + category.len();
-            after_filler(4 + parts + words.len())
-        }
+        Place::InHeader { part, texts } => after_filler(1 + so_far_len(*part, texts)),
         Place::Info { head } => after_filler(fixed_len(head) + 1 + head.info().len()),
         Place::Gap { head, count, .. } => in_gap(head, *count),
         Place::Text { head, text } => with_text(head_len(head) + usize::from(text.held())),

@@ -4,8 +4,9 @@ use Rattle.wire_message.specs.Format.Fields.{max_filler}
 use Rattle.wire_message.specs.Format.Messages.{Header, fixed_header}
 use Rattle.wire_message.specs.Format.Canonical.{packed_info}
 use Rattle.wire_message.specs.States.Reading.{StandsAt}
+use Rattle.wire_message.specs.States.SoFar.{so_far}
 use Rattle.wire_message.specs.declared.place.Place.{Place}
-use Rattle.wire_message.specs.declared.place.Place.TheVariants.{Filler, Source, Number, Priority, PriorityRead, Category, Words, Info, Gap, Text, Trailer, AfterEnd}
+use Rattle.wire_message.specs.declared.place.Place.TheVariants.{Filler, InHeader, Info, Gap, Text, Trailer, AfterEnd}
 
 -- Some octets, `count` of them, lead to where the reader stands.
 abbrev pub LeadsIn : Option Place → ℕ → Type 0
@@ -29,12 +30,7 @@ least_head h = fixed_octets h + length (packed_info h.info) + 2
 -- once it has ended the gap is LF alone; of the text there are the CR that are held.
 abbrev pub least_of : Place → ℕ
 least_of (Filler count) = count
-least_of (Source s) = 1 + length s.items
-least_of (Number s n) = 1 + length s.items + length n.items
-least_of (Priority s n) = 2 + length s.items + length n.items
-least_of (PriorityRead s n p) = 2 + length s.items + length n.items + length p.items
-least_of (Category s n p c) = 3 + length s.items + length n.items + length p.items + length c.items
-least_of (Words s n p c w) = 4 + length s.items + length n.items + length p.items + length c.items + length w.items
+least_of (InHeader part t) = 1 + length (so_far part t)
 least_of (Info h) = fixed_octets h + 1 + length h.info
 least_of (Gap h count feed) = fixed_octets h + length (packed_info h.info) + count
 least_of (Text h (Some held)) = least_head h + held

@@ -1,12 +1,14 @@
 -- The place of a reader of messages, as it is saved.
-use Rattle.std.specs.Prelude.{◌≡◌, ℕ, if◌then◌else◌, List, [], Option, Some, None}
+use Rattle.std.specs.Prelude.{◌≡◌, ℕ, if◌then◌else◌, List, [], ◌∷◌, Option, Some, None}
 use Rattle.wire_message.specs.Format.Messages.{Header}
 use Rattle.wire_message.specs.States.SoFar.{LeadsTo}
 use Rattle.wire_message.specs.declared.saved.MessagePart.{MessagePart}
 use Rattle.wire_message.specs.declared.saved.MessagePart.TheVariants as part
 use Rattle.wire_message.specs.declared.saved.MessagePlace.{MessagePlace}
+use Rattle.wire_message.specs.declared.part.HeaderPart.{HeaderPart}
+use Rattle.wire_message.specs.declared.part.HeaderPart.TheVariants.{Source, Number, Priority, Category, Words}
 use Rattle.wire_message.specs.declared.place.Place.{Place}
-use Rattle.wire_message.specs.declared.place.Place.TheVariants.{Filler, Source, Number, Priority, PriorityRead, Category, Words, Info, Gap, Text, Trailer, AfterEnd}
+use Rattle.wire_message.specs.declared.place.Place.TheVariants.{Filler, InHeader, Info, Gap, Text, Trailer, AfterEnd}
 
 -- a part, its counter and flag, and the octets of source, number, priority, category, words, info and trailer
 -- twins (with saved): law `places_are_saved_apart`; "Places that octets lead to: the part, the counter, the flag"
@@ -28,15 +30,19 @@ place_from part counter flag source number priority category words info trailer 
 abbrev pub place_with_header : MessagePart → ℕ → ℕ → Header → List ℕ → MessagePlace
 place_with_header part counter flag h trailer = place_from part counter flag h.source h.number h.priority h.category h.words h.info trailer
 
+-- a part of the header as it is saved: the priority, with these octets, before its digit or after it
+abbrev pub saved_part : HeaderPart → List ℕ → MessagePart
+saved_part Source _ = part.Source
+saved_part Number _ = part.Number
+saved_part Priority [] = part.Priority
+saved_part Priority (b ∷ bs) = part.PriorityRead
+saved_part Category _ = part.Category
+saved_part Words _ = part.Words
+
 -- A place as it is saved. What comes later than the part that is being read is empty.
 abbrev pub saved : Place → MessagePlace
 saved (Filler count) = place_from part.Filler count 0 [] [] [] [] [] [] []
-saved (Source s) = place_from part.Source 0 0 s.items [] [] [] [] [] []
-saved (Number s n) = place_from part.Number 0 0 s.items n.items [] [] [] [] []
-saved (Priority s n) = place_from part.Priority 0 0 s.items n.items [] [] [] [] []
-saved (PriorityRead s n p) = place_from part.PriorityRead 0 0 s.items n.items p.items [] [] [] []
-saved (Category s n p c) = place_from part.Category 0 0 s.items n.items p.items c.items [] [] []
-saved (Words s n p c w) = place_from part.Words 0 0 s.items n.items p.items c.items w.items [] []
+saved (InHeader at t) = place_from (saved_part at t.priority.items) 0 0 t.source.items t.number.items t.priority.items t.category.items t.words.items [] []
 saved (Info h) = place_with_header part.Info 0 0 h []
 saved (Gap h count feed) = place_with_header part.Gap count (if feed then 1 else 0) h []
 saved (Text h (Some held)) = place_with_header part.Text 0 held h []

@@ -14,24 +14,6 @@ as_part octet next is dies = subst (λ (p : Place). IfNone next (DiesWith p octe
 pub returns-in-Filler-clause-dies : goal.returns-in-Filler-clause-dies
 returns-in-Filler-clause-dies c = as_part (slice_index c.args.rest.now 0) c.after_filler.result c.in-Filler.is c.after_filler.ensures.dies
 
-pub returns-in-Source-clause-dies : goal.returns-in-Source-clause-dies
-returns-in-Source-clause-dies c = as_part (slice_index c.args.rest.now 0) c.after_source.result c.in-Source.is c.after_source.ensures.dies
-
-pub returns-in-Number-clause-dies : goal.returns-in-Number-clause-dies
-returns-in-Number-clause-dies c = as_part (slice_index c.args.rest.now 0) c.after_number.result c.in-Number.is c.after_number.ensures.dies
-
-pub returns-in-Priority-clause-dies : goal.returns-in-Priority-clause-dies
-returns-in-Priority-clause-dies c = as_part (slice_index c.args.rest.now 0) c.in_priority.result c.in-Priority.is c.in_priority.ensures.dies
-
-pub returns-in-PriorityRead-clause-dies : goal.returns-in-PriorityRead-clause-dies
-returns-in-PriorityRead-clause-dies c = as_part (slice_index c.args.rest.now 0) c.after_priority.result c.in-PriorityRead.is c.after_priority.ensures.dies
-
-pub returns-in-Category-clause-dies : goal.returns-in-Category-clause-dies
-returns-in-Category-clause-dies c = as_part (slice_index c.args.rest.now 0) c.after_category.result c.in-Category.is c.after_category.ensures.dies
-
-pub returns-in-Words-clause-dies : goal.returns-in-Words-clause-dies
-returns-in-Words-clause-dies c = as_part (slice_index c.args.rest.now 0) c.after_words.result c.in-Words.is c.after_words.ensures.dies
-
 pub returns-in-Info-clause-dies : goal.returns-in-Info-clause-dies
 returns-in-Info-clause-dies c = as_part (slice_index c.args.rest.now 0) c.after_info.result c.in-Info.is c.after_info.ensures.dies
 

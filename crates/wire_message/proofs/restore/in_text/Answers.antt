@@ -1,7 +1,8 @@
 use Rattle.std.proofs.Common.{Some, subst}
 use Rattle.wire_message.specs.States.SoFar.{IsPlace}
 use Rattle.wire_message.specs.declared.saved.MessagePart.TheVariants as part
-use Rattle.wire_message.proofs.Saving.{restored, back}
+use Rattle.wire_message.specs.Restoring.{restored}
+use Rattle.wire_message.proofs.Saving.{back}
 use Rattle.wire_message.proofs.restore.in_text.Goals as goal
 
 pub returns-in_err-text-clause-only : goal.returns-in_err-text-clause-only

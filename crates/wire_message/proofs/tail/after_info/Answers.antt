@@ -1,4 +1,4 @@
-use Rattle.std.proofs.Common.{◌==◌, slice_index, refl, sym, ◌∙◌}
+use Rattle.std.proofs.Common.{slice_index, sym, ◌∙◌}
 use Rattle.wire_message.specs.declared.place.Place.TheVariants.{Info}
 use Rattle.wire_message.proofs.Goings.{info_to_gap}
 use Rattle.wire_message.proofs.Stops.{dies, info_stops}
@@ -10,6 +10,4 @@ returns-clause-dies c =
     dies (Info c.args.head) octet c.requires.place (info_stops c.args.head octet c.requires.ends (sym c.is_in.ensures ∙ c.if-is_in.false))
 
 pub returns-then-is_in-clause-takes : goal.returns-then-is_in-clause-takes
-returns-then-is_in-clause-takes c =
-    let rest = c.args.rest.now in
-    info_to_gap c.args.head c.args.head rest (slice_index rest 0 == 10) c.requires.some refl c.requires.place (sym c.is_in.ensures ∙ c.if-is_in.true) refl
+returns-then-is_in-clause-takes c = info_to_gap c.args.head c.args.rest.now c.requires.some c.requires.place (sym c.is_in.ensures ∙ c.if-is_in.true)

@@ -1,4 +1,4 @@
-use Rattle.std.proofs.Common.{slice_index, refl}
+use Rattle.std.proofs.Common.{slice_index}
 use Rattle.wire_message.specs.declared.place.Place.TheVariants.{Trailer}
 use Rattle.wire_message.proofs.Goings.{trailer_ends}
 use Rattle.wire_message.proofs.Stops.{dies, trailer_stops}
@@ -10,5 +10,4 @@ returns-clause-dies c =
     dies (Trailer c.args.head c.args.trailer) octet c.requires.place (trailer_stops c.args.head c.args.trailer octet c.requires.ends c.if-rest-eq-EOT.false)
 
 pub returns-then-rest-eq-EOT-clause-takes : goal.returns-then-rest-eq-EOT-clause-takes
-returns-then-rest-eq-EOT-clause-takes c =
-    trailer_ends c.args.head c.args.trailer c.args.trailer c.args.rest.now c.requires.some c.requires.place refl c.if-rest-eq-EOT.true
+returns-then-rest-eq-EOT-clause-takes c = trailer_ends c.args.head c.args.trailer c.args.rest.now c.requires.some c.requires.place c.if-rest-eq-EOT.true

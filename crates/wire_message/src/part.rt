@@ -1,0 +1,42 @@
+//! The parts of a header that are read before its info, and what has come of them.
+
+ghost use Rattle.std.specs.Prelude.{◌≡◌};
+ghost use Rattle.wire_message.specs.Parts.{text_of};
+
+use crate::lengths::{MAX_CATEGORY, MAX_NUMBER, MAX_PRIORITY, MAX_SOURCE, MAX_WORDS};
+use arrayvec::ArrayVec;
+
+/// A part of a header, in the order of the format.
+#[derive(Clone, Copy)]
+pub(crate) enum HeaderPart {
+    Source,
+    Number,
+    Priority,
+    Category,
+    Words,
+}
+
+/// What has come of each part. Later parts than the one that is being read are empty.
+#[derive(Drop)]
+pub(crate) struct HeaderTexts {
+    pub(crate) source: ArrayVec<u8, MAX_SOURCE>,
+    pub(crate) number: ArrayVec<u8, MAX_NUMBER>,
+    pub(crate) priority: ArrayVec<u8, MAX_PRIORITY>,
+    pub(crate) category: ArrayVec<u8, MAX_CATEGORY>,
+    pub(crate) words: ArrayVec<u8, MAX_WORDS>,
+}
+
+impl HeaderTexts {
+    /// What has come of a part.
+    pub(crate) fn of(&self, part: HeaderPart) -> &[u8]
+        ensures { result.now ≡ text_of part self.now }
+    {
+        match part {
+            HeaderPart::Source => &self.source,
+            HeaderPart::Number => &self.number,
+            HeaderPart::Priority => &self.priority,
+            HeaderPart::Category => &self.category,
+            HeaderPart::Words => &self.words,
+        }
+    }
+}
