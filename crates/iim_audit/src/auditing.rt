@@ -17,7 +17,7 @@ use iim_fields::Limits;
 use iim_unpack::{Intake, MAX_ENVELOPES, Unpacker};
 use jiff::Timestamp;
 use std::alloc::Global;
-use wire_message::laws::texts_stand_between_stx_and_etx;
+use wire_message::laws::message_laws;
 use wire_story::WordCount;
 use wire_story::laws::story_laws;
 
@@ -41,7 +41,7 @@ fn take_envelope<R: Source>(
 {
     gifts_join();
     dataset_laws();
-    texts_stand_between_stx_and_etx();
+    message_laws();
     story_laws();
     unpacker.again();
     let mut count = WordCount::new();

@@ -13,7 +13,7 @@ use iim_unpack::laws::unpackers_stand_somewhere;
 use iim_unpack::{Progress, Refusal, Unpacker};
 use jiff::Timestamp;
 use std::alloc::{AllocError, Global};
-use wire_message::laws::texts_stand_between_stx_and_etx;
+use wire_message::laws::message_laws;
 use wire_story::WordCount;
 use wire_story::laws::{delivery_may_be_cut, story_laws};
 
@@ -103,7 +103,7 @@ impl PieceAudit {
             → IsRowOf (limits_in self.now.unpacker) now.nanosecond p result }
     {
         dataset_laws();
-        texts_stand_between_stx_and_etx();
+        message_laws();
         story_laws();
         let Some(unpacked) = self.unpacker.unpacked() else {
             unreachable!()

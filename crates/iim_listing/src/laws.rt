@@ -3,7 +3,7 @@
 ghost use Rattle.iim_listing.specs.Laws.Narration.{EnvelopesAreDeliveredAsLines};
 
 use iim_dataset::laws::dataset_laws;
-use wire_message::laws::texts_stand_between_stx_and_etx;
+use wire_message::laws::message_laws;
 use wire_story::laws::texts_are_delivered_as_lines;
 
 /// What is delivered of the text in an envelope is its lines.
@@ -11,6 +11,6 @@ pub fn envelopes_are_delivered_as_lines()
     ensures { EnvelopesAreDeliveredAsLines }
 {
     dataset_laws();
-    texts_stand_between_stx_and_etx();
+    message_laws();
     texts_are_delivered_as_lines();
 }

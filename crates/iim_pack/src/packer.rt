@@ -20,7 +20,7 @@ use iim_fields::Envelope;
 use iim_object::{PackCause, Plan, StartFault, SubfileBuffer, SubfileWriter};
 use std::alloc::Global;
 use std::marker::Model;
-use wire_message::laws::canonical_objects_are_messages;
+use wire_message::laws::message_laws;
 use wire_message::{MessageHead, head_text, tail_text};
 use wire_story::laws::{
     line_ends_are_packed_as_return_and_feed, lines_are_packed_as_their_events, story_laws,
@@ -210,7 +210,7 @@ impl<W: Target> Packer<W> {
     {
         texts_join();
         story_laws();
-        canonical_objects_are_messages();
+        message_laws();
         if self.object.is_failed() {
             return Err((self, PackCause::Failed));
         }

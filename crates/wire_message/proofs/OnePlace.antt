@@ -24,7 +24,7 @@ is_in_text _ = false
 
 -- a place with this reader of the text
 abbrev reread : Option ℕ → Place → Place
-reread reader (Text h none) = Text h reader
+reread reader (Text h _) = Text h reader
 reread reader place = place
 
 reads_again : (p : Place) → reread (reader_of p) (unread p) ≡ p

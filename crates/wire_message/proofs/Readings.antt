@@ -2,12 +2,12 @@
 use Rattle.std.proofs.Math.Seq.{take-add}
 use Rattle.std.specs.List.{slice_range}
 use Rattle.std.proofs.lemmas.List.{take_rest, get_or-drop}
-use Rattle.std.proofs.Common.{◌≡◌, ℕ, zero, suc, ◌+◌, ◌<◌, true, false, List, [], ◌∷◌, ◌++◌, take, slice_index, Option, Some, None, map, refl, sym, ap, subst, ◌∙◌, arith, append_assoc, append-nil, length}
+use Rattle.std.proofs.Common.{IsTrue, Bool, ◌≡◌, ℕ, zero, suc, ◌+◌, ◌<◌, true, false, List, [], ◌∷◌, ◌++◌, take, slice_index, Option, Some, None, map, refl, sym, ap, subst, ◌∙◌, arith, append_assoc, append-nil, length}
 use Rattle.std.proofs.lemmas.List.Concat.{flat_map-append}
 use Rattle.iim_dataset.specs.Format.Languages.{IsAlive}
 use Rattle.wire_story.specs.Format.Texts.{AreLines, Holds}
 use Rattle.wire_story.specs.Format.Delivery.{delivered, events_of}
-use Rattle.wire_story.specs.Format.Tokens.{OctetOrEnd, Octet, End, StoryLanguage, LivesWith, StoryDiesAt}
+use Rattle.wire_story.specs.Format.Tokens.{OctetOrEnd, Octet, End, StoryLanguage, LivesWith, StoryDiesAt, with_end}
 use Rattle.wire_story.specs.Laws.Texts.{StoriesLiveAsTextsSoFar, TextsEndInNoReturn, StoriesEndAsTexts}
 use Rattle.wire_story.specs.States.Reading as story
 use Rattle.wire_story.specs.declared.reader.TextReader.{TextReader}
@@ -16,7 +16,8 @@ use Rattle.wire_story.specs.declared.fault.TextCause.TheVariants as text_cause
 use Rattle.wire_story.proofs.SoFar.{map_snoc}
 use Rattle.wire_message.specs.Format.Fields.{Are, is_text_octet}
 use Rattle.wire_message.specs.Format.Messages.{Header, IsHeader, IsMessage}
-use Rattle.wire_message.specs.Format.Layers.{MessageDiesAt}
+use Rattle.wire_message.specs.Format.Layers.{MessageDiesAt, MessageLanguage}
+use Rattle.wire_message.specs.Laws.Messages.{MessagesEndAfterEot}
 use Rattle.wire_message.specs.States.SoFar.{Spells, LeadsTo}
 use Rattle.wire_message.specs.States.Reading.{StandsAt, LeadsOn, GoesSomewhere, Refuses, IsWhole, is_ended, head_read, trailer_read}
 use Rattle.wire_message.specs.Format.Causes.{HasCause, StoryDiesWith}
@@ -187,3 +188,17 @@ not_after_end other e h' = h'
 pub is_unfinished : (reader : Option Place) → is_ended reader ≡ false → (octets text : List ℕ) → StandsAt reader octets text → MessageDiesAt octets End
 is_unfinished reader e octets text s =
     message_unfinished octets text s.0 s.2.is_place s.2.spelled (not_after_end s.0 (subst (λ (r : Option Place). is_ended r ≡ false) s.1 e))
+
+-- ---- a message ends after EOT
+
+ends : (octets text : List ℕ) (place : Place) → LeadsTo octets text place → IsAlive MessageLanguage (with_end octets) → (b : Bool) → is_ended (Some place) ≡ b → IsTrue b
+ends octets text place leads alive true is = refl
+ends octets text place leads alive false is = absurd ((is_unfinished (Some place) is octets text (place, refl, leads)).1 alive)
+
+can_end : (octets text : List ℕ) (place : Place) → LeadsTo octets text place → is_ended (Some place) ≡ true → IsAlive MessageLanguage (with_end octets)
+can_end octets text place leads is =
+    let (head, told, message, lines) = is_whole (Some place) is octets text (place, refl, leads) in
+    ([], record { object = octets; head = head; text = text; trailer = trailer_read (Some place); message = message; tokens_are = append-nil (with_end octets) })
+
+pub ends_after_eot : MessagesEndAfterEot
+ends_after_eot octets text place leads = ((λ alive. ends octets text place leads alive (is_ended (Some place)) refl), (λ told. can_end octets text place leads told))

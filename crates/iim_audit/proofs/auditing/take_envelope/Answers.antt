@@ -15,7 +15,7 @@ returns-in-Ok-true-clause-took g c =
     let laws : TextLaws = record {
       way = c.dataset_laws.ensures.octets_are_handed_on_one_way;
       tell = c.dataset_laws.ensures.events_tell_the_datasets;
-      texts = c.texts_stand_between_stx_and_etx.ensures;
+      texts = c.message_laws.ensures.texts_stand_between_stx_and_etx;
       counts = c.story_laws.ensures.texts_are_counted_as_lines;
     } in
     took_one laws (limits_in c.args.unpacker.now) old new c.again.new.self c.feed_envelope.new.unpacker c.new-count.result c.feed_envelope.new.sink c.feed_envelope.new.self.octets c.words.result

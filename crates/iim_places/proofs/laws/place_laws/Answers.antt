@@ -37,7 +37,7 @@ returns c =
     let lower = c.lower_laws.ensures in
     let start = c.new-start.ensures.stands in
     let tests = lowest lower in
-    let value = one_value lower.one_dataset lower.sections c.object_laws.ensures.sizes_are_determined c.messages_have_one_reading.ensures
+    let value = one_value lower.one_dataset lower.sections c.object_laws.ensures.sizes_are_determined c.message_laws.ensures.messages_have_one_reading
     c.story_laws.ensures.texts_have_one_reading in
     let others = no_others lower.one_dataset lower.sections in
     let none = no_front lower.one_tag lower.one_dataset lower.sections in

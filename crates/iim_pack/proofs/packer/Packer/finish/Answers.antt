@@ -24,7 +24,7 @@ returns-in-Ok-clause-ok g c =
     let octets : c.unwrap-tail.result.items ≡ packed_tail trailer = subst (λ o. IfSome o (λ tail. tail.items ≡ packed_tail trailer)) c.unwrap-tail.ensures c.tail_text.ensures.octets in
     let may = may_end old.plan (object.total_of old) trailer (rw (c.plan.ensures, c.total.ensures.total) at (sym c.ending_cause.ensures ∙ c.in_default.is)) in
     let ends : Ends state old (packed_tail trailer) c.in-Ok.writer = subst (λ (t : List ℕ). Ends state old t c.in-Ok.writer) (c.as_slice.ensures.value ∙ octets) c.in-Ok.ensures.ok in
-    subst (λ k. Finishes state k trailer c.in-Ok.writer) c.self.view_is (finished state c.self.inside.before old trailer c.in-Ok.writer c.story_laws.ensures.events_are_packed_as_lines c.canonical_objects_are_messages.ensures may ends)
+    subst (λ k. Finishes state k trailer c.in-Ok.writer) c.self.view_is (finished state c.self.inside.before old trailer c.in-Ok.writer c.story_laws.ensures.events_are_packed_as_lines c.message_laws.ensures.canonical_objects_are_messages may ends)
 
 pub returns-in-Err-clause-broke : goal.returns-in-Err-clause-broke
 returns-in-Err-clause-broke g c =
