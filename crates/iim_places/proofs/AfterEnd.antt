@@ -1,10 +1,13 @@
 -- After EOT the octets are a message.
-use Rattle.std.proofs.Common.{◌≡◌, IsTrue, List, ℕ, None, Some, refl}
+use Rattle.std.proofs.Common.{◌≡◌, IsTrue, List, [], ◌∷◌, ℕ, None, Some, refl}
 use Rattle.iim_places.proofs.Words.{AreLines, Header, IsMessage, saved}
 use Rattle.wire_message.specs.States.Reading.{is_ended}
 use Rattle.wire_message.specs.States.SoFar.{LeadsTo}
+use Rattle.wire_message.specs.States.Saved.{saved_part}
+use Rattle.wire_message.specs.declared.part.HeaderPart.{HeaderPart}
+use Rattle.wire_message.specs.declared.part.HeaderPart.TheVariants.{Source, Number, Priority, Category, Words}
 use Rattle.wire_message.specs.declared.place.Place.{Place}
-use Rattle.wire_message.specs.declared.place.Place.TheVariants.{AfterEnd, Text}
+use Rattle.wire_message.specs.declared.place.Place.TheVariants.{AfterEnd, InHeader, Text}
 use Rattle.wire_message.specs.declared.saved.MessagePart.TheVariants as part
 
 -- octets that are a message, and the lines of its text
@@ -19,8 +22,17 @@ pub after_end : (at : Place) → IsTrue (is_ended (Some at)) → (saved at).part
 after_end (AfterEnd h t count) e = refl
 after_end other e = absurd cc
 
+header_goes_on : (at : HeaderPart) (priority : List ℕ) → saved_part at priority ≡ part.AfterEnd → ⊥
+header_goes_on Source priority e = absurd cc
+header_goes_on Number priority e = absurd cc
+header_goes_on Priority [] e = absurd cc
+header_goes_on Priority (b ∷ bs) e = absurd cc
+header_goes_on Category priority e = absurd cc
+header_goes_on Words priority e = absurd cc
+
 pub ended_after : (at : Place) → (saved at).part ≡ part.AfterEnd → IsTrue (is_ended (Some at))
 ended_after (AfterEnd h t count) e = refl
+ended_after (InHeader at t) e = absurd (header_goes_on at t.priority.items e)
 ended_after (Text h None) e = absurd cc
 ended_after other e = absurd cc
 

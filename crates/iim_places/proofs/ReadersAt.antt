@@ -1,6 +1,6 @@
 -- Readers of a possible place stand where octets lead there.
 use Rattle.std.proofs.Common.{◌≡◌, ℕ, ◌+◌, ◌-◌, ◌<◌, ◌≤◌, nat_eq, if◌then◌else◌, Bool, true, false, List, [], ◌∷◌, ◌++◌, length, Option, Some, None, refl, ap}
-use Rattle.std.proofs.Common.{sym, subst, ◌∙◌, inl, inr, arith}
+use Rattle.std.proofs.Common.{IsTrue, sym, subst, ◌∙◌, inl, inr, arith}
 use Rattle.iim_places.proofs.Words.{AllByRecursion, eqb-true, eqb_tells, Dataset, of_record, count_octets, Begun, InTag, InData, Reads, IsKeptAs, between, Head}
 use Rattle.iim_places.proofs.Words.{DatasetPlace, SectionsLive, is_kept, kept, section_after, Limits, head_alive, place_after_datasets, ObjectEnded, Confirmed}
 use Rattle.iim_places.proofs.Words.{NotEnded, place_after, max_subfiles, lengths_of, numbers_of, IsPossible, stated_numbers, State, AreLines, text_so_far}
@@ -12,6 +12,8 @@ use Rattle.iim_object.specs.Format.Places as objects
 use Rattle.iim_object.specs.States.Reading as reading
 use Rattle.iim_object.specs.States.Saved.{IsAt}
 use Rattle.wire_message.specs.States.Reading as wire
+use Rattle.wire_message.specs.States.Reading.{is_ended}
+use Rattle.iim_places.proofs.AfterEnd.{ended_after}
 use Rattle.wire_message.specs.States.SoFar.{LeadsTo}
 use Rattle.wire_message.specs.declared.place.Place.{Place as Message}
 use Rattle.wire_message.specs.declared.place.Place.TheVariants as at_message
@@ -68,16 +70,15 @@ whole_led h t count octets text p same leads =
     let here : LeadsTo octets text (at_message.AfterEnd h t count) = subst (LeadsTo octets text) (sym (some_place same)) leads in
     (h, refl, here.spelled.0, here.story)
 
-whole_place : (reader : Option Message) (at : Message) → reader ≡ Some at → (saved at).part ≡ part.AfterEnd → wire.IsWhole reader
+whole_place : (reader : Option Message) (at : Message) → reader ≡ Some at → IsTrue (is_ended (Some at)) → wire.IsWhole reader
 whole_place reader (at_message.AfterEnd h t count) is e = subst wire.IsWhole (sym is) (λ octets text s. whole_led h t count octets text s.0 s.1 s.2)
-whole_place reader (at_message.Text h None) is e = absurd cc
 whole_place reader other is e = absurd cc
 
 pub ended_reader : LowerLaws → (reader : Option Message) (place : Place) (o text : List ℕ) → MessageStands reader place → LeadsToSaved o text place.message → place.message.part ≡ part.AfterEnd → wire.IsWhole reader
 ended_reader laws reader place o text stands leads last =
     let (at, is, here) = stands o text leads in
     let one = (laws.one_place o text text at leads.0 here leads.1).1 in
-    whole_place reader at is (ap (λ (m : Message). (saved m).part) one ∙ ap (λ (m : MessagePlace). m.part) leads.2 ∙ last)
+    whole_place reader at is (ended_after at (ap (λ (m : Message). (saved m).part) one ∙ ap (λ (m : MessagePlace). m.part) leads.2 ∙ last))
 
 pub text_led : LowerLaws → (reader : Option Message) (place : Place) (o text : List ℕ) → MessageStands reader place → LeadsToSaved o text place.message → wire.StandsAt reader o (text_so_far o)
 text_led laws reader place o text stands leads =
