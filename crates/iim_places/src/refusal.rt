@@ -57,7 +57,7 @@ pub enum Cause {
     CountForm,
     /// The octets end inside an envelope.
     Truncated,
-    /// A head or a value is none of the records, or records 1 and 2 pass a limit.
+    /// A head or a value does not keep to the rules of the records, or records 1 and 2 pass a limit.
     Field(FieldCause),
     /// The sizes of the object are wrong.
     Size(SizeCause),
@@ -111,7 +111,7 @@ impl Cause {
 /// octet that completes what is refused, and the cause.
 ///
 /// The dataset is the begun one (0 for what is not read of its tag, 0 and 0 between datasets), and for
-/// [`Cause::Missing`] the missing one of the lowest number. For [`Cause::Truncated`] the offset is the number of octets.
+/// [`FieldCause::Missing`] the missing one of the lowest number. For [`Cause::Truncated`] the offset is the number of octets.
 #[derive(Clone, Copy, Debug, PartialEq, Eq)]
 pub struct Refusal {
     /// The layer that refuses.
