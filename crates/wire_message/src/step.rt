@@ -39,24 +39,17 @@ pub(crate) fn after_filler(count: u8, rest: &[u8]) -> Option<Place>
     None
 }
 
-/// Whether a part of the header, once it has octets, ends with an octet after it.
-#[inline(always)]
-fn ends(part: HeaderPart, octet: u8) -> bool
-    ensures { result ≡ ends part octet }
-{
-    match part {
-        HeaderPart::Source => is_in(Class::Digit, octet),
-        HeaderPart::Words => octet == SP || is_in(Class::Filler, octet),
-        _ => octet == SP,
-    }
-}
-
 /// Whether an octet ends a part of the header, which has octets.
 #[inline(always)]
 pub(crate) fn ends_part(part: HeaderPart, texts: &HeaderTexts, octet: u8) -> bool
     ensures { result ≡ (ends part octet && nat_lt 0 (length (text_of part texts.now))) }
 {
-    ends(part, octet) && !texts.of(part).is_empty()
+    let ended = match part {
+        HeaderPart::Source => is_in(Class::Digit, octet),
+        HeaderPart::Words => octet == SP || is_in(Class::Filler, octet),
+        _ => octet == SP,
+    };
+    ended && !texts.of(part).is_empty()
 }
 
 /// The place after the octet that ends the words.
