@@ -44,12 +44,15 @@ pub(crate) fn after_filler(count: u8, rest: &[u8]) -> Option<Place>
 pub(crate) fn ends_part(part: HeaderPart, texts: &HeaderTexts, octet: u8) -> bool
     ensures { result ≡ (ends part octet && nat_lt 0 (length (text_of part texts.now))) }
 {
-    let ended = match part {
-        HeaderPart::Source => is_in(Class::Digit, octet),
-        HeaderPart::Words => octet == SP || is_in(Class::Filler, octet),
-        _ => octet == SP,
-    };
-    ended && !texts.of(part).is_empty()
+    match part {
+        HeaderPart::Source => is_in(Class::Digit, octet) && !texts.source.is_empty(),
+        HeaderPart::Number => octet == SP && !texts.number.is_empty(),
+        HeaderPart::Priority => octet == SP && !texts.priority.is_empty(),
+        HeaderPart::Category => octet == SP && !texts.category.is_empty(),
+        HeaderPart::Words => {
+            (octet == SP || is_in(Class::Filler, octet)) && !texts.words.is_empty()
+        }
+    }
 }
 
 /// The place after the octet that ends the words.
