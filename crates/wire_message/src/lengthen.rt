@@ -9,7 +9,7 @@ ghost use Rattle.wire_message.specs.Parts.{TakesInPart, lengthens_gap};
 use crate::class::{Class, is_in};
 use crate::field::take_run;
 use crate::lengths::MAX_FILLER;
-use crate::part::{HeaderPart, HeaderTexts};
+use crate::part::HeaderPart;
 use crate::place::Place;
 use iim_dataset::octets::LF;
 
@@ -62,22 +62,6 @@ fn lengthen_gap(count: &mut u8, feed: &mut bool, octet: u8) -> usize
     1
 }
 
-/// Lengthens a part of the header by the octets of it that follow, and answers how many.
-#[inline(always)]
-fn lengthen_part(part: HeaderPart, texts: &mut HeaderTexts, rest: &[u8]) -> usize
-    requires place { IsPlace (Place.InHeader part texts.old) }
-    requires some { 0 < length rest.now }
-    ensures { TakesInPart (Place.InHeader part texts.old) rest.now (Place.InHeader part texts.new) result }
-{
-    match part {
-        HeaderPart::Source => take_run(&mut texts.source, Class::Letter, rest),
-        HeaderPart::Number => take_run(&mut texts.number, Class::Digit, rest),
-        HeaderPart::Priority => take_run(&mut texts.priority, Class::Digit, rest),
-        HeaderPart::Category => take_run(&mut texts.category, Class::Alphanumeric, rest),
-        HeaderPart::Words => take_run(&mut texts.words, Class::Digit, rest),
-    }
-}
-
 /// Lengthens the part that is being read by the octets of it that follow, and answers how many.
 #[inline(always)]
 pub(crate) fn lengthen(place: &mut Place, rest: &[u8]) -> usize
@@ -87,7 +71,13 @@ pub(crate) fn lengthen(place: &mut Place, rest: &[u8]) -> usize
 {
     match place {
         Place::Filler { count } => lengthen_filler(count, rest[0]),
-        Place::InHeader { part, texts } => lengthen_part(*part, texts, rest),
+        Place::InHeader { part, texts } => match part {
+            HeaderPart::Source => take_run(&mut texts.source, Class::Letter, rest),
+            HeaderPart::Number => take_run(&mut texts.number, Class::Digit, rest),
+            HeaderPart::Priority => take_run(&mut texts.priority, Class::Digit, rest),
+            HeaderPart::Category => take_run(&mut texts.category, Class::Alphanumeric, rest),
+            HeaderPart::Words => take_run(&mut texts.words, Class::Digit, rest),
+        },
         Place::Info { head } => head.take_info(rest),
         Place::Gap {
             count,

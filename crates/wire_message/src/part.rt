@@ -1,8 +1,5 @@
 //! The parts of a header that are read before its info, and what has come of them.
 
-ghost use Rattle.std.specs.Prelude.{◌≡◌};
-ghost use Rattle.wire_message.specs.Parts.{text_of};
-
 use crate::lengths::{MAX_CATEGORY, MAX_NUMBER, MAX_PRIORITY, MAX_SOURCE, MAX_WORDS};
 use arrayvec::ArrayVec;
 
@@ -24,19 +21,4 @@ pub(crate) struct HeaderTexts {
     pub(crate) priority: ArrayVec<u8, MAX_PRIORITY>,
     pub(crate) category: ArrayVec<u8, MAX_CATEGORY>,
     pub(crate) words: ArrayVec<u8, MAX_WORDS>,
-}
-
-impl HeaderTexts {
-    /// What has come of a part.
-    pub(crate) fn of(&self, part: HeaderPart) -> &[u8]
-        ensures { result.now ≡ text_of part self.now }
-    {
-        match part {
-            HeaderPart::Source => &self.source,
-            HeaderPart::Number => &self.number,
-            HeaderPart::Priority => &self.priority,
-            HeaderPart::Category => &self.category,
-            HeaderPart::Words => &self.words,
-        }
-    }
 }

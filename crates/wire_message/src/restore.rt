@@ -29,7 +29,7 @@ fn is_filler(count: u8) -> bool
     count <= MAX_FILLER
 }
 
-/// Whether the octets may be those of a part that has begun or not, and has some or may have none.
+/// Whether the octets may be a part: one at least where it has `some`, none where it has not `begun`, and else `most` at most.
 fn is_part(class: Class, some: bool, begun: bool, most: usize, octets: &[u8]) -> bool
     ensures { IsTrue result ↔
         IsField (is_in_class class) (if some then 1 else 0) (if begun then most else 0) octets.now }
@@ -38,7 +38,7 @@ fn is_part(class: Class, some: bool, begun: bool, most: usize, octets: &[u8]) ->
     is_field(class, usize::from(some), most, octets)
 }
 
-/// Whether there may be such parts while this one is being read.
+/// Whether there may be such parts while this one is being read: the first `some` of them have an octet, and the first `begun` may.
 fn is_header_so_far(part: HeaderPart, place: &MessagePlace) -> bool
     ensures { IsTrue result ↔ IsPlace (Place.InHeader part (texts_in place.now)) }
 {

@@ -39,24 +39,20 @@ pub(crate) fn after_filler(count: u8, rest: &[u8]) -> Option<Place>
     None
 }
 
-/// Whether a part of the header, once it has octets, ends with an octet after it.
-#[inline(always)]
-fn ends(part: HeaderPart, octet: u8) -> bool
-    ensures { result ≡ ends part octet }
-{
-    match part {
-        HeaderPart::Source => is_in(Class::Digit, octet),
-        HeaderPart::Words => octet == SP || is_in(Class::Filler, octet),
-        _ => octet == SP,
-    }
-}
-
-/// Whether an octet ends a part of the header, which has octets.
+/// Whether an octet ends a part of the header: it is one that does, and the part has octets.
 #[inline(always)]
 pub(crate) fn ends_part(part: HeaderPart, texts: &HeaderTexts, octet: u8) -> bool
     ensures { result ≡ (ends part octet && nat_lt 0 (length (text_of part texts.now))) }
 {
-    ends(part, octet) && !texts.of(part).is_empty()
+    match part {
+        HeaderPart::Source => is_in(Class::Digit, octet) && !texts.source.is_empty(),
+        HeaderPart::Number => octet == SP && !texts.number.is_empty(),
+        HeaderPart::Priority => octet == SP && !texts.priority.is_empty(),
+        HeaderPart::Category => octet == SP && !texts.category.is_empty(),
+        HeaderPart::Words => {
+            (octet == SP || is_in(Class::Filler, octet)) && !texts.words.is_empty()
+        }
+    }
 }
 
 /// The place after the octet that ends the words.
@@ -75,7 +71,7 @@ fn after_words(texts: &HeaderTexts, octet: u8) -> Place
     }
 }
 
-/// Begins the part after one that the octet ends, where they lie, or answers the place that comes after the words.
+/// Begins the part that comes after the octet, where the parts lie, or answers the place that comes after the words.
 pub(crate) fn begin_part(part: &mut HeaderPart, texts: &mut HeaderTexts, octet: u8) -> Option<Place>
     requires { IsPlace (begins part.old octet texts.old) }
     ensures { unwrap_or result (Place.InHeader part.new texts.new) ≡ begins part.old octet texts.old }
