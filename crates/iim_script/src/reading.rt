@@ -48,6 +48,7 @@ fn begins_field(line: &[u8]) -> bool
 }
 
 /// Adds the datasets that the lines at the front tell, and answers what follows them.
+#[tactic(auto, using(crate::proofs::Fronts::must_be_none, crate::proofs::Fronts::next_must_be))]
 fn read_fields<'a>(
     alloc: Global,
     script: &'a [u8],
@@ -187,6 +188,7 @@ fn read_front<'a>(alloc: Global, limits: Limits, script: &'a [u8]) -> Result<Fro
 }
 
 /// What a script tells, its datasets within the limits; or its first fault by line.
+#[tactic(auto, using(wire_story::proofs::Collected::text_collected))]
 pub fn read_script<'a>(
     alloc: Global,
     limits: Limits,

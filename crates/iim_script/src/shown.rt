@@ -37,6 +37,7 @@ fn escaped(high: u8, low: u8) -> Option<u8>
 }
 
 /// The octet of the escape whose backslash stands before these octets, and what follows. None where it begins no escape.
+#[tactic(auto, using(crate::proofs::Texts::escape_at))]
 fn escape(after: &[u8]) -> Option<(u8, &[u8])>
     ensures some { IfSome result (λ first. BeginsWith (backslash ∷ after.now) first.0 first.1.now) }
     ensures none { IfNone result ((octet : ℕ) (rest : List ℕ) → BeginsWith (backslash ∷ after.now) octet rest → ⊥) }
@@ -54,6 +55,7 @@ fn escape(after: &[u8]) -> Option<(u8, &[u8])>
 }
 
 /// The octet that is shown first, and what follows. None where a backslash begins no escape, or nothing is shown.
+#[tactic(auto, using(crate::proofs::Texts::empty_begins))]
 fn first_octet(shown: &[u8]) -> Option<(u8, &[u8])>
     ensures some { IfSome result (λ first. BeginsWith shown.now first.0 first.1.now) }
     ensures none { IfNone result ((octet : ℕ) (rest : List ℕ) → BeginsWith shown.now octet rest → ⊥) }
@@ -68,6 +70,7 @@ fn first_octet(shown: &[u8]) -> Option<(u8, &[u8])>
 }
 
 /// The octets that are shown. None where a backslash begins no escape.
+#[tactic(auto, using(crate::proofs::Texts::onto_end, crate::proofs::Texts::onto_none, crate::proofs::Texts::onto_step))]
 pub(crate) fn unshown(alloc: Global, shown: &[u8]) -> Result<Option<Vec<u8>>, AllocError>
     ensures some { IfOk result (λ told. IfSome told (λ octets. TellsOctets shown.now octets.items)) }
     ensures none { IfOk result (λ told. IfNone told ((octets : List ℕ) → TellsOctets shown.now octets → ⊥)) }

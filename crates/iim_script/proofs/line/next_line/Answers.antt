@@ -1,4 +1,4 @@
-use Rattle.std.proofs.Common.{◌≡◌, ℕ, suc, ◌+◌, ◌-◌, ◌<◌, List, [], ◌∷◌, ◌++◌, append_assoc, length, length-append, length-take, get_or, ap, sym, ◌∙◌, subst, arith}
+use Rattle.std.proofs.Common.{◌≡◌, ℕ, suc, ◌+◌, ◌-◌, ◌<◌, List, [], ◌∷◌, ◌++◌, append_assoc, length, length-append, get_or, ap, sym, ◌∙◌, subst, arith}
 use Rattle.iim_script.proofs.Cuts.{ends_in_return, ends_alone}
 use Rattle.iim_script.proofs.line.next_line.Goals as goal
 use Rattle.iim_script.proofs.line.next_line.Goals.{else-len-gt0-via-then-len-gt0+else-ended-len-eq-CR, else-len-gt0-via-else-len-gt0}
@@ -31,12 +31,3 @@ returns-clause-found c =
       | else-len-gt0-via-else-len-gt0 w ↦ absurd (omega (arith, len, w.if-len-gt0.false))
     ] in
     record { ended = ended ++ 10 ∷ []; ends = ends_alone ended found.0 not_returned; parts = joined c.args.octets.now ended c.in_ok-ended.after.now found.1 }
-
-pub returns-then-ended-len-eq-CR-clause-shorter : goal.returns-then-ended-len-eq-CR-clause-shorter
-returns-then-ended-len-eq-CR-clause-shorter c =
-    let ended = c.in_ok-ended.ended.now in
-    let all = is_shorter c.args.octets.now ended c.in_ok-ended.after.now c.in_ok-ended.ensures.found.1 in
-    omega (arith, all, length-take (length ended - 1) ended)
-
-pub returns-clause-shorter : goal.returns-clause-shorter
-returns-clause-shorter c = is_shorter c.args.octets.now c.in_ok-ended.ended.now c.in_ok-ended.after.now c.in_ok-ended.ensures.found.1
