@@ -168,8 +168,8 @@ fields_added {limits} {script} {rest} {line} {after} {old} {new} {count} same s 
     rw a.fields (stands_field limits script rest line after old.fields a.dataset count s n a.told (rw same at a.taken))
 
 -- the next line, where there is one, is as said of this one
-pub next_must_be : (said : List ℕ → Type 0) (rest line after : List ℕ) → NextLine rest line after → said line → NextMustBe said rest
-next_must_be said rest line after n h = λ other more m. subst (λ (l : List ℕ). said l) (next_once rest line after other more n m).0 h
+pub next_must_be : (said : List ℕ → Type 0) {rest line after : List ℕ} → NextLine rest line after → said line → NextMustBe said rest
+next_must_be said {rest} {line} {after} n h = λ other more m. subst (λ (l : List ℕ). said l) (next_once rest line after other more n m).0 h
 
-pub must_be_none : (said : List ℕ → Type 0) (rest : List ℕ) → HasNo 10 rest → NextMustBe said rest
-must_be_none said rest h = λ line after n. absurd (no_next rest line after h n)
+pub must_be_none : (said : List ℕ → Type 0) {rest : List ℕ} → HasNo 10 rest → NextMustBe said rest
+must_be_none said {rest} h = λ line after n. absurd (no_next rest line after h n)

@@ -5,9 +5,7 @@ pub mod Heads
 pub mod Next
 pub mod Fronts
 pub mod Stories
-pub mod Once
 pub mod Plains
-pub mod Splits
 pub mod Printing
 pub mod Whole
 pub mod Runs

@@ -14,7 +14,8 @@ use Rattle.wire_story.proofs.Collected.{some_line, packed_len}
 use Rattle.iim_script.specs.Format.Lines.{HasNo, EndsLine, EndLines}
 use Rattle.iim_script.specs.Format.Printed.{PrintsStory}
 use Rattle.iim_script.specs.Format.Scripts.{IsStory}
-use Rattle.iim_script.proofs.Cuts.{has_no_octet, lacks, ended}
+use Rattle.iim_script.proofs.Cuts.{lacks, ended}
+use Rattle.iim_script.proofs.Next.{no_feed}
 use Rattle.iim_script.specs.Plain.{is_plain, is_low, TellsText, IsWithoutFeed}
 
 -- ---- octets
@@ -72,12 +73,6 @@ joined_text (line ∷ next ∷ lines) some h =
     (h.0, 0, omega arith, join_with_byte 10 (next ∷ lines), refl, joined_text (next ∷ lines) (omega arith) h.1)
 
 -- ---- their story
-
-pub no_feed : (line : List ℕ) → IsLine line → HasNo 10 line
-no_feed line h = lacks is_line_octet 10 line refl h
-
-pub no_return : (line front : List ℕ) → IsLine line → line ≡ front ++ 13 ∷ [] → ⊥
-no_return line front h e = has_no_octet 13 front [] (rw e at (lacks is_line_octet 13 line refl h))
 
 ends_line : (line : List ℕ) → IsLine line → EndsLine line (line ++ 10 ∷ [])
 ends_line line is = ended line (no_feed line is) (lacks is_line_octet 13 line refl is)

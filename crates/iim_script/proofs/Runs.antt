@@ -1,18 +1,61 @@
--- Scripts line by line: what each line leads to, and that lines lead to one thing.
-use Rattle.std.proofs.Common.{◌≡◌, ◌⊎◌, inl, inr, ℕ, ◌+◌, List, [], ◌∷◌, ◌++◌, append_assoc, append-nil, length, length-append, refl, ap, sym, ◌∙◌, subst, arith, None}
+-- Scripts line by line: what a line tells and leads to is one thing, and so is what lines lead to.
+use Rattle.std.proofs.Common.{◌≡◌, ℕ, List, ◌∷◌, ◌++◌, get_or, drop, refl, ap, sym, ◌∙◌, subst, arith, ◌⊎◌, inl, inr, ◌+◌, [], append_assoc, append-nil, length, length-append, None}
+use Rattle.std.specs.List.{position_or_len}
 use Rattle.iim_dataset.specs.Format.Datasets.{Dataset}
+use Rattle.iim_dataset.proofs.Spelled.{dataset_is}
+use Rattle.wire_message.specs.Format.Messages.{Header, IsTrailer}
+use Rattle.iim_script.specs.Format.Shown.{TellsLast}
+use Rattle.iim_script.specs.Format.Forms.{TellsNumber, TellsNames, TellsField, TellsHead, TellsTrailer, words_of, after_source, text_word}
+use Rattle.iim_script.proofs.Texts.{last_once}
+use Rattle.iim_script.proofs.Names.{no_digit, no_colon, NamesAt, names_at, names_once}
+use Rattle.iim_script.proofs.Heads.{words_of_header, last_ends, head_once}
+use Rattle.iim_script.proofs.Fronts.{field_digit, tells_no_head}
 use Rattle.iim_fields.specs.States.Builders.{add_fault, finish_fault}
 use Rattle.iim_fields.specs.declared.limits.Limits.{Limits}
 use Rattle.iim_fields.specs.declared.fault.FieldCause.{FieldCause}
-use Rattle.wire_message.specs.Format.Messages.{Header, IsTrailer}
 use Rattle.iim_script.specs.Format.Lines.{NextLine, EndLines}
-use Rattle.iim_script.specs.Format.Forms.{TellsField, TellsHead, TellsTrailer, text_word}
 use Rattle.iim_script.specs.Format.Scripts.{TellFields, AreTaken, AreTrailer, IsFront}
 use Rattle.iim_script.specs.Format.Faults.{Stage, InFields, AfterMessage, AfterTrailer, HaveCome, Stands, TellsBadField, EndsTooSoon, IsWrong, IsNextWrong}
 use Rattle.iim_script.specs.declared.fault.ScriptCause.{ScriptCause}
 use Rattle.iim_script.specs.declared.fault.ScriptCause.TheVariants.{ScriptLine, ScriptTooLong, Field, BadTrailer, BadTextOctet, OutOfMemory}
 use Rattle.iim_script.proofs.Next.{next_once, no_next}
-use Rattle.iim_script.proofs.Once.{field_once, one_head, trailer_once, field_no_head, text_no_trailer}
+
+-- ---- what a line tells is one thing
+
+number_once : (digits : List ℕ) (n m : ℕ) → TellsNumber digits n → TellsNumber digits m → n ≡ m
+number_once digits n m t u = t.value ∙ sym u.value
+
+-- the numbers, with the digits of another reading of the line
+at_others : (line : List ℕ) (rec set r s : ℕ) (end other : List ℕ) → TellsNames line rec set end → (u : TellsNames line r s other)
+    → NamesAt u.rec_digits (u.set_digits ++ other) (position_or_len no_digit (u.set_digits ++ other)) rec set end
+at_others line rec set r s end other t u =
+    names_at line u.rec_digits (u.set_digits ++ other) (position_or_len no_digit (u.set_digits ++ other)) rec set end (no_colon u.rec_digits u.is_rec.are_digits) u.line_is refl t
+
+pub field_once : (line : List ℕ) (d e : Dataset) → TellsField line d → TellsField line e → d ≡ e
+field_once line d e t u =
+    let a = at_others line d.rec d.set e.rec e.set t.end u.end t.names u.names in
+    let b = at_others line e.rec e.set e.rec e.set u.end u.end u.names u.names in
+    let same = names_once line d.rec d.set e.rec e.set t.end u.end t.names u.names in
+    dataset_is d e (number_once _ d.rec e.rec a.is_rec b.is_rec) (number_once _ d.set e.set a.is_set b.is_set)
+    (last_once u.end d.octets e.octets (subst (λ (l : List ℕ). TellsLast l d.octets) same t.is_end) u.is_end)
+
+pub one_head : (line : List ℕ) (head other : Header) → TellsHead line head → TellsHead line other → head ≡ other
+one_head line head other t u =
+    head_once line (other.source ++ (32 ∷ after_source (words_of other) u.end)) u.end other.info (words_of other) head u.line_is
+    (words_of_header other u.end u.is_header (last_ends u.end other.info u.is_end)) u.is_end t
+
+pub trailer_once : (line octets other : List ℕ) → TellsTrailer line octets → TellsTrailer line other → octets ≡ other
+trailer_once line octets other t u =
+    let same : t.end ≡ u.end = ap (λ (l : List ℕ). drop 7 l) (sym t.line_is ∙ u.line_is) in
+    last_once u.end octets other (subst (λ (l : List ℕ). TellsLast l octets) same t.is_end) u.is_end
+
+pub field_no_head : (line : List ℕ) (d : Dataset) (head : Header) → TellsField line d → TellsHead line head → ⊥
+field_no_head line d head t h = tells_no_head line (field_digit line d t) head h
+
+pub text_no_trailer : (octets : List ℕ) → TellsTrailer text_word octets → ⊥
+text_no_trailer octets t =
+    let second : 101 ≡ 114 = ap (λ (l : List ℕ). get_or l 1 0) t.line_is in
+    absurd (omega (arith, second))
 
 -- ---- lines at the front of octets
 
@@ -57,18 +100,11 @@ beyond_none line lines octets rest left e l =
     record { next = line; more = lines; others_are = refl; after = f.after; is_next = subst (λ (x : List ℕ). NextLine x line f.after) e f.is_next }
 
 beyond_more : (line other : List ℕ) (lines others : List (List ℕ)) (rest : List ℕ) → line ≡ other → Beyond lines others rest → Beyond (line ∷ lines) (other ∷ others) rest
-beyond_more line other lines others rest e b = record {
-  next = b.next;
-  more = b.more;
-  others_are = ap (λ (x : List ℕ). x ∷ others) (sym e) ∙ ap (λ (xs : List (List ℕ)). line ∷ xs) b.others_are;
-  after = b.after;
-  is_next = b.is_next;
-}
+beyond_more line other lines others rest e b = record { next = b.next; more = b.more; others_are = cc; after = b.after; is_next = b.is_next }
 
 compared_more : (line other : List ℕ) (lines others : List (List ℕ)) (rest left : List ℕ) → line ≡ other → Compared lines others rest left
     → Compared (line ∷ lines) (other ∷ others) rest left
-compared_more line other lines others rest left e (inl h) =
-    inl (ap (λ (x : List ℕ). x ∷ lines) e ∙ ap (λ (xs : List (List ℕ)). other ∷ xs) h.0, h.1)
+compared_more line other lines others rest left e (inl h) = inl (cc, h.1)
 compared_more line other lines others rest left e (inr (inl b)) = inr (inl (beyond_more line other lines others rest e b))
 compared_more line other lines others rest left e (inr (inr b)) = inr (inr (beyond_more other line others lines left (sym e) b))
 
@@ -205,10 +241,9 @@ head_path limits fields message ds head told taken t =
 
 come_path : (limits : Limits) (lines : List (List ℕ)) (stage : Stage) → HaveCome limits lines stage → Path limits start lines (At stage)
 come_path limits lines (InFields ds) come = fields_path limits [] lines ds come.told come.taken
-come_path limits lines (AfterMessage ds head) (fields, message, are, t, e) =
-    subst (λ (ls : List (List ℕ)). Path limits start ls (At (AfterMessage ds head))) (sym e) (head_path limits fields message ds head are.told are.taken t)
+come_path limits lines (AfterMessage ds head) (fields, message, are, t, e) = rw e (head_path limits fields message ds head are.told are.taken t)
 come_path limits lines (AfterTrailer ds head trailer) (fields, message, line, are, t, u, is, e) =
-    subst (λ (ls : List (List ℕ)). Path limits start ls (At (AfterTrailer ds head trailer))) (append_assoc fields (message ∷ []) (line ∷ []) ∙ sym e)
+    rw (e, ← append_assoc fields (message ∷ []) (line ∷ []))
     (path_on limits start (fields ++ message ∷ []) (line ∷ []) (At (AfterMessage ds head)) (At (AfterTrailer ds head trailer))
     (head_path limits fields message ds head are.told are.taken t) (At (AfterTrailer ds head trailer), inl (trailer, u, is, refl), refl))
 

@@ -32,7 +32,6 @@ pub(crate) fn cut_at(octets: &[u8], octet: u8) -> Option<(&[u8], &[u8])>
 }
 
 /// The first line, without its end, and the octets after it. None where no LF ends it.
-#[tactic(auto, using(crate::proofs::Cuts::is_shorter))]
 pub(crate) fn next_line(octets: &[u8]) -> Option<(&[u8], &[u8])>
     ensures found { IfSome result (λ parts. NextLine octets.now parts.0.now parts.1.now) }
     ensures shorter { IfSome result (λ parts. length parts.0.now + length parts.1.now < length octets.now) }

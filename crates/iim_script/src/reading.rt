@@ -48,7 +48,6 @@ fn begins_field(line: &[u8]) -> bool
 }
 
 /// Adds the datasets that the lines at the front tell, and answers what follows them.
-#[tactic(auto, using(crate::proofs::Fronts::must_be_none, crate::proofs::Fronts::next_must_be))]
 fn read_fields<'a>(
     alloc: Global,
     script: &'a [u8],

@@ -55,7 +55,6 @@ fn escape(after: &[u8]) -> Option<(u8, &[u8])>
 }
 
 /// The octet that is shown first, and what follows. None where a backslash begins no escape, or nothing is shown.
-#[tactic(auto, using(crate::proofs::Texts::empty_begins))]
 fn first_octet(shown: &[u8]) -> Option<(u8, &[u8])>
     ensures some { IfSome result (λ first. BeginsWith shown.now first.0 first.1.now) }
     ensures none { IfNone result ((octet : ℕ) (rest : List ℕ) → BeginsWith shown.now octet rest → ⊥) }

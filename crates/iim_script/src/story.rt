@@ -31,7 +31,6 @@ fn first_line(story: &[u8]) -> (&[u8], Option<&[u8]>)
 }
 
 /// The text of a story, whose lines are looked at one after another; or its first fault by line.
-#[tactic(auto, using(crate::proofs::Stories::story_start))]
 fn text_by_lines<'a>(story: Rest<'a>) -> Result<StoryText<'a>, ScriptFault>
     ensures text { IfOk result (λ text. TellsText story.entry.octets.now text.octets.now text.packed_len) }
     ensures fault { IfErr result (λ fault.

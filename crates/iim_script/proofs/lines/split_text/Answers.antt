@@ -1,4 +1,4 @@
-use Rattle.iim_script.proofs.Splits.{split_more}
+use Rattle.iim_script.proofs.Next.{split_more}
 use Rattle.iim_script.proofs.lines.split_text.Goals as goal
 
 pub returns-in-Some-clause-more : goal.returns-in-Some-clause-more

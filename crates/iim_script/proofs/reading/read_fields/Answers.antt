@@ -4,7 +4,7 @@ use Rattle.iim_script.proofs.Fronts.{stands_start, fields_added, fields_refused,
 use Rattle.iim_script.proofs.reading.read_fields.Goals as goal
 
 pub returns-clause-all : goal.returns-clause-all
-returns-clause-all c = must_be_none TellsNoField c.loop-line.rest.0.now c.in_default.ensures.none
+returns-clause-all c = must_be_none TellsNoField c.in_default.ensures.none
 
 pub loop-line-init : goal.loop-line-init
 loop-line-init c = record {
@@ -15,7 +15,7 @@ loop-line-init c = record {
 
 pub returns-then-not-begins_field-clause-all : goal.returns-then-not-begins_field-clause-all
 returns-then-not-begins_field-clause-all c =
-    next_must_be TellsNoField c.loop-line.rest.0.now c.in-Some.line.now c.in-Some.after.now c.in-Some.ensures.found
+    next_must_be TellsNoField c.in-Some.ensures.found
     (tells_no_field c.in-Some.line.now (sym c.begins_field.ensures ∙ c.if-not-begins_field.true))
 
 pub loop-line-preserved : goal.loop-line-preserved
