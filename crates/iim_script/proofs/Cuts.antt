@@ -1,9 +1,9 @@
 -- What stands before the first of an octet, and after it.
-use Rattle.std.proofs.Common.{◌≡◌, inl, inr, ℕ, zero, suc, ◌+◌, ◌-◌, ◌<◌, ◌≤◌, ◌==◌, Bool, true, false, not, cond, List, [], ◌∷◌, ◌++◌, append_assoc, length, length-append, take, drop, get_or, refl, ap, sym, ◌∙◌, subst, arith}
+use Rattle.std.proofs.Common.{◌≡◌, inl, inr, ℕ, zero, suc, ◌+◌, ◌-◌, ◌<◌, ◌==◌, Bool, true, false, not, cond, List, [], ◌∷◌, ◌++◌, append_assoc, length, length-append, take, drop, get_or, refl, ap, sym, ◌∙◌, subst, arith}
 use Rattle.std.specs.List.{position_or_len, list_all}
 use Rattle.std.proofs.Math.Numerals.{one-add}
 use Rattle.std.proofs.lemmas.Bool.{eq-eqb, eqb-true, false≢true, and_parts}
-use Rattle.std.proofs.lemmas.List.Sums.{split_at_first, passes_at_first, prefix_len-le-length}
+use Rattle.std.proofs.lemmas.List.Sums.{split_at_first, passes_at_first}
 use Rattle.std.proofs.lemmas.List.{take_rest}
 use Rattle.std.proofs.Math.Seq.{take-length}
 use Rattle.iim_script.specs.Format.Lines.{HasNo, EndsLine}
@@ -42,9 +42,6 @@ cut_once b [] ys [] vs h k e = (refl, cc)
 cut_once b [] ys (u ∷ us) vs h k e = let same : u ≡ b = cc in absurd (not_self b (rw same at k.0))
 cut_once b (x ∷ xs) ys [] vs h k e = let same : x ≡ b = cc in absurd (not_self b (rw same at h.0))
 cut_once b (x ∷ xs) ys (u ∷ us) vs h k e = let rest = cut_once b xs ys us vs h.1 k.1 (cc) in (cc, rest.1)
-
-pub is_shorter : (octets ended after : List ℕ) → octets ≡ ended ++ 10 ∷ after → length ended + length after < length octets
-is_shorter octets ended after e = omega (arith, ap length e, length-append ended (10 ∷ after))
 
 pub has_no_append : (b : ℕ) (xs ys : List ℕ) → HasNo b xs → HasNo b ys → HasNo b (xs ++ ys)
 has_no_append b [] ys h k = k
@@ -100,9 +97,3 @@ ends_alone line h n =
 -- an LF ends a line that has none, and no CR
 pub ended : (line : List ℕ) → HasNo 10 line → HasNo 13 line → EndsLine line (line ++ 10 ∷ [])
 ended line h k = (h, inr (refl, λ returned. has_no_octet 13 returned.0 [] (rw returned.1 at k)))
-
--- a place that is not before the end is the end
-pub end_is_all : (b : ℕ) (xs : List ℕ) (end : ℕ) → end ≡ position_or_len (λ x. x == b) xs → length xs ≤ end → end ≡ length xs
-end_is_all b xs end is le =
-    let most : position_or_len (λ x. x == b) xs ≤ length xs = prefix_len-le-length (λ x. not (x == b)) xs in
-    omega (arith, is, le, most)

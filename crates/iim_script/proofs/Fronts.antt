@@ -28,9 +28,6 @@ taken_more limits before [] d h g = (subst (λ (l : List Dataset). add_fault lim
 taken_more limits before (x ∷ ds) d h g =
     (h.0, taken_more limits (before ++ x ∷ []) ds d h.1 (subst (λ (l : List Dataset). add_fault limits l d ≡ None) (sym (append_assoc before (x ∷ []) ds)) g))
 
-pub stands_start : (limits : Limits) (script : List ℕ) (ds : List Dataset) → ds ≡ [] → Stands limits script (InFields ds) script 0
-stands_start limits script ds e = rw e (record { lines = []; front = []; lined = refl; parts = refl; count_is = refl; come = record { told = tt; taken = tt } })
-
 stands_on : (limits : Limits) (script rest line after : List ℕ) (stage next : Stage) (count more : ℕ) (s : Stands limits script stage rest count) → NextLine rest line after
     → more ≡ count + 1 → HaveCome limits (s.lines ++ line ∷ []) next → Stands limits script next after more
 stands_on limits script rest line after stage next count more s n e come = record {

@@ -1,10 +1,9 @@
 -- The next line of a script, and the first line of a text.
-use Rattle.std.proofs.Common.{◌≡◌, ◌⊎◌, inl, inr, ℕ, ◌+◌, List, [], ◌∷◌, ◌++◌, append_assoc, append-nil, length, length-append, drop, get_or, refl, ap, sym, ◌∙◌, subst, arith, zero, suc, ◌<◌, ◌≤◌, replicate}
+use Rattle.std.proofs.Common.{◌≡◌, ◌⊎◌, inl, inr, ℕ, ◌+◌, List, [], ◌∷◌, ◌++◌, append_assoc, append-nil, length, length-append, refl, ap, sym, ◌∙◌, subst, arith, zero, suc, ◌≤◌, replicate}
 use Rattle.iim_script.specs.Format.Lines.{HasNo, EndsInReturn, EndsLine, NextLine, EndLines}
 use Rattle.iim_script.proofs.Cuts.{cut_once, has_no_octet, has_no_append, lacks}
 use Rattle.wire_story.specs.Format.Texts.{IsLine, IsText, is_line_octet}
 use Rattle.iim_script.specs.Plain.{IsWithoutReturn}
-use Rattle.std.specs.List.{list_all}
 
 pub snoc_once : (xs ys : List ℕ) (b : ℕ) → xs ++ b ∷ [] ≡ ys ++ b ∷ [] → xs ≡ ys
 snoc_once [] [] b e = refl
@@ -130,6 +129,3 @@ split_one text (line ∷ []) h none = ap (λ (l : List ℕ). l ∷ []) (sym h.1)
 split_one text (line ∷ next ∷ lines) h none =
     let f = first_end text line next lines h in
     absurd (has_no_octet 10 (line ++ replicate f.returns 13) f.rest (subst (λ (l : List ℕ). HasNo 10 l) f.parts none))
-
-pub split_shorter : (text ended after : List ℕ) → text ≡ ended ++ 10 ∷ after → length after < length text
-split_shorter text ended after e = omega (arith, ap length e, length-append ended (10 ∷ after))

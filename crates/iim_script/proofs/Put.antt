@@ -1,5 +1,5 @@
 -- What is put at places of a text: digits, octets that stand for themselves, and the lines of datasets.
-use Rattle.std.proofs.Common.{◌≡◌, ℕ, ◌+◌, ◌/◌, ◌%◌, ◌<◌, ◌≤◌, List, [], ◌∷◌, ◌++◌, ap, ◌∙◌, decimal, arith, ◌&&◌, Bool, true, not, nat_eq, nat_le, length, map, take, refl, sym, append-nil, append_assoc, bit_and, length-append}
+use Rattle.std.proofs.Common.{◌≡◌, ℕ, ◌+◌, ◌/◌, ◌%◌, ◌<◌, ◌≤◌, List, [], ◌∷◌, ◌++◌, ap, ◌∙◌, decimal, arith, ◌&&◌, Bool, true, not, nat_eq, nat_le, length, map, take, refl, sym, append-nil, append_assoc, bit_and}
 use Rattle.std.proofs.lemmas.Fmt.{decimal_digit, decimal_step}
 use Rattle.std.specs.Simd.Lanes.{zip2}
 use Rattle.std.specs.List.{list_all, flat_map}
@@ -9,7 +9,6 @@ use Rattle.iim_dataset.specs.Format.Shown.{is_plain, shown}
 use Rattle.iim_dataset.proofs.Lanes.{lane, both_lanes, from_on, up_to, other_than, are_set, first_of}
 use Rattle.iim_dataset.proofs.PlainLanes.{shown_plain}
 use Rattle.iim_dataset.specs.Format.Datasets.{Dataset}
-use Rattle.iim_fields.specs.Format.Faults.{joined}
 use Rattle.iim_script.specs.Format.Printed.{field_line}
 
 -- ---- numbers of up to three digits, by their digits
@@ -43,16 +42,6 @@ pub all_plain : (xs : List ℕ) → list_all is_plain xs ≡ true → shown xs �
 all_plain xs all = sym (ap shown (append-nil xs)) ∙ (shown_plain xs [] all ∙ append-nil xs)
 
 -- ---- text with room after it, into which the lines of datasets are put
-
--- a dataset has no more octets than all have
-pub one_of : (ds done rest : List Dataset) (d : Dataset) → ds ≡ done ++ d ∷ rest → length d.octets ≤ length (joined ds)
-one_of ds done rest d parts =
-    let all : joined ds ≡ joined done ++ (d.octets ++ joined rest) = ap joined parts ∙ flat_map-append (λ d. d.octets) done (d ∷ rest) in
-    omega (arith, ap length all, length-append (joined done) (d.octets ++ joined rest), length-append d.octets (joined rest))
-
--- the first places are the same after a longer front was
-pub same_front : (at n : ℕ) (new old : List ℕ) → at ≤ n → take n new ≡ old → take at new ≡ take at old
-same_front at n new old le same = sym (take-take at n new le) ∙ ap (take at) same
 
 -- what was put into a text stands there
 pub stands : (end len : ℕ) (line rest : List ℕ) → end ≤ len → end ≤ length line → take end (take len (line ++ rest)) ≡ take end line

@@ -24,10 +24,6 @@ pub record StoryStands (story : List ℕ) (before : ℕ) (rest : List ℕ) (coun
   pub text : (left : List ℕ) (lines : List (List ℕ)) → IsText left lines → IsText (front ++ left) (done ++ lines)
   pub len_is : (lines : List (List ℕ)) → 0 < length lines → length (packed_text (done ++ lines)) ≡ len + length (packed_text lines)
 
-pub story_start : (story : List ℕ) (before : ℕ) → StoryStands story before story before 0
-story_start story before =
-    record { done = []; front = []; lined = refl; parts = refl; texts = tt; count_is = omega arith; more = λ none. refl; text = λ left lines h. h; len_is = λ lines some. omega arith }
-
 some_left : (after : List ℕ) (done : List (List ℕ)) → 0 < length after → after ≡ [] → done ≡ []
 some_left after done some e = absurd (omega (arith, some, ap length e))
 

@@ -68,7 +68,6 @@ fn lengthen(text: &mut Vec<u8>, places: usize) -> Result<(), AllocError>
 const MORE_PLACES: usize = 1024;
 
 /// Sees to it that from a place on there is room for the line of a dataset of so many octets. An error says that memory was refused.
-#[tactic(auto, using(crate::proofs::Put::same_front))]
 #[inline(always)]
 fn make_room(text: &mut Vec<u8>, at: usize, octets: usize) -> Result<(), AllocError>
     requires within { at ≤ vec_len text.old }
@@ -84,7 +83,6 @@ fn make_room(text: &mut Vec<u8>, at: usize, octets: usize) -> Result<(), AllocEr
 }
 
 /// Adds the lines of all datasets of an envelope. An error says that memory was refused.
-#[tactic(auto, using(crate::proofs::Put::one_of))]
 pub fn push_fields(text: &mut Vec<u8>, envelope: &EnvelopeRef<'_>) -> Result<(), AllocError>
     ensures { OnOk result (text.new.items ≡ text.old.items ++ flat_map field_line envelope.now) }
 {

@@ -37,7 +37,6 @@ fn escaped(high: u8, low: u8) -> Option<u8>
 }
 
 /// The octet of the escape whose backslash stands before these octets, and what follows. None where it begins no escape.
-#[tactic(auto, using(crate::proofs::Texts::escape_at))]
 fn escape(after: &[u8]) -> Option<(u8, &[u8])>
     ensures some { IfSome result (λ first. BeginsWith (backslash ∷ after.now) first.0 first.1.now) }
     ensures none { IfNone result ((octet : ℕ) (rest : List ℕ) → BeginsWith (backslash ∷ after.now) octet rest → ⊥) }

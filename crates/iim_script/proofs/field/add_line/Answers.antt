@@ -1,5 +1,3 @@
-use Rattle.std.proofs.Common.{List, ℕ, subst}
-use Rattle.iim_script.specs.Format.Shown.{TellsLast}
 use Rattle.iim_script.proofs.Names.{names_once}
 use Rattle.iim_script.proofs.field.add_line.Goals as goal
 

@@ -1,4 +1,4 @@
-use Rattle.std.proofs.Common.{◌≡◌, ℕ, suc, ◌+◌, ◌-◌, ◌<◌, List, [], ◌∷◌, ◌++◌, append_assoc, length, length-append, get_or, ap, sym, ◌∙◌, subst, arith}
+use Rattle.std.proofs.Common.{◌≡◌, ℕ, suc, ◌-◌, [], ◌∷◌, ◌++◌, append_assoc, length, get_or, sym, ◌∙◌, subst, arith}
 use Rattle.iim_script.proofs.Cuts.{ends_in_return, ends_alone}
 use Rattle.iim_script.proofs.line.next_line.Goals as goal
 use Rattle.iim_script.proofs.line.next_line.Goals.{else-len-gt0-via-then-len-gt0+else-ended-len-eq-CR, else-len-gt0-via-else-len-gt0}

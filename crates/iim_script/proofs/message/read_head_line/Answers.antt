@@ -1,4 +1,3 @@
-use Rattle.std.proofs.Common.{ℕ, List, sym, subst}
 use Rattle.iim_script.specs.Format.Shown.{TellsLast}
 use Rattle.iim_script.specs.Format.Forms.{words_of}
 use Rattle.iim_script.proofs.Heads.{words_told, head_told, is_told, is_not_told}

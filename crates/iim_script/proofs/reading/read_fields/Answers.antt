@@ -1,17 +1,10 @@
-use Rattle.std.proofs.Common.{refl, sym, ◌∙◌, arith}
+use Rattle.std.proofs.Common.{sym, ◌∙◌, arith}
 use Rattle.iim_script.specs.Format.Faults.{TellsNoField}
-use Rattle.iim_script.proofs.Fronts.{stands_start, fields_added, fields_refused, tells_no_field, next_must_be, must_be_none}
+use Rattle.iim_script.proofs.Fronts.{fields_added, fields_refused, tells_no_field, next_must_be, must_be_none}
 use Rattle.iim_script.proofs.reading.read_fields.Goals as goal
 
 pub returns-clause-all : goal.returns-clause-all
 returns-clause-all c = must_be_none TellsNoField c.in_default.ensures.none
-
-pub loop-line-init : goal.loop-line-init
-loop-line-init c = record {
-  same = refl;
-  stands = stands_start c.args.builder.now.limits c.args.script.now c.args.builder.now.fields c.requires.none;
-  short = omega arith;
-}
 
 pub returns-then-not-begins_field-clause-all : goal.returns-then-not-begins_field-clause-all
 returns-then-not-begins_field-clause-all c =
