@@ -58,7 +58,8 @@ lacks_by test b x false e fails passes = refl
 -- a test that an octet fails leaves none of it where it is passed
 pub lacks : (test : ℕ → Bool) (b : ℕ) (xs : List ℕ) → test b ≡ false → list_all test xs ≡ true → HasNo b xs
 lacks test b [] fails h = tt
-lacks test b (x ∷ xs) fails h = let both = and_parts (test x) (list_all test xs) h in (lacks_by test b x (x == b) refl fails both.0, lacks test b xs fails both.1)
+lacks test b (x ∷ xs) fails h =
+    let both = and_parts (test x) (list_all test xs) h in (lacks_by test b x (x == b) refl fails both.0, lacks test b xs fails both.1)
 
 passes_more : (test : ℕ → Bool) (d x : ℕ) (xs : List ℕ) (n : ℕ) (is : Bool) → test x ≡ is → test (get_or (drop n xs) 0 d) ≡ true
     → test (get_or (drop (cond (not is) (suc n) 0) (x ∷ xs)) 0 d) ≡ true

@@ -9,10 +9,9 @@ use Rattle.wire_message.specs.Format.Messages.{Header, IsTrailer}
 use Rattle.iim_script.specs.Format.Lines.{HasNo, NextLine}
 use Rattle.iim_script.specs.Format.Forms.{TellsField, TellsHead, TellsTrailer, text_word}
 use Rattle.iim_dataset.specs.Format.Octets.{is_digit}
-use Rattle.iim_script.specs.Adding.{AddsField, RefusesLine}
 use Rattle.iim_script.specs.Format.Scripts.{TellFields, AreTaken, AreFieldLines, AreTrailer, IsFront, max_script}
 use Rattle.iim_script.specs.Format.Faults.{Stage, InFields, AfterMessage, AfterTrailer, HaveCome, Stands, TellsNoField, TellsNoHead, TellsNoTrailer, IsNextWrong, IsFrontFault, IsScriptFault}
-use Rattle.iim_script.specs.Steps.{number_after, NextIs, NextMustBe, RefusesFields, RefusesHeader, TakesTrailer, RefusesTrailer, RefusesText, RefusesEnvelope}
+use Rattle.iim_script.specs.Steps.{AddsField, RefusesLine, number_after, NextIs, NextMustBe, RefusesFields, RefusesHeader, TakesTrailer, RefusesTrailer, RefusesText, RefusesEnvelope}
 use Rattle.iim_script.specs.declared.fault.ScriptCause.{ScriptCause}
 use Rattle.iim_script.specs.declared.fault.ScriptCause.TheVariants.{ScriptLine, Field, BadTrailer, OutOfMemory}
 use Rattle.iim_script.proofs.Next.{lines_more, count_more, next_once, no_next}
@@ -45,8 +44,9 @@ stands_field limits script rest line after ds d count s n t taken =
     stands_on limits script rest line after (InFields ds) (InFields (ds ++ d ∷ [])) count (count + 1) s n refl
     (record { told = fields_more s.lines ds line d s.come.told t; taken = taken_more limits [] ds d s.come.taken taken })
 
-pub stands_head : {limits : Limits} {script rest after : List ℕ} {ds : List Dataset} {head : Header} {count more : ℕ} → Stands limits script (InFields ds) rest count
-    → NextIs (λ line. TellsHead line head) rest after → more ≡ count + 1 → Stands limits script (AfterMessage ds head) after more
+pub stands_head : {limits : Limits} {script rest after : List ℕ} {ds : List Dataset} {head : Header} {count more : ℕ}
+    → Stands limits script (InFields ds) rest count → NextIs (λ line. TellsHead line head) rest after → more ≡ count + 1
+    → Stands limits script (AfterMessage ds head) after more
 stands_head {limits} {script} {rest} {after} {ds} {head} {count} {more} s (line, n, t) e =
     stands_on limits script rest line after (InFields ds) (AfterMessage ds head) count more s n e (s.lines, line, s.come, t, refl)
 
@@ -75,9 +75,9 @@ abbrev pub FrontAnd : Limits → List ℕ → List Dataset → Header → List �
 FrontAnd limits script ds head trailer story number = (octets : List ℕ) × (script ≡ octets ++ story) × IsFront limits octets ds head trailer number
 
 front_with : {limits : Limits} {script rest after : List ℕ} {ds : List Dataset} {head : Header} {trailer : List ℕ} {stage : Stage} {count more : ℕ}
-    → (fields : List (List ℕ)) (message : List ℕ) (trailers : List (List ℕ)) (s : Stands limits script stage rest count) → s.lines ≡ fields ++ message ∷ trailers
-    → AreFieldLines limits fields ds → TellsHead message head → AreTrailer trailers trailer → NextLine rest text_word after → finish_fault ds ≡ None → more ≡ count + 1
-    → FrontAnd limits script ds head trailer after more
+    → (fields : List (List ℕ)) (message : List ℕ) (trailers : List (List ℕ)) (s : Stands limits script stage rest count)
+    → s.lines ≡ fields ++ message ∷ trailers → AreFieldLines limits fields ds → TellsHead message head → AreTrailer trailers trailer
+    → NextLine rest text_word after → finish_fault ds ≡ None → more ≡ count + 1 → FrontAnd limits script ds head trailer after more
 front_with fields message trailers s lines_are are_fields is_head is_trailer n whole e = (
   s.front ++ n.ended,
   rw (s.parts, n.parts) (simp append_assoc),
@@ -94,8 +94,9 @@ front_with fields message trailers s lines_are are_fields is_head is_trailer n w
   },
 )
 
-pub is_front : {limits : Limits} {script rest after : List ℕ} {ds : List Dataset} {head : Header} {trailer : List ℕ} {count more : ℕ} → Past limits script ds head trailer rest count
-    → NextLine rest text_word after → finish_fault ds ≡ None → more ≡ count + 1 → FrontAnd limits script ds head trailer after more
+pub is_front : {limits : Limits} {script rest after : List ℕ} {ds : List Dataset} {head : Header} {trailer : List ℕ} {count more : ℕ}
+    → Past limits script ds head trailer rest count → NextLine rest text_word after → finish_fault ds ≡ None → more ≡ count + 1
+    → FrontAnd limits script ds head trailer after more
 is_front (inl (s, none, empty)) n whole e = let c = s.come in front_with c.0 c.1 [] s c.4 c.2 c.3 empty n whole e
 is_front (inr s) n whole e = let c = s.come in front_with c.0 c.1 (c.2 ∷ []) s c.7 c.3 c.4 (c.5, c.6) n whole e
 
@@ -120,8 +121,8 @@ tells_no_head line h = λ head t.
     let first : get_or line 0 0 ≡ 109 = ap (λ (l : List ℕ). get_or l 0 0) t.line_is in
     false≢true (sym (ap is_digit first) ∙ h)
 
-wrong_front : {limits : Limits} {script rest : List ℕ} {stage : Stage} {count number : ℕ} {cause : ScriptCause} → Stands limits script stage rest count → number ≡ count + 1
-    → IsNextWrong limits stage rest cause → IsFrontFault limits script number cause
+wrong_front : {limits : Limits} {script rest : List ℕ} {stage : Stage} {count number : ℕ} {cause : ScriptCause} → Stands limits script stage rest count
+    → number ≡ count + 1 → IsNextWrong limits stage rest cause → IsFrontFault limits script number cause
 wrong_front {rest = rest} {stage = stage} {count = count} s e w = record { stage = stage; rest = rest; count = count; stands = s; number_is = e; wrong = w }
 
 pub fields_refused : {limits : Limits} {script rest line after : List ℕ} (old : Building) {count : ℕ} (number : ℕ) (cause : ScriptCause) → old.limits ≡ limits
@@ -139,28 +140,33 @@ head_fault number ScriptLine few s must (e, inr (after, (line, n, h))) = (few, w
 head_fault number OutOfMemory few s must r = (few, r)
 head_fault number cause few s must r = absurd r
 
-pub trailer_fault : {limits : Limits} {script rest : List ℕ} {ds : List Dataset} {head : Header} {count : ℕ} (number : ℕ) (cause : ScriptCause) → length script ≤ max_script
-    → Stands limits script (AfterMessage ds head) rest count → RefusesTrailer rest count number cause → IsScriptFault limits script number cause
+pub trailer_fault : {limits : Limits} {script rest : List ℕ} {ds : List Dataset} {head : Header} {count : ℕ} (number : ℕ) (cause : ScriptCause)
+    → length script ≤ max_script → Stands limits script (AfterMessage ds head) rest count → RefusesTrailer rest count number cause
+    → IsScriptFault limits script number cause
 trailer_fault number BadTrailer few s (e, after, (line, n, bad)) = (few, wrong_front s e (inr (line, after, n, bad)))
 trailer_fault number OutOfMemory few s r = (few, r)
 trailer_fault number cause few s r = absurd r
 
 pub text_fault : {limits : Limits} {script rest : List ℕ} {ds : List Dataset} {head : Header} {trailer : List ℕ} {count : ℕ} (number : ℕ) (cause : ScriptCause)
-    → length script ≤ max_script → Past limits script ds head trailer rest count → RefusesText rest count number cause → IsScriptFault limits script number cause
+    → length script ≤ max_script → Past limits script ds head trailer rest count → RefusesText rest count number cause
+    → IsScriptFault limits script number cause
 text_fault number ScriptLine few (inl (s, must, empty)) (e, inl none) = (few, wrong_front s e (inl (none, refl)))
 text_fault number ScriptLine few (inl (s, must, empty)) (e, inr (after, (line, n, h))) = (few, wrong_front s e (inr (line, after, n, (must line after n, h))))
 text_fault number ScriptLine few (inr s) (e, inl none) = (few, wrong_front s e (inl (none, refl)))
 text_fault number ScriptLine few (inr s) (e, inr (after, (line, n, h))) = (few, wrong_front s e (inr (line, after, n, h)))
 text_fault number cause few p r = absurd r
 
-pub end_fault : {limits : Limits} {script rest after : List ℕ} {ds : List Dataset} {head : Header} {trailer : List ℕ} {count : ℕ} (number : ℕ) (cause : ScriptCause) → length script ≤ max_script
-    → Past limits script ds head trailer rest count → NextLine rest text_word after → RefusesEnvelope ds count number cause → IsScriptFault limits script number cause
+pub end_fault : {limits : Limits} {script rest after : List ℕ} {ds : List Dataset} {head : Header} {trailer : List ℕ} {count : ℕ}
+    → (number : ℕ) (cause : ScriptCause)
+    → length script ≤ max_script → Past limits script ds head trailer rest count → NextLine rest text_word after → RefusesEnvelope ds count number cause
+    → IsScriptFault limits script number cause
 end_fault number (Field cause) few (inl (s, must, empty)) n (e, fault, missing, is) = (few, wrong_front s e (inr (text_word, _, n, (fault, refl, missing, is))))
 end_fault number (Field cause) few (inr s) n (e, fault, missing, is) = (few, wrong_front s e (inr (text_word, _, n, (fault, refl, missing, is))))
 end_fault number cause few p n r = absurd r
 
-pub fields_added : {limits : Limits} {script rest line after : List ℕ} {old new : Building} {count : ℕ} → old.limits ≡ limits → Stands limits script (InFields old.fields) rest count
-    → NextLine rest line after → AddsField line old new → Stands limits script (InFields new.fields) after (count + 1)
+pub fields_added : {limits : Limits} {script rest line after : List ℕ} {old new : Building} {count : ℕ} → old.limits ≡ limits
+    → Stands limits script (InFields old.fields) rest count → NextLine rest line after → AddsField line old new
+    → Stands limits script (InFields new.fields) after (count + 1)
 fields_added {limits} {script} {rest} {line} {after} {old} {new} {count} same s n a =
     rw a.fields (stands_field limits script rest line after old.fields a.dataset count s n a.told (rw same at a.taken))
 

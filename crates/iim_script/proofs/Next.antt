@@ -21,7 +21,8 @@ record AtFeed (octets line after : List ℕ) : Type 0 where
 at_feed_of : (octets line after ended : List ℕ) → EndsLine line ended → octets ≡ ended ++ after → AtFeed octets line after
 at_feed_of octets line after ended (h, inl e) parts =
     record { before = line ++ 13 ∷ []; none = has_no_append 10 line (13 ∷ []) h (refl, tt); parts = rw (parts, e) (simp append_assoc); is_line = inl refl }
-at_feed_of octets line after ended (h, inr (e, n)) parts = record { before = line; none = h; parts = rw (parts, e) (simp append_assoc); is_line = inr (refl, n) }
+at_feed_of octets line after ended (h, inr (e, n)) parts =
+    record { before = line; none = h; parts = rw (parts, e) (simp append_assoc); is_line = inr (refl, n) }
 
 at_feed : (octets line after : List ℕ) → NextLine octets line after → AtFeed octets line after
 at_feed octets line after n = at_feed_of octets line after n.ended n.ends n.parts

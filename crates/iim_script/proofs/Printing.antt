@@ -56,7 +56,8 @@ hex_least n true = omega arith
 hex_least n false = omega arith
 
 octet_lacks : (b x : ℕ) (plain : Bool) → is_plain x ≡ plain → b < 32 → HasNo b (cond plain (x ∷ []) (escape x))
-octet_lacks b x true e h = (other x b (let low = leb-true 32 x (and_parts (nat_le 32 x) _ (and_parts (nat_le 32 x && nat_le x 126) _ e).0).0 in omega (arith, low, h)), tt)
+octet_lacks b x true e h =
+    let low = leb-true 32 x (and_parts (nat_le 32 x) _ (and_parts (nat_le 32 x && nat_le x 126) _ e).0).0 in (other x b (omega (arith, low, h)), tt)
 octet_lacks b x false e h =
     let high = hex_least (x / 16) (nat_lt (x / 16) 10) in
     let low = hex_least (x % 16) (nat_lt (x % 16) 10) in

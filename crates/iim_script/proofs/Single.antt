@@ -227,7 +227,8 @@ scripts_once limits octets fields others head other trailer end lines more n m s
 -- too many octets, no memory, or a line that is wrong
 abbrev Kind : Limits → List ℕ → ℕ → ScriptCause → Type 0
 Kind limits octets number cause =
-    (cause ≡ OutOfMemory) ⊎ (((cause ≡ ScriptTooLong) × (max_script < length octets) × (number ≡ 0)) ⊎ ((length octets ≤ max_script) × Fails limits octets number cause))
+    (cause ≡ OutOfMemory)
+    ⊎ (((cause ≡ ScriptTooLong) × (max_script < length octets) × (number ≡ 0)) ⊎ ((length octets ≤ max_script) × Fails limits octets number cause))
 
 kind : (limits : Limits) (octets : List ℕ) (number : ℕ) (cause : ScriptCause) → IsScriptFault limits octets number cause → Kind limits octets number cause
 kind limits octets number ScriptTooLong f = inr (inl (refl, f.0, f.1))
@@ -235,12 +236,14 @@ kind limits octets number BadTextOctet f = inr (inr (f.0, story_fails limits oct
 kind limits octets number OutOfMemory f = inl refl
 kind limits octets number cause f = inr (inr (f.0, front_fails limits octets number cause f.1))
 
-no_kind : (limits : Limits) (octets : List ℕ) (number : ℕ) (cause : ScriptCause) → length octets ≤ max_script → (Fails limits octets number cause → ⊥) → Kind limits octets number cause → cause ≡ OutOfMemory
+no_kind : (limits : Limits) (octets : List ℕ) (number : ℕ) (cause : ScriptCause) → length octets ≤ max_script → (Fails limits octets number cause → ⊥)
+    → Kind limits octets number cause → cause ≡ OutOfMemory
 no_kind limits octets number cause short none (inl memory) = memory
 no_kind limits octets number cause short none (inr (inl long)) = absurd (omega (arith, short, long.1))
 no_kind limits octets number cause short none (inr (inr fails)) = absurd (none fails.1)
 
-kinds_meet : (limits : Limits) (octets : List ℕ) (n m : ℕ) (a b : ScriptCause) → Kind limits octets n a → Kind limits octets m b → (a ≡ OutOfMemory) ⊎ ((b ≡ OutOfMemory) ⊎ ((n ≡ m) × (a ≡ b)))
+kinds_meet : (limits : Limits) (octets : List ℕ) (n m : ℕ) (a b : ScriptCause) → Kind limits octets n a → Kind limits octets m b
+    → (a ≡ OutOfMemory) ⊎ ((b ≡ OutOfMemory) ⊎ ((n ≡ m) × (a ≡ b)))
 kinds_meet limits octets n m a b (inl memory) k = inl memory
 kinds_meet limits octets n m a b k (inl memory) = inr (inl memory)
 kinds_meet limits octets n m a b (inr (inl x)) (inr (inl y)) = inr (inr (cc, cc))
@@ -251,7 +254,8 @@ kinds_meet limits octets n m a b (inr (inr x)) (inr (inr y)) = inr (inr (fails_o
 pub script_no_fault : (limits : Limits) (octets : List ℕ) (fields : List Dataset) (head : Header) (trailer : List ℕ) (lines : List (List ℕ)) (text_line number : ℕ) (cause : ScriptCause)
     → IsScript limits octets fields head trailer lines text_line → IsScriptFault limits octets number cause → cause ≡ OutOfMemory
 script_no_fault limits octets fields head trailer lines text_line number cause s f =
-    no_kind limits octets number cause s.short (script_no_fails limits octets fields head trailer lines text_line number cause s) (kind limits octets number cause f)
+    no_kind limits octets number cause s.short (script_no_fails limits octets fields head trailer lines text_line number cause s)
+    (kind limits octets number cause f)
 
 pub faults_once : (limits : Limits) (octets : List ℕ) (n m : ℕ) (a b : ScriptCause) → IsScriptFault limits octets n a → IsScriptFault limits octets m b
     → (a ≡ OutOfMemory) ⊎ ((b ≡ OutOfMemory) ⊎ ((n ≡ m) × (a ≡ b)))

@@ -99,8 +99,8 @@ take_parts : (front line end : List ℕ) (n : ℕ) → n ≡ length front + leng
 take_parts front line end n e =
     ap (take n) (sym (append_assoc front line end)) ∙ (ap (λ (k : ℕ). take k ((front ++ line) ++ end)) (e ∙ sym (length-append front line)) ∙ take-append_seam (front ++ line) end)
 
-pub story_ends : {story rest line text : List ℕ} {before count len whole : ℕ} (at : ℕ) → StoryStands story before rest count len → IsLastLine rest line → IsLine line
-    → text ≡ take at story → at + length rest ≡ length story + length line → whole ≡ len + length line → TellsText story text whole
+pub story_ends : {story rest line text : List ℕ} {before count len whole : ℕ} (at : ℕ) → StoryStands story before rest count len → IsLastLine rest line
+    → IsLine line → text ≡ take at story → at + length rest ≡ length story + length line → whole ≡ len + length line → TellsText story text whole
 story_ends {story} {rest} {line} {text} {before} {count} {len} {whole} at s last is cut place f =
     let b = last_begins rest line last in
     let begins : story ≡ s.front ++ (line ++ b.0) = s.parts ∙ ap (λ (l : List ℕ). s.front ++ l) b.1 in

@@ -23,4 +23,5 @@ returns-clause-found c =
       | else-len-gt0-via-then-len-gt0+else-ended-len-eq-CR w ↦ w.if-ended-len-eq-CR.false (subst (λ (m : ℕ). get_or ended m 0 ≡ 13) (omega (arith, len)) at)
       | else-len-gt0-via-else-len-gt0 w ↦ absurd (omega (arith, len, w.if-len-gt0.false))
     ] in
-    record { ended = ended ++ 10 ∷ []; ends = ends_alone ended found.0 not_returned; parts = found.1 ∙ sym (append_assoc ended (10 ∷ []) c.in_ok-ended.after.now) }
+    let parts = found.1 ∙ sym (append_assoc ended (10 ∷ []) c.in_ok-ended.after.now) in
+    record { ended = ended ++ 10 ∷ []; ends = ends_alone ended found.0 not_returned; parts = parts }
