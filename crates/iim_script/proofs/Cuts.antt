@@ -1,21 +1,12 @@
 -- What stands before the first of an octet, and after it.
-use Rattle.std.proofs.Common.{◌≡◌, inl, inr, ℕ, zero, suc, ◌+◌, ◌-◌, ◌<◌, ◌≤◌, ◌==◌, Bool, true, false, not, cond, List, [], ◌∷◌, ◌++◌, append_assoc, length, take, drop, get_or, refl, ap, sym, ◌∙◌, subst, arith}
-use Rattle.std.specs.List.{position_or_len}
-use Rattle.std.proofs.lemmas.Bool.{eq-eqb, eqb-true, cases_Bool, false≢true}
-use Rattle.std.proofs.lemmas.List.Sums.{split_at_first, passes_at_first, prefix_len-le-length}
+use Rattle.std.proofs.Common.{◌≡◌, inl, inr, ℕ, zero, suc, ◌+◌, ◌-◌, ◌<◌, ◌==◌, Bool, true, false, not, cond, List, [], ◌∷◌, ◌++◌, append_assoc, length, length-append, take, drop, get_or, refl, ap, sym, ◌∙◌, subst, arith}
+use Rattle.std.specs.List.{position_or_len, list_all}
+use Rattle.std.proofs.Math.Numerals.{one-add}
+use Rattle.std.proofs.lemmas.Bool.{eq-eqb, eqb-true, false≢true, and_parts}
+use Rattle.std.proofs.lemmas.List.Sums.{split_at_first, passes_at_first}
 use Rattle.std.proofs.lemmas.List.{take_rest}
 use Rattle.std.proofs.Math.Seq.{take-length}
 use Rattle.iim_script.specs.Format.Lines.{HasNo, EndsLine}
-
--- a list's head and tail
-cons_head : (x y : ℕ) (xs ys : List ℕ) → x ∷ xs ≡ y ∷ ys → x ≡ y
-cons_head x y xs ys e = ap (λ (l : List ℕ). get_or l 0 0) e
-
-cons_tail : (x y : ℕ) (xs ys : List ℕ) → x ∷ xs ≡ y ∷ ys → xs ≡ ys
-cons_tail x y xs ys e = ap (λ (l : List ℕ). drop 1 l) e
-
-one_more : (n : ℕ) → suc n ≡ 1 + n
-one_more n = omega arith
 
 before_cons : (b x : ℕ) (xs : List ℕ) (n : ℕ) (same : Bool) → (x == b) ≡ same → HasNo b (take n xs) → HasNo b (take (cond (not same) (suc n) 0) (x ∷ xs))
 before_cons b x xs n true e h = tt
@@ -23,32 +14,22 @@ before_cons b x xs n false e h = (e, h)
 
 pub has_no_before : (b : ℕ) (xs : List ℕ) → HasNo b (take (position_or_len (λ x. x == b) xs) xs)
 has_no_before b [] = tt
-has_no_before b (x ∷ xs) =
-    subst (λ (n : ℕ). HasNo b (take (cond (not (x == b)) n 0) (x ∷ xs))) (one_more (position_or_len (λ y. y == b) xs))
-    (before_cons b x xs (position_or_len (λ y. y == b) xs) (x == b) refl (has_no_before b xs))
+has_no_before b (x ∷ xs) = rw one-add (before_cons b x xs (position_or_len (λ y. y == b) xs) (x == b) refl (has_no_before b xs))
 
 -- where none is found there is none
 pub has_none : (b : ℕ) (xs : List ℕ) (end : ℕ) → end ≡ position_or_len (λ x. x == b) xs → end ≡ length xs → HasNo b xs
-has_none b xs end is all =
-    let whole : take (position_or_len (λ x. x == b) xs) xs ≡ xs =
-    ap (λ (n : ℕ). take n xs) (sym is ∙ all) ∙ take-length xs in
-    subst (λ (l : List ℕ). HasNo b l) whole (has_no_before b xs)
+has_none b xs end is all = rw (← is, all, take-length) at (has_no_before b xs)
 
 -- where one is found
 pub cut_parts : (b : ℕ) (xs : List ℕ) (end : ℕ) → end ≡ position_or_len (λ x. x == b) xs → end < length xs
     → HasNo b (take end xs) × (xs ≡ take end xs ++ (b ∷ take (length xs - (end + 1)) (drop (end + 1) xs)))
 cut_parts b xs end is within =
-    let at : position_or_len (λ x. x == b) xs < length xs = subst (λ (n : ℕ). n < length xs) is within in
-    let found : get_or xs (position_or_len (λ x. x == b) xs) 0 ≡ b = eqb-true _ _ (passes_at_first (λ x. x == b) xs 0 at) in (
-      subst (λ (n : ℕ). HasNo b (take n xs)) (sym is) (has_no_before b xs),
-      split_at_first (λ x. x == b) xs 0 at
-          ∙ ap (λ (x : ℕ). take (position_or_len (λ x. x == b) xs) xs ++ (x ∷ drop (position_or_len (λ x. x == b) xs + 1) xs)) found
-          ∙ ap (λ (n : ℕ). take n xs ++ (b ∷ drop (n + 1) xs)) (sym is)
-          ∙ ap (λ (rest : List ℕ). take end xs ++ (b ∷ rest)) (sym (take_rest xs (end + 1))),
-    )
+    let at : position_or_len (λ x. x == b) xs < length xs = rw is at within in
+    let found = eqb-true _ _ (passes_at_first (λ x. x == b) xs 0 at) in
+    rw (is, take_rest) (has_no_before b xs, rw found at (split_at_first (λ x. x == b) xs 0 at))
 
 not_self : (b : ℕ) → (b == b) ≡ false → ⊥
-not_self b e = elim (cases_Bool (b == b)) [ inl same ↦ absurd (false≢true (sym e ∙ same)) | inr other ↦ absurd (false≢true (sym other ∙ eq-eqb b b refl)) ]
+not_self b e = false≢true (sym e ∙ eq-eqb b b refl)
 
 -- an octet that stands there
 pub has_no_octet : (b : ℕ) (xs ys : List ℕ) → HasNo b (xs ++ b ∷ ys) → ⊥
@@ -57,13 +38,10 @@ has_no_octet b (x ∷ xs) ys h = has_no_octet b xs ys h.1
 
 -- what stands before the first is one thing, and so is what stands after it
 pub cut_once : (b : ℕ) (xs ys us vs : List ℕ) → HasNo b xs → HasNo b us → xs ++ b ∷ ys ≡ us ++ b ∷ vs → (xs ≡ us) × (ys ≡ vs)
-cut_once b [] ys [] vs h k e = (refl, cons_tail b b ys vs e)
-cut_once b [] ys (u ∷ us) vs h k e = absurd (not_self b (subst (λ (n : ℕ). (n == b) ≡ false) (sym (cons_head b u ys (us ++ b ∷ vs) e)) k.0))
-cut_once b (x ∷ xs) ys [] vs h k e = absurd (not_self b (subst (λ (n : ℕ). (n == b) ≡ false) (cons_head x b (xs ++ b ∷ ys) vs e) h.0))
-cut_once b (x ∷ xs) ys (u ∷ us) vs h k e =
-    let rest = cut_once b xs ys us vs h.1 k.1 (cons_tail x u (xs ++ b ∷ ys) (us ++ b ∷ vs) e) in
-    let first = cons_head x u (xs ++ b ∷ ys) (us ++ b ∷ vs) e in
-    (ap (λ (n : ℕ). n ∷ xs) first ∙ ap (λ (l : List ℕ). u ∷ l) rest.0, rest.1)
+cut_once b [] ys [] vs h k e = (refl, cc)
+cut_once b [] ys (u ∷ us) vs h k e = let same : u ≡ b = cc in absurd (not_self b (rw same at k.0))
+cut_once b (x ∷ xs) ys [] vs h k e = let same : x ≡ b = cc in absurd (not_self b (rw same at h.0))
+cut_once b (x ∷ xs) ys (u ∷ us) vs h k e = let rest = cut_once b xs ys us vs h.1 k.1 (cc) in (cc, rest.1)
 
 pub has_no_append : (b : ℕ) (xs ys : List ℕ) → HasNo b xs → HasNo b ys → HasNo b (xs ++ ys)
 has_no_append b [] ys h k = k
@@ -73,11 +51,25 @@ pub has_no_front : (b : ℕ) (xs ys : List ℕ) → HasNo b (xs ++ ys) → HasNo
 has_no_front b [] ys h = tt
 has_no_front b (x ∷ xs) ys h = (h.0, has_no_front b xs ys h.1)
 
--- a place that is not the end lies before it
-pub first_within : (b : ℕ) (xs : List ℕ) (end : ℕ) → end ≡ position_or_len (λ x. x == b) xs → (end ≡ length xs → ⊥) → end < length xs
-first_within b xs end is n =
-    let le : position_or_len (λ x. x == b) xs ≤ length xs = prefix_len-le-length (λ x. not (x == b)) xs in
-    omega (arith, is, le, n)
+lacks_by : (test : ℕ → Bool) (b x : ℕ) (same : Bool) → (x == b) ≡ same → test b ≡ false → test x ≡ true → same ≡ false
+lacks_by test b x true e fails passes = let is : x ≡ b = eqb-true x b e in cc
+lacks_by test b x false e fails passes = refl
+
+-- a test that an octet fails leaves none of it where it is passed
+pub lacks : (test : ℕ → Bool) (b : ℕ) (xs : List ℕ) → test b ≡ false → list_all test xs ≡ true → HasNo b xs
+lacks test b [] fails h = tt
+lacks test b (x ∷ xs) fails h =
+    let both = and_parts (test x) (list_all test xs) h in (lacks_by test b x (x == b) refl fails both.0, lacks test b xs fails both.1)
+
+passes_more : (test : ℕ → Bool) (d x : ℕ) (xs : List ℕ) (n : ℕ) (is : Bool) → test x ≡ is → test (get_or (drop n xs) 0 d) ≡ true
+    → test (get_or (drop (cond (not is) (suc n) 0) (x ∷ xs)) 0 d) ≡ true
+passes_more test d x xs n true e h = e
+passes_more test d x xs n false e h = h
+
+-- what stands at the first place that passes a test; or what stands for nothing, and passes it too
+pub first_passes : (test : ℕ → Bool) (d : ℕ) (xs : List ℕ) → test d ≡ true → test (get_or (drop (position_or_len test xs) xs) 0 d) ≡ true
+first_passes test d [] h = h
+first_passes test d (x ∷ xs) h = rw one-add (passes_more test d x xs (position_or_len test xs) (test x) refl (first_passes test d xs h))
 
 -- the last octet of a list, and those before it
 pub last_one : (xs : List ℕ) (b n : ℕ) → length xs ≡ suc n → get_or xs n 0 ≡ b → xs ≡ take n xs ++ b ∷ []
@@ -98,23 +90,11 @@ ends_in_return ended n h len e =
       inl (ap (λ (l : List ℕ). l ++ 10 ∷ []) parts ∙ append_assoc (take n ended) (13 ∷ []) (10 ∷ [])),
     )
 
-length-snoc : (xs : List ℕ) (b : ℕ) → length (xs ++ b ∷ []) ≡ suc (length xs)
-length-snoc [] b = refl
-length-snoc (x ∷ xs) b = ap suc (length-snoc xs b)
-
 -- the line that the LF alone ends
 pub ends_alone : (line : List ℕ) → HasNo 10 line → ((n : ℕ) → length line ≡ suc n → get_or line n 0 ≡ 13 → ⊥) → EndsLine line (line ++ 10 ∷ [])
-ends_alone line h n = (
-  h,
-  inr (
-    refl,
-    λ returned. n (length returned.0) (ap length returned.1 ∙ length-snoc returned.0 13)
-        (ap (λ (l : List ℕ). get_or l (length returned.0) 0) returned.1 ∙ at_last returned.0 13),
-  ),
-)
+ends_alone line h n =
+    (h, inr (refl, λ r. n (length r.0) (omega (arith, ap length r.1, length-append r.0 (13 ∷ []))) (rw r.1 (at_last r.0 13))))
 
--- a place that is not before the end is the end
-pub end_is_all : (b : ℕ) (xs : List ℕ) (end : ℕ) → end ≡ position_or_len (λ x. x == b) xs → length xs ≤ end → end ≡ length xs
-end_is_all b xs end is le =
-    let most : position_or_len (λ x. x == b) xs ≤ length xs = prefix_len-le-length (λ x. not (x == b)) xs in
-    omega (arith, is, le, most)
+-- an LF ends a line that has none, and no CR
+pub ended : (line : List ℕ) → HasNo 10 line → HasNo 13 line → EndsLine line (line ++ 10 ∷ [])
+ended line h k = (h, inr (refl, λ returned. has_no_octet 13 returned.0 [] (rw returned.1 at k)))

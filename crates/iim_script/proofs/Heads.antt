@@ -1,6 +1,6 @@
 -- The words of a header's line.
-use Rattle.std.proofs.Common.{◌≡◌, ℕ, suc, ◌+◌, ◌-◌, ◌==◌, Bool, true, false, not, cond, List, [], ◌∷◌, ◌++◌, append-nil, length, take, drop, get_or, refl, ap, sym, ◌∙◌, subst, arith, Option, Some, None, IsSome, IfSome, IfNone}
-use Rattle.std.specs.List.{position_or_len, list_all}
+use Rattle.std.proofs.Common.{◌≡◌, ℕ, ◌-◌, ◌==◌, List, [], ◌∷◌, ◌++◌, append-nil, length, take, drop, get_or, refl, ap, sym, ◌∙◌, subst, Option, Some, None, IsSome, IfSome, IfNone}
+use Rattle.std.specs.List.{position_or_len}
 use Rattle.std.proofs.lemmas.Bool.{eqb-true, false≢true}
 use Rattle.std.proofs.lemmas.List.{take_rest, take-append-drop}
 use Rattle.wire_message.specs.Format.Fields.{is_alphanumeric}
@@ -9,69 +9,41 @@ use Rattle.wire_message.specs.Format.Messages.{Header, header_of, IsHeader}
 use Rattle.iim_script.specs.Format.Lines.{HasNo}
 use Rattle.iim_script.specs.Format.Shown.{TellsLast}
 use Rattle.iim_script.specs.Format.Forms.{HeadWords, AreWords, TellsHead, words_of, message_word, after_source, after_number, after_priority, after_category}
-use Rattle.iim_script.proofs.Cuts.{cut_once, has_no_octet, has_no_before}
-use Rattle.iim_script.proofs.Names.{and_both}
+use Rattle.iim_script.proofs.Cuts.{cut_once, has_no_octet, has_no_before, lacks, first_passes}
 use Rattle.iim_script.proofs.Texts.{last_once}
-
-one_more : (n : ℕ) → suc n ≡ 1 + n
-one_more n = omega arith
-
-space_more : (x : ℕ) (xs : List ℕ) (n : ℕ) (is : Bool) → (x == 32) ≡ is → get_or (drop n xs) 0 32 ≡ 32 → get_or (drop (cond (not is) (suc n) 0) (x ∷ xs)) 0 32 ≡ 32
-space_more x xs n true e h = eqb-true x 32 e
-space_more x xs n false e h = h
 
 -- what follows the first word is nothing, or begins with SP
 pub space_after : (xs : List ℕ) → get_or (drop (position_or_len (λ x. x == 32) xs) xs) 0 32 ≡ 32
-space_after [] = refl
-space_after (x ∷ xs) =
-    subst (λ (n : ℕ). get_or (drop (cond (not (x == 32)) n 0) (x ∷ xs)) 0 32 ≡ 32) (one_more (position_or_len (λ y. y == 32) xs))
-    (space_more x xs (position_or_len (λ y. y == 32) xs) (x == 32) refl (space_after xs))
+space_after xs = eqb-true _ 32 (first_passes (λ x. x == 32) 32 xs refl)
 
 -- a word and what follows it are parted in one way
 pub word_once : (w e v f : List ℕ) → HasNo 32 w → HasNo 32 v → get_or e 0 32 ≡ 32 → get_or f 0 32 ≡ 32 → w ++ e ≡ v ++ f → (w ≡ v) × (e ≡ f)
 word_once w [] v [] h k n m e = (sym (append-nil w) ∙ (e ∙ append-nil v), refl)
-word_once w [] v (y ∷ f) h k n m e =
-    absurd (has_no_octet 32 v f (subst (λ (l : List ℕ). HasNo 32 l) (sym (append-nil w) ∙ (e ∙ ap (λ (b : ℕ). v ++ b ∷ f) m)) h))
-word_once w (x ∷ es) v [] h k n m e =
-    absurd (has_no_octet 32 w es (subst (λ (l : List ℕ). HasNo 32 l) (sym (append-nil v) ∙ (sym e ∙ ap (λ (b : ℕ). w ++ b ∷ es) n)) k))
-word_once w (x ∷ es) v (y ∷ f) h k n m e =
-    let parts = cut_once 32 w es v f h k (ap (λ (b : ℕ). w ++ b ∷ es) (sym n) ∙ (e ∙ ap (λ (b : ℕ). v ++ b ∷ f) m)) in
-    (parts.0, ap (λ (l : List ℕ). x ∷ l) parts.1 ∙ ap (λ (b : ℕ). b ∷ f) (n ∙ sym m))
+word_once w [] v (y ∷ f) h k n m e = absurd (has_no_octet 32 v f (rw (← append-nil w, e, m) at h))
+word_once w (x ∷ es) v [] h k n m e = absurd (has_no_octet 32 w es (rw (← append-nil v, ← e, n) at k))
+word_once w (x ∷ es) v (y ∷ f) h k n m e = let parts = cut_once 32 w es v f h k (rw (n, m) at e) in (parts.0, cc)
 
 -- where no SP is left
 pub no_more : (w rest : List ℕ) (found : List ℕ) → HasNo 32 found → found ≡ w ++ 32 ∷ rest → ⊥
-no_more w rest found h e = has_no_octet 32 w rest (subst (λ (l : List ℕ). HasNo 32 l) e h)
+no_more w rest found h e = has_no_octet 32 w rest (rw e at h)
 
 -- the words that four cuts and a last one find
 pub words_found : (octets source r1 number r2 priority r3 category r4 : List ℕ) (n : ℕ)
     → HasNo 32 source → octets ≡ source ++ 32 ∷ r1 → HasNo 32 number → r1 ≡ number ++ 32 ∷ r2 → HasNo 32 priority → r2 ≡ priority ++ 32 ∷ r3
     → HasNo 32 category → r3 ≡ category ++ 32 ∷ r4 → n ≡ position_or_len (λ x. x == 32) r4
     → AreWords octets (record { source = source; number = number; priority = priority; category = category; words = take n r4 }) (take (length r4 - n) (drop n r4))
-words_found octets source r1 number r2 priority r3 category r4 n h1 e1 h2 e2 h3 e3 h4 e4 at =
-    let rest : r4 ≡ take n r4 ++ take (length r4 - n) (drop n r4) = sym (take-append-drop n r4) ∙ ap (λ (l : List ℕ). take n r4 ++ l) (sym (take_rest r4 n)) in
-    record {
-      source = h1;
-      number = h2;
-      priority = h3;
-      category = h4;
-      words = subst (λ (k : ℕ). HasNo 32 (take k r4)) (sym at) (has_no_before 32 r4);
-      ends = subst (λ (l : List ℕ). get_or l 0 32 ≡ 32) (sym (take_rest r4 n)) (subst (λ (k : ℕ). get_or (drop k r4) 0 32 ≡ 32) (sym at) (space_after r4));
-      octets_are = e1 ∙ ap (λ (l : List ℕ). source ++ 32 ∷ l) (e2 ∙ ap (λ (l : List ℕ). number ++ 32 ∷ l) (e3 ∙ ap (λ (l : List ℕ). priority ++ 32 ∷ l)
-          (e4 ∙ ap (λ (l : List ℕ). category ++ 32 ∷ l) rest)));
-    }
+words_found octets source r1 number r2 priority r3 category r4 n h1 e1 h2 e2 h3 e3 h4 e4 at = record {
+  source = h1;
+  number = h2;
+  priority = h3;
+  category = h4;
+  words = rw at (has_no_before 32 r4);
+  ends = rw (take_rest, at) (space_after r4);
+  octets_are = rw (take_rest, take-append-drop, e1, e2, e3, e4);
+}
 
 same_words : (w v : HeadWords) → w.source ≡ v.source → w.number ≡ v.number → w.priority ≡ v.priority → w.category ≡ v.category → w.words ≡ v.words → w ≡ v
-same_words w v a b c d e =
-    let w1 : HeadWords = record w { source = v.source } in
-    let w2 : HeadWords = record w1 { number = v.number } in
-    let w3 : HeadWords = record w2 { priority = v.priority } in
-    let w4 : HeadWords = record w3 { category = v.category } in
-    let e1 : w ≡ w1 = ap (λ (l : List ℕ). record w { source = l }) a in
-    let e2 : w1 ≡ w2 = ap (λ (l : List ℕ). record w1 { number = l }) b in
-    let e3 : w2 ≡ w3 = ap (λ (l : List ℕ). record w2 { priority = l }) c in
-    let e4 : w3 ≡ w4 = ap (λ (l : List ℕ). record w3 { category = l }) d in
-    let e5 : w4 ≡ v = ap (λ (l : List ℕ). record w4 { words = l }) e in
-    e1 ∙ (e2 ∙ (e3 ∙ (e4 ∙ e5)))
+same_words w v a b c d e = λ i. record { source = a i; number = b i; priority = c i; category = d i; words = e i }
 
 -- the words of a line are found in one way
 pub words_once : (octets : List ℕ) (w v : HeadWords) (end other : List ℕ) → AreWords octets w end → AreWords octets v other → (w ≡ v) × (end ≡ other)
@@ -99,29 +71,15 @@ pub after_third : (octets source r1 number r2 priority r3 : List ℕ) (w : HeadW
 after_third octets source r1 number r2 priority r3 w end h e k f m g t =
     (cut_once 32 priority r3 w.priority (after_priority w end) m t.priority (sym g ∙ after_second octets source r1 number r2 w end h e k f t)).1
 
-eq-sym-false : (test : ℕ → Bool) (x : ℕ) (same : Bool) → (x == 32) ≡ same → test 32 ≡ false → test x ≡ true → (x == 32) ≡ false
-eq-sym-false test x true e fails passes = absurd (false≢true (sym fails ∙ (ap test (sym (eqb-true x 32 e)) ∙ passes)))
-eq-sym-false test x false e fails passes = e
-
-other_than : (test : ℕ → Bool) (x : ℕ) → test 32 ≡ false → test x ≡ true → (x == 32) ≡ false
-other_than test x fails passes = eq-sym-false test x (x == 32) refl fails passes
-
--- A test that SP fails leaves no SP where it is passed.
-pub passing_has_no : (test : ℕ → Bool) (xs : List ℕ) → test 32 ≡ false → list_all test xs ≡ true → HasNo 32 xs
-passing_has_no test [] fails h = tt
-passing_has_no test (x ∷ xs) fails h =
-    let both = and_both (test x) (list_all test xs) h in
-    (other_than test x fails both.0, passing_has_no test xs fails both.1)
-
 -- the words of a header are words
 pub words_of_header : (head : Header) (end : List ℕ) → IsHeader head → get_or end 0 32 ≡ 32
     → AreWords (head.source ++ (32 ∷ after_source (words_of head) end)) (words_of head) end
 words_of_header head end h ends = record {
-  source = passing_has_no is_letter head.source refl h.source.0;
-  number = passing_has_no is_digit head.number refl h.number.0;
-  priority = passing_has_no is_digit head.priority refl h.priority.0;
-  category = passing_has_no is_alphanumeric head.category refl h.category.0;
-  words = passing_has_no is_digit head.words refl h.words.0;
+  source = lacks is_letter 32 head.source refl h.source.0;
+  number = lacks is_digit 32 head.number refl h.number.0;
+  priority = lacks is_digit 32 head.priority refl h.priority.0;
+  category = lacks is_alphanumeric 32 head.category refl h.category.0;
+  words = lacks is_digit 32 head.words refl h.words.0;
   ends = ends;
   octets_are = refl;
 }

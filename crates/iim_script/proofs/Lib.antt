@@ -5,14 +5,9 @@ pub mod Heads
 pub mod Next
 pub mod Fronts
 pub mod Stories
-pub mod Once
 pub mod Plains
-pub mod Splits
 pub mod Printing
-pub mod Taking
 pub mod Whole
 pub mod Runs
 pub mod Single
-pub mod PlainParts
-pub mod Digits
-pub mod Rooms
+pub mod Put

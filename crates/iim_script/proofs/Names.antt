@@ -1,23 +1,16 @@
 -- The numbers at the front of a line.
-use Rattle.std.proofs.Common.{◌≡◌, ℕ, suc, ◌+◌, ◌-◌, ◌==◌, ◌&&◌, Bool, true, false, not, cond, List, [], ◌∷◌, ◌++◌, length, take, drop, get_or, refl, ap, sym, ◌∙◌, subst, arith}
+use Rattle.std.proofs.Common.{◌≡◌, ℕ, suc, ◌-◌, Bool, true, false, not, cond, List, [], ◌∷◌, ◌++◌, length, take, drop, get_or, refl, ap, sym, ◌∙◌, subst}
 use Rattle.std.specs.List.{position_or_len, list_all}
-use Rattle.std.proofs.lemmas.Bool.{false≢true, and_from}
-use Rattle.std.proofs.lemmas.Bool.Decides.{nat_tests}
+use Rattle.std.proofs.lemmas.Bool.{false≢true, and_from, and_parts}
+use Rattle.std.proofs.Math.Numerals.{one-add}
 use Rattle.std.proofs.lemmas.List.{take_rest, take-append-drop}
 use Rattle.iim_script.specs.Format.Lines.{HasNo}
 use Rattle.iim_script.specs.Format.Forms.{TellsNumber, TellsNames}
 use Rattle.iim_dataset.specs.Format.Octets.{is_digit}
-use Rattle.iim_script.proofs.Cuts.{cut_once, has_no_octet}
+use Rattle.iim_script.proofs.Cuts.{cut_once, has_no_octet, lacks, first_passes}
 
 abbrev pub no_digit : ℕ → Bool
 no_digit b = not (is_digit b)
-
-one_more : (n : ℕ) → suc n ≡ 1 + n
-one_more n = omega arith
-
-pub and_both : (a b : Bool) → (a && b) ≡ true → (a ≡ true) × (b ≡ true)
-and_both true b e = (refl, e)
-and_both false b e = absurd (false≢true e)
 
 front_more : (x : ℕ) (xs : List ℕ) (n : ℕ) (is : Bool) → is_digit x ≡ is → list_all is_digit (take n xs) ≡ true → list_all is_digit (take (cond (not (not is)) (suc n) 0) (x ∷ xs)) ≡ true
 front_more x xs n true e h = and_from (is_digit x) (list_all is_digit (take n xs)) e h
@@ -25,44 +18,27 @@ front_more x xs n false e h = refl
 
 pub digits_before : (xs : List ℕ) → list_all is_digit (take (position_or_len no_digit xs) xs) ≡ true
 digits_before [] = refl
-digits_before (x ∷ xs) =
-    subst (λ (n : ℕ). list_all is_digit (take (cond (not (not (is_digit x))) n 0) (x ∷ xs)) ≡ true) (one_more (position_or_len no_digit xs))
-    (front_more x xs (position_or_len no_digit xs) (is_digit x) refl (digits_before xs))
+digits_before (x ∷ xs) = rw one-add (front_more x xs (position_or_len no_digit xs) (is_digit x) refl (digits_before xs))
 
-after_more : (x : ℕ) (xs : List ℕ) (n : ℕ) (is : Bool) → is_digit x ≡ is → is_digit (get_or (drop n xs) 0 0) ≡ false → is_digit (get_or (drop (cond (not (not is)) (suc n) 0) (x ∷ xs)) 0 0) ≡ false
-after_more x xs n true e h = h
-after_more x xs n false e h = e
+not_not : (b : Bool) → not b ≡ true → b ≡ false
+not_not true e = absurd (false≢true e)
+not_not false e = refl
 
 pub no_digit_after : (xs : List ℕ) → is_digit (get_or (drop (position_or_len no_digit xs) xs) 0 0) ≡ false
-no_digit_after [] = refl
-no_digit_after (x ∷ xs) =
-    subst (λ (n : ℕ). is_digit (get_or (drop (cond (not (not (is_digit x))) n 0) (x ∷ xs)) 0 0) ≡ false) (one_more (position_or_len no_digit xs))
-    (after_more x xs (position_or_len no_digit xs) (is_digit x) refl (no_digit_after xs))
-
-not_both : (x : ℕ) → is_digit x ≡ true → is_digit x ≡ false → ⊥
-not_both x passes fails = false≢true (sym fails ∙ passes)
+no_digit_after xs = not_not (is_digit (get_or (drop (position_or_len no_digit xs) xs) 0 0)) (first_passes no_digit 0 xs refl)
 
 -- digits, and then no digit, are split in one way
 pub digits_once : (ds es us vs : List ℕ) → list_all is_digit ds ≡ true → list_all is_digit us ≡ true → is_digit (get_or es 0 0) ≡ false → is_digit (get_or vs 0 0) ≡ false
     → ds ++ es ≡ us ++ vs → (ds ≡ us) × (es ≡ vs)
 digits_once [] es [] vs h k n m e = (refl, e)
-digits_once [] es (u ∷ us) vs h k n m e =
-    absurd (not_both u (and_both (is_digit u) (list_all is_digit us) k).0 (subst (λ (b : ℕ). is_digit b ≡ false) (ap (λ (l : List ℕ). get_or l 0 0) e) n))
-digits_once (d ∷ ds) es [] vs h k n m e =
-    absurd (not_both d (and_both (is_digit d) (list_all is_digit ds) h).0 (subst (λ (b : ℕ). is_digit b ≡ false) (ap (λ (l : List ℕ). get_or l 0 0) (sym e)) m))
+digits_once [] es (u ∷ us) vs h k n m e = absurd (false≢true (sym (rw e at n) ∙ (and_parts (is_digit u) (list_all is_digit us) k).0))
+digits_once (d ∷ ds) es [] vs h k n m e = absurd (false≢true (sym (rw (← e) at m) ∙ (and_parts (is_digit d) (list_all is_digit ds) h).0))
 digits_once (d ∷ ds) es (u ∷ us) vs h k n m e =
-    let rest = digits_once ds es us vs (and_both (is_digit d) (list_all is_digit ds) h).1 (and_both (is_digit u) (list_all is_digit us) k).1 n m (ap (λ (l : List ℕ). drop 1 l) e) in
-    (ap (λ (b : ℕ). b ∷ ds) (ap (λ (l : List ℕ). get_or l 0 0) e) ∙ ap (λ (l : List ℕ). u ∷ l) rest.0, rest.1)
-
-not_colon : (x : ℕ) → is_digit x ≡ true → (x == 58) ≡ false
-not_colon x h = grind (arith, nat_tests)
+    let rest = digits_once ds es us vs (and_parts (is_digit d) (list_all is_digit ds) h).1 (and_parts (is_digit u) (list_all is_digit us) k).1 n m (cc) in
+    (cc, rest.1)
 
 pub no_colon : (ds : List ℕ) → list_all is_digit ds ≡ true → HasNo 58 ds
-no_colon [] h = tt
-no_colon (d ∷ ds) h = let both = and_both (is_digit d) (list_all is_digit ds) h in (not_colon d both.0, no_colon ds both.1)
-
-digits_of : (ds : List ℕ) (n : ℕ) → TellsNumber ds n → list_all is_digit ds ≡ true
-digits_of ds n t = t.are_digits
+no_colon ds h = lacks is_digit 58 ds refl h
 
 -- what stands before the colon, the digits after it, and what follows them
 pub record NamesAt (before after : List ℕ) (n : ℕ) (rec set : ℕ) (end : List ℕ) : Type 0 where
@@ -73,35 +49,28 @@ pub record NamesAt (before after : List ℕ) (n : ℕ) (rec set : ℕ) (end : Li
 pub names_at : (line before after : List ℕ) (n rec set : ℕ) (end : List ℕ) → HasNo 58 before → line ≡ before ++ 58 ∷ after → n ≡ position_or_len no_digit after
     → TellsNames line rec set end → NamesAt before after n rec set end
 names_at line before after n rec set end h e at t =
-    let whole = cut_once 58 before after t.rec_digits (t.set_digits ++ end) h (no_colon t.rec_digits (digits_of t.rec_digits rec t.is_rec)) (sym e ∙ t.line_is) in
-    let front : list_all is_digit (take n after) ≡ true = subst (λ (k : ℕ). list_all is_digit (take k after) ≡ true) (sym at) (digits_before after) in
-    let back : is_digit (get_or (drop n after) 0 0) ≡ false = subst (λ (k : ℕ). is_digit (get_or (drop k after) 0 0) ≡ false) (sym at) (no_digit_after after) in
-    let parts = digits_once (take n after) (drop n after) t.set_digits end front (digits_of t.set_digits set t.is_set) back t.undigited (take-append-drop n after ∙ whole.1) in
-    record {
-      is_rec = subst (λ (l : List ℕ). TellsNumber l rec) (sym whole.0) t.is_rec;
-      is_set = subst (λ (l : List ℕ). TellsNumber l set) (sym parts.0) t.is_set;
-      is_end = sym parts.1 ∙ sym (take_rest after n);
-    }
+    let whole = cut_once 58 before after t.rec_digits (t.set_digits ++ end) h (no_colon t.rec_digits t.is_rec.are_digits) (sym e ∙ t.line_is) in
+    let parts = digits_once (take n after) (drop n after) t.set_digits end (rw at (digits_before after)) t.is_set.are_digits
+    (rw at (no_digit_after after)) t.undigited (take-append-drop n after ∙ whole.1) in
+    record { is_rec = rw whole.0 t.is_rec; is_set = rw parts.0 t.is_set; is_end = sym parts.1 ∙ sym (take_rest after n) }
 
 pub has_names : (line before after : List ℕ) (n rec set : ℕ) → line ≡ before ++ 58 ∷ after → n ≡ position_or_len no_digit after
     → TellsNumber before rec → TellsNumber (take n after) set → TellsNames line rec set (take (length after - n) (drop n after))
-has_names line before after n rec set e at is_rec is_set =
-    let back : is_digit (get_or (drop n after) 0 0) ≡ false = subst (λ (k : ℕ). is_digit (get_or (drop k after) 0 0) ≡ false) (sym at) (no_digit_after after) in
-    record {
-      rec_digits = before;
-      set_digits = take n after;
-      is_rec = is_rec;
-      is_set = is_set;
-      undigited = subst (λ (l : List ℕ). is_digit (get_or l 0 0) ≡ false) (sym (take_rest after n)) back;
-      line_is = e ∙ ap (λ (l : List ℕ). before ++ 58 ∷ l) (sym (take-append-drop n after) ∙ ap (λ (l : List ℕ). take n after ++ l) (sym (take_rest after n)));
-    }
+has_names line before after n rec set e at is_rec is_set = record {
+  rec_digits = before;
+  set_digits = take n after;
+  is_rec = is_rec;
+  is_set = is_set;
+  undigited = rw (take_rest, at) (no_digit_after after);
+  line_is = e ∙ rw take_rest (ap (λ (l : List ℕ). before ++ 58 ∷ l) (sym (take-append-drop n after)));
+}
 
 -- a line has these names in one way
 pub names_once : (line : List ℕ) (rec set r s : ℕ) (end other : List ℕ) → TellsNames line rec set end → TellsNames line r s other → end ≡ other
 names_once line rec set r s end other t u =
     let whole = cut_once 58 t.rec_digits (t.set_digits ++ end) u.rec_digits (u.set_digits ++ other)
-    (no_colon t.rec_digits (digits_of t.rec_digits rec t.is_rec)) (no_colon u.rec_digits (digits_of u.rec_digits r u.is_rec)) (sym t.line_is ∙ u.line_is) in
-    (digits_once t.set_digits end u.set_digits other (digits_of t.set_digits set t.is_set) (digits_of u.set_digits s u.is_set) t.undigited u.undigited whole.1).1
+    (no_colon t.rec_digits t.is_rec.are_digits) (no_colon u.rec_digits u.is_rec.are_digits) (sym t.line_is ∙ u.line_is) in
+    (digits_once t.set_digits end u.set_digits other t.is_set.are_digits u.is_set.are_digits t.undigited u.undigited whole.1).1
 
 -- a line with no colon
 pub no_names : (line : List ℕ) (rec set : ℕ) (end : List ℕ) → HasNo 58 line → TellsNames line rec set end → ⊥

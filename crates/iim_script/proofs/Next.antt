@@ -1,14 +1,15 @@
--- The next line of a script.
-use Rattle.std.proofs.Common.{◌≡◌, ◌⊎◌, inl, inr, ℕ, ◌+◌, List, [], ◌∷◌, ◌++◌, append_assoc, append-nil, length, length-append, drop, get_or, refl, ap, sym, ◌∙◌, subst, arith}
+-- The next line of a script, and the first line of a text.
+use Rattle.std.proofs.Common.{◌≡◌, ◌⊎◌, inl, inr, ℕ, ◌+◌, List, [], ◌∷◌, ◌++◌, append_assoc, append-nil, length, length-append, refl, ap, sym, ◌∙◌, subst, arith, zero, suc, ◌≤◌, replicate}
 use Rattle.iim_script.specs.Format.Lines.{HasNo, EndsInReturn, EndsLine, NextLine, EndLines}
-use Rattle.iim_script.proofs.Cuts.{cut_once, has_no_octet, has_no_append}
+use Rattle.iim_script.proofs.Cuts.{cut_once, has_no_octet, has_no_append, lacks}
+use Rattle.wire_story.specs.Format.Texts.{IsLine, IsText, is_line_octet}
+use Rattle.iim_script.specs.Plain.{IsWithoutReturn}
 
 pub snoc_once : (xs ys : List ℕ) (b : ℕ) → xs ++ b ∷ [] ≡ ys ++ b ∷ [] → xs ≡ ys
 snoc_once [] [] b e = refl
 snoc_once [] (y ∷ ys) b e = absurd (omega (arith, ap length e, length-append ys (b ∷ [])))
 snoc_once (x ∷ xs) [] b e = absurd (omega (arith, ap length e, length-append xs (b ∷ [])))
-snoc_once (x ∷ xs) (y ∷ ys) b e =
-    ap (λ (n : ℕ). n ∷ xs) (ap (λ (l : List ℕ). get_or l 0 0) e) ∙ ap (λ (l : List ℕ). y ∷ l) (snoc_once xs ys b (ap (λ (l : List ℕ). drop 1 l) e))
+snoc_once (x ∷ xs) (y ∷ ys) b e = let rest = snoc_once xs ys b (cc) in cc
 
 -- what stands before the LF: the line, or the line and a CR
 record AtFeed (octets line after : List ℕ) : Type 0 where
@@ -18,18 +19,10 @@ record AtFeed (octets line after : List ℕ) : Type 0 where
   is_line : (before ≡ line ++ 13 ∷ []) ⊎ ((before ≡ line) × (EndsInReturn line → ⊥))
 
 at_feed_of : (octets line after ended : List ℕ) → EndsLine line ended → octets ≡ ended ++ after → AtFeed octets line after
-at_feed_of octets line after ended (h, inl e) parts = record {
-  before = line ++ 13 ∷ [];
-  none = has_no_append 10 line (13 ∷ []) h (refl, tt);
-  parts = parts ∙ (ap (λ (l : List ℕ). l ++ after) e ∙ (append_assoc line (13 ∷ 10 ∷ []) after ∙ sym (append_assoc line (13 ∷ []) (10 ∷ after))));
-  is_line = inl refl;
-}
-at_feed_of octets line after ended (h, inr (e, n)) parts = record {
-  before = line;
-  none = h;
-  parts = parts ∙ (ap (λ (l : List ℕ). l ++ after) e ∙ append_assoc line (10 ∷ []) after);
-  is_line = inr (refl, n);
-}
+at_feed_of octets line after ended (h, inl e) parts =
+    record { before = line ++ 13 ∷ []; none = has_no_append 10 line (13 ∷ []) h (refl, tt); parts = rw (parts, e) (simp append_assoc); is_line = inl refl }
+at_feed_of octets line after ended (h, inr (e, n)) parts =
+    record { before = line; none = h; parts = rw (parts, e) (simp append_assoc); is_line = inr (refl, n) }
 
 at_feed : (octets line after : List ℕ) → NextLine octets line after → AtFeed octets line after
 at_feed octets line after n = at_feed_of octets line after n.ended n.ends n.parts
@@ -63,3 +56,77 @@ lines_more (x ∷ lines) front line ended (first, rest, is, more, e) ends =
 
 pub count_more : (lines : List (List ℕ)) (line : List ℕ) → length (lines ++ line ∷ []) ≡ length lines + 1
 count_more lines line = length-append lines (line ∷ [])
+
+-- ---- a text
+
+pub no_feed : (line : List ℕ) → IsLine line → HasNo 10 line
+no_feed line h = lacks is_line_octet 10 line refl h
+
+pub no_return : (line front : List ℕ) → IsLine line → line ≡ front ++ 13 ∷ [] → ⊥
+no_return line front h e = has_no_octet 13 front [] (rw e at (lacks is_line_octet 13 line refl h))
+
+-- ---- the line without the CR of its end
+
+left_alone : (line octets front : List ℕ) → IsLine line → octets ≡ line → IsWithoutReturn octets front → front ≡ line
+left_alone line octets front is e (inl f) = absurd (no_return line front is (sym e ∙ f))
+left_alone line octets front is e (inr f) = sym f.0 ∙ e
+
+left_of_one : (line octets front : List ℕ) → octets ≡ line ++ 13 ∷ [] → IsWithoutReturn octets front → front ≡ line
+left_of_one line octets front e (inl f) = snoc_once front line 13 (sym f ∙ e)
+left_of_one line octets front e (inr f) = absurd (f.1 line e)
+
+pub line_left : (line : List ℕ) (n : ℕ) (ended first second : List ℕ) → IsLine line → n ≤ 2 → ended ≡ line ++ replicate n 13 → IsWithoutReturn ended first → IsWithoutReturn first second
+    → second ≡ line
+line_left line zero ended first second is few e a b = left_alone line first second is (left_alone line ended first is (e ∙ append-nil line) a) b
+line_left line (suc zero) ended first second is few e a b = left_alone line first second is (left_of_one line ended first e a) b
+line_left line (suc (suc zero)) ended first second is few e a b =
+    left_of_one line first second (left_of_one (line ++ 13 ∷ []) ended first (e ∙ sym (append_assoc line (13 ∷ []) (13 ∷ []))) a) b
+line_left line (suc (suc (suc n))) ended first second is few e a b = absurd (omega (arith, few))
+
+-- ---- the first line
+
+no_feeds : (n : ℕ) → HasNo 10 (replicate n 13)
+no_feeds zero = tt
+no_feeds (suc n) = (refl, no_feeds n)
+
+-- a line with no LF but the one after its CR
+record FirstEnd (text : List ℕ) (lines : List (List ℕ)) (line : List ℕ) : Type 0 where
+  returns : ℕ
+  few : returns ≤ 2
+  is : IsLine line
+  rest : List ℕ
+  parts : text ≡ (line ++ replicate returns 13) ++ 10 ∷ rest
+  more : IsText rest lines
+
+first_end : (text line : List ℕ) (next : List ℕ) (lines : List (List ℕ)) → IsText text (line ∷ next ∷ lines) → FirstEnd text (next ∷ lines) line
+first_end text line next lines (is, n, few, rest, e, more) = record {
+  returns = n;
+  few = few;
+  is = is;
+  rest = rest;
+  parts =
+      e
+      ∙ (ap (λ (l : List ℕ). line ++ l) (append_assoc (replicate n 13) (10 ∷ []) rest) ∙ sym (append_assoc line (replicate n 13) (10 ∷ rest)));
+  more = more;
+}
+
+pub split_more : (text ended after found : List ℕ) (lines : List (List ℕ)) → IsText text lines → HasNo 10 ended → text ≡ ended ++ 10 ∷ after
+    → ((line : List ℕ) (n : ℕ) → IsLine line → n ≤ 2 → ended ≡ line ++ replicate n 13 → found ≡ line)
+    → (rest : List (List ℕ)) × (lines ≡ found ∷ rest) × IsText after rest
+split_more text ended after found [] h none e cut = absurd h
+split_more text ended after found (line ∷ []) h none e cut =
+    absurd (has_no_octet 10 ended after (subst (λ (l : List ℕ). HasNo 10 l) (sym h.1 ∙ e) (no_feed line h.0)))
+split_more text ended after found (line ∷ next ∷ lines) h none e cut =
+    let f = first_end text line next lines h in
+    let same = cut_once 10 ended after (line ++ replicate f.returns 13) f.rest none (has_no_append 10 line (replicate f.returns 13) (no_feed line f.is) (no_feeds f.returns)) (sym e ∙ f.parts) in (
+      next ∷ lines,
+      ap (λ (l : List ℕ). l ∷ next ∷ lines) (sym (cut line f.returns f.is f.few same.0)),
+      subst (λ (l : List ℕ). IsText l (next ∷ lines)) (sym same.1) f.more,
+    )
+
+pub split_one : (text : List ℕ) (lines : List (List ℕ)) → IsText text lines → HasNo 10 text → lines ≡ text ∷ []
+split_one text [] h none = absurd h
+split_one text (line ∷ []) h none = ap (λ (l : List ℕ). l ∷ []) (sym h.1)
+split_one text (line ∷ next ∷ lines) h none =
+    let f = first_end text line next lines h in
+    absurd (has_no_octet 10 (line ++ replicate f.returns 13) f.rest (subst (λ (l : List ℕ). HasNo 10 l) f.parts none))

@@ -12,7 +12,10 @@ use Rattle.wire_story.specs.Joining.{lines_in}
 use Rattle.wire_story.specs.Format.Texts.{is_line_octet, IsLine, IsText}
 use Rattle.wire_story.proofs.Collected.{some_line, packed_len}
 use Rattle.iim_script.specs.Format.Lines.{HasNo, EndsLine, EndLines}
+use Rattle.iim_script.specs.Format.Printed.{PrintsStory}
 use Rattle.iim_script.specs.Format.Scripts.{IsStory}
+use Rattle.iim_script.proofs.Cuts.{lacks, ended}
+use Rattle.iim_script.proofs.Next.{no_feed}
 use Rattle.iim_script.specs.Plain.{is_plain, is_low, TellsText, IsWithoutFeed}
 
 -- ---- octets
@@ -46,20 +49,18 @@ line_octet b h e = or_left (is_line_octet b) (b == 10) h e
 
 -- each of the lines may stand in a text
 abbrev Each : List (List ℕ) → Type 0
-Each lines = IsTrue (list_all (list_all is_line_octet) lines)
+Each = AllByRecursion IsLine
 
 first_each : (x : ℕ) (lines : List (List ℕ)) → 0 < length lines → is_line_octet x ≡ true → Each lines → Each (onto_first x lines)
 first_each x [] some is h = absurd (omega (arith, some))
-first_each x (line ∷ lines) some is h =
-    let parts = and_parts (list_all is_line_octet line) (list_all (list_all is_line_octet) lines) h in
-    and_from (list_all is_line_octet (x ∷ line)) (list_all (list_all is_line_octet) lines) (and_from (is_line_octet x) (list_all is_line_octet line) is parts.0) parts.1
+first_each x (line ∷ lines) some is h = (and_from (is_line_octet x) (list_all is_line_octet line) is h.0, h.1)
 
 lines_each : (xs : List ℕ) → IsTrue (list_all is_plain xs) → Each (lines_in xs)
-lines_each [] h = refl
+lines_each [] h = (refl, tt)
 lines_each (x ∷ xs) h =
     let parts = and_parts (is_plain x) (list_all is_plain xs) h in
     elim (cases_Bool (x == 10)) [
-      | inl e ↦ subst Each (sym (slice_split-cons_yes (λ b. b == 10) x xs e)) (lines_each xs parts.1)
+      | inl e ↦ subst Each (sym (slice_split-cons_yes (λ b. b == 10) x xs e)) (refl, lines_each xs parts.1)
       | inr e ↦ subst Each (sym (slice_split-cons_no (λ b. b == 10) x xs e)) (first_each x (lines_in xs) (some_line xs) (line_octet x parts.0 e) (lines_each xs parts.1))
     ]
 
@@ -67,52 +68,22 @@ lines_each (x ∷ xs) h =
 
 joined_text : (lines : List (List ℕ)) → 0 < length lines → Each lines → IsText (join_with_byte 10 lines) lines
 joined_text [] some h = absurd (omega (arith, some))
-joined_text (line ∷ []) some h = ((and_parts (list_all is_line_octet line) true h).0, refl)
+joined_text (line ∷ []) some h = (h.0, refl)
 joined_text (line ∷ next ∷ lines) some h =
-    let parts = and_parts (list_all is_line_octet line) (list_all (list_all is_line_octet) (next ∷ lines)) h in
-    (parts.0, 0, omega arith, join_with_byte 10 (next ∷ lines), refl, joined_text (next ∷ lines) (omega arith) parts.1)
-
-all_texts : (lines : List (List ℕ)) → Each lines → AllByRecursion IsLine lines
-all_texts [] h = tt
-all_texts (line ∷ lines) h =
-    let parts = and_parts (list_all is_line_octet line) (list_all (list_all is_line_octet) lines) h in
-    (parts.0, all_texts lines parts.1)
+    (h.0, 0, omega arith, join_with_byte 10 (next ∷ lines), refl, joined_text (next ∷ lines) (omega arith) h.1)
 
 -- ---- their story
 
-no_octet : (b : ℕ) → is_line_octet b ≡ true → (b == 10) ≡ false
-no_octet b h = grind (arith, nat_tests)
-
-pub no_feed : (line : List ℕ) → IsLine line → HasNo 10 line
-no_feed [] h = tt
-no_feed (x ∷ xs) h =
-    let parts = and_parts (is_line_octet x) (list_all is_line_octet xs) h in
-    (no_octet x parts.0, no_feed xs parts.1)
-
-pub no_return : (line front : List ℕ) → IsLine line → line ≡ front ++ 13 ∷ [] → ⊥
-no_return line [] h e =
-    let false_is : false ≡ true = subst (λ (l : List ℕ). IsLine l) e h in
-    absurd cc
-no_return [] (x ∷ front) h e = absurd (omega (arith, ap length e))
-no_return (y ∷ line) (x ∷ front) h e = no_return line front (and_parts (is_line_octet y) (list_all is_line_octet line) h).1 (ap (λ (l : List ℕ). drop 1 l) e)
-
 ends_line : (line : List ℕ) → IsLine line → EndsLine line (line ++ 10 ∷ [])
-ends_line line is = (no_feed line is, inr (refl, λ r. no_return line r.0 is r.1))
+ends_line line is = ended line (no_feed line is) (lacks is_line_octet 13 line refl is)
 
 -- with an LF at the end
 all_ended : (lines : List (List ℕ)) → 0 < length lines → Each lines → EndLines lines (join_with_byte 10 lines ++ 10 ∷ [])
 all_ended [] some h = absurd (omega (arith, some))
-all_ended (line ∷ []) some h =
-    (line ++ 10 ∷ [], [], ends_line line (and_parts (list_all is_line_octet line) true h).0, refl, sym (append-nil (line ++ 10 ∷ [])))
+all_ended (line ∷ []) some h = (line ++ 10 ∷ [], [], ends_line line h.0, refl, sym (append-nil (line ++ 10 ∷ [])))
 all_ended (line ∷ next ∷ lines) some h =
-    let parts = and_parts (list_all is_line_octet line) (list_all (list_all is_line_octet) (next ∷ lines)) h in
-    let rest = join_with_byte 10 (next ∷ lines) in (
-      line ++ 10 ∷ [],
-      rest ++ 10 ∷ [],
-      ends_line line parts.0,
-      all_ended (next ∷ lines) (omega arith) parts.1,
-      append_assoc line (10 ∷ rest) (10 ∷ []) ∙ sym (append_assoc line (10 ∷ []) (rest ++ 10 ∷ [])),
-    )
+    let rest = join_with_byte 10 (next ∷ lines) in
+    (line ++ 10 ∷ [], rest ++ 10 ∷ [], ends_line line h.0, all_ended (next ∷ lines) (omega arith) h.1, simp append_assoc)
 
 -- The last of the lines is not ended.
 record Open (lines : List (List ℕ)) (text : List ℕ) : Type 0 where
@@ -126,27 +97,16 @@ record Open (lines : List (List ℕ)) (text : List ℕ) : Type 0 where
 
 last_open : (lines : List (List ℕ)) → 0 < length lines → Each lines → Open lines (join_with_byte 10 lines)
 last_open [] some h = absurd (omega (arith, some))
-last_open (line ∷ []) some h = record {
-  before = [];
-  last = line;
-  ended = [];
-  lines_are = refl;
-  lined = refl;
-  text_is = refl;
-  none = no_feed line (and_parts (list_all is_line_octet line) true h).0;
-}
+last_open (line ∷ []) some h = record { before = []; last = line; ended = []; lines_are = refl; lined = refl; text_is = refl; none = no_feed line h.0 }
 last_open (line ∷ next ∷ lines) some h =
-    let parts = and_parts (list_all is_line_octet line) (list_all (list_all is_line_octet) (next ∷ lines)) h in
-    let o = last_open (next ∷ lines) (omega arith) parts.1 in
+    let o = last_open (next ∷ lines) (omega arith) h.1 in
     record {
       before = line ∷ o.before;
       last = o.last;
       ended = (line ++ 10 ∷ []) ++ o.ended;
       lines_are = ap (λ (ls : List (List ℕ)). line ∷ ls) o.lines_are;
-      lined = (line ++ 10 ∷ [], o.ended, ends_line line parts.0, o.lined, refl);
-      text_is =
-          ap (λ (l : List ℕ). line ++ 10 ∷ l) o.text_is
-          ∙ (sym (append_assoc line (10 ∷ []) (o.ended ++ o.last)) ∙ sym (append_assoc (line ++ 10 ∷ []) o.ended o.last));
+      lined = (line ++ 10 ∷ [], o.ended, ends_line line h.0, o.lined, refl);
+      text_is = ap (λ (l : List ℕ). line ++ 10 ∷ l) o.text_is ∙ simp append_assoc;
       none = o.none;
     }
 
@@ -171,9 +131,16 @@ stands_alone (line ∷ lines) ended last text lined is not empty =
 
 -- ---- the whole
 
+-- what is printed of a story is one
+pub story_printed : (story : List ℕ) (lines : List (List ℕ)) → 0 < length lines → Each lines → PrintsStory story lines → IsStory story lines
+story_printed story lines some each (inl is) = (some, inl (rw is (all_ended lines some each)))
+story_printed story lines some each (inr (is, alone)) =
+    let o = last_open lines some each in
+    let alone_empty = λ (empty : o.last ≡ []). alone o.before (rw empty at o.lines_are) in
+    (some, inr (o.before, o.last, o.ended, o.lines_are, o.lined, is ∙ o.text_is, o.none, alone_empty))
+
 story_is : (story text : List ℕ) (lines : List (List ℕ)) → 0 < length lines → Each lines → text ≡ join_with_byte 10 lines → IsWithoutFeed story text → IsStory story lines
-story_is story text lines some each is (inl e) =
-    (some, inl (subst (λ (l : List ℕ). EndLines lines l) (ap (λ (l : List ℕ). l ++ 10 ∷ []) (sym is) ∙ sym e) (all_ended lines some each)))
+story_is story text lines some each is (inl e) = story_printed story lines some each (inl (rw is at e))
 story_is story text lines some each is (inr (e, not)) =
     let o = last_open lines some each in
     let parts : story ≡ o.ended ++ o.last = e ∙ (is ∙ o.text_is) in
@@ -188,7 +155,7 @@ tells_plain story text feeds len cut plain counted e =
     record {
       lines = lines;
       is_story = story_is story text lines (some_line text) each is cut;
-      texts = all_texts lines each;
+      texts = each;
       is_text = subst (λ (l : List ℕ). IsText l lines) (sym is) (joined_text lines (some_line text) each);
       len_is = e ∙ (ap (λ (n : ℕ). length text + n) counted ∙ sym (packed_len text));
     }

@@ -1,9 +1,9 @@
 -- What is printed tells what it is printed of, and ends in lines.
-use Rattle.std.proofs.Common.{◌≡◌, inl, inr, ℕ, ◌+◌, ◌/◌, ◌%◌, ◌<◌, ◌≤◌, ◌==◌, ◌&&◌, nat_le, nat_lt, Bool, true, false, cond, List, [], ◌∷◌, ◌++◌, append_assoc, append-nil, length, map, get_or, refl, ap, sym, ◌∙◌, subst, arith}
+use Rattle.std.proofs.Common.{◌≡◌, inl, inr, ℕ, ◌+◌, ◌/◌, ◌%◌, ◌<◌, ◌≤◌, ◌==◌, ◌&&◌, nat_le, nat_lt, Bool, true, false, cond, List, [], ◌∷◌, ◌++◌, append_assoc, length, map, get_or, refl, ap, sym, ◌∙◌, subst, arith}
 use Rattle.std.specs.Prelude.{decimal}
-use Rattle.std.specs.List.{AllByRecursion, list_all, flat_map, join_with_byte}
-use Rattle.std.proofs.lemmas.Bool.{false≢true, and_from, leb-true, le-leb}
-use Rattle.std.proofs.lemmas.Bool.Decides.{nat_tests, eqb_tells}
+use Rattle.std.specs.List.{AllByRecursion, list_all, flat_map}
+use Rattle.std.proofs.lemmas.Bool.{false≢true, and_from, and_parts, leb-true, le-leb}
+use Rattle.std.proofs.lemmas.Bool.Decides.{nat_tests}
 use Rattle.std.proofs.lemmas.Fmt.{decimal_nonempty, digits_decimal, digits_value-decimal, length-decimal-le}
 use Rattle.std.proofs.lemmas.Str.Parse.{IsDigitsTest, IsNumeralModel, numerals_by_fold}
 use Rattle.iim_dataset.specs.Format.Octets.{Octets, is_letter, is_digit}
@@ -11,15 +11,13 @@ use Rattle.iim_dataset.specs.Format.Datasets.{Dataset}
 use Rattle.wire_message.specs.Format.Fields.{Are, is_alphanumeric}
 use Rattle.wire_message.specs.Format.Fields as message
 use Rattle.wire_message.specs.Format.Messages.{Header, IsHeader}
-use Rattle.wire_story.specs.Format.Texts.{IsLine, is_line_octet}
 use Rattle.iim_script.specs.Format.Lines.{HasNo, EndsLine, EndLines}
 use Rattle.iim_script.specs.Format.Shown.{IsHexDigit, TellsOctet, TellsOctets, TellsLast}
 use Rattle.iim_script.specs.Format.Forms.{TellsNumber, TellsField, TellsHead, TellsTrailer, decimal_from, message_word, trailer_word, words_of, after_source, after_number, after_priority, after_category}
 use Rattle.iim_dataset.specs.Format.Shown.{hex_digit, escape, is_plain, shown_octet, shown, padding, dataset_name}
-use Rattle.iim_script.specs.Format.Printed.{after_space, field_line, message_line, trailer_line, PrintsStory}
-use Rattle.iim_script.specs.Format.Scripts.{TellFields, IsStory}
-use Rattle.iim_script.proofs.Cuts.{has_no_octet, has_no_append}
-use Rattle.iim_script.proofs.Names.{and_both}
+use Rattle.iim_script.specs.Format.Printed.{after_space, field_line, message_line, trailer_line}
+use Rattle.iim_script.specs.Format.Scripts.{TellFields}
+use Rattle.iim_script.proofs.Cuts.{has_no_append, lacks, ended}
 
 -- ---- octets
 
@@ -58,7 +56,8 @@ hex_least n true = omega arith
 hex_least n false = omega arith
 
 octet_lacks : (b x : ℕ) (plain : Bool) → is_plain x ≡ plain → b < 32 → HasNo b (cond plain (x ∷ []) (escape x))
-octet_lacks b x true e h = (other x b (let low = leb-true 32 x (and_both (nat_le 32 x) _ (and_both (nat_le 32 x && nat_le x 126) _ e).0).0 in omega (arith, low, h)), tt)
+octet_lacks b x true e h =
+    let low = leb-true 32 x (and_parts (nat_le 32 x) _ (and_parts (nat_le 32 x && nat_le x 126) _ e).0).0 in (other x b (omega (arith, low, h)), tt)
 octet_lacks b x false e h =
     let high = hex_least (x / 16) (nat_lt (x / 16) 10) in
     let low = hex_least (x % 16) (nat_lt (x % 16) 10) in
@@ -72,32 +71,17 @@ pub after_lacks : (b : ℕ) (xs : List ℕ) → b < 32 → HasNo b (after_space 
 after_lacks b [] h = tt
 after_lacks b (x ∷ xs) h = (other 32 b h, shown_lacks b (x ∷ xs) h)
 
--- the octets pass a test that one octet fails
-lacks_by : (test : ℕ → Bool) (b x : ℕ) → test b ≡ false → test x ≡ true → (x == b) ≡ false
-lacks_by test b x fails passes = elim (eqb_tells x b) [
-  | inl same ↦ absurd (false≢true (sym fails ∙ subst (λ (n : ℕ). test n ≡ true) same.1 passes))
-  | inr different ↦ different.0
-]
-
-pub lacks : (test : ℕ → Bool) (b : ℕ) (xs : List ℕ) → test b ≡ false → list_all test xs ≡ true → HasNo b xs
-lacks test b [] fails h = tt
-lacks test b (x ∷ xs) fails h = let both = and_both (test x) (list_all test xs) h in (lacks_by test b x fails both.0, lacks test b xs fails both.1)
-
 -- ---- lines
-
--- an LF ends a line that has none, and no CR
-pub ended : (line : List ℕ) → HasNo 10 line → HasNo 13 line → EndsLine line (line ++ 10 ∷ [])
-ended line h k = (h, inr (refl, λ returned. has_no_octet 13 returned.0 [] (subst (λ (l : List ℕ). HasNo 13 l) returned.1 k)))
 
 -- ---- numbers
 
 digit_bounds : (c : ℕ) → is_digit c ≡ true → (48 ≤ c) × (c ≤ 57)
-digit_bounds c h = let both = and_both (nat_le 48 c) (nat_le c 57) h in (leb-true 48 c both.0, leb-true c 57 both.1)
+digit_bounds c h = let both = and_parts (nat_le 48 c) (nat_le c 57) h in (leb-true 48 c both.0, leb-true c 57 both.1)
 
 digits_test : IsDigitsTest (λ ds. list_all is_digit ds ≡ true)
 digits_test = record {
   empty = refl;
-  parts = λ c cs h. let both = and_both (is_digit c) (list_all is_digit cs) h in (digit_bounds c both.0, both.1);
+  parts = λ c cs h. let both = and_parts (is_digit c) (list_all is_digit cs) h in (digit_bounds c both.0, both.1);
   more = λ c cs is h. and_from (is_digit c) (list_all is_digit cs) (and_from (nat_le 48 c) (nat_le c 57) (le-leb 48 c is.0) (le-leb c 57 is.1)) h;
 }
 
@@ -187,7 +171,7 @@ fields_told (d ∷ ds) h = (field_told d h.0, fields_told ds h.1)
 
 octets_by : (test : ℕ → Bool) (xs : List ℕ) → ((x : ℕ) → test x ≡ true → x < 256) → list_all test xs ≡ true → Octets xs
 octets_by test [] small h = tt
-octets_by test (x ∷ xs) small h = let both = and_both (test x) (list_all test xs) h in (small x both.0, octets_by test xs small both.1)
+octets_by test (x ∷ xs) small h = let both = and_parts (test x) (list_all test xs) h in (small x both.0, octets_by test xs small both.1)
 
 info_small : (x : ℕ) → message.is_info_octet x ≡ true → x < 256
 info_small x h = grind (arith, nat_tests)
@@ -258,64 +242,3 @@ trailer_ends trailer =
     ended (trailer_words trailer)
     (has_no_append 10 trailer_word (after_space trailer) (refl, (refl, (refl, (refl, (refl, (refl, (refl, tt))))))) (after_lacks 10 trailer (omega arith)))
     (has_no_append 13 trailer_word (after_space trailer) (refl, (refl, (refl, (refl, (refl, (refl, (refl, tt))))))) (after_lacks 13 trailer (omega arith)))
-
--- ---- the story
-
-line_ends : (line : List ℕ) → IsLine line → EndsLine line (line ++ 10 ∷ [])
-line_ends line h = ended line (lacks is_line_octet 10 line refl h) (lacks is_line_octet 13 line refl h)
-
--- the lines with an LF after each
-with_feeds : List (List ℕ) → List ℕ
-with_feeds [] = []
-with_feeds (line ∷ lines) = (line ++ 10 ∷ []) ++ with_feeds lines
-
-lines_end : (lines : List (List ℕ)) → AllByRecursion IsLine lines → EndLines lines (with_feeds lines)
-unfolding with_feeds
-lines_end [] h = refl
-lines_end (line ∷ lines) h = (line ++ 10 ∷ [], with_feeds lines, line_ends line h.0, lines_end lines h.1, refl)
-
-joined_before : (before : List (List ℕ)) (last : List ℕ) → join_with_byte 10 (before ++ last ∷ []) ≡ with_feeds before ++ last
-unfolding with_feeds
-joined_before [] last = refl
-joined_before (line ∷ []) last = sym (append_assoc (line ++ 10 ∷ []) [] last ∙ append_assoc line (10 ∷ []) last)
-joined_before (line ∷ next ∷ lines) last =
-    let later = joined_before (next ∷ lines) last in
-    ap (λ (l : List ℕ). line ++ (10 ∷ l)) later
-    ∙ sym (append_assoc (line ++ 10 ∷ []) (with_feeds (next ∷ lines)) last ∙ append_assoc line (10 ∷ []) (with_feeds (next ∷ lines) ++ last))
-
-joined_all : (lines : List (List ℕ)) → 0 < length lines → join_with_byte 10 lines ++ 10 ∷ [] ≡ with_feeds lines
-unfolding with_feeds
-joined_all [] some = absurd (omega (arith, some))
-joined_all (line ∷ []) some = sym (append-nil (line ++ 10 ∷ []))
-joined_all (line ∷ next ∷ lines) some =
-    append_assoc line (10 ∷ join_with_byte 10 (next ∷ lines)) (10 ∷ [])
-    ∙ (ap (λ (l : List ℕ). line ++ (10 ∷ l)) (joined_all (next ∷ lines) (omega arith)) ∙ sym (append_assoc line (10 ∷ []) (with_feeds (next ∷ lines))))
-
-split_last : (lines : List (List ℕ)) → 0 < length lines → (before : List (List ℕ)) × (last : List ℕ) × (lines ≡ before ++ last ∷ [])
-split_last [] some = absurd (omega (arith, some))
-split_last (line ∷ []) some = ([], line, refl)
-split_last (line ∷ next ∷ lines) some =
-    let (before, last, is) = split_last (next ∷ lines) (omega arith) in (line ∷ before, last, ap (λ (l : List (List ℕ)). line ∷ l) is)
-
-all_parts : (xs : List (List ℕ)) (last : List ℕ) → AllByRecursion IsLine (xs ++ last ∷ []) → AllByRecursion IsLine xs × IsLine last
-all_parts [] last h = (tt, h.0)
-all_parts (x ∷ xs) last h = let parts = all_parts xs last h.1 in ((h.0, parts.0), parts.1)
-
--- what is printed of a story is one
-pub story_printed : (octets : List ℕ) (lines : List (List ℕ)) → 0 < length lines → AllByRecursion IsLine lines → PrintsStory octets lines → IsStory octets lines
-story_printed octets lines some h (inl is) = (some, inl (subst (λ (l : List ℕ). EndLines lines l) (sym (is ∙ joined_all lines some)) (lines_end lines h)))
-story_printed octets lines some h (inr (is, alone)) =
-    let (before, last, parts) = split_last lines some in
-    let each = all_parts before last (subst (λ (l : List (List ℕ)). AllByRecursion IsLine l) parts h) in (
-      some,
-      inr (
-        before,
-        last,
-        with_feeds before,
-        parts,
-        lines_end before each.0,
-        is ∙ (ap (λ (l : List (List ℕ)). join_with_byte 10 l) parts ∙ joined_before before last),
-        lacks is_line_octet 10 last refl each.1,
-        λ empty. alone before (parts ∙ ap (λ (l : List ℕ). before ++ l ∷ []) empty),
-      ),
-    )

@@ -1,22 +1,61 @@
--- Scripts line by line: what each line leads to, and that lines lead to one thing.
-use Rattle.std.proofs.Common.{◌≡◌, ◌⊎◌, inl, inr, ℕ, ◌+◌, true, List, [], ◌∷◌, ◌++◌, append_assoc, append-nil, length, length-append, get_or, refl, ap, sym, ◌∙◌, subst, arith, Option, Some, None}
+-- Scripts line by line: what a line tells and leads to is one thing, and so is what lines lead to.
+use Rattle.std.proofs.Common.{◌≡◌, ℕ, List, ◌∷◌, ◌++◌, get_or, drop, refl, ap, sym, ◌∙◌, subst, arith, ◌⊎◌, inl, inr, ◌+◌, [], append_assoc, append-nil, length, length-append, None}
+use Rattle.std.specs.List.{position_or_len}
 use Rattle.iim_dataset.specs.Format.Datasets.{Dataset}
+use Rattle.iim_dataset.proofs.Spelled.{dataset_is}
+use Rattle.wire_message.specs.Format.Messages.{Header, IsTrailer}
+use Rattle.iim_script.specs.Format.Shown.{TellsLast}
+use Rattle.iim_script.specs.Format.Forms.{TellsNumber, TellsNames, TellsField, TellsHead, TellsTrailer, words_of, after_source, text_word}
+use Rattle.iim_script.proofs.Texts.{last_once}
+use Rattle.iim_script.proofs.Names.{no_digit, no_colon, NamesAt, names_at, names_once}
+use Rattle.iim_script.proofs.Heads.{words_of_header, last_ends, head_once}
+use Rattle.iim_script.proofs.Fronts.{field_digit, tells_no_head}
 use Rattle.iim_fields.specs.States.Builders.{add_fault, finish_fault}
 use Rattle.iim_fields.specs.declared.limits.Limits.{Limits}
-use Rattle.iim_fields.specs.declared.fault.FieldFault.{FieldFault}
 use Rattle.iim_fields.specs.declared.fault.FieldCause.{FieldCause}
-use Rattle.wire_message.specs.Format.Messages.{Header, IsTrailer}
 use Rattle.iim_script.specs.Format.Lines.{NextLine, EndLines}
-use Rattle.iim_script.specs.Format.Forms.{TellsField, TellsHead, TellsTrailer, text_word}
-use Rattle.iim_dataset.specs.Format.Octets.{is_digit}
 use Rattle.iim_script.specs.Format.Scripts.{TellFields, AreTaken, AreTrailer, IsFront}
-use Rattle.iim_script.specs.Format.Faults.{Stage, InFields, AfterMessage, AfterTrailer, HaveCome, Stands, HasNoForm, TellsBadField, EndsTooSoon, TellsBadTrailer, IsWrong, IsNextWrong}
+use Rattle.iim_script.specs.Format.Faults.{Stage, InFields, AfterMessage, AfterTrailer, HaveCome, Stands, TellsBadField, EndsTooSoon, IsWrong, IsNextWrong}
 use Rattle.iim_script.specs.declared.fault.ScriptCause.{ScriptCause}
 use Rattle.iim_script.specs.declared.fault.ScriptCause.TheVariants.{ScriptLine, ScriptTooLong, Field, BadTrailer, BadTextOctet, OutOfMemory}
-use Rattle.std.proofs.lemmas.Bool.{false≢true}
-use Rattle.iim_script.proofs.Fronts.{field_digit}
 use Rattle.iim_script.proofs.Next.{next_once, no_next}
-use Rattle.iim_script.proofs.Once.{field_once, one_head, trailer_once, field_no_head, text_no_trailer}
+
+-- ---- what a line tells is one thing
+
+number_once : (digits : List ℕ) (n m : ℕ) → TellsNumber digits n → TellsNumber digits m → n ≡ m
+number_once digits n m t u = t.value ∙ sym u.value
+
+-- the numbers, with the digits of another reading of the line
+at_others : (line : List ℕ) (rec set r s : ℕ) (end other : List ℕ) → TellsNames line rec set end → (u : TellsNames line r s other)
+    → NamesAt u.rec_digits (u.set_digits ++ other) (position_or_len no_digit (u.set_digits ++ other)) rec set end
+at_others line rec set r s end other t u =
+    names_at line u.rec_digits (u.set_digits ++ other) (position_or_len no_digit (u.set_digits ++ other)) rec set end (no_colon u.rec_digits u.is_rec.are_digits) u.line_is refl t
+
+pub field_once : (line : List ℕ) (d e : Dataset) → TellsField line d → TellsField line e → d ≡ e
+field_once line d e t u =
+    let a = at_others line d.rec d.set e.rec e.set t.end u.end t.names u.names in
+    let b = at_others line e.rec e.set e.rec e.set u.end u.end u.names u.names in
+    let same = names_once line d.rec d.set e.rec e.set t.end u.end t.names u.names in
+    dataset_is d e (number_once _ d.rec e.rec a.is_rec b.is_rec) (number_once _ d.set e.set a.is_set b.is_set)
+    (last_once u.end d.octets e.octets (subst (λ (l : List ℕ). TellsLast l d.octets) same t.is_end) u.is_end)
+
+pub one_head : (line : List ℕ) (head other : Header) → TellsHead line head → TellsHead line other → head ≡ other
+one_head line head other t u =
+    head_once line (other.source ++ (32 ∷ after_source (words_of other) u.end)) u.end other.info (words_of other) head u.line_is
+    (words_of_header other u.end u.is_header (last_ends u.end other.info u.is_end)) u.is_end t
+
+pub trailer_once : (line octets other : List ℕ) → TellsTrailer line octets → TellsTrailer line other → octets ≡ other
+trailer_once line octets other t u =
+    let same : t.end ≡ u.end = ap (λ (l : List ℕ). drop 7 l) (sym t.line_is ∙ u.line_is) in
+    last_once u.end octets other (subst (λ (l : List ℕ). TellsLast l octets) same t.is_end) u.is_end
+
+pub field_no_head : (line : List ℕ) (d : Dataset) (head : Header) → TellsField line d → TellsHead line head → ⊥
+field_no_head line d head t h = tells_no_head line (field_digit line d t) head h
+
+pub text_no_trailer : (octets : List ℕ) → TellsTrailer text_word octets → ⊥
+text_no_trailer octets t =
+    let second : 101 ≡ 114 = ap (λ (l : List ℕ). get_or l 1 0) t.line_is in
+    absurd (omega (arith, second))
 
 -- ---- lines at the front of octets
 
@@ -61,18 +100,11 @@ beyond_none line lines octets rest left e l =
     record { next = line; more = lines; others_are = refl; after = f.after; is_next = subst (λ (x : List ℕ). NextLine x line f.after) e f.is_next }
 
 beyond_more : (line other : List ℕ) (lines others : List (List ℕ)) (rest : List ℕ) → line ≡ other → Beyond lines others rest → Beyond (line ∷ lines) (other ∷ others) rest
-beyond_more line other lines others rest e b = record {
-  next = b.next;
-  more = b.more;
-  others_are = ap (λ (x : List ℕ). x ∷ others) (sym e) ∙ ap (λ (xs : List (List ℕ)). line ∷ xs) b.others_are;
-  after = b.after;
-  is_next = b.is_next;
-}
+beyond_more line other lines others rest e b = record { next = b.next; more = b.more; others_are = cc; after = b.after; is_next = b.is_next }
 
 compared_more : (line other : List ℕ) (lines others : List (List ℕ)) (rest left : List ℕ) → line ≡ other → Compared lines others rest left
     → Compared (line ∷ lines) (other ∷ others) rest left
-compared_more line other lines others rest left e (inl h) =
-    inl (ap (λ (x : List ℕ). x ∷ lines) e ∙ ap (λ (xs : List (List ℕ)). other ∷ xs) h.0, h.1)
+compared_more line other lines others rest left e (inl h) = inl (cc, h.1)
 compared_more line other lines others rest left e (inr (inl b)) = inr (inl (beyond_more line other lines others rest e b))
 compared_more line other lines others rest left e (inr (inr b)) = inr (inr (beyond_more other line others lines left (sym e) b))
 
@@ -109,14 +141,11 @@ no_text_trailer : (line trailer : List ℕ) → line ≡ text_word → TellsTrai
 no_text_trailer line trailer e t = text_no_trailer trailer (subst (λ (l : List ℕ). TellsTrailer l trailer) e t)
 
 leads_once : (limits : Limits) (place : Place) (line : List ℕ) (next other : Place) → Leads limits place line next → Leads limits place line other → next ≡ other
-leads_once limits (At (InFields ds)) line next other (inl (d, t, a, e)) (inl (c, u, b, f)) =
-    e ∙ (ap (λ (x : Dataset). At (InFields (ds ++ x ∷ []))) (field_once line d c t u) ∙ sym f)
+leads_once limits (At (InFields ds)) line next other (inl (d, t, a, e)) (inl (c, u, b, f)) = cc (field_once line d c t u)
 leads_once limits (At (InFields ds)) line next other (inl (d, t, a, e)) (inr (head, u, f)) = absurd (field_no_head line d head t u)
 leads_once limits (At (InFields ds)) line next other (inr (head, t, e)) (inl (d, u, a, f)) = absurd (field_no_head line d head u t)
-leads_once limits (At (InFields ds)) line next other (inr (head, t, e)) (inr (h, u, f)) =
-    e ∙ (ap (λ (x : Header). At (AfterMessage ds x)) (one_head line head h t u) ∙ sym f)
-leads_once limits (At (AfterMessage ds head)) line next other (inl (x, t, a, e)) (inl (y, u, b, f)) =
-    e ∙ (ap (λ (l : List ℕ). At (AfterTrailer ds head l)) (trailer_once line x y t u) ∙ sym f)
+leads_once limits (At (InFields ds)) line next other (inr (head, t, e)) (inr (h, u, f)) = cc (one_head line head h t u)
+leads_once limits (At (AfterMessage ds head)) line next other (inl (x, t, a, e)) (inl (y, u, b, f)) = cc (trailer_once line x y t u)
 leads_once limits (At (AfterMessage ds head)) line next other (inl (x, t, a, e)) (inr (is, b, f)) = absurd (no_text_trailer line x is t)
 leads_once limits (At (AfterMessage ds head)) line next other (inr (is, a, e)) (inl (y, u, b, f)) = absurd (no_text_trailer line y is u)
 leads_once limits (At (AfterMessage ds head)) line next other (inr (is, a, e)) (inr (js, b, f)) = e ∙ sym f
@@ -212,10 +241,9 @@ head_path limits fields message ds head told taken t =
 
 come_path : (limits : Limits) (lines : List (List ℕ)) (stage : Stage) → HaveCome limits lines stage → Path limits start lines (At stage)
 come_path limits lines (InFields ds) come = fields_path limits [] lines ds come.told come.taken
-come_path limits lines (AfterMessage ds head) (fields, message, are, t, e) =
-    subst (λ (ls : List (List ℕ)). Path limits start ls (At (AfterMessage ds head))) (sym e) (head_path limits fields message ds head are.told are.taken t)
+come_path limits lines (AfterMessage ds head) (fields, message, are, t, e) = rw e (head_path limits fields message ds head are.told are.taken t)
 come_path limits lines (AfterTrailer ds head trailer) (fields, message, line, are, t, u, is, e) =
-    subst (λ (ls : List (List ℕ)). Path limits start ls (At (AfterTrailer ds head trailer))) (append_assoc fields (message ∷ []) (line ∷ []) ∙ sym e)
+    rw (e, ← append_assoc fields (message ∷ []) (line ∷ []))
     (path_on limits start (fields ++ message ∷ []) (line ∷ []) (At (AfterMessage ds head)) (At (AfterTrailer ds head trailer))
     (head_path limits fields message ds head are.told are.taken t) (At (AfterTrailer ds head trailer), inl (trailer, u, is, refl), refl))
 
@@ -251,125 +279,49 @@ front_run limits octets front story ds head trailer text_line e f =
 
 -- ---- what is wrong leads nowhere, and is wrong for one cause
 
-wrong_in_fields : (limits : Limits) (ds : List Dataset) (line : List ℕ) (cause : ScriptCause) → IsWrong limits (InFields ds) line cause
-    → ((cause ≡ ScriptLine) × HasNoForm (InFields ds) line) ⊎ ((why : FieldCause) × (cause ≡ Field why) × TellsBadField limits ds line why)
-wrong_in_fields limits ds line ScriptLine w = inl (refl, w)
-wrong_in_fields limits ds line ScriptTooLong w = absurd w
-wrong_in_fields limits ds line (Field why) w = inr (why, refl, w)
-wrong_in_fields limits ds line BadTrailer w = absurd w
-wrong_in_fields limits ds line BadTextOctet w = absurd w
-wrong_in_fields limits ds line OutOfMemory w = absurd w
-
-wrong_after_message : (limits : Limits) (ds : List Dataset) (head : Header) (line : List ℕ) (cause : ScriptCause) → IsWrong limits (AfterMessage ds head) line cause
-    → ((cause ≡ ScriptLine) × HasNoForm (AfterMessage ds head) line)
-    ⊎ (((why : FieldCause) × (cause ≡ Field why) × EndsTooSoon ds line why) ⊎ ((cause ≡ BadTrailer) × TellsBadTrailer line))
-wrong_after_message limits ds head line ScriptLine w = inl (refl, w)
-wrong_after_message limits ds head line ScriptTooLong w = absurd w
-wrong_after_message limits ds head line (Field why) w = inr (inl (why, refl, w))
-wrong_after_message limits ds head line BadTrailer w = inr (inr (refl, w))
-wrong_after_message limits ds head line BadTextOctet w = absurd w
-wrong_after_message limits ds head line OutOfMemory w = absurd w
-
-wrong_after_trailer : (limits : Limits) (ds : List Dataset) (head : Header) (trailer line : List ℕ) (cause : ScriptCause) → IsWrong limits (AfterTrailer ds head trailer) line cause
-    → ((cause ≡ ScriptLine) × (line ≡ text_word → ⊥)) ⊎ ((why : FieldCause) × (cause ≡ Field why) × EndsTooSoon ds line why)
-wrong_after_trailer limits ds head trailer line ScriptLine w = inl (refl, w)
-wrong_after_trailer limits ds head trailer line ScriptTooLong w = absurd w
-wrong_after_trailer limits ds head trailer line (Field why) w = inr (why, refl, w)
-wrong_after_trailer limits ds head trailer line BadTrailer w = absurd w
-wrong_after_trailer limits ds head trailer line BadTextOctet w = absurd w
-wrong_after_trailer limits ds head trailer line OutOfMemory w = absurd w
-
-some_is_none : {A : Type 0} (x : A) (r : Option A) → r ≡ Some x → r ≡ None → ⊥
-some_is_none x r e f = let clash : Some x ≡ None = sym e ∙ f in cc
-
-some_once : {A : Type 0} (x y : A) (r : Option A) → r ≡ Some x → r ≡ Some y → x ≡ y
-some_once x y r e f = let same : Some x ≡ Some y = sym e ∙ f in cc
-
-no_text_field : (line : List ℕ) (d : Dataset) → line ≡ text_word → TellsField line d → ⊥
-no_text_field line d e t =
-    let digit : is_digit (get_or line 0 0) ≡ true = field_digit line d t in
-    false≢true (ap (λ (l : List ℕ). is_digit (get_or l 0 0)) (sym e) ∙ digit)
-
 bad_field_once : (limits : Limits) (ds : List Dataset) (line : List ℕ) (a b : FieldCause) → TellsBadField limits ds line a → TellsBadField limits ds line b → a ≡ b
-bad_field_once limits ds line a b (d, f, t, e, p) (c, g, u, h, q) =
-    let same : d ≡ c = field_once line d c t u in
-    let one : f ≡ g = some_once f g (add_fault limits ds c) (subst (λ (x : Dataset). add_fault limits ds x ≡ Some f) same e) h in
-    p ∙ (ap (λ (x : FieldFault). x.cause) one ∙ sym q)
+bad_field_once limits ds line a b (d, f, t, e, p) (c, g, u, h, q) = let refused = rw (field_once line d c t u) at e in cc
 
 too_soon_once : (ds : List Dataset) (line : List ℕ) (a b : FieldCause) → EndsTooSoon ds line a → EndsTooSoon ds line b → a ≡ b
-too_soon_once ds line a b (f, is, e, p) (g, js, h, q) = p ∙ (ap (λ (x : FieldFault). x.cause) (some_once f g (finish_fault ds) e h) ∙ sym q)
+too_soon_once ds line a b (f, is, e, p) (g, js, h, q) = cc
 
 wrong_once : (limits : Limits) (stage : Stage) (line : List ℕ) (a b : ScriptCause) → IsWrong limits stage line a → IsWrong limits stage line b → a ≡ b
-wrong_once limits (InFields ds) line a b w v =
-    elim (wrong_in_fields limits ds line a w) [
-      | inl x ↦ elim (wrong_in_fields limits ds line b v) [
-        | inl y ↦ x.0 ∙ sym y.0
-        | inr y ↦ absurd (x.1.0 y.2.0 y.2.2)
-      ]
-      | inr x ↦ elim (wrong_in_fields limits ds line b v) [
-        | inl y ↦ absurd (y.1.0 x.2.0 x.2.2)
-        | inr y ↦ x.1 ∙ (ap (λ (c : FieldCause). Field c) (bad_field_once limits ds line x.0 y.0 x.2 y.2) ∙ sym y.1)
-      ]
-    ]
-wrong_once limits (AfterMessage ds head) line a b w v =
-    elim (wrong_after_message limits ds head line a w) [
-      | inl x ↦ elim (wrong_after_message limits ds head line b v) [
-        | inl y ↦ x.0 ∙ sym y.0
-        | inr y ↦ elim y [ inl z ↦ absurd (x.1.1 z.2.1) | inr z ↦ absurd (x.1.0 z.1.0 z.1.1) ]
-      ]
-      | inr x ↦ elim x [
-        | inl u ↦ elim (wrong_after_message limits ds head line b v) [
-          | inl y ↦ absurd (y.1.1 u.2.1)
-          | inr y ↦ elim y [
-            | inl z ↦ u.1 ∙ (ap (λ (c : FieldCause). Field c) (too_soon_once ds line u.0 z.0 u.2 z.2) ∙ sym z.1)
-            | inr z ↦ absurd (no_text_trailer line z.1.0 u.2.1 z.1.1)
-          ]
-        ]
-        | inr u ↦ elim (wrong_after_message limits ds head line b v) [
-          | inl y ↦ absurd (y.1.0 u.1.0 u.1.1)
-          | inr y ↦ elim y [ inl z ↦ absurd (no_text_trailer line u.1.0 z.2.1 u.1.1) | inr z ↦ u.0 ∙ sym z.0 ]
-        ]
-      ]
-    ]
-wrong_once limits (AfterTrailer ds head trailer) line a b w v =
-    elim (wrong_after_trailer limits ds head trailer line a w) [
-      | inl x ↦ elim (wrong_after_trailer limits ds head trailer line b v) [
-        | inl y ↦ x.0 ∙ sym y.0
-        | inr y ↦ absurd (x.1 y.2.1)
-      ]
-      | inr x ↦ elim (wrong_after_trailer limits ds head trailer line b v) [
-        | inl y ↦ absurd (y.1 x.2.1)
-        | inr y ↦ x.1 ∙ (ap (λ (c : FieldCause). Field c) (too_soon_once ds line x.0 y.0 x.2 y.2) ∙ sym y.1)
-      ]
-    ]
-
-wrong_field_stuck : (limits : Limits) (ds : List Dataset) (line : List ℕ) (why : FieldCause) (next : Place) → TellsBadField limits ds line why → Leads limits (At (InFields ds)) line next → ⊥
-wrong_field_stuck limits ds line why next (d, f, t, e, p) (inl (c, u, h, is)) =
-    some_is_none f (add_fault limits ds c) (subst (λ (x : Dataset). add_fault limits ds x ≡ Some f) (field_once line d c t u) e) h
-wrong_field_stuck limits ds line why next (d, f, t, e, p) (inr (head, u, is)) = field_no_head line d head t u
+wrong_once limits stage line ScriptLine ScriptLine w v = refl
+wrong_once limits (InFields ds) line ScriptLine (Field b) w v = absurd (w.0 v.0 v.2)
+wrong_once limits (InFields ds) line (Field a) ScriptLine w v = absurd (v.0 w.0 w.2)
+wrong_once limits (InFields ds) line (Field a) (Field b) w v = ap (λ (c : FieldCause). Field c) (bad_field_once limits ds line a b w v)
+wrong_once limits (AfterMessage ds head) line ScriptLine (Field b) w v = absurd (w.1 v.1)
+wrong_once limits (AfterMessage ds head) line ScriptLine BadTrailer w v = absurd (w.0 v.0 v.1)
+wrong_once limits (AfterMessage ds head) line (Field a) ScriptLine w v = absurd (v.1 w.1)
+wrong_once limits (AfterMessage ds head) line (Field a) (Field b) w v = ap (λ (c : FieldCause). Field c) (too_soon_once ds line a b w v)
+wrong_once limits (AfterMessage ds head) line (Field a) BadTrailer w v = absurd (no_text_trailer line v.0 w.1 v.1)
+wrong_once limits (AfterMessage ds head) line BadTrailer ScriptLine w v = absurd (v.0 w.0 w.1)
+wrong_once limits (AfterMessage ds head) line BadTrailer (Field b) w v = absurd (no_text_trailer line w.0 v.1 w.1)
+wrong_once limits (AfterMessage ds head) line BadTrailer BadTrailer w v = refl
+wrong_once limits (AfterTrailer ds head trailer) line ScriptLine (Field b) w v = absurd (w v.1)
+wrong_once limits (AfterTrailer ds head trailer) line (Field a) ScriptLine w v = absurd (v w.1)
+wrong_once limits (AfterTrailer ds head trailer) line (Field a) (Field b) w v = ap (λ (c : FieldCause). Field c) (too_soon_once ds line a b w v)
+wrong_once limits (InFields ds) line a BadTrailer w v = absurd v
+wrong_once limits (AfterTrailer ds head trailer) line a BadTrailer w v = absurd v
+wrong_once limits stage line a ScriptTooLong w v = absurd v
+wrong_once limits stage line a BadTextOctet w v = absurd v
+wrong_once limits stage line a OutOfMemory w v = absurd v
+wrong_once limits stage line a b w v = absurd w
 
 wrong_stuck : (limits : Limits) (stage : Stage) (line : List ℕ) (cause : ScriptCause) (next : Place) → IsWrong limits stage line cause → Leads limits (At stage) line next → ⊥
-wrong_stuck limits (InFields ds) line cause next w leads =
-    elim (wrong_in_fields limits ds line cause w) [
-      | inl x ↦ elim leads [ inl y ↦ x.1.0 y.0 y.1 | inr y ↦ x.1.1 y.0 y.1 ]
-      | inr x ↦ wrong_field_stuck limits ds line x.0 next x.2 leads
-    ]
-wrong_stuck limits (AfterMessage ds head) line cause next w leads =
-    elim (wrong_after_message limits ds head line cause w) [
-      | inl x ↦ elim leads [ inl y ↦ x.1.0 y.0 y.1 | inr y ↦ x.1.1 y.0 ]
-      | inr x ↦ elim x [
-        | inl u ↦ elim leads [ inl y ↦ no_text_trailer line y.0 u.2.1 y.1 | inr y ↦ some_is_none u.2.0 (finish_fault ds) u.2.2 y.1 ]
-        | inr u ↦ elim leads [
-          | inl y ↦ u.1.2 (subst (λ (l : List ℕ). IsTrailer l) (trailer_once line y.0 u.1.0 y.1 u.1.1) y.2)
-          | inr y ↦ no_text_trailer line u.1.0 y.0 u.1.1
-        ]
-      ]
-    ]
-wrong_stuck limits (AfterTrailer ds head trailer) line cause next w leads =
-    elim (wrong_after_trailer limits ds head trailer line cause w) [
-      | inl x ↦ x.1 leads.0
-      | inr x ↦ some_is_none x.2.0 (finish_fault ds) x.2.2 leads.1
-    ]
+wrong_stuck limits (InFields ds) line ScriptLine next w (inl y) = w.0 y.0 y.1
+wrong_stuck limits (InFields ds) line ScriptLine next w (inr y) = w.1 y.0 y.1
+wrong_stuck limits (InFields ds) line (Field why) next (d, f, t, e, p) (inl (c, u, h, is)) = let refused = rw (field_once line d c t u) at e in absurd cc
+wrong_stuck limits (InFields ds) line (Field why) next w (inr y) = field_no_head line w.0 y.0 w.2 y.1
+wrong_stuck limits (AfterMessage ds head) line ScriptLine next w (inl y) = w.0 y.0 y.1
+wrong_stuck limits (AfterMessage ds head) line ScriptLine next w (inr y) = w.1 y.0
+wrong_stuck limits (AfterMessage ds head) line (Field why) next w (inl y) = no_text_trailer line y.0 w.1 y.1
+wrong_stuck limits (AfterMessage ds head) line (Field why) next w (inr y) = absurd cc
+wrong_stuck limits (AfterMessage ds head) line BadTrailer next w (inl y) = w.2 (subst IsTrailer (trailer_once line y.0 w.0 y.1 w.1) y.2)
+wrong_stuck limits (AfterMessage ds head) line BadTrailer next w (inr y) = no_text_trailer line w.0 y.0 w.1
+wrong_stuck limits (AfterTrailer ds head trailer) line ScriptLine next w y = w y.0
+wrong_stuck limits (AfterTrailer ds head trailer) line (Field why) next w y = absurd cc
+wrong_stuck limits stage line cause next w y = absurd w
 
 pub next_wrong_stuck : (limits : Limits) (stage : Stage) (rest : List ℕ) (cause : ScriptCause) → IsNextWrong limits stage rest cause → Onward limits (At stage) rest → ⊥
 next_wrong_stuck limits stage rest cause (inl (none, is)) (line, after, next, n, leads) = no_next rest line after none n

@@ -2,6 +2,7 @@
 use Rattle.std.proofs.Common.{◌≡◌, ◌⊎◌, inl, inr, ℕ, ◌+◌, ◌<◌, ◌≤◌, List, [], ◌∷◌, ◌++◌, append-nil, length, refl, ap, sym, ◌∙◌, subst, arith}
 use Rattle.std.specs.List.{AllByRecursion}
 use Rattle.iim_dataset.specs.Format.Datasets.{Dataset}
+use Rattle.iim_dataset.proofs.Each.{all_front}
 use Rattle.iim_fields.specs.declared.limits.Limits.{Limits}
 use Rattle.wire_message.specs.Format.Messages.{Header}
 use Rattle.wire_story.specs.Format.Texts.{IsLine}
@@ -10,9 +11,9 @@ use Rattle.iim_script.specs.Format.Scripts.{IsStory, IsScript, max_script}
 use Rattle.iim_script.specs.Format.Faults.{IsBadStory, IsNextWrong, IsFrontFault, IsStoryFault, IsScriptFault}
 use Rattle.iim_script.specs.Laws.Scripts.{IsOneScript}
 use Rattle.iim_script.specs.declared.fault.ScriptCause.{ScriptCause}
-use Rattle.iim_script.specs.declared.fault.ScriptCause.TheVariants.{ScriptLine, ScriptTooLong, Field, BadTrailer, BadTextOctet, OutOfMemory}
+use Rattle.iim_script.specs.declared.fault.ScriptCause.TheVariants.{ScriptTooLong, BadTextOctet, OutOfMemory}
 use Rattle.iim_script.proofs.Next.{next_once, no_next}
-use Rattle.iim_script.proofs.Runs.{Lined, Beyond, Compared, compared, Place, At, InStory, Run, Onward, runs_once, stands_run, front_run, next_wrong_stuck, next_wrong_once}
+use Rattle.iim_script.proofs.Runs.{Lined, Beyond, Compared, compared, Place, At, InStory, Run, Onward, AreOne, runs_once, stands_run, front_run, next_wrong_stuck, next_wrong_once}
 
 -- ---- stories
 
@@ -91,10 +92,6 @@ good_beyond before others rest line b is texts =
     subst IsLine (line_there rest line b.next b.after b.is_next is)
     (among before b.next b.more (subst (λ (ls : List (List ℕ)). AllByRecursion IsLine ls) b.others_are texts))
 
-front_all : (xs ys : List (List ℕ)) → AllByRecursion IsLine (xs ++ ys) → AllByRecursion IsLine xs
-front_all [] ys h = tt
-front_all (x ∷ xs) ys h = (h.0, front_all xs ys h.1)
-
 -- what is left of a story may stand in a text, where its lines may
 good_rest : (lines done : List (List ℕ)) (rest : List ℕ) → LinesAre lines done rest → AllByRecursion IsLine lines → IsLine rest
 good_rest lines done rest (inl h) texts = subst IsLine (sym h.0) refl
@@ -102,7 +99,7 @@ good_rest lines done rest (inr h) texts = among done rest [] (subst (λ (ls : Li
 
 good_done : (lines done : List (List ℕ)) (rest : List ℕ) → LinesAre lines done rest → AllByRecursion IsLine lines → AllByRecursion IsLine done
 good_done lines done rest (inl h) texts = subst (λ (ls : List (List ℕ)). AllByRecursion IsLine ls) h.1 texts
-good_done lines done rest (inr h) texts = front_all done (rest ∷ []) (subst (λ (ls : List (List ℕ)). AllByRecursion IsLine ls) h.0 texts)
+good_done lines done rest (inr h) texts = all_front IsLine done (rest ∷ []) (subst (λ (ls : List (List ℕ)). AllByRecursion IsLine ls) h.0 texts)
 
 -- the line there, where no LF is left
 last_there : (rest line : List ℕ) → HasNo 10 rest → IsThere rest line → line ≡ rest
@@ -151,7 +148,7 @@ Ends limits (InStory ds head trailer) rest count number cause = IsBadStory rest 
 
 ends_stuck : (limits : Limits) (place : Place) (rest : List ℕ) (count number : ℕ) (cause : ScriptCause) → Ends limits place rest count number cause → Onward limits place rest → ⊥
 ends_stuck limits (At stage) rest count number cause e on = next_wrong_stuck limits stage rest cause e.0 on
-ends_stuck limits (InStory ds head trailer) rest count number cause e (line, after, next, n, leads) = absurd leads
+ends_stuck limits (InStory ds head trailer) rest count number cause e on = on.4
 
 ends_once : (limits : Limits) (place : Place) (rest : List ℕ) (count n m : ℕ) (a b : ScriptCause) → Ends limits place rest count n a → Ends limits place rest count m b → (n ≡ m) × (a ≡ b)
 ends_once limits (At stage) rest count n m a b e f = (e.1 ∙ sym f.1, next_wrong_once limits stage rest a b e.0 f.0)
@@ -183,14 +180,16 @@ story_fails limits octets number f = record {
   ends = (f.is_bad, refl);
 }
 
+-- of octets that end at two places, which are one
+ends_on : (limits : Limits) (place other : Place) (rest left : List ℕ) (n m number : ℕ) (cause : ScriptCause) → AreOne place other rest left n m
+    → Ends limits place rest n number cause → Ends limits other left m number cause
+ends_on limits place other rest left n m number cause one e = rw (← one.place_is, ← one.rest_is, ← one.count_is) e
+
 fails_once : (limits : Limits) (octets : List ℕ) (n m : ℕ) (a b : ScriptCause) → Fails limits octets n a → Fails limits octets m b → (n ≡ m) × (a ≡ b)
 fails_once limits octets n m a b f g =
     let one = runs_once limits octets f.place g.place f.rest g.rest f.count g.count f.run g.run
     (ends_stuck limits f.place f.rest f.count n a f.ends) (ends_stuck limits g.place g.rest g.count m b g.ends) in
-    ends_once limits g.place g.rest g.count n m a b
-    (subst (λ (p : Place). Ends limits p g.rest g.count n a) one.place_is
-    (subst (λ (r : List ℕ). Ends limits f.place r g.count n a) one.rest_is
-    (subst (λ (k : ℕ). Ends limits f.place f.rest k n a) one.count_is f.ends))) g.ends
+    ends_once limits g.place g.rest g.count n m a b (ends_on limits f.place g.place f.rest g.rest f.count g.count n a one f.ends) g.ends
 
 -- ---- scripts
 
@@ -198,28 +197,22 @@ script_run : (limits : Limits) (octets : List ℕ) (fields : List Dataset) (head
     → (s : IsScript limits octets fields head trailer lines text_line) → Run limits octets (InStory fields head trailer) s.story text_line
 script_run limits octets fields head trailer lines text_line s = front_run limits octets s.front s.story fields head trailer text_line s.parts s.is_front
 
-in_story_stuck : (limits : Limits) (ds : List Dataset) (head : Header) (trailer rest : List ℕ) → Onward limits (InStory ds head trailer) rest → ⊥
-in_story_stuck limits ds head trailer rest (line, after, next, n, leads) = absurd leads
-
 script_no_fails : (limits : Limits) (octets : List ℕ) (fields : List Dataset) (head : Header) (trailer : List ℕ) (lines : List (List ℕ)) (text_line number : ℕ) (cause : ScriptCause)
     → IsScript limits octets fields head trailer lines text_line → Fails limits octets number cause → ⊥
 script_no_fails limits octets fields head trailer lines text_line number cause s f =
     let run = script_run limits octets fields head trailer lines text_line s in
     let place : Place = InStory fields head trailer in
     let one = runs_once limits octets f.place place f.rest s.story f.count text_line f.run run
-    (ends_stuck limits f.place f.rest f.count number cause f.ends) (in_story_stuck limits fields head trailer s.story) in
-    let ends : Ends limits place s.story text_line number cause =
-    subst (λ (p : Place). Ends limits p s.story text_line number cause) one.place_is
-    (subst (λ (r : List ℕ). Ends limits f.place r text_line number cause) one.rest_is
-    (subst (λ (k : ℕ). Ends limits f.place f.rest k number cause) one.count_is f.ends)) in
-    story_no_fault s.story lines text_line number s.is_story s.texts ends.0
+    (ends_stuck limits f.place f.rest f.count number cause f.ends) (λ on. on.4) in
+    story_no_fault s.story lines text_line number s.is_story s.texts
+    (ends_on limits f.place place f.rest s.story f.count text_line number cause one f.ends).0
 
 pub scripts_once : (limits : Limits) (octets : List ℕ) (fields others : List Dataset) (head other : Header) (trailer end : List ℕ) (lines more : List (List ℕ)) (n m : ℕ)
     → IsScript limits octets fields head trailer lines n → IsScript limits octets others other end more m → IsOneScript fields others head other trailer end lines more n m
 scripts_once limits octets fields others head other trailer end lines more n m s k =
     let one = runs_once limits octets (InStory fields head trailer) (InStory others other end) s.story k.story n m
     (script_run limits octets fields head trailer lines n s) (script_run limits octets others other end more m k)
-    (in_story_stuck limits fields head trailer s.story) (in_story_stuck limits others other end k.story) in
+    (λ on. on.4) (λ on. on.4) in
     let place : InStory fields head trailer ≡ InStory others other end = one.place_is in
     record {
       same_fields = cc;
@@ -232,43 +225,38 @@ scripts_once limits octets fields others head other trailer end lines more n m s
 -- ---- faults
 
 -- too many octets, no memory, or a line that is wrong
-fault_kind : (limits : Limits) (octets : List ℕ) (number : ℕ) (cause : ScriptCause) → IsScriptFault limits octets number cause
-    → (cause ≡ OutOfMemory) ⊎ (((cause ≡ ScriptTooLong) × (max_script < length octets) × (number ≡ 0)) ⊎ ((length octets ≤ max_script) × Fails limits octets number cause))
-fault_kind limits octets number ScriptLine f = inr (inr (f.0, front_fails limits octets number ScriptLine f.1))
-fault_kind limits octets number ScriptTooLong f = inr (inl (refl, f.0, f.1))
-fault_kind limits octets number (Field cause) f = inr (inr (f.0, front_fails limits octets number (Field cause) f.1))
-fault_kind limits octets number BadTrailer f = inr (inr (f.0, front_fails limits octets number BadTrailer f.1))
-fault_kind limits octets number BadTextOctet f = inr (inr (f.0, story_fails limits octets number f.1))
-fault_kind limits octets number OutOfMemory f = inl refl
+abbrev Kind : Limits → List ℕ → ℕ → ScriptCause → Type 0
+Kind limits octets number cause =
+    (cause ≡ OutOfMemory)
+    ⊎ (((cause ≡ ScriptTooLong) × (max_script < length octets) × (number ≡ 0)) ⊎ ((length octets ≤ max_script) × Fails limits octets number cause))
+
+kind : (limits : Limits) (octets : List ℕ) (number : ℕ) (cause : ScriptCause) → IsScriptFault limits octets number cause → Kind limits octets number cause
+kind limits octets number ScriptTooLong f = inr (inl (refl, f.0, f.1))
+kind limits octets number BadTextOctet f = inr (inr (f.0, story_fails limits octets number f.1))
+kind limits octets number OutOfMemory f = inl refl
+kind limits octets number cause f = inr (inr (f.0, front_fails limits octets number cause f.1))
+
+no_kind : (limits : Limits) (octets : List ℕ) (number : ℕ) (cause : ScriptCause) → length octets ≤ max_script → (Fails limits octets number cause → ⊥)
+    → Kind limits octets number cause → cause ≡ OutOfMemory
+no_kind limits octets number cause short none (inl memory) = memory
+no_kind limits octets number cause short none (inr (inl long)) = absurd (omega (arith, short, long.1))
+no_kind limits octets number cause short none (inr (inr fails)) = absurd (none fails.1)
+
+kinds_meet : (limits : Limits) (octets : List ℕ) (n m : ℕ) (a b : ScriptCause) → Kind limits octets n a → Kind limits octets m b
+    → (a ≡ OutOfMemory) ⊎ ((b ≡ OutOfMemory) ⊎ ((n ≡ m) × (a ≡ b)))
+kinds_meet limits octets n m a b (inl memory) k = inl memory
+kinds_meet limits octets n m a b k (inl memory) = inr (inl memory)
+kinds_meet limits octets n m a b (inr (inl x)) (inr (inl y)) = inr (inr (cc, cc))
+kinds_meet limits octets n m a b (inr (inl x)) (inr (inr y)) = absurd (omega (arith, x.1, y.0))
+kinds_meet limits octets n m a b (inr (inr x)) (inr (inl y)) = absurd (omega (arith, x.0, y.1))
+kinds_meet limits octets n m a b (inr (inr x)) (inr (inr y)) = inr (inr (fails_once limits octets n m a b x.1 y.1))
 
 pub script_no_fault : (limits : Limits) (octets : List ℕ) (fields : List Dataset) (head : Header) (trailer : List ℕ) (lines : List (List ℕ)) (text_line number : ℕ) (cause : ScriptCause)
     → IsScript limits octets fields head trailer lines text_line → IsScriptFault limits octets number cause → cause ≡ OutOfMemory
 script_no_fault limits octets fields head trailer lines text_line number cause s f =
-    let short = s.short in
-    elim (fault_kind limits octets number cause f) [
-      | inl memory ↦ memory
-      | inr other ↦ elim other [
-        | inl long ↦ absurd (omega (arith, short, long.1))
-        | inr fails ↦ absurd (script_no_fails limits octets fields head trailer lines text_line number cause s fails.1)
-      ]
-    ]
+    no_kind limits octets number cause s.short (script_no_fails limits octets fields head trailer lines text_line number cause s)
+    (kind limits octets number cause f)
 
 pub faults_once : (limits : Limits) (octets : List ℕ) (n m : ℕ) (a b : ScriptCause) → IsScriptFault limits octets n a → IsScriptFault limits octets m b
     → (a ≡ OutOfMemory) ⊎ ((b ≡ OutOfMemory) ⊎ ((n ≡ m) × (a ≡ b)))
-faults_once limits octets n m a b f g =
-    elim (fault_kind limits octets n a f) [
-      | inl memory ↦ inl memory
-      | inr x ↦ elim (fault_kind limits octets m b g) [
-        | inl memory ↦ inr (inl memory)
-        | inr y ↦ elim x [
-          | inl long ↦ elim y [
-            | inl other ↦ inr (inr (long.2 ∙ sym other.2, long.0 ∙ sym other.0))
-            | inr short ↦ absurd (omega (arith, long.1, short.0))
-          ]
-          | inr short ↦ elim y [
-            | inl long ↦ absurd (omega (arith, long.1, short.0))
-            | inr other ↦ inr (inr (fails_once limits octets n m a b short.1 other.1))
-          ]
-        ]
-      ]
-    ]
+faults_once limits octets n m a b f g = kinds_meet limits octets n m a b (kind limits octets n a f) (kind limits octets m b g)

@@ -1,5 +1,5 @@
 -- The lines of a story, one after another.
-use Rattle.std.proofs.Common.{◌≡◌, ◌⊎◌, inl, inr, ℕ, ◌+◌, ◌<◌, ◌≤◌, List, [], ◌∷◌, ◌++◌, append_assoc, append-nil, length, length-append, take, refl, ap, sym, ◌∙◌, subst, arith, Option, Some, None, IfSome, IfNone, Bor}
+use Rattle.std.proofs.Common.{◌≡◌, ◌⊎◌, inl, inr, ℕ, ◌+◌, ◌<◌, List, [], ◌∷◌, ◌++◌, append_assoc, append-nil, length, length-append, take, refl, ap, sym, ◌∙◌, subst, arith, Option, Some, None, IfSome, IfNone, Bor}
 use Rattle.std.specs.List.{AllByRecursion}
 use Rattle.std.proofs.Math.Seq.{take-append_seam}
 use Rattle.iim_dataset.proofs.Each.{all_append}
@@ -24,10 +24,6 @@ pub record StoryStands (story : List ℕ) (before : ℕ) (rest : List ℕ) (coun
   pub text : (left : List ℕ) (lines : List (List ℕ)) → IsText left lines → IsText (front ++ left) (done ++ lines)
   pub len_is : (lines : List (List ℕ)) → 0 < length lines → length (packed_text (done ++ lines)) ≡ len + length (packed_text lines)
 
-pub story_start : (story : List ℕ) (before : ℕ) → StoryStands story before story before 0
-story_start story before =
-    record { done = []; front = []; lined = refl; parts = refl; texts = tt; count_is = omega arith; more = λ none. refl; text = λ left lines h. h; len_is = λ lines some. omega arith }
-
 some_left : (after : List ℕ) (done : List (List ℕ)) → 0 < length after → after ≡ [] → done ≡ []
 some_left after done some e = absurd (omega (arith, some, ap length e))
 
@@ -43,15 +39,10 @@ len_more : (line : List ℕ) (lines : List (List ℕ)) → 0 < length lines → 
 len_more line [] some = absurd (omega (arith, some))
 len_more line (next ∷ lines) some = omega (arith, length-append line (13 ∷ 10 ∷ packed_text (next ∷ lines)))
 
--- a line with its end is longer than the line
-pub ended_long : (line ended : List ℕ) → EndsLine line ended → length line < length ended
-ended_long line ended (none, inl e) = omega (arith, ap length e, length-append line (13 ∷ 10 ∷ []))
-ended_long line ended (none, inr e) = omega (arith, ap length e.0, length-append line (10 ∷ []))
-
-pub story_step : (story rest line after : List ℕ) (before count next len longer : ℕ) → StoryStands story before rest count len → NextLine rest line after
+pub story_step : {story rest line after : List ℕ} {before count next len longer : ℕ} → StoryStands story before rest count len → NextLine rest line after
     → 0 < length after → IsLine line → next ≡ count + 1 → longer ≡ len + (length line + 2)
     → StoryStands story before after next longer
-story_step story rest line after before count next len longer s n some is e f = record {
+story_step {line = line} {after = after} s n some is e f = record {
   done = s.done ++ line ∷ [];
   front = s.front ++ n.ended;
   lined = lines_more s.done s.front line n.ended s.lined n.ends;
@@ -104,18 +95,13 @@ last_begins : (rest line : List ℕ) → IsLastLine rest line → (end : List �
 last_begins rest line (inl n) = begins_ended rest line n.ended [] n.ends n.parts
 last_begins rest line (inr (none, is)) = ([], sym is ∙ sym (append-nil line))
 
-pub last_within : (rest line : List ℕ) → IsLastLine rest line → length line ≤ length rest
-last_within rest line h =
-    let b = last_begins rest line h in
-    omega (arith, ap length b.1, length-append line b.0)
-
 take_parts : (front line end : List ℕ) (n : ℕ) → n ≡ length front + length line → take n (front ++ (line ++ end)) ≡ front ++ line
 take_parts front line end n e =
     ap (take n) (sym (append_assoc front line end)) ∙ (ap (λ (k : ℕ). take k ((front ++ line) ++ end)) (e ∙ sym (length-append front line)) ∙ take-append_seam (front ++ line) end)
 
-pub story_ends : (story rest line text : List ℕ) (before count len whole at : ℕ) → StoryStands story before rest count len → IsLastLine rest line → IsLine line
-    → text ≡ take at story → at + length rest ≡ length story + length line → whole ≡ len + length line → TellsText story text whole
-story_ends story rest line text before count len whole at s last is cut place f =
+pub story_ends : {story rest line text : List ℕ} {before count len whole : ℕ} (at : ℕ) → StoryStands story before rest count len → IsLastLine rest line
+    → IsLine line → text ≡ take at story → at + length rest ≡ length story + length line → whole ≡ len + length line → TellsText story text whole
+story_ends {story} {rest} {line} {text} {before} {count} {len} {whole} at s last is cut place f =
     let b = last_begins rest line last in
     let begins : story ≡ s.front ++ (line ++ b.0) = s.parts ∙ ap (λ (l : List ℕ). s.front ++ l) b.1 in
     let at_is : at ≡ length s.front + length line = omega (arith, place, ap length s.parts, length-append s.front rest) in
@@ -134,10 +120,10 @@ next_or_last rest line (Some after) h k = inl (after.now, h)
 next_or_last rest line None h (inl n) = inl ([], n)
 next_or_last rest line None h (inr last) = inr last
 
-pub story_refused : (story rest line : List ℕ) (after : Option (Bor (List ℕ))) (before count number len : ℕ)
+pub story_refused : {story rest : List ℕ} (line : List ℕ) (after : Option (Bor (List ℕ))) {before count number len : ℕ}
     → StoryStands story before rest count len → IfSome after (λ r. NextLine rest line r.now) → IfNone after (IsLastLine rest line) → (IsLine line → ⊥)
     → number ≡ count + 1 → RefusesStory story before number BadTextOctet
-story_refused story rest line after before count number len s h k bad e = record {
+story_refused {rest = rest} line after s h k bad e = record {
   before = s.done;
   line = line;
   has_line = record { front = s.front; rest = rest; lined = s.lined; parts = s.parts; is_next = next_or_last rest line after h k };

@@ -1,6 +1,6 @@
 -- Octets as text.
-use Rattle.std.proofs.Common.{◌≡◌, inl, inr, ℕ, ◌+◌, ◌-◌, ◌<◌, ◌≤◌, List, [], ◌∷◌, ◌++◌, append_assoc, length, take, drop, get_or, refl, ap, sym, ◌∙◌, subst, arith}
-use Rattle.std.proofs.lemmas.List.{take_rest, append-nil, nil_from_length}
+use Rattle.std.proofs.Common.{◌≡◌, ◌≢◌, ◌⊎◌, inl, inr, ℕ, ◌-◌, ◌<◌, ◌≤◌, List, [], ◌∷◌, ◌++◌, append_assoc, length, take, drop, get_or, refl, ap, sym, ◌∙◌, subst, arith}
+use Rattle.std.proofs.lemmas.List.{take_rest, append-nil}
 use Rattle.iim_script.specs.Format.Shown.{IsHexDigit, IsOfDigits, BeginsWith, TellsOctets, TellsLast}
 
 -- the first octet, and the others
@@ -27,34 +27,30 @@ escape_begins after octet some x digits =
       ap (λ (l : List ℕ). 92 ∷ l) (three_and_rest after some ∙ ap (λ (n : ℕ). n ∷ high ∷ low ∷ rest) x),
     )
 
+-- where a text begins: with the octet itself, which is no backslash; or with an escape
+abbrev Begun : List ℕ → ℕ → List ℕ → Type 0
+Begun text octet rest = ((octet ≢ 92) × (text ≡ octet ∷ rest)) ⊎ ((high : ℕ) × (low : ℕ) × (text ≡ 92 ∷ 120 ∷ high ∷ low ∷ rest) × IsOfDigits high low octet)
+
+begun : (text rest : List ℕ) (octet : ℕ) → BeginsWith text octet rest → Begun text octet rest
+begun text rest octet (piece, inl (other, is), e) = inl (other, rw is at e)
+begun text rest octet (piece, inr (high, low, is, digits), e) = inr (high, low, rw is at e, digits)
+
+escaped : (after rest : List ℕ) (octet : ℕ) → Begun (92 ∷ after) octet rest
+    → (3 ≤ length after) × (get_or after 0 0 ≡ 120) × IsOfDigits (get_or after 1 0) (get_or after 2 0) octet
+escaped after rest octet (inl (other, e)) = absurd (other (cc))
+escaped after rest octet (inr (high, low, e, digits)) = let whole : after ≡ 120 ∷ high ∷ low ∷ rest = cc in rw whole (omega arith, refl, digits)
+
 -- what begins with a backslash and an octet begins with an escape
 pub escape_at : (after rest : List ℕ) (octet : ℕ) → BeginsWith (92 ∷ after) octet rest
     → (3 ≤ length after) × (get_or after 0 0 ≡ 120) × IsOfDigits (get_or after 1 0) (get_or after 2 0) octet
-escape_at after rest octet (piece, inl (other, is), e) = absurd (other (sym (ap (λ (l : List ℕ). get_or l 0 0) (e ∙ ap (λ (l : List ℕ). l ++ rest) is))))
-escape_at after rest octet (piece, inr (high, low, is, digits), e) =
-    let whole : after ≡ 120 ∷ high ∷ low ∷ rest = ap (λ (l : List ℕ). drop 1 l) (e ∙ ap (λ (l : List ℕ). l ++ rest) is) in
-    let len : length after ≡ 3 + length rest = ap length whole ∙ omega arith in (
-      omega (arith, len),
-      ap (λ (l : List ℕ). get_or l 0 0) whole,
-      subst (λ (n : ℕ). IsOfDigits n (get_or after 2 0) octet) (sym (ap (λ (l : List ℕ). get_or l 1 0) whole))
-          (subst (λ (n : ℕ). IsOfDigits high n octet) (sym (ap (λ (l : List ℕ). get_or l 2 0) whole)) digits),
-    )
+escape_at after rest octet h = escaped after rest octet (begun (92 ∷ after) rest octet h)
 
 pub empty_begins : (rest : List ℕ) (octet : ℕ) → BeginsWith [] octet rest → ⊥
-empty_begins rest octet (piece, inl (other, is), e) = absurd (omega (arith, ap length (e ∙ ap (λ (l : List ℕ). l ++ rest) is)))
-empty_begins rest octet (piece, inr (high, low, is, digits), e) = absurd (omega (arith, ap length (e ∙ ap (λ (l : List ℕ). l ++ rest) is)))
+empty_begins rest octet h = elim (begun [] rest octet h) [ inl b ↦ cc | inr b ↦ cc ]
 
 -- a digit has one value
 pub digit_once : (d v w : ℕ) → IsHexDigit d v → IsHexDigit d w → v ≡ w
-digit_once d v w (inl a) (inl b) = omega (arith, a.2, b.2)
-digit_once d v w (inl a) (inr (inl b)) = absurd (omega (arith, a.1, b.0))
-digit_once d v w (inl a) (inr (inr b)) = absurd (omega (arith, a.1, b.0))
-digit_once d v w (inr (inl a)) (inl b) = absurd (omega (arith, a.0, b.1))
-digit_once d v w (inr (inl a)) (inr (inl b)) = omega (arith, a.2, b.2)
-digit_once d v w (inr (inl a)) (inr (inr b)) = absurd (omega (arith, a.1, b.0))
-digit_once d v w (inr (inr a)) (inl b) = absurd (omega (arith, a.0, b.1))
-digit_once d v w (inr (inr a)) (inr (inl b)) = absurd (omega (arith, a.0, b.1))
-digit_once d v w (inr (inr a)) (inr (inr b)) = omega (arith, a.2, b.2)
+digit_once d v w h k = grind arith
 
 pub octet_once : (high low a b : ℕ) → IsOfDigits high low a → IsOfDigits high low b → a ≡ b
 octet_once high low a b (h, l, is_h, is_l, e) (k, m, is_k, is_m, f) =
@@ -62,30 +58,23 @@ octet_once high low a b (h, l, is_h, is_l, e) (k, m, is_k, is_m, f) =
     let same_low = digit_once low l m is_l is_m in
     omega (arith, same_high, same_low, e, f)
 
+begun_once : (text rest more : List ℕ) (a b : ℕ) → Begun text a rest → Begun text b more → (a ≡ b) × (rest ≡ more)
+begun_once text rest more a b (inl (n, e)) (inl (m, f)) = (cc, cc)
+begun_once text rest more a b (inl (n, e)) (inr (high, low, f, digits)) = absurd (n (cc))
+begun_once text rest more a b (inr (high, low, e, digits)) (inl (m, f)) = absurd (m (cc))
+begun_once text rest more a b (inr (high, low, e, digits)) (inr (h, l, f, others)) =
+    let same_high : h ≡ high = cc in
+    let same_low : l ≡ low = cc in
+    (octet_once high low a b digits (rw (same_high, same_low) at others), cc)
+
 -- a text begins in one way
 pub begins_once : (text rest more : List ℕ) (a b : ℕ) → BeginsWith text a rest → BeginsWith text b more → (a ≡ b) × (rest ≡ more)
-begins_once text rest more a b (p, inl (n, is), e) (q, inl (m, js), f) =
-    let same : a ∷ rest ≡ b ∷ more = sym (e ∙ ap (λ (l : List ℕ). l ++ rest) is) ∙ (f ∙ ap (λ (l : List ℕ). l ++ more) js) in
-    (ap (λ (l : List ℕ). get_or l 0 0) same, ap (λ (l : List ℕ). drop 1 l) same)
-begins_once text rest more a b (p, inl (n, is), e) (q, inr (high, low, js, digits), f) =
-    absurd (n (ap (λ (l : List ℕ). get_or l 0 0) (sym (e ∙ ap (λ (l : List ℕ). l ++ rest) is) ∙ (f ∙ ap (λ (l : List ℕ). l ++ more) js))))
-begins_once text rest more a b (p, inr (high, low, is, digits), e) (q, inl (m, js), f) =
-    absurd (m (ap (λ (l : List ℕ). get_or l 0 0) (sym (f ∙ ap (λ (l : List ℕ). l ++ more) js) ∙ (e ∙ ap (λ (l : List ℕ). l ++ rest) is))))
-begins_once text rest more a b (p, inr (high, low, is, digits), e) (q, inr (h, l, js, others), f) =
-    let same : 92 ∷ 120 ∷ high ∷ low ∷ rest ≡ 92 ∷ 120 ∷ h ∷ l ∷ more = sym (e ∙ ap (λ (xs : List ℕ). xs ++ rest) is) ∙ (f ∙ ap (λ (xs : List ℕ). xs ++ more) js) in (
-      octet_once high low a b digits
-          (subst (λ (n : ℕ). IsOfDigits n low b) (sym (ap (λ (xs : List ℕ). get_or xs 2 0) same))
-          (subst (λ (n : ℕ). IsOfDigits h n b) (sym (ap (λ (xs : List ℕ). get_or xs 3 0) same)) others)),
-      ap (λ (xs : List ℕ). drop 4 xs) same,
-    )
+begins_once text rest more a b h k = begun_once text rest more a b (begun text rest a h) (begun text more b k)
 
 -- What is told of a text so far, with what is left of it: it leads to what the whole text tells, and to nothing else.
 pub record Onto (text octets rest : List ℕ) : Type 0 where
   pub leads : (ys : List ℕ) → TellsOctets rest ys → TellsOctets text (octets ++ ys)
   pub only : (all : List ℕ) → TellsOctets text all → (ys : List ℕ) × (all ≡ octets ++ ys) × TellsOctets rest ys
-
-pub onto_start : (text : List ℕ) → Onto text [] text
-onto_start text = record { leads = λ ys h. h; only = λ all h. (all, refl, h) }
 
 none_left : (rest : List ℕ) (octet : ℕ) (more : List ℕ) → BeginsWith rest octet more → rest ≡ [] → ⊥
 none_left rest octet more h e = empty_begins more octet (subst (λ (l : List ℕ). BeginsWith l octet more) e h)
@@ -122,20 +111,6 @@ pub no_last : (end text : List ℕ) → end ≡ 32 ∷ text → ((octets : List 
 no_last end text e none [] told = absurd (omega (arith, ap length (sym e ∙ told)))
 no_last end text e none (octet ∷ octets) (other, is, told) =
     none (octet ∷ octets) (subst (λ (l : List ℕ). TellsOctets l (octet ∷ octets)) (ap (λ (l : List ℕ). drop 1 l) (sym is ∙ e)) told)
-
-pub some_last : (end text octets : List ℕ) → end ≡ 32 ∷ text → 0 < length text → TellsOctets text octets → TellsLast end octets
-some_last end text [] e some told = absurd (omega (arith, some, ap length told))
-some_last end text (octet ∷ octets) e some told = (text, e, told)
-
--- SP alone, or what SP does not begin
-pub space_alone : (end text : List ℕ) → end ≡ 32 ∷ text → length text ≡ 0 → (octets : List ℕ) → TellsLast end octets → ⊥
-space_alone end text e none [] told = absurd (omega (arith, ap length (sym e ∙ told)))
-space_alone end text e none (octet ∷ octets) (other, is, (more, begins, told)) =
-    none_left text octet more (subst (λ (l : List ℕ). BeginsWith l octet more) (ap (λ (l : List ℕ). drop 1 l) (sym is ∙ e)) begins) (nil_from_length text none)
-
-pub no_space : (end : List ℕ) → (get_or end 0 0 ≡ 32 → ⊥) → (0 < length end) → (octets : List ℕ) → TellsLast end octets → ⊥
-no_space end n some [] told = absurd (omega (arith, some, ap length told))
-no_space end n some (octet ∷ octets) (text, is, told) = n (ap (λ (l : List ℕ). get_or l 0 0) is)
 
 -- a text tells one thing
 pub tells_once : (text xs ys : List ℕ) → TellsOctets text xs → TellsOctets text ys → xs ≡ ys

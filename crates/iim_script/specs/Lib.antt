@@ -3,7 +3,6 @@ pub mod Format
 -- What holds of these: statements, each the contract of a law.
 pub mod Laws
 -- What only proofs and private clauses cite.
-pub mod Adding
 pub mod Plain
 pub mod Steps
 pub mod ThreeDigits

@@ -1,13 +1,13 @@
 -- What the parts of the reader answer, each of what is left after the lines before it.
-use Rattle.std.specs.Prelude.{◌≡◌, ℕ, ◌+◌, ◌⊎◌, List, [], Some}
+use Rattle.std.specs.Prelude.{◌≡◌, ℕ, ◌+◌, ◌⊎◌, List, [], ◌∷◌, ◌++◌, Some, None}
 use Rattle.iim_dataset.specs.Format.Characters.{lf}
 use Rattle.iim_dataset.specs.Format.Datasets.{Dataset}
-use Rattle.iim_fields.specs.States.Builders.{finish_fault}
+use Rattle.iim_fields.specs.States.Builders.{Building, add_fault, finish_fault}
 use Rattle.iim_fields.specs.declared.limits.Limits.{Limits}
 use Rattle.iim_fields.specs.declared.fault.FieldFault.{FieldFault}
 use Rattle.wire_message.specs.Format.Messages.{IsTrailer}
 use Rattle.iim_script.specs.Format.Lines.{HasNo, NextLine}
-use Rattle.iim_script.specs.Format.Forms.{TellsTrailer, text_word}
+use Rattle.iim_script.specs.Format.Forms.{TellsField, TellsTrailer, text_word}
 use Rattle.iim_script.specs.Format.Faults.{IsFrontFault, IsBadStory, TellsNoHead, TellsNoTrailer, TellsBadTrailer}
 use Rattle.iim_script.specs.declared.fault.ScriptCause.{ScriptCause}
 use Rattle.iim_script.specs.declared.fault.ScriptCause.TheVariants.{ScriptLine, Field, BadTrailer, BadTextOctet, OutOfMemory}
@@ -28,6 +28,21 @@ LacksNext said rest = HasNo lf rest ⊎ ((after : List ℕ) × NextIs said rest 
 -- The next line, where an LF ends it, is as said.
 abbrev pub NextMustBe : (List ℕ → Type 0) → List ℕ → Type 0
 NextMustBe said rest = (line after : List ℕ) → NextLine rest line after → said line
+
+-- The line tells a dataset, which the builder takes.
+pub record AddsField (line : List ℕ) (old new : Building) : Type 0 where
+  pub dataset : Dataset
+  pub told : TellsField line dataset
+  pub taken : add_fault old.limits old.fields dataset ≡ None
+  pub limits : new.limits ≡ old.limits
+  pub fields : new.fields ≡ old.fields ++ dataset ∷ []
+
+-- The line tells no dataset; or the builder takes it not, for this cause.
+abbrev pub RefusesLine : List ℕ → Building → ScriptCause → Type 0
+RefusesLine line old ScriptLine = (d : Dataset) → TellsField line d → ⊥
+RefusesLine line old (Field cause) = (d : Dataset) × (fault : FieldFault) × TellsField line d × (add_fault old.limits old.fields d ≡ Some fault) × (cause ≡ fault.cause)
+RefusesLine line old OutOfMemory = Unit {0}
+RefusesLine line old _ = ⊥
 
 -- A line of the fields is the first that is wrong.
 abbrev pub RefusesFields : Limits → List ℕ → ℕ → ScriptCause → Type 0

@@ -4,7 +4,7 @@ ghost use Rattle.std.specs.Prelude.{◌≡◌, not, ℕ, List, IfErr, OnOk, OnEr
 ghost use Rattle.std.specs.List.{position_or_len};
 ghost use Rattle.iim_script.specs.Format.Forms.{TellsNames};
 ghost use Rattle.iim_dataset.specs.Format.Octets.{is_digit};
-ghost use Rattle.iim_script.specs.Adding.{AddsField, RefusesLine};
+ghost use Rattle.iim_script.specs.Steps.{AddsField, RefusesLine};
 
 use crate::fault::ScriptCause;
 use crate::line::cut_at;

@@ -27,6 +27,7 @@ struct Words<'a> {
 }
 
 /// The words, with one SP between each two. None where there are fewer than five.
+#[tactic(auto, using(crate::proofs::Heads::no_more))]
 fn cut_words(octets: &[u8]) -> Option<Words<'_>>
     ensures some { IfSome result (λ w.
         AreWords octets.now record {

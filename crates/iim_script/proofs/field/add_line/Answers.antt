@@ -1,5 +1,3 @@
-use Rattle.std.proofs.Common.{List, ℕ, subst}
-use Rattle.iim_script.specs.Format.Shown.{TellsLast}
 use Rattle.iim_script.proofs.Names.{names_once}
 use Rattle.iim_script.proofs.field.add_line.Goals as goal
 
@@ -9,6 +7,5 @@ returns-in_default-clause-refused c = λ d told. c.in_default.ensures.none d.rec
 pub returns-in-Ok-None-clause-refused : goal.returns-in-Ok-None-clause-refused
 returns-in-Ok-None-clause-refused c = λ d told.
     let none = rw c.in-Ok-None.field-0-is at c.in-Ok-None.ensures.none in
-    let line = c.args.line.now in
-    none d.octets (subst (λ (l : List ℕ). TellsLast l d.octets)
-    (names_once line d.rec d.set c.in-Some.rec c.in-Some.set told.end c.in-Some.end.now told.names c.in-Some.ensures.some) told.is_end)
+    none d.octets
+    (rw (← names_once c.args.line.now d.rec d.set c.in-Some.rec c.in-Some.set told.end c.in-Some.end.now told.names c.in-Some.ensures.some) told.is_end)

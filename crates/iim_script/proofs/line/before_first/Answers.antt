@@ -1,4 +1,4 @@
-use Rattle.std.proofs.Common.{◌≡◌, ◌≤◌, ◌<◌, ◌==◌, ℕ, List, length, get_or, Option, Some, None, Bool, true, false, sym, refl, subst, ◌∙◌, arith}
+use Rattle.std.proofs.Common.{◌≡◌, ◌≤◌, ◌<◌, ◌==◌, ℕ, List, length, get_or, Option, Some, None, Bool, true, false, sym, refl, ◌∙◌, arith}
 use Rattle.std.specs.Option.{unwrap_or}
 use Rattle.std.specs.List.{position_or_len}
 use Rattle.std.proofs.lemmas.List.Sums.{position_or_len_is}
@@ -25,8 +25,3 @@ is_within octet octets (Some at) h =
 
 pub returns-clause-place : goal.returns-clause-place
 returns-clause-place c = c.unwrap_or.ensures ∙ place c.args.octet c.args.octets.now c.memchr.result c.memchr.ensures
-
-pub returns-clause-within : goal.returns-clause-within
-returns-clause-within c =
-    let P : ℕ → Type 0 = λ n. n ≤ length c.args.octets.now in
-    subst P (sym c.unwrap_or.ensures) (is_within c.args.octet c.args.octets.now c.memchr.result c.memchr.ensures)

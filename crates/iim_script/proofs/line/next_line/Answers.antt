@@ -1,14 +1,7 @@
-use Rattle.std.proofs.Common.{◌≡◌, ℕ, suc, ◌+◌, ◌-◌, ◌<◌, List, [], ◌∷◌, ◌++◌, append_assoc, length, length-append, length-take, get_or, ap, sym, ◌∙◌, subst, arith}
+use Rattle.std.proofs.Common.{◌≡◌, ℕ, suc, ◌-◌, [], ◌∷◌, ◌++◌, append_assoc, length, get_or, sym, ◌∙◌, subst, arith}
 use Rattle.iim_script.proofs.Cuts.{ends_in_return, ends_alone}
 use Rattle.iim_script.proofs.line.next_line.Goals as goal
 use Rattle.iim_script.proofs.line.next_line.Goals.{else-len-gt0-via-then-len-gt0+else-ended-len-eq-CR, else-len-gt0-via-else-len-gt0}
-
--- the line with its LF, and what follows
-joined : (octets ended after : List ℕ) → octets ≡ ended ++ 10 ∷ after → octets ≡ (ended ++ 10 ∷ []) ++ after
-joined octets ended after e = e ∙ sym (append_assoc ended (10 ∷ []) after)
-
-is_shorter : (octets ended after : List ℕ) → octets ≡ ended ++ 10 ∷ after → length ended + length after < length octets
-is_shorter octets ended after e = omega (arith, ap length e, length-append ended (10 ∷ after))
 
 pub returns-then-ended-len-eq-CR-clause-found : goal.returns-then-ended-len-eq-CR-clause-found
 returns-then-ended-len-eq-CR-clause-found c =
@@ -18,7 +11,7 @@ returns-then-ended-len-eq-CR-clause-found c =
     record {
       ended = ended ++ 10 ∷ [];
       ends = ends_in_return ended (length ended - 1) found.0 some c.if-ended-len-eq-CR.true;
-      parts = joined c.args.octets.now ended c.in_ok-ended.after.now found.1;
+      parts = found.1 ∙ sym (append_assoc ended (10 ∷ []) c.in_ok-ended.after.now);
     }
 
 pub returns-clause-found : goal.returns-clause-found
@@ -30,13 +23,5 @@ returns-clause-found c =
       | else-len-gt0-via-then-len-gt0+else-ended-len-eq-CR w ↦ w.if-ended-len-eq-CR.false (subst (λ (m : ℕ). get_or ended m 0 ≡ 13) (omega (arith, len)) at)
       | else-len-gt0-via-else-len-gt0 w ↦ absurd (omega (arith, len, w.if-len-gt0.false))
     ] in
-    record { ended = ended ++ 10 ∷ []; ends = ends_alone ended found.0 not_returned; parts = joined c.args.octets.now ended c.in_ok-ended.after.now found.1 }
-
-pub returns-then-ended-len-eq-CR-clause-shorter : goal.returns-then-ended-len-eq-CR-clause-shorter
-returns-then-ended-len-eq-CR-clause-shorter c =
-    let ended = c.in_ok-ended.ended.now in
-    let all = is_shorter c.args.octets.now ended c.in_ok-ended.after.now c.in_ok-ended.ensures.found.1 in
-    omega (arith, all, length-take (length ended - 1) ended)
-
-pub returns-clause-shorter : goal.returns-clause-shorter
-returns-clause-shorter c = is_shorter c.args.octets.now c.in_ok-ended.ended.now c.in_ok-ended.after.now c.in_ok-ended.ensures.found.1
+    let parts = found.1 ∙ sym (append_assoc ended (10 ∷ []) c.in_ok-ended.after.now) in
+    record { ended = ended ++ 10 ∷ []; ends = ends_alone ended found.0 not_returned; parts = parts }

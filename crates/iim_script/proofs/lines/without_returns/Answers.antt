@@ -1,4 +1,4 @@
-use Rattle.iim_script.proofs.Splits.{line_left}
+use Rattle.iim_script.proofs.Next.{line_left}
 use Rattle.iim_script.proofs.lines.without_returns.Goals as goal
 
 pub returns : goal.returns

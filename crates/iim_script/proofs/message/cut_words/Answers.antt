@@ -1,9 +1,6 @@
-use Rattle.iim_script.specs.Format.Forms.{after_source, after_number, after_priority, after_category}
+use Rattle.iim_script.specs.Format.Forms.{after_number, after_priority, after_category}
 use Rattle.iim_script.proofs.Heads.{words_found, no_more, after_first, after_second, after_third}
 use Rattle.iim_script.proofs.message.cut_words.Goals as goal
-
-pub returns-in_default-clause-none : goal.returns-in_default-clause-none
-returns-in_default-clause-none c = λ w end t. no_more w.source (after_source w end) c.args.octets.now c.in_default.ensures.none t.octets_are
 
 pub returns-in_default-cut_at-clause-none : goal.returns-in_default-cut_at-clause-none
 returns-in_default-cut_at-clause-none c = λ w end t.

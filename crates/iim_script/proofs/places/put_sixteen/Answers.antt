@@ -2,7 +2,7 @@ use Rattle.std.proofs.Common.{ℕ, List, ◌++◌, take, ap, sym, ◌∙◌, ari
 use Rattle.std.specs.List.{list_all}
 use Rattle.std.proofs.lemmas.List.{take_all}
 use Rattle.iim_dataset.specs.Format.Shown.{is_plain}
-use Rattle.iim_script.proofs.PlainParts.{all_plain}
+use Rattle.iim_script.proofs.Put.{all_plain}
 use Rattle.iim_script.proofs.places.put_sixteen.Goals as goal
 
 pub returns-then-plain_in_16-clause-written : goal.returns-then-plain_in_16-clause-written

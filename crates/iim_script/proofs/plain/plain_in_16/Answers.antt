@@ -1,5 +1,5 @@
 use Rattle.std.proofs.Common.{arith}
-use Rattle.iim_script.proofs.PlainParts.{plain_part}
+use Rattle.iim_script.proofs.Put.{plain_part}
 use Rattle.iim_script.proofs.plain.plain_in_16.Goals as goal
 
 pub returns : goal.returns

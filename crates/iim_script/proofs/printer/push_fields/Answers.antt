@@ -1,15 +1,8 @@
 use Rattle.std.proofs.Common.{rules, List, [], ◌∷◌, ◌++◌, drop, length, sym, ap, ◌∙◌, append_assoc, arith}
 use Rattle.iim_dataset.specs.Format.Datasets.{Dataset}
 use Rattle.iim_fields.specs.States.Walks.{rest_of}
-use Rattle.iim_script.proofs.Rooms.{one_of, stands, line_more}
+use Rattle.iim_script.proofs.Put.{stands, line_more}
 use Rattle.iim_script.proofs.printer.push_fields.Goals as goal
-
-pub make_room-requires-clause-few : goal.make_room-requires-clause-few
-make_room-requires-clause-few c =
-    let d : Dataset = record { rec = c.in-Some.rec; set = c.in-Some.set; octets = c.in-Some.octets.now } in
-    let done : List Dataset = c.loop-rec.invariant.done in
-    let rest : List Dataset = rest_of c.next.new.self in
-    omega (arith, c.fields-fields.ensures.few.octets, one_of c.args.envelope.now done rest d (c.loop-rec.invariant.parts ∙ ap (λ (t : List Dataset). done ++ t) c.in-Some.ensures.steps))
 
 pub loop-rec-preserved : goal.loop-rec-preserved
 loop-rec-preserved c =

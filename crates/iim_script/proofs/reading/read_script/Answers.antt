@@ -1,5 +1,4 @@
-use Rattle.std.proofs.Common.{List, ℕ, length, ap, sym, subst, ◌∙◌, arith}
-use Rattle.wire_story.specs.Format.Texts.{IsText, packed_text}
+use Rattle.std.proofs.Common.{List, ℕ, sym, subst, arith}
 use Rattle.wire_story.proofs.Collected.{text_collected}
 use Rattle.iim_script.specs.Format.Scripts.{IsScript}
 use Rattle.iim_script.proofs.reading.read_script.Goals as goal
@@ -13,14 +12,3 @@ returns-clause-script c =
     let script = c.args.script.now in
     subst (λ (lines : List (List ℕ)). IsScript c.args.limits script front.envelope front.head front.trailer.items lines front.story.lines) (sym (text_collected text t.lines t.is_text))
     (record { front = before.0; story = front.story.octets.now; parts = before.1; short = omega (arith, c.if-script-gt-MAX_SCRIPT.false); is_front = before.2; is_story = t.is_story; texts = t.texts })
-
-pub returns-clause-text : goal.returns-clause-text
-returns-clause-text c =
-    let text = c.in_ok-text.text.octets.now in
-    let t = c.in_ok-text.ensures.text in
-    subst (λ (lines : List (List ℕ)). IsText text lines) (sym (text_collected text t.lines t.is_text)) t.is_text
-
-pub returns-clause-len : goal.returns-clause-len
-returns-clause-len c =
-    let t = c.in_ok-text.ensures.text in
-    t.len_is ∙ ap (λ (lines : List (List ℕ)). length (packed_text lines)) (sym (text_collected c.in_ok-text.text.octets.now t.lines t.is_text))

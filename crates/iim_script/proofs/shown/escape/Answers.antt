@@ -2,14 +2,6 @@ use Rattle.std.proofs.Common.{arith}
 use Rattle.iim_script.proofs.Texts.{escape_begins, escape_at}
 use Rattle.iim_script.proofs.shown.escape.Goals as goal
 
-pub returns-then-after-lt3-clause-none : goal.returns-then-after-lt3-clause-none
-returns-then-after-lt3-clause-none c = λ octet rest h.
-    let found = escape_at c.args.after.now rest octet h in
-    absurd (omega (arith, found.0, c.if-after-lt3.true))
-
-pub returns-then-after-ne120-clause-none : goal.returns-then-after-ne120-clause-none
-returns-then-after-ne120-clause-none c = λ octet rest h. absurd (c.if-after-ne120.true (escape_at c.args.after.now rest octet h).1)
-
 pub returns-in-Some-clause-some : goal.returns-in-Some-clause-some
 returns-in-Some-clause-some c =
     escape_begins c.args.after.now c.in-Some.octet (omega (arith, c.if-after-lt3.false)) c.if-after-ne120.false c.in-Some.ensures.some

@@ -1,5 +1,4 @@
 use Rattle.std.proofs.Common.{◌≡◌, ◌-◌, ◌<◌, ℕ, List, [], ◌∷◌, length, take, drop, get_or, sym, ◌∙◌, ap, subst, inl, refl, rules, IfSome, IfNone, arith}
-use Rattle.std.proofs.lemmas.Bool.{eqb-true}
 use Rattle.iim_dataset.proofs.Lists.{some_there}
 use Rattle.iim_script.specs.Format.Shown.{BeginsWith}
 use Rattle.iim_script.proofs.Texts.{first_and_rest, empty_begins}
@@ -11,9 +10,6 @@ none_there (x ∷ xs) rest octet e h = absurd (omega (arith, e))
 
 backslashed : (xs : List ℕ) → 0 < length xs → get_or xs 0 0 ≡ 92 → xs ≡ 92 ∷ take (length xs - 1) (drop 1 xs)
 backslashed xs some e = first_and_rest xs some ∙ ap (λ (n : ℕ). n ∷ take (length xs - 1) (drop 1 xs)) e
-
-pub returns-then-is_empty-clause-none : goal.returns-then-is_empty-clause-none
-returns-then-is_empty-clause-none c = λ octet rest h. none_there c.args.shown.now rest octet (eqb-true _ _ (sym c.if-is_empty.ensures)) h
 
 pub returns-then-shown-eq-BACKSLASH-clause-some : goal.returns-then-shown-eq-BACKSLASH-clause-some
 returns-then-shown-eq-BACKSLASH-clause-some c =

@@ -1,8 +1,8 @@
-use Rattle.std.proofs.Common.{◌≡◌, ◌==◌, ◌+◌, ℕ, List, count_by, take, ap, subst, ◌∙◌, arith, IsTrue}
+use Rattle.std.proofs.Common.{◌≡◌, ◌==◌, ℕ, List, count_by, take, subst, arith, IsTrue}
 use Rattle.std.specs.List.{list_all}
 use Rattle.std.proofs.lemmas.List.{take_rest}
 use Rattle.iim_script.specs.Plain.{is_plain}
-use Rattle.iim_script.proofs.Plains.{plain_more, plain_all, count_next}
+use Rattle.iim_script.proofs.Plains.{plain_more, count_next}
 use Rattle.iim_script.proofs.text.feeds_in.Goals as goal
 
 pub loop-at-preserved : goal.loop-at-preserved
@@ -16,11 +16,3 @@ loop-at-preserved c =
       plain = plain_more xs at 16 i.plain block.0;
       counted = omega (arith, i.counted, block.1, count_next (λ b. b == 10) xs at 16);
     }
-
-pub returns-in-Some-feeds_in_rest : goal.returns-in-Some-feeds_in_rest
-returns-in-Some-feeds_in_rest c =
-    let xs = c.args.octets.now in
-    let at = c.loop-at.at in
-    let i = c.loop-at.invariant in
-    let rest = subst (λ (ys : List ℕ). IsTrue (list_all is_plain ys) × (c.in-Some-feeds_in_rest.more ≡ count_by (λ b. b == 10) ys)) (take_rest xs at) c.in-Some-feeds_in_rest.ensures in
-    (plain_all xs at i.plain rest.0, ap (λ (n : ℕ). c.loop-at.count + n) rest.1 ∙ i.counted)

@@ -1,0 +1,56 @@
+-- What is put at places of a text: digits, octets that stand for themselves, and the lines of datasets.
+use Rattle.std.proofs.Common.{◌≡◌, ℕ, ◌+◌, ◌/◌, ◌%◌, ◌<◌, ◌≤◌, List, [], ◌∷◌, ◌++◌, ap, ◌∙◌, decimal, arith, ◌&&◌, Bool, true, not, nat_eq, nat_le, length, map, take, refl, sym, append-nil, append_assoc, bit_and}
+use Rattle.std.proofs.lemmas.Fmt.{decimal_digit, decimal_step}
+use Rattle.std.specs.Simd.Lanes.{zip2}
+use Rattle.std.specs.List.{list_all, flat_map}
+use Rattle.std.proofs.lemmas.List.{take-take, take-append-le}
+use Rattle.std.proofs.lemmas.List.Concat.{flat_map-append}
+use Rattle.iim_dataset.specs.Format.Shown.{is_plain, shown}
+use Rattle.iim_dataset.proofs.Lanes.{lane, both_lanes, from_on, up_to, other_than, are_set, first_of}
+use Rattle.iim_dataset.proofs.PlainLanes.{shown_plain}
+use Rattle.iim_dataset.specs.Format.Datasets.{Dataset}
+use Rattle.iim_script.specs.Format.Printed.{field_line}
+
+-- ---- numbers of up to three digits, by their digits
+
+pub two_digits : (n : ℕ) → 10 ≤ n → n < 100 → decimal n ≡ (48 + n / 10) ∷ (48 + n % 10) ∷ []
+two_digits n least most = decimal_step n least (omega arith) ∙ ap (λ (xs : List ℕ). xs ++ (48 + n % 10) ∷ []) (decimal_digit (n / 10) (omega arith))
+
+pub three_digits : (n : ℕ) → 100 ≤ n → n < 1000 → decimal n ≡ (48 + n / 10 / 10) ∷ (48 + n / 10 % 10) ∷ (48 + n % 10) ∷ []
+three_digits n least most =
+    decimal_step n (omega arith) (omega arith) ∙ ap (λ (xs : List ℕ). xs ++ (48 + n % 10) ∷ []) (two_digits (n / 10) (omega arith) (omega arith))
+
+-- ---- octets that stand for themselves, several of them tested at once
+
+-- the lanes of octets that stand for themselves
+abbrev plain_lanes : ℕ → List ℕ → List ℕ
+plain_lanes n xs = zip2 bit_and (zip2 bit_and (from_on n 32 xs) (up_to n 126 xs)) (other_than n 92 xs)
+
+plain_lane : (a b c : Bool) → bit_and (bit_and (lane a) (lane b)) (lane c) ≡ lane (a && b && c)
+plain_lane a b c = ap (λ (n : ℕ). bit_and n (lane c)) (both_lanes a b) ∙ both_lanes (a && b) c
+
+plain_told : (xs : List ℕ) → plain_lanes (length xs) xs ≡ map (λ x. lane (is_plain x)) xs
+plain_told [] = refl
+plain_told (x ∷ xs) = λ i. plain_lane (nat_le 32 x) (nat_le x 126) (not (nat_eq x 92)) i ∷ plain_told xs i
+
+-- the first n
+pub plain_part : (xs : List ℕ) (n : ℕ) → n ≤ length xs → n ≤ 64 → are_set n (plain_lanes n (take n xs)) ≡ list_all is_plain (take n xs)
+plain_part xs n room le = first_of xs n room le is_plain plain_lanes plain_told
+
+-- where all stand for themselves they are shown as they are
+pub all_plain : (xs : List ℕ) → list_all is_plain xs ≡ true → shown xs ≡ xs
+all_plain xs all = sym (ap shown (append-nil xs)) ∙ (shown_plain xs [] all ∙ append-nil xs)
+
+-- ---- text with room after it, into which the lines of datasets are put
+
+-- what was put into a text stands there
+pub stands : (end len : ℕ) (line rest : List ℕ) → end ≤ len → end ≤ length line → take end (take len (line ++ rest)) ≡ take end line
+stands end len line rest within short = take-take end len (line ++ rest) within ∙ take-append-le end line rest short
+
+shown_one : (done : List Dataset) (d : Dataset) → flat_map field_line (done ++ d ∷ []) ≡ flat_map field_line done ++ field_line d
+shown_one done d = flat_map-append field_line done (d ∷ []) ∙ ap (λ (l : List ℕ). flat_map field_line done ++ l) (append-nil (field_line d))
+
+-- one line more
+pub line_more : (old front new : List ℕ) (done : List Dataset) (d : Dataset) → front ≡ old ++ flat_map field_line done → new ≡ front ++ field_line d → new ≡ old ++ flat_map field_line (done ++ d ∷ [])
+line_more old front new done d so_far more =
+    more ∙ (ap (λ (l : List ℕ). l ++ field_line d) so_far ∙ (append_assoc old (flat_map field_line done) (field_line d) ∙ ap (λ (l : List ℕ). old ++ l) (sym (shown_one done d))))
