@@ -100,6 +100,7 @@ fn run_object<'m, 's, S: StorySink>(
 }
 
 /// Hands the end of the object to the object reader.
+#[tactic(auto, using(crate::proofs::ToldMessage::by_fault))]
 fn end_object<'m, 's, S: StorySink>(
     object: &mut ObjectReader,
     head: Head,
