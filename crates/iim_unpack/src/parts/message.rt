@@ -51,6 +51,7 @@ impl<'m, 's, S: StorySink> ObjectSink for ToMessage<'m, 's, S> {
           xs ys refused c.cause p (k.2 p.takes_calls),
     ) };
 
+    #[tactic(auto, using(crate::proofs::ToldMessage::tells_message_octets, crate::proofs::ToldMessage::message_refuses_octet))]
     fn run(&mut self, run: &[u8]) -> Result<(), Stop> {
         if run.is_empty() {
             return Ok(());
@@ -64,6 +65,7 @@ impl<'m, 's, S: StorySink> ObjectSink for ToMessage<'m, 's, S> {
         }
     }
 
+    #[tactic(auto, using(crate::proofs::ToldMessage::message_refuses_end))]
     fn close(&mut self) -> Result<(), Stop> {
         match self.message.close() {
             Ok(()) => Ok(()),
