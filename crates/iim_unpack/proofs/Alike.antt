@@ -1,4 +1,4 @@
--- What unpackers that stand alike answer.
+-- What unpackers that stand alike answer, and that a restored one stands as the saved one.
 use Rattle.std.proofs.Common.{◌≡◌, ℕ, ◌+◌, ◌≤◌, ◌⊎◌, List, [], ◌∷◌, ◌++◌, length, take, slice_index, Result, Ok, Err, refl, ap, sym, subst, ◌∙◌, inl, inr, arith, rules, length-append}
 use Rattle.std.proofs.lemmas.List.{get_or-append-add}
 use Rattle.std.proofs.Math.Seq.{take-append-add}

@@ -1,4 +1,4 @@
--- Readers that were made for a possible place stand at all octets that lead there.
+-- Readers that were made for a possible place stand at all octets that lead there, and an unpacker that is made of them is sound.
 use Rattle.std.proofs.Common.{◌≡◌, ℕ, ◌<◌, nat_eq, if◌then◌else◌, true, false, List, [], length, IsSome, refl, ap, sym, subst, ◌∙◌, arith, ◌⊎◌, Bool, inl, inr, None}
 use Rattle.iim_dataset.specs.Format.Octets.{Octets}
 use Rattle.iim_dataset.specs.Format.Datasets.{Dataset, of_record, count_octets}

@@ -1,4 +1,4 @@
--- The ticket that is spelled of an unpacker is that of its place.
+-- The ticket that is spelled of an unpacker is that of its place, and how long it is.
 use Rattle.std.proofs.Common.{◌≡◌, ℕ, ◌-◌, nat_eq, Bool, false, if◌then◌else◌, List, length, sum, refl, ap, sym, ◌∙◌, inl, inr, ◌⊎◌, arith, ◌+◌, ◌*◌, ◌<◌, ◌≤◌, []}
 use Rattle.iim_dataset.specs.Format.Datasets.{Dataset, of_record, count_octets}
 use Rattle.iim_dataset.specs.Format.Splits.{Begun, InTag, InData, Reads}

@@ -1,4 +1,4 @@
--- What a run of octets, or the end, tells a message.
+-- What a run of octets, or the end, tells a message, and what the object's refusal of a head says of it.
 use Rattle.std.proofs.Common.{◌≡◌, ℕ, true, false, List, [], ◌∷◌, ◌++◌, map, Option, Some, IsSome, refl, ap, sym, subst, ◌∙◌, append-nil, length, ◌==◌, arith}
 use Rattle.std.proofs.lemmas.Bool.{eqb-true}
 use Rattle.iim_object.specs.Format.Events.{ObjectOctet, ObjectEnd}

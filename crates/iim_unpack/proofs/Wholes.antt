@@ -1,4 +1,4 @@
--- A whole dataset of record 1, 2, 7 or 9 leads the parts of an unpacker on.
+-- A whole dataset leads the parts of an unpacker on; or a subfile is refused at an octet.
 use Rattle.std.specs.Prelude.{IsSome, is_none, is_some, ◌&&◌}
 use Rattle.std.proofs.Common.{◌≡◌, ℕ, ◌<◌, Bool, true, false, ◌||◌, ◌&&◌, cond, nat_eq, List, [], ◌∷◌, ◌++◌, length, map, flat_map, get_or, Option, Some, None, refl, ap, sym, subst, ◌∙◌, inl, inr, arith, append_assoc, append-nil}
 use Rattle.std.proofs.lemmas.Bool.Decides.{eqb_tells}
