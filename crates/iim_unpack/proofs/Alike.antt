@@ -1,5 +1,5 @@
--- What unpackers that stand alike answer.
-use Rattle.std.proofs.Common.{◌≡◌, ℕ, ◌+◌, ◌≤◌, ◌⊎◌, List, [], ◌∷◌, ◌++◌, length, take, slice_index, Result, Ok, Err, refl, ap, sym, subst, ◌∙◌, inl, inr, arith, length-append}
+-- What unpackers that stand alike answer, and that a restored one stands as the saved one.
+use Rattle.std.proofs.Common.{◌≡◌, ℕ, ◌+◌, ◌≤◌, ◌⊎◌, List, [], ◌∷◌, ◌++◌, length, take, slice_index, Result, Ok, Err, refl, ap, sym, subst, ◌∙◌, inl, inr, arith, rules, length-append}
 use Rattle.std.proofs.lemmas.List.{get_or-append-add}
 use Rattle.std.proofs.Math.Seq.{take-append-add}
 use Rattle.iim_fields.specs.declared.limits.Limits.{Limits}
@@ -17,6 +17,8 @@ use Rattle.iim_unpack.specs.Laws.Places.{RestoredStandAsSaved}
 use Rattle.iim_unpack.specs.States.Unpacking.{Unpacking, Stands, IsDoneWith, IsRefusedIn, limits_in}
 use Rattle.iim_unpack.specs.declared.unpacker.Progress.{Progress}
 use Rattle.iim_unpack.specs.declared.unpacker.Progress.TheVariants.{More, Done}
+use Rattle.iim_places.specs.Laws.Places.{TicketsTellOnePlace}
+use Rattle.iim_places.proofs.Saved.{open_wider, whole_wider, at_restored}
 
 -- ---- an answer to a piece as the answer to all octets
 
@@ -27,32 +29,19 @@ Matches n a (Ok (Done used)) (Finished all value) = all ≡ n + used
 Matches n a (Err e) (Refused f) = (k : ℕ) × (fault : TokenFault) × (f ≡ refusal_at (n + k) fault) × (e ≡ refusal_at (raised a k) fault)
 Matches n a _ _ = ⊥
 
--- a refusal at another octet
-abbrev at_octet : ℕ → Refusal → Refusal
-at_octet octet e = record { layer = e.layer; rec = e.rec; set = e.set; octet = octet; cause = e.cause }
-
-moved : (m n : ℕ) (fault : TokenFault) (f : Refusal) → f ≡ refusal_at m fault → refusal_at n fault ≡ at_octet n f
-moved m n fault f is = ap (at_octet n) (sym is)
-
 same_refusal : (n a : ℕ) (e e' f : Refusal) → Matches n a (Err e) (Refused f) → Matches n a (Err e') (Refused f) → e ≡ e'
 same_refusal n a e e' f (k, fault, all, is) (k', fault', all', is') =
-    let where_ : n + k ≡ n + k' = ap (λ (x : Refusal). x.octet) (sym all ∙ all') in
-    let same : k ≡ k' = omega (arith, where_) in
-    is ∙ (moved (n + k) (raised a k) fault f all ∙ (ap (λ (j : ℕ). at_octet (raised a j) f) same ∙ (sym (moved (n + k') (raised a k') fault' f all') ∙ sym is')))
-
-same_used : (n used used' all : ℕ) → all ≡ n + used → all ≡ n + used' → used ≡ used'
-same_used n used used' all one other = omega (arith, one, other)
+    let both : refusal_at (n + k) fault ≡ refusal_at (n + k') fault' = sym all ∙ all' in
+    let octets : n + k ≡ n + k' = ap (λ (x : Refusal). x.octet) both in
+    let same : k ≡ k' = omega (arith, octets) in
+    is ∙ (λ i. record { layer = (both i).layer; rec = (both i).rec; set = (both i).set; octet = raised a (same i); cause = (both i).cause }) ∙ sym is'
 
 -- one answer to all octets is told by one answer to the piece
 one_answer : (n a : ℕ) (one other : Result Progress Refusal) (all : Answer) → Matches n a one all → Matches n a other all → one ≡ other
 one_answer n a (Ok More) (Ok More) (Truncated e) h k = refl
-one_answer n a (Ok (Done used)) (Ok (Done used')) (Finished all value) h k = ap (λ (m : ℕ). Ok (Done m)) (same_used n used used' all h k)
+one_answer n a (Ok (Done used)) (Ok (Done used')) (Finished all value) h k = let same : used ≡ used' = omega (arith, h, k) in ap (λ (m : ℕ). Ok (Done m)) same
 one_answer n a (Err e) (Err e') (Refused f) h k = ap Err (same_refusal n a e e' f h k)
-one_answer n a (Ok More) other (Truncated e) h k = absurd k
-one_answer n a (Ok (Done used)) other (Finished all value) h k = absurd k
-one_answer n a (Err e) (Ok More) (Refused f) h k = absurd k
-one_answer n a (Err e) (Ok (Done used)) (Refused f) h k = absurd k
-one_answer n a one other all h k = absurd h
+one_answer n a one other all h k = absurd (search rules)
 
 -- what all octets are answered
 abbrev AnswersAll : Limits → List ℕ → ℕ → ℕ → Result Progress Refusal → Type 0
@@ -148,14 +137,11 @@ piece_alike law u v u' v' piece one other alike w w' calm calm' = by alike
 
 pub pieces_alike : StreamsHaveOneAnswer → PiecesAreAnsweredAlike
 pieces_alike law u v [] [] [] alike w w' = refl
-pieces_alike law u v [] [] (other ∷ others) alike w w' = absurd w'
-pieces_alike law u v [] (one ∷ ones) others alike w w' = absurd w
-pieces_alike law u v (piece ∷ pieces) [] others alike w w' = absurd w
-pieces_alike law u v (piece ∷ pieces) (one ∷ ones) [] alike w w' = absurd w'
 pieces_alike law u v (piece ∷ pieces) (one ∷ ones) (other ∷ others) alike (u', w, calm, rest) (v', w', calm', rest') =
     let (same, then_) = piece_alike law u v u' v' piece one other alike w w' calm calm' in
     let more = pieces_alike law u' v' pieces ones others then_ rest rest' in
     λ i. same i ∷ more i
+pieces_alike law u v pieces ones others alike w w' = absurd (search rules)
 
 -- ---- a restored unpacker
 
@@ -168,3 +154,16 @@ restored_alike law u v p ticket a octets fields stood is restored =
       count = a;
       both = elim stood [ inl at ↦ inl (at, stands.0 at) | inr d ↦ inr (d, stands.1 d) ];
     })
+
+-- ---- a restored unpacker stands where the saved one stands
+
+pub restored_stand : TicketsTellOnePlace → RestoredStandAsSaved
+restored_stand one u v p ticket a less few is restored = (
+  (λ stands.
+      let place = at_restored one p ticket is.place restored.place is.is_place (inl (open_wider _ p less few stands.is_open)) is.spelled restored.is_ticket in
+      restored.stands p place stands.is_open),
+  (λ done.
+      let whole : IsEnvelopeWithin (limits_in u) p done.value = record { admits = done.admits; within = done.within } in
+      let place = at_restored one p ticket is.place restored.place is.is_place (inr (done.value, whole_wider _ p done.value less few whole)) is.spelled restored.is_ticket in
+      restored.done p done.value place whole),
+)

@@ -1,5 +1,5 @@
 -- Blocks, and the line of an intake.
-use Rattle.std.proofs.Common.{◌≡◌, ℕ, zero, suc, ◌+◌, ◌-◌, ◌≤◌, List, [], ◌∷◌, ◌++◌, length, take, drop, Option, None, Some, ap, sym, subst, ◌∙◌, arith, append_assoc}
+use Rattle.std.proofs.Common.{◌≡◌, ℕ, ◌+◌, ◌-◌, ◌≤◌, List, ◌++◌, length, take, drop, Option, None, Some, ap, sym, subst, ◌∙◌, arith, append_assoc, length-take}
 use Rattle.std.proofs.lemmas.List.{drop-take, drop-drop, take-append-drop, take_all}
 use Rattle.std.specs.Io.KnownBytes.{Consumes}
 use Rattle.iim_dataset.specs.States.Devices.{Device, HasGiven}
@@ -21,14 +21,11 @@ pub line_passed : (n : ℕ) (held new : List ℕ) (d : Device) → new ≡ drop 
 line_passed n held new d is =
     (subst (λ (ys : List ℕ). Consumes (put_before held d.octets) (put_before ys d.octets) (take n held)) (sym is) (used_up n held d.octets), (omega arith, omega arith))
 
-short : (n : ℕ) (xs : List ℕ) → length (take n xs) ≤ n
-short zero xs = omega arith
-short (suc n) [] = omega arith
-short (suc n) (x ∷ xs) = omega (arith, short n xs)
-
 -- where `used` octets at least are held, they can be passed
 pub fits : (octets : List ℕ) (from to used : ℕ) (held : List ℕ) → held_in octets from to ≡ held → from ≤ to → used ≤ length held → from + used ≤ to
-fits octets from to used held is order le = omega (arith, order, le, rw is at (short (to - from) (drop from octets)))
+fits octets from to used held is order le =
+    let few : length (take (to - from) (drop from octets)) ≤ to - from = omega (arith, length-take (to - from) (drop from octets)) in
+    omega (arith, order, le, rw is at few)
 
 -- The whole block was used.
 pub line_used : (n : ℕ) (held new piece : List ℕ) (d : Device) → n ≡ length held → piece ≡ held → new ≡ drop n held → HasGiven (with_held held d) (with_held new d) piece

@@ -1,6 +1,7 @@
 -- Where heads, data and ends of datasets lead the parts of an unpacker.
 use Rattle.std.proofs.Common.{◌≡◌, ℕ, Bool, true, false, cond, if◌then◌else◌, nat_eq, List, [], ◌∷◌, ◌++◌, map, Option, Some, None, refl, ap, sym, subst, ◌∙◌, arith, append_assoc, append-nil}
 use Rattle.std.proofs.lemmas.Bool.{eqb-true, ne_eqb}
+use Rattle.std.proofs.lemmas.Option.{same_Some}
 use Rattle.iim_dataset.specs.Format.Octets.{Octets}
 use Rattle.iim_dataset.specs.Format.Datasets.{Dataset}
 use Rattle.iim_dataset.specs.Format.Splits.{Begun, InTag, InData}
@@ -9,8 +10,7 @@ use Rattle.iim_dataset.specs.Format.Languages as languages
 use Rattle.iim_dataset.specs.declared.head.Head.{Head}
 use Rattle.iim_dataset.proofs.OctetLists.{octets_append}
 use Rattle.iim_fields.specs.States.Checks.{begun_head}
-use Rattle.iim_fields.specs.States.Standing as records
-use Rattle.iim_fields.specs.States.Standing.{IsBetween, begun_head_of, limits_of, FieldsPlace}
+use Rattle.iim_fields.specs.States.Standing.{IsBetween, begun_head_of, limits_of, FieldsPlace, StandsIn}
 use Rattle.iim_fields.specs.declared.limits.Limits.{Limits}
 use Rattle.iim_object.specs.Format.Events as object_events
 use Rattle.wire_story.specs.Format.Delivery as story
@@ -37,8 +37,6 @@ use Rattle.iim_places.specs.Laws.Lower.{LowerLaws}
 use Rattle.iim_places.proofs.Lasts.{not_all}
 use Rattle.iim_unpack.proofs.Sequences.{data_more}
 use Rattle.iim_places.proofs.ObjectOctets.{lives_whole}
-
--- ---- lists
 
 -- ---- the reader of the message
 
@@ -88,10 +86,7 @@ after_all p events text between led = by_begun led.begun led.stands led.told led
     by_begun (InData h taken) stands told is = absurd (not_both p h between (ap begun_head stands.fields.inside.1.head.inside))
 
 pub same_head : (p : Parts) (k : Head) (ds : List Dataset) (h : Head) (taken : List ℕ) → HasBegun p k → Within p ds h taken → k ≡ h
-same_head p k ds h taken begun at = some-same (sym begun ∙ ap begun_head at.fields.inside.1.head.inside)
-  where
-    some-same : {x y : Head} → Some x ≡ Some y → x ≡ y
-    some-same e = cc
+same_head p k ds h taken begun at = same_Some _ _ (sym begun ∙ ap begun_head at.fields.inside.1.head.inside)
 
 -- ---- every layer can continue
 
@@ -136,7 +131,7 @@ all_within living p ds h taken at =
 -- ---- data that is no subfile's
 
 pub within_other : (p : Parts) (ds : List Dataset) (h : Head) (taken run : List ℕ) (checker : FieldsPlace) → Within p ds h taken → (h.rec ≡ 8 → ⊥) → Octets run
-    → ((ds : List Dataset) (h : Head) (taken : List ℕ) → records.StandsIn p.fields ds h taken → records.StandsIn checker ds h (taken ++ run))
+    → ((ds : List Dataset) (h : Head) (taken : List ℕ) → StandsIn p.fields ds h taken → StandsIn checker ds h (taken ++ run))
     → Within (record p { fields = checker }) ds h (taken ++ run)
 within_other p ds h taken run checker at other octets stands =
     let no : nat_eq h.rec 8 ≡ false = ne_eqb h.rec 8 other in
@@ -144,8 +139,8 @@ within_other p ds h taken run checker at other octets stands =
     let is = same taken ∙ sym (same (taken ++ run)) in
     record {
       octets = octets_append taken run at.octets octets;
-      fields = subst (records.StandsIn checker ds h) (sym (ap (λ (b : Bool). cond b [] (taken ++ run)) no))
-          (stands ds h taken (subst (records.StandsIn p.fields ds h) (ap (λ (b : Bool). cond b [] taken) no) at.fields));
+      fields = subst (StandsIn checker ds h) (sym (ap (λ (b : Bool). cond b [] (taken ++ run)) no))
+          (stands ds h taken (subst (StandsIn p.fields ds h) (ap (λ (b : Bool). cond b [] taken) no) at.fields));
       object = at.object;
       few = at.few;
       room = at.room;
@@ -155,7 +150,7 @@ within_other p ds h taken run checker at other octets stands =
 
 pub tells_parts_other : {S : Type 0} (goes : S → List story.StoryEvent → S → Type 0) (failures : S → ℕ) (p : Parts) (a : S) (run : List ℕ) (checker : FieldsPlace) (k : Head) → HasBegun p k → (k.rec ≡ 8 → ⊥)
     → Octets run → goes a [] a → limits_of checker ≡ limits_of p.fields
-    → ((ds : List Dataset) (h : Head) (taken : List ℕ) → records.StandsIn p.fields ds h taken → records.StandsIn checker ds h (taken ++ run))
+    → ((ds : List Dataset) (h : Head) (taken : List ℕ) → StandsIn p.fields ds h taken → StandsIn checker ds h (taken ++ run))
     → TellsParts goes failures p a (map DataOctet run) (record p { fields = checker }) a
 tells_parts_other goes failures p a run checker k begun other octets g same stands = record {
   limits = same;
@@ -211,7 +206,7 @@ tells_parts_object goes failures p a b run message laws k begun eight octets pas
         told = ap (λ (es : List DatasetEvent). es ++ map DataOctet run) one.told ∙ data_more one.ds one.h one.taken run;
         stands = record {
           octets = octets_append one.taken run at.octets octets;
-          fields = subst (records.StandsIn p.fields one.ds one.h) (ap (λ (b : Bool). cond b [] one.taken) yes ∙ sym (ap (λ (b : Bool). cond b [] (one.taken ++ run)) yes)) at.fields;
+          fields = subst (StandsIn p.fields one.ds one.h) (ap (λ (b : Bool). cond b [] one.taken) yes ∙ sym (ap (λ (b : Bool). cond b [] (one.taken ++ run)) yes)) at.fields;
           object = at.object;
           few = at.few;
           room = at.room;
@@ -230,7 +225,7 @@ pub stopped_object : {S : Type 0} (goes : S → List story.StoryEvent → S → 
     → MessageRefuses goes failures (p.message, a) (map object_events.ObjectOctet front) (object_events.ObjectOctet octet) (Some cause, b)
     → PartsRefuse goes failures (p, a) (map DataOctet front) (DataOctet octet) (Some (message_on k cause), b)
 stopped_object goes failures p a b front octet cause laws k begun eight halted =
-    let same : halted.why ≡ cause = sym (some-same halted.is_cause) in
+    let same : halted.why ≡ cause = sym (same_Some _ _ halted.is_cause) in
     record {
       fault = message_on k cause;
       is_fault = refl;
@@ -273,6 +268,3 @@ stopped_object goes failures p a b front octet cause laws k begun eight halted =
             );
           };
     }
-  where
-    some-same : {x y : MessageCause} → Some x ≡ Some y → x ≡ y
-    some-same e = cc

@@ -1,16 +1,15 @@
 -- Where the end of a dataset leads the parts of an unpacker, and why it is refused.
-use Rattle.std.proofs.Common.{◌≡◌, ℕ, ◌⊎◌, Bool, true, false, cond, if◌then◌else◌, nat_eq, List, [], ◌∷◌, ◌++◌, length, Option, Some, None, refl, ap, sym, subst, ◌∙◌, inl, inr}
-use Rattle.std.proofs.lemmas.Bool.Decides.{eqb_tells}
+use Rattle.std.proofs.Common.{◌≡◌, ℕ, Bool, true, false, cond, if◌then◌else◌, nat_eq, List, [], ◌∷◌, ◌++◌, length, Option, Some, None, refl, ap, sym, subst, ◌∙◌, map, append-nil}
+use Rattle.std.proofs.lemmas.Bool.{ne_eqb}
 use Rattle.iim_dataset.specs.Format.Octets.{number}
 use Rattle.iim_dataset.specs.Format.Datasets.{Dataset, head_of}
 use Rattle.iim_dataset.specs.Format.Splits.{InTag, InData}
-use Rattle.iim_dataset.specs.States.Events.{DatasetEvent, DatasetEnd}
+use Rattle.iim_dataset.specs.States.Events.{DatasetEvent, DatasetEnd, HeadRead, DataOctet}
 use Rattle.iim_dataset.specs.declared.head.Head.{Head}
 use Rattle.iim_fields.specs.Format.Alive.{SectionsLiveAt}
 use Rattle.iim_fields.specs.Format.Faults.{section_after}
-use Rattle.iim_fields.specs.States.Standing as records
 use Rattle.iim_fields.specs.States.Checks.{IsValueFault}
-use Rattle.iim_fields.specs.States.Standing.{IsOf, limits_of, FieldsPlace}
+use Rattle.iim_fields.specs.States.Standing.{IsOf, limits_of, FieldsPlace, StandsAfter, StandsIn}
 use Rattle.iim_fields.specs.Format.Values.{data_of, tells_number, number_told}
 use Rattle.iim_fields.specs.Laws.Records.{NoSectionsBeginOthers}
 use Rattle.iim_fields.specs.declared.fault.FieldFault.{FieldFault}
@@ -24,10 +23,9 @@ use Rattle.wire_message.specs.States.Reading as wire
 use Rattle.iim_places.specs.Format.Admitted.{object_of}
 use Rattle.iim_places.specs.Format.Tokens.{place_at, IsRefusedValue}
 use Rattle.iim_places.specs.Format.Refusals.{of_field}
-use Rattle.iim_unpack.specs.PartSteps.{IsObjectFault}
+use Rattle.iim_unpack.specs.PartSteps.{IsObjectFault, Refused, TellsParts, TellsWhole, PartsRefuse, Closed, NotClosed}
 use Rattle.iim_places.specs.Format.Open.{object_so_far}
-use Rattle.iim_unpack.specs.States.Parts.{AreAfter, Within, CountsFor}
-use Rattle.iim_unpack.specs.PartSteps.{Closed, NotClosed}
+use Rattle.iim_unpack.specs.States.Parts.{AreAfter, Within, CountsFor, AreLed}
 use Rattle.iim_unpack.specs.declared.parts.Parts.{Parts}
 use Rattle.iim_places.specs.declared.fault.TokenFault.{TokenFault}
 use Rattle.iim_unpack.proofs.Faults.{field_value, object_value}
@@ -37,6 +35,8 @@ use Rattle.iim_unpack.proofs.Sequences.{end_told, all_came}
 use Rattle.iim_places.proofs.Lasts.{not_all}
 use Rattle.iim_places.specs.Laws.Lower.{LowerLaws}
 use Rattle.iim_places.proofs.ObjectOctets.{object_of_more, few_more}
+use Rattle.iim_unpack.specs.Sequence.{AreInOrder}
+use Rattle.wire_story.specs.Format.Delivery as story
 
 -- ---- numbers
 
@@ -52,7 +52,7 @@ number_tells d n told = tells_by (tells_number d.rec) refl told
 
 -- The end of the dataset was taken by the records and by the object.
 pub record Ends (new : Parts) (ds : List Dataset) (d : Dataset) : Type 0 where
-  pub fields : records.StandsAfter new.fields (ds ++ d ∷ [])
+  pub fields : StandsAfter new.fields (ds ++ d ∷ [])
   pub object : objects.StandsAt new.object (place_after_datasets (ds ++ d ∷ []))
 
 after_data : (p new : Parts) (ds : List Dataset) (h : Head) (taken : List ℕ) → Within p ds h taken → length taken ≡ h.count → Ends new ds (data_of h taken) → new.message ≡ p.message → AreAfter new (ds ++ data_of h taken ∷ [])
@@ -90,16 +90,12 @@ is_of : (ds : List Dataset) (p : Parts) (h : Head) (taken : List ℕ) → Within
 is_of ds p h taken at whole = record {
   head = λ i. record { rec = h.rec; set = h.set; count = whole i };
   octets = at.octets;
-  given = λ other. by_eight (eqb_tells h.rec 8) other;
+  given = λ other. sym (ap (λ (b : Bool). cond b [] taken) (ne_eqb h.rec 8 other));
 }
-  where
-    by_eight : ((nat_eq h.rec 8 ≡ true) × (h.rec ≡ 8)) ⊎ ((nat_eq h.rec 8 ≡ false) × (h.rec ≡ 8 → ⊥)) → (h.rec ≡ 8 → ⊥) → taken ≡ (if nat_eq h.rec 8 then [] else taken)
-    by_eight (inl same) other = absurd (other same.1)
-    by_eight (inr apart) other = sym (ap (λ (b : Bool). cond b [] taken) apart.0)
 
 abbrev pub ClosesFields : FieldsPlace → FieldsPlace → Option ℕ → Type 0
-ClosesFields old new told = (ds : List Dataset) (h : Head) (taken : List ℕ) → records.StandsIn old ds h taken → (d : Dataset) → IsOf h taken d
-    → records.StandsAfter new (ds ++ d ∷ []) × (told ≡ number_told d)
+ClosesFields old new told = (ds : List Dataset) (h : Head) (taken : List ℕ) → StandsIn old ds h taken → (d : Dataset) → IsOf h taken d
+    → StandsAfter new (ds ++ d ∷ []) × (told ≡ number_told d)
 
 pub closed_number : LowerLaws → (p new : Parts) (n : ℕ) (k : Head) → HasBegun p k → limits_of new.fields ≡ limits_of p.fields → ClosesFields p.fields new.fields (Some n)
     → objects.LeadsOn p.object (value_token k.rec k.set n) new.object → new.message ≡ p.message → Closed p new
@@ -160,12 +156,12 @@ not_subfile : (r : ℕ) → tells_number r ≡ true → r ≡ 8 → ⊥
 not_subfile r tells eight = let bad : false ≡ true = sym (ap tells_number eight) ∙ tells in cc
 
 pub not_closed_field : ReadersStandAtLivingOctets → NoSectionsBeginOthers → (p : Parts) (f : FieldFault) (k : Head) → HasBegun p k
-    → ((ds : List Dataset) (h : Head) (taken : List ℕ) → records.StandsIn p.fields ds h taken → IsValueFault ds (data_of h taken) f) → NotClosed p (of_field f)
+    → ((ds : List Dataset) (h : Head) (taken : List ℕ) → StandsIn p.fields ds h taken → IsValueFault ds (data_of h taken) f) → NotClosed p (of_field f)
 not_closed_field living sections p f k begun is =
     not_closed_by p (of_field f) living sections k begun (λ m. refl)
     (λ ds h taken at whole.
     let given = is ds h (if nat_eq h.rec 8 then [] else taken) at.fields in
-    let apart : nat_eq h.rec 8 ≡ false = elim (eqb_tells h.rec 8) [ inl same ↦ absurd (given.value same.1) | inr other ↦ other.0 ] in
+    let apart = ne_eqb h.rec 8 given.value in
     (given.value, field_value ds (data_of h taken) f (subst (λ (xs : List ℕ). IsValueFault ds (data_of h xs) f) (ap (λ (b : Bool). cond b [] taken) apart) given)))
 
 pub not_closed_number : LowerLaws → (p : Parts) (checker : FieldsPlace) (n : ℕ) (fault : TokenFault) (k : Head) → HasBegun p k → ClosesFields p.fields checker (Some n)
@@ -184,3 +180,39 @@ not_closed_number laws p checker n fault k begun closes bad =
           (subst (λ (m : ℕ). IsObjectFault p.object (value_token d.rec d.set m) (head_of d) fault) tells.1
           (subst (λ (x : Head). IsObjectFault p.object (value_token x.rec x.set n) x fault) (same_head p k ds h taken begun at ∙ sym head) bad)),
     ))
+
+-- the end of a dataset, with which nothing is delivered
+pub tells_parts_closed : {S : Type 0} (goes : S → List story.StoryEvent → S → Type 0) (failures : S → ℕ) (old new : Parts) (a : S) → goes a [] a → Closed old new → TellsParts goes failures old a (DatasetEnd ∷ []) new a
+tells_parts_closed goes failures old new a nothing closed = record {
+  limits = closed.limits;
+  more = [];
+  told = nothing;
+  calm = refl;
+  leads = λ before text order led. subst (AreLed new (before ++ DatasetEnd ∷ [])) (sym (append-nil text)) (closed.leads before text order led);
+}
+
+-- a whole dataset, with which nothing is delivered
+pub tells_parts_whole : {S : Type 0} (goes : S → List story.StoryEvent → S → Type 0) (failures : S → ℕ) (old new : Parts) (h : Head) (xs : List ℕ) (a : S) → goes a [] a → TellsWhole old h xs new
+    → TellsParts goes failures old a (HeadRead h ∷ (map DataOctet xs ++ DatasetEnd ∷ [])) new a
+tells_parts_whole goes failures old new h xs a nothing whole = record {
+  limits = whole.limits;
+  more = [];
+  told = nothing;
+  calm = refl;
+  leads = λ before text order led. subst (AreLed new (before ++ (HeadRead h ∷ (map DataOctet xs ++ DatasetEnd ∷ [])))) (sym (append-nil text)) (whole.leads before text led);
+}
+
+-- the end of a dataset, of which no sink is told
+pub stopped_closed : {S : Type 0} (goes : S → List story.StoryEvent → S → Type 0) (failures : S → ℕ) (p : Parts) (a : S) (fault : TokenFault) → goes a [] a → NotClosed p fault
+    → PartsRefuse goes failures (p, a) [] DatasetEnd (Some fault, a)
+stopped_closed goes failures p a fault g bad = record {
+  fault = fault;
+  is_fault = refl;
+  more = [];
+  told = g;
+  counts = bad.quiet (failures a);
+  why = λ before text order led.
+      let in_order : AreInOrder (before ++ DatasetEnd ∷ []) = subst (λ (es : List DatasetEvent). AreInOrder (es ++ DatasetEnd ∷ [])) (append-nil before) order in
+      subst (λ (t : List ℕ). Refused (limits_of p.fields) (before ++ []) t DatasetEnd fault) (sym (append-nil text))
+      (subst (λ (es : List DatasetEvent). Refused (limits_of p.fields) es text DatasetEnd fault) (sym (append-nil before)) (bad.why before text in_order led));
+}

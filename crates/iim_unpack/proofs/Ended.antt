@@ -1,6 +1,6 @@
 -- Whether the last dataset has ended.
-use Rattle.std.proofs.Common.{◌≡◌, ℕ, ◌&&◌, Bool, true, false, not, nat_eq, is_none, is_some, List, Option, Some, None, refl, ap, sym, ◌∙◌, inl, inr}
-use Rattle.std.proofs.lemmas.Bool.Decides.{eqb_tells}
+use Rattle.std.proofs.Common.{◌≡◌, ℕ, ◌&&◌, Bool, true, false, not, nat_eq, is_none, is_some, List, Option, Some, None, refl, ap, sym, ◌∙◌}
+use Rattle.std.proofs.lemmas.Bool.{ne_eqb}
 use Rattle.iim_dataset.specs.Format.Datasets.{Dataset}
 use Rattle.iim_dataset.specs.declared.head.Head.{Head}
 use Rattle.iim_fields.specs.States.Checks.{begun_head, section_at}
@@ -30,21 +30,15 @@ unended_inside p h n at =
     let some : begun_head_of p.fields ≡ Some h = ap begun_head at.head.inside in
     ap (λ (k : Option Head). nat_eq (section_of p.fields) 9 && is_none k) some ∙ and_false (nat_eq (section_of p.fields) 9)
 
--- what the two readings tell
-none_told : (b : Bool) (o : Option Head) → is_some o ≡ not b → b ≡ is_none o
-none_told true None e = refl
-none_told true (Some h) e = absurd (let bad : true ≡ false = e in cc)
-none_told false None e = absurd (let bad : false ≡ true = e in cc)
-none_told false (Some h) e = refl
+none_is : (o : Option Head) → is_none o ≡ not (is_some o)
+none_is None = refl
+none_is (Some h) = refl
 
-pub ended_by : (p : Parts) (section : ℕ) (begun : Option Head) (b : Bool) → section ≡ section_of p.fields → section ≡ 9 → begun ≡ begun_head_of p.fields → is_some begun ≡ not b → b ≡ has_ended p
+pub ended_by : (p : Parts) → section_of p.fields ≡ 9 → has_ended p ≡ not (is_some (begun_head_of p.fields))
 unfolding has_ended
-ended_by p section begun b is nine head none =
-    none_told b begun none ∙ ap is_none head ∙ sym (ap (λ (n : ℕ). nat_eq n 9 && is_none (begun_head_of p.fields)) (sym is ∙ nine))
+ended_by p nine = ap (λ (n : ℕ). nat_eq n 9 && is_none (begun_head_of p.fields)) nine ∙ none_is (begun_head_of p.fields)
 
 pub unended_by : (p : Parts) (section : ℕ) → section ≡ section_of p.fields → (section ≡ 9 → ⊥) → nat_eq section 9 ≡ has_ended p
 unfolding has_ended
-unended_by p section is other = elim (eqb_tells section 9) [
-  | inl same ↦ absurd (other same.1)
-  | inr apart ↦ apart.0 ∙ sym (ap (λ (b : Bool). b && is_none (begun_head_of p.fields)) (ap (λ (n : ℕ). nat_eq n 9) (sym is) ∙ apart.0))
-]
+unended_by p section is other =
+    let apart = ne_eqb section 9 other in apart ∙ sym (ap (λ (b : Bool). b && is_none (begun_head_of p.fields)) (ap (λ (n : ℕ). nat_eq n 9) (sym is) ∙ apart))

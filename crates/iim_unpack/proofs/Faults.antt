@@ -47,13 +47,9 @@ abbrev IsLimits : Option FieldFault → Type 0
 IsLimits None = Unit {0}
 IsLimits (Some fault) = layer_of fault.cause ≡ layers.Limits
 
-records_if : (b : Bool) (x y : Option FieldFault) → IsRecords x → IsRecords y → IsRecords (if b then x else y)
-records_if true x y h k = h
-records_if false x y h k = k
-
-limits_if : (b : Bool) (x y : Option FieldFault) → IsLimits x → IsLimits y → IsLimits (if b then x else y)
-limits_if true x y h k = h
-limits_if false x y h k = k
+either : (P : Option FieldFault → Type 0) (b : Bool) (x y : Option FieldFault) → P x → P y → P (if b then x else y)
+either P true x y h k = h
+either P false x y h k = k
 
 records_or : (x y : Option FieldFault) → IsRecords x → IsRecords y → IsRecords (option_or x y)
 records_or None y h k = k
@@ -62,7 +58,7 @@ records_or (Some fault) y h k = h
 row_records : (again : Bool) (row : Option Row) (h : Head) → IsRecords (row_fault again row h)
 row_records again None h = refl
 row_records again (Some r) h =
-    records_if (again && not r.repeats) (Some (fault_on h Repeated)) _ refl (records_if (not (within r.min r.max h.count)) (Some (fault_on h CountRange)) None refl tt)
+    either IsRecords (again && not r.repeats) (Some (fault_on h Repeated)) _ refl (either IsRecords (not (within r.min r.max h.count)) (Some (fault_on h CountRange)) None refl tt)
 
 missing_records : (present : ℕ) (o : Option ℕ) → IsRecords (missing_fault present o)
 missing_records present None = tt
@@ -70,20 +66,21 @@ missing_records present (Some n) = refl
 
 head_records : (present : ℕ) (has : ℕ → Bool) (h : Head) → IsRecords (head_fault present has h)
 head_records present has h =
-    records_if (not (is_in_order present h.rec)) (Some (fault_on h RecordOrder)) _ refl
+    either IsRecords (not (is_in_order present h.rec)) (Some (fault_on h RecordOrder)) _ refl
     (records_or (row_fault (nat_eq h.rec present && has h.set) (row_of h.rec h.set) h) _ (row_records (nat_eq h.rec present && has h.set) (row_of h.rec h.set) h)
-    (records_if (is_first h.rec (after present)) (missing_fault present (missing_of present has)) None (missing_records present (missing_of present has)) tt))
+    (either IsRecords (is_first h.rec (after present)) (missing_fault present (missing_of present has)) None
+    (missing_records present (missing_of present has)) tt))
 
 room_limits : (limits : Limits) (octets fields : ℕ) (h : Head) → IsLimits (room_fault limits octets fields h)
 room_limits limits octets fields h =
-    limits_if (not (is_kept h.rec)) None _ tt
-    (limits_if (not (nat_le (octets + h.count) limits.octets)) (Some (fault_on h HeaderFull)) _ refl
-    (limits_if (not (nat_le (fields + 1) limits.fields)) (Some (fault_on h TooManyFields)) None refl tt))
+    either IsLimits (not (is_kept h.rec)) None _ tt
+    (either IsLimits (not (nat_le (octets + h.count) limits.octets)) (Some (fault_on h HeaderFull)) _ refl
+    (either IsLimits (not (nat_le (fields + 1) limits.fields)) (Some (fault_on h TooManyFields)) None refl tt))
 
 value_by : (row : Option Row) (d : Dataset) → IsRecords (fault_by_row row d)
 value_by None d = refl
 value_by (Some r) d =
-    records_if (not (is_admitted r d.octets)) (Some (fault_on (head_of d) BadValue)) _ refl (records_if (not (has_file_format d)) (Some (fault_on (head_of d) FileFormat)) None refl tt)
+    either IsRecords (not (is_admitted r d.octets)) (Some (fault_on (head_of d) BadValue)) _ refl (either IsRecords (not (has_file_format d)) (Some (fault_on (head_of d) FileFormat)) None refl tt)
 
 dies_by : (limits : Limits) (ds : List Dataset) (h : Head) (fault : FieldFault) (o rest : Option FieldFault) → IsRecords o → IsLimits rest
     → ((o ≡ None) → SectionsLiveAt ds h) → (SectionsLiveAt ds h → o ≡ None) → option_or o rest ≡ Some fault

@@ -1,6 +1,7 @@
 -- Where an unpacker stands after a piece.
-use Rattle.std.proofs.Common.{◌≡◌, ℕ, ◌<◌, ◌≤◌, ◌⊎◌, Bool, true, false, nat_eq, get_or, List, [], ◌∷◌, ◌++◌, length, take, slice_index, Option, Some, None, IsSome, refl, ap, sym, subst, ◌∙◌, inl, inr, arith, append-nil, append_assoc}
+use Rattle.std.proofs.Common.{◌≡◌, ℕ, ◌<◌, ◌≤◌, Bool, true, false, nat_eq, get_or, List, [], ◌∷◌, ◌++◌, length, take, slice_index, Option, Some, None, IsSome, refl, ap, sym, subst, ◌∙◌, inl, inr, arith, append-nil, append_assoc}
 use Rattle.std.proofs.lemmas.List.{take_all}
+use Rattle.std.proofs.lemmas.Option.{same_Some}
 use Rattle.std.proofs.lemmas.Bool.{eqb-true, true≢false}
 use Rattle.iim_dataset.specs.Format.Octets.{IsOctet}
 use Rattle.iim_dataset.specs.Format.Datasets.{Dataset, SpellsStream, count_octets, of_record}
@@ -28,19 +29,13 @@ use Rattle.wire_story.specs.Format.Delivery as story
 use Rattle.wire_message.specs.Format.Layers.{text_so_far}
 use Rattle.wire_message.specs.Laws.Messages.{ReadersStandAtLivingOctets}
 use Rattle.wire_message.specs.States.Reading as wire
-use Rattle.wire_message.specs.Format.Causes as wire_format
 use Rattle.wire_story.specs.Format.Texts.{IsText}
 use Rattle.wire_message.specs.Format.Messages.{Header, IsMessage}
 use Rattle.iim_places.specs.Laws.Admitted.{AdmittedOctetsHaveOneValue}
-use Rattle.iim_unpack.specs.Format.Value.{HasParts, ShowsParts}
-use Rattle.iim_unpack.specs.declared.unpacker.Unpacked.{Unpacked}
-use Rattle.iim_unpack.specs.declared.unpacker.UnpackedRef.{UnpackedRef}
 use Rattle.iim_places.specs.Format.Admitted.{Value, Admits, object_of}
-use Rattle.iim_places.specs.Format.Refusals.{begun_record, begun_number, tag_cause, refusal_at, message_on}
-use Rattle.iim_places.specs.Format.Tokens.{IsRefusedHead, IsRefusedValue}
-use Rattle.iim_fields.specs.Format.Values.{data_of}
+use Rattle.iim_places.specs.Format.Refusals.{begun_record, begun_number, tag_cause, refusal_at}
 use Rattle.iim_unpack.specs.UnpackerInside.{cause_of_tag, Advanced, FailsAs, IsOnward, tag_fault, begins, Stood, IsUnpacking}
-use Rattle.iim_places.specs.Format.Open.{object_so_far, AllCanContinue, IsUnfinished, IsTextOf, Delivers, IsOpen, IsBadTagAt, RefusesByTests, IsTruncatedAt, truncated_in}
+use Rattle.iim_places.specs.Format.Open.{object_so_far, AllCanContinue, IsTextOf, Delivers, IsOpen, IsBadTagAt, RefusesByTests, IsTruncatedAt, truncated_in}
 use Rattle.iim_unpack.specs.States.Parts.{AreAfter, StandsFor, AreLed, has_ended}
 use Rattle.iim_unpack.specs.PartSteps.{Refused, RefusesAt}
 use Rattle.iim_unpack.specs.Sequence.{AreInOrder}
@@ -57,52 +52,41 @@ use Rattle.iim_places.proofs.Objects.{are_records}
 use Rattle.iim_unpack.proofs.Carrying.{all_after, all_within}
 use Rattle.iim_places.proofs.Lasts.{sections_last, last_sections, not_all}
 use Rattle.iim_unpack.proofs.Ended.{ended_by_record, unended_inside}
-use Rattle.iim_unpack.proofs.Sequences.{handed_in_order}
+use Rattle.iim_unpack.proofs.Sequences.{by_data, handed_in_order}
 use Rattle.iim_places.specs.Laws.Conditions.{RefusalsTellTheLowestCause}
 use Rattle.iim_places.specs.Laws.Lower.{LowerLaws}
 use Rattle.iim_places.proofs.ObjectOctets.{no_object}
 
 -- ---- begun datasets that are told alike
 
-all_as : (limits : Limits) (ds : List Dataset) (b c : Begun) → begun_data b ≡ begun_data c → AllCanContinue limits ds c → AllCanContinue limits ds b
-all_as limits ds (InTag held) (InTag other) same h = record { sizes = h.sizes; message = h.message; story = h.story }
-all_as limits ds (InTag held) (InData h taken) same k = absurd (let bad : None ≡ Some (h, taken) = same in cc)
-all_as limits ds (InData h taken) (InTag held) same k = absurd (let bad : Some (h, taken) ≡ None = same in cc)
-all_as limits ds (InData h taken) (InData k other) same g =
-    let pair : (h, taken) ≡ (k, other) = some-same same in
-    subst (λ (x : Head × List ℕ). AllCanContinue limits ds (InData x.0 x.1)) (sym pair) g
-  where
-    some-same : {x y : Head × List ℕ} → Some x ≡ Some y → x ≡ y
-    some-same e = cc
+all_as : (limits : Limits) (ds : List Dataset) (b c : Begun) → begun_data b ≡ begun_data c → AllCanContinue limits ds b → AllCanContinue limits ds c
+all_as limits ds b c same h = by_data (AllCanContinue limits ds) (λ x y g. record { sizes = g.sizes; message = g.message; story = g.story }) b c same h
 
 object_as : (ds : List Dataset) (b c : Begun) → begun_data b ≡ begun_data c → object_so_far ds b ≡ object_so_far ds c
-object_as ds (InTag held) (InTag other) same = refl
-object_as ds (InTag held) (InData h taken) same = absurd (let bad : None ≡ Some (h, taken) = same in cc)
-object_as ds (InData h taken) (InTag held) same = absurd (let bad : Some (h, taken) ≡ None = same in cc)
-object_as ds (InData h taken) (InData k other) same =
-    let pair : (h, taken) ≡ (k, other) = some-same same in ap (λ (x : Head × List ℕ). object_so_far ds (InData x.0 x.1)) pair
-  where
-    some-same : {x y : Head × List ℕ} → Some x ≡ Some y → x ≡ y
-    some-same e = cc
+object_as ds b c same = by_data (λ (x : Begun). object_so_far ds b ≡ object_so_far ds x) (λ x y e. e) b c same refl
 
 -- ---- the octets and the parts
 
 -- what the reader of tags and the parts say of the octets
-pub record Both (limits : Limits) (p : List ℕ) (begun : Begun) (text : List ℕ) (parts : Parts) : Type 0 where
+record Both (limits : Limits) (p : List ℕ) (begun : Begun) (text : List ℕ) (parts : Parts) : Type 0 where
   pub whole : List Dataset
   pub reads : Reads count_octets p whole begun
   pub leads_on : AllCanContinue limits whole begun
   pub text_is : text ≡ text_so_far (object_so_far whole begun)
-  pub led_whole : List Dataset
-  pub led_begun : Begun
-  pub stands : StandsFor parts led_whole led_begun
-  pub same : whole ≡ led_whole
+  pub unfinished : has_ended parts ≡ false → AreSections whole → ⊥
 
 all_for : ReadersStandAtLivingOctets → (parts : Parts) (ds : List Dataset) (b : Begun) → StandsFor parts ds b → AllCanContinue (limits_of parts.fields) ds b
 all_for living parts ds (InTag held) at = all_after living parts ds held at
 all_for living parts ds (InData h taken) at = all_within living parts ds h taken at
 
-pub both : LowerLaws → (parts : Parts) (p : List ℕ) (events : List DatasetEvent) (text : List ℕ) (place : Place) → (leads : LeadsTo count_octets p events place) → AreLed parts events text
+-- not yet an envelope
+unfinished : LowerLaws → (parts : Parts) (ds : List Dataset) (b : Begun) → StandsFor parts ds b → has_ended parts ≡ false → AreSections ds → ⊥
+unfinished laws parts ds (InTag held) at more sections =
+    let nine = sections_last laws.last_record ds at.fields.alive sections in
+    true≢false (sym (ap (λ n. nat_eq n 9) nine) ∙ sym (ended_by_record parts ds at.fields) ∙ more)
+unfinished laws parts ds (InData h taken) at more sections = not_all laws.sections ds h at.fields.alive sections
+
+both : LowerLaws → (parts : Parts) (p : List ℕ) (events : List DatasetEvent) (text : List ℕ) (place : Place) → (leads : LeadsTo count_octets p events place) → AreLed parts events text
     → Both (limits_of parts.fields) p leads.begun text parts
 both laws parts p events text place leads led =
     let told = laws.events_tell leads.hands.whole led.whole leads.begun led.begun (sym leads.hands.handed ∙ led.told) in
@@ -111,12 +95,9 @@ both laws parts p events text place leads led =
     record {
       whole = leads.hands.whole;
       reads = leads.hands.reads;
-      leads_on = all_as (limits_of parts.fields) leads.hands.whole leads.begun led.begun told.1 all;
+      leads_on = all_as (limits_of parts.fields) leads.hands.whole led.begun leads.begun (sym told.1) all;
       text_is = led.is_text ∙ ap text_so_far (ap (λ (ds : List Dataset). object_so_far ds led.begun) (sym told.0) ∙ sym (object_as leads.hands.whole leads.begun led.begun told.1));
-      led_whole = led.whole;
-      led_begun = led.begun;
-      stands = led.stands;
-      same = told.0;
+      unfinished = λ more sections. unfinished laws parts led.whole led.begun led.stands more (subst AreSections told.0 sections);
     }
 
 pub text_of : LowerLaws → (parts : Parts) (p : List ℕ) (events : List DatasetEvent) (text : List ℕ) (place : Place) → LeadsTo count_octets p events place → AreLed parts events text → IsTextOf p text
@@ -131,13 +112,6 @@ one_text laws p x y (ds, b, reads, is) (es, c, other, that) =
     let told = laws.events_tell ds es b c way.0 in
     is ∙ ap text_so_far (ap (λ (xs : List Dataset). object_so_far xs b) told.0 ∙ ap (object_so_far es) way.1) ∙ sym that
 
--- not yet an envelope
-unfinished : LowerLaws → (parts : Parts) (ds : List Dataset) (b : Begun) → StandsFor parts ds b → has_ended parts ≡ false → AreSections ds → ⊥
-unfinished laws parts ds (InTag held) at more sections =
-    let nine = sections_last laws.last_record ds at.fields.alive sections in
-    true≢false (sym (ap (λ n. nat_eq n 9) nine) ∙ sym (ended_by_record parts ds at.fields) ∙ more)
-unfinished laws parts ds (InData h taken) at more sections = not_all laws.sections ds h at.fields.alive sections
-
 pub open_by : LowerLaws → (parts : Parts) (p : List ℕ) (events : List DatasetEvent) (text : List ℕ) (place : Place) → LeadsTo count_octets p events place → AreLed parts events text → has_ended parts ≡ false → IsOpen (limits_of parts.fields) p
 open_by laws parts p events text place leads led more =
     let b = both laws parts p events text place leads led in
@@ -146,7 +120,7 @@ open_by laws parts p events text place leads led more =
       begun = leads.begun;
       reads = b.reads;
       leads_on = b.leads_on;
-      unfinished = λ sections. unfinished laws parts b.led_whole b.led_begun b.stands more (subst AreSections b.same sections);
+      unfinished = b.unfinished more;
     }
 
 open_parts : (parts : Parts) (left : Option ℕ) → Takes parts left → has_ended parts ≡ false
@@ -267,7 +241,7 @@ whole_parts laws v p last place led =
 abbrev pub TellsSizes : Unpacking → Sizes → Type 0
 TellsSizes v s = (ds : List Dataset) (r : AreObjectRecords ds) → objects.StandsAt v.parts.object (place_after_datasets ds) → HaveSizes r.r7 r.r8 r.r9 s
 
-admits_by : LowerLaws → (v : Unpacking) (p : List ℕ) (s : Sizes) → (w : WholeParts v p) → TellsSizes v s
+abbrev admits_by : LowerLaws → (v : Unpacking) (p : List ℕ) (s : Sizes) → (w : WholeParts v p) → TellsSizes v s
     → Admits p (record { fields = kept_of w.ds; head = w.head; lines = w.lines; trailer = wire.trailer_read v.parts.message; sizes = s })
 admits_by laws v p s w sizes =
     let r = are_records w.ds w.sections in
@@ -279,10 +253,6 @@ admits_by laws v p s w sizes =
 pub done_by : LowerLaws → (v : Unpacking) (p : List ℕ) (n : ℕ) (s : Sizes) → v.refused ≡ None → HasEnded v.parts → v.reader.place ≡ between → v.octets ≡ n → IsLed v p → TellsSizes v s → IsDoneWith v p n
 done_by laws v p n s taking ended place counts led sizes =
     let w = whole_parts laws v p ended.last place led in
-    let r = are_records w.ds w.sections in
-    let by = laws.by_number w.ds r in
-    let have = sizes w.ds r w.after.object in
-    let have' : HaveSizes (of_record 7 w.ds) (of_record 8 w.ds) (of_record 9 w.ds) s = rw (by.sevens, by.eights, by.nines) have in
     record {
       taking = taking;
       ended = ended.last;
@@ -290,7 +260,7 @@ done_by laws v p n s taking ended place counts led sizes =
       counts = counts;
       is_led = led;
       value = record { fields = kept_of w.ds; head = w.head; lines = w.lines; trailer = wire.trailer_read v.parts.message; sizes = s };
-      admits = record { datasets = w.ds; spelled = w.stream; sections = w.sections; fields = refl; text = text_so_far (object_of w.ds); message = w.message; lines = w.lined; sizes = have' };
+      admits = admits_by laws v p s w sizes;
       within = record { kept = w.after.fields.within; subfiles = w.after.few };
     }
 
@@ -303,31 +273,10 @@ tells_value laws one u p n fields head trailer sizes at head_is trailer_is sizes
     let mine : Value = record { fields = kept_of w.ds; head = w.head; lines = w.lines; trailer = wire.trailer_read u.parts.message; sizes = sizes } in
     let same : mine ≡ v = one p mine v (admits_by laws u p sizes w sizes_are) admits in (
       envelope w.ds w.after.fields ∙ ap (λ (x : Value). x.fields) same,
-      some-same (sym head_is ∙ w.head_is) ∙ ap (λ (x : Value). x.head) same,
+      same_Some _ _ (sym head_is ∙ w.head_is) ∙ ap (λ (x : Value). x.head) same,
       trailer_is ∙ ap (λ (x : Value). x.trailer) same,
       ap (λ (x : Value). x.sizes) same,
     )
-  where
-    some-same : {x y : Header} → Some x ≡ Some y → x ≡ y
-    some-same h = cc
-
-pub hands_over : LowerLaws → AdmittedOctetsHaveOneValue → (u : Unpacking) (p : List ℕ) (n : ℕ) (got : Unpacked) → IsDoneWith u p n → wire.head_read u.parts.message ≡ Some got.head
-    → got.trailer.items ≡ wire.trailer_read u.parts.message → TellsSizes u got.sizes → ((ds : List Dataset) → StandsAfter u.parts.fields ds → got.envelope ≡ kept_of ds)
-    → (v : Value) → Admits p v → HasParts got v
-hands_over laws one u p n got at head trailer sizes envelope v admits =
-    let told = tells_value laws one u p n got.envelope got.head got.trailer.items got.sizes at head trailer sizes envelope v admits in
-    record { fields = told.0; head = told.1; trailer = told.2; sizes = told.3 }
-
-pub shows : LowerLaws → AdmittedOctetsHaveOneValue → (u : Unpacking) (p : List ℕ) (n : ℕ) (got : UnpackedRef) → IsDoneWith u p n → wire.head_read u.parts.message ≡ Some got.head.now
-    → got.trailer.now ≡ wire.trailer_read u.parts.message → TellsSizes u got.sizes → ((ds : List Dataset) → StandsAfter u.parts.fields ds → got.envelope ≡ kept_of ds)
-    → (v : Value) → Admits p v → ShowsParts got v
-shows laws one u p n got at head trailer sizes envelope v admits =
-    let told = tells_value laws one u p n got.envelope got.head.now got.trailer.now got.sizes at head trailer sizes envelope v admits in
-    record { fields = told.0; head = told.1; trailer = told.2; sizes = told.3 }
-
--- there is a header
-pub has_head : LowerLaws → (u : Unpacking) (p : List ℕ) (n : ℕ) → IsDoneWith u p n → wire.head_read u.parts.message ≡ None → ⊥
-has_head laws u p n at none = let w = whole_parts laws u p at.ended at.place at.is_led in let bad : None ≡ Some w.head = sym none ∙ w.head_is in cc
 
 pub goes_done : {S : Type 0} (goes : S → List story.StoryEvent → S → Type 0) (failures : S → ℕ) → LowerLaws → (u v : Unpacking) (piece : List ℕ) (used : ℕ) (a b : S) (s : Sizes)
     → (advanced : Advanced goes failures u.reader.place (take used piece) v.reader.place u.parts a v.parts b) → IsOnward v.reader.place v.parts (length piece) used
@@ -336,26 +285,20 @@ pub goes_done : {S : Type 0} (goes : S → List story.StoryEvent → S → Type 
     → (p : List ℕ) (n : ℕ) → Stands u p n
     → (used ≤ length piece) × IsDoneWith v (p ++ take used piece) (raised n used) × Delivers p (take used piece) (story.delivered advanced.went.more)
 goes_done goes failures laws u v piece used a b s advanced onward same last counts fits sizes p n at =
-    let ended : HasEnded v.parts × (v.reader.place ≡ between) = elim onward [ inl h ↦ absurd (not_taken (to_come' v) h.1) | inr h ↦ h ] in
+    let ended : HasEnded v.parts × (v.reader.place ≡ between) =
+    elim onward [ inl h ↦ absurd (true≢false (sym last ∙ open_parts v.parts (to_come v.reader.place) h.1)) | inr h ↦ h ] in
     let led = led_by goes failures u v p (take used piece) a b advanced at.is_led in (
       fits,
       done_by laws v (p ++ take used piece) (raised n used) s (same ∙ at.taking) ended.0 ended.1 (raised_on u.octets v.octets n used at.counts counts) led sizes,
       adds_by goes failures laws u v p (take used piece) v.reader.place v.parts a b advanced at.is_led,
     )
-  where
-    to_come' : Unpacking → Option ℕ
-    to_come' w = to_come w.reader.place
-
-    not_taken : (left : Option ℕ) → Takes v.parts left → ⊥
-    not_taken left takes = true≢false (sym last ∙ open_parts v.parts left takes)
 
 -- ---- refusals
 
 tag_causes : (held : List ℕ) (cause : HeadCause) → Concerns cause (length held) → cause_of_tag cause ≡ tag_cause held
 tag_causes [] Marker is = refl
-tag_causes (x ∷ xs) Marker is = absurd (omega (arith, is))
-tag_causes [] CountForm is = absurd (omega (arith, is))
 tag_causes (x ∷ xs) CountForm is = refl
+tag_causes held cause is = absurd (omega (arith, is))
 
 kept_tag : (held : List ℕ) (begun : Begun) → IsKeptAs (Tag (record { items = held })) begun → begun ≡ InTag held
 kept_tag held (InTag octets) keeps = ap InTag (sym keeps)
@@ -371,7 +314,7 @@ bad_tag laws limits parts p events text place next cause fault same leads led mo
       held = dies.held;
       reads = subst (Reads count_octets p b.whole) begun b.reads;
       leads_on = subst (AllCanContinue limits b.whole) begun (subst (λ (l : Limits). AllCanContinue l b.whole leads.begun) same b.leads_on);
-      unfinished = λ sections. unfinished laws parts b.led_whole b.led_begun b.stands more (subst AreSections b.same sections);
+      unfinished = b.unfinished more;
       dead = dies.dead;
       is_fault = is ∙ ap (λ (x : Place). tag_fault (named_by x) cause) dies.tag
           ∙ ap (λ (c : Cause). record { layer = layers.Dataset; rec = get_or dies.held 1 0; set = get_or dies.held 2 0; cause = c }) (tag_causes dies.held cause dies.concerns);
@@ -382,59 +325,61 @@ record Told (limits : Limits) (octets text : List ℕ) (next : ℕ) (fault : Tok
   pub text_is : IsTextOf octets text
   pub refuses : RefusesByTests limits octets next fault
 
+-- why an event is refused, told of the same datasets
+refused_as : LowerLaws → (limits : Limits) (events : List DatasetEvent) (text : List ℕ) (event : DatasetEvent) (fault : TokenFault)
+    → Refused limits events text event fault → (ds : List Dataset) (b : Begun) → events ≡ handed_on ds b
+    → (text ≡ text_so_far (object_so_far ds b)) × AllCanContinue limits ds b × (AreSections ds → ⊥) × RefusesAt limits ds b event fault
+refused_as laws limits events text event fault r ds b told =
+    let same = laws.events_tell r.whole ds r.begun b (sym r.told ∙ told) in (
+      r.is_text ∙ ap text_so_far (object_as r.whole r.begun b same.1 ∙ ap (λ (xs : List Dataset). object_so_far xs b) same.0),
+      all_as limits ds r.begun b same.1 (subst (λ (xs : List Dataset). AllCanContinue limits xs r.begun) same.0 r.leads_on),
+      subst (λ (xs : List Dataset). AreSections xs → ⊥) same.0 r.unfinished,
+      subst (λ (xs : List Dataset). RefusesAt limits xs b event fault) same.0
+          (by_data (λ (c : Begun). RefusesAt limits r.whole c event fault) (in_tag event) r.begun b same.1 r.refuses),
+    )
+  where
+    in_tag : (e : DatasetEvent) (x y : List ℕ) → RefusesAt limits r.whole (InTag x) e fault → RefusesAt limits r.whole (InTag y) e fault
+    in_tag (HeadRead h) x y g = g
+    in_tag other x y g = absurd g
+
 head_refused : LowerLaws → (limits : Limits) (octets : List ℕ) (next : ℕ) (events : List DatasetEvent) (text : List ℕ) (h : Head) (fault : TokenFault) → CompletesHead octets next events h
     → Refused limits events text (HeadRead h) fault → Told limits octets text next fault
-head_refused laws limits octets next events text h fault c r = by r.begun r.refuses (laws.events_tell r.whole c.whole r.begun (InTag c.held) (sym r.told ∙ c.told))
-  where
-    by : (b : Begun) → RefusesAt limits r.whole b (HeadRead h) fault → (r.whole ≡ c.whole) × (begun_data r.begun ≡ None) → Told limits octets text next fault
-    by (InTag held) refuses told = record {
-      text_is = (c.whole, InTag c.held, c.reads, r.is_text ∙ ap text_so_far (object_as r.whole r.begun (InTag c.held) told.1 ∙ ap object_of told.0));
+head_refused laws limits octets next events text h fault c r =
+    let (is_text, leads_on, unfinished', refuses) = refused_as laws limits events text (HeadRead h) fault r c.whole (InTag c.held) c.told in
+    record {
+      text_is = (c.whole, InTag c.held, c.reads, is_text);
       refuses = inr (inl (record {
         whole = c.whole;
         held = c.held;
         head = h;
         reads = c.reads;
-        leads_on = all_as limits c.whole (InTag c.held) r.begun (sym told.1) (subst (λ (ds : List Dataset). AllCanContinue limits ds r.begun) told.0 r.leads_on);
-        unfinished = subst (λ (ds : List Dataset). AreSections ds → ⊥) told.0 r.unfinished;
+        leads_on = leads_on;
+        unfinished = unfinished';
         tag = c.tag;
-        refuses = subst (λ (ds : List Dataset). IsRefusedHead limits ds h fault ⊎ IsUnfinished limits ds h fault) told.0 refuses;
+        refuses = refuses;
       }));
     }
-    by (InData k taken) refuses told = absurd refuses
 
 octet_refused : LowerLaws → (limits : Limits) (octets : List ℕ) (next : ℕ) (events : List DatasetEvent) (text : List ℕ) (fault : TokenFault) → CompletesOctet octets next events
     → Refused limits events text (DataOctet next) fault → Told limits octets text next fault
-octet_refused laws limits octets next events text fault c r = by r.begun r.refuses (laws.events_tell r.whole c.whole r.begun (InData c.head c.taken) (sym r.told ∙ c.told)) refl
-  where
-    some-same : {x y : Head × List ℕ} → Some x ≡ Some y → x ≡ y
-    some-same e = cc
-
-    by : (b : Begun) → RefusesAt limits r.whole b (DataOctet next) fault → (r.whole ≡ c.whole) × (begun_data r.begun ≡ Some (c.head, c.taken)) → r.begun ≡ b → Told limits octets text next fault
-    by (InTag held) refuses told is = absurd refuses
-    by (InData k taken) (eight, (cause, has, is_fault)) told is =
-        let pair : (k, taken) ≡ (c.head, c.taken) = some-same (sym (ap begun_data is) ∙ told.1) in
-        let head : k ≡ c.head = ap (λ (x : Head × List ℕ). x.0) pair in
-        let given : taken ≡ c.taken = ap (λ (x : Head × List ℕ). x.1) pair in
-        record {
-          text_is = (
-            c.whole,
-            InData c.head c.taken,
-            c.reads,
-            r.is_text ∙ ap text_so_far (object_as r.whole r.begun (InData c.head c.taken) told.1 ∙ ap (λ (ds : List Dataset). object_so_far ds (InData c.head c.taken)) told.0),
-          );
-          refuses = inr (inr (inl (record {
-            whole = c.whole;
-            head = c.head;
-            taken = c.taken;
-            reads = c.reads;
-            leads_on = all_as limits c.whole (InData c.head c.taken) r.begun (sym told.1) (subst (λ (ds : List Dataset). AllCanContinue limits ds r.begun) told.0 r.leads_on);
-            unfinished = subst (λ (ds : List Dataset). AreSections ds → ⊥) told.0 r.unfinished;
-            subfile = sym (ap (λ (x : Head). x.rec) head) ∙ eight;
-            cause = cause;
-            has_cause = subst (λ (ds : List Dataset). wire_format.HasCause cause (object_of ds ++ c.taken) next) told.0 (subst (λ (xs : List ℕ). wire_format.HasCause cause (object_of r.whole ++ xs) next) given has);
-            is_fault = is_fault ∙ ap (λ (x : Head). message_on x cause) head;
-          })));
-        }
+octet_refused laws limits octets next events text fault c r =
+    let (is_text, leads_on, unfinished', (eight, (cause, has, is_fault))) =
+    refused_as laws limits events text (DataOctet next) fault r c.whole (InData c.head c.taken) c.told in
+    record {
+      text_is = (c.whole, InData c.head c.taken, c.reads, is_text);
+      refuses = inr (inr (inl (record {
+        whole = c.whole;
+        head = c.head;
+        taken = c.taken;
+        reads = c.reads;
+        leads_on = leads_on;
+        unfinished = unfinished';
+        subfile = eight;
+        cause = cause;
+        has_cause = has;
+        is_fault = is_fault;
+      })));
+    }
 
 end_text : (octets : List ℕ) (next : ℕ) (ds : List Dataset) (h : Head) (given text : List ℕ) → (h.rec ≡ 8 → ⊥) → text ≡ text_so_far (object_of ds) → CompletesData octets next ds h given → IsTextOf octets text
 end_text octets next ds h given text other is (inl (taken, reads, parts, count)) = (ds, InData h taken, reads, is ∙ ap text_so_far (sym (no_object ds h taken other)))
@@ -442,32 +387,22 @@ end_text octets next ds h given text other is (inr (held, reads, tag, count, non
 
 end_refused : LowerLaws → (limits : Limits) (octets : List ℕ) (next : ℕ) (events : List DatasetEvent) (text : List ℕ) (fault : TokenFault) → CompletesEnd octets next events
     → Refused limits events text DatasetEnd fault → Told limits octets text next fault
-end_refused laws limits octets next events text fault c r = by r.begun r.refuses (laws.events_tell r.whole c.whole r.begun (InData c.head c.given) (sym r.told ∙ c.told)) refl
-  where
-    some-same : {x y : Head × List ℕ} → Some x ≡ Some y → x ≡ y
-    some-same e = cc
-
-    by : (b : Begun) → RefusesAt limits r.whole b DatasetEnd fault → (r.whole ≡ c.whole) × (begun_data r.begun ≡ Some (c.head, c.given)) → r.begun ≡ b → Told limits octets text next fault
-    by (InTag held) refuses told is = absurd refuses
-    by (InData k taken) (other, refuses) told is =
-        let pair : (k, taken) ≡ (c.head, c.given) = some-same (sym (ap begun_data is) ∙ told.1) in
-        let head : k ≡ c.head = ap (λ (x : Head × List ℕ). x.0) pair in
-        let apart : c.head.rec ≡ 8 → ⊥ = λ eight. other (ap (λ (x : Head). x.rec) head ∙ eight) in
-        let is_text : text ≡ text_so_far (object_of c.whole) =
-        r.is_text ∙ ap text_so_far (object_as r.whole r.begun (InData c.head c.given) told.1 ∙ ap (λ (ds : List Dataset). object_so_far ds (InData c.head c.given)) told.0 ∙ no_object c.whole c.head c.given apart) in
-        record {
-          text_is = end_text octets next c.whole c.head c.given text apart is_text c.completes;
-          refuses = inr (inr (inr (record {
-            whole = c.whole;
-            head = c.head;
-            given = c.given;
-            is_value = apart;
-            completes = c.completes;
-            leads_on = all_as limits c.whole (InData c.head c.given) r.begun (sym told.1) (subst (λ (ds : List Dataset). AllCanContinue limits ds r.begun) told.0 r.leads_on);
-            unfinished = subst (λ (ds : List Dataset). AreSections ds → ⊥) told.0 r.unfinished;
-            refuses = subst (λ (ds : List Dataset). IsRefusedValue ds (data_of c.head c.given) fault) told.0 (subst (λ (x : Head × List ℕ). IsRefusedValue r.whole (data_of x.0 x.1) fault) pair refuses);
-          })));
-        }
+end_refused laws limits octets next events text fault c r =
+    let (is_text, leads_on, unfinished', (other, refuses)) =
+    refused_as laws limits events text DatasetEnd fault r c.whole (InData c.head c.given) c.told in
+    record {
+      text_is = end_text octets next c.whole c.head c.given text other (is_text ∙ ap text_so_far (no_object c.whole c.head c.given other)) c.completes;
+      refuses = inr (inr (inr (record {
+        whole = c.whole;
+        head = c.head;
+        given = c.given;
+        is_value = other;
+        completes = c.completes;
+        leads_on = leads_on;
+        unfinished = unfinished';
+        refuses = refuses;
+      })));
+    }
 
 -- the events up to one that an octet completes
 completed_in_order : (octets : List ℕ) (next : ℕ) (events : List DatasetEvent) (event : DatasetEvent) → Completes octets next events event → AreInOrder (events ++ event ∷ [])
@@ -482,6 +417,25 @@ token_refused laws limits octets next events text (DataOctet b) fault c r =
     octet_refused laws limits octets next events text fault c.1 (subst (λ (x : ℕ). Refused limits events text (DataOctet x) fault) c.0 r)
 token_refused laws limits octets next events text DatasetEnd fault c r = end_refused laws limits octets next events text fault c r
 
+-- octet k of a piece is refused, after octets on which the unpacker stands
+refused_by : LowerLaws → RefusalsTellTheLowestCause → (u : Unpacking) (piece : List ℕ) (k : ℕ) (fault : TokenFault) (e : Refusal) (added : List ℕ)
+    → k < length piece → IsOctet (slice_index piece k) → e ≡ refusal_at (raised u.octets k) fault → (p : List ℕ) (n : ℕ) (at : Stands u p n)
+    → Told (limits_in u) (p ++ take k piece) (at.is_led.text ++ added) (slice_index piece k) fault
+    → IsRefusedIn (limits_in u) p n piece (story.delivered added) e
+refused_by laws tests u piece k fault e added within low is p n at told = record {
+  k = k;
+  within = within;
+  fault = fault;
+  refusal = is ∙ ap (λ (m : ℕ). refusal_at (raised m k) fault) at.counts;
+  added = added;
+  delivers = refl;
+  adds = λ text is_text.
+      let led = at.is_led in
+      let same = one_text laws p text led.text is_text (text_of laws u.parts p led.events led.text u.reader.place led.leads led.led) in
+      subst (λ (t : List ℕ). IsTextOf (p ++ take k piece) (t ++ added)) (sym same) told.text_is;
+  refuses = (tests (limits_in u) (p ++ take k piece) (slice_index piece k) fault).1 (low, told.refuses);
+}
+
 -- the sink's answer at a refusal
 pub refused_in : {S : Type 0} (goes : S → List story.StoryEvent → S → Type 0) (failures : S → ℕ) → LowerLaws → RefusalsTellTheLowestCause → (u : Unpacking) (piece : List ℕ) (k : ℕ) (fault : TokenFault) (a b : S) (e : Refusal)
     → k < length piece → IsOctet (slice_index piece k) → e ≡ refusal_at (raised u.octets k) fault → FailsAs goes failures (u.reader.place, u.parts, a) piece k fault b
@@ -492,58 +446,42 @@ refused_in goes failures laws tests u piece k fault a b e within low is (inl (ca
       w.told,
       λ p n at.
           let led = at.is_led in
+          let octets : List ℕ = p ++ take k piece in
+          let events : List DatasetEvent = led.events ++ stuck.advanced.more in
+          let text : List ℕ = led.text ++ w.more in
           let leads = stuck.advanced.brings p led.events led.leads in
-          let then_led = tells_parts_on goes failures u.reader.place u.parts p (take k piece) new stuck.parts a b stuck.advanced led.events led.text led.leads led.led in
-          record {
-            k = k;
-            within = within;
-            fault = fault;
-            refusal = is ∙ ap (λ (m : ℕ). refusal_at (raised m k) fault) at.counts;
-            added = w.more;
-            delivers = refl;
-            adds = λ text is_text.
-                let same = one_text laws p text led.text is_text (text_of laws u.parts p led.events led.text u.reader.place led.leads led.led) in
-                subst (λ (t : List ℕ). IsTextOf (p ++ take k piece) (t ++ w.more)) (sym same)
-                (text_of laws stuck.parts (p ++ take k piece) (led.events ++ stuck.advanced.more) (led.text ++ w.more) new leads then_led);
-            refuses = (tests (limits_in u) (p ++ take k piece) (slice_index piece k) fault).1 (low, inl (bad_tag laws (limits_in u) stuck.parts (p ++ take k piece) (led.events ++ stuck.advanced.more) (led.text ++ w.more) new (slice_index piece k) cause fault w.limits leads then_led (open_parts stuck.parts (to_come new) stuck.takes) stuck.dies is_fault));
-          },
+          let then_led =
+          tells_parts_on goes failures u.reader.place u.parts p (take k piece) new stuck.parts a b stuck.advanced led.events led.text led.leads led.led in
+          refused_by laws tests u piece k fault e w.more within low is p n at (record {
+            text_is = text_of laws stuck.parts octets events text new leads then_led;
+            refuses = inl (bad_tag laws (limits_in u) stuck.parts octets events text new (slice_index piece k) cause fault w.limits leads then_led
+                (open_parts stuck.parts (to_come new) stuck.takes) stuck.dies is_fault);
+          }),
     )
 refused_in goes failures laws tests u piece k fault a b e within low is (inr stop) =
-    let s = stop.stopped in
-    let same_fault : s.fault ≡ fault = sym (some-same s.is_fault) in (
+    let s = stop.stopped in (
       story.delivered s.more,
       s.told,
       λ p n at.
           let led = at.is_led in
+          let octets : List ℕ = p ++ take k piece in
+          let events : List DatasetEvent = led.events ++ stop.more in
+          let text : List ℕ = led.text ++ s.more in
           let completes = stop.completes p led.events led.leads in
-          let now = laws.completes (p ++ take k piece) (slice_index piece k) (led.events ++ stop.more) stop.event completes in
-          let order : AreInOrder ((led.events ++ stop.more) ++ stop.event ∷ []) = completed_in_order (p ++ take k piece) (slice_index piece k) (led.events ++ stop.more) stop.event completes in
-          let told = token_refused laws (limits_in u) (p ++ take k piece) (slice_index piece k) (led.events ++ stop.more) (led.text ++ s.more) stop.event fault now
-          (subst (λ (f : TokenFault). Refused (limits_in u) (led.events ++ stop.more) (led.text ++ s.more) stop.event f) same_fault (s.why led.events led.text order led.led)) in
-          record {
-            k = k;
-            within = within;
-            fault = fault;
-            refusal = is ∙ ap (λ (m : ℕ). refusal_at (raised m k) fault) at.counts;
-            added = s.more;
-            delivers = refl;
-            adds = λ text is_text.
-                let same = one_text laws p text led.text is_text (text_of laws u.parts p led.events led.text u.reader.place led.leads led.led) in
-                subst (λ (t : List ℕ). IsTextOf (p ++ take k piece) (t ++ s.more)) (sym same) told.text_is;
-            refuses = (tests (limits_in u) (p ++ take k piece) (slice_index piece k) fault).1 (low, told.refuses);
-          },
+          let now = laws.completes octets (slice_index piece k) events stop.event completes in
+          let order : AreInOrder (events ++ stop.event ∷ []) = completed_in_order octets (slice_index piece k) events stop.event completes in
+          let why : Refused (limits_in u) events text stop.event fault =
+          subst (λ (f : TokenFault). Refused (limits_in u) events text stop.event f) (sym (same_Some _ _ s.is_fault)) (s.why led.events led.text order led.led) in
+          refused_by laws tests u piece k fault e s.more within low is p n at
+          (token_refused laws (limits_in u) octets (slice_index piece k) events text stop.event fault now why),
     )
-  where
-    some-same : {x y : TokenFault} → Some x ≡ Some y → x ≡ y
-    some-same h = cc
 
 -- ---- the beginning and the end
 
-pub named_as : (place : Place) (begun : Begun) → IsKeptAs place begun → named_by place ≡ (begun_record begun, begun_number begun)
+named_as : (place : Place) (begun : Begun) → IsKeptAs place begun → named_by place ≡ (begun_record begun, begun_number begun)
 named_as (Tag held) (InTag octets) keeps = ap (λ (xs : List ℕ). (get_or xs 1 0, get_or xs 2 0)) keeps
-named_as (Tag held) (InData h taken) keeps = absurd keeps
-named_as (Inside h left) (InTag octets) keeps = absurd keeps
 named_as (Inside h left) (InData k taken) keeps = ap (λ (x : Head). (x.rec, x.set)) keeps.0
+named_as place begun keeps = absurd keeps
 
 pub truncated_by : (u : Unpacking) (p : List ℕ) (a : ℕ) → Stands u p a → IsTruncatedAt p a (truncated_in u.octets (named_by u.reader.place))
 truncated_by u p a at =
@@ -556,30 +494,36 @@ truncated_by u p a at =
     }
 
 -- an unpacker of which no octet has come
-pub stands_new : LowerLaws → (u : Unpacking) → u.refused ≡ None → u.octets ≡ 0 → u.begun ≡ false → LeadsTo count_octets [] [] u.reader.place → AreAfter u.parts [] → Stands u [] 0
-stands_new laws u taking counts none leads after =
-    let more : has_ended u.parts ≡ false = ended_by_record u.parts [] after.fields in
+pub stands_new : LowerLaws → (u : Unpacking) → u.refused ≡ None → u.octets ≡ 0 → u.begun ≡ false
+    → LeadsTo count_octets [] [] u.reader.place → TakesCalls u.reader → u.reader.place ≡ between → StandsAfter u.parts.fields []
+    → objects.StandsAt u.parts.object (place_after_datasets []) → wire.StandsAt u.parts.message (object_of []) (text_so_far (object_of []))
+    → IsSome u.parts.object → IsSome u.parts.message → Stands u [] 0 × IsUnpacking u
+stands_new laws u taking counts none leads calls place fields object message some_object some_message =
+    let more : has_ended u.parts ≡ false = ended_by_record u.parts [] fields in
+    let after : AreAfter u.parts [] =
+    record { fields = fields; object = object; few = omega arith; message = message; ended = λ nine. absurd (omega (arith, nine)) } in
     let led : AreLed u.parts [] [] = record { whole = []; begun = InTag []; told = refl; stands = after; is_text = refl } in
-    record {
+    let stands : Stands u [] 0 = record {
       taking = taking;
       unended = more;
       counts = counts;
       begun = none;
       is_led = record { events = []; text = []; leads = leads; led = led };
       is_open = open_by laws u.parts [] [] [] u.reader.place leads led more;
-    }
+    } in (
+      stands,
+      record {
+        calls = calls;
+        takes = inl (
+          more,
+          subst (λ (x : Place). Takes u.parts (to_come x)) (sym place)
+              (record { fields = fields.between; object = some_object; message = some_message; more = more }),
+        );
+        stood = ([], 0, inl stands);
+      },
+    )
 
 -- ---- an unpacker stands somewhere
-
-pub sound_new : LowerLaws → (u : Unpacking) → u.refused ≡ None → u.octets ≡ 0 → u.begun ≡ false → LeadsTo count_octets [] [] u.reader.place → AreAfter u.parts [] → TakesCalls u.reader → u.reader.place ≡ between
-    → IsSome u.parts.object → IsSome u.parts.message → IsUnpacking u
-sound_new laws u taking counts none leads after calls place object message =
-    let more : has_ended u.parts ≡ false = ended_by_record u.parts [] after.fields in
-    record {
-      calls = calls;
-      takes = inl (more, subst (λ (x : Place). Takes u.parts (to_come x)) (sym place) (record { fields = after.fields.between; object = object; message = message; more = more }));
-      stood = ([], 0, inl (stands_new laws u taking counts none leads after));
-    }
 
 pub stood_stands : (u : Unpacking) → has_ended u.parts ≡ false → Stood u → (p : List ℕ) × (a : ℕ) × Stands u p a
 stood_stands u more (p, a, inl at) = (p, a, at)
@@ -605,28 +549,15 @@ sound_done goes failures laws u v piece used a b s advanced onward calls same la
     let all = goes_done goes failures laws u v piece used a b s advanced onward same last counts fits sizes p n at in
     record {
       calls = calls;
-      takes = elim onward [ inl h ↦ absurd (taken_not v last (to_come v.reader.place) h.1) | inr h ↦ inr h.0 ];
+      takes = elim onward [ inl h ↦ absurd (true≢false (sym last ∙ open_parts v.parts (to_come v.reader.place) h.1)) | inr h ↦ inr h.0 ];
       stood = (p ++ take used piece, raised n used, inr all.1);
     }
-  where
-    taken_not : (w : Unpacking) → has_ended w.parts ≡ true → (left : Option ℕ) → Takes w.parts left → ⊥
-    taken_not w ended left takes = true≢false (sym ended ∙ open_parts w.parts left takes)
 
 -- an unpacker of which the last dataset has ended is done with some octets
 pub stood_done : (u : Unpacking) → has_ended u.parts ≡ true → Stood u → (p : List ℕ) × (a : ℕ) × IsDoneWith u p a
 stood_done u last (p, a, inl at) = absurd (true≢false (sym last ∙ at.unended))
 stood_done u last (p, a, inr at) = (p, a, at)
 
--- its trailer is short
-pub short_trailer : LowerLaws → (u : Unpacking) → has_ended u.parts ≡ true → Stood u → length (wire.trailer_read u.parts.message) ≤ 64
-short_trailer laws u last stood =
-    let (p, a, at) = stood_done u last stood in
-    (whole_parts laws u p at.ended at.place at.is_led).message.is_trailer.2
-
-pub some_head : LowerLaws → (u : Unpacking) → has_ended u.parts ≡ true → Stood u → wire.head_read u.parts.message ≡ None → ⊥
-some_head laws u last stood = let (p, a, at) = stood_done u last stood in has_head laws u p a at
-
-pub all_sections : LowerLaws → (u : Unpacking) → has_ended u.parts ≡ true → Stood u → (((ds : List Dataset) → StandsAfter u.parts.fields ds → AreSections ds → ⊥) → ⊥)
-all_sections laws u last stood none =
-    let (p, a, at) = stood_done u last stood in
-    let w = whole_parts laws u p at.ended at.place at.is_led in none w.ds w.after.fields w.sections
+-- what stands there then
+pub whole_of : LowerLaws → (u : Unpacking) → has_ended u.parts ≡ true → Stood u → (p : List ℕ) × WholeParts u p
+whole_of laws u last stood = let (p, a, at) = stood_done u last stood in (p, whole_parts laws u p at.ended at.place at.is_led)

@@ -6,8 +6,7 @@ use Rattle.iim_dataset.specs.States.Events.{DatasetEvent, HeadRead, events_of}
 use Rattle.iim_dataset.specs.Format.Languages as languages
 use Rattle.iim_dataset.specs.declared.head.Head.{Head}
 use Rattle.iim_fields.specs.Format.Alive.{SectionsLiveAt}
-use Rattle.iim_fields.specs.States.Standing as records
-use Rattle.iim_fields.specs.States.Standing.{IsBetween, IsHeadFault, limits_of, FieldsPlace}
+use Rattle.iim_fields.specs.States.Standing.{IsBetween, IsHeadFault, limits_of, FieldsPlace, StandsAfter, StandsIn}
 use Rattle.iim_fields.specs.declared.fault.FieldFault.{FieldFault}
 use Rattle.iim_object.specs.Format.Events.{ObjectEnd}
 use Rattle.iim_object.specs.Format.Plans.{max_subfiles}
@@ -32,11 +31,11 @@ use Rattle.iim_unpack.specs.States.Parts.{AreAfter, Within, CountsFor, has_ended
 use Rattle.iim_unpack.specs.PartSteps.{TellsParts, PartsRefuse}
 use Rattle.iim_unpack.specs.declared.parts.Parts.{Parts}
 use Rattle.iim_places.specs.declared.fault.TokenFault.{TokenFault}
-use Rattle.wire_message.specs.declared.fault.MessageCause.{MessageCause}
 use Rattle.iim_places.proofs.Places.{HeadLeads, subfile_leads, end_leads}
 use Rattle.iim_unpack.proofs.Faults.{field_head, too_many_head, object_head, have_room}
 use Rattle.std.proofs.lemmas.Bool.{true≢false, ne_eqb}
 use Rattle.std.proofs.lemmas.List.{length-map}
+use Rattle.std.proofs.lemmas.Option.{same_Some}
 use Rattle.iim_places.proofs.Lasts.{sections_last}
 use Rattle.iim_unpack.proofs.Ended.{ended_by_record}
 use Rattle.iim_unpack.proofs.Carrying.{counts_for, passes_on, after_all, all_after}
@@ -44,7 +43,7 @@ use Rattle.iim_places.specs.Laws.Lower.{LowerLaws}
 
 -- What stands after a head.
 pub record Begins (new : Parts) (ds : List Dataset) (h : Head) : Type 0 where
-  pub fields : records.StandsIn new.fields ds h []
+  pub fields : StandsIn new.fields ds h []
   pub object : objects.StandsAt new.object (place_at ds h)
   pub few : length (of_record 8 ds) ≤ max_subfiles
   pub room : h.rec ≡ 8 → length (of_record 8 ds) < max_subfiles
@@ -61,7 +60,7 @@ no_more ds h = ap (λ (xs : List ℕ). object_of ds ++ xs) (either_way (nat_eq h
 within_begun : (new : Parts) (ds : List Dataset) (h : Head) → Begins new ds h → Within new ds h []
 within_begun new ds h b = record {
   octets = tt;
-  fields = subst (records.StandsIn new.fields ds h) (sym (either_way (nat_eq h.rec 8) [])) b.fields;
+  fields = subst (StandsIn new.fields ds h) (sym (either_way (nat_eq h.rec 8) [])) b.fields;
   object = b.object;
   few = b.few;
   room = b.room;
@@ -122,7 +121,7 @@ few_of : (p : Parts) (ds : List Dataset) → AreAfter p ds → HasFewSubfiles p.
 few_of p ds at few = let n = few (place_after_datasets ds) at.object in omega (arith, n, as_many ds)
 
 pub begins_subfile : {S : Type 0} (goes : S → List story.StoryEvent → S → Type 0) (failures : S → ℕ) → LowerLaws → (p : Parts) (a b : S) (ds : List Dataset) (h : Head) (checker : FieldsPlace) (object : Option State) (message : Option Place)
-    → h.rec ≡ 8 → AreAfter p ds → records.StandsIn checker ds h [] → objects.LeadsOn p.object (head_token h.rec h.count) object
+    → h.rec ≡ 8 → AreAfter p ds → StandsIn checker ds h [] → objects.LeadsOn p.object (head_token h.rec h.count) object
     → (passed : TellsMessage goes failures p.message a (events_at h.rec) message b) → HasFewSubfiles p.object
     → Begins (record { fields = checker; object = object; message = message }) ds h
     × (text_so_far (object_of ds) ++ passed.more ≡ text_so_far (object_of ds))
@@ -142,7 +141,7 @@ begins_subfile goes failures laws p a b ds h checker object message eight at ins
     )
 
 pub begins_end : {S : Type 0} (goes : S → List story.StoryEvent → S → Type 0) (failures : S → ℕ) → LowerLaws → (p : Parts) (a b : S) (ds : List Dataset) (h : Head) (checker : FieldsPlace) (object : Option State) (message : Option Place)
-    → h.rec ≡ 9 → AreAfter p ds → records.StandsIn checker ds h [] → objects.LeadsOn p.object (head_token h.rec h.count) object
+    → h.rec ≡ 9 → AreAfter p ds → StandsIn checker ds h [] → objects.LeadsOn p.object (head_token h.rec h.count) object
     → (passed : TellsMessage goes failures p.message a (events_at h.rec) message b)
     → Begins (record { fields = checker; object = object; message = message }) ds h
     × (text_so_far (object_of ds) ++ passed.more ≡ text_so_far (object_of ds))
@@ -161,7 +160,7 @@ begins_end goes failures laws p a b ds h checker object message nine at inside l
       text.1,
     )
 
-pub begins_other : (p : Parts) (ds : List Dataset) (h : Head) (checker : FieldsPlace) → (h.rec ≡ 8 → ⊥) → (h.rec ≡ 9 → ⊥) → AreAfter p ds → records.StandsIn checker ds h []
+pub begins_other : (p : Parts) (ds : List Dataset) (h : Head) (checker : FieldsPlace) → (h.rec ≡ 8 → ⊥) → (h.rec ≡ 9 → ⊥) → AreAfter p ds → StandsIn checker ds h []
     → Begins (record { fields = checker; object = p.object; message = p.message }) ds h
 begins_other p ds h checker other8 other9 at inside =
     let no8 = ne_eqb h.rec 8 other8 in
@@ -204,13 +203,13 @@ stopped_head goes failures p a b h fault more laws last between told counts refu
 }
 
 pub stopped_field : {S : Type 0} (goes : S → List story.StoryEvent → S → Type 0) (failures : S → ℕ) (p : Parts) (a : S) (h : Head) (f : FieldFault) → h.set < 256 → LowerLaws → has_ended p ≡ false → IsBetween p.fields → goes a [] a
-    → ((ds : List Dataset) → records.StandsAfter p.fields ds → IsHeadFault (limits_of p.fields) ds h f) → PartsRefuse goes failures (p, a) [] (HeadRead h) (Some (of_field f), a)
+    → ((ds : List Dataset) → StandsAfter p.fields ds → IsHeadFault (limits_of p.fields) ds h f) → PartsRefuse goes failures (p, a) [] (HeadRead h) (Some (of_field f), a)
 stopped_field goes failures p a h f small laws last between g is =
     stopped_head goes failures p a a h (of_field f) [] laws last between g refl
     (λ ds at. (inl (field_head laws.heads_die (limits_of p.fields) ds h f small at.fields.alive (is ds at.fields)), append-nil (text_so_far (object_of ds))))
 
 pub stopped_many : {S : Type 0} (goes : S → List story.StoryEvent → S → Type 0) (failures : S → ℕ) (p : Parts) (a : S) (h : Head) (checker : FieldsPlace) → LowerLaws → has_ended p ≡ false → IsBetween p.fields → goes a [] a
-    → ((ds : List Dataset) → records.StandsAfter p.fields ds → records.StandsIn checker ds h []) → h.rec ≡ 8 → IsFullOfSubfiles p.object
+    → ((ds : List Dataset) → StandsAfter p.fields ds → StandsIn checker ds h []) → h.rec ≡ 8 → IsFullOfSubfiles p.object
     → PartsRefuse goes failures (p, a) [] (HeadRead h) (Some (too_many_on h), a)
 stopped_many goes failures p a h checker laws last between g inside eight many =
     stopped_head goes failures p a a h (too_many_on h) [] laws last between g refl
@@ -219,7 +218,7 @@ stopped_many goes failures p a h checker laws last between g inside eight many =
     (inl (too_many_head laws.heads_die (limits_of p.fields) ds h (too_many_on h) at.fields.alive (inside ds at.fields).alive eight full refl), append-nil (text_so_far (object_of ds))))
 
 pub stopped_size : {S : Type 0} (goes : S → List story.StoryEvent → S → Type 0) (failures : S → ℕ) (p : Parts) (a b : S) (h : Head) (checker : FieldsPlace) (fault : TokenFault) → LowerLaws → has_ended p ≡ false → IsBetween p.fields
-    → ((ds : List Dataset) → records.StandsAfter p.fields ds → records.StandsIn checker ds h []) → (h.rec ≡ 8) ⊎ (h.rec ≡ 9) → (h.rec ≡ 8 → HasFewSubfiles p.object)
+    → ((ds : List Dataset) → StandsAfter p.fields ds → StandsIn checker ds h []) → (h.rec ≡ 8) ⊎ (h.rec ≡ 9) → (h.rec ≡ 8 → HasFewSubfiles p.object)
     → RefusesBySize goes failures p.object p.message h a b fault → PartsRefuse goes failures (p, a) [] (HeadRead h) (Some fault, b)
 stopped_size goes failures p a b h checker fault laws last between inside is few r =
     stopped_head goes failures p a b h fault r.more laws last between r.told
@@ -236,10 +235,10 @@ stopped_size goes failures p a b h checker fault laws last between inside is few
     leads_by (inr nine) ds alive room = end_leads laws ds h alive nine
 
 pub stopped_end : {S : Type 0} (goes : S → List story.StoryEvent → S → Type 0) (failures : S → ℕ) (p : Parts) (a b : S) (h : Head) (checker : FieldsPlace) (fault : TokenFault) → LowerLaws → has_ended p ≡ false → IsBetween p.fields
-    → ((ds : List Dataset) → records.StandsAfter p.fields ds → records.StandsIn checker ds h []) → h.rec ≡ 9
+    → ((ds : List Dataset) → StandsAfter p.fields ds → StandsIn checker ds h []) → h.rec ≡ 9
     → RefusesAtEnd goes failures p.object p.message h a b fault → PartsRefuse goes failures (p, a) [] (HeadRead h) (Some fault, b)
 stopped_end goes failures p a b h checker fault laws last between inside nine r =
-    let same : r.halted.why ≡ r.cause = sym (some-same r.halted.is_cause) in
+    let same : r.halted.why ≡ r.cause = sym (same_Some _ _ r.halted.is_cause) in
     stopped_head goes failures p a b h fault r.halted.more laws last between r.halted.told
     (subst (λ (f : TokenFault). CountsFor f.cause (failures a) (failures b)) (sym r.is_fault)
     (counts_for r.cause (failures a) (failures b) (subst (wire.CountsCause (failures a) (failures b)) same r.halted.counts)))
@@ -262,12 +261,9 @@ stopped_end goes failures p a b h checker fault laws last between inside nine r 
       }),
       somewhere_text laws.texts p.message (object_of ds) r.halted.more r.halted.leads at.message,
     ))
-  where
-    some-same : {x y : MessageCause} → Some x ≡ Some y → x ≡ y
-    some-same e = cc
 
 pub stopped_subfile : {S : Type 0} (goes : S → List story.StoryEvent → S → Type 0) (failures : S → ℕ) (p : Parts) (a b : S) (h : Head) (checker : FieldsPlace) → LowerLaws → has_ended p ≡ false → IsBetween p.fields → goes a [] a
-    → ((ds : List Dataset) → records.StandsAfter p.fields ds → records.StandsIn checker ds h []) → h.rec ≡ 8 → (fault : TokenFault)
+    → ((ds : List Dataset) → StandsAfter p.fields ds → StandsIn checker ds h []) → h.rec ≡ 8 → (fault : TokenFault)
     → RefusesSubfile goes failures p.object p.message h a b fault
     → PartsRefuse goes failures (p, a) [] (HeadRead h) (Some fault, b)
 stopped_subfile goes failures p a b h checker laws last between g inside eight fault (inl (many, is, same)) =
@@ -279,7 +275,7 @@ stopped_subfile goes failures p a b h checker laws last between g inside eight f
     absurd (let bad : SubfileBegun h.count ≡ ObjectEnded = sym (ap (λ n. head_token n h.count) eight) ∙ r.token in cc)
 
 pub stopped_last : {S : Type 0} (goes : S → List story.StoryEvent → S → Type 0) (failures : S → ℕ) (p : Parts) (a b : S) (h : Head) (checker : FieldsPlace) → LowerLaws → has_ended p ≡ false → IsBetween p.fields
-    → ((ds : List Dataset) → records.StandsAfter p.fields ds → records.StandsIn checker ds h []) → h.rec ≡ 9 → (fault : TokenFault)
+    → ((ds : List Dataset) → StandsAfter p.fields ds → StandsIn checker ds h []) → h.rec ≡ 9 → (fault : TokenFault)
     → RefusesObject goes failures p.object p.message h a b fault → PartsRefuse goes failures (p, a) [] (HeadRead h) (Some fault, b)
 stopped_last goes failures p a b h checker laws last between inside nine fault (inl r) =
     stopped_size goes failures p a b h checker fault laws last between inside (inr nine) (λ eight. absurd (let bad : 8 ≡ 9 = sym eight ∙ nine in omega (arith, bad))) r

@@ -22,7 +22,7 @@ use Rattle.iim_unpack.specs.UnpackerInside.{Stood}
 use Rattle.iim_unpack.specs.declared.parts.Parts.{Parts}
 use Rattle.iim_places.proofs.Bounds.{is_one}
 use Rattle.iim_places.proofs.TicketLengths.{AreShortIn, texts_at, held_length, some_taken, none_taken}
-use Rattle.iim_unpack.proofs.SamePlace.{told_by}
+use Rattle.iim_unpack.proofs.SamePlace.{told_by, led_of}
 
 -- ---- the message
 
@@ -110,4 +110,4 @@ few_led tell u p led =
     by (InData h taken) reads stands tag = sum (few_in u.parts led.leads.hands.whole h taken stands.fields reads.is_rest.2) tag (few_of_message u.parts.message _ _ stands.message)
 
 pub holds_few : EventsTellTheDatasets → (u : Unpacking) → Stood u → HoldsFew u
-holds_few tell u (p, a, stood) = elim stood [ inl at' ↦ few_led tell u p at'.is_led | inr at' ↦ few_led tell u p at'.is_led ]
+holds_few tell u (p, a, stood) = few_led tell u p (led_of stood)

@@ -2,6 +2,7 @@
 use Rattle.std.proofs.Common.{◌≡◌, ℕ, ◌+◌, ◌-◌, ◌^◌, ◌<◌, ◌≤◌, Bool, true, false, List, [], ◌++◌, length, take, slice_index, Option, Some, None, refl, ap, sym, subst, ◌∙◌, inl, inr, arith, append-nil, append_assoc, length-append}
 use Rattle.std.specs.Prelude.{IsTrue, ◌↔◌, IfNone, IfSome}
 use Rattle.std.proofs.lemmas.List.{get_or-append-add, length-take-le}
+use Rattle.std.proofs.lemmas.Option.{same_Some}
 use Rattle.std.proofs.Math.Seq.{take-append-add}
 use Rattle.std.specs.Io.KnownBytes.{IsAtEnd}
 use Rattle.iim_dataset.specs.States.Devices.{Device, HasGiven, MissedAfter, WithinInterruptionLimit}
@@ -21,7 +22,7 @@ use Rattle.iim_places.specs.States.Counts.{raised}
 use Rattle.iim_unpack.specs.UnpackerInside.{Stood}
 use Rattle.iim_places.specs.Format.Open.{IsOpen, IsTextOf, Delivers, IsTruncatedAt, RefusesNext}
 use Rattle.iim_unpack.specs.IntakeSteps.{IsRefusedPiece, read_fault}
-use Rattle.iim_unpack.specs.States.Intakes.{FedEnvelope, FedPiece, HasFed, StandsOn, WasDone, WasEnded, IsRefusedOf, IsTruncatedIn, WasRefused, WasTruncated, WasMissed, WasGiven, IsReady, Faults, GivesNothing, in_line}
+use Rattle.iim_unpack.specs.States.Intakes.{FedPiece, HasFed, StandsOn, WasDone, WasEnded, IsRefusedOf, IsTruncatedIn, WasRefused, WasTruncated, WasMissed, WasGiven, IsReady, Faults, GivesNothing, in_line}
 use Rattle.iim_places.specs.Laws.Streams.{OpenOctetsAreBounded}
 use Rattle.iim_unpack.specs.declared.intake.Fed.{Fed}
 use Rattle.iim_unpack.specs.declared.intake.Fed.TheVariants as piece
@@ -187,43 +188,29 @@ none_truncated goes failures old new u a e low nothing given limit end is = reco
 
 pub none_missed : {S : Type 0} (goes : S → List story.StoryEvent → S → Type 0) (failures : S → ℕ) (old new : Device) (u : Unpacking) (a : S) (kept : ℕ) (fault : IoFault) (answer : IntakeFault) → u.octets < 2 ^ 64 → goes a [] a
     → MissedAfter old new [] fault → WithinInterruptionLimit 1 old new → kept ≡ u.octets → answer ≡ read_fault fault → Faults goes failures old new u u a a kept answer
-none_missed goes failures old new u a kept fault answer low nothing missed limit counts is = subst (λ (x : IntakeFault). Faults goes failures old new u u a a kept x) (sym is) (by fault missed)
+none_missed goes failures old new u a kept fault answer low nothing missed limit counts is =
+    let still = stands_still u low in
+    let was : WasMissed goes failures old new u u a a kept fault =
+    record { octets = []; more = []; missed = missed; patience = limit; told = nothing; calm = refl; counts = counts; limits = refl; stands = still } in
+    subst (λ (x : IntakeFault). Faults goes failures old new u u a a kept x) (sym is) (by fault was)
   where
-    was : (fault' : IoFault) → MissedAfter old new [] fault' → WasMissed goes failures old new u u a a kept fault'
-    was fault' missed' = record { octets = []; more = []; missed = missed'; patience = limit; told = nothing; calm = refl; counts = counts; limits = refl; stands = stands_still u low }
-
-    by : (fault' : IoFault) → MissedAfter old new [] fault' → Faults goes failures old new u u a a kept (read_fault fault')
-    by io.Failed missed' = was io.Failed missed'
-    by io.Interrupted missed' = was io.Interrupted missed'
-
--- ---- the end of the line
-
-given_none : GiftsJoin → (a b c : Device) (xs : List ℕ) → HasGiven a b xs → HasGiven b c [] → HasGiven a c xs
-given_none joins a b c xs one none = subst (λ (ys : List ℕ). HasGiven a c ys) (append-nil xs) (joins.more a b c xs [] one none)
+    by : (f : IoFault) → WasMissed goes failures old new u u a a kept f → Faults goes failures old new u u a a kept (read_fault f)
+    by io.Failed was = was
+    by io.Interrupted was = was
 
 -- ---- the end of feeding
-
-pub smaller : (used now k : ℕ) → now ≡ raised used k → 0 < k → used < 2 ^ 64 - 1 → 2 ^ 64 - 1 - now < 2 ^ 64 - 1 - used
-smaller used now k is some low = omega (arith, is, some, low)
 
 pub somewhere : (u : Unpacking) → IsReady u → (u.refused ≡ None → Stood u) → (p : List ℕ) × (a : ℕ) × Stands u p a
 somewhere u ready stood = stood_stands u ready.1 (stood ready.0)
 
 pub told_truncated : (q : List ℕ) (k : ℕ) (answer : Option Refusal) (e : Refusal) → answer ≡ Some e → ((f : Refusal) × (answer ≡ Some f) × IsTruncatedAt q k f) → IsTruncatedAt q k e
-told_truncated q k answer e is (f, same, told) = subst (λ (x : Refusal). IsTruncatedAt q k x) (some-same (sym same ∙ is)) told
-  where
-    some-same : {x y : Refusal} → Some x ≡ Some y → x ≡ y
-    some-same h = cc
+told_truncated q k answer e is (f, same, told) = subst (λ (x : Refusal). IsTruncatedAt q k x) (same_Some _ _ (sym same ∙ is)) told
 
 pub not_told : (answer : Option Refusal) (q : List ℕ) (k : ℕ) → answer ≡ None → ((f : Refusal) × (answer ≡ Some f) × IsTruncatedAt q k f) → ⊥
 not_told answer q k none (f, same, told) = let bad : None ≡ Some f = sym none ∙ same in cc
 
-pub used_within : (w : Unpacking) (piece : List ℕ) (more : List story.StoryEvent) (last : ℕ) (progress : Progress) (p : List ℕ) (n : ℕ) → progress ≡ Done last → Goes w p n piece more progress → last ≤ length piece
-used_within w piece more last progress p n is goes = (subst (λ (x : Progress). Goes w p n piece more x) is goes).0
-
-pub not_fresh : (b : Bool) (q : List ℕ) → b ≡ false → (IsTrue b ↔ (q ≡ [])) → q ≡ [] → ⊥
-not_fresh true q is both none = absurd cc
-not_fresh false q is both none = let bad : false ≡ true = both.1 none in cc
+not_fresh : (b : Bool) (q : List ℕ) → b ≡ false → (IsTrue b ↔ (q ≡ [])) → q ≡ [] → ⊥
+not_fresh b q is both none = let bad : b ≡ true = both.1 none in cc
 
 -- what is missing at the end of the input, where the unpacker stands on some octets
 pub none_missing : (answer : Option Refusal) (u : Unpacking) → ((p : List ℕ) (n : ℕ) → Stands u p n → (e : Refusal) × (answer ≡ Some e) × IsTruncatedAt p n e) → IfNone answer ((p : List ℕ) (n : ℕ) → Stands u p n → p ≡ [])
@@ -237,13 +224,10 @@ some_missing (Some e) u fresh stale begun told = λ p n at. (not_fresh fresh p s
 
 -- ---- what is given
 
-pub fed_envelope : {S : Type 0} (goes : S → List story.StoryEvent → S → Type 0) (old new : Device) (u v : Unpacking) (a b : S) (used : ℕ) (whole : Bool) → whole ≡ true → FedEnvelope goes (old, u, a) (new, v, b) used whole
-    → WasDone goes old new u v a b used
-fed_envelope goes old new u v a b used whole is fed = subst (λ (x : Bool). FedEnvelope goes (old, u, a) (new, v, b) used x) is fed
-
-pub given_by : {S : Type 0} (goes : S → List story.StoryEvent → S → Type 0) (old new : Device) (u v : Unpacking) (a b : S) (used : ℕ) (got : Unpacked) → WasDone goes old new u v a b used
-    → ((p : List ℕ) (n : ℕ) → IsDoneWith v p n → (w : Value) → Admits p w → HasParts got w) → WasGiven goes old new u a b used got
-given_by goes old new u v a b used got done' parts = record {
+pub given_by : {S : Type 0} {goes : S → List story.StoryEvent → S → Type 0} {old new : Device} {u v : Unpacking} {a b : S} {used : ℕ} {got : Unpacked}
+    → WasDone goes old new u v a b used → ((p : List ℕ) (n : ℕ) → IsDoneWith v p n → (w : Value) → Admits p w → HasParts got w)
+    → WasGiven goes old new u a b used got
+given_by done' parts = record {
   octets = done'.octets;
   more = done'.more;
   came = done'.came;
@@ -324,7 +308,8 @@ fed_and_ended {old = old} {mid = mid} {new = new} w joins one left (as_then, end
     let same = left empty in (
       as_then ∙ same.0,
       record {
-        given = subst (λ (ys : List ℕ). HasGiven old new ys) empty (given_none joins old mid new one.octets one.came.given ended.given);
+        given = subst (λ (ys : List ℕ). HasGiven old new ys) empty
+            (subst (λ (ys : List ℕ). HasGiven old new ys) (append-nil one.octets) (joins.more old mid new one.octets [] one.came.given ended.given));
         at_end = ended.at_end;
         patience = omega (arith, one.patience, ended.patience, ap length empty);
         still = ended.still ∙ same.1;
@@ -436,9 +421,6 @@ done_of {goes = goes} {old = old} {new = new} {u = u} {v = v} {a = a} {b = b} is
 
 pub end_of : {S : Type 0} (goes : S → List story.StoryEvent → S → Type 0) {old new : Device} {u : Unpacking} (v : Unpacking) {a b : S} {fed : Fed} → fed ≡ piece.End → FedPiece goes (old, u, a) (new, v, b) fed → (v ≡ u) × WasEnded old new u a b
 end_of goes {old = old} {new = new} {u = u} v {a = a} {b = b} is f = subst (λ (x : Fed). FedPiece goes (old, u, a) (new, v, b) x) is f
-
-pub raised_some : (now k : ℕ) → now ≡ raised 0 k → 0 < k → 0 < now
-raised_some now k is some = omega (arith, is, some)
 
 pub raised_on : (used k now : ℕ) → 0 < k → now ≡ raised used k → 0 < now
 raised_on used k now some is = omega (arith, some, is)

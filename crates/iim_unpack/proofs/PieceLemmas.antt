@@ -11,7 +11,8 @@ use Rattle.wire_story.specs.Laws.Texts.{DeliveryMayBeCut, TextsAreDeliveredAsLin
 use Rattle.wire_message.specs.Format.Layers.{text_so_far}
 use Rattle.wire_message.specs.declared.place.Place.TheVariants.{AfterEnd}
 use Rattle.iim_places.specs.Format.Admitted.{Value, Admits, object_of}
-use Rattle.iim_places.specs.Laws.Streams.{OpenOctetsAreBounded, EnvelopesAreBounded, RefusedOctetsWereOpen, StreamsHaveOneAnswer}
+use Rattle.iim_places.specs.Laws.All.{PlaceLaws}
+use Rattle.iim_places.specs.Laws.Streams.{StreamsHaveOneAnswer}
 use Rattle.iim_places.specs.Laws.Lower.{LowerLaws}
 use Rattle.iim_unpack.specs.Format.Pieces.{stream_of, IsUnpacked, IsTurnedDown, IsAnswer}
 use Rattle.iim_unpack.specs.PiecesSoFar.{DoneIn, HasFedPieces}
@@ -31,14 +32,7 @@ use Rattle.iim_unpack.specs.declared.unpacker.Progress.TheVariants.{More, Done}
 use Rattle.iim_unpack.specs.declared.unpacker.Unpacked.{Unpacked}
 use Rattle.iim_places.proofs.Answering.{reads_envelope, leads_to, no_text}
 use Rattle.iim_unpack.proofs.Feeding.{one_text}
-use Rattle.iim_unpack.proofs.Intakes.{Joined, adds_none, adds_more, told_truncated, not_told}
-
--- What counts octets exactly.
-pub record CountLaws : Type 0 where
-  pub cut : DeliveryMayBeCut
-  pub open_bounded : OpenOctetsAreBounded
-  pub envelope_bounded : EnvelopesAreBounded
-  pub were_open : RefusedOctetsWereOpen
+use Rattle.iim_unpack.proofs.Intakes.{Joined, adds_more, told_truncated, not_told}
 
 -- The limits are numbers of 32 bits.
 pub record AreLow (limits : Limits) : Type 0 where
@@ -48,52 +42,49 @@ pub record AreLow (limits : Limits) : Type 0 where
 exact : (n k : ℕ) → n + k < 2 ^ 64 - 1 → raised n k ≡ n + k
 exact n k less = omega (arith, less)
 
-pub begin_fed : {S : Type 0} (goes : S → List story.StoryEvent → S → Type 0) → (u : Unpacking) (a : S) → Stands u [] 0 → goes a [] a → HasFedPieces goes (limits_in u) u a a []
-begin_fed goes u a at nothing = record { limits_are = refl; more = []; told = nothing; stood = inl (at, adds_none []) }
-
 -- ---- a piece that was taken
 
 -- the unpacker stood, and stands on the piece too
-on_more : (laws : CountLaws) (limits : Limits) → AreLow limits → (v : Unpacking) (o piece : List ℕ) → limits_in v ≡ limits → Stands v (o ++ piece) (raised (length o) (length piece)) → Stands v (o ++ piece) (length (o ++ piece))
+on_more : (laws : PlaceLaws) (limits : Limits) → AreLow limits → (v : Unpacking) (o piece : List ℕ) → limits_in v ≡ limits → Stands v (o ++ piece) (raised (length o) (length piece)) → Stands v (o ++ piece) (length (o ++ piece))
 on_more laws limits low v o piece same at =
     let is_open : IsOpen limits (o ++ piece) = subst (λ (l : Limits). IsOpen l (o ++ piece)) same at.is_open in
-    let less = laws.open_bounded limits (o ++ piece) low.octets low.fields is_open in
+    let less = laws.open_octets_are_bounded limits (o ++ piece) low.octets low.fields is_open in
     let sum = length-append o piece in
     subst (Stands v (o ++ piece)) (exact (length o) (length piece) (omega (arith, less, sum)) ∙ sym sum) at
 
 -- or it is done with a front of it
-on_done : (laws : CountLaws) (limits : Limits) → AreLow limits → (v : Unpacking) (o piece : List ℕ) (more next : List story.StoryEvent) (used : ℕ) → limits_in v ≡ limits → used ≤ length piece
+on_done : DeliveryMayBeCut → (laws : PlaceLaws) (limits : Limits) → AreLow limits → (v : Unpacking) (o piece : List ℕ) (more next : List story.StoryEvent) (used : ℕ) → limits_in v ≡ limits → used ≤ length piece
     → IsDoneWith v (o ++ take used piece) (raised (length o) used) → Delivers [] o more → Delivers o (take used piece) next → DoneIn v (o ++ piece) (more ++ next)
-on_done laws limits low v o piece more next used same fits done before adds =
+on_done cut laws limits low v o piece more next used same fits done before adds =
     let within : IsEnvelopeWithin limits (o ++ take used piece) done.value =
     subst (λ (l : Limits). IsEnvelopeWithin l (o ++ take used piece) done.value) same (record { admits = done.admits; within = done.within }) in
-    let less = laws.envelope_bounded limits (o ++ take used piece) done.value low.octets low.fields within in
+    let less = laws.envelopes_are_bounded limits (o ++ take used piece) done.value low.octets low.fields within in
     let front : take (length o + used) (o ++ piece) ≡ o ++ take used piece = take-append-add o piece used in
     let sum : length (o ++ take used piece) ≡ length o + used = length-append o (take used piece) ∙ ap (λ (n : ℕ). length o + n) (length-take-le used piece fits) in
     record {
       used = length o + used;
       fits = omega (arith, fits, length-append o piece);
       done = subst (λ (x : List ℕ). IsDoneWith v x (length o + used)) (sym front) (subst (IsDoneWith v (o ++ take used piece)) (exact (length o) used (omega (arith, less, sum))) done);
-      adds = subst (λ (x : List ℕ). Delivers [] x (more ++ next)) (sym front) (adds_more laws.cut [] o (take used piece) more next before adds);
+      adds = subst (λ (x : List ℕ). Delivers [] x (more ++ next)) (sym front) (adds_more cut [] o (take used piece) more next before adds);
     }
 
-pub tells_parts_on : {S : Type 0} (goes : S → List story.StoryEvent → S → Type 0) → Joined goes → CountLaws → (limits : Limits) → AreLow limits → (u v : Unpacking) (a b c : S) (o piece : List ℕ) (progress : Progress) → HasFedPieces goes limits u a b o
+pub tells_parts_on : {S : Type 0} (goes : S → List story.StoryEvent → S → Type 0) → Joined goes → DeliveryMayBeCut → PlaceLaws → (limits : Limits) → AreLow limits → (u v : Unpacking) (a b c : S) (o piece : List ℕ) (progress : Progress) → HasFedPieces goes limits u a b o
     → limits_in v ≡ limits → ((more : List story.StoryEvent) × goes b more c × ((p : List ℕ) (n : ℕ) → Stands u p n → Goes v p n piece more progress))
     → (DoneIn' : (used : ℕ) → used ≤ length o → IsDoneWith u (take used o) used → (v ≡ u) × (c ≡ b)) → HasFedPieces goes limits v a c (o ++ piece)
-tells_parts_on {S = S} goes joined laws limits low u v a b c o piece progress fed same step done' = by fed.stood
+tells_parts_on {S = S} goes joined cut laws limits low u v a b c o piece progress fed same step done' = by fed.stood
   where
     by_progress : (q : Progress) → Stands u o (length o) → Delivers [] o fed.more → Goes v o (length o) piece step.0 q → HasFedPieces goes limits v a c (o ++ piece)
     by_progress More at adds there = record {
       limits_are = same;
       more = fed.more ++ step.0;
       told = joined a b c fed.more step.0 fed.told step.1;
-      stood = inl (on_more laws limits low v o piece same there.0, adds_more laws.cut [] o piece fed.more step.0 adds there.1);
+      stood = inl (on_more laws limits low v o piece same there.0, adds_more cut [] o piece fed.more step.0 adds there.1);
     }
     by_progress (Done used) at adds there = record {
       limits_are = same;
       more = fed.more ++ step.0;
       told = joined a b c fed.more step.0 fed.told step.1;
-      stood = inr (on_done laws limits low v o piece fed.more step.0 used same there.0 there.1 adds there.2);
+      stood = inr (on_done cut laws limits low v o piece fed.more step.0 used same there.0 there.1 adds there.2);
     }
 
     by : (Stands u o (length o) × Delivers [] o fed.more) ⊎ DoneIn u o fed.more → HasFedPieces goes limits v a c (o ++ piece)
@@ -115,18 +106,18 @@ tells_parts_on {S = S} goes joined laws limits low u v a b c o piece progress fe
 
 -- ---- a piece of which an octet is refused
 
-refused_there : (laws : CountLaws) (limits : Limits) → AreLow limits → (o piece rest : List ℕ) (next : List story.StoryEvent) (e : Refusal) → (r : IsRefusedIn limits o (length o) piece next e)
+refused_there : (laws : PlaceLaws) (limits : Limits) → AreLow limits → (o piece rest : List ℕ) (next : List story.StoryEvent) (e : Refusal) → (r : IsRefusedIn limits o (length o) piece next e)
     → e.octet ≡ length o + r.k
 refused_there laws limits low o piece rest next e r =
     let within = r.within in
-    let is_open = laws.were_open limits (o ++ take r.k piece) (slice_index piece r.k) r.fault r.refuses in
-    let less = laws.open_bounded limits (o ++ take r.k piece) low.octets low.fields is_open in
+    let is_open = laws.refused_octets_were_open limits (o ++ take r.k piece) (slice_index piece r.k) r.fault r.refuses in
+    let less = laws.open_octets_are_bounded limits (o ++ take r.k piece) low.octets low.fields is_open in
     let sum : length (o ++ take r.k piece) ≡ length o + r.k = length-append o (take r.k piece) ∙ ap (λ (n : ℕ). length o + n) (length-take-le r.k piece (omega (arith, within))) in
     ap (λ (x : Refusal). x.octet) r.refusal ∙ exact (length o) r.k (omega (arith, less, sum))
 
-pub was_refused : {S : Type 0} (goes : S → List story.StoryEvent → S → Type 0) → Joined goes → CountLaws → (limits : Limits) → AreLow limits → (a b c : S) (o piece rest : List ℕ) (more next : List story.StoryEvent) (e : Refusal)
+pub was_refused : {S : Type 0} (goes : S → List story.StoryEvent → S → Type 0) → Joined goes → DeliveryMayBeCut → PlaceLaws → (limits : Limits) → AreLow limits → (a b c : S) (o piece rest : List ℕ) (more next : List story.StoryEvent) (e : Refusal)
     → goes a more b → goes b next c → Delivers [] o more → IsRefusedIn limits o (length o) piece next e → IsTurnedDown goes limits (o ++ (piece ++ rest)) a c e
-was_refused goes joined laws limits low a b c o piece rest more next e told then' adds r =
+was_refused goes joined cut laws limits low a b c o piece rest more next e told then' adds r =
     let within = r.within in
     let stream : List ℕ = o ++ (piece ++ rest) in
     let at = refused_there laws limits low o piece rest next e r in
@@ -143,7 +134,7 @@ was_refused goes joined laws limits low a b c o piece rest more next e told then
         refuses = subst (λ (x : List ℕ). RefusesNext limits x (slice_index stream e.octet) r.fault) (sym front)
             (subst (λ (n : ℕ). RefusesNext limits (o ++ take r.k piece) n r.fault) (sym octet) r.refuses);
       },
-      (more ++ next, joined a b c more next told then', subst (λ (x : List ℕ). Delivers [] x (more ++ next)) (sym front) (adds_more laws.cut [] o (take r.k piece) more next adds delivered)),
+      (more ++ next, joined a b c more next told then', subst (λ (x : List ℕ). Delivers [] x (more ++ next)) (sym front) (adds_more cut [] o (take r.k piece) more next adds delivered)),
     )
 
 -- ---- the end
@@ -190,13 +181,13 @@ pub still_taking : {S : Type 0} (goes : S → List story.StoryEvent → S → Ty
 still_taking goes limits u a b o fed = elim fed.stood [ inl at ↦ at.0.taking | inr d ↦ d.done.taking ]
 
 -- the answer of feeding a piece of which an octet is refused
-pub turned_down : {S : Type 0} (goes : S → List story.StoryEvent → S → Type 0) → Joined goes → CountLaws → (limits : Limits) → AreLow limits → (u : Unpacking) (a b c : S) (o piece rest : List ℕ) (answer : Result Progress Refusal) (e : Refusal)
+pub turned_down : {S : Type 0} (goes : S → List story.StoryEvent → S → Type 0) → Joined goes → DeliveryMayBeCut → PlaceLaws → (limits : Limits) → AreLow limits → (u : Unpacking) (a b c : S) (o piece rest : List ℕ) (answer : Result Progress Refusal) (e : Refusal)
     → HasFedPieces goes limits u a b o → answer ≡ Err e → ((more : List story.StoryEvent) × goes b more c × ((p : List ℕ) (n : ℕ) → Stands u p n → IsRefusedIn (limits_in u) p n piece more e))
     → (IsDone u → answer ≡ Ok (Done 0)) → IsTurnedDown goes limits (o ++ (piece ++ rest)) a c e
-turned_down goes joined laws limits low u a b c o piece rest answer e fed is step done' =
+turned_down goes joined cut laws limits low u a b c o piece rest answer e fed is step done' =
     elim fed.stood [
       | inl (at, adds) ↦
-          was_refused goes joined laws limits low a b c o piece rest fed.more step.0 e fed.told step.1 adds
+          was_refused goes joined cut laws limits low a b c o piece rest fed.more step.0 e fed.told step.1 adds
           (subst (λ (l : Limits). IsRefusedIn l o (length o) piece step.0 e) fed.limits_are (step.2 o (length o) at))
       | inr d ↦ absurd (let bad : Err e ≡ Ok (Done 0) = sym is ∙ done' (d.done.taking, d.done.ended) in cc)
     ]

@@ -1,10 +1,10 @@
--- Readers that were made for a possible place stand at all octets that lead there.
-use Rattle.std.proofs.Common.{◌≡◌, ℕ, ◌<◌, nat_eq, if◌then◌else◌, true, false, List, [], length, IsSome, refl, ap, sym, subst, ◌∙◌, arith}
+-- Readers that were made for a possible place stand at all octets that lead there, and an unpacker that is made of them is sound.
+use Rattle.std.proofs.Common.{◌≡◌, ℕ, ◌<◌, nat_eq, if◌then◌else◌, true, false, List, [], length, IsSome, refl, ap, sym, subst, ◌∙◌, arith, ◌⊎◌, Bool, inl, inr, None}
 use Rattle.iim_dataset.specs.Format.Octets.{Octets}
 use Rattle.iim_dataset.specs.Format.Datasets.{Dataset, of_record, count_octets}
 use Rattle.iim_dataset.specs.Format.Splits.{Begun, InTag, InData, Reads}
 use Rattle.iim_dataset.specs.States.Events.{handed_on}
-use Rattle.iim_dataset.specs.States.Places.{IsKeptAs, between}
+use Rattle.iim_dataset.specs.States.Places.{IsKeptAs, between, to_come}
 use Rattle.iim_dataset.specs.declared.head.Head.{Head}
 use Rattle.iim_dataset.specs.declared.place.DatasetPlace.{DatasetPlace}
 use Rattle.iim_fields.specs.Format.Alive.{SectionsLiveAt}
@@ -25,12 +25,12 @@ use Rattle.iim_places.specs.States.ByLayers.{LeadsByLayers, RecordsLive, record_
 use Rattle.iim_places.specs.Format.Open.{object_so_far, IsOpen}
 use Rattle.iim_unpack.specs.States.Parts.{AreAfter, Within, StandsFor, has_ended}
 use Rattle.iim_places.specs.States.PlainDatasets.{plain}
-use Rattle.iim_unpack.specs.Restoring.{IsMadeFor}
-use Rattle.iim_places.specs.States.Readers.{RecordsStand}
+use Rattle.iim_unpack.specs.Restoring.{IsMadeFor, ReadersMakeUnpackers}
+use Rattle.iim_places.specs.States.Readers.{RecordsStand, AreAt, ObjectStands, MessageStands, FieldsStand}
 use Rattle.iim_places.specs.Format.Streams.{IsEnvelopeWithin}
 use Rattle.iim_places.specs.Format.Tickets.{Place, IsPlaceOf, place_of}
 use Rattle.iim_places.specs.Format.Tokens.{CanContinue, CanContinueAt, MayContinue}
-use Rattle.iim_unpack.specs.States.Unpacking.{Unpacking, Stands, IsDoneWith}
+use Rattle.iim_unpack.specs.States.Unpacking.{Unpacking, Stands, IsDoneWith, limits_in}
 use Rattle.iim_unpack.specs.declared.parts.Parts.{Parts}
 use Rattle.iim_places.proofs.Answering.{one_reading, reads_envelope, goes_envelope}
 use Rattle.iim_unpack.proofs.Ended.{ended_by_record, unended_inside}
@@ -45,6 +45,15 @@ use Rattle.iim_places.proofs.SameRecords.{stated_after_all}
 use Rattle.iim_places.proofs.Tickets.{count_of}
 use Rattle.iim_places.specs.Laws.Lower.{LowerLaws}
 use Rattle.iim_places.proofs.ReadersAt.{like, ended_reader, text_led, TagPhase, base_tag, live_tag, stand_tag, present_tag, object_tag, ending_tag, object_data, keeps, come, between_tag}
+use Rattle.std.proofs.lemmas.Bool.{ne_eqb}
+use Rattle.iim_dataset.specs.declared.place.DatasetPlace.TheVariants.{Tag, Inside}
+use Rattle.iim_object.specs.Laws.Reading.{ReadersTellSizes}
+use Rattle.iim_places.specs.States.Possible.{AreOpenOrWhole}
+use Rattle.iim_places.specs.Laws.Places.{LimitsAreToldByPlace}
+use Rattle.iim_unpack.specs.Routing.{Takes, HasEnded}
+use Rattle.iim_dataset.specs.States.Reading.{TakesCalls}
+use Rattle.iim_places.specs.Format.TicketForm.{Split}
+use Rattle.iim_places.specs.declared.ticket.possible.Readers.{Readers}
 
 -- ---- between datasets, or in a tag, or at the end
 
@@ -175,3 +184,65 @@ made_done laws place limits at u s made sizes object message p v is whole =
       led = record { whole = ds; begun = InTag []; told = refl; stands = stand; is_text = refl };
     })
     sizes
+
+-- What comes next is taken where the readers stand at open octets.
+takes_at : (parts : Parts) (place : DatasetPlace) (ds : List Dataset) (b : Begun) → StandsFor parts ds b → IsKeptAs place b → has_ended parts ≡ false → IsSome parts.object → IsSome parts.message → Takes parts (to_come place)
+takes_at parts (Tag held) ds (InTag octets) stand keeps more object message = record { fields = stand.fields.between; object = object; message = message; more = more }
+takes_at parts (Inside k left) ds (InData h xs) stand keeps more object message = record {
+  head = h;
+  fields = record {
+    head = stand.fields.inside.1.head;
+    to_come = λ other.
+        let given : parts.fields.taken ≡ xs = stand.fields.taken_are ∙ ap (λ (b : Bool). if b then [] else xs) (ne_eqb h.rec 8 other) in
+        let same : length parts.fields.taken ≡ length xs = ap length given in
+        let all = keeps.1 in
+        omega (arith, same, all);
+  };
+  object = object;
+  message = message;
+}
+takes_at parts place ds b stand keeps more object message = absurd keeps
+
+-- The last dataset has ended where the readers say so.
+ended_at : (parts : Parts) (ds : List Dataset) (b : Begun) → StandsFor parts ds b → has_ended parts ≡ true → IsSome parts.object → IsSome parts.message → HasEnded parts
+ended_at parts ds (InTag held) stand last object message = record { last = last; between = stand.fields.between; object = object; message = message }
+ended_at parts ds (InData h xs) stand last object message =
+    absurd (let more = unended_inside parts h stand.fields.inside.0 stand.fields.inside.1 in let bad : true ≡ false = sym last ∙ more in cc)
+
+pub readers_make : LowerLaws → LimitsAreToldByPlace → ReadersTellSizes → ReadersMakeUnpackers
+readers_make laws told sizes place limits at u ticket is within leads made object message =
+    let both : AreMadeFor limits at u place = (leads, made) in
+    let octets = is.possible.0.octets in
+    let led = is.possible.0.leads in
+    let stands = made_stands laws place limits at u both in
+    let done = made_done laws place limits at u (sizes u.parts.object).0 both (sizes u.parts.object).1 object message in
+    let comes : AreOpenOrWhole limits octets = (told limits octets place led is.possible.0.comes).1 within in
+    let (takes, here) : (((has_ended u.parts ≡ false) × Takes u.parts (to_come u.reader.place)) ⊎ HasEnded u.parts)
+    × (Stands u octets at ⊎ IsDoneWith u octets at) =
+    elim comes [
+      | inl open' ↦
+          let are = made_open laws place limits at u both octets led open' in
+          let next = takes_at u.parts u.reader.place led.whole led.begun are.stands are.keeps are.unended object message in
+          (inl (are.unended, next), inl (stands octets led open'))
+      | inr (v, whole) ↦
+          let ends = done octets v led whole in
+          let by = ends.is_led.led in
+          (inr (ended_at u.parts by.whole by.begun by.stands ends.ended object message), inr ends)
+    ] in (
+      record { calls = made.calls; takes = takes; stood = (octets, at, here) },
+      record { place = place; is_ticket = is; within = within; limits_are = made.limits_are; stands = stands; done = done; some = (octets, led, here) },
+    )
+
+pub made_for : (s : Split) (r : Readers) (at : AreAt s r) (limits : Limits) (count : ℕ) (u : Unpacking) → u.refused ≡ None → u.octets ≡ count → u.begun ≡ r.begun
+    → u.reader ≡ r.tags → u.parts.object ≡ r.object → u.parts.message ≡ r.message → FieldsStand s u.parts.fields → limits_in u ≡ limits → IsMadeFor at.place at.leads.numbers limits count u
+made_for s r at limits count u taking counts begun tags object message records limits_are = record {
+  taking = taking;
+  counts = counts;
+  begun = begun ∙ at.begun_is;
+  calls = subst TakesCalls (sym tags) at.calls;
+  tags = ap (λ t. t.place) tags ∙ at.tags_are;
+  records = records at.place at.parts at.leads;
+  limits_are = limits_are;
+  object = subst (λ o. ObjectStands o at.place) (sym object) at.object_is;
+  message = subst (λ m. MessageStands m at.place) (sym message) at.message_is;
+}

@@ -1,5 +1,5 @@
 -- What is read of octets of one place leaves the parts of an unpacker alike.
-use Rattle.std.proofs.Common.{◌≡◌, ℕ, if◌then◌else◌, ◌==◌, nat_eq, List, [], length, Some, None, refl, ap, sym, subst, ◌∙◌}
+use Rattle.std.proofs.Common.{◌≡◌, ℕ, if◌then◌else◌, ◌==◌, nat_eq, List, [], length, refl, ap, sym, subst, ◌∙◌, ◌⊎◌, inl, inr}
 use Rattle.iim_dataset.specs.Format.Octets.{Octets}
 use Rattle.iim_dataset.specs.Format.Datasets.{Dataset, count_octets}
 use Rattle.iim_dataset.specs.Format.Splits.{Begun, InTag, InData, Reads}
@@ -17,11 +17,12 @@ use Rattle.iim_places.specs.Laws.Lower.{LowerLaws}
 use Rattle.iim_places.specs.Format.Tokens.{place_at, CanContinue, CanContinueAt}
 use Rattle.iim_places.specs.Format.Open.{object_so_far, AllCanContinue}
 use Rattle.iim_unpack.specs.States.Parts.{AreAfter, Within, StandsFor}
-use Rattle.iim_unpack.specs.States.Unpacking.{limits_in}
+use Rattle.iim_unpack.specs.States.Unpacking.{Unpacking, IsLed, Stands, IsDoneWith, limits_in}
 use Rattle.iim_places.specs.States.Counts.{are_some}
 use Rattle.iim_places.specs.Format.Tickets.{Place, place_of}
 use Rattle.iim_unpack.specs.Laws.Tickets.{UnpackersStandByPlace}
 use Rattle.iim_unpack.specs.declared.parts.Parts.{Parts}
+use Rattle.iim_unpack.proofs.Sequences.{by_data}
 use Rattle.iim_places.proofs.Following.{alive_of}
 use Rattle.iim_places.proofs.SameRecords.{same_records, stated_after_all, stated_at}
 use Rattle.iim_places.proofs.SamePlace.{fields_after, object_as, SameWhole, object_lives_after_as, message_as, SameMessage, fields_in, object_at_as, SameAll, total_as, count_as, SameData, SameBegun, octets_of, same_message, some_read, keeps_as, opened, held_open, has_as, same_begun}
@@ -81,15 +82,12 @@ parts_as laws limits parts q ds es (InData h xs) (InTag y) same ended reads at a
 parts_as laws limits parts q ds es (InData h xs) (InData k ys) same ended reads at all goes = data_as laws limits parts ds es h k xs ys same ended (octets_of q es k ys reads) at all goes
 
 pub told_by : (parts : Parts) (ds es : List Dataset) (b c : Begun) → ds ≡ es → begun_data b ≡ begun_data c → StandsFor parts ds b → StandsFor parts es c
-told_by parts ds es (InTag x) (InTag y) e same at = subst (AreAfter parts) e at
-told_by parts ds es (InTag x) (InData h t) e same at = absurd (let bad : None ≡ Some (h, t) = same in cc)
-told_by parts ds es (InData h t) (InTag x) e same at = absurd (let bad : Some (h, t) ≡ None = same in cc)
-told_by parts ds es (InData h t) (InData k v) e same at =
-    let pair : (h, t) ≡ (k, v) = some-same same in
-    subst (λ (x : Head × List ℕ). Within parts es x.0 x.1) pair (subst (λ (x : List Dataset). Within parts x h t) e at)
-  where
-    some-same : {x y : Head × List ℕ} → Some x ≡ Some y → x ≡ y
-    some-same e = cc
+told_by parts ds es b c e same at = by_data (StandsFor parts es) (λ x y stands. stands) b c same (subst (λ (x : List Dataset). StandsFor parts x b) e at)
+
+-- where it stands, or is done
+pub led_of : {u : Unpacking} {p : List ℕ} {a : ℕ} → Stands u p a ⊎ IsDoneWith u p a → IsLed u p
+led_of (inl at) = at.is_led
+led_of (inr at) = at.is_led
 
 pub same_stands : LowerLaws → UnpackersStandByPlace
 same_stands laws u p q a place at there stands opens =

@@ -1,10 +1,10 @@
 -- Events in order: what is handed on of octets is in order, and a dataset ends where its head says.
-use Rattle.std.proofs.Common.{◌≡◌, ℕ, ◌-◌, ◌<◌, List, [], ◌∷◌, ◌++◌, length, map, flat_map, replicate, refl, ap, sym, ◌∙◌, arith, append-nil, append_assoc, length-append}
-use Rattle.std.proofs.lemmas.List.{length-replicate}
+use Rattle.std.proofs.Common.{◌≡◌, ℕ, ◌-◌, ◌<◌, List, [], ◌∷◌, ◌++◌, length, map, flat_map, replicate, ap, sym, subst, ◌∙◌, arith, append-nil, append_assoc, length-append}
+use Rattle.std.proofs.lemmas.List.{length-replicate, map-append}
 use Rattle.std.proofs.lemmas.List.Concat.{flat_map-append}
 use Rattle.iim_dataset.specs.Format.Datasets.{Dataset, head_of, count_octets}
 use Rattle.iim_dataset.specs.Format.Splits.{Begun, InTag, InData}
-use Rattle.iim_dataset.specs.States.Events.{DatasetEvent, HeadRead, DataOctet, DatasetEnd, events_of, handed_on}
+use Rattle.iim_dataset.specs.States.Events.{DatasetEvent, HeadRead, DataOctet, DatasetEnd, events_of, handed_on, begun_data}
 use Rattle.iim_dataset.specs.States.Places.{HandsOn}
 use Rattle.iim_dataset.specs.declared.head.Head.{Head}
 use Rattle.iim_dataset.proofs.Telling.{same_data}
@@ -13,15 +13,17 @@ use Rattle.iim_unpack.specs.Sequence.{AreInOrder}
 
 -- ---- the events of a begun dataset
 
-map-octets : (xs ys : List ℕ) → map DataOctet (xs ++ ys) ≡ map DataOctet xs ++ map DataOctet ys
-map-octets [] ys = refl
-map-octets (x ∷ xs) ys = ap (λ es. DataOctet x ∷ es) (map-octets xs ys)
+-- What holds of begun octets holds of others that tell the same, where it does of tags.
+pub by_data : (P : Begun → Type 0) → ((x y : List ℕ) → P (InTag x) → P (InTag y)) → (b c : Begun) → begun_data b ≡ begun_data c → P b → P c
+by_data P tags (InTag x) (InTag y) same p = tags x y p
+by_data P tags (InData h xs) (InData k ys) same p = let pair : (h, xs) ≡ (k, ys) = cc in subst (λ (x : Head × List ℕ). P (InData x.0 x.1)) pair p
+by_data P tags b c same p = absurd cc
 
 -- some octets more
 pub data_more : (ds : List Dataset) (h : Head) (taken run : List ℕ) → handed_on ds (InData h taken) ++ map DataOctet run ≡ handed_on ds (InData h (taken ++ run))
 data_more ds h taken run =
     append_assoc (flat_map events_of ds) (HeadRead h ∷ map DataOctet taken) (map DataOctet run)
-    ∙ ap (λ (es : List DatasetEvent). flat_map events_of ds ++ (HeadRead h ∷ es)) (sym (map-octets taken run))
+    ∙ ap (λ (es : List DatasetEvent). flat_map events_of ds ++ (HeadRead h ∷ es)) (sym (map-append DataOctet taken run))
 
 -- its end
 pub end_told : (ds : List Dataset) (h : Head) (taken : List ℕ) → length taken ≡ h.count → handed_on ds (InData h taken) ++ DatasetEnd ∷ [] ≡ handed_on (ds ++ data_of h taken ∷ []) (InTag [])

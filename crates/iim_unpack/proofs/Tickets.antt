@@ -1,5 +1,5 @@
--- The ticket that is spelled of an unpacker is that of its place.
-use Rattle.std.proofs.Common.{◌≡◌, ℕ, ◌-◌, nat_eq, Bool, false, if◌then◌else◌, List, length, sum, refl, ap, sym, ◌∙◌, inl, inr, ◌⊎◌, arith}
+-- The ticket that is spelled of an unpacker is that of its place, and how long it is.
+use Rattle.std.proofs.Common.{◌≡◌, ℕ, ◌-◌, nat_eq, Bool, false, if◌then◌else◌, List, length, sum, refl, ap, sym, ◌∙◌, inl, inr, ◌⊎◌, arith, ◌+◌, ◌*◌, ◌<◌, ◌≤◌, []}
 use Rattle.iim_dataset.specs.Format.Datasets.{Dataset, of_record, count_octets}
 use Rattle.iim_dataset.specs.Format.Splits.{Begun, InTag, InData, Reads}
 use Rattle.iim_dataset.specs.States.Places.{IsKeptAs}
@@ -7,7 +7,7 @@ use Rattle.iim_dataset.specs.Laws.Datasets.{EventsTellTheDatasets}
 use Rattle.iim_dataset.specs.declared.head.Head.{Head}
 use Rattle.iim_dataset.specs.declared.place.DatasetPlace.{DatasetPlace}
 use Rattle.iim_dataset.specs.declared.place.DatasetPlace.TheVariants.{Tag, Inside}
-use Rattle.iim_fields.specs.Format.Faults.{kept, section_after}
+use Rattle.iim_fields.specs.Format.Faults.{kept, section_after, joined}
 use Rattle.iim_object.specs.Format.Records.{numbers_of}
 use Rattle.iim_object.specs.Format.Numbers.{place_after_datasets}
 use Rattle.iim_object.specs.States.Saved.{stated_numbers}
@@ -17,13 +17,16 @@ use Rattle.iim_places.specs.Format.Admitted.{object_of}
 use Rattle.iim_places.specs.Format.Tokens.{place_at}
 use Rattle.iim_places.specs.Format.Open.{object_so_far, section}
 use Rattle.iim_unpack.specs.States.Parts.{AreAfter, Within, StandsFor, has_ended}
-use Rattle.iim_unpack.specs.States.Unpacking.{Unpacking, IsLed, Stands, IsDoneWith}
-use Rattle.iim_places.specs.Format.Tickets.{TagBegun, DataBegun, AllEnded, phase_of, heads_of, place_of, ticket_of, IsTicketOf}
+use Rattle.iim_unpack.specs.States.Unpacking.{Unpacking, IsLed, Stands, IsDoneWith, limits_in}
+use Rattle.iim_places.specs.Format.Tickets.{TagBegun, DataBegun, AllEnded, phase_of, heads_of, place_of, ticket_of, IsTicketOf, present_version, phase_octets}
 use Rattle.iim_unpack.specs.TicketReading.{phase_in, IsSpelled}
 use Rattle.iim_unpack.specs.declared.parts.Parts.{Parts}
 use Rattle.iim_unpack.proofs.Ended.{ended_by_record, unended_inside}
-use Rattle.iim_unpack.proofs.SamePlace.{told_by}
+use Rattle.iim_unpack.proofs.SamePlace.{told_by, led_of}
 use Rattle.iim_places.proofs.Tickets.{total_of, count_of, message_at, stated_by, heads_by, taken_by}
+use Rattle.iim_unpack.specs.UnpackerInside.{Stood}
+use Rattle.iim_places.proofs.Bounds.{is_one}
+use Rattle.iim_places.proofs.TicketLengths.{held_length, data_length, tag_begun_length, some_taken, none_taken, rest_length, texts_short, numbers_length}
 
 -- ---- the place
 
@@ -109,15 +112,57 @@ placed tell u p ticket s led =
       spelled = s.spelled ∙ ap ticket_of same;
     }
 
-ticket_led : EventsTellTheDatasets → (u : Unpacking) (p ticket : List ℕ) → IsSpelled u.reader.place u.parts ticket → IsLed u p → IsTicketOf p ticket
-ticket_led tell u p ticket s led =
-    let by = placed tell u p ticket s led in
+pub ticket_by : EventsTellTheDatasets → (u : Unpacking) (p ticket : List ℕ) (a : ℕ) → IsSpelled u.reader.place u.parts ticket → Stands u p a ⊎ IsDoneWith u p a → IsTicketOf p ticket
+ticket_by tell u p ticket a s stood =
+    let by = placed tell u p ticket s (led_of stood) in
     record {
       place = place_of by.whole by.begun by.message;
       is_place = record { whole = by.whole; begun = by.begun; reads = by.reads; text = by.text; message = by.message; leads = by.leads; is_place = refl };
       spelled = by.spelled;
     }
 
-pub ticket_by : EventsTellTheDatasets → (u : Unpacking) (p ticket : List ℕ) (a : ℕ) → IsSpelled u.reader.place u.parts ticket → Stands u p a ⊎ IsDoneWith u p a → IsTicketOf p ticket
-ticket_by tell u p ticket a s (inl at) = ticket_led tell u p ticket s at.is_led
-ticket_by tell u p ticket a s (inr at) = ticket_led tell u p ticket s at.is_led
+-- ---- a ticket
+
+-- with the kept datasets, what is begun is within the limits and some octets
+begun_length : (parts : Parts) (p : List ℕ) (ds : List Dataset) (b : Begun) → Reads count_octets p ds b → StandsFor parts ds b
+    → length (phase_octets present_version (phase_of ds b)) + (6 * length (kept ds) + length (joined (kept ds))) ≤ 26 + (parts.fields.limits.octets + 6 * parts.fields.limits.fields)
+begun_length parts p ds (InTag held) reads stands =
+    let phase = tag_begun_length (nat_eq (section_after ds) 9) held (held_length p ds held reads) in
+    by (length (phase_octets present_version (phase_of ds (InTag held)))) (length (kept ds)) (length (joined (kept ds))) parts.fields.limits.octets parts.fields.limits.fields phase stands.fields.within.octets_in stands.fields.within.fields_in
+  where
+    by : (phase n data_all octets fields : ℕ) → phase ≤ 14 → data_all ≤ octets → n ≤ fields → phase + (6 * n + data_all) ≤ 26 + (octets + 6 * fields)
+    by phase n data_all octets fields a b c = omega (arith, a, b, c)
+begun_length parts p ds (InData h taken) reads stands =
+    let phase = data_length h.set h.count (h.count - length taken) (if nat_eq h.rec 8 then [] else taken) in
+    let some = some_taken (nat_eq h.rec 8) taken in
+    let less = reads.is_rest.2 in
+    let all = length (phase_octets present_version (phase_of ds (InData h taken))) in
+    elim (is_one ds h stands.fields.alive) [
+      | inl keeps ↦
+          let room = stands.fields.within keeps in
+          in_kept all (length (if nat_eq h.rec 8 then [] else taken)) (length taken) h.count (length (kept ds)) (length (joined (kept ds))) parts.fields.limits.octets parts.fields.limits.fields phase some less room.octets_in room.fields_in
+      | inr (inl eight) ↦
+          in_other all (length (if nat_eq h.rec 8 then [] else taken)) (length (kept ds)) (length (joined (kept ds))) parts.fields.limits.octets parts.fields.limits.fields phase (let zero = none_taken h.rec taken eight in omega (arith, zero))
+          stands.fields.others.octets_in stands.fields.others.fields_in
+      | inr (inr few) ↦
+          in_other all (length (if nat_eq h.rec 8 then [] else taken)) (length (kept ds)) (length (joined (kept ds))) parts.fields.limits.octets parts.fields.limits.fields phase (omega (arith, some, less, few)) stands.fields.others.octets_in
+          stands.fields.others.fields_in
+    ]
+  where
+    in_kept : (phase some taken count n data_all octets fields : ℕ) → phase ≡ 18 + some → some ≤ taken → taken < count → data_all + count ≤ octets → n + 1 ≤ fields → phase + (6 * n + data_all) ≤ 26 + (octets + 6 * fields)
+    in_kept phase some taken count n data_all octets fields a b c d e = omega (arith, a, b, c, d, e)
+
+    in_other : (phase some n data_all octets fields : ℕ) → phase ≡ 18 + some → some ≤ 8 → data_all ≤ octets → n ≤ fields → phase + (6 * n + data_all) ≤ 26 + (octets + 6 * fields)
+    in_other phase some n data_all octets fields a b c d = omega (arith, a, b, c, d)
+
+-- Wherever the unpacker stands, its ticket is short.
+pub short_ticket : EventsTellTheDatasets → (u : Unpacking) (ticket : List ℕ) → IsSpelled u.reader.place u.parts ticket → Stood u → length ticket ≤ (limits_in u).octets + 6 * (limits_in u).fields + 256
+short_ticket tell u ticket s (p, a, stood) =
+    let by = placed tell u p ticket s (led_of stood) in
+    let rest = rest_length (place_of by.whole by.begun by.message) (numbers_length _ _ _ _) (texts_short _ by.text by.message by.leads) in
+    let begun = begun_length u.parts p by.whole by.begun by.reads by.stands in
+    let is = ap length by.spelled in
+    sums (length ticket) _ (length (phase_octets present_version (phase_of by.whole by.begun))) _ (limits_in u).octets (limits_in u).fields is rest begun
+  where
+    sums : (ticket whole phase kept octets fields : ℕ) → ticket ≡ whole → whole ≤ 227 + phase + kept → phase + kept ≤ 26 + (octets + 6 * fields) → ticket ≤ octets + 6 * fields + 256
+    sums ticket whole phase kept octets fields a b c = omega (arith, a, b, c)

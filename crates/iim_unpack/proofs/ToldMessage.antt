@@ -1,4 +1,4 @@
--- What a run of octets, or the end, tells a message.
+-- What a run of octets, or the end, tells a message, and what the object's refusal of a head says of it.
 use Rattle.std.proofs.Common.{◌≡◌, ℕ, true, false, List, [], ◌∷◌, ◌++◌, map, Option, Some, IsSome, refl, ap, sym, subst, ◌∙◌, append-nil, length, ◌==◌, arith}
 use Rattle.std.proofs.lemmas.Bool.{eqb-true}
 use Rattle.iim_object.specs.Format.Events.{ObjectOctet, ObjectEnd}
@@ -10,9 +10,15 @@ use Rattle.wire_message.specs.declared.place.Place.{Place}
 use Rattle.wire_message.specs.declared.fault.MessageCause.{MessageCause}
 use Rattle.wire_message.specs.declared.fault.MessageCause.TheVariants.{Unfinished}
 use Rattle.wire_story.specs.Format.Tokens.{End}
-use Rattle.iim_unpack.specs.Passed.{octets_in, end_is_last, TellsMessage, MessageRefuses}
+use Rattle.iim_unpack.specs.Passed.{octets_in, end_is_last, TellsMessage, MessageRefuses, PassesTo, HaltsAt, RefusesEnd}
 use Rattle.iim_unpack.specs.Passing.{goes_nowhere, tells_message_nothing}
 use Rattle.wire_story.specs.Format.Delivery as story
+use Rattle.iim_object.specs.Format.Objects.{ObjectToken}
+use Rattle.iim_object.specs.States.Reading.{RefusesHead}
+use Rattle.iim_object.specs.declared.reading.state.State.{State}
+use Rattle.iim_object.specs.declared.reading.fault.ObjectFault.{ObjectFault}
+use Rattle.iim_object.specs.declared.reading.fault.ObjectFault.TheVariants.{Size, Stopped}
+use Rattle.iim_unpack.specs.declared.parts.message.ToMessage.{ToMessage}
 
 pub octets_in-octets : (xs : List ℕ) → octets_in (map ObjectOctet xs) ≡ xs
 octets_in-octets [] = refl
@@ -81,3 +87,12 @@ pub tells_message_empty : {S : Type 0} (goes : S → List story.StoryEvent → S
     → TellsMessage goes failures old a (map ObjectOctet run) old a
 tells_message_empty goes failures old a [] none some g = tells_message_nothing goes failures old a some g
 tells_message_empty goes failures old a (x ∷ xs) none some g = absurd (let is = eqb-true (length (x ∷ xs)) 0 (sym none) in omega (arith, is))
+
+pub by_fault : {S : Type 0} (goes : S → List story.StoryEvent → S → Type 0) (failures : S → ℕ)
+    (object : Option State) (token : ObjectToken) (a b : ToMessage S) → IsSome a.message.now
+    → (fault : ObjectFault) → RefusesHead (PassesTo goes failures) (HaltsAt goes failures) object token a b fault
+    → RefusesEnd goes failures object token (a.message.now, a.sink.now) (b.cause, b.sink.now) fault
+by_fault goes failures object token a b some (Size why) h =
+    let p = h.1.2 some in
+    (h.0, (p.more, p.told, p.calm, λ octets text at. let next = p.stands octets text at in (next.0, next.2)))
+by_fault goes failures object token a b some (Stopped stop) h = (h.0, h.2, h.3.2 some)

@@ -1,7 +1,6 @@
--- A whole dataset of record 1, 2, 7 or 9 leads the parts of an unpacker on.
-use Rattle.std.specs.Prelude.{IsSome, is_none, is_some}
-use Rattle.std.proofs.Common.{◌≡◌, ℕ, ◌<◌, Bool, true, false, ◌||◌, ◌&&◌, cond, nat_eq, List, [], ◌∷◌, ◌++◌, length, map, flat_map, get_or, Option, Some, None, refl, ap, sym, subst, ◌∙◌, inl, inr, arith, append-nil}
-use Rattle.std.proofs.lemmas.List.Concat.{flat_map-append}
+-- A whole dataset leads the parts of an unpacker on; or a subfile is refused at an octet.
+use Rattle.std.specs.Prelude.{IsSome, is_none, is_some, ◌&&◌}
+use Rattle.std.proofs.Common.{◌≡◌, ℕ, ◌<◌, Bool, true, false, ◌||◌, ◌&&◌, cond, nat_eq, List, [], ◌∷◌, ◌++◌, length, map, flat_map, get_or, Option, Some, None, refl, ap, sym, subst, ◌∙◌, inl, inr, arith, append_assoc, append-nil}
 use Rattle.std.proofs.lemmas.Bool.Decides.{eqb_tells}
 use Rattle.iim_dataset.specs.Format.Datasets.{Dataset, head_of}
 use Rattle.iim_dataset.specs.Format.Splits.{InTag}
@@ -14,12 +13,11 @@ use Rattle.iim_tables.specs.Format.Numbers.{size_octets}
 use Rattle.iim_fields.specs.States.Admitting.{Admits, Spells}
 use Rattle.iim_fields.specs.Format.Faults.{is_kept, first_fault, value_fault}
 use Rattle.iim_fields.specs.States.Checks.{begun_head}
-use Rattle.iim_fields.specs.States.Standing as records
-use Rattle.iim_fields.specs.States.Standing.{FieldsPlace, IsBetween, section_of, begun_head_of}
+use Rattle.iim_fields.specs.States.Standing.{FieldsPlace, IsBetween, section_of, begun_head_of, PassesSubfile, limits_of, StandsAfter}
 use Rattle.iim_fields.specs.Format.Values.{data_of, tells_number}
 use Rattle.iim_fields.proofs.Sections.{last_more}
-use Rattle.iim_dataset.specs.Format.Octets.{number}
-use Rattle.iim_object.specs.Format.Objects.{NumberRead}
+use Rattle.iim_dataset.specs.Format.Octets.{number, Octets}
+use Rattle.iim_object.specs.Format.Objects.{NumberRead, SubfileBegun}
 use Rattle.iim_object.specs.States.Reading as objects
 use Rattle.iim_object.specs.Format.Numbers.{place_after_datasets, place_ended}
 use Rattle.wire_message.specs.Format.Layers.{text_so_far}
@@ -27,14 +25,31 @@ use Rattle.wire_message.specs.States.Reading as wire
 use Rattle.iim_places.specs.Format.Admitted.{object_of}
 use Rattle.iim_places.specs.Format.Tokens.{place_at}
 use Rattle.iim_unpack.specs.States.Parts.{AreAfter, has_ended}
-use Rattle.iim_unpack.specs.PartSteps.{TakesHead, TellsWhole}
-use Rattle.iim_unpack.specs.Routing.{HasEnded}
+use Rattle.iim_unpack.specs.PartSteps.{TakesHead, TellsWhole, TellsParts, PartsRefuse}
+use Rattle.iim_unpack.specs.Routing.{HasEnded, Takes, TookWhole}
 use Rattle.iim_places.specs.Laws.Lower.{LowerLaws}
 use Rattle.iim_unpack.specs.declared.parts.Parts.{Parts}
+use Rattle.iim_unpack.proofs.Sequences.{end_told}
 use Rattle.iim_places.proofs.Objects.{records_alive}
 use Rattle.iim_places.proofs.Places.{silent_leads}
-use Rattle.iim_unpack.proofs.Carrying.{after_all}
+use Rattle.iim_unpack.proofs.Carrying.{after_all, tells_parts_object, stopped_object}
 use Rattle.iim_places.proofs.ObjectOctets.{object_of_more, few_more}
+use Rattle.std.specs.Bool.{then_some}
+use Rattle.iim_dataset.specs.States.Reading.{AfterStep}
+use Rattle.iim_dataset.specs.declared.sink.Step.{Step}
+use Rattle.iim_object.specs.Format.Events as object_events
+use Rattle.iim_object.specs.Format.Places.{head_token}
+use Rattle.iim_object.specs.States.Reading.{events_at}
+use Rattle.iim_object.specs.declared.reading.state.State.{State}
+use Rattle.wire_message.specs.declared.fault.MessageCause.{MessageCause}
+use Rattle.wire_message.specs.declared.place.Place.{Place}
+use Rattle.wire_story.specs.Format.Delivery as story
+use Rattle.iim_places.specs.Format.Refusals.{message_on}
+use Rattle.iim_unpack.specs.Going.{tells_parts_joined, stopped_joined}
+use Rattle.iim_unpack.specs.Passed.{TellsMessage, MessageRefuses, HasFewSubfiles}
+use Rattle.iim_unpack.specs.Passing.{tells_message_nothing}
+use Rattle.iim_unpack.proofs.Closing.{closed_silent, tells_parts_closed, tells_parts_whole}
+use Rattle.iim_unpack.proofs.Heading.{tells_parts_head, begins_subfile}
 
 -- ---- a number
 
@@ -48,7 +63,7 @@ none_where (Some x) e = absurd cc
 
 -- they may come
 pub admits_where : (f : FieldsPlace) (h : Head) (n : ℕ) (xs : List ℕ) (b : Bool) → Spells xs h n
-    → ((ds : List Dataset) (ys : List ℕ) → records.StandsAfter f ds → Spells ys h n → b ≡ is_none (option_or (first_fault (records.limits_of f) ds h) (value_fault (data_of h ys)))) → b ≡ true → Admits f h xs
+    → ((ds : List Dataset) (ys : List ℕ) → StandsAfter f ds → Spells ys h n → b ≡ is_none (option_or (first_fault (limits_of f) ds h) (value_fault (data_of h ys)))) → b ≡ true → Admits f h xs
 admits_where f h n xs b s exactly is = record { count = s.count; octets = s.fit; no_fault = λ ds t. none_where _ (sym (exactly ds xs t s) ∙ is) }
 
 -- ---- the kept records
@@ -75,14 +90,10 @@ keeps r kept = elim (eqb_tells r 1) [
 -- ---- the dataset
 
 told_one : (ds : List Dataset) (h : Head) (xs : List ℕ) → h.count ≡ length xs → flat_map events_of ds ++ (HeadRead h ∷ (map DataOctet xs ++ DatasetEnd ∷ [])) ≡ handed_on (ds ++ data_of h xs ∷ []) (InTag [])
-told_one ds h xs count =
-    (λ i. flat_map events_of ds ++ (HeadRead (record { rec = h.rec; set = h.set; count = count i }) ∷ (map DataOctet xs ++ DatasetEnd ∷ [])))
-    ∙ ap (λ (es : List DatasetEvent). flat_map events_of ds ++ es) (sym (append-nil (events_of (data_of h xs))))
-    ∙ sym (flat_map-append events_of ds (data_of h xs ∷ []))
-    ∙ sym (append-nil (flat_map events_of (ds ++ data_of h xs ∷ [])))
+told_one ds h xs count = sym (append_assoc (flat_map events_of ds) (HeadRead h ∷ map DataOctet xs) (DatasetEnd ∷ [])) ∙ end_told ds h xs (sym count)
 
 -- the dataset is of no record after 7, and leads the object to its place
-after_one : (p new : Parts) (ds : List Dataset) (h : Head) (xs : List ℕ) → nat_eq h.rec 8 ≡ false → nat_eq h.rec 9 ≡ false → AreAfter p ds → records.StandsAfter new.fields (ds ++ data_of h xs ∷ [])
+after_one : (p new : Parts) (ds : List Dataset) (h : Head) (xs : List ℕ) → nat_eq h.rec 8 ≡ false → nat_eq h.rec 9 ≡ false → AreAfter p ds → StandsAfter new.fields (ds ++ data_of h xs ∷ [])
     → objects.StandsAt new.object (place_after_datasets (ds ++ data_of h xs ∷ [])) → new.message ≡ p.message → AreAfter new (ds ++ data_of h xs ∷ [])
 after_one p new ds h xs eight nine at fields object message =
     let d : Dataset = data_of h xs in
@@ -96,7 +107,7 @@ after_one p new ds h xs eight nine at fields object message =
       ended = λ is. absurd (let bad : true ≡ false = sym (ap (λ (r : ℕ). nat_eq r 9) (sym (last_more 0 ds d) ∙ is)) ∙ nine in cc);
     }
 
-after_whole : LowerLaws → (p new : Parts) (ds : List Dataset) (h : Head) (xs : List ℕ) → Keeps h.rec → AreAfter p ds → records.StandsAfter new.fields (ds ++ data_of h xs ∷ []) → new.object ≡ p.object → new.message ≡ p.message
+after_whole : LowerLaws → (p new : Parts) (ds : List Dataset) (h : Head) (xs : List ℕ) → Keeps h.rec → AreAfter p ds → StandsAfter new.fields (ds ++ data_of h xs ∷ []) → new.object ≡ p.object → new.message ≡ p.message
     → AreAfter new (ds ++ data_of h xs ∷ [])
 after_whole laws p new ds h xs k at fields object message =
     let d : Dataset = data_of h xs in
@@ -106,7 +117,7 @@ after_whole laws p new ds h xs k at fields object message =
     after_one p new ds h xs k.eight k.nine at fields
     (subst (objects.StandsAt new.object) (sym elsewhere ∙ leads) (subst (λ o. objects.StandsAt o (place_after_datasets ds)) (sym object) at.object)) message
 
-after_number : LowerLaws → (p new : Parts) (ds : List Dataset) (h : Head) (xs : List ℕ) → h.rec ≡ 7 → AreAfter p ds → records.StandsAfter new.fields (ds ++ data_of h xs ∷ []) → objects.LeadsOn p.object (NumberRead h.set (number xs)) new.object
+after_number : LowerLaws → (p new : Parts) (ds : List Dataset) (h : Head) (xs : List ℕ) → h.rec ≡ 7 → AreAfter p ds → StandsAfter new.fields (ds ++ data_of h xs ∷ []) → objects.LeadsOn p.object (NumberRead h.set (number xs)) new.object
     → new.message ≡ p.message → AreAfter new (ds ++ data_of h xs ∷ [])
 after_number laws p new ds h xs seven at fields leads message =
     let d : Dataset = data_of h xs in
@@ -115,7 +126,7 @@ after_number laws p new ds h xs seven at fields leads message =
     (subst (objects.StandsAt new.object) next.1 (leads (place_after_datasets ds) at.object next.0)) message
 
 -- the object ends, and its size is confirmed
-after_end : LowerLaws → (p new : Parts) (ds : List Dataset) (h : Head) (xs : List ℕ) → h.rec ≡ 9 → AreAfter p ds → records.StandsAfter new.fields (ds ++ data_of h xs ∷ []) → objects.EndsAs p.object (number xs) new.object
+after_end : LowerLaws → (p new : Parts) (ds : List Dataset) (h : Head) (xs : List ℕ) → h.rec ≡ 9 → AreAfter p ds → StandsAfter new.fields (ds ++ data_of h xs ∷ []) → objects.EndsAs p.object (number xs) new.object
     → wire.IsWhole p.message → new.message ≡ p.message → AreAfter new (ds ++ data_of h xs ∷ [])
 after_end laws p new ds h xs nine at fields leads whole message =
     let d : Dataset = data_of h xs in
@@ -131,7 +142,7 @@ after_end laws p new ds h xs nine at fields leads whole message =
       ended = λ _. subst wire.IsWhole (sym message) whole;
     }
 
-tells_parts_one : (p new : Parts) (h : Head) (xs : List ℕ) → IsBetween p.fields → nat_eq h.rec 8 ≡ false → h.count ≡ length xs → records.limits_of new.fields ≡ records.limits_of p.fields
+tells_parts_one : (p new : Parts) (h : Head) (xs : List ℕ) → IsBetween p.fields → nat_eq h.rec 8 ≡ false → h.count ≡ length xs → limits_of new.fields ≡ limits_of p.fields
     → ((ds : List Dataset) → AreAfter p ds → AreAfter new (ds ++ data_of h xs ∷ [])) → TellsWhole p h xs new
 tells_parts_one p new h xs between eight count limits after = record {
   limits = limits;
@@ -147,19 +158,19 @@ tells_parts_one p new h xs between eight count limits after = record {
       };
 }
 
-pub whole_went : LowerLaws → (p new : Parts) (h : Head) (xs : List ℕ) → IsBetween p.fields → is_kept h.rec ≡ true → h.count ≡ length xs → records.limits_of new.fields ≡ records.limits_of p.fields
-    → ((ds : List Dataset) → records.StandsAfter p.fields ds → records.StandsAfter new.fields (ds ++ data_of h xs ∷ [])) → new.object ≡ p.object → new.message ≡ p.message → TellsWhole p h xs new
+pub whole_went : LowerLaws → (p new : Parts) (h : Head) (xs : List ℕ) → IsBetween p.fields → is_kept h.rec ≡ true → h.count ≡ length xs → limits_of new.fields ≡ limits_of p.fields
+    → ((ds : List Dataset) → StandsAfter p.fields ds → StandsAfter new.fields (ds ++ data_of h xs ∷ [])) → new.object ≡ p.object → new.message ≡ p.message → TellsWhole p h xs new
 whole_went laws p new h xs between kept count limits stands object message =
     let k = keeps h.rec kept in
     tells_parts_one p new h xs between k.eight count limits (λ ds at. after_whole laws p new ds h xs k at (stands ds at.fields) object message)
 
-pub number_went : LowerLaws → (p new : Parts) (h : Head) (xs : List ℕ) → IsBetween p.fields → h.rec ≡ 7 → h.count ≡ length xs → records.limits_of new.fields ≡ records.limits_of p.fields
-    → ((ds : List Dataset) → records.StandsAfter p.fields ds → records.StandsAfter new.fields (ds ++ data_of h xs ∷ [])) → objects.LeadsOn p.object (NumberRead h.set (number xs)) new.object → new.message ≡ p.message → TellsWhole p h xs new
+pub number_went : LowerLaws → (p new : Parts) (h : Head) (xs : List ℕ) → IsBetween p.fields → h.rec ≡ 7 → h.count ≡ length xs → limits_of new.fields ≡ limits_of p.fields
+    → ((ds : List Dataset) → StandsAfter p.fields ds → StandsAfter new.fields (ds ++ data_of h xs ∷ [])) → objects.LeadsOn p.object (NumberRead h.set (number xs)) new.object → new.message ≡ p.message → TellsWhole p h xs new
 number_went laws p new h xs between seven count limits stands leads message =
     tells_parts_one p new h xs between (ap (λ (r : ℕ). nat_eq r 8) seven) count limits (λ ds at. after_number laws p new ds h xs seven at (stands ds at.fields) leads message)
 
-pub end_went : LowerLaws → (p new : Parts) (h : Head) (xs : List ℕ) → IsBetween p.fields → h.rec ≡ 9 → h.count ≡ length xs → records.limits_of new.fields ≡ records.limits_of p.fields
-    → ((ds : List Dataset) → records.StandsAfter p.fields ds → records.StandsAfter new.fields (ds ++ data_of h xs ∷ [])) → objects.EndsAs p.object (number xs) new.object → wire.IsWhole p.message → new.message ≡ p.message
+pub end_went : LowerLaws → (p new : Parts) (h : Head) (xs : List ℕ) → IsBetween p.fields → h.rec ≡ 9 → h.count ≡ length xs → limits_of new.fields ≡ limits_of p.fields
+    → ((ds : List Dataset) → StandsAfter p.fields ds → StandsAfter new.fields (ds ++ data_of h xs ∷ [])) → objects.EndsAs p.object (number xs) new.object → wire.IsWhole p.message → new.message ≡ p.message
     → TellsWhole p h xs new
 end_went laws p new h xs between nine count limits stands leads whole message =
     tells_parts_one p new h xs between (ap (λ (r : ℕ). nat_eq r 8) nine) count limits (λ ds at. after_end laws p new ds h xs nine at (stands ds at.fields) leads whole message)
@@ -188,16 +199,82 @@ section_takes p new h t nine between section object message = record {
 pub number_takes : (p new : Parts) (h : Head) → TakesHead p → h.rec ≡ 7 → IsBetween new.fields → section_of new.fields ≡ h.rec → IsSome new.object → new.message ≡ p.message → TakesHead new
 number_takes p new h t seven between section object message = section_takes p new h t (ap (λ (r : ℕ). nat_eq r 9) seven) between section object message
 
-still_takes : (p new : Parts) (h : Head) → TakesHead p → is_kept h.rec ≡ true → IsBetween new.fields → section_of new.fields ≡ h.rec → new.object ≡ p.object → new.message ≡ p.message → TakesHead new
-still_takes p new h t kept between section object message = section_takes p new h t (keeps h.rec kept).nine between section (subst (λ o. IsSome o) (sym object) t.object) message
-
 pub takes_either : (p new : Parts) (h : Head) (b : Bool) → TakesHead p → (b ≡ true → is_kept h.rec ≡ true) → IsBetween new.fields → (b ≡ true → section_of new.fields ≡ h.rec) → (b ≡ false → new.fields ≡ p.fields)
     → new.object ≡ p.object → new.message ≡ p.message → TakesHead new
 unfolding has_ended
-takes_either p new h true t kept between section left object message = still_takes p new h t (kept refl) between (section refl) object message
+takes_either p new h true t kept between section left object message =
+    section_takes p new h t (keeps h.rec (kept refl)).nine between (section refl) (subst (λ o. IsSome o) (sym object) t.object) message
 takes_either p new h false t kept between section left object message = record {
   fields = between;
   object = subst (λ o. IsSome o) (sym object) t.object;
   message = subst (λ m. IsSome m) (sym message) t.message;
   more = ap (λ (f : FieldsPlace). nat_eq (section_of f) 9 && is_none (begun_head_of f)) (left refl) ∙ t.more;
 }
+
+-- The head of a subfile was taken by the records, as by a reader that stands in it, and by the object.
+pub record Entered (p : Parts) (h : Head) (fields : FieldsPlace) (object : Option State) : Type 0 where
+  pub eight : h.rec ≡ 8
+  pub takes : TakesHead p
+  pub passes : PassesSubfile p.fields h fields
+  pub leads : objects.LeadsOn p.object (SubfileBegun h.count) object
+  pub few : HasFewSubfiles p.object
+
+-- the parts in the subfile
+abbrev pub inside_of : (p : Parts) (h : Head) (fields : FieldsPlace) (object : Option State) → Entered p h fields object → Parts
+inside_of p h fields object e = record { fields = e.passes.inside; object = object; message = p.message }
+
+tells_parts_in : {S : Type 0} (goes : S → List story.StoryEvent → S → Type 0) (failures : S → ℕ) → LowerLaws → (p : Parts) (a : S) (h : Head) (fields : FieldsPlace) (object : Option State) → goes a [] a
+    → (e : Entered p h fields object) → TellsParts goes failures p a (HeadRead h ∷ []) (inside_of p h fields object e) a
+tells_parts_in goes failures laws p a h fields object g e =
+    let none : events_at h.rec ≡ [] = ap events_at e.eight in
+    let passed : TellsMessage goes failures p.message a (events_at h.rec) p.message a =
+    subst (λ (es : List object_events.ObjectEvent). TellsMessage goes failures p.message a es p.message a) (sym none) (tells_message_nothing goes failures p.message a e.takes.message g) in
+    let token : head_token h.rec h.count ≡ SubfileBegun h.count = ap (λ (r : ℕ). head_token r h.count) e.eight in
+    let leads = subst (λ t. objects.LeadsOn p.object t object) (sym token) e.leads in
+    tells_parts_head goes failures p (inside_of p h fields object e) a a h passed.more e.takes.fields e.passes.limits passed.told passed.calm
+    (λ ds at. begins_subfile goes failures laws p a a ds h e.passes.inside object p.message e.eight at (e.passes.begins ds at.fields) leads passed e.few)
+
+pub subfile_went : {S : Type 0} (goes : S → List story.StoryEvent → S → Type 0) (failures : S → ℕ) → ((a : S) → goes a [] a)
+    → ((a b c : S) (xs ys : List story.StoryEvent) → goes a xs b → goes b ys c → goes a (xs ++ ys) c)
+    → LowerLaws → (p : Parts) (a b : S) (h : Head) (xs : List ℕ) (fields : FieldsPlace) (object : Option State) (message : Option Place) → Entered p h fields object → Octets xs
+    → limits_of fields ≡ limits_of p.fields → TellsMessage goes failures p.message a (map object_events.ObjectOctet xs) message b
+    → TellsParts goes failures p a (HeadRead h ∷ (map DataOctet xs ++ DatasetEnd ∷ [])) (record { fields = fields; object = object; message = message }) b
+subfile_went goes failures nothing joined laws p a b h xs fields object message e octets limits passed =
+    let p1 : Parts = inside_of p h fields object e in
+    let p2 : Parts = record { fields = e.passes.inside; object = object; message = message } in
+    let p3 : Parts = record { fields = fields; object = object; message = message } in
+    let begun = tells_parts_in goes failures laws p a h fields object (nothing a) e in
+    let run = tells_parts_object goes failures p1 a b xs message laws h e.passes.head e.eight octets passed in
+    let closed = closed_silent laws p2 fields h e.passes.head (limits ∙ sym e.passes.limits) e.passes.closes in
+    let end = tells_parts_closed goes failures p2 p3 b (nothing b) closed in
+    tells_parts_joined goes failures joined p p1 p3 a a b (HeadRead h ∷ []) (map DataOctet xs ++ DatasetEnd ∷ []) begun
+    (tells_parts_joined goes failures joined p1 p2 p3 a b b (map DataOctet xs) (DatasetEnd ∷ []) run end)
+
+pub subfile_stopped : {S : Type 0} (goes : S → List story.StoryEvent → S → Type 0) (failures : S → ℕ) → ((a : S) → goes a [] a)
+    → ((a b c : S) (xs ys : List story.StoryEvent) → goes a xs b → goes b ys c → goes a (xs ++ ys) c)
+    → LowerLaws → (p : Parts) (a b : S) (h : Head) (front : List ℕ) (octet : ℕ) (cause : MessageCause) (fields : FieldsPlace) (object : Option State) → Entered p h fields object
+    → MessageRefuses goes failures (p.message, a) (map object_events.ObjectOctet front) (object_events.ObjectOctet octet) (Some cause, b)
+    → PartsRefuse goes failures (p, a) (HeadRead h ∷ map DataOctet front) (DataOctet octet) (Some (message_on h cause), b)
+subfile_stopped goes failures nothing joined laws p a b h front octet cause fields object e halted =
+    let p1 : Parts = inside_of p h fields object e in
+    stopped_joined goes failures joined p p1 a a b (HeadRead h ∷ []) (map DataOctet front) (DataOctet octet) (Some (message_on h cause)) (tells_parts_in goes failures laws p a h fields object (nothing a) e)
+    (stopped_object goes failures p1 a b front octet cause laws h e.passes.head e.eight halted)
+
+-- after it the parts take a head
+pub subfile_takes : (p new : Parts) (h : Head) → TakesHead p → h.rec ≡ 8 → IsBetween new.fields → section_of new.fields ≡ h.rec → IsSome new.object → IsSome new.message → TakesHead new
+unfolding has_ended
+subfile_takes p new h t eight between section object message = record {
+  fields = between;
+  object = object;
+  message = message;
+  more = ap (λ (b : Bool). b && is_none (begun_head_of new.fields)) (ap (λ (r : ℕ). nat_eq r 9) (section ∙ eight));
+}
+
+-- ---- the answer
+
+-- a dataset that was taken, or left
+pub answered : {S : Type 0} (goes : S → List story.StoryEvent → S → Type 0) (failures : S → ℕ) → ((a : S) → goes a [] a) → (old new : Parts) (a : S) (h : Head) (xs : List ℕ) (b : Bool) (step : Step) (o : Option Step)
+    → o ≡ then_some b step → (b ≡ true → TellsWhole old h xs new) → (b ≡ false → new ≡ old) → (b ≡ true → AfterStep Takes HasEnded new step) → TookWhole goes failures (old, a) h xs (new, a) o
+answered goes failures nothing old new a h xs true step o is went left after =
+    subst (TookWhole goes failures (old, a) h xs (new, a)) (sym is) (tells_parts_whole goes failures old new h xs a (nothing a) (went refl), after refl)
+answered goes failures nothing old new a h xs false step o is went left after = subst (TookWhole goes failures (old, a) h xs (new, a)) (sym is) (left refl, refl)

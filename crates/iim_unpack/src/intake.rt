@@ -82,6 +82,7 @@ pub enum Fed {
 }
 
 /// What is missing where nothing is next in line: None where the unpacker stands on no octets.
+#[tactic(auto, using(crate::proofs::Intakes::none_missing, crate::proofs::Intakes::some_missing))]
 fn missing_at_end(unpacker: &Unpacker) -> Option<Refusal>
     ensures none { IfNone result ((p : List ℕ) (n : ℕ) → Stands unpacker.now p n → p ≡ []) }
     ensures truncated { IfSome result (λ e. (p : List ℕ) (n : ℕ) → Stands unpacker.now p n

@@ -13,6 +13,7 @@ pub use iim_places::laws::place_laws;
 
 /// An unpacker that has refused nothing stands on some octets, or is done with some. And it holds what its limits allow, and 256 octets
 /// at most beside that.
+#[tactic(auto, using(crate::proofs::Feeding::stood_done))]
 pub fn unpackers_stand_somewhere(unpacker: &Unpacker)
     ensures stands { unpacker.now.refused ≡ None → (IsDone unpacker.now → ⊥) → (octets : List ℕ) × (count : ℕ)
         × Stands unpacker.now octets count }

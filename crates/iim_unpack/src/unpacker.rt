@@ -45,6 +45,7 @@ pub enum Progress {
 }
 
 /// `feed` of the tags at a router, whose references stay what they are.
+#[tactic(auto, using(crate::proofs::Routed::fails_for, crate::proofs::Routed::has_advanced, crate::proofs::Routed::same_room))]
 fn feed_router<'p, 's, S: StorySink>(
     reader: &mut HeadReader,
     piece: &[u8],

@@ -46,6 +46,7 @@ impl Block {
     }
 
     /// Continues after the first `used` of the octets.
+    #[tactic(auto, using(crate::proofs::Blocks::passes, crate::proofs::Blocks::fits))]
     pub(crate) fn pass(&mut self, used: usize)
         requires { used ≤ length self.old }
         ensures { self.new ≡ drop used self.old }

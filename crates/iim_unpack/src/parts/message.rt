@@ -51,6 +51,7 @@ impl<'m, 's, S: StorySink> ObjectSink for ToMessage<'m, 's, S> {
           xs ys refused c.cause p (k.2 p.takes_calls),
     ) };
 
+    #[tactic(auto, using(crate::proofs::ToldMessage::tells_message_octets, crate::proofs::ToldMessage::message_refuses_octet))]
     fn run(&mut self, run: &[u8]) -> Result<(), Stop> {
         if run.is_empty() {
             return Ok(());
@@ -64,6 +65,7 @@ impl<'m, 's, S: StorySink> ObjectSink for ToMessage<'m, 's, S> {
         }
     }
 
+    #[tactic(auto, using(crate::proofs::ToldMessage::message_refuses_end))]
     fn close(&mut self) -> Result<(), Stop> {
         match self.message.close() {
             Ok(()) => Ok(()),
@@ -100,6 +102,7 @@ fn run_object<'m, 's, S: StorySink>(
 }
 
 /// Hands the end of the object to the object reader.
+#[tactic(auto, using(crate::proofs::ToldMessage::by_fault))]
 fn end_object<'m, 's, S: StorySink>(
     object: &mut ObjectReader,
     head: Head,

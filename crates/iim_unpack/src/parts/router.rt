@@ -92,6 +92,7 @@ impl<'p, 's, S: StorySink> DatasetSink for Router<'p, 's, S> {
         }
     }
 
+    #[tactic(auto, using(crate::proofs::Closing::tells_parts_closed, crate::proofs::Closing::stopped_closed))]
     fn close(&mut self) -> Result<Step, Stop> {
         match self.parts.close() {
             Ok(()) => {

@@ -1,4 +1,4 @@
-use Rattle.iim_unpack.proofs.Made.{readers_make}
+use Rattle.iim_unpack.proofs.Restored.{readers_make}
 use Rattle.iim_unpack.proofs.laws.readers_make_unpackers.Goals as goal
 
 pub returns : goal.returns

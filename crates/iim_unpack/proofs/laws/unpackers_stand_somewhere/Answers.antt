@@ -1,7 +1,6 @@
 use Rattle.std.proofs.Common.{ℕ, List, inl, inr}
 use Rattle.iim_unpack.specs.States.Unpacking.{Unpacking, IsDone, Stands}
 use Rattle.iim_unpack.specs.UnpackerInside.{Stood}
-use Rattle.iim_unpack.proofs.Feeding.{stood_done}
 use Rattle.iim_unpack.proofs.Held.{holds_few}
 use Rattle.iim_unpack.proofs.laws.unpackers_stand_somewhere.Goals as goal
 
@@ -11,9 +10,6 @@ stands_by u more (octets, count, inr at) = absurd (more (at.taking, at.ended))
 
 pub returns-clause-stands : goal.returns-clause-stands
 returns-clause-stands c = λ none more. stands_by c.args.unpacker.now more (c.stands_somewhere.ensures.stood none)
-
-pub returns-clause-done : goal.returns-clause-done
-returns-clause-done c = λ done. stood_done c.args.unpacker.now done.1 (c.stands_somewhere.ensures.stood done.0)
 
 pub returns-clause-held : goal.returns-clause-held
 returns-clause-held c = λ none. holds_few c.lower_laws.ensures.events_tell c.args.unpacker.now (c.stands_somewhere.ensures.stood none)

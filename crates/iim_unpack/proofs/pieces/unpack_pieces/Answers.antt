@@ -21,11 +21,8 @@ returns-in-Some-clause-refused g c =
 
 pub returns-in-Some-clause-only : goal.returns-in-Some-clause-only
 returns-in-Some-clause-only g c =
-    let goes = g.S.StorySink.goes in
-    let limits = limits_in c.args.unpacker in
-    let stream = stream_of c.args.pieces.now in
-    let down = ends_short goes limits c.feed_pieces.new.unpacker c.args.sink.now c.feed_pieces.new.sink stream c.end_of_input.result c.in-Some.refusal c.in_ok-feed_pieces.ensures.fed c.in-Some.is c.end_of_input.ensures.truncated c.end_of_input.ensures.done in
-    only_down goes c.place_laws.ensures.streams_have_one_answer limits stream c.args.sink.now c.feed_pieces.new.sink c.in-Some.refusal down
+    only_down g.S.StorySink.goes c.place_laws.ensures.streams_have_one_answer (limits_in c.args.unpacker) (stream_of c.args.pieces.now) c.args.sink.now
+    c.feed_pieces.new.sink c.in-Some.refusal (returns-in-Some-clause-refused g c)
 
 pub returns-in-Some-clause-counted : goal.returns-in-Some-clause-counted
 returns-in-Some-clause-counted g c =
@@ -48,12 +45,6 @@ returns-clause-finished g c =
     is_unpacked goes c.lower_laws.ensures c.texts_are_delivered_as_lines.ensures limits v c.args.sink.now c.feed_pieces.new.sink stream f.more c.in-Ok.got c.octets-used.result fed.limits_are f.told f.done c.in-Ok.ensures.value c.octets-used.ensures
 
 pub returns-clause-only : goal.returns-clause-only
-returns-clause-only g c =
-    let goes = g.S.StorySink.goes in
-    let limits = limits_in c.args.unpacker in
-    let v = c.feed_pieces.new.unpacker in
-    let stream = stream_of c.args.pieces.now in
-    let fed = c.in_ok-feed_pieces.ensures.fed in
-    let f = ends_done goes limits v c.args.sink.now c.feed_pieces.new.sink stream c.end_of_input.result fed c.in_default.is c.end_of_input.ensures.truncated in
-    let up = is_unpacked goes c.lower_laws.ensures c.texts_are_delivered_as_lines.ensures limits v c.args.sink.now c.feed_pieces.new.sink stream f.more c.in-Ok.got c.octets-used.result fed.limits_are f.told f.done c.in-Ok.ensures.value c.octets-used.ensures in
-    λ answer is other. only_up goes c.place_laws.ensures.streams_have_one_answer limits stream c.args.sink.now c.feed_pieces.new.sink c.in-Ok.got c.octets-used.result up answer is
+returns-clause-only g c = λ answer is other.
+    only_up g.S.StorySink.goes c.place_laws.ensures.streams_have_one_answer (limits_in c.args.unpacker) (stream_of c.args.pieces.now) c.args.sink.now
+    c.feed_pieces.new.sink c.in-Ok.got c.octets-used.result (returns-clause-finished g c) answer is

@@ -1,7 +1,7 @@
-use Rattle.std.proofs.Common.{◌<◌, ◌∙◌, refl, subst, sym}
+use Rattle.std.proofs.Common.{◌<◌, ◌∙◌, refl, subst, sym, arith}
 use Rattle.iim_fields.specs.declared.limits.Limits.{Limits}
 use Rattle.iim_unpack.specs.States.Intakes.{in_line}
-use Rattle.iim_unpack.proofs.Intakes.{fed_none, fed_then, fed_and_done, fed_and_ended, fed_and_faults, fed_few, raised_on, some_came, more_of, done_of, end_of, somewhere, smaller}
+use Rattle.iim_unpack.proofs.Intakes.{fed_none, fed_then, fed_and_done, fed_and_ended, fed_and_faults, fed_few, raised_on, some_came, more_of, done_of, end_of, somewhere}
 use Rattle.iim_unpack.proofs.intake.Intake.feed_envelope.Goals as goal
 
 pub feeding-init : goal.feeding-init
@@ -22,9 +22,10 @@ feeding-smaller g c =
     let on = c.feeding.invariant.fed.0 in
     let here = somewhere c.args.unpacker.now c.requires.ready c.stands_somewhere.ensures.stood in
     let more = more_of c.in-Ok-More.field-0-is (c.in-Ok-More.ensures.fed c.feeding.invariant.alive) in
-    smaller c.feeding.used c.raised-used.result c.in-Ok-More.more c.raised-used.ensures more.0
-    (fed_few c.place_laws.ensures.open_octets_are_bounded on
-    (subst (λ (l : Limits). l.octets < 4294967296) (sym on.limits) c.stands_somewhere.ensures.octets) (subst (λ (l : Limits). l.fields < 4294967296) (sym on.limits) c.stands_somewhere.ensures.fields) here.0 here.1 here.2)
+    let few = fed_few c.place_laws.ensures.open_octets_are_bounded on
+    (subst (λ (l : Limits). l.octets < 4294967296) (sym on.limits) c.stands_somewhere.ensures.octets)
+    (subst (λ (l : Limits). l.fields < 4294967296) (sym on.limits) c.stands_somewhere.ensures.fields) here.0 here.1 here.2 in
+    omega (arith, more.0, few, c.raised-used.ensures)
 
 pub feeding-preserved : goal.feeding-preserved
 feeding-preserved g c =
@@ -60,18 +61,3 @@ returns-in-Err-clause-faults g c =
       fed_and_faults g.S.StorySink.failures g.met.S.StorySink.joined c.gifts_join.ensures c.delivery_may_be_cut.ensures (in_line g.R.Source.state c.next_piece.new.self) c.next_piece.new.unpacker
           c.next_piece.new.sink faults.0 c.in-Err.fault c.feeding.invariant.fed.0 c.feeding.invariant.calm faults.2,
     )
-
-pub returns-in-Some-clause-leads : goal.returns-in-Some-clause-leads
-returns-in-Some-clause-leads g c = g.met.R.Source.stays _
-
-pub returns-in-Ok-Done-clause-leads : goal.returns-in-Ok-Done-clause-leads
-returns-in-Ok-Done-clause-leads g c = g.met.R.Source.leads_on _ _ _ c.feeding.invariant.leads c.next_piece.ensures.leads
-
-pub returns-in-Ok-End-clause-leads : goal.returns-in-Ok-End-clause-leads
-returns-in-Ok-End-clause-leads g c = g.met.R.Source.leads_on _ _ _ c.feeding.invariant.leads c.next_piece.ensures.leads
-
-pub returns-in-Err-clause-leads : goal.returns-in-Err-clause-leads
-returns-in-Err-clause-leads g c = g.met.R.Source.leads_on _ _ _ c.feeding.invariant.leads c.next_piece.ensures.leads
-
-pub returns-in-Some-clause-faults : goal.returns-in-Some-clause-faults
-returns-in-Some-clause-faults g c = λ none. absurd cc

@@ -1,8 +1,8 @@
-use Rattle.std.proofs.Common.{◌≡◌, ◌<◌, ◌≤◌, ℕ, List, length, refl, ap, sym, subst, ◌∙◌}
+use Rattle.std.proofs.Common.{◌≡◌, ◌<◌, ◌≤◌, ℕ, List, length, refl, ap, sym, subst, ◌∙◌, arith}
 use Rattle.iim_unpack.specs.States.Intakes.{in_line}
 use Rattle.iim_places.specs.States.Counts.{raised}
 use Rattle.iim_unpack.proofs.Blocks.{line_used, line_front}
-use Rattle.iim_unpack.proofs.Intakes.{piece_more, piece_done, piece_refused, somewhere, used_within, raised_some}
+use Rattle.iim_unpack.proofs.Intakes.{piece_more, piece_done, piece_refused, somewhere}
 use Rattle.iim_unpack.proofs.intake.Intake.feed_held.Goals as goal
 
 pub returns-in-Ok-More-clause-fed : goal.returns-in-Ok-More-clause-fed
@@ -20,7 +20,7 @@ returns-in-Ok-More-clause-fed g c =
     c.in-Ok-More.field-0 c.in-Ok-More.field-0-is c.in-Ok-More.ensures.goes.1 in
     let here = somewhere u c.requires.ready c.stands_somewhere.ensures.stood in
     let then_ = (fed.stands here.0 here.1 here.2).0 in
-    (raised_some c.raised.result (length piece) count some, (then_.taking, then_.unended), fed)
+    (omega (arith, count, some), (then_.taking, then_.unended), fed)
 
 pub returns-in-Ok-Done-clause-fed : goal.returns-in-Ok-Done-clause-fed
 returns-in-Ok-Done-clause-fed g c =
@@ -34,7 +34,7 @@ returns-in-Ok-Done-clause-fed g c =
     let here = somewhere u c.requires.ready c.stands_somewhere.ensures.stood in
     piece_done g.S.StorySink.goes old new u c.feed.new.self c.args.sink.now c.feed.new.sink c.raised-in-Ok-Done.result last piece
     (line_front last c.args.self.now.block c.pass-in-Ok-Done.new.self piece (st c.args.self.now.reader) c.held.ensures c.pass-in-Ok-Done.ensures)
-    refl (used_within c.feed.new.self piece goes.0 last c.in-Ok-Done.field-0 _ _ c.in-Ok-Done.field-0-is (goes.2 _ _ here.2))
+    refl ((rw c.in-Ok-Done.field-0-is at (goes.2 _ _ here.2)).0)
     c.raised-in-Ok-Done.ensures (c.in-Ok-Done.ensures.limits c.requires.ready.0) c.in-Ok-Done.field-0 c.in-Ok-Done.field-0-is goes
 
 pub pass-requires-in-Ok-Done : goal.pass-requires-in-Ok-Done
@@ -42,7 +42,7 @@ pass-requires-in-Ok-Done g c =
     let goes = c.in-Ok-Done.ensures.goes.1 in
     let here = somewhere c.args.unpacker.now c.requires.ready c.stands_somewhere.ensures.stood in
     subst (λ (xs : List ℕ). c.in-Ok-Done.last ≤ length xs) c.held.ensures
-    (used_within c.feed.new.self c.held.result.now goes.0 c.in-Ok-Done.last c.in-Ok-Done.field-0 _ _ c.in-Ok-Done.field-0-is (goes.2 _ _ here.2))
+    (rw c.in-Ok-Done.field-0-is at (goes.2 _ _ here.2)).0
 
 pub returns-in-Err-clause-refused : goal.returns-in-Err-clause-refused
 returns-in-Err-clause-refused g c =

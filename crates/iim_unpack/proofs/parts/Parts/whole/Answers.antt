@@ -3,7 +3,7 @@ use Rattle.iim_dataset.specs.declared.head.Head.{Head}
 use Rattle.iim_dataset.specs.declared.sink.Step.TheVariants.{More, Last}
 use Rattle.iim_unpack.specs.PartSteps.{TellsWhole}
 use Rattle.iim_unpack.specs.declared.parts.Parts.{Parts}
-use Rattle.iim_unpack.proofs.WholeSubfiles.{answered}
+use Rattle.iim_unpack.proofs.Wholes.{answered}
 use Rattle.iim_unpack.proofs.parts.Parts.whole.Goals as goal
 
 -- told by its number, set and count

@@ -1,6 +1,4 @@
-use Rattle.std.proofs.Common.{ap, refl}
-use Rattle.iim_fields.specs.States.Standing.{FieldsPlace}
-use Rattle.iim_unpack.specs.declared.parts.Parts.{Parts}
+use Rattle.std.proofs.Common.{refl}
 use Rattle.iim_unpack.proofs.Wholes.{whole_went, takes_either}
 use Rattle.iim_unpack.proofs.parts.Parts.whole_field.Goals as goal
 
@@ -11,6 +9,3 @@ returns-clause-takes c =
 pub returns-clause-whole : goal.returns-clause-whole
 returns-clause-whole c is =
     whole_went c.lower_laws.ensures c.args.self.now _ c.args.head c.args.octets.now c.requires.takes.fields (c.whole.ensures.kept is) c.requires.count c.whole.ensures.bounds.limits (c.whole.ensures.took is).stands refl refl
-
-pub returns-clause-left : goal.returns-clause-left
-returns-clause-left c is = ap (λ (f : FieldsPlace). let p : Parts = record c.args.self.now { fields = f } in p) (c.whole.ensures.left is)

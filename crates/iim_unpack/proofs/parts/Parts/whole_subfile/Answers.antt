@@ -2,7 +2,7 @@ use Rattle.std.proofs.Common.{Option, take, slice_index, sym, subst, arith}
 use Rattle.std.specs.Prelude.{IsSome}
 use Rattle.iim_object.specs.declared.reading.state.State.{State}
 use Rattle.iim_dataset.proofs.OctetLists.{are_octets}
-use Rattle.iim_unpack.proofs.WholeSubfiles.{subfile_went, subfile_stopped, subfile_takes}
+use Rattle.iim_unpack.proofs.Wholes.{subfile_went, subfile_stopped, subfile_takes}
 use Rattle.iim_unpack.proofs.parts.Parts.whole_subfile.Goals as goal
 
 pub put_subfile-requires-clause-accepts : goal.put_subfile-requires-clause-accepts

@@ -5,7 +5,7 @@ use Rattle.iim_places.specs.Format.TicketForm.{Split, split_octets}
 use Rattle.iim_places.specs.States.TicketsTold.{split_told}
 use Rattle.iim_unpack.specs.States.Unpacking.{Unpacking}
 use Rattle.iim_places.proofs.PlacesTold.{heads_within, ticket_at}
-use Rattle.iim_unpack.proofs.MadeFor.{made_for}
+use Rattle.iim_unpack.proofs.Restored.{made_for}
 use Rattle.iim_unpack.proofs.ticket.restore.unpacker_at.Goals as goal
 
 pub fields_at-requires-clause-leads : goal.fields_at-requires-clause-leads

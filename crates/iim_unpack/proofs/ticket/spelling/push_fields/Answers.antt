@@ -1,15 +1,10 @@
-use Rattle.std.proofs.Common.{◌≡◌, ℕ, List, [], ◌∷◌, ◌++◌, length, sym, ap, ◌∙◌, append_assoc}
+use Rattle.std.proofs.Common.{ℕ, List, [], ◌∷◌, ◌++◌, length, sym, ap, ◌∙◌, append_assoc}
 use Rattle.std.specs.List.{flat_map}
-use Rattle.std.proofs.lemmas.List.{append-nil}
+use Rattle.std.proofs.lemmas.List.{append-nil, flat_map_more}
 use Rattle.iim_dataset.specs.Format.Datasets.{Dataset}
 use Rattle.iim_fields.specs.States.Walks.{rest_of}
 use Rattle.iim_places.specs.Format.Tickets.{four, field_octets}
 use Rattle.iim_unpack.proofs.ticket.spelling.push_fields.Goals as goal
-
-one_more : (done : List Dataset) (d : Dataset) → flat_map field_octets (done ++ d ∷ []) ≡ flat_map field_octets done ++ field_octets d
-one_more [] d = append-nil (field_octets d)
-one_more (x ∷ done) d =
-    ap (λ (l : List ℕ). field_octets x ++ l) (one_more done d) ∙ sym (append_assoc (field_octets x) (flat_map field_octets done) (field_octets d))
 
 pub loop-rec-init : goal.loop-rec-init
 loop-rec-init g c =
@@ -31,7 +26,7 @@ loop-rec-preserved g c =
       done = done ++ d ∷ [];
       parts = c.loop-rec.invariant.parts ∙ (ap (λ (t : List Dataset). done ++ t) c.in-Some.ensures.steps ∙ sym (append_assoc done (d ∷ []) rest));
       spelled = c.in_ok-push_field.ensures.octets ∙ (ap (λ (l : List ℕ). l ++ field_octets d) c.loop-rec.invariant.spelled
-          ∙ (append_assoc front (flat_map field_octets done) (field_octets d) ∙ ap (λ (l : List ℕ). front ++ l) (sym (one_more done d))));
+          ∙ flat_map_more field_octets front done d);
       place = c.push_field.ensures.place ∙ c.loop-rec.invariant.place;
     }
 

@@ -25,32 +25,24 @@ returns-then-has_ended-clause-goes g c = (
 
 pub returns-then-has_ended-2-clause-goes : goal.returns-then-has_ended-2-clause-goes
 returns-then-has_ended-2-clause-goes g c =
-    let i = c.self.inside in
-    let n = c.advance.new in
-    let u : Unpacking = record { reader = i.reader; parts = i.parts; octets = i.octets; begun = i.begun; refused = i.refused } in
-    let v : Unpacking = record { reader = n.reader; parts = n.parts; octets = c.raised-self-inside.result; begun = c.begins-self-inside.result; refused = i.refused } in
     let h = c.in-Ok.ensures.taken in (
       h.advanced.went.calm,
       (
         story.delivered h.advanced.went.more,
         h.advanced.went.told,
-        λ p a at. goes_done g.S.StorySink.goes g.S.StorySink.failures c.lower_laws.ensures u v c.args.piece.now c.in-Ok.used c.args.sink.now n.sink (c.readers_tell_sizes.ensures n.parts.object).0 h.advanced h.onward refl (sym c.if-has_ended-2.ensures) c.raised-self-inside.ensures h.within (c.readers_tell_sizes.ensures n.parts.object).1 p a
+        λ p a at. goes_done g.S.StorySink.goes g.S.StorySink.failures c.lower_laws.ensures _ _ c.args.piece.now c.in-Ok.used c.args.sink.now c.advance.new.sink (c.readers_tell_sizes.ensures c.advance.new.parts.object).0 h.advanced h.onward refl (sym c.if-has_ended-2.ensures) c.raised-self-inside.ensures h.within (c.readers_tell_sizes.ensures c.advance.new.parts.object).1 p a
             (subst (λ (w : Unpacking). Stands w p a) (sym c.self.view_is) at),
       ),
     )
 
 pub returns-else-has_ended-2-clause-goes : goal.returns-else-has_ended-2-clause-goes
 returns-else-has_ended-2-clause-goes g c =
-    let i = c.self.inside in
-    let n = c.advance.new in
-    let u : Unpacking = record { reader = i.reader; parts = i.parts; octets = i.octets; begun = i.begun; refused = i.refused } in
-    let v : Unpacking = record { reader = n.reader; parts = n.parts; octets = c.raised-self-inside.result; begun = c.begins-self-inside.result; refused = i.refused } in
     let h = c.in-Ok.ensures.taken in (
       h.advanced.went.calm,
       (
         story.delivered h.advanced.went.more,
         h.advanced.went.told,
-        λ p a at. goes_more g.S.StorySink.goes g.S.StorySink.failures c.lower_laws.ensures u v c.args.piece.now c.in-Ok.used c.args.sink.now n.sink h.advanced h.onward refl (sym c.if-has_ended-2.ensures) c.raised-self-inside.ensures c.begins-self-inside.ensures p a
+        λ p a at. goes_more g.S.StorySink.goes g.S.StorySink.failures c.lower_laws.ensures _ _ c.args.piece.now c.in-Ok.used c.args.sink.now c.advance.new.sink h.advanced h.onward refl (sym c.if-has_ended-2.ensures) c.raised-self-inside.ensures c.begins-self-inside.ensures p a
             (subst (λ (w : Unpacking). Stands w p a) (sym c.self.view_is) at),
       ),
     )
@@ -70,23 +62,15 @@ returns-in-Err-clause-refused g c =
 sound_ended : (g : Over) (c : Then-has_ended-2 g) → c.self.inside.refused ≡ None
     → IsUnpacking (record { reader = c.advance.new.reader; parts = c.advance.new.parts; octets = c.raised-self-inside.result; begun = c.begins-self-inside.result; refused = c.self.inside.refused })
 sound_ended g c none =
-    let i = c.self.inside in
-    let n = c.advance.new in
-    let u : Unpacking = record { reader = i.reader; parts = i.parts; octets = i.octets; begun = i.begun; refused = i.refused } in
-    let v : Unpacking = record { reader = n.reader; parts = n.parts; octets = c.raised-self-inside.result; begun = c.begins-self-inside.result; refused = i.refused } in
     let h = c.in-Ok.ensures.taken in
-    sound_done g.S.StorySink.goes g.S.StorySink.failures c.lower_laws.ensures u v c.args.piece.now c.in-Ok.used c.args.sink.now n.sink (c.readers_tell_sizes.ensures n.parts.object).0 h.advanced h.onward h.takes_calls refl (sym c.if-has_ended-2.ensures) c.raised-self-inside.ensures h.within (c.readers_tell_sizes.ensures n.parts.object).1
+    sound_done g.S.StorySink.goes g.S.StorySink.failures c.lower_laws.ensures _ _ c.args.piece.now c.in-Ok.used c.args.sink.now c.advance.new.sink (c.readers_tell_sizes.ensures c.advance.new.parts.object).0 h.advanced h.onward h.takes_calls refl (sym c.if-has_ended-2.ensures) c.raised-self-inside.ensures h.within (c.readers_tell_sizes.ensures c.advance.new.parts.object).1
     (c.self.invariant none) (sym c.if-has_ended.ensures)
 
 sound_within : (g : Over) (c : Else-has_ended-2 g) → c.self.inside.refused ≡ None
     → IsUnpacking (record { reader = c.advance.new.reader; parts = c.advance.new.parts; octets = c.raised-self-inside.result; begun = c.begins-self-inside.result; refused = c.self.inside.refused })
 sound_within g c none =
-    let i = c.self.inside in
-    let n = c.advance.new in
-    let u : Unpacking = record { reader = i.reader; parts = i.parts; octets = i.octets; begun = i.begun; refused = i.refused } in
-    let v : Unpacking = record { reader = n.reader; parts = n.parts; octets = c.raised-self-inside.result; begun = c.begins-self-inside.result; refused = i.refused } in
     let h = c.in-Ok.ensures.taken in
-    sound_more g.S.StorySink.goes g.S.StorySink.failures c.lower_laws.ensures u v c.args.piece.now c.in-Ok.used c.args.sink.now n.sink h.advanced h.onward h.takes_calls refl (sym c.if-has_ended-2.ensures) c.raised-self-inside.ensures c.begins-self-inside.ensures
+    sound_more g.S.StorySink.goes g.S.StorySink.failures c.lower_laws.ensures _ _ c.args.piece.now c.in-Ok.used c.args.sink.now c.advance.new.sink h.advanced h.onward h.takes_calls refl (sym c.if-has_ended-2.ensures) c.raised-self-inside.ensures c.begins-self-inside.ensures
     (c.self.invariant none) (sym c.if-has_ended.ensures)
 
 pub invariant_of-self : goal.invariant_of-self
@@ -97,9 +81,7 @@ invariant_of-self-in-Ok g c = sound_within g (goal.at.invariant_of-self-in-Ok g 
 
 pub returns-then-has_ended-clause-memory : goal.returns-then-has_ended-clause-memory
 returns-then-has_ended-clause-memory g c =
-    let i = c.self.inside in
-    let u : Unpacking = record { reader = i.reader; parts = i.parts; octets = i.octets; begun = i.begun; refused = i.refused } in
-    (refl, λ none. subst HoldsFew c.self.view_is (holds_few c.lower_laws.ensures.events_tell u (c.self.invariant (ap (λ (w : Unpacking). w.refused) c.self.view_is ∙ none)).stood))
+    (refl, λ none. subst HoldsFew c.self.view_is (holds_few c.lower_laws.ensures.events_tell _ (c.self.invariant (ap (λ (w : Unpacking). w.refused) c.self.view_is ∙ none)).stood))
 
 pub returns-then-has_ended-2-clause-memory : goal.returns-then-has_ended-2-clause-memory
 returns-then-has_ended-2-clause-memory g c = (

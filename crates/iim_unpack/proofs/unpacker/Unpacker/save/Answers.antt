@@ -1,20 +1,16 @@
 use Rattle.std.proofs.Common.{◌+◌, ◌*◌, ◌≤◌, length, ◌⊎◌, sym, subst, ◌∙◌}
 use Rattle.iim_dataset.proofs.Lists.{no_some}
 use Rattle.iim_unpack.specs.States.Unpacking.{Unpacking, Stands, IsDoneWith, limits_in}
-use Rattle.iim_unpack.specs.UnpackerInside.{Stood}
-use Rattle.iim_unpack.proofs.Tickets.{ticket_by}
-use Rattle.iim_unpack.proofs.TicketLengths.{short_ticket}
+use Rattle.iim_unpack.proofs.Tickets.{ticket_by, short_ticket}
 use Rattle.iim_unpack.proofs.unpacker.Unpacker.save.Goals as goal
 
 pub returns-in-Ok-clause-ticket : goal.returns-in-Ok-clause-ticket
 returns-in-Ok-clause-ticket c =
-    let i = c.self.inside in
-    let u : Unpacking = record { reader = i.reader; parts = i.parts; octets = i.octets; begun = i.begun; refused = i.refused } in
-    λ p a at. ticket_by c.lower_laws.ensures.events_tell u p c.in-Ok.ticket.items a c.in-Ok.ensures (subst (λ (w : Unpacking). Stands w p a ⊎ IsDoneWith w p a) (sym c.self.view_is) at)
+    λ p a at. ticket_by c.lower_laws.ensures.events_tell _ p c.in-Ok.ticket.items a c.in-Ok.ensures
+    (subst (λ (w : Unpacking). Stands w p a ⊎ IsDoneWith w p a) (sym c.self.view_is) at)
 
 pub returns-in-Ok-clause-short : goal.returns-in-Ok-clause-short
 returns-in-Ok-clause-short c =
-    let i = c.self.inside in
-    let u : Unpacking = record { reader = i.reader; parts = i.parts; octets = i.octets; begun = i.begun; refused = i.refused } in
-    let stood : Stood u = (c.self.invariant (no_some i.refused (sym c.is_some.ensures ∙ c.if-is_some.false))).stood in
-    subst (λ (w : Unpacking). length c.in-Ok.ticket.items ≤ (limits_in w).octets + 6 * (limits_in w).fields + 256) c.self.view_is (short_ticket c.lower_laws.ensures.events_tell u c.in-Ok.ticket.items c.in-Ok.ensures stood)
+    let stood = (c.self.invariant (no_some c.self.inside.refused (sym c.is_some.ensures ∙ c.if-is_some.false))).stood in
+    subst (λ (w : Unpacking). length c.in-Ok.ticket.items ≤ (limits_in w).octets + 6 * (limits_in w).fields + 256) c.self.view_is
+    (short_ticket c.lower_laws.ensures.events_tell _ c.in-Ok.ticket.items c.in-Ok.ensures stood)

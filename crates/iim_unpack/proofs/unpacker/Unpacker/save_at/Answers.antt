@@ -4,32 +4,24 @@ use Rattle.iim_dataset.proofs.Lists.{no_some}
 use Rattle.iim_unpack.specs.States.Saving.{HasTicketIn}
 use Rattle.iim_places.specs.Format.Tickets.{IsTicketOf}
 use Rattle.iim_unpack.specs.States.Unpacking.{Unpacking, Stands, IsDoneWith, limits_in}
-use Rattle.iim_unpack.specs.UnpackerInside.{Stood}
-use Rattle.iim_unpack.proofs.Tickets.{ticket_by}
-use Rattle.iim_unpack.proofs.TicketLengths.{short_ticket}
+use Rattle.iim_unpack.proofs.Tickets.{ticket_by, short_ticket}
 use Rattle.iim_unpack.proofs.unpacker.Unpacker.save_at.Goals as goal
-
-pub returns-in-Some-clause-ticket : goal.returns-in-Some-clause-ticket
-returns-in-Some-clause-ticket c =
-    let i = c.self.inside in
-    let u : Unpacking = record { reader = i.reader; parts = i.parts; octets = i.octets; begun = i.begun; refused = i.refused } in
-    let stood : Stood u = (c.self.invariant (no_some i.refused (c.is_none.ensures ∙ ap not c.if-is_none.true))).stood in
-    let ticket : List ℕ = take c.in-Some.count c.spell_at.new.out in
-    let counts = length-take-le c.in-Some.count c.spell_at.new.out c.in-Some.ensures.0 in
-    subst (λ (w : Unpacking). HasTicketIn w c.spell_at.new.out c.in-Some.count) c.self.view_is
-    (record {
-      ticket = ticket;
-      is_ticket = λ p a at. ticket_by c.lower_laws.ensures.events_tell u p ticket a c.in-Some.ensures.1 at;
-      counts = sym counts;
-      few = subst (λ (n : ℕ). n ≤ (limits_in u).octets + 6 * (limits_in u).fields + 256) counts (short_ticket c.lower_laws.ensures.events_tell u ticket c.in-Some.ensures.1 stood);
-      stands = λ fits. refl;
-    })
 
 -- a ticket that was put where there is room
 has_put : (u : Unpacking) (ticket out : List ℕ) (n : ℕ) → n ≡ length ticket → (length ticket ≤ length out → take (length ticket) out ≡ ticket)
     → ((p : List ℕ) (a : ℕ) → Stands u p a ⊎ IsDoneWith u p a → IsTicketOf p ticket) → length ticket ≤ (limits_in u).octets + 6 * (limits_in u).fields + 256 → HasTicketIn u out n
 has_put u ticket out n is stands tells few =
     subst (λ (k : ℕ). HasTicketIn u out k) (sym is) (record { ticket = ticket; is_ticket = tells; counts = refl; few = few; stands = stands })
+
+pub returns-in-Some-clause-ticket : goal.returns-in-Some-clause-ticket
+returns-in-Some-clause-ticket c =
+    let stood = (c.self.invariant (no_some c.self.inside.refused (c.is_none.ensures ∙ ap not c.if-is_none.true))).stood in
+    let ticket : List ℕ = take c.in-Some.count c.spell_at.new.out in
+    let counts = length-take-le c.in-Some.count c.spell_at.new.out c.in-Some.ensures.0 in
+    subst (λ (w : Unpacking). HasTicketIn w c.spell_at.new.out c.in-Some.count) c.self.view_is
+    (has_put _ ticket c.spell_at.new.out c.in-Some.count (sym counts) (λ fits. ap (λ (n : ℕ). take n c.spell_at.new.out) counts)
+    (λ p a at. ticket_by c.lower_laws.ensures.events_tell _ p ticket a c.in-Some.ensures.1 at)
+    (short_ticket c.lower_laws.ensures.events_tell _ ticket c.in-Some.ensures.1 stood))
 
 pub returns-clause-ticket : goal.returns-clause-ticket
 returns-clause-ticket c =

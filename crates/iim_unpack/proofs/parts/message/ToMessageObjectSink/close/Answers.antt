@@ -1,5 +1,5 @@
 use Rattle.std.proofs.Common.{refl}
-use Rattle.iim_unpack.proofs.ToldMessage.{tells_message_end, message_refuses_end}
+use Rattle.iim_unpack.proofs.ToldMessage.{tells_message_end}
 use Rattle.iim_unpack.proofs.parts.message.ToMessageObjectSink.close.Goals as goal
 
 pub returns-in-Ok-clause-ok : goal.returns-in-Ok-clause-ok
@@ -9,13 +9,4 @@ returns-in-Ok-clause-ok g c =
       refl,
       refl,
       λ some. rw h.unchanged (tells_message_end g.S.StorySink.goes g.S.StorySink.failures a.message.now a.sink.now some (g.met.S.StorySink.nothing a.sink.now) h.whole),
-    )
-
-pub returns-in-Err-clause-stopped : goal.returns-in-Err-clause-stopped
-returns-in-Err-clause-stopped g c =
-    let a = c.args.self.now in
-    let h = c.in-Err.ensures in (
-      refl,
-      refl,
-      λ some. message_refuses_end g.S.StorySink.goes g.S.StorySink.failures a.message.now a.sink.now c.in-Err.fault.cause some h.fault.1 (g.met.S.StorySink.nothing a.sink.now) h.refused,
     )
