@@ -65,7 +65,7 @@ done_outcome limits ticket at u v piece out next count used b fed same again is_
         counts = goes.1.counts;
       };
   envelopes = λ p a ends.
-      let done = (b.ends p a ends) in
+      let done = b.ends p a ends in
       let left = again (is_done done) in
       record {
         unused = left.0;
@@ -101,8 +101,7 @@ goes_few laws (progress.Done used) u v p piece a more s goes =
     omega (arith, delivers_few laws p (take used piece) _ more (text_there u p a s) goes.2, length-take used piece)
 
 refuses_few : DatasetLaws → (limits : Limits) (u : Unpacking) (p piece : List ℕ) (a : ℕ) (more : List StoryEvent) (e : Refusal) → Stands u p a
-    → IsRefusedIn limits p a piece more e
-    → length (text_for more) ≤ length piece
+    → IsRefusedIn limits p a piece more e → length (text_for more) ≤ length piece
 refuses_few laws limits u p piece a more e s r =
     omega (arith, events_few laws p (take r.k piece) _ r.added more (text_there u p a s) (r.adds _ (text_there u p a s)) r.delivers, length-take r.k piece)
 
@@ -168,8 +167,7 @@ refused_told e text text_out ticket_out written room told taken of_out few is = 
 
 pub fed_refused : DatasetLaws
     → (limits : Limits) (ticket : List ℕ) (at : ℕ) (u : Unpacking) (piece text_out ticket_out : List ℕ) (count room : ℕ) (e : Refusal) (told : IimAnswer)
-    → Begun limits ticket at u
-    → HasRefusedText u piece text_out count e → (IsDone u → ⊥) → room ≡ length text_out → room < 2 ^ 63
+    → Begun limits ticket at u → HasRefusedText u piece text_out count e → (IsDone u → ⊥) → room ≡ length text_out → room < 2 ^ 63
     → told ≡ refused_with e count room → IsFed limits ticket at piece text_out ticket_out told
 fed_refused laws limits ticket at u piece text_out ticket_out count room e told b fed open_yet of_out few is = (
   Refused e (text_for fed.more),

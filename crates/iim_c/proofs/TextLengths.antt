@@ -199,8 +199,7 @@ after_data one h tag t more s less (d ∷ xs) b f rest (first, later, spelled, s
 
 -- More octets bring no more octets of the object.
 object_more : DatasetLaws → (p more : List ℕ) (ds : List Dataset) (c : Begun) → Reads count_octets p ds c → (W : List Dataset) (b : Begun)
-    → Reads count_octets (p ++ more) W b
-    → After (object_so_far ds c) (object_so_far W b) (length more)
+    → Reads count_octets (p ++ more) W b → After (object_so_far ds c) (object_so_far W b) (length more)
 object_more laws p more ds (InTag held) r W b w =
     let (same, h, tag, spells, (rest, some, is)) = r.is_rest in
     let there : p ++ more ≡ r.front ++ (held ++ more) =
@@ -237,8 +236,7 @@ text_few laws p octets text added (ds, c, r, is) (W, b, w, are) =
     omega (arith, text_more (object_so_far ds c) after.added, ap length is, ap length (are ∙ ap text_so_far after.is), length-append text added, after.few)
 
 pub events_few : DatasetLaws → (p octets text added : List ℕ) (more : List StoryEvent) → IsTextOf p text → IsTextOf (p ++ octets) (text ++ added)
-    → more ≡ delivered added
-    → length (map octet_for more) ≤ length octets
+    → more ≡ delivered added → length (map octet_for more) ≤ length octets
 events_few laws p octets text added more is are told =
     omega (arith, text_few laws p octets text added is are, delivered_few added, ap length told, length-map more octet_for)
 

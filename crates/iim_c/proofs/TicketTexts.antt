@@ -81,8 +81,7 @@ seven_at ticket s a b c d e f g h are =
 
 -- the same, with the offset told from the end
 pub backwards : (ticket text : List ℕ) (offset end : ℕ) (span : IimSpan) → StandAt ticket (record { offset = offset; count = length text }) text
-    → span ≡ span_before end text → end ≡ offset + length text
-    → StandAt ticket span text
+    → span ≡ span_before end text → end ≡ offset + length text → StandAt ticket span text
 backwards ticket text offset end span h is from =
     subst (λ (s : IimSpan). StandAt ticket s text) (sym is)
     (subst (λ (n : ℕ). StandAt ticket (record { offset = n; count = length text }) text) (omega (arith, from)) h)

@@ -1,5 +1,5 @@
 -- Which octets can come next at the place of a ticket.
-use Rattle.std.proofs.Common.{◌≡◌, ◌≢◌, ℕ, ◌+◌, ◌≤◌, List, [], ◌∷◌, ◌++◌, inl, inr, take, slice_index, refl, sym, ap, subst, ◌∙◌, arith, append-nil, Bool, true, false}
+use Rattle.std.proofs.Common.{◌≡◌, ◌≢◌, ℕ, ◌+◌, ◌≤◌, List, [], ◌∷◌, ◌++◌, inl, inr, take, refl, sym, ap, subst, ◌∙◌, arith, append-nil, Bool, true, false}
 use Rattle.std.proofs.lemmas.Bool.{cases_eq}
 use Rattle.iim_fields.specs.declared.limits.Limits.{Limits}
 use Rattle.wire_story.specs.Format.Delivery.{StoryEvent}
@@ -83,8 +83,7 @@ tried_taken laws limits ticket u v octet more progress b open_yet same goes = re
 killed_by : (limits : Limits) (p : List ℕ) (a octet : ℕ) (more : List StoryEvent) (e : Refusal) → e.cause ≢ Message Sink → IsRefusedIn limits p a (octet ∷ []) more e → IsRefusedNext limits p octet
 killed_by limits p a octet more e sinkless r =
     let first : r.k ≡ 0 = (let w = r.within in omega (arith, w)) in
-    let refuses : RefusesNext limits (p ++ []) octet r.fault =
-    subst (λ (k : ℕ). RefusesNext limits (p ++ take k (octet ∷ [])) (slice_index (octet ∷ []) k) r.fault) first r.refuses in (
+    let refuses : RefusesNext limits (p ++ []) octet r.fault = rw first at r.refuses in (
       r.fault,
       record {
         refuses = subst (λ (q : List ℕ). RefusesNext limits q octet r.fault) (append-nil p) refuses;

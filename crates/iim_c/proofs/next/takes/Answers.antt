@@ -25,5 +25,4 @@ returns-clause-tried c =
     let b = begun c.place_laws.ensures c.args.limits c.args.ticket.now 0 u c.in_ok-unpacker.ensures.begun in
     let step = c.in-Err.ensures.refused in
     tried_refused c.place_laws.ensures c.args.limits c.args.ticket.now u c.args.octet step.0 c.in-Err.field-0 b
-    (λ done. let bad = sym (c.is_done.ensures.1 done) ∙ c.if-is_done.false in cc)
-    c.in-Err.ensures.counted step.2
+    (λ done. let bad = sym (c.is_done.ensures.1 done) ∙ c.if-is_done.false in cc) c.in-Err.ensures.counted step.2
