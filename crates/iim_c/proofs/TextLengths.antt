@@ -108,6 +108,11 @@ begun_holds (InTag held) rest is = omega arith
 begun_holds (InData h taken) rest (tag, spelled, less, given, parts) =
     omega (arith, ap length parts, length-append tag taken, some_of (nat_eq h.rec 8) taken)
 
+-- the first dataset of a stream, and all that follows it
+in_front : (tag octets first later rest f whole : List ℕ) → first ≡ tag ++ octets → f ≡ first ++ later
+    → f ++ rest ≡ whole → tag ++ (octets ++ (later ++ rest)) ≡ whole
+in_front tag octets first later rest f whole one all is = simp append_assoc at (rw (all, one) at is)
+
 -- ---- after octets of a tag
 
 -- a tag that comes is no shorter than what was held of it
@@ -134,9 +139,7 @@ after_tag one h held r t more s some is [] (InData k taken) f rest stream (tag, 
     let fits = held_fits one h k held r t tag taken more s some is spelled there in
     omega (arith, fits, length-append tag taken, length-append held more, ap length there, some_of (nat_eq k.rec 8) taken)
 after_tag one h held r t more s some is (d ∷ xs) b f rest (first, later, spelled, stream, parts) begun agree =
-    let there : spelled.tag ++ (d.octets ++ (later ++ rest)) ≡ held ++ more =
-    sym (append_assoc spelled.tag d.octets (later ++ rest)) ∙ ap (λ (l : List ℕ). l ++ (later ++ rest)) (sym spelled.parts) ∙ sym (append_assoc first later rest)
-    ∙ ap (λ (l : List ℕ). l ++ rest) (sym parts) ∙ agree in
+    let there = in_front spelled.tag d.octets first later rest f (held ++ more) spelled.parts parts agree in
     let fits = held_fits one h (head_of d) held r t spelled.tag (d.octets ++ (later ++ rest)) more s some is spelled.is_tag there in
     let left = length-append spelled.tag (d.octets ++ (later ++ rest)) in
     let data_left = length-append d.octets (later ++ rest) in
@@ -165,9 +168,7 @@ after_data one h tag t more s less [] (InData k taken) f rest stream (other, spe
     by true = refl
     by false = refl
 after_data one h tag t more s less (d ∷ xs) b f rest (first, later, spelled, stream, parts) begun agree =
-    let there : spelled.tag ++ (d.octets ++ (later ++ rest)) ≡ tag ++ (t ++ more) =
-    sym (append_assoc spelled.tag d.octets (later ++ rest)) ∙ ap (λ (l : List ℕ). l ++ (later ++ rest)) (sym spelled.parts) ∙ sym (append_assoc first later rest)
-    ∙ ap (λ (l : List ℕ). l ++ rest) (sym parts) ∙ agree in
+    let there = in_front spelled.tag d.octets first later rest f (tag ++ (t ++ more)) spelled.parts parts agree in
     let same = one count_octets (head_of d) h spelled.tag tag (d.octets ++ (later ++ rest)) (t ++ more) spelled.is_tag s there in
     let count : length d.octets ≡ h.count = ap (λ (k : Head). k.count) same.0 in
     let rec : d.rec ≡ h.rec = ap (λ (k : Head). k.rec) same.0 in

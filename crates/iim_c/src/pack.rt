@@ -27,7 +27,6 @@ fn fault_answer(fault: PackFault) -> IimAnswer
 }
 
 /// The packed form of what a script tells; or the answer why there is none.
-#[tactic(auto, using(crate::proofs::Packs::unpacked_for))]
 fn packed(alloc: Global, packing: IimPacking, script: &[u8]) -> Result<Vec<u8>, IimAnswer>
     ensures packed { IfOk result (λ form. IsPackOutcome packing script.now (Packed form.items)) }
     ensures unpacked { IfErr result (IsUnpacked packing script.now) }
