@@ -11,16 +11,16 @@ use Rattle.iim_unpack.specs.States.Unpacking.{Unpacking, Stands, IsDone, IsDoneW
 use Rattle.iim_audit.specs.Format.Pieces.{HaveWords, StandsOn}
 use Rattle.iim_audit.specs.declared.pieces.PieceAudit.{PieceAudit}
 use Rattle.iim_c.specs.Format.Answers.{status_answer, refusal_answer, ticket_answer}
-use Rattle.iim_c.specs.Beginning.{IsNotBegun}
-use Rattle.iim_c.specs.Format.Feeding.{most_of_ticket}
+use Rattle.iim_c.specs.Beginning.{IsBegun, IsNotBegun}
 use Rattle.iim_c.specs.Format.Statuses as status
 use Rattle.iim_c.specs.Saving.{HasSaved, saved_with, short_with}
 use Rattle.iim_c.specs.declared.answer.IimAnswer.{IimAnswer}
-use Rattle.iim_c.proofs.Fed.{Begun}
-use Rattle.iim_c.proofs.Places.{stands_at, ends_at, place_of, begun_limits}
-use Rattle.iim_c.specs.Format.Auditing.{InHand, IsAuditedAt, IsSaidOf, GoesOn, UsesAll, UsesSome, RefusesOne, IsTold, IsShort, More, Full, Refused, Ended, BadTicket, NoMemory, with_more}
+use Rattle.iim_c.proofs.Places.{Begun, begun, is_done}
+use Rattle.iim_places.specs.Laws.All.{PlaceLaws}
+use Rattle.iim_c.specs.Format.Auditing.{InHand, IsAuditedAt, IsSaidOf, GoesOn, StandFirst, UsesAll, UsesSome, RefusesOne, IsTold, IsShort, More, Full, Refused, Ended, BadTicket, NoMemory, with_more}
 use Rattle.iim_c.specs.Format.SoFar.{words_so_far, begins_at}
-use Rattle.iim_c.specs.AuditSteps.{HasFound, IsWithin, LivesOn, IsKept, kept_of, refused_for}
+use Rattle.iim_c.specs.AuditSteps.{HasFound, IsWithin, LivesOn, RoomBy, IsKept, kept_of, refused_for}
+use Rattle.iim_c.specs.declared.finding.Ending.{Ending}
 use Rattle.iim_c.specs.declared.finding.Ending.TheVariants as ending
 use Rattle.iim_c.specs.declared.finding.Found.{Found}
 use Rattle.iim_c.specs.declared.row.IimAuditRow.{IimAuditRow}
@@ -28,9 +28,6 @@ use Rattle.iim_c.specs.declared.so_far.IimSoFar.{IimSoFar}
 use Rattle.iim_c.proofs.Rows.{stand_first}
 
 -- ---- where an audit begins
-
-is_done : (u : Unpacking) (p : List ℕ) (a : ℕ) → IsDoneWith u p a → IsDone u
-is_done u p a d = (d.taking, d.ended)
 
 -- It is resumed from an unpacker that was begun, with which no envelope has ended, and from the words so far.
 pub record Start (limits : Limits) (ticket : List ℕ) (so_far : IimSoFar) (audit : PieceAudit) : Type 0 where
@@ -42,13 +39,9 @@ pub record Start (limits : Limits) (ticket : List ℕ) (so_far : IimSoFar) (audi
 said : (limits : Limits) (ticket : List ℕ) (so_far : IimSoFar) (audit : PieceAudit) (tells : InHand → Type 0) → Start limits ticket so_far audit
     → ((p : List ℕ) (a : ℕ) → StandsOn audit p a → tells (record { at = so_far.at; octets = p; count = a })) → IsSaidOf limits ticket so_far tells
 said limits ticket so_far audit tells s of_all = record {
-  some = place_of limits ticket so_far.octets audit.unpacker s.begun.is_begun;
-  open_octets = λ p a stands have.
-      of_all p a (record {
-        unpacker = stands_at s.begun.laws.one_place limits ticket so_far.octets audit.unpacker p a s.begun.is_begun stands;
-        words = subst (HaveWords p) (sym s.words) have;
-      });
-  envelopes = λ p a ends. s.going (is_done audit.unpacker p a (ends_at s.begun.laws limits ticket so_far.octets audit.unpacker p a s.begun.is_begun ends));
+  some = s.begun.some;
+  open_octets = λ p a stands have. of_all p a (record { unpacker = s.begun.stands p a stands; words = subst (HaveWords p) (sym s.words) have });
+  envelopes = λ p a ends. s.going (is_done (s.begun.ends p a ends));
 }
 
 -- ---- what is kept
@@ -82,9 +75,6 @@ written state used audit found room rows old new out answer k s within many othe
           })
     ]
 
-few_in : (limits : Limits) (audit : PieceAudit) (next : List ℕ) → limits_in audit.unpacker ≡ limits → length next ≤ most_of_ticket (limits_in audit.unpacker) → length next ≤ most_of_ticket limits
-few_in limits audit next same few = subst (λ (l : Limits). length next ≤ most_of_ticket l) same few
-
 no_memory : (limits : Limits) (ticket : List ℕ) (old new : IimSoFar) (piece : List ℕ) (now : ℤ) (array array_new : List IimAuditRow) (out : List ℕ) (told : IimAnswer) → new ≡ old
     → told ≡ status_answer status.no_memory → IsAuditedAt limits ticket old piece now array array_new out new told
 no_memory limits ticket old new piece now array array_new out told same is = (NoMemory, tt, omega arith, (same, is))
@@ -95,123 +85,121 @@ unsaved : (state used : ℕ) (limits : Limits) (ticket : List ℕ) (audit : Piec
 unsaved state used limits ticket audit found room old new piece now array array_new out told k other is =
     no_memory limits ticket old new piece now array array_new out told (k.stays (λ same. other (sym same ∙ ap (λ (x : IimAnswer). x.status) is))) is
 
-pub all_used : (limits : Limits) (ticket : List ℕ) (old new : IimSoFar) (piece : List ℕ) (now : ℤ) (array array_new : List IimAuditRow) (out : List ℕ) (told : IimAnswer) (first audit : PieceAudit) (found : Found)
-    → Start limits ticket old first
-    → ((p : List ℕ) (a : ℕ) → StandsOn first p a → HasFound (limits_in first.unpacker) now (record { at = old.at; octets = p; count = a }) piece array_new audit found ending.Used)
-    → IsWithin piece array array_new found ending.Used → LivesOn first audit ending.Used → length array_new ≡ length array
-    → IsKept audit found (status.more, length piece) (length array) old new out told → IsAuditedAt limits ticket old piece now array array_new out new told
-all_used limits ticket old new piece now array array_new out told first audit found start finds within lives many k =
+rows_fit : (end : Ending) (rows room : ℕ) → RoomBy rows room end → rows ≤ room
+rows_fit ending.Used rows room h = omega (arith, h)
+rows_fit ending.Full rows room h = omega (arith, h)
+rows_fit (ending.Refused e) rows room h = omega (arith, h)
+
+-- What a call has found in a piece, with its rows first in the array.
+pub record Came (limits : Limits) (ticket : List ℕ) (old : IimSoFar) (piece : List ℕ) (now : ℤ) (array array_new : List IimAuditRow) (audit : PieceAudit) (found : Found) (end : Ending) : Type 0 where
+  pub first : PieceAudit
+  pub start : Start limits ticket old first
+  pub finds : (p : List ℕ) (a : ℕ) → StandsOn first p a → HasFound limits now (record { at = old.at; octets = p; count = a }) piece array_new audit found end
+  pub within : IsWithin piece array array_new found end
+  pub lives : LivesOn first audit end
+  pub of_rows : length (take found.rows array_new) ≡ found.rows
+  pub stand : StandFirst (take found.rows array_new) array array_new
+
+pub came : (limits : Limits) (ticket : List ℕ) (old : IimSoFar) (piece : List ℕ) (now : ℤ) (array array_new : List IimAuditRow) (first audit : PieceAudit)
+    → (found : Found) (end : Ending) → Start limits ticket old first
+    → ((p : List ℕ) (a : ℕ) → StandsOn first p a → HasFound (limits_in first.unpacker) now (record { at = old.at; octets = p; count = a }) piece array_new audit found end)
+    → IsWithin piece array array_new found end → LivesOn first audit end → length array_new ≡ length array
+    → Came limits ticket old piece now array array_new audit found end
+came limits ticket old piece now array array_new first audit found end start finds within lives many =
+    let fits : found.rows ≤ length array_new = (let h = rows_fit end found.rows (length array) within.room in omega (arith, h, many)) in
+    record {
+      first = first;
+      start = start;
+      finds = λ p a stands. rw start.begun.same at (finds p a stands);
+      within = within;
+      lives = lives;
+      of_rows = length-take-le found.rows array_new fits;
+      stand = stand_first array array_new found.rows fits within.others;
+    }
+
+pub all_used : (limits : Limits) (ticket : List ℕ) (old new : IimSoFar) (piece : List ℕ) (now : ℤ) (array array_new : List IimAuditRow) (out : List ℕ)
+    → (told : IimAnswer) (audit : PieceAudit) (found : Found)
+    → Came limits ticket old piece now array array_new audit found ending.Used → IsKept audit found (status.more, length piece) (length array) old new out told
+    → IsAuditedAt limits ticket old piece now array array_new out new told
+all_used limits ticket old new piece now array array_new out told audit found c k =
+    let rows : List IimAuditRow = take found.rows array_new in
+    let room : found.rows < length array = c.within.room in
     elim k.saved as (λ _. IsAuditedAt limits ticket old piece now array array_new out new told) [
-      | inl s ↦ saved s
+      | inl s ↦ (
+        More (length piece) rows s.next (kept_of audit found),
+        (
+          said limits ticket old c.first (UsesAll limits now piece rows s.next (kept_of audit found)) c.start
+              (λ p a stands.
+              let had = c.finds p a stands in
+              record {
+                used = found.used;
+                fits = c.within.used;
+                last = had.last;
+                rows_are = had.rows_are;
+                goes_on = goes_on limits audit found (with_more had.last (drop found.used piece)) s.next had.ends (c.lives.1 ∙ c.start.begun.same) had.at_is
+                    s.is_ticket;
+              }),
+          refl,
+          omega (arith, c.of_rows, room),
+        ),
+        rw (c.lives.1 ∙ c.start.begun.same) at s.few,
+        (
+          c.stand,
+          written status.more (length piece) audit found (length array) rows old new out told k s (omega (arith, room)) c.of_rows (λ is. omega (arith, is)),
+        ),
+      )
       | inr none ↦ unsaved status.more (length piece) limits ticket audit found (length array) old new piece now array array_new out told k (λ is. omega (arith, is)) none
     ]
-  where
-    limits_are : limits_in first.unpacker ≡ limits
-    limits_are = begun_limits limits ticket old.octets first.unpacker start.begun.is_begun
 
-    rows : List IimAuditRow
-    rows = take found.rows array_new
-
-    room : found.rows < length array
-    room = within.room
-
-    of_rows : length rows ≡ found.rows
-    of_rows = length-take-le found.rows array_new (omega (arith, room, many))
-
-    saved : HasSaved audit.unpacker (status.more, length piece) found.rows (length array) out told → IsAuditedAt limits ticket old piece now array array_new out new told
-    saved s = (
-      More (length piece) rows s.next (kept_of audit found),
-      (
-        said limits ticket old first (UsesAll limits now piece rows s.next (kept_of audit found)) start
-            (λ p a stands.
-            let had = subst (λ (l : Limits). HasFound l now (record { at = old.at; octets = p; count = a }) piece array_new audit found ending.Used) limits_are (finds p a stands) in
-            record {
-              used = found.used;
-              fits = within.used;
-              last = had.last;
-              rows_are = had.rows_are;
-              goes_on = goes_on limits audit found (with_more had.last (drop found.used piece)) s.next had.ends (lives.1 ∙ limits_are) had.at_is s.is_ticket;
-            }),
-        refl,
-        omega (arith, of_rows, room),
-      ),
-      few_in limits audit s.next (lives.1 ∙ limits_are) s.few,
-      (
-        stand_first array array_new found.rows (omega (arith, room, many)) within.others,
-        written status.more (length piece) audit found (length array) rows old new out told k s (omega (arith, room)) of_rows (λ is. omega (arith, is)),
-      ),
-    )
-
-pub room_used : (limits : Limits) (ticket : List ℕ) (old new : IimSoFar) (piece : List ℕ) (now : ℤ) (array array_new : List IimAuditRow) (out : List ℕ) (told : IimAnswer) (first audit : PieceAudit) (found : Found)
-    → Start limits ticket old first
-    → ((p : List ℕ) (a : ℕ) → StandsOn first p a → HasFound (limits_in first.unpacker) now (record { at = old.at; octets = p; count = a }) piece array_new audit found ending.Full)
-    → IsWithin piece array array_new found ending.Full → LivesOn first audit ending.Full → length array_new ≡ length array
-    → IsKept audit found (status.done, found.used) (length array) old new out told → IsAuditedAt limits ticket old piece now array array_new out new told
-room_used limits ticket old new piece now array array_new out told first audit found start finds within lives many k =
+pub room_used : (limits : Limits) (ticket : List ℕ) (old new : IimSoFar) (piece : List ℕ) (now : ℤ) (array array_new : List IimAuditRow) (out : List ℕ)
+    → (told : IimAnswer) (audit : PieceAudit) (found : Found)
+    → Came limits ticket old piece now array array_new audit found ending.Full → IsKept audit found (status.done, found.used) (length array) old new out told
+    → IsAuditedAt limits ticket old piece now array array_new out new told
+room_used limits ticket old new piece now array array_new out told audit found c k =
+    let rows : List IimAuditRow = take found.rows array_new in
+    let room : found.rows ≡ length array = c.within.room in
     elim k.saved as (λ _. IsAuditedAt limits ticket old piece now array array_new out new told) [
-      | inl s ↦ saved s
+      | inl s ↦ (
+        Full found.used rows s.next (kept_of audit found),
+        (
+          said limits ticket old c.first (UsesSome limits now piece found.used rows s.next (kept_of audit found)) c.start
+              (λ p a stands.
+              let had = c.finds p a stands in
+              record {
+                last = had.last;
+                rows_are = had.rows_are;
+                goes_on = goes_on limits audit found had.last s.next had.ends (c.lives.1 ∙ c.start.begun.same) had.at_is s.is_ticket;
+              }),
+          c.within.used,
+          c.of_rows ∙ room,
+        ),
+        rw (c.lives.1 ∙ c.start.begun.same) at s.few,
+        (
+          c.stand,
+          written status.done found.used audit found (length array) rows old new out told k s (omega (arith, room)) c.of_rows (λ is. omega (arith, is)),
+        ),
+      )
       | inr none ↦ unsaved status.done found.used limits ticket audit found (length array) old new piece now array array_new out told k (λ is. omega (arith, is)) none
     ]
-  where
-    limits_are : limits_in first.unpacker ≡ limits
-    limits_are = begun_limits limits ticket old.octets first.unpacker start.begun.is_begun
 
-    rows : List IimAuditRow
-    rows = take found.rows array_new
-
-    room : found.rows ≡ length array
-    room = within.room
-
-    of_rows : length rows ≡ found.rows
-    of_rows = length-take-le found.rows array_new (omega (arith, room, many))
-
-    saved : HasSaved audit.unpacker (status.done, found.used) found.rows (length array) out told → IsAuditedAt limits ticket old piece now array array_new out new told
-    saved s = (
-      Full found.used rows s.next (kept_of audit found),
-      (
-        said limits ticket old first (UsesSome limits now piece found.used rows s.next (kept_of audit found)) start
-            (λ p a stands.
-            let had = subst (λ (l : Limits). HasFound l now (record { at = old.at; octets = p; count = a }) piece array_new audit found ending.Full) limits_are (finds p a stands) in
-            record {
-              last = had.last;
-              rows_are = had.rows_are;
-              goes_on = goes_on limits audit found had.last s.next had.ends (lives.1 ∙ limits_are) had.at_is s.is_ticket;
-            }),
-        within.used,
-        of_rows ∙ room,
-      ),
-      few_in limits audit s.next (lives.1 ∙ limits_are) s.few,
-      (
-        stand_first array array_new found.rows (omega (arith, room, many)) within.others,
-        written status.done found.used audit found (length array) rows old new out told k s (omega (arith, room)) of_rows (λ is. omega (arith, is)),
-      ),
-    )
-
-pub one_refused : (limits : Limits) (ticket : List ℕ) (old new : IimSoFar) (piece : List ℕ) (now : ℤ) (array array_new : List IimAuditRow) (out : List ℕ) (told : IimAnswer) (first audit : PieceAudit) (found : Found) (e : Refusal)
-    → Start limits ticket old first
-    → ((p : List ℕ) (a : ℕ) → StandsOn first p a → HasFound (limits_in first.unpacker) now (record { at = old.at; octets = p; count = a }) piece array_new audit found (ending.Refused e))
-    → IsWithin piece array array_new found (ending.Refused e) → length array_new ≡ length array
-    → new ≡ begins_at found.at → told ≡ refused_for found e → IsAuditedAt limits ticket old piece now array array_new out new told
-one_refused limits ticket old new piece now array array_new out told first audit found e start finds within many kept is =
-    let limits_are : limits_in first.unpacker ≡ limits = begun_limits limits ticket old.octets first.unpacker start.begun.is_begun in
+pub one_refused : (limits : Limits) (ticket : List ℕ) (old new : IimSoFar) (piece : List ℕ) (now : ℤ) (array array_new : List IimAuditRow) (out : List ℕ)
+    → (told : IimAnswer) (audit : PieceAudit) (found : Found) (e : Refusal)
+    → Came limits ticket old piece now array array_new audit found (ending.Refused e) → new ≡ begins_at found.at → told ≡ refused_for found e
+    → IsAuditedAt limits ticket old piece now array array_new out new told
+one_refused limits ticket old new piece now array array_new out told audit found e c kept is =
     let rows : List IimAuditRow = take found.rows array_new in
-    let room : found.rows < length array = within.room in
-    let of_rows : length rows ≡ found.rows = length-take-le found.rows array_new (omega (arith, room, many)) in (
+    let room : found.rows < length array = c.within.room in (
       Refused found.used rows e (begins_at found.at),
       (
-        said limits ticket old first (RefusesOne limits now piece found.used rows e (begins_at found.at)) start
+        said limits ticket old c.first (RefusesOne limits now piece found.used rows e (begins_at found.at)) c.start
             (λ p a stands.
-            let had = subst (λ (l : Limits). HasFound l now (record { at = old.at; octets = p; count = a }) piece array_new audit found (ending.Refused e)) limits_are (finds p a stands) in
+            let had = c.finds p a stands in
             record { last = had.last; rows_are = had.rows_are; refuses = had.ends; keeps = ap begins_at (sym had.at_is) }),
-        within.used,
-        omega (arith, of_rows, room),
+        c.within.used,
+        omega (arith, c.of_rows, room),
       ),
       omega arith,
-      (
-        stand_first array array_new found.rows (omega (arith, room, many)) within.others,
-        kept,
-        is ∙ ap (λ (n : ℕ). record (refusal_answer status.refused e) { used = found.used; written = n }) (sym of_rows),
-      ),
+      (c.stand, kept, is ∙ ap (λ (n : ℕ). record (refusal_answer status.refused e) { used = found.used; written = n }) (sym c.of_rows)),
     )
 
 -- ---- no audit
@@ -220,11 +208,7 @@ pub has_ended : (limits : Limits) (ticket : List ℕ) (so_far : IimSoFar) (piece
     → ((p : List ℕ) (a : ℕ) → Stands u p a → ⊥) → told ≡ status_answer status.bad_ticket → IsAuditedAt limits ticket so_far piece now array array out so_far told
 has_ended limits ticket so_far piece now array out told u b done not_open is = (
   Ended,
-  record {
-    some = place_of limits ticket so_far.octets u b.is_begun;
-    open_octets = λ p a stands. not_open p a (stands_at b.laws.one_place limits ticket so_far.octets u p a b.is_begun stands);
-    envelopes = λ p a ends. tt;
-  },
+  record { some = b.some; open_octets = λ p a stands. not_open p a (b.stands p a stands); envelopes = λ p a ends. tt },
   omega arith,
   (refl, refl, is),
 )
@@ -236,13 +220,11 @@ not_begun limits ticket so_far piece now array out told fault (inr why) is = (Ba
 
 -- ---- where it is resumed
 
-pub resumed : (limits : Limits) (ticket : List ℕ) (so_far : IimSoFar) (u : Unpacking) (audit : PieceAudit) (count : WordsSoFar) → Begun limits ticket so_far.octets u → (IsDone u → ⊥) → audit.unpacker ≡ u → audit.count ≡ count
-    → count ≡ words_so_far ticket so_far → Start limits ticket so_far audit
-resumed limits ticket so_far u audit count b going is counts words = record {
-  begun = subst (Begun limits ticket so_far.octets) (sym is) b;
+pub resumed : PlaceLaws → (limits : Limits) (ticket : List ℕ) (so_far : IimSoFar) (u : Unpacking) (audit : PieceAudit) (count : WordsSoFar)
+    → IsBegun limits ticket so_far.octets u → (IsDone u → ⊥) → audit.unpacker ≡ u
+    → audit.count ≡ count → count ≡ words_so_far ticket so_far → Start limits ticket so_far audit
+resumed laws limits ticket so_far u audit count is_begun going is counts words = record {
+  begun = begun laws limits ticket so_far.octets audit.unpacker (subst (IsBegun limits ticket so_far.octets) (sym is) is_begun);
   going = λ done. going (subst IsDone is done);
   words = counts ∙ words;
 }
-
-pub not_open : (u : Unpacking) → IsDone u → (p : List ℕ) (a : ℕ) → Stands u p a → ⊥
-not_open u done p a stands = let h = sym stands.unended ∙ done.1 in cc

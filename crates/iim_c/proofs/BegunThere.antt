@@ -1,46 +1,31 @@
 -- What is begun at the place of a ticket.
-use Rattle.std.proofs.Common.{◌≡◌, ℕ, ◌-◌, ◌<◌, ◌==◌, Bool, true, false, if◌then◌else◌, List, [], ◌∷◌, ◌++◌, inl, inr, length, take, drop, get_or, refl, sym, ap, subst, ◌∙◌, arith, append_assoc, length-append}
-use Rattle.std.specs.Int.{w64, to_be_bytes}
+use Rattle.std.proofs.Common.{◌≡◌, ℕ, ◌-◌, ◌<◌, ◌==◌, Bool, true, false, if◌then◌else◌, List, [], ◌∷◌, ◌++◌, inl, inr, length, get_or, refl, sym, ap, subst, ◌∙◌, arith, append_assoc, length-append}
 use Rattle.std.specs.List.{flat_map}
-use Rattle.std.proofs.lemmas.List.{drop_at, take_at}
 use Rattle.std.proofs.lemmas.Bool.{eqb-true}
 use Rattle.iim_dataset.specs.Format.Datasets.{Dataset, count_octets}
 use Rattle.iim_dataset.specs.Format.Splits.{Begun, InTag, InData, Reads}
 use Rattle.iim_dataset.specs.declared.head.Head.{Head}
 use Rattle.iim_fields.specs.Format.Faults.{section_after}
 use Rattle.iim_places.specs.Format.TicketForm.{Split, SplitsTicket, HasOtherVersion, IsFaultOf, IsVersion}
-use Rattle.iim_places.specs.Format.Tickets.{Place, Phase, TagBegun, DataBegun, AllEnded, IsPlaceOf, place_of, width, wide, four, ticket_name, phase_octets, fields_octets, number_octets, text_octets}
+use Rattle.iim_places.specs.Format.Tickets.{Place, Phase, TagBegun, DataBegun, AllEnded, IsPlaceOf, place_of, wide, four, ticket_name, phase_octets, fields_octets, number_octets, text_octets}
 use Rattle.iim_places.specs.Laws.Tickets.{TicketsHaveOneSplit, TicketsOfPlacesAreSplit, split_of}
 use Rattle.iim_places.specs.States.Restored.{IsTicketAt}
 use Rattle.iim_places.specs.declared.ticket.fault.TicketFault.{TicketFault}
-use Rattle.iim_places.specs.declared.ticket.fault.TicketFault.TheVariants.{Form, Version, Impossible, HeaderFull, TooManyFields, OutOfMemory}
+use Rattle.iim_places.specs.declared.ticket.fault.TicketFault.TheVariants.{Form, Version}
 use Rattle.wire_message.specs.declared.saved.MessagePlace.{MessagePlace}
 use Rattle.iim_c.specs.declared.span.IimSpan.{IimSpan}
 use Rattle.iim_c.specs.Format.TicketAnswers.{StandAt}
 use Rattle.iim_c.specs.declared.begun.IimBegun.{IimBegun}
 use Rattle.iim_c.specs.Format.Begun.{IsBegunOf, TellsOctets, begun_by, begun_of, kept_of}
 use Rattle.iim_c.specs.PlaceSteps.{span_of, taken_offset}
+use Rattle.iim_c.proofs.TicketFields.{stands_after, length-wide}
 
 -- ---- where the octets stand
-
-stands_after : (ticket front octets rest : List ℕ) (n : ℕ) → ticket ≡ front ++ (octets ++ rest) → length front ≡ n → StandAt ticket (record { offset = n; count = length octets }) octets
-stands_after ticket front octets rest n is counts = record {
-  within = (let e = ap length is in let l = length-append front (octets ++ rest) in let m = length-append octets rest in omega (arith, e, l, m, counts));
-  octets_are =
-      ap (λ (xs : List ℕ). take (length octets) (drop n xs)) is ∙ (ap (take (length octets)) (drop_at front (octets ++ rest) n counts) ∙ take_at octets rest (length octets) refl);
-}
 
 abbrev after_phase : Split → List ℕ
 after_phase s =
     fields_octets s.fields ++ flat_map (number_octets s.version) s.numbers ++ wide s.version s.taken ++ four s.heads
     ++ ((s.part ∷ s.counter ∷ s.flag ∷ []) ++ flat_map text_octets s.texts)
-
-length-wide : (v n : ℕ) → length (wide v n) ≡ width v
-length-wide v n = by (v == 1)
-  where
-    by : (b : Bool) → length (if b then four n else to_be_bytes w64 n) ≡ (if b then 4 else 8)
-    by true = refl
-    by false = refl
 
 regroup : (name section phase fields numbers taken heads message : List ℕ)
     → name ++ section ++ phase ++ fields ++ numbers ++ taken ++ heads ++ message ≡ (name ++ section) ++ (phase ++ (fields ++ numbers ++ taken ++ heads ++ message))
@@ -90,10 +75,7 @@ octets_by at section version AllEnded = refl
 pub begun_is : (ticket : List ℕ) (at : ℕ) (s : Split) (found : IimBegun) → SplitsTicket ticket s → found ≡ begun_of at s (span_of s.version s.phase) → IsBegunOf ticket at s found
 begun_is ticket at s found h is =
     let octets : found.octets ≡ span_of s.version s.phase = ap (λ (b : IimBegun). b.octets) is ∙ octets_by at s.section s.version s.phase in
-    record {
-      stand = subst (λ (span : IimSpan). StandAt ticket span (kept_of s.phase)) (sym octets) (stand ticket s h);
-      is = is ∙ ap (begun_of at s) (sym octets);
-    }
+    record { stand = rw octets (stand ticket s h); is = is ∙ ap (begun_of at s) (sym octets) }
 
 -- ---- what octets have begun
 
@@ -112,14 +94,7 @@ tells_by false p at whole held found s span reads nine phase is =
       whole = whole;
       begun = InTag held;
       reads = reads;
-      tells = inr (record {
-        rec = ap (λ (b : IimBegun). b.rec) all;
-        set = ap (λ (b : IimBegun). b.set) all;
-        came = ap (λ (b : IimBegun). b.came) all;
-        left = ap (λ (b : IimBegun). b.left) all;
-        first = ap (λ (b : IimBegun). b.first) all;
-        token = ap (λ (b : IimBegun). b.token) all;
-      });
+      tells = inr (rw all (record { rec = refl; set = refl; came = refl; left = refl; first = refl; token = refl }));
     }
 
 came_back : (count taken : ℕ) → taken < count → count - (count - taken) ≡ taken
@@ -136,14 +111,14 @@ tells_data p at whole h taken kept found s span reads section phase is =
       whole = whole;
       begun = InData h taken;
       reads = reads;
-      tells = inr (record {
-        rec = ap (λ (b : IimBegun). b.rec) all;
-        set = ap (λ (b : IimBegun). b.set) all;
-        came = ap (λ (b : IimBegun). b.came) all ∙ came;
-        left = ap (λ (b : IimBegun). b.left) all;
-        first = ap (λ (b : IimBegun). b.first) all ∙ ap (λ (n : ℕ). at - n) came;
-        token = ap (λ (b : IimBegun). b.token) all ∙ ap (λ (n : ℕ). if h.rec == 8 then at else at - n) came;
-      });
+      tells = inr (rw all (record {
+        rec = refl;
+        set = refl;
+        came = came;
+        left = refl;
+        first = ap (λ (n : ℕ). at - n) came;
+        token = ap (λ (n : ℕ). if h.rec == 8 then at else at - n) came;
+      }));
     }
 
 tells_at : (p : List ℕ) (at : ℕ) (whole : List Dataset) (begun : Begun) (message : MessagePlace) (found : IimBegun) (s : Split) (span : IimSpan) → Reads count_octets p whole begun
@@ -172,10 +147,7 @@ no_other ticket s h other =
 no_split : (ticket : List ℕ) (fault : TicketFault) (s : Split) → IsFaultOf ticket fault → SplitsTicket ticket s → ⊥
 no_split ticket Form s f h = f.1 s h
 no_split ticket Version s f h = no_other ticket s h f
-no_split ticket Impossible s f h = f
-no_split ticket HeaderFull s f h = f
-no_split ticket TooManyFields s f h = f
-no_split ticket OutOfMemory s f h = f
+no_split ticket other s f h = f
 
 pub no_octets_tell : TicketsOfPlacesAreSplit → (ticket : List ℕ) (at : ℕ) (found : IimBegun) (fault : TicketFault) → IsFaultOf ticket fault → (p : List ℕ) (place : Place) → IsTicketAt ticket place → IsPlaceOf p place
     → TellsOctets p at found

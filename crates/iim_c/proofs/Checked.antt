@@ -1,10 +1,10 @@
 -- What octets in memory are answered.
-use Rattle.std.proofs.Common.{◌≡◌, ◌≢◌, ℕ, ◌<◌, ◌^◌, List, [], inl, inr, length, take, slice_index, refl, sym, ap, subst, ◌∙◌, arith, Some}
+use Rattle.std.proofs.Common.{◌≡◌, ◌≢◌, ℕ, ◌<◌, ◌^◌, List, [], inl, inr, length, refl, sym, ap, subst, ◌∙◌, arith, Some}
 use Rattle.iim_fields.specs.declared.limits.Limits.{Limits}
 use Rattle.wire_story.specs.Format.Delivery.{StoryEvent}
-use Rattle.iim_places.specs.Format.Open.{IsOpen, IsTruncatedAt, RefusesNext}
+use Rattle.iim_places.specs.Format.Open.{IsTruncatedAt}
 use Rattle.iim_places.specs.Format.Refusals.{refusal_at}
-use Rattle.iim_places.specs.Format.Streams.{Answer, Answers, Finished, Refused, Truncated, IsEnvelopeWithin}
+use Rattle.iim_places.specs.Format.Streams.{Answer, Answers, Finished, Refused, Truncated}
 use Rattle.iim_places.specs.Laws.Streams.{StreamsHaveOneAnswer}
 use Rattle.iim_unpack.specs.States.Unpacking.{Unpacking, Stands, Goes, IsRefusedIn, limits_in}
 use Rattle.iim_places.specs.States.Counts.{raised}
@@ -39,8 +39,7 @@ pub finished_for : StreamsHaveOneAnswer → (limits : Limits) (octets : List ℕ
 finished_for law limits octets v more used told same goes is =
     let done = goes.1 in
     answered law limits octets told (Finished used done.value)
-    (record { fits = goes.0; envelope = subst (λ (l : Limits). IsEnvelopeWithin l (take used octets) done.value) same (record { admits = done.admits; within = done.within }) })
-    is
+    (record { fits = goes.0; envelope = record { admits = done.admits; within = rw same at done.within } }) is
 
 pub truncated_for : StreamsHaveOneAnswer → (limits : Limits) (octets : List ℕ) (v : Unpacking) (more : List StoryEvent) (e : Refusal) (told : IimAnswer) → length octets < 2 ^ 63 → limits_in v ≡ limits
     → Goes v [] 0 octets more More → ((p : List ℕ) (a : ℕ) → Stands v p a → (f : Refusal) × (Some e ≡ Some f) × IsTruncatedAt p a f) → told ≡ refusal_answer status.truncated e → Answered limits octets told
@@ -49,7 +48,7 @@ truncated_for law limits octets v more e told few same goes short is =
     let is_e : t.0 ≡ e = (let h = t.1 in cc) in
     answered law limits octets told (Truncated e)
     (record {
-      is_open = subst (λ (l : Limits). IsOpen l octets) same goes.0.is_open;
+      is_open = rw same at goes.0.is_open;
       refusal = subst (IsTruncatedAt octets (length octets)) is_e (subst (λ (n : ℕ). IsTruncatedAt octets n t.0) (exact (length octets) few) t.2);
     })
     is
@@ -64,7 +63,7 @@ refused_for law limits octets more e told few r by_octets is =
         fits = (let w = r.within in omega (arith, octet, w));
         fault = r.fault;
         refusal = r.refusal ∙ ap (λ (n : ℕ). refusal_at n r.fault) (at ∙ sym octet);
-        refuses = subst (λ (n : ℕ). RefusesNext limits (take n octets) (slice_index octets n) r.fault) (sym octet) r.refuses;
+        refuses = rw octet r.refuses;
       },
       by_octets,
     )

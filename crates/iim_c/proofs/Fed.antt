@@ -1,14 +1,10 @@
 -- What a piece comes to that is fed from the place of a ticket.
-use Rattle.std.proofs.Common.{◌≡◌, ◌≢◌, ℕ, ◌<◌, ◌≤◌, ◌^◌, List, [], ◌∷◌, ◌++◌, ◌⊎◌, inl, inr, length, take, Bool, true, false, nat_lt, Some, None, refl, sym, ap, subst, ◌∙◌, arith}
+use Rattle.std.proofs.Common.{◌≡◌, ℕ, ◌<◌, ◌≤◌, ◌^◌, List, [], ◌∷◌, ◌⊎◌, inl, inr, length, take, Bool, true, false, nat_lt, Some, None, refl, sym, ap, subst, ◌∙◌, arith}
 use Rattle.std.proofs.lemmas.Bool.{ltb-true, ltb-false}
 use Rattle.iim_fields.specs.declared.limits.Limits.{Limits}
 use Rattle.wire_story.specs.Format.Delivery.{StoryEvent}
 use Rattle.wire_message.specs.Format.Layers.{text_so_far}
-use Rattle.iim_places.specs.Format.Open.{IsOpen, IsTextOf, IsTruncatedAt, object_so_far}
-use Rattle.iim_places.specs.Laws.Admitted.{AdmittedOctetsAreFramed, NoEnvelopeIsEmpty}
-use Rattle.iim_places.specs.Laws.Places.{TicketsTellOnePlace}
-use Rattle.iim_places.specs.States.Restored.{IsRestoreFault}
-use Rattle.iim_places.specs.Format.Streams.{IsEnvelopeWithin}
+use Rattle.iim_places.specs.Format.Open.{IsTextOf, IsTruncatedAt, object_so_far}
 use Rattle.iim_places.specs.Format.Tickets.{IsTicketOf}
 use Rattle.iim_unpack.specs.States.Unpacking.{Unpacking, Stands, Goes, IsDone, IsDoneWith, IsRefusedIn, limits_in}
 use Rattle.iim_unpack.specs.declared.unpacker.Progress.{Progress}
@@ -16,43 +12,35 @@ use Rattle.iim_unpack.specs.declared.unpacker.Progress.TheVariants as progress
 use Rattle.iim_places.specs.declared.refusal.Refusal.{Refusal}
 use Rattle.iim_places.specs.declared.ticket.fault.TicketFault.{TicketFault}
 use Rattle.iim_c.specs.declared.answer.IimAnswer.{IimAnswer}
-use Rattle.iim_c.specs.Beginning.{IsBegun, IsNotBegun}
+use Rattle.iim_c.specs.Beginning.{IsNotBegun}
 use Rattle.iim_c.specs.Saving.{IsSaved, saved_with, short_with}
 use Rattle.iim_c.specs.FeedSteps.{HasFedText, HasRefusedText, refused_with, used_in}
 use Rattle.iim_c.specs.Format.Answers.{status_answer, refusal_answer, ticket_answer}
 use Rattle.iim_c.specs.Format.Statuses as status
-use Rattle.iim_c.specs.Format.Feeding.{Outcome, More, Done, Refused, BadTicket, NoMemory, IsOutcome, IsAnswered, IsFed, IsEnd, most_of_ticket, text_for, text_of, next_of, answer_of, short_answer}
+use Rattle.iim_c.specs.Format.Feeding.{Outcome, More, Done, Refused, BadTicket, NoMemory, IsOutcome, IsAnswered, IsFed, IsEnd, text_for, text_of, next_of, answer_of}
 use Rattle.iim_c.specs.Format.Writing.{HasTaken, StandIn, counted}
-use Rattle.iim_c.proofs.TextLengths.{CutLaws, delivers_few, events_few, take_few}
-use Rattle.iim_c.proofs.Places.{PlaceLaws, stands_at, ends_at, place_of, begun_limits}
+use Rattle.iim_c.proofs.TextLengths.{delivers_few, events_few}
+use Rattle.iim_c.proofs.Places.{Begun, is_done}
+use Rattle.iim_dataset.specs.Laws.All.{DatasetLaws}
+use Rattle.std.proofs.lemmas.List.{length-take}
 
 -- ---- what it comes to
-
-pub record Begun (limits : Limits) (ticket : List ℕ) (at : ℕ) (u : Unpacking) : Type 0 where
-  pub laws : PlaceLaws
-  pub is_begun : IsBegun limits ticket at u
-
-pub begun : TicketsTellOnePlace → NoEnvelopeIsEmpty → AdmittedOctetsAreFramed → (limits : Limits) (ticket : List ℕ) (at : ℕ) (u : Unpacking) → IsBegun limits ticket at u → Begun limits ticket at u
-begun one some framed limits ticket at u is = record { laws = record { one_place = one; not_empty = some; framed = framed }; is_begun = is }
-
-is_done : (u : Unpacking) (p : List ℕ) (a : ℕ) → IsDoneWith u p a → IsDone u
-is_done u p a d = (d.taking, d.ended)
 
 more_outcome : (limits : Limits) (ticket : List ℕ) (at : ℕ) (u v : Unpacking) (piece out next : List ℕ) (count : ℕ) → Begun limits ticket at u → (fed : HasFedText u v piece out count progress.More)
     → limits_in v ≡ limits_in u → (IsDone u → ⊥) → ((p : List ℕ) (a : ℕ) → Stands v p a ⊎ IsDoneWith v p a → IsTicketOf p next)
     → IsOutcome limits ticket at piece (More v.octets (length piece) (text_for fed.more) next)
 more_outcome limits ticket at u v piece out next count b fed same open_yet is_ticket = (
   record {
-    some = place_of limits ticket at u b.is_begun;
+    some = b.some;
     open_octets = λ p a stands.
-        let goes = fed.goes p a (stands_at b.laws.one_place limits ticket at u p a b.is_begun stands) in
+        let goes = fed.goes p a (b.stands p a stands) in
         record {
-          is_open = subst (λ (l : Limits). IsOpen l (p ++ piece)) (same ∙ begun_limits limits ticket at u b.is_begun) goes.0.is_open;
+          is_open = rw (same ∙ b.same) at goes.0.is_open;
           delivers = (fed.more, goes.1, refl);
           ticket = is_ticket _ _ (inl goes.0);
           counts = goes.0.counts;
         };
-    envelopes = λ p a ends. open_yet (is_done u p a (ends_at b.laws limits ticket at u p a b.is_begun ends));
+    envelopes = λ p a ends. open_yet (is_done (b.ends p a ends));
   },
   refl,
 )
@@ -65,22 +53,20 @@ done_outcome : (limits : Limits) (ticket : List ℕ) (at : ℕ) (u v : Unpacking
     → limits_in v ≡ limits_in u → (IsDone u → (used ≡ 0) × (v ≡ u) × (count ≡ 0)) → ((p : List ℕ) (a : ℕ) → Stands v p a ⊎ IsDoneWith v p a → IsTicketOf p next)
     → IsOutcome limits ticket at piece (Done v.octets used (text_for fed.more) next)
 done_outcome limits ticket at u v piece out next count used b fed same again is_ticket = record {
-  some = place_of limits ticket at u b.is_begun;
+  some = b.some;
   open_octets = λ p a stands.
-      let goes = fed.goes p a (stands_at b.laws.one_place limits ticket at u p a b.is_begun stands) in
+      let goes = fed.goes p a (b.stands p a stands) in
       record {
         fits = goes.0;
         value = goes.1.value;
-        envelope =
-            subst (λ (l : Limits). IsEnvelopeWithin l (p ++ take used piece) goes.1.value) (same ∙ begun_limits limits ticket at u b.is_begun)
-            (record { admits = goes.1.admits; within = goes.1.within });
+        envelope = record { admits = goes.1.admits; within = rw (same ∙ b.same) at goes.1.within };
         delivers = (fed.more, goes.2, refl);
         ticket = is_ticket _ _ (inr goes.1);
         counts = goes.1.counts;
       };
   envelopes = λ p a ends.
-      let done = ends_at b.laws limits ticket at u p a b.is_begun ends in
-      let left = again (is_done u p a done) in
+      let done = b.ends p a ends in
+      let left = again (is_done done) in
       record {
         unused = left.0;
         no_text = no_text (text_for fed.more) (sym fed.taken.0 ∙ left.2);
@@ -92,16 +78,14 @@ done_outcome limits ticket at u v piece out next count used b fed same again is_
 refused_outcome : (limits : Limits) (ticket : List ℕ) (at : ℕ) (u : Unpacking) (piece out : List ℕ) (count : ℕ) (e : Refusal) → Begun limits ticket at u → (fed : HasRefusedText u piece out count e)
     → (IsDone u → ⊥) → IsOutcome limits ticket at piece (Refused e (text_for fed.more))
 refused_outcome limits ticket at u piece out count e b fed open_yet = record {
-  some = place_of limits ticket at u b.is_begun;
+  some = b.some;
   open_octets = λ p a stands. record {
     more = fed.more;
-    refused =
-        subst (λ (l : Limits). IsRefusedIn l p a piece fed.more e) (begun_limits limits ticket at u b.is_begun)
-        (fed.refuses p a (stands_at b.laws.one_place limits ticket at u p a b.is_begun stands));
+    refused = rw b.same at (fed.refuses p a (b.stands p a stands));
     text_is = refl;
     by_octets = fed.by_octets;
   };
-  envelopes = λ p a ends. open_yet (is_done u p a (ends_at b.laws limits ticket at u p a b.is_begun ends));
+  envelopes = λ p a ends. open_yet (is_done (b.ends p a ends));
 }
 
 -- ---- how much of the text it brings
@@ -110,34 +94,21 @@ refused_outcome limits ticket at u piece out count e b fed open_yet = record {
 text_there : (u : Unpacking) (p : List ℕ) (a : ℕ) → (s : Stands u p a) → IsTextOf p (text_so_far (object_so_far s.is_open.whole s.is_open.begun))
 text_there u p a s = (s.is_open.whole, s.is_open.begun, s.is_open.reads, refl)
 
-goes_few : CutLaws → (q : Progress) (u v : Unpacking) (p piece : List ℕ) (a : ℕ) (more : List StoryEvent) → Stands u p a → Goes v p a piece more q → length (text_for more) ≤ length piece
-goes_few cuts progress.More u v p piece a more s goes = delivers_few cuts p piece _ more (text_there u p a s) goes.1
-goes_few cuts (progress.Done used) u v p piece a more s goes =
-    let few = delivers_few cuts p (take used piece) _ more (text_there u p a s) goes.2 in
-    let front = take_few used piece in
-    omega (arith, few, front)
-
-refuses_few : CutLaws → (limits : Limits) (u : Unpacking) (p piece : List ℕ) (a : ℕ) (more : List StoryEvent) (e : Refusal) → Stands u p a → IsRefusedIn limits p a piece more e
+goes_few : DatasetLaws → (q : Progress) (u v : Unpacking) (p piece : List ℕ) (a : ℕ) (more : List StoryEvent) → Stands u p a → Goes v p a piece more q
     → length (text_for more) ≤ length piece
-refuses_few cuts limits u p piece a more e s r =
-    let few = events_few cuts p (take r.k piece) _ r.added more (text_there u p a s) (r.adds _ (text_there u p a s)) r.delivers in
-    let front = take_few r.k piece in
-    omega (arith, few, front)
+goes_few laws progress.More u v p piece a more s goes = delivers_few laws p piece _ more (text_there u p a s) goes.1
+goes_few laws (progress.Done used) u v p piece a more s goes =
+    omega (arith, delivers_few laws p (take used piece) _ more (text_there u p a s) goes.2, length-take used piece)
+
+refuses_few : DatasetLaws → (limits : Limits) (u : Unpacking) (p piece : List ℕ) (a : ℕ) (more : List StoryEvent) (e : Refusal) → Stands u p a
+    → IsRefusedIn limits p a piece more e → length (text_for more) ≤ length piece
+refuses_few laws limits u p piece a more e s r =
+    omega (arith, events_few laws p (take r.k piece) _ r.added more (text_there u p a s) (r.adds _ (text_there u p a s)) r.delivers, length-take r.k piece)
 
 -- what holds of a place holds of the unpacker that stands there
 at_place : (P : Type 0) (limits : Limits) (ticket : List ℕ) (at : ℕ) (u : Unpacking) → Begun limits ticket at u → ((p : List ℕ) (a : ℕ) → Stands u p a → P) → ((p : List ℕ) (a : ℕ) → IsDoneWith u p a → P) → P
 at_place P limits ticket at u b open' done =
-    let place = place_of limits ticket at u b.is_begun in
-    elim place.2 as (λ _. P) [
-      | inl stands ↦ open' place.0 place.1 (stands_at b.laws.one_place limits ticket at u place.0 place.1 b.is_begun stands)
-      | inr ends ↦ done place.0 place.1 (ends_at b.laws limits ticket at u place.0 place.1 b.is_begun ends)
-    ]
-
-none_few : (text piece : List ℕ) → text ≡ [] → length text ≤ length piece
-none_few text piece is = let none = ap length is in omega (arith, none)
-
-ticket_few : (limits : Limits) (u v : Unpacking) (next : List ℕ) → limits_in v ≡ limits_in u → limits_in u ≡ limits → length next ≤ most_of_ticket (limits_in v) → length next ≤ most_of_ticket limits
-ticket_few limits u v next same told few = subst (λ (l : Limits). length next ≤ most_of_ticket l) (same ∙ told) few
+    elim b.some.2 as (λ _. P) [ inl s ↦ open' b.some.0 b.some.1 (b.stands _ _ s) | inr e ↦ done b.some.0 b.some.1 (b.ends _ _ e) ]
 
 -- ---- how it is answered
 
@@ -147,77 +118,29 @@ all_counted text out written room is of_out few fits = omega (arith, is, few, fi
 lacks_text : (text out : List ℕ) (written room : ℕ) → written ≡ counted text → room ≡ length out → room < written → length out < length text
 lacks_text text out written room is of_out more = omega (arith, is, of_out, more)
 
--- the answer for a number of octets that is that of a text
-saved_answer : (u : Unpacking) (status used : ℕ) (written : ℕ) (text next : List ℕ) → written ≡ length text
-    → saved_with u (status, used) written (length next) ≡ record (status_answer status) { octet = u.octets; used = used; written = length text; ticket = length next }
-saved_answer u status used written text next is = ap (λ (n : ℕ). saved_with u (status, used) n (length next)) is
-
-short_told : (written : ℕ) (text next : List ℕ) → written ≡ counted text → short_with written (length next) ≡ short_answer text next
-short_told written text next is = ap (λ (n : ℕ). short_with n (length next)) is
-
-told_for : (o : Outcome) (u : Unpacking) (status used written room : ℕ) (text_out ticket_out : List ℕ) (told : IimAnswer) → HasTaken text_out written (text_of o) → room ≡ length text_out → room < 2 ^ 63
-    → answer_of o ≡ record (status_answer status) { octet = u.octets; used = used; written = length (text_of o); ticket = length (next_of o) }
-    → StandIn ticket_out (next_of o)
-    → ((written ≤ room) × (length (next_of o) ≤ length ticket_out) × (told ≡ saved_with u (status, used) written (length (next_of o))))
+told_for : (o : Outcome) (u : Unpacking) (pair : ℕ × ℕ) (written room : ℕ) (text_out ticket_out : List ℕ) (told : IimAnswer)
+    → HasTaken text_out written (text_of o) → room ≡ length text_out → room < 2 ^ 63
+    → answer_of o ≡ saved_with u pair (length (text_of o)) (length (next_of o)) → StandIn ticket_out (next_of o)
+    → ((written ≤ room) × (length (next_of o) ≤ length ticket_out) × (told ≡ saved_with u pair written (length (next_of o))))
     ⊎ (((room < written) ⊎ (length ticket_out < length (next_of o))) × (told ≡ short_with written (length (next_of o))))
     → IsAnswered o text_out ticket_out told
-told_for o u status used written room text_out ticket_out told taken of_out few is stands (inl h) =
+told_for o u pair written room text_out ticket_out told taken of_out few is stands (inl h) =
     let all : written ≡ length (text_of o) = all_counted (text_of o) text_out written room taken.0 of_out few h.0 in
     let fits : length (text_of o) ≤ length text_out = omega (arith, all, of_out, h.0) in
-    inl (record {
-      text_fits = fits;
-      ticket_fits = h.1;
-      answer = h.2 ∙ (saved_answer u status used written (text_of o) (next_of o) all ∙ sym is);
-      text = taken.1 fits;
-      ticket = stands h.1;
-    })
-told_for o u status used written room text_out ticket_out told taken of_out few is stands (inr h) =
+    inl (record { text_fits = fits; ticket_fits = h.1; answer = h.2 ∙ rw all (sym is); text = taken.1 fits; ticket = stands h.1 })
+told_for o u pair written room text_out ticket_out told taken of_out few is stands (inr h) =
     inr (record {
       lacks = elim h.0 as (λ _. (length text_out < length (text_of o)) ⊎ (length ticket_out < length (next_of o))) [
         | inl more ↦ inl (lacks_text (text_of o) text_out written room taken.0 of_out more)
         | inr more ↦ inr more
       ];
-      answer = h.1 ∙ short_told written (text_of o) (next_of o) taken.0;
+      answer = h.1 ∙ rw taken.0;
     })
 
 fed_nothing : (limits : Limits) (ticket : List ℕ) (at : ℕ) (piece text_out ticket_out : List ℕ) (told : IimAnswer) → told ≡ status_answer status.no_memory
     → IsFed limits ticket at piece text_out ticket_out told
 fed_nothing limits ticket at piece text_out ticket_out told is =
     (NoMemory, tt, record { text = omega arith; ticket = omega arith }, inl (record { text_fits = omega arith; ticket_fits = omega arith; answer = is; text = refl; ticket = refl }))
-
-pub fed_more : CutLaws → (limits : Limits) (ticket : List ℕ) (at : ℕ) (u v : Unpacking) (piece text_out ticket_out : List ℕ) (count room : ℕ) (told : IimAnswer) → Begun limits ticket at u
-    → HasFedText u v piece text_out count progress.More → limits_in v ≡ limits_in u → (IsDone u → ⊥) → room ≡ length text_out → room < 2 ^ 63
-    → IsSaved v (used_in progress.More (length piece)) count room ticket_out told → IsFed limits ticket at piece text_out ticket_out told
-fed_more cuts limits ticket at u v piece text_out ticket_out count room told b fed same open_yet of_out few (inl s) =
-    let o = More v.octets (length piece) (text_for fed.more) s.next in (
-      o,
-      more_outcome limits ticket at u v piece text_out s.next count b fed same open_yet s.is_ticket,
-      record {
-        text = at_place (length (text_for fed.more) ≤ length piece) limits ticket at u b (λ p a stands. goes_few cuts progress.More u v p piece a fed.more stands (fed.goes p a stands))
-            (λ p a done. absurd (open_yet (is_done u p a done)));
-        ticket = ticket_few limits u v s.next same (begun_limits limits ticket at u b.is_begun) s.few;
-      },
-      told_for o v status.more (length piece) count room text_out ticket_out told fed.taken of_out few refl s.stands s.fits,
-    )
-fed_more cuts limits ticket at u v piece text_out ticket_out count room told b fed same open_yet of_out few (inr e) = fed_nothing limits ticket at piece text_out ticket_out told e
-
-pub fed_done : CutLaws → (limits : Limits) (ticket : List ℕ) (at : ℕ) (u v : Unpacking) (piece text_out ticket_out : List ℕ) (count room used : ℕ) (told : IimAnswer) → Begun limits ticket at u
-    → HasFedText u v piece text_out count (progress.Done used) → limits_in v ≡ limits_in u → (IsDone u → (used ≡ 0) × (v ≡ u) × (count ≡ 0)) → room ≡ length text_out → room < 2 ^ 63
-    → IsSaved v (used_in (progress.Done used) (length piece)) count room ticket_out told → IsFed limits ticket at piece text_out ticket_out told
-fed_done cuts limits ticket at u v piece text_out ticket_out count room used told b fed same again of_out few (inl s) =
-    let o = Done v.octets used (text_for fed.more) s.next in (
-      o,
-      done_outcome limits ticket at u v piece text_out s.next count used b fed same again s.is_ticket,
-      record {
-        text =
-            at_place (length (text_for fed.more) ≤ length piece) limits ticket at u b
-            (λ p a stands. goes_few cuts (progress.Done used) u v p piece a fed.more stands (fed.goes p a stands))
-            (λ p a done. none_few (text_for fed.more) piece (no_text (text_for fed.more) (sym fed.taken.0 ∙ (again (is_done u p a done)).2)));
-        ticket = ticket_few limits u v s.next same (begun_limits limits ticket at u b.is_begun) s.few;
-      },
-      told_for o v status.done used count room text_out ticket_out told fed.taken of_out few refl s.stands s.fits,
-    )
-fed_done cuts limits ticket at u v piece text_out ticket_out count room used told b fed same again of_out few (inr e) = fed_nothing limits ticket at piece text_out ticket_out told e
 
 refused_told : (e : Refusal) (text text_out ticket_out : List ℕ) (written room : ℕ) (told : IimAnswer) → HasTaken text_out written text → room ≡ length text_out → room < 2 ^ 63
     → told ≡ refused_with e written room → IsAnswered (Refused e text) text_out ticket_out told
@@ -228,7 +151,7 @@ refused_told e text text_out ticket_out written room told taken of_out few is = 
         let more : room < written = ltb-true room written over in
         inr (record {
           lacks = inl (lacks_text text text_out written room taken.0 of_out more);
-          answer = is ∙ rw over (short_told written text [] taken.0);
+          answer = is ∙ rw (over, taken.0);
         })
     by false within =
         let fits : written ≤ room = ltb-false room written within in
@@ -237,20 +160,22 @@ refused_told e text text_out ticket_out written room told taken of_out few is = 
         inl (record {
           text_fits = holds;
           ticket_fits = omega arith;
-          answer = is ∙ rw within (ap (λ (n : ℕ). record (refusal_answer status.refused e) { written = n }) all);
+          answer = is ∙ rw (within, all);
           text = taken.1 holds;
           ticket = refl;
         })
 
-pub fed_refused : CutLaws → (limits : Limits) (ticket : List ℕ) (at : ℕ) (u : Unpacking) (piece text_out ticket_out : List ℕ) (count room : ℕ) (e : Refusal) (told : IimAnswer) → Begun limits ticket at u
-    → HasRefusedText u piece text_out count e → (IsDone u → ⊥) → room ≡ length text_out → room < 2 ^ 63
+pub fed_refused : DatasetLaws
+    → (limits : Limits) (ticket : List ℕ) (at : ℕ) (u : Unpacking) (piece text_out ticket_out : List ℕ) (count room : ℕ) (e : Refusal) (told : IimAnswer)
+    → Begun limits ticket at u → HasRefusedText u piece text_out count e → (IsDone u → ⊥) → room ≡ length text_out → room < 2 ^ 63
     → told ≡ refused_with e count room → IsFed limits ticket at piece text_out ticket_out told
-fed_refused cuts limits ticket at u piece text_out ticket_out count room e told b fed open_yet of_out few is = (
+fed_refused laws limits ticket at u piece text_out ticket_out count room e told b fed open_yet of_out few is = (
   Refused e (text_for fed.more),
   refused_outcome limits ticket at u piece text_out count e b fed open_yet,
   record {
-    text = at_place (length (text_for fed.more) ≤ length piece) limits ticket at u b (λ p a stands. refuses_few cuts (limits_in u) u p piece a fed.more e stands (fed.refuses p a stands))
-        (λ p a done. absurd (open_yet (is_done u p a done)));
+    text = at_place (length (text_for fed.more) ≤ length piece) limits ticket at u b
+        (λ p a stands. refuses_few laws (limits_in u) u p piece a fed.more e stands (fed.refuses p a stands))
+        (λ p a done. absurd (open_yet (is_done done)));
     ticket = omega arith;
   },
   refused_told e (text_for fed.more) text_out ticket_out count room told fed.taken of_out few is,
@@ -263,56 +188,70 @@ alive_by (progress.Done used) u v piece out count p a fed stands = (fed.goes p a
 pub alive_after : (q : Progress) (limits : Limits) (ticket : List ℕ) (at : ℕ) (u v : Unpacking) (piece out : List ℕ) (count : ℕ) → Begun limits ticket at u → HasFedText u v piece out count q
     → (IsDone u → v ≡ u) → v.refused ≡ None
 alive_after q limits ticket at u v piece out count b fed same =
-    let place = place_of limits ticket at u b.is_begun in
-    elim place.2 as (λ _. v.refused ≡ None) [
-      | inl stands ↦ alive_by q u v piece out count place.0 place.1 fed (stands_at b.laws.one_place limits ticket at u place.0 place.1 b.is_begun stands)
-      | inr ends ↦
-          (let done = ends_at b.laws limits ticket at u place.0 place.1 b.is_begun ends in
-          ap (λ (w : Unpacking). w.refused) (same (is_done u place.0 place.1 done)) ∙ done.taking)
-    ]
+    at_place (v.refused ≡ None) limits ticket at u b (λ p a stands. alive_by q u v piece out count p a fed stands)
+    (λ p a done. ap (λ (w : Unpacking). w.refused) (same (is_done done)) ∙ done.taking)
 
-pub fed_ok : CutLaws → (q : Progress) (limits : Limits) (ticket : List ℕ) (at : ℕ) (u v : Unpacking) (piece text_out ticket_out : List ℕ) (count room : ℕ) (pair : ℕ × ℕ) (told : IimAnswer) → Begun limits ticket at u
+pub fed_ok : DatasetLaws
+    → (q : Progress) (limits : Limits) (ticket : List ℕ) (at : ℕ) (u v : Unpacking) (piece text_out ticket_out : List ℕ) (count room : ℕ) (pair : ℕ × ℕ) (told : IimAnswer) → Begun limits ticket at u
     → HasFedText u v piece text_out count q → limits_in v ≡ limits_in u → (IsDone u → (q ≡ progress.Done 0) × (v ≡ u) × (count ≡ 0)) → room ≡ length text_out → room < 2 ^ 63
     → pair ≡ used_in q (length piece) → IsSaved v pair count room ticket_out told → IsFed limits ticket at piece text_out ticket_out told
-fed_ok cuts progress.More limits ticket at u v piece text_out ticket_out count room pair told b fed same again of_out few is saved =
-    fed_more cuts limits ticket at u v piece text_out ticket_out count room told b fed same (λ done. let h = (again done).0 in cc) of_out few
-    (subst (λ (x : ℕ × ℕ). IsSaved v x count room ticket_out told) is saved)
-fed_ok cuts (progress.Done used) limits ticket at u v piece text_out ticket_out count room pair told b fed same again of_out few is saved =
-    fed_done cuts limits ticket at u v piece text_out ticket_out count room used told b fed same (λ done. let h = again done in ((let e = h.0 in cc), h.1, h.2)) of_out few
-    (subst (λ (x : ℕ × ℕ). IsSaved v x count room ticket_out told) is saved)
+fed_ok laws q limits ticket at u v piece text_out ticket_out count room pair told b fed same again of_out few is (inr e) =
+    fed_nothing limits ticket at piece text_out ticket_out told e
+fed_ok laws progress.More limits ticket at u v piece text_out ticket_out count room pair told b fed same again of_out few is (inl s) =
+    let open_yet : IsDone u → ⊥ = λ done. let h = (again done).0 in cc in
+    let o = More v.octets (length piece) (text_for fed.more) s.next in (
+      o,
+      more_outcome limits ticket at u v piece text_out s.next count b fed same open_yet s.is_ticket,
+      record {
+        text = at_place (length (text_for fed.more) ≤ length piece) limits ticket at u b
+            (λ p a stands. goes_few laws progress.More u v p piece a fed.more stands (fed.goes p a stands))
+            (λ p a done. absurd (open_yet (is_done done)));
+        ticket = rw (same ∙ b.same) at s.few;
+      },
+      told_for o v pair count room text_out ticket_out told fed.taken of_out few (rw is) s.stands s.fits,
+    )
+fed_ok laws (progress.Done used) limits ticket at u v piece text_out ticket_out count room pair told b fed same again of_out few is (inl s) =
+    let left : IsDone u → (used ≡ 0) × (v ≡ u) × (count ≡ 0) = λ done. let h = again done in ((let e = h.0 in cc), h.1, h.2) in
+    let o = Done v.octets used (text_for fed.more) s.next in (
+      o,
+      done_outcome limits ticket at u v piece text_out s.next count used b fed same left s.is_ticket,
+      record {
+        text = at_place (length (text_for fed.more) ≤ length piece) limits ticket at u b
+            (λ p a stands. goes_few laws (progress.Done used) u v p piece a fed.more stands (fed.goes p a stands))
+            (λ p a done. let none = ap length (no_text (text_for fed.more) (sym fed.taken.0 ∙ (left (is_done done)).2)) in omega (arith, none));
+        ticket = rw (same ∙ b.same) at s.few;
+      },
+      told_for o v pair count room text_out ticket_out told fed.taken of_out few (rw is) s.stands s.fits,
+    )
 
 -- ---- no unpacker
-
-bad_ticket : (limits : Limits) (ticket : List ℕ) (at : ℕ) (piece text_out ticket_out : List ℕ) (fault : TicketFault) (told : IimAnswer) → (ticket ≢ []) → IsRestoreFault limits ticket fault
-    → told ≡ ticket_answer fault → IsFed limits ticket at piece text_out ticket_out told
-bad_ticket limits ticket at piece text_out ticket_out fault told some why is =
-    (BadTicket fault, (some, why), record { text = omega arith; ticket = omega arith }, inl (record { text_fits = omega arith; ticket_fits = omega arith; answer = is; text = refl; ticket = refl }))
 
 pub fed_not_begun : (limits : Limits) (ticket : List ℕ) (at : ℕ) (piece text_out ticket_out : List ℕ) (fault : TicketFault) (told : IimAnswer) → IsNotBegun limits ticket fault
     → told ≡ ticket_answer fault → IsFed limits ticket at piece text_out ticket_out told
 fed_not_begun limits ticket at piece text_out ticket_out fault told (inl memory) is = fed_nothing limits ticket at piece text_out ticket_out told (is ∙ ap ticket_answer memory)
-fed_not_begun limits ticket at piece text_out ticket_out fault told (inr why) is = bad_ticket limits ticket at piece text_out ticket_out fault told why.0 why.1 is
+fed_not_begun limits ticket at piece text_out ticket_out fault told (inr why) is =
+    (BadTicket fault, why, record { text = omega arith; ticket = omega arith }, inl (record { text_fits = omega arith; ticket_fits = omega arith; answer = is; text = refl; ticket = refl }))
 
 -- ---- the end of the input
 
 pub ended_short : (limits : Limits) (ticket : List ℕ) (at : ℕ) (u : Unpacking) (e : Refusal) (told : IimAnswer) → Begun limits ticket at u
     → ((p : List ℕ) (a : ℕ) → Stands u p a → (f : Refusal) × (Some e ≡ Some f) × IsTruncatedAt p a f) → (IsDone u → ⊥) → told ≡ refusal_answer status.truncated e → IsEnd limits ticket at told
 ended_short limits ticket at u e told b short open_yet is = inl (record {
-  some = place_of limits ticket at u b.is_begun;
+  some = b.some;
   open_octets = λ p a stands.
-      let t = short p a (stands_at b.laws.one_place limits ticket at u p a b.is_begun stands) in
+      let t = short p a (b.stands p a stands) in
       let same : e ≡ t.0 = (let h = t.1 in cc) in
       (t.0, t.2, is ∙ ap (refusal_answer status.truncated) same);
-  envelopes = λ p a ends. absurd (open_yet (is_done u p a (ends_at b.laws limits ticket at u p a b.is_begun ends)));
+  envelopes = λ p a ends. absurd (open_yet (is_done (b.ends p a ends)));
 })
 
 pub ended_whole : (limits : Limits) (ticket : List ℕ) (at : ℕ) (u : Unpacking) (told : IimAnswer) → Begun limits ticket at u
     → ((p : List ℕ) (a : ℕ) → Stands u p a → ⊥) → told ≡ record (status_answer status.done) { octet = u.octets } → IsEnd limits ticket at told
 ended_whole limits ticket at u told b not_open is = inl (record {
-  some = place_of limits ticket at u b.is_begun;
-  open_octets = λ p a stands. absurd (not_open p a (stands_at b.laws.one_place limits ticket at u p a b.is_begun stands));
+  some = b.some;
+  open_octets = λ p a stands. absurd (not_open p a (b.stands p a stands));
   envelopes = λ p a ends.
-      is ∙ ap (λ (n : ℕ). record (status_answer status.done) { octet = n }) (ends_at b.laws limits ticket at u p a b.is_begun ends).counts;
+      is ∙ ap (λ (n : ℕ). record (status_answer status.done) { octet = n }) (b.ends p a ends).counts;
 })
 
 pub ended_not_begun : (limits : Limits) (ticket : List ℕ) (at : ℕ) (fault : TicketFault) (told : IimAnswer) → IsNotBegun limits ticket fault → told ≡ ticket_answer fault → IsEnd limits ticket at told

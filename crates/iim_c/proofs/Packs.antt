@@ -7,7 +7,6 @@ use Rattle.iim_pack_script.specs.declared.packing.PackFault.{PackFault}
 use Rattle.iim_pack_script.specs.declared.packing.PackFault.TheVariants.{Refused, Around}
 use Rattle.iim_c.specs.declared.answer.IimAnswer.{IimAnswer}
 use Rattle.iim_c.specs.declared.packing.IimPacking.{IimPacking}
-use Rattle.iim_c.specs.Format.Packing.{asked_for}
 use Rattle.iim_c.specs.Format.Packing as packing
 use Rattle.iim_c.specs.PackSteps.{Asks, IsPut, IsUnpacked, IsUnpackedFault, sized}
 use Rattle.iim_c.specs.Format.Statuses as status

@@ -13,7 +13,7 @@ use Rattle.iim_fields.specs.declared.limits.Limits.{Limits}
 use Rattle.iim_places.specs.Format.Conditions.{Token, AtOctet, AtHead, AtValue, rule_of}
 use Rattle.iim_places.specs.Format.Open.{AllCanContinue, Completes}
 use Rattle.iim_places.specs.declared.refusal.Cause.{Cause}
-use Rattle.iim_places.specs.declared.refusal.Cause.TheVariants.{Marker, CountForm, Truncated, Field, Size, Message, TooManySubfiles, Failed}
+use Rattle.iim_places.specs.declared.refusal.Cause.TheVariants.{Field, Size, Message}
 use Rattle.iim_fields.specs.declared.fault.FieldCause.TheVariants as fields
 use Rattle.iim_object.specs.declared.reading.fault.SizeCause.TheVariants as sizes
 use Rattle.wire_message.specs.declared.fault.MessageCause.TheVariants as messages
@@ -40,17 +40,13 @@ octet_there p next n counts = drop_at p (next ∷ []) n (sym counts)
 
 -- an octet of data is looked at by itself in subfiles alone
 in_subfile : (cause : Cause) (limits : Limits) (ds : List Dataset) (h : Head) (taken : List ℕ) (octet : ℕ) → (rule_of cause).holds limits ds (AtOctet (InData h taken) octet) → h.rec ≡ 8
-in_subfile Marker limits ds h taken octet holds = absurd holds
-in_subfile CountForm limits ds h taken octet holds = absurd holds
-in_subfile Truncated limits ds h taken octet holds = absurd holds
 in_subfile (Field fields.RecordOrder) limits ds h taken octet holds = absurd holds
 in_subfile (Field other) limits ds h taken octet holds = absurd holds
 in_subfile (Size sizes.ModeClash) limits ds h taken octet holds = absurd holds
 in_subfile (Size other) limits ds h taken octet holds = absurd holds
 in_subfile (Message messages.Unfinished) limits ds h taken octet holds = absurd holds
 in_subfile (Message other) limits ds h taken octet holds = holds.0
-in_subfile TooManySubfiles limits ds h taken octet holds = absurd holds
-in_subfile Failed limits ds h taken octet holds = absurd holds
+in_subfile other limits ds h taken octet holds = absurd holds
 
 -- an octet that is judged by itself, of what is begun
 octet_of : (p : List ℕ) (whole : List Dataset) (begun : Begun) (next n : ℕ) (cause : Cause) (limits : Limits) (ds : List Dataset) → Reads count_octets p whole begun → n ≡ token_of (length p) begun

@@ -1,17 +1,13 @@
 -- Rows, one after the other.
 use Rattle.std.proofs.Common.{◌≡◌, ℕ, ◌+◌, ◌<◌, ◌≤◌, ℤ, List, [], ◌∷◌, ◌++◌, length, take, drop, set, Option, Some, None, IfSome, refl, sym, ap, subst, ◌∙◌, arith, append-nil, append_assoc, take-add}
 use Rattle.std.proofs.lemmas.List.{length-take-le, take_more_set, drop-set-lt, drop-drop, take-append-drop}
-use Rattle.std.specs.Option.{option_map}
-use Rattle.iim_fields.specs.Format.Views.{instant_of_release, instant_of_expiration}
 use Rattle.iim_fields.specs.declared.limits.Limits.{Limits}
 use Rattle.iim_places.specs.States.Counts.{raised}
 use Rattle.iim_places.specs.declared.refusal.Refusal.{Refusal}
 use Rattle.iim_audit.specs.Format.Pieces.{Finds, IsRowOf, Refuses, StandsOn}
 use Rattle.iim_audit.specs.declared.pieces.PieceAudit.{PieceAudit}
 use Rattle.iim_audit.specs.declared.pieces.PieceRow.{PieceRow}
-use Rattle.iim_audit.specs.declared.row.AuditRow.{AuditRow}
 use Rattle.iim_c.specs.Format.Auditing.{AreRows, InHand, IsRow, StandFirst, after, with_more}
-use Rattle.iim_c.specs.Format.Rows.{TellsRow}
 use Rattle.iim_c.specs.AuditSteps.{HasFound, TellsFound}
 use Rattle.iim_c.specs.declared.finding.Ending.TheVariants.{Used, Full, Refused}
 use Rattle.iim_c.specs.declared.finding.Found.{Found}
@@ -40,15 +36,8 @@ more_rows limits now hand octets (first ∷ rows) last are ended row is =
 -- what an audit of pieces tells is a row of its envelope
 is_row : (limits : Limits) (now : ℤ) (hand : InHand) (found : PieceRow) (row : IimAuditRow) → IsRowOf limits now hand.octets found → found.octets ≡ hand.count → TellsFound hand.at found row
     → IsRow limits now hand row
-is_row limits now hand found row is counts tells = record {
-  value = is.value;
-  envelope = is.envelope;
-  tells =
-      subst (λ (r : AuditRow). TellsRow hand.at hand.count r (instant_of_release is.value.fields) (instant_of_expiration is.value.fields) row) is.row
-      (subst (λ (n : ℕ). TellsRow hand.at n found.row (instant_of_release is.value.fields) (instant_of_expiration is.value.fields) row) counts
-      (subst (λ (x : Option ℤ). TellsRow hand.at found.octets found.row x (instant_of_expiration is.value.fields) row) is.release
-      (subst (λ (x : Option ℤ). TellsRow hand.at found.octets found.row (option_map (λ t. t.nanosecond) found.release) x row) is.expires tells)));
-}
+is_row limits now hand found row is counts tells =
+    record { value = is.value; envelope = is.envelope; tells = rw (← is.row, ← is.release, ← is.expires, ← counts) tells }
 
 -- nothing is found at first
 pub none_found : (limits : Limits) (now : ℤ) (at : ℕ) (piece : List ℕ) (array : List IimAuditRow) (audit : PieceAudit) (p : List ℕ) (a : ℕ) → StandsOn audit p a
@@ -73,9 +62,7 @@ one_found limits now hand piece array old new found rest next row at had is room
     let more = more_rows limits now hand (take found.used piece) (take found.rows array) last had.rows_are ended row told in
     record {
       last = after (with_more last ended);
-      rows_are =
-          subst (λ (xs : List ℕ). AreRows limits now hand xs (take (found.rows + 1) (set array found.rows row)) (after (with_more last ended))) octets
-          (subst (λ (rows : List IimAuditRow). AreRows limits now hand (take found.used piece ++ ended) rows (after (with_more last ended))) (sym (take_more_set array found.rows row room)) more);
+      rows_are = rw (← octets, take_more_set array found.rows row room) more;
       at_is = ap (raised last.at) (sym counts) ∙ (ap (λ (n : ℕ). raised n next.octets) had.at_is ∙ sym at_is);
       ends = f.3;
     }
@@ -92,35 +79,21 @@ stand_first old new n fits same =
 -- what is found under limits that stayed, and is told
 pub found_as : (limits l : Limits) (now : ℤ) (old new : PieceAudit) (rest : List ℕ) (told found : Option PieceRow) → l ≡ limits → told ≡ found
     → ((p : List ℕ) (a : ℕ) → StandsOn old p a → Finds l now p a rest new told) → (p : List ℕ) (a : ℕ) → StandsOn old p a → Finds limits now p a rest new found
-found_as limits l now old new rest told found same is finds p a stands =
-    subst (λ (m : Limits). Finds m now p a rest new found) same (subst (λ (x : Option PieceRow). Finds l now p a rest new x) is (finds p a stands))
+found_as limits l now old new rest told found same is finds p a stands = rw (same, is) at (finds p a stands)
 
 -- no more is found
 pub all_found : (limits : Limits) (now : ℤ) (hand : InHand) (piece : List ℕ) (array : List IimAuditRow) (old new : PieceAudit) (found : Found) (rest : List ℕ) → HasFound limits now hand piece array old found Full
     → rest ≡ drop found.used piece → ((p : List ℕ) (a : ℕ) → StandsOn old p a → Finds limits now p a rest new None) → HasFound limits now hand piece array new found Used
-all_found limits now hand piece array old new found rest had is finds = record {
-  last = had.last;
-  rows_are = had.rows_are;
-  at_is = had.at_is;
-  ends =
-      subst (λ (xs : List ℕ). StandsOn new (had.last.octets ++ xs) (raised had.last.count (length xs))) is (finds had.last.octets had.last.count had.ends);
-}
+all_found limits now hand piece array old new found rest had is finds =
+    record { last = had.last; rows_are = had.rows_are; at_is = had.at_is; ends = rw is at (finds had.last.octets had.last.count had.ends) }
 
 -- or an octet is refused
 pub refused_then : (limits l : Limits) (now : ℤ) (hand : InHand) (piece : List ℕ) (array : List IimAuditRow) (old new : PieceAudit) (found : Found) (rest : List ℕ) (e : Refusal) → HasFound limits now hand piece array old found Full
     → rest ≡ drop found.used piece → l ≡ limits → ((p : List ℕ) (a : ℕ) → StandsOn old p a → Refuses l p a rest e) → HasFound limits now hand piece array new found (Refused e)
-refused_then limits l now hand piece array old new found rest e had is same refuses = record {
-  last = had.last;
-  rows_are = had.rows_are;
-  at_is = had.at_is;
-  ends =
-      subst (λ (m : Limits). Refuses m had.last.octets had.last.count (drop found.used piece) e) same
-      (subst (λ (xs : List ℕ). Refuses l had.last.octets had.last.count xs e) is (refuses had.last.octets had.last.count had.ends));
-}
+refused_then limits l now hand piece array old new found rest e had is same refuses =
+    record { last = had.last; rows_are = had.rows_are; at_is = had.at_is; ends = rw (is, same) at (refuses had.last.octets had.last.count had.ends) }
 
 -- what is told of it fits
 pub fits_then : (rest : List ℕ) (told : Option PieceRow) (next : PieceRow) → told ≡ Some next
     → IfSome told (λ row. (row.used ≤ length rest) × (length row.row.id.service ≤ 10) × (length row.row.id.number ≤ 8) × (length row.row.id.date_sent ≤ 8)) → next.used ≤ length rest
-fits_then rest told next is fits =
-    let P : Option PieceRow → Type 0 = λ x. IfSome x (λ row. (row.used ≤ length rest) × (length row.row.id.service ≤ 10) × (length row.row.id.number ≤ 8) × (length row.row.id.date_sent ≤ 8)) in
-    (subst P is fits).0
+fits_then rest told next is fits = (rw is at fits).0

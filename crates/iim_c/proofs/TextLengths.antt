@@ -1,12 +1,13 @@
 -- How much of a text is delivered: no more than the octets that it came in.
-use Rattle.std.proofs.Common.{◌≡◌, ℕ, ◌+◌, ◌<◌, ◌≤◌, ◌==◌, nat_eq, nat_lt, if◌then◌else◌, cond, not, Bool, true, false, List, [], ◌∷◌, ◌++◌, length, take, drop, map, refl, ap, sym, subst, ◌∙◌, inl, inr, arith, append-nil, append_assoc, length-append, length-drop, zero, suc}
+use Rattle.std.proofs.Common.{◌≡◌, ℕ, ◌+◌, ◌<◌, ◌≤◌, ◌==◌, nat_eq, nat_lt, if◌then◌else◌, cond, not, Bool, true, false, List, [], ◌∷◌, ◌++◌, length, take, drop, map, refl, ap, sym, subst, ◌∙◌, inl, inr, arith, append-nil, append_assoc, length-append, length-drop, suc}
 use Rattle.std.specs.List.{position_or_len, before_first, after_first}
 use Rattle.std.proofs.lemmas.Bool.{ltb-true, ltb-false}
-use Rattle.std.proofs.lemmas.List.{length-map}
+use Rattle.std.proofs.lemmas.List.{length-map, length-take}
 use Rattle.iim_dataset.specs.Format.Characters.{stx, etx, lf, cr}
 use Rattle.iim_dataset.specs.Format.Datasets.{Dataset, SpellsStream, SpellsTag, head_of, count_octets, of_record}
 use Rattle.iim_dataset.specs.Format.Splits.{Begun, InTag, InData, IsBegun, Reads}
-use Rattle.iim_dataset.specs.Laws.Datasets.{NoDatasetBeginsAnother, NoTagBeginsAnother}
+use Rattle.iim_dataset.specs.Laws.All.{DatasetLaws}
+use Rattle.iim_dataset.specs.Laws.Datasets.{NoTagBeginsAnother}
 use Rattle.iim_dataset.specs.declared.head.Head.{Head}
 use Rattle.iim_dataset.proofs.Agreeing.{compare}
 use Rattle.iim_fields.specs.Format.Faults.{joined}
@@ -19,32 +20,18 @@ use Rattle.iim_places.proofs.Fronts.{begun_none, no_longer}
 
 -- ---- before and after the first
 
-pub take_few : (n : ℕ) (xs : List ℕ) → length (take n xs) ≤ length xs
-take_few zero xs = omega arith
-take_few (suc n) [] = omega arith
-take_few (suc n) (x ∷ xs) = let more = take_few n xs in omega (arith, more)
-
 take_next : (n b : ℕ) (xs : List ℕ) → length (take (1 + n) (b ∷ xs)) ≡ 1 + length (take n xs)
-take_next n b xs =
-    let is : 1 + n ≡ suc n = omega arith in
-    let same = ap (λ (k : ℕ). length (take k (b ∷ xs))) is in
-    let next : length (take (suc n) (b ∷ xs)) ≡ 1 + length (take n xs) = omega arith in
-    same ∙ next
-
-drop_few : (n : ℕ) (xs : List ℕ) → length (drop n xs) ≤ length xs
-drop_few n xs = let left = length-drop n xs in omega (arith, left)
+take_next n b xs = let is : 1 + n ≡ suc n = omega arith in rw is (omega arith)
 
 before_more : (p : ℕ → Bool) (x e : List ℕ) → length (before_first p (x ++ e)) ≤ length (before_first p x) + length e
-before_more p [] e = let few = take_few (position_or_len p e) e in omega (arith, few)
+before_more p [] e = omega (arith, length-take (position_or_len p e) e)
 before_more p (b ∷ x) e = by (p b) (before_more p x e)
   where
     by : (t : Bool) → length (before_first p (x ++ e)) ≤ length (before_first p x) + length e
         → length (take (cond (not t) (1 + position_or_len p (x ++ e)) 0) (b ∷ (x ++ e))) ≤ length (take (cond (not t) (1 + position_or_len p x) 0) (b ∷ x)) + length e
     by true more = omega arith
     by false more =
-        let new = take_next (position_or_len p (x ++ e)) b (x ++ e) in
-        let old = take_next (position_or_len p x) b x in
-        omega (arith, more, new, old)
+        omega (arith, more, take_next (position_or_len p (x ++ e)) b (x ++ e), take_next (position_or_len p x) b x)
 
 -- what stands after the first, and more of it
 record After (x y : List ℕ) (count : ℕ) : Type 0 where
@@ -53,7 +40,7 @@ record After (x y : List ℕ) (count : ℕ) : Type 0 where
   few : length added ≤ count
 
 after_more : (p : ℕ → Bool) (x e : List ℕ) → After (after_first p x) (after_first p (x ++ e)) (length e)
-after_more p [] e = record { added = after_first p e; is = refl; few = drop_few (position_or_len p e + 1) e }
+after_more p [] e = record { added = after_first p e; is = refl; few = omega (arith, length-drop (position_or_len p e + 1) e) }
 after_more p (b ∷ x) e = by (p b) (after_more p x e)
   where
     on : (n : ℕ) (ys : List ℕ) → drop ((1 + n) + 1) (b ∷ ys) ≡ drop (n + 1) ys
@@ -72,10 +59,7 @@ after_more p (b ∷ x) e = by (p b) (after_more p x e)
 text_more : (o e : List ℕ) → length (text_so_far (o ++ e)) ≤ length (text_so_far o) + length e
 text_more o e =
     let after = after_more (λ b. b == stx) o e in
-    let most = before_more (λ b. b == etx) (after_stx o) after.added in
-    let same = ap (λ (l : List ℕ). length (before_first (λ b. b == etx) l)) after.is in
-    let few = after.few in
-    omega (arith, most, same, few)
+    omega (arith, before_more (λ b. b == etx) (after_stx o) after.added, ap (λ (l : List ℕ). length (before_first (λ b. b == etx) l)) after.is, after.few)
 
 one_event : (is_lf is_cr : Bool) (b : ℕ) → length (if is_lf then LineEnd ∷ [] else if is_cr then [] else LineOctet b ∷ []) ≤ 1
 one_event true is_cr b = omega arith
@@ -85,10 +69,7 @@ one_event false false b = omega arith
 delivered_few : (x : List ℕ) → length (delivered x) ≤ length x
 delivered_few [] = omega arith
 delivered_few (b ∷ x) =
-    let one = one_event (b == lf) (b == cr) b in
-    let more = delivered_few x in
-    let all = length-append (events_of b) (delivered x) in
-    omega (arith, one, more, all)
+    omega (arith, one_event (b == lf) (b == cr) b, delivered_few x, length-append (events_of b) (delivered x))
 
 -- ---- the octets of the object
 
@@ -120,20 +101,17 @@ stream_holds : (xs : List Dataset) (f : List ℕ) → SpellsStream count_octets 
 stream_holds [] f s = omega arith
 stream_holds (d ∷ xs) f (first, rest, spelled, later, parts) =
     let all = ap length parts in
-    let both = length-append first rest in
-    let one = ap length spelled.parts in
-    let tagged = length-append spelled.tag d.octets in
-    let cons = object_cons d xs in
-    let more = stream_holds xs rest later in
-    omega (arith, all, both, one, tagged, cons, more)
+    omega (arith, all, length-append first rest, ap length spelled.parts, length-append spelled.tag d.octets, object_cons d xs, stream_holds xs rest later)
 
 begun_holds : (b : Begun) (rest : List ℕ) → IsBegun count_octets b rest → length (begun_octets b) ≤ length rest
 begun_holds (InTag held) rest is = omega arith
 begun_holds (InData h taken) rest (tag, spelled, less, given, parts) =
-    let all = ap length parts in
-    let both = length-append tag taken in
-    let some = some_of (nat_eq h.rec 8) taken in
-    omega (arith, all, both, some)
+    omega (arith, ap length parts, length-append tag taken, some_of (nat_eq h.rec 8) taken)
+
+-- the first dataset of a stream, and all that follows it
+in_front : (tag octets first later rest f whole : List ℕ) → first ≡ tag ++ octets → f ≡ first ++ later
+    → f ++ rest ≡ whole → tag ++ (octets ++ (later ++ rest)) ≡ whole
+in_front tag octets first later rest f whole one all is = simp append_assoc at (rw (all, one) at is)
 
 -- ---- after octets of a tag
 
@@ -159,15 +137,9 @@ after_tag one h held r t more s some is [] (InTag other) f rest stream begun agr
 after_tag one h held r t more s some is [] (InData k taken) f rest stream (tag, spelled, less, given, parts) agree =
     let there : tag ++ taken ≡ held ++ more = sym parts ∙ (ap (λ (l : List ℕ). l ++ rest) (sym stream) ∙ agree) in
     let fits = held_fits one h k held r t tag taken more s some is spelled there in
-    let left = length-append tag taken in
-    let right = length-append held more in
-    let same = ap length there in
-    let part = some_of (nat_eq k.rec 8) taken in
-    omega (arith, fits, left, right, same, part)
+    omega (arith, fits, length-append tag taken, length-append held more, ap length there, some_of (nat_eq k.rec 8) taken)
 after_tag one h held r t more s some is (d ∷ xs) b f rest (first, later, spelled, stream, parts) begun agree =
-    let there : spelled.tag ++ (d.octets ++ (later ++ rest)) ≡ held ++ more =
-    sym (append_assoc spelled.tag d.octets (later ++ rest)) ∙ ap (λ (l : List ℕ). l ++ (later ++ rest)) (sym spelled.parts) ∙ sym (append_assoc first later rest)
-    ∙ ap (λ (l : List ℕ). l ++ rest) (sym parts) ∙ agree in
+    let there = in_front spelled.tag d.octets first later rest f (held ++ more) spelled.parts parts agree in
     let fits = held_fits one h (head_of d) held r t spelled.tag (d.octets ++ (later ++ rest)) more s some is spelled.is_tag there in
     let left = length-append spelled.tag (d.octets ++ (later ++ rest)) in
     let data_left = length-append d.octets (later ++ rest) in
@@ -176,9 +148,7 @@ after_tag one h held r t more s some is (d ∷ xs) b f rest (first, later, spell
     let same = ap length there in
     let cons = object_cons d xs in
     let stream_most = stream_holds xs later stream in
-    let begun_most = begun_holds b rest begun in
-    let sum = length-append (object_of (d ∷ xs)) (begun_octets b) in
-    omega (arith, fits, left, data_left, both, right, same, cons, stream_most, begun_most, sum)
+    omega (arith, fits, left, data_left, both, right, same, cons, stream_most, begun_holds b rest begun, length-append (object_of (d ∷ xs)) (begun_octets b))
 
 -- ---- after octets of data
 
@@ -198,9 +168,7 @@ after_data one h tag t more s less [] (InData k taken) f rest stream (other, spe
     by true = refl
     by false = refl
 after_data one h tag t more s less (d ∷ xs) b f rest (first, later, spelled, stream, parts) begun agree =
-    let there : spelled.tag ++ (d.octets ++ (later ++ rest)) ≡ tag ++ (t ++ more) =
-    sym (append_assoc spelled.tag d.octets (later ++ rest)) ∙ ap (λ (l : List ℕ). l ++ (later ++ rest)) (sym spelled.parts) ∙ sym (append_assoc first later rest)
-    ∙ ap (λ (l : List ℕ). l ++ rest) (sym parts) ∙ agree in
+    let there = in_front spelled.tag d.octets first later rest f (tag ++ (t ++ more)) spelled.parts parts agree in
     let same = one count_octets (head_of d) h spelled.tag tag (d.octets ++ (later ++ rest)) (t ++ more) spelled.is_tag s there in
     let count : length d.octets ≡ h.count = ap (λ (k : Head). k.count) same.0 in
     let rec : d.rec ≡ h.rec = ap (λ (k : Head). k.rec) same.0 in
@@ -230,62 +198,49 @@ after_data one h tag t more s less (d ∷ xs) b f rest (first, later, spelled, s
 
 -- ---- after any octets
 
--- what laws of the datasets the proofs here stand on
-pub record CutLaws : Type 0 where
-  pub one_dataset : NoDatasetBeginsAnother
-  pub one_tag : NoTagBeginsAnother
-
 -- More octets bring no more octets of the object.
-object_more : CutLaws → (p more : List ℕ) (ds : List Dataset) (c : Begun) → Reads count_octets p ds c → (W : List Dataset) (b : Begun) → Reads count_octets (p ++ more) W b
-    → After (object_so_far ds c) (object_so_far W b) (length more)
+object_more : DatasetLaws → (p more : List ℕ) (ds : List Dataset) (c : Begun) → Reads count_octets p ds c → (W : List Dataset) (b : Begun)
+    → Reads count_octets (p ++ more) W b → After (object_so_far ds c) (object_so_far W b) (length more)
 object_more laws p more ds (InTag held) r W b w =
     let (same, h, tag, spells, (rest, some, is)) = r.is_rest in
     let there : p ++ more ≡ r.front ++ (held ++ more) =
     ap (λ (l : List ℕ). l ++ more) (r.parts ∙ ap (λ (l : List ℕ). r.front ++ l) same) ∙ append_assoc r.front held more in
-    elim (compare laws.one_dataset W ds w.front r.front w.rest (held ++ more) w.is_front r.is_front (sym w.parts ∙ there)) [
+    elim (compare laws.no_dataset_begins_another W ds w.front r.front w.rest (held ++ more) w.is_front r.is_front (sym w.parts ∙ there)) [
       | inl (xs, f, are, stream, tail) ↦ record {
         added = object_of xs ++ begun_octets b;
         is = ap (λ (zs : List Dataset). object_so_far zs b) (sym are) ∙ so_far_both ds xs b;
-        few = after_tag laws.one_tag h held rest tag more spells some is xs b f w.rest stream w.is_rest tail;
+        few = after_tag laws.no_tag_begins_another h held rest tag more spells some is xs b f w.rest stream w.is_rest tail;
       }
-      | inr n ↦ absurd (begun_none laws.one_tag b w.rest w.is_rest n.dataset n.p (n.q ++ (held ++ more)) n.spelled n.agree)
+      | inr n ↦ absurd (begun_none laws.no_tag_begins_another b w.rest w.is_rest n.dataset n.p (n.q ++ (held ++ more)) n.spelled n.agree)
     ]
 object_more laws p more ds (InData h t) r W b w =
     let (tag, spells, less, given, parts) = r.is_rest in
     let there : p ++ more ≡ r.front ++ (tag ++ (t ++ more)) =
     ap (λ (l : List ℕ). l ++ more) (r.parts ∙ ap (λ (l : List ℕ). r.front ++ l) parts) ∙ append_assoc r.front (tag ++ t) more
     ∙ ap (λ (l : List ℕ). r.front ++ l) (append_assoc tag t more) in
-    elim (compare laws.one_dataset W ds w.front r.front w.rest (tag ++ (t ++ more)) w.is_front r.is_front (sym w.parts ∙ there)) [
+    elim (compare laws.no_dataset_begins_another W ds w.front r.front w.rest (tag ++ (t ++ more)) w.is_front r.is_front (sym w.parts ∙ there)) [
       | inl (xs, f, are, stream, tail) ↦
-          (let after = after_data laws.one_tag h tag t more spells less xs b f w.rest stream w.is_rest tail in
+          (let after = after_data laws.no_tag_begins_another h tag t more spells less xs b f w.rest stream w.is_rest tail in
           record {
             added = after.added;
             is = ap (λ (zs : List Dataset). object_so_far zs b) (sym are) ∙ so_far_both ds xs b ∙ ap (λ (l : List ℕ). object_of ds ++ l) after.is
                 ∙ sym (append_assoc (object_of ds) (begun_octets (InData h t)) after.added);
             few = after.few;
           })
-      | inr n ↦ absurd (begun_none laws.one_tag b w.rest w.is_rest n.dataset n.p (n.q ++ (tag ++ (t ++ more))) n.spelled n.agree)
+      | inr n ↦ absurd (begun_none laws.no_tag_begins_another b w.rest w.is_rest n.dataset n.p (n.q ++ (tag ++ (t ++ more))) n.spelled n.agree)
     ]
 
 -- And no more of the text.
-text_few : CutLaws → (p octets text added : List ℕ) → IsTextOf p text → IsTextOf (p ++ octets) (text ++ added) → length added ≤ length octets
+text_few : DatasetLaws → (p octets text added : List ℕ) → IsTextOf p text → IsTextOf (p ++ octets) (text ++ added) → length added ≤ length octets
 text_few laws p octets text added (ds, c, r, is) (W, b, w, are) =
     let after = object_more laws p octets ds c r W b w in
-    let most = text_more (object_so_far ds c) after.added in
-    let old = ap length is in
-    let new = ap length (are ∙ ap text_so_far after.is) in
-    let both = length-append text added in
-    let few = after.few in
-    omega (arith, most, old, new, both, few)
+    omega (arith, text_more (object_so_far ds c) after.added, ap length is, ap length (are ∙ ap text_so_far after.is), length-append text added, after.few)
 
-pub events_few : CutLaws → (p octets text added : List ℕ) (more : List StoryEvent) → IsTextOf p text → IsTextOf (p ++ octets) (text ++ added) → more ≡ delivered added
-    → length (map octet_for more) ≤ length octets
+pub events_few : DatasetLaws → (p octets text added : List ℕ) (more : List StoryEvent) → IsTextOf p text → IsTextOf (p ++ octets) (text ++ added)
+    → more ≡ delivered added → length (map octet_for more) ≤ length octets
 events_few laws p octets text added more is are told =
-    let few = text_few laws p octets text added is are in
-    let events = delivered_few added in
-    let same = ap length told in
-    let each = length-map more octet_for in
-    omega (arith, few, events, same, each)
+    omega (arith, text_few laws p octets text added is are, delivered_few added, ap length told, length-map more octet_for)
 
-pub delivers_few : CutLaws → (p octets text : List ℕ) (more : List StoryEvent) → IsTextOf p text → Delivers p octets more → length (map octet_for more) ≤ length octets
+pub delivers_few : DatasetLaws → (p octets text : List ℕ) (more : List StoryEvent) → IsTextOf p text → Delivers p octets more
+    → length (map octet_for more) ≤ length octets
 delivers_few laws p octets text more is delivers = let (added, are, told) = delivers text is in events_few laws p octets text added more is are told

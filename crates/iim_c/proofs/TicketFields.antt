@@ -30,7 +30,7 @@ parts s =
     regroup (ticket_name s.version) (s.section ∷ []) (phase_octets s.version s.phase) (four (length s.fields)) (flat_map field_octets s.fields) (flat_map (number_octets s.version) s.numbers)
     (wide s.version s.taken) (four s.heads) ((s.part ∷ s.counter ∷ s.flag ∷ []) ++ flat_map text_octets s.texts)
 
-length-wide : (v n : ℕ) → length (wide v n) ≡ width v
+pub length-wide : (v n : ℕ) → length (wide v n) ≡ width v
 length-wide v n = by (v == 1)
   where
     by : (b : Bool) → length (if b then four n else to_be_bytes w64 n) ≡ (if b then 4 else 8)
@@ -40,11 +40,7 @@ length-wide v n = by (v == 1)
 length-phase : (v : ℕ) (phase : Phase) → length (phase_octets v phase) ≡ begun_octets v phase
 length-phase v (TagBegun held) = omega arith
 length-phase v (DataBegun set count left taken) =
-    let a = length-append (wide v count) (wide v left ++ taken) in
-    let b = length-append (wide v left) taken in
-    let c = length-wide v count in
-    let d = length-wide v left in
-    omega (arith, a, b, c, d)
+    omega (arith, length-append (wide v count) (wide v left ++ taken), length-append (wide v left) taken, length-wide v count, length-wide v left)
 length-phase v AllEnded = refl
 
 length-front : (s : Split) → length (front_of s) ≡ fields_start s
@@ -54,6 +50,16 @@ length-front s =
     simp length-append (omega (arith, p))
 
 -- ---- the walk
+
+-- octets that stand after others
+pub stands_after : (ticket front octets rest : List ℕ) (n : ℕ) → ticket ≡ front ++ (octets ++ rest) → length front ≡ n
+    → StandAt ticket (record { offset = n; count = length octets }) octets
+stands_after ticket front octets rest n is counts = record {
+  within = (let e = ap length is in let l = length-append front (octets ++ rest) in let m = length-append octets rest in omega (arith, e, l, m, counts));
+  octets_are =
+      ap (λ (xs : List ℕ). take (length octets) (drop n xs)) is
+      ∙ (ap (take (length octets)) (drop_at front (octets ++ rest) n counts) ∙ take_at octets rest (length octets) refl);
+}
 
 -- From this offset on these datasets stand, and then something else.
 pub record FieldsAt (ticket : List ℕ) (offset : ℕ) (ds : List Dataset) : Type 0 where
@@ -85,11 +91,8 @@ data_at ticket offset d ds at =
 
 pub within_at : (ticket : List ℕ) (offset : ℕ) (d : Dataset) (ds : List Dataset) → FieldsAt ticket offset (d ∷ ds) → offset + 6 + length d.octets ≤ length ticket
 within_at ticket offset d ds at =
-    let e = ap length (at.stand ∙ first_of_them d ds at.rest) in
-    let l = length-drop offset ticket in
     let m = length-append (d.rec ∷ d.set ∷ four (length d.octets)) (d.octets ++ (flat_map field_octets ds ++ at.rest)) in
-    let n = length-append d.octets (flat_map field_octets ds ++ at.rest) in
-    omega (arith, e, l, m, n)
+    omega (arith, ap length (at.stand ∙ first_of_them d ds at.rest), length-drop offset ticket, m, length-append d.octets (flat_map field_octets ds ++ at.rest))
 
 pub next_at : (ticket : List ℕ) (offset : ℕ) (d : Dataset) (ds : List Dataset) → FieldsAt ticket offset (d ∷ ds) → FieldsAt ticket (offset + 6 + length d.octets) ds
 next_at ticket offset d ds at = record {

@@ -11,8 +11,4 @@ is_number None has n h k = (h, k)
 pub are_numbers : (ns : List (Option ℕ)) (o : IimObject) → length ns ≡ 4 → IsNumber (get_or ns 0 None) o.has_mode o.mode → IsNumber (get_or ns 1 None) o.has_subfile o.subfile
     → IsNumber (get_or ns 2 None) o.has_announced o.announced → IsNumber (get_or ns 3 None) o.has_maximum o.maximum → AreNumbers ns o
 are_numbers (a ∷ b ∷ c ∷ d ∷ []) o four h0 h1 h2 h3 = (h0, h1, h2, h3)
-are_numbers [] o four h0 h1 h2 h3 = absurd (omega (arith, four))
-are_numbers (a ∷ []) o four h0 h1 h2 h3 = absurd (omega (arith, four))
-are_numbers (a ∷ b ∷ []) o four h0 h1 h2 h3 = absurd (omega (arith, four))
-are_numbers (a ∷ b ∷ c ∷ []) o four h0 h1 h2 h3 = absurd (omega (arith, four))
-are_numbers (a ∷ b ∷ c ∷ d ∷ e ∷ rest) o four h0 h1 h2 h3 = absurd (omega (arith, four))
+are_numbers ns o four h0 h1 h2 h3 = absurd (omega (arith, four))

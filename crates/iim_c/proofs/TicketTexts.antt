@@ -1,11 +1,12 @@
 -- Where the texts of a ticket stand.
-use Rattle.std.proofs.Common.{◌≡◌, ℕ, ◌+◌, List, [], ◌∷◌, ◌++◌, length, take, drop, refl, ap, subst, ◌∙◌, arith, append_assoc, length-append}
+use Rattle.std.proofs.Common.{◌≡◌, ℕ, ◌+◌, List, [], ◌∷◌, ◌++◌, length, refl, ap, sym, subst, ◌∙◌, arith, append_assoc, length-append}
 use Rattle.std.specs.List.{flat_map}
-use Rattle.std.proofs.lemmas.List.{drop_at, take_at}
 use Rattle.iim_places.specs.Format.TicketForm.{Split, SplitsTicket}
 use Rattle.iim_places.specs.Format.Tickets.{four, wide, ticket_name, phase_octets, fields_octets, number_octets, text_octets}
 use Rattle.iim_c.specs.Format.TicketAnswers.{StandAt}
+use Rattle.iim_c.specs.declared.span.IimSpan.{IimSpan}
 use Rattle.iim_c.specs.TicketSteps.{span_before}
+use Rattle.iim_c.proofs.TicketFields.{stands_after}
 
 -- After so many octets of the ticket these stand, to its end.
 pub record EndsWith (ticket : List ℕ) (offset : ℕ) (suffix : List ℕ) : Type 0 where
@@ -14,12 +15,7 @@ pub record EndsWith (ticket : List ℕ) (offset : ℕ) (suffix : List ℕ) : Typ
   pub counts : length front ≡ offset
 
 text_at : (ticket text rest : List ℕ) (offset : ℕ) → EndsWith ticket offset (text ++ rest) → StandAt ticket (record { offset = offset; count = length text }) text
-text_at ticket text rest offset h = record {
-  within = (let e = ap length h.is in let l = length-append h.front (text ++ rest) in let m = length-append text rest in let c = h.counts in omega (arith, e, l, m, c));
-  octets_are =
-      ap (λ (xs : List ℕ). take (length text) (drop offset xs)) h.is ∙ (ap (take (length text)) (drop_at h.front (text ++ rest) offset h.counts)
-      ∙ take_at text rest (length text) refl);
-}
+text_at ticket text rest offset h = stands_after ticket h.front text rest offset h.is h.counts
 
 -- the next text, after its length
 next_text : (ticket text rest : List ℕ) (offset length_octet : ℕ) → EndsWith ticket offset (text ++ (length_octet ∷ rest)) → EndsWith ticket (offset + length text + 1) rest
@@ -83,6 +79,9 @@ seven_at ticket s a b c d e f g h are =
     let front = before_message s ++ (s.part ∷ s.counter ∷ s.flag ∷ length a ∷ []) in
     seven_of ticket a b c d e f g (length front) (record { front = front; is = spelled ticket s a b c d e f g h are; counts = refl })
 
--- the same, with the offsets told from the end
-pub backwards : (ticket text : List ℕ) (offset end : ℕ) → StandAt ticket (record { offset = offset; count = length text }) text → end ≡ offset + length text → StandAt ticket (span_before end text) text
-backwards ticket text offset end h is = subst (λ (n : ℕ). StandAt ticket (record { offset = n; count = length text }) text) (omega (arith, is)) h
+-- the same, with the offset told from the end
+pub backwards : (ticket text : List ℕ) (offset end : ℕ) (span : IimSpan) → StandAt ticket (record { offset = offset; count = length text }) text
+    → span ≡ span_before end text → end ≡ offset + length text → StandAt ticket span text
+backwards ticket text offset end span h is from =
+    subst (λ (s : IimSpan). StandAt ticket s text) (sym is)
+    (subst (λ (n : ℕ). StandAt ticket (record { offset = n; count = length text }) text) (omega (arith, from)) h)

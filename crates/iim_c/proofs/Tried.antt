@@ -1,7 +1,6 @@
 -- Which octets can come next at the place of a ticket.
-use Rattle.std.proofs.Common.{◌≡◌, ◌≢◌, ℕ, ◌+◌, ◌≤◌, List, [], ◌∷◌, ◌++◌, inl, inr, take, slice_index, refl, sym, ap, subst, ◌∙◌, arith, append-nil, Bool, true, false}
+use Rattle.std.proofs.Common.{◌≡◌, ◌≢◌, ℕ, ◌+◌, ◌≤◌, List, [], ◌∷◌, ◌++◌, inl, inr, take, refl, sym, ap, subst, ◌∙◌, arith, append-nil, Bool, true, false}
 use Rattle.std.proofs.lemmas.Bool.{cases_eq}
-use Rattle.iim_dataset.specs.Format.Counts.{Rose}
 use Rattle.iim_fields.specs.declared.limits.Limits.{Limits}
 use Rattle.wire_story.specs.Format.Delivery.{StoryEvent}
 use Rattle.iim_places.specs.Format.Open.{IsOpen, RefusesNext}
@@ -9,7 +8,6 @@ use Rattle.iim_places.specs.Format.Streams.{IsEnvelopeWithin}
 use Rattle.iim_places.specs.Laws.Streams.{NothingContinuesFromRefusedOctets, OpenOctetsBeginWithNoEnvelope}
 use Rattle.iim_places.specs.States.Counts.{raised}
 use Rattle.iim_places.specs.declared.refusal.Refusal.{Refusal}
-use Rattle.iim_places.specs.declared.refusal.Cause.{Cause}
 use Rattle.iim_places.specs.declared.refusal.Cause.TheVariants.{Message}
 use Rattle.wire_message.specs.declared.fault.MessageCause.TheVariants.{Sink}
 use Rattle.iim_places.specs.declared.ticket.fault.TicketFault.{TicketFault}
@@ -20,8 +18,9 @@ use Rattle.iim_unpack.specs.declared.unpacker.Progress.TheVariants.{More, Done}
 use Rattle.iim_c.specs.Beginning.{IsNotBegun}
 use Rattle.iim_c.specs.declared.answer.IimAnswer.{IimAnswer}
 use Rattle.iim_c.specs.Format.Answers.{ticket_answer}
-use Rattle.iim_c.proofs.Fed.{Begun}
-use Rattle.iim_c.proofs.Places.{stands_at, ends_at, place_of, begun_limits}
+use Rattle.iim_c.proofs.Places.{Begun, is_done}
+use Rattle.iim_c.proofs.TextOuts.{not_sink}
+use Rattle.iim_places.specs.Laws.All.{PlaceLaws}
 use Rattle.iim_c.proofs.Bits.{no_bit}
 use Rattle.iim_c.specs.Format.Next.{IsTaken, IsRefusedNext, IsNext, TellsNext, HasEndedThere, GoesOnBy, bit_of, no_octets}
 use Rattle.iim_c.specs.PlaceSteps.{SaidOf, TellsFirst, IsSet, bit_for}
@@ -68,41 +67,23 @@ tells_refused law limits p octet killed = record {
   refused = (λ _. killed, λ _. refl);
 }
 
-is_done : (u : Unpacking) (p : List ℕ) (a : ℕ) → IsDoneWith u p a → IsDone u
-is_done u p a d = (d.taking, d.ended)
-
--- ---- the laws that are needed
-
-pub record NextLaws : Type 0 where
-  pub none_before : OpenOctetsBeginWithNoEnvelope
-  pub none_after : NothingContinuesFromRefusedOctets
-
 -- ---- what trying it comes to
 
-pub tried_taken : NextLaws → (limits : Limits) (ticket : List ℕ) (u v : Unpacking) (octet : ℕ) (more : List StoryEvent) (progress : Progress) → Begun limits ticket 0 u → (IsDone u → ⊥)
+pub tried_taken : PlaceLaws → (limits : Limits) (ticket : List ℕ) (u v : Unpacking) (octet : ℕ) (more : List StoryEvent) (progress : Progress)
+    → Begun limits ticket 0 u → (IsDone u → ⊥)
     → limits_in v ≡ limits_in u → ((p : List ℕ) (a : ℕ) → Stands u p a → Goes v p a (octet ∷ []) more progress) → SaidOf limits ticket octet 1
 tried_taken laws limits ticket u v octet more progress b open_yet same goes = record {
-  some = place_of limits ticket 0 u b.is_begun;
+  some = b.some;
   open_octets = λ p a stands.
-      tells_taken laws.none_after limits p octet
-      (goes_taken limits v p a octet more progress laws.none_before stands.is_open (same ∙ begun_limits limits ticket 0 u b.is_begun)
-      (goes p a (stands_at b.laws.one_place limits ticket 0 u p a b.is_begun stands)));
-  envelopes = λ p a ends. open_yet (is_done u p a (ends_at b.laws limits ticket 0 u p a b.is_begun ends));
+      tells_taken laws.nothing_continues_from_refused_octets limits p octet
+      (goes_taken limits v p a octet more progress laws.open_octets_begin_with_no_envelope stands.is_open (same ∙ b.same) (goes p a (b.stands p a stands)));
+  envelopes = λ p a ends. open_yet (is_done (b.ends p a ends));
 }
-
--- a sink that never fails didn't stop
-no_rise : Rose 0 0 → ⊥
-no_rise (inl h) = omega (arith, h)
-no_rise (inr h) = omega (arith, h)
-
-by_octets : (cause : Cause) → CountsFor cause 0 0 → cause ≢ Message Sink
-by_octets cause counts is = no_rise (subst (λ (c : Cause). CountsFor c 0 0) is counts)
 
 killed_by : (limits : Limits) (p : List ℕ) (a octet : ℕ) (more : List StoryEvent) (e : Refusal) → e.cause ≢ Message Sink → IsRefusedIn limits p a (octet ∷ []) more e → IsRefusedNext limits p octet
 killed_by limits p a octet more e sinkless r =
     let first : r.k ≡ 0 = (let w = r.within in omega (arith, w)) in
-    let refuses : RefusesNext limits (p ++ []) octet r.fault =
-    subst (λ (k : ℕ). RefusesNext limits (p ++ take k (octet ∷ [])) (slice_index (octet ∷ []) k) r.fault) first r.refuses in (
+    let refuses : RefusesNext limits (p ++ []) octet r.fault = rw first at r.refuses in (
       r.fault,
       record {
         refuses = subst (λ (q : List ℕ). RefusesNext limits q octet r.fault) (append-nil p) refuses;
@@ -110,27 +91,23 @@ killed_by limits p a octet more e sinkless r =
       },
     )
 
-pub tried_refused : NextLaws → (limits : Limits) (ticket : List ℕ) (u : Unpacking) (octet : ℕ) (more : List StoryEvent) (e : Refusal) → Begun limits ticket 0 u → (IsDone u → ⊥) → CountsFor e.cause 0 0
+pub tried_refused : PlaceLaws → (limits : Limits) (ticket : List ℕ) (u : Unpacking) (octet : ℕ) (more : List StoryEvent) (e : Refusal) → Begun limits ticket 0 u
+    → (IsDone u → ⊥) → CountsFor e.cause 0 0
     → ((p : List ℕ) (a : ℕ) → Stands u p a → IsRefusedIn (limits_in u) p a (octet ∷ []) more e) → SaidOf limits ticket octet 0
 tried_refused laws limits ticket u octet more e b open_yet counts refuses = record {
-  some = place_of limits ticket 0 u b.is_begun;
+  some = b.some;
   open_octets = λ p a stands.
-      tells_refused laws.none_after limits p octet
-      (killed_by limits p a octet more e (by_octets e.cause counts)
-      (subst (λ (l : Limits). IsRefusedIn l p a (octet ∷ []) more e) (begun_limits limits ticket 0 u b.is_begun)
-      (refuses p a (stands_at b.laws.one_place limits ticket 0 u p a b.is_begun stands))));
-  envelopes = λ p a ends. open_yet (is_done u p a (ends_at b.laws limits ticket 0 u p a b.is_begun ends));
+      tells_refused laws.nothing_continues_from_refused_octets limits p octet
+      (killed_by limits p a octet more e (not_sink e.cause counts) (rw b.same at (refuses p a (b.stands p a stands))));
+  envelopes = λ p a ends. open_yet (is_done (b.ends p a ends));
 }
 
 pub tried_ended : (limits : Limits) (ticket : List ℕ) (u : Unpacking) → Begun limits ticket 0 u → IsDone u → ((p : List ℕ) (a : ℕ) → Stands u p a → ⊥) → HasEndedThere limits ticket
 tried_ended limits ticket u b done unopen = record {
-  some = place_of limits ticket 0 u b.is_begun;
-  open_octets = λ p a stands. unopen p a (stands_at b.laws.one_place limits ticket 0 u p a b.is_begun stands);
+  some = b.some;
+  open_octets = λ p a stands. unopen p a (b.stands p a stands);
   envelopes = λ p a ends. tt;
 }
-
-pub not_open : (u : Unpacking) → IsDone u → (p : List ℕ) (a : ℕ) → Stands u p a → ⊥
-not_open u done p a stands = let h = sym stands.unended ∙ done.1 in cc
 
 -- ---- all octets
 

@@ -82,6 +82,7 @@ fn try_all(alloc: Global, limits: Limits, ticket: &[u8]) -> Result<Option<[u8; 3
 }
 
 /// The octets that come next, and the answer.
+#[tactic(auto, using(crate::proofs::Tried::not_begun))]
 fn next_of(alloc: Global, limits: Limits, ticket: &[u8]) -> ([u8; 32], IimAnswer)
     ensures { IsNext limits ticket.now result.0 result.1 }
 {

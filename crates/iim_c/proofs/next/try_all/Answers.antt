@@ -1,4 +1,4 @@
-use Rattle.std.proofs.Common.{◌≤◌, Bool, Option, arith, subst}
+use Rattle.std.proofs.Common.{Bool, Option, arith, subst}
 use Rattle.iim_c.specs.PlaceSteps.{IsTried}
 use Rattle.iim_c.proofs.Tried.{one_put, tells_none, all_told}
 use Rattle.iim_c.proofs.next.try_all.Goals as goal
@@ -13,6 +13,4 @@ loop-next-preserved c =
 
 pub returns-clause-tried : goal.returns-clause-tried
 returns-clause-tried c =
-    let test = c.loop-next-test.false in
-    let all : 256 ≤ c.loop-next.next = omega (arith, test) in
-    all_told c.args.limits c.args.ticket.now c.loop-next.next c.loop-next.bits all c.loop-next.invariant
+    all_told c.args.limits c.args.ticket.now c.loop-next.next c.loop-next.bits (omega (arith, c.loop-next-test.false)) c.loop-next.invariant
