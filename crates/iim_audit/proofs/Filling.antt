@@ -71,7 +71,8 @@ so_far_more old order k group next at now new was row at_is is fresh here_k len 
     let keeps : AreSame ids at group → next ≡ group =
     λ same. on_same was (rw (now_id at at_there, now_id group group_there) (eq_same was_there.id (get_or old group was).id (sym ids_are ∙ same))) in
     let begins : (AreSame ids at group → ⊥) → next ≡ at =
-    λ differs. on_other was (rw (now_id at at_there, now_id group group_there) (eq_apart was_there.id (get_or old group was).id (λ same. differs (ids_are ∙ same)))) in
+    λ differs. on_other was (rw (now_id at at_there, now_id group group_there)
+    (eq_apart was_there.id (get_or old group was).id (λ same. differs (ids_are ∙ same)))) in
     let more = run_more ids order k group next here_k run (rw at_is keeps) (rw at_is begins) in
     let longer : IsRun ids order (k + 1) next = more.0 in
     let next_ids : next < length ids = rw longer.begins (is.below longer.m 0 longer.within) in

@@ -54,7 +54,8 @@ short_first limits old before left joins lives = (
 -- ---- after envelopes, with the number of the next one
 
 module _ {limits : Limits} {now : ℤ} {old mid : Device} {ledger : Ledger} {before : ℕ} {failed : Option ℕ} {told number : ℕ} (joins : GiftsJoin)
-    (few : length ledger.rows.items ≤ max_envelopes) (in_hand : number ≡ length ledger.rows.items + 1) (read : HasRead limits now old mid ledger before failed told) where
+    (few : length ledger.rows.items ≤ max_envelopes) (in_hand : number ≡ length ledger.rows.items + 1)
+    (read : HasRead limits now old mid ledger before failed told) where
   -- there are as many rows as envelopes
   count : length ledger.rows.items ≡ length read.envelopes
   count = ap length read.keeps.rows ∙ length-map (values_of read.envelopes) (λ v. row_with now v None) ∙ length-map read.envelopes (λ e. e.value)
@@ -69,8 +70,8 @@ module _ {limits : Limits} {now : ℤ} {old mid : Device} {ledger : Ledger} {bef
   divides_then rest = record { admitted = read.admitted; parts = refl; few = omega (arith, count, few) }
 
   -- at the end of the input
-  pub audited : {new : Device} {rows : List AuditRow} → HasGiven mid new [] → IsAtEnd new.octets → ((values : List Value) → Keeps now ledger values → rows ≡ report_of now values)
-      → IsAudited limits now old new rows
+  pub audited : {new : Device} {rows : List AuditRow} → HasGiven mid new [] → IsAtEnd new.octets
+      → ((values : List Value) → Keeps now ledger values → rows ≡ report_of now values) → IsAudited limits now old new rows
   audited {new} given at_end reports = record {
     input = joined read.envelopes ++ [];
     given = given_then new [] given;
@@ -96,7 +97,8 @@ module _ {limits : Limits} {now : ℤ} {old mid : Device} {ledger : Ledger} {bef
   )
 
   -- at a fault
-  pub fails : (new : Device) (kept : Option ℕ) (used : ℕ) (cause : AuditCause) → TookNone limits mid new told kept used cause → FailsLeaving limits (old, before) (new, kept, used) number cause
+  pub fails : (new : Device) (kept : Option ℕ) (used : ℕ) (cause : AuditCause) → TookNone limits mid new told kept used cause
+      → FailsLeaving limits (old, before) (new, kept, used) number cause
   fails new kept used (causes.Refused e) (was, keeps, none) = (
     record {
       input = joined read.envelopes ++ was.rest;
@@ -114,8 +116,8 @@ module _ {limits : Limits} {now : ℤ} {old mid : Device} {ledger : Ledger} {bef
   fails new kept used causes.TooManyEnvelopes took = absurd took
 
   -- with one envelope more than are listed
-  pub one_too_many : {new : Device} {left : Option ℕ} {used words : ℕ} {u : Unpacking} → max_envelopes < number → left ≡ None → TookOne limits mid new u used words
-      → FailsLeaving limits (old, before) (new, left, used) number causes.TooManyEnvelopes
+  pub one_too_many : {new : Device} {left : Option ℕ} {used words : ℕ} {u : Unpacking} → max_envelopes < number → left ≡ None
+      → TookOne limits mid new u used words → FailsLeaving limits (old, before) (new, left, used) number causes.TooManyEnvelopes
   one_too_many {new} many lives one =
       let e = one.envelope in
       let full : length read.envelopes ≡ max_envelopes = omega (arith, count) in (
@@ -131,8 +133,8 @@ module _ {limits : Limits} {now : ℤ} {old mid : Device} {ledger : Ledger} {bef
       )
 
   -- without memory for the row of an envelope
-  pub short_after : {new : Device} {left : Option ℕ} {used words : ℕ} {u : Unpacking} → number ≤ max_envelopes → left ≡ None → TookOne limits mid new u used words
-      → FailsLeaving limits (old, before) (new, left, used) number causes.OutOfMemory
+  pub short_after : {new : Device} {left : Option ℕ} {used words : ℕ} {u : Unpacking} → number ≤ max_envelopes → left ≡ None
+      → TookOne limits mid new u used words → FailsLeaving limits (old, before) (new, left, used) number causes.OutOfMemory
   short_after {new} less lives one =
       let es = read.envelopes ++ one.envelope ∷ [] in
       let longer : length es ≡ length read.envelopes + 1 = length-append read.envelopes (one.envelope ∷ []) in
@@ -141,7 +143,11 @@ module _ {limits : Limits} {now : ℤ} {old mid : Device} {ledger : Ledger} {bef
           input = joined es;
           given = given_more new one.envelope one.given;
           envelopes = es;
-          divides = record { admitted = admitted_more limits read.envelopes one.envelope read.admitted one.listed; parts = sym (append-nil (joined es)); few = fits };
+          divides = record {
+            admitted = admitted_more limits read.envelopes one.envelope read.admitted one.listed;
+            parts = sym (append-nil (joined es));
+            few = fits;
+          };
           in_hand = inr (omega (arith, count), omega arith);
         },
         (lives, one.counts ∙ sym (told_more before read.envelopes one.envelope)),
@@ -149,12 +155,14 @@ module _ {limits : Limits} {now : ℤ} {old mid : Device} {ledger : Ledger} {bef
 
   -- an envelope more
   pub read_one : {new : Device} {later : Ledger} {left : Option ℕ} {used words : ℕ} {u : Unpacking} {got : UnpackedRef} → left ≡ None
-      → ((values : List Value) (v : Value) → Keeps now ledger values → IsTaken (record { unpacked = got; words = words }) v → Keeps now later (values ++ v ∷ []))
+      → ((values : List Value) (v : Value) → Keeps now ledger values → IsTaken (record { unpacked = got; words = words }) v
+      → Keeps now later (values ++ v ∷ []))
       → ((p : List ℕ) (a : ℕ) → IsDoneWith u p a → (v : Value) → Admits p v → ShowsParts got v) → TookOne limits mid new u used words
       → HasRead limits now old new later before left used
   read_one {new} {used = used} {words = words} {got = got} lives enters shows one =
       let e = one.envelope in
-      let taken : IsTaken (record { unpacked = got; words = words }) e.value = record { parts = shows e.octets used one.done e.value one.listed.admits; words = one.counted } in
+      let taken : IsTaken (record { unpacked = got; words = words }) e.value =
+      record { parts = shows e.octets used one.done e.value one.listed.admits; words = one.counted } in
       record {
         envelopes = read.envelopes ++ e ∷ [];
         admitted = admitted_more limits read.envelopes e read.admitted one.listed;

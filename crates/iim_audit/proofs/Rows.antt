@@ -1,11 +1,14 @@
 -- The rows of envelopes, without and with their first ones.
-use Rattle.std.proofs.Common.{◌≡◌, ℕ, zero, suc, ◌<◌, ℤ, List, [], ◌∷◌, ◌++◌, length, append_assoc, append-nil, None, Some, map, take, get_or, ap, sym, ◌∙◌, refl, arith}
-use Rattle.std.proofs.lemmas.List.{length-map, map-append, same_lists}
+use Rattle.std.proofs.Common.{◌≡◌, ℕ, zero, suc, ◌<◌, ℤ, List, [], ◌∷◌, ◌++◌, length, append_assoc, append-nil, None, Some, map, take, get_or, ap, sym, ◌∙◌, refl, arith, subst}
+use Rattle.std.specs.List.{All}
+use Rattle.std.proofs.lemmas.List.{get_or-map, length-map, map-append, map_push, same_lists}
+use Rattle.std.proofs.lemmas.List.Elements.{All-push}
 use Rattle.iim_dataset.specs.Format.Datasets.{Dataset}
 use Rattle.iim_fields.specs.Format.Ids.{Identity}
 use Rattle.iim_fields.specs.Format.Views.{first_data}
 use Rattle.iim_places.specs.Format.Admitted.{Value}
 use Rattle.iim_audit.specs.Format.Rows.{id_of, first_same, row_with, rows_after, report_of}
+use Rattle.iim_audit.specs.Lines.{HaveShortIds, IsShort}
 use Rattle.iim_audit.specs.Repeats.{AreFilled, AreFresh, ids_of}
 use Rattle.iim_audit.specs.declared.row.AuditRow.{AuditRow}
 
@@ -49,9 +52,23 @@ report_told now values old new same filled =
     same_lists new (report_of now values) (are.len ∙ counted ∙ sym (length_rows now [] values))
     (λ i d there.
     let here : i < length values = omega (arith, are.len) in
-    are.rows i d (omega arith) ∙ ap (λ (ids : List Identity). with_first (take i ids) (get_or (bare_rows now values) i d)) (ids_bare now values) ∙ sym (row_at now [] values i d here))
+    are.rows i d (omega arith) ∙ ap (λ (ids : List Identity). with_first (take i ids) (get_or (bare_rows now values) i d)) (ids_bare now values)
+    ∙ sym (row_at now [] values i d here))
 
 -- the id that these data tell
 pub id_told : (fields : List Dataset) (id : Identity) (v : Value) → first_data 1 30 fields ≡ Some id.service → first_data 1 40 fields ≡ Some id.number
     → first_data 1 70 fields ≡ Some id.date_sent → fields ≡ v.fields → id ≡ id_of v
 id_told fields id v service number date same = rw (← same, service, number, date) refl
+
+-- ---- rows whose ids are short
+
+-- a row more
+pub short_push : (rows : List AuditRow) (row : AuditRow) → HaveShortIds rows → IsShort row.id → HaveShortIds (rows ++ row ∷ [])
+short_push rows row have is = rw (map_push (λ (r : AuditRow). r.id) rows row) (All-push IsShort (ids_of rows) row.id have is)
+
+-- the row at an index
+pub short_at : (rows : List AuditRow) (i : ℕ) (d : AuditRow) → i < length rows → HaveShortIds rows → IsShort (get_or rows i d).id
+short_at rows i d there have =
+    let id : AuditRow → Identity = λ r. r.id in
+    let counted : length (ids_of rows) ≡ length rows = length-map rows id in
+    subst IsShort (get_or-map id rows i d (get_or rows i d).id there) (have i (get_or rows i d).id (omega arith))

@@ -85,7 +85,8 @@ cut_off goes failures old new u v a b octet kept fault keeps stands was =
     record { rest = was.octets; missed = was.missed; is_open = here.0; keeps = keeps ∙ ap Some here.2 }
 
 -- why an intake gives nothing to an unpacker that stands on no octets
-pub none_fresh : {S : Type 0} (goes : S → List StoryEvent → S → Type 0) (failures : S → ℕ) (old new : Device) (u v : Unpacking) (a b : S) (octet before : ℕ) (kept : Option ℕ) (told : ℕ) (fault : IntakeFault)
+pub none_fresh : {S : Type 0} (goes : S → List StoryEvent → S → Type 0) (failures : S → ℕ) (old new : Device) (u v : Unpacking) (a b : S)
+    (octet before : ℕ) (kept : Option ℕ) (told : ℕ) (fault : IntakeFault)
     → failures a ≡ 0 → failures b ≡ 0 → kept ≡ Some octet → told ≡ 0 → Stands u [] 0 → Faults goes failures old new u v a b octet fault
     → TookNone (limits_in u) old new before kept told (cause_of fault)
 none_fresh goes failures old new u v a b octet before kept told (intakes.Refused e) at_first at_last keeps none stands faults =

@@ -41,8 +41,8 @@ returns-in-Err-clause-fails g c = λ alive.
     let inv = c.envelopes.invariant in
     let left = c.take_envelope.new.intake in
     let read = inv.reads alive in
-    rw c.fault_at-in-Err.ensures (fails c.gifts_join.ensures inv.fit c.next_number-number.ensures read (in_line g.R.Source.state left) left.failed left.octets c.in-Err.cause
-    (rw inv.same at (c.in-Err.ensures.none read.lives)))
+    rw c.fault_at-in-Err.ensures (fails c.gifts_join.ensures inv.fit c.next_number-number.ensures read
+    (in_line g.R.Source.state left) left.failed left.octets c.in-Err.cause (rw inv.same at (c.in-Err.ensures.none read.lives)))
 
 pub returns-then-number-gt-MAX_ENVELOPES-clause-fails : goal.returns-then-number-gt-MAX_ENVELOPES-clause-fails
 returns-then-number-gt-MAX_ENVELOPES-clause-fails g c = λ alive.
@@ -64,7 +64,8 @@ envelopes-preserved g c =
     let longer : length c.enter.new.self.rows.items ≡ length c.envelopes.ledger.rows.items + 1 = c.in-Ok-enter.ensures.one in
     record {
       fit = omega arith;
-      reads = λ alive. read_one c.gifts_join.ensures inv.fit c.next_number-number.ensures (inv.reads alive) c.in-Ok-Some.ensures.lives c.in-Ok-enter.ensures.keeps c.in-Some.ensures.value one;
+      reads = λ alive. read_one c.gifts_join.ensures inv.fit c.next_number-number.ensures (inv.reads alive) c.in-Ok-Some.ensures.lives
+          c.in-Ok-enter.ensures.keeps c.in-Some.ensures.value one;
       none = λ octet e. absurd (spent octet e);
       as_it_was = λ octet e. absurd (spent octet e);
       failed = λ octet e. absurd (spent octet e);
@@ -72,7 +73,8 @@ envelopes-preserved g c =
       few = c.in-Ok-enter.ensures.few;
       places = c.in-Ok-enter.ensures.places;
       short = c.in-Ok-enter.ensures.short;
-      leads = g.met.R.Source.leads_on c.args.intake.now.reader c.envelopes.intake.reader c.take_envelope.new.intake.reader inv.leads c.take_envelope.ensures.leads;
+      leads = g.met.R.Source.leads_on c.args.intake.now.reader c.envelopes.intake.reader c.take_envelope.new.intake.reader inv.leads
+          c.take_envelope.ensures.leads;
     }
 
 -- where the intake had failed it is told again, with the first number
@@ -80,7 +82,8 @@ pub returns-in-Err-clause-again : goal.returns-in-Err-clause-again
 returns-in-Err-clause-again g c = λ octet e.
     let inv = c.envelopes.invariant in
     let none = inv.none octet e in
-    rw c.fault_at-in-Err.ensures (omega (arith, c.next_number-number.ensures, none), (rw (inv.as_it_was octet e) at (c.in-Err.ensures.again octet (inv.failed octet e))).1)
+    rw c.fault_at-in-Err.ensures
+    (omega (arith, c.next_number-number.ensures, none), (rw (inv.as_it_was octet e) at (c.in-Err.ensures.again octet (inv.failed octet e))).1)
 
 pub returns-in-Err-clause-as_it_was : goal.returns-in-Err-clause-as_it_was
 returns-in-Err-clause-as_it_was g c = λ octet e.
@@ -88,7 +91,8 @@ returns-in-Err-clause-as_it_was g c = λ octet e.
 
 pub returns-in_default-clause-fails : goal.returns-in_default-clause-fails
 returns-in_default-clause-fails g c = λ alive.
-    rw c.fault_at.ensures (short_first c.args.limits (in_line g.R.Source.state c.args.intake.now) c.args.intake.now.octets c.args.intake.now.failed c.gifts_join.ensures alive)
+    rw c.fault_at.ensures (short_first c.args.limits (in_line g.R.Source.state c.args.intake.now) c.args.intake.now.octets c.args.intake.now.failed
+    c.gifts_join.ensures alive)
 
 pub unreachable-requires : goal.unreachable-requires
 unreachable-requires g c =

@@ -10,7 +10,8 @@ use Rattle.iim_audit.proofs.auditing.audit.Given as goal
 abbrev pub invariant-envelopes : goal.invariant-envelopes
 invariant-envelopes g l = record {
   fit : length l.ledger.rows.items ≤ max_envelopes;
-  reads : l.fn.intake.failed ≡ None → HasRead l.fn.limits l.now.nanosecond (in_line g.R.Source.state l.fn.intake) (in_line g.R.Source.state l.intake) l.ledger l.fn.intake.octets l.intake.failed l.intake.octets;
+  reads : l.fn.intake.failed ≡ None → HasRead l.fn.limits l.now.nanosecond (in_line g.R.Source.state l.fn.intake)
+      (in_line g.R.Source.state l.intake) l.ledger l.fn.intake.octets l.intake.failed l.intake.octets;
   none : (octet : ℕ) → l.fn.intake.failed ≡ Some octet → length l.ledger.rows.items ≡ 0;
   as_it_was : (octet : ℕ) → l.fn.intake.failed ≡ Some octet → l.intake ≡ l.fn.intake;
   failed : (octet : ℕ) → l.fn.intake.failed ≡ Some octet → l.intake.failed ≡ Some octet;

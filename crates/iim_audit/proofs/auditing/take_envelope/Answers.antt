@@ -33,5 +33,6 @@ returns-in-Err-clause-none g c = λ alive.
     let faults = c.in-Err.ensures.faults alive in
     let left = c.feed_envelope.new.self in
     rw (c.cause_of.ensures, ← c.again.ensures.limits)
-    (none_fresh CountsWords (λ (sink : WordsSoFar). 0) old new c.again.new.self c.feed_envelope.new.unpacker c.new-count.result c.feed_envelope.new.sink faults.0 c.args.intake.now.octets
-    left.failed left.octets c.in-Err.fault refl refl faults.1 c.in-Err.ensures.none c.again.ensures.stands faults.2)
+    (none_fresh CountsWords (λ (sink : WordsSoFar). 0) old new c.again.new.self c.feed_envelope.new.unpacker c.new-count.result
+    c.feed_envelope.new.sink faults.0 c.args.intake.now.octets left.failed left.octets
+    c.in-Err.fault refl refl faults.1 c.in-Err.ensures.none c.again.ensures.stands faults.2)

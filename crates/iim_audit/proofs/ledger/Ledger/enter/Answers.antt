@@ -7,8 +7,7 @@ use Rattle.iim_audit.specs.Lines.{HaveShortIds}
 use Rattle.iim_audit.specs.Repeats.{ids_of, place_of}
 use Rattle.iim_audit.proofs.Places.{places_push}
 use Rattle.iim_places.specs.Format.Admitted.{Value}
-use Rattle.iim_audit.proofs.Rows.{bare_rows}
-use Rattle.iim_audit.proofs.ShortIds.{short_push}
+use Rattle.iim_audit.proofs.Rows.{bare_rows, short_push}
 use Rattle.iim_audit.proofs.ledger.Ledger.enter.Goals as goal
 
 pub returns-clause-keeps : goal.returns-clause-keeps
@@ -31,7 +30,8 @@ returns-clause-places c =
     let id : AuditRow → Identity = λ r. r.id in
     let index : 0 + length rows ≡ length rows = omega arith in
     let is : c.push.new.self.items ≡ c.args.self.now.places.items ++ place_of c.row_of-row.result.id (length rows) ∷ [] = search rules in
-    rw (c.in_ok-push-2.ensures.items, map_push id rows c.row_of-row.result, places_push 0 (ids_of rows) c.row_of-row.result.id, length-map rows id, index, ← c.requires.places) is
+    let row = c.row_of-row.result in
+    rw (c.in_ok-push-2.ensures.items, map_push id rows row, places_push 0 (ids_of rows) row.id, length-map rows id, index, ← c.requires.places) is
 
 pub returns-clause-short : goal.returns-clause-short
 returns-clause-short c =
