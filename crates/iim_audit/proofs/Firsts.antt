@@ -125,10 +125,9 @@ run_more ids order k group now there run keeps begins =
     let apart : (j : ℕ) → j + 1 ≡ k → AreSame ids (get_or order j 0) at → ⊥ = λ j next same.
     let back : AreSame ids (get_or order j 0) group = run.inside j (omega (arith, run.some)) (omega arith) in
     differs (same_on ids at (get_or order j 0) group (same_back ids (get_or order j 0) at same) back) in
-    rw (begins differs) (
-      record { m = k; within = there; begins = refl; upto = omega arith; some = λ above. omega arith; inside = inside; apart = apart },
-      same_itself ids at,
-    ))
+    let begun : IsRun ids order (k + 1) at =
+    record { m = k; within = there; begins = refl; upto = omega arith; some = λ above. omega arith; inside = inside; apart = apart } in
+    rw (begins differs) (begun, same_itself ids at))
     (same_or_not (by_keyed ids at group))
 
 pub run_none : (ids : List Identity) (order : List ℕ) (group : ℕ) → 0 < length order → group ≡ get_or order 0 0 → IsRun ids order 0 group

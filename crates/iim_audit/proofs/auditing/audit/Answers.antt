@@ -32,39 +32,39 @@ envelopes-init g c =
 
 pub returns-in-Ok-None-clause-audited : goal.returns-in-Ok-None-clause-audited
 returns-in-Ok-None-clause-audited g c = λ alive.
-    let inv = c.envelopes.invariant in
+    let before = c.envelopes.invariant in
     let took = rw (c.in-Ok-None.field-0-is) at c.in-Ok-None.ensures.took in
-    audited c.gifts_join.ensures inv.fit c.next_number-number.ensures (inv.reads alive) took.0 took.1 (c.into_report.ensures c.args.now.nanosecond)
+    audited c.gifts_join.ensures before.fit c.next_number-number.ensures (before.reads alive) took.0 took.1 (c.into_report.ensures c.args.now.nanosecond)
 
 pub returns-in-Err-clause-fails : goal.returns-in-Err-clause-fails
 returns-in-Err-clause-fails g c = λ alive.
-    let inv = c.envelopes.invariant in
+    let before = c.envelopes.invariant in
     let left = c.take_envelope.new.intake in
-    let read = inv.reads alive in
-    rw c.fault_at-in-Err.ensures (fails c.gifts_join.ensures inv.fit c.next_number-number.ensures read
-    (in_line g.R.Source.state left) left.failed left.octets c.in-Err.cause (rw inv.same at (c.in-Err.ensures.none read.lives)))
+    let read = before.reads alive in
+    rw c.fault_at-in-Err.ensures (fails c.gifts_join.ensures before.fit c.next_number-number.ensures read
+    (in_line g.R.Source.state left) left.failed left.octets c.in-Err.cause (rw before.same at (c.in-Err.ensures.none read.lives)))
 
 pub returns-then-number-gt-MAX_ENVELOPES-clause-fails : goal.returns-then-number-gt-MAX_ENVELOPES-clause-fails
 returns-then-number-gt-MAX_ENVELOPES-clause-fails g c = λ alive.
-    let inv = c.envelopes.invariant in
-    rw c.fault_at-then-number-gt-MAX_ENVELOPES.ensures (one_too_many c.gifts_join.ensures inv.fit c.next_number-number.ensures (inv.reads alive) (omega arith)
-    c.in-Ok-Some.ensures.lives (rw (c.in-Ok-Some.field-0-is, inv.same) at c.in-Ok-Some.ensures.took))
+    let before = c.envelopes.invariant in
+    rw c.fault_at-then-number-gt-MAX_ENVELOPES.ensures (one_too_many c.gifts_join.ensures before.fit c.next_number-number.ensures (before.reads alive) (omega arith)
+    c.in-Ok-Some.ensures.lives (rw (c.in-Ok-Some.field-0-is, before.same) at c.in-Ok-Some.ensures.took))
 
 pub returns-in_default-enter-clause-fails : goal.returns-in_default-enter-clause-fails
 returns-in_default-enter-clause-fails g c = λ alive.
-    let inv = c.envelopes.invariant in
-    rw c.fault_at-in_default-enter.ensures (short_after c.gifts_join.ensures inv.fit c.next_number-number.ensures (inv.reads alive) (omega arith)
-    c.in-Ok-Some.ensures.lives (rw (c.in-Ok-Some.field-0-is, inv.same) at c.in-Ok-Some.ensures.took))
+    let before = c.envelopes.invariant in
+    rw c.fault_at-in_default-enter.ensures (short_after c.gifts_join.ensures before.fit c.next_number-number.ensures (before.reads alive) (omega arith)
+    c.in-Ok-Some.ensures.lives (rw (c.in-Ok-Some.field-0-is, before.same) at c.in-Ok-Some.ensures.took))
 
 pub envelopes-preserved : goal.envelopes-preserved
 envelopes-preserved g c =
-    let inv = c.envelopes.invariant in
-    let one = rw (c.in-Ok-Some.field-0-is, inv.same) at c.in-Ok-Some.ensures.took in
-    let spent : (octet : ℕ) → c.args.intake.now.failed ≡ Some octet → ⊥ = λ octet e. c.in-Ok-Some.ensures.again octet (inv.failed octet e) in
+    let before = c.envelopes.invariant in
+    let one = rw (c.in-Ok-Some.field-0-is, before.same) at c.in-Ok-Some.ensures.took in
+    let spent : (octet : ℕ) → c.args.intake.now.failed ≡ Some octet → ⊥ = λ octet e. c.in-Ok-Some.ensures.again octet (before.failed octet e) in
     let longer : length c.enter.new.self.rows.items ≡ length c.envelopes.ledger.rows.items + 1 = c.in-Ok-enter.ensures.one in
     record {
       fit = omega arith;
-      reads = λ alive. read_one c.gifts_join.ensures inv.fit c.next_number-number.ensures (inv.reads alive) c.in-Ok-Some.ensures.lives
+      reads = λ alive. read_one c.gifts_join.ensures before.fit c.next_number-number.ensures (before.reads alive) c.in-Ok-Some.ensures.lives
           c.in-Ok-enter.ensures.keeps c.in-Some.ensures.value one;
       none = λ octet e. absurd (spent octet e);
       as_it_was = λ octet e. absurd (spent octet e);
@@ -73,17 +73,17 @@ envelopes-preserved g c =
       few = c.in-Ok-enter.ensures.few;
       places = c.in-Ok-enter.ensures.places;
       short = c.in-Ok-enter.ensures.short;
-      leads = g.met.R.Source.leads_on c.args.intake.now.reader c.envelopes.intake.reader c.take_envelope.new.intake.reader inv.leads
+      leads = g.met.R.Source.leads_on c.args.intake.now.reader c.envelopes.intake.reader c.take_envelope.new.intake.reader before.leads
           c.take_envelope.ensures.leads;
     }
 
 -- where the intake had failed it is told again, with the first number
 pub returns-in-Err-clause-again : goal.returns-in-Err-clause-again
 returns-in-Err-clause-again g c = λ octet e.
-    let inv = c.envelopes.invariant in
-    let none = inv.none octet e in
+    let before = c.envelopes.invariant in
+    let none = before.none octet e in
     rw c.fault_at-in-Err.ensures
-    (omega (arith, c.next_number-number.ensures, none), (rw (inv.as_it_was octet e) at (c.in-Err.ensures.again octet (inv.failed octet e))).1)
+    (omega (arith, c.next_number-number.ensures, none), (rw (before.as_it_was octet e) at (c.in-Err.ensures.again octet (before.failed octet e))).1)
 
 pub returns-in-Err-clause-as_it_was : goal.returns-in-Err-clause-as_it_was
 returns-in-Err-clause-as_it_was g c = λ octet e.

@@ -7,8 +7,8 @@ loop-digit-preserved c =
     let i : ℕ = c.loop-digit.digit-index in
     let n : ℕ = c.loop-digit.number in
     let digits = c.args.digits.now in
-    let inv = c.loop-digit.invariant in
-    rw c.from.ensures (value_more digits i n c.requires.0 c.loop-digit-test.true inv.0, small_more digits i n c.requires.0 c.loop-digit-test.true inv.1)
+    let before = c.loop-digit.invariant in
+    rw c.from.ensures (value_more digits i n c.requires.0 c.loop-digit-test.true before.0, small_more digits i n c.requires.0 c.loop-digit-test.true before.1)
 
 pub returns-clause-small : goal.returns-clause-small
 returns-clause-small c = small_six c.loop-digit.digit-index c.loop-digit.number (omega arith) c.loop-digit.invariant.1
