@@ -1,6 +1,5 @@
 -- The rows of envelopes, without and with their first ones.
 use Rattle.std.proofs.Common.{◌≡◌, ℕ, zero, suc, ◌<◌, ℤ, List, [], ◌∷◌, ◌++◌, length, append_assoc, append-nil, None, Some, map, take, get_or, ap, sym, ◌∙◌, refl, arith, subst}
-use Rattle.std.specs.List.{All}
 use Rattle.std.proofs.lemmas.List.{get_or-map, length-map, map-append, map_push, same_lists}
 use Rattle.std.proofs.lemmas.List.Elements.{All-push}
 use Rattle.iim_dataset.specs.Format.Datasets.{Dataset}
