@@ -1,5 +1,5 @@
 -- The first row with each id, by the order of the ids.
-use Rattle.std.proofs.Common.{◌&&◌, ◌==◌, ◌≡◌, ℕ, zero, suc, ◌+◌, ◌-◌, ◌<◌, ◌≤◌, ◌⊎◌, inl, inr, ⊎_elim, Bool, true, false, List, [], ◌∷◌, Option, Some, None, if◌then◌else◌, take, length, get_or, ap, sym, ◌∙◌, refl, subst, arith}
+use Rattle.std.proofs.Common.{◌&&◌, ◌==◌, ◌≡◌, ℕ, zero, suc, ◌+◌, ◌-◌, ◌<◌, ◌≤◌, ◌⊎◌, inl, inr, ⊎_elim, Bool, true, false, List, [], ◌∷◌, Some, None, take, length, get_or, ap, sym, ◌∙◌, refl, arith}
 use Rattle.std.specs.Option.{option_cmp}
 use Rattle.std.specs.List.{slice_get}
 use Rattle.std.specs.Ordering.{is_lt, is_eq, nat_cmp, ordering_then, ordering_reverse}
@@ -8,7 +8,7 @@ use Rattle.std.specs.Cmp.Lexicographic.{options_total}
 use Rattle.std.specs.declared.cmp.Ordering.{Ordering}
 use Rattle.std.specs.declared.cmp.Ordering.TheVariants.{Less, Equal, Greater}
 use Rattle.std.proofs.lemmas.List.{get_or_default}
-use Rattle.std.proofs.lemmas.Bool.{true≢false, and_parts, cases_Bool, eqb-true}
+use Rattle.std.proofs.lemmas.Bool.{and_parts, cases_Bool, eqb-true}
 use Rattle.std.proofs.lemmas.Bool.Decides.{leb_tells}
 use Rattle.std.proofs.lemmas.List.Sorted.{ranks_by, sorted_far}
 use Rattle.std.proofs.lemmas.Cmp.{tied_itself, tied_back}
@@ -46,26 +46,22 @@ same_on ids a b c one more = ids_total.congr (slice_get ids a) (slice_get ids b)
 
 same_or_not : (o : Ordering) → (o ≡ Equal) ⊎ (o ≡ Equal → ⊥)
 same_or_not Equal = inl refl
-same_or_not Less = inr (λ e. absurd (true≢false (sym (ap is_eq e))))
-same_or_not Greater = inr (λ e. absurd (true≢false (sym (ap is_eq e))))
+same_or_not _ = inr (λ e. cc)
 
 -- where neither comes before the other
 neither : (o p : Ordering) → o ≡ ordering_reverse p → (is_lt o ≡ true → ⊥) → (is_lt p ≡ true → ⊥) → o ≡ Equal
 neither Equal p flips up down = refl
 neither Less p flips up down = absurd (up refl)
 neither Greater Less flips up down = absurd (down refl)
-neither Greater Equal flips up down = flips
-neither Greater Greater flips up down = absurd (true≢false (ap is_lt (sym flips)))
+neither Greater _ flips up down = cc
 
 less_first : (o p : Ordering) → is_lt (ordering_then o p) ≡ false → is_lt o ≡ true → ⊥
-less_first Less p none less = true≢false none
-less_first Equal p none less = true≢false (sym less)
-less_first Greater p none less = true≢false (sym less)
+less_first Less p none less = cc
+less_first _ p none less = cc
 
 less_second : (o p : Ordering) → o ≡ Equal → is_lt (ordering_then o p) ≡ false → is_lt p ≡ false
 less_second Equal p same none = none
-less_second Less p same none = absurd (true≢false (sym (ap is_eq same)))
-less_second Greater p same none = absurd (true≢false (sym (ap is_eq same)))
+less_second _ p same none = cc
 
 not_less : (a b : ℕ) → is_lt (nat_cmp a b) ≡ false → b ≤ a
 not_less a b none = grind arith
@@ -78,7 +74,7 @@ pub record IsRun (ids : List Identity) (order : List ℕ) (k group : ℕ) : Type
   pub within : m < length order
   pub begins : group ≡ get_or order m 0
   pub upto : m ≤ k
-  pub some : (m < k) ⊎ (k ≡ 0)
+  pub some : 0 < k → m < k
   pub inside : (j : ℕ) → m ≤ j → j < k → AreSame ids (get_or order j 0) group
   pub apart : (j : ℕ) → j + 1 ≡ m → AreSame ids (get_or order j 0) group → ⊥
 
@@ -96,8 +92,8 @@ least ids order k group i is run there same =
     let far : lt x (get_or order p 0) ≡ false = sorted_far lt (order_rank ids) order is.sorted p q 0 (omega arith) (omega (arith, run.within)) in
     let near : lt (get_or order (q + 1) 0) x ≡ false = is.sorted q 0 (omega arith) (omega (arith, run.within)) in
     let one : q + 1 ≡ run.m = omega arith in
-    let far_i : P x i = subst (λ (a : ℕ). P x a) at far in
-    let near_group : P group x = subst (λ (a : ℕ). P a x) (ap (λ (n : ℕ). get_or order n 0) one ∙ sym run.begins) near in
+    let far_i : P x i = rw at at far in
+    let near_group : P group x = rw (one, ← run.begins) at near in
     let flips : by_keyed ids x i ≡ ordering_reverse (by_keyed ids i x) = ids_total.antisymm (slice_get ids x) (slice_get ids i) in
     let like : by_keyed ids i x ≡ by_keyed ids group x = ids_total.congr (slice_get ids i) (slice_get ids group) (slice_get ids x) same in
     let none : is_lt (by_keyed ids i x) ≡ true → ⊥ = λ less. less_first (by_keyed ids group x) (nat_cmp group x) near_group (ap is_lt (sym like) ∙ less) in
@@ -105,7 +101,7 @@ least ids order k group i is run there same =
     absurd (run.apart q one (same_on ids x i group tied same)))
     (λ after.
     let far : lt (get_or order p 0) (get_or order run.m 0) ≡ false = sorted_far lt (order_rank ids) order is.sorted run.m p 0 after p_within in
-    let here : P i group = subst (λ (a : ℕ). P i a) (sym run.begins) (subst (λ (a : ℕ). P a (get_or order run.m 0)) at far) in
+    let here : P i group = rw (at, ← run.begins) at far in
     not_less i group (less_second (by_keyed ids i group) (nat_cmp i group) same here))
     (below_or_not p run.m)
 
@@ -115,44 +111,23 @@ pub run_more : (ids : List Identity) (order : List ℕ) (k group now : ℕ) → 
     → IsRun ids order (k + 1) now × AreSame ids (get_or order k 0) now
 run_more ids order k group now there run keeps begins =
     let at = get_or order k 0 in
-    let Q : ℕ → Type 0 = λ g. IsRun ids order (k + 1) g × AreSame ids at g in
     ⊎_elim
     (λ same.
     let more : (j : ℕ) → run.m ≤ j → j < k + 1 → AreSame ids (get_or order j 0) group = λ j from below.
-    ⊎_elim (λ earlier. run.inside j from earlier) (λ late.
-    let last : k ≡ j = omega arith in
-    subst (λ (n : ℕ). AreSame ids (get_or order n 0) group) last same) (below_or_not j k) in
-    let longer : IsRun ids order (k + 1) group = record {
-      m = run.m;
-      within = run.within;
-      begins = run.begins;
-      upto = omega (arith, run.upto);
-      some = inl (omega (arith, run.upto));
-      inside = more;
-      apart = run.apart;
-    } in
-    subst Q (sym (keeps same)) (longer, same))
+    ⊎_elim (λ earlier. run.inside j from earlier) (λ late. let last : j ≡ k = omega arith in rw last same) (below_or_not j k) in
+    let upto = run.upto in
+    rw (keeps same) (
+      record { m = run.m; within = run.within; begins = run.begins; upto = omega arith; some = λ above. omega arith; inside = more; apart = run.apart },
+      same,
+    ))
     (λ differs.
-    let some : (run.m < k) ⊎ (k ≡ 0) = run.some in
-    let earlier : run.m < k = ⊎_elim (λ less. less) (λ none.
-    let m_is : run.m ≡ k = omega (arith, run.upto, none) in
-    absurd (differs (subst (λ (g : ℕ). AreSame ids at g) (ap (λ (n : ℕ). get_or order n 0) (sym m_is) ∙ sym run.begins) (same_itself ids at)))) some in
-    let inside : (j : ℕ) → k ≤ j → j < k + 1 → AreSame ids (get_or order j 0) at = λ j from below.
-    let is : j ≡ k = omega arith in
-    subst (λ (n : ℕ). AreSame ids (get_or order n 0) at) (sym is) (same_itself ids at) in
+    let inside : (j : ℕ) → k ≤ j → j < k + 1 → AreSame ids (get_or order j 0) at = λ j from below. let is : j ≡ k = omega arith in rw is (same_itself ids at) in
     let apart : (j : ℕ) → j + 1 ≡ k → AreSame ids (get_or order j 0) at → ⊥ = λ j next same.
-    let back : AreSame ids (get_or order j 0) group = run.inside j (omega (arith, earlier)) (omega arith) in
+    let back : AreSame ids (get_or order j 0) group = run.inside j (omega (arith, run.some)) (omega arith) in
     differs (same_on ids at (get_or order j 0) group (same_back ids (get_or order j 0) at same) back) in
-    let begun : IsRun ids order (k + 1) at = record {
-      m = k;
-      within = there;
-      begins = refl;
-      upto = omega arith;
-      some = inl (omega arith);
-      inside = inside;
-      apart = apart;
-    } in
-    subst Q (sym (begins differs)) (begun, same_itself ids at))
+    let begun : IsRun ids order (k + 1) at =
+    record { m = k; within = there; begins = refl; upto = omega arith; some = λ above. omega arith; inside = inside; apart = apart } in
+    rw (begins differs) (begun, same_itself ids at))
     (same_or_not (by_keyed ids at group))
 
 pub run_none : (ids : List Identity) (order : List ℕ) (group : ℕ) → 0 < length order → group ≡ get_or order 0 0 → IsRun ids order 0 group
@@ -161,7 +136,7 @@ run_none ids order group some begins = record {
   within = some;
   begins = begins;
   upto = omega arith;
-  some = inr refl;
+  some = λ above. above;
   inside = λ j from below. absurd (omega arith);
   apart = λ j next same. absurd (omega arith);
 }
@@ -170,21 +145,20 @@ run_none ids order group some begins = record {
 
 second_tied : (o p : Ordering) → ordering_then o p ≡ Equal → p ≡ Equal
 second_tied Equal p e = e
-second_tied Less p e = absurd (true≢false (sym (ap is_eq e)))
-second_tied Greater p e = absurd (true≢false (sym (ap is_eq e)))
+second_tied _ p e = cc
 
 pub eq_same : (x y : Identity) → keyed_cmp x y ≡ Equal → id_eq x y ≡ true
 eq_same x y same = id_ties x y ∙ ap is_eq (second_tied (nat_cmp (key_of x) (key_of y)) (id_cmp x y) same)
 
 text_same : (xs ys : List ℕ) → text_eq xs ys ≡ true → xs ≡ ys
 text_same [] [] e = refl
-text_same [] (y ∷ ys) e = absurd (true≢false (sym e))
-text_same (x ∷ xs) [] e = absurd (true≢false (sym e))
+text_same [] (y ∷ ys) e = cc
+text_same (x ∷ xs) [] e = cc
 text_same (x ∷ xs) (y ∷ ys) e =
     let both = and_parts (x == y) (text_eq xs ys) e in
-    let first : x ≡ y = eqb-true x y both.0 in
-    let rest : xs ≡ ys = text_same xs ys both.1 in
-    λ i. first i ∷ rest i
+    let first = eqb-true x y both.0 in
+    let rest = text_same xs ys both.1 in
+    cc
 
 -- the same ids have one key
 pub key_same : (x y : Identity) → id_eq x y ≡ true → key_of x ≡ key_of y
@@ -194,8 +168,7 @@ key_same x y e =
 
 is_tied : (o : Ordering) → is_eq o ≡ true → o ≡ Equal
 is_tied Equal e = refl
-is_tied Less e = absurd (true≢false (sym e))
-is_tied Greater e = absurd (true≢false (sym e))
+is_tied _ e = cc
 
 keyed_tied : (x y : Identity) → id_eq x y ≡ true → keyed_cmp x y ≡ Equal
 keyed_tied x y e =
@@ -208,57 +181,32 @@ eq_apart x y apart = elim (cases_Bool (id_eq x y)) [
   | inr other ↦ other
 ]
 
-first_at : (b : Bool) (n : ℕ) (rest : Option ℕ) → b ≡ true → (if b then Some n else rest) ≡ Some n
-first_at true n rest e = refl
-first_at false n rest e = absurd (true≢false (sym e))
-
-first_later : (b : Bool) (n : ℕ) (rest : Option ℕ) → b ≡ false → (if b then Some n else rest) ≡ rest
-first_later false n rest e = refl
-first_later true n rest e = absurd (true≢false e)
-
 -- the id at an index is not there before it
 found : (n : ℕ) (id : Identity) (ids : List Identity) (at g : ℕ) → g < at → at ≤ length ids → option_cmp keyed_cmp (Some id) (slice_get ids g) ≡ Equal
     → ((i : ℕ) → i < g → option_cmp keyed_cmp (Some id) (slice_get ids i) ≡ Equal → ⊥) → first_same n id (take at ids) ≡ Some (n + g)
 found n id [] at g before fits same apart = absurd (omega arith)
 found n id (x ∷ ids) zero g before fits same apart = absurd (omega arith)
-found n id (x ∷ ids) (suc at) zero before fits same apart =
-    first_at (id_eq id x) n (first_same (n + 1) id (take at ids)) (eq_same id x same) ∙ ap Some (omega arith)
+found n id (x ∷ ids) (suc at) zero before fits same apart = rw (eq_same id x same) (ap Some (omega arith))
 found n id (x ∷ ids) (suc at) (suc g) before fits same apart =
-    first_later (id_eq id x) n (first_same (n + 1) id (take at ids)) (eq_apart id x (apart 0 (omega arith)))
-    ∙ found (n + 1) id ids at g (omega arith) (omega arith) same (λ i less. apart (suc i) (omega arith)) ∙ ap Some (omega arith)
+    rw (eq_apart id x (apart 0 (omega arith)))
+    (found (n + 1) id ids at g (omega arith) (omega arith) same (λ i less. apart (suc i) (omega arith)) ∙ ap Some (omega arith))
 
-pub missing : (n : ℕ) (id : Identity) (ids : List Identity) (at : ℕ) → at ≤ length ids
+missing : (n : ℕ) (id : Identity) (ids : List Identity) (at : ℕ) → at ≤ length ids
     → ((i : ℕ) → i < at → option_cmp keyed_cmp (Some id) (slice_get ids i) ≡ Equal → ⊥) → first_same n id (take at ids) ≡ None
 missing n id [] zero fits apart = refl
 missing n id [] (suc at) fits apart = absurd (omega arith)
 missing n id (x ∷ ids) zero fits apart = refl
 missing n id (x ∷ ids) (suc at) fits apart =
-    first_later (id_eq id x) n (first_same (n + 1) id (take at ids)) (eq_apart id x (apart 0 (omega arith)))
-    ∙ missing (n + 1) id ids at (omega arith) (λ i less. apart (suc i) (omega arith))
-
-pub get_some : {X : Type 0} (xs : List X) (i : ℕ) (d : X) → i < length xs → slice_get xs i ≡ Some (get_or xs i d)
-get_some [] i d there = absurd (omega arith)
-get_some (x ∷ xs) zero d there = refl
-get_some (x ∷ xs) (suc i) d there = get_some xs i d (omega arith)
-
-pub get_none : {X : Type 0} (xs : List X) (i : ℕ) → length xs ≤ i → slice_get xs i ≡ None
-get_none [] i past = refl
-get_none (x ∷ xs) zero past = absurd (omega arith)
-get_none (x ∷ xs) (suc i) past = get_none xs i (omega arith)
-
-not_below : (a b : ℕ) → (a < b → ⊥) → b ≤ a
-not_below a b none = ⊎_elim (λ less. absurd (none less)) (λ from. from) (below_or_not a b)
+    rw (eq_apart id x (apart 0 (omega arith))) (missing (n + 1) id ids at (omega arith) (λ i less. apart (suc i) (omega arith)))
 
 -- what the first index of a run tells a row with its id
 pub first_of_run : (ids : List Identity) (order : List ℕ) (k group at : ℕ) (id : Identity) → IsOrder ids order → IsRun ids order k group → group < length ids → at < length ids
     → slice_get ids at ≡ Some id → AreSame ids at group → (group < at → first_same 1 id (take at ids) ≡ Some (group + 1)) × ((group < at → ⊥) → first_same 1 id (take at ids) ≡ None)
 first_of_run ids order k group at id is run within there here same =
-    let R : Option Identity → ℕ → Ordering = λ x i. option_cmp keyed_cmp x (slice_get ids i) in
-    let at_group : R (Some id) group ≡ Equal = subst (λ (x : Option Identity). R x group ≡ Equal) here same in
-    let earlier : (i : ℕ) → i < group → R (Some id) i ≡ Equal → ⊥ = λ i less tied.
-    let with_at : AreSame ids at i = subst (λ (x : Option Identity). R x i ≡ Equal) (sym here) tied in
+    let earlier : (i : ℕ) → i < group → option_cmp keyed_cmp (Some id) (slice_get ids i) ≡ Equal → ⊥ = λ i less tied.
+    let with_at : AreSame ids at i = rw here tied in
     let low : group ≤ i = least ids order k group i is run (omega arith) (same_on ids i at group (same_back ids at i with_at) same) in
     omega arith in (
-      λ less. found 1 id ids at group less (omega arith) at_group earlier ∙ ap Some (omega arith),
-      λ none. missing 1 id ids at (omega arith) (λ i less. earlier i (omega (arith, not_below group at none))),
+      λ less. found 1 id ids at group less (omega arith) (rw here at same) earlier ∙ ap Some (omega arith),
+      λ none. missing 1 id ids at (omega arith) (λ i less. earlier i (omega (arith, none))),
     )

@@ -5,7 +5,6 @@ pub mod Places
 pub mod Reading
 pub mod Rows
 pub mod PieceRows
-pub mod ShortIds
 pub mod Taking
 pub mod Texts
 -- What proofs of other crates cite.

@@ -53,15 +53,13 @@ sound_on : (progress : Progress) (u v : Unpacking) (p : List ℕ) (a : ℕ) (pie
 sound_on More u v p a piece more goes = record { alive = goes.0.taking; ends = tt }
 sound_on (Done used) u v p a piece more goes = record { alive = goes.1.taking; ends = ((goes.1.taking, goes.1.ended), goes.0) }
 
-sound_again : (progress : Progress) (u v : Unpacking) (piece : List ℕ) → IsDone u → v ≡ u → progress ≡ Done 0 → IsSound v piece progress
-sound_again progress u v piece done same is =
-    subst (IsSound v piece) (sym is) (subst (λ (w : Unpacking). IsSound w piece (Done 0)) (sym same) (record { alive = done.0; ends = (done, omega arith) }))
-
 pub sound : (progress : Progress) (u v : Unpacking) (piece : List ℕ) (more : List StoryEvent) (b : Bool) → b ≡ has_ended u.parts → u.refused ≡ None
     → ((IsDone u → ⊥) → (p : List ℕ) × (a : ℕ) × Stands u p a) → ((p : List ℕ) (a : ℕ) → Stands u p a → Goes v p a piece more progress)
     → (IsDone u → (progress ≡ Done 0) × (v ≡ u)) → IsSound v piece progress
 sound progress u v piece more true is alive stood goes again =
-    let left = again (alive, sym is) in sound_again progress u v piece (alive, sym is) left.1 left.0
+    let done : IsDone u = (alive, sym is) in
+    let (is_done, same) = again done in
+    rw (is_done, same) (record { alive = alive; ends = (done, omega arith) })
 sound progress u v piece more false is alive stood goes again =
     let there = stood (λ done. let bad = is ∙ done.1 in cc) in
     sound_on progress u v there.0 there.1 piece more (goes there.0 there.1 there.2)
@@ -92,7 +90,7 @@ pub refused_as : (r : Result Progress Refusal) (u : Unpacking) (old new : WordsS
     → IfErr r (λ e. (more : List StoryEvent) × CountsWords old more new × ((p : List ℕ) (a : ℕ) → Stands u p a → IsRefusedIn (limits_in u) p a piece more e)) → IfErr r (λ e. CountsFor e.cause 0 0)
     → IfErr r (IsRefusedFor u piece)
 refused_as (Ok progress) u old new piece refuses counts = tt
-refused_as (Err e) u old new piece refuses counts = record { more = refuses.0; refuses = refuses.2; by_octets = unsunk e.cause 0 refl counts }
+refused_as (Err e) u old new piece refuses counts = record { more = refuses.0; refuses = refuses.2; by_octets = unsunk e.cause counts }
 
 -- ---- what is found
 
@@ -111,7 +109,7 @@ found_row cut limits now old mid new piece used found fed same is_used counts ro
     let goes = fed.goes p a stands.unpacker in
     let done : IsDoneWith mid.unpacker (p ++ take used piece) (raised a used) = goes.1 in
     let words = more_words cut p (take used piece) old.count mid.count fed.more stands.words goes.2 fed.counts in
-    let is_row = subst (λ (l : Limits). IsRowOf l now (p ++ take used piece) found) same (row (p ++ take used piece) (raised a used) done words) in
+    let is_row = rw same at (row (p ++ take used piece) (raised a used) done words) in
     subst (λ (n : ℕ). (n ≤ length piece) × (found.octets ≡ raised a n) × IsRowOf limits now (p ++ take n piece) found × StandsOn new [] 0) (sym is_used)
     (goes.0, counts ∙ done.counts, is_row, again)
 

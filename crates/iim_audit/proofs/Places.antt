@@ -1,5 +1,5 @@
 -- The places of rows, and the order of the rows once these are sorted.
-use Rattle.std.proofs.Common.{◌≡◌, ℕ, zero, suc, ◌+◌, ◌*◌, ◌/◌, ◌%◌, ◌^◌, ◌<◌, ◌≤◌, List, [], ◌∷◌, ◌++◌, length, map, get_or, Some, ap, sym, ◌∙◌, refl, subst, arith}
+use Rattle.std.proofs.Common.{◌≡◌, ℕ, zero, suc, ◌+◌, ◌*◌, ◌/◌, ◌%◌, ◌^◌, ◌<◌, ◌≤◌, List, [], ◌∷◌, ◌++◌, length, map, get_or, Some, ap, sym, ◌∙◌, refl, arith}
 use Rattle.std.specs.List.{All, Contains, slice_get}
 use Rattle.std.specs.List.Sorted.{IsPermutation, IsSortedBy}
 use Rattle.std.specs.Ordering.{is_lt, nat_cmp, ordering_then}
@@ -7,13 +7,13 @@ use Rattle.std.specs.Option.{option_cmp}
 use Rattle.std.specs.Cmp.{IsTotalOrder, IsStrictWeakOrder, then_total, on_total, nat_cmp_total}
 use Rattle.std.specs.Cmp.Lexicographic.{options_total}
 use Rattle.std.specs.declared.cmp.Ordering.{Ordering}
-use Rattle.std.specs.declared.cmp.Ordering.TheVariants.{Less, Equal, Greater}
+use Rattle.std.specs.declared.cmp.Ordering.TheVariants.{Equal}
 use Rattle.std.proofs.lemmas.List.{get_or-map, length-map}
 use Rattle.std.proofs.lemmas.List.Sorted.{All-permutation, Contains-permutation, IsPermutation-map, ranks_by}
 use Rattle.iim_fields.specs.Format.Ids.{Identity, id_cmp}
 use Rattle.iim_fields.specs.IdLaws.{id_total}
 use Rattle.iim_audit.specs.Repeats.{IsOrder, IsPlace, by_id, by_keyed, index_at, key_at, key_of, keyed_cmp, keyed_index_cmp, place_cmp, place_of, places_of}
-use Rattle.iim_audit.proofs.Firsts.{get_some}
+use Rattle.std.proofs.lemmas.Option.{slice_get-get_or}
 
 -- ---- the order of places
 
@@ -24,9 +24,8 @@ pub places_rank : (ids : List Identity) → IsStrictWeakOrder (λ a b. is_lt (pl
 places_rank ids = ranks_by (places_total ids) (λ (p : ℕ). p)
 
 then_assoc : (o p q : Ordering) → ordering_then o (ordering_then p q) ≡ ordering_then (ordering_then o p) q
-then_assoc Less p q = refl
 then_assoc Equal p q = refl
-then_assoc Greater p q = refl
+then_assoc _ p q = refl
 
 nobody : Identity
 nobody = record { service = []; number = []; date_sent = [] }
@@ -39,8 +38,8 @@ same_cmp ids a b is_a is_b =
     let x = get_or ids i nobody in
     let y = get_or ids j nobody in
     let tie = nat_cmp i j in
-    let at_a : slice_get ids i ≡ Some x = get_some ids i nobody is_a.below in
-    let at_b : slice_get ids j ≡ Some y = get_some ids j nobody is_b.below in
+    let at_a : slice_get ids i ≡ Some x = slice_get-get_or ids i nobody is_a.below in
+    let at_b : slice_get ids j ≡ Some y = slice_get-get_or ids j nobody is_b.below in
     let ids_are : by_id ids i j ≡ id_cmp x y = (λ k. option_cmp id_cmp (at_a k) (at_b k)) in
     let keyed_are : by_keyed ids i j ≡ keyed_cmp x y = (λ k. option_cmp keyed_cmp (at_a k) (at_b k)) in
     let keys : nat_cmp (key_at a) (key_at b) ≡ nat_cmp (key_of x) (key_of y) = (λ k. nat_cmp (is_a.key nobody k) (is_b.key nobody k)) in
@@ -96,7 +95,7 @@ order_of ids sorted few moved in_order =
     record {
       below = λ k d there.
           let inside : k < length sorted = omega (arith, there, counted) in
-          subst (λ (n : ℕ). n < length ids) (sym (get_or-map index_at sorted k 0 d inside)) (all k 0 inside).below;
+          rw (get_or-map index_at sorted k 0 d inside) (all k 0 inside).below;
       each = λ i there. Contains-permutation (map index_at places) (map index_at sorted) i (IsPermutation-map index_at places sorted moved) (each_there ids few i there);
       sorted = λ k d low high.
           let next : k + 1 < length sorted = omega (arith, high, counted) in

@@ -1,12 +1,13 @@
 -- The rows of envelopes, without and with their first ones.
 use Rattle.std.proofs.Common.{◌≡◌, ℕ, zero, suc, ◌<◌, ℤ, List, [], ◌∷◌, ◌++◌, length, append_assoc, append-nil, None, Some, map, take, get_or, ap, sym, ◌∙◌, refl, arith, subst}
-use Rattle.std.specs.Option.{unwrap_or}
-use Rattle.std.proofs.lemmas.List.{map-append, same_lists}
+use Rattle.std.proofs.lemmas.List.{get_or-map, length-map, map-append, map_push, same_lists}
+use Rattle.std.proofs.lemmas.List.Elements.{All-push}
 use Rattle.iim_dataset.specs.Format.Datasets.{Dataset}
 use Rattle.iim_fields.specs.Format.Ids.{Identity}
 use Rattle.iim_fields.specs.Format.Views.{first_data}
 use Rattle.iim_places.specs.Format.Admitted.{Value}
 use Rattle.iim_audit.specs.Format.Rows.{id_of, first_same, row_with, rows_after, report_of}
+use Rattle.iim_audit.specs.Lines.{HaveShortIds, IsShort}
 use Rattle.iim_audit.specs.Repeats.{AreFilled, AreFresh, ids_of}
 use Rattle.iim_audit.specs.declared.row.AuditRow.{AuditRow}
 
@@ -17,15 +18,6 @@ bare_rows now values = map (λ v. row_with now v None) values
 length_rows : (now : ℤ) (earlier vs : List Value) → length (rows_after now earlier vs) ≡ length vs
 length_rows now earlier [] = refl
 length_rows now earlier (x ∷ vs) = ap (λ n. suc n) (length_rows now (earlier ++ x ∷ []) vs)
-
--- a row for each envelope
-pub length_bare_rows : (now : ℤ) (values : List Value) → length (bare_rows now values) ≡ length values
-length_bare_rows now [] = refl
-length_bare_rows now (v ∷ values) = ap (λ n. suc n) (length_bare_rows now values)
-
-pub bare_push : (now : ℤ) (values : List Value) (v : Value) → bare_rows now (values ++ v ∷ []) ≡ bare_rows now values ++ row_with now v None ∷ []
-bare_push now [] v = refl
-bare_push now (x ∷ values) v = ap (λ (rows : List AuditRow). row_with now x None ∷ rows) (bare_push now values v)
 
 ids_bare : (now : ℤ) (vs : List Value) → ids_of (bare_rows now vs) ≡ map id_of vs
 ids_bare now [] = refl
@@ -52,27 +44,30 @@ row_at now earlier (v ∷ vs) (suc i) d there =
     row_at now (earlier ++ v ∷ []) vs i d (omega arith) ∙ ap (λ (before : List Identity). with_first before (get_or (bare_rows now vs) i d)) one
 
 -- rows that are told their first ones are the report
-pub told_report : (now : ℤ) (values : List Value) (new : List AuditRow) → AreFilled (bare_rows now values) new → new ≡ report_of now values
-told_report now values new are =
-    let counted : length (bare_rows now values) ≡ length values = length_bare_rows now values in
-    let report : length (report_of now values) ≡ length values = length_rows now [] values in
-    same_lists new (report_of now values) (are.len ∙ counted ∙ sym report)
+pub report_told : (now : ℤ) (values : List Value) (old new : List AuditRow) → old ≡ bare_rows now values → AreFilled old new → new ≡ report_of now values
+report_told now values old new same filled =
+    let are : AreFilled (bare_rows now values) new = rw same at filled in
+    let counted : length (bare_rows now values) ≡ length values = length-map values (λ v. row_with now v None) in
+    same_lists new (report_of now values) (are.len ∙ counted ∙ sym (length_rows now [] values))
     (λ i d there.
     let here : i < length values = omega (arith, are.len) in
-    let row = get_or (bare_rows now values) i d in
-    are.rows i d (omega arith) ∙ ap (λ (ids : List Identity). with_first (take i ids) row) (ids_bare now values) ∙ sym (row_at now [] values i d here))
-
--- the report of the rows so far
-pub report_told : (now : ℤ) (values : List Value) (old new : List AuditRow) → old ≡ bare_rows now values → AreFilled old new → new ≡ report_of now values
-report_told now values old new same are = told_report now values new (subst (λ (rows : List AuditRow). AreFilled rows new) same are)
+    are.rows i d (omega arith) ∙ ap (λ (ids : List Identity). with_first (take i ids) (get_or (bare_rows now values) i d)) (ids_bare now values)
+    ∙ sym (row_at now [] values i d here))
 
 -- the id that these data tell
 pub id_told : (fields : List Dataset) (id : Identity) (v : Value) → first_data 1 30 fields ≡ Some id.service → first_data 1 40 fields ≡ Some id.number
     → first_data 1 70 fields ≡ Some id.date_sent → fields ≡ v.fields → id ≡ id_of v
-id_told fields id v service number date same =
-    let of : List ℕ → List ℕ → List ℕ → Identity = λ s n d. record { service = s; number = n; date_sent = d } in
-    let a : id.service ≡ unwrap_or (first_data 1 30 v.fields) [] = ap (λ o. unwrap_or o []) (sym service ∙ ap (first_data 1 30) same) in
-    let b : id.number ≡ unwrap_or (first_data 1 40 v.fields) [] = ap (λ o. unwrap_or o []) (sym number ∙ ap (first_data 1 40) same) in
-    let d : id.date_sent ≡ unwrap_or (first_data 1 70 v.fields) [] = ap (λ o. unwrap_or o []) (sym date ∙ ap (first_data 1 70) same) in
-    ap (λ (x : List ℕ). of x id.number id.date_sent) a ∙ ap (λ (x : List ℕ). of (unwrap_or (first_data 1 30 v.fields) []) x id.date_sent) b
-    ∙ ap (λ (x : List ℕ). of (unwrap_or (first_data 1 30 v.fields) []) (unwrap_or (first_data 1 40 v.fields) []) x) d
+id_told fields id v service number date same = rw (← same, service, number, date) refl
+
+-- ---- rows whose ids are short
+
+-- a row more
+pub short_push : (rows : List AuditRow) (row : AuditRow) → HaveShortIds rows → IsShort row.id → HaveShortIds (rows ++ row ∷ [])
+short_push rows row have is = rw (map_push (λ (r : AuditRow). r.id) rows row) (All-push IsShort (ids_of rows) row.id have is)
+
+-- the row at an index
+pub short_at : (rows : List AuditRow) (i : ℕ) (d : AuditRow) → i < length rows → HaveShortIds rows → IsShort (get_or rows i d).id
+short_at rows i d there have =
+    let id : AuditRow → Identity = λ r. r.id in
+    let counted : length (ids_of rows) ≡ length rows = length-map rows id in
+    subst IsShort (get_or-map id rows i d (get_or rows i d).id there) (have i (get_or rows i d).id (omega arith))

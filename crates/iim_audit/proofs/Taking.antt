@@ -6,7 +6,6 @@ use Rattle.iim_dataset.specs.declared.device.IoFault.TheVariants as io
 use Rattle.iim_fields.specs.declared.limits.Limits.{Limits}
 use Rattle.wire_story.specs.Format.Delivery.{StoryEvent}
 use Rattle.wire_story.specs.Format.Words.{WordsSoFar, CountsWords}
-use Rattle.iim_places.specs.Format.Framed.{AreWithin}
 use Rattle.iim_unpack.proofs.Intakes.{missed_open}
 use Rattle.iim_unpack.specs.States.Intakes.{FedEnvelope, Faults, WasMissed, WasRefused, WasTruncated}
 use Rattle.iim_unpack.specs.States.Parts.{CountsFor}
@@ -26,12 +25,12 @@ pub took_one : TextLaws → (limits : Limits) (old new : Device) (u v : Unpackin
     → limits_in u ≡ limits → Stands u [] 0 → a.words ≡ 0 → a.inside ≡ false → n ≡ b.words → FedEnvelope CountsWords (old, u, a) (new, v, b) used whole
     → TookOne limits old new v used n
 took_one laws limits old new u v a b used n whole is_whole same stands none outside is fed =
-    let was = subst (λ (x : Bool). FedEnvelope CountsWords (old, u, a) (new, v, b) used x) is_whole fed in
+    let was = rw is_whole at fed in
     let (end, adds) = was.done [] 0 stands in
     let within : limits_in v ≡ limits = was.limits ∙ same in
     record {
       envelope = record { octets = was.octets; value = end.value };
-      listed = record { admits = end.admits; within = subst (λ (l : Limits). AreWithin l end.admits.datasets) within end.within };
+      listed = record { admits = end.admits; within = rw within at end.within };
       given = was.came.given;
       counts = was.counts;
       done = subst (IsDoneWith v was.octets) (sym was.counts) end;
@@ -43,25 +42,20 @@ took_one laws limits old new u v a b used n whole is_whole same stands none outs
 pub took_end : (limits : Limits) (old new : Device) (u v : Unpacking) (a b : WordsSoFar) (used : ℕ) (whole : Bool) → whole ≡ false → FedEnvelope CountsWords (old, u, a) (new, v, b) used whole
     → TookEnvelope limits old new v used None
 took_end limits old new u v a b used whole is fed =
-    let (none, was) = subst (λ (x : Bool). FedEnvelope CountsWords (old, u, a) (new, v, b) used x) is fed in
+    let (none, was) = rw is at fed in
     (was.1.given, was.1.at_end, none)
 
 -- A sink that counts no failure refused nothing.
-pub unsunk : (cause : Cause) (n : ℕ) → n ≡ 0 → CountsFor cause n n → cause ≢ Message Sink
-unsunk cause n zero counts same =
-    let P : Cause → Type 0 = λ c. CountsFor c n n in
-    ⊎_elim (λ rose. omega arith) (λ full. omega arith) (subst P same counts)
+pub unsunk : (cause : Cause) → CountsFor cause 0 0 → cause ≢ Message Sink
+unsunk cause counts same = ⊎_elim (λ rose. omega arith) (λ full. omega arith) (rw same at counts)
 
 refused_fresh : {S : Type 0} (goes : S → List StoryEvent → S → Type 0) (failures : S → ℕ) (old new : Device) (u v : Unpacking) (a b : S) (e : Refusal)
     → failures a ≡ 0 → failures b ≡ 0 → Stands u [] 0 → WasRefused goes failures old new u v a b e ⊎ WasTruncated goes failures old new u v a b e
     → IsRefusal (limits_in u) old new e
 refused_fresh goes failures old new u v a b e before after stands (inl was) =
     let of = was.refuses [] 0 stands in
-    let P : ℕ → Type 0 = λ n. CountsFor e.cause n (failures b) in
-    let Q : ℕ → Type 0 = λ n. CountsFor e.cause 0 n in
-    let R : Cause → Type 0 = λ cause. CountsFor cause 0 0 in
     let same : e.cause ≡ of.fault.cause = ap (λ (r : Refusal). r.cause) of.refusal in
-    let counts : CountsFor of.fault.cause 0 0 = subst R same (subst Q after (subst P before was.counts)) in
+    let counts : CountsFor of.fault.cause 0 0 = rw (before, after, same) at was.counts in
     record {
       rest = was.octets;
       given = was.came.given;
@@ -70,7 +64,7 @@ refused_fresh goes failures old new u v a b e before after stands (inl was) =
         within = of.within;
         fault = of.fault;
         refusal = of.refusal;
-        kills = record { refuses = of.refuses; by_octets = unsunk of.fault.cause 0 refl counts };
+        kills = record { refuses = of.refuses; by_octets = unsunk of.fault.cause counts };
       });
       at_end = λ all. absurd (omega (arith, all, of.within));
     }
@@ -90,7 +84,9 @@ cut_off goes failures old new u v a b octet kept fault keeps stands was =
     let here = missed_open goes failures old new u v a b octet fault was [] 0 stands in
     record { rest = was.octets; missed = was.missed; is_open = here.0; keeps = keeps ∙ ap Some here.2 }
 
-none_fresh : {S : Type 0} (goes : S → List StoryEvent → S → Type 0) (failures : S → ℕ) (old new : Device) (u v : Unpacking) (a b : S) (octet before : ℕ) (kept : Option ℕ) (told : ℕ) (fault : IntakeFault)
+-- why an intake gives nothing to an unpacker that stands on no octets
+pub none_fresh : {S : Type 0} (goes : S → List StoryEvent → S → Type 0) (failures : S → ℕ) (old new : Device) (u v : Unpacking) (a b : S)
+    (octet before : ℕ) (kept : Option ℕ) (told : ℕ) (fault : IntakeFault)
     → failures a ≡ 0 → failures b ≡ 0 → kept ≡ Some octet → told ≡ 0 → Stands u [] 0 → Faults goes failures old new u v a b octet fault
     → TookNone (limits_in u) old new before kept told (cause_of fault)
 none_fresh goes failures old new u v a b octet before kept told (intakes.Refused e) at_first at_last keeps none stands faults =
@@ -99,11 +95,3 @@ none_fresh goes failures old new u v a b octet before kept told intakes.Read at_
     (cut_off goes failures old new u v a b octet kept io.Failed keeps stands faults, none)
 none_fresh goes failures old new u v a b octet before kept told intakes.Interrupted at_first at_last keeps none stands faults =
     (cut_off goes failures old new u v a b octet kept io.Interrupted keeps stands faults, none)
-
--- why an intake gives nothing to an unpacker that stands on no octets
-pub none : {S : Type 0} (goes : S → List StoryEvent → S → Type 0) (failures : S → ℕ) (limits : Limits) (old new : Device) (u v : Unpacking) (a b : S) (octet before : ℕ) (kept : Option ℕ) (told : ℕ) (fault : IntakeFault)
-    → failures a ≡ 0 → failures b ≡ 0 → kept ≡ Some octet → told ≡ 0 → limits_in u ≡ limits → Stands u [] 0 → Faults goes failures old new u v a b octet fault
-    → TookNone limits old new before kept told (cause_of fault)
-none goes failures limits old new u v a b octet before kept told fault at_first at_last keeps zero same stands faults =
-    let P : Limits → Type 0 = λ l. TookNone l old new before kept told (cause_of fault) in
-    subst P same (none_fresh goes failures old new u v a b octet before kept told fault at_first at_last keeps zero stands faults)

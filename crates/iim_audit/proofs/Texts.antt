@@ -1,12 +1,10 @@
 -- The text of an envelope, and the words of its lines.
-use Rattle.std.proofs.Common.{◌≡◌, ℕ, List, [], ◌∷◌, length, refl, sym, ap, subst, ◌∙◌, inl, lit<, false}
-use Rattle.iim_dataset.specs.Format.Octets.{number}
-use Rattle.iim_dataset.specs.Format.Datasets.{Dataset, SpellsTag, count_octets}
-use Rattle.iim_dataset.specs.Format.Splits.{InTag, IsBegun}
+use Rattle.std.proofs.Common.{◌≡◌, ℕ, List, [], length, refl, sym, ap, subst, ◌∙◌, false}
+use Rattle.iim_dataset.specs.Format.Datasets.{Dataset, count_octets}
+use Rattle.iim_dataset.specs.Format.Splits.{InTag}
 use Rattle.iim_dataset.specs.States.Events.{handed_on}
 use Rattle.iim_dataset.specs.States.Places.{HandsOn}
 use Rattle.iim_dataset.specs.Laws.Datasets.{OctetsAreHandedOnOneWay, EventsTellTheDatasets}
-use Rattle.iim_dataset.specs.declared.head.Head.{Head}
 use Rattle.iim_dataset.proofs.Spelled.{whole_read}
 use Rattle.wire_story.specs.Format.Delivery.{StoryEvent}
 use Rattle.wire_story.specs.Format.Texts.{IsText}
@@ -25,19 +23,6 @@ pub record TextLaws : Type 0 where
   pub tell : EventsTellTheDatasets
   pub texts : TextsStandBetweenStxAndEtx
   pub counts : TextsAreCountedAsLines
-
-nothing_begun : IsBegun count_octets (InTag []) []
-nothing_begun =
-    let head : Head = record { rec = 0; set = 0; count = number (0 ∷ 0 ∷ []) } in
-    let tag : List ℕ = 28 ∷ 0 ∷ 0 ∷ 0 ∷ 0 ∷ [] in
-    let spells : SpellsTag count_octets head tag = record {
-      rec = lit< tt;
-      set = lit< tt;
-      count = 0 ∷ 0 ∷ [];
-      is_count = inl (lit< tt, lit< tt, refl, refl);
-      parts = refl;
-    } in
-    (refl, head, tag, spells, (tag, lit< tt, refl))
 
 text_of_message : TextsStandBetweenStxAndEtx → (object text trailer : List ℕ) (head : Header) (lines : List (List ℕ)) → IsMessage object head text trailer → IsText text lines
     → text ≡ text_so_far object

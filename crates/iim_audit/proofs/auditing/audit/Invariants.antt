@@ -1,20 +1,24 @@
-use Rattle.std.proofs.Common.{◌≡◌, ◌≤◌, ◌^◌, ◌+◌, ◌-◌, ℕ, length, Some}
+use Rattle.std.proofs.Common.{◌≡◌, ◌≤◌, ◌^◌, ◌+◌, ◌-◌, ℕ, length, None, Some}
 use Rattle.iim_audit.specs.Repeats.{ids_of, places_of}
 use Rattle.iim_unpack.specs.States.Intakes.{in_line}
 use Rattle.iim_places.specs.Format.Listing.{max_envelopes}
 use Rattle.iim_audit.specs.Lines.{HaveShortIds}
 use Rattle.iim_unpack.specs.States.Unpacking.{limits_in}
-use Rattle.iim_audit.proofs.Reading.{IsAuditing}
+use Rattle.iim_audit.proofs.Reading.{HasRead}
 use Rattle.iim_audit.proofs.auditing.audit.Given as goal
 
 abbrev pub invariant-envelopes : goal.invariant-envelopes
 invariant-envelopes g l = record {
-  auditing : IsAuditing l.fn.limits l.now.nanosecond l.fn.intake.failed (in_line g.R.Source.state l.fn.intake) (in_line g.R.Source.state l.intake) l.ledger l.fn.intake.octets l.intake.failed l.intake.octets;
+  fit : length l.ledger.rows.items ≤ max_envelopes;
+  reads : l.fn.intake.failed ≡ None → HasRead l.fn.limits l.now.nanosecond (in_line g.R.Source.state l.fn.intake)
+      (in_line g.R.Source.state l.intake) l.ledger l.fn.intake.octets l.intake.failed l.intake.octets;
+  none : (octet : ℕ) → l.fn.intake.failed ≡ Some octet → length l.ledger.rows.items ≡ 0;
+  as_it_was : (octet : ℕ) → l.fn.intake.failed ≡ Some octet → l.intake ≡ l.fn.intake;
+  failed : (octet : ℕ) → l.fn.intake.failed ≡ Some octet → l.intake.failed ≡ Some octet;
   same : limits_in l.unpacker ≡ l.fn.limits;
   few : length (ids_of l.ledger.rows.items) ≤ 2 ^ 32;
   places : l.ledger.places.items ≡ places_of 0 (ids_of l.ledger.rows.items);
   short : HaveShortIds l.ledger.rows.items;
-  as_it_was : (octet : ℕ) → l.fn.intake.failed ≡ Some octet → l.intake ≡ l.fn.intake;
   leads : g.R.Source.leads l.fn.intake.reader l.intake.reader;
 }
 

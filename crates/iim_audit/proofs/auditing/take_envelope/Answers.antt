@@ -1,10 +1,8 @@
-use Rattle.std.proofs.Common.{sym, subst, refl}
+use Rattle.std.proofs.Common.{refl}
 use Rattle.wire_story.specs.Format.Words.{WordsSoFar, CountsWords}
 use Rattle.iim_unpack.specs.States.Intakes.{in_line}
 use Rattle.iim_unpack.specs.States.Unpacking.{limits_in}
-use Rattle.iim_audit.specs.Taking.{TookNone}
-use Rattle.iim_audit.specs.declared.fault.AuditCause.{AuditCause}
-use Rattle.iim_audit.proofs.Taking.{took_end, took_one, none}
+use Rattle.iim_audit.proofs.Taking.{none_fresh, took_end, took_one}
 use Rattle.iim_audit.proofs.Texts.{TextLaws}
 use Rattle.iim_audit.proofs.auditing.take_envelope.Goals as goal
 
@@ -34,7 +32,7 @@ returns-in-Err-clause-none g c = λ alive.
     let new = in_line g.R.Source.state c.feed_envelope.new.self in
     let faults = c.in-Err.ensures.faults alive in
     let left = c.feed_envelope.new.self in
-    let P : AuditCause → Type 0 = λ cause. TookNone (limits_in c.args.unpacker.now) old new c.args.intake.now.octets left.failed left.octets cause in
-    subst P (sym c.cause_of.ensures)
-    (none CountsWords (λ (sink : WordsSoFar). 0) (limits_in c.args.unpacker.now) old new c.again.new.self c.feed_envelope.new.unpacker c.new-count.result c.feed_envelope.new.sink faults.0 c.args.intake.now.octets
-    left.failed left.octets c.in-Err.fault refl refl faults.1 c.in-Err.ensures.none c.again.ensures.limits c.again.ensures.stands faults.2)
+    rw (c.cause_of.ensures, ← c.again.ensures.limits)
+    (none_fresh CountsWords (λ (sink : WordsSoFar). 0) old new c.again.new.self c.feed_envelope.new.unpacker c.new-count.result
+    c.feed_envelope.new.sink faults.0 c.args.intake.now.octets left.failed left.octets
+    c.in-Err.fault refl refl faults.1 c.in-Err.ensures.none c.again.ensures.stands faults.2)

@@ -1,10 +1,9 @@
-use Rattle.std.proofs.Common.{◌≡◌, ◌+◌, ◌<◌, ℕ, true, false, Some, List, length, map, get_or, set, subst, refl, sym, ◌∙◌, arith, rules}
+use Rattle.std.proofs.Common.{◌≡◌, ℕ, List, length, map, get_or, set, refl, sym, ◌∙◌, arith, rules}
 use Rattle.std.proofs.lemmas.List.{get_or_default, get_or-map, length-map, length-set}
 use Rattle.std.proofs.Math.Seq.{map-set_same}
 use Rattle.iim_audit.specs.Repeats.{index_at}
-use Rattle.iim_fields.specs.Format.Ids.{id_eq}
 use Rattle.iim_audit.specs.declared.row.AuditRow.{AuditRow}
-use Rattle.iim_audit.proofs.Filling.{SoFar, all_filled, so_far_at}
+use Rattle.iim_audit.proofs.Filling.{all_filled, so_far_more}
 use Rattle.iim_audit.proofs.repeats.fill_firsts.Goals as goal
 
 pub loop-place-preserved : goal.loop-place-preserved
@@ -23,13 +22,10 @@ loop-place-preserved c =
     record {
       len = length-set now at row ∙ inv.len;
       group = search rules;
-      so_far = λ is fresh. so_far_at old (map index_at places) k (index_at c.loop-place.group) next at now (set now at row) was row
+      so_far = λ is fresh. so_far_more old (map index_at places) k (index_at c.loop-place.group) next at now (set now at row) was row
           (get_or-map index_at places k 0 0 c.loop-place-test.true ∙ is_at) is fresh (omega (arith, length-map places index_at, c.loop-place-test.true)) inv.len (inv.so_far is fresh)
-          (subst (λ (n : ℕ). (d : AuditRow) → id_eq (get_or now n d).id (get_or now (index_at c.loop-place.group) d).id ≡ true → next ≡ index_at c.loop-place.group) is_at c.group_of-group.ensures.same)
-          (subst (λ (n : ℕ). (d : AuditRow) → id_eq (get_or now n d).id (get_or now (index_at c.loop-place.group) d).id ≡ false → next ≡ n) is_at c.group_of-group.ensures.other)
-          (search (rules, get_or_default))
-          (subst (λ (n : ℕ). n < at → row ≡ record was { first = Some (n + 1) }) is_next c.tell_first.ensures.told)
-          (subst (λ (n : ℕ). (n < at → ⊥) → row ≡ was) is_next c.tell_first.ensures.untold) refl;
+          (rw is_at at c.group_of-group.ensures.same) (rw is_at at c.group_of-group.ensures.other) (search (rules, get_or_default))
+          (rw is_next at c.tell_first.ensures.told) (rw is_next at c.tell_first.ensures.untold) refl;
       ids = map-set_same (λ (r : AuditRow). r.id) now at row c.index-rows-at.result c.tell_first.ensures.id ∙ inv.ids;
     }
 
@@ -38,5 +34,4 @@ returns-clause-filled c = λ is fresh.
     let old : List AuditRow = c.args.rows.now in
     let order : List ℕ = map index_at c.args.places.now in
     let all : c.loop-place.place-index ≡ length order = omega (arith, length-map c.args.places.now index_at) in
-    let S : ℕ → Type 0 = λ n. SoFar old order n (index_at c.loop-place.group) c.loop-place.rows in
-    all_filled old order (index_at c.loop-place.group) c.loop-place.rows is c.loop-place.invariant.len (subst S all (c.loop-place.invariant.so_far is fresh))
+    all_filled old order (index_at c.loop-place.group) c.loop-place.rows is c.loop-place.invariant.len (rw all at (c.loop-place.invariant.so_far is fresh))

@@ -1,5 +1,3 @@
-use Rattle.std.proofs.Common.{ℕ, List, subst}
-use Rattle.std.specs.List.Sorted.{IsPermutation}
 use Rattle.std.proofs.lemmas.List.Sorted.{All-permutation}
 use Rattle.iim_audit.specs.Repeats.{IsPlace, ids_of, places_of}
 use Rattle.iim_audit.proofs.Places.{are_places, order_of}
@@ -9,10 +7,10 @@ pub fill_firsts-requires : goal.fill_firsts-requires
 fill_firsts-requires c =
     let ids = ids_of c.args.rows.now in
     All-permutation (IsPlace ids) (places_of 0 ids) c.sort_places.new.places
-    (subst (λ (ps : List ℕ). IsPermutation ps c.sort_places.new.places) c.requires.places c.sort_places.ensures.permutation) (are_places ids c.requires.few)
+    (rw c.requires.places at c.sort_places.ensures.permutation) (are_places ids c.requires.few)
 
 pub returns-clause-filled : goal.returns-clause-filled
 returns-clause-filled c = λ fresh.
     let ids = ids_of c.args.rows.now in
     c.fill_firsts.ensures.filled (order_of ids c.sort_places.new.places c.requires.few
-    (subst (λ (ps : List ℕ). IsPermutation ps c.sort_places.new.places) c.requires.places c.sort_places.ensures.permutation) c.sort_places.ensures.sorted) fresh
+    (rw c.requires.places at c.sort_places.ensures.permutation) c.sort_places.ensures.sorted) fresh

@@ -1,6 +1,4 @@
-use Rattle.std.proofs.Common.{subst}
 use Rattle.iim_unpack.specs.States.Unpacking.{limits_in}
-use Rattle.iim_audit.specs.Counting.{HasFed}
 use Rattle.iim_audit.specs.declared.pieces.PieceAudit.{PieceAudit}
 use Rattle.iim_audit.proofs.PieceRows.{found_none, found_row, refused_by}
 use Rattle.iim_audit.proofs.pieces.PieceAudit.next_row.Goals as goal
@@ -10,14 +8,14 @@ returns-in-Ok-More-clause-found c =
     let old : PieceAudit = c.args.self.now in
     let new : PieceAudit = record { unpacker = c.feed_count.new.unpacker; count = c.feed_count.new.count } in
     found_none c.delivery_may_be_cut.ensures (limits_in old.unpacker) c.args.now.nanosecond old new c.args.piece.now
-    (subst (HasFed old.unpacker old.count c.args.piece.now new.unpacker new.count) c.in-Ok-More.field-0-is c.in-Ok-More.ensures.fed)
+    (rw c.in-Ok-More.field-0-is at c.in-Ok-More.ensures.fed)
 
 pub returns-in-Ok-Done-clause-found : goal.returns-in-Ok-Done-clause-found
 returns-in-Ok-Done-clause-found c = λ p a stands.
     let old : PieceAudit = c.args.self.now in
     let mid : PieceAudit = record { unpacker = c.feed_count.new.unpacker; count = c.feed_count.new.count } in
     found_row c.delivery_may_be_cut.ensures (limits_in old.unpacker) c.args.now.nanosecond old mid c.again.new.self c.args.piece.now c.in-Ok-Done.used c.row_told-found.result
-    (subst (HasFed old.unpacker old.count c.args.piece.now mid.unpacker mid.count) c.in-Ok-Done.field-0-is c.in-Ok-Done.ensures.fed)
+    (rw c.in-Ok-Done.field-0-is at c.in-Ok-Done.ensures.fed)
     (c.in-Ok-Done.ensures.limits stands.unpacker.taking) c.row_told-found.ensures.used c.row_told-found.ensures.octets c.row_told-found.ensures.row
     c.again.ensures.stands p a stands
 
