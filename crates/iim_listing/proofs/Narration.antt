@@ -250,7 +250,8 @@ stories_out : {W : Type 0} {ws : W → Device} {first output : BlockWriter W} {e
     → Wrote (device_of ws first) (device_of ws output) (stories es ++ words)
 stories_out {ws = ws} {first = first} {output = output} {es = es} {words = words} s empty none =
     let w = all_put s in
-    let is : stories es ++ words ≡ w.out = front_of ws first output (stories es ++ words) s.fresh.0 w ∙ ap (λ (t : List ℕ). w.out ++ t) empty ∙ append-nil w.out in
+    let is : stories es ++ words ≡ w.out =
+    front_of ws first output (stories es ++ words) s.fresh.0 w ∙ ap (λ (t : List ℕ). w.out ++ t) empty ∙ append-nil w.out in
     rw is (w.writes.octets, (w.writes.unbroken (none ∙ sym s.fresh.1) (omega (arith, none)), w.writes.interruptions))
 
 lines_out : {W : Type 0} {ws : W → Device} {first output : BlockWriter W} {errors_old errors : Device} {es : List Listed} {words lines : List ℕ} → Stands ws first errors_old es words output errors lines → lines ≡ []

@@ -10,23 +10,14 @@ use Rattle.iim_output.specs.declared.fault.CommandFault.TheVariants.{OutOfMemory
 use Rattle.iim_listing.proofs.Listings.{ends_refused, failed, left_of, none_left, listed, listed_more, listed_out, starved, unended, unsaid_of}
 use Rattle.iim_output.specs.HoldingLaws.{put_nothing}
 use Rattle.iim_listing.proofs.Taken.{kept_next}
-use Rattle.iim_listing.specs.States.Coming.{EnvelopeHasCome, IsRefusal}
 use Rattle.iim_listing.specs.Turns.{AreListed}
 use Rattle.iim_listing.proofs.list.list_next.Given.{Over}
-use Rattle.iim_listing.proofs.list.list_next.Goals.{After-take_next, In-Envelope, In-Refused}
+use Rattle.iim_listing.proofs.list.list_next.Goals.{After-take_next}
 use Rattle.iim_listing.proofs.list.list_next.Goals as goal
 
 -- what was added to an empty buffer is all that stands in it
 added : (before after words all : List ℕ) → before ≡ [] → after ≡ before ++ words → all ≡ after → all ≡ words
 added before after words all empty more whole = rw (whole, more, empty) refl
-
--- what came of an envelope, or of refused octets
-envelope : (g : Over) (c : In-Envelope g) → EnvelopeHasCome (PassesOver g.W.Target.state) (in_line g.R.Source.state c.args.intake.now) (in_line g.R.Source.state c.take_next.new.intake) c.take_next.new.unpacker c.args.silent.now c.take_next.new.sink
-    c.in-Envelope.octets
-envelope g c = rw c.in-Envelope.is at c.in_ok-octets.ensures.next
-
-refusal : (g : Over) (c : In-Refused g) → IsRefusal (PassesOver g.W.Target.state) (in_line g.R.Source.state c.args.intake.now) (in_line g.R.Source.state c.take_next.new.intake) c.args.silent.now c.take_next.new.sink c.in-Refused.refusal
-refusal g c = rw c.in-Refused.is at c.in_ok-octets.ensures.next
 
 -- the writer is over the same target
 kept : (g : Over) (c : After-take_next g) → (source : Device) (old : BlockWriter _)
@@ -38,7 +29,7 @@ kept g c source old r =
 
 pub push_envelope-requires : goal.push_envelope-requires
 push_envelope-requires g c =
-    let h = envelope g (goal.at.push_envelope-requires g c).In-Envelope in
+    let h = rw c.in-Envelope.is at c.in_ok-octets.ensures.next in
     (h.done.taking, h.done.ended)
 
 pub returns-in_err-octets-clause-err : goal.returns-in_err-octets-clause-err
@@ -55,7 +46,7 @@ returns-in_err-octets-clause-err g c =
 pub returns-in_err-add_last-in-Envelope-clause-err : goal.returns-in_err-add_last-in-Envelope-clause-err
 returns-in_err-add_last-in-Envelope-clause-err g c =
     let at = goal.at.returns-in_err-add_last-in-Envelope-clause-err g c in
-    let h = envelope g at.In-Envelope in
+    let h = rw c.in-Envelope.is at c.in_ok-octets.ensures.next in
     let fault = c.in_err-add_last-in-Envelope.field-0.0 in
     handed_on _ c.from_residual-in_err-add_last-in-Envelope.result fault c.from_residual-in_err-add_last-in-Envelope.ensures.1
     (λ source old r empty. (
@@ -68,7 +59,7 @@ pub returns-then-count-eq-MAX_ENVELOPES-clause-ok : goal.returns-then-count-eq-M
 returns-then-count-eq-MAX_ENVELOPES-clause-ok g c =
     let rest = in_line g.R.Source.state c.take_next.new.intake in
     let at = goal.at.returns-then-count-eq-MAX_ENVELOPES-clause-ok g c in
-    let h = envelope g at.In-Envelope in
+    let h = rw c.in-Envelope.is at c.in_ok-octets.ensures.next in
     let more = left_of rest.octets in (
       tt,
       λ source old r empty. (
@@ -81,14 +72,14 @@ returns-then-count-eq-MAX_ENVELOPES-clause-ok g c =
 pub returns-in_err-push_envelope-in-Envelope-clause-err : goal.returns-in_err-push_envelope-in-Envelope-clause-err
 returns-in_err-push_envelope-in-Envelope-clause-err g c =
     let at = goal.at.returns-in_err-push_envelope-in-Envelope-clause-err g c in
-    let h = envelope g at.In-Envelope in
+    let h = rw c.in-Envelope.is at c.in_ok-octets.ensures.next in
     handed_on _ c.from_residual-in_err-push_envelope-in-Envelope.result OutOfMemory c.from_residual-in_err-push_envelope-in-Envelope.ensures.1
     (λ source old r empty. (starved c.gifts_join.ensures (in_line g.R.Source.state c.take_next.new.intake) h.envelope.octets (listed_out _ _ _ _ _ _ _ _ r h.came.told) h.came.given, kept g at.After-take_next source old r))
 
 pub returns-in_err-add-in-Envelope-clause-err : goal.returns-in_err-add-in-Envelope-clause-err
 returns-in_err-add-in-Envelope-clause-err g c =
     let at = goal.at.returns-in_err-add-in-Envelope-clause-err g c in
-    let h = envelope g at.In-Envelope in
+    let h = rw c.in-Envelope.is at c.in_ok-octets.ensures.next in
     let words = added _ _ (g.P.EnvelopeLines.written (c.args.count + 1) h.envelope) _ c.clear.ensures.items
     (c.in_ok-push_envelope-in-Envelope.ensures h.envelope (h.done, h.is.admits, h.counts)) c.as_slice.ensures.value in
     let below : c.args.count ≡ max_envelopes → ⊥ = search rules in
@@ -102,7 +93,7 @@ returns-in_err-add-in-Envelope-clause-err g c =
 
 pub returns-in_ok-add-in-Envelope-clause-ok : goal.returns-in_ok-add-in-Envelope-clause-ok
 returns-in_ok-add-in-Envelope-clause-ok g c =
-    let h = envelope g (goal.at.returns-in_ok-add-in-Envelope-clause-ok g c).In-Envelope in
+    let h = rw c.in-Envelope.is at c.in_ok-octets.ensures.next in
     let words = added _ _ (g.P.EnvelopeLines.written (c.args.count + 1) h.envelope) _ c.clear.ensures.items
     (c.in_ok-push_envelope-in-Envelope.ensures h.envelope (h.done, h.is.admits, h.counts)) c.as_slice.ensures.value in
     let below : c.args.count ≡ max_envelopes → ⊥ = search rules in (
@@ -126,14 +117,14 @@ returns-in-End-clause-ok g c =
 pub returns-in_err-push_refused-in-Refused-clause-err : goal.returns-in_err-push_refused-in-Refused-clause-err
 returns-in_err-push_refused-in-Refused-clause-err g c =
     let at = goal.at.returns-in_err-push_refused-in-Refused-clause-err g c in
-    let h = refusal g at.In-Refused in
+    let h = rw c.in-Refused.is at c.in_ok-octets.ensures.next in
     handed_on _ c.from_residual-in_err-push_refused-in-Refused.result OutOfMemory c.from_residual-in_err-push_refused-in-Refused.ensures.1
     (λ source old r empty. (starved c.gifts_join.ensures (in_line g.R.Source.state c.take_next.new.intake) h.octets (listed_out _ _ _ _ _ _ _ _ r h.came.told) h.came.given, kept g at.After-take_next source old r))
 
 pub returns-in_err-add_last-in-Refused-clause-err : goal.returns-in_err-add_last-in-Refused-clause-err
 returns-in_err-add_last-in-Refused-clause-err g c =
     let at = goal.at.returns-in_err-add_last-in-Refused-clause-err g c in
-    let h = refusal g at.In-Refused in
+    let h = rw c.in-Refused.is at c.in_ok-octets.ensures.next in
     let fault = c.in_err-add_last-in-Refused.field-0.0 in
     handed_on _ c.from_residual-in_err-add_last-in-Refused.result fault c.from_residual-in_err-add_last-in-Refused.ensures.1
     (λ source old r empty. (
@@ -146,7 +137,7 @@ pub returns-in_ok-add_last-in-Refused-clause-ok : goal.returns-in_ok-add_last-in
 returns-in_ok-add_last-in-Refused-clause-ok g c =
     let rest = in_line g.R.Source.state c.take_next.new.intake in
     let at = goal.at.returns-in_ok-add_last-in-Refused-clause-ok g c in
-    let h = refusal g at.In-Refused in
+    let h = rw c.in-Refused.is at c.in_ok-octets.ensures.next in
     let more = ends_refused (PassesOver g.W.Target.state) (in_line g.R.Source.state c.args.intake.now) rest c.args.silent.now c.take_next.new.sink c.in-Refused.refusal h in (
       tt,
       λ source old r empty. (

@@ -12,20 +12,16 @@ use Rattle.iim_listing.specs.declared.narrator.Narrator.{Narrator}
 use Rattle.iim_listing.proofs.Narration.{TextIsTaken, all_out, all_settled, keeps_on, narrated, narrated_more, refused_within, stands_told, text_refused, text_taken, unended, unended_keeps, unfed, untold, untold_keeps, whole_text}
 use Rattle.iim_listing.proofs.Listings.{ends_refused, left_of, none_left}
 use Rattle.iim_listing.proofs.Taken.{kept_next}
-use Rattle.iim_listing.specs.States.Coming.{IsRefusal}
 use Rattle.iim_listing.proofs.story.tell_next.Given.{Over}
-use Rattle.iim_listing.proofs.story.tell_next.Goals.{After-take_next, In-Envelope, In-Refused}
+use Rattle.iim_listing.proofs.story.tell_next.Goals.{After-take_next, In-Envelope}
 use Rattle.iim_listing.proofs.story.tell_next.Goals as goal
 
--- what came of an envelope, or of refused octets
+-- what came of an envelope
 taken : (g : Over) (c : In-Envelope g) {source : Device} {first : Narrator _ _}
     → (t : IsTelling g.W.Target.state g.E.Target.state first source (in_line g.R.Source.state c.args.intake.now) c.args.narrator.now c.args.count)
     → TextIsTaken t.narrated (in_line g.R.Source.state c.take_next.new.intake) c.take_next.new.unpacker c.take_next.new.sink c.in-Envelope.octets
 taken g c t =
     text_taken c.envelopes_are_delivered_as_lines.ensures c.story_laws.ensures.lines_are_joined_by_line_feeds c.texts_join.ensures t.narrated (rw c.in-Envelope.is at c.in_ok-octets.ensures.next)
-
-refusal : (g : Over) (c : In-Refused g) → IsRefusal (TellsOn g.W.Target.state g.E.Target.state) (in_line g.R.Source.state c.args.intake.now) (in_line g.R.Source.state c.take_next.new.intake) c.args.narrator.now c.take_next.new.sink c.in-Refused.refusal
-refusal g c = rw c.in-Refused.is at c.in_ok-octets.ensures.next
 
 -- the targets stay the same
 kept : (g : Over) (c : After-take_next g) (first : Narrator _ _) → KeepsTargets first c.args.narrator.now → KeepsTargets first c.take_next.new.sink
@@ -133,7 +129,7 @@ returns-in-End-clause-ok g c =
 pub returns-in_err-tell_refusal-in-Refused-clause-err : goal.returns-in_err-tell_refusal-in-Refused-clause-err
 returns-in_err-tell_refusal-in-Refused-clause-err g c =
     let at = goal.at.returns-in_err-tell_refusal-in-Refused-clause-err g c in
-    let f = refusal g at.In-Refused in
+    let f = rw c.in-Refused.is at c.in_ok-octets.ensures.next in
     let b = c.take_next.new.sink in
     let d = c.tell_refusal.new.self in
     let line = refused_line (c.args.count + 1) c.in-Refused.refusal in
@@ -149,7 +145,7 @@ returns-in_err-tell_refusal-in-Refused-clause-err g c =
 pub returns-in_ok-tell_refusal-in-Refused-clause-ok : goal.returns-in_ok-tell_refusal-in-Refused-clause-ok
 returns-in_ok-tell_refusal-in-Refused-clause-ok g c =
     let at = goal.at.returns-in_ok-tell_refusal-in-Refused-clause-ok g c in
-    let f = refusal g at.In-Refused in
+    let f = rw c.in-Refused.is at c.in_ok-octets.ensures.next in
     let ws = g.W.Target.state in
     let es = g.E.Target.state in
     let rest = in_line g.R.Source.state c.take_next.new.intake in
