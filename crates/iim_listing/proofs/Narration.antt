@@ -496,20 +496,19 @@ untold es joins texts rest b d line begun k taken has s none given within is end
 pub unended : {W E : Type 0} {ws : W → Device} {es : E → Device} {first : Narrator W E} {source mid rest : Device} {a b : Narrator W E} {v : Unpacking} {count octets : ℕ} {r : AreNarrated ws es first source mid a count} → GiftsJoin → TextsJoin
     → (t : TextIsTaken r rest v b octets) (d : Narrator W E) → stops_of b ≡ 0 → (fault : CommandFault) → IsUnended ws es b d fault
     → IsUnnarrated source rest (output_of ws first) (output_of ws d) (errors_of es first) (errors_of es d) fault
-unended {ws = ws} {es = es} {first = first} {source = source} {rest = rest} {b = b} {r = r} joins texts t d none fault u = by_fault fault u
-  where
-    e : Listed
-    e = t.come.envelope
-
-    by_fault : (fault : CommandFault) → IsUnended ws es b d fault → IsUnnarrated source rest (output_of ws first) (output_of ws d) (errors_of es first) (errors_of es d) fault
-    by_fault CannotRead u = absurd u
-    by_fault OutOfMemory u = starved joins texts rest e.octets (length e.octets) r.taken t.stands none t.come.came.given (whole_text e t.text) u
-    by_fault CannotWrite (inl u) = lost joins texts rest e.octets (length e.octets) r.taken r.texts t.stands none t.come.came.given (omega arith) (whole_text e t.text) (inl refl) u
-    by_fault CannotWrite (inr u) =
-        let now = stands_still t.stands d.output u.put in
-        broke_in_text joins rest e.octets (length e.octets) r.taken r.texts
-        (subst (λ (m : MutBor _). Stands ws first.output (errors_of es first) r.envelopes (text_of e) d.output (es m.now) b.lines.items) (sym u.same) now) t.come.came.given (omega arith) (λ whole nothing. (e, t.come.is, refl)) (whole_text e t.text)
-        (rises (stops_of b) (stops_of d) none u.rose)
+unended joins texts t d none CannotRead u = absurd u
+unended {rest = rest} {r = r} joins texts t d none OutOfMemory u =
+    let e = t.come.envelope in
+    starved joins texts rest e.octets (length e.octets) r.taken t.stands none t.come.came.given (whole_text e t.text) u
+unended {rest = rest} {r = r} joins texts t d none CannotWrite (inl u) =
+    let e = t.come.envelope in
+    lost joins texts rest e.octets (length e.octets) r.taken r.texts t.stands none t.come.came.given (omega arith) (whole_text e t.text) (inl refl) u
+unended {ws = ws} {es = es} {first = first} {rest = rest} {b = b} {r = r} joins texts t d none CannotWrite (inr u) =
+    let e = t.come.envelope in
+    let now = stands_still t.stands d.output u.put in
+    broke_in_text joins rest e.octets (length e.octets) r.taken r.texts
+    (subst (λ (m : MutBor _). Stands ws first.output (errors_of es first) r.envelopes (text_of e) d.output (es m.now) b.lines.items) (sym u.same) now)
+    t.come.came.given (omega arith) (λ whole nothing. (e, t.come.is, refl)) (whole_text e t.text) (rises (stops_of b) (stops_of d) none u.rose)
 
 -- ---- nothing comes next
 

@@ -34,7 +34,8 @@ feeding-preserved g c =
       alive = c.in-Ok-More.ensures.calm.0;
       taken = take_more g.met.S.StorySink.joined c.gifts_join.ensures c.delivery_may_be_cut.ensures out more;
       calm = c.in-Ok-More.ensures.calm.1 ∙ c.in-Ok.ensures.calm ∙ c.feeding.invariant.calm;
-      leads = g.met.R.Source.leads_on c.args.intake.now.reader c.feeding.intake.reader c.next_piece.new.self.reader c.feeding.invariant.leads c.next_piece.ensures.leads;
+      leads =
+          g.met.R.Source.leads_on c.args.intake.now.reader c.feeding.intake.reader c.next_piece.new.self.reader c.feeding.invariant.leads c.next_piece.ensures.leads;
     }
 
 pub returns-in-Ok-Done-clause-next : goal.returns-in-Ok-Done-clause-next
@@ -77,5 +78,6 @@ returns-in-Err-next_piece g c =
       next = next.0;
       calm = next.1;
       lives = next.2;
-      leads = g.met.R.Source.leads_on c.args.intake.now.reader c.feeding.intake.reader c.next_piece.new.self.reader c.feeding.invariant.leads c.next_piece.ensures.leads;
+      leads =
+          g.met.R.Source.leads_on c.args.intake.now.reader c.feeding.intake.reader c.next_piece.new.self.reader c.feeding.invariant.leads c.next_piece.ensures.leads;
     }

@@ -1,9 +1,6 @@
-use Rattle.std.proofs.Common.{◌≡◌, ℕ, List, ◌++◌, ap, ◌∙◌, append_assoc}
+use Rattle.std.proofs.Common.{◌≡◌, ℕ, List, ◌++◌, append_assoc}
 use Rattle.std.specs.List.{flat_map}
 use Rattle.std.proofs.lemmas.Result.{on_ok_weaker}
-use Rattle.iim_places.specs.Format.Admitted.{Value}
-use Rattle.iim_unpack.specs.Format.Value.{ShowsParts}
-use Rattle.iim_unpack.specs.declared.unpacker.UnpackedRef.{UnpackedRef}
 use Rattle.iim_script.specs.Format.Printed.{field_line, message_line, trailer_line}
 use Rattle.iim_listing.specs.Format.Texts.{number_line, sizes_line, shown_text}
 use Rattle.iim_listing.proofs.show.ShowEnvelopeLines.push_text.Goals as goal
@@ -12,17 +9,12 @@ use Rattle.iim_listing.proofs.show.ShowEnvelopeLines.push_text.Goals as goal
 joined : (o a f m t s v x y z w : List ℕ) → v ≡ o ++ a → x ≡ v ++ f → y ≡ x ++ m → z ≡ y ++ t → w ≡ z ++ s → w ≡ o ++ (a ++ (f ++ (m ++ (t ++ s))))
 joined o a f m t s v x y z w one two three four five = rw (five, four, three, two, one) (simp append_assoc)
 
--- the text of what was handed over is that of the value
-same_value : (number : ℕ) (got : UnpackedRef) (v : Value) → ShowsParts got v
-    → number_line number ++ (flat_map field_line got.envelope ++ (message_line got.head.now ++ (trailer_line got.trailer.now ++ sizes_line got.sizes))) ≡ shown_text number v
-same_value number got v parts = cc
-
 pub returns : goal.returns
 returns c = λ e counts parts.
     let got = c.args.got.now in
     let old = c.args.text.now.items in
-    on_ok_weaker _ (λ sizes.
-    joined old (number_line c.args.number) (flat_map field_line got.envelope) (message_line got.head.now) (trailer_line got.trailer.now) (sizes_line got.sizes)
+    on_ok_weaker {Q = c.push_sizes.new.text.items ≡ old ++ shown_text c.args.number e.value} _ (λ sizes.
+    let all = joined old (number_line c.args.number) (flat_map field_line got.envelope) (message_line got.head.now) (trailer_line got.trailer.now) (sizes_line got.sizes)
     c.push_number.new.text.items c.push_fields.new.text.items c.push_message.new.text.items c.push_trailer.new.text.items c.push_sizes.new.text.items
-    c.in_ok-push_number.ensures c.in_ok-push_fields.ensures c.in_ok-push_message.ensures c.in_ok-push_trailer.ensures sizes
-    ∙ ap (λ (l : List ℕ). old ++ l) (same_value c.args.number got e.value parts)) c.push_sizes.ensures
+    c.in_ok-push_number.ensures c.in_ok-push_fields.ensures c.in_ok-push_message.ensures c.in_ok-push_trailer.ensures sizes in
+    cc) c.push_sizes.ensures
