@@ -3,7 +3,6 @@ use Rattle.std.proofs.Common.{◌≡◌, ℕ, ◌-◌, ◌^◌, ◌<◌, List, [
 use Rattle.std.specs.Io.KnownBytes.{IsAtEnd}
 use Rattle.iim_dataset.specs.States.Devices.{Device, HasGiven}
 use Rattle.iim_dataset.specs.Laws.Devices.{GiftsJoin}
-use Rattle.iim_fields.specs.declared.limits.Limits.{Limits}
 use Rattle.wire_story.specs.Format.Delivery.{StoryEvent}
 use Rattle.wire_story.specs.Laws.Texts.{DeliveryMayBeCut}
 use Rattle.iim_unpack.specs.States.Intakes.{HasFed, IsReady, WasEnded}
@@ -74,12 +73,6 @@ is_ready h =
     let there = (h.fed.stands [] 0 h.stood).0 in
     (there.taking, there.unended)
 
-low_octets : limits.octets < 2 ^ 32
-low_octets = omega arith
-
-low_fields : limits.fields < 2 ^ 32
-low_fields = omega arith
-
 pub fewer_left : {S : Type 0} {goes : S → List StoryEvent → S → Type 0} {old mid new : Device} {v w : Unpacking} {a d e : S} {k : ℕ} → OpenOctetsAreBounded → Joined goes → GiftsJoin → DeliveryMayBeCut → HasTaken goes old mid v a d
     → (0 < k) × IsReady w × HasFed goes mid new v w d e k → 2 ^ 64 - 1 - w.octets < 2 ^ 64 - 1 - v.octets
 fewer_left {v = v} {k = k} law joined joins cut h (some, ready, two) =
@@ -94,5 +87,5 @@ fewer_left {v = v} {k = k} law joined joins cut h (some, ready, two) =
       (one.stands [] 0 h.stood).0.counts,
       (both.stands [] 0 h.stood).0.counts,
       length-append one.octets two.octets,
-      fed_few law one (subst (λ (l : Limits). l.octets < 4294967296) (sym within) low_octets) (subst (λ (l : Limits). l.fields < 4294967296) (sym within) low_fields) [] 0 h.stood,
+      fed_few law one (rw within (omega arith)) (rw within (omega arith)) [] 0 h.stood,
     )

@@ -3,4 +3,3 @@ pub mod Listings
 pub mod Narration
 pub mod Narrators
 pub mod Taken
-pub mod Told

@@ -13,10 +13,9 @@ use Rattle.iim_places.proofs.Listings.{admitted_more, joined_more}
 use Rattle.iim_unpack.specs.States.Unpacking.{Unpacking}
 use Rattle.iim_places.specs.declared.refusal.Refusal.{Refusal}
 use Rattle.iim_listing.specs.States.Coming.{IsNext, IsRefusal}
-use Rattle.iim_output.specs.States.Holding.{HasPut, HoldsNothing, device_of}
+use Rattle.iim_output.specs.States.Holding.{HasPut, HoldsNothing, device_of, IsUnadded}
 use Rattle.iim_output.specs.States.Silence.{IsSettled, IsStuck, PassesOver, refuses_never}
 use Rattle.iim_output.specs.HoldingLaws.{put_nothing, put_on}
-use Rattle.iim_output.specs.States.Holding.{IsUnadded}
 use Rattle.iim_listing.specs.Listing.{IsUnlisted, Settles}
 use Rattle.iim_output.specs.declared.block_writer.BlockWriter.{BlockWriter}
 use Rattle.iim_output.specs.declared.silent.Silent.{Silent}
@@ -109,19 +108,14 @@ refused_later begun more k e d =
 -- a refusal of octets that came is one of all that stands after the envelopes
 pub ends_refused : {S : Type 0} (goes : S → List StoryEvent → S → Type 0) (mid rest : Device) (a b : S) (e : Refusal) (r : IsRefusal goes mid rest a b e)
     → (more : List ℕ) × HasOctets rest.octets more × IsRefusedAfter limits (r.octets ++ more) r.k e
-ends_refused goes mid rest a b e r = by_kind r.refused
-  where
-    by_kind : IsRefusedAfter limits r.octets r.k e → (more : List ℕ) × HasOctets rest.octets more × IsRefusedAfter limits (r.octets ++ more) r.k e
-    by_kind (inl (t, all)) = (
-      [],
-      none_left rest.octets (r.at_end all),
-      subst (λ (xs : List ℕ). IsRefusedAfter limits xs r.k e) (sym (append-nil r.octets)) (inl (t, all)),
-    )
-    by_kind (inr d) = (
-      (left_of rest.octets).0,
-      (left_of rest.octets).1,
-      inr (refused_later r.octets (left_of rest.octets).0 r.k e d),
-    )
+ends_refused goes mid rest a b e r = elim r.refused [
+  | inl (t, all) ↦ ([], none_left rest.octets (r.at_end all), rw append-nil (inl (t, all)))
+  | inr d ↦ (
+    (left_of rest.octets).0,
+    (left_of rest.octets).1,
+    inr (refused_later r.octets (left_of rest.octets).0 r.k e d),
+  )
+]
 
 -- ---- the listing is out
 
@@ -254,9 +248,8 @@ pub settled_starved : {W : Type 0} (state : W → Device) → TextsJoin → (tex
     → IfErr answer (IsUnlisted state text source rest a b) → Settles state b c answer result → IfErr result (FailsListing text source rest (device_of state a) (device_of state c))
 settled_starved state texts text source rest a b c (Ok x) result empty err s = rw s.0 tt
 settled_starved state texts text source rest a b c (Err CannotRead) result empty err s =
-    rw s.0 (subst (λ (w : BlockWriter _). FailsListing text source rest (device_of state a) (device_of state w) CannotRead) (sym s.1) err)
-settled_starved state texts text source rest a b c (Err CannotWrite) result empty err s =
-    rw s.0 (subst (λ (w : BlockWriter _). FailsListing text source rest (device_of state a) (device_of state w) CannotWrite) (sym s.1) err)
+    rw (s.0, s.1) err
+settled_starved state texts text source rest a b c (Err CannotWrite) result empty err s = rw (s.0, s.1) err
 settled_starved state texts text source rest a b c (Err OutOfMemory) result empty (input, es, begun, divided, given, put) (inl s) =
     let words = texts_from text 1 es in
     rw s.0 (input, es, begun, divided, given, all_out state a c words empty s.2 (subst (HasPut state a c) (append-nil words) (put_on state a b c words [] put s.1)))

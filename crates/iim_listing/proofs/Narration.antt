@@ -1,5 +1,5 @@
 -- What `story` writes.
-use Rattle.std.proofs.Common.{◌≡◌, ℕ, ◌+◌, ◌<◌, ◌≤◌, ◌⊎◌, inl, inr, refl, sym, ap, subst, ◌∙◌, arith, List, [], ◌∷◌, ◌++◌, length, map, take, append-nil, append_assoc, length-append, Ok, Err}
+use Rattle.std.proofs.Common.{◌≡◌, ℕ, ◌+◌, ◌<◌, ◌≤◌, ◌⊎◌, inl, inr, refl, sym, ap, subst, ◌∙◌, arith, List, [], ◌∷◌, ◌++◌, length, map, take, append-nil, append_assoc, length-append, Err}
 use Rattle.std.specs.List.{AllByRecursion}
 use Rattle.std.specs.Borrow.{MutBor}
 use Rattle.std.proofs.Math.Seq.{take-length, take-append_seam}
@@ -31,25 +31,20 @@ use Rattle.iim_places.specs.Format.Admitted.{object_of}
 use Rattle.iim_places.specs.Format.Open.{object_so_far}
 use Rattle.iim_places.specs.declared.refusal.Refusal.{Refusal}
 use Rattle.iim_unpack.specs.States.Unpacking.{Unpacking}
-use Rattle.iim_places.proofs.Answering.{leads_to, reads_envelope}
+use Rattle.iim_places.proofs.Answering.{leads_to, reads_envelope, no_text}
 use Rattle.iim_listing.specs.States.Coming.{EnvelopeHasCome, IsCalm, IsNext, IsRefusal}
 use Rattle.iim_output.specs.States.Devices.{HasOctets}
-use Rattle.iim_listing.specs.Format.Listings.{ending_line, line_of, status_of, texts_from}
+use Rattle.iim_listing.specs.Format.Listings.{ending_line, line_of, status_of, texts_from, IsDelivered}
 use Rattle.iim_output.specs.Format.Limits.{limits}
-use Rattle.iim_listing.specs.Format.Listings.{IsDelivered}
 use Rattle.iim_places.specs.Format.Listing.{joined, max_envelopes, Divides, InputEnding, EndsBy, Listed, IsListed, IsRefusedAfter, RefusedBy}
 use Rattle.iim_listing.specs.Laws.Narration.{EnvelopesAreDeliveredAsLines}
 use Rattle.iim_listing.specs.Format.Narration.{AreEnvelope, AreToldWith, IsTextIn, IsUnnarrated, LeavesText, Narrated, stories, story_of, text_of}
 use Rattle.iim_listing.specs.Narrating.{EndsStory, HoldsLines, IsLost, IsSettled, IsStuck, IsUnended, IsUntold, KeepsTargets, LetsOut, TellsOn, errors_of, output_of, stops_of}
 use Rattle.iim_listing.specs.declared.narrator.Narrator.{Narrator}
 use Rattle.iim_output.specs.declared.fault.CommandFault.{CommandFault}
-use Rattle.iim_listing.specs.declared.coming.Next.{Next}
-use Rattle.iim_listing.specs.declared.coming.Next.TheVariants.{Envelope}
 use Rattle.iim_output.specs.declared.fault.CommandFault.TheVariants.{CannotRead, CannotWrite, OutOfMemory}
 use Rattle.iim_listing.specs.Turns.{AreNarrated, AreTaken, HasText, Stands}
 use Rattle.iim_listing.proofs.Listings.{consumes_holds, divides, given_then, none_taken, taken_more, texts_parts}
-use Rattle.iim_places.proofs.Answering.{no_text}
-use Rattle.iim_listing.proofs.Taken.{come_as}
 
 -- ---- what is delivered of an envelope
 
@@ -69,15 +64,6 @@ delivered_lines way tell between lines octets v more a (text, (whole, begun, rea
 pub envelope_text : EnvelopesAreDeliveredAsLines → LinesAreJoinedByLineFeeds → (e : Listed) (more : List StoryEvent) → IsListed limits e → IsDelivered e.octets more
     → map octet_for more ≡ text_of e
 envelope_text law joins e more is d = ap (λ (events : List StoryEvent). map octet_for events) (law e.octets e.value more is.admits d) ∙ joins e.value.lines
-
--- ---- what a writer of lines leaves
-
--- nothing was held before nor is after, so the text is out
-pub wrote_by : {W : Type 0} (state : W → Device) (a d : BlockWriter W) (text : List ℕ) → HoldsNothing a → HoldsNothing d → blocks.stops_of a ≡ 0 → blocks.stops_of d ≡ blocks.stops_of a → PutsOn state a d text
-    → Wrote (device_of state a) (device_of state d) text
-wrote_by state a d text before after none same w =
-    let is : text ≡ w.out = sym (ap (λ (t : List ℕ). t ++ text) before) ∙ w.parts ∙ ap (λ (t : List ℕ). w.out ++ t) after ∙ append-nil w.out in
-    subst (Wrote (device_of state a) (device_of state d)) (sym is) (w.writes.octets, (w.writes.unbroken same (omega (arith, none, same)), w.writes.interruptions))
 
 -- ---- where octets end among stories
 
@@ -255,11 +241,18 @@ stands_ended {es = es} {lines = lines} e line s is =
 
 -- ---- what is out
 
+-- nothing was held before: a front of the text is out
+front_of : {W : Type 0} (state : W → Device) (a d : BlockWriter W) (text : List ℕ) → HoldsNothing a → (w : PutsOn state a d text) → text ≡ w.out ++ held_of d
+front_of state a d text before w = sym (ap (λ (t : List ℕ). t ++ text) before) ∙ w.parts
+
 -- nothing is held, so all is out on both
 stories_out : {W : Type 0} {ws : W → Device} {first output : BlockWriter W} {errors_old errors : Device} {es : List Listed} {words lines : List ℕ} → Stands ws first errors_old es words output errors lines → HoldsNothing output → blocks.stops_of output ≡ 0
     → Wrote (device_of ws first) (device_of ws output) (stories es ++ words)
 stories_out {ws = ws} {first = first} {output = output} {es = es} {words = words} s empty none =
-    wrote_by ws first output (stories es ++ words) s.fresh.0 empty s.fresh.1 (none ∙ sym s.fresh.1) (all_put s)
+    let w = all_put s in
+    let is : stories es ++ words ≡ w.out =
+    front_of ws first output (stories es ++ words) s.fresh.0 w ∙ ap (λ (t : List ℕ). w.out ++ t) empty ∙ append-nil w.out in
+    rw is (w.writes.octets, (w.writes.unbroken (none ∙ sym s.fresh.1) (omega (arith, none)), w.writes.interruptions))
 
 lines_out : {W : Type 0} {ws : W → Device} {first output : BlockWriter W} {errors_old errors : Device} {es : List Listed} {words lines : List ℕ} → Stands ws first errors_old es words output errors lines → lines ≡ []
     → Wrote errors_old errors (texts_from line_of 1 es)
@@ -297,10 +290,10 @@ pub record TextIsTaken {W E : Type 0} {ws : W → Device} {es : E → Device} {f
   pub text : HasText come.envelope
   pub stands : Stands ws first.output (errors_of es first) r.envelopes (text_of come.envelope) b.output (errors_of es b) b.lines.items
 
-pub text_taken : {W E : Type 0} {ws : W → Device} {es : E → Device} {first : Narrator W E} {source mid : Device} {a : Narrator W E} {count : ℕ} → EnvelopesAreDeliveredAsLines → LinesAreJoinedByLineFeeds → TextsJoin → (r : AreNarrated ws es first source mid a count)
-    (rest : Device) (v : Unpacking) (b : Narrator W E) (x : Next) (octets : ℕ) → x ≡ Envelope octets → IsNext (TellsOn ws es) stops_of IsSettled (IsStuck ws es) (mid, a) (rest, v, b) (Ok x) → TextIsTaken r rest v b octets
-text_taken {ws = ws} {es = es} {first = first} {mid = mid} {a = a} law joins texts r rest v b x octets is n =
-    let h = come_as (TellsOn ws es) stops_of IsSettled (IsStuck ws es) mid rest v a b x octets is n in
+pub text_taken : {W E : Type 0} {ws : W → Device} {es : E → Device} {first : Narrator W E} {source mid rest : Device} {v : Unpacking} {a b : Narrator W E}
+    {count octets : ℕ} → EnvelopesAreDeliveredAsLines → LinesAreJoinedByLineFeeds → TextsJoin → (r : AreNarrated ws es first source mid a count)
+    → EnvelopeHasCome (TellsOn ws es) mid rest v a b octets → TextIsTaken r rest v b octets
+text_taken {ws = ws} {es = es} {first = first} {b = b} law joins texts r h =
     let text = envelope_text law joins h.envelope h.more h.is h.delivered in
     record {
       come = h;
@@ -375,10 +368,6 @@ divides_before source mid count es front e g begun taken is =
 nothing_more : (xs more : List ℕ) → length xs ≡ length (xs ++ more) → xs ≡ xs ++ more
 nothing_more xs [] is = sym (append-nil xs)
 nothing_more xs (y ∷ more) is = absurd (omega (arith, is, length-append xs (y ∷ more)))
-
--- nothing was held before: a front of the text is out
-front_of : {W : Type 0} (state : W → Device) (a d : BlockWriter W) (text : List ℕ) → HoldsNothing a → (w : PutsOn state a d text) → text ≡ w.out ++ held_of d
-front_of state a d text before w = sym (ap (λ (t : List ℕ). t ++ text) before) ∙ w.parts
 
 pub broke_in_text : {W : Type 0} {ws : W → Device} {first output : BlockWriter W} {source mid errors_old errors : Device} {es : List Listed} {words lines : List ℕ} {count : ℕ} → GiftsJoin → (rest : Device) (begun : List ℕ) (k : ℕ)
     → AreTaken source mid count es → AllByRecursion HasText es → Stands ws first errors_old es words output errors lines → HasGiven mid rest begun → k ≤ length begun → (k ≡ length begun → held_of output ≡ [] → AreEnvelope begun)
@@ -507,20 +496,19 @@ untold es joins texts rest b d line begun k taken has s none given within is end
 pub unended : {W E : Type 0} {ws : W → Device} {es : E → Device} {first : Narrator W E} {source mid rest : Device} {a b : Narrator W E} {v : Unpacking} {count octets : ℕ} {r : AreNarrated ws es first source mid a count} → GiftsJoin → TextsJoin
     → (t : TextIsTaken r rest v b octets) (d : Narrator W E) → stops_of b ≡ 0 → (fault : CommandFault) → IsUnended ws es b d fault
     → IsUnnarrated source rest (output_of ws first) (output_of ws d) (errors_of es first) (errors_of es d) fault
-unended {ws = ws} {es = es} {first = first} {source = source} {rest = rest} {b = b} {r = r} joins texts t d none fault u = by_fault fault u
-  where
-    e : Listed
-    e = t.come.envelope
-
-    by_fault : (fault : CommandFault) → IsUnended ws es b d fault → IsUnnarrated source rest (output_of ws first) (output_of ws d) (errors_of es first) (errors_of es d) fault
-    by_fault CannotRead u = absurd u
-    by_fault OutOfMemory u = starved joins texts rest e.octets (length e.octets) r.taken t.stands none t.come.came.given (whole_text e t.text) u
-    by_fault CannotWrite (inl u) = lost joins texts rest e.octets (length e.octets) r.taken r.texts t.stands none t.come.came.given (omega arith) (whole_text e t.text) (inl refl) u
-    by_fault CannotWrite (inr u) =
-        let now = stands_still t.stands d.output u.put in
-        broke_in_text joins rest e.octets (length e.octets) r.taken r.texts
-        (subst (λ (m : MutBor _). Stands ws first.output (errors_of es first) r.envelopes (text_of e) d.output (es m.now) b.lines.items) (sym u.same) now) t.come.came.given (omega arith) (λ whole nothing. (e, t.come.is, refl)) (whole_text e t.text)
-        (rises (stops_of b) (stops_of d) none u.rose)
+unended joins texts t d none CannotRead u = absurd u
+unended {rest = rest} {r = r} joins texts t d none OutOfMemory u =
+    let e = t.come.envelope in
+    starved joins texts rest e.octets (length e.octets) r.taken t.stands none t.come.came.given (whole_text e t.text) u
+unended {rest = rest} {r = r} joins texts t d none CannotWrite (inl u) =
+    let e = t.come.envelope in
+    lost joins texts rest e.octets (length e.octets) r.taken r.texts t.stands none t.come.came.given (omega arith) (whole_text e t.text) (inl refl) u
+unended {ws = ws} {es = es} {first = first} {rest = rest} {b = b} {r = r} joins texts t d none CannotWrite (inr u) =
+    let e = t.come.envelope in
+    let now = stands_still t.stands d.output u.put in
+    broke_in_text joins rest e.octets (length e.octets) r.taken r.texts
+    (subst (λ (m : MutBor _). Stands ws first.output (errors_of es first) r.envelopes (text_of e) d.output (es m.now) b.lines.items) (sym u.same) now)
+    t.come.came.given (omega arith) (λ whole nothing. (e, t.come.is, refl)) (whole_text e t.text) (rises (stops_of b) (stops_of d) none u.rose)
 
 -- ---- nothing comes next
 
@@ -566,25 +554,16 @@ text_refused {e = e} r more is =
 pub keeps_on : {W E : Type 0} (a b c : Narrator W E) → KeepsTargets a b → KeepsTargets b c → KeepsTargets a c
 keeps_on a b c first then = (then.0 ∙ first.0, then.1 ∙ first.1)
 
-pub told_keeps : {W E : Type 0} (ws : W → Device) (es : E → Device) (a b : Narrator W E) (events : List StoryEvent) → TellsOn ws es a events b → KeepsTargets a b
-told_keeps ws es a b events t = (t.put.same, t.keeps)
-
-let_out_keeps : {W E : Type 0} (ws : W → Device) (es : E → Device) (a b : Narrator W E) (line : List ℕ) → LetsOut ws es a b line → KeepsTargets a b
-let_out_keeps ws es a b line l = (l.text.0.same, l.keeps)
-
-pub ended_keeps : {W E : Type 0} (ws : W → Device) (a b : Narrator W E) (line : List ℕ) → EndsStory ws a b line → KeepsTargets a b
-ended_keeps ws a b line ended = (ended.put.same, ap (λ (m : MutBor _). m.ghost_name) ended.lines.1)
-
 pub untold_keeps : {W E : Type 0} (ws : W → Device) (es : E → Device) (a b : Narrator W E) (line : List ℕ) (fault : CommandFault) → IsUntold ws es a b line fault → KeepsTargets a b
 untold_keeps ws es a b line CannotRead l = absurd l
 untold_keeps ws es a b line CannotWrite l = l.keeps
-untold_keeps ws es a b line OutOfMemory l = let_out_keeps ws es a b [] l
+untold_keeps ws es a b line OutOfMemory l = (l.text.0.same, l.keeps)
 
 pub unended_keeps : {W E : Type 0} (ws : W → Device) (es : E → Device) (a b : Narrator W E) (fault : CommandFault) → IsUnended ws es a b fault → KeepsTargets a b
 unended_keeps ws es a b CannotRead u = absurd u
 unended_keeps ws es a b CannotWrite (inl u) = u.keeps
 unended_keeps ws es a b CannotWrite (inr u) = (u.put.same, ap (λ (m : MutBor _). m.ghost_name) u.same)
-unended_keeps ws es a b OutOfMemory u = let_out_keeps ws es a b [] u
+unended_keeps ws es a b OutOfMemory u = (u.text.0.same, u.keeps)
 
 -- ---- before anything was read
 

@@ -1,16 +1,15 @@
 -- What an intake gives, of an unpacker that stands on no octets.
-use Rattle.std.proofs.Common.{◌≡◌, ◌≢◌, ◌⊎◌, ℕ, inl, inr, refl, sym, ap, subst, ◌∙◌, arith, List, [], length, take, Option, None, Some, Result, Ok, Err}
+use Rattle.std.proofs.Common.{◌≡◌, ◌≢◌, ◌⊎◌, ℕ, inl, inr, refl, sym, ap, subst, ◌∙◌, arith, List, [], length, take, Option, Some, Result, Ok, Err}
 use Rattle.std.proofs.Math.Seq.{take-length}
-use Rattle.iim_dataset.specs.States.Devices.{Device, HasGiven}
+use Rattle.iim_dataset.specs.States.Devices.{Device}
 use Rattle.iim_dataset.specs.declared.device.IoFault.{IoFault}
 use Rattle.iim_dataset.specs.declared.device.IoFault.TheVariants as io
-use Rattle.std.specs.Io.KnownBytes.{IsAtEnd}
 use Rattle.iim_fields.specs.declared.limits.Limits.{Limits}
 use Rattle.wire_story.specs.Format.Delivery.{StoryEvent}
 use Rattle.iim_places.specs.Format.Framed.{AreWithin}
 use Rattle.iim_unpack.specs.declared.intake.IntakeFault.{IntakeFault}
 use Rattle.iim_unpack.specs.declared.intake.IntakeFault.TheVariants.{Refused, Read, Interrupted}
-use Rattle.iim_unpack.specs.States.Intakes.{Faults, IsOfReader, IsRefusedOf, IsTruncatedIn, WasDone, WasMissed, WasRefused, WasTruncated}
+use Rattle.iim_unpack.specs.States.Intakes.{Faults, IsOfReader, WasDone, WasMissed, WasRefused, WasTruncated}
 use Rattle.iim_unpack.specs.States.Parts.{CountsFor}
 use Rattle.iim_places.specs.Format.Open.{Delivers, IsOpen}
 use Rattle.iim_unpack.specs.States.Unpacking.{IsDoneWith, LeftAs, Stands, Unpacking, limits_in}
@@ -54,15 +53,11 @@ has_come goes old new u v a b used same at w =
       delivered = delivered_of w.octets w.more adds;
     }
 
-refused_here : (u : Unpacking) (octets : List ℕ) (more : List StoryEvent) (e : Refusal) → limits_in u ≡ limits → IsRefusedOf (limits_in u) [] 0 octets more e
-    → IsRefusedOf limits [] 0 octets more e
-refused_here u octets more e same is = subst (λ (l : Limits). IsRefusedOf l [] 0 octets more e) same is
-
 pub is_refusal : {S : Type 0} (goes : S → List StoryEvent → S → Type 0) (failures : S → ℕ) (old new : Device) (u v : Unpacking) (a b : S) (e : Refusal)
     → limits_in u ≡ limits → Stands u [] 0 → e.cause ≢ Message messages.Sink → WasRefused goes failures old new u v a b e ⊎ WasTruncated goes failures old new u v a b e
     → IsRefusal goes old new a b e
 is_refusal goes failures old new u v a b e same at other (inl w) =
-    let is = refused_here u w.octets w.more e same (w.refuses [] 0 at) in
+    let is = rw same at (w.refuses [] 0 at) in
     record {
       octets = w.octets;
       more = w.more;
@@ -78,7 +73,7 @@ is_refusal goes failures old new u v a b e same at other (inl w) =
       delivered = delivered_of (take is.k w.octets) w.more is.adds;
     }
 is_refusal goes failures old new u v a b e same at other (inr w) =
-    let is = subst (λ (l : Limits). IsTruncatedIn l [] 0 w.octets w.more e) same (w.truncated [] 0 at) in
+    let is = rw same at (w.truncated [] 0 at) in
     record {
       octets = w.octets;
       more = w.more;
@@ -135,22 +130,6 @@ pub calm_of : {S : Type 0} (goes : S → List StoryEvent → S → Type 0) (fail
 calm_of goes failures old new u v a b e other (inl w) = calm_counts e.cause (failures a) (failures b) other w.counts
 calm_of goes failures old new u v a b e other (inr w) = w.calm
 
--- an envelope came
-pub come_as : {S : Type 0} (goes : S → List StoryEvent → S → Type 0) (failures : S → ℕ) (settled : S → Type 0) (stuck : S → S → Type 0) (old new : Device) (u : Unpacking) (a b : S) (x : Next) (octets : ℕ)
-    → x ≡ next.Envelope octets → IsNext goes failures settled stuck (old, a) (new, u, b) (Ok x) → EnvelopeHasCome goes old new u a b octets
-come_as goes failures settled stuck old new u a b x octets is n = subst (λ (y : Next). IsNext goes failures settled stuck (old, a) (new, u, b) (Ok y)) is n
-
-pub lives_as : (failed : Option ℕ) (x : Next) (octets : ℕ) → x ≡ next.Envelope octets → CanAskForMore failed (Ok x) → failed ≡ None
-lives_as failed x octets is n = subst (λ (y : Next). CanAskForMore failed (Ok y)) is n
-
-pub refusal_as : {S : Type 0} (goes : S → List StoryEvent → S → Type 0) (failures : S → ℕ) (settled : S → Type 0) (stuck : S → S → Type 0) (old new : Device) (u : Unpacking) (a b : S) (x : Next) (e : Refusal)
-    → x ≡ next.Refused e → IsNext goes failures settled stuck (old, a) (new, u, b) (Ok x) → IsRefusal goes old new a b e
-refusal_as goes failures settled stuck old new u a b x e is n = subst (λ (y : Next). IsNext goes failures settled stuck (old, a) (new, u, b) (Ok y)) is n
-
-pub end_as : {S : Type 0} (goes : S → List StoryEvent → S → Type 0) (failures : S → ℕ) (settled : S → Type 0) (stuck : S → S → Type 0) (old new : Device) (u : Unpacking) (a b : S) (x : Next)
-    → x ≡ next.End → IsNext goes failures settled stuck (old, a) (new, u, b) (Ok x) → HasGiven old new [] × IsAtEnd new.octets × goes a [] b × settled b
-end_as goes failures settled stuck old new u a b x is n = subst (λ (y : Next). IsNext goes failures settled stuck (old, a) (new, u, b) (Ok y)) is n
-
 -- what is so of what a sink is told, and stays so where it is held up, is so of what comes next
 pub kept_next : {S : Type 0} (goes : S → List StoryEvent → S → Type 0) (failures : S → ℕ) (settled : S → Type 0) (stuck : S → S → Type 0) (K : S → S → Type 0)
     → ((a b : S) (more : List StoryEvent) → goes a more b → K a b) → ((a b d : S) → K a b → stuck b d → K a d) → (old new : Device) (u : Unpacking) (a b : S) (result : Result Next CommandFault)
@@ -202,27 +181,17 @@ taken_faults failures settled joined joins cut new w e block failed fault h calm
 
 -- ---- of faults
 
-pub fault_next : {S : Type 0} (goes : S → List StoryEvent → S → Type 0) (failures : S → ℕ) (settled : S → Type 0) (stuck : S → S → Type 0) (old new : Device) (u v : Unpacking) (a b : S) (fault : IntakeFault) (result : Result Next CommandFault) → limits_in u ≡ limits → Stands u [] 0
-    → ((kept : ℕ) × Faults goes failures old new u v a b kept fault) × (IsOfReader fault → settled b) → IsOfFault fault result → IsNext goes failures settled stuck (old, a) (new, v, b) result
-fault_next goes failures settled stuck old new u v a b (Refused e) result same at ((kept, f), rests) (inl (sink, is)) =
-    subst (IsNext goes failures settled stuck (old, a) (new, v, b)) (sym is) (inl (is_unheard goes failures old new u v a b e at sink f.1))
-fault_next goes failures settled stuck old new u v a b (Refused e) result same at ((kept, f), rests) (inr (other, is)) =
-    subst (IsNext goes failures settled stuck (old, a) (new, v, b)) (sym is) (is_refusal goes failures old new u v a b e same at other f.1)
-fault_next goes failures settled stuck old new u v a b Read result same at ((kept, f), rests) is =
-    subst (IsNext goes failures settled stuck (old, a) (new, v, b)) (sym is) (is_cut_off goes failures old new u v a b kept io.Failed same at f, rests tt)
-fault_next goes failures settled stuck old new u v a b Interrupted result same at ((kept, f), rests) is =
-    subst (IsNext goes failures settled stuck (old, a) (new, v, b)) (sym is) (is_cut_off goes failures old new u v a b kept io.Interrupted same at f, rests tt)
-
-pub fault_calm : {S : Type 0} (goes : S → List StoryEvent → S → Type 0) (failures : S → ℕ) (settled : S → Type 0) (stuck : S → S → Type 0) (old new : Device) (u v : Unpacking) (a b : S) (fault : IntakeFault) (result : Result Next CommandFault)
-    → ((kept : ℕ) × Faults goes failures old new u v a b kept fault) × (IsOfReader fault → settled b) → IsOfFault fault result → IsCalm (failures a) (failures b) result
-fault_calm goes failures settled stuck old new u v a b (Refused e) result ((kept, f), rests) (inl (sink, is)) = subst (IsCalm (failures a) (failures b)) (sym is) tt
-fault_calm goes failures settled stuck old new u v a b (Refused e) result ((kept, f), rests) (inr (other, is)) =
-    subst (IsCalm (failures a) (failures b)) (sym is) (calm_of goes failures old new u v a b e other f.1)
-fault_calm goes failures settled stuck old new u v a b Read result ((kept, f), rests) is = subst (IsCalm (failures a) (failures b)) (sym is) f.calm
-fault_calm goes failures settled stuck old new u v a b Interrupted result ((kept, f), rests) is = subst (IsCalm (failures a) (failures b)) (sym is) f.calm
-
-pub fault_lives : (failed : Option ℕ) (fault : IntakeFault) (result : Result Next CommandFault) → IsOfFault fault result → CanAskForMore failed result
-fault_lives failed (Refused e) result (inl (sink, is)) = subst (CanAskForMore failed) (sym is) tt
-fault_lives failed (Refused e) result (inr (other, is)) = subst (CanAskForMore failed) (sym is) tt
-fault_lives failed Read result is = subst (CanAskForMore failed) (sym is) tt
-fault_lives failed Interrupted result is = subst (CanAskForMore failed) (sym is) tt
+-- what comes next is right, the count of the sink, and whether more can be asked for
+pub fault_next : {S : Type 0} (goes : S → List StoryEvent → S → Type 0) (failures : S → ℕ) (settled : S → Type 0) (stuck : S → S → Type 0)
+    (old new : Device) (u v : Unpacking) (a b : S) (alive : Option ℕ) (fault : IntakeFault) (result : Result Next CommandFault)
+    → limits_in u ≡ limits → Stands u [] 0 → ((kept : ℕ) × Faults goes failures old new u v a b kept fault) × (IsOfReader fault → settled b)
+    → IsOfFault fault result
+    → IsNext goes failures settled stuck (old, a) (new, v, b) result × IsCalm (failures a) (failures b) result × CanAskForMore alive result
+fault_next goes failures settled stuck old new u v a b alive (Refused e) result same at ((kept, f), rests) (inl (sink, is)) =
+    rw is (inl (is_unheard goes failures old new u v a b e at sink f.1), tt, tt)
+fault_next goes failures settled stuck old new u v a b alive (Refused e) result same at ((kept, f), rests) (inr (other, is)) =
+    rw is (is_refusal goes failures old new u v a b e same at other f.1, calm_of goes failures old new u v a b e other f.1, tt)
+fault_next goes failures settled stuck old new u v a b alive Read result same at ((kept, f), rests) is =
+    rw is ((is_cut_off goes failures old new u v a b kept io.Failed same at f, rests tt), f.calm, tt)
+fault_next goes failures settled stuck old new u v a b alive Interrupted result same at ((kept, f), rests) is =
+    rw is ((is_cut_off goes failures old new u v a b kept io.Interrupted same at f, rests tt), f.calm, tt)

@@ -1,14 +1,8 @@
-use Rattle.std.proofs.Common.{◌∙◌, refl, inr, Result}
+use Rattle.std.proofs.Common.{◌∙◌, refl, inr}
 use Rattle.iim_unpack.specs.States.Intakes.{in_line}
 use Rattle.iim_unpack.proofs.Intakes.{more_of, done_of, end_of}
 use Rattle.iim_listing.proofs.Feeding.{take_none, take_out, take_more, take_ended, is_ready, fewer_left}
-use Rattle.iim_listing.proofs.Taken.{taken_whole, taken_faults, held_up, fault_next, fault_calm, fault_lives}
-use Rattle.iim_listing.specs.Feeding.{IsOfFault}
-use Rattle.iim_listing.specs.States.Coming.{IsCalm, IsNext}
-use Rattle.iim_listing.specs.declared.coming.Next.{Next}
-use Rattle.iim_output.specs.declared.fault.CommandFault.{CommandFault}
-use Rattle.iim_listing.proofs.coming.take_next.Given.{Over}
-use Rattle.iim_listing.proofs.coming.take_next.Goals.{In-Err-next_piece}
+use Rattle.iim_listing.proofs.Taken.{taken_whole, taken_faults, held_up, fault_next}
 use Rattle.iim_listing.proofs.coming.take_next.Goals as goal
 
 pub feeding-init : goal.feeding-init
@@ -40,7 +34,8 @@ feeding-preserved g c =
       alive = c.in-Ok-More.ensures.calm.0;
       taken = take_more g.met.S.StorySink.joined c.gifts_join.ensures c.delivery_may_be_cut.ensures out more;
       calm = c.in-Ok-More.ensures.calm.1 ∙ c.in-Ok.ensures.calm ∙ c.feeding.invariant.calm;
-      leads = g.met.R.Source.leads_on c.args.intake.now.reader c.feeding.intake.reader c.next_piece.new.self.reader c.feeding.invariant.leads c.next_piece.ensures.leads;
+      leads =
+          g.met.R.Source.leads_on c.args.intake.now.reader c.feeding.intake.reader c.next_piece.new.self.reader c.feeding.invariant.leads c.next_piece.ensures.leads;
     }
 
 pub returns-in-Ok-Done-clause-next : goal.returns-in-Ok-Done-clause-next
@@ -59,43 +54,30 @@ pub returns-in-Err-clause-next : goal.returns-in-Err-clause-next
 returns-in-Err-clause-next g c =
     inr (held_up g.S.StorySink.failures g.S.Outlet.stuck c.let_out_before_read.new.sink c.feeding.invariant.taken c.feeding.invariant.calm c.in-Err.ensures.stuck)
 
--- why the intake gave nothing
-after_fault : (g : Over) (c : In-Err-next_piece g) (result : Result Next CommandFault) → IsOfFault c.in-Err-next_piece.fault result
-    → IsNext g.S.StorySink.goes g.S.StorySink.failures g.S.Outlet.settled g.S.Outlet.stuck (in_line g.R.Source.state c.args.intake.now, c.args.sink.now)
-    (in_line g.R.Source.state c.next_piece.new.self, c.next_piece.new.unpacker, c.next_piece.new.sink) result
-    × IsCalm (g.S.StorySink.failures c.args.sink.now) (g.S.StorySink.failures c.next_piece.new.sink) result
-after_fault g c result is =
-    let goes = g.S.StorySink.goes in
-    let failures = g.S.StorySink.failures in
-    let settled = g.S.Outlet.settled in
-    let stuck = g.S.Outlet.stuck in
-    let old = in_line g.R.Source.state c.args.intake.now in
-    let new = in_line g.R.Source.state c.next_piece.new.self in
-    let w = c.next_piece.new.unpacker in
-    let a = c.args.sink.now in
-    let e = c.next_piece.new.sink in
-    let fault = c.in-Err-next_piece.fault in
-    let out = take_out g.met.S.StorySink.joined c.feeding.invariant.taken c.in-Ok.ensures.told in
-    let faults = taken_faults failures settled g.met.S.StorySink.joined c.gifts_join.ensures c.delivery_may_be_cut.ensures new w e c.feeding.intake.block c.next_piece.new.self.failed fault
-    out (c.in-Ok.ensures.calm ∙ c.feeding.invariant.calm) c.in-Ok.ensures.settled (c.in-Err-next_piece.ensures.faults c.feeding.invariant.alive) c.in-Err-next_piece.ensures.reads.unread in (
-      fault_next goes failures settled stuck old new out.first w a e fault result out.within out.stood faults is,
-      fault_calm goes failures settled stuck old new out.first w a e fault result faults is,
-    )
-
-pub returns-in-Err-next_piece-clause-next : goal.returns-in-Err-next_piece-clause-next
-returns-in-Err-next_piece-clause-next g c = (after_fault g (goal.at.returns-in-Err-next_piece-clause-next g c).In-Err-next_piece c.next_of_fault.result c.next_of_fault.ensures).0
-
-pub returns-in-Err-next_piece-clause-calm : goal.returns-in-Err-next_piece-clause-calm
-returns-in-Err-next_piece-clause-calm g c = (after_fault g (goal.at.returns-in-Err-next_piece-clause-calm g c).In-Err-next_piece c.next_of_fault.result c.next_of_fault.ensures).1
-
-pub returns-in-Err-next_piece-clause-lives : goal.returns-in-Err-next_piece-clause-lives
-returns-in-Err-next_piece-clause-lives g c = fault_lives c.next_piece.new.self.failed c.in-Err-next_piece.fault c.next_of_fault.result c.next_of_fault.ensures
-
 pub returns-in-Ok-Done-clause-leads : goal.returns-in-Ok-Done-clause-leads
 returns-in-Ok-Done-clause-leads g c = g.met.R.Source.leads_on c.args.intake.now.reader c.feeding.intake.reader c.next_piece.new.self.reader c.feeding.invariant.leads c.next_piece.ensures.leads
 
 pub returns-in-Ok-End-clause-leads : goal.returns-in-Ok-End-clause-leads
 returns-in-Ok-End-clause-leads g c = g.met.R.Source.leads_on c.args.intake.now.reader c.feeding.intake.reader c.next_piece.new.self.reader c.feeding.invariant.leads c.next_piece.ensures.leads
 
-pub returns-in-Err-next_piece-clause-leads : goal.returns-in-Err-next_piece-clause-leads
-returns-in-Err-next_piece-clause-leads g c = g.met.R.Source.leads_on c.args.intake.now.reader c.feeding.intake.reader c.next_piece.new.self.reader c.feeding.invariant.leads c.next_piece.ensures.leads
+-- why the intake gave nothing
+pub returns-in-Err-next_piece : goal.returns-in-Err-next_piece
+returns-in-Err-next_piece g c =
+    let failures = g.S.StorySink.failures in
+    let settled = g.S.Outlet.settled in
+    let new = in_line g.R.Source.state c.next_piece.new.self in
+    let w = c.next_piece.new.unpacker in
+    let e = c.next_piece.new.sink in
+    let fault = c.in-Err-next_piece.fault in
+    let out = take_out g.met.S.StorySink.joined c.feeding.invariant.taken c.in-Ok.ensures.told in
+    let faults = taken_faults failures settled g.met.S.StorySink.joined c.gifts_join.ensures c.delivery_may_be_cut.ensures new w e c.feeding.intake.block c.next_piece.new.self.failed fault
+    out (c.in-Ok.ensures.calm ∙ c.feeding.invariant.calm) c.in-Ok.ensures.settled (c.in-Err-next_piece.ensures.faults c.feeding.invariant.alive) c.in-Err-next_piece.ensures.reads.unread in
+    let next = fault_next g.S.StorySink.goes failures settled g.S.Outlet.stuck (in_line g.R.Source.state c.args.intake.now) new out.first w c.args.sink.now e
+    c.next_piece.new.self.failed fault c.next_of_fault.result out.within out.stood faults c.next_of_fault.ensures in
+    record {
+      next = next.0;
+      calm = next.1;
+      lives = next.2;
+      leads =
+          g.met.R.Source.leads_on c.args.intake.now.reader c.feeding.intake.reader c.next_piece.new.self.reader c.feeding.invariant.leads c.next_piece.ensures.leads;
+    }

@@ -1,8 +1,7 @@
-use Rattle.std.proofs.Common.{rules, ◌≡◌, ◌∙◌, ◌+◌, [], refl, sym, append-nil, arith}
+use Rattle.std.proofs.Common.{rules, ◌≡◌, ◌∙◌, ◌+◌, ℕ, List, [], ◌++◌, refl, sym, append-nil, arith}
 use Rattle.iim_dataset.proofs.Lists.{handed_on}
 use Rattle.iim_dataset.specs.States.Devices.{Device}
 use Rattle.iim_unpack.specs.States.Intakes.{in_line}
-use Rattle.iim_output.specs.Format.Lines.{refused_line, too_many_line}
 use Rattle.iim_places.specs.Format.Listing.{max_envelopes, Whole, RefusedBy, TooMany}
 use Rattle.iim_output.specs.States.Holding.{KeepsWriter}
 use Rattle.iim_output.specs.States.Silence.{IsSettled, IsStuck, PassesOver, refuses_never}
@@ -10,27 +9,15 @@ use Rattle.iim_output.specs.declared.block_writer.BlockWriter.{BlockWriter}
 use Rattle.iim_output.specs.declared.fault.CommandFault.TheVariants.{OutOfMemory}
 use Rattle.iim_listing.proofs.Listings.{ends_refused, failed, left_of, none_left, listed, listed_more, listed_out, starved, unended, unsaid_of}
 use Rattle.iim_output.specs.HoldingLaws.{put_nothing}
-use Rattle.iim_listing.proofs.Taken.{come_as, end_as, kept_next, lives_as, refusal_as}
-use Rattle.iim_listing.proofs.Told.{added}
-use Rattle.iim_listing.specs.States.Coming.{EnvelopeHasCome, IsRefusal}
+use Rattle.iim_listing.proofs.Taken.{kept_next}
 use Rattle.iim_listing.specs.Turns.{AreListed}
 use Rattle.iim_listing.proofs.list.list_next.Given.{Over}
-use Rattle.iim_listing.proofs.list.list_next.Goals.{After-take_next, In-Envelope, In-Refused}
+use Rattle.iim_listing.proofs.list.list_next.Goals.{After-take_next}
 use Rattle.iim_listing.proofs.list.list_next.Goals as goal
 
--- what came of an envelope, or of refused octets
-envelope : (g : Over) (c : In-Envelope g) → EnvelopeHasCome (PassesOver g.W.Target.state) (in_line g.R.Source.state c.args.intake.now) (in_line g.R.Source.state c.take_next.new.intake) c.take_next.new.unpacker c.args.silent.now c.take_next.new.sink
-    c.in-Envelope.octets
-envelope g c =
-    let state = g.W.Target.state in
-    come_as (PassesOver state) refuses_never IsSettled (IsStuck state) (in_line g.R.Source.state c.args.intake.now) (in_line g.R.Source.state c.take_next.new.intake) c.take_next.new.unpacker c.args.silent.now c.take_next.new.sink c.in_ok-octets.field-0
-    c.in-Envelope.octets c.in-Envelope.is c.in_ok-octets.ensures.next
-
-refusal : (g : Over) (c : In-Refused g) → IsRefusal (PassesOver g.W.Target.state) (in_line g.R.Source.state c.args.intake.now) (in_line g.R.Source.state c.take_next.new.intake) c.args.silent.now c.take_next.new.sink c.in-Refused.refusal
-refusal g c =
-    let state = g.W.Target.state in
-    refusal_as (PassesOver state) refuses_never IsSettled (IsStuck state) (in_line g.R.Source.state c.args.intake.now) (in_line g.R.Source.state c.take_next.new.intake) c.take_next.new.unpacker c.args.silent.now c.take_next.new.sink c.in_ok-octets.field-0
-    c.in-Refused.refusal c.in-Refused.is c.in_ok-octets.ensures.next
+-- what was added to an empty buffer is all that stands in it
+added : (before after words all : List ℕ) → before ≡ [] → after ≡ before ++ words → all ≡ after → all ≡ words
+added before after words all empty more whole = rw (whole, more, empty) refl
 
 -- the writer is over the same target
 kept : (g : Over) (c : After-take_next g) → (source : Device) (old : BlockWriter _)
@@ -42,7 +29,7 @@ kept g c source old r =
 
 pub push_envelope-requires : goal.push_envelope-requires
 push_envelope-requires g c =
-    let h = envelope g (goal.at.push_envelope-requires g c).In-Envelope in
+    let h = rw c.in-Envelope.is at c.in_ok-octets.ensures.next in
     (h.done.taking, h.done.ended)
 
 pub returns-in_err-octets-clause-err : goal.returns-in_err-octets-clause-err
@@ -59,14 +46,12 @@ returns-in_err-octets-clause-err g c =
 pub returns-in_err-add_last-in-Envelope-clause-err : goal.returns-in_err-add_last-in-Envelope-clause-err
 returns-in_err-add_last-in-Envelope-clause-err g c =
     let at = goal.at.returns-in_err-add_last-in-Envelope-clause-err g c in
-    let h = envelope g at.In-Envelope in
-    let full : c.args.count ≡ max_envelopes = search rules in
+    let h = rw c.in-Envelope.is at c.in_ok-octets.ensures.next in
     let fault = c.in_err-add_last-in-Envelope.field-0.0 in
-    let words : c.as_bytes.result.now ≡ too_many_line = search rules in
     handed_on _ c.from_residual-in_err-add_last-in-Envelope.result fault c.from_residual-in_err-add_last-in-Envelope.ensures.1
     (λ source old r empty. (
       unended c.gifts_join.ensures c.texts_join.ensures (in_line g.R.Source.state c.take_next.new.intake) c.add_last.new.output h.envelope.octets c.as_bytes.result.now TooMany fault (listed_out _ _ _ _ _ _ _ _ r h.came.told) empty
-          h.came.given (full, h.envelope, h.is, [], sym (append-nil h.envelope.octets)) words c.in_err-add_last-in-Envelope.ensures.err,
+          h.came.given (search rules, h.envelope, h.is, [], sym (append-nil h.envelope.octets)) (search rules) c.in_err-add_last-in-Envelope.ensures.err,
       c.in_err-add_last-in-Envelope.ensures.err.1.same ∙ kept g at.After-take_next source old r,
     ))
 
@@ -74,14 +59,12 @@ pub returns-then-count-eq-MAX_ENVELOPES-clause-ok : goal.returns-then-count-eq-M
 returns-then-count-eq-MAX_ENVELOPES-clause-ok g c =
     let rest = in_line g.R.Source.state c.take_next.new.intake in
     let at = goal.at.returns-then-count-eq-MAX_ENVELOPES-clause-ok g c in
-    let h = envelope g at.In-Envelope in
-    let full : c.args.count ≡ max_envelopes = search rules in
-    let words : c.as_bytes.result.now ≡ too_many_line = search rules in
+    let h = rw c.in-Envelope.is at c.in_ok-octets.ensures.next in
     let more = left_of rest.octets in (
       tt,
       λ source old r empty. (
         listed c.gifts_join.ensures rest c.add_last.new.output 1 h.envelope.octets more.0 c.as_bytes.result.now TooMany (listed_out _ _ _ _ _ _ _ _ r h.came.told)
-            h.came.given more.1 (full, h.envelope, h.is, more.0, refl) refl words empty c.in_ok-add_last-in-Envelope.ensures.ok c.in_ok-add_last-in-Envelope.ensures.held,
+            h.came.given more.1 (search rules, h.envelope, h.is, more.0, refl) refl (search rules) empty c.in_ok-add_last-in-Envelope.ensures.ok c.in_ok-add_last-in-Envelope.ensures.held,
         c.in_ok-add_last-in-Envelope.ensures.ok.same ∙ kept g at.After-take_next source old r,
       ),
     )
@@ -89,15 +72,15 @@ returns-then-count-eq-MAX_ENVELOPES-clause-ok g c =
 pub returns-in_err-push_envelope-in-Envelope-clause-err : goal.returns-in_err-push_envelope-in-Envelope-clause-err
 returns-in_err-push_envelope-in-Envelope-clause-err g c =
     let at = goal.at.returns-in_err-push_envelope-in-Envelope-clause-err g c in
-    let h = envelope g at.In-Envelope in
+    let h = rw c.in-Envelope.is at c.in_ok-octets.ensures.next in
     handed_on _ c.from_residual-in_err-push_envelope-in-Envelope.result OutOfMemory c.from_residual-in_err-push_envelope-in-Envelope.ensures.1
     (λ source old r empty. (starved c.gifts_join.ensures (in_line g.R.Source.state c.take_next.new.intake) h.envelope.octets (listed_out _ _ _ _ _ _ _ _ r h.came.told) h.came.given, kept g at.After-take_next source old r))
 
 pub returns-in_err-add-in-Envelope-clause-err : goal.returns-in_err-add-in-Envelope-clause-err
 returns-in_err-add-in-Envelope-clause-err g c =
     let at = goal.at.returns-in_err-add-in-Envelope-clause-err g c in
-    let h = envelope g at.In-Envelope in
-    let words = added c.clear.new.self.items c.push_envelope.new.text.items (g.P.EnvelopeLines.written (c.args.count + 1) h.envelope) c.as_slice.result.now c.clear.ensures.items
+    let h = rw c.in-Envelope.is at c.in_ok-octets.ensures.next in
+    let words = added _ _ (g.P.EnvelopeLines.written (c.args.count + 1) h.envelope) _ c.clear.ensures.items
     (c.in_ok-push_envelope-in-Envelope.ensures h.envelope (h.done, h.is.admits, h.counts)) c.as_slice.ensures.value in
     let below : c.args.count ≡ max_envelopes → ⊥ = search rules in
     let fault = c.in_err-add-in-Envelope.field-0.0 in
@@ -110,15 +93,11 @@ returns-in_err-add-in-Envelope-clause-err g c =
 
 pub returns-in_ok-add-in-Envelope-clause-ok : goal.returns-in_ok-add-in-Envelope-clause-ok
 returns-in_ok-add-in-Envelope-clause-ok g c =
-    let h = envelope g (goal.at.returns-in_ok-add-in-Envelope-clause-ok g c).In-Envelope in
-    let words = added c.clear.new.self.items c.push_envelope.new.text.items (g.P.EnvelopeLines.written (c.args.count + 1) h.envelope) c.as_slice.result.now c.clear.ensures.items
+    let h = rw c.in-Envelope.is at c.in_ok-octets.ensures.next in
+    let words = added _ _ (g.P.EnvelopeLines.written (c.args.count + 1) h.envelope) _ c.clear.ensures.items
     (c.in_ok-push_envelope-in-Envelope.ensures h.envelope (h.done, h.is.admits, h.counts)) c.as_slice.ensures.value in
     let below : c.args.count ≡ max_envelopes → ⊥ = search rules in (
-      (
-        lives_as c.take_next.new.intake.failed c.in_ok-octets.field-0 c.in-Envelope.octets c.in-Envelope.is c.in_ok-octets.ensures.lives,
-        h.same,
-        omega (arith, c.requires.few, below),
-      ),
+      (rw c.in-Envelope.is at c.in_ok-octets.ensures.lives, h.same, omega (arith, c.requires.few, below)),
       λ source old r empty.
           listed_more c.gifts_join.ensures (in_line g.R.Source.state c.take_next.new.intake) c.add.new.output c.as_slice.result.now h.envelope (listed_out _ _ _ _ _ _ _ _ r h.came.told) h.is h.came.given
           below words c.in_ok-add-in-Envelope.ensures.ok,
@@ -126,34 +105,31 @@ returns-in_ok-add-in-Envelope-clause-ok g c =
 
 pub returns-in-End-clause-ok : goal.returns-in-End-clause-ok
 returns-in-End-clause-ok g c =
-    let state = g.W.Target.state in
-    let mid = in_line g.R.Source.state c.args.intake.now in
     let rest = in_line g.R.Source.state c.take_next.new.intake in
     let b = c.take_next.new.sink in
-    let h = end_as (PassesOver state) refuses_never IsSettled (IsStuck state) mid rest c.take_next.new.unpacker c.args.silent.now b c.in_ok-octets.field-0 c.in-End.is c.in_ok-octets.ensures.next in (
+    let h = rw c.in-End.is at c.in_ok-octets.ensures.next in (
       tt,
       λ source old r empty.
           let out = listed_out _ _ _ _ _ _ b.output _ r h.2 in
-          (listed c.gifts_join.ensures rest b.output 0 [] [] [] Whole out h.0 (none_left rest.octets h.1) refl refl refl empty (put_nothing state b.output) h.3, out.put.same),
+          (listed c.gifts_join.ensures rest b.output 0 [] [] [] Whole out h.0 (none_left rest.octets h.1) refl refl refl empty (put_nothing g.W.Target.state b.output) h.3, out.put.same),
     )
 
 pub returns-in_err-push_refused-in-Refused-clause-err : goal.returns-in_err-push_refused-in-Refused-clause-err
 returns-in_err-push_refused-in-Refused-clause-err g c =
     let at = goal.at.returns-in_err-push_refused-in-Refused-clause-err g c in
-    let h = refusal g at.In-Refused in
+    let h = rw c.in-Refused.is at c.in_ok-octets.ensures.next in
     handed_on _ c.from_residual-in_err-push_refused-in-Refused.result OutOfMemory c.from_residual-in_err-push_refused-in-Refused.ensures.1
     (λ source old r empty. (starved c.gifts_join.ensures (in_line g.R.Source.state c.take_next.new.intake) h.octets (listed_out _ _ _ _ _ _ _ _ r h.came.told) h.came.given, kept g at.After-take_next source old r))
 
 pub returns-in_err-add_last-in-Refused-clause-err : goal.returns-in_err-add_last-in-Refused-clause-err
 returns-in_err-add_last-in-Refused-clause-err g c =
     let at = goal.at.returns-in_err-add_last-in-Refused-clause-err g c in
-    let h = refusal g at.In-Refused in
-    let words : c.as_slice-in-Refused.result.now ≡ refused_line (c.args.count + 1) c.in-Refused.refusal = search rules in
+    let h = rw c.in-Refused.is at c.in_ok-octets.ensures.next in
     let fault = c.in_err-add_last-in-Refused.field-0.0 in
     handed_on _ c.from_residual-in_err-add_last-in-Refused.result fault c.from_residual-in_err-add_last-in-Refused.ensures.1
     (λ source old r empty. (
       unended c.gifts_join.ensures c.texts_join.ensures (in_line g.R.Source.state c.take_next.new.intake) c.add_last-in-Refused.new.output h.octets c.as_slice-in-Refused.result.now (RefusedBy c.in-Refused.refusal) fault (listed_out _ _ _ _ _ _ _ _ r h.came.told) empty
-          h.came.given (h.k, h.refused) words c.in_err-add_last-in-Refused.ensures.err,
+          h.came.given (h.k, h.refused) (search rules) c.in_err-add_last-in-Refused.ensures.err,
       c.in_err-add_last-in-Refused.ensures.err.1.same ∙ kept g at.After-take_next source old r,
     ))
 
@@ -161,13 +137,12 @@ pub returns-in_ok-add_last-in-Refused-clause-ok : goal.returns-in_ok-add_last-in
 returns-in_ok-add_last-in-Refused-clause-ok g c =
     let rest = in_line g.R.Source.state c.take_next.new.intake in
     let at = goal.at.returns-in_ok-add_last-in-Refused-clause-ok g c in
-    let h = refusal g at.In-Refused in
-    let words : c.as_slice-in-Refused.result.now ≡ refused_line (c.args.count + 1) c.in-Refused.refusal = search rules in
+    let h = rw c.in-Refused.is at c.in_ok-octets.ensures.next in
     let more = ends_refused (PassesOver g.W.Target.state) (in_line g.R.Source.state c.args.intake.now) rest c.args.silent.now c.take_next.new.sink c.in-Refused.refusal h in (
       tt,
       λ source old r empty. (
         listed c.gifts_join.ensures rest c.add_last-in-Refused.new.output 1 h.octets more.0 c.as_slice-in-Refused.result.now (RefusedBy c.in-Refused.refusal) (listed_out _ _ _ _ _ _ _ _ r h.came.told)
-            h.came.given more.1 (h.k, more.2) refl words empty c.in_ok-add_last-in-Refused.ensures.ok c.in_ok-add_last-in-Refused.ensures.held,
+            h.came.given more.1 (h.k, more.2) refl (search rules) empty c.in_ok-add_last-in-Refused.ensures.ok c.in_ok-add_last-in-Refused.ensures.held,
         c.in_ok-add_last-in-Refused.ensures.ok.same ∙ kept g at.After-take_next source old r,
       ),
     )

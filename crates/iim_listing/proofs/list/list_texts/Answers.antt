@@ -19,9 +19,6 @@ returns-in_err-unpacker-clause-err g c =
     handed_on _ c.from_residual.result OutOfMemory c.from_residual.ensures.1
     (starved c.gifts_join.ensures source [] (none_listed g.W.Target.state c.gifts_join.ensures g.P.EnvelopeLines.written source c.args.silent.now.output) (c.gifts_join.ensures.none source))
 
-pub list_next-requires-clause-few : goal.list_next-requires-clause-few
-list_next-requires-clause-few g c = c.listing.invariant.listed.taken.few
-
 pub listing-preserved : goal.listing-preserved
 listing-preserved g c =
     let next = rw c.in-Ok-None.field-0-is at c.in-Ok-None.ensures.ok in
@@ -37,24 +34,13 @@ listing-smaller g c =
     let next = rw c.in-Ok-None.field-0-is at c.in-Ok-None.ensures.ok in
     omega (arith, next.0.2)
 
-pub returns-in-Ok-Some-clause-ok : goal.returns-in-Ok-Some-clause-ok
-returns-in-Ok-Some-clause-ok g c =
+pub returns-in-Ok-Some : goal.returns-in-Ok-Some
+returns-in-Ok-Some g c =
     let next = rw c.in-Ok-Some.field-0-is at c.in-Ok-Some.ensures.ok in
-    (next.1 (in_line g.R.Source.state c.args.intake.now) c.args.silent.now.output c.listing.invariant.listed c.requires.held).0
+    let out = next.1 (in_line g.R.Source.state c.args.intake.now) c.args.silent.now.output c.listing.invariant.listed c.requires.held in
+    record { ok = out.0; err = tt; same = out.1; leads = c.listing.invariant.leads c.list_next.new.intake.reader c.list_next.ensures.leads }
 
-pub returns-in-Ok-Some-clause-same : goal.returns-in-Ok-Some-clause-same
-returns-in-Ok-Some-clause-same g c =
-    let next = rw c.in-Ok-Some.field-0-is at c.in-Ok-Some.ensures.ok in
-    (next.1 (in_line g.R.Source.state c.args.intake.now) c.args.silent.now.output c.listing.invariant.listed c.requires.held).1
-
-pub returns-in-Ok-Some-clause-leads : goal.returns-in-Ok-Some-clause-leads
-returns-in-Ok-Some-clause-leads g c = c.listing.invariant.leads c.list_next.new.intake.reader c.list_next.ensures.leads
-
-pub returns-in-Err-clause-err : goal.returns-in-Err-clause-err
-returns-in-Err-clause-err g c = (c.in-Err.ensures.err (in_line g.R.Source.state c.args.intake.now) c.args.silent.now.output c.listing.invariant.listed c.requires.held).0
-
-pub returns-in-Err-clause-same : goal.returns-in-Err-clause-same
-returns-in-Err-clause-same g c = (c.in-Err.ensures.err (in_line g.R.Source.state c.args.intake.now) c.args.silent.now.output c.listing.invariant.listed c.requires.held).1
-
-pub returns-in-Err-clause-leads : goal.returns-in-Err-clause-leads
-returns-in-Err-clause-leads g c = c.listing.invariant.leads c.list_next.new.intake.reader c.list_next.ensures.leads
+pub returns-in-Err : goal.returns-in-Err
+returns-in-Err g c =
+    let out = c.in-Err.ensures.err (in_line g.R.Source.state c.args.intake.now) c.args.silent.now.output c.listing.invariant.listed c.requires.held in
+    record { ok = tt; err = out.0; same = out.1; leads = c.listing.invariant.leads c.list_next.new.intake.reader c.list_next.ensures.leads }

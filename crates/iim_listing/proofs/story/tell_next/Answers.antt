@@ -3,32 +3,25 @@ use Rattle.iim_dataset.specs.States.Devices.{Device}
 use Rattle.iim_dataset.proofs.Lists.{handed_on}
 use Rattle.iim_unpack.specs.States.Intakes.{in_line}
 use Rattle.wire_story.specs.Format.Delivery.{octet_for}
-use Rattle.iim_output.specs.Format.Lines.{accepted_line, refused_line, too_many_line}
+use Rattle.iim_output.specs.Format.Lines.{accepted_line, refused_line}
 use Rattle.iim_places.specs.Format.Listing.{max_envelopes, Whole, RefusedBy, TooMany}
 use Rattle.iim_listing.specs.Narrating.{EndsStory, IsSettled, IsStuck, KeepsTargets, TellsOn, errors_of, output_of, stops_of}
 use Rattle.iim_listing.specs.Format.Narration.{text_of}
 use Rattle.iim_listing.specs.Turns.{IsTelling}
 use Rattle.iim_listing.specs.declared.narrator.Narrator.{Narrator}
-use Rattle.iim_listing.proofs.Narration.{TextIsTaken, all_out, all_settled, ended_keeps, keeps_on, narrated, narrated_more, refused_within, stands_told, text_refused, text_taken, told_keeps, unended, unended_keeps, unfed, untold, untold_keeps, whole_text}
+use Rattle.iim_listing.proofs.Narration.{TextIsTaken, all_out, all_settled, keeps_on, narrated, narrated_more, refused_within, stands_told, text_refused, text_taken, unended, unended_keeps, unfed, untold, untold_keeps, whole_text}
 use Rattle.iim_listing.proofs.Listings.{ends_refused, left_of, none_left}
-use Rattle.iim_listing.proofs.Taken.{come_as, end_as, kept_next, lives_as, refusal_as}
-use Rattle.iim_listing.specs.States.Coming.{IsRefusal}
+use Rattle.iim_listing.proofs.Taken.{kept_next}
 use Rattle.iim_listing.proofs.story.tell_next.Given.{Over}
-use Rattle.iim_listing.proofs.story.tell_next.Goals.{After-take_next, In-Envelope, In-Refused}
+use Rattle.iim_listing.proofs.story.tell_next.Goals.{After-take_next, In-Envelope}
 use Rattle.iim_listing.proofs.story.tell_next.Goals as goal
 
--- what came of an envelope, or of refused octets
+-- what came of an envelope
 taken : (g : Over) (c : In-Envelope g) {source : Device} {first : Narrator _ _}
     → (t : IsTelling g.W.Target.state g.E.Target.state first source (in_line g.R.Source.state c.args.intake.now) c.args.narrator.now c.args.count)
     → TextIsTaken t.narrated (in_line g.R.Source.state c.take_next.new.intake) c.take_next.new.unpacker c.take_next.new.sink c.in-Envelope.octets
 taken g c t =
-    text_taken c.envelopes_are_delivered_as_lines.ensures c.story_laws.ensures.lines_are_joined_by_line_feeds c.texts_join.ensures t.narrated (in_line g.R.Source.state c.take_next.new.intake) c.take_next.new.unpacker c.take_next.new.sink
-    c.in_ok-octets.field-0 c.in-Envelope.octets c.in-Envelope.is c.in_ok-octets.ensures.next
-
-refusal : (g : Over) (c : In-Refused g) → IsRefusal (TellsOn g.W.Target.state g.E.Target.state) (in_line g.R.Source.state c.args.intake.now) (in_line g.R.Source.state c.take_next.new.intake) c.args.narrator.now c.take_next.new.sink c.in-Refused.refusal
-refusal g c =
-    refusal_as (TellsOn g.W.Target.state g.E.Target.state) stops_of IsSettled (IsStuck g.W.Target.state g.E.Target.state) (in_line g.R.Source.state c.args.intake.now) (in_line g.R.Source.state c.take_next.new.intake) c.take_next.new.unpacker
-    c.args.narrator.now c.take_next.new.sink c.in_ok-octets.field-0 c.in-Refused.refusal c.in-Refused.is c.in_ok-octets.ensures.next
+    text_taken c.envelopes_are_delivered_as_lines.ensures c.story_laws.ensures.lines_are_joined_by_line_feeds c.texts_join.ensures t.narrated (rw c.in-Envelope.is at c.in_ok-octets.ensures.next)
 
 -- the targets stay the same
 kept : (g : Over) (c : After-take_next g) (first : Narrator _ _) → KeepsTargets first c.args.narrator.now → KeepsTargets first c.take_next.new.sink
@@ -36,7 +29,7 @@ kept g c first keeps =
     let ws = g.W.Target.state in
     let es = g.E.Target.state in
     keeps_on first c.args.narrator.now c.take_next.new.sink keeps
-    (kept_next (TellsOn ws es) stops_of IsSettled (IsStuck ws es) KeepsTargets (λ a b more told. told_keeps ws es a b more told) (λ a b d keeps stuck. keeps_on a b d keeps stuck.keeps) (in_line g.R.Source.state c.args.intake.now)
+    (kept_next (TellsOn ws es) stops_of IsSettled (IsStuck ws es) KeepsTargets (λ a b more told. (told.put.same, told.keeps)) (λ a b d keeps stuck. keeps_on a b d keeps stuck.keeps) (in_line g.R.Source.state c.args.intake.now)
     (in_line g.R.Source.state c.take_next.new.intake) c.take_next.new.unpacker c.args.narrator.now c.take_next.new.sink c.take_next.result c.take_next.ensures.next)
 
 pub returns-in_err-octets-clause-err : goal.returns-in_err-octets-clause-err
@@ -54,8 +47,6 @@ returns-in_err-tell_last-in-Envelope-clause-err g c =
     let at = goal.at.returns-in_err-tell_last-in-Envelope-clause-err g c in
     let b = c.take_next.new.sink in
     let d = c.tell_last.new.self in
-    let full : c.args.count ≡ max_envelopes = search rules in
-    let same : c.as_bytes.result.now ≡ too_many_line = search rules in
     let fault = c.in_err-tell_last-in-Envelope.field-0.0 in
     handed_on _ c.from_residual-in_err-tell_last-in-Envelope.result fault c.from_residual-in_err-tell_last-in-Envelope.ensures.1
     (λ source first t.
@@ -63,7 +54,7 @@ returns-in_err-tell_last-in-Envelope-clause-err g c =
     let e = h.come.envelope in (
       untold g.E.Target.state c.gifts_join.ensures c.texts_join.ensures (in_line g.R.Source.state c.take_next.new.intake) b d c.as_bytes.result.now e.octets (length e.octets) t.narrated.taken t.narrated.texts h.stands
           (c.in_ok-octets.ensures.calm ∙ t.unbroken) h.come.came.given (omega arith) (whole_text e h.text)
-          (TooMany, (full, e, h.come.is, [], sym (append-nil e.octets)), (e, h.come.is, [], sym (append-nil e.octets), refl), same) fault c.in_err-tell_last-in-Envelope.ensures.err,
+          (TooMany, (search rules, e, h.come.is, [], sym (append-nil e.octets)), (e, h.come.is, [], sym (append-nil e.octets), refl), (search rules)) fault c.in_err-tell_last-in-Envelope.ensures.err,
       keeps_on first b d (kept g at.After-take_next first t.keeps) (untold_keeps g.W.Target.state g.E.Target.state b d c.as_bytes.result.now fault c.in_err-tell_last-in-Envelope.ensures.err),
     ))
 
@@ -75,8 +66,6 @@ returns-then-count-eq-MAX_ENVELOPES-clause-ok g c =
     let rest = in_line g.R.Source.state c.take_next.new.intake in
     let b = c.take_next.new.sink in
     let d = c.tell_last.new.self in
-    let full : c.args.count ≡ max_envelopes = search rules in
-    let same : c.as_bytes.result.now ≡ too_many_line = search rules in
     let more = left_of rest.octets in
     let out = c.in_ok-tell_last-in-Envelope.ensures.ok in (
       tt,
@@ -84,7 +73,7 @@ returns-then-count-eq-MAX_ENVELOPES-clause-ok g c =
           let h = taken g at.In-Envelope t in
           let e = h.come.envelope in (
             narrated c.gifts_join.ensures rest (output_of ws first) (output_of ws d) (errors_of es first) (errors_of es d) 1 e.octets more.0 (text_of e) c.as_bytes.result.now TooMany t.narrated.taken
-                h.come.came.given more.1 (full, e, h.come.is, more.0, refl) (e, h.come.is, more.0, refl, refl) refl same
+                h.come.came.given more.1 (search rules, e, h.come.is, more.0, refl) (e, h.come.is, more.0, refl, refl) refl (search rules)
                 (all_out c.texts_join.ensures h.stands (c.in_ok-octets.ensures.calm ∙ t.unbroken) out),
             keeps_on first b d (kept g at.After-take_next first t.keeps) (out.text.0.same, out.keeps),
           ),
@@ -110,18 +99,13 @@ returns-in_ok-end_story-in-Envelope-clause-ok g c =
     let below : c.args.count ≡ max_envelopes → ⊥ = search rules in
     let line = accepted_line (c.args.count + 1) c.in-Envelope.octets in
     let ended : EndsStory g.W.Target.state b d line = search rules in
-    let come = come_as (TellsOn g.W.Target.state g.E.Target.state) stops_of IsSettled (IsStuck g.W.Target.state g.E.Target.state) (in_line g.R.Source.state c.args.intake.now) (in_line g.R.Source.state c.take_next.new.intake)
-    c.take_next.new.unpacker c.args.narrator.now b c.in_ok-octets.field-0 c.in-Envelope.octets c.in-Envelope.is c.in_ok-octets.ensures.next in (
-      (
-        lives_as c.take_next.new.intake.failed c.in_ok-octets.field-0 c.in-Envelope.octets c.in-Envelope.is c.in_ok-octets.ensures.lives,
-        come.same,
-        omega (arith, c.requires.few, below),
-      ),
+    let come = rw c.in-Envelope.is at c.in_ok-octets.ensures.next in (
+      (rw c.in-Envelope.is at c.in_ok-octets.ensures.lives, come.same, omega (arith, c.requires.few, below)),
       λ source first t.
           let h = taken g at.In-Envelope t in
           record {
             narrated = narrated_more c.gifts_join.ensures h d line below (ap (accepted_line (c.args.count + 1)) h.come.counts) ended;
-            keeps = keeps_on first b d (kept g at.After-take_next first t.keeps) (ended_keeps g.W.Target.state b d line ended);
+            keeps = keeps_on first b d (kept g at.After-take_next first t.keeps) (ended.put.same, ap (λ m. m.ghost_name) ended.lines.1);
             unbroken = ended.calm ∙ c.in_ok-octets.ensures.calm ∙ t.unbroken;
           },
     )
@@ -133,8 +117,7 @@ returns-in-End-clause-ok g c =
     let es = g.E.Target.state in
     let rest = in_line g.R.Source.state c.take_next.new.intake in
     let b = c.take_next.new.sink in
-    let h = end_as (TellsOn ws es) stops_of IsSettled (IsStuck ws es) (in_line g.R.Source.state c.args.intake.now) rest c.take_next.new.unpacker c.args.narrator.now b c.in_ok-octets.field-0 c.in-End.is
-    c.in_ok-octets.ensures.next in (
+    let h = rw c.in-End.is at c.in_ok-octets.ensures.next in (
       tt,
       λ source first t. (
         narrated c.gifts_join.ensures rest (output_of ws first) (output_of ws b) (errors_of es first) (errors_of es b) 0 [] [] [] [] Whole t.narrated.taken h.0 (none_left rest.octets h.1) refl refl refl refl
@@ -146,7 +129,7 @@ returns-in-End-clause-ok g c =
 pub returns-in_err-tell_refusal-in-Refused-clause-err : goal.returns-in_err-tell_refusal-in-Refused-clause-err
 returns-in_err-tell_refusal-in-Refused-clause-err g c =
     let at = goal.at.returns-in_err-tell_refusal-in-Refused-clause-err g c in
-    let f = refusal g at.In-Refused in
+    let f = rw c.in-Refused.is at c.in_ok-octets.ensures.next in
     let b = c.take_next.new.sink in
     let d = c.tell_refusal.new.self in
     let line = refused_line (c.args.count + 1) c.in-Refused.refusal in
@@ -162,7 +145,7 @@ returns-in_err-tell_refusal-in-Refused-clause-err g c =
 pub returns-in_ok-tell_refusal-in-Refused-clause-ok : goal.returns-in_ok-tell_refusal-in-Refused-clause-ok
 returns-in_ok-tell_refusal-in-Refused-clause-ok g c =
     let at = goal.at.returns-in_ok-tell_refusal-in-Refused-clause-ok g c in
-    let f = refusal g at.In-Refused in
+    let f = rw c.in-Refused.is at c.in_ok-octets.ensures.next in
     let ws = g.W.Target.state in
     let es = g.E.Target.state in
     let rest = in_line g.R.Source.state c.take_next.new.intake in

@@ -26,9 +26,6 @@ returns-in_err-unpacker-clause-err g c =
     let errors = errors_of g.E.Target.state c.args.narrator.now in
     handed_on _ c.from_residual.result OutOfMemory c.from_residual.ensures.1 (nothing_told c.gifts_join.ensures c.texts_join.ensures source old old errors refl)
 
-pub tell_next-requires-clause-few : goal.tell_next-requires-clause-few
-tell_next-requires-clause-few g c = c.telling.invariant.told.narrated.taken.few
-
 pub telling-preserved : goal.telling-preserved
 telling-preserved g c =
     let next = rw c.in-Ok-None.field-0-is at c.in-Ok-None.ensures.ok in
@@ -44,24 +41,13 @@ telling-smaller g c =
     let next = rw c.in-Ok-None.field-0-is at c.in-Ok-None.ensures.ok in
     omega (arith, next.0.2)
 
-pub returns-in-Ok-Some-clause-ok : goal.returns-in-Ok-Some-clause-ok
-returns-in-Ok-Some-clause-ok g c =
+pub returns-in-Ok-Some : goal.returns-in-Ok-Some
+returns-in-Ok-Some g c =
     let next = rw c.in-Ok-Some.field-0-is at c.in-Ok-Some.ensures.ok in
-    (next.1 (in_line g.R.Source.state c.args.intake.now) c.args.narrator.now c.telling.invariant.told).0
+    let out = next.1 (in_line g.R.Source.state c.args.intake.now) c.args.narrator.now c.telling.invariant.told in
+    record { ok = out.0; err = tt; same = out.1; leads = c.telling.invariant.leads c.tell_next.new.intake.reader c.tell_next.ensures.leads }
 
-pub returns-in-Ok-Some-clause-same : goal.returns-in-Ok-Some-clause-same
-returns-in-Ok-Some-clause-same g c =
-    let next = rw c.in-Ok-Some.field-0-is at c.in-Ok-Some.ensures.ok in
-    (next.1 (in_line g.R.Source.state c.args.intake.now) c.args.narrator.now c.telling.invariant.told).1
-
-pub returns-in-Ok-Some-clause-leads : goal.returns-in-Ok-Some-clause-leads
-returns-in-Ok-Some-clause-leads g c = c.telling.invariant.leads c.tell_next.new.intake.reader c.tell_next.ensures.leads
-
-pub returns-in-Err-clause-err : goal.returns-in-Err-clause-err
-returns-in-Err-clause-err g c = (c.in-Err.ensures.err (in_line g.R.Source.state c.args.intake.now) c.args.narrator.now c.telling.invariant.told).0
-
-pub returns-in-Err-clause-same : goal.returns-in-Err-clause-same
-returns-in-Err-clause-same g c = (c.in-Err.ensures.err (in_line g.R.Source.state c.args.intake.now) c.args.narrator.now c.telling.invariant.told).1
-
-pub returns-in-Err-clause-leads : goal.returns-in-Err-clause-leads
-returns-in-Err-clause-leads g c = c.telling.invariant.leads c.tell_next.new.intake.reader c.tell_next.ensures.leads
+pub returns-in-Err : goal.returns-in-Err
+returns-in-Err g c =
+    let out = c.in-Err.ensures.err (in_line g.R.Source.state c.args.intake.now) c.args.narrator.now c.telling.invariant.told in
+    record { ok = tt; err = out.0; same = out.1; leads = c.telling.invariant.leads c.tell_next.new.intake.reader c.tell_next.ensures.leads }
