@@ -33,6 +33,11 @@ def text_of(path):
         return text.read()
 
 
+def cells_of(page):
+    """The cells of the tables of a page, row by row, and with each row its line."""
+    return [(row, [cell.strip() for cell in row.strip("| ").split(" | ")]) for row in text_of(page).split("\n") if row.startswith("|")]
+
+
 def is_library(crate):
     """Whether a crate is one, and a library."""
     return os.path.isfile(f"{TOP}/crates/{crate}/src/lib.rt")

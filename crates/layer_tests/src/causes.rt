@@ -6,30 +6,7 @@ use iim_fields::laws::wire_limits_are_told;
 use iim_fields::{CopyFault, FieldCause, FieldFault, Limits};
 use iim_object::{ObjectFault, PackCause, SizeCause};
 use std::fmt::{Debug, Display};
-use wire_message::MessageCause;
 use wire_story::TextCause;
-
-/// Each cause of the records.
-const CAUSES: [FieldCause; 9] = [
-    FieldCause::RecordOrder,
-    FieldCause::UnknownDataset,
-    FieldCause::Repeated,
-    FieldCause::CountRange,
-    FieldCause::Missing,
-    FieldCause::BadValue,
-    FieldCause::FileFormat,
-    FieldCause::HeaderFull,
-    FieldCause::TooManyFields,
-];
-
-/// Each cause of the messages.
-const MESSAGE_CAUSES: [MessageCause; 5] = [
-    MessageCause::BadOctet,
-    MessageCause::Unfinished,
-    MessageCause::LoneReturn,
-    MessageCause::ControlOctet,
-    MessageCause::Sink,
-];
 
 /// Each cause of the texts.
 const TEXT_CAUSES: [TextCause; 3] = [
@@ -40,8 +17,7 @@ const TEXT_CAUSES: [TextCause; 3] = [
 
 pub(crate) fn tell(told: &mut Told) {
     limits_of_wire_copy(told);
-    numbers_and_names_of_causes(told);
-    causes_of_messages_and_texts_are_printed(told);
+    causes_of_texts_are_printed(told);
     faults_of_records_are_printed(told);
     faults_of_objects_are_printed(told);
 }
@@ -54,16 +30,6 @@ fn limits_of_wire_copy(told: &mut Told) {
     told.end_words(" fields");
 }
 
-fn numbers_and_names_of_causes(told: &mut Told) {
-    for cause in &CAUSES {
-        told.begin("numbers_and_names_of_causes", " ", cause);
-        told.answer(": ", &cause.number());
-        told.put(", ");
-        told.put(cause.name());
-        told.end_shown(", printed ", cause);
-    }
-}
-
 /// Tells the name of each value, and the value as it is printed.
 fn tell_printed<T: Debug + Display>(told: &mut Told, trial: &str, values: &[T]) {
     for value in values {
@@ -72,10 +38,8 @@ fn tell_printed<T: Debug + Display>(told: &mut Told, trial: &str, values: &[T]) 
     }
 }
 
-fn causes_of_messages_and_texts_are_printed(told: &mut Told) {
-    let trial = "causes_of_messages_and_texts_are_printed";
-    tell_printed(told, trial, &MESSAGE_CAUSES);
-    tell_printed(told, trial, &TEXT_CAUSES);
+fn causes_of_texts_are_printed(told: &mut Told) {
+    tell_printed(told, "causes_of_texts_are_printed", &TEXT_CAUSES);
 }
 
 /// The name of the trials of faults.

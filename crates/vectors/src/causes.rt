@@ -51,13 +51,25 @@ pub(crate) fn print_layers(out: &mut Answers) {
     }
 }
 
-/// Prints each cause: its number and its name.
+/// Prints each cause: its number and its name, and how the layer that it is of prints it.
 pub(crate) fn print_causes(out: &mut Answers) {
     for cause in CAUSES {
         out.put("  ");
         out.show(&cause.number());
         out.put(" ");
         out.put(cause.name());
+        out.put(": ");
+        show_of_layer(out, cause);
         out.end();
+    }
+}
+
+/// Adds a cause as its layer prints it.
+fn show_of_layer(out: &mut Answers, cause: Cause) {
+    match cause {
+        Cause::Field(cause) => out.show(&cause),
+        Cause::Size(cause) => out.show(&cause),
+        Cause::Message(cause) => out.show(&cause),
+        _ => out.show(&cause),
     }
 }

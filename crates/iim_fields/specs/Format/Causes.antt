@@ -92,7 +92,7 @@ pub record Rule : Type 1 where
   pub name : List ℕ
   pub holds : Limits → List Dataset → Token → Type 0
 
--- twin: laws `heads_tell_the_lowest_cause`, `values_tell_the_lowest_cause`; `numbers_and_names_of_causes`, `names_each_cause`
+-- twin: laws `heads_tell_the_lowest_cause`, `values_tell_the_lowest_cause`; `names_each_cause`
 abbrev pub rule_of : FieldCause → Rule
 rule_of RecordOrder = record { number = 10; name = codes "RecordOrder"; holds = λ limits ds. OfHead (IsOutOfOrder ds) }
 rule_of UnknownDataset = record { number = 11; name = codes "UnknownDataset"; holds = λ limits ds. OfHead HasNoRow }

@@ -11,7 +11,7 @@ abbrev pub name_of_cause : FieldCause → List ℕ
 name_of_cause cause = (rule_of cause).name
 
 -- a cause's number and name, as they are printed
--- twin: `numbers_and_names_of_causes`, `names_each_cause`
+-- twin: `names_each_cause`
 abbrev pub text_of_cause : FieldCause → List ℕ
 text_of_cause cause = decimal (number_of_cause cause) ++ (codes " " ++ name_of_cause cause)
 

@@ -9,7 +9,7 @@ use Rattle.wire_story.specs.Format.Texts.{Holds}
 use Rattle.wire_story.specs.Format.Tokens.{Octet}
 use Rattle.wire_message.specs.Format.Layers.{MessageLivesWith, MessageDiesAt, text_so_far, StoryLivesIn}
 
--- twins (with name_of_message, print_of_message): `causes_of_messages_and_texts_are_printed`, `names_each_cause`
+-- twins (with name_of_message, print_of_message): `names_each_cause`
 abbrev pub number_of_message : MessageCause → ℕ
 number_of_message BadOctet = 30
 number_of_message Unfinished = 32

@@ -3,7 +3,7 @@ use Rattle.std.specs.Prelude.{List, ℕ, ◌++◌, codes, decimal}
 use Rattle.wire_story.specs.declared.fault.TextCause.{TextCause}
 use Rattle.wire_story.specs.declared.fault.TextCause.TheVariants.{LoneReturn, ControlOctet, Sink}
 
--- twins (with name_of_text, print_of_text): `causes_of_messages_and_texts_are_printed`
+-- twins (with name_of_text, print_of_text): `causes_of_texts_are_printed`
 abbrev pub number_of_text : TextCause → ℕ
 number_of_text LoneReturn = 40
 number_of_text ControlOctet = 41

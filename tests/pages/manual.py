@@ -1,0 +1,54 @@
+"""The lists of docs/iimwire.1, the manual page: the datasets, as docs/FORMAT.md has them, and the causes, as docs/CAUSES.md has them.
+
+All else on the page is written by hand.
+"""
+import re
+import textwrap
+
+from pages.items import TOP, cells_of, text_of
+
+PAGE = "docs/iimwire.1"
+# The columns of a line.
+WIDTH = 77
+# What is written otherwise in a manual page than it is printed.
+ESCAPES = {"\\": "\\e", "-": "\\-", "'": "\\(aq", "~": "\\(ti", "^": "\\(ha", "`": "\\(ga"}
+
+
+def roff(words):
+    """The lines of words."""
+    lines = textwrap.wrap(words, WIDTH, break_on_hyphens=False)
+    return ["".join(ESCAPES.get(letter, letter) for letter in line) for line in lines]
+
+
+def datasets():
+    """The number and the name of each dataset."""
+    for _, cells in cells_of(f"{TOP}/docs/FORMAT.md"):
+        if re.fullmatch(r"\d:\d+", cells[0]) and len(cells) == 6:
+            yield [".TP 8", cells[0], *roff(cells[1])]
+
+
+def causes():
+    """The number of each cause, its name, and what it means: as the first table says that has it."""
+    found, place = {}, None
+    for _, cells in cells_of(f"{TOP}/docs/CAUSES.md"):
+        place = cells.index("What it means") if cells[0] == "Cause" else place
+        for number, name in re.findall(r"(\d+) (\w+)", cells[0]):
+            found.setdefault(int(number), (name, cells[place].replace("`", "")))
+    for number, (name, means) in sorted(found.items()):
+        yield [".TP 4", str(number), f".B {name}", ".br", *roff(means)]
+
+
+def made(page, section, items):
+    """The page with the list of a section as it is made of these items."""
+    head = f".SH {section}\n"
+    before, _, rest = page.partition(head)
+    above, _, below = rest.partition(".PD 0\n")
+    after = below.partition(".PD\n")[2]
+    told = "".join(f"{line}\n" for item in items for line in item)
+    return f"{before}{head}{above}.PD 0\n{told}.PD\n{after}"
+
+
+def wanted():
+    """The page, with its text."""
+    page = made(text_of(f"{TOP}/{PAGE}"), "DATASETS", datasets())
+    return {PAGE: made(page, "CAUSES", causes())}
