@@ -1,5 +1,5 @@
 -- Two streams of datasets that agree: the one is the other and more, for the proofs of every crate. Nothing here is to be believed.
-use Rattle.std.proofs.Common.{◌≡◌, ℕ, ◌⊎◌, List, [], ◌∷◌, ◌++◌, refl, ap, sym, ◌∙◌, inl, inr, append_assoc}
+use Rattle.std.proofs.Common.{◌≡◌, ℕ, ◌⊎◌, List, [], ◌∷◌, ◌++◌, refl, sym, inl, inr, append_assoc}
 use Rattle.iim_dataset.specs.Format.Datasets.{Dataset, SpellsDataset, SpellsStream, count_octets}
 use Rattle.iim_dataset.specs.Laws.Datasets.{NoDatasetBeginsAnother}
 
@@ -20,33 +20,22 @@ pub record Next (whole ds : List Dataset) (z y : List ℕ) : Type 0 where
 
 pub compare : NoDatasetBeginsAnother → (whole ds : List Dataset) (front f z y : List ℕ) → SpellsStream count_octets whole front → SpellsStream count_octets ds f → front ++ z ≡ f ++ y
     → Longer whole ds z y ⊎ Next whole ds z y
-compare one [] [] front f z y sw sf e =
-    inl ([], [], refl, refl, ap (λ l. l ++ z) (sym sw) ∙ e ∙ ap (λ l. l ++ y) sf)
+compare one [] [] front f z y sw sf e = inl ([], [], refl, refl, rw (sw, sf) at e)
 compare one [] (d ∷ ds) front f z y sw (p, q, first, later, joined) e =
-    inr (record {
-      dataset = d;
-      more = ds;
-      p = p;
-      q = q;
-      parts = refl;
-      spelled = first;
-      later = later;
-      agree = ap (λ l. l ++ z) (sym sw) ∙ e ∙ ap (λ l. l ++ y) joined ∙ append_assoc p q y;
-    })
-compare one (c ∷ whole) [] front f z y sw sf e = inl (c ∷ whole, front, refl, sw, e ∙ ap (λ l. l ++ y) sf)
+    inr (record { dataset = d; more = ds; p = p; q = q; parts = refl; spelled = first; later = later; agree = rw (sw, joined, append_assoc) at e })
+compare one (c ∷ whole) [] front f z y sw sf e = inl (c ∷ whole, front, refl, sw, rw sf at e)
 compare one (c ∷ whole) (d ∷ ds) front f z y (p, q, first, later, joined) (v, w, other, others, parts) e =
-    let agree : p ++ (q ++ z) ≡ v ++ (w ++ y) = sym (append_assoc p q z) ∙ ap (λ l. l ++ z) (sym joined) ∙ e ∙ ap (λ l. l ++ y) parts ∙ append_assoc v w y in
-    let same = one count_octets c d p v (q ++ z) (w ++ y) first other agree in
+    let same = one count_octets c d p v (q ++ z) (w ++ y) first other (simp append_assoc at (rw (joined, parts) at e)) in
     elim (compare one whole ds q w z y later others same.2) [
       | inl (more, r, is, stream, rest) ↦ inl (more, r, (λ i. sym same.0 i ∷ is i), stream, rest)
-      | inr next ↦ inr (record {
-        dataset = next.dataset;
-        more = next.more;
-        p = next.p;
-        q = next.q;
-        parts = λ i. sym same.0 i ∷ next.parts i;
-        spelled = next.spelled;
-        later = next.later;
-        agree = next.agree;
+      | inr n ↦ inr (record {
+        dataset = n.dataset;
+        more = n.more;
+        p = n.p;
+        q = n.q;
+        parts = λ i. sym same.0 i ∷ n.parts i;
+        spelled = n.spelled;
+        later = n.later;
+        agree = n.agree;
       })
     ]

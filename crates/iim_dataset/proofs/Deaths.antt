@@ -1,80 +1,114 @@
--- Where no tag continues, no octets do.
-use Rattle.std.proofs.Common.{◌≡◌, ℕ, ◌⊎◌, List, [], ◌∷◌, ◌++◌, length, refl, ap, sym, subst, ◌∙◌, arith, inl, inr, append_assoc, append-nil, length-append}
-use Rattle.iim_dataset.specs.Format.Datasets.{Dataset, SpellsTag, SpellsStream, count_octets}
-use Rattle.iim_dataset.specs.Format.Splits.{Begun, InTag, InData, IsBegun}
-use Rattle.iim_dataset.specs.Format.Tags.{BeginsNoTag}
-use Rattle.iim_dataset.specs.Laws.Datasets.{NoOctetsContinue}
+-- What octets go on with, and where no octets do.
+use Rattle.std.proofs.Common.{◌≡◌, ℕ, ◌⊎◌, List, [], ◌∷◌, ◌++◌, length, refl, ap, sym, ◌∙◌, arith, inl, inr, append_assoc, append-nil, length-append, replicate}
+use Rattle.iim_dataset.specs.Format.Octets.{IsOctet}
+use Rattle.iim_dataset.specs.Format.Datasets.{Dataset, SpellsTag, SpellsDataset, head_of, count_octets}
+use Rattle.iim_dataset.specs.Format.Splits.{Begun, InTag, InData, Reads}
+use Rattle.iim_dataset.specs.Laws.Datasets.{NoOctetsContinue, AreDatasets, ReadOctetsSplit, OctetsDieInTheirTag, ReadersDieExactly}
 use Rattle.iim_dataset.specs.declared.head.Head.{Head}
-use Rattle.iim_dataset.proofs.Spellings.{one_tag, one_dataset, no_whole}
-use Rattle.iim_dataset.proofs.OneHanding.{ends}
+use Rattle.iim_dataset.proofs.Spelled.{one_tag, one_dataset, whole_read, with_data, stream_more}
+use Rattle.iim_dataset.proofs.OneHanding.{read_octets_continue, not_within, splits}
+use Rattle.iim_dataset.proofs.Agreeing.{compare}
+use Rattle.iim_dataset.proofs.Each.{all_back}
+use Rattle.std.proofs.lemmas.List.{length-replicate}
+use Rattle.iim_dataset.specs.States.Events.{DatasetEvent}
+use Rattle.iim_dataset.specs.States.Places.{HandsOn, LeadsTo}
+use Rattle.iim_dataset.specs.States.Reading.{TagDies}
+use Rattle.iim_dataset.specs.Format.Tags.{BeginsNoTag}
+use Rattle.iim_dataset.specs.Format.Languages.{IsAlive, DiesAt}
+use Rattle.iim_dataset.specs.declared.head.HeadCause.{HeadCause}
+use Rattle.iim_dataset.specs.declared.place.DatasetPlace.{DatasetPlace}
+use Rattle.iim_dataset.proofs.Places.{tag_held}
+use Rattle.iim_dataset.proofs.OctetLists.{zeros_are}
 
--- of two cuts of one list the first is the earlier, or the second is
-cut : (xs ys us vs : List ℕ) → xs ++ ys ≡ us ++ vs → ((m : List ℕ) × (us ≡ xs ++ m)) ⊎ ((m : List ℕ) × (xs ≡ us ++ m) × (vs ≡ m ++ ys))
-cut [] ys us vs e = inl (us, refl)
-cut (x ∷ xs) ys [] vs e = inr (x ∷ xs, refl, sym e)
-cut (x ∷ xs) ys (u ∷ us) vs e =
-    let first : x ≡ u = cc in
-    let rests : xs ++ ys ≡ us ++ vs = cc in
-    elim (cut xs ys us vs rests) [
-      | inl (m, is) ↦ inl (m, (λ i. sym first i ∷ is i))
-      | inr (m, is, more) ↦ inr (m, (λ i. first i ∷ is i), more)
+-- of two cuts of one list, the second lies after the first, or the first has what comes next
+goes_on : {A : Type 0} (xs ys us vs : List A) (v : A) → xs ++ ys ≡ us ++ v ∷ vs → ((m : List A) × (us ≡ xs ++ m)) ⊎ ((m : List A) × (xs ≡ us ++ v ∷ m))
+goes_on [] ys us vs v e = inl (us, refl)
+goes_on (x ∷ xs) ys [] vs v e = inr (xs, cc)
+goes_on (x ∷ xs) ys (u ∷ us) vs v e =
+    let first : x ≡ u = cc in elim (goes_on xs ys us vs v (cc)) [ inl (m, is) ↦ inl (m, λ i. sym first i ∷ is i) | inr (m, is) ↦ inr (m, λ i. first i ∷ is i) ]
+
+-- after whole datasets, octets go on with another
+following : {octets : List ℕ} (more : List ℕ) (next : ℕ) {whole w : List Dataset} {begun b : Begun} (xs : List ℕ)
+    → (r : Reads count_octets octets whole begun) → r.rest ≡ xs
+    → Reads count_octets (octets ++ next ∷ more) w b
+    → (d : Dataset) × (o later z : List ℕ) × (s : SpellsDataset count_octets d o) × (s.tag ++ (d.octets ++ later) ≡ xs ++ next ∷ z)
+following {octets} more next {whole} {w} {begun} {b} xs r is s =
+    let (d, m, some, stream) = read_octets_continue (octets ++ next ∷ more) w b s in
+    let all : (ys : List ℕ) → r.front ++ (xs ++ next ∷ (more ++ ys)) ≡ ((octets ++ next ∷ more) ++ ys) ++ [] =
+    λ ys. rw (r.parts, is) (simp (append_assoc, append-nil)) in
+    elim (compare one_dataset whole (w ++ d ∷ []) r.front ((octets ++ next ∷ more) ++ m) (xs ++ next ∷ (more ++ m)) [] r.is_front stream (all m)) [
+      | inl (a, x, same, spelled, none) ↦ absurd (omega (arith, simp length-append at (ap length none)))
+      | inr n ↦ (n.dataset, n.p, n.q ++ [], more ++ m, n.spelled, simp append_assoc at (rw n.spelled.parts at (sym n.agree)))
     ]
 
--- Octets of a tag are held, and no tag begins with them and the next octet.
-record Dies (held : List ℕ) (next : ℕ) : Type 0 where
-  pub begun : IsBegun count_octets (InTag held) held
-  pub dead : BeginsNoTag count_octets (held ++ next ∷ [])
+-- a tag of which some octets are held goes on with the next
+pub tag_goes_on : {octets : List ℕ} (more : List ℕ) {held : List ℕ} (next : ℕ) {whole w : List Dataset} {b : Begun}
+    → Reads count_octets octets whole (InTag held)
+    → Reads count_octets (octets ++ next ∷ more) w b → (h : Head) × (m : List ℕ) × SpellsTag count_octets h (held ++ next ∷ m)
+tag_goes_on more {held} next r s =
+    let (d, o, later, z, spelled, agree) = following more next held r r.is_rest.0 s in
+    elim (goes_on spelled.tag (d.octets ++ later) held z next agree) [
+      | inl (m, is) ↦ absurd (not_within m spelled.is_tag r.is_rest (r.is_rest.0 ∙ is))
+      | inr (m, is) ↦ (head_of d, m, rw is at spelled.is_tag)
+    ]
 
--- no whole tag lies within the held octets
-not_within : (k : Head) (tag m held : List ℕ) → SpellsTag count_octets k tag → IsBegun count_octets (InTag held) held → held ≡ tag ++ m → ⊥
-not_within k tag m held s (e, h, whole, t, (more, some, joined)) is =
-    let both : tag ++ (m ++ more) ≡ whole ++ [] = sym (append_assoc tag m more) ∙ (ap (λ u. u ++ more) (sym is) ∙ (joined ∙ sym (append-nil whole))) in
-    let one = one_tag count_octets k h tag whole (m ++ more) [] s t both in
-    omega (arith, ap length one.2, length-append m more, some)
-
--- no tag begins with the held octets and the next
-no_tag : (k : Head) (tag y held : List ℕ) (next : ℕ) (z : List ℕ) → SpellsTag count_octets k tag → Dies held next → tag ++ y ≡ held ++ next ∷ z → ⊥
-no_tag k tag y held next z s d e = elim (cut tag y held (next ∷ z) e) [
-  | inl (m, is) ↦ not_within k tag m held s d.begun is
-  | inr (m, is, more) ↦ longer m is more
-]
-  where
-    longer : (m : List ℕ) → tag ≡ held ++ m → next ∷ z ≡ m ++ y → ⊥
-    longer [] is more = not_within k tag [] held s d.begun (sym (append-nil held) ∙ (sym is ∙ sym (append-nil tag)))
-    longer (n ∷ m) is more =
-        let same : n ≡ next = cc in
-        let whole : tag ≡ (held ++ next ∷ []) ++ m = is ∙ (ap (λ (x : ℕ). held ++ x ∷ m) same ∙ sym (append_assoc held (next ∷ []) m)) in
-        d.dead k m (subst (SpellsTag count_octets k) whole s)
-
--- nothing that is begun begins with them
-not_begun : (b : Begun) (rest held : List ℕ) (next : ℕ) (more : List ℕ) → IsBegun count_octets b rest → Dies held next → rest ≡ held ++ next ∷ more → ⊥
-not_begun (InTag other) rest held next more (e, h, tag, s, (left, some, joined)) d is =
-    let whole : tag ≡ (held ++ next ∷ []) ++ (more ++ left) =
-    sym joined ∙ (ap (λ u. u ++ left) (sym e ∙ (is ∙ sym (append_assoc held (next ∷ []) more))) ∙ append_assoc (held ++ next ∷ []) more left) in
-    d.dead h (more ++ left) (subst (SpellsTag count_octets h) whole s)
-not_begun (InData h taken) rest held next more (tag, s, lt, o, e) d is = no_tag h tag taken held next more s d (sym e ∙ is)
-
--- no datasets and no begun one do
-none_continue : (whole w : List Dataset) (front held other rest : List ℕ) (next : ℕ) (more : List ℕ) (b : Begun) → SpellsStream count_octets whole front → Dies held next
-    → SpellsStream count_octets w other → IsBegun count_octets b rest → front ++ (held ++ next ∷ more) ≡ other ++ rest → ⊥
-none_continue [] [] front held other rest next more b s d t i e =
-    not_begun b rest held next more i d (ap (λ u. u ++ rest) (sym t) ∙ (sym e ∙ ap (λ u. u ++ (held ++ next ∷ more)) s))
-none_continue [] (f ∷ w) front held other rest next more b s d (p, q, first, later, parts) i e =
-    let begins : first.tag ++ (f.octets ++ (q ++ rest)) ≡ held ++ next ∷ more =
-    sym (append_assoc first.tag f.octets (q ++ rest)) ∙ (ap (λ u. u ++ (q ++ rest)) (sym first.parts) ∙ (sym (append_assoc p q rest) ∙ (ap (λ u. u ++ rest) (sym parts)
-    ∙ (sym e ∙ ap (λ u. u ++ (held ++ next ∷ more)) s)))) in
-    no_tag _ first.tag (f.octets ++ (q ++ rest)) held next more first.is_tag d begins
-none_continue (c ∷ whole) [] front held other rest next more b (p, q, first, later, parts) d t i e =
-    let end = ends b rest i in
-    let begins : p ++ (q ++ (held ++ next ∷ more)) ≡ rest = sym (append_assoc p q (held ++ next ∷ more)) ∙ (ap (λ u. u ++ (held ++ next ∷ more)) (sym parts) ∙ (e ∙ ap (λ u. u ++ rest) t)) in
-    no_whole count_octets c end.0 p end.1 (q ++ (held ++ next ∷ more)) end.2 first end.3 end.4 (ap (λ u. u ++ end.2) begins ∙ end.5)
-none_continue (c ∷ whole) (f ∷ w) front held other rest next more b (p, q, first, later, parts) d (u, v, second, others, joined) i e =
-    let both : p ++ (q ++ (held ++ next ∷ more)) ≡ u ++ (v ++ rest) =
-    sym (append_assoc p q (held ++ next ∷ more)) ∙ (ap (λ x. x ++ (held ++ next ∷ more)) (sym parts) ∙ (e ∙ (ap (λ x. x ++ rest) joined ∙ append_assoc u v rest))) in
-    let one = one_dataset count_octets c f p u (q ++ (held ++ next ∷ more)) (v ++ rest) first second both in
-    none_continue whole w q held v rest next more b later d others i one.2
+-- data go on with an octet
+pub data_go_on : {octets : List ℕ} (more : List ℕ) {taken : List ℕ} (next : ℕ) {whole w : List Dataset} {h : Head} {b : Begun}
+    → Reads count_octets octets whole (InData h taken)
+    → Reads count_octets (octets ++ next ∷ more) w b → IsOctet next
+data_go_on more {taken} next {h = h} r s =
+    let (tag, t, few, os, is) = r.is_rest in
+    let (d, o, later, z, spelled, agree) = following more next (tag ++ taken) r is s in
+    let (heads, tags, rests) =
+    one_tag count_octets (head_of d) h spelled.tag tag (d.octets ++ later) (taken ++ next ∷ z) spelled.is_tag t (rw append_assoc at agree) in
+    elim (goes_on d.octets later taken z next rests) [
+      | inl (m, within) ↦ absurd (omega (arith, few, ap (λ (k : Head). k.count) heads, ap length within, length-append d.octets m))
+      | inr (m, on) ↦ (all_back IsOctet taken (next ∷ m) (rw on at spelled.data_octets)).0
+    ]
 
 pub no_octets_continue : NoOctetsContinue
-no_octets_continue octets more next whole held w b r dead s =
-    none_continue whole w r.front held s.front s.rest next more b r.is_front (record { begun = subst (IsBegun count_octets (InTag held)) r.is_rest.0 r.is_rest; dead = dead }) s.is_front s.is_rest
-    (sym (append_assoc r.front held (next ∷ more)) ∙ (ap (λ u. u ++ next ∷ more) (ap (λ u. r.front ++ u) (sym r.is_rest.0) ∙ sym r.parts) ∙ s.parts))
+no_octets_continue octets more next whole held w b r dead s = let (h, m, t) = tag_goes_on more next r s in dead h m (rw append_assoc t)
+
+pub read_octets_split : ReadOctetsSplit
+read_octets_split octets whole begun r = (r.rest, r.is_rest, splits r)
+
+dies : (octets : List ℕ) (next : ℕ) (whole : List Dataset) (held : List ℕ) → Reads count_octets octets whole (InTag held) → BeginsNoTag count_octets (held ++ next ∷ []) → DiesAt AreDatasets octets next
+dies octets next whole held r dead =
+    let on = read_octets_continue octets whole (InTag held) r in (
+      (on.1, (whole ++ on.0 ∷ [], on.3)),
+      λ alive.
+          let (rest, (ds, s)) = alive in
+          no_octets_continue octets rest next whole held ds (InTag []) r dead (whole_read (octets ++ next ∷ rest) ds (rw append_assoc at s)),
+    )
+
+-- with the octets of a tag a whole dataset can follow
+lives : (octets : List ℕ) (next : ℕ) (whole : List Dataset) (held : List ℕ) → Reads count_octets octets whole (InTag held) → (h : Head) (more : List ℕ) → SpellsTag count_octets h ((held ++ next ∷ []) ++ more)
+    → IsAlive AreDatasets (octets ++ next ∷ [])
+lives octets next whole held r h more s =
+    let zeros = replicate h.count 0 in
+    let tag = (held ++ next ∷ []) ++ more in
+    let d : Dataset = record { rec = h.rec; set = h.set; octets = zeros } in
+    let joined : (octets ++ next ∷ []) ++ (more ++ zeros) ≡ r.front ++ (tag ++ zeros) = rw (r.parts, r.is_rest.0) (simp append_assoc) in
+    let spelled = with_data h tag zeros s (zeros_are h.count) (length-replicate {A = ℕ} h.count 0) in
+    (more ++ zeros, (whole ++ d ∷ [], rw joined (stream_more whole r.front d (tag ++ zeros) r.is_front spelled)))
+
+pub octets_die_in_their_tag : OctetsDieInTheirTag
+octets_die_in_their_tag octets next whole held r =
+    ((λ dead. dies octets next whole held r dead), λ at h more s. at.1 (lives octets next whole held r h more s))
+
+-- ---- readers
+
+alive : (octets : List ℕ) (events : List DatasetEvent) (begun : Begun) → HandsOn count_octets octets events begun → IsAlive AreDatasets octets
+alive octets events begun h = let on = read_octets_continue octets h.whole begun h.reads in (on.1, (h.whole ++ on.0 ∷ [], on.3))
+
+tag_dies : (octets : List ℕ) (events : List DatasetEvent) (place : DatasetPlace) (next : ℕ) (cause : HeadCause) → LeadsTo count_octets octets events place → TagDies place next cause → DiesAt AreDatasets octets next
+tag_dies octets events place next cause l d =
+    let h = tag_held (record { items = d.held }) (rw d.tag at l) in
+    dies octets next h.whole d.held h.reads d.dead
+
+pub readers_die_exactly : ReadersDieExactly
+readers_die_exactly = record {
+  alive = λ octets events place l. alive octets events l.begun l.hands;
+  dies = tag_dies;
+  stops = λ octets next events event c. alive (octets ++ next ∷ []) (events ++ event ∷ c.later) c.next_begun c.with_next;
+}

@@ -1,14 +1,13 @@
 -- Held octets of a tag, and the octets after them.
-use Rattle.std.proofs.Common.{◌≡◌, ℕ, suc, ◌+◌, ◌-◌, ◌<◌, ◌≤◌, List, [], ◌∷◌, ◌++◌, length, take, drop, slice_index, ap, sym, subst, ◌∙◌, arith, append_assoc, append-nil, length-append, inl, inr}
+use Rattle.std.proofs.Common.{◌≡◌, ℕ, ◌+◌, ◌-◌, ◌<◌, ◌≤◌, List, [], ◌∷◌, ◌++◌, length, take, drop, slice_index, ap, sym, ◌∙◌, arith, add-one, append_assoc, append-nil, min, length-append, inl, inr}
 use Rattle.std.proofs.lemmas.Bool.{cases_lt}
-use Rattle.std.proofs.lemmas.List.{take_all, take-take, take-append-drop, take-append-le, length-take, length-take-le}
+use Rattle.std.proofs.lemmas.List.{take_all, take_min, take-take, take-append-drop, take-append-le, length-take, length-take-le}
 use Rattle.std.proofs.Math.Seq.{take-append-add, take-suc}
 use Rattle.iim_dataset.specs.Format.Datasets.{SpellsTag, count_octets, tag_octets}
 use Rattle.iim_dataset.specs.Format.Tags.{BeginsTag, BeginsNoTag, HasTag, HasNoTag}
 use Rattle.iim_dataset.specs.declared.head.Head.{Head}
 use Rattle.iim_dataset.specs.declared.head.HeadFault.{HeadFault}
-use Rattle.iim_dataset.proofs.Spellings.{one_tag}
-use Rattle.iim_dataset.proofs.Spelled.{tag_length}
+use Rattle.iim_dataset.proofs.Spelled.{no_longer, tag_length}
 
 -- ---- how long a tag is
 
@@ -19,73 +18,75 @@ begun_length xs b = omega (arith, tag_length b.head (xs ++ b.more) b.whole, leng
 
 pub first_have : (xs : List ℕ) (h : Head) (n : ℕ) → HasTag (take tag_octets xs) h n → HasTag xs h n
 first_have xs h n t =
-    let few : length (take tag_octets xs) ≤ tag_octets = omega (arith, length-take tag_octets xs) in
-    record {
-      some = t.some;
-      within = omega (arith, t.within, length-take tag_octets xs);
-      tag = subst (SpellsTag count_octets h) (take-take n tag_octets xs (omega (arith, t.within, few))) t.tag;
-    }
+    let few : n ≤ tag_octets = omega (arith, t.within, length-take tag_octets xs) in
+    record { some = t.some; within = omega (arith, t.within, length-take tag_octets xs); tag = rw take-take at t.tag }
 
 pub first_begin : (xs : List ℕ) → BeginsTag count_octets (take tag_octets xs) → BeginsTag count_octets xs
-first_begin xs b = subst (BeginsTag count_octets) (take_all tag_octets xs (omega (arith, begun_length (take tag_octets xs) b, length-take tag_octets xs))) b
+first_begin xs b = rw (take_all tag_octets xs (omega (arith, begun_length (take tag_octets xs) b, length-take tag_octets xs))) at b
 
 pub first_refuse : (xs : List ℕ) (f : HeadFault) → HasNoTag (take tag_octets xs) f → HasNoTag xs f
 first_refuse xs f t =
-    let few : length (take tag_octets xs) ≤ tag_octets = omega (arith, length-take tag_octets xs) in
+    let few : f.taken + 1 ≤ tag_octets = omega (arith, t.within, length-take tag_octets xs) in
     record {
       within = omega (arith, t.within, length-take tag_octets xs);
-      begun = subst (BeginsTag count_octets) (take-take f.taken tag_octets xs (omega (arith, t.within, few))) t.begun;
-      dead = λ h more s. t.dead h more (subst (λ (u : List ℕ). SpellsTag count_octets h (u ++ more)) (sym (take-take (f.taken + 1) tag_octets xs (omega (arith, t.within, few)))) s);
+      begun = rw (take-take f.taken tag_octets xs (omega (arith, few))) at t.begun;
+      dead = λ h more s. t.dead h more (rw (take-take (f.taken + 1) tag_octets xs few) s);
       cause = t.cause;
     }
 
 -- ---- after held octets
 
--- a whole tag is longer than the held octets
-pub longer : (held rest : List ℕ) (h : Head) (n : ℕ) → BeginsTag count_octets held → HasTag (held ++ rest) h n → length held < n
-longer held rest h n b t = elim (cases_lt (length held) n) [
-  | inl lt ↦ lt
-  | inr ge ↦
-      let front : take n (held ++ rest) ≡ take n held = take-append-le n held rest ge in
-      let both : take n held ++ (drop n held ++ b.more) ≡ (held ++ b.more) ++ [] =
-      sym (append_assoc (take n held) (drop n held) b.more) ∙ (ap (λ u. u ++ b.more) (take-append-drop n held) ∙ sym (append-nil (held ++ b.more))) in
-      let one = one_tag count_octets h b.head (take n held) (held ++ b.more) (drop n held ++ b.more) [] (subst (SpellsTag count_octets h) front t.tag) b.whole both in
-      absurd (omega (arith, ap length one.2, length-append (drop n held) b.more, b.some_more))
-]
+-- a front of the held octets goes on to the tag
+front_on : (held rest more : List ℕ) (n : ℕ) → n ≤ length held → take n (held ++ rest) ++ (drop n held ++ more) ≡ held ++ more
+front_on held rest more n le =
+    rw (take-append-le n held rest le) (sym (append_assoc (take n held) (drop n held) more) ∙ ap (λ u. u ++ more) (take-append-drop n held))
 
 -- no tag continues with an octet after the held ones
 pub after_held : (held rest : List ℕ) (f : HeadFault) → BeginsTag count_octets held → HasNoTag (held ++ rest) f → length held ≤ f.taken
 after_held held rest f b t = elim (cases_lt f.taken (length held)) [
   | inl lt ↦
-      let n = f.taken + 1 in
-      let front : take n (held ++ rest) ≡ take n held = take-append-le n held rest (omega (arith, lt)) in
-      let whole : take n (held ++ rest) ++ (drop n held ++ b.more) ≡ held ++ b.more =
-      ap (λ u. u ++ (drop n held ++ b.more)) front ∙ (sym (append_assoc (take n held) (drop n held) b.more) ∙ ap (λ u. u ++ b.more) (take-append-drop n held)) in
-      absurd (t.dead b.head (drop n held ++ b.more) (subst (SpellsTag count_octets b.head) (sym whole) b.whole))
+      let n = f.taken + 1 in absurd (t.dead b.head (drop n held ++ b.more) (rw (front_on held rest b.more n (omega (arith, lt))) b.whole))
   | inr ge ↦ ge
 ]
 
+-- octets after which no tag continues begin none
+pub none_begun : (octets : List ℕ) (f : HeadFault) → HasNoTag octets f → BeginsTag count_octets octets → ⊥
+none_begun octets f t b = omega (arith, t.within, after_held octets [] f b (rw append-nil t))
+
 -- a front is the held octets and a front of the rest
-pub front_is : (held rest : List ℕ) (n k : ℕ) → n ≡ length held + k → take n (held ++ rest) ≡ held ++ take k rest
-front_is held rest n k e = ap (λ m. take m (held ++ rest)) e ∙ take-append-add held rest k
+front_is : (held rest : List ℕ) (n k : ℕ) → n ≡ length held + k → take n (held ++ rest) ≡ held ++ take k rest
+front_is held rest n k e = rw e (take-append-add held rest k)
+
+-- as many octets after the held ones as a tag may have
+pub room_is : (held next : List ℕ) (n : ℕ) → length held ≤ tag_octets → n ≡ min (tag_octets - length held) (length next)
+    → held ++ take n next ≡ take tag_octets (held ++ next)
+room_is held next n few e =
+    let room = tag_octets - length held in rw e (ap (λ u. held ++ u) (take_min room next) ∙ sym (front_is held next tag_octets room (omega arith)))
 
 pub one_more : (held rest : List ℕ) (k : ℕ) → k < length rest → held ++ take (k + 1) rest ≡ (held ++ take k rest) ++ slice_index rest k ∷ []
-one_more held rest k lt =
-    let next : k + 1 ≡ suc k = omega arith in
-    ap (λ u. held ++ u) (ap (λ m. take m rest) next ∙ take-suc rest k 0 lt) ∙ sym (append_assoc held (take k rest) (slice_index rest k ∷ []))
+one_more held rest k lt = rw (add-one, take-suc rest k 0 lt) (sym (append_assoc held (take k rest) (slice_index rest k ∷ [])))
 
--- the tag is the held octets and the next ones
-pub tag_is : (held rest : List ℕ) (h : Head) (n k : ℕ) → n ≡ length held + k → HasTag (held ++ rest) h n → SpellsTag count_octets h (held ++ take k rest)
-tag_is held rest h n k e t = subst (SpellsTag count_octets h) (front_is held rest n k e) t.tag
+-- The held octets and `used` of the next ones, one at least, are a tag of this head and of n octets.
+pub record Ends (held rest : List ℕ) (h : Head) (n used : ℕ) : Type 0 where
+  pub all : n ≡ length held + used
+  pub some : 0 < used
+  pub within : used ≤ length rest
+  pub tag : SpellsTag count_octets h (held ++ take used rest)
+
+-- a whole tag is longer than the held octets
+pub ends : (held rest : List ℕ) {h : Head} {n : ℕ} → BeginsTag count_octets held → HasTag (held ++ rest) h n → Ends held rest h n (n - length held)
+ends held rest {h} {n} b t = elim (cases_lt (length held) n) [
+  | inl lt ↦
+      let all : n ≡ length held + (n - length held) = omega (arith, lt) in
+      let tag = rw (front_is held rest n (n - length held) all) at t.tag in
+      record { all = all; some = omega (arith, lt); within = omega (arith, t.within, length-append held rest); tag = tag }
+  | inr ge ↦
+      absurd (no_longer (drop n held ++ b.more) t.tag b.whole (omega (arith, length-append (drop n held) b.more, b.some_more)) (front_on held rest b.more n ge))
+]
 
 -- but for its last octet it is begun
 pub unfinished : (held rest : List ℕ) (h : Head) (k : ℕ) → k < length rest → SpellsTag count_octets h (held ++ take (k + 1) rest) → BeginsTag count_octets (held ++ take k rest)
-unfinished held rest h k lt s = record {
-  head = h;
-  more = slice_index rest k ∷ [];
-  some_more = omega arith;
-  whole = subst (SpellsTag count_octets h) (one_more held rest k lt) s;
-}
+unfinished held rest h k lt s = record { head = h; more = slice_index rest k ∷ []; some_more = omega arith; whole = rw (one_more held rest k lt) at s }
 
 -- where no tag continues
 pub refused_at : (held rest : List ℕ) (f : HeadFault) (k : ℕ) → BeginsTag count_octets held → HasNoTag (held ++ rest) f → k ≡ f.taken - length held
@@ -95,7 +96,7 @@ refused_at held rest f k b t e =
     let lt : k < length rest = omega (arith, t.within, length-append held rest, all) in
     let more : f.taken + 1 ≡ length held + (k + 1) = omega (arith, all) in (
       lt,
-      subst (BeginsTag count_octets) (front_is held rest f.taken k all) t.begun,
-      subst (BeginsNoTag count_octets) (front_is held rest (f.taken + 1) (k + 1) more ∙ one_more held rest k lt) t.dead,
+      rw (front_is held rest f.taken k all) at t.begun,
+      rw (front_is held rest (f.taken + 1) (k + 1) more, one_more held rest k lt) at t.dead,
       omega (arith, all, length-append held (take k rest), length-take-le k rest (omega (arith, lt))),
     )

@@ -1,5 +1,5 @@
 -- Tests of several octets at once: each lane of a mask is set where its octet passes, and all lanes are where each octet does.
-use Rattle.std.proofs.Common.{◌≡◌, ℕ, ◌+◌, ◌*◌, ◌-◌, ◌<◌, ◌≤◌, ◌^◌, ◌%◌, Bool, true, false, not, cond, ◌&&◌, nat_eq, nat_le, List, [], ◌∷◌, length, map, replicate, take, refl, ap, sym, subst, ◌∙◌, arith, bit_and}
+use Rattle.std.proofs.Common.{◌≡◌, ℕ, ◌+◌, ◌*◌, ◌-◌, ◌<◌, ◌≤◌, ◌^◌, ◌%◌, Bool, true, false, not, cond, ◌&&◌, nat_eq, nat_le, List, [], ◌∷◌, length, map, replicate, take, refl, ap, ◌∙◌, arith, bit_and}
 use Rattle.std.proofs.lemmas.Bool.Decides.{nat_tests}
 use Rattle.std.specs.Simd.Lanes.{zip2, mask_l, top}
 use Rattle.std.specs.List.{list_all}
@@ -44,11 +44,7 @@ pub all_set : (q : ℕ → Bool) (xs ms : List ℕ) (n : ℕ) → length xs ≡ 
     → nat_eq (mask_l (map (top 7) ms) % 2 ^ 64) (2 ^ n - 1) ≡ list_all q xs
 all_set q xs ms n long le is =
     let count : length (map q xs) ≡ n = length-map xs q ∙ long in
-    ap (λ (ys : List ℕ). nat_eq (mask_l (map (top 7) ys) % 2 ^ 64) (2 ^ n - 1)) is
-    ∙ (ap (λ (bs : List Bool). nat_eq (mask_l bs % 2 ^ 64) (2 ^ n - 1)) (tops q xs)
-    ∙ (ap (λ (m : ℕ). nat_eq m (2 ^ n - 1)) (mask_l-mod (map q xs) 64 (omega (arith, count)))
-    ∙ (ap (λ (k : ℕ). nat_eq (mask_l (map q xs)) (2 ^ k - 1)) (sym count)
-    ∙ (full_mask (map q xs) ∙ list_all-map (λ b. b) q xs))))
+    rw (is, tops q xs, mask_l-mod (map q xs) 64 (omega (arith, count)), ← count, full_mask (map q xs)) (list_all-map (λ b. b) q xs)
 
 -- ---- lanes by a comparison
 
@@ -74,4 +70,4 @@ pub first_of : (xs : List ℕ) (n : ℕ) → n ≤ length xs → n ≤ 64 → (q
     → are_set n (lanes n (take n xs)) ≡ list_all q (take n xs)
 first_of xs n room le q lanes told =
     let long = length-take-le n xs room in
-    all_set q (take n xs) _ n long le (subst (λ (k : ℕ). lanes k (take n xs) ≡ map (λ x. lane (q x)) (take n xs)) long (told (take n xs)))
+    all_set q (take n xs) _ n long le (rw long at (told (take n xs)))

@@ -1,5 +1,5 @@
 -- Octets that stand for themselves, sixteen at a time and in runs.
-use Rattle.std.proofs.Common.{◌≡◌, ℕ, ◌+◌, ◌<◌, ◌≤◌, ◌&&◌, Bool, true, false, cond, not, nat_eq, nat_le, List, [], ◌∷◌, ◌++◌, length, length-drop, get_or, slice_index, map, take, drop, refl, ap, sym, ◌∙◌, append-nil, append_assoc, bit_and, arith}
+use Rattle.std.proofs.Common.{◌≡◌, ℕ, ◌+◌, ◌<◌, ◌≤◌, ◌&&◌, Bool, true, false, cond, not, nat_eq, nat_le, List, [], ◌∷◌, ◌++◌, length, length-drop, get_or, slice_index, map, take, drop, refl, ap, sym, ◌∙◌, add-zero, append-nil, append_assoc, bit_and, arith}
 use Rattle.std.specs.Simd.Lanes.{zip2}
 use Rattle.std.specs.List.{list_all}
 use Rattle.std.proofs.Math.Seq.{take-add}
@@ -41,7 +41,8 @@ shown_plain (x ∷ xs) ys all =
 after_run : (xs : List ℕ) (n x : ℕ) (after : List ℕ) → (n < length xs → is_plain (slice_index xs n) ≡ false) → drop n xs ≡ x ∷ after → is_plain x ≡ false
 after_run xs n x after end is =
     let more : n < length xs = omega (arith, length-drop n xs, ap length is) in
-    ap is_plain (sym (ap (λ (ys : List ℕ). get_or ys 0 0) is) ∙ (get_or-drop n xs 0 0 ∙ ap (λ (i : ℕ). get_or xs i 0) (let same : n + 0 ≡ n = omega arith in same))) ∙ end more
+    let at : get_or xs n 0 ≡ x = rw (is, add-zero) at (sym (get_or-drop n xs 0 0)) in
+    rw at at (end more)
 
 -- an octet that doesn't
 pub shown_other : (x : ℕ) (xs : List ℕ) → is_plain x ≡ false → shown (x ∷ xs) ≡ escape x ++ shown xs
@@ -51,8 +52,8 @@ module _ (before new all rest : List ℕ) (n : ℕ) (so_far : before ++ shown re
   -- a run was taken: what is there and what follows, shown, are the same
   run_taken : new ++ shown (drop n rest) ≡ all
   run_taken =
-      ap (λ (xs : List ℕ). xs ++ shown (drop n rest)) taken ∙ (append_assoc before (take n rest) (shown (drop n rest))
-      ∙ (ap (λ (xs : List ℕ). before ++ xs) (sym (shown_plain (take n rest) (drop n rest) run) ∙ ap shown (take-append-drop n rest)) ∙ so_far))
+      rw (taken, append_assoc)
+      (ap (λ (xs : List ℕ). before ++ xs) (sym (shown_plain (take n rest) (drop n rest) run) ∙ ap shown (take-append-drop n rest)) ∙ so_far)
 
   -- and nothing follows
   pub last_taken : length (drop n rest) ≡ 0 → new ≡ all
@@ -63,5 +64,4 @@ module _ (before new all rest : List ℕ) (n : ℕ) (so_far : before ++ shown re
       → text ++ shown after ≡ all
   other_taken x after text end is escaped =
       let not = after_run rest n x after end is in
-      ap (λ (xs : List ℕ). xs ++ shown after) escaped ∙ (append_assoc new (escape x) (shown after)
-      ∙ (ap (λ (xs : List ℕ). new ++ xs) (sym (shown_other x after not) ∙ ap shown (sym is)) ∙ run_taken))
+      rw (escaped, append_assoc) (ap (λ (xs : List ℕ). new ++ xs) (sym (shown_other x after not) ∙ ap shown (sym is)) ∙ run_taken)

@@ -1,70 +1,55 @@
 -- What was handed on tells the datasets.
-use Rattle.std.proofs.Common.{◌≡◌, ℕ, List, [], ◌∷◌, ◌++◌, refl, ap, sym, ◌∙◌, append_assoc, map, flat_map}
+use Rattle.std.proofs.Common.{◌≡◌, ℕ, List, [], ◌∷◌, ◌++◌, refl, ap, sym, ◌∙◌, append_assoc, append-nil, map}
 use Rattle.iim_dataset.specs.Format.Datasets.{Dataset, head_of}
 use Rattle.iim_dataset.specs.Format.Splits.{Begun, InTag, InData}
-use Rattle.iim_dataset.specs.States.Events.{DatasetEvent, HeadRead, DataOctet, DatasetEnd, events_of, begun_events, begun_data, handed_on}
-use Rattle.iim_dataset.specs.declared.head.Head.{Head}
+use Rattle.iim_dataset.specs.States.Events.{DatasetEvent, HeadRead, DataOctet, DatasetEnd, begun_events, begun_data, handed_on}
+
+-- the data at the front, and what follows them
+abbrev led : List DatasetEvent → List ℕ × List DatasetEvent
+led (DataOctet b ∷ es) = (b ∷ (led es).0, (led es).1)
+led es = ([], es)
+
+led_data : (xs : List ℕ) (r : List DatasetEvent) → led r ≡ ([], r) → led (map DataOctet xs ++ r) ≡ (xs, r)
+led_data [] r e = e
+led_data (x ∷ xs) r e = ap (λ (p : List ℕ × List DatasetEvent). (x ∷ p.0, p.1)) (led_data xs r e)
+
+-- data before what are none, and these, are determined
+parted : (xs ys : List ℕ) (r s : List DatasetEvent) → led r ≡ ([], r) → led s ≡ ([], s) → map DataOctet xs ++ r ≡ map DataOctet ys ++ s → (xs ≡ ys) × (r ≡ s)
+parted xs ys r s none other e =
+    let both : (xs, r) ≡ (ys, s) = sym (led_data xs r none) ∙ (ap led e ∙ led_data ys s other) in
+    (ap (λ (p : List ℕ × List DatasetEvent). p.0) both, ap (λ (p : List ℕ × List DatasetEvent). p.1) both)
 
 -- the data before an end, and what follows it, are determined
 pub same_data : (xs ys : List ℕ) (r s : List DatasetEvent) → map DataOctet xs ++ DatasetEnd ∷ r ≡ map DataOctet ys ++ DatasetEnd ∷ s → (xs ≡ ys) × (r ≡ s)
-same_data [] [] r s e = (refl, cc)
-same_data [] (y ∷ ys) r s e = absurd cc
-same_data (x ∷ xs) [] r s e = absurd cc
-same_data (x ∷ xs) (y ∷ ys) r s e =
-    let rests : map DataOctet xs ++ DatasetEnd ∷ r ≡ map DataOctet ys ++ DatasetEnd ∷ s = cc in
-    let more = same_data xs ys r s rests in
-    let tails : xs ≡ ys = more.0 in
-    (cc, more.1)
-
--- data alone have no end
-pub no_end : (xs ys : List ℕ) (r : List DatasetEvent) → map DataOctet xs ≡ map DataOctet ys ++ DatasetEnd ∷ r → ⊥
-no_end [] [] r e = absurd cc
-no_end [] (y ∷ ys) r e = absurd cc
-no_end (x ∷ xs) [] r e = absurd cc
-no_end (x ∷ xs) (y ∷ ys) r e = let rests : map DataOctet xs ≡ map DataOctet ys ++ DatasetEnd ∷ r = cc in no_end xs ys r rests
-
-pub same_begun_data : (xs ys : List ℕ) → map DataOctet xs ≡ map DataOctet ys → xs ≡ ys
-same_begun_data [] [] e = refl
-same_begun_data [] (y ∷ ys) e = absurd cc
-same_begun_data (x ∷ xs) [] e = absurd cc
-same_begun_data (x ∷ xs) (y ∷ ys) e =
-    let rests : map DataOctet xs ≡ map DataOctet ys = cc in
-    let tails : xs ≡ ys = same_begun_data xs ys rests in cc
+same_data xs ys r s e = let both = parted xs ys (DatasetEnd ∷ r) (DatasetEnd ∷ s) refl refl e in let ends = both.1 in (both.0, cc)
 
 -- the first dataset, and what follows it
 first_then : (d : Dataset) (ds : List Dataset) (b : Begun) → handed_on (d ∷ ds) b ≡ HeadRead (head_of d) ∷ (map DataOctet d.octets ++ DatasetEnd ∷ handed_on ds b)
-first_then d ds b =
-    append_assoc (events_of d) (flat_map events_of ds) (begun_events b)
-    ∙ ap (λ es. HeadRead (head_of d) ∷ es) (append_assoc (map DataOctet d.octets) (DatasetEnd ∷ []) (handed_on ds b))
+first_then d ds b = simp append_assoc
 
-not_one : (h : Head) (xs : List ℕ) (d : Dataset) (ds : List Dataset) (c : Begun) → HeadRead h ∷ map DataOctet xs ≡ handed_on (d ∷ ds) c → ⊥
-not_one h xs d ds c e =
-    let both : HeadRead h ∷ map DataOctet xs ≡ HeadRead (head_of d) ∷ (map DataOctet d.octets ++ DatasetEnd ∷ handed_on ds c) = e ∙ first_then d ds c in
-    let tails : map DataOctet xs ≡ map DataOctet d.octets ++ DatasetEnd ∷ handed_on ds c = cc in
-    no_end xs d.octets (handed_on ds c) tails
+-- what is begun is no whole dataset
+not_whole : (b : Begun) (d : Dataset) (ds : List Dataset) (c : Begun) → begun_events b ≡ handed_on (d ∷ ds) c → ⊥
+not_whole (InTag x) d ds c e = absurd (let both = e ∙ first_then d ds c in cc)
+not_whole (InData h xs) d ds c e =
+    let both = e ∙ first_then d ds c in
+    let parts = parted xs d.octets [] (DatasetEnd ∷ handed_on ds c) refl refl (append-nil (map DataOctet xs) ∙ cc) in
+    let none = parts.1 in absurd cc
 
-not_none : (d : Dataset) (ds : List Dataset) (c : Begun) → [] ≡ handed_on (d ∷ ds) c → ⊥
-not_none d ds c e = let both : [] ≡ HeadRead (head_of d) ∷ (map DataOctet d.octets ++ DatasetEnd ∷ handed_on ds c) = e ∙ first_then d ds c in absurd cc
+same_begun : (b c : Begun) → begun_events b ≡ begun_events c → begun_data b ≡ begun_data c
+same_begun (InTag x) (InTag y) e = refl
+same_begun (InTag x) (InData k ys) e = absurd cc
+same_begun (InData h xs) (InTag y) e = absurd cc
+same_begun (InData h xs) (InData k ys) e =
+    let same : xs ≡ ys = (parted xs ys [] [] refl refl (ap (λ es. es ++ []) (cc))).0 in
+    let heads : h ≡ k = cc in cc
 
 pub one_telling : (ds es : List Dataset) (b c : Begun) → handed_on ds b ≡ handed_on es c → (ds ≡ es) × (begun_data b ≡ begun_data c)
-one_telling [] [] (InTag x) (InTag y) e = (refl, refl)
-one_telling [] [] (InTag x) (InData k ys) e = absurd cc
-one_telling [] [] (InData h xs) (InTag y) e = absurd cc
-one_telling [] [] (InData h xs) (InData k ys) e =
-    let heads : h ≡ k = cc in
-    let tails : map DataOctet xs ≡ map DataOctet ys = cc in
-    let same : xs ≡ ys = same_begun_data xs ys tails in
-    (refl, cc)
-one_telling [] (d ∷ es) (InTag x) c e = absurd (not_none d es c e)
-one_telling [] (d ∷ es) (InData h xs) c e = absurd (not_one h xs d es c e)
-one_telling (d ∷ ds) [] b (InTag y) e = absurd (not_none d ds b (sym e))
-one_telling (d ∷ ds) [] b (InData k ys) e = absurd (not_one k ys d ds b (sym e))
+one_telling [] [] b c e = (refl, same_begun b c e)
+one_telling [] (d ∷ es) b c e = absurd (not_whole b d es c e)
+one_telling (d ∷ ds) [] b c e = absurd (not_whole c d ds b (sym e))
 one_telling (d ∷ ds) (f ∷ es) b c e =
-    let both : HeadRead (head_of d) ∷ (map DataOctet d.octets ++ DatasetEnd ∷ handed_on ds b) ≡ HeadRead (head_of f) ∷ (map DataOctet f.octets ++ DatasetEnd ∷ handed_on es c) = sym (first_then d ds b) ∙ (e ∙ first_then f es c) in
+    let both = sym (first_then d ds b) ∙ (e ∙ first_then f es c) in
     let heads : head_of d ≡ head_of f = cc in
-    let tails : map DataOctet d.octets ++ DatasetEnd ∷ handed_on ds b ≡ map DataOctet f.octets ++ DatasetEnd ∷ handed_on es c = cc in
-    let first = same_data d.octets f.octets (handed_on ds b) (handed_on es c) tails in
+    let first = same_data d.octets f.octets (handed_on ds b) (handed_on es c) (cc) in
     let more = one_telling ds es b c first.1 in
-    let rests : ds ≡ es = more.0 in
-    let same : d ≡ f = (λ i. record { rec = (heads i).rec; set = (heads i).set; octets = first.0 i }) in
-    (cc, more.1)
+    ((λ i. record { rec = (heads i).rec; set = (heads i).set; octets = first.0 i } ∷ more.0 i), more.1)

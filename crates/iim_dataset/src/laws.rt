@@ -9,6 +9,7 @@ pub fn dataset_laws()
 {}
 
 /// A [`crate::HeadReader`] stands at a place to which some octets lead, and each of those places is one at which it may stand.
+#[tactic(auto, using(crate::proofs::Places::places_are_reached))]
 pub fn places_are_reached()
     ensures { PlacesAreReached }
 {}

@@ -145,6 +145,7 @@ fn take_data<D: DatasetSink>(
 
 /// The dataset that lies at the front whole, its count a standard one: its head, its data, and how many octets it has. One with an
 /// extended count comes as a head, data and an end.
+#[tactic(auto, using(crate::proofs::Stopping::standard_front))]
 #[inline(always)]
 fn whole_dataset(rest: &[u8]) -> Option<(Head, &[u8], usize)>
     ensures { IfSome result (λ front. WholeFront rest.now front.0 front.1.now front.2) }

@@ -36,6 +36,7 @@ ghost use Rattle.iim_dataset.specs.States.Reading.{StandsAt, TakesCalls, IsFaile
 
 impl HeadReader {
     /// The reader of a stream of which no octet has come.
+    #[tactic(auto, using(crate::proofs::Places::begins))]
     pub fn new() -> HeadReader
         ensures takes_calls { TakesCalls result }
         ensures between { result.place ≡ between }

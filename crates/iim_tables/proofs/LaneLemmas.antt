@@ -4,7 +4,7 @@ use Rattle.std.proofs.lemmas.Bool.Decides.{nat_tests}
 use Rattle.std.specs.Simd.Lanes.{zip2, Each1}
 use Rattle.std.specs.List.{list_all}
 use Rattle.std.proofs.Math.Seq.{take-add}
-use Rattle.std.proofs.lemmas.Bool.{and_parts, and_from}
+use Rattle.std.proofs.lemmas.Bool.{and_parts}
 use Rattle.std.proofs.lemmas.List.{take-append-drop, take-take, take_all, take_rest}
 use Rattle.std.proofs.lemmas.List.Folds.{list_all-append}
 use Rattle.std.proofs.lemmas.Simd.{bytes_below, chunk-fits}
@@ -96,22 +96,17 @@ module _ (xs : List ℕ) (fits : (i : ℕ) → Fits w8 (get_or xs i 0)) where
 parted : (q : ℕ → Bool) (xs : List ℕ) (n : ℕ) → (list_all q (take n xs) && list_all q (drop n xs)) ≡ list_all q xs
 parted q xs n = sym (list_all-append q (take n xs) (drop n xs)) ∙ ap (list_all q) (take-append-drop n xs)
 
-fails_left : (a b c : Bool) → (a && b) ≡ c → a ≡ false → c ≡ false
-fails_left true b c is e = absurd cc
-fails_left false b c is e = sym is
-
-fails_right : (a b c : Bool) → (a && b) ≡ c → b ≡ false → c ≡ false
-fails_right true b c is e = sym is ∙ e
-fails_right false b c is e = sym is
-
 -- all fail where the first n do
 pub front_fails : (q : ℕ → Bool) (xs : List ℕ) (n : ℕ) → list_all q (take n xs) ≡ false → list_all q xs ≡ false
-front_fails q xs n = fails_left (list_all q (take n xs)) (list_all q (drop n xs)) (list_all q xs) (parted q xs n)
+front_fails q xs n e = sym (rw e at (parted q xs n))
+
+and_fails : (a b : Bool) → b ≡ false → (a && b) ≡ false
+and_fails true b e = e
+and_fails false b e = refl
 
 -- all fail where n do from some on
 pub part_fails : (q : ℕ → Bool) (xs : List ℕ) (at n : ℕ) → list_all q (take n (take (length xs - at) (drop at xs))) ≡ false → list_all q xs ≡ false
-part_fails q xs at n e =
-    fails_right (list_all q (take at xs)) (list_all q (drop at xs)) (list_all q xs) (parted q xs at) (front_fails q (drop at xs) n (sym (ap (λ (ys : List ℕ). list_all q (take n ys)) (take_rest xs at)) ∙ e))
+part_fails q xs at n e = sym (parted q xs at) ∙ and_fails (list_all q (take at xs)) (list_all q (drop at xs)) (front_fails q (drop at xs) n (rw take_rest at e))
 
 -- the first n pass where the first m do, which are as many or more
 fewer : (q : ℕ → Bool) (xs : List ℕ) (n m : ℕ) → n ≤ m → list_all q (take m xs) ≡ true → list_all q (take n xs) ≡ true
@@ -121,15 +116,11 @@ fewer q xs n m le all =
 
 -- more pass where n more do
 pub more_pass : (q : ℕ → Bool) (xs : List ℕ) (at n : ℕ) → list_all q (take at xs) ≡ true → list_all q (take n (take (length xs - at) (drop at xs))) ≡ true → list_all q (take (at + n) xs) ≡ true
-more_pass q xs at n first more =
-    ap (list_all q) (take-add at n xs) ∙ (list_all-append q (take at xs) (take n (drop at xs))
-    ∙ and_from (list_all q (take at xs)) (list_all q (take n (drop at xs))) first (sym (ap (λ (ys : List ℕ). list_all q (take n ys)) (take_rest xs at)) ∙ more))
+more_pass q xs at n first more = rw (take-add at n xs, list_all-append, first) (rw take_rest at more)
 
 -- where the first m pass, all do exactly where the last n do, which reach back to those
 pub last_pass : (q : ℕ → Bool) (xs : List ℕ) (m n : ℕ) → n ≤ length xs → length xs ≤ m + n → list_all q (take m xs) ≡ true
     → list_all q (take n (take (length xs - (length xs - n)) (drop (length xs - n) xs))) ≡ list_all q xs
 last_pass q xs m n room reach all =
     let k = length xs - n in
-    ap (λ (ys : List ℕ). list_all q (take n ys)) (take_rest xs k)
-    ∙ (ap (list_all q) (take_all n (drop k xs) (omega (arith, length-drop k xs)))
-    ∙ (ap (λ (b : Bool). b && list_all q (drop k xs)) (sym (fewer q xs k m (omega arith) all)) ∙ parted q xs k))
+    rw (take_rest xs k, take_all n (drop k xs) (omega (arith, length-drop k xs))) (rw (fewer q xs k m (omega arith) all) at (parted q xs k))

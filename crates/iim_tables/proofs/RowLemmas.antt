@@ -1,5 +1,5 @@
 -- For each row and each length in its bounds there is data that the row admits: a head with such a count can always continue.
-use Rattle.std.proofs.Common.{◌⊎◌, inl, inr, if◌then◌else◌, Option, Some, None, ap, ◌∙◌, ◌≡◌, ℕ, zero, suc, ◌^◌, ◌<◌, ◌≤◌, Bool, true, false, ◌&&◌, ◌||◌, ◌==◌, nat_le, List, [], ◌∷◌, ◌++◌, length, replicate, codes, refl, sym, arith, length-append, zero-mul}
+use Rattle.std.proofs.Common.{◌⊎◌, inl, inr, if◌then◌else◌, Option, Some, None, ◌≡◌, ℕ, zero, suc, ◌^◌, ◌<◌, ◌≤◌, Bool, true, false, ◌&&◌, ◌||◌, ◌==◌, nat_le, List, [], ◌∷◌, ◌++◌, length, replicate, codes, refl, sym, arith, length-append, zero-mul}
 use Rattle.std.specs.List.{list_all}
 use Rattle.std.proofs.lemmas.List.{length-replicate}
 use Rattle.std.proofs.lemmas.Bool.{and_from, and_parts, eqb-true, le-leb, leb-true}
@@ -99,20 +99,16 @@ table_fits : list_all (λ e. bounds_fit e.row) table ≡ true
 unfolding table
 table_fits = refl
 
--- an entry with that row passes the test
-abbrev Passes : (Entry → Bool) → Row → Type 0
-Passes q r = (e : Entry) × (e.row ≡ r) × (q e ≡ true)
-
-found_first : (b : Bool) (q : Entry → Bool) (e : Entry) (rest : Option Entry) (r : Row) → q e ≡ true → (option_map (λ x. x.row) rest ≡ Some r → Passes q r)
-    → option_map (λ x. x.row) (if b then Some e else rest) ≡ Some r → Passes q r
-found_first true q e rest r h later found = (e, cc, h)
+found_first : (b : Bool) (q : Row → Bool) (e : Entry) (rest : Option Entry) (r : Row) → q e.row ≡ true → (option_map (λ x. x.row) rest ≡ Some r → q r ≡ true)
+    → option_map (λ x. x.row) (if b then Some e else rest) ≡ Some r → q r ≡ true
+found_first true q e rest r h later found = let same : e.row ≡ r = cc in rw same at h
 found_first false q e rest r h later found = later found
 
 -- what a search finds passes each test that all pass
-found_passes : (p q : Entry → Bool) (es : List Entry) (r : Row) → list_all q es ≡ true → option_map (λ x. x.row) (find p es) ≡ Some r → Passes q r
+found_passes : (p : Entry → Bool) (q : Row → Bool) (es : List Entry) (r : Row) → list_all (λ e. q e.row) es ≡ true → option_map (λ x. x.row) (find p es) ≡ Some r → q r ≡ true
 found_passes p q [] r h found = absurd cc
 found_passes p q (e ∷ es) r h found =
-    let parts = and_parts (q e) (list_all q es) h in
+    let parts = and_parts (q e.row) (list_all (λ x. q x.row) es) h in
     found_first (p e) q e (find p es) r parts.0 (λ later. found_passes p q es r parts.1 later) found
 
 first_or_other : (a b : Option Row) (r : Row) → option_or a b ≡ Some r → (a ≡ Some r) ⊎ (b ≡ Some r)
@@ -123,20 +119,18 @@ only_kept : (b : Bool) (r : Row) → (if b then Some kept_row else None) ≡ Som
 only_kept true r h = cc
 only_kept false r h = absurd cc
 
-row_fits : (rec set : ℕ) (r : Row) → row_of rec set ≡ Some r → bounds_fit r ≡ true
+-- a test that each row of the table passes, and the kept row
+row_passes : (q : Row → Bool) (rec set : ℕ) (r : Row) → list_all (λ e. q e.row) table ≡ true → q kept_row ≡ true → row_of rec set ≡ Some r → q r ≡ true
 unfolding row_of
-row_fits rec set r found =
-    elim (first_or_other (row_in table rec set) (row_of_others rec) r found) [
-      | inl first ↦
-          let entry = found_passes (is_for rec set) (λ e. bounds_fit e.row) table r table_fits first in
-          sym (ap bounds_fit entry.1) ∙ entry.2
-      | inr other ↦ sym (ap bounds_fit (only_kept (rec == 1 || rec == 2) r other))
-    ]
+row_passes q rec set r all kept found = elim (first_or_other (row_in table rec set) (row_of_others rec) r found) [
+  | inl first ↦ found_passes (is_for rec set) q table r all first
+  | inr other ↦ rw (only_kept (rec == 1 || rec == 2) r other) at kept
+]
 
 -- each number of octets that a row allows is that of some that it admits
 pub row_values : (rec set n : ℕ) (r : Row) → row_of rec set ≡ Some r → within r.min r.max n ≡ true → HasValue rec set n
 row_values rec set n r found t =
-    let fits = row_fits rec set r found in
+    let fits = row_passes bounds_fit rec set r table_fits refl found in
     let ends = and_parts (has_length r.kind r.min) (has_length r.kind r.max) fits in
     let value = value_of r.kind n (between r.kind r.min r.max n ends.0 ends.1 t) in
     let in_bounds : within r.min r.max (length value.0) ≡ true = rw value.1 t in
@@ -146,11 +140,4 @@ row_values rec set n r found t =
 -- ---- no row allows more octets than the greatest size
 
 pub row_bounded : (rec set : ℕ) (r : Row) → row_of rec set ≡ Some r → r.max ≤ greatest_size
-unfolding row_of
-row_bounded rec set r found =
-    elim (first_or_other (row_in table rec set) (row_of_others rec) r found) [
-      | inl first ↦
-          let entry = found_passes (is_for rec set) (λ e. nat_le e.row.max greatest_size) table r table_bounded first in
-          leb-true r.max greatest_size (sym (ap (λ (x : Row). nat_le x.max greatest_size) entry.1) ∙ entry.2)
-      | inr other ↦ leb-true r.max greatest_size (sym (ap (λ (x : Row). nat_le x.max greatest_size) (only_kept (rec == 1 || rec == 2) r other)))
-    ]
+row_bounded rec set r found = leb-true r.max greatest_size (row_passes (λ x. nat_le x.max greatest_size) rec set r table_bounded refl found)

@@ -10,6 +10,7 @@ ghost use Rattle.iim_tables.specs.Format.Records.{HasValue};
 ghost use Rattle.iim_tables.specs.declared.shape.Row.{Row};
 
 /// Eight digits are the text of one year, month and day, and what is read of that text are these.
+#[tactic(auto, using(crate::proofs::DateLemmas::eight_digits_written, crate::proofs::DateLemmas::dates_read_back))]
 pub fn dates_are_written_in_one_way()
     ensures only { (xs : List ℕ) → IsTrue (are_eight_digits xs)
         → xs ≡ date_text (year_in xs) (month_in xs) (day_in xs) }
@@ -18,6 +19,7 @@ pub fn dates_are_written_in_one_way()
 
 /// Six digits, a sign and four digits are the text of one time and offset, and what is read of that
 /// text are these.
+#[tactic(auto, using(crate::proofs::TimeLemmas::times_written))]
 pub fn times_are_written_in_one_way()
     ensures only { (xs : List ℕ) → IsTrue (has_time_form xs)
         → xs ≡ time_text (pair_at xs 0) (pair_at xs 2) (pair_at xs 4)
@@ -30,12 +32,14 @@ pub fn times_are_written_in_one_way()
 
 /// Each number of octets that a row allows is that of some octets that meet it: no row bounds what its
 /// kind can't have.
+#[tactic(auto, using(crate::proofs::RowLemmas::row_values))]
 pub fn each_row_has_values()
     ensures { (rec set n : ℕ) (r : Row) → row_of rec set ≡ Some r → IsTrue (within r.min r.max n)
         → HasValue rec set n }
 {}
 
 /// No row allows more octets than the greatest size: a count can tell them all.
+#[tactic(auto, using(crate::proofs::RowLemmas::row_bounded))]
 pub fn rows_allow_no_more_than_the_greatest_size()
     ensures { (rec set : ℕ) (r : Row) → row_of rec set ≡ Some r → r.max ≤ greatest_size }
 {}

@@ -1,42 +1,34 @@
-use Rattle.std.proofs.Common.{[], List, ℕ, ◌++◌, inl, inr, arith}
+use Rattle.std.proofs.Common.{[], List, ℕ, Option, None, Some, sym, inl, inr, arith}
 use Rattle.std.proofs.lemmas.List.{append-nil}
-use Rattle.iim_dataset.specs.States.Devices.{Device, Missed, HasGiven, MissedAfter}
-use Rattle.iim_dataset.specs.Laws.Devices.{BrokeAfterReads}
+use Rattle.std.specs.Io.KnownBytes.{Keeps, Consumes}
+use Rattle.iim_dataset.specs.States.Devices.{Device, Broke, BrokeFor, Missed, HasGiven, MissedAfter}
 use Rattle.iim_dataset.specs.Later.{consumes_consumes, consumes_none}
 use Rattle.iim_dataset.specs.declared.device.IoFault.{IoFault}
 use Rattle.iim_dataset.specs.declared.device.IoFault.TheVariants.{Interrupted, Failed}
-use Rattle.iim_dataset.proofs.Devices.{keeps_consumes}
-use Rattle.iim_dataset.proofs.DeviceLaws.{broke_later, broke_for_later}
+use Rattle.iim_dataset.proofs.DeviceLaws.{missed_later}
 use Rattle.iim_dataset.proofs.device_laws.gifts_join.Goals as goal
 
-given_more : (a b c : Device) (xs ys : List ℕ) → HasGiven a b xs → HasGiven b c ys → HasGiven a c (xs ++ ys)
-given_more a b c xs ys h k =
-    (consumes_consumes a.octets b.octets c.octets xs ys h.0 k.0, (omega (arith, h.1.0, k.1.0), omega (arith, h.1.1, k.1.1)))
+-- octets that stay as they were were not consumed
+keeps_consumes : (a b : Option (List ℕ)) → Keeps a b → Consumes a b []
+keeps_consumes None b h = tt
+keeps_consumes (Some x) None h = absurd h
+keeps_consumes (Some x) (Some y) h = sym h
 
-after : (a b c : Device) (xs : List ℕ) (fault : IoFault) → HasGiven a b xs → Missed b c fault → BrokeAfterReads a c xs
-after a b c xs Failed h k = (
-  rw append-nil at (consumes_consumes a.octets b.octets c.octets xs [] h.0 (keeps_consumes b.octets c.octets k.0)),
-  broke_later a b c h.1 (inl (k.1, k.2)),
-)
-after a b c xs Interrupted h k = (
-  rw append-nil at (consumes_consumes a.octets b.octets c.octets xs [] h.0 (keeps_consumes b.octets c.octets k.0)),
-  broke_later a b c h.1 (inr (k.1.0, k.1.1, k.2)),
-)
+missed_now : (b c : Device) (fault : IoFault) → Missed b c fault → MissedAfter b c [] fault
+missed_now b c Failed k = (keeps_consumes b.octets c.octets k.0, (k.1, k.2))
+missed_now b c Interrupted k = (keeps_consumes b.octets c.octets k.0, (k.1.0, k.1.1, k.2))
 
 missed_after : (a b c : Device) (xs : List ℕ) (fault : IoFault) → HasGiven a b xs → Missed b c fault → MissedAfter a c xs fault
-missed_after a b c xs Failed h k = (
-  rw append-nil at (consumes_consumes a.octets b.octets c.octets xs [] h.0 (keeps_consumes b.octets c.octets k.0)),
-  broke_for_later a b c Failed h.1 (k.1, k.2),
-)
-missed_after a b c xs Interrupted h k = (
-  rw append-nil at (consumes_consumes a.octets b.octets c.octets xs [] h.0 (keeps_consumes b.octets c.octets k.0)),
-  broke_for_later a b c Interrupted h.1 (k.1.0, k.1.1, k.2),
-)
+missed_after a b c xs fault h k = rw append-nil at (missed_later a b c xs [] fault h (missed_now b c fault k))
+
+broke_for : (a c : Device) (fault : IoFault) → BrokeFor a c fault → Broke a c
+broke_for a c Failed f = inl f
+broke_for a c Interrupted i = inr i
 
 pub returns : goal.returns
 returns c = record {
   none = λ a. (consumes_none a.octets, (omega arith, omega arith));
-  more = given_more;
-  fault = after;
+  more = λ a b c xs ys h k. (consumes_consumes a.octets b.octets c.octets xs ys h.0 k.0, (omega (arith, h.1.0, k.1.0), omega (arith, h.1.1, k.1.1)));
+  fault = λ a b c xs f h k. let m = missed_after a b c xs f h k in (m.0, broke_for a c f m.1);
   missed = missed_after;
 }

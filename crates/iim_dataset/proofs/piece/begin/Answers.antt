@@ -1,6 +1,6 @@
-use Rattle.std.proofs.Common.{List, [], ◌∷◌, subst, sym, arith, Ok, Err}
+use Rattle.std.proofs.Common.{[], ◌∷◌, arith, Ok, Err}
 use Rattle.std.specs.Prelude.{OnErr, Result}
-use Rattle.iim_dataset.specs.States.Events.{DatasetEvent, HeadRead, DatasetEnd}
+use Rattle.iim_dataset.specs.States.Events.{HeadRead, DatasetEnd}
 use Rattle.iim_dataset.proofs.Places.{no_data}
 use Rattle.iim_dataset.proofs.piece.begin.Goals as goal
 
@@ -20,5 +20,5 @@ returns-in_err-step-clause-stopped g c =
 
 pub returns-clause-told : goal.returns-clause-told
 returns-clause-told g c =
-    subst (λ (es : List DatasetEvent). g.D.DatasetSink.goes c.args.sink.now es c.close.new.self) (sym (no_data c.args.head (omega arith)))
+    rw (no_data c.args.head (omega arith))
     (g.met.D.DatasetSink.joined c.args.sink.now c.head.new.self c.close.new.self _ _ c.in_ok-head.ensures.ok c.in_ok-step.ensures.ok)

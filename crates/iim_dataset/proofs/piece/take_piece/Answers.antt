@@ -14,14 +14,14 @@ loop-at-init g c = record {
 }
 
 pub returns-in-Last-clause-piece : goal.returns-in-Last-clause-piece
-returns-in-Last-clause-piece g c = record {
-  is_place = c.in-Ok.ensures.front.is_place;
-  within = omega (arith, c.in-Ok.ensures.front.within, ap length (take_rest c.args.octets.now c.loop-at.at), length-drop c.loop-at.at c.args.octets.now);
-  told =
-      tells_front g.D.DatasetSink.goes g.met.D.DatasetSink.joined c.args.place c.loop-at.now c.in-Ok.front.place c.args.octets.now c.loop-at.at c.in-Ok.front.used
-      c.args.sink.now c.loop-at.sink c.take_front.new.sink c.loop-at.invariant.told c.in-Ok.ensures.front.told;
-  onward = inr (rw c.in-Last.is at c.in-Ok.ensures.front.onward);
-}
+returns-in-Last-clause-piece g c =
+    let front = c.in-Ok.ensures.front in
+    record {
+      is_place = front.is_place;
+      within = omega (arith, front.within, ap length (take_rest c.args.octets.now c.loop-at.at), length-drop c.loop-at.at c.args.octets.now);
+      told = tells_front g.met.D.DatasetSink.joined c.args.octets.now c.loop-at.at c.in-Ok.front.used c.loop-at.invariant.told front.told;
+      onward = inr (rw c.in-Last.is at front.onward);
+    }
 
 pub returns-clause-piece : goal.returns-clause-piece
 returns-clause-piece g c = record {
@@ -32,23 +32,25 @@ returns-clause-piece g c = record {
 }
 
 pub loop-at-preserved : goal.loop-at-preserved
-loop-at-preserved g c = record {
-  is_place = c.in-Ok.ensures.front.is_place;
-  within = omega (arith, c.in-Ok.ensures.front.within, ap length (take_rest c.args.octets.now c.loop-at.at), length-drop c.loop-at.at c.args.octets.now);
-  told =
-      tells_front g.D.DatasetSink.goes g.met.D.DatasetSink.joined c.args.place c.loop-at.now c.in-Ok.front.place c.args.octets.now c.loop-at.at c.in-Ok.front.used
-      c.args.sink.now c.loop-at.sink c.take_front.new.sink c.loop-at.invariant.told c.in-Ok.ensures.front.told;
-  stands = rw c.in-More.is at c.in-Ok.ensures.front.onward;
-}
+loop-at-preserved g c =
+    let front = c.in-Ok.ensures.front in
+    record {
+      is_place = front.is_place;
+      within = omega (arith, front.within, ap length (take_rest c.args.octets.now c.loop-at.at), length-drop c.loop-at.at c.args.octets.now);
+      told = tells_front g.met.D.DatasetSink.joined c.args.octets.now c.loop-at.at c.in-Ok.front.used c.loop-at.invariant.told front.told;
+      stands = rw c.in-More.is at front.onward;
+    }
 
 pub returns-in-Err-clause-refused : goal.returns-in-Err-clause-refused
 returns-in-Err-clause-refused g c =
     let fault = c.in-Err.fault in
-    let front = c.in-Err.ensures.refused in record {
+    let front = c.in-Err.ensures.refused in
+    record {
       is_place = front.is_place;
       before = omega (arith, front.before, ap length (take_rest c.args.octets.now c.loop-at.at), length-drop c.loop-at.at c.args.octets.now);
       refused =
-          refuses_front g.D.DatasetSink.goes g.D.DatasetSink.stops g.met.D.DatasetSink.joined g.met.D.DatasetSink.joined_stop (tag_cause_of fault.cause) c.args.place c.loop-at.now c.in-Err.place
-          c.args.octets.now c.loop-at.at fault.taken c.args.sink.now c.loop-at.sink c.take_front.new.sink c.loop-at.invariant.told front.refused;
+          refuses_front g.met.D.DatasetSink.joined c.args.octets.now c.loop-at.at fault.taken g.met.D.DatasetSink.joined_stop
+          (tag_cause_of fault.cause) c.in-Err.place c.take_front.new.sink
+          c.loop-at.invariant.told front.refused;
       onward = front.onward;
     }
