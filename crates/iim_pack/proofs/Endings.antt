@@ -15,9 +15,7 @@ ends state old mid tail writer join l f = record {
   more = l.more ++ f.more;
   wrote = join.more (state old.writer) (state mid.writer) (state writer) l.more f.more l.wrote f.wrote;
   patience = omega (arith, l.patience, f.patience, length-append l.more f.more);
-  whole = λ object out s.
-      subst (λ (p : Plan). IsWritten p.subfile p.size (object ++ tail) (out ++ (l.more ++ f.more))) l.plan
-      (subst (λ (t : List ℕ). IsWritten mid.plan.subfile mid.plan.size (object ++ tail) t) (append_assoc out l.more f.more) (f.whole (object ++ tail) (out ++ l.more) (l.stands object out s)));
+  whole = λ object out s. rw (← l.plan, ← append_assoc out l.more f.more) (f.whole (object ++ tail) (out ++ l.more) (l.stands object out s));
 }
 
 -- the tail could not be written

@@ -74,10 +74,8 @@ finished state before old trailer writer lines messages may ends = record {
       let is = canonical_is head events trailer lined.text in
       let total : length (canonical head (lines_of events) trailer) ≡ total_of old + length (packed_tail trailer) =
       ap length is ∙ omega (arith, length-append (packed_head head ++ packed_events events) (packed_tail trailer), total_is old (packed_head head ++ packed_events events) s.object_out s.stands) in
-      let fits : length (canonical head (lines_of events) trailer) ≤ most_of plan =
-      subst (λ (p : Plan). length (canonical head (lines_of events) trailer) ≤ most_of p) s.is_plan (subst (λ (n : ℕ). n ≤ most_of old.plan) (sym total) may.fits) in
-      let whole : is_short plan.size (length (canonical head (lines_of events) trailer)) ≡ false =
-      subst (λ (p : Plan). is_short p.size (length (canonical head (lines_of events) trailer)) ≡ false) s.is_plan (subst (λ (n : ℕ). is_short old.plan.size n ≡ false) (sym total) may.whole) in
+      let fits : length (canonical head (lines_of events) trailer) ≤ most_of plan = rw (← s.is_plan, total) may.fits in
+      let whole : is_short plan.size (length (canonical head (lines_of events) trailer)) ≡ false = rw (← s.is_plan, total) may.whole in
       record {
         may = record {
           envelope = s.envelope;
@@ -87,8 +85,7 @@ finished state before old trailer writer lines messages may ends = record {
           suits = record { fits = fits; exact = as_known plan.subfile plan.size (canonical head (lines_of events) trailer) fits whole };
         };
         object = s.object_out ++ ends.more;
-        written = subst (λ (p : Plan). IsWritten p.subfile p.size (canonical head (lines_of events) trailer) (s.object_out ++ ends.more)) s.is_plan
-            (subst (λ (o : List ℕ). IsWritten old.plan.subfile old.plan.size o (s.object_out ++ ends.more)) (sym is) (ends.whole (packed_head head ++ packed_events events) s.object_out s.stands));
+        written = rw (← s.is_plan, is) (ends.whole (packed_head head ++ packed_events events) s.object_out s.stands);
         octets_are = ap (λ (t : List ℕ). t ++ ends.more) s.out_is ∙ append_assoc (canonical_stream fields) s.object_out ends.more;
       };
 }

@@ -8,7 +8,7 @@ use Rattle.wire_story.specs.Format.Texts.{IsLine}
 use Rattle.wire_story.specs.Format.Delivery.{StoryEvent, LineOctet, LineEnd, events_of_lines}
 use Rattle.wire_story.specs.Format.Packing.{packed_events}
 use Rattle.wire_story.proofs.PackedEvents.{events_append}
-use Rattle.iim_pack.specs.States.Packing.{Packing, HasPacked, Lengthens, BreaksOff, ContinuesWith, FormWith, text_cause, line_end_cause}
+use Rattle.iim_pack.specs.States.Packing.{Packing, Lengthens, BreaksOff, ContinuesWith, FormWith, text_cause, line_end_cause}
 use Rattle.iim_pack.specs.LineEvents.{line_events}
 
 pub goes_nowhere : {W : Type 0} (state : W → Device) (k : Packing W) → TextsJoin → k.object.failed ≡ false → Lengthens state k k []
@@ -20,7 +20,7 @@ goes_nowhere state k join unfailed = record {
   total = omega arith;
   unfailed = unfailed;
   plan = refl;
-  stands = λ fields head evs plan out s. subst (λ (e : List StoryEvent). HasPacked k fields head e plan (out ++ [])) (sym (append-nil evs)) (subst (HasPacked k fields head evs plan) (sym (append-nil out)) s);
+  stands = λ fields head evs plan out s. rw (append-nil evs, append-nil out) s;
 }
 
 pub leads_on : {W : Type 0} (state : W → Device) (a b c : Packing W) (xs ys : List StoryEvent) → TextsJoin → Lengthens state a b xs → Lengthens state b c ys → Lengthens state a c (xs ++ ys)
@@ -33,8 +33,7 @@ leads_on state a b c xs ys join l m = record {
   unfailed = m.unfailed;
   plan = m.plan ∙ l.plan;
   stands = λ fields head evs plan out s.
-      subst (λ (e : List StoryEvent). HasPacked c fields head e plan (out ++ (l.more ++ m.more))) (append_assoc evs xs ys)
-      (subst (HasPacked c fields head ((evs ++ xs) ++ ys) plan) (append_assoc out l.more m.more) (m.stands fields head (evs ++ xs) plan (out ++ l.more) (l.stands fields head evs plan out s)));
+      rw (← append_assoc evs xs ys, ← append_assoc out l.more m.more) (m.stands fields head (evs ++ xs) plan (out ++ l.more) (l.stands fields head evs plan out s));
 }
 
 pub breaks_later : {W : Type 0} (state : W → Device) (a b c : Packing W) (xs ys : List StoryEvent) → TextsJoin → Lengthens state a b xs → BreaksOff state (ContinuesWith ys) b c → BreaksOff state (ContinuesWith (xs ++ ys)) a c

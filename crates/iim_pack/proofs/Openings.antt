@@ -2,8 +2,7 @@
 use Rattle.std.proofs.Common.{◌≡◌, ℕ, ◌+◌, ◌≤◌, None, List, [], ◌++◌, length, take, drop, refl, sym, ap, subst, ◌∙◌, arith, append_assoc, length-append}
 use Rattle.std.proofs.lemmas.List.{take-append-drop}
 use Rattle.std.proofs.lemmas.Bool.{le-leb}
-use Rattle.std.specs.Io.KnownBytes.{Appends}
-use Rattle.iim_dataset.specs.States.Devices.{Device, Wrote, Stopped, Broke, WithinInterruptionLimit}
+use Rattle.iim_dataset.specs.States.Devices.{Device, Wrote, Stopped, BrokeAfter, WithinInterruptionLimit}
 use Rattle.iim_dataset.specs.Laws.Devices.{TextsJoin}
 use Rattle.iim_dataset.specs.Format.Datasets.{canonical_stream}
 use Rattle.iim_object.specs.Format.Packing.{IsWritten, plan_datasets, subfile_datasets, confirmed_datasets}
@@ -55,23 +54,33 @@ opened state writer plan front first new join is_plan s wrote limit l = record {
   total = omega (arith, l.total, s.sent, ap length s.object_is, length-append (joined_parts s.parts) first.held);
 }
 
+-- a write failed after a beginning
+pub halts_after : {W : Type 0} (state : W → Device) (Form : List ℕ → Type 0) (writer middle end : W) (fault : StartFault W) (out more : List ℕ) (before : ℕ) → TextsJoin → Wrote (state writer) (state middle) out
+    → BrokeAfter (state middle) (state end) more → fault.writer ≡ end → fault.cause ≡ causes.Write → fault.written ≡ before + length more → before ≡ length out
+    → WithinInterruptionLimit (length out) (state writer) (state middle) → WithinInterruptionLimit (length more + 1) (state middle) (state end)
+    → ((whole : List ℕ) → Form whole → Begins (out ++ more) whole) → StartBreaksOff state Form writer fault
+halts_after state Form writer middle end fault out more before join wrote broke handed cause written counted limit rest begins =
+    let both = join.broke (state writer) (state middle) (state end) out more wrote broke in
+    record {
+      cause_is = cause;
+      out = out ++ more;
+      appends = rw handed both.0;
+      broke = rw handed both.1;
+      patience = rw handed (omega (arith, limit, rest, length-append out more));
+      counted = omega (arith, written, counted, length-append out more);
+      begins = begins;
+    }
+
 -- the octets of the beginning could not be written
 pub opening_broke : {W : Type 0} (state : W → Device) (writer : W) (plan : Plan) (front : List ℕ) (first new : Writing W) (fault : StartFault W) → TextsJoin → first.plan ≡ plan → HasWritten first [] (plan_octets plan)
     → Wrote (state writer) (state first.writer) (plan_octets plan) → WithinInterruptionLimit (length (plan_octets plan)) (state writer) (state first.writer) → BreaksOff state (ContinuesWith first.plan front) first new → fault.cause ≡ causes.Write → fault.writer ≡ new.writer → fault.written ≡ new.written
     → StartBreaksOff state (IsWrittenFrom plan front) writer fault
-opening_broke state writer plan front first new fault join is_plan s wrote limit k cause handed written = record {
-  cause_is = cause;
-  out = plan_octets plan ++ k.more;
-  appends = subst (λ w. Appends (state writer).octets (state w).octets (plan_octets plan ++ k.more)) (sym handed)
-      (join.broke (state writer) (state first.writer) (state new.writer) (plan_octets plan) k.more wrote (k.appends, k.broke)).0;
-  broke = subst (λ w. Broke (state writer) (state w)) (sym handed) (join.broke (state writer) (state first.writer) (state new.writer) (plan_octets plan) k.more wrote (k.appends, k.broke)).1;
-  patience = subst (λ w. WithinInterruptionLimit (length (plan_octets plan ++ k.more) + 1) (state writer) (state w)) (sym handed) (omega (arith, limit, k.patience, length-append (plan_octets plan) k.more));
-  counted = omega (arith, written, k.counted, s.written, length-append (plan_octets plan) k.more);
-  begins = λ whole w. k.begins [] (plan_octets plan) whole s (w.0, subst (λ (p : Plan). IsWritten p.subfile p.size (front ++ w.0) whole) (sym is_plan) w.1);
-}
+opening_broke state writer plan front first new fault join is_plan s wrote limit k cause handed written =
+    halts_after state (IsWrittenFrom plan front) writer first.writer new.writer fault (plan_octets plan) k.more first.written join wrote (k.appends, k.broke) handed cause (written ∙ k.counted)
+    (omega (arith, s.written)) limit k.patience
+    (λ whole w. k.begins [] (plan_octets plan) whole s (w.0, subst (λ (p : Plan). IsWritten p.subfile p.size (front ++ w.0) whole) (sym is_plan) w.1))
 
 pub may_open : {W : Type 0} (w : Writing W) (plan : Plan) (front : List ℕ) → w.plan ≡ plan → HasWritten w [] (plan_octets plan) → length front ≤ most_of plan → write_cause w (length front) ≡ None
 may_open w plan front is_plan s fits =
     let nothing : total_of w ≡ 0 = omega (arith, s.sent, ap length s.object_is, length-append (joined_parts s.parts) w.held) in
-    let le : total_of w + length front ≤ most_of w.plan = subst (λ (p : Plan). total_of w + length front ≤ most_of p) (sym is_plan) (omega (arith, nothing, fits)) in
-    rw (s.unfailed, le-leb (total_of w + length front) (most_of w.plan) le) refl
+    rw (s.unfailed, is_plan, le-leb (total_of w + length front) (most_of plan) (omega (arith, nothing, fits))) refl

@@ -1,7 +1,6 @@
 -- How a packer begins.
 use Rattle.std.proofs.Common.{◌≡◌, ℕ, ◌+◌, List, [], ◌++◌, length, take, refl, sym, subst, ◌∙◌, arith, append-nil, length-append, length-take}
-use Rattle.iim_dataset.specs.States.Devices.{Device, Wrote, Stopped, Broke, WithinInterruptionLimit}
-use Rattle.std.specs.Io.KnownBytes.{Appends}
+use Rattle.iim_dataset.specs.States.Devices.{Device, Wrote, Stopped, WithinInterruptionLimit}
 use Rattle.iim_dataset.specs.Laws.Devices.{TextsJoin}
 use Rattle.iim_dataset.specs.Format.Datasets.{Dataset, canonical_stream}
 use Rattle.iim_fields.specs.Format.Envelopes.{IsEnvelope}
@@ -17,7 +16,7 @@ use Rattle.iim_pack.specs.States.Packing.{FormWith}
 use Rattle.iim_pack.specs.Opening.{Opens}
 use Rattle.iim_pack.specs.States.Starting.{StartBreaksOff, Starts}
 use Rattle.iim_pack.proofs.Goings.{begins_after}
-use Rattle.iim_pack.proofs.Openings.{begins_by}
+use Rattle.iim_pack.proofs.Openings.{begins_by, halts_after}
 
 -- records 1 and 2 could not be written
 pub fields_broke : {W : Type 0} (state : W → Device) (writer : W) (fields : List Dataset) (head : Header) (plan : Plan) (fault : StartFault W) → fault.cause ≡ causes.Write
@@ -37,18 +36,12 @@ fields_broke state writer fields head plan fault cause s limit = record {
 pub object_broke : {W : Type 0} (state : W → Device) (writer first : W) (fields : List Dataset) (head : Header) (plan : Plan) (before : ℕ) (fault new : StartFault W) → TextsJoin → Wrote (state writer) (state first) (canonical_stream fields)
     → before ≡ length (canonical_stream fields) → WithinInterruptionLimit before (state writer) (state first) → StartBreaksOff state (IsWrittenFrom plan (packed_head head)) first fault → new.cause ≡ fault.cause → new.writer ≡ fault.writer → new.written ≡ before + fault.written
     → StartBreaksOff state (FormWith fields head plan []) writer new
-object_broke state writer first fields head plan before fault new join wrote counted limit h cause handed written = record {
-  cause_is = cause ∙ h.cause_is;
-  out = canonical_stream fields ++ h.out;
-  appends = subst (λ w. Appends (state writer).octets (state w).octets (canonical_stream fields ++ h.out)) (sym handed)
-      (join.broke (state writer) (state first) (state fault.writer) (canonical_stream fields) h.out wrote (h.appends, h.broke)).0;
-  broke = subst (λ w. Broke (state writer) (state w)) (sym handed) (join.broke (state writer) (state first) (state fault.writer) (canonical_stream fields) h.out wrote (h.appends, h.broke)).1;
-  patience = subst (λ w. WithinInterruptionLimit (length (canonical_stream fields ++ h.out) + 1) (state writer) (state w)) (sym handed) (omega (arith, limit, counted, h.patience, length-append (canonical_stream fields) h.out));
-  counted = omega (arith, written, counted, h.counted, length-append (canonical_stream fields) h.out);
-  begins = λ whole form.
-      subst (λ (w : List ℕ). Begins (canonical_stream fields ++ h.out) w) (sym form.packed.octets_are)
-      (begins_after (canonical_stream fields) h.out form.packed.object (h.begins form.packed.object (packed_text form.lines ++ packed_tail form.trailer, form.packed.written)));
-}
+object_broke state writer first fields head plan before fault new join wrote counted limit h cause handed written =
+    halts_after state (FormWith fields head plan []) writer first fault.writer new (canonical_stream fields) h.out before join wrote (h.appends, h.broke) handed (cause ∙ h.cause_is) (omega (arith, written, h.counted)) counted
+    (omega (arith, limit, counted)) h.patience
+    (λ whole form.
+    subst (λ (w : List ℕ). Begins (canonical_stream fields ++ h.out) w) (sym form.packed.octets_are)
+    (begins_after (canonical_stream fields) h.out form.packed.object (h.begins form.packed.object (packed_text form.lines ++ packed_tail form.trailer, form.packed.written))))
 
 pub started : {W : Type 0} (state : W → Device) (writer first : W) (fields : List Dataset) (head : Header) (plan : Plan) (before : ℕ) (new : Writing W) → TextsJoin → IsEnvelope fields → IsHeader head
     → Wrote (state writer) (state first) (canonical_stream fields) → before ≡ length (canonical_stream fields)

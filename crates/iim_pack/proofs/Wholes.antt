@@ -1,11 +1,11 @@
 -- A whole envelope packed in one call.
 use Rattle.std.proofs.Common.{◌≡◌, ℕ, ◌+◌, ◌≤◌, true, false, not, nat_le, None, inl, inr, List, [], ◌∷◌, ◌++◌, length, refl, sym, ap, subst, ◌∙◌, arith, append-nil, length-append}
 use Rattle.std.proofs.lemmas.Bool.{leb-true, le-leb, not-false}
-use Rattle.iim_dataset.specs.States.Devices.{Device, Wrote, BrokeAfter, WithinInterruptionLimit}
+use Rattle.iim_dataset.specs.States.Devices.{Device}
 use Rattle.iim_dataset.specs.Laws.Devices.{TextsJoin}
 use Rattle.iim_dataset.specs.Format.Datasets.{Dataset}
 use Rattle.iim_object.specs.Format.Plans.{is_short}
-use Rattle.iim_object.specs.States.Writing.{Begins, most_of, total_of, passes_plan}
+use Rattle.iim_object.specs.States.Writing.{most_of, total_of, passes_plan}
 use Rattle.iim_object.specs.declared.plan.Plan.{Plan}
 use Rattle.iim_object.specs.declared.writing.cause.StartFault.{StartFault}
 use Rattle.iim_object.specs.declared.writing.cause.PackCause.TheVariants as causes
@@ -22,6 +22,7 @@ use Rattle.iim_pack.specs.States.Packing.{Packing, Lengthens, BreaksOff, Continu
 use Rattle.iim_pack.specs.States.Starting.{Starts, StartBreaksOff, IsStartFault}
 use Rattle.iim_pack.specs.States.Whole.{Packs, IsPackFault}
 use Rattle.iim_pack.proofs.Finishings.{first_none}
+use Rattle.iim_pack.proofs.Openings.{halts_after}
 
 -- the lines of the events of lines are these
 pub lines_again : PackedLinesAreAText → TextsAreDeliveredAsLines → TextsAreCollectedAsLines → (lines : List (List ℕ)) → MakeText lines → lines_of (events_of_lines lines) ≡ lines
@@ -39,28 +40,11 @@ packs state writer last fields head lines trailer plan a b join again s l f = re
       (f.whole fields head (events_of_lines lines) plan (s.out ++ l.more) (l.stands fields head [] plan s.out s.stands));
 }
 
--- a write failed after a beginning
-pub halts_after : {W : Type 0} (state : W → Device) (Form : List ℕ → Type 0) (writer middle : W) (fault : StartFault W) (out more : List ℕ) (before : ℕ) → TextsJoin → Wrote (state writer) (state middle) out
-    → BrokeAfter (state middle) (state fault.writer) more → fault.cause ≡ causes.Write → fault.written ≡ before + length more → before ≡ length out
-    → WithinInterruptionLimit (length out) (state writer) (state middle) → WithinInterruptionLimit (length more + 1) (state middle) (state fault.writer)
-    → ((whole : List ℕ) → Form whole → Begins (out ++ more) whole) → StartBreaksOff state Form writer fault
-halts_after state Form writer middle fault out more before join wrote broke cause written counted limit rest begins = record {
-  cause_is = cause;
-  out = out ++ more;
-  appends = (join.broke (state writer) (state middle) (state fault.writer) out more wrote broke).0;
-  broke = (join.broke (state writer) (state middle) (state fault.writer) out more wrote broke).1;
-  patience = omega (arith, limit, rest, length-append out more);
-  counted = omega (arith, written, counted, length-append out more);
-  begins = begins;
-}
-
 pub lines_broke : {W : Type 0} (state : W → Device) (writer : W) (fields : List Dataset) (head : Header) (lines : List (List ℕ)) (trailer : List ℕ) (plan : Plan) (a b : Packing W) (fault : StartFault W) → TextsJoin
     → Starts state writer fields head plan a → BreaksOff state (ContinuesWith (events_of_lines lines)) a b → fault.cause ≡ causes.Write → fault.writer ≡ b.object.writer → fault.written ≡ written_of b
     → StartBreaksOff state (Packed fields head lines trailer plan) writer fault
 lines_broke state writer fields head lines trailer plan a b fault join s k cause handed written =
-    halts_after state (Packed fields head lines trailer plan) writer a.object.writer fault s.out k.more (written_of a) join s.wrote
-    (subst (λ w. BrokeAfter (state a.object.writer) (state w) k.more) (sym handed) (k.appends, k.broke)) cause (written ∙ k.counted) s.counted
-    s.patience (subst (λ w. WithinInterruptionLimit (length k.more + 1) (state a.object.writer) (state w)) (sym handed) k.patience)
+    halts_after state (Packed fields head lines trailer plan) writer a.object.writer b.object.writer fault s.out k.more (written_of a) join s.wrote (k.appends, k.broke) handed cause (written ∙ k.counted) s.counted s.patience k.patience
     (λ whole p. k.begins fields head [] plan s.out whole s.stands (record { lines = lines; trailer = trailer; packed = p; rest = []; begins = sym (append-nil (events_of_lines lines)) }))
 
 pub finish_broke : {W : Type 0} (state : W → Device) (writer : W) (fields : List Dataset) (head : Header) (lines : List (List ℕ)) (trailer : List ℕ) (plan : Plan) (a b d : Packing W) (fault : StartFault W) → TextsJoin → lines_of (events_of_lines lines) ≡ lines
@@ -68,10 +52,8 @@ pub finish_broke : {W : Type 0} (state : W → Device) (writer : W) (fields : Li
     → StartBreaksOff state (Packed fields head lines trailer plan) writer fault
 finish_broke state writer fields head lines trailer plan a b d fault join again s l k cause handed written =
     let wrote = join.more (state writer) (state a.object.writer) (state b.object.writer) s.out l.more s.wrote l.wrote in
-    halts_after state (Packed fields head lines trailer plan) writer b.object.writer fault (s.out ++ l.more) k.more (written_of b) join wrote
-    (subst (λ w. BrokeAfter (state b.object.writer) (state w) k.more) (sym handed) (k.appends, k.broke)) cause (written ∙ k.counted) (omega (arith, l.counted, s.counted, length-append s.out l.more))
-    (omega (arith, s.patience, l.patience, length-append s.out l.more))
-    (subst (λ w. WithinInterruptionLimit (length k.more + 1) (state b.object.writer) (state w)) (sym handed) k.patience)
+    halts_after state (Packed fields head lines trailer plan) writer b.object.writer d.object.writer fault (s.out ++ l.more) k.more (written_of b) join wrote (k.appends, k.broke) handed cause (written ∙ k.counted)
+    (omega (arith, l.counted, s.counted, length-append s.out l.more)) (omega (arith, s.patience, l.patience, length-append s.out l.more)) k.patience
     (λ whole p. k.begins fields head (events_of_lines lines) plan (s.out ++ l.more) whole (l.stands fields head [] plan s.out s.stands)
     (subst (λ (ls : List (List ℕ)). Packed fields head ls trailer plan whole) (sym again) p))
 
@@ -122,14 +104,11 @@ pub lines_fit : {W : Type 0} (state : W → Device) (writer : W) (fields : List 
     → total_of a.object + (length (packed_events (events_of_lines lines)) + 2) ≤ most_of a.object.plan
 lines_fit state writer fields head lines trailer plan a m s =
     let some = tail_some trailer in
-    subst (λ (p : Plan). total_of a.object + (length (packed_events (events_of_lines lines)) + 2) ≤ most_of p) (sym s.stands.is_plan) (omega (arith, some, s.total, m.fits, m.parts))
+    rw s.stands.is_plan (omega (arith, some, s.total, m.fits, m.parts))
 
 pub may_finish : {W : Type 0} (state : W → Device) (writer : W) (fields : List Dataset) (head : Header) (lines : List (List ℕ)) (trailer : List ℕ) (plan : Plan) (a b : Packing W) → MayPack head lines trailer plan → Starts state writer fields head plan a
     → Lengthens state a b (events_of_lines lines) → finish_cause b trailer ≡ None
 may_finish state writer fields head lines trailer plan a b m s l =
     let total : total_of b.object + length (packed_tail trailer) ≡ length (canonical head lines trailer) = omega (arith, s.total, l.total, m.parts) in
     let is_plan : b.object.plan ≡ plan = l.plan ∙ s.stands.is_plan in
-    let le : total_of b.object + length (packed_tail trailer) ≤ most_of b.object.plan = subst (λ (p : Plan). total_of b.object + length (packed_tail trailer) ≤ most_of p) (sym is_plan) (omega (arith, total, m.fits)) in
-    let whole : is_short b.object.plan.size (total_of b.object + length (packed_tail trailer)) ≡ false =
-    subst (λ (p : Plan). is_short p.size (total_of b.object + length (packed_tail trailer)) ≡ false) (sym is_plan) (subst (λ (n : ℕ). is_short plan.size n ≡ false) (sym total) m.whole) in
-    rw (l.unfailed, m.trailer_is, le-leb (total_of b.object + length (packed_tail trailer)) (most_of b.object.plan) le, whole) refl
+    rw (l.unfailed, m.trailer_is, is_plan, total, le-leb (length (canonical head lines trailer)) (most_of plan) m.fits, m.whole) refl

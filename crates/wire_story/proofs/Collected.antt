@@ -1,17 +1,22 @@
 -- Lines that are kept joined by LF grow as they are told.
-use Rattle.std.proofs.Common.{◌≡◌, ℕ, ◌+◌, ◌<◌, true, false, ◌==◌, List, [], ◌∷◌, ◌++◌, length, map, count_by, IsTrue, inl, inr, refl, sym, ap, subst, ◌∙◌, arith, append-nil, append_assoc, length-append}
-use Rattle.std.specs.List.{onto_first, list_all, join_with_byte}
+use Rattle.std.proofs.Common.{◌≡◌, ℕ, ◌+◌, ◌<◌, ◌≤◌, true, false, ◌==◌, List, [], ◌∷◌, ◌++◌, length, take, drop, cond, map, count_by, IsTrue, inl, inr, refl, sym, ap, subst, ◌∙◌, arith, append-nil, append_assoc, length-append}
+use Rattle.std.proofs.lemmas.List.{take_rest, drop-drop}
+use Rattle.std.proofs.lemmas.List.Sums.{sum_by-take-drop, count_by-le-length}
+use Rattle.std.specs.List.{slice_range, onto_first, list_all, join_with_byte}
 use Rattle.std.proofs.lemmas.Bool.{and_parts, and_from, cases_Bool}
 use Rattle.std.proofs.lemmas.List.Splits.{slice_split-cons_yes, slice_split-cons_no, length-slice_split, join_with_byte-slice_split}
 use Rattle.std.proofs.lemmas.List.Folds.{list_all-append}
-use Rattle.wire_story.specs.Format.Texts.{is_line_octet, IsLine, IsText, MakeText, packed_text}
-use Rattle.wire_story.specs.Format.Delivery.{LineOctet, LineEnd, delivered, events_of_lines}
+use Rattle.wire_story.specs.Format.Texts.{is_line_octet, IsLine, IsText, IsTextSoFar, MakeText, packed_text}
+use Rattle.wire_story.specs.Format.Delivery.{StoryEvent, LineOctet, LineEnd, delivered, events_of_lines}
 use Rattle.wire_story.specs.States.Collecting.{add_octet, collect}
+use Rattle.wire_story.specs.Format.Packing.{AreEvents}
 use Rattle.wire_story.specs.Joining.{lines_in}
 use Rattle.wire_story.specs.CollectingLaws.{collect-append}
 use Rattle.wire_story.proofs.Spans.{Are-head, Are-tail, Are-append}
-use Rattle.wire_story.proofs.HeldReturns.{not_at}
-use Rattle.wire_story.proofs.Told.{delivered_lines}
+use Rattle.std.proofs.lemmas.Option.{same_Some}
+use Rattle.wire_story.specs.Laws.Texts.{TextsHaveOneReading, TextsSoFarHaveOneReading}
+use Rattle.wire_story.proofs.HeldReturns.{not_at, held_is}
+use Rattle.wire_story.proofs.Told.{delivered_lines, delivered_so_far}
 
 -- ---- the lines that are kept
 
@@ -31,34 +36,29 @@ first_end : (x : ℕ) (parts : List (List ℕ)) → 0 < length parts → onto_fi
 first_end x [] some = absurd (omega (arith, some))
 first_end x (part ∷ parts) some = refl
 
--- an octet of a line goes to the end of the last line
-push_octet : (xs : List ℕ) (b : ℕ) → (b == 10) ≡ false → lines_in (xs ++ b ∷ []) ≡ add_octet (lines_in xs) b
-push_octet [] b n = slice_split-cons_no (λ b. b == 10) b [] n
-push_octet (x ∷ xs) b n =
+-- what one more octet does to the lines, it does to those of longer octets
+push_by : (f : List (List ℕ) → List (List ℕ)) (b : ℕ) → ((parts : List (List ℕ)) → 0 < length parts → [] ∷ f parts ≡ f ([] ∷ parts))
+    → ((x : ℕ) (parts : List (List ℕ)) → 0 < length parts → onto_first x (f parts) ≡ f (onto_first x parts)) → lines_in (b ∷ []) ≡ f ([] ∷ [])
+    → (xs : List ℕ) → lines_in (xs ++ b ∷ []) ≡ f (lines_in xs)
+push_by f b empty first one [] = one
+push_by f b empty first one (x ∷ xs) =
+    let more = push_by f b empty first one xs in
     elim (cases_Bool (x == 10)) [
       | inl e ↦
-          slice_split-cons_yes (λ b. b == 10) x (xs ++ b ∷ []) e
-          ∙ (ap (λ (lines : List (List ℕ)). [] ∷ lines) (push_octet xs b n)
-          ∙ (empty_more b (lines_in xs) (some_line xs) ∙ ap (λ (lines : List (List ℕ)). add_octet lines b) (sym (slice_split-cons_yes (λ b. b == 10) x xs e))))
+          slice_split-cons_yes (λ b. b == 10) x (xs ++ b ∷ []) e ∙ ap (λ (lines : List (List ℕ)). [] ∷ lines) more
+          ∙ empty (lines_in xs) (some_line xs) ∙ ap f (sym (slice_split-cons_yes (λ b. b == 10) x xs e))
       | inr e ↦
-          slice_split-cons_no (λ b. b == 10) x (xs ++ b ∷ []) e
-          ∙ (ap (onto_first x) (push_octet xs b n)
-          ∙ (first_more x b (lines_in xs) (some_line xs) ∙ ap (λ (lines : List (List ℕ)). add_octet lines b) (sym (slice_split-cons_no (λ b. b == 10) x xs e))))
+          slice_split-cons_no (λ b. b == 10) x (xs ++ b ∷ []) e ∙ ap (onto_first x) more
+          ∙ first x (lines_in xs) (some_line xs) ∙ ap f (sym (slice_split-cons_no (λ b. b == 10) x xs e))
     ]
+
+-- an octet of a line goes to the end of the last line
+push_octet : (xs : List ℕ) (b : ℕ) → (b == 10) ≡ false → lines_in (xs ++ b ∷ []) ≡ add_octet (lines_in xs) b
+push_octet xs b n = push_by (λ lines. add_octet lines b) b (empty_more b) (λ x. first_more x b) (slice_split-cons_no (λ b. b == 10) b [] n) xs
 
 -- an LF begins an empty line
 pub push_end : (xs : List ℕ) → lines_in (xs ++ 10 ∷ []) ≡ lines_in xs ++ [] ∷ []
-push_end [] = refl
-push_end (x ∷ xs) =
-    elim (cases_Bool (x == 10)) [
-      | inl e ↦
-          slice_split-cons_yes (λ b. b == 10) x (xs ++ 10 ∷ []) e
-          ∙ (ap (λ (lines : List (List ℕ)). [] ∷ lines) (push_end xs) ∙ ap (λ (lines : List (List ℕ)). lines ++ [] ∷ []) (sym (slice_split-cons_yes (λ b. b == 10) x xs e)))
-      | inr e ↦
-          slice_split-cons_no (λ b. b == 10) x (xs ++ 10 ∷ []) e
-          ∙ (ap (onto_first x) (push_end xs)
-          ∙ (first_end x (lines_in xs) (some_line xs) ∙ ap (λ (lines : List (List ℕ)). lines ++ [] ∷ []) (sym (slice_split-cons_no (λ b. b == 10) x xs e))))
-    ]
+push_end xs = push_by (λ lines. lines ++ [] ∷ []) 10 (λ parts some. refl) first_end refl xs
 
 pub push_run : (octets run : List ℕ) → IsLine run → lines_in (octets ++ run) ≡ collect (lines_in octets) (map LineOctet run)
 push_run octets [] l = ap lines_in (append-nil octets)
@@ -81,19 +81,30 @@ octet_made (line ∷ next ∷ lines) b t h =
     let parts = and_parts (list_all is_line_octet line) (list_all (list_all is_line_octet) (next ∷ lines)) h in
     and_from (list_all is_line_octet line) (list_all (list_all is_line_octet) (add_octet (next ∷ lines) b)) parts.0 (octet_made (next ∷ lines) b t parts.1)
 
-run_made : (lines : List (List ℕ)) (run : List ℕ) → IsLine run → EachLine lines → EachLine (collect lines (map LineOctet run))
-run_made lines [] l h = h
-run_made lines (b ∷ bs) l h = run_made (add_octet lines b) bs (Are-tail is_line_octet b bs l) (octet_made lines b (Are-head is_line_octet b bs l) h)
+pub octet_some : (lines : List (List ℕ)) (b : ℕ) → 0 < length (add_octet lines b)
+octet_some [] b = omega arith
+octet_some (line ∷ []) b = omega arith
+octet_some (line ∷ next ∷ lines) b = omega arith
+
+-- what is collected of events
+pub collected_made : (lines : List (List ℕ)) (events : List StoryEvent) → AreEvents events → MakeText lines → MakeText (collect lines events)
+collected_made lines [] h made = made
+collected_made lines (LineOctet b ∷ events) h made = collected_made (add_octet lines b) events h.1 (octet_some lines b, octet_made lines b h.0 made.1)
+collected_made lines (LineEnd ∷ events) h made =
+    collected_made (lines ++ [] ∷ []) events h.1 (
+      omega (arith, length-append lines ([] ∷ [])),
+      list_all-append (list_all is_line_octet) lines ([] ∷ []) ∙ and_from (list_all (list_all is_line_octet) lines) true made.1 refl,
+    )
+
+line_events : (run : List ℕ) → IsLine run → AreEvents (map LineOctet run)
+line_events [] l = tt
+line_events (b ∷ bs) l = (Are-head is_line_octet b bs l, line_events bs (Are-tail is_line_octet b bs l))
 
 pub text_made : (octets run : List ℕ) → IsLine run → MakeText (lines_in octets) → MakeText (lines_in (octets ++ run))
-text_made octets run l h = (some_line (octets ++ run), subst EachLine (sym (push_run octets run l)) (run_made (lines_in octets) run l h.1))
+text_made octets run l h = subst MakeText (sym (push_run octets run l)) (collected_made (lines_in octets) (map LineOctet run) (line_events run l) h)
 
 pub end_made : (octets : List ℕ) → MakeText (lines_in octets) → MakeText (lines_in (octets ++ 10 ∷ []))
-end_made octets h = (
-  some_line (octets ++ 10 ∷ []),
-  subst EachLine (sym (push_end octets))
-      (list_all-append (list_all is_line_octet) (lines_in octets) ([] ∷ []) ∙ and_from (list_all (list_all is_line_octet) (lines_in octets)) true h.1 refl),
-)
+end_made octets h = subst MakeText (sym (push_end octets)) (collected_made (lines_in octets) (LineEnd ∷ []) (tt, tt) h)
 
 -- ---- what is collected of a text
 
@@ -119,6 +130,32 @@ pub text_collected : (x : List ℕ) (lines : List (List ℕ)) → IsText x lines
 text_collected x [] h = absurd h
 text_collected x (line ∷ lines) h = ap (collect ([] ∷ [])) (delivered_lines x (line ∷ lines) h) ∙ lines_collected [] line lines
 
+-- the same of a text so far
+pub so_far_collected : (x : List ℕ) (lines : List (List ℕ)) (line : List ℕ) (held : ℕ) → IsTextSoFar x lines line held → collect ([] ∷ []) (delivered x) ≡ lines ++ line ∷ []
+so_far_collected x [] line held h = ap (collect ([] ∷ [])) (delivered_so_far x [] line held h) ∙ lines_collected [] line []
+so_far_collected x (f ∷ fs) line held h = ap (collect ([] ∷ [])) (delivered_so_far x (f ∷ fs) line held h) ∙ lines_collected [] f (fs ++ line ∷ [])
+
+-- ---- that octets are lines in one way at most: as they are collected
+
+pub one_text : TextsHaveOneReading
+one_text x lines others h k = sym (text_collected x lines h) ∙ text_collected x others k
+
+-- a last line is determined, and those before it
+last_is : (xs ys : List (List ℕ)) (a b : List ℕ) → xs ++ a ∷ [] ≡ ys ++ b ∷ [] → (xs ≡ ys) × (a ≡ b)
+last_is [] [] a b e = (refl, cc)
+last_is [] (y ∷ ys) a b e = absurd (omega (arith, ap length e, length-append ys (b ∷ [])))
+last_is (x ∷ xs) [] a b e = absurd (omega (arith, ap length e, length-append xs (a ∷ [])))
+last_is (x ∷ xs) (y ∷ ys) a b e =
+    let first : x ≡ y = cc in
+    let more = last_is xs ys a b cc in
+    let rest : xs ≡ ys = more.0 in
+    (cc, more.1)
+
+pub one_text_so_far : TextsSoFarHaveOneReading
+one_text_so_far x lines others line other held returns h k =
+    let s = last_is lines others line other (sym (so_far_collected x lines line held h) ∙ so_far_collected x others other returns k) in
+    (s.0, s.1, same_Some held returns (sym (held_is x lines line held h) ∙ held_is x others other returns k))
+
 -- ---- how long they are where they are packed
 
 packed_more : (lines : List (List ℕ)) → 0 < length lines → length (packed_text lines) + 1 ≡ length (join_with_byte 10 lines) + length lines
@@ -131,3 +168,20 @@ packed_more (line ∷ next ∷ lines) some =
 pub packed_len : (octets : List ℕ) → length (packed_text (lines_in octets)) ≡ length octets + count_by (λ b. b == 10) octets
 packed_len octets =
     omega (arith, packed_more (lines_in octets) (some_line octets), ap length (join_with_byte-slice_split 10 octets), length-slice_split (λ b. b == 10) octets)
+
+-- ---- how many of them are LF
+
+-- of the next block, and of what follows it
+pub next_feeds : (xs : List ℕ) (at : ℕ)
+    → count_by (λ b. b == 10) (take 16 (slice_range xs at (length xs))) + count_by (λ b. b == 10) (drop (at + 16) xs) ≡ count_by (λ b. b == 10) (drop at xs)
+next_feeds xs at =
+    ap (λ (ys : List ℕ). count_by (λ b. b == 10) (take 16 ys) + count_by (λ b. b == 10) (drop (at + 16) xs)) (take_rest xs at)
+    ∙ ap (λ (ys : List ℕ). count_by (λ b. b == 10) (take 16 (drop at xs)) + count_by (λ b. b == 10) ys) (sym (drop-drop 16 at xs))
+    ∙ sum_by-take-drop (λ b. cond (b == 10) 1 0) (drop at xs) 16
+
+-- of all that is left
+pub rest_feeds : (xs : List ℕ) (at : ℕ) → count_by (λ b. b == 10) (slice_range xs at (length xs)) ≡ count_by (λ b. b == 10) (drop at xs)
+rest_feeds xs at = ap (count_by (λ b. b == 10)) (take_rest xs at)
+
+pub few_feeds : (xs : List ℕ) → count_by (λ b. b == 10) xs ≤ length xs
+few_feeds xs = count_by-le-length (λ b. b == 10) xs

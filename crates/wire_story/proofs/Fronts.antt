@@ -1,44 +1,100 @@
--- Fronts of a piece that are taken one after the other.
-use Rattle.std.proofs.Common.{ℕ, ◌+◌, ◌<◌, ◌≤◌, List, [], ◌∷◌, ◌++◌, length, take, drop, slice_index, Option, subst, sym, ap, ◌∙◌, arith, length-drop}
-use Rattle.std.proofs.lemmas.List.{take_rest, take_more, drop-drop}
+-- What is taken of a piece, front after front, and what is refused of it.
+use Rattle.std.proofs.Common.{◌≡◌, ◌≢◌, ℕ, false, zero, suc, ◌+◌, ◌-◌, ◌<◌, ◌≤◌, List, [], ◌∷◌, ◌++◌, length, take, drop, slice_index, Option, Some, refl, subst, sym, ap, ◌∙◌, arith, length-drop}
+use Rattle.std.proofs.lemmas.List.{take_rest, drop-drop, take-append-drop}
 use Rattle.std.specs.List.{slice_range}
-use Rattle.wire_story.specs.Marking.{AreMarks, IsTextFront}
+use Rattle.iim_dataset.specs.Format.Counts.{Rose}
+use Rattle.wire_story.specs.Marking.{AreMarks, IsTextFront, StartsLineEnd}
 use Rattle.wire_story.specs.declared.marks.Marks.{Marks}
-use Rattle.wire_story.specs.Format.Delivery.{StoryEvent, delivered}
+use Rattle.wire_story.specs.Format.Texts.{is_line_octet, line_end}
+use Rattle.wire_story.specs.Format.Delivery.{StoryEvent, LineEnd}
 use Rattle.wire_story.specs.States.Reading.{CountsCause, TakesPiece, RefusesOne}
+use Rattle.wire_story.specs.declared.fault.TextCause.TheVariants.{LoneReturn, ControlOctet, Sink}
 use Rattle.wire_story.specs.declared.fault.TextFault.{TextFault}
-use Rattle.wire_story.proofs.Pieces.{leads_on_front, refuses_front}
-use Rattle.wire_story.proofs.Told.{delivered_front}
+use Rattle.wire_story.proofs.HeldReturns.{held_returns}
+use Rattle.wire_story.proofs.Pieces.{leads_on, leads_on_front, refuses_front, refuses_told, refuses_lone, refuses_control}
+use Rattle.wire_story.proofs.Told.{delivered_front, delivered_end}
 
 -- events and then others lead where all of them joined lead
 abbrev pub Joins : {S : Type 0} → (S → List StoryEvent → S → Type 0) → Type 0
 Joins {S} goes = (a b c : S) (xs ys : List StoryEvent) → goes a xs b → goes b ys c → goes a (xs ++ ys) c
 
--- a front was taken, and then one of what is left
-pub takes_both : {S : Type 0} (goes : S → List StoryEvent → S → Type 0) (failures : S → ℕ) → Joins goes → (old mid new : Option ℕ) (piece : List ℕ) (i k : ℕ) (a b c : S)
-    → TakesPiece goes failures old (take i piece) mid a b → TakesPiece goes failures mid (take k (slice_range piece i (length piece))) new b c → TakesPiece goes failures old (take (i + k) piece) new a c
-takes_both goes failures joined old mid new piece i k a b c first then = record {
-  leads_on = leads_on_front old mid new piece i k first.leads_on then.leads_on;
-  told = subst (λ (es : List StoryEvent). goes a es c) (delivered_front piece i k) (joined a b c (delivered (take i piece)) (delivered (take k (slice_range piece i (length piece)))) first.told then.told);
-  calm = then.calm ∙ first.calm;
-}
+-- a line end stands before what follows it
+end_first : (rest : List ℕ) (end : ℕ) → StartsLineEnd rest end → line_end (end - 1) ++ drop end rest ≡ rest
+end_first rest end h = ap (λ (xs : List ℕ). xs ++ drop end rest) (sym h.is) ∙ take-append-drop end rest
 
--- a front was taken, and then an octet of what is left was refused
-pub refuses_later : {S : Type 0} (goes : S → List StoryEvent → S → Type 0) (failures : S → ℕ) → Joins goes → (old mid : Option ℕ) (piece : List ℕ) (i : ℕ) (fault : TextFault) (a b c : S)
-    → TakesPiece goes failures old (take i piece) mid a b → RefusesOne goes failures mid (slice_range piece i (length piece)) fault b c
-    → RefusesOne goes failures old piece (record { taken = i + fault.taken; cause = fault.cause }) a c
-refuses_later goes failures joined old mid piece i fault a b c first then = record {
-  before = omega (arith, then.before, ap length (take_rest piece i), length-drop i piece);
-  refused = refuses_front old mid piece i fault.taken fault.cause first.leads_on then.refused;
-  told = subst (λ (es : List StoryEvent). goes a es c) (delivered_front piece i fault.taken) (joined a b c (delivered (take i piece)) (delivered (take fault.taken (slice_range piece i (length piece)))) first.told then.told);
-  counted = subst (λ (n : ℕ). CountsCause n (failures c) fault.cause) first.calm then.counted;
-}
+-- an LF, and CR LF
+pub feed_first : {rest : List ℕ} → 0 < length rest → slice_index rest 0 ≡ 10 → StartsLineEnd rest 1
+feed_first {rest = []} some first = absurd (omega (arith, some))
+feed_first {rest = x ∷ more} some first = record { some = omega arith; few = omega arith; within = omega arith; is = rw first refl }
 
--- the first octet was taken
-pub takes_first : {S : Type 0} (goes : S → List StoryEvent → S → Type 0) (failures : S → ℕ) (old new : Option ℕ) (rest : List ℕ) (a b : S) → 0 < length rest
-    → TakesPiece goes failures old (slice_index rest 0 ∷ []) new a b → TakesPiece goes failures old (take 1 rest) new a b
-takes_first goes failures old new rest a b some first =
-    subst (λ (xs : List ℕ). TakesPiece goes failures old xs new a b) (sym (take_more rest 0 0 some)) first
+pub both_first : {rest : List ℕ} → 2 ≤ length rest → slice_index rest 0 ≡ 13 → slice_index rest 1 ≡ 10 → StartsLineEnd rest 2
+both_first {rest = []} two first second = absurd (omega (arith, two))
+both_first {rest = x ∷ []} two first second = absurd (omega (arith, two))
+both_first {rest = x ∷ y ∷ more} two first second = record { some = omega arith; few = omega arith; within = omega arith; is = rw (first, second) refl }
+
+module _ {S : Type 0} {goes : S → List StoryEvent → S → Type 0} {failures : S → ℕ} where
+  -- ---- a front, and then more
+
+  -- a front was taken, and then one of what is left
+  pub takes_both : Joins goes → (piece : List ℕ) (i k : ℕ) {old mid new : Option ℕ} {a b c : S} → TakesPiece goes failures old (take i piece) mid a b
+      → TakesPiece goes failures mid (take k (slice_range piece i (length piece))) new b c → TakesPiece goes failures old (take (i + k) piece) new a c
+  takes_both joined piece i k {old = old} {mid = mid} {new = new} {a = a} {b = b} {c = c} first then = record {
+    leads_on = leads_on_front old mid new piece i k first.leads_on then.leads_on;
+    told = subst (λ (es : List StoryEvent). goes a es c) (delivered_front piece i k) (joined a b c _ _ first.told then.told);
+    calm = then.calm ∙ first.calm;
+  }
+
+  -- a front was taken, and then an octet of what is left was refused
+  pub refuses_later : Joins goes → (piece : List ℕ) (i : ℕ) {old mid : Option ℕ} {fault : TextFault} {a b c : S} → TakesPiece goes failures old (take i piece) mid a b
+      → RefusesOne goes failures mid (slice_range piece i (length piece)) fault b c → RefusesOne goes failures old piece (record { taken = i + fault.taken; cause = fault.cause }) a c
+  refuses_later joined piece i {old = old} {mid = mid} {fault = fault} {a = a} {b = b} {c = c} first then = record {
+    before = omega (arith, then.before, ap length (take_rest piece i), length-drop i piece);
+    refused = refuses_front old mid piece i fault.taken fault.cause first.leads_on then.refused;
+    told = subst (λ (es : List StoryEvent). goes a es c) (delivered_front piece i fault.taken) (joined a b c _ _ first.told then.told);
+    counted = subst (λ (n : ℕ). CountsCause n (failures c) fault.cause) first.calm then.counted;
+  }
+
+  -- ---- a line end
+
+  -- the sink was told it
+  pub end_taken : {held : ℕ} {rest : List ℕ} {end : ℕ} {a b : S} → StartsLineEnd rest end → held + end ≤ 3 → goes a (LineEnd ∷ []) b → failures b ≡ failures a
+      → TakesPiece goes failures (Some held) (take end rest) (Some 0) a b
+  end_taken {held = held} {end = end} h few told calm = rw h.is (record {
+    leads_on = leads_on held (line_end (end - 1)) 0 (held_returns held (end - 1) (10 ∷ []) (omega (arith, few, h.some)));
+    told = rw delivered_end told;
+    calm = calm;
+  })
+
+  -- the sink refused it
+  pub end_refused : {held : ℕ} {rest : List ℕ} {end : ℕ} {a b : S} → StartsLineEnd rest end → held + end ≤ 3 → goes a [] b → Rose (failures a) (failures b)
+      → RefusesOne goes failures (Some held) rest (record { taken = end - 1; cause = Sink }) a b
+  end_refused {end = zero} h few told counted = absurd (omega (arith, h.some))
+  end_refused {held = held} {rest = rest} {end = suc zero} {a = a} {b = b} h few told counted =
+      subst (λ (xs : List ℕ). RefusesOne goes failures (Some held) xs (record { taken = 0; cause = Sink }) a b) (end_first rest 1 h)
+      (record { before = omega arith; refused = refuses_told held (10 ∷ drop 1 rest) 0 0 (omega arith) refl (λ e. omega (arith, e)); told = told; counted = counted })
+  end_refused {held = held} {rest = rest} {end = suc (suc zero)} {a = a} {b = b} h few told counted =
+      subst (λ (xs : List ℕ). RefusesOne goes failures (Some held) xs (record { taken = 1; cause = Sink }) a b) (end_first rest 2 h)
+      (record { before = omega arith; refused = refuses_told held (13 ∷ 10 ∷ drop 2 rest) 1 0 (omega arith) (held_returns held 1 (10 ∷ []) (omega (arith, few))) (λ e. omega (arith, e)); told = told; counted = counted })
+  end_refused {end = suc (suc (suc n))} h few told counted = absurd (omega (arith, h.few))
+
+  -- ---- an octet that the sink is not told
+
+  -- one more CR
+  pub return_taken : (rest : List ℕ) {held : ℕ} {a : S} → 0 < length rest → slice_index rest 0 ≡ 13 → held < 2 → goes a [] a
+      → TakesPiece goes failures (Some held) (take 1 rest) (Some (held + 1)) a a
+  return_taken [] some first few none = absurd (omega (arith, some))
+  return_taken (x ∷ rest) {held = held} some first few none =
+      rw first (record { leads_on = leads_on held (13 ∷ []) (held + 1) (held_returns held 1 [] (omega (arith, few))); told = none; calm = refl })
+
+  -- after CR, and no LF
+  pub lone_refused : {held : ℕ} {rest : List ℕ} {a : S} → 0 < length rest → 0 < held → slice_index rest 0 ≢ 10 → (slice_index rest 0 ≡ 13 → held ≡ 2) → goes a [] a
+      → RefusesOne goes failures (Some held) rest (record { taken = 0; cause = LoneReturn }) a a
+  lone_refused {held = held} {rest = rest} some held_some feed returns none = record { before = some; refused = refuses_lone held rest held_some feed returns; told = none; counted = refl }
+
+  -- a control octet
+  pub control_refused : {rest : List ℕ} {a : S} → 0 < length rest → slice_index rest 0 < 256 → slice_index rest 0 ≢ 10 → slice_index rest 0 ≢ 13
+      → is_line_octet (slice_index rest 0) ≡ false → goes a [] a → RefusesOne goes failures (Some 0) rest (record { taken = 0; cause = ControlOctet }) a a
+  control_refused {rest = rest} some fits feed return other none = record { before = some; refused = refuses_control rest fits feed return other; told = none; counted = refl }
 
 pub front_after : (rest : List ℕ) (i k held : ℕ) (marks : Marks) → held ≤ 2 → 0 < i + k → i ≤ length rest → k ≤ length (slice_range rest i (length rest))
     → AreMarks (drop k (slice_range rest i (length rest))) marks → IsTextFront rest held (i + k) marks

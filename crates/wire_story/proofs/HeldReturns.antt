@@ -1,6 +1,7 @@
 -- A text so far is read octet by octet: what it leaves is the number of CR held, or nothing where no text begins so.
-use Rattle.std.proofs.Common.{◌≡◌, ℕ, zero, suc, ◌<◌, ◌≤◌, Bool, true, false, ◌&&◌, ◌==◌, nat_lt, List, [], ◌∷◌, ◌++◌, replicate, Option, Some, None, ◌⊎◌, inl, inr, refl, sym, ap, subst, ◌∙◌, arith, append-nil, append_assoc, eqb, option_and_then}
-use Rattle.std.proofs.lemmas.Bool.{both_ways, ne_eqb, eqb-true, ltb-true, and_parts, and_from}
+use Rattle.std.proofs.Common.{◌≡◌, ℕ, zero, suc, ◌+◌, ◌<◌, ◌≤◌, Bool, true, false, ◌&&◌, ◌==◌, nat_lt, List, [], ◌∷◌, ◌++◌, replicate, Option, Some, None, ◌⊎◌, inl, inr, refl, sym, ap, subst, ◌∙◌, arith, append-nil, append_assoc, eqb, option_and_then}
+use Rattle.std.proofs.lemmas.Bool.Decides.{nat_tests}
+use Rattle.std.proofs.lemmas.Bool.{lt-ltb, both_ways, ne_eqb}
 use Rattle.wire_story.specs.Format.Texts.{is_line_octet, IsLine, line_end, IsTextSoFar, Holds}
 use Rattle.wire_story.proofs.Spans.{Are-head, Are-tail, Are-cons}
 
@@ -20,39 +21,27 @@ abbrev pub held_after : ℕ → List ℕ → Option ℕ
 held_after held [] = Some held
 held_after held (b ∷ bs) = option_and_then (λ h. held_after h bs) (after_octet held b)
 
+later : (f g p : ℕ → Option ℕ) (o : Option ℕ) → ((j : ℕ) → f j ≡ option_and_then p (g j)) → option_and_then f o ≡ option_and_then p (option_and_then g o)
+later f g p None e = refl
+later f g p (Some j) e = e j
+
+-- octets are read after those before them
+pub held_append : (h : ℕ) (xs ys : List ℕ) → held_after h (xs ++ ys) ≡ option_and_then (λ j. held_after j ys) (held_after h xs)
+held_append h [] ys = refl
+held_append h (b ∷ bs) ys = later _ _ (λ j. held_after j ys) (after_octet h b) (λ j. held_append j bs ys)
+
 -- the octet was LF, or one more CR, or an octet of a line with none held
 abbrev pub Step : ℕ → ℕ → ℕ → Type 0
 Step held b k = ((b ≡ 10) × (k ≡ 0)) ⊎ (((b ≡ 13) × (held < 2) × (k ≡ suc held)) ⊎ ((is_line_octet b ≡ true) × (held ≡ 0) × (k ≡ 0)))
 
-chosen-is : (lf cr more line : Bool) (held k : ℕ) → chosen lf cr more line held ≡ Some k
-    → ((lf ≡ true) × (k ≡ 0)) ⊎ (((cr ≡ true) × (more ≡ true) × (k ≡ suc held)) ⊎ ((line ≡ true) × (k ≡ 0)))
-chosen-is true cr more line held k e = inl (refl, cc)
-chosen-is false true true line held k e = inr (inl (refl, refl, cc))
-chosen-is false true false line held k e = absurd cc
-chosen-is false false more true held k e = inr (inr (refl, cc))
-chosen-is false false more false held k e = absurd cc
-
 pub step_of : (held b k : ℕ) → after_octet held b ≡ Some k → Step held b k
-step_of held b k e =
-    elim (chosen-is (b == 10) (b == 13) (nat_lt held 2) (is_line_octet b && (held == 0)) held k e) [
-      | inl p ↦ inl (eqb-true b 10 p.0, p.1)
-      | inr r ↦ elim r [
-        | inl p ↦ inr (inl (eqb-true b 13 p.0, ltb-true held 2 p.1, p.2))
-        | inr p ↦ let q = and_parts (is_line_octet b) (held == 0) p.0 in inr (inr (q.0, eqb-true held 0 q.1, p.1))
-      ]
-    ]
+step_of held b k e = grind (arith, nat_tests)
 
 pub not_at : (b c : ℕ) → is_line_octet b ≡ true → is_line_octet c ≡ false → eqb b c ≡ false
 not_at b c t f = ne_eqb b c (λ e. both_ways (is_line_octet c) f (ap is_line_octet (sym e) ∙ t))
 
-chosen_line : (lf cr more line : Bool) (held : ℕ) → lf ≡ false → cr ≡ false → line ≡ true → chosen lf cr more line held ≡ Some 0
-chosen_line true cr more line held p q r = absurd cc
-chosen_line false true more line held p q r = absurd cc
-chosen_line false false more true held p q r = refl
-chosen_line false false more false held p q r = absurd cc
-
 pub line_octet_step : (b : ℕ) → is_line_octet b ≡ true → after_octet 0 b ≡ Some 0
-line_octet_step b t = chosen_line (b == 10) (b == 13) true (is_line_octet b && true) 0 (not_at b 10 t refl) (not_at b 13 t refl) (and_from (is_line_octet b) true t refl)
+line_octet_step b t = grind (arith, nat_tests)
 
 -- ---- from a text so far to what it holds
 
@@ -61,22 +50,19 @@ held_line [] rest h = refl
 held_line (b ∷ bs) rest h =
     ap (option_and_then (λ k. held_after k (bs ++ rest))) (line_octet_step b (Are-head is_line_octet b bs h)) ∙ held_line bs rest (Are-tail is_line_octet b bs h)
 
-pub held_line_end : (k : ℕ) (rest : List ℕ) → k ≤ 2 → held_after 0 (line_end k ++ rest) ≡ held_after 0 rest
-held_line_end zero rest h = refl
-held_line_end (suc zero) rest h = refl
-held_line_end (suc (suc zero)) rest h = refl
-held_line_end (suc (suc (suc k))) rest h = absurd (omega arith)
-
-pub held_crs : (k : ℕ) → k ≤ 2 → held_after 0 (replicate k 13) ≡ Some k
-held_crs zero h = refl
-held_crs (suc zero) h = refl
-held_crs (suc (suc zero)) h = refl
-held_crs (suc (suc (suc k))) h = absurd (omega arith)
+-- CR that stand after others
+pub held_returns : (h k : ℕ) (rest : List ℕ) → h + k ≤ 2 → held_after h (replicate k 13 ++ rest) ≡ held_after (h + k) rest
+held_returns h zero rest few = ap (λ n. held_after n rest) (omega arith)
+held_returns h (suc k) rest few =
+    let next : after_octet h 13 ≡ Some (suc h) = ap (λ t. chosen false true t (is_line_octet 13 && (h == 0)) h) (lt-ltb h 2 (omega arith)) in
+    ap (option_and_then (λ n. held_after n (replicate k 13 ++ rest))) next ∙ held_returns (suc h) k rest (omega arith) ∙ ap (λ n. held_after n rest) (omega arith)
 
 pub held_is : (x : List ℕ) (lines : List (List ℕ)) (line : List ℕ) (k : ℕ) → IsTextSoFar x lines line k → held_after 0 x ≡ Some k
-held_is x [] line k h = ap (held_after 0) h.2 ∙ (held_line line (replicate k 13) h.0 ∙ held_crs k h.1)
+held_is x [] line k h =
+    ap (held_after 0) (h.2 ∙ ap (λ (t : List ℕ). line ++ t) (sym (append-nil (replicate k 13)))) ∙ held_line line (replicate k 13 ++ []) h.0 ∙ held_returns 0 k [] (omega (arith, h.1)) ∙ ap Some (omega arith)
 held_is x (first ∷ lines) line k h =
-    ap (held_after 0) h.4 ∙ (held_line first (line_end h.1 ++ h.3) h.0 ∙ (held_line_end h.1 h.3 h.2 ∙ held_is h.3 lines line k h.5))
+    ap (held_after 0) (h.4 ∙ ap (λ (t : List ℕ). first ++ t) (append_assoc (replicate h.1 13) (10 ∷ []) h.3))
+    ∙ held_line first (replicate h.1 13 ++ (10 ∷ h.3)) h.0 ∙ held_returns 0 h.1 (10 ∷ h.3) (omega (arith, h.2)) ∙ held_is h.3 lines line k h.5
 
 -- ---- from what is held to a text so far
 
@@ -102,15 +88,13 @@ so_far h (b ∷ bs) k le e =
     let s = and_then_is (after_octet h b) (λ j. held_after j bs) k e in
     elim (step_of h b s.0 s.1) [
       | inl p ↦
-          let more = so_far 0 bs k (omega arith) (subst (λ (j : ℕ). held_after j bs ≡ Some k) p.1 s.2) in
+          let more = so_far 0 bs k (omega arith) (rw p.1 at s.2) in
           let parts : replicate h 13 ++ (b ∷ bs) ≡ line_end h ++ bs = ap (λ (c : ℕ). replicate h 13 ++ (c ∷ bs)) p.0 ∙ sym (append_assoc (replicate h 13) (10 ∷ []) bs) in
           ([] ∷ more.0, more.1, (refl, h, le, bs, parts, more.2))
       | inr r ↦ elim r [
-        | inl p ↦
-            let more = so_far (suc h) bs k (omega arith) (subst (λ (j : ℕ). held_after j bs ≡ Some k) p.2 s.2) in
-            subst (λ (t : List ℕ). Holds t k) (sym (ap (λ (c : ℕ). replicate h 13 ++ (c ∷ bs)) p.0 ∙ replicate-more h bs)) more
+        | inl p ↦ rw (p.0, replicate-more h bs) (so_far (suc h) bs k (omega arith) (rw p.2 at s.2))
         | inr p ↦
-            let more = so_far 0 bs k (omega arith) (subst (λ (j : ℕ). held_after j bs ≡ Some k) p.2 s.2) in
-            subst (λ (n : ℕ). Holds (replicate n 13 ++ (b ∷ bs)) k) (sym p.1) (so_far-cons b bs more.0 more.1 k p.0 more.2)
+            let more = so_far 0 bs k (omega arith) (rw p.2 at s.2) in
+            rw p.1 (so_far-cons b bs more.0 more.1 k p.0 more.2)
       ]
     ]

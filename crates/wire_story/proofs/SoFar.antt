@@ -1,15 +1,14 @@
 -- Octets as tokens, and texts so far: lemmas that proofs on messages cite too.
-use Rattle.std.proofs.Common.{◌≡◌, ℕ, ◌≤◌, List, [], ◌∷◌, ◌++◌, map, refl, ap}
+use Rattle.std.proofs.Common.{◌≡◌, ℕ, ◌≤◌, List, [], ◌∷◌, ◌++◌, map, refl, sym, ap, ◌∙◌, append_assoc}
+use Rattle.std.proofs.lemmas.List.{map-append}
 use Rattle.wire_story.specs.Format.Texts.{IsTextSoFar}
 use Rattle.wire_story.specs.Format.Tokens.{OctetOrEnd, Octet, End, with_end}
 
 pub with_end-append : (x y : List ℕ) → with_end (x ++ y) ≡ map Octet x ++ with_end y
-with_end-append [] y = refl
-with_end-append (b ∷ bs) y = ap (λ (t : List OctetOrEnd). Octet b ∷ t) (with_end-append bs y)
+with_end-append x y = ap (λ (t : List OctetOrEnd). t ++ End ∷ []) (map-append Octet x y) ∙ append_assoc (map Octet x) (map Octet y) (End ∷ [])
 
 pub map_snoc : (x : List ℕ) (b : ℕ) → map Octet x ++ (Octet b ∷ []) ≡ map Octet (x ++ (b ∷ []))
-map_snoc [] b = refl
-map_snoc (a ∷ as') b = ap (λ (t : List OctetOrEnd). Octet a ∷ t) (map_snoc as' b)
+map_snoc x b = sym (map-append Octet x (b ∷ []))
 
 -- what begins octets with their end begins the octets, or is all of them
 pub front_of : (x text : List ℕ) (rest : List OctetOrEnd) → map Octet x ++ rest ≡ with_end text

@@ -24,29 +24,17 @@ Are-append p [] ys a b = b
 Are-append p (x ∷ xs) ys a b = Are-cons p x (xs ++ ys) (Are-head p x xs a) (Are-append p xs ys (Are-tail p x xs a) b)
 
 -- what passes and is followed by what doesn't is determined
-pub span_by : {X : Type 0} (p : X → Bool) (a b : List X) (c d : X) (x y : List X) → list_all p a ≡ true → list_all p b ≡ true → p c ≡ false → p d ≡ false
-    → a ++ (c ∷ x) ≡ b ++ (d ∷ y) → (a ≡ b) × (c ≡ d) × (x ≡ y)
-span_by p [] [] c d x y pa pb pc pd e = (refl, cc, cc)
-span_by p [] (b ∷ bs) c d x y pa pb pc pd e =
-    let same : c ≡ b = cc in
-    absurd (both_ways (p c) pc (ap p same ∙ (and_parts (p b) (list_all p bs) pb).0))
-span_by p (a ∷ as') [] c d x y pa pb pc pd e =
-    let same : d ≡ a = cc in
-    absurd (both_ways (p d) pd (ap p same ∙ (and_parts (p a) (list_all p as') pa).0))
-span_by p (a ∷ as') (b ∷ bs) c d x y pa pb pc pd e =
-    let first : a ≡ b = cc in
-    let rest : as' ++ (c ∷ x) ≡ bs ++ (d ∷ y) = cc in
-    let more = span_by p as' bs c d x y (and_parts (p a) (list_all p as') pa).1 (and_parts (p b) (list_all p bs) pb).1 pc pd rest in
-    let rests : as' ≡ bs = more.0 in
-    (cc, more.1, more.2)
-
 pub span : (p : ℕ → Bool) (a b : List ℕ) (c d : ℕ) (x y : List ℕ) → Are p a → Are p b → p c ≡ false → p d ≡ false
     → a ++ (c ∷ x) ≡ b ++ (d ∷ y) → (a ≡ b) × (c ∷ x ≡ d ∷ y)
-span p a b c d x y pa pb pc pd e =
-    let s = span_by p a b c d x y pa pb pc pd e in
-    let first : c ≡ d = s.1 in
-    let rest : x ≡ y = s.2 in
-    (s.0, cc)
+span p [] [] c d x y pa pb pc pd e = (refl, e)
+span p [] (b ∷ bs) c d x y pa pb pc pd e = let same : c ≡ b = cc in absurd (both_ways (p c) pc (ap p same ∙ Are-head p b bs pb))
+span p (a ∷ as') [] c d x y pa pb pc pd e = let same : d ≡ a = cc in absurd (both_ways (p d) pd (ap p same ∙ Are-head p a as' pa))
+span p (a ∷ as') (b ∷ bs) c d x y pa pb pc pd e =
+    let first : a ≡ b = cc in
+    let rest : as' ++ (c ∷ x) ≡ bs ++ (d ∷ y) = cc in
+    let more = span p as' bs c d x y (Are-tail p a as' pa) (Are-tail p b bs pb) pc pd rest in
+    let rests : as' ≡ bs = more.0 in
+    (cc, more.1)
 
 -- what passes as a whole has no element that doesn't
 pub no_stop : (p : ℕ → Bool) (b : List ℕ) (d : ℕ) (y : List ℕ) → Are p (b ++ (d ∷ y)) → p d ≡ false → ⊥

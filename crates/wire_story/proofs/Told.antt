@@ -12,8 +12,12 @@ use Rattle.wire_story.proofs.HeldReturns.{not_at}
 delivered-append : (x y : List ℕ) → delivered (x ++ y) ≡ delivered x ++ delivered y
 delivered-append x y = flat_map-append events_of x y
 
+-- a front, and then one of what is left
+pub take_front : (piece : List ℕ) (i k : ℕ) → take (i + k) piece ≡ take i piece ++ take k (slice_range piece i (length piece))
+take_front piece i k = take-add i k piece ∙ ap (λ r. take i piece ++ take k r) (sym (take_rest piece i))
+
 pub delivered_front : (piece : List ℕ) (i k : ℕ) → delivered (take i piece) ++ delivered (take k (slice_range piece i (length piece))) ≡ delivered (take (i + k) piece)
-delivered_front piece i k = sym (ap delivered (take-add i k piece ∙ ap (λ r. take i piece ++ take k r) (sym (take_rest piece i))) ∙ delivered-append (take i piece) (take k (slice_range piece i (length piece))))
+delivered_front piece i k = sym (ap delivered (take_front piece i k) ∙ delivered-append (take i piece) (take k (slice_range piece i (length piece))))
 
 events_line : (b : ℕ) → is_line_octet b ≡ true → events_of b ≡ LineOctet b ∷ []
 events_line b h = rw (not_at b 10 h refl, not_at b 13 h refl) refl
@@ -23,30 +27,30 @@ delivered_line [] h = refl
 delivered_line (b ∷ bs) h =
     ap (λ (t : List StoryEvent). t ++ delivered bs) (events_line b (Are-head is_line_octet b bs h)) ∙ ap (λ (t : List StoryEvent). LineOctet b ∷ t) (delivered_line bs (Are-tail is_line_octet b bs h))
 
-delivered_end : (k : ℕ) → delivered (line_end k) ≡ LineEnd ∷ []
+pub delivered_end : (k : ℕ) → delivered (line_end k) ≡ LineEnd ∷ []
 delivered_end zero = refl
 delivered_end (suc k) = delivered_end k
+
+-- a line and its end are delivered before what follows them
+delivered_next : (x first : List ℕ) (returns : ℕ) (rest : List ℕ) → IsLine first → x ≡ first ++ (line_end returns ++ rest) → delivered x ≡ map LineOctet first ++ (LineEnd ∷ delivered rest)
+delivered_next x first returns rest h e =
+    ap delivered e ∙ delivered-append first (line_end returns ++ rest) ∙ ap (λ (t : List StoryEvent). delivered first ++ t) (delivered-append (line_end returns) rest)
+    ∙ rw (delivered_line first h, delivered_end returns) refl
 
 pub delivered_lines : (x : List ℕ) (lines : List (List ℕ)) → IsText x lines → delivered x ≡ events_of_lines lines
 delivered_lines x [] h = absurd h
 delivered_lines x (line ∷ []) h = ap delivered h.1 ∙ delivered_line line h.0
 delivered_lines x (line ∷ next ∷ lines) h =
-    let more = delivered_lines h.3 (next ∷ lines) h.5 in
-    ap delivered h.4 ∙ (delivered-append line (line_end h.1 ++ h.3) ∙ (ap (λ (t : List StoryEvent). delivered line ++ t) (delivered-append (line_end h.1) h.3)
-    ∙ rw (delivered_line line h.0, delivered_end h.1, more) refl))
+    delivered_next x line h.1 h.3 h.0 h.4 ∙ ap (λ (t : List StoryEvent). map LineOctet line ++ (LineEnd ∷ t)) (delivered_lines h.3 (next ∷ lines) h.5)
 
 delivered_returns : (k : ℕ) → delivered (replicate k 13) ≡ []
 delivered_returns zero = refl
 delivered_returns (suc k) = delivered_returns k
 
-delivered_more : (x first : List ℕ) (lines : List (List ℕ)) (line : List ℕ) (held : ℕ) → (h : IsTextSoFar x (first ∷ lines) line held)
-    → delivered h.3 ≡ events_of_lines (lines ++ line ∷ []) → delivered x ≡ map LineOctet first ++ (LineEnd ∷ events_of_lines (lines ++ line ∷ []))
-delivered_more x first lines line held h more =
-    ap delivered h.4 ∙ (delivered-append first (line_end h.1 ++ h.3) ∙ (ap (λ (t : List StoryEvent). delivered first ++ t) (delivered-append (line_end h.1) h.3)
-    ∙ rw (delivered_line first h.0, delivered_end h.1, more) refl))
-
 pub delivered_so_far : (x : List ℕ) (lines : List (List ℕ)) (line : List ℕ) (held : ℕ) → IsTextSoFar x lines line held → delivered x ≡ events_of_lines (lines ++ line ∷ [])
 delivered_so_far x [] line held h =
     ap delivered h.2 ∙ (delivered-append line (replicate held 13) ∙ rw (delivered_line line h.0, delivered_returns held) (append-nil (map LineOctet line)))
-delivered_so_far x (first ∷ []) line held h = delivered_more x first [] line held h (delivered_so_far h.3 [] line held h.5)
-delivered_so_far x (first ∷ next ∷ lines) line held h = delivered_more x first (next ∷ lines) line held h (delivered_so_far h.3 (next ∷ lines) line held h.5)
+delivered_so_far x (first ∷ []) line held h =
+    delivered_next x first h.1 h.3 h.0 h.4 ∙ ap (λ (t : List StoryEvent). map LineOctet first ++ (LineEnd ∷ t)) (delivered_so_far h.3 [] line held h.5)
+delivered_so_far x (first ∷ next ∷ lines) line held h =
+    delivered_next x first h.1 h.3 h.0 h.4 ∙ ap (λ (t : List StoryEvent). map LineOctet first ++ (LineEnd ∷ t)) (delivered_so_far h.3 (next ∷ lines) line held h.5)

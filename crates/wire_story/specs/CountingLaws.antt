@@ -1,5 +1,5 @@
 -- The laws of a count of words, handed in by its impl.
-use Rattle.std.proofs.Common.{◌≡◌, ℕ, ◌+◌, ◌<◌, ◌^◌, Bool, false, List, [], ◌∷◌, ◌++◌, refl, sym, ap, ◌∙◌, arith}
+use Rattle.std.proofs.Common.{◌≡◌, ℕ, ◌+◌, ◌<◌, ◌^◌, Bool, false, List, [], ◌∷◌, ◌++◌, refl, arith}
 use Rattle.wire_story.specs.Format.Delivery.{StoryEvent, LineOctet, LineEnd}
 use Rattle.wire_story.specs.Format.Words.{is_word_octet, WordsSoFar, capped, words_told, inside_after, CountsWords}
 
@@ -35,10 +35,8 @@ counts_nothing sink = record {
 pub counts_joined : (a b c : WordsSoFar) (xs ys : List StoryEvent) → CountsWords a xs b → CountsWords b ys c → CountsWords a (xs ++ ys) c
 counts_joined a b c xs ys first then = record {
   words = λ few.
-      let m : b.words ≡ capped (a.words + words_told a.inside xs) = first.words few in
-      then.words (capped_less b.words (a.words + words_told a.inside xs) m)
-      ∙ (ap (λ (inside : Bool). capped (b.words + words_told inside ys)) first.inside
-      ∙ (capped_both b.words a.words (words_told a.inside xs) (words_told (inside_after a.inside xs) ys) m
-      ∙ ap (λ (n : ℕ). capped (a.words + n)) (sym (told-append a.inside xs ys))));
-  inside = then.inside ∙ (ap (λ (inside : Bool). inside_after inside ys) first.inside ∙ sym (inside-append a.inside xs ys));
+      let m = first.words few in
+      rw (then.words (capped_less b.words (a.words + words_told a.inside xs) m), first.inside, told-append a.inside xs ys)
+      (capped_both b.words a.words (words_told a.inside xs) (words_told (inside_after a.inside xs) ys) m);
+  inside = rw (then.inside, first.inside, inside-append a.inside xs ys) refl;
 }

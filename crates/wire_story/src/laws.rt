@@ -14,6 +14,7 @@ pub fn story_laws()
 {}
 
 /// What is delivered of a text is its lines.
+#[tactic(auto, using(crate::proofs::Told::delivered_lines))]
 pub fn texts_are_delivered_as_lines()
     ensures { TextsAreDeliveredAsLines }
 {}
@@ -29,6 +30,7 @@ pub fn line_ends_are_packed_as_return_and_feed()
 {}
 
 /// Lines are packed as their events are.
+#[tactic(auto, using(crate::proofs::PackedEvents::lines_packed))]
 pub fn lines_are_packed_as_their_events()
     ensures { LinesArePackedAsTheirEvents }
 {}

@@ -1,4 +1,4 @@
-use Rattle.std.proofs.Common.{ℕ, Bool, true, false, List, [], ◌++◌, sym, ap, subst, ◌∙◌, append_assoc, IsTrue}
+use Rattle.std.proofs.Common.{ℕ, Bool, true, false, List, [], ◌++◌, sym, ap, subst, ◌∙◌, append_assoc}
 use Rattle.std.specs.List.{list_all}
 use Rattle.std.proofs.lemmas.Bool.{and_parts}
 use Rattle.wire_story.specs.Format.Texts.{is_line_octet}
@@ -12,7 +12,7 @@ pub loop-line-init : goal.loop-line-init
 loop-line-init g c = record {
   done = [];
   parts = all_left c.args.lines.now.lines ∙ ap (λ (ls : List (List ℕ)). events_left true ls) (sym c.iter-left.ensures.lines);
-  lines = subst (λ (ls : List (List ℕ)). IsTrue (list_all (list_all is_line_octet) ls)) (sym c.iter-left.ensures.lines) c.iter-left.ensures.text.1;
+  lines = rw c.iter-left.ensures.lines c.iter-left.ensures.text.1;
   lengthened = goes_nowhere g.W.Target.state c.args.packer.now c.texts_join.ensures c.requires.unfailed;
 }
 
@@ -22,7 +22,7 @@ loop-line-preserved g c =
     let first : Bool = c.loop-line.is_first in
     let line : List ℕ = c.in-Some.line.now in
     let rest : List (List ℕ) = c.next.new.self in
-    let each = subst (λ (ls : List (List ℕ)). IsTrue (list_all (list_all is_line_octet) ls)) c.in-Some.ensures.steps inv.lines in
+    let each = rw c.in-Some.ensures.steps at inv.lines in
     record {
       done = inv.done ++ line_events first line;
       parts = inv.parts ∙ (ap (λ (ls : List (List ℕ)). inv.done ++ events_left first ls) c.in-Some.ensures.steps ∙ sym (append_assoc inv.done (line_events first line) (events_left false rest)));

@@ -3,7 +3,6 @@ use Rattle.iim_object.proofs.Written.{if_none}
 use Rattle.iim_pack.specs.States.Packing.{pack_cause, start_cause, finish_cause}
 use Rattle.iim_pack.proofs.Goings.{of_none}
 use Rattle.iim_pack.proofs.Wholes.{lines_again, packs, lines_broke, finish_broke, not_started, may_pack, may_start, lines_fit, may_finish}
-use Rattle.iim_pack.proofs.Orders.{pack_order}
 use Rattle.iim_pack.proofs.packing.pack.Goals as goal
 
 pub returns-in-Err-clause-fault : goal.returns-in-Err-clause-fault
@@ -41,18 +40,3 @@ returns-in-Err-finish-clause-fault g c =
     if_none (pack_cause c.args.head.now lines c.args.trailer.now c.args.plan) _
     (inr (finish_broke g.W.Target.state c.args.writer c.args.envelope.now c.args.head.now lines c.args.trailer.now c.args.plan c.in-Ok.packer c.put_lines.new.packer c.in-Err-finish.packer c.given_back-in-Err-finish.result c.texts_join.ensures again
     c.in-Ok.ensures.ok c.in-Ok-put_lines.ensures.ok broke (c.given_back-in-Err-finish.ensures.cause ∙ cause) c.given_back-in-Err-finish.ensures.writer c.given_back-in-Err-finish.ensures.written))
-
-pub returns-in-Some-clause-order : goal.returns-in-Some-clause-order
-returns-in-Some-clause-order g c = pack_order c.args.head.now c.args.lines.now.lines c.args.trailer.now c.args.plan
-
-pub returns-in-Err-put_lines-clause-order : goal.returns-in-Err-put_lines-clause-order
-returns-in-Err-put_lines-clause-order g c = pack_order c.args.head.now c.args.lines.now.lines c.args.trailer.now c.args.plan
-
-pub returns-in-Err-finish-clause-order : goal.returns-in-Err-finish-clause-order
-returns-in-Err-finish-clause-order g c = pack_order c.args.head.now c.args.lines.now.lines c.args.trailer.now c.args.plan
-
-pub returns-in-Ok-finish-clause-order : goal.returns-in-Ok-finish-clause-order
-returns-in-Ok-finish-clause-order g c = pack_order c.args.head.now c.args.lines.now.lines c.args.trailer.now c.args.plan
-
-pub returns-in-Err-clause-order : goal.returns-in-Err-clause-order
-returns-in-Err-clause-order g c = pack_order c.args.head.now c.args.lines.now.lines c.args.trailer.now c.args.plan

@@ -1,5 +1,12 @@
-use Rattle.wire_story.proofs.Reached.{reached}
+use Rattle.std.proofs.Common.{[], replicate, refl}
+use Rattle.wire_story.proofs.SoFar.{so_far_two}
 use Rattle.wire_story.proofs.laws.places_are_reached.Goals as goal
 
+-- octets of nothing but CR hold as many
 pub returns : goal.returns
-returns c = reached
+returns c reader = (
+  λ is. (replicate is.0 13, (is.0, is.1, ([], [], (refl, is.2, refl)))),
+  λ led.
+      let at = led.1 in
+      (at.0, at.1, so_far_two led.0 at.2.0 at.2.1 at.0 at.2.2),
+)

@@ -1,27 +1,15 @@
-use Rattle.wire_story.specs.Laws.Texts.{StoriesLiveAsTextsSoFar}
-use Rattle.wire_story.proofs.Readings.{one_text, one_text_so_far}
-use Rattle.wire_story.proofs.Lives.{live_held, live_of, holds, ended_lines, lines_end, so_far_of, lines_of}
+use Rattle.wire_story.proofs.Lives.{live_held, live_of, holds, ended_lines, lines_end, so_far_of, lines_of, one_place, alike}
 use Rattle.wire_story.proofs.Told.{delivered_so_far}
-use Rattle.wire_story.proofs.MadeTexts.{joined_lines, packed, made}
-use Rattle.wire_story.proofs.Collected.{text_collected}
+use Rattle.wire_story.proofs.Collected.{one_text, one_text_so_far, text_collected}
 use Rattle.wire_story.proofs.Words.{longest_runs, texts_counted}
-use Rattle.wire_story.proofs.PackedEvents.{events_packed}
-use Rattle.wire_story.proofs.Reached.{one_place, alike}
+use Rattle.wire_story.proofs.PackedEvents.{events_packed, joined_lines, packed, made}
 use Rattle.wire_story.proofs.laws.story_laws.Goals as goal
-
-so_far : StoriesLiveAsTextsSoFar
-so_far x = (
-  λ live.
-      let h = live_held x live in
-      (h.0, holds x h.0 h.1),
-  λ text. live_of x text.0 text.1,
-)
 
 pub returns : goal.returns
 returns c = record {
   texts_have_one_reading = one_text;
   texts_so_far_have_one_reading = one_text_so_far;
-  stories_live_as_texts_so_far = so_far;
+  stories_live_as_texts_so_far = λ x. (λ live. let h = live_held x live in (h.0, holds x h.0 h.1), λ text. live_of x text.0 text.1);
   stories_end_as_texts = λ x. (ended_lines x, lines_end x);
   texts_end_in_no_return = λ x. (λ text. so_far_of x text.0 text.1, lines_of x);
   texts_so_far_are_delivered_as_lines = delivered_so_far;

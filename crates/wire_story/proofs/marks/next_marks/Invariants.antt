@@ -1,4 +1,5 @@
-use Rattle.std.proofs.Common.{◌≡◌, ◌≤◌, ◌+◌, ◌-◌, length, take, drop, map}
+use Rattle.std.proofs.Common.{◌≡◌, ◌≤◌, ◌+◌, ◌-◌, length, take, map}
+use Rattle.std.specs.List.{slice_range}
 use Rattle.std.specs.Simd.Lanes.{mask_l}
 use Rattle.wire_story.specs.Format.Texts.{IsLine}
 use Rattle.wire_story.specs.Marking.{is_low}
@@ -10,7 +11,7 @@ invariant-loop-mask l = record {
   later : l.from ≤ l.at;
   room : l.at + 16 ≤ length l.octets;
   line : IsLine (take l.at l.octets);
-  mask : l.mask ≡ mask_l (map is_low (take 16 (drop l.at l.octets)));
+  mask : l.mask ≡ mask_l (map is_low (take 16 (slice_range l.octets l.at (length l.octets))));
 }
 
 abbrev pub decreases-loop-mask : goal.decreases-loop-mask

@@ -1,7 +1,6 @@
-use Rattle.std.proofs.Common.{ℕ, List, Some, refl, sym, subst, ◌∙◌, arith, drop, ap, length, length-drop}
+use Rattle.std.proofs.Common.{ℕ, List, Some, refl, subst, ◌∙◌, arith, drop, ap, length, length-drop}
 use Rattle.std.proofs.lemmas.List.{take_all, take_rest, drop-drop}
 use Rattle.wire_story.specs.Marking.{AreMarks}
-use Rattle.wire_story.specs.States.Reading.{TakesPiece}
 use Rattle.wire_story.proofs.Pieces.{leads_on_none}
 use Rattle.wire_story.proofs.Marked.{no_marks}
 use Rattle.wire_story.proofs.Fronts.{takes_both, refuses_later}
@@ -11,7 +10,7 @@ pub loop-at-init : goal.loop-at-init
 loop-at-init g c = record {
   few = c.requires;
   within = omega arith;
-  marks = subst (AreMarks c.args.piece.now) (sym c.new-marks.ensures) (no_marks c.args.piece.now);
+  marks = rw c.new-marks.ensures (no_marks c.args.piece.now);
   taken = record { leads_on = leads_on_none (Some c.args.held); told = g.met.S.StorySink.nothing c.args.sink.now; calm = refl };
 }
 
@@ -25,20 +24,14 @@ loop-at-preserved g c =
       few = front.few;
       within = omega (arith, front.within, ap length (take_rest piece at), length-drop at piece);
       marks = subst (λ (xs : List ℕ). AreMarks xs c.in-Ok-take_fronts.after) (ap (drop k) (take_rest piece at) ∙ drop-drop k at piece) front.next;
-      taken =
-          takes_both g.S.StorySink.goes g.S.StorySink.failures g.met.S.StorySink.joined (Some c.args.held) (Some c.loop-at.now) (Some c.in-Ok-take_fronts.next) piece at k
-          c.args.sink.now c.loop-at.sink c.take_fronts.new.sink c.loop-at.invariant.taken c.in-Ok-take_fronts.ensures.taken;
+      taken = takes_both g.met.S.StorySink.joined piece at k c.loop-at.invariant.taken c.in-Ok-take_fronts.ensures.taken;
     }
 
 pub returns-in-Err-take_fronts-clause-refused : goal.returns-in-Err-take_fronts-clause-refused
-returns-in-Err-take_fronts-clause-refused g c =
-    refuses_later g.S.StorySink.goes g.S.StorySink.failures g.met.S.StorySink.joined (Some c.args.held) (Some c.loop-at.now) c.args.piece.now c.loop-at.at c.in-Err-take_fronts.fault
-    c.args.sink.now c.loop-at.sink c.take_fronts.new.sink c.loop-at.invariant.taken c.in-Err-take_fronts.ensures.refused
+returns-in-Err-take_fronts-clause-refused g c = refuses_later g.met.S.StorySink.joined c.args.piece.now c.loop-at.at c.loop-at.invariant.taken c.in-Err-take_fronts.ensures.refused
 
 pub returns-clause-taken : goal.returns-clause-taken
-returns-clause-taken g c =
-    subst (λ (xs : List ℕ). TakesPiece g.S.StorySink.goes g.S.StorySink.failures (Some c.args.held) xs (Some c.loop-at.now) c.args.sink.now c.loop-at.sink)
-    (take_all c.loop-at.at c.args.piece.now (omega arith)) c.loop-at.invariant.taken
+returns-clause-taken g c = rw (take_all c.loop-at.at c.args.piece.now (omega arith)) at c.loop-at.invariant.taken
 
 pub take_fronts-requires-clause-marks : goal.take_fronts-requires-clause-marks
-take_fronts-requires-clause-marks g c = subst (λ xs. AreMarks xs c.loop-at.marks) (sym (take_rest c.args.piece.now c.loop-at.at)) c.loop-at.invariant.marks
+take_fronts-requires-clause-marks g c = rw take_rest c.loop-at.invariant.marks

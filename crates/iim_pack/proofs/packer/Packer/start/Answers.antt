@@ -1,14 +1,9 @@
-use Rattle.std.proofs.Common.{List, ℕ, ◌+◌, inr, refl, subst, ◌∙◌}
-use Rattle.iim_object.specs.declared.plan.Plan.{Plan}
+use Rattle.std.proofs.Common.{◌+◌, inr, refl, ◌∙◌}
 use Rattle.iim_object.specs.declared.writing.cause.PackCause.TheVariants as causes
-use Rattle.iim_object.specs.States.Writing.{IsWrittenFrom}
 use Rattle.iim_object.proofs.Written.{if_none}
-use Rattle.iim_pack.specs.Opening.{Opens}
-use Rattle.iim_pack.specs.States.Starting.{StartBreaksOff}
 use Rattle.iim_pack.specs.States.Packing.{start_cause}
 use Rattle.iim_pack.proofs.Startings.{fields_broke, object_broke, started}
 use Rattle.iim_pack.proofs.Beginnings.{begun_at_start}
-use Rattle.iim_pack.proofs.Orders.{start_order}
 use Rattle.iim_pack.proofs.packer.Packer.start.Goals as goal
 
 pub returns-in-Err-put_fields-clause-fault : goal.returns-in-Err-put_fields-clause-fault
@@ -21,8 +16,7 @@ pub returns-in-Ok-open_object-clause-ok : goal.returns-in-Ok-open_object-clause-
 returns-in-Ok-open_object-clause-ok g c =
     let state = g.W.Target.state in
     let front = c.as_slice-front.ensures.value ∙ c.head_text-text.ensures.octets in
-    let planned = subst (λ (p : Plan). Opens state c.put_fields.new.writer p c.as_slice-front.result.now c.in-Ok-open_object.object) c.in-Ok.ensures c.in-Ok-open_object.ensures.ok in
-    let opens = subst (λ (t : List ℕ). Opens state c.put_fields.new.writer c.args.plan t c.in-Ok-open_object.object) front planned in
+    let opens = rw (c.in-Ok.ensures, front) at c.in-Ok-open_object.ensures.ok in
     started state c.args.writer c.put_fields.new.writer c.args.envelope.now c.args.head.now c.args.plan c.in-Ok-put_fields.before c.in-Ok-open_object.object c.texts_join.ensures
     c.put_fields.ensures.envelope c.head_text-text.ensures.header c.in-Ok-put_fields.ensures.ok c.in-Ok-put_fields.ensures.all c.in-Ok-put_fields.ensures.patience opens
 
@@ -31,8 +25,7 @@ returns-in-Err-open_object-clause-fault g c =
     let state = g.W.Target.state in
     let fault = c.in-Err-open_object.fault in
     let front = c.as_slice-front.ensures.value ∙ c.head_text-text.ensures.octets in
-    let planned = subst (λ (p : Plan). StartBreaksOff state (IsWrittenFrom p c.as_slice-front.result.now) c.put_fields.new.writer fault) c.in-Ok.ensures c.in-Err-open_object.ensures.err in
-    let halts = subst (λ (t : List ℕ). StartBreaksOff state (IsWrittenFrom c.args.plan t) c.put_fields.new.writer fault) front planned in
+    let halts = rw (c.in-Ok.ensures, front) at c.in-Err-open_object.ensures.err in
     if_none (start_cause c.args.head.now c.args.plan) _
     (rw c.unbegun-in-Err-open_object.ensures
     (inr (object_broke state c.args.writer c.put_fields.new.writer c.args.envelope.now c.args.head.now c.args.plan c.in-Ok-put_fields.before fault
@@ -41,12 +34,3 @@ returns-in-Err-open_object-clause-fault g c =
 pub returns-in-Ok-open_object-clause-begun : goal.returns-in-Ok-open_object-clause-begun
 returns-in-Ok-open_object-clause-begun g c =
     begun_at_start g.W.Target.state c.args.writer c.args.envelope.now c.args.head.now c.args.plan _ (returns-in-Ok-open_object-clause-ok g c)
-
-pub returns-then-passes_plan-clause-order : goal.returns-then-passes_plan-clause-order
-returns-then-passes_plan-clause-order g c = start_order c.args.head.now c.args.plan
-
-pub returns-in-Ok-open_object-clause-order : goal.returns-in-Ok-open_object-clause-order
-returns-in-Ok-open_object-clause-order g c = start_order c.args.head.now c.args.plan
-
-pub returns-in-Err-open_object-clause-order : goal.returns-in-Err-open_object-clause-order
-returns-in-Err-open_object-clause-order g c = start_order c.args.head.now c.args.plan

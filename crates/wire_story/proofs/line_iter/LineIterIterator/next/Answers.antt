@@ -31,13 +31,7 @@ returns-then-end-rest-clause-steps c =
     ∙ first_line c.in_ok-rest.rest.now c.first_len-end.result c.first_len-end.ensures c.if-end-rest.true
 
 pub returns-then-end-rest-clause-goes : goal.returns-then-end-rest-clause-goes
-returns-then-end-rest-clause-goes c =
-    let rest = c.in_ok-rest.rest in
-    let end = c.first_len-end.result in
-    let steps : c.args.self.now ≡ take end rest.now ∷ lines_in (slice_range rest.now (end + 1) (length rest.now)) =
-    seen c.self.inside.rest rest c.args.self.now c.self.view_is c.in_ok-rest.was ∙ first_line rest.now end c.first_len-end.ensures c.if-end-rest.true in
-    let shorter : length (lines_in (slice_range rest.now (end + 1) (length rest.now))) < length c.args.self.now = omega (arith, ap length steps) in
-    record { on = λ finite. (tt, tt, shorter); keeps = tt; rests = λ finite. tt }
+returns-then-end-rest-clause-goes c = record { on = λ finite. (tt, tt, omega (arith, ap length (returns-then-end-rest-clause-steps c))); keeps = tt; rests = λ finite. tt }
 
 pub returns-else-end-rest-clause-steps : goal.returns-else-end-rest-clause-steps
 returns-else-end-rest-clause-steps c =
@@ -45,9 +39,4 @@ returns-else-end-rest-clause-steps c =
     ∙ last_line c.in_ok-rest.rest.now c.first_len-end.result c.first_len-end.ensures c.if-end-rest.false
 
 pub returns-else-end-rest-clause-goes : goal.returns-else-end-rest-clause-goes
-returns-else-end-rest-clause-goes c =
-    let rest = c.in_ok-rest.rest in
-    let steps : c.args.self.now ≡ rest.now ∷ [] =
-    seen c.self.inside.rest rest c.args.self.now c.self.view_is c.in_ok-rest.was ∙ last_line rest.now c.first_len-end.result c.first_len-end.ensures c.if-end-rest.false in
-    let shorter : 0 < length c.args.self.now = omega (arith, ap length steps) in
-    record { on = λ finite. (tt, tt, shorter); keeps = tt; rests = λ finite. tt }
+returns-else-end-rest-clause-goes c = record { on = λ finite. (tt, tt, omega (arith, ap length (returns-else-end-rest-clause-steps c))); keeps = tt; rests = λ finite. tt }

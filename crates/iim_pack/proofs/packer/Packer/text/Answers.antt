@@ -1,8 +1,0 @@
-use Rattle.iim_pack.proofs.Orders.{text_order}
-use Rattle.iim_pack.proofs.packer.Packer.text.Goals as goal
-
-pub returns-then-is_failed-clause-order : goal.returns-then-is_failed-clause-order
-returns-then-is_failed-clause-order g c = text_order c.args.self.now c.args.octets.now
-
-pub returns-then-not-is_text-clause-order : goal.returns-then-not-is_text-clause-order
-returns-then-not-is_text-clause-order g c = text_order c.args.self.now c.args.octets.now
