@@ -1,222 +1,203 @@
--- From the same place the same octets lead on alike.
-use Rattle.std.proofs.Common.{◌≡◌, ℕ, ◌+◌, ◌<◌, ◌≤◌, Bool, true, false, ◌&&◌, ◌||◌, ◌==◌, nat_lt, List, [], ◌∷◌, ◌++◌, length, Option, Some, None, refl, sym, subst, ◌∙◌, arith, append_assoc, append-nil}
-use Rattle.std.proofs.lemmas.Bool.{and_parts, eqb-true, ltb-true}
-use Rattle.std.proofs.lemmas.List.{append_cancel_left}
-use Rattle.std.proofs.lemmas.Option.{same_Some}
-use Rattle.arrayvec.specs.ArrayVec.{ArrayVec}
-use Rattle.wire_story.specs.Format.Texts.{AreLines, Holds}
+-- Octets that have led to a place live, lead on alike from the same place, and are refused alike.
+use Rattle.std.proofs.Common.{◌≡◌, ℕ, ◌≤◌, true, cond, List, [], ◌∷◌, ◌++◌, map, Option, Some, refl, sym, ap, subst, ◌∙◌, arith, append-nil}
+use Rattle.wire_message.proofs.Names.{append_cancel_left, same_Some, AreLines, Holds, Octet, End, StoryLanguage, StoryLaws, TextReader, map_snoc, so_far_two}
+use Rattle.wire_message.proofs.Names.{MessageLivesWith, text_so_far, StoryLivesIn, StoryDiesWith, HasCause, Spells, StoryStands, LeadsTo}
+use Rattle.wire_message.proofs.Names.{TextsStandBetweenStxAndEtx, ReadersStandAtLivingOctets, LivingOctetsLeadOn, OctetsLeadToOnePlace, OctetsLeadOnAlike}
+use Rattle.wire_message.proofs.Names.{OctetsAreRefusedAlike, Place, Filler, Text, Trailer, AfterEnd, MessageCause, BadOctet, Unfinished, LoneReturn}
+use Rattle.wire_message.proofs.Names.{ControlOctet, Sink}
+use Rattle.iim_dataset.specs.Format.Languages.{IsAlive}
 use Rattle.wire_story.specs.States.Reading as story
-use Rattle.wire_story.specs.Laws.Texts as stories
-use Rattle.wire_story.specs.declared.reader.TextReader.{TextReader}
-use Rattle.wire_message.specs.Format.Fields.{IsField, is_info_octet, is_trailer_octet, is_filler_octet, is_text_octet, max_filler, max_info, max_trailer}
-use Rattle.wire_message.specs.Format.Messages.{Header, IsHeader}
-use Rattle.wire_message.specs.States.SoFar.{IsPlace, Spells, StoryStands, LeadsTo}
-use Rattle.wire_message.specs.Laws.Messages.{OctetsLeadOnAlike}
-use Rattle.wire_message.specs.Parts.{ends, begins, is_octet_of, most_of, text_of}
-use Rattle.wire_message.specs.declared.part.HeaderPart.{HeaderPart}
-use Rattle.wire_message.specs.declared.part.HeaderPart.TheVariants.{Source}
-use Rattle.wire_message.specs.declared.part.HeaderTexts.{HeaderTexts}
-use Rattle.wire_message.specs.declared.place.Place.{Place}
-use Rattle.wire_message.specs.declared.place.Place.TheVariants.{Filler, InHeader, Info, Gap, Text, Trailer, AfterEnd}
-use Rattle.wire_message.proofs.Machine.{of, no_texts, put, more_info, guarded, next, run, run_parts, and_then_place}
-use Rattle.wire_message.proofs.Runs.{unread, spelled_runs}
-use Rattle.wire_message.proofs.Alive.{no_texts_yet}
-use Rattle.wire_message.specs.Steps.{TakesSome}
-use Rattle.wire_message.proofs.Goings.{part_ends, info_to_gap, gap_on, trailer_ends, end_on}
-use Rattle.wire_message.proofs.HeaderParts.{longer_is, longer_spells}
-use Rattle.wire_message.proofs.TextSoFar.{none_yet, text_at}
-use Rattle.wire_message.proofs.Transitions.{field_more, field_none, one_is, filler_more, filler_soh, info_more, gap_stx, text_more, text_etx, trailer_more}
+use Rattle.wire_message.proofs.Machine.{Stands, led, unread, stands_unread, run, run_parts, one_end}
+use Rattle.wire_message.proofs.Runs.{spelled_runs}
+use Rattle.wire_message.proofs.TextSoFar.{TextIs, text_ended, none_yet, text_at, tokens_are, tokens_of}
+use Rattle.wire_message.proofs.Goings.{Continues, octets_on}
+use Rattle.wire_message.proofs.Alive.{message_lives, live_runs}
 
--- ---- octets that stand at a place, whatever its reader of the text
+-- ---- how many CR a reader of the text holds
 
-abbrev pub IsBare : Place → Type 0
-IsBare (Text h reader) = IsHeader h
-IsBare p = IsPlace p
+pub holds_two : (x : List ℕ) (held : ℕ) → Holds x held → held ≤ 2
+holds_two x held h = so_far_two x h.0 h.1 held h.2
 
-pub record Stands (xs text : List ℕ) (p : Place) : Type 0 where
-  pub bare : IsBare p
-  pub spelled : Spells xs text p
+-- what stands at a text is a place
+pub stands_two : (reader : TextReader) (x : List ℕ) → story.StandsAt reader x → story.IsPlace reader
+stands_two reader x at = (at.0, at.1, holds_two x at.0 at.2)
 
-pub stands_bare : (xs text : List ℕ) (p : Place) → LeadsTo xs text p → Stands xs text (unread p)
-stands_bare xs text (Text h reader) l = record { bare = l.is_place.0; spelled = l.spelled }
-stands_bare xs text p l = record { bare = l.is_place; spelled = l.spelled }
+-- ---- octets that have led to a place can continue, as a message and as a story
+
+pub texts_between : TextsStandBetweenStxAndEtx
+texts_between octets text place at = sym (text_at octets text place (led at)).text_is
+
+story_lives : StoryLaws → (text : List ℕ) (place : Place) → StoryStands text place
+    → IsAlive StoryLanguage (map Octet text ++ cond (text_ended place) (End ∷ []) [])
+story_lives laws text (Text h reader) stands = rw (append-nil (map Octet text)) ((laws.stories_live_as_texts_so_far text).1 (stands.0, stands.2))
+story_lives laws text (Trailer h t) lines = (laws.stories_end_as_texts text).1 lines
+story_lives laws text (AfterEnd h t k) lines = (laws.stories_end_as_texts text).1 lines
+story_lives laws text place none = rw none ((laws.stories_live_as_texts_so_far []).1 (0, ([], [], (refl, omega arith, refl))))
+
+pub stand_alive : StoryLaws → ReadersStandAtLivingOctets
+stand_alive laws octets text place at =
+    (message_lives (led at), rw (tokens_of octets text (text_ended place) (text_at octets text place (led at))) (story_lives laws text place at.story))
+
+-- ---- octets lead to one place at most, with one text
+
+one_held : StoryLaws → (x : List ℕ) (held returns : ℕ) → Holds x held → Holds x returns → held ≡ returns
+one_held laws x held returns h k = (laws.texts_so_far_have_one_reading x h.0 k.0 h.1 k.1 held returns h.2 k.2).2
+
+same_place : StoryLaws → (text : List ℕ) (p q : Place) → unread p ≡ unread q → StoryStands text p → StoryStands text q → p ≡ q
+same_place laws text (Text h reader) (Text k other) e a b =
+    let held = one_held laws text a.0 b.0 a.2 b.2 in
+    let reads = a.1 in
+    let others = b.1 in
+    cc
+same_place laws text (Text h reader) q e a b = absurd cc
+same_place laws text p (Text h reader) e a b = absurd cc
+same_place laws text p q e a b = e
+
+pub one_place : StoryLaws → OctetsLeadToOnePlace
+one_place laws octets text other p q a b =
+    let same : text ≡ other = texts_between octets text p a ∙ sym (texts_between octets other q b) in
+    (same, same_place laws text p q (one_end octets (spelled_runs (led a)) (spelled_runs (led b))) a.story (rw same b.story))
+
+-- ---- the story
+
+-- the reader of the text, and one that holds no CR where no text is being read
+abbrev reader_at : Place → Option ℕ
+reader_at (Text h reader) = reader
+reader_at p = Some 0
+
+reader_stands : StoryLaws → (text : List ℕ) (p : Place) → StoryStands text p → story.StandsAt (reader_at p) text
+reader_stands laws text (Text h reader) at = at
+reader_stands laws text (Trailer h v) at = (0, refl, (laws.texts_end_in_no_return text).0 at)
+reader_stands laws text (AfterEnd h v k) at = (0, refl, (laws.texts_end_in_no_return text).0 at)
+reader_stands laws text p at = (0, refl, rw at ([], [], (refl, omega arith, refl)))
+
+whole_text : StoryLaws → (text : List ℕ) → story.StandsAt (Some 0) text → AreLines text
+whole_text laws text at = (laws.texts_end_in_no_return text).1 (subst (Holds text) (sym (same_Some _ _ at.1)) at.2)
+
+story_stands : StoryLaws → (xs text : List ℕ) (p : Place) → Spells xs text p → story.StandsAt (reader_at p) text → StoryStands text p
+story_stands laws xs text (Text h reader) l at = at
+story_stands laws xs text (Trailer h v) l at = whole_text laws text at
+story_stands laws xs text (AfterEnd h v k) l at = whole_text laws text at
+story_stands laws xs text p l at = none_yet xs text p l refl
+
+-- ---- from the same place the same octets lead on alike
 
 spells_read : (xs text : List ℕ) (p : Place) → Spells xs text (unread p) → Spells xs text p
 spells_read xs text (Text h reader) s = s
 spells_read xs text p s = s
 
--- From all octets that stand at p these lead to q, and add the same to the text.
-abbrev pub Continues : Place → List ℕ → Place → Type 0
-Continues p ys q = (more : List ℕ) × ((xs text : List ℕ) → Stands xs text p → Stands (xs ++ ys) (text ++ more) q)
-
--- they add nothing to the text
-quiet : (p q : Place) (ys : List ℕ) → ((xs text : List ℕ) → Stands xs text p → Stands (xs ++ ys) text q) → Continues p ys q
-quiet p q ys f = ([], λ xs text s. subst (λ (t : List ℕ). Stands (xs ++ ys) t q) (sym (append-nil text)) (f xs text s))
-
-bare_of : (p : Place) → IsPlace p → IsBare p
-bare_of (Text h reader) i = i.0
-bare_of p i = i
-
-quiet_takes : (p q : Place) (b : ℕ) → (IsBare p → TakesSome p (b ∷ []) q 1) → Continues p (b ∷ []) q
-quiet_takes p q b takes = quiet p q (b ∷ []) (λ xs text s. let t = takes s.bare in record { bare = bare_of q t.is_place; spelled = t.adds xs text s.spelled })
-
-quiet_at : (p q : Place) (b k : ℕ) → (b == k) ≡ true → ((xs text : List ℕ) → Stands xs text p → Stands (xs ++ (k ∷ [])) text q) → Continues p (b ∷ []) q
-quiet_at p q b k t f = subst (λ (n : ℕ). Continues p (n ∷ []) q) (sym (eqb-true b k t)) (quiet p q (k ∷ []) f)
-
--- ---- one octet
-
-chosen : (C : Place → Type 0) (t : Bool) (s : Place) (o : Option Place) (q : Place) → guarded t s o ≡ Some q → (t ≡ true → C s) → (o ≡ Some q → C q) → C q
-chosen C true s o q e f g = let same : s ≡ q = cc in subst C same (f refl)
-chosen C false s o q e f g = g e
-
-no_place : (C : Place → Type 0) (q : Place) → None ≡ Some q → C q
-no_place C q e = absurd cc
-
-one_more : (test : ℕ → Bool) (low least most : ℕ) (xs : List ℕ) (b : ℕ) → IsField test low most xs → (test b && nat_lt (length xs) most) ≡ true → least ≤ length xs + 1 → IsField test least most (xs ++ (b ∷ []))
-one_more test low least most xs b h t le =
-    let parts = and_parts (test b) (nat_lt (length xs) most) t in
-    let lt : length xs < most = ltb-true (length xs) most parts.1 in
-    field_more test low least most xs (b ∷ []) h (one_is test b parts.0) (omega (arith, lt)) (omega (arith, le))
-
-from_filler : (k b : ℕ) (q : Place) → next (Filler k) b ≡ Some q → Continues (Filler k) (b ∷ []) q
-from_filler k b q e = chosen (Continues (Filler k) (b ∷ [])) _ _ _ q e
-    (λ t.
-    let fill = and_parts (is_filler_octet b) (nat_lt k max_filler) t in
-    let lt : k < max_filler = ltb-true k max_filler fill.1 in
-    quiet (Filler k) (Filler (k + 1)) (b ∷ []) (λ xs text s. record {
-      bare = omega (arith, lt);
-      spelled = filler_more xs text (b ∷ []) k (one_is is_filler_octet b fill.0) (omega (arith, lt)) s.spelled;
-    }))
-    (λ e. chosen (Continues (Filler k) (b ∷ [])) _ _ _ q e
-    (λ t. quiet_at (Filler k) (InHeader Source no_texts) b 1 t (λ xs text s. record { bare = no_texts_yet; spelled = filler_soh xs text k s.spelled }))
-    (no_place (Continues (Filler k) (b ∷ [])) q))
-
-from_part : (part : HeaderPart) (t : HeaderTexts) (b : ℕ) (q : Place) → next (InHeader part t) b ≡ Some q → Continues (InHeader part t) (b ∷ []) q
-from_part part t b q e = chosen (Continues (InHeader part t) (b ∷ [])) _ _ _ q e
-    (λ on.
-    let parts = and_parts (is_octet_of part b) (nat_lt (length (text_of part t)) (most_of part)) on in
-    let lt : length (text_of part t) < most_of part = ltb-true (length (text_of part t)) (most_of part) parts.1 in
-    quiet (InHeader part t) (InHeader part (put part (text_of part t ++ (b ∷ [])) t)) (b ∷ []) (λ xs text at. record {
-      bare = longer_is part t (b ∷ []) at.bare (one_is (is_octet_of part) b parts.0) (omega (arith, lt));
-      spelled = longer_spells part t xs text (b ∷ []) at.spelled;
-    }))
-    (λ e. chosen (Continues (InHeader part t) (b ∷ [])) _ _ _ q e
-    (λ on. quiet_takes (InHeader part t) (begins part b t) b (λ i. part_ends part t _ _ (b ∷ []) (omega arith) refl refl i on))
-    (no_place (Continues (InHeader part t) (b ∷ [])) q))
-
-longer_info : (h : Header) (b : ℕ) → IsHeader h → (is_info_octet b && nat_lt (length h.info) max_info) ≡ true → IsHeader (more_info h b)
-longer_info h b i t = record {
-  source = i.source;
-  number = i.number;
-  priority = i.priority;
-  category = i.category;
-  words = i.words;
-  info = one_more is_info_octet 0 0 max_info h.info b i.info t (omega arith);
-}
-
-from_info : (h : Header) (b : ℕ) (q : Place) → next (Info h) b ≡ Some q → Continues (Info h) (b ∷ []) q
-from_info h b q e = chosen (Continues (Info h) (b ∷ [])) _ _ _ q e
-    (λ t. quiet (Info h) (Info (more_info h b)) (b ∷ []) (λ xs text at. record {
-      bare = longer_info h b at.bare t;
-      spelled = info_more xs text (b ∷ []) h (more_info h b) refl at.spelled;
-    }))
-    (λ e. chosen (Continues (Info h) (b ∷ [])) _ _ _ q e
-    (λ t. quiet_takes (Info h) (Gap h 1 (b == 10)) b (λ i. info_to_gap h (b ∷ []) (omega arith) i t))
-    (no_place (Continues (Info h) (b ∷ [])) q))
-
-from_gap : (h : Header) (k : ℕ) (feed : Bool) (b : ℕ) (q : Place) → next (Gap h k feed) b ≡ Some q → Continues (Gap h k feed) (b ∷ []) q
-from_gap h k feed b q e = chosen (Continues (Gap h k feed) (b ∷ [])) _ _ _ q e
-    (λ t. quiet_takes (Gap h k feed) (Gap h (k + 1) (feed || b == 10)) b (λ i. gap_on h k feed (feed || b == 10) (b ∷ []) (omega arith) i t refl))
-    (λ e. chosen (Continues (Gap h k feed) (b ∷ [])) _ _ _ q e
-    (λ t.
-    let parts = and_parts (b == 2) feed t in
-    quiet_at (Gap h k feed) (Text h None) b 2 parts.0 (λ xs text at. record {
-      bare = at.bare.0;
-      spelled = gap_stx xs text h k None at.bare.1 at.bare.2 (subst (λ (f : Bool). Spells xs text (Gap h k f)) parts.1 at.spelled);
-    }))
-    (no_place (Continues (Gap h k feed) (b ∷ [])) q))
-
-from_text : (h : Header) (reader : TextReader) (b : ℕ) (q : Place) → next (Text h reader) b ≡ Some q → Continues (Text h reader) (b ∷ []) q
-from_text h reader b q e = chosen (Continues (Text h reader) (b ∷ [])) _ _ _ q e
-    (λ t. (b ∷ [], λ xs text at. record { bare = at.bare; spelled = text_more xs text (b ∷ []) h reader None (one_is is_text_octet b t) at.spelled }))
-    (λ e. chosen (Continues (Text h reader) (b ∷ [])) _ _ _ q e
-    (λ t. quiet_at (Text h reader) (Trailer h (of [])) b 3 t (λ xs text at. record {
-      bare = (at.bare, field_none is_trailer_octet max_trailer);
-      spelled = text_etx xs text h reader at.spelled;
-    }))
-    (no_place (Continues (Text h reader) (b ∷ [])) q))
-
-from_trailer : (h : Header) (v : ArrayVec ℕ) (b : ℕ) (q : Place) → next (Trailer h v) b ≡ Some q → Continues (Trailer h v) (b ∷ []) q
-from_trailer h v b q e = chosen (Continues (Trailer h v) (b ∷ [])) _ _ _ q e
-    (λ t. quiet (Trailer h v) (Trailer h (of (v.items ++ (b ∷ [])))) (b ∷ []) (λ xs text at. record {
-      bare = (at.bare.0, one_more is_trailer_octet 0 0 max_trailer v.items b at.bare.1 t (omega arith));
-      spelled = trailer_more xs text (b ∷ []) h v at.spelled;
-    }))
-    (λ e. chosen (Continues (Trailer h v) (b ∷ [])) _ _ _ q e
-    (λ t. quiet_takes (Trailer h v) (AfterEnd h v 0) b (λ i. trailer_ends h v (b ∷ []) (omega arith) i (eqb-true b 4 t)))
-    (no_place (Continues (Trailer h v) (b ∷ [])) q))
-
-from_end : (h : Header) (v : ArrayVec ℕ) (k b : ℕ) (q : Place) → next (AfterEnd h v k) b ≡ Some q → Continues (AfterEnd h v k) (b ∷ []) q
-from_end h v k b q e = chosen (Continues (AfterEnd h v k) (b ∷ [])) _ _ _ q e
-    (λ t. quiet_takes (AfterEnd h v k) (AfterEnd h v (k + 1)) b (λ i. end_on h v k (b ∷ []) (omega arith) i t))
-    (no_place (Continues (AfterEnd h v k) (b ∷ [])) q)
-
-octet_on : (p q : Place) (b : ℕ) → next p b ≡ Some q → Continues p (b ∷ []) q
-octet_on (Filler k) q b e = from_filler k b q e
-octet_on (InHeader part t) q b e = from_part part t b q e
-octet_on (Info h) q b e = from_info h b q e
-octet_on (Gap h k feed) q b e = from_gap h k feed b q e
-octet_on (Text h reader) q b e = from_text h reader b q e
-octet_on (Trailer h v) q b e = from_trailer h v b q e
-octet_on (AfterEnd h v k) q b e = from_end h v k b q e
-
--- ---- more octets
-
-pub octets_on : (p q : Place) (ys : List ℕ) → run p ys ≡ Some q → Continues p ys q
-octets_on p q [] e =
-    let same : p ≡ q = cc in
-    subst (Continues p []) same (quiet p p [] (λ xs text s. subst (λ (u : List ℕ). Stands u text p) (sym (append-nil xs)) s))
-octets_on p q (b ∷ ys) e =
-    let s = and_then_place (next p b) (λ t. run t ys) q e in
-    let first = octet_on p s.0 b s.1 in
-    let rest = octets_on s.0 q ys s.2 in (
-      first.0 ++ rest.0,
-      λ xs text at.
-          subst (λ (u : List ℕ). Stands u (text ++ (first.0 ++ rest.0)) q) (append_assoc xs (b ∷ []) ys)
-          (subst (λ (t : List ℕ). Stands ((xs ++ (b ∷ [])) ++ ys) t q) (append_assoc text first.0 rest.0) (rest.1 (xs ++ (b ∷ [])) (text ++ first.0) (first.1 xs text at))),
-    )
-
--- ---- the story
-
--- the reader of the text, and one that holds no CR where no text is being read
-abbrev pub reader_at : Place → Option ℕ
-reader_at (Text h reader) = reader
-reader_at p = Some 0
-
-pub reader_stands : stories.TextsEndInNoReturn → (text : List ℕ) (p : Place) → StoryStands text p → story.StandsAt (reader_at p) text
-reader_stands ends text (Text h reader) at = at
-reader_stands ends text (Trailer h v) at = (0, refl, (ends text).0 at)
-reader_stands ends text (AfterEnd h v k) at = (0, refl, (ends text).0 at)
-reader_stands ends text p at = subst (story.StandsAt (Some 0)) (sym at) (0, refl, ([], [], (refl, omega arith, refl)))
-
-whole_text : stories.TextsEndInNoReturn → (text : List ℕ) → story.StandsAt (Some 0) text → AreLines text
-whole_text ends text at = (ends text).1 (subst (Holds text) (sym (same_Some _ _ at.1)) at.2)
-
-story_stands : stories.TextsEndInNoReturn → (xs text : List ℕ) (p : Place) → Spells xs text p → story.StandsAt (reader_at p) text → StoryStands text p
-story_stands ends xs text (Text h reader) l at = at
-story_stands ends xs text (Trailer h v) l at = whole_text ends text at
-story_stands ends xs text (AfterEnd h v k) l at = whole_text ends text at
-story_stands ends xs text p l at = none_yet xs text p l refl
-
--- ---- alike
-
-pub alike : stories.TextsEndInNoReturn → stories.OctetsLeadOnAlike → OctetsLeadOnAlike
-alike ends law a b x t u y p q here there on =
-    let parts = run_parts (Filler 0) a x (unread q) (spelled_runs (a ++ x) (t ++ y) q on.is_place on.spelled) in
-    let place : parts.0 ≡ unread p = same_Some _ _ (sym parts.1 ∙ spelled_runs a t p here.is_place here.spelled) in
+pub alike : StoryLaws → OctetsLeadOnAlike
+alike laws a b x t u y p q here there on =
+    let parts = run_parts (Filler 0) a x (unread q) (spelled_runs (led on)) in
+    let place = one_end a parts.1 (spelled_runs (led here)) in
     let steps = octets_on (unread p) (unread q) x (subst (λ (s : Place). run s x ≡ Some (unread q)) place parts.2) in
-    let mine : Spells (a ++ x) (t ++ steps.0) q = spells_read (a ++ x) (t ++ steps.0) q (steps.1 a t (stands_bare a t p here)).spelled in
-    let same : steps.0 ≡ y = append_cancel_left t steps.0 y (sym (text_at (a ++ x) (t ++ steps.0) q on.is_place mine).text_is ∙ (text_at (a ++ x) (t ++ y) q on.is_place on.spelled).text_is) in
-    let spelled : Spells (b ++ x) (u ++ y) q = subst (λ (z : List ℕ). Spells (b ++ x) (u ++ z) q) same (spells_read (b ++ x) (u ++ steps.0) q (steps.1 b u (stands_bare b u p there)).spelled) in
-    let stands = law (reader_at p) (reader_at q) t u y (reader_stands ends t p here.story) (reader_stands ends u p there.story) (reader_stands ends (t ++ y) q on.story) in
-    record { is_place = on.is_place; spelled = spelled; story = story_stands ends (b ++ x) (u ++ y) q spelled stands }
+    let mine = steps.1 a t (stands_unread a t p (led here)) in
+    let texts = sym (text_at (a ++ x) (t ++ steps.0) (unread q) mine).text_is ∙ (text_at (a ++ x) (t ++ y) q (led on)).text_is in
+    let other = steps.1 b u (stands_unread b u p (led there)) in
+    let spelled = spells_read (b ++ x) (u ++ y) q
+    (subst (λ (z : List ℕ). Spells (b ++ x) (u ++ z) (unread q)) (append_cancel_left t steps.0 y texts) other.spelled) in
+    let stands = laws.octets_lead_on_alike (reader_at p) (reader_at q) t u y (reader_stands laws t p here.story) (reader_stands laws u p there.story)
+    (reader_stands laws (t ++ y) q on.story) in
+    record { is_place = on.is_place; spelled = spelled; story = story_stands laws (b ++ x) (u ++ y) q spelled stands }
+
+-- ---- octets with which a message can continue, and the story in it, lead on
+
+-- from ETX on the text is whole
+whole : StoryLaws → {octets text : List ℕ} → TextIs octets text true → StoryLivesIn octets → AreLines text
+whole laws {octets} {text} is lives = (laws.stories_end_as_texts text).0 (rw (tokens_of octets text true is) at lives)
+
+-- In the text the reader of it holds as many CR as the text so far ends in.
+story_leads : StoryLaws → (octets text : List ℕ) (p : Place) → Stands octets text p → StoryLivesIn octets → (place : Place) × LeadsTo octets text place
+story_leads laws octets text (Text h reader) at lives =
+    let held = (laws.stories_live_as_texts_so_far text).0 (rw (tokens_are at) at lives) in
+    (Text h (Some held.0), record { is_place = (at.bare, (held.0, refl, holds_two text held.0 held.1)); spelled = at.spelled; story = (held.0, refl, held.1) })
+story_leads laws octets text (Trailer h t) at lives =
+    (Trailer h t, record { is_place = at.bare; spelled = at.spelled; story = whole laws (text_at octets text (Trailer h t) at) lives })
+story_leads laws octets text (AfterEnd h t k) at lives =
+    (AfterEnd h t k, record { is_place = at.bare; spelled = at.spelled; story = whole laws (text_at octets text (AfterEnd h t k) at) lives })
+story_leads laws octets text p at lives = (p, record { is_place = at.bare; spelled = at.spelled; story = none_yet octets text p at.spelled refl })
+
+-- A message that can continue with the octets runs on from the place.
+message_leads : {octets text : List ℕ} {p : Place} → Stands octets text p → (more : List ℕ) → MessageLivesWith (octets ++ more)
+    → (new : Place) × Continues (unread p) more new
+message_leads {octets} {text} {p} at more message =
+    let ran = live_runs (octets ++ more) message in
+    let parts = run_parts (Filler 0) octets more ran.0 ran.1 in
+    let place = one_end octets parts.1 (spelled_runs at) in
+    (ran.0, octets_on (unread p) ran.0 more (subst (λ (s : Place). run s more ≡ Some ran.0) place parts.2))
+
+pub living_lead_on : StoryLaws → LivingOctetsLeadOn
+living_lead_on laws octets more text place at message story =
+    let on = message_leads (led at) more message in
+    let there = story_leads laws (octets ++ more) (text ++ on.1.0) on.0 (on.1.1 octets text (stands_unread octets text place (led at))) story in
+    (on.1.0, there.0, there.1)
+
+-- ---- from one place an octet is refused for one cause, whatever octets have led there
+
+-- Both octets have led to one place.
+record LedAlike (a b t u : List ℕ) (p : Place) : Type 0 where
+  here : LeadsTo a t p
+  there : LeadsTo b u p
+
+turned : {a b t u : List ℕ} {p : Place} → LedAlike a b t u p → LedAlike b a u t p
+turned both = record { here = both.there; there = both.here }
+
+message_on : {a b t u : List ℕ} {p : Place} → LedAlike a b t u p → (x : List ℕ) → MessageLivesWith (a ++ x) → MessageLivesWith (b ++ x)
+message_on {b = b} {u = u} {p = p} both x lives =
+    let on = message_leads (led both.here) x lives in
+    message_lives (on.1.1 b u (stands_unread b u p (led both.there)))
+
+message_dies : {a b t u : List ℕ} {p : Place} (next : ℕ) → LedAlike a b t u p → HasCause BadOctet a next → HasCause BadOctet b next
+message_dies {a} {b} next both dies =
+    (message_lives (led both.there), λ lives. dies.1 (rw (map_snoc a next) (message_on (turned both) (next ∷ []) (rw (map_snoc b next) at lives))))
+
+-- Where a message and its story can continue, the same octets lead on alike.
+lead_on : StoryLaws → {a b t u : List ℕ} {p : Place} → LedAlike a b t u p → (x : List ℕ) → MessageLivesWith (a ++ x) → StoryLivesIn (a ++ x)
+    → (added : List ℕ) × (new : Place) × LedAlike (a ++ x) (b ++ x) (t ++ added) (u ++ added) new
+lead_on laws {a} {b} {t} {u} {p} both x message story =
+    let on = living_lead_on laws a x t p both.here message story in
+    (on.0, on.1, record { here = on.2; there = alike laws a b x t u on.0 p on.1 both.here both.there on.2 })
+
+story_dies : StoryLaws → {a b t u : List ℕ} {p : Place} (next : ℕ) → LedAlike a b t u p → MessageLivesWith (a ++ (next ∷ [])) → StoryDiesWith a next
+    → StoryDiesWith b next
+story_dies laws {a} {b} {t} {u} {p} next both message dies = (
+  (stand_alive laws b u p both.there).1,
+  λ lives.
+      let back = lead_on laws (turned both) (next ∷ []) (message_on both (next ∷ []) message) lives in
+      dies.1 (stand_alive laws (a ++ (next ∷ [])) (t ++ back.0) back.1 back.2.there).1,
+)
+
+-- The place tells how many CR the text so far ends in.
+held_alike : StoryLaws → {a b t u : List ℕ} {p : Place} (held : ℕ) → LedAlike a b t u p → Holds (text_so_far a) held → Holds (text_so_far b) held
+held_alike laws {a} {b} {t} {u} {p} held both holds =
+    let mine = reader_stands laws t p both.here.story in
+    let other = reader_stands laws u p both.there.story in
+    let same = one_held laws t held mine.0 (subst (λ (x : List ℕ). Holds x held) (sym (texts_between a t p both.here)) holds) mine.2 in
+    let held_is : other.0 ≡ held = same_Some _ _ (sym other.1 ∙ (mine.1 ∙ ap Some (sym same))) in
+    subst (λ (x : List ℕ). Holds x held) (texts_between b u p both.there) (subst (Holds u) held_is other.2)
+
+sink_alike : StoryLaws → {a b t u : List ℕ} {p : Place} (next : ℕ) → LedAlike a b t u p → HasCause Sink a next → HasCause Sink b next
+sink_alike laws {a} {b} {t} {u} {p} next both cause =
+    let x : List ℕ = next ∷ [] in
+    let (added, new, on) = lead_on laws both x cause.0 cause.1 in
+    let texts = texts_between (a ++ x) (t ++ added) new on.here ∙ (cause.2 ∙ ap (λ (y : List ℕ). y ++ x) (sym (texts_between a t p both.here))) in
+    let added_is : added ≡ x = append_cancel_left t added x texts in
+    let lives = stand_alive laws (b ++ x) (u ++ added) new on.there in
+    let told : text_so_far (b ++ x) ≡ text_so_far b ++ x =
+    sym (texts_between (b ++ x) (u ++ added) new on.there) ∙
+    (ap (λ (y : List ℕ). u ++ y) added_is ∙ ap (λ (y : List ℕ). y ++ x) (texts_between b u p both.there)) in
+    (lives.0, lives.1, told, cause.3)
+
+cause_alike : StoryLaws → {a b t u : List ℕ} {p : Place} (cause : MessageCause) (next : ℕ) → LedAlike a b t u p → HasCause cause a next
+    → HasCause cause b next
+cause_alike laws BadOctet next both has = message_dies next both has
+cause_alike laws Unfinished next both has = has
+cause_alike laws LoneReturn next both has =
+    (message_on both (next ∷ []) has.0, story_dies laws next both has.0 has.1, (has.2.0, has.2.1, held_alike laws has.2.0 both has.2.2))
+cause_alike laws ControlOctet next both has =
+    (message_on both (next ∷ []) has.0, story_dies laws next both has.0 has.1, held_alike laws 0 both has.2)
+cause_alike laws Sink next both has = sink_alike laws next both has
+
+pub refused_alike : StoryLaws → OctetsAreRefusedAlike
+refused_alike laws octets others text other place cause next here there has =
+    cause_alike laws cause next (record { here = here; there = there }) has

@@ -1,34 +1,49 @@
--- The header and the trailer that a reader tells are those of the octets so far.
-use Rattle.std.proofs.Common.{◌≡◌, ℕ, ◌==◌, true, false, IsSome, Option, Some, None, List, [], ◌∷◌, ◌++◌, refl, sym, ap, subst, ◌∙◌, arith, is_some}
-use Rattle.std.specs.List.{list_any, before_first, after_first}
-use Rattle.std.proofs.lemmas.Bool.{both_ways}
-use Rattle.std.proofs.lemmas.Bool.Decides.{nat_tests}
-use Rattle.wire_message.specs.Format.Fields.{Are, is_trailer_octet}
-use Rattle.wire_message.specs.Format.Messages.{Header, IsTrailer, BeginsWithHeader, fixed_header}
-use Rattle.wire_message.specs.Format.Layers.{after_stx, trailer_so_far}
-use Rattle.wire_message.specs.States.SoFar.{LeadsTo}
-use Rattle.wire_message.specs.States.Reading.{head_read, trailer_read}
-use Rattle.wire_message.specs.Laws.Messages.{TellsHeaderOf, HeadersAreToldFromStx, TrailersAreToldFromEtx, MessagesKeepTheirHeader, TrailersStandBetweenEtxAndEot}
-use Rattle.wire_message.specs.declared.place.Place.{Place}
-use Rattle.wire_message.specs.declared.place.Place.TheVariants.{Filler, InHeader, Info, Gap, Text, Trailer, AfterEnd}
-use Rattle.wire_message.proofs.OneReading.{one_head, message_begins}
-use Rattle.wire_message.proofs.TextSoFar.{is_not, after_is, before_is, before_none, any_none, any_found, none_after, no_stx, no_etx, after_head, each}
+-- An object is a message in one way at most; the header and the trailer that a reader tells are those of the octets so far.
+use Rattle.std.proofs.Common.{◌≡◌, ℕ, ◌==◌, true, false, IsSome, Option, Some, None, List, [], ◌∷◌, ◌++◌, refl, sym, ap, subst, ◌∙◌, arith, is_some, length}
+use Rattle.wire_message.proofs.Names.{list_any, before_first, after_first, both_ways, nat_tests, Are, is_trailer_octet, Header, IsTrailer, BeginsWithHeader}
+use Rattle.wire_message.proofs.Names.{fixed_header, IsMessage, after_stx, trailer_so_far, LeadsTo, head_read, trailer_read, TellsHeaderOf}
+use Rattle.wire_message.proofs.Names.{HeadersAreToldFromStx, TrailersAreToldFromEtx, MessagesKeepTheirHeader, TrailersStandBetweenEtxAndEot, Place, Text}
+use Rattle.wire_message.proofs.Names.{Trailer, AfterEnd, Filler, append_cancel_right, same_Some, ArrayVec}
+use Rattle.wire_message.proofs.Machine.{led, of, run, message_stands, one_end}
+use Rattle.wire_message.proofs.TextSoFar.{is_not, after_is, before_is, before_none, any_none, any_found, none_after, no_stx, no_etx, after_head, head_begins}
+use Rattle.wire_message.proofs.TextSoFar.{text_begins, trailer_begins, message_begins, each, text_at}
 use Rattle.wire_message.proofs.Transitions.{join2, join3}
+use Rattle.wire_message.proofs.Runs.{spelled_runs}
 
 -- ---- the header
 
+-- the octets from SOH to STX, and those before them
+abbrev front_of : (octets : List ℕ) (h : Header) → BeginsWithHeader octets h → List ℕ
+front_of octets h m = m.before ++ (1 ∷ (fixed_header h ++ (m.info ++ (m.gap ++ (2 ∷ [])))))
+
+front_is : (octets : List ℕ) (h : Header) (m : BeginsWithHeader octets h) → octets ≡ front_of octets h m ++ m.rest
+front_is octets h m = m.parts ∙ sym (join3 m.before (fixed_header h) m.info m.gap [] m.rest)
+
+front_runs : (octets : List ℕ) (h : Header) (m : BeginsWithHeader octets h) → run (Filler 0) (front_of octets h m) ≡ Some (Text h None)
+front_runs octets h m = spelled_runs {text = []} {p = Text h None}
+    (record { bare = m.is_header; spelled = (m.before, m.info, m.gap, m.is_before, m.is_info, m.is_gap, refl, refl) })
+
+-- octets begin with one header at most
+one_head : (octets : List ℕ) (h k : Header) → BeginsWithHeader octets h → BeginsWithHeader octets k → h ≡ k
+one_head octets h k m n =
+    let rest : m.rest ≡ n.rest = sym (after_head octets h m) ∙ after_head octets k n in
+    let whole : front_of octets h m ++ n.rest ≡ front_of octets k n ++ n.rest =
+    ap (λ (u : List ℕ). front_of octets h m ++ u) (sym rest) ∙ (sym (front_is octets h m) ∙ front_is octets k n) in
+    let fronts : front_of octets h m ≡ front_of octets k n = append_cancel_right (front_of octets h m) (front_of octets k n) n.rest whole in
+    let same : Text h None ≡ Text k None = same_Some _ _ (sym (front_runs octets h m) ∙ (ap (run (Filler 0)) fronts ∙ front_runs octets k n)) in
+    cc
+
+pub one_message : (object : List ℕ) (h k : Header) (x y t u : List ℕ) → IsMessage object h x t → IsMessage object k y u → (h ≡ k) × (x ≡ y) × (t ≡ u)
+one_message object h k x y t u m n =
+    let here = message_stands object h x t m in
+    let there = message_stands object k y u n in
+    let same : AfterEnd h (of t) (length m.after) ≡ AfterEnd k (of u) (length n.after) = one_end object (spelled_runs here) (spelled_runs there) in
+    let trailers : of t ≡ of u = cc in
+    (cc, sym (text_at object x _ here).text_is ∙ (text_at object y _ there).text_is, ap (λ (v : ArrayVec ℕ). v.items) trailers)
+
 begins_more : (octets more : List ℕ) (h : Header) → BeginsWithHeader octets h → BeginsWithHeader (octets ++ more) h
-begins_more octets more h b = record {
-  before = b.before;
-  info = b.info;
-  gap = b.gap;
-  rest = b.rest ++ more;
-  is_before = b.is_before;
-  is_header = b.is_header;
-  is_info = b.is_info;
-  is_gap = b.is_gap;
-  parts = ap (λ (u : List ℕ). u ++ more) b.parts ∙ join3 b.before (fixed_header h) b.info b.gap b.rest more;
-}
+begins_more octets more h b = head_begins (octets ++ more) h b.before b.info b.gap (b.rest ++ more) b.is_before b.is_header b.is_info b.is_gap
+    (rw b.parts (join3 b.before (fixed_header h) b.info b.gap b.rest more))
 
 pub header_kept : MessagesKeepTheirHeader
 header_kept octets more text trailer head other b m =
@@ -36,71 +51,31 @@ header_kept octets more text trailer head other b m =
 
 begins_has_stx : (octets : List ℕ) (h : Header) → BeginsWithHeader octets h → list_any (λ b. b == 2) octets ≡ true
 begins_has_stx octets h b =
-    ap (list_any (λ b. b == 2)) (b.parts ∙ sym (join2 b.before (fixed_header h) b.info b.gap (2 ∷ b.rest)))
-    ∙ any_found 2 (b.before ++ (1 ∷ (fixed_header h ++ (b.info ++ b.gap)))) b.rest refl
-
-some_is : (h k : Header) → ◌≡◌ {A = Option Header} (Some h) (Some k) → h ≡ k
-some_is h k e = cc
+    rw (b.parts, ← join2 b.before (fixed_header h) b.info b.gap (2 ∷ b.rest))
+    (any_found 2 (b.before ++ (1 ∷ (fixed_header h ++ (b.info ++ b.gap)))) b.rest refl)
 
 is_told : (reader : Option Place) (octets : List ℕ) (h : Header) → head_read reader ≡ Some h → BeginsWithHeader octets h → TellsHeaderOf reader octets
 is_told reader octets h e b = record {
   told = (λ some. begins_has_stx octets h b, λ stx. subst IsSome (sym e) refl);
-  parts = λ head. (
-    λ same. subst (BeginsWithHeader octets) (some_is h head (sym e ∙ same)) b,
-    λ other. e ∙ ap Some (one_head octets h head b other),
-  );
+  parts = λ head. (λ same. rw (same_Some h head (sym e ∙ same)) at b, λ other. e ∙ ap Some (one_head octets h head b other));
 }
-
-none_is_some : (r : Option Header) → r ≡ None → IsSome r → ⊥
-none_is_some r e some = both_ways (is_some r) (ap is_some e) some
 
 not_told : (reader : Option Place) (octets : List ℕ) → head_read reader ≡ None → Are (is_not 2) octets → TellsHeaderOf reader octets
 not_told reader octets e quiet =
     let none : list_any (λ b. b == 2) octets ≡ false = any_none 2 octets quiet in
     record {
-      told = (λ some. absurd (none_is_some (head_read reader) e some), λ stx. absurd (both_ways (list_any (λ b. b == 2) octets) none stx));
+      told = (λ some. absurd (both_ways (is_some (head_read reader)) (ap is_some e) some), λ stx. absurd (both_ways (list_any (λ b. b == 2) octets) none stx));
       parts = λ head. (λ same. absurd cc, λ b. absurd (both_ways (list_any (λ b. b == 2) octets) none (begins_has_stx octets head b)));
     }
 
-before_stx : (octets text : List ℕ) (p : Place) → LeadsTo octets text p → head_read (Some p) ≡ None → TellsHeaderOf (Some p) octets
-before_stx octets text p l e = not_told (Some p) octets e (no_stx octets text p l.is_place l.spelled e)
-
 header_at : (octets text : List ℕ) (p : Place) → LeadsTo octets text p → TellsHeaderOf (Some p) octets
-header_at octets text (Filler k) l = before_stx octets text (Filler k) l refl
-header_at octets text (InHeader part t) l = before_stx octets text (InHeader part t) l refl
-header_at octets text (Info h) l = before_stx octets text (Info h) l refl
-header_at octets text (Gap h k feed) l = before_stx octets text (Gap h k feed) l refl
-header_at octets text (Text h r) l =
-    let s = l.spelled in
-    is_told (Some (Text h r)) octets h refl (record {
-      before = s.0;
-      info = s.1;
-      gap = s.2;
-      rest = text;
-      is_before = s.3;
-      is_header = l.is_place.0;
-      is_info = s.4;
-      is_gap = s.5;
-      parts = s.7;
-    })
-header_at octets text (Trailer h t) l =
-    let s = l.spelled in
-    is_told (Some (Trailer h t)) octets h refl (record {
-      before = s.0;
-      info = s.1;
-      gap = s.2;
-      rest = text ++ (3 ∷ t.items);
-      is_before = s.3;
-      is_header = l.is_place.0;
-      is_info = s.4;
-      is_gap = s.5;
-      parts = s.7;
-    })
+header_at octets text (Text h r) l = is_told (Some (Text h r)) octets h refl (text_begins octets text h r l.is_place.0 l.spelled)
+header_at octets text (Trailer h t) l = is_told (Some (Trailer h t)) octets h refl (trailer_begins octets text h t l.is_place.0 l.spelled)
 header_at octets text (AfterEnd h t k) l = is_told (Some (AfterEnd h t k)) octets h refl (message_begins octets h text t.items l.spelled.0)
+header_at octets text p l = not_told (Some p) octets refl (no_stx octets text p (led l) refl)
 
 pub headers_told : HeadersAreToldFromStx
-headers_told reader octets text stands =
-    subst (λ (r : Option Place). TellsHeaderOf r octets) (sym stands.1) (header_at octets text stands.0 stands.2)
+headers_told reader octets text stands = rw stands.1 (header_at octets text stands.0 stands.2)
 
 -- ---- the trailer
 
@@ -116,30 +91,21 @@ no_eot trailer is = each is_trailer_octet (is_not 4) trailer trailer_not is.0
 
 pub trailer_of_message : TrailersStandBetweenEtxAndEot
 trailer_of_message object text trailer head m =
-    ap trailer_in (after_head object m.before m.info m.gap (text ++ (3 ∷ (trailer ++ (4 ∷ m.after)))) head m.is_before m.is_header m.is_info m.is_gap.0.0 m.parts)
+    ap trailer_in (after_head object head (message_begins object head text trailer m))
     ∙ (ap (before_first (λ b. b == 4)) (after_is 3 text (trailer ++ (4 ∷ m.after)) (no_etx text m.is_text) refl)
     ∙ before_is 4 trailer m.after (no_eot trailer m.is_trailer) refl)
 
 no_trailer : (octets rest : List ℕ) → after_stx octets ≡ rest → Are (is_not 3) rest → [] ≡ trailer_so_far octets
 no_trailer octets rest e are = sym (ap trailer_in e ∙ ap (before_first (λ b. b == 4)) (none_after 3 rest are))
 
-no_trailer_yet : (octets text : List ℕ) (p : Place) → LeadsTo octets text p → head_read (Some p) ≡ None → [] ≡ trailer_so_far octets
-no_trailer_yet octets text p l e = no_trailer octets [] (none_after 2 octets (no_stx octets text p l.is_place l.spelled e)) refl
-
 trailer_at : (octets text : List ℕ) (p : Place) → LeadsTo octets text p → trailer_read (Some p) ≡ trailer_so_far octets
-trailer_at octets text (Filler k) l = no_trailer_yet octets text (Filler k) l refl
-trailer_at octets text (InHeader part t) l = no_trailer_yet octets text (InHeader part t) l refl
-trailer_at octets text (Info h) l = no_trailer_yet octets text (Info h) l refl
-trailer_at octets text (Gap h k feed) l = no_trailer_yet octets text (Gap h k feed) l refl
 trailer_at octets text (Text h r) l =
-    let s = l.spelled in
-    no_trailer octets text (after_head octets s.0 s.1 s.2 text h s.3 l.is_place.0 s.4 s.5.0.0 s.7) (no_etx text s.6)
+    no_trailer octets text (after_head octets h (text_begins octets text h r l.is_place.0 l.spelled)) (no_etx text l.spelled.6)
 trailer_at octets text (Trailer h t) l =
-    let s = l.spelled in
-    sym (ap trailer_in (after_head octets s.0 s.1 s.2 (text ++ (3 ∷ t.items)) h s.3 l.is_place.0 s.4 s.5.0.0 s.7)
-    ∙ (ap (before_first (λ b. b == 4)) (after_is 3 text t.items (no_etx text s.6) refl) ∙ before_none 4 t.items (no_eot t.items l.is_place.1)))
+    sym (ap trailer_in (after_head octets h (trailer_begins octets text h t l.is_place.0 l.spelled))
+    ∙ (ap (before_first (λ b. b == 4)) (after_is 3 text t.items (no_etx text l.spelled.6) refl) ∙ before_none 4 t.items (no_eot t.items l.is_place.1)))
 trailer_at octets text (AfterEnd h t k) l = sym (trailer_of_message octets text t.items h l.spelled.0)
+trailer_at octets text p l = no_trailer octets [] (none_after 2 octets (no_stx octets text p (led l) refl)) refl
 
 pub trailers_told : TrailersAreToldFromEtx
-trailers_told reader octets text stands =
-    subst (λ (r : Option Place). trailer_read r ≡ trailer_so_far octets) (sym stands.1) (trailer_at octets text stands.0 stands.2)
+trailers_told reader octets text stands = rw stands.1 (trailer_at octets text stands.0 stands.2)

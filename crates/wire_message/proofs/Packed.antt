@@ -1,31 +1,26 @@
--- The canonical object is a message.
-use Rattle.std.proofs.Common.{◌≡◌, ℕ, zero, suc, true, List, [], ◌∷◌, ◌++◌, refl, sym, subst, arith, inl, inr, append_assoc, replicate}
-use Rattle.wire_story.specs.Format.Texts.{IsLine, IsText, is_line_octet, line_end, packed_text}
-use Rattle.wire_message.specs.Format.Fields.{Are, is_text_octet}
-use Rattle.wire_message.specs.Format.Messages.{Header, IsHeader, IsMessage, IsTrailer, SpellsInfo, fixed_header}
-use Rattle.wire_message.specs.Format.Canonical.{canonical, packed_info}
-use Rattle.wire_story.proofs.Spans.{Are-append, Are-head, Are-tail, Are-cons}
-use Rattle.std.proofs.lemmas.Bool.Decides.{nat_tests}
+-- The canonical object is a message, and the octets of its head.
+use Rattle.std.proofs.Common.{◌≡◌, ℕ, zero, suc, Bool, true, List, [], ◌∷◌, ◌++◌, refl, arith, inl, inr, append_assoc, replicate}
+use Rattle.wire_message.proofs.Names.{StoryLaws, IsTextSoFar, IsLine, IsText, is_line_octet, line_end, packed_text, Are, is_text_octet, Header, IsHeader}
+use Rattle.wire_message.proofs.Names.{IsMessage, IsTrailer, SpellsInfo, fixed_header, canonical, packed_info, Are-append, Are-cons, nat_tests}
+use Rattle.wire_message.proofs.Transitions.{message_from}
+use Rattle.wire_message.proofs.TextSoFar.{each}
 
-line_octet_text : (b : ℕ) → is_line_octet b ≡ true → is_text_octet b ≡ true
-line_octet_text b h = grind (arith, nat_tests)
+line_text : (xs : List ℕ) → IsLine xs → Are is_text_octet xs
+line_text xs h = each is_line_octet is_text_octet xs (λ b t. grind (arith, nat_tests)) h
 
-pub line_text : (xs : List ℕ) → IsLine xs → Are is_text_octet xs
-line_text [] h = refl
-line_text (b ∷ xs) h = Are-cons is_text_octet b xs (line_octet_text b (Are-head is_line_octet b xs h)) (line_text xs (Are-tail is_line_octet b xs h))
+-- so many of one octet
+pub all_pass : (test : ℕ → Bool) (b n : ℕ) → test b ≡ true → Are test (replicate n b)
+all_pass test b zero h = refl
+all_pass test b (suc n) h = Are-cons test b (replicate n b) h (all_pass test b n h)
 
-pub returns_text : (n : ℕ) → Are is_text_octet (replicate n 13)
-returns_text zero = refl
-returns_text (suc n) = returns_text n
-
--- the octets of a text are any but ETX
-pub text_octets : (x : List ℕ) (lines : List (List ℕ)) → IsText x lines → Are is_text_octet x
-text_octets x [] h = absurd h
-text_octets x (line ∷ []) h = subst (Are is_text_octet) (sym h.1) (line_text line h.0)
-text_octets x (line ∷ next ∷ lines) h =
-    subst (Are is_text_octet) (sym h.4)
-    (Are-append is_text_octet line (line_end h.1 ++ h.3) (line_text line h.0)
-    (Are-append is_text_octet (line_end h.1) h.3 (Are-append is_text_octet (replicate h.1 13) (10 ∷ []) (returns_text h.1) refl) (text_octets h.3 (next ∷ lines) h.5)))
+-- the octets of a text so far are any but ETX
+pub so_far_text : (x : List ℕ) (lines : List (List ℕ)) (line : List ℕ) (held : ℕ) → IsTextSoFar x lines line held → Are is_text_octet x
+so_far_text x [] line held h = rw h.2 (Are-append is_text_octet line (replicate held 13) (line_text line h.0) (all_pass is_text_octet 13 held refl))
+so_far_text x (first ∷ lines) line held h =
+    let end = Are-append is_text_octet (replicate h.1 13) (10 ∷ []) (all_pass is_text_octet 13 h.1 refl) refl in
+    rw h.4
+    (Are-append is_text_octet first (line_end h.1 ++ h.3) (line_text first h.0)
+    (Are-append is_text_octet (line_end h.1) h.3 end (so_far_text h.3 lines line held h.5)))
 
 pub spells_packed : (info : List ℕ) → SpellsInfo info (packed_info info)
 spells_packed [] = inl (refl, refl)
@@ -35,19 +30,17 @@ parts : (fixed info x t : List ℕ) → (1 ∷ fixed ++ (info ++ (13 ∷ 10 ∷ 
     ≡ 1 ∷ fixed ++ (info ++ ((13 ∷ 10 ∷ []) ++ (2 ∷ x ++ (3 ∷ t ++ (4 ∷ [])))))
 parts fixed info x t = simp append_assoc
 
-pub canonical_message : (head : Header) (lines : List (List ℕ)) (trailer : List ℕ) → IsHeader head → IsText (packed_text lines) lines → IsTrailer trailer
-    → IsMessage (canonical head lines trailer) head (packed_text lines) trailer
-canonical_message head lines trailer is_head lined is_trailer = record {
-  before = [];
-  info = packed_info head.info;
-  gap = 13 ∷ 10 ∷ [];
-  after = [];
-  is_before = (refl, omega arith, omega arith);
-  is_header = is_head;
-  is_info = spells_packed head.info;
-  is_gap = ((refl, omega arith, omega arith), refl);
-  is_text = text_octets (packed_text lines) lines lined;
-  is_trailer = is_trailer;
-  is_after = (refl, omega arith, omega arith);
-  parts = parts (fixed_header head) (packed_info head.info) (packed_text lines) trailer;
-}
+pub canonical_message : StoryLaws → (head : Header) (lines : List (List ℕ)) (trailer : List ℕ) → IsHeader head → IsText (packed_text lines) lines
+    → IsTrailer trailer → IsMessage (canonical head lines trailer) head (packed_text lines) trailer
+canonical_message laws head lines trailer is_head lined is_trailer =
+    let x : List ℕ = packed_text lines in
+    let held = (laws.texts_end_in_no_return x).0 (lines, lined) in
+    message_from (canonical head lines trailer) head x trailer [] (packed_info head.info) (13 ∷ 10 ∷ []) [] (refl, omega arith, omega arith) is_head
+    (spells_packed head.info) ((refl, omega arith, omega arith), refl) (so_far_text x held.0 held.1 0 held.2) is_trailer (refl, omega arith, omega arith)
+    (parts (fixed_header head) (packed_info head.info) x trailer)
+
+-- what was appended in turn, joined
+pub head_joined : (s n p c w i a0 a1 a2 a3 a4 a5 a6 a7 a8 : List ℕ) → a0 ≡ [] → a1 ≡ a0 ++ (1 ∷ []) → a2 ≡ a1 ++ s → a3 ≡ a2 ++ n
+    → a4 ≡ a3 ++ (32 ∷ p) → a5 ≡ a4 ++ (32 ∷ c) → a6 ≡ a5 ++ (32 ∷ w) → a7 ≡ a6 ++ i → a8 ≡ a7 ++ (13 ∷ 10 ∷ 2 ∷ [])
+    → a8 ≡ 1 ∷ (s ++ (n ++ (32 ∷ p ++ (32 ∷ c ++ (32 ∷ w)))) ++ (i ++ (13 ∷ 10 ∷ 2 ∷ [])))
+head_joined s n p c w i a0 a1 a2 a3 a4 a5 a6 a7 a8 e0 e1 e2 e3 e4 e5 e6 e7 e8 = rw (e8, e7, e6, e5, e4, e3, e2, e1, e0) (simp append_assoc)

@@ -1,204 +1,257 @@
 -- What a piece does to a reader that stands at a place, and to the story in it.
-use Rattle.std.proofs.Math.Seq.{take-add}
-use Rattle.std.specs.List.{slice_range}
-use Rattle.std.proofs.lemmas.List.{take_rest, get_or-drop}
-use Rattle.std.proofs.Common.{IsTrue, Bool, ◌≡◌, ℕ, zero, suc, ◌+◌, ◌<◌, true, false, List, [], ◌∷◌, ◌++◌, take, slice_index, Option, Some, None, map, refl, sym, ap, subst, ◌∙◌, arith, append_assoc, append-nil, length}
+use Rattle.wire_message.proofs.Names.{take-add, slice_range, take_more, take_rest, get_or-drop, and_from, eqb-true, lt-ltb, not_from_false, true_from_ne_false}
+use Rattle.wire_message.proofs.Names.{same_Some, ArrayVec, Holds, Octet, End, LivesWith, StoryDiesAt, with_end, StoryLaws, TextReader, TextCause, map_snoc}
+use Rattle.wire_message.proofs.Names.{Are-tail, Are, is_trailer_octet, is_text_octet, max_trailer, Header, MessageDiesAt, MessagesEndAfterEot}
+use Rattle.wire_message.proofs.Names.{ReadersStandAtLivingOctets, LeadsTo, StandsAt, LeadsOn, GoesSomewhere, Refuses, TakesPiece, RefusesOne, IsWhole, is_ended}
+use Rattle.wire_message.proofs.Names.{trailer_read, HasCause, StoryDiesWith, cause_of, TakesSome, TakesOctets, RefusesInPart, DiesWith, MessageCause, BadOctet}
+use Rattle.wire_message.proofs.Names.{LoneReturn, IsPlace, Spells, Place, Filler, Text, Trailer, AfterEnd}
 use Rattle.std.proofs.lemmas.List.Concat.{flat_map-append}
-use Rattle.iim_dataset.specs.Format.Languages.{IsAlive}
-use Rattle.wire_story.specs.Format.Texts.{AreLines, Holds}
-use Rattle.wire_story.specs.Format.Delivery.{delivered, events_of}
-use Rattle.wire_story.specs.Format.Tokens.{OctetOrEnd, Octet, End, StoryLanguage, LivesWith, StoryDiesAt, with_end}
-use Rattle.wire_story.specs.Laws.Texts.{StoriesLiveAsTextsSoFar, TextsEndInNoReturn, StoriesEndAsTexts}
+use Rattle.std.proofs.Common.{◌≡◌, ℕ, ◌+◌, ◌<◌, ◌==◌, nat_lt, not, Bool, true, false, List, [], ◌∷◌, ◌++◌, length, take, slice_index, Option, Some, map, refl}
+use Rattle.std.proofs.Common.{sym, ap, ◌∙◌, arith, append_assoc, append-nil}
+use Rattle.wire_story.specs.Format.Delivery.{StoryEvent, delivered, events_of}
 use Rattle.wire_story.specs.States.Reading as story
-use Rattle.wire_story.specs.declared.reader.TextReader.{TextReader}
-use Rattle.wire_story.specs.declared.fault.TextCause.{TextCause}
 use Rattle.wire_story.specs.declared.fault.TextCause.TheVariants as text_cause
-use Rattle.wire_story.proofs.SoFar.{map_snoc}
-use Rattle.wire_message.specs.Format.Fields.{Are, is_text_octet}
-use Rattle.wire_message.specs.Format.Messages.{Header, IsHeader, IsMessage}
-use Rattle.wire_message.specs.Format.Layers.{MessageDiesAt, MessageLanguage}
-use Rattle.wire_message.specs.Laws.Messages.{MessagesEndAfterEot}
-use Rattle.wire_message.specs.States.SoFar.{Spells, LeadsTo}
-use Rattle.wire_message.specs.States.Reading.{StandsAt, LeadsOn, GoesSomewhere, Refuses, IsWhole, is_ended, head_read, trailer_read}
-use Rattle.wire_message.specs.Format.Causes.{HasCause, StoryDiesWith}
-use Rattle.wire_message.specs.Steps.{cause_of, TakesSome, DiesWith}
-use Rattle.wire_message.specs.declared.fault.MessageCause.{MessageCause}
-use Rattle.wire_message.specs.declared.fault.MessageCause.TheVariants.{BadOctet, LoneReturn}
-use Rattle.wire_message.specs.declared.place.Place.{Place}
-use Rattle.wire_message.specs.declared.place.Place.TheVariants.{Text, Trailer, AfterEnd}
-use Rattle.wire_message.proofs.Machine.{of}
-use Rattle.wire_message.proofs.Transitions.{text_more, text_etx, one_is}
-use Rattle.wire_message.proofs.Alive.{message_lives, message_unfinished, IsAfterEnd}
-use Rattle.wire_message.proofs.Runs.{unread}
-use Rattle.wire_message.proofs.TextSoFar.{text_is, tokens_are, tokens_at_etx}
-use Rattle.wire_message.proofs.Held.{holds_two, stands_two, holds_none}
+use Rattle.wire_message.specs.declared.fault.MessageFault.{MessageFault}
+use Rattle.wire_message.proofs.Machine.{of, Stands, led, unread}
+use Rattle.wire_message.proofs.Transitions.{text_more, text_etx, one_is, field_none}
+use Rattle.wire_message.proofs.Goings.{trailer_ends}
+use Rattle.wire_message.proofs.Alive.{message_lives, message_unfinished}
+use Rattle.wire_message.proofs.Alike.{holds_two}
+use Rattle.wire_message.proofs.TextSoFar.{text_at, text_is, tokens_are, tokens_of}
+use Rattle.wire_message.proofs.Packed.{so_far_text}
 
--- ---- histories of a place
-
-same_place : (p q : Place) → ◌≡◌ {A = Option Place} (Some p) (Some q) → q ≡ p
-same_place p q e = cc
-
-pub leads_on_of : (p q : Place) (piece more : List ℕ) → ((octets text : List ℕ) → LeadsTo octets text p → LeadsTo (octets ++ piece) (text ++ more) q) → LeadsOn (Some p) piece more (Some q)
-leads_on_of p q piece more f octets text s = (q, refl, f octets text (subst (LeadsTo octets text) (same_place p s.0 s.1) s.2))
-
-pub goes_somewhere_of : (p : Place) (piece more : List ℕ) → ((octets text : List ℕ) → LeadsTo octets text p → (q : Place) × LeadsTo (octets ++ piece) (text ++ more) q) → GoesSomewhere (Some p) piece more
-goes_somewhere_of p piece more f octets text s = f octets text (subst (LeadsTo octets text) (same_place p s.0 s.1) s.2)
-
-pub refuses_of : (p : Place) (rest : List ℕ) (taken : ℕ) (cause : MessageCause) → ((octets text : List ℕ) → LeadsTo octets text p → HasCause cause (octets ++ take taken rest) (slice_index rest taken))
-    → Refuses (Some p) rest (record { taken = taken; cause = cause })
-refuses_of p rest taken cause f octets text s = f octets text (subst (LeadsTo octets text) (same_place p s.0 s.1) s.2)
+-- what has led to where a reader stands has led to its place
+place_at : (p : Place) (octets text : List ℕ) → StandsAt (Some p) octets text → LeadsTo octets text p
+place_at p octets text s = rw (← same_Some p s.0 s.1) at s.2
 
 -- ---- where nothing is added to the text
 
-pub leads_by : (p q : Place) (rest : List ℕ) (n : ℕ) → TakesSome p rest q n → (octets text : List ℕ) → LeadsTo octets text p → LeadsTo (octets ++ take n rest) (text ++ []) q
-leads_by p q rest n w octets text l =
-    subst (λ (t : List ℕ). LeadsTo (octets ++ take n rest) t q) (sym (append-nil text))
-    (record { is_place = w.is_place; spelled = w.adds octets text l.spelled; story = w.story text l.story })
+pub leads_by : (p q : Place) (rest : List ℕ) (n : ℕ) → TakesSome p rest q n → LeadsOn (Some p) (take n rest) [] (Some q)
+leads_by p q rest n w octets text s =
+    let l = place_at p octets text s in
+    (q, refl, rw (append-nil text) (record { is_place = w.is_place; spelled = w.adds octets text l.spelled; story = w.story text l.story }))
 
 pub dies_in : (p : Place) (rest : List ℕ) → DiesWith p (slice_index rest 0) → Refuses (Some p) rest (record { taken = 0; cause = BadOctet })
-dies_in p rest d = refuses_of p rest 0 BadOctet (λ octets text l. subst (λ (u : List ℕ). HasCause BadOctet u (slice_index rest 0)) (sym (append-nil octets)) (d octets text l.spelled))
+dies_in p rest d octets text s = rw (append-nil octets) (d octets text (place_at p octets text s).spelled)
 
-pub stays_at : (p : Place) (octets text : List ℕ) → LeadsTo octets text p → LeadsTo (octets ++ []) (text ++ []) p
-stays_at p octets text l = subst (λ (u : List ℕ). LeadsTo u (text ++ []) p) (sym (append-nil octets)) (subst (λ (t : List ℕ). LeadsTo octets t p) (sym (append-nil text)) l)
+pub stays_at : (p : Place) → GoesSomewhere (Some p) [] []
+stays_at p octets text s = (p, rw (append-nil octets, append-nil text) (place_at p octets text s))
 
--- ---- the text
+-- ---- octets of a story are octets of a text
 
-pub text_leads : (h : Header) (old new : TextReader) (ys : List ℕ) → story.LeadsOn old ys new → Are is_text_octet ys
-    → (octets text : List ℕ) → LeadsTo octets text (Text h old) → LeadsTo (octets ++ ys) (text ++ ys) (Text h new)
-text_leads h old new ys goes are octets text l =
+-- octets that end a text so far
+back_text : (xs ys : List ℕ) (held : ℕ) → Holds (xs ++ ys) held → Are is_text_octet ys
+back_text xs ys held h = back xs (so_far_text (xs ++ ys) h.0 h.1 held h.2)
+  where
+    back : (xs : List ℕ) → Are is_text_octet (xs ++ ys) → Are is_text_octet ys
+    back [] are = are
+    back (x ∷ xs) are = back xs (Are-tail is_text_octet x (xs ++ ys) are)
+
+-- octets of a text so far lead on in the text
+text_goes : {octets text : List ℕ} {h : Header} {old : TextReader} (ys : List ℕ) → LeadsTo octets text (Text h old) → (held : ℕ) → Holds (text ++ ys) held
+    → LeadsTo (octets ++ ys) (text ++ ys) (Text h (Some held))
+text_goes {octets} {text} {h} {old} ys l held holds = record {
+  is_place = (l.is_place.0, (held, refl, holds_two (text ++ ys) held holds));
+  spelled = text_more octets text ys h old (Some held) (back_text text ys held holds) l.spelled;
+  story = (held, refl, holds);
+}
+
+pub all_taken : (h : Header) (old new : TextReader) (ys : List ℕ) → story.LeadsOn old ys new → LeadsOn (Some (Text h old)) ys ys (Some (Text h new))
+all_taken h old new ys goes octets text s =
+    let l = place_at (Text h old) octets text s in
     let after = goes text l.story in
-    record { is_place = (l.is_place.0, stands_two new (text ++ ys) after); spelled = text_more octets text ys h old new are l.spelled; story = after }
+    (Text h new, refl, rw after.1 (text_goes ys l after.0 after.2))
+
+-- ---- a story stops
 
 alive_before : (x : List ℕ) (b : ℕ) → LivesWith (x ++ (b ∷ [])) → LivesWith x
-alive_before x b a = (Octet b ∷ a.0, subst StoryLanguage (ap (λ (u : List OctetOrEnd). u ++ a.0) (sym (map_snoc x b)) ∙ append_assoc (map Octet x) (Octet b ∷ []) a.0) a.1)
+alive_before x b a = (Octet b ∷ a.0, rw (← append_assoc (map Octet x) (Octet b ∷ []) a.0, map_snoc x b) a.1)
 
 -- before an octet that a story refused its text could continue
-pub stood_before : StoriesLiveAsTextsSoFar → (cause : TextCause) (x : List ℕ) (b : ℕ) → story.HasCause cause x b → (held : ℕ) × Holds x held
-stood_before law text_cause.LoneReturn x b h = (h.1.0, h.1.1)
-stood_before law text_cause.ControlOctet x b h = (0, h.1)
-stood_before law text_cause.Sink x b h = (law x).0 (alive_before x b h.0)
+stood_before : StoryLaws → (cause : TextCause) (x : List ℕ) (b : ℕ) → story.HasCause cause x b → (held : ℕ) × Holds x held
+stood_before laws text_cause.LoneReturn x b h = (h.1.0, h.1.1)
+stood_before laws text_cause.ControlOctet x b h = (0, h.1)
+stood_before laws text_cause.Sink x b h = (laws.stories_live_as_texts_so_far x).0 (alive_before x b h.0)
 
-pub text_stops : StoriesLiveAsTextsSoFar → (h : Header) (old : TextReader) (ys : List ℕ) (b : ℕ) (cause : TextCause) → Are is_text_octet ys
-    → ((x : List ℕ) → story.StandsAt old x → story.HasCause cause (x ++ ys) b)
-    → (octets text : List ℕ) → LeadsTo octets text (Text h old) → (q : Place) × LeadsTo (octets ++ ys) (text ++ ys) q
-text_stops law h old ys b cause are refuses octets text l =
-    let stood = stood_before law cause (text ++ ys) b (refuses text l.story) in
-    let reader : TextReader = Some stood.0 in
-    (Text h reader, record { is_place = (l.is_place.0, (stood.0, refl, holds_two (text ++ ys) stood.0 stood.1)); spelled = text_more octets text ys h old reader are l.spelled; story = (stood.0, refl, stood.1) })
+pub stops_somewhere : StoryLaws → (h : Header) (old : TextReader) (ys : List ℕ) (b : ℕ) (cause : TextCause)
+    → ((x : List ℕ) → story.StandsAt old x → story.HasCause cause (x ++ ys) b) → GoesSomewhere (Some (Text h old)) ys ys
+stops_somewhere laws h old ys b cause refuses octets text s =
+    let l = place_at (Text h old) octets text s in
+    let stood = stood_before laws cause (text ++ ys) b (refuses text l.story) in
+    (Text h (Some stood.0), text_goes ys l stood.0 stood.1)
 
-story_dies : (octets text : List ℕ) (h : Header) (reader : TextReader) (b : ℕ) → IsHeader h → is_text_octet b ≡ true → Spells octets text (Text h reader) → StoryDiesAt text (Octet b) → StoryDiesWith octets b
-story_dies octets text h reader b i t l d =
-    let more : Spells (octets ++ (b ∷ [])) (text ++ (b ∷ [])) (Text h reader) = text_more octets text (b ∷ []) h reader reader (one_is is_text_octet b t) l in (
-      subst (IsAlive StoryLanguage) (sym (tokens_are octets text h reader i l)) d.0,
-      λ alive. d.1 (subst (IsAlive StoryLanguage) (tokens_are (octets ++ (b ∷ [])) (text ++ (b ∷ [])) h reader i more ∙ sym (map_snoc text b)) alive),
-    )
+-- at ETX the text is whole
+pub ends_at : StoryLaws → (h : Header) (old : TextReader) (t : ArrayVec ℕ) (rest : List ℕ) (taken : ℕ) → t.items ≡ []
+    → taken < length rest → slice_index rest taken ≡ 3
+    → ((x : List ℕ) → story.StandsAt old x → story.HasCause text_cause.ControlOctet (x ++ take taken rest) (slice_index rest taken))
+    → LeadsOn (Some (Text h old)) (take (taken + 1) rest) (take taken rest) (Some (Trailer h t))
+ends_at laws h old t rest taken none before etx refuses octets text s =
+    let ys = take taken rest in
+    let l = place_at (Text h old) octets text s in
+    let holds = (refuses text l.story).1 in
+    let lead = text_goes ys l 0 holds in
+    let front : octets ++ take (taken + 1) rest ≡ (octets ++ ys) ++ (3 ∷ []) = rw (take_more rest taken 0 before, etx, append_assoc octets ys (3 ∷ [])) refl in
+    let place : IsPlace (Trailer h t) = (l.is_place.0, rw none (field_none is_trailer_octet max_trailer)) in
+    let spelled : Spells (octets ++ take (taken + 1) rest) (text ++ ys) (Trailer h t) =
+    rw (front, none) (text_etx (octets ++ ys) (text ++ ys) h (Some 0) lead.spelled) in
+    (Trailer h t, refl, record { is_place = place; spelled = spelled; story = (laws.texts_end_in_no_return (text ++ ys)).1 holds })
 
-pub text_refuses : (cause : TextCause) (octets text : List ℕ) (h : Header) (reader : TextReader) (b : ℕ) → IsHeader h → is_text_octet b ≡ true → Spells octets text (Text h reader)
-    → story.HasCause cause text b → HasCause (cause_of cause) octets b
-text_refuses text_cause.LoneReturn octets text h reader b i t l c =
-    let more : Spells (octets ++ (b ∷ [])) (text ++ (b ∷ [])) (Text h (Some 0)) = text_more octets text (b ∷ []) h reader (Some 0) (one_is is_text_octet b t) l in (
-      message_lives (octets ++ (b ∷ [])) (text ++ (b ∷ [])) (Text h (Some 0)) (i, holds_none) more,
-      story_dies octets text h reader b i t l c.0,
-      (c.1.0, c.1.2.0, subst (λ (u : List ℕ). Holds u c.1.0) (sym (text_is octets text h reader i l)) c.1.1),
-    )
-text_refuses text_cause.ControlOctet octets text h reader b i t l c =
-    let more : Spells (octets ++ (b ∷ [])) (text ++ (b ∷ [])) (Text h (Some 0)) = text_more octets text (b ∷ []) h reader (Some 0) (one_is is_text_octet b t) l in (
-      message_lives (octets ++ (b ∷ [])) (text ++ (b ∷ [])) (Text h (Some 0)) (i, holds_none) more,
-      story_dies octets text h reader b i t l c.0,
-      subst (λ (u : List ℕ). Holds u 0) (sym (text_is octets text h reader i l)) c.1,
-    )
-text_refuses text_cause.Sink octets text h reader b i t l c =
-    let more : Spells (octets ++ (b ∷ [])) (text ++ (b ∷ [])) (Text h (Some 0)) = text_more octets text (b ∷ []) h reader (Some 0) (one_is is_text_octet b t) l in (
-      message_lives (octets ++ (b ∷ [])) (text ++ (b ∷ [])) (Text h (Some 0)) (i, holds_none) more,
-      subst (IsAlive StoryLanguage) (sym (tokens_are (octets ++ (b ∷ [])) (text ++ (b ∷ [])) h (Some 0) i more)) c.0,
-      text_is (octets ++ (b ∷ [])) (text ++ (b ∷ [])) h (Some 0) i more ∙ ap (λ (u : List ℕ). u ++ (b ∷ [])) (sym (text_is octets text h reader i l)),
-      c.1,
-    )
+-- with an octet more of the text
+more_stands : {octets text : List ℕ} {h : Header} {reader : TextReader} (b : ℕ) → Stands octets text (Text h reader) → is_text_octet b ≡ true
+    → Stands (octets ++ (b ∷ [])) (text ++ (b ∷ [])) (Text h reader)
+more_stands {octets} {text} {h} {reader} b s t =
+    record { bare = s.bare; spelled = text_more octets text (b ∷ []) h reader reader (one_is is_text_octet b t) s.spelled }
 
--- ---- ETX
+story_dies : {octets text : List ℕ} {h : Header} {reader : TextReader} (b : ℕ) → Stands octets text (Text h reader) → is_text_octet b ≡ true
+    → StoryDiesAt text (Octet b) → StoryDiesWith octets b
+story_dies {text = text} b s t d =
+    (rw (tokens_are s) d.0, λ alive. d.1 (rw (map_snoc text b) (rw (tokens_are (more_stands b s t)) at alive)))
 
-pub etx_leads : (h : Header) (old : TextReader) → ((x : List ℕ) → story.StandsAt old x → AreLines x)
-    → (octets text : List ℕ) → LeadsTo octets text (Text h old) → LeadsTo (octets ++ (3 ∷ [])) (text ++ []) (Trailer h (of []))
-etx_leads h old lines octets text l =
-    subst (λ (t : List ℕ). LeadsTo (octets ++ (3 ∷ [])) t (Trailer h (of []))) (sym (append-nil text))
-    (record { is_place = (l.is_place.0, (refl, omega arith, omega arith)); spelled = text_etx octets text h old l.spelled; story = lines text l.story })
+text_refuses : (cause : TextCause) {octets text : List ℕ} {h : Header} {reader : TextReader} (b : ℕ) → Stands octets text (Text h reader)
+    → is_text_octet b ≡ true → story.HasCause cause text b → HasCause (cause_of cause) octets b
+text_refuses text_cause.LoneReturn b s t c =
+    (message_lives (more_stands b s t), story_dies b s t c.0, (c.1.0, c.1.2.0, rw (text_is s) c.1.1))
+text_refuses text_cause.ControlOctet b s t c = (message_lives (more_stands b s t), story_dies b s t c.0, rw (text_is s) c.1)
+text_refuses text_cause.Sink b s t c =
+    let more = more_stands b s t in
+    (message_lives more, rw (tokens_are more) c.0, text_is more ∙ ap (λ (u : List ℕ). u ++ (b ∷ [])) (sym (text_is s)), c.1)
 
-held_some : TextsEndInNoReturn → StoriesEndAsTexts → (x : List ℕ) (held : ℕ) → Holds x held → StoryDiesAt x End → 0 < held
-held_some law ends x zero h d = absurd (d.1 ((ends x).1 ((law x).1 h)))
-held_some law ends x (suc held) h d = omega arith
+-- after CR no text ends
+unended : StoryLaws → (x : List ℕ) (held : ℕ) → 0 < held → Holds x held → StoryDiesAt x End
+unended laws x held some holds = (
+  (laws.stories_live_as_texts_so_far x).1 (held, holds),
+  λ alive.
+      let zero = (laws.texts_end_in_no_return x).0 ((laws.stories_end_as_texts x).0 alive) in
+      let same = laws.texts_so_far_have_one_reading x holds.0 zero.0 holds.1 zero.1 held 0 holds.2 zero.2 in
+      let none : held ≡ 0 = same.2 in
+      omega arith,
+)
 
-pub etx_refuses : TextsEndInNoReturn → StoriesEndAsTexts → (h : Header) (old : TextReader) → ((x : List ℕ) → story.StandsAt old x → StoryDiesAt x End)
-    → (octets text : List ℕ) → LeadsTo octets text (Text h old) → HasCause LoneReturn octets 3
-etx_refuses law ends h old dies octets text l =
-    let i = l.is_place.0 in
-    let d = dies text l.story in
-    let t : Spells (octets ++ (3 ∷ [])) text (Trailer h (of [])) = text_etx octets text h old l.spelled in (
-      message_lives (octets ++ (3 ∷ [])) text (Trailer h (of [])) (i, (refl, omega arith, omega arith)) t,
-      (subst (IsAlive StoryLanguage) (sym (tokens_are octets text h old i l.spelled)) d.0, λ alive. d.1 (subst (IsAlive StoryLanguage) (tokens_at_etx octets text h old i l.spelled) alive)),
-      (l.story.0, held_some law ends text l.story.0 l.story.2 d, subst (λ (u : List ℕ). Holds u l.story.0) (sym (text_is octets text h old i l.spelled)) l.story.2),
-    )
+-- so ETX is refused there
+etx_refuses : StoryLaws → {octets text : List ℕ} {h : Header} {reader : TextReader} → Stands octets text (Text h reader) → (held : ℕ) → 0 < held
+    → Holds text held → HasCause LoneReturn octets 3
+etx_refuses laws {octets} {text} {h} {reader} s held some holds =
+    let d = unended laws text held some holds in
+    let trailer : Stands (octets ++ (3 ∷ [])) text (Trailer h (of [])) =
+    record { bare = (s.bare, field_none is_trailer_octet max_trailer); spelled = text_etx octets text h reader s.spelled } in
+    let at_end = tokens_of (octets ++ (3 ∷ [])) text true (text_at (octets ++ (3 ∷ [])) text (Trailer h (of [])) trailer) in
+    (message_lives trailer, (rw (tokens_are s) d.0, λ alive. d.1 (rw at_end at alive)), (held, some, rw (text_is s) holds))
+
+refuses_etx : StoryLaws → (cause : TextCause) {octets text : List ℕ} {h : Header} {reader : TextReader} → Stands octets text (Text h reader)
+    → (cause ≡ text_cause.ControlOctet → ⊥) → story.HasCause cause text 3 → HasCause (cause_of cause) octets 3
+refuses_etx laws text_cause.LoneReturn s other has = etx_refuses laws s has.1.0 has.1.2.0 has.1.1
+refuses_etx laws text_cause.ControlOctet s other has = absurd (other refl)
+refuses_etx laws text_cause.Sink {text = text} s other has =
+    let held = (laws.stories_live_as_texts_so_far (text ++ (3 ∷ []))).0 has.0 in
+    let wrong = back_text text (3 ∷ []) held.0 held.1 in
+    absurd cc
+
+refuses_octet : StoryLaws → (cause : TextCause) {octets text : List ℕ} {h : Header} {reader : TextReader} (b : ℕ) (at_etx : Bool) → (b == 3) ≡ at_etx → b < 256
+    → Stands octets text (Text h reader) → (cause ≡ text_cause.ControlOctet → b ≡ 3 → ⊥) → story.HasCause cause text b → HasCause (cause_of cause) octets b
+refuses_octet laws cause b false e fits s other has =
+    text_refuses cause b s (and_from (nat_lt b 256) (not (b == 3)) (lt-ltb b 256 fits) (not_from_false (b == 3) e)) has
+refuses_octet laws cause b true e fits s other has =
+    let etx : b ≡ 3 = eqb-true b 3 e in
+    rw etx (refuses_etx laws cause s (λ control. other control etx) (rw etx at has))
+
+pub refuses_at : StoryLaws → (h : Header) (old : TextReader) (rest : List ℕ) (taken : ℕ) (cause : TextCause)
+    → slice_index rest taken < 256 → (cause ≡ text_cause.ControlOctet → slice_index rest taken ≡ 3 → ⊥)
+    → ((x : List ℕ) → story.StandsAt old x → story.HasCause cause (x ++ take taken rest) (slice_index rest taken))
+    → Refuses (Some (Text h old)) rest (record { taken = taken; cause = cause_of cause })
+refuses_at laws h old rest taken cause fits other refuses octets text s =
+    let l = place_at (Text h old) octets text s in
+    let has = refuses text l.story in
+    let stood = stood_before laws cause (text ++ take taken rest) (slice_index rest taken) has in
+    refuses_octet laws cause (slice_index rest taken) (slice_index rest taken == 3) refl fits
+    (led (text_goes (take taken rest) l stood.0 stood.1)) other has
 
 -- ---- a piece after another
 
-pub leads_on_front : (a b c : Option Place) (piece : List ℕ) (at k : ℕ) (m n : List ℕ) → LeadsOn a (take at piece) m b → LeadsOn b (take k (slice_range piece at (length piece))) n c → LeadsOn a (take (at + k) piece) (m ++ n) c
+front_is : (octets piece : List ℕ) (at k : ℕ) → octets ++ take (at + k) piece ≡ (octets ++ take at piece) ++ take k (slice_range piece at (length piece))
+front_is octets piece at k = rw (take_rest piece at, take-add at k piece) (sym (append_assoc octets (take at piece) _))
+
+pub leads_on_front : (a b c : Option Place) (piece : List ℕ) (at k : ℕ) (m n : List ℕ) → LeadsOn a (take at piece) m b
+    → LeadsOn b (take k (slice_range piece at (length piece))) n c → LeadsOn a (take (at + k) piece) (m ++ n) c
 leads_on_front a b c piece at k m n f g octets text s =
-    subst (λ (u : List ℕ). StandsAt c u (text ++ (m ++ n))) (append_assoc octets (take at piece) (take k (slice_range piece at (length piece))) ∙ ap (λ (u : List ℕ). octets ++ u) (sym (take-add at k piece ∙ ap (λ r. take at piece ++ take k r) (sym (take_rest piece at)))))
-    (subst (λ (t : List ℕ). StandsAt c ((octets ++ take at piece) ++ take k (slice_range piece at (length piece))) t) (append_assoc text m n) (g (octets ++ take at piece) (text ++ m) (f octets text s)))
+    rw (front_is octets piece at k, ← append_assoc text m n) (g (octets ++ take at piece) (text ++ m) (f octets text s))
 
-pub somewhere_front : (a b : Option Place) (piece : List ℕ) (at k : ℕ) (m n : List ℕ) → LeadsOn a (take at piece) m b → GoesSomewhere b (take k (slice_range piece at (length piece))) n → GoesSomewhere a (take (at + k) piece) (m ++ n)
+pub somewhere_front : (a b : Option Place) (piece : List ℕ) (at k : ℕ) (m n : List ℕ) → LeadsOn a (take at piece) m b
+    → GoesSomewhere b (take k (slice_range piece at (length piece))) n → GoesSomewhere a (take (at + k) piece) (m ++ n)
 somewhere_front a b piece at k m n f g octets text s =
-    let there = g (octets ++ take at piece) (text ++ m) (f octets text s) in (
-      there.0,
-      subst (λ (u : List ℕ). LeadsTo u (text ++ (m ++ n)) there.0) (append_assoc octets (take at piece) (take k (slice_range piece at (length piece))) ∙ ap (λ (u : List ℕ). octets ++ u) (sym (take-add at k piece ∙ ap (λ r. take at piece ++ take k r) (sym (take_rest piece at)))))
-          (subst (λ (t : List ℕ). LeadsTo ((octets ++ take at piece) ++ take k (slice_range piece at (length piece))) t there.0) (append_assoc text m n) there.1),
-    )
+    let there = g (octets ++ take at piece) (text ++ m) (f octets text s) in
+    (there.0, rw (front_is octets piece at k, ← append_assoc text m n) there.1)
 
-pub delivered_both : (m n : List ℕ) → delivered m ++ delivered n ≡ delivered (m ++ n)
-delivered_both m n = sym (flat_map-append events_of m n)
+pub delivered_both : (m n : List ℕ) → delivered (m ++ n) ≡ delivered m ++ delivered n
+delivered_both m n = flat_map-append events_of m n
 
 -- an octet of what is left is refused in the whole
 pub refuses_front : (a b : Option Place) (piece : List ℕ) (at k : ℕ) (m : List ℕ) (cause : MessageCause) → LeadsOn a (take at piece) m b
     → Refuses b (slice_range piece at (length piece)) (record { taken = k; cause = cause }) → Refuses a piece (record { taken = at + k; cause = cause })
 refuses_front a b piece at k m cause f g octets text s =
-    let front : (octets ++ take at piece) ++ take k (slice_range piece at (length piece)) ≡ octets ++ take (at + k) piece =
-    append_assoc octets (take at piece) (take k (slice_range piece at (length piece))) ∙ ap (λ (u : List ℕ). octets ++ u) (sym (take-add at k piece ∙ ap (λ r. take at piece ++ take k r) (sym (take_rest piece at)))) in
-    let octet : slice_index (slice_range piece at (length piece)) k ≡ slice_index piece (at + k) = ap (λ (r : List ℕ). slice_index r k) (take_rest piece at) ∙ get_or-drop at piece k 0 in
-    subst (λ (t : List ℕ). HasCause cause t (slice_index piece (at + k))) front
-    (subst (λ (n : ℕ). HasCause cause ((octets ++ take at piece) ++ take k (slice_range piece at (length piece))) n) octet (g (octets ++ take at piece) (text ++ m) (f octets text s)))
-
--- ---- no octet, and the end
+    let octet : slice_index piece (at + k) ≡ slice_index (slice_range piece at (length piece)) k =
+    sym (ap (λ (r : List ℕ). slice_index r k) (take_rest piece at) ∙ get_or-drop at piece k 0) in
+    rw (front_is octets piece at k, octet) (g (octets ++ take at piece) (text ++ m) (f octets text s))
 
 pub stays_standing : (p : Option Place) (piece : List ℕ) → LeadsOn p (take 0 piece) [] p
-stays_standing p piece octets text s =
-    subst (λ (u : List ℕ). StandsAt p u (text ++ [])) (sym (append-nil octets)) (subst (λ (t : List ℕ). StandsAt p octets t) (sym (append-nil text)) s)
+stays_standing p piece octets text s = rw (append-nil octets, append-nil text) s
 
-ended_whole : (p : Place) → is_ended (Some p) ≡ true → (octets text : List ℕ) → LeadsTo octets text p
-    → (head : Header) × (head_read (Some p) ≡ Some head) × IsMessage octets head text (trailer_read (Some p)) × AreLines text
-ended_whole (AfterEnd h t k) e octets text l = (h, refl, l.spelled.0, l.story)
-ended_whole p e octets text l = absurd cc
+-- a trailer of no octet, and EOT, in one step after the text
+pub tail_taken : {S : Type 0} (goes : S → List StoryEvent → S → Type 0) (failures : S → ℕ) (old : Place) (h : Header) (rest : List ℕ) (used : ℕ) (a b : S)
+    → TakesOctets goes failures old a (take used rest) (Trailer h (of [])) b → 0 < length (slice_range rest used (length rest))
+    → slice_index (slice_range rest used (length rest)) 0 ≡ 4 → TakesOctets goes failures old a (take (used + 1) rest) (AfterEnd h (of []) 0) b
+tail_taken goes failures old h rest used a b taken some eot =
+    let left = slice_range rest used (length rest) in
+    let then = trailer_ends h (of []) left some taken.is_place eot in
+    let text = taken.told.0 in
+    let leads = leads_on_front (Some old) (Some (Trailer h (of []))) (Some (AfterEnd h (of []) 0)) rest used 1 text [] taken.told.2
+    (leads_by _ _ left 1 then) in
+    record { is_place = then.is_place; told = (text ++ [], rw (append-nil text) taken.told.1, leads); calm = taken.calm }
+
+-- ---- what a call comes to
+
+-- what a place takes, a reader that stands there takes
+pub taken_piece : ReadersStandAtLivingOctets
+    → {S : Type 0} {goes : S → List StoryEvent → S → Type 0} {failures : S → ℕ} {old new : Place} {piece : List ℕ} {a b : S}
+    → TakesOctets goes failures old a piece new b → TakesPiece goes failures (Some old) piece (Some new) a b
+taken_piece law {piece = piece} takes = record {
+  lives = λ octets text s. let there = takes.told.2 octets text s in law (octets ++ piece) (text ++ takes.told.0) there.0 there.2;
+  told = takes.told;
+  calm = takes.calm;
+}
+
+-- and what it refuses
+pub refused_one : ReadersStandAtLivingOctets
+    → {S : Type 0} {goes : S → List StoryEvent → S → Type 0} {failures : S → ℕ} {old : Place} {piece : List ℕ} {a b : S}
+    {fault : MessageFault} → RefusesInPart goes failures old a piece b fault → RefusesOne goes failures (Some old) piece fault a b
+refused_one law {piece = piece} {fault = fault} stops = record {
+  before = stops.within;
+  lives = λ octets text s. let there = stops.told.2 octets text s in law (octets ++ take fault.taken piece) (text ++ stops.told.0) there.0 there.1;
+  refused = stops.refused;
+  told = stops.told;
+  counted = stops.counted;
+}
+
+-- ---- the beginning and the end
+
+pub nothing_stands : StandsAt (Some (Filler 0)) [] []
+nothing_stands = (Filler 0, refl, record { is_place = omega arith; spelled = ((refl, omega arith, omega arith), refl, refl); story = refl })
 
 pub is_whole : (reader : Option Place) → is_ended reader ≡ true → IsWhole reader
-is_whole None e octets text s = absurd cc
-is_whole (Some p) e octets text s = ended_whole p e octets text (subst (LeadsTo octets text) (same_place p s.0 s.1) s.2)
+is_whole (Some (AfterEnd h t k)) e octets text s = let l = place_at (AfterEnd h t k) octets text s in (h, refl, l.spelled.0, l.story)
+is_whole reader e octets text s = absurd cc
 
-not_after_end : (p : Place) → is_ended (Some p) ≡ false → IsAfterEnd (unread p) → ⊥
-not_after_end (AfterEnd h t k) e h' = absurd cc
-not_after_end other e h' = h'
+unread_ended : (p : Place) → is_ended (Some (unread p)) ≡ is_ended (Some p)
+unread_ended (Text h reader) = refl
+unread_ended p = refl
 
 pub is_unfinished : (reader : Option Place) → is_ended reader ≡ false → (octets text : List ℕ) → StandsAt reader octets text → MessageDiesAt octets End
-is_unfinished reader e octets text s =
-    message_unfinished octets text s.0 s.2.is_place s.2.spelled (not_after_end s.0 (subst (λ (r : Option Place). is_ended r ≡ false) s.1 e))
-
--- ---- a message ends after EOT
-
-ends : (octets text : List ℕ) (place : Place) → LeadsTo octets text place → IsAlive MessageLanguage (with_end octets) → (b : Bool) → is_ended (Some place) ≡ b → IsTrue b
-ends octets text place leads alive true is = refl
-ends octets text place leads alive false is = absurd ((is_unfinished (Some place) is octets text (place, refl, leads)).1 alive)
-
-can_end : (octets text : List ℕ) (place : Place) → LeadsTo octets text place → is_ended (Some place) ≡ true → IsAlive MessageLanguage (with_end octets)
-can_end octets text place leads is =
-    let (head, told, message, lines) = is_whole (Some place) is octets text (place, refl, leads) in
-    ([], record { object = octets; head = head; text = text; trailer = trailer_read (Some place); message = message; tokens_are = append-nil (with_end octets) })
+is_unfinished reader e octets text s = message_unfinished (led s.2) (unread_ended s.0 ∙ (ap is_ended (sym s.1) ∙ e))
 
 pub ends_after_eot : MessagesEndAfterEot
-ends_after_eot octets text place leads = ((λ alive. ends octets text place leads alive (is_ended (Some place)) refl), (λ told. can_end octets text place leads told))
+ends_after_eot octets text place leads = (
+  λ alive. true_from_ne_false (is_ended (Some place)) (λ no. (is_unfinished (Some place) no octets text (place, refl, leads)).1 alive),
+  λ ended.
+      let (head, told, message, lines) = is_whole (Some place) ended octets text (place, refl, leads) in
+      let tokens = append-nil (with_end octets) in
+      ([], record { object = octets; head = head; text = text; trailer = trailer_read (Some place); message = message; tokens_are = tokens }),
+)

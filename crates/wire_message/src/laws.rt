@@ -14,6 +14,7 @@ pub fn message_laws()
 }
 
 /// A reader stands at octets from which a message can continue, and the story in it.
+#[tactic(auto, using(crate::proofs::Alike::stand_alive))]
 pub fn readers_stand_at_living_octets()
     ensures { ReadersStandAtLivingOctets }
 {
@@ -21,11 +22,13 @@ pub fn readers_stand_at_living_octets()
 }
 
 /// A reader's invariant holds exactly of the places to which some octets lead.
+#[tactic(auto, using(crate::proofs::Reached::reached))]
 pub fn places_are_reached()
     ensures { PlacesAreReached }
 {}
 
 /// Two places that are saved alike are one.
+#[tactic(auto, using(crate::proofs::Saving::saved_apart))]
 pub fn places_are_saved_apart()
     ensures { PlacesAreSavedApart }
 {}

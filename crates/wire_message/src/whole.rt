@@ -42,6 +42,7 @@ pub(crate) fn after(octet: u8, octets: &[u8]) -> Option<&[u8]>
 }
 
 /// The info of a header, which may be left out with its SP, and what follows.
+#[tactic(auto, using(crate::proofs::Kept::front_info))]
 #[inline(always)]
 fn info_part(octets: &[u8]) -> (&[u8], &[u8])
     ensures front { FrontInfo octets.now result.0.now result.1.now }

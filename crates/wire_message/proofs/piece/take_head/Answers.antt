@@ -1,15 +1,13 @@
-use Rattle.std.proofs.Common.{ℕ, List, Option, Some, None, IfSome, sym, subst}
-use Rattle.wire_message.specs.Steps.{TakesSome}
-use Rattle.wire_message.specs.declared.place.Place.{Place}
-use Rattle.wire_message.specs.declared.place.Place.TheVariants.{Filler}
+use Rattle.std.proofs.Common.{ℕ, List, Option, Some, None, IfSome}
+use Rattle.wire_message.proofs.Names.{TakesSome, Place, Filler}
 use Rattle.wire_message.proofs.piece.take_head.Goals as goal
 
 -- after so many octets of filler
-after_filler : (r : Option ℕ) (new : Place) (rest : List ℕ) (count : ℕ) → IfSome r (λ used. (n : ℕ) → TakesSome (Filler n) rest new used) → IfSome r (λ used. TakesSome (Filler count) rest new used)
+after_filler : (r : Option ℕ) (new : Place) (rest : List ℕ) (count : ℕ) → IfSome r (λ used. (n : ℕ) → TakesSome (Filler n) rest new used)
+    → IfSome r (λ used. TakesSome (Filler count) rest new used)
 after_filler (Some used) new rest count takes = takes count
 after_filler None new rest count takes = takes
 
 pub returns-clause-takes : goal.returns-clause-takes
 returns-clause-takes c =
-    subst (λ (p : Place). IfSome c.whole_head.result (λ used. TakesSome p c.args.rest.now c.whole_head.new.place used)) (sym c.in-Some.ensures)
-    (after_filler c.whole_head.result c.whole_head.new.place c.args.rest.now c.in-Some.field-0 c.whole_head.ensures.takes)
+    rw c.in-Some.ensures (after_filler c.whole_head.result c.whole_head.new.place c.args.rest.now c.in-Some.field-0 c.whole_head.ensures.takes)

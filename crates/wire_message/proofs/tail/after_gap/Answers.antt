@@ -1,16 +1,14 @@
-use Rattle.std.proofs.Common.{[], slice_index, sym, ◌∙◌}
+use Rattle.std.proofs.Common.{[], sym, ◌∙◌}
 use Rattle.wire_message.specs.declared.place.Place.TheVariants.{Gap}
 use Rattle.wire_message.proofs.Goings.{gap_ends}
-use Rattle.wire_message.proofs.Stops.{dies, gap_stops}
-use Rattle.wire_message.proofs.Held.{stands_two}
+use Rattle.wire_message.proofs.Alive.{dies}
+use Rattle.wire_message.proofs.Alike.{stands_two}
 use Rattle.wire_message.proofs.tail.after_gap.Goals as goal
 
 pub returns-then-ends_gap-clause-takes : goal.returns-then-ends_gap-clause-takes
 returns-then-ends_gap-clause-takes c =
-    gap_ends c.args.head c.args.count c.args.feed c.new-text.result c.args.rest.now c.requires.some c.requires.place (c.requires.place.0, stands_two c.new-text.result [] c.new-text.ensures.stands) c.new-text.ensures.stands (sym c.ends_gap.ensures ∙ c.if-ends_gap.true)
+    gap_ends c.args.head c.args.count c.args.feed c.new-text.result c.args.rest.now c.requires.some c.requires.place
+    (c.requires.place.0, stands_two c.new-text.result [] c.new-text.ensures.stands) c.new-text.ensures.stands (sym c.ends_gap.ensures ∙ c.if-ends_gap.true)
 
 pub returns-clause-dies : goal.returns-clause-dies
-returns-clause-dies c =
-    let octet = slice_index c.args.rest.now 0 in
-    dies (Gap c.args.head c.args.count c.args.feed) octet c.requires.place
-    (gap_stops c.args.head c.args.count c.args.feed octet c.requires.ends (sym c.ends_gap.ensures ∙ c.if-ends_gap.false))
+returns-clause-dies c = dies (Gap c.args.head c.args.count c.args.feed) _ c.requires.place c.requires.ends (sym c.ends_gap.ensures ∙ c.if-ends_gap.false)

@@ -1,5 +1,5 @@
 use Rattle.std.proofs.Common.{sym, ◌∙◌}
-use Rattle.wire_message.proofs.Bounds.{exactly}
+use Rattle.wire_message.proofs.Reached.{exactly}
 use Rattle.wire_message.proofs.reader.MessageReader.lengths.Goals as goal
 
 pub returns-clause-exactly : goal.returns-clause-exactly
