@@ -1,40 +1,29 @@
 -- A plan's bound leaves room for just the objects that keep to what is said of their sizes.
-use Rattle.std.proofs.Common.{ℕ, ◌≤◌, length, Some, None, IfSome, arith}
+use Rattle.std.proofs.Common.{ℕ, ◌≤◌, length, IfSome, arith}
 use Rattle.iim_dataset.specs.Format.Octets.{greatest_size}
 use Rattle.iim_object.specs.Format.Plans.{announced_of, maximum_of, limit_of}
 use Rattle.iim_object.specs.Laws.Packing.{SubfilesAreFew}
 use Rattle.iim_object.specs.declared.size.Size.{Size}
-use Rattle.iim_object.specs.declared.size.Size.TheVariants.{Known, Unknown}
 use Rattle.iim_object.proofs.Cutting.{few_parts, held_in_few}
-use Rattle.iim_object.proofs.PackedSizes.{below_limit}
 use Rattle.iim_object.proofs.PlanParts.{plan_parts}
 
--- what is within the limit keeps to the announced size and to the maximum
-announced_kept : (n : ℕ) (size : Size) → n ≤ limit_of size → IfSome (announced_of size) (λ most. n ≤ most)
-announced_kept n (Known most) h = h
-announced_kept n (Unknown (Some most)) h = tt
-announced_kept n (Unknown None) h = tt
+-- what is within the limit keeps to the announced size and to the maximum, and what keeps to them and to the greatest size is within it
+limit_kept : (n : ℕ) (size : Size) → n ≤ limit_of size → IfSome (announced_of size) (λ most. n ≤ most) × IfSome (maximum_of size) (λ most. n ≤ most)
+limit_kept n size h = grind arith
 
-maximum_kept : (n : ℕ) (size : Size) → n ≤ limit_of size → IfSome (maximum_of size) (λ most. n ≤ most)
-maximum_kept n (Known most) h = tt
-maximum_kept n (Unknown (Some most)) h = h
-maximum_kept n (Unknown None) h = tt
-
--- and what keeps to them and to the greatest size is within it
 within_limit : (n : ℕ) (size : Size) → n ≤ greatest_size → IfSome (announced_of size) (λ most. n ≤ most) → IfSome (maximum_of size) (λ most. n ≤ most) → n ≤ limit_of size
-within_limit n (Known most) greatest announced maximum = announced
-within_limit n (Unknown (Some most)) greatest announced maximum = maximum
-within_limit n (Unknown None) greatest announced maximum = greatest
+within_limit n size greatest announced maximum = grind arith
 
 pub bounds_leave_room : SubfilesAreFew
 bounds_leave_room subfile size object parts plan cut = (
   λ within.
       let p = plan_parts subfile size plan in
-      let below = below_limit subfile (length object) size within in
+      let below : length object ≤ limit_of size = omega arith in
+      let kept = limit_kept (length object) size below in
       record {
         greatest = omega (arith, p.limit, below);
-        announced = announced_kept (length object) size below;
-        maximum = maximum_kept (length object) size below;
+        announced = kept.0;
+        maximum = kept.1;
         few = few_parts subfile object parts p.least cut (omega (arith, within));
       },
   λ keeps.

@@ -1,6 +1,7 @@
 -- How an object is cut, and in how many ways.
-use Rattle.std.proofs.Common.{◌≡◌, ℕ, ◌+◌, ◌*◌, ◌≤◌, inl, inr, subst, List, [], ◌∷◌, ◌++◌, length, refl, sym, ap, ◌∙◌, arith, append_assoc, length-append}
-use Rattle.std.proofs.Math.Nat.{mul-le-mul_left}
+use Rattle.std.proofs.Common.{◌≡◌, ℕ, ◌+◌, ◌*◌, ◌≤◌, inl, inr, List, [], ◌∷◌, ◌++◌, length, refl, sym, ap, ◌∙◌, arith, append_assoc, length-append}
+use Rattle.std.proofs.Math.Nat.{le_of_mul-le-mul_left, mul-le-mul_left}
+use Rattle.std.proofs.lemmas.List.{nil_from_length}
 use Rattle.std.proofs.lemmas.Bool.{cases_lt}
 use Rattle.iim_dataset.specs.Parting.{same_front}
 use Rattle.iim_object.specs.Format.Cuts.{joined_parts, AreFull, IsCut}
@@ -8,35 +9,30 @@ use Rattle.iim_object.specs.Laws.Cuts.{ObjectsAreCutOneWay}
 use Rattle.iim_object.specs.Format.Plans.{max_subfiles}
 
 -- a last part after a full one has an octet
-pub some_octet : (size : ℕ) (first last : List ℕ) (full : List (List ℕ)) → 1 ≤ size → length first ≡ size → (last ≡ [] → first ++ (joined_parts full ++ last) ≡ []) → 1 ≤ length last
-some_octet size [] last full one e some = absurd (omega (arith, e, one))
-some_octet size (b ∷ first) [] full one e some = absurd (let bad = some refl in cc)
-some_octet size (b ∷ first) (x ∷ last) full one e some = omega arith
+pub some_octet : (size : ℕ) (first rest last : List ℕ) → 1 ≤ size → length first ≡ size → (last ≡ [] → (first ++ rest) ++ last ≡ []) → 1 ≤ length last
+some_octet size first rest [] one e some = absurd (omega (arith, ap length (some refl), length-append (first ++ rest) [], length-append first rest))
+some_octet size first rest (x ∷ last) one e some = omega arith
 
 -- What is last cannot be cut where more than one part is.
-pub too_short : (size : ℕ) (last first rest : List ℕ) → length last ≤ size → length first ≡ size → 1 ≤ length rest → last ≡ first ++ rest → ⊥
-too_short size last first rest fits full some e = omega (arith, fits, full, some, length-append first rest, ap length e)
+pub too_short : (size : ℕ) (last first rest more : List ℕ) → length last ≤ size → length first ≡ size → 1 ≤ length more → last ≡ (first ++ rest) ++ more → ⊥
+too_short size last first rest more fits full some e = omega (arith, length-append (first ++ rest) more, length-append first rest, ap length e)
 
-pub at_least : (xs ys : List ℕ) → 1 ≤ length ys → 1 ≤ length (xs ++ ys)
-at_least xs ys h = omega (arith, h, length-append xs ys)
+-- first parts of one length are one, and so is what comes after them
+pub same_first : (f g fs gs xs ys : List ℕ) → length f ≡ length g → (f ++ fs) ++ xs ≡ (g ++ gs) ++ ys → (f ≡ g) × (fs ++ xs ≡ gs ++ ys)
+same_first f g fs gs xs ys long e = same_front f g (fs ++ xs) (gs ++ ys) long (simp append_assoc at e)
 
 one_way : (size : ℕ) (full others : List (List ℕ)) (last other : List ℕ) → 1 ≤ size → AreFull size full → AreFull size others → length last ≤ size → length other ≤ size
     → (last ≡ [] → joined_parts full ++ last ≡ []) → (other ≡ [] → joined_parts others ++ other ≡ []) → joined_parts full ++ last ≡ joined_parts others ++ other
     → full ++ last ∷ [] ≡ others ++ other ∷ []
 one_way size [] [] last other one f g short brief some any e = λ i. e i ∷ []
 one_way size [] (g ∷ gs) last other one full fulls short brief some any e =
-    let whole : last ≡ g ++ (joined_parts gs ++ other) = e ∙ append_assoc g (joined_parts gs) other in
-    let least : 1 ≤ length other = some_octet size g other gs one fulls.0 (λ empty. sym (append_assoc g (joined_parts gs) other) ∙ any empty) in
-    absurd (too_short size last g (joined_parts gs ++ other) short fulls.0 (at_least (joined_parts gs) other least) whole)
+    absurd (too_short size last g (joined_parts gs) other short fulls.0 (some_octet size g (joined_parts gs) other one fulls.0 any) e)
 one_way size (f ∷ fs) [] last other one full fulls short brief some any e =
-    let whole : other ≡ f ++ (joined_parts fs ++ last) = sym e ∙ append_assoc f (joined_parts fs) last in
-    let least : 1 ≤ length last = some_octet size f last fs one full.0 (λ empty. sym (append_assoc f (joined_parts fs) last) ∙ some empty) in
-    absurd (too_short size other f (joined_parts fs ++ last) brief full.0 (at_least (joined_parts fs) last least) whole)
+    absurd (too_short size other f (joined_parts fs) last brief full.0 (some_octet size f (joined_parts fs) last one full.0 some) (sym e))
 one_way size (f ∷ fs) (g ∷ gs) last other one full fulls short brief some any e =
-    let whole : f ++ (joined_parts fs ++ last) ≡ g ++ (joined_parts gs ++ other) = sym (append_assoc f (joined_parts fs) last) ∙ (e ∙ append_assoc g (joined_parts gs) other) in
-    let parts = same_front f g (joined_parts fs ++ last) (joined_parts gs ++ other) (full.0 ∙ sym fulls.0) whole in
-    let least : 1 ≤ length last = some_octet size f last fs one full.0 (λ empty. sym (append_assoc f (joined_parts fs) last) ∙ some empty) in
-    let most : 1 ≤ length other = some_octet size g other gs one fulls.0 (λ empty. sym (append_assoc g (joined_parts gs) other) ∙ any empty) in
+    let parts = same_first f g (joined_parts fs) (joined_parts gs) last other (full.0 ∙ sym fulls.0) e in
+    let least = some_octet size f (joined_parts fs) last one full.0 some in
+    let most = some_octet size g (joined_parts gs) other one fulls.0 any in
     let more = one_way size fs gs last other one full.1 fulls.1 short brief (λ empty. absurd (omega (arith, least, ap length empty))) (λ empty. absurd (omega (arith, most, ap length empty))) parts.1 in
     λ i. parts.0 i ∷ more i
 
@@ -75,21 +71,12 @@ held_in_few subfile object parts c few =
 
 -- what as many full parts hold is cut into no more
 pub few_parts : (subfile : ℕ) (object : List ℕ) (parts : List (List ℕ)) → 1 ≤ subfile → IsCut subfile object parts → length object ≤ subfile * max_subfiles → length parts ≤ max_subfiles
-few_parts subfile object parts one c within = by_last c.last refl c.full refl
-  where
-    many : (full : List (List ℕ)) → c.full ≡ full → length parts ≡ length full + 1
-    many full f = ap length (c.parts_are ∙ ap (λ (fs : List (List ℕ)). fs ++ c.last ∷ []) f) ∙ length-append full (c.last ∷ [])
-
-    by_last : (last : List ℕ) → c.last ≡ last → (full : List (List ℕ)) → c.full ≡ full → length parts ≤ max_subfiles
-    by_last [] e [] f = omega (arith, many [] f)
-    by_last [] e (g ∷ gs) f =
-        let none = c.some e in
-        let whole : joined_parts (g ∷ gs) ++ c.last ≡ [] = ap (λ (fs : List (List ℕ)). joined_parts fs ++ c.last) (sym f) ∙ (sym c.joined ∙ none) in
-        let first = (subst (AreFull subfile) f c.are_full).0 in
-        absurd (omega (arith, one, first, ap length whole, length-append g (joined_parts gs), length-append (joined_parts (g ∷ gs)) c.last))
-    by_last (x ∷ last) e full f =
-        let length_is : length object ≡ length (joined_parts full) + length c.last = ap length (c.joined ∙ ap (λ (fs : List (List ℕ)). joined_parts fs ++ c.last) f) ∙ length-append (joined_parts full) c.last in
-        let fulls = full_length subfile full (subst (AreFull subfile) f c.are_full) in
-        let some : 1 ≤ length c.last = omega (arith, ap length e) in
-        let room : subfile * length full + length c.last ≤ subfile * max_subfiles = omega (arith, length_is, fulls, within) in
-        omega (arith, many full f, few_full subfile (length full) (length c.last) max_subfiles one some room)
+few_parts subfile object parts one c within = elim (cases_lt 0 (length c.last)) [
+  | inl some ↦
+      let few = few_full subfile (length c.full) (length c.last) max_subfiles one some (omega (arith, cut_length subfile object parts c, within)) in
+      omega (arith, few, count_is subfile object parts c)
+  | inr none ↦
+      let empty = c.some (nil_from_length c.last (omega (arith, none))) in
+      let no_full : length c.full ≤ 0 = le_of_mul-le-mul_left {k = subfile} (omega (arith, cut_length subfile object parts c, ap length empty)) one in
+      omega (arith, no_full, count_is subfile object parts c)
+]

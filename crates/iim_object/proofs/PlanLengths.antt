@@ -1,6 +1,5 @@
 -- Lemmas on how long record 7 is, for the proofs of every crate: nothing here is to be believed.
-use Rattle.std.proofs.Common.{ℕ, ◌^◌, ◌≤◌, inl, inr, List, [], ◌∷◌, ◌++◌, length, Some, None, arith, length-append}
-use Rattle.std.proofs.lemmas.Bool.{cases_lt, lt-ltb, le-ltb}
+use Rattle.std.proofs.Common.{ℕ, ◌≤◌, List, [], ◌∷◌, ◌++◌, length, Some, None, arith, length-append}
 use Rattle.iim_dataset.specs.Format.Datasets.{canonical_dataset, canonical_stream, tag_octets}
 use Rattle.iim_object.specs.Format.Packing.{number_dataset, size_datasets, plan_datasets, is_known}
 use Rattle.iim_object.specs.Format.Plans.{most_sizes}
@@ -9,13 +8,7 @@ use Rattle.iim_object.specs.declared.size.Size.{Size}
 use Rattle.iim_object.specs.declared.size.Size.TheVariants.{Known, Unknown}
 
 pub number_length : (rec set n : ℕ) → length (canonical_dataset (number_dataset rec set n)) ≤ tag_octets
-number_length rec set n = omega (arith, short rec set n)
-  where
-    short : (rec set n : ℕ) → length (canonical_dataset (number_dataset rec set n)) ≤ 13
-    short rec set n = elim (cases_lt n (2 ^ 32)) [
-      | inl lt ↦ rw (lt-ltb n (2 ^ 32) lt) (omega arith)
-      | inr ge ↦ rw (le-ltb n (2 ^ 32) ge) (omega arith)
-    ]
+number_length rec set n = grind arith
 
 size_datasets_length : (size : Size) → length (canonical_stream (size_datasets size)) ≤ tag_octets
 size_datasets_length (Known n) = omega (arith, number_length 7 90 n, length-append (canonical_dataset (number_dataset 7 90 n)) [])

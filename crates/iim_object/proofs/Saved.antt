@@ -1,13 +1,12 @@
 -- Where numbers are those of a possible place, and the state that stands there.
-use Rattle.std.proofs.Common.{◌≡◌, ℕ, ◌+◌, ◌-◌, ◌*◌, ◌≤◌, [], ◌∷◌, ◌++◌, length, sum, Option, Some, None, IsSome, IfSome, Result, Ok, Err, IfOk, IfErr, refl, sym, ap, subst, ◌∙◌, arith}
+use Rattle.std.proofs.Common.{◌≡◌, ℕ, ◌+◌, ◌-◌, ◌≤◌, [], ◌∷◌, length, sum, Option, Some, None, IsSome, IfSome, Result, Ok, Err, IfOk, IfErr, refl, sym, ap, ◌∙◌, arith}
 use Rattle.std.proofs.lemmas.List.{length_push}
 use Rattle.std.proofs.lemmas.Option.{same_Some}
 use Rattle.std.specs.Result.{result_ok}
-use Rattle.iim_dataset.specs.Format.Languages.{IsAlive}
 use Rattle.iim_object.specs.declared.reading.state.State.{State}
 use Rattle.iim_object.specs.declared.reading.fault.SizeCause.{SizeCause}
 use Rattle.iim_object.specs.Format.Plans.{max_subfiles}
-use Rattle.iim_object.specs.Format.Objects.{ObjectToken, SubfileBegun, ObjectLanguage}
+use Rattle.iim_object.specs.Format.Objects.{ObjectToken, ObjectLanguage, SubfileBegun}
 use Rattle.iim_object.specs.Format.Places.{Place, HasBoth, MayFollow, place_after, tokens_of}
 use Rattle.iim_object.specs.States.KeptNumbers.{IsState, state_numbers}
 use Rattle.iim_object.specs.States.Changes.{TakesSubfile}
@@ -15,12 +14,11 @@ use Rattle.iim_object.specs.States.Reading.{IsStateAt, StandsAt, LeadsOn, Refuse
 use Rattle.iim_object.specs.States.Saved.{IsAt, LastIsBegun, IsPossible, stated_numbers}
 use Rattle.iim_object.specs.Laws.Places.{PlacesHaveOneReader}
 use Rattle.iim_object.specs.Finding.{Finds}
+use Rattle.iim_object.proofs.Subfiles.{front_lives}
 use Rattle.iim_object.proofs.Steps.{sum_more, tokens_follow}
-use Rattle.iim_object.proofs.Reached.{front_lives, place_in, tells_in, stands_in, few_in, state_of}
+use Rattle.iim_object.proofs.Reached.{place_in, tells_in, stands_in, few_in, state_of}
 use Rattle.iim_object.proofs.Staying.{may_take}
 use Rattle.iim_object.proofs.Bounded.{possible_of}
-
--- ---- the tests of a state
 
 -- ---- a place and its state
 
@@ -46,17 +44,13 @@ one_state a b p x y =
       subfiles = (s.subfiles ∙ sym t.subfiles) i;
       total = (s.total ∙ sym t.total) i;
     } in
-    x.is_state ∙ (ap (λ (s : State). Some s) same ∙ sym y.is_state)
+    cc (x.is_state, y.is_state)
 
 -- ---- between subfiles
 
 -- the state with `subfiles` subfiles, and `total` octets of them
 abbrev pub with_subfiles : State → ℕ → ℕ → State
 with_subfiles s subfiles total = record s { subfiles = subfiles; total = total }
-
-is_value : (found : Option State) (s : State) → IfSome found (λ x. x ≡ s) → (x : State) → found ≡ Some x → x ≡ s
-is_value None s h x e = absurd cc
-is_value (Some y) s h x e = let same : y ≡ x = cc in sym same ∙ h
 
 pub finds_between : (n : State) (taken heads : ℕ) (found : Option State) → (IsSome found → IsState (with_subfiles n heads taken)) → (IsState (with_subfiles n heads taken) → IsSome found)
     → IfSome found (λ x. x ≡ with_subfiles n heads taken) → Finds (IsAt (state_numbers n) taken None heads) found
@@ -68,11 +62,14 @@ finds_between n taken heads found there back value =
       exactly = (
         λ some.
             let is = there some in
-            let t = tells_in s is in
-            (place_in s, record { numbers_are = numbers_told s (place_in s) t; octets = sym t.total; subfiles = t.subfiles; not_ended = refl }, possible_of (Some s) (place_in s) (stands_in s is) (few_in s is)),
+            let t = tells_in s is in (
+              place_in s,
+              record { numbers_are = numbers_told s (place_in s) t; octets = sym t.total; subfiles = t.subfiles; not_ended = refl },
+              possible_of (Some s) (place_in s) (stands_in s is) (few_in s is),
+            ),
         λ h. back (state_of s h.0 (at h.0 h.1 h.2) h.2.few),
       );
-      stands = λ x e p is possible. subst (λ (y : State). StandsAt (Some y) p) (sym (is_value found s value x e)) (at p is possible);
+      stands = λ x e p is possible. rw (rw e at value) (at p is possible);
     }
 
 -- ---- within a subfile
@@ -104,8 +101,7 @@ before n taken count left heads p is possible =
     let both : HasBoth p.stated = possible.duties (omega (arith, long)) in
     let follows : MayFollow q token = (is.not_ended, both, omega (arith, long, possible.few)) in
     let tells : IsStateAt s q = tells_by s q is.numbers_are (omega (arith, is.subfiles, long)) (omega (arith, b.octets, total, b.fits)) in
-    let all : tokens_of p ≡ tokens_of q ++ token ∷ [] = ap tokens_of (sym leads) ∙ tokens_follow q token follows in
-    let alive : IsAlive ObjectLanguage (tokens_of q) = front_lives (tokens_of q) (token ∷ []) (subst (IsAlive ObjectLanguage) all possible.alive) in
+    let alive = front_lives ObjectLanguage (tokens_of q) (token ∷ []) (rw (← leads, tokens_follow q token follows) at possible.alive) in
     let few : length q.lengths ≤ max_subfiles = omega (arith, long, possible.few) in
     let stands : StandsAt (Some s) q = stands_by s q tells (record { stated = possible.stated; subfiles = λ e. is.not_ended; duties = λ some. both; few = few; alive = alive }) in
     record {
@@ -129,8 +125,7 @@ dead_head n taken count left heads cause refused =
     finds_none (IsAt (state_numbers n) taken (Some (count, left)) heads)
     (λ p is possible.
     let b = before n taken count left heads p is possible in
-    let all : tokens_of p ≡ tokens_of b.place ++ SubfileBegun count ∷ [] = ap tokens_of (sym b.leads) ∙ tokens_follow b.place (SubfileBegun count) b.follows in
-    (refused b.place b.stands b.follows).0.1 (subst (IsAlive ObjectLanguage) all possible.alive))
+    (refused b.place b.stands b.follows).0.1 (rw (← b.leads, tokens_follow b.place (SubfileBegun count) b.follows) at possible.alive))
 
 pub finds_within : (n : State) (taken count left heads : ℕ) (new : State) → MayHaveBegun taken count left heads → IsState (state_before n taken count left heads)
     → TakesSubfile (state_before n taken count left heads) → LeadsOn (Some (state_before n taken count left heads)) (SubfileBegun count) (Some new)
@@ -160,7 +155,7 @@ finds_within n taken count left heads new (some, fits, long, room) is takes goes
       );
       stands = λ x e r here possible.
           let b = before n taken count left heads r here possible in
-          subst (λ (y : State). StandsAt (Some y) r) (same_Some new x e) (subst (StandsAt (Some new)) b.leads (goes b.place b.stands b.follows));
+          rw (← same_Some new x e, ← b.leads) (goes b.place b.stands b.follows);
     }
 
 pub finds_after : (n : State) (taken count left heads : ℕ) (answer : Result State SizeCause) → MayHaveBegun taken count left heads → IsState (state_before n taken count left heads)

@@ -1,303 +1,278 @@
--- The object layer while subfiles come and at its end: it is alive exactly where they fit.
-use Rattle.std.proofs.Common.{◌≡◌, ℕ, ◌+◌, ◌-◌, ◌<◌, ◌≤◌, Bool, true, false, List, [], ◌∷◌, ◌++◌, length, replicate, map, sum, Option, Some, None, is_some, IfSome, refl, sym, ap, subst, ◌∙◌, arith, append_assoc, append-nil, length-append}
+-- The object layer by numbers and lengths: while record 7 is read it is alive exactly where the numbers don't clash, and while subfiles come
+-- and at the end exactly where they fit.
+use Rattle.std.proofs.Common.{◌≡◌, ◌↔◌, ℕ, zero, suc, ◌+◌, ◌-◌, ◌<◌, ◌≤◌, Bool, true, false, List, [], ◌∷◌, ◌++◌, length, replicate, map, sum, Option, Some, None, is_some, refl, sym, ap, ◌∙◌, arith, inl, inr, append_assoc, append-nil, length-append}
 use Rattle.std.specs.List.{AllByRecursion}
 use Rattle.std.proofs.lemmas.List.{map-append}
-use Rattle.std.proofs.lemmas.Option.{same_Some}
 use Rattle.iim_dataset.specs.Format.Languages.{IsAlive}
-use Rattle.iim_object.specs.Laws.Records.{SizesAreDetermined}
-use Rattle.iim_object.specs.Format.Within.{LanguageWithin}
 use Rattle.iim_dataset.specs.Format.Octets.{greatest_size}
 use Rattle.iim_dataset.proofs.Each.{all_append, all_front}
-use Rattle.iim_dataset.proofs.Lists.{sum_append}
-use Rattle.iim_object.specs.Format.Sizes.{Stated, Agree, number_at, mode_number, sizes_at}
-use Rattle.iim_object.specs.Laws.Living.{HasDuties, Fit, MeetsAnnounced, NumbersLiveWithoutClash, SubfilesLiveWhileTheyFit, ObjectsEndWhereTheyAreWhole, TotalsAreConfirmed}
-use Rattle.iim_object.specs.Format.Objects.{ObjectToken, SubfileBegun, ObjectEnded, Confirmed, ObjectLanguage, number_tokens}
-use Rattle.iim_object.proofs.Numbers.{AreLow, low_at, rows_low, whole_within, numbers_alive, numbers_live, in_row_at, at_least_one, at_most_size, short_ones, sum-ones}
-
-pub numbers_law : NumbersLiveWithoutClash
-numbers_law ps stated = (numbers_live ps, numbers_alive ps stated)
+use Rattle.iim_dataset.proofs.Lists.{sum_append, sum_cons}
+use Rattle.iim_object.specs.Laws.Records.{SizesAreDetermined}
+use Rattle.iim_object.specs.Format.Within.{LanguageWithin}
+use Rattle.iim_object.specs.Format.Sizes.{Stated, InRow, AreStated, Agree, number_at, mode_number, sizes_at}
+use Rattle.iim_object.specs.Format.Places.{Ending, NotEnded, Ended, ConfirmedAs, ending_tokens}
+use Rattle.iim_object.specs.Laws.Living.{NoClash, HasDuties, Fit, MeetsAnnounced, NumbersLiveWithoutClash, SubfilesLiveWhileTheyFit, ObjectsEndWhereTheyAreWhole, TotalsAreConfirmed}
+use Rattle.iim_object.specs.Format.Objects.{ObjectToken, NumberRead, SubfileBegun, ObjectEnded, Confirmed, ObjectLanguage, number_tokens}
+use Rattle.iim_object.proofs.Numbers.{AreLow, at-append, none-append, once-append, low_at, rows_low, whole_within, in_row_at, at_least_one, at_most_size, mode_at_most_one}
 
 -- ---- what follows completes
 
 -- the tokens of the end
-abbrev ending : ℕ → List ObjectToken
-ending n = ObjectEnded ∷ Confirmed n ∷ []
+abbrev pub end_with : ℕ → List ObjectToken
+end_with n = ObjectEnded ∷ Confirmed n ∷ []
 
-one_at_least : (known : Bool) (subfile : ℕ) (ps : List Stated) → HasDuties known subfile ps → 1 ≤ subfile
-one_at_least known subfile ps d = at_least_one subfile (in_row_at 20 subfile ps d.stated.each d.largest)
+-- what lives, lived before
+pub front_lives : (Language : List ObjectToken → Type 0) (xs ys : List ObjectToken) → IsAlive Language (xs ++ ys) → IsAlive Language xs
+front_lives Language xs ys (rest, all) = (ys ++ rest, rw append_assoc at all)
+
+-- by which ending so many subfiles are whole
+abbrev pub Ends : Ending → List Stated → List ℕ → Type 0
+Ends NotEnded ps lengths = Unit {0}
+Ends Ended ps lengths = MeetsAnnounced ps lengths
+Ends (ConfirmedAs n) ps lengths = MeetsAnnounced ps lengths × (n ≡ sum lengths)
 
 -- the sizes agree where the subfiles fit and are whole
-pub agree_of : (known : Bool) (subfile : ℕ) (ps : List Stated) (lengths : List ℕ) → Fit known subfile ps lengths → MeetsAnnounced ps lengths → Agree (sizes_at known subfile ps lengths) lengths (sum lengths)
-agree_of known subfile ps lengths fit whole = record {
-  by_mode = fit.by_mode;
-  announced_fits = fits (number_at 90 ps) refl;
-  each_subfile = fit.each;
-  total_fits = fit.total;
-  within_maximum = fit.maximum;
-  as_announced = whole;
-  as_confirmed = refl;
-}
-  where
-    under : (a : ℕ) → number_at 90 ps ≡ Some a → (o : Option ℕ) → number_at 95 ps ≡ o → IfSome o (λ m. a ≤ m)
-    under a e None f = tt
-    under a e (Some m) f = fit.clash.sizes a m e f
+pub agree_of : (known : Bool) (subfile : ℕ) (ps : List Stated) (lengths : List ℕ) → Fit known subfile ps lengths → MeetsAnnounced ps lengths
+    → Agree (sizes_at known subfile ps lengths) lengths (sum lengths)
+agree_of known subfile ps lengths fit whole = grind arith
 
-    fits : (o : Option ℕ) → number_at 90 ps ≡ o → IfSome o (λ a. IfSome (number_at 95 ps) (λ m. a ≤ m))
-    fits None e = tt
-    fits (Some a) e = under a e (number_at 95 ps) refl
+-- an object of these numbers and lengths, by each greatest size that they keep to
+whole_object : (most : ℕ) (known : Bool) (subfile : ℕ) (ps : List Stated) (lengths : List ℕ) → AreLow most ps → sum lengths ≤ most → HasDuties known subfile ps → 0 < length lengths → Fit known subfile ps lengths
+    → MeetsAnnounced ps lengths → LanguageWithin most (number_tokens ps ++ (map SubfileBegun lengths ++ end_with (sum lengths)))
+whole_object most known subfile ps lengths low le d some fit whole = (
+  record {
+    stated = ps;
+    lengths = lengths;
+    confirmed = sum lengths;
+    known = known;
+    subfile = subfile;
+    are_stated = d.stated;
+    mode = d.mode;
+    largest = d.largest;
+    some = some;
+    agree = agree_of known subfile ps lengths fit whole;
+    tokens_are = refl;
+  },
+  whole_within most ps lengths (sum lengths) low le,
+)
 
--- an object of these lengths and no others
-whole_object : (known : Bool) (subfile : ℕ) (ps : List Stated) (lengths : List ℕ) → HasDuties known subfile ps → 0 < length lengths → Fit known subfile ps lengths → MeetsAnnounced ps lengths
-    → ObjectLanguage (number_tokens ps ++ (map SubfileBegun lengths ++ ending (sum lengths)))
-whole_object known subfile ps lengths d some fit whole = record {
-  stated = ps;
-  lengths = lengths;
-  confirmed = sum lengths;
-  known = known;
-  subfile = subfile;
-  are_stated = d.stated;
-  mode = d.mode;
-  largest = d.largest;
-  some = some;
-  agree = agree_of known subfile ps lengths fit whole;
-  tokens_are = refl;
-}
+sum_ones : (n : ℕ) → sum (replicate n 1) ≡ n
+sum_ones zero = refl
+sum_ones (suc n) = omega (arith, sum_cons 1 (replicate n 1), sum_ones n)
 
--- with subfiles of one octet up to the announced size
-fill : (a : ℕ) (lengths : List ℕ) → List ℕ
-fill a lengths = replicate (a - sum lengths) 1
+short_ones : (n subfile : ℕ) → 1 ≤ subfile → AllByRecursion (λ k. k ≤ subfile) (replicate n 1)
+short_ones zero subfile h = tt
+short_ones (suc n) subfile h = (h, short_ones n subfile h)
 
-filled_sum : (a : ℕ) (lengths : List ℕ) → sum lengths ≤ a → sum (lengths ++ fill a lengths) ≡ a
-unfolding fill
-filled_sum a lengths h = omega (arith, sum_append lengths (replicate (a - sum lengths) 1), sum-ones (a - sum lengths))
-
-filled_fits : (known : Bool) (subfile : ℕ) (ps : List Stated) (lengths : List ℕ) (a : ℕ) → HasDuties known subfile ps → Fit known subfile ps lengths → number_at 90 ps ≡ Some a → sum lengths ≤ a
-    → Fit known subfile ps (lengths ++ fill a lengths)
-unfolding fill
-filled_fits known subfile ps lengths a d fit e h =
-    let total : sum (lengths ++ fill a lengths) ≡ a = filled_sum a lengths h in
-    record {
-      clash = fit.clash;
-      by_mode = fit.by_mode;
-      each = all_append (λ (n : ℕ). n ≤ subfile) lengths (fill a lengths) fit.each (short_ones (a - sum lengths) subfile (one_at_least known subfile ps d));
-      total = omega (arith, total, at_most_size a (in_row_at 90 a ps d.stated.each e));
-      announced = subst (λ (o : Option ℕ). IfSome o (λ x. sum (lengths ++ fill a lengths) ≤ x)) (sym e) (omega (arith, total));
-      maximum = under (number_at 95 ps) refl;
-    }
-  where
-    under : (o : Option ℕ) → number_at 95 ps ≡ o → IfSome o (λ m. sum (lengths ++ fill a lengths) ≤ m)
-    under None f = tt
-    under (Some m) f = omega (arith, filled_sum a lengths h, fit.clash.sizes a m e f)
-
--- an object of low numbers and a low total
-whole_object_within : (most : ℕ) (known : Bool) (subfile : ℕ) (ps : List Stated) (lengths : List ℕ) → HasDuties known subfile ps → 0 < length lengths → Fit known subfile ps lengths → MeetsAnnounced ps lengths
-    → AreLow most ps → sum lengths ≤ most → LanguageWithin most (number_tokens ps ++ (map SubfileBegun lengths ++ ending (sum lengths)))
-whole_object_within most known subfile ps lengths d some fit whole low le = (whole_object known subfile ps lengths d some fit whole, whole_within most ps lengths (sum lengths) low le)
+-- with subfiles of one octet the announced size is reached
+filled_fits : (known : Bool) (subfile : ℕ) (ps : List Stated) (lengths : List ℕ) (a : ℕ) → HasDuties known subfile ps → Fit known subfile ps lengths → number_at 90 ps ≡ Some a
+    → Fit known subfile ps (lengths ++ replicate (a - sum lengths) 1) × (sum (lengths ++ replicate (a - sum lengths) 1) ≡ a)
+filled_fits known subfile ps lengths a d fit e =
+    let one = at_least_one subfile (in_row_at 20 subfile ps d.stated.each d.largest) in
+    let small = at_most_size a (in_row_at 90 a ps d.stated.each e) in
+    let each = all_append (λ (n : ℕ). n ≤ subfile) lengths (replicate (a - sum lengths) 1) fit.each (short_ones (a - sum lengths) subfile one) in
+    let clash = fit.clash.sizes a in
+    grind (arith, sum_append lengths (replicate (a - sum lengths) 1), sum_ones (a - sum lengths))
 
 -- It can continue by each greatest size that numbers and total keep to.
-pub subfiles_alive_within : (most : ℕ) (known : Bool) (subfile : ℕ) (ps : List Stated) (lengths : List ℕ) → AreLow most ps → sum lengths ≤ most → HasDuties known subfile ps → 0 < length lengths → Fit known subfile ps lengths
-    → IsAlive (LanguageWithin most) (number_tokens ps ++ map SubfileBegun lengths)
-unfolding fill
-subfiles_alive_within most known subfile ps lengths low le d some fit = by_announced (number_at 90 ps) refl
+pub alive_within : (most : ℕ) (known : Bool) (subfile : ℕ) (ps : List Stated) (lengths : List ℕ) (ending : Ending) → AreLow most ps → sum lengths ≤ most → HasDuties known subfile ps → 0 < length lengths
+    → Fit known subfile ps lengths → Ends ending ps lengths → IsAlive (LanguageWithin most) (number_tokens ps ++ (map SubfileBegun lengths ++ ending_tokens ending))
+alive_within most known subfile ps lengths NotEnded low le d some fit ends = by_announced (number_at 90 ps) refl
   where
-    by_announced : (o : Option ℕ) → number_at 90 ps ≡ o → IsAlive (LanguageWithin most) (number_tokens ps ++ map SubfileBegun lengths)
-    by_announced None e =
-        let whole : MeetsAnnounced ps lengths = subst (λ (o : Option ℕ). IfSome o (λ a. sum lengths ≡ a)) (sym e) tt in
-        (ending (sum lengths), subst (LanguageWithin most) (sym (append_assoc (number_tokens ps) (map SubfileBegun lengths) (ending (sum lengths)))) (whole_object_within most known subfile ps lengths d some fit whole low le))
+    by_announced : (o : Option ℕ) → number_at 90 ps ≡ o → IsAlive (LanguageWithin most) (number_tokens ps ++ (map SubfileBegun lengths ++ []))
+    by_announced None e = (end_with (sum lengths), simp (append-nil, append_assoc) (whole_object most known subfile ps lengths low le d some fit (rw e tt)))
     by_announced (Some a) e =
-        let h : sum lengths ≤ a = subst (λ (o : Option ℕ). IfSome o (λ x. sum lengths ≤ x)) e fit.announced in
-        let more : List ℕ = fill a lengths in
-        let all : List ℕ = lengths ++ more in
-        let whole : MeetsAnnounced ps all = subst (λ (o : Option ℕ). IfSome o (λ x. sum all ≡ x)) (sym e) (filled_sum a lengths h) in
-        let long : 0 < length all = omega (arith, length-append lengths more) in
-        let object = whole_object_within most known subfile ps all d long (filled_fits known subfile ps lengths a d fit e h) whole low (omega (arith, filled_sum a lengths h, low_at most 90 a ps low e)) in
-        let parts : number_tokens ps ++ (map SubfileBegun all ++ ending (sum all)) ≡ (number_tokens ps ++ map SubfileBegun lengths) ++ (map SubfileBegun more ++ ending (sum all)) =
-        ap (λ (t : List ObjectToken). number_tokens ps ++ (t ++ ending (sum all))) (map-append SubfileBegun lengths more)
-        ∙ (ap (λ (t : List ObjectToken). number_tokens ps ++ t) (append_assoc (map SubfileBegun lengths) (map SubfileBegun more) (ending (sum all)))
-        ∙ sym (append_assoc (number_tokens ps) (map SubfileBegun lengths) (map SubfileBegun more ++ ending (sum all)))) in
-        (map SubfileBegun more ++ ending (sum all), subst (LanguageWithin most) parts object)
+        let (fits, total) = filled_fits known subfile ps lengths a d fit e in
+        let more : List ℕ = replicate (a - sum lengths) 1 in
+        let long : 0 < length (lengths ++ more) = omega (arith, length-append lengths more) in
+        let object = whole_object most known subfile ps (lengths ++ more) low (omega (arith, total, low_at most 90 a ps low e)) d long fits (rw e total) in
+        (map SubfileBegun more ++ end_with a, simp (append-nil, append_assoc) (simp (map-append, append_assoc, total) at object))
+alive_within most known subfile ps lengths Ended low le d some fit ends = (Confirmed (sum lengths) ∷ [], simp append_assoc (whole_object most known subfile ps lengths low le d some fit ends))
+alive_within most known subfile ps lengths (ConfirmedAs n) low le d some fit ends = ([], rw ends.1 (simp append-nil (whole_object most known subfile ps lengths low le d some fit ends.0)))
 
-subfiles_alive : (known : Bool) (subfile : ℕ) (ps : List Stated) (lengths : List ℕ) → HasDuties known subfile ps → 0 < length lengths → Fit known subfile ps lengths
-    → IsAlive ObjectLanguage (number_tokens ps ++ map SubfileBegun lengths)
-subfiles_alive known subfile ps lengths d some fit =
-    let alive = subfiles_alive_within greatest_size known subfile ps lengths (rows_low ps d.stated.each) fit.total d some fit in (alive.0, alive.1.0)
+-- ---- numbers complete, too
+
+-- numbers that may stand together, and are low
+record AreFit (most : ℕ) (ps : List Stated) : Type 0 where
+  low : AreLow most ps
+  stated : AreStated ps
+  clash : NoClash ps
+
+with_one : (most : ℕ) (ps : List Stated) (q : Stated) → AreFit most ps → number_at q.set ps ≡ None → InRow q → q.number ≤ most → NoClash (ps ++ q ∷ []) → AreFit most (ps ++ q ∷ [])
+with_one most ps q fit none row low clash = record {
+  low = all_append (λ (p : Stated). p.number ≤ most) ps (q ∷ []) fit.low (low, tt);
+  stated = record { each = all_append InRow ps (q ∷ []) fit.stated.each (row, tt); once = once-append ps q fit.stated.once none };
+  clash = clash;
+}
+
+live_before : (most : ℕ) (ps : List Stated) (q : Stated) → IsAlive (LanguageWithin most) (number_tokens (ps ++ q ∷ [])) → IsAlive (LanguageWithin most) (number_tokens ps)
+live_before most ps q alive = front_lives (LanguageWithin most) (number_tokens ps) (NumberRead q.set q.number ∷ []) (rw map-append at alive)
+
+empty_fits : (known : Bool) (subfile : ℕ) (ps : List Stated) → NoClash ps → is_some (number_at 90 ps) ≡ known → Fit known subfile ps (0 ∷ [])
+empty_fits known subfile ps clash by_mode = grind arith
+
+-- neither the largest subfile nor a mode by which the size is announced clashes
+largest_clash : (ps : List Stated) → NoClash ps → NoClash (ps ++ record { set = 20; number = 1 } ∷ [])
+largest_clash ps clash = grind (arith, at-append, none-append)
+
+mode_clash : (ps : List Stated) → number_at 10 ps ≡ None → NoClash ps → NoClash (ps ++ record { set = 10; number = mode_number (is_some (number_at 90 ps)) } ∷ [])
+mode_clash ps none clash = grind (arith, at-append, none-append)
+
+-- the largest subfile is given or to come
+with_largest : (most : ℕ) (known : Bool) (ps : List Stated) → 1 ≤ most → AreFit most ps → number_at 10 ps ≡ Some (mode_number known) → is_some (number_at 90 ps) ≡ known → IsAlive (LanguageWithin most) (number_tokens ps)
+with_largest most known ps one fit mode by_mode = by_given (number_at 20 ps) refl
+  where
+    run : (subfile : ℕ) (qs : List Stated) → AreFit most qs → number_at 10 qs ≡ Some (mode_number known) → number_at 20 qs ≡ Some subfile → is_some (number_at 90 qs) ≡ known → IsAlive (LanguageWithin most) (number_tokens qs)
+    run subfile qs f m l b =
+        front_lives (LanguageWithin most) (number_tokens qs) (SubfileBegun 0 ∷ [])
+        (alive_within most known subfile qs (0 ∷ []) NotEnded f.low (omega arith) (record { stated = f.stated; mode = m; largest = l }) (omega arith) (empty_fits known subfile qs f.clash b) tt)
+
+    by_given : (o : Option ℕ) → number_at 20 ps ≡ o → IsAlive (LanguageWithin most) (number_tokens ps)
+    by_given (Some subfile) e = run subfile ps fit mode e by_mode
+    by_given None e =
+        let q : Stated = record { set = 20; number = 1 } in
+        live_before most ps q (run 1 (ps ++ q ∷ []) (with_one most ps q fit e (inr (inl (refl, omega arith, omega arith))) one (largest_clash ps fit.clash))
+        (at-append 10 (mode_number known) ps (q ∷ []) mode) (none-append 20 ps (q ∷ []) e) (grind (arith, at-append, none-append)))
+
+-- so is the announced size where the mode is 1
+with_announced : (most : ℕ) (known : Bool) (ps : List Stated) → 1 ≤ most → AreFit most ps → number_at 10 ps ≡ Some (mode_number known) → IsAlive (LanguageWithin most) (number_tokens ps)
+with_announced most false ps one fit mode = with_largest most false ps one fit mode (ap is_some (fit.clash.mode mode))
+with_announced most true ps one fit mode = by_given (number_at 90 ps) refl
+  where
+    by_given : (o : Option ℕ) → number_at 90 ps ≡ o → IsAlive (LanguageWithin most) (number_tokens ps)
+    by_given (Some a) e = with_largest most true ps one fit mode (ap is_some e)
+    by_given None e =
+        let q : Stated = record { set = 90; number = 0 } in
+        live_before most ps q (with_largest most true (ps ++ q ∷ []) one (with_one most ps q fit e (inr (inr (inl refl, omega arith))) (omega arith) (grind (arith, at-append, none-append, fit.clash)))
+        (at-append 10 1 ps (q ∷ []) mode) (ap is_some (none-append 90 ps (q ∷ []) e)))
+
+-- It can continue by each greatest size that the numbers keep to.
+pub numbers_alive_within : (most : ℕ) → 1 ≤ most → (ps : List Stated) → AreLow most ps → AreStated ps → NoClash ps → IsAlive (LanguageWithin most) (number_tokens ps)
+numbers_alive_within most one ps low stated clash = by_given (number_at 10 ps) refl
+  where
+    fit : AreFit most ps
+    fit = record { low = low; stated = stated; clash = clash }
+
+    by_given : (o : Option ℕ) → number_at 10 ps ≡ o → IsAlive (LanguageWithin most) (number_tokens ps)
+    by_given None e =
+        let known : Bool = is_some (number_at 90 ps) in
+        let q : Stated = record { set = 10; number = mode_number known } in
+        live_before most ps q (with_announced most known (ps ++ q ∷ []) one (with_one most ps q fit e (inl (refl, grind arith)) (grind arith) (mode_clash ps e clash)) (none-append 10 ps (q ∷ []) e))
+    by_given (Some zero) e = with_announced most false ps one fit e
+    by_given (Some (suc zero)) e = with_announced most true ps one fit e
+    by_given (Some (suc (suc n))) e = absurd (omega (arith, mode_at_most_one (suc (suc n)) (in_row_at 10 (suc (suc n)) ps stated.each e)))
 
 -- ---- and what completes has these parts
 
--- after the numbers come the subfiles
-pub numbers_end : (ps all : List Stated) (l n : ℕ) (rest : List ObjectToken) (lengths : List ℕ)
-    → number_tokens ps ++ (SubfileBegun l ∷ rest) ≡ number_tokens all ++ (map SubfileBegun lengths ++ ending n)
-    → (ps ≡ all) × (SubfileBegun l ∷ rest ≡ map SubfileBegun lengths ++ ending n)
-numbers_end [] [] l n rest lengths e = (refl, e)
-numbers_end [] (q ∷ all) l n rest lengths e = absurd cc
-numbers_end (p ∷ ps) [] l n rest [] e = absurd cc
-numbers_end (p ∷ ps) [] l n rest (k ∷ lengths) e = absurd cc
-numbers_end (p ∷ ps) (q ∷ all) l n rest lengths e =
-    let sets : p.set ≡ q.set = cc in
-    let numbers : p.number ≡ q.number = cc in
-    let tails : number_tokens ps ++ (SubfileBegun l ∷ rest) ≡ number_tokens all ++ (map SubfileBegun lengths ++ ending n) = cc in
-    let more = numbers_end ps all l n rest lengths tails in
-    ((λ i. record { set = sets i; number = numbers i } ∷ more.0 i), more.1)
+-- Tokens that begin others are theirs, and what comes after them begins the rest.
+front_of : {X : Type 0} (f : X → ObjectToken) (tail : List ObjectToken) → ((x y : X) → f x ≡ f y → x ≡ y) → ((x : X) (ts : List ObjectToken) → f x ∷ ts ≡ tail → ⊥) → (xs ys : List X) (rest : List ObjectToken)
+    → map f xs ++ rest ≡ map f ys ++ tail → (more : List X) × (ys ≡ xs ++ more) × (rest ≡ map f more ++ tail)
+front_of f tail one out [] ys rest e = (ys, refl, e)
+front_of f tail one out (x ∷ xs) [] rest e = absurd (out x (map f xs ++ rest) e)
+front_of f tail one out (x ∷ xs) (y ∷ ys) rest e =
+    let first : y ≡ x = one y x (cc) in
+    let more = front_of f tail one out xs ys rest (cc) in
+    (more.0, cc, more.2)
 
-pub subfiles_front : (ls lengths : List ℕ) (n : ℕ) (rest : List ObjectToken) → map SubfileBegun ls ++ rest ≡ map SubfileBegun lengths ++ ending n → (more : List ℕ) × (lengths ≡ ls ++ more)
-subfiles_front [] lengths n rest e = (lengths, refl)
-subfiles_front (l ∷ ls) [] n rest e = absurd cc
-subfiles_front (l ∷ ls) (k ∷ lengths) n rest e =
-    let same : k ≡ l = cc in
-    let tails : map SubfileBegun ls ++ rest ≡ map SubfileBegun lengths ++ ending n = cc in
-    let more = subfiles_front ls lengths n rest tails in
-    (more.0, (λ i. same i ∷ more.1 i))
+pub numbers_front : (ps all : List Stated) (rest : List ObjectToken) (lengths : List ℕ) (n : ℕ) → number_tokens ps ++ rest ≡ number_tokens all ++ (map SubfileBegun lengths ++ end_with n)
+    → (more : List Stated) × (all ≡ ps ++ more) × (rest ≡ number_tokens more ++ (map SubfileBegun lengths ++ end_with n))
+numbers_front ps all rest lengths n e = front_of (λ (p : Stated). NumberRead p.set p.number) (map SubfileBegun lengths ++ end_with n) one (λ p ts. no_number p ts lengths) ps all rest e
+  where
+    one : (p q : Stated) → NumberRead p.set p.number ≡ NumberRead q.set q.number → p ≡ q
+    one p q e = grind arith
 
-pub subfiles_end : (ls lengths : List ℕ) (n : ℕ) (rest : List ObjectToken) → map SubfileBegun ls ++ (ObjectEnded ∷ rest) ≡ map SubfileBegun lengths ++ ending n
-    → (lengths ≡ ls) × (rest ≡ Confirmed n ∷ [])
-subfiles_end [] [] n rest e = (refl, cc)
-subfiles_end [] (k ∷ lengths) n rest e = absurd cc
-subfiles_end (l ∷ ls) [] n rest e = absurd cc
-subfiles_end (l ∷ ls) (k ∷ lengths) n rest e =
-    let same : k ≡ l = cc in
-    let tails : map SubfileBegun ls ++ (ObjectEnded ∷ rest) ≡ map SubfileBegun lengths ++ ending n = cc in
-    let more = subfiles_end ls lengths n rest tails in
-    ((λ i. same i ∷ more.0 i), more.1)
+    no_number : (p : Stated) (ts : List ObjectToken) (lengths : List ℕ) → NumberRead p.set p.number ∷ ts ≡ map SubfileBegun lengths ++ end_with n → ⊥
+    no_number p ts [] e = cc
+    no_number p ts (l ∷ lengths) e = cc
 
--- the parts of an object whose tokens begin so
-pub record Begins (ps : List Stated) (lengths : List ℕ) (rest : List ObjectToken) : Type 0 where
-  pub all : List ℕ
-  pub confirmed : ℕ
-  pub known : Bool
-  pub subfile : ℕ
-  pub mode : number_at 10 ps ≡ Some (mode_number known)
-  pub largest : number_at 20 ps ≡ Some subfile
-  pub agree : Agree (sizes_at known subfile ps all) all confirmed
-  pub tokens_are : map SubfileBegun lengths ++ rest ≡ map SubfileBegun all ++ ending confirmed
+-- the parts of an object whose tokens begin with numbers and subfiles
+pub parts_of : (ps : List Stated) (lengths : List ℕ) (rest : List ObjectToken) → 0 < length lengths → (o : ObjectLanguage (number_tokens ps ++ (map SubfileBegun lengths ++ rest)))
+    → (o.stated ≡ ps) × ((more : List ℕ) × (o.lengths ≡ lengths ++ more) × (rest ≡ map SubfileBegun more ++ end_with o.confirmed))
+parts_of ps [] rest some o = absurd (omega arith)
+parts_of ps (l ∷ lengths) rest some o = let (more, all, tokens) = numbers_front ps o.stated (map SubfileBegun (l ∷ lengths) ++ rest) o.lengths o.confirmed o.tokens_are in by_more more all tokens
+  where
+    by_more : (more : List Stated) → o.stated ≡ ps ++ more → map SubfileBegun (l ∷ lengths) ++ rest ≡ number_tokens more ++ (map SubfileBegun o.lengths ++ end_with o.confirmed)
+        → (o.stated ≡ ps) × ((more : List ℕ) × (o.lengths ≡ (l ∷ lengths) ++ more) × (rest ≡ map SubfileBegun more ++ end_with o.confirmed))
+    by_more [] all tokens = (all ∙ append-nil ps, front_of SubfileBegun (end_with o.confirmed) (λ x y e. cc) (λ x ts e. cc) (l ∷ lengths) o.lengths rest tokens)
+    by_more (p ∷ more) all tokens = absurd cc
 
-begins : (ps : List Stated) (l : ℕ) (lengths : List ℕ) (rest : List ObjectToken) → ObjectLanguage (number_tokens ps ++ (map SubfileBegun (l ∷ lengths) ++ rest)) → Begins ps (l ∷ lengths) rest
-begins ps l lengths rest o =
-    let parts = numbers_end ps o.stated l o.confirmed (map SubfileBegun lengths ++ rest) o.lengths o.tokens_are in
-    let same = sym parts.0 in
-    record {
-      all = o.lengths;
-      confirmed = o.confirmed;
-      known = o.known;
-      subfile = o.subfile;
-      mode = subst (λ (qs : List Stated). number_at 10 qs ≡ Some (mode_number o.known)) same o.mode;
-      largest = subst (λ (qs : List Stated). number_at 20 qs ≡ Some o.subfile) same o.largest;
-      agree = subst (λ (qs : List Stated). Agree (sizes_at o.known o.subfile qs o.lengths) o.lengths o.confirmed) same o.agree;
-      tokens_are = parts.1;
-    }
+-- and of one that ends with them
+pub ended_parts : (ps : List Stated) (lengths : List ℕ) (rest : List ObjectToken) → 0 < length lengths → (o : ObjectLanguage (number_tokens ps ++ (map SubfileBegun lengths ++ ObjectEnded ∷ rest)))
+    → (o.stated ≡ ps) × ((o.lengths ≡ lengths) × (rest ≡ Confirmed o.confirmed ∷ []))
+ended_parts ps lengths rest some o = let (stated, (more, all, tokens)) = parts_of ps lengths (ObjectEnded ∷ rest) some o in (stated, by_more more all tokens)
+  where
+    by_more : (more : List ℕ) → o.lengths ≡ lengths ++ more → ObjectEnded ∷ rest ≡ map SubfileBegun more ++ end_with o.confirmed → (o.lengths ≡ lengths) × (rest ≡ Confirmed o.confirmed ∷ [])
+    by_more [] all tokens = (all ∙ append-nil lengths, cc)
+    by_more (l ∷ more) all tokens = absurd cc
 
-mode_is : (a b : Bool) → Some (mode_number a) ≡ Some (mode_number b) → a ≡ b
-mode_is true true e = refl
-mode_is true false e = absurd cc
-mode_is false true e = absurd cc
-mode_is false false e = refl
+-- numbers whose sizes agree don't clash, and those before them don't either
+no_clash : (ps more all : List Stated) (known : Bool) (subfile n : ℕ) (lengths : List ℕ) → all ≡ ps ++ more → number_at 10 all ≡ Some (mode_number known) → Agree (sizes_at known subfile all lengths) lengths n → NoClash ps
+no_clash ps more all known subfile n lengths parts mode agree = grind (arith, at-append)
 
 -- a front of lengths that agree fits
-front_fits : (known : Bool) (subfile : ℕ) (ps : List Stated) (lengths more : List ℕ) (rest : List ObjectToken) → HasDuties known subfile ps → (b : Begins ps lengths rest) → b.all ≡ lengths ++ more → Fit known subfile ps lengths
-front_fits known subfile ps lengths more rest d b e =
-    let same : b.known ≡ known = mode_is b.known known (sym b.mode ∙ d.mode) in
-    let largest : b.subfile ≡ subfile = same_Some b.subfile subfile (sym b.largest ∙ d.largest) in
-    let total : sum b.all ≡ sum lengths + sum more = ap sum e ∙ sum_append lengths more in
-    let each : AllByRecursion (λ n. n ≤ subfile) (lengths ++ more) =
-    subst (λ (xs : List ℕ). AllByRecursion (λ n. n ≤ subfile) xs) e (subst (λ (k : ℕ). AllByRecursion (λ n. n ≤ k) b.all) largest b.agree.each_subfile) in
-    record {
-      clash = record { mode = λ z. no_size z (number_at 90 ps) refl; sizes = λ a m x y. subst (λ (o : Option ℕ). IfSome o (λ k. a ≤ k)) y (subst (λ (o : Option ℕ). IfSome o (λ k. IfSome (number_at 95 ps) (λ j. k ≤ j))) x b.agree.announced_fits) };
-      by_mode = b.agree.by_mode ∙ same;
-      each = all_front (λ (n : ℕ). n ≤ subfile) lengths more each;
-      total = omega (arith, total, b.agree.total_fits);
-      announced = less (number_at 90 ps) total b.agree.as_announced;
-      maximum = under (number_at 95 ps) total b.agree.within_maximum;
-    }
-  where
-    no_size : number_at 10 ps ≡ Some 0 → (o : Option ℕ) → number_at 90 ps ≡ o → number_at 90 ps ≡ None
-    no_size z None f = f
-    no_size z (Some a) f =
-        let yes_known : true ≡ b.known = sym (ap (λ (o : Option ℕ). is_some o) f) ∙ b.agree.by_mode in
-        let one : number_at 10 ps ≡ Some 1 = b.mode ∙ ap (λ (t : Bool). Some (mode_number t)) (sym yes_known) in
-        let clash : ◌≡◌ {A = Option ℕ} (Some 0) (Some 1) = sym z ∙ one in absurd cc
+fits_so : (known k : Bool) (subfile j n : ℕ) (ps : List Stated) (lengths more all : List ℕ) → HasDuties known subfile ps → number_at 10 ps ≡ Some (mode_number k) → number_at 20 ps ≡ Some j
+    → Agree (sizes_at k j ps all) all n → all ≡ lengths ++ more → Fit known subfile ps lengths
+fits_so known k subfile j n ps lengths more all d mode largest agree parts =
+    let clash = no_clash ps [] ps k j n all (sym (append-nil ps)) mode agree in
+    let same : j ≡ subfile = cc in
+    let each = all_front (λ (n : ℕ). n ≤ subfile) lengths more (rw (same, parts) at agree.each_subfile) in
+    let total : sum all ≡ sum lengths + sum more = rw parts (sum_append lengths more) in
+    grind arith
 
-    less : (o : Option ℕ) → sum b.all ≡ sum lengths + sum more → IfSome o (λ a. sum b.all ≡ a) → IfSome o (λ a. sum lengths ≤ a)
-    less None t h = tt
-    less (Some a) t h = omega arith
+ends_so : (k : Bool) (j n : ℕ) (ps : List Stated) (lengths more all : List ℕ) (rest : List ObjectToken) (ending : Ending) → Agree (sizes_at k j ps all) all n → all ≡ lengths ++ more
+    → ending_tokens ending ++ rest ≡ map SubfileBegun more ++ end_with n → Ends ending ps lengths
+ends_so k j n ps lengths more all rest NotEnded agree parts tokens = tt
+ends_so k j n ps lengths (l ∷ more) all rest ending agree parts tokens = absurd cc
+ends_so k j n ps lengths [] all rest Ended agree parts tokens = rw (parts, append-nil) at agree.as_announced
+ends_so k j n ps lengths [] all rest (ConfirmedAs m) agree parts tokens = (rw (parts, append-nil) at agree.as_announced, let same : m ≡ n = cc in same ∙ (rw (parts, append-nil) at agree.as_confirmed))
 
-    under : (o : Option ℕ) → sum b.all ≡ sum lengths + sum more → IfSome o (λ m. sum b.all ≤ m) → IfSome o (λ m. sum lengths ≤ m)
-    under None t h = tt
-    under (Some m) t h = omega arith
-
-subfiles_live : (known : Bool) (subfile : ℕ) (ps : List Stated) (lengths : List ℕ) → HasDuties known subfile ps → 0 < length lengths
-    → IsAlive ObjectLanguage (number_tokens ps ++ map SubfileBegun lengths) → Fit known subfile ps lengths
-subfiles_live known subfile ps [] d some alive = absurd (omega arith)
-subfiles_live known subfile ps (l ∷ lengths) d some alive =
-    let b = begins ps l lengths alive.0 (subst ObjectLanguage (append_assoc (number_tokens ps) (map SubfileBegun (l ∷ lengths)) alive.0) alive.1) in
-    let front = subfiles_front (l ∷ lengths) b.all b.confirmed alive.0 b.tokens_are in
-    front_fits known subfile ps (l ∷ lengths) front.0 alive.0 d b front.1
-
-pub subfiles_law : SubfilesLiveWhileTheyFit
-subfiles_law known subfile ps lengths d some = (subfiles_live known subfile ps lengths d some, subfiles_alive known subfile ps lengths d some)
-
--- ---- the end
-
--- what an object that ends here, with these tokens after it, has
-ended : (known : Bool) (subfile : ℕ) (ps : List Stated) (lengths : List ℕ) (rest : List ObjectToken) → HasDuties known subfile ps → 0 < length lengths
-    → ObjectLanguage (number_tokens ps ++ (map SubfileBegun lengths ++ (ObjectEnded ∷ rest)))
-    → Fit known subfile ps lengths × (MeetsAnnounced ps lengths × (rest ≡ Confirmed (sum lengths) ∷ []))
-ended known subfile ps [] rest d some o = absurd (omega arith)
-ended known subfile ps (l ∷ lengths) rest d some o =
-    let b = begins ps l lengths (ObjectEnded ∷ rest) o in
-    let end = subfiles_end (l ∷ lengths) b.all b.confirmed rest b.tokens_are in
-    let total : sum b.all ≡ sum (l ∷ lengths) = ap sum end.0 in (
-      front_fits known subfile ps (l ∷ lengths) [] (ObjectEnded ∷ rest) d b (end.0 ∙ sym (append-nil (l ∷ lengths))),
-      (
-        subst (λ (n : ℕ). IfSome (number_at 90 ps) (λ a. n ≡ a)) total b.agree.as_announced,
-        end.1 ∙ ap (λ (n : ℕ). Confirmed n ∷ []) (b.agree.as_confirmed ∙ total),
-      ),
+-- What lives fits, and is as whole as its ending says.
+pub lives_by : (known : Bool) (subfile : ℕ) (ps : List Stated) (lengths : List ℕ) (ending : Ending) → HasDuties known subfile ps → 0 < length lengths
+    → IsAlive ObjectLanguage (number_tokens ps ++ (map SubfileBegun lengths ++ ending_tokens ending)) → Fit known subfile ps lengths × Ends ending ps lengths
+lives_by known subfile ps lengths ending d some (rest, all) =
+    let o = (simp append_assoc at all) in
+    let (stated, (more, parts, tokens)) = parts_of ps lengths (ending_tokens ending ++ rest) some o in
+    let agree = (rw stated at o.agree) in (
+      fits_so known o.known subfile o.subfile o.confirmed ps lengths more o.lengths d (rw stated at o.mode) (rw stated at o.largest) agree parts,
+      ends_so o.known o.subfile o.confirmed ps lengths more o.lengths rest ending agree parts tokens,
     )
 
-end_parts : (ps : List Stated) (lengths : List ℕ) (xs rest : List ObjectToken) → (number_tokens ps ++ (map SubfileBegun lengths ++ xs)) ++ rest ≡ number_tokens ps ++ (map SubfileBegun lengths ++ (xs ++ rest))
-end_parts ps lengths xs rest = append_assoc (number_tokens ps) (map SubfileBegun lengths ++ xs) rest ∙ ap (λ (t : List ObjectToken). number_tokens ps ++ t) (append_assoc (map SubfileBegun lengths) xs rest)
+-- ---- the laws
+
+pub numbers_law : NumbersLiveWithoutClash
+numbers_law ps stated = (
+  λ (rest, o).
+      let (more, parts, tokens) = numbers_front ps o.stated rest o.lengths o.confirmed o.tokens_are in
+      no_clash ps more o.stated o.known o.subfile o.confirmed o.lengths parts o.mode o.agree,
+  λ clash. let alive = numbers_alive_within greatest_size (omega arith) ps (rows_low ps stated.each) stated clash in (alive.0, alive.1.0),
+)
+
+-- the object layer lives with subfiles and an ending just where they fit and are whole
+pub ending_law : (known : Bool) (subfile : ℕ) (ps : List Stated) (lengths : List ℕ) (ending : Ending) → HasDuties known subfile ps → 0 < length lengths
+    → IsAlive ObjectLanguage (number_tokens ps ++ (map SubfileBegun lengths ++ ending_tokens ending)) ↔ (Fit known subfile ps lengths × Ends ending ps lengths)
+ending_law known subfile ps lengths ending d some = (
+  lives_by known subfile ps lengths ending d some,
+  λ (fit, ends). let alive = alive_within greatest_size known subfile ps lengths ending (rows_low ps d.stated.each) fit.total d some fit ends in (alive.0, alive.1.0),
+)
+
+pub subfiles_law : SubfilesLiveWhileTheyFit
+subfiles_law known subfile ps lengths d some = let law = ending_law known subfile ps lengths NotEnded d some in (λ alive. (law.0 (rw append-nil alive)).0, λ fit. rw append-nil at (law.1 (fit, tt)))
 
 pub ends_law : ObjectsEndWhereTheyAreWhole
-ends_law known subfile ps lengths d some = (
-  (λ alive.
-      let e = ended known subfile ps lengths alive.0 d some (subst ObjectLanguage (end_parts ps lengths (ObjectEnded ∷ []) alive.0) alive.1) in (e.0, e.1.0)),
-  (λ h. (Confirmed (sum lengths) ∷ [], subst ObjectLanguage (sym (end_parts ps lengths (ObjectEnded ∷ []) (Confirmed (sum lengths) ∷ []))) (whole_object known subfile ps lengths d some h.0 h.1))),
-)
-
-pub confirmed_is : (n m : ℕ) (rest : List ObjectToken) → ◌≡◌ {A = List ObjectToken} (Confirmed n ∷ rest) (Confirmed m ∷ []) → n ≡ m
-confirmed_is n m rest e = cc
+ends_law known subfile ps lengths d some = ending_law known subfile ps lengths Ended d some
 
 pub confirmed_law : TotalsAreConfirmed
-confirmed_law known subfile ps lengths n d some = (
-  (λ alive.
-      let e = ended known subfile ps lengths (Confirmed n ∷ alive.0) d some (subst ObjectLanguage (end_parts ps lengths (ObjectEnded ∷ Confirmed n ∷ []) alive.0) alive.1) in
-      (e.0, e.1.0, confirmed_is n (sum lengths) alive.0 e.1.1)),
-  (λ h. (
-    [],
-    subst ObjectLanguage (sym (append-nil (number_tokens ps ++ (map SubfileBegun lengths ++ (ObjectEnded ∷ Confirmed n ∷ [])))))
-        (subst (λ (k : ℕ). ObjectLanguage (number_tokens ps ++ (map SubfileBegun lengths ++ (ObjectEnded ∷ Confirmed k ∷ [])))) (sym h.2) (whole_object known subfile ps lengths d some h.0 h.1)),
-  )),
-)
-
--- ---- by smaller sizes
-
-pub ends_within : (most : ℕ) (known : Bool) (subfile : ℕ) (ps : List Stated) (lengths : List ℕ) → AreLow most ps → sum lengths ≤ most → HasDuties known subfile ps → 0 < length lengths → Fit known subfile ps lengths
-    → MeetsAnnounced ps lengths → IsAlive (LanguageWithin most) (number_tokens ps ++ (map SubfileBegun lengths ++ ObjectEnded ∷ []))
-ends_within most known subfile ps lengths low le d some fit whole =
-    (Confirmed (sum lengths) ∷ [], subst (LanguageWithin most) (sym (end_parts ps lengths (ObjectEnded ∷ []) (Confirmed (sum lengths) ∷ []))) (whole_object_within most known subfile ps lengths d some fit whole low le))
-
-pub confirmed_within : (most : ℕ) (known : Bool) (subfile : ℕ) (ps : List Stated) (lengths : List ℕ) (n : ℕ) → AreLow most ps → sum lengths ≤ most → HasDuties known subfile ps → 0 < length lengths → Fit known subfile ps lengths
-    → MeetsAnnounced ps lengths → n ≡ sum lengths → IsAlive (LanguageWithin most) (number_tokens ps ++ (map SubfileBegun lengths ++ (ObjectEnded ∷ Confirmed n ∷ [])))
-confirmed_within most known subfile ps lengths n low le d some fit whole is = (
-  [],
-  subst (LanguageWithin most) (sym (append-nil (number_tokens ps ++ (map SubfileBegun lengths ++ (ObjectEnded ∷ Confirmed n ∷ [])))))
-      (subst (λ (k : ℕ). LanguageWithin most (number_tokens ps ++ (map SubfileBegun lengths ++ (ObjectEnded ∷ Confirmed k ∷ [])))) (sym is) (whole_object_within most known subfile ps lengths d some fit whole low le)),
-)
+confirmed_law known subfile ps lengths n d some = let law = ending_law known subfile ps lengths (ConfirmedAs n) d some in (λ alive. let e = law.0 alive in (e.0, e.1.0, e.1.1), λ h. law.1 (h.0, (h.1, h.2)))
 
 -- ---- the sizes
+
+mode_is : (a b : Bool) → Some (mode_number a) ≡ Some (mode_number b) → a ≡ b
+mode_is a b e = grind arith
 
 pub sizes_law : SizesAreDetermined
 sizes_law r7 r8 r9 s t a b =
     let known : s.known ≡ t.known = mode_is s.known t.known (sym a.mode ∙ b.mode) in
-    let subfile : s.subfile ≡ t.subfile = same_Some s.subfile t.subfile (sym a.largest ∙ b.largest) in
+    let subfile : s.subfile ≡ t.subfile = cc (a.largest, b.largest) in
     λ i. record {
       known = known i;
       subfile = subfile i;

@@ -11,6 +11,7 @@ pub fn object_laws()
 {}
 
 /// Wherever a reader stands after whole records, it has their sizes.
+#[tactic(auto, using(crate::proofs::Stands::tell_sizes))]
 pub fn readers_tell_sizes()
     ensures { ReadersTellSizes }
 {}

@@ -11,7 +11,8 @@ use Rattle.iim_object.proofs.Alike.{alike_law}
 use Rattle.iim_object.proofs.Within.{live_within}
 use Rattle.iim_object.proofs.PackedSizes.{have_sizes}
 use Rattle.iim_object.proofs.Bounds.{bounds_leave_room}
-use Rattle.iim_object.proofs.GoodRecords.{numbers_good, records_good}
+use Rattle.iim_object.proofs.Members.{numbers_good}
+use Rattle.iim_object.proofs.GoodRecords.{records_good}
 use Rattle.iim_object.proofs.laws.object_laws.Goals as goal
 
 pub returns : goal.returns

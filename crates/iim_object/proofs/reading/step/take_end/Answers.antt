@@ -1,13 +1,13 @@
-use Rattle.std.proofs.Common.{Some, sym, ◌∙◌}
+use Rattle.std.proofs.Common.{Some}
 use Rattle.iim_object.specs.Format.Objects.{ObjectEnded}
-use Rattle.iim_object.proofs.Steps.{end_leads_on, end_refused, lives_with}
+use Rattle.iim_object.proofs.Steps.{leads_on, refused, lives_with}
 use Rattle.iim_object.proofs.reading.step.take_end.Goals as goal
 
 pub returns-in-Some-clause-refused : goal.returns-in-Some-clause-refused
-returns-in-Some-clause-refused c = end_refused c.args.state c.in-Some.cause (sym c.end_cause.ensures ∙ c.in-Some.is)
+returns-in-Some-clause-refused c = refused c.args.state ObjectEnded c.in-Some.cause (cc)
 
 pub returns-in-None-clause-leads_on : goal.returns-in-None-clause-leads_on
-returns-in-None-clause-leads_on c = end_leads_on c.args.state (sym c.end_cause.ensures ∙ c.in-None.is)
+returns-in-None-clause-leads_on c = leads_on c.args.state ObjectEnded (cc)
 
 pub returns-in-None-clause-lives : goal.returns-in-None-clause-lives
-returns-in-None-clause-lives c = lives_with (Some c.args.state) (Some c.args.state) ObjectEnded (end_leads_on c.args.state (sym c.end_cause.ensures ∙ c.in-None.is))
+returns-in-None-clause-lives c = lives_with (Some c.args.state) (Some c.args.state) ObjectEnded (leads_on c.args.state ObjectEnded (cc))

@@ -1,7 +1,6 @@
-use Rattle.std.proofs.Common.{ℕ, true, List, ◌++◌, subst, refl, sym, ◌∙◌, arith, length-append}
+use Rattle.std.proofs.Common.{true, ◌++◌, refl, sym, ◌∙◌, arith, length-append}
 use Rattle.iim_dataset.specs.Format.Datasets.{canonical_dataset}
 use Rattle.iim_object.specs.Format.Packing.{number_dataset, subfile_dataset}
-use Rattle.iim_object.specs.Outputs.{Puts, Cuts}
 use Rattle.iim_object.specs.States.Writing.{total_of, finish_cause}
 use Rattle.iim_object.specs.Cutting.{writing_of}
 use Rattle.iim_object.proofs.Outputs.{puts_more, cuts_later, cuts_more}
@@ -13,51 +12,48 @@ use Rattle.iim_object.proofs.writing.cutter.Cutter.finish.Goals as goal
 
 pub returns-in-Err-clause-broke : goal.returns-in-Err-clause-broke
 returns-in-Err-clause-broke g c =
-    let state = g.W.Target.state in
     let old = c.args.self.now in
-    let text : List ℕ = canonical_dataset (subfile_dataset old.held.items) in
-    let last : List ℕ = canonical_dataset (number_dataset 9 10 (total_of (writing_of old))) in
-    let first : Cuts state old.output c.put_dataset.new.self text = subst (λ (xs : List ℕ). Cuts state old.output c.put_dataset.new.self (canonical_dataset (subfile_dataset xs))) c.as_slice.ensures c.in-Err.ensures.err in
-    if_none (finish_cause (writing_of old)) _ (unfinished state old (record old { output = c.put_dataset.new.self; failed = true }) c.objects_are_cut_one_way.ensures refl refl (cuts_more state old.output c.put_dataset.new.self text last first))
+    let text = canonical_dataset (subfile_dataset old.held.items) in
+    let last = canonical_dataset (number_dataset 9 10 (total_of (writing_of old))) in
+    let first = (rw c.as_slice.ensures at c.in-Err.ensures.err) in
+    if_none (finish_cause (writing_of old)) _
+    (unfinished g.W.Target.state old (record old { output = c.put_dataset.new.self; failed = true }) c.objects_are_cut_one_way.ensures refl refl (cuts_more g.W.Target.state old.output c.put_dataset.new.self text last first))
 
 pub returns-in-Ok-put_number-clause-ok : goal.returns-in-Ok-put_number-clause-ok
 returns-in-Ok-put_number-clause-ok g c =
-    let state = g.W.Target.state in
     let old = c.args.self.now in
-    let text : List ℕ = canonical_dataset (subfile_dataset old.held.items) in
-    let last : List ℕ = canonical_dataset (number_dataset 9 10 (total_of (writing_of old))) in
-    let first : Puts state old.output c.put_dataset.new.self text = subst (λ (xs : List ℕ). Puts state old.output c.put_dataset.new.self (canonical_dataset (subfile_dataset xs))) c.as_slice.ensures c.in-Ok.ensures.ok in
-    let second : Puts state c.put_dataset.new.self c.put_number.new.self last = subst (λ (n : ℕ). Puts state c.put_dataset.new.self c.put_number.new.self (canonical_dataset (number_dataset 9 10 n))) c.total-total.ensures c.in-Ok-put_number.ensures.ok in
-    finished state old c.put_number.new.self (puts_more state old.output c.put_dataset.new.self c.put_number.new.self text last c.texts_join.ensures first second)
+    let text = canonical_dataset (subfile_dataset old.held.items) in
+    let last = canonical_dataset (number_dataset 9 10 (total_of (writing_of old))) in
+    let first = (rw c.as_slice.ensures at c.in-Ok.ensures.ok) in
+    let second = (rw c.total-total.ensures at c.in-Ok-put_number.ensures.ok) in
+    finished g.W.Target.state old c.put_number.new.self (puts_more g.W.Target.state old.output c.put_dataset.new.self c.put_number.new.self text last c.texts_join.ensures first second)
 
 pub returns-in-Err-put_number-clause-broke : goal.returns-in-Err-put_number-clause-broke
 returns-in-Err-put_number-clause-broke g c =
-    let state = g.W.Target.state in
     let old = c.args.self.now in
-    let text : List ℕ = canonical_dataset (subfile_dataset old.held.items) in
-    let last : List ℕ = canonical_dataset (number_dataset 9 10 (total_of (writing_of old))) in
-    let first : Puts state old.output c.put_dataset.new.self text = subst (λ (xs : List ℕ). Puts state old.output c.put_dataset.new.self (canonical_dataset (subfile_dataset xs))) c.as_slice.ensures c.in-Ok.ensures.ok in
-    let second : Cuts state c.put_dataset.new.self c.put_number.new.self last = subst (λ (n : ℕ). Cuts state c.put_dataset.new.self c.put_number.new.self (canonical_dataset (number_dataset 9 10 n))) c.total-total.ensures c.in-Err-put_number.ensures.err in
+    let text = canonical_dataset (subfile_dataset old.held.items) in
+    let last = canonical_dataset (number_dataset 9 10 (total_of (writing_of old))) in
+    let first = (rw c.as_slice.ensures at c.in-Ok.ensures.ok) in
+    let second = (rw c.total-total.ensures at c.in-Err-put_number.ensures.err) in
     if_none (finish_cause (writing_of old)) _
-    (unfinished state old (record old { output = c.put_number.new.self; failed = true }) c.objects_are_cut_one_way.ensures refl refl (cuts_later state old.output c.put_dataset.new.self c.put_number.new.self text last c.texts_join.ensures first second))
+    (unfinished g.W.Target.state old (record old { output = c.put_number.new.self; failed = true }) c.objects_are_cut_one_way.ensures refl refl (cuts_later g.W.Target.state old.output c.put_dataset.new.self c.put_number.new.self text last c.texts_join.ensures first second))
 
 pub returns-in-Err-clause-room : goal.returns-in-Err-clause-room
 returns-in-Err-clause-room g c =
-    let state = g.W.Target.state in
     let old = c.args.self.now in
-    let text : List ℕ = canonical_dataset (subfile_dataset old.held.items) in
-    let cut : Cuts state old.output c.put_dataset.new.self text = subst (λ (xs : List ℕ). Cuts state old.output c.put_dataset.new.self (canonical_dataset (subfile_dataset xs))) c.as_slice.ensures c.in-Err.ensures.err in
-    room_halted state old (record old { output = c.put_dataset.new.self; failed = true }) text c.requires (may_finish (writing_of old) (sym c.finish_cause.ensures ∙ c.in_default.is))
-    (record { cut = cut; plan = refl; held = refl; sent = refl; failed = refl }) (omega (arith, dataset_length (subfile_dataset old.held.items)))
+    let cut = (rw c.as_slice.ensures at c.in-Err.ensures.err) in
+    room_halted g.W.Target.state old (record old { output = c.put_dataset.new.self; failed = true }) (canonical_dataset (subfile_dataset old.held.items)) c.requires
+    (may_finish (writing_of old) (sym c.finish_cause.ensures ∙ c.in_default.is)) (record { cut = cut; plan = refl; held = refl; sent = refl; failed = refl })
+    (omega (arith, dataset_length (subfile_dataset old.held.items)))
 
 pub returns-in-Err-put_number-clause-room : goal.returns-in-Err-put_number-clause-room
 returns-in-Err-put_number-clause-room g c =
-    let state = g.W.Target.state in
     let old = c.args.self.now in
-    let text : List ℕ = canonical_dataset (subfile_dataset old.held.items) in
-    let last : List ℕ = canonical_dataset (number_dataset 9 10 (total_of (writing_of old))) in
-    let first : Puts state old.output c.put_dataset.new.self text = subst (λ (xs : List ℕ). Puts state old.output c.put_dataset.new.self (canonical_dataset (subfile_dataset xs))) c.as_slice.ensures c.in-Ok.ensures.ok in
-    let second : Cuts state c.put_dataset.new.self c.put_number.new.self last = subst (λ (n : ℕ). Cuts state c.put_dataset.new.self c.put_number.new.self (canonical_dataset (number_dataset 9 10 n))) c.total-total.ensures c.in-Err-put_number.ensures.err in
-    room_halted state old (record old { output = c.put_number.new.self; failed = true }) (text ++ last) c.requires (may_finish (writing_of old) (sym c.finish_cause.ensures ∙ c.in_default.is))
-    (record { cut = cuts_later state old.output c.put_dataset.new.self c.put_number.new.self text last c.texts_join.ensures first second; plan = refl; held = refl; sent = refl; failed = refl })
+    let text = canonical_dataset (subfile_dataset old.held.items) in
+    let last = canonical_dataset (number_dataset 9 10 (total_of (writing_of old))) in
+    let first = (rw c.as_slice.ensures at c.in-Ok.ensures.ok) in
+    let second = (rw c.total-total.ensures at c.in-Err-put_number.ensures.err) in
+    room_halted g.W.Target.state old (record old { output = c.put_number.new.self; failed = true }) (text ++ last) c.requires
+    (may_finish (writing_of old) (sym c.finish_cause.ensures ∙ c.in_default.is))
+    (record { cut = cuts_later g.W.Target.state old.output c.put_dataset.new.self c.put_number.new.self text last c.texts_join.ensures first second; plan = refl; held = refl; sent = refl; failed = refl })
     (omega (arith, dataset_length (subfile_dataset old.held.items), number_length 9 10 (total_of (writing_of old)), length-append text last))

@@ -1,9 +1,7 @@
-use Rattle.std.proofs.Common.{◌≡◌, ℕ, [], refl, sym, ap, subst, ◌∙◌, arith, append-nil, length}
+use Rattle.std.proofs.Common.{◌≡◌, [], refl, sym, ap, ◌∙◌, arith, append-nil, length}
 use Rattle.iim_dataset.specs.Format.Datasets.{canonical_stream}
-use Rattle.iim_dataset.specs.States.Devices.{Stopped}
 use Rattle.iim_object.specs.Format.Packing.{plan_datasets}
 use Rattle.iim_object.specs.States.Writing.{plan_octets, octets_out}
-use Rattle.iim_object.specs.Outputs.{Cuts}
 use Rattle.iim_object.specs.declared.plan.Plan.{Plan}
 use Rattle.iim_object.proofs.PlanLengths.{plan_length}
 use Rattle.iim_object.proofs.writing.writer.SubfileWriter.start.Goals as goal
@@ -47,8 +45,6 @@ returns-in-Ok-clause-stands g c =
 
 pub returns-in-Err-clause-stopped : goal.returns-in-Err-clause-stopped
 returns-in-Err-clause-stopped g c =
-    let state = g.W.Target.state in
-    let q : Cuts state (record { writer = c.args.writer; written = 0 }) c.put_plan.new.self (plan_octets c.args.buffer) =
-    subst (λ (p : Plan). Cuts state (record { writer = c.args.writer; written = 0 }) c.put_plan.new.self (plan_octets p)) c.buffer.view_is c.in-Err.ensures.err in
+    let q = (rw c.buffer.view_is at c.in-Err.ensures.err) in
     let count : q.out ≡ c.put_plan.new.self.written = omega (arith, q.counted) in
-    subst (λ (n : ℕ). Stopped (state c.args.writer) (state c.put_plan.new.self.writer) (plan_octets c.args.buffer) n) count q.stopped
+    rw count at q.stopped
