@@ -1,37 +1,15 @@
 -- Where a check of records stands, token by token.
-use Rattle.std.proofs.Common.{◌≡◌, ◌≢◌, ℕ, zero, suc, ◌<◌, ◌≤◌, Bool, true, false, ◌||◌, nat_eq, nat_le, List, [], ◌∷◌, ◌++◌, length, replicate, get_or, refl, ap, sym, ◌∙◌, inl, inr, arith, subst, length-set, Option, Some, None}
-use Rattle.std.specs.List.{list_any}
-use Rattle.std.specs.Option.{option_or}
-use Rattle.std.proofs.lemmas.List.Folds.{list_any-append}
-use Rattle.std.proofs.lemmas.Bool.{leb-true, and_parts, and_from, eq-eqb}
-use Rattle.std.proofs.lemmas.Bool.Decides.{eqb_tells}
-use Rattle.std.proofs.lemmas.Option.{same_Some}
-use Rattle.iim_dataset.specs.Format.Octets.{Octets, within}
-use Rattle.iim_dataset.specs.Format.Datasets.{Dataset, head_of, of_record}
-use Rattle.iim_dataset.specs.declared.head.Head.{Head}
-use Rattle.iim_dataset.proofs.OctetLists.{are_octets}
-use Rattle.iim_tables.specs.Format.Rows.{row_of, is_admitted}
-use Rattle.iim_tables.specs.declared.shape.Row.{Row}
-use Rattle.iim_tables.specs.Format.Kinds.{has_kind}
+use Rattle.std.proofs.Common.{set, ◌≡◌, ◌≢◌, ℕ, zero, suc, ◌<◌, ◌≤◌, Bool, true, false, ◌||◌, nat_eq, List, [], ◌∷◌, ◌++◌, length, replicate, get_or, refl, ap, sym, ◌∙◌, inl, inr, arith, subst, length-set, Option, Some, None}
 use Rattle.iim_tables.specs.declared.shape.Kind.{Kind}
-use Rattle.iim_fields.specs.Format.Records.{records, after}
-use Rattle.iim_tables.specs.Format.Records.{occurs}
-use Rattle.iim_fields.specs.Format.Alive.{SectionsLive, SectionsLiveAt}
-use Rattle.iim_fields.specs.Format.Faults.{head_fault, record_fault, value_fault, limits_fault, section_after, section_run}
-use Rattle.iim_fields.specs.States.Orders.{has_seen, IsOrderOf}
-use Rattle.iim_fields.specs.OrderChanges.{AddsHead, nothing}
-use Rattle.iim_fields.specs.Format.Values.{data_of, number_told}
-use Rattle.iim_fields.specs.States.Checks.{AwaitsHead, TakesHead, AwaitsNone, IsIn, HasChecked, IsChecking, HasTaken, IsRecordFault, IsValueFault}
-use Rattle.iim_fields.specs.Checking.{IsRecordPlace}
-use Rattle.iim_fields.specs.declared.order.Order.{Order}
-use Rattle.iim_fields.specs.declared.check.Begun.{Begun}
-use Rattle.iim_fields.specs.declared.check.RecordPlace.{RecordPlace}
-use Rattle.iim_fields.specs.declared.fault.FieldFault.{FieldFault}
-use Rattle.iim_tables.proofs.GoodDatasets.{good_elsewhere, meets_as}
-use Rattle.iim_fields.proofs.NumberSets.{seen_more}
+use Rattle.iim_fields.proofs.Words.{nat_tests, option_or, list_any-append, and_from, eqb_tells, same_Some, Octets, within, Dataset, head_of, of_record, Head}
+use Rattle.iim_fields.proofs.Words.{are_octets, row_of, is_admitted, Row, has_kind, records, occurs, SectionsLive, SectionsLiveAt, head_fault, record_fault}
+use Rattle.iim_fields.proofs.Words.{value_fault, limits_fault, section_after, section_run, has_seen, IsOrderOf, AddsHead, nothing, data_of, number_told}
+use Rattle.iim_fields.proofs.Words.{AwaitsHead, TakesHead, AwaitsNone, IsIn, HasChecked, IsChecking, HasTaken, IsRecordFault, IsValueFault, IsRecordPlace}
+use Rattle.iim_fields.proofs.Words.{Order, Begun, RecordPlace, FieldFault, good_elsewhere, meets_as, DatasetsLeadToOnePlace}
+use Rattle.iim_fields.proofs.NumberSets.{seen_more, same_members}
 use Rattle.iim_fields.proofs.Table.{EachRowHasValues, not_after_itself, object_kind}
 use Rattle.iim_fields.proofs.Runs.{records_to_come}
-use Rattle.iim_fields.proofs.Follows.{Follows, present_more, run_more, alive_follows}
+use Rattle.iim_fields.proofs.Follows.{Follows, alive_follows, fresh_next, present_more, run_more}
 use Rattle.iim_fields.proofs.Telling.{head_fault_told, value_fault_told}
 use Rattle.iim_fields.proofs.Dies.{HasNoFault, no_fault_parts, in_order_cases, head_alive, head_no_fault, head_octet, good_value, value_alive, value_no_fault}
 use Rattle.iim_fields.proofs.Sections.{some_data}
@@ -43,12 +21,6 @@ nothing_seen zero n = refl
 nothing_seen (suc k) zero = refl
 nothing_seen (suc k) (suc n) = nothing_seen k n
 
-or_swap : (a b : Bool) → (a || b) ≡ (b || (a || false))
-or_swap true true = refl
-or_swap true false = refl
-or_swap false true = refl
-or_swap false false = refl
-
 pub tells_start : (o : Order) → o.rec ≡ 0 → o.seen ≡ nothing → IsOrderOf o []
 tells_start o first none = record {
   places = ap (λ (xs : List Bool). length xs) none;
@@ -56,37 +28,28 @@ tells_start o first none = record {
   seen = λ n. ap (λ (xs : List Bool). get_or xs n false) none ∙ nothing_seen 256 n;
 }
 
-occurs_more : (n : ℕ) (ds : List Dataset) (d : Dataset) → occurs n (section_run (ds ++ d ∷ [])) ≡ (occurs n (of_record d.rec ds) || (nat_eq d.set n || false))
-occurs_more n ds d = ap (occurs n) (run_more ds d) ∙ list_any-append (λ (x : Dataset). nat_eq x.set n) (of_record d.rec ds) (d ∷ [])
+-- a number was added to those that occurred in the dataset's record
+tells_by : (new : Order) (ds : List Dataset) (d : Dataset) (before : List Bool) → d.set < 256 → length before ≡ 256 → new.rec ≡ d.rec
+    → new.seen ≡ set before d.set true → ((n : ℕ) → get_or before n false ≡ occurs n (of_record d.rec ds)) → IsOrderOf new (ds ++ d ∷ [])
+tells_by new ds d before fits long rec seen told = record {
+  places = ap (λ (xs : List Bool). length xs) seen ∙ (length-set before d.set true ∙ long);
+  present = rec ∙ sym (present_more ds d);
+  seen = λ n.
+      let all = list_any-append (λ (x : Dataset). nat_eq x.set n) (of_record d.rec ds) (d ∷ []) in
+      rw (seen, seen_more before d.set n (omega (arith, fits, long)), told n, run_more ds d, all) (or_last (nat_eq d.set n) (occurs n (of_record d.rec ds)));
+}
+  where
+    or_last : (a b : Bool) → (a || b) ≡ (b || (a || false))
+    or_last a b = grind arith
 
-tells_same : (o new : Order) (ds : List Dataset) (d : Dataset) → d.set < 256 → d.rec ≡ section_after ds → AddsHead o (head_of d) new → IsOrderOf o ds → IsOrderOf new (ds ++ d ∷ [])
-tells_same o new ds d fits same takes tells =
-    let seen = takes.same (same ∙ sym tells.present) in
-    let room : d.set < length o.seen = omega (arith, tells.places) in
-    record {
-      places = ap (λ (xs : List Bool). length xs) seen ∙ (length-set o.seen d.set true ∙ tells.places);
-      present = takes.rec ∙ sym (present_more ds d);
-      seen = λ n. ap (λ (xs : List Bool). get_or xs n false) seen ∙ (seen_more o.seen d.set n room ∙ (ap (λ b. nat_eq d.set n || b) (tells.seen n)
-          ∙ (or_swap (nat_eq d.set n) (occurs n (section_run ds)) ∙ (ap (λ (r : ℕ). occurs n (of_record r ds) || (nat_eq d.set n || false)) (sym same) ∙ sym (occurs_more n ds d)))));
-    }
-
-tells_next : (o new : Order) (ds : List Dataset) (d : Dataset) → d.set < 256 → (d.rec ≡ section_after ds → ⊥) → of_record d.rec ds ≡ [] → AddsHead o (head_of d) new → IsOrderOf o ds → IsOrderOf new (ds ++ d ∷ [])
-tells_next o new ds d fits differ fresh takes tells =
-    let seen = takes.next (λ e. differ (e ∙ tells.present)) in
-    let room : d.set < length nothing = omega arith in
-    record {
-      places = ap (λ (xs : List Bool). length xs) seen ∙ length-set nothing d.set true;
-      present = takes.rec ∙ sym (present_more ds d);
-      seen = λ n. ap (λ (xs : List Bool). get_or xs n false) seen ∙ (seen_more nothing d.set n room ∙ (ap (λ b. nat_eq d.set n || b) (nothing_seen 256 n)
-          ∙ (ap (λ (xs : List Dataset). occurs n xs || (nat_eq d.set n || false)) (sym fresh) ∙ sym (occurs_more n ds d))));
-    }
-
-pub tells_more : (o new : Order) (ds : List Dataset) (d : Dataset) → Follows ds → d.set < 256 → HasNoFault (section_after ds) (λ n. occurs n (section_run ds)) (head_of d)
-    → AddsHead o (head_of d) new → IsOrderOf o ds → IsOrderOf new (ds ++ d ∷ [])
+pub tells_more : (o new : Order) (ds : List Dataset) (d : Dataset) → Follows ds → d.set < 256
+    → HasNoFault (section_after ds) (λ n. occurs n (section_run ds)) (head_of d) → AddsHead o (head_of d) new → IsOrderOf o ds → IsOrderOf new (ds ++ d ∷ [])
 tells_more o new ds d follows fits f takes tells = elim (in_order_cases (section_after ds) d.rec f.order) [
-  | inl same ↦ tells_same o new ds d fits same takes tells
-  | inr next ↦ tells_next o new ds d fits (λ same. not_after_itself (section_after ds) d.rec (after d.rec) next (sym same))
-      (follows.fresh d.rec (ap (list_any (λ x. nat_eq x d.rec)) next ∙ ap (λ b. b || list_any (λ x. nat_eq x d.rec) (after d.rec)) (eq-eqb d.rec d.rec refl))) takes tells
+  | inl same ↦ tells_by new ds d o.seen fits tells.places takes.rec (takes.same (same ∙ sym tells.present))
+      (λ n. tells.seen n ∙ ap (λ (r : ℕ). occurs n (of_record r ds)) (sym same))
+  | inr next ↦
+      let other : d.rec ≢ o.rec = λ same. not_after_itself (section_after ds) d.rec next (sym (same ∙ tells.present)) in
+      tells_by new ds d nothing fits refl takes.rec (takes.next other) (λ n. nothing_seen 256 n ∙ ap (occurs n) (sym (fresh_next ds d follows next)))
 ]
 
 -- the fault by what is kept is the fault by the datasets
@@ -98,9 +61,7 @@ pub count_fits : (present : ℕ) (has : ℕ → Bool) (h : Head) (row : Row) →
 count_fits present has h row none known =
     let f = no_fault_parts present has h none in
     let same : f.row ≡ row = cc (sym f.known ∙ known) in
-    let ends = and_parts (nat_le f.row.min h.count) (nat_le h.count f.row.max) f.fits in
-    let high : h.count ≤ f.row.max = leb-true h.count f.row.max ends.1 in
-    subst (λ (r : Row). h.count ≤ r.max) same high
+    let fits = rw same at f.fits in grind (arith, nat_tests)
 
 -- ---- octets
 
@@ -111,8 +72,7 @@ subfile_value ds d at eight octets =
     let kind = object_kind d.set f.row (subst (λ (r : ℕ). row_of r d.set ≡ Some f.row) eight f.known) in
     let any : is_admitted f.row d.octets ≡ true =
     and_from (within f.row.min f.row.max (length d.octets)) (has_kind f.row.kind d.octets) f.fits (ap (λ (k : Kind). has_kind k d.octets) kind) in
-    good_value d (good_elsewhere (ap (λ (r : ℕ). nat_eq r 1) eight) (head_octet ds (head_of d) at) octets
-    (meets_as d.rec d.set f.row d.octets f.known any))
+    good_value d (good_elsewhere (ap (λ (r : ℕ). nat_eq r 1) eight) (head_octet ds (head_of d) at) octets (meets_as d.rec d.set f.row d.octets f.known any))
 
 -- ---- the start
 
@@ -127,6 +87,10 @@ checked_start values o first none = record { order = o; begun = None; at = refl;
 -- the order of the place
 pub order_at : (place : RecordPlace) (o : Order) (b : Option Begun) → Some place ≡ Some (record { order = o; begun = b }) → place.order ≡ o
 order_at place o b e = ap (λ (p : RecordPlace). p.order) (same_Some place (record { order = o; begun = b }) e)
+
+-- it tells of the datasets
+pub told_at : (place : RecordPlace) (ds : List Dataset) → HasChecked (Some place) ds → IsOrderOf place.order ds
+told_at place ds s = subst (λ (o : Order). IsOrderOf o ds) (sym (order_at place s.order s.begun s.at)) s.tells
 
 -- one dataset is begun, or none
 pub one_begun : (check : Option RecordPlace) (o p : Order) (a b : Option Begun) → check ≡ Some (record { order = o; begun = a }) → check ≡ Some (record { order = p; begun = b }) → a ≡ b
@@ -151,8 +115,7 @@ not_both check o p a begun e none f other = other (subst AwaitsNone (one_begun c
 pub taken_by : EachRowHasValues → (old new : RecordPlace) (h : Head) (row : Row) → h.set < 256 → AddsHead old.order h new.order → new.begun ≡ Some (record { head = h; row = row }) → row_of h.rec h.set ≡ Some row
     → head_fault old.order.rec (has_seen old.order) h ≡ None → (ds : List Dataset) → HasChecked (Some old) ds → HasTaken (Some new) ds h
 taken_by values old new h row small takes begun known none ds s =
-    let order_is = order_at old s.order s.begun s.at in
-    let told : IsOrderOf old.order ds = subst (λ (o : Order). IsOrderOf o ds) (sym order_is) s.tells in
+    let told = told_at old ds s in
     let follows = alive_follows ds s.alive in
     let ok : record_fault ds h ≡ None = sym (record_fault_is old.order ds h told) ∙ none in
     let f = no_fault_parts (section_after ds) (λ n. occurs n (section_run ds)) h ok in
@@ -182,11 +145,10 @@ taken_by values old new h row small takes begun known none ds s =
     }
 
 -- the head has this fault
-pub record_fault_by : (old : RecordPlace) (h : Head) (fault : FieldFault) → head_fault old.order.rec (has_seen old.order) h ≡ Some fault → (ds : List Dataset) → HasChecked (Some old) ds
-    → IsRecordFault ds h fault
+pub record_fault_by : (old : RecordPlace) (h : Head) (fault : FieldFault) → head_fault old.order.rec (has_seen old.order) h ≡ Some fault → (ds : List Dataset)
+    → HasChecked (Some old) ds → IsRecordFault ds h fault
 record_fault_by old h fault some ds s =
-    let told : IsOrderOf old.order ds = subst (λ (o : Order). IsOrderOf o ds) (sym (order_at old s.order s.begun s.at)) s.tells in
-    let first : record_fault ds h ≡ Some fault = sym (record_fault_is old.order ds h told) ∙ some in
+    let first : record_fault ds h ≡ Some fault = sym (record_fault_is old.order ds h (told_at old ds s)) ∙ some in
     record {
       first = first;
       lowest = λ limits. head_fault_told limits ds h fault (ap (λ (o : Option FieldFault). option_or o (limits_fault limits ds h)) first);
@@ -229,8 +191,8 @@ checked_value values old new begun xs number is order none count small fine told
       told ∙ ap (λ (k : Head). number_told (data_of k xs)) head,
     )
 
-pub value_fault_by : (old : RecordPlace) (begun : Begun) (xs : List ℕ) (fault : FieldFault) → old.begun ≡ Some begun → value_fault (data_of begun.head xs) ≡ Some fault
-    → (ds : List Dataset) (h : Head) → IsChecking (Some old) ds h → IsValueFault ds (data_of h xs) fault
+pub value_fault_by : (old : RecordPlace) (begun : Begun) (xs : List ℕ) (fault : FieldFault) → old.begun ≡ Some begun
+    → value_fault (data_of begun.head xs) ≡ Some fault → (ds : List Dataset) (h : Head) → IsChecking (Some old) ds h → IsValueFault ds (data_of h xs) fault
 value_fault_by old begun xs fault is some ds h s =
     let one = one_awaited old begun is s.order h s.row s.inside in
     let here : value_fault (data_of h xs) ≡ Some fault = subst (λ (k : Head). value_fault (data_of k xs) ≡ Some fault) (ap (λ (b : Begun). b.head) one.1) some in
@@ -247,3 +209,30 @@ awaited_head place begun is h s = ap (λ (b : Begun). b.head) (one_awaited place
 
 pub awaited_count : (place : RecordPlace) (begun : Begun) → place.begun ≡ Some begun → (h : Head) → IsIn (Some place) h → begun.head.count ≡ h.count
 awaited_count place begun is h s = ap (λ (k : Head). k.count) (awaited_head place begun is h s)
+
+-- ---- datasets lead to one place
+
+-- one order tells of datasets
+one_order : (o p : Order) (ds : List Dataset) → IsOrderOf o ds → IsOrderOf p ds → o ≡ p
+one_order o p ds s t =
+    let seen : o.seen ≡ p.seen = same_members o.seen p.seen (s.places ∙ sym t.places) (λ n. s.seen n ∙ sym (t.seen n)) in
+    let rec_is : o.rec ≡ p.rec = s.present ∙ sym t.present in
+    λ i. record { rec = rec_is i; seen = seen i }
+
+between_one : (a b : Option RecordPlace) (ds : List Dataset) → AwaitsHead a → AwaitsHead b → HasChecked a ds → HasChecked b ds → a ≡ b
+between_one a b ds i j s t =
+    let same : i.order ≡ j.order = same_order a i.order s.order None s.begun i.between s.at
+    ∙ (one_order s.order t.order ds s.tells t.tells ∙ sym (same_order b j.order t.order None t.begun j.between t.at)) in
+    i.between ∙ ((λ k. Some (record { order = same k; begun = None })) ∙ sym j.between)
+
+checking_one : (a b : Option RecordPlace) (ds : List Dataset) (h : Head) → IsChecking a ds h → IsChecking b ds h → a ≡ b
+checking_one a b ds h s t =
+    let d : Dataset = record { rec = h.rec; set = h.set; octets = s.alive.0.octets } in
+    let is : head_of s.alive.0 ≡ h = s.alive.1 in
+    let same : s.order ≡ t.order = one_order s.order t.order (ds ++ s.alive.0 ∷ []) (s.tells s.alive.0 is) (t.tells s.alive.0 is) in
+    let both : Some s.row ≡ Some t.row = sym s.known ∙ t.known in
+    let row : s.row ≡ t.row = cc both in
+    s.inside ∙ ((λ k. Some (record { order = same k; begun = Some (record { head = h; row = row k }) })) ∙ sym t.inside)
+
+pub one_place : DatasetsLeadToOnePlace
+one_place = (between_one, checking_one)

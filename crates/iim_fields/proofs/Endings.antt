@@ -1,19 +1,11 @@
 -- Where the datasets of an envelope end.
 use Rattle.std.proofs.Common.{◌≡◌, ℕ, ◌+◌, ◌<◌, ◌≤◌, false, cond, nat_eq, List, [], ◌∷◌, ◌++◌, length, refl, ap, sym, ◌∙◌, inl, inr, arith, subst, append-nil, length-append}
-use Rattle.std.specs.Prelude.{None}
-use Rattle.std.specs.List.{AllByRecursion}
-use Rattle.std.proofs.lemmas.Bool.Decides.{eqb_tells}
-use Rattle.iim_dataset.specs.Format.Datasets.{Dataset, of_record}
-use Rattle.iim_tables.specs.Format.Rows.{table, row_of}
-use Rattle.iim_fields.specs.Format.Alive.{SectionsLive}
-use Rattle.iim_fields.specs.Format.Records.{after, AreRecords, AreSections}
-use Rattle.iim_tables.specs.Format.Records.{repeats, occurrences, IsGoodDataset, IsGoodRecord}
-use Rattle.iim_tables.proofs.GoodDatasets.{none_meets, occurrences_append}
-use Rattle.iim_fields.specs.Format.Faults.{last_record, section_after}
-use Rattle.iim_fields.specs.Laws.Records.{EnvelopesEndWithTheLastRecord, NoSectionsBeginOthers}
+use Rattle.iim_fields.proofs.Words.{cond_both, eq-eqb, None, AllByRecursion, eqb_tells, Dataset, of_record, table, row_of, SectionsLive, AreRecords}
+use Rattle.iim_fields.proofs.Words.{AreSections, repeats, occurrences, IsGoodDataset, IsGoodRecord, none_meets, occurrences_append, last_record, section_after}
+use Rattle.iim_fields.proofs.Words.{EnvelopesEndWithTheLastRecord, NoSectionsBeginOthers}
 use Rattle.iim_fields.proofs.Table.{mandatory_is}
 use Rattle.iim_fields.proofs.Runs.{not_empty}
-use Rattle.iim_fields.proofs.Follows.{Follows, alive_follows, present_more, run_more}
+use Rattle.iim_fields.proofs.Follows.{Follows, alive_follows, present_more}
 use Rattle.iim_fields.proofs.Sections.{last_of_joined}
 
 -- ---- the last record has one dataset
@@ -71,54 +63,35 @@ sections_end ds sections = ends_with_nine (1 ∷ 2 ∷ 7 ∷ 8 ∷ []) 0 ds sect
 
 -- ---- nothing follows
 
-nothing_more : (ds more : List Dataset) → Follows ds → section_after ds ≡ 9 → 0 < length (of_record 9 ds) → AreSections (ds ++ more) → more ≡ []
-nothing_more ds more follows last some sections =
-    let (run, rest, parts, good, later) = follows.goes more sections in
-    let none : rest ≡ [] = subst (λ (r : ℕ). AreRecords (after r) rest) last later in
-    let one : IsGoodRecord 9 (of_record 9 ds ++ run) = subst (λ (r : ℕ). IsGoodRecord r (of_record r ds ++ run)) last good in
-    parts ∙ (λ i. nothing_after_one (of_record 9 ds) run some one i ++ none i)
+-- where the last dataset is of record 9, one is
+of_last : (d : Dataset) (ds : List Dataset) → last_record d.rec ds ≡ 9 → 0 < length (of_record 9 (d ∷ ds))
+of_last d [] last = rw (eq-eqb d.rec 9 last) (omega arith)
+of_last d (e ∷ ds) last =
+    let some = of_last e ds last in
+    cond_both (nat_eq d.rec 9) (d ∷ of_record 9 (e ∷ ds)) (of_record 9 (e ∷ ds)) (λ (xs : List Dataset). 0 < length xs) (λ _. omega arith) (λ _. some)
 
-own_of_sections : (ds : List Dataset) → AreSections ds → Follows ds → 0 < length (of_record 9 ds)
-own_of_sections ds sections follows =
-    let last = sections_end ds sections in
-    let (run, rest, parts, good, later) = follows.goes [] (subst AreSections (sym (append-nil ds)) sections) in
-    let no_run : run ≡ [] = nil_front run rest parts in
-    let one : IsGoodRecord 9 (of_record 9 ds ++ []) = subst (λ (xs : List Dataset). IsGoodRecord 9 (of_record 9 ds ++ xs)) no_run (subst (λ (r : ℕ). IsGoodRecord r (of_record r ds ++ run)) last good) in
-    some_of_nine (of_record 9 ds) (subst (IsGoodRecord 9) (append-nil (of_record 9 ds)) one)
-  where
-    nil_front : (xs ys : List Dataset) → [] ≡ xs ++ ys → xs ≡ []
-    nil_front [] ys e = refl
-    nil_front (x ∷ xs) ys e = absurd cc
+some_last : (ds : List Dataset) → section_after ds ≡ 9 → 0 < length (of_record 9 ds)
+some_last [] last = absurd cc
+some_last (d ∷ ds) last = of_last d ds last
+
+nothing_more : (ds more : List Dataset) → Follows ds → section_after ds ≡ 9 → AreSections (ds ++ more) → more ≡ []
+nothing_more ds more follows last sections =
+    let (run, rest, parts, good, later) = follows.goes more sections in
+    let none : rest ≡ [] = rw last at later in
+    let one : IsGoodRecord 9 (of_record 9 ds ++ run) = rw last at good in
+    parts ∙ (λ i. nothing_after_one (of_record 9 ds) run (some_last ds last) one i ++ none i)
 
 pub no_sections_begin_others : NoSectionsBeginOthers
-no_sections_begin_others ds more whole sections =
-    let follows = alive_follows ds (more, sections) in
-    nothing_more ds more follows (sections_end ds whole) (own_of_sections ds whole follows) sections
-
-last_is_one : (ds : List Dataset) (d : Dataset) → d.rec ≡ 9 → 0 < length (of_record 9 (ds ++ d ∷ []))
-last_is_one ds d last =
-    let own : of_record 9 (ds ++ d ∷ []) ≡ of_record d.rec ds ++ d ∷ [] =
-    ap (λ (r : ℕ). of_record r (ds ++ d ∷ [])) (sym (present_more ds d ∙ last)) ∙ run_more ds d in
-    subst (λ (xs : List Dataset). 0 < length xs) (sym own) (omega (arith, length-append (of_record d.rec ds) (d ∷ [])))
-
-pub envelopes_end : EnvelopesEndWithTheLastRecord
-envelopes_end ds d alive = (
-  (λ last.
-      let xs : List Dataset = ds ++ d ∷ [] in
-      let none : alive.0 ≡ [] = nothing_more xs alive.0 (alive_follows xs alive) (present_more ds d ∙ last) (last_is_one ds d last) alive.1 in
-      subst AreSections (append-nil xs) (subst (λ (more : List Dataset). AreSections (xs ++ more)) none alive.1)),
-  (λ sections. sym (present_more ds d) ∙ sections_end (ds ++ d ∷ []) sections),
-)
-
--- ---- after the last record
-
-split_last : (d : Dataset) (ds : List Dataset) → (front : List Dataset) × (last : Dataset) × (d ∷ ds ≡ front ++ last ∷ [])
-split_last d [] = ([], d, refl)
-split_last d (e ∷ ds) = let (front, last, is) = split_last e ds in (d ∷ front, last, ap (λ (xs : List Dataset). d ∷ xs) is)
+no_sections_begin_others ds more whole sections = nothing_more ds more (alive_follows ds (more, sections)) (sections_end ds whole) sections
 
 -- datasets that are alive, and whose last is of record 9, are whole
 pub whole_after_nine : (ds : List Dataset) → SectionsLive ds → section_after ds ≡ 9 → AreSections ds
-whole_after_nine [] alive nine = absurd cc
-whole_after_nine (d ∷ ds) alive nine =
-    let (front, last, is) = split_last d ds in
-    subst AreSections (sym is) ((envelopes_end front last (subst SectionsLive is alive)).0 (sym (present_more front last) ∙ (ap section_after (sym is) ∙ nine)))
+whole_after_nine ds alive nine =
+    let none : alive.0 ≡ [] = nothing_more ds alive.0 (alive_follows ds alive) nine alive.1 in
+    subst AreSections (append-nil ds) (subst (λ (more : List Dataset). AreSections (ds ++ more)) none alive.1)
+
+pub envelopes_end : EnvelopesEndWithTheLastRecord
+envelopes_end ds d alive = (
+  (λ last. whole_after_nine (ds ++ d ∷ []) alive (present_more ds d ∙ last)),
+  (λ sections. sym (present_more ds d) ∙ sections_end (ds ++ d ∷ []) sections),
+)

@@ -1,25 +1,20 @@
+-- The words that most proofs use.
+pub mod Words
 pub mod NumberSets
-pub mod Tested
 pub mod Entries
 pub mod Table
-pub mod Heads
 pub mod Numbers
 pub mod Runs
 pub mod Dies
 pub mod Checking
 pub mod Stand
-pub mod Sound
-pub mod Mandatory
 pub mod Endings
 pub mod RowsMet
 pub mod Telling
 pub mod Build
 pub mod Copying
 pub mod Finish
-pub mod Keeping
-pub mod OnePlace
 pub mod Wholes
-pub mod Admitted
 pub mod Subfiles
 -- What proofs of other crates cite.
 pub mod Follows

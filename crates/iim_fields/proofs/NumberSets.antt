@@ -1,11 +1,9 @@
 -- The bits of a set of numbers, and the booleans that they stand for.
 use Rattle.std.proofs.Common.{◌≡◌, ◌≢◌, inl, inr, ℕ, zero, suc, ◌-◌, ◌*◌, ◌/◌, ◌%◌, ◌^◌, ◌<◌, nat_eq, Bool, true, false, ◌||◌, List, [], ◌∷◌, length, get_or, set, replicate, bit_and, bit_or, w64, refl, ap, sym, ◌∙◌, arith, length-append}
-use Rattle.std.specs.Int.{bit_at}
 use Rattle.std.proofs.lemmas.Nat.Bits.{bit_at_lowest, bit_at-suc, bit_at-zero, shr_and_one, bit_at_set_same, bit_at_set_other}
-use Rattle.std.proofs.lemmas.Grind.{get_or-set_at}
-use Rattle.std.proofs.lemmas.List.{get_or_append_left, get_or-append_right, get_or-set_same, get_or-set_other, length-set}
-use Rattle.std.proofs.lemmas.Bool.Decides.{leb_tells, eqb_tells}
 use Rattle.iim_fields.specs.NumberSets.{bits, members}
+use Rattle.iim_fields.proofs.Words.{bit_at, get_or-set_at, get_or_append_left, get_or-append_right, get_or-set_same, get_or-set_other, length-set, leb_tells}
+use Rattle.iim_fields.proofs.Words.{eqb_tells}
 
 -- lists of one length with the same members
 pub same_members : (xs ys : List Bool) → length xs ≡ length ys → ((n : ℕ) → get_or xs n false ≡ get_or ys n false) → xs ≡ ys
@@ -62,8 +60,8 @@ get_or-members (word ∷ words) n = elim (leb_tells 64 n) [
 ]
 
 -- a word with one bit more is a set with one number more
-pub members_more : (words : List ℕ) (n word : ℕ) → n / 64 < length words → bit_at word (n % 64) ≡ 1 → ((i : ℕ) → i ≢ n % 64 → bit_at word i ≡ bit_at (get_or words (n / 64) 0) i)
-    → members (set words (n / 64) word) ≡ set (members words) n true
+pub members_more : (words : List ℕ) (n word : ℕ) → n / 64 < length words → bit_at word (n % 64) ≡ 1
+    → ((i : ℕ) → i ≢ n % 64 → bit_at word i ≡ bit_at (get_or words (n / 64) 0) i) → members (set words (n / 64) word) ≡ set (members words) n true
 members_more words n word room one others =
     let q : ℕ = n / 64 in
     same_members (members (set words q word)) (set (members words) n true)
@@ -72,24 +70,14 @@ members_more words n word room one others =
   where
     at_more : (m : ℕ) → nat_eq (bit_at (get_or (set words (n / 64) word) (m / 64) 0) (m % 64)) 1 ≡ (nat_eq n m || get_or (members words) m false)
     at_more m = elim (eqb_tells n m) [
-      | inl same ↦
-          ap (λ (k : ℕ). nat_eq (bit_at (get_or (set words (n / 64) word) (k / 64) 0) (k % 64)) 1) (sym same.1)
-          ∙ (ap (λ (w : ℕ). nat_eq (bit_at w (n % 64)) 1) (get_or-set_same words (n / 64) word 0 room)
-          ∙ (ap (λ (b : ℕ). nat_eq b 1) one ∙ sym (ap (λ (b : Bool). b || get_or (members words) m false) same.0)))
-      | inr differ ↦ other m differ.1 ∙ sym (ap (λ (b : Bool). b || get_or (members words) m false) differ.0)
+      | inl same ↦ rw (same.0, ← same.1, get_or-set_same words (n / 64) word 0 room, one) refl
+      | inr differ ↦ rw differ.0 (elim (eqb_tells (n / 64) (m / 64)) [
+        | inl same ↦
+            let apart : m % 64 ≢ n % 64 = λ e. differ.1 (omega (arith, same.1, e)) in
+            rw (← same.1, get_or-set_same words (n / 64) word 0 room, others (m % 64) apart, same.1) (sym (get_or-members words m))
+        | inr elsewhere ↦ rw (get_or-set_other words (n / 64) (m / 64) word 0 (λ e. elsewhere.1 (sym e))) (sym (get_or-members words m))
+      ])
     ]
-      where
-        other : (m : ℕ) → n ≢ m → nat_eq (bit_at (get_or (set words (n / 64) word) (m / 64) 0) (m % 64)) 1 ≡ get_or (members words) m false
-        other m differ = elim (eqb_tells (n / 64) (m / 64)) [
-          | inl same ↦
-              let apart : m % 64 ≢ n % 64 = λ e. differ (omega (arith, same.1, e)) in
-              ap (λ (k : ℕ). nat_eq (bit_at (get_or (set words (n / 64) word) k 0) (m % 64)) 1) (sym same.1)
-              ∙ (ap (λ (w : ℕ). nat_eq (bit_at w (m % 64)) 1) (get_or-set_same words (n / 64) word 0 room)
-              ∙ (ap (λ (b : ℕ). nat_eq b 1) (others (m % 64) apart)
-              ∙ (ap (λ (k : ℕ). nat_eq (bit_at (get_or words k 0) (m % 64)) 1) same.1 ∙ sym (get_or-members words m))))
-          | inr elsewhere ↦
-              ap (λ (w : ℕ). nat_eq (bit_at w (m % 64)) 1) (get_or-set_other words (n / 64) (m / 64) word 0 (λ e. elsewhere.1 (sym e))) ∙ sym (get_or-members words m)
-        ]
 
 -- ---- by the words of the code
 
@@ -100,9 +88,7 @@ no_members = refl
 
 -- the test of a bit in its word
 pub bit_tested : (words : List ℕ) (q n : ℕ) → q ≡ n / 64 → nat_eq (bit_and (get_or words q 0 / 2 ^ (n % 64)) 1) 1 ≡ get_or (members words) n false
-bit_tested words q n e =
-    ap (λ (k : ℕ). nat_eq (bit_and (get_or words k 0 / 2 ^ (n % 64)) 1) 1) e
-    ∙ (ap (λ (b : ℕ). nat_eq b 1) (shr_and_one (get_or words (n / 64) 0) (n % 64)) ∙ sym (get_or-members words n))
+bit_tested words q n e = rw (e, shr_and_one (get_or words (n / 64) 0) (n % 64)) (sym (get_or-members words n))
 
 -- a bit set in its word
 pub bit_added : (words : List ℕ) (q n : ℕ) → q ≡ n / 64 → length words ≡ 4 → n < 256
@@ -110,5 +96,5 @@ pub bit_added : (words : List ℕ) (q n : ℕ) → q ≡ n / 64 → length words
 bit_added words q n e four h =
     let old : ℕ = get_or words (n / 64) 0 in
     let word : ℕ = bit_or old (1 * 2 ^ (n % 64) % 2 ^ 64) in
-    ap (λ (k : ℕ). members (set words k (bit_or (get_or words k 0) (1 * 2 ^ (n % 64) % 2 ^ 64)))) e
-    ∙ members_more words n word (omega (arith, four, h)) (bit_at_set_same w64 old (n % 64) (omega arith)) (bit_at_set_other w64 old (n % 64) (omega arith))
+    let one = bit_at_set_same w64 old (n % 64) (omega arith) in
+    rw e (members_more words n word (omega (arith, four, h)) one (bit_at_set_other w64 old (n % 64) (omega arith)))

@@ -1,18 +1,12 @@
--- The data of an envelope meet their rows.
-use Rattle.std.proofs.Common.{◌≡◌, ℕ, ◌≤◌, Bool, true, false, cond, nat_eq, nat_le, List, [], ◌∷◌, length, refl, sym, arith, subst, Option, Some}
-use Rattle.std.specs.List.{AllByRecursion, list_all, slice_get}
-use Rattle.std.specs.Option.{option_map}
-use Rattle.std.proofs.lemmas.Bool.{and_parts, eqb-true, leb-true}
-use Rattle.iim_dataset.specs.Format.Datasets.{Dataset}
+-- What an envelope has for sure, and that its data meet their rows.
+use Rattle.std.proofs.Common.{◌≡◌, ℕ, ◌≤◌, Bool, true, false, cond, nat_eq, List, [], ◌∷◌, length, refl, sym, arith, subst, Option, Some, inl, inr}
+use Rattle.std.proofs.Common.{◌++◌, ap, ◌∙◌, append-nil, rules, None}
 use Rattle.iim_tables.specs.Format.Octets.{is_graphic}
-use Rattle.iim_dataset.specs.Format.Octets.{within, is_digit}
-use Rattle.iim_dataset.proofs.Each.{all_append}
-use Rattle.iim_dataset.proofs.Lists.{within_most}
 use Rattle.iim_tables.specs.Format.Dates.{is_date}
-use Rattle.iim_tables.specs.Format.Rows.{table, row_of, Meets}
-use Rattle.iim_tables.specs.Format.Records.{IsGoodDataset}
-use Rattle.iim_fields.specs.Format.Envelopes.{IsEnvelope}
-use Rattle.iim_fields.specs.Format.Views.{has_names, first_data}
+use Rattle.iim_fields.proofs.Words.{nat_tests, AllByRecursion, list_all, slice_get, option_map, and_parts, eqb-true, Dataset, within, is_digit, all_append}
+use Rattle.iim_fields.proofs.Words.{within_most, table, row_of, Meets, IsGoodDataset, IsEnvelope, has_names, first_data, list_any, or_cases, is_some, IsSome}
+use Rattle.iim_fields.proofs.Words.{eq-eqb, occurs}
+use Rattle.iim_fields.proofs.Table.{mandatory_is, mandatory_numbers}
 
 abbrev MeetsItsRow : Dataset → Type 0
 MeetsItsRow d = Meets d.rec d.set d.octets
@@ -21,10 +15,7 @@ meets_by : (b : Bool) (r n : ℕ) (d : Dataset) (rest : Option (List ℕ)) (xs :
     → cond b (Some d.octets) rest ≡ Some xs → Meets r n xs
 meets_by true r n d rest xs is good later h =
     let parts = and_parts (nat_eq d.rec r) (nat_eq d.set n) is in
-    let same : d.octets ≡ xs = cc in
-    let here : Meets r d.set d.octets = subst (λ (rec : ℕ). Meets rec d.set d.octets) (eqb-true d.rec r parts.0) good in
-    let numbered : Meets r n d.octets = subst (λ (set : ℕ). Meets r set d.octets) (eqb-true d.set n parts.1) here in
-    subst (Meets r n) same numbered
+    let same : d.octets ≡ xs = cc in rw (← eqb-true d.rec r parts.0, ← eqb-true d.set n parts.1, ← same) good
 meets_by false r n d rest xs is good later h = later h
 
 first_meets : (r n : ℕ) (ds : List Dataset) (xs : List ℕ) → AllByRecursion MeetsItsRow ds → first_data r n ds ≡ Some xs → Meets r n xs
@@ -44,10 +35,7 @@ data_meet ds e r n xs h =
 -- ---- the rows of the views that rest on them
 
 exactly : (only n : ℕ) → within only only n ≡ true → n ≡ only
-exactly only n h =
-    let parts = and_parts (nat_le only n) (nat_le n only) h in
-    let low = leb-true only n parts.0 in
-    let high = leb-true n only parts.1 in omega arith
+exactly only n h = grind (arith, nat_tests)
 
 pub service_fits : (xs : List ℕ) → Meets 1 30 xs → length xs ≤ 10
 unfolding row_of table
@@ -74,3 +62,37 @@ pub only_octet : (xs : List ℕ) → length xs ≡ 1 → option_map (λ b. b ∷
 only_octet [] one = absurd (omega arith)
 only_octet (x ∷ []) one = refl
 only_octet (x ∷ y ∷ xs) one = absurd (omega arith)
+
+-- ---- what it has for sure
+
+first_in_run : (r n : ℕ) (run rest : List Dataset) → AllByRecursion (λ d. (d.rec ≡ r) × IsGoodDataset d) run → occurs n run ≡ true
+    → is_some (first_data r n (run ++ rest)) ≡ true
+first_in_run r n [] rest each h = absurd cc
+first_in_run r n (d ∷ run) rest each h =
+    let later = first_in_run r n run rest each.1 in let same = eq-eqb d.rec r each.0.0 in grind arith
+
+first_after : (r n : ℕ) (front back : List Dataset) → is_some (first_data r n back) ≡ true → is_some (first_data r n (front ++ back)) ≡ true
+first_after r n [] back h = h
+first_after r n (d ∷ front) back h = let later = first_after r n front back h in grind arith
+
+each_at : (P : ℕ → Type 0) (ns : List ℕ) (n : ℕ) → AllByRecursion P ns → list_any (λ m. nat_eq m n) ns ≡ true → P n
+each_at P [] n each some = absurd cc
+each_at P (m ∷ ns) n each some = elim (or_cases (nat_eq m n) (list_any (λ k. nat_eq k n) ns) some) [
+  | inl same ↦ subst P (eqb-true m n same) each.0
+  | inr later ↦ each_at P ns n each.1 later
+]
+
+-- each envelope has the mandatory datasets of record 1, and those of record 2
+pub first_of_one : (n : ℕ) (ds : List Dataset) → IsEnvelope ds → list_any (λ m. nat_eq m n) (mandatory_numbers 1) ≡ true → is_some (first_data 1 n ds) ≡ true
+first_of_one n ds e is =
+    let occur = each_at (λ m. occurs m e.r1 ≡ true) (mandatory_numbers 1) n (rw mandatory_is at e.envelope.mandatory) is in
+    rw e.parts (first_in_run 1 n e.r1 e.r2 e.envelope.each occur)
+
+pub first_of_two : (n : ℕ) (ds : List Dataset) → IsEnvelope ds → list_any (λ m. nat_eq m n) (mandatory_numbers 2) ≡ true → is_some (first_data 2 n ds) ≡ true
+first_of_two n ds e is =
+    let occur = each_at (λ m. occurs m e.r2 ≡ true) (mandatory_numbers 2) n (rw mandatory_is at e.application.mandatory) is in
+    rw e.parts (first_after 2 n e.r1 e.r2 (rw append-nil at (first_in_run 2 n e.r2 [] e.application.each occur)))
+
+pub found : {A : Type 0} (f : A → List ℕ) (o : Option A) (x : Option (List ℕ)) → option_map f o ≡ x → is_some x ≡ true → IsSome o
+found f None x e h = let bad : is_some {T = List ℕ} None ≡ true = ap (λ (y : Option (List ℕ)). is_some y) e ∙ h in absurd cc
+found f (Some a) x e h = search rules

@@ -1,23 +1,14 @@
 -- Parts of good records, and how they are completed.
-use Rattle.std.proofs.Common.{◌≡◌, ℕ, ◌+◌, ◌<◌, ◌≤◌, ◌⊎◌, Bool, true, false, ◌||◌, cond, nat_eq, List, [], ◌∷◌, ◌++◌, length, refl, sym, ◌∙◌, inl, inr, arith, subst, append_assoc, append-nil}
-use Rattle.std.specs.List.{AllByRecursion}
-use Rattle.std.proofs.lemmas.List.Folds.{list_any-append}
-use Rattle.std.proofs.lemmas.Bool.{or_left, or_right, eq-eqb}
-use Rattle.std.proofs.lemmas.Bool.Decides.{eqb_tells}
-use Rattle.iim_dataset.specs.Format.Datasets.{Dataset}
-use Rattle.iim_dataset.proofs.Each.{all_append, all_front}
-use Rattle.iim_fields.specs.Format.Records.{AreRecords}
-use Rattle.iim_tables.specs.Format.Records.{mandatory, IsGoodDataset, IsGoodRecord, occurs, occurrences, repeats}
-use Rattle.iim_tables.proofs.GoodDatasets.{occurrences_append, none_counts}
+use Rattle.std.proofs.Common.{◌≡◌, ℕ, ◌+◌, ◌<◌, ◌≤◌, ◌⊎◌, Bool, true, false, cond, nat_eq, List, [], ◌∷◌, ◌++◌, length, refl, sym, inl, inr, arith, subst, append_assoc, append-nil}
+use Rattle.iim_fields.proofs.Words.{AllByRecursion, list_any-append, eq-eqb, eqb_tells, Dataset, all_append, all_front, AreRecords, mandatory, IsGoodDataset}
+use Rattle.iim_fields.proofs.Words.{IsGoodRecord, occurs, occurrences, repeats, occurrences_append, none_counts}
 use Rattle.iim_fields.proofs.Table.{EachRowHasValues, HasSample, samples}
 
 pub occurs_front : (n : ℕ) (xs ys : List Dataset) → occurs n xs ≡ true → occurs n (xs ++ ys) ≡ true
-occurs_front n xs ys h = list_any-append (λ (d : Dataset). nat_eq d.set n) xs ys ∙ or_left (occurs n xs) (occurs n ys) h
+occurs_front n xs ys h = rw (list_any-append (λ (d : Dataset). nat_eq d.set n) xs ys, h) refl
 
 pub occurs_last : (n : ℕ) (xs : List Dataset) (d : Dataset) → d.set ≡ n → occurs n (xs ++ d ∷ []) ≡ true
-occurs_last n xs d is =
-    list_any-append (λ (d : Dataset). nat_eq d.set n) xs (d ∷ [])
-    ∙ or_right (occurs n xs) (nat_eq d.set n || false) (or_left (nat_eq d.set n) false (subst (λ (m : ℕ). nat_eq d.set m ≡ true) is (eq-eqb d.set d.set refl)))
+occurs_last n xs d is = rw (list_any-append (λ (x : Dataset). nat_eq x.set n) xs (d ∷ []), eq-eqb d.set n is) (grind arith)
 
 -- ---- a part of a record
 
@@ -42,13 +33,12 @@ part_of r xs g = record { each = g.each; once = g.once }
 abbrev pub MayCome : ℕ → List Dataset → Dataset → Type 0
 MayCome r xs d = (repeats r d.set ≡ true) ⊎ (occurs d.set xs ≡ false)
 
-once_more : (r : ℕ) (xs : List Dataset) (d : Dataset) → IsPart r xs → MayCome r xs d → (n : ℕ) → repeats r n ≡ false → occurrences n xs + (cond (nat_eq d.set n) 1 0 + 0) ≤ 1
+once_more : (r : ℕ) (xs : List Dataset) (d : Dataset) → IsPart r xs → MayCome r xs d → (n : ℕ) → repeats r n ≡ false
+    → occurrences n xs + (cond (nat_eq d.set n) 1 0 + 0) ≤ 1
 once_more r xs d p may n h = elim (eqb_tells d.set n) [
   | inl same ↦ elim may [
-    | inl again ↦ absurd (let bad : repeats r n ≡ true = subst (λ (m : ℕ). repeats r m ≡ true) same.1 again in cc)
-    | inr none ↦
-        let zero_of : occurrences n xs ≡ 0 = none_counts n xs (subst (λ (m : ℕ). occurs m xs ≡ false) same.1 none) in
-        rw (same.0, zero_of) (omega arith)
+    | inl again ↦ absurd (let bad = rw same.1 at again in cc)
+    | inr none ↦ rw (same.0, none_counts n xs (rw same.1 at none)) (omega arith)
   ]
   | inr other ↦ let most = p.once n h in rw other.0 (omega arith)
 ]
@@ -69,16 +59,9 @@ complete_by true r xs n ns is p sample more =
     let later = more xs p in (later.0, later.1, (occurs_front n xs later.0 is, later.2))
 complete_by false r xs n ns is p sample more =
     let d : Dataset = sample.0 in
-    let next : IsPart r (xs ++ d ∷ []) = part_more r xs d p sample.1 sample.3 (inr (subst (λ (m : ℕ). occurs m xs ≡ false) (sym sample.2) is)) in
-    let later = more (xs ++ d ∷ []) next in
-    let same : (xs ++ d ∷ []) ++ later.0 ≡ xs ++ (d ∷ later.0) = append_assoc xs (d ∷ []) later.0 in (
-      d ∷ later.0,
-      subst (IsPart r) same later.1,
-      (
-        subst (λ (ys : List Dataset). occurs n ys ≡ true) same (occurs_front n (xs ++ d ∷ []) later.0 (occurs_last n xs d sample.2)),
-        subst (λ (ys : List Dataset). AllByRecursion (λ n. occurs n ys ≡ true) ns) same later.2,
-      ),
-    )
+    let later = more (xs ++ d ∷ []) (part_more r xs d p sample.1 sample.3 (inr (rw (← sample.2) at is))) in
+    let here = occurs_front n (xs ++ d ∷ []) later.0 (occurs_last n xs d sample.2) in
+    (d ∷ later.0, rw append_assoc at later.1, (rw append_assoc at here, rw append_assoc at later.2))
 
 complete : (r : ℕ) (ns : List ℕ) → AllByRecursion (HasSample r) ns → (xs : List Dataset) → IsPart r xs → Completed r xs ns
 complete r [] have xs p = ([], subst (IsPart r) (sym (append-nil xs)) p, tt)

@@ -1,16 +1,7 @@
 -- The last record of datasets, and which can continue: lemmas for the proofs of every crate, of which nothing is to be believed.
 use Rattle.std.proofs.Common.{◌≡◌, ℕ, false, nat_eq, List, [], ◌∷◌, ◌++◌, length, replicate, Option, refl, sym, subst, append_assoc, inl, inr}
-use Rattle.std.proofs.lemmas.Bool.Decides.{eqb_tells}
-use Rattle.std.proofs.lemmas.List.{length-replicate}
-use Rattle.iim_dataset.specs.Format.Datasets.{Dataset, head_of}
-use Rattle.iim_dataset.specs.Format.Octets.{Octets}
-use Rattle.iim_dataset.proofs.OctetLists.{zeros_are}
-use Rattle.iim_dataset.specs.declared.head.Head.{Head}
-use Rattle.iim_fields.specs.declared.check.RecordPlace.{RecordPlace}
-use Rattle.iim_fields.specs.Format.Alive.{SectionsLive, SectionsLiveAt}
-use Rattle.iim_fields.specs.Format.Faults.{last_record}
-use Rattle.iim_fields.specs.Format.Records.{AreSections}
-use Rattle.iim_fields.specs.States.Checks.{HasTaken}
+use Rattle.iim_fields.proofs.Words.{AllByRecursion, cases_eq, ne_eqb, eqb_tells, length-replicate, Dataset, head_of, Octets, zeros_are, Head, RecordPlace}
+use Rattle.iim_fields.proofs.Words.{SectionsLive, SectionsLiveAt, last_record, AreSections, HasTaken}
 
 pub last_more : (r : ℕ) (ds : List Dataset) (d : Dataset) → last_record r (ds ++ d ∷ []) ≡ d.rec
 last_more r [] d = refl
@@ -40,22 +31,16 @@ taken_alive check ds h t = elim (eqb_tells h.rec 8) [
   | inr other ↦ (t.checking other.1).alive
 ]
 
+-- what holds of each of some numbers, and of one that is none of them, holds of a number
+pub one_of : (P : ℕ → Type 0) (r : ℕ) (ns : List ℕ) → AllByRecursion P ns → (AllByRecursion (λ n. (nat_eq n r ≡ false) × (nat_eq r n ≡ false)) ns → P r) → P r
+one_of P r [] each other = other tt
+one_of P r (n ∷ ns) each other = elim (cases_eq n r) [
+  | inl same ↦ subst P same each.0
+  | inr differ ↦ one_of P r ns each.1 (λ others. other ((ne_eqb n r differ, ne_eqb r n (λ e. differ (sym e))), others))
+]
+
 -- what holds of each of the five records and of all others, holds of a record
 pub by_record : (P : ℕ → Type 0) (r : ℕ) → P 1 → P 2 → P 7 → P 8 → P 9
     → (nat_eq r 1 ≡ false → nat_eq r 2 ≡ false → nat_eq r 7 ≡ false → nat_eq r 8 ≡ false → nat_eq r 9 ≡ false → P r) → P r
-by_record P r one two seven eight nine other = elim (eqb_tells r 1) [
-  | inl is ↦ subst P (sym is.1) one
-  | inr not1 ↦ elim (eqb_tells r 2) [
-    | inl is ↦ subst P (sym is.1) two
-    | inr not2 ↦ elim (eqb_tells r 7) [
-      | inl is ↦ subst P (sym is.1) seven
-      | inr not7 ↦ elim (eqb_tells r 8) [
-        | inl is ↦ subst P (sym is.1) eight
-        | inr not8 ↦ elim (eqb_tells r 9) [
-          | inl is ↦ subst P (sym is.1) nine
-          | inr not9 ↦ other not1.0 not2.0 not7.0 not8.0 not9.0
-        ]
-      ]
-    ]
-  ]
-]
+by_record P r one two seven eight nine other = one_of P r (1 ∷ 2 ∷ 7 ∷ 8 ∷ 9 ∷ []) (one, (two, (seven, (eight, (nine, tt)))))
+    (λ not. other not.0.1 not.1.0.1 not.1.1.0.1 not.1.1.1.0.1 not.1.1.1.1.0.1)

@@ -1,34 +1,13 @@
 -- What a reader of records keeps, step by step.
-use Rattle.std.proofs.Common.{◌≡◌, ◌≢◌, ℕ, suc, ◌+◌, ◌-◌, ◌<◌, ◌≤◌, ◌⊎◌, Bool, true, false, not, cond, if◌then◌else◌, nat_le, List, [], ◌∷◌, ◌++◌, length, take, drop, get_or, refl, ap, sym, ◌∙◌, inl, inr, arith, subst, append_assoc, append-nil, length-append, Option, Some, None}
-use Rattle.std.specs.Prelude.{vec_len, vec_capacity}
-use Rattle.std.specs.Option.{option_or}
+use Rattle.std.proofs.Common.{◌≡◌, ◌≢◌, ℕ, suc, ◌+◌, ◌-◌, ◌<◌, ◌≤◌, ◌⊎◌, Bool, true, false, cond, List, [], ◌∷◌, ◌++◌, length, get_or, refl, ap, sym, ◌∙◌, inl, inr, arith, subst, append_assoc, append-nil, length-append, Option, Some, None}
 use Rattle.std.proofs.Math.Seq.{take-append_seam, drop-append_seam}
-use Rattle.std.proofs.lemmas.List.Elements.{filter-append}
-use Rattle.std.proofs.lemmas.Grind.{flat_map-append}
-use Rattle.std.proofs.lemmas.Bool.{leb-true, le-leb}
-use Rattle.std.proofs.lemmas.Bool.Decides.{eqb_tells}
-use Rattle.iim_dataset.specs.Format.Octets.{Octets}
-use Rattle.iim_dataset.specs.Format.Datasets.{Dataset, head_of}
-use Rattle.iim_dataset.specs.declared.head.Head.{Head}
-use Rattle.iim_dataset.proofs.OctetLists.{octets_append, are_octets}
-use Rattle.iim_dataset.proofs.Lists.{nothing_of_two}
-use Rattle.iim_tables.specs.Format.Numbers.{size_octets}
-use Rattle.iim_tables.specs.Format.Records.{occurs}
-use Rattle.iim_fields.specs.Format.Alive.{SectionsLiveAt}
-use Rattle.iim_fields.specs.Format.Faults.{room_fault, limits_fault, first_fault, fault_on, is_kept, kept, kept_octets, joined, section_after, section_run}
-use Rattle.iim_fields.specs.Format.Values.{data_of, number_told, tells_number}
-use Rattle.iim_fields.specs.States.Checks.{section_at, IsIn, HasChecked, IsChecking, HasTaken, IsRecordFault, IsValueFault, begun_head}
-use Rattle.iim_fields.specs.States.Checks as checks
-use Rattle.iim_fields.specs.StoreLayout.{HasStored, IsStore, entries_of, fields_of, ends_at, begun_octets}
-use Rattle.iim_fields.specs.States.Stores.{fields_from}
-use Rattle.iim_fields.specs.States.Standing.{FieldsPlace, IsBetween, IsInside, CanTake, CanClose, StandsAfter, StandsIn, IsHeadFault, IsOf, section_of, begun_head_of}
-use Rattle.iim_fields.specs.Format.Bounds.{IsWithin}
-use Rattle.iim_fields.specs.Reading.{place_of, StandsSomewhere, IsReading}
-use Rattle.iim_fields.specs.declared.limits.Limits.{Limits}
-use Rattle.iim_fields.specs.declared.store.Store.{Store}
-use Rattle.iim_fields.specs.declared.fault.FieldFault.{FieldFault}
-use Rattle.iim_fields.specs.declared.fault.FieldCause.TheVariants.{HeaderFull, TooManyFields}
-use Rattle.iim_fields.specs.declared.check.RecordPlace.{RecordPlace}
+use Rattle.iim_fields.proofs.Words.{limits_of, AwaitsHead, cases_Bool, nat_tests, HasRoom, IsEnvelopeStore, vec_len, vec_capacity, option_or, filter-append}
+use Rattle.iim_fields.proofs.Words.{flat_map-append, eqb_tells, Octets, Dataset, head_of, Head, octets_append, are_octets, nothing_of_two, size_octets, occurs}
+use Rattle.iim_fields.proofs.Words.{SectionsLiveAt, room_fault, limits_fault, first_fault, is_kept, kept, kept_octets, joined, section_after, section_run}
+use Rattle.iim_fields.proofs.Words.{data_of, number_told, tells_number, section_at, IsIn, HasChecked, IsChecking, HasTaken, IsRecordFault, IsValueFault}
+use Rattle.iim_fields.proofs.Words.{begun_head, HasStored, IsStore, entries_of, fields_of, ends_at, begun_octets, fields_from, FieldsPlace, IsBetween, IsInside}
+use Rattle.iim_fields.proofs.Words.{CanTake, CanClose, StandsAfter, StandsIn, IsHeadFault, IsOf, section_of, begun_head_of, IsWithin, place_of, StandsSomewhere}
+use Rattle.iim_fields.proofs.Words.{IsReading, Limits, Store, FieldFault, RecordPlace}
 use Rattle.iim_fields.proofs.Table.{EachRowHasValues, size_row, kept_or_tells}
 use Rattle.iim_fields.proofs.Follows.{present_more}
 use Rattle.iim_fields.proofs.Telling.{head_fault_told}
@@ -39,28 +18,16 @@ use Rattle.iim_fields.proofs.Sections.{some_data, taken_alive}
 -- ---- the limits
 
 -- a head without a fault passes no limit
-room_by : (k a b : Bool) (f g : FieldFault) → (if not k then None else if not a then Some f else if not b then Some g else None) ≡ None → k ≡ true → (a ≡ true) × (b ≡ true)
-room_by true true true f g h is = (refl, refl)
-room_by true true false f g h is = absurd cc
-room_by true false b f g h is = absurd cc
-room_by false a b f g h is = absurd cc
-
 pub room_within : (limits : Limits) (octets fields : ℕ) (h : Head) → room_fault limits octets fields h ≡ None → is_kept h.rec ≡ true
     → (octets + h.count ≤ limits.octets) × (fields + 1 ≤ limits.fields)
-room_within limits octets fields h none is =
-    let parts = room_by (is_kept h.rec) (nat_le (octets + h.count) limits.octets) (nat_le (fields + 1) limits.fields) (fault_on h HeaderFull) (fault_on h TooManyFields) none is in
-    (leb-true (octets + h.count) limits.octets parts.0, leb-true (fields + 1) limits.fields parts.1)
+room_within limits octets fields h none is = grind (arith, nat_tests)
 
 pub no_room : (limits : Limits) (octets fields : ℕ) (h : Head) (fault : FieldFault) → room_fault limits octets fields h ≡ Some fault
     → (is_kept h.rec ≡ true → IsWithin limits (octets + h.count) (fields + 1)) → ⊥
-no_room limits octets fields h fault some in_limits = passes (is_kept h.rec) (nat_le (octets + h.count) limits.octets) (nat_le (fields + 1) limits.fields) refl refl refl some
-  where
-    passes : (k a b : Bool) → is_kept h.rec ≡ k → nat_le (octets + h.count) limits.octets ≡ a → nat_le (fields + 1) limits.fields ≡ b
-        → (if not k then None else if not a then Some (fault_on h HeaderFull) else if not b then Some (fault_on h TooManyFields) else None) ≡ Some fault → ⊥
-    passes true true true is low few some = cc
-    passes true true false is low few some = let w = in_limits is in let all = le-leb (fields + 1) limits.fields w.fields_in in cc
-    passes true false b is low few some = let w = in_limits is in let all = le-leb (octets + h.count) limits.octets w.octets_in in cc
-    passes false a b is low few some = cc
+no_room limits octets fields h fault some in_limits = elim (cases_Bool (is_kept h.rec)) [
+  | inl is ↦ let w = in_limits is in grind (arith, nat_tests)
+  | inr other ↦ grind arith
+]
 
 -- ---- the store
 
@@ -73,12 +40,8 @@ pub fields_back : (from : ℕ) (ks : List Dataset) (more : List ℕ) → fields_
 fields_back from [] more = refl
 fields_back from (k ∷ ks) more =
     let long : from + length k.octets - from ≡ length k.octets = omega arith in
-    let parts : joined (k ∷ ks) ++ more ≡ k.octets ++ (joined ks ++ more) = append_assoc k.octets (joined ks) more in
-    let front : take (from + length k.octets - from) (joined (k ∷ ks) ++ more) ≡ k.octets = (λ i. take (long i) (parts i)) ∙ take-append_seam k.octets (joined ks ++ more) in
-    let rest : drop (from + length k.octets - from) (joined (k ∷ ks) ++ more) ≡ joined ks ++ more = (λ i. drop (long i) (parts i)) ∙ drop-append_seam k.octets (joined ks ++ more) in
-    let later : fields_from (from + length k.octets) (entries_of (from + length k.octets) ks) (drop (from + length k.octets - from) (joined (k ∷ ks) ++ more)) ≡ ks =
-    ap (fields_from (from + length k.octets) (entries_of (from + length k.octets) ks)) rest ∙ fields_back (from + length k.octets) ks more in
-    λ i. record { rec = k.rec; set = k.set; octets = front i } ∷ later i
+    rw (long, append_assoc k.octets (joined ks) more, take-append_seam k.octets (joined ks ++ more), drop-append_seam k.octets (joined ks ++ more))
+    (ap (λ (xs : List Dataset). k ∷ xs) (fields_back (from + length k.octets) ks more))
 
 pub fields_held : (store : Store) (ks : List Dataset) (more : List ℕ) → HasStored store ks more → fields_of store ≡ ks
 fields_held store ks more holds = (λ i. fields_from 0 (holds.entries i) (holds.octets i)) ∙ fields_back 0 ks more
@@ -111,8 +74,7 @@ ends_at_length : (ks : List Dataset) → ends_at 0 (entries_of 0 ks) ≡ length 
 ends_at_length ks = ends_of 0 ks ∙ omega arith
 
 pub begun_held : (store : Store) (ks : List Dataset) (more : List ℕ) → HasStored store ks more → begun_octets store ≡ more
-begun_held store ks more holds =
-    (λ i. drop (ends_at 0 (holds.entries i)) (holds.octets i)) ∙ (ap (λ (n : ℕ). drop n (joined ks ++ more)) (ends_at_length ks) ∙ drop-append_seam (joined ks) more)
+begun_held store ks more holds = rw (holds.entries, holds.octets, ends_at_length ks) (drop-append_seam (joined ks) more)
 
 -- what a store with these datasets has
 pub store_is : (store : Store) (ks : List Dataset) (more : List ℕ) → HasStored store ks more → IsStore store
@@ -127,6 +89,11 @@ counts store ks more holds = (
   store.entries.ok.0 ∙ (ap (λ xs. length xs) holds.entries ∙ length-entries_of 0 ks),
 )
 
+-- what an envelope's store has of octets and entries
+pub totals : (store : Store) → IsEnvelopeStore store
+    → (length (joined (fields_of store)) ≡ length store.octets.items) × (length (fields_of store) ≡ vec_len store.entries)
+totals store e = let c = counts store (fields_of store) [] e.holds in omega (arith, c.0, c.1)
+
 -- the octets of a begun dataset are in the store
 pub ends_within : (store : Store) → IsStore store → ends_at 0 store.entries.items ≤ length store.octets.items
 ends_within store is =
@@ -136,8 +103,6 @@ ends_within store is =
 -- the store of a reader that has kept those
 holds_kept : (store : Store) (ds : List Dataset) → IsStore store → fields_of store ≡ kept ds → HasStored store (kept ds) (begun_octets store)
 holds_kept store ds is same = subst (λ (ks : List Dataset). HasStored store ks (begun_octets store)) same is
-
--- ---- the start
 
 -- ---- where it stands
 
@@ -152,11 +117,8 @@ between_after f (inr (inl (ds, s))) t = (ds, s)
 between_after f (inr (inr (ds, h, taken, s))) t = absurd (none_begun f.check t.order h t.between s.inside.1.head)
 
 -- in a dataset it stands in one
-failed_in : (check : Option RecordPlace) (h : Head) → check ≡ None → IsIn check h → ⊥
-failed_in check h none a = let clash = sym a.inside ∙ none in cc
-
 pub inside_in : (f : FieldsPlace) (h : Head) → (f.check ≡ None) ⊎ StandsSomewhere f → IsIn f.check h → (ds : List Dataset) × (g : Head) × (taken : List ℕ) × StandsIn f ds g taken
-inside_in f h (inl none) a = absurd (failed_in f.check h none a)
+inside_in f h (inl none) a = let clash = sym a.inside ∙ none in absurd cc
 inside_in f h (inr (inl (ds, s))) a = absurd (none_begun f.check s.between.order h s.between.between a)
 inside_in f h (inr (inr (ds, g, taken, s))) a = (ds, g, taken, s)
 
@@ -166,7 +128,7 @@ head_in check h a = ap begun_head a.inside
 same_head : (g h : Head) (o : Option Head) → o ≡ Some g → o ≡ Some h → g ≡ h
 same_head g h o e f = let both = sym e ∙ f in cc
 
-pub none_between : (check : Option RecordPlace) → checks.AwaitsHead check → begun_head check ≡ None
+pub none_between : (check : Option RecordPlace) → AwaitsHead check → begun_head check ≡ None
 none_between check t = ap begun_head t.between
 
 -- ---- a head
@@ -190,24 +152,36 @@ pub holds_after : (check : Option RecordPlace) (limits : Limits) (store : Store)
 holds_after check limits store size ds is s =
     subst (HasStored store (kept ds)) (nothing_of_two (begun_octets store) size s.taken_are).0 (holds_kept store ds is s.kept_are)
 
-pub fault_of_room : (check new : Option RecordPlace) (limits : Limits) (store : Store) (size : List ℕ) (h : Head) (fault : FieldFault) → IsStore store
-    → ((ds : List Dataset) → HasChecked check ds → HasTaken new ds h) → room_fault limits (length store.octets.items) (vec_len store.entries) h ≡ Some fault
-    → (ds : List Dataset) → StandsAfter (place_of check limits store size) ds → IsHeadFault limits ds h fault
-fault_of_room check new limits store size h fault is on some ds s =
-    let room : limits_fault limits ds h ≡ Some fault = sym (room_fault_is limits store ds h (holds_after check limits store size ds is s)) ∙ some in
+-- the fault by these numbers of octets and datasets is the fault by the datasets
+room_is : {check : Option RecordPlace} {limits : Limits} {store : Store} {size : List ℕ} (octets fields : ℕ) (h : Head) (o : Option FieldFault)
+    → IsReading check limits store size → octets ≡ length store.octets.items → fields ≡ vec_len store.entries → o ≡ room_fault limits octets fields h
+    → (ds : List Dataset) → StandsAfter (place_of check limits store size) ds → limits_fault limits ds h ≡ o
+room_is {check} {limits} {store} {size} octets fields h o r long count told ds s =
+    sym (room_fault_is limits store ds h (holds_after check limits store size ds r.store_is s))
+    ∙ ((λ i. room_fault limits (sym long i) (sym count i) h) ∙ sym told)
+
+pub fault_of_room : {check new : Option RecordPlace} {limits : Limits} {store : Store} {size : List ℕ} {f : FieldsPlace} {h : Head} {fault : FieldFault}
+    → (octets fields : ℕ) → IsReading check limits store size → place_of check limits store size ≡ f
+    → ((ds : List Dataset) → HasChecked check ds → HasTaken new ds h) → octets ≡ length store.octets.items → fields ≡ vec_len store.entries
+    → Some fault ≡ room_fault limits octets fields h → (ds : List Dataset) → StandsAfter f ds → IsHeadFault (limits_of f) ds h fault
+fault_of_room {new = new} {limits} {h = h} {fault} octets fields r view on long count told ds after =
+    let s = rw (← view) at after in
+    let room = room_is octets fields h (Some fault) r long count told ds s in
     let none = head_no_fault ds h (taken_alive new ds h (on ds s.checked)) in
     let first : first_fault limits ds h ≡ Some fault = ap (λ (o : Option FieldFault). option_or o (limits_fault limits ds h)) none ∙ room in
-    record {
+    rw (← view) (record {
       first = first;
       lowest = head_fault_told limits ds h fault first;
       dead = λ alive in_limits. no_room limits (kept_octets ds) (length (kept ds)) h fault room in_limits;
-    }
+    })
 
-pub stands_in : (check new : Option RecordPlace) (limits : Limits) (store : Store) (size : List ℕ) (h : Head) → IsStore store → IsIn new h
-    → ((ds : List Dataset) → HasChecked check ds → HasTaken new ds h) → room_fault limits (length store.octets.items) (vec_len store.entries) h ≡ None
-    → (ds : List Dataset) → StandsAfter (place_of check limits store size) ds → StandsIn (place_of new limits store size) ds h []
-stands_in check new limits store size h is at on none ds s =
-    let room : limits_fault limits ds h ≡ None = sym (room_fault_is limits store ds h (holds_after check limits store size ds is s)) ∙ none in
+pub stands_in : {check new : Option RecordPlace} {limits : Limits} {store : Store} {size : List ℕ} {f : FieldsPlace} {h : Head} (octets fields : ℕ)
+    → IsReading check limits store size → place_of check limits store size ≡ f → IsIn new h → ((ds : List Dataset) → HasChecked check ds → HasTaken new ds h)
+    → octets ≡ length store.octets.items → fields ≡ vec_len store.entries → None ≡ room_fault limits octets fields h → (ds : List Dataset) → StandsAfter f ds
+    → StandsIn (place_of new limits store size) ds h []
+stands_in {new = new} {limits} {h = h} octets fields r view at on long count told ds after =
+    let s = rw (← view) at after in
+    let room = room_is octets fields h None r long count told ds s in
     let taken = on ds s.checked in
     record {
       inside = (h.count, record { head = at; to_come = λ _. omega (arith, ap (λ (ys : List ℕ). length ys) s.taken_are) });
@@ -221,25 +195,10 @@ stands_in check new limits store size h is at on none ds s =
       nothing = λ _. refl;
     }
 
--- a subfile adds nothing to what is kept
-pub stands_subfile : (f new : FieldsPlace) (ds : List Dataset) (h : Head) (taken : List ℕ) (d : Dataset) → h.rec ≡ 8 → IsBetween new → ((ds : List Dataset) → HasChecked f.check ds → HasChecked new.check ds) → new.limits ≡ f.limits
-    → new.kept ≡ f.kept → new.taken ≡ f.taken → StandsIn f ds h taken → head_of d ≡ h → Octets d.octets → StandsAfter new (ds ++ d ∷ [])
-stands_subfile f new ds h taken d eight between on limits_are kept_same taken_same s is octets =
-    let checked = on (ds ++ d ∷ []) (s.checked.subfile eight d is octets) in
-    let same = kept_other ds d (ap is_kept (ap (λ (k : Head). k.rec) is ∙ eight)) in
-    record {
-      between = between;
-      checked = checked;
-      alive = checked.alive;
-      within = subst (λ (l : Limits). IsWithin l (kept_octets (ds ++ d ∷ [])) (length (kept (ds ++ d ∷ [])))) (sym limits_are)
-          (subst (λ (ks : List Dataset). IsWithin f.limits (length (joined ks)) (length ks)) (sym same) s.others);
-      kept_are = kept_same ∙ (s.kept_are ∙ sym same);
-      taken_are = taken_same ∙ (s.taken_are ∙ s.nothing eight);
-    }
-
-pub reading_begun : (check new : Option RecordPlace) (limits : Limits) (store : Store) (size : List ℕ) (h : Head) → IsReading check limits store size → checks.AwaitsHead check
-    → ((ds : List Dataset) → StandsAfter (place_of check limits store size) ds → StandsIn (place_of new limits store size) ds h []) → IsReading new limits store size
-reading_begun check new limits store size h r t on =
+pub reading_begun : {check new : Option RecordPlace} {limits : Limits} {store : Store} {size : List ℕ} {h : Head} → IsReading check limits store size
+    → AwaitsHead check → ((ds : List Dataset) → StandsAfter (place_of check limits store size) ds → StandsIn (place_of new limits store size) ds h [])
+    → IsReading new limits store size
+reading_begun {check} {new} {limits} {store} {size} {h} r t on =
     let (ds, s) = between_after (place_of check limits store size) r.stands t in
     let none = nothing_of_two (begun_octets store) size s.taken_are in
     record { room = r.room; store_is = r.store_is; stands = inr (inr (ds, h, [], on ds s)); in_store = λ _ _ _. none.1; in_size = λ _ _ _. none.0 }
@@ -247,39 +206,59 @@ reading_begun check new limits store size h r t on =
 -- ---- data
 
 -- it stands in the begun dataset, and in no other
-pub in_begun : (f : FieldsPlace) (g : Head) → IsIn f.check g → (ds : List Dataset) (h : Head) (taken : List ℕ) → StandsIn f ds h taken → h ≡ g
+in_begun : (f : FieldsPlace) (g : Head) → IsIn f.check g → (ds : List Dataset) (h : Head) (taken : List ℕ) → StandsIn f ds h taken → h ≡ g
 in_begun f g a ds h taken s = same_head h g (begun_head f.check) (head_in f.check h s.inside.1.head) (head_in f.check g a)
 
 -- data were added
-pub stands_more : (f new : FieldsPlace) (xs : List ℕ) → new.check ≡ f.check → new.limits ≡ f.limits → new.kept ≡ f.kept → new.taken ≡ f.taken ++ xs → CanTake f (length xs)
-    → ((i : ℕ) → get_or xs i 0 < 256) → (ds : List Dataset) (h : Head) (taken : List ℕ) → StandsIn f ds h taken → StandsIn new ds h (taken ++ xs)
-stands_more f new xs check_is limits_are kept_is taken_is t small ds h taken s =
-    let (g, n, inside, other, fits) = t in
-    let same = in_begun f g inside.head ds h taken s in
-    let h_other : h.rec ≢ 8 = λ eight. other (ap (λ (k : Head). k.rec) (sym same) ∙ eight) in
-    let long : length taken + n ≡ h.count = ap (λ (ys : List ℕ). length ys + n) (sym s.taken_are) ∙ (inside.to_come other ∙ ap (λ (k : Head). k.count) (sym same)) in
+pub inside_more : {check : Option RecordPlace} {limits : Limits} {store : Store} {size : List ℕ} {f : FieldsPlace} (last : Store) (more xs : List ℕ)
+    → IsReading check limits store size → place_of check limits store size ≡ f → begun_octets last ++ more ≡ (begun_octets store ++ size) ++ xs
+    → CanTake f (length xs) → (h : Head) (n : ℕ) → IsInside f h n → IsInside (place_of check limits last more) h (n - length xs)
+inside_more {check} {store = store} {size = size} last more xs r view taken_is can h n is =
+    let i = rw (← view) at is in
+    let (g, m, inside, g_other, fits) = rw (← view) at can in
+    let same : h ≡ g = same_head h g (begun_head check) (head_in check h i.head) (head_in check g inside.head) in
     record {
-      inside = (n - length xs, record { head = subst (λ (check : Option RecordPlace). IsIn check h) (sym check_is) s.inside.1.head; to_come = λ _. omega (arith, long, fits, length-append taken xs, ap (λ (ys : List ℕ). length ys) s.taken_are, ap (λ (ys : List ℕ). length ys) taken_is, length-append f.taken xs) });
-      checked = subst (λ (check : Option RecordPlace). HasTaken check ds h) (sym check_is) s.checked;
+      head = i.head;
+      to_come = λ other.
+          let count = ap (λ (k : Head). k.count) same in
+          let long = ap (λ (ys : List ℕ). length ys) taken_is in
+          omega (arith, i.to_come other, inside.to_come g_other, fits, count, long, length-append (begun_octets store ++ size) xs);
+    }
+
+pub stands_more : {check : Option RecordPlace} {limits : Limits} {store : Store} {size : List ℕ} {f : FieldsPlace} (last : Store) (more xs : List ℕ)
+    → IsReading check limits store size → place_of check limits store size ≡ f → fields_of last ≡ fields_of store
+    → begun_octets last ++ more ≡ (begun_octets store ++ size) ++ xs → CanTake f (length xs) → ((i : ℕ) → get_or xs i 0 < 256)
+    → (ds : List Dataset) (h : Head) (taken : List ℕ) → StandsIn f ds h taken → StandsIn (place_of check limits last more) ds h (taken ++ xs)
+stands_more {check} {limits} {store} {size} last more xs r view kept_is taken_is can small ds h taken stands =
+    let s = rw (← view) at stands in
+    let t = rw (← view) at can in
+    let same = in_begun (place_of check limits store size) t.0 t.2.head ds h taken s in
+    record {
+      inside = (s.inside.0 - length xs, inside_more last more xs r refl taken_is t h s.inside.0 s.inside.1);
+      checked = s.checked;
       alive = s.alive;
-      within = λ keeps. subst (λ (l : Limits). IsWithin l (kept_octets ds + h.count) (length (kept ds) + 1)) (sym limits_are) (s.within keeps);
-      others = subst (λ (l : Limits). IsWithin l (kept_octets ds) (length (kept ds))) (sym limits_are) s.others;
+      within = s.within;
+      others = s.others;
       kept_are = kept_is ∙ s.kept_are;
       taken_are = taken_is ∙ ap (λ (ys : List ℕ). ys ++ xs) s.taken_are;
       octets = octets_append taken xs s.octets (are_octets xs small);
-      nothing = λ eight. absurd (h_other eight);
+      nothing = λ eight. absurd (t.3 (ap (λ (k : Head). k.rec) (sym same) ∙ eight));
     }
 
-pub inside_more : (f new : FieldsPlace) (xs : List ℕ) → new.check ≡ f.check → new.taken ≡ f.taken ++ xs → CanTake f (length xs) → (h : Head) (n : ℕ) → IsInside f h n → IsInside new h (n - length xs)
-inside_more f new xs check_is taken_is t h n i = record {
-  head = subst (λ (check : Option RecordPlace). IsIn check h) (sym check_is) i.head;
-  to_come = λ other.
-      let (g, m, inside, g_other, fits) = t in
-      let same : h ≡ g = same_head h g (begun_head f.check) (head_in f.check h i.head) (head_in f.check g inside.head) in
-      let one = i.to_come other in
-      let two : length f.taken + m ≡ h.count = inside.to_come g_other ∙ ap (λ (k : Head). k.count) (sym same) in
-      omega (arith, one, two, fits, ap (λ (ys : List ℕ). length ys) taken_is, length-append f.taken xs);
-}
+pub reading_more : {check : Option RecordPlace} {limits : Limits} {store last : Store} {size more : List ℕ} (xs : List ℕ) (head : Head)
+    → IsReading check limits store size
+    → fields_of last ≡ fields_of store → begun_octets last ++ more ≡ (begun_octets store ++ size) ++ xs → CanTake (place_of check limits store size) (length xs)
+    → ((i : ℕ) → get_or xs i 0 < 256) → HasRoom limits last → IsStore last → begun_head check ≡ Some head → (is_kept head.rec ≡ true → more ≡ [])
+    → (is_kept head.rec ≡ false → begun_octets last ≡ []) → IsReading check limits last more
+reading_more {check} {limits} {store} {last} {size} {more} xs head r kept_is taken_is t small room is begun in_store in_size =
+    let (ds, g, taken, s) = inside_in (place_of check limits store size) t.0 r.stands t.2.head in
+    record {
+      room = room;
+      store_is = is;
+      stands = inr (inr (ds, g, taken ++ xs, stands_more last more xs r refl kept_is taken_is t small ds g taken s));
+      in_store = λ h e keeps. in_store (rw (same_head h head (begun_head check) e begun) at keeps);
+      in_size = λ h e none. in_size (rw (same_head h head (begun_head check) e begun) at none);
+    }
 
 -- the store has taken octets
 pub holds_more : (old new : Store) (xs : List ℕ) → new.octets.items ≡ old.octets.items ++ xs → new.entries ≡ old.entries → IsStore old → HasStored new (fields_of old) (begun_octets old ++ xs)
@@ -292,10 +271,6 @@ holds_more old new xs octets entries is = record {
 pub in_store_alone : (store : Store) (size : List ℕ) → size ≡ [] → begun_octets store ++ size ≡ begun_octets store
 in_store_alone store size none = ap (λ (ys : List ℕ). begun_octets store ++ ys) none ∙ append-nil (begun_octets store)
 
--- the begun dataset is that of the head
-head_is : (f : FieldsPlace) (k : ℕ) (head : Head) → (t : CanTake f k) → begun_head f.check ≡ Some head → t.0 ≡ head
-head_is f k head t is = same_head t.0 head (begun_head f.check) (head_in f.check t.0 t.2.head) is
-
 pub taken_in_store : (old new : Store) (size xs : List ℕ) → size ≡ [] → new.octets.items ≡ old.octets.items ++ xs → new.entries ≡ old.entries → IsStore old
     → (fields_of new ≡ fields_of old) × (begun_octets new ++ size ≡ (begun_octets old ++ size) ++ xs)
 taken_in_store old new size xs none octets entries is =
@@ -304,64 +279,28 @@ taken_in_store old new size xs none octets entries is =
       in_store_alone new size none ∙ (begun_held new (fields_of old) (begun_octets old ++ xs) holds ∙ ap (λ (ys : List ℕ). ys ++ xs) (sym (in_store_alone old size none))),
     )
 
--- the octets were taken into the store
-pub reading_stored : (check : Option RecordPlace) (limits : Limits) (old new : Store) (size xs : List ℕ) (head : Head) → IsReading check limits old size → CanTake (place_of check limits old size) (length xs)
-    → begun_head check ≡ Some head → is_kept head.rec ≡ true → new.octets.items ≡ old.octets.items ++ xs → new.entries ≡ old.entries → new.octets.room ≡ old.octets.room
-    → ((i : ℕ) → get_or xs i 0 < 256) → IsReading check limits new size
-reading_stored check limits old new size xs head r t is keeps octets entries capacity small =
-    let none = r.in_store head is keeps in
-    let both = taken_in_store old new size xs none octets entries r.store_is in
-    let (ds, g, taken, s) = inside_in (place_of check limits old size) t.0 r.stands t.2.head in
-    record {
-      room = record {
-        small_octets = r.room.small_octets;
-        small_fields = r.room.small_fields;
-        octets = omega (arith, r.room.octets, capacity);
-        entries = omega (arith, r.room.entries, ap (λ v. vec_capacity v) entries);
-      };
-      store_is = store_is new (fields_of old) (begun_octets old ++ xs) (holds_more old new xs octets entries r.store_is);
-      stands = inr (inr (ds, g, taken ++ xs, stands_more (place_of check limits old size) (place_of check limits new size) xs refl refl both.0 both.1 t small ds g taken s));
-      in_store = λ _ _ _. none;
-      in_size = λ h e not_kept. let same : h ≡ head = same_head h head (begun_head check) e is in let clash = sym keeps ∙ (ap (λ (k : Head). is_kept k.rec) (sym same) ∙ not_kept) in cc;
-    }
-
 -- the octets were taken into the size
 pub taken_in_size : (store : Store) (old new xs : List ℕ) → new ≡ old ++ xs → begun_octets store ++ new ≡ (begun_octets store ++ old) ++ xs
 taken_in_size store old new xs is = ap (λ (ys : List ℕ). begun_octets store ++ ys) is ∙ sym (append_assoc (begun_octets store) old xs)
 
-pub reading_sized : (check : Option RecordPlace) (limits : Limits) (store : Store) (old new xs : List ℕ) (head : Head) → IsReading check limits store old → CanTake (place_of check limits store old) (length xs)
-    → begun_head check ≡ Some head → is_kept head.rec ≡ false → new ≡ old ++ xs → ((i : ℕ) → get_or xs i 0 < 256) → IsReading check limits store new
-reading_sized check limits store old new xs head r t is not_kept more small =
-    let (ds, g, taken, s) = inside_in (place_of check limits store old) t.0 r.stands t.2.head in
-    record {
-      room = r.room;
-      store_is = r.store_is;
-      stands = inr (inr (ds, g, taken ++ xs, stands_more (place_of check limits store old) (place_of check limits store new) xs refl refl refl (taken_in_size store old new xs more) t small ds g taken s));
-      in_store = λ h e keeps. let same : h ≡ head = same_head h head (begun_head check) e is in let clash = sym not_kept ∙ (ap (λ (k : Head). is_kept k.rec) (sym same) ∙ keeps) in cc;
-      in_size = λ h e none. r.in_size head is not_kept;
-    }
-
 -- a size has room for the octets
-pub size_room : EachRowHasValues → (check : Option RecordPlace) (limits : Limits) (store : Store) (size : List ℕ) (k : ℕ) (head : Head) → IsReading check limits store size → CanTake (place_of check limits store size) k
-    → begun_head check ≡ Some head → is_kept head.rec ≡ false → length size + k ≤ size_octets
-size_room values check limits store size k head r t is not_kept =
-    let (h, n, inside, other, fits) = t in
-    let same : h ≡ head = head_is (place_of check limits store size) k head t is in
+pub size_room : EachRowHasValues → {check : Option RecordPlace} {limits : Limits} {store : Store} {size : List ℕ} (k : ℕ) (head : Head)
+    → IsReading check limits store size
+    → CanTake (place_of check limits store size) k → begun_head check ≡ Some head → is_kept head.rec ≡ false → length size + k ≤ size_octets
+size_room values {check} {limits} {store} {size} k head r (h, n, inside, other, fits) is not_kept =
     let a = inside.head in
+    let same : h ≡ head = same_head h head (begun_head check) (head_in check h a) is in
     let (ds, g, taken, s) = inside_in (place_of check limits store size) h r.stands a in
     let g_is = in_begun (place_of check limits store size) h a ds g taken s in
-    let h_not_kept : is_kept h.rec ≡ false = ap (λ (k : Head). is_kept k.rec) same ∙ not_kept in
     let none = head_no_fault ds h (subst (SectionsLiveAt ds) g_is s.alive) in
     let high = count_fits (section_after ds) (λ n. occurs n (section_run ds)) h a.row none a.known in
-    let bound = size_row h.rec h.set a.row (kept_or_tells h.rec h.set a.row a.known other h_not_kept) a.known in
-    let all = inside.to_come other in
-    let size_is : begun_octets store ++ size ≡ size = ap (λ (ys : List ℕ). ys ++ size) (r.in_size head is not_kept) in
-    omega (arith, all, fits, high, bound.1, ap (λ (ys : List ℕ). length ys) size_is)
+    let bound = size_row h.rec h.set a.row (kept_or_tells h.rec h.set a.row a.known other (rw (← same) at not_kept)) a.known in
+    omega (arith, inside.to_come other, fits, high, bound.1, ap (λ (ys : List ℕ). length (ys ++ size)) (r.in_size head is not_kept))
 
 -- ---- the end of a dataset
 
 -- the limits after the dataset
-within_closed : (limits : Limits) (ds : List Dataset) (h : Head) (d : Dataset) (b : Bool) → is_kept h.rec ≡ b → head_of d ≡ h
+pub within_closed : (limits : Limits) (ds : List Dataset) (h : Head) (d : Dataset) (b : Bool) → is_kept h.rec ≡ b → head_of d ≡ h
     → (is_kept h.rec ≡ true → IsWithin limits (kept_octets ds + h.count) (length (kept ds) + 1)) → IsWithin limits (kept_octets ds) (length (kept ds))
     → IsWithin limits (kept_octets (ds ++ d ∷ [])) (length (kept (ds ++ d ∷ [])))
 within_closed limits ds h d true is head in_limits others =
@@ -377,92 +316,110 @@ within_closed limits ds h d false is head in_limits others =
     subst (λ (ks : List Dataset). IsWithin limits (length (joined ks)) (length ks)) (sym (kept_other ds d (subst (λ (k : Head). is_kept k.rec ≡ false) (sym head) is))) others
 
 -- what closes has taken all data of its dataset, unless that is a subfile
-pub closes_in : (f : FieldsPlace) (g : Head) → CanClose f → begun_head f.check ≡ Some g → IsIn f.check g × (g.rec ≢ 8 → length f.taken ≡ g.count)
-closes_in f g (h, n, inside, ended) is =
-    let same : h ≡ g = same_head h g (begun_head f.check) (head_in f.check h inside.head) is in (
-      subst (IsIn f.check) same inside.head,
-      (λ other.
-          let h_other : h.rec ≢ 8 = λ eight. other (ap (λ (k : Head). k.rec) (sym same) ∙ eight) in
-          let rest : n ≡ 0 = elim ended [
-            | inl eight ↦ absurd (h_other eight)
-            | inr done ↦ done
-          ] in
-          let long : length f.taken ≡ h.count = omega (arith, inside.to_come h_other, rest) in
-          long ∙ ap (λ (k : Head). k.count) same),
-    )
+pub closes_in : {f : FieldsPlace} {g : Head} → CanClose f → begun_head f.check ≡ Some g → IsIn f.check g × (g.rec ≢ 8 → length f.taken ≡ g.count)
+closes_in {f} {g} (h, n, inside, ended) is =
+    let same : h ≡ g = same_head h g (begun_head f.check) (head_in f.check h inside.head) is in
+    let long : h.rec ≢ 8 → length f.taken ≡ h.count = λ other. elim ended [
+      | inl eight ↦ absurd (other eight)
+      | inr done ↦ omega (arith, inside.to_come other, done)
+    ] in
+    (subst (IsIn f.check) same inside.head, subst (λ (k : Head). k.rec ≢ 8 → length f.taken ≡ k.count) same long)
 
 -- a subfile ends
-pub closed_subfile : (f new : FieldsPlace) (g : Head) → IsIn f.check g → g.rec ≡ 8 → IsBetween new → ((ds : List Dataset) → HasChecked f.check ds → HasChecked new.check ds) → new.limits ≡ f.limits → new.kept ≡ f.kept → new.taken ≡ f.taken
-    → (ds : List Dataset) (h : Head) (taken : List ℕ) → StandsIn f ds h taken → (d : Dataset) → IsOf h taken d → StandsAfter new (ds ++ d ∷ []) × (None ≡ number_told d)
-closed_subfile f new g a eight between on limits_are kept_same taken_same ds h taken s d of =
-    let h_eight : h.rec ≡ 8 = ap (λ (k : Head). k.rec) (in_begun f g a ds h taken s) ∙ eight in (
-      stands_subfile f new ds h taken d h_eight between on limits_are kept_same taken_same s of.head of.octets,
-      ap (λ (r : ℕ). cond (tells_number r) (Some (Rattle.iim_dataset.specs.Format.Octets.number d.octets)) None) (sym (ap (λ (k : Head). k.rec) of.head ∙ h_eight)),
+pub closed_subfile : {check new : Option RecordPlace} {limits : Limits} {f : FieldsPlace} {g : Head} (store : Store) (size : List ℕ)
+    → place_of check limits store size ≡ f → IsIn check g → g.rec ≡ 8 → AwaitsHead new → ((ds : List Dataset) → HasChecked check ds → HasChecked new ds)
+    → (ds : List Dataset) (h : Head) (taken : List ℕ) → StandsIn f ds h taken → (d : Dataset) → IsOf h taken d
+    → StandsAfter (place_of new limits store size) (ds ++ d ∷ []) × (None ≡ number_told d)
+closed_subfile {check} {limits = limits} {g = g} store size view a eight between on ds h taken stands d of =
+    let s = rw (← view) at stands in
+    let h_eight : h.rec ≡ 8 = ap (λ (k : Head). k.rec) (in_begun (place_of check limits store size) g a ds h taken s) ∙ eight in
+    let d_eight : d.rec ≡ 8 = ap (λ (k : Head). k.rec) of.head ∙ h_eight in
+    let checked = on (ds ++ d ∷ []) (s.checked.subfile h_eight d of.head of.octets) in
+    let same = kept_other ds d (ap is_kept d_eight) in (
+      record {
+        between = between;
+        checked = checked;
+        alive = checked.alive;
+        within = subst (λ (ks : List Dataset). IsWithin limits (length (joined ks)) (length ks)) (sym same) s.others;
+        kept_are = s.kept_are ∙ sym same;
+        taken_are = s.taken_are ∙ s.nothing h_eight;
+      },
+      ap (λ (r : ℕ). cond (tells_number r) (Some (Rattle.iim_dataset.specs.Format.Octets.number d.octets)) None) (sym d_eight),
     )
-
-pub somewhere_subfile : (f new : FieldsPlace) (g : Head) → (f.check ≡ None) ⊎ StandsSomewhere f → IsIn f.check g → g.rec ≡ 8 → IsBetween new → ((ds : List Dataset) → HasChecked f.check ds → HasChecked new.check ds) → new.limits ≡ f.limits
-    → new.kept ≡ f.kept → new.taken ≡ f.taken → StandsSomewhere new
-somewhere_subfile f new g stands a eight between on limits_are kept_same taken_same =
-    let (ds, h, taken, s) = inside_in f g stands a in
-    let h_eight : h.rec ≡ 8 = ap (λ (k : Head). k.rec) (in_begun f g a ds h taken s) ∙ eight in
-    let (d, is, octets) = some_data h in
-    inl (ds ++ d ∷ [], stands_subfile f new ds h taken d h_eight between on limits_are kept_same taken_same s is octets)
 
 -- what was kept of a dataset that ended
 pub data Kept (old : List Dataset) (d : Dataset) (new : List Dataset) : Type 0 where
   Added : is_kept d.rec ≡ true → new ≡ old ++ d ∷ [] → Kept old d new
   Passed : is_kept d.rec ≡ false → new ≡ old → Kept old d new
 
-kept_now : (ds : List Dataset) (d : Dataset) (old new : List Dataset) → old ≡ kept ds → Kept old d new → new ≡ kept (ds ++ d ∷ [])
+pub kept_now : (ds : List Dataset) (d : Dataset) (old new : List Dataset) → old ≡ kept ds → Kept old d new → new ≡ kept (ds ++ d ∷ [])
 kept_now ds d old new is (Added keeps more) = more ∙ (ap (λ (ks : List Dataset). ks ++ d ∷ []) is ∙ sym (kept_more ds d keeps))
 kept_now ds d old new is (Passed passes same) = same ∙ (is ∙ sym (kept_other ds d passes))
 
 -- the value was taken
-pub stands_closed : (f new : FieldsPlace) (g : Head) (number : Option ℕ) → IsIn f.check g → g.rec ≢ 8 → IsBetween new → length f.taken ≡ g.count → new.limits ≡ f.limits → new.taken ≡ [] → Kept f.kept (data_of g f.taken) new.kept
-    → ((ds : List Dataset) (h : Head) → IsChecking f.check ds h → HasChecked new.check (ds ++ data_of h f.taken ∷ []) × (number ≡ number_told (data_of h f.taken)))
-    → (ds : List Dataset) (h : Head) (taken : List ℕ) → StandsIn f ds h taken → (d : Dataset) → IsOf h taken d → StandsAfter new (ds ++ d ∷ []) × (number ≡ number_told d)
-stands_closed f new g number a g_other between all limits_are none keeps on ds h taken s d of =
-    let same = in_begun f g a ds h taken s in
+pub stands_closed : {check new : Option RecordPlace} {limits : Limits} {store : Store} {size xs : List ℕ} {f : FieldsPlace} {g : Head} {number : Option ℕ}
+    → (last : Store) (more : List ℕ) → IsReading check limits store size → place_of check limits store size ≡ f → IsIn check g → g.rec ≢ 8 → AwaitsHead new
+    → xs ≡ begun_octets store ++ size → begun_octets last ++ more ≡ [] → Kept (fields_of store) (data_of g (begun_octets store ++ size)) (fields_of last)
+    → ((ds : List Dataset) (h : Head) → IsChecking check ds h → HasChecked new (ds ++ data_of h xs ∷ []) × (number ≡ number_told (data_of h xs)))
+    → (ds : List Dataset) (h : Head) (taken : List ℕ) → StandsIn f ds h taken → (d : Dataset) → IsOf h taken d
+    → StandsAfter (place_of new limits last more) (ds ++ d ∷ []) × (number ≡ number_told d)
+stands_closed {check} {new} {limits} {store} {size} {xs} {g = g} last more r view a g_other between xs_are none keeps on ds h taken stands d of =
+    let s = rw (← view) at stands in
+    let same = in_begun (place_of check limits store size) g a ds h taken s in
     let other : h.rec ≢ 8 = λ eight. g_other (ap (λ (k : Head). k.rec) (sym same) ∙ eight) in
     let one = on ds h (s.checked.checking other) in
     let head = of.head in
-    let d_is : data_of h f.taken ≡ d = λ i. record {
+    let d_is : data_of h (begun_octets store ++ size) ≡ d = λ i. record {
       rec = sym (ap (λ (k : Head). k.rec) head) i;
       set = sym (ap (λ (k : Head). k.set) head) i;
       octets = (s.taken_are ∙ sym (of.given other)) i;
     } in
-    let g_is : data_of g f.taken ≡ d = ap (λ (k : Head). data_of k f.taken) (sym same) ∙ d_is in
-    let checked : HasChecked new.check (ds ++ d ∷ []) = subst (λ (x : Dataset). HasChecked new.check (ds ++ x ∷ [])) d_is one.0 in (
+    let x_is : data_of h xs ≡ d = ap (data_of h) xs_are ∙ d_is in
+    let g_is : data_of g (begun_octets store ++ size) ≡ d = ap (λ (k : Head). data_of k (begun_octets store ++ size)) (sym same) ∙ d_is in
+    let checked : HasChecked new (ds ++ d ∷ []) = subst (λ (x : Dataset). HasChecked new (ds ++ x ∷ [])) x_is one.0 in (
       record {
         between = between;
         checked = checked;
         alive = checked.alive;
-        within = subst (λ (l : Limits). IsWithin l (kept_octets (ds ++ d ∷ [])) (length (kept (ds ++ d ∷ [])))) (sym limits_are)
-            (within_closed f.limits ds h d (is_kept h.rec) refl head s.within s.others);
-        kept_are = kept_now ds d f.kept new.kept s.kept_are (subst (λ (x : Dataset). Kept f.kept x new.kept) g_is keeps);
+        within = within_closed limits ds h d (is_kept h.rec) refl head s.within s.others;
+        kept_are = kept_now ds d (fields_of store) (fields_of last) s.kept_are (subst (λ (x : Dataset). Kept (fields_of store) x (fields_of last)) g_is keeps);
         taken_are = none;
       },
-      one.1 ∙ ap number_told d_is,
+      one.1 ∙ ap number_told x_is,
     )
 
 -- the value was refused
-pub refused_value : (f : FieldsPlace) (g : Head) (xs : List ℕ) (fault : FieldFault) → IsIn f.check g → g.rec ≢ 8 → xs ≡ f.taken → ((ds : List Dataset) (h : Head) → IsChecking f.check ds h → IsValueFault ds (data_of h xs) fault)
-    → (ds : List Dataset) (h : Head) (taken : List ℕ) → StandsIn f ds h taken → IsValueFault ds (data_of h taken) fault
-refused_value f g xs fault a g_other same on ds h taken s =
-    let other : h.rec ≢ 8 = λ eight. g_other (ap (λ (k : Head). k.rec) (sym (in_begun f g a ds h taken s)) ∙ eight) in
+pub refused_value : {check : Option RecordPlace} {limits : Limits} {store : Store} {size xs : List ℕ} {f : FieldsPlace} {g : Head} {fault : FieldFault}
+    → IsReading check limits store size → place_of check limits store size ≡ f → IsIn check g → g.rec ≢ 8 → xs ≡ begun_octets store ++ size
+    → ((ds : List Dataset) (h : Head) → IsChecking check ds h → IsValueFault ds (data_of h xs) fault) → (ds : List Dataset) (h : Head) (taken : List ℕ)
+    → StandsIn f ds h taken → IsValueFault ds (data_of h taken) fault
+refused_value {check} {limits} {store} {size} {g = g} {fault} r view a g_other same on ds h taken stands =
+    let s = rw (← view) at stands in
+    let other : h.rec ≢ 8 = λ eight. g_other (ap (λ (k : Head). k.rec) (sym (in_begun (place_of check limits store size) g a ds h taken s)) ∙ eight) in
     subst (λ (ys : List ℕ). IsValueFault ds (data_of h ys) fault) (same ∙ s.taken_are) (on ds h (s.checked.checking other))
 
+-- a dataset of the head, which has these data unless it is a subfile
+data_for : (h : Head) (taken : List ℕ) → Octets taken → (h.rec ≢ 8 → length taken ≡ h.count) → (d : Dataset) × IsOf h taken d
+data_for h taken fit long = elim (eqb_tells h.rec 8) [
+  | inl eight ↦ let (d, is, octets) = some_data h in (d, record { head = is; octets = octets; given = λ other. absurd (other eight.1) })
+  | inr other ↦
+      let count = long other.1 in
+      (data_of h taken, record { head = (λ i. record { rec = h.rec; set = h.set; count = count i }); octets = fit; given = λ _. refl })
+]
+
 -- it stands somewhere after the value
-pub somewhere_closed : (f new : FieldsPlace) (g : Head) (number : Option ℕ) → (f.check ≡ None) ⊎ StandsSomewhere f → IsIn f.check g → length f.taken ≡ g.count
-    → ((ds : List Dataset) (h : Head) (taken : List ℕ) → StandsIn f ds h taken → (d : Dataset) → IsOf h taken d → StandsAfter new (ds ++ d ∷ []) × (number ≡ number_told d)) → StandsSomewhere new
-somewhere_closed f new g number stands a all on =
+pub somewhere_closed : {f new : FieldsPlace} {g : Head} {number : Option ℕ} → (f.check ≡ None) ⊎ StandsSomewhere f → IsIn f.check g
+    → (g.rec ≢ 8 → length f.taken ≡ g.count) → ((ds : List Dataset) (h : Head) (taken : List ℕ) → StandsIn f ds h taken → (d : Dataset) → IsOf h taken d
+    → StandsAfter new (ds ++ d ∷ []) × (number ≡ number_told d)) → StandsSomewhere new
+somewhere_closed {f} {g = g} stands a all on =
     let (ds, h, taken, s) = inside_in f g stands a in
     let same = in_begun f g a ds h taken s in
-    let long : length taken ≡ h.count = ap (λ (ys : List ℕ). length ys) (sym s.taken_are) ∙ (all ∙ ap (λ (k : Head). k.count) (sym same)) in
-    inl (ds ++ data_of h taken ∷ [], (on ds h taken s (data_of h taken) (record { head = (λ i. record { rec = h.rec; set = h.set; count = long i }); octets = s.octets; given = λ _. refl })).0)
+    let long : h.rec ≢ 8 → length taken ≡ h.count =
+    subst (λ (k : Head). k.rec ≢ 8 → length taken ≡ k.count) (sym same) (subst (λ (ys : List ℕ). g.rec ≢ 8 → length ys ≡ g.count) s.taken_are all) in
+    let d = data_for h taken s.octets long in inl (ds ++ d.0 ∷ [], (on ds h taken s d.0 d.1).0)
 
 -- nothing is begun
-no_head : (check : Option RecordPlace) → checks.AwaitsHead check → (h : Head) → begun_head check ≡ Some h → ⊥
+no_head : (check : Option RecordPlace) → AwaitsHead check → (h : Head) → begun_head check ≡ Some h → ⊥
 no_head check t h e = let clash = sym e ∙ none_between check t in cc
 
 -- the dataset is kept in the store
@@ -487,39 +444,33 @@ kept_in_store old new size h none is keeps octets entries =
       in_store_alone new size none ∙ begun_held new _ [] holds,
     )
 
-pub reading_kept : (check after : Option RecordPlace) (limits : Limits) (old new : Store) (size : List ℕ) (h : Head) → IsReading check limits old size → checks.AwaitsHead after → begun_head check ≡ Some h → is_kept h.rec ≡ true
-    → new.octets ≡ old.octets → new.entries.items ≡ old.entries.items ++ record { rec = h.rec; set = h.set; end = length old.octets.items } ∷ [] → vec_capacity new.entries ≡ vec_capacity old.entries
-    → StandsSomewhere (place_of after limits new size) → IsReading after limits new size
-reading_kept check after limits old new size h r t is keeps octets entries capacity somewhere = record {
-  room = record {
-    small_octets = r.room.small_octets;
-    small_fields = r.room.small_fields;
-    octets = omega (arith, r.room.octets, ap (λ v. v.room) octets);
-    entries = omega (arith, r.room.entries, capacity);
-  };
-  store_is = store_is new _ [] (holds_kept_more old new h r.store_is octets entries);
+-- nothing is begun
+pub reading_between : {check : Option RecordPlace} {limits : Limits} {store : Store} {size : List ℕ} → HasRoom limits store → IsStore store → AwaitsHead check
+    → StandsSomewhere (place_of check limits store size) → IsReading check limits store size
+reading_between {check} room is t somewhere = record {
+  room = room;
+  store_is = is;
   stands = inr somewhere;
-  in_store = λ g e _. absurd (no_head after t g e);
-  in_size = λ g e _. absurd (no_head after t g e);
+  in_store = λ g e _. absurd (no_head check t g e);
+  in_size = λ g e _. absurd (no_head check t g e);
 }
 
-pub reading_passed : (check after : Option RecordPlace) (limits : Limits) (store : Store) (old new : List ℕ) → IsReading check limits store old → checks.AwaitsHead after → StandsSomewhere (place_of after limits store new) → IsReading after limits store new
-reading_passed check after limits store old new r t somewhere = record {
-  room = r.room;
-  store_is = r.store_is;
-  stands = inr somewhere;
-  in_store = λ g e _. absurd (no_head after t g e);
-  in_size = λ g e _. absurd (no_head after t g e);
-}
+pub reading_kept : {check after : Option RecordPlace} {limits : Limits} {old new : Store} {size : List ℕ} (h : Head) → IsReading check limits old size
+    → AwaitsHead after
+    → new.octets ≡ old.octets → new.entries.items ≡ old.entries.items ++ record { rec = h.rec; set = h.set; end = length old.octets.items } ∷ []
+    → vec_capacity new.entries ≡ vec_capacity old.entries → StandsSomewhere (place_of after limits new size) → IsReading after limits new size
+reading_kept {limits = limits} {old} {new} h r t octets entries capacity somewhere =
+    let room : HasRoom limits new = omega (arith, r.room, ap (λ v. v.room) octets, capacity) in
+    reading_between room (store_is new _ [] (holds_kept_more old new h r.store_is octets entries)) t somewhere
 
 -- there is room for one entry more
-pub entry_room : (check : Option RecordPlace) (limits : Limits) (store : Store) (size : List ℕ) (h : Head) → IsReading check limits store size → IsIn check h → is_kept h.rec ≡ true → vec_len store.entries < vec_capacity store.entries
-entry_room check limits store size h r a keeps =
+pub entry_room : {check : Option RecordPlace} {limits : Limits} {store : Store} {size : List ℕ} {h : Head} → IsReading check limits store size → IsIn check h
+    → is_kept h.rec ≡ true → vec_len store.entries < vec_capacity store.entries
+entry_room {check} {limits} {store} {size} {h} r a keeps =
     let (ds, g, taken, s) = inside_in (place_of check limits store size) h r.stands a in
     let same = in_begun (place_of check limits store size) h a ds g taken s in
     let w = s.within (ap (λ (k : Head). is_kept k.rec) same ∙ keeps) in
-    let c = counts store (kept ds) (begun_octets store) (holds_kept store ds r.store_is s.kept_are) in
-    omega (arith, c.1, w.fields_in, r.room.entries)
+    let c = counts store (kept ds) (begun_octets store) (holds_kept store ds r.store_is s.kept_are) in omega (arith, c.1, w.fields_in, r.room.entries)
 
 -- ---- the section
 

@@ -54,6 +54,7 @@ impl RecordPlace {
 
     /// Takes a whole dataset that may stand next, where none is begun; or changes nothing.
     #[inline(always)]
+    #[tactic(auto, using(crate::proofs::Wholes::first_fails, crate::proofs::Wholes::neither_fails))]
     fn whole(&mut self, head: Head, octets: &[u8]) -> bool
         requires { head.count ≡ length octets.now }
         ensures exactly { result ≡ is_none (place_fault self.old head octets.now) }
@@ -85,6 +86,7 @@ impl RecordPlace {
 
     /// Takes a whole subfile whose head may stand next; or changes nothing.
     #[inline(always)]
+    #[tactic(auto, using(crate::proofs::Subfiles::takes_subfile_by))]
     fn whole_subfile(&mut self, head: Head) -> bool
         requires subfile { head.rec ≡ 8 }
         ensures exactly { result ≡ is_none (head_fault self.old.order.rec (has_seen self.old.order) head) }

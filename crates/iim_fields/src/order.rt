@@ -258,6 +258,7 @@ impl Order {
 
     /// Whether the head of a subfile may stand next, as `admits_more` and `admits_next` tell by its row.
     #[inline(always)]
+    #[tactic(auto, using(crate::proofs::Subfiles::subfile_admitted))]
     pub(crate) fn admits_subfile(&self, head: Head) -> bool
         requires { head.rec ≡ 8 }
         ensures { result ≡ is_none (head_fault self.now.rec (has_seen self.now) head) }

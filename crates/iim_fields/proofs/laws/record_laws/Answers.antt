@@ -1,9 +1,9 @@
+use Rattle.iim_fields.proofs.Words.{HeadsDieWithTheirFault, ValuesDieWithTheirFault}
 use Rattle.iim_fields.proofs.Table.{EachRowHasValues}
-use Rattle.iim_fields.specs.Laws.Records.{HeadsDieWithTheirFault, ValuesDieWithTheirFault}
 use Rattle.iim_fields.proofs.Dies.{head_alive, head_no_fault, head_octet, value_alive, value_no_fault}
 use Rattle.iim_fields.proofs.Telling.{heads_tell, values_tell}
 use Rattle.iim_fields.proofs.Endings.{envelopes_end, no_sections_begin_others}
-use Rattle.iim_fields.proofs.OnePlace.{one_place}
+use Rattle.iim_fields.proofs.Checking.{one_place}
 use Rattle.iim_fields.proofs.Copying.{added}
 use Rattle.iim_fields.proofs.laws.record_laws.Goals as goal
 

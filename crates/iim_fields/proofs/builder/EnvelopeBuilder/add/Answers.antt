@@ -1,51 +1,39 @@
-use Rattle.std.proofs.Common.{◌≡◌, List, ℕ, length-append, ◌∷◌, ◌++◌, [], length, sym, ap, ◌∙◌, subst, Option, Some, None}
-use Rattle.std.specs.Prelude.{vec_capacity}
-use Rattle.iim_dataset.specs.Format.Datasets.{Dataset}
-use Rattle.iim_dataset.proofs.Lists.{handed_on}
-use Rattle.iim_fields.specs.Format.Faults.{room_fault}
-use Rattle.iim_fields.specs.States.Checks.{HasChecked}
-use Rattle.iim_fields.specs.StoreLayout.{fields_of}
-use Rattle.iim_fields.specs.States.Builders.{Building, add_fault}
-use Rattle.iim_fields.specs.declared.check.RecordPlace.{RecordPlace}
-use Rattle.iim_fields.proofs.Build.{Stored, added_room_fault, added_value_fault, added_fine, fields_more, building_more}
+use Rattle.std.proofs.Common.{◌≡◌, ◌∷◌, ◌++◌, [], sym, ap, ◌∙◌, Some, None}
+use Rattle.iim_fields.proofs.Words.{handed_on, Dataset, head_of, fields_of, Building, add_fault}
+use Rattle.iim_fields.proofs.Build.{Stored, added_as, checking_of, taken_kept, fields_more, building_more}
+use Rattle.iim_fields.proofs.Dies.{value_no_fault}
 use Rattle.iim_fields.proofs.builder.EnvelopeBuilder.add.Goals as goal
 
 pub returns-in-Some-clause-fault : goal.returns-in-Some-clause-fault
 returns-in-Some-clause-fault c =
     let d : Dataset = record { rec = c.args.rec; set = c.args.set; octets = c.args.octets.now } in
-    let store = c.self.inside.store in
-    let taken = c.in_ok-head.ensures.stands (fields_of store) (subst (λ (k : Option RecordPlace). HasChecked k (fields_of store)) (sym c.copied-check.ensures) c.self.invariant.checked) in
-    let some = sym (λ i. room_fault c.self.inside.limits (c.len-kept.ensures i) (c.len.ensures i) (record { rec = d.rec; set = d.set; count = length d.octets })) ∙ (sym c.room_fault.ensures ∙ c.in-Some.is) in
-    subst (λ (b : Building). add_fault b.limits b.fields d ≡ Some c.in-Some.fault) c.self.view_is
-    (added_room_fault c.self.inside.check c.head.new.self c.self.inside.limits store d c.in-Some.fault c.self.invariant (sym c.is_kept.ensures ∙ c.if-not-is_kept.false) taken some)
+    added_as c.len-kept.result c.len.result (Some c.in-Some.fault) d c.self.invariant c.self.view_is (sym c.is_kept.ensures ∙ c.if-not-is_kept.false)
+    c.copied-check.ensures c.in_ok-head.ensures.stands c.len-kept.ensures c.len.ensures (sym c.in-Some.is ∙ c.room_fault.ensures)
 
 pub returns-in_err-value-clause-fault : goal.returns-in_err-value-clause-fault
 returns-in_err-value-clause-fault c =
     let d : Dataset = record { rec = c.args.rec; set = c.args.set; octets = c.args.octets.now } in
-    let store = c.self.inside.store in
-    let taken = c.in_ok-head.ensures.stands (fields_of store) (subst (λ (k : Option RecordPlace). HasChecked k (fields_of store)) (sym c.copied-check.ensures) c.self.invariant.checked) in
-    let none = sym (λ i. room_fault c.self.inside.limits (c.len-kept.ensures i) (c.len.ensures i) (record { rec = d.rec; set = d.set; count = length d.octets })) ∙ (sym c.room_fault.ensures ∙ c.in_default.is) in
-    handed_on (λ fault. add_fault c.args.self.now.limits c.args.self.now.fields d ≡ Some fault) c.from_residual-in_err-value.result c.in_err-value.field-0.0 c.from_residual-in_err-value.ensures.1
-    (subst (λ (b : Building). add_fault b.limits b.fields d ≡ Some c.in_err-value.field-0.0) c.self.view_is
-    (added_value_fault c.self.inside.check c.head.new.self c.self.inside.limits store d c.in_err-value.field-0.0 c.self.invariant (sym c.is_kept.ensures ∙ c.if-not-is_kept.false) taken none c.in_err-value.ensures.fault))
+    let keeps = sym c.is_kept.ensures ∙ c.if-not-is_kept.false in
+    let checking = checking_of d c.self.invariant keeps c.copied-check.ensures c.in_ok-head.ensures.stands in
+    handed_on (λ fault. add_fault c.args.self.now.limits c.args.self.now.fields d ≡ Some fault) c.from_residual-in_err-value.result c.in_err-value.field-0.0
+    c.from_residual-in_err-value.ensures.1
+    (added_as c.len-kept.result c.len.result None d c.self.invariant c.self.view_is keeps c.copied-check.ensures c.in_ok-head.ensures.stands
+    c.len-kept.ensures c.len.ensures (sym c.in_default.is ∙ c.room_fault.ensures)
+    ∙ (c.in_err-value.ensures.fault (fields_of c.self.inside.store) (head_of d) checking).first)
 
 pub returns-clause-admitted : goal.returns-clause-admitted
 returns-clause-admitted c =
     let d : Dataset = record { rec = c.args.rec; set = c.args.set; octets = c.args.octets.now } in
-    let store = c.self.inside.store in
-    let taken = c.in_ok-head.ensures.stands (fields_of store) (subst (λ (k : Option RecordPlace). HasChecked k (fields_of store)) (sym c.copied-check.ensures) c.self.invariant.checked) in
-    let none = sym (λ i. room_fault c.self.inside.limits (c.len-kept.ensures i) (c.len.ensures i) (record { rec = d.rec; set = d.set; count = length d.octets })) ∙ (sym c.room_fault.ensures ∙ c.in_default.is) in
-    subst (λ (b : Building). add_fault b.limits b.fields d ≡ None) c.self.view_is
-    (added_fine c.self.inside.check c.head.new.self c.value.new.self c.self.inside.limits store d c.in_ok-value.field-0 c.self.invariant (sym c.is_kept.ensures ∙ c.if-not-is_kept.false) taken none c.in_ok-value.ensures.stands)
+    let keeps = sym c.is_kept.ensures ∙ c.if-not-is_kept.false in
+    let checking = checking_of d c.self.invariant keeps c.copied-check.ensures c.in_ok-head.ensures.stands in
+    added_as c.len-kept.result c.len.result None d c.self.invariant c.self.view_is keeps c.copied-check.ensures c.in_ok-head.ensures.stands
+    c.len-kept.ensures c.len.ensures (sym c.in_default.is ∙ c.room_fault.ensures)
+    ∙ value_no_fault (fields_of c.self.inside.store) d (c.in_ok-value.ensures.stands (fields_of c.self.inside.store) (head_of d) checking).0.alive
 
 -- the store has the dataset
 stored : (c : goal.After-keep) → Stored c.self.inside.store c.keep.new.self (record { rec = c.args.rec; set = c.args.set; octets = c.args.octets.now })
-stored c = record {
-  octets = ap (λ v. v.items) c.keep.ensures.octets ∙ c.take.ensures.octets;
-  entries = c.keep.ensures.entries ∙ (λ i. (c.take.ensures.entries i).items ++ record { rec = c.args.rec; set = c.args.set; end = (ap (λ (xs : List ℕ). length xs) c.take.ensures.octets ∙ length-append c.self.inside.store.octets.items c.args.octets.now) i } ∷ []);
-  octets_room = ap (λ v. v.room) c.keep.ensures.octets ∙ c.take.ensures.capacity;
-  entries_room = c.keep.ensures.capacity ∙ ap (λ v. vec_capacity v) c.take.ensures.entries;
-}
+stored c = taken_kept c.self.inside.store c.take.new.self c.keep.new.self c.args.rec c.args.set c.args.octets.now
+    c.take.ensures.octets c.take.ensures.entries c.take.ensures.capacity c.keep.ensures.octets c.keep.ensures.entries c.keep.ensures.capacity
 
 pub returns-clause-added : goal.returns-clause-added
 returns-clause-added c =
@@ -57,8 +45,7 @@ returns-clause-added c =
 pub invariant_of-self : goal.invariant_of-self
 invariant_of-self c =
     let d : Dataset = record { rec = c.args.rec; set = c.args.set; octets = c.args.octets.now } in
-    let store = c.self.inside.store in
-    let taken = c.in_ok-head.ensures.stands (fields_of store) (subst (λ (k : Option RecordPlace). HasChecked k (fields_of store)) (sym c.copied-check.ensures) c.self.invariant.checked) in
-    let none = sym (λ i. room_fault c.self.inside.limits (c.len-kept.ensures i) (c.len.ensures i) (record { rec = d.rec; set = d.set; count = length d.octets })) ∙ (sym c.room_fault.ensures ∙ c.in_default.is) in
-    building_more c.self.inside.check c.head.new.self c.value.new.self c.self.inside.limits store c.keep.new.self d c.in_ok-value.field-0 c.self.invariant (sym c.is_kept.ensures ∙ c.if-not-is_kept.false) taken none
-    c.in_ok-value.ensures.stands (stored c)
+    let keeps = sym c.is_kept.ensures ∙ c.if-not-is_kept.false in
+    let checking = checking_of d c.self.invariant keeps c.copied-check.ensures c.in_ok-head.ensures.stands in
+    building_more c.len-kept.result c.len.result d c.self.invariant keeps c.len-kept.ensures c.len.ensures (sym c.in_default.is ∙ c.room_fault.ensures)
+    (c.in_ok-value.ensures.stands (fields_of c.self.inside.store) (head_of d) checking).0 (stored c)

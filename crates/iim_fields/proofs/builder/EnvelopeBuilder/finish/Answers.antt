@@ -1,5 +1,5 @@
 use Rattle.std.proofs.Common.{◌≡◌, sym, ◌∙◌, subst, Some, None}
-use Rattle.iim_fields.specs.States.Builders.{Building, finish_fault}
+use Rattle.iim_fields.proofs.Words.{Building, finish_fault}
 use Rattle.iim_fields.proofs.Finish.{finish_is, envelope_store}
 use Rattle.iim_fields.proofs.builder.EnvelopeBuilder.finish.Goals as goal
 

@@ -1,9 +1,6 @@
 use Rattle.std.proofs.Common.{◌≡◌, ◌++◌, List, ap, append_assoc, sym, ◌∙◌}
 use Rattle.std.proofs.lemmas.Result.{IfOk-at_ok}
-use Rattle.iim_dataset.specs.Format.Datasets.{Dataset}
-use Rattle.iim_fields.specs.States.Builders.{Building, passed_by}
-use Rattle.iim_fields.specs.Format.Faults.{limit_passed}
-use Rattle.iim_fields.specs.States.Walks.{rest_of}
+use Rattle.iim_fields.proofs.Words.{Dataset, Building, passed_by, limit_passed, rest_of}
 use Rattle.iim_fields.proofs.Copying.{takes}
 use Rattle.iim_fields.proofs.builder.EnvelopeBuilder.from.Goals as goal
 

@@ -1,5 +1,5 @@
 use Rattle.std.proofs.Common.{◌≡◌, ◌++◌}
-use Rattle.iim_fields.specs.States.Walks.{rest_of}
+use Rattle.iim_fields.proofs.Words.{rest_of}
 use Rattle.iim_fields.proofs.builder.EnvelopeBuilder.from.Given as goal
 
 -- what was added, and what is left, are the envelope

@@ -1,6 +1,5 @@
 use Rattle.std.proofs.Common.{[], subst, inl}
-use Rattle.std.proofs.lemmas.Option.{same_Some}
-use Rattle.iim_fields.specs.Checking.{IsRecordPlace}
+use Rattle.iim_fields.proofs.Words.{same_Some, IsRecordPlace}
 use Rattle.iim_fields.proofs.Checking.{checked_start}
 use Rattle.iim_fields.proofs.check.RecordCheck.new.Goals as goal
 

@@ -1,23 +1,11 @@
 use Rattle.std.proofs.Common.{rules}
-use Rattle.iim_fields.proofs.Wholes.{first_fails, neither_fails, takes_whole}
+use Rattle.iim_fields.proofs.Wholes.{takes_whole}
 use Rattle.iim_fields.proofs.check.RecordPlace.whole.Goals as goal
-
-pub returns-then-not-admits_more-clause-exactly : goal.returns-then-not-admits_more-clause-exactly
-returns-then-not-admits_more-clause-exactly c = search (rules, first_fails)
-
-pub returns-then-head-present-clause-exactly : goal.returns-then-head-present-clause-exactly
-returns-then-head-present-clause-exactly c = search (rules, neither_fails)
 
 pub returns-then-head-present-clause-took : goal.returns-then-head-present-clause-took
 returns-then-head-present-clause-took c = λ is.
     takes_whole _ _ _ _ c.in-Some.row.now _ _ c.in-Some.ensures c.admits_more.ensures.exactly c.is_value.ensures
     c.if-not-admits_more.false c.if-not-is_value.false (search rules) (search rules)
-
-pub returns-then-not-admits_next-clause-exactly : goal.returns-then-not-admits_next-clause-exactly
-returns-then-not-admits_next-clause-exactly c = search (rules, first_fails)
-
-pub returns-clause-exactly : goal.returns-clause-exactly
-returns-clause-exactly c = search (rules, neither_fails)
 
 pub returns-clause-took : goal.returns-clause-took
 returns-clause-took c = λ is.

@@ -1,10 +1,7 @@
 use Rattle.std.proofs.Common.{◌≡◌, Bool, true, ◌&&◌, nat_eq, refl, sym, ap, ◌∙◌, subst}
-use lib.Pointwise.{pointwise_decides, bytes_decides}
-use Rattle.std.proofs.lemmas.Bool.{and_parts, and_from, eqb-true, eq-eqb}
-use Rattle.iim_fields.specs.States.Stores.{fields_from}
-use Rattle.iim_fields.specs.StoreLayout.{entries_of}
-use Rattle.iim_fields.specs.declared.store.Entry.{Entry}
 use Rattle.iim_fields.specs.contracts.store.EntryPartialEq.TheImpl.{eq-value}
+use Rattle.iim_fields.proofs.Words.{and_parts, and_from, eqb-true, eq-eqb, fields_from, entries_of, Entry}
+use lib.Pointwise.{pointwise_decides, bytes_decides}
 use Rattle.iim_fields.proofs.envelope.Envelope.same.Goals as goal
 
 -- entries are equal where their numbers and ends are

@@ -1,6 +1,5 @@
 use Rattle.std.proofs.Common.{◌≡◌}
-use Rattle.iim_fields.specs.Format.Views.{first_data}
-use Rattle.iim_fields.specs.States.Walks.{rest_of}
+use Rattle.iim_fields.proofs.Words.{first_data, rest_of}
 use Rattle.iim_fields.proofs.envelope_ref.EnvelopeRef.first.Given as goal
 
 abbrev pub invariant-loop-field_rec : goal.invariant-loop-field_rec

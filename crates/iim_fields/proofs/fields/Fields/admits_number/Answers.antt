@@ -1,12 +1,6 @@
 use Rattle.std.proofs.Common.{◌≡◌, ℕ, List, subst}
-use Rattle.std.specs.Prelude.{is_none}
-use Rattle.std.specs.Option.{option_or}
-use Rattle.iim_dataset.specs.Format.Datasets.{Dataset}
-use Rattle.iim_fields.specs.Format.Faults.{first_fault, value_fault}
-use Rattle.iim_fields.specs.Format.Values.{data_of}
-use Rattle.iim_fields.specs.States.Admitting.{Spells}
-use Rattle.iim_fields.specs.States.Standing.{FieldsPlace, StandsAfter, limits_of}
-use Rattle.iim_fields.proofs.Admitted.{admits_exactly}
+use Rattle.iim_fields.proofs.Words.{is_none, option_or, Dataset, first_fault, value_fault, data_of, Spells, FieldsPlace, StandsAfter, limits_of}
+use Rattle.iim_fields.proofs.Wholes.{admits_exactly}
 use Rattle.iim_fields.proofs.fields.Fields.admits_number.Goals as goal
 
 pub returns : goal.returns

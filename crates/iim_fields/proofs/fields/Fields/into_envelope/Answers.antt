@@ -1,6 +1,6 @@
 use Rattle.std.proofs.Common.{◌≡◌, false, true, sym, subst, ◌∙◌}
-use Rattle.iim_fields.specs.States.Standing.{IsEnded}
-use Rattle.iim_fields.proofs.Keeping.{whole_where_ended, ended_where_whole, ended_store}
+use Rattle.iim_fields.proofs.Words.{IsEnded}
+use Rattle.iim_fields.proofs.Finish.{whole_where_ended, ended_where_whole, ended_store}
 use Rattle.iim_fields.proofs.fields.Fields.into_envelope.Goals as goal
 
 pub returns-then-not-is_ended-clause-refused : goal.returns-then-not-is_ended-clause-refused

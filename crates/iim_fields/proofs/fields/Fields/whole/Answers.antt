@@ -1,68 +1,54 @@
-use Rattle.std.proofs.Common.{◌≡◌, List, [], ◌∷◌, ◌++◌, ap, sym, subst, ◌∙◌, arith, true, false, length}
-use Rattle.std.specs.Prelude.{is_none, vec_len}
-use Rattle.iim_dataset.specs.Format.Datasets.{Dataset}
-use Rattle.iim_fields.specs.Format.Values.{data_of}
-use Rattle.iim_fields.specs.Format.Faults.{room_fault}
-use Rattle.iim_fields.specs.States.Builders.{add_fault}
-use Rattle.iim_fields.specs.States.Standing.{FieldsPlace, StandsAfter, IsBetween, limits_of}
-use Rattle.iim_fields.specs.Reading.{place_of}
-use Rattle.iim_fields.proofs.Wholes.{Whole, none_where, octets_within, some_where, whole_passes, whole_within, whole_stands, whole_reading}
+use Rattle.std.proofs.Common.{◌≡◌, List, [], ◌∷◌, ◌++◌, sym, ◌∙◌, arith, refl}
+use Rattle.iim_fields.proofs.Words.{and_from, and_left, and_right, Dataset, data_of, StandsAfter, FieldsPlace, place_of}
+use Rattle.iim_fields.proofs.Build.{Stored, taken_kept}
+use Rattle.iim_fields.proofs.Stand.{kept_not_object}
+use Rattle.iim_fields.proofs.Wholes.{kept_whole, none_between, none_where, octets_within, reading_whole, stands_whole, stored_is, whole_exact}
 use Rattle.iim_fields.proofs.fields.Fields.whole.Goals as goal
 
 pub has_room-requires-clause-within : goal.has_room-requires-clause-within
-has_room-requires-clause-within c =
-    omega (arith, c.len-kept.ensures, octets_within c.self.inside.check c.self.inside.limits c.self.inside.store c.self.inside.size.items c.self.invariant (subst IsBetween (sym c.self.view_is) c.requires.between))
+has_room-requires-clause-within c = omega (arith, c.len-kept.ensures, octets_within c.self.invariant (rw (← c.self.view_is) at c.requires.between))
 
 pub returns-then-not-has_room-clause-exactly : goal.returns-then-not-has_room-clause-exactly
-returns-then-not-has_room-clause-exactly c =
-    subst (λ (f : FieldsPlace). (ds : List Dataset) → StandsAfter f ds → false ≡ is_none (add_fault (limits_of f) ds (data_of c.args.head c.args.octets.now))) c.self.view_is
-    (whole_passes c.self.inside.check c.self.inside.limits c.self.inside.store c.self.inside.size.items c.args.head c.args.octets.now c.self.invariant.store_is c.requires.count
-    (sym c.is_kept.ensures ∙ c.if-not-is_kept.false)
-    (some_where (room_fault c.self.inside.limits (length c.self.inside.store.octets.items) (vec_len c.self.inside.store.entries) c.args.head)
-    (ap is_none (sym (λ i. room_fault c.self.inside.limits (c.len-kept.ensures i) (c.len.ensures i) c.args.head)) ∙ (sym c.has_room.ensures ∙ c.if-not-has_room.true))))
+returns-then-not-has_room-clause-exactly c = λ ds s.
+    let exact = whole_exact c.len-kept.result c.len.result c.args.head c.args.octets.now c.self.invariant c.self.view_is c.len-kept.ensures c.len.ensures
+    c.requires.count (sym c.is_kept.ensures ∙ c.if-not-is_kept.false) ds s in
+    let room = sym c.has_room.ensures ∙ c.if-not-has_room.true in sym (exact ∙ and_right _ _ room)
 
 pub returns-then-not-whole-clause-exactly : goal.returns-then-not-whole-clause-exactly
-returns-then-not-whole-clause-exactly c =
-    subst (λ (f : FieldsPlace). (ds : List Dataset) → StandsAfter f ds → false ≡ is_none (add_fault (limits_of f) ds (data_of c.args.head c.args.octets.now))) c.self.view_is
-    (whole_within c.self.inside.check c.self.inside.limits c.self.inside.store c.self.inside.size.items c.args.head c.args.octets.now false c.self.invariant.store_is c.requires.count
-    (sym c.is_kept.ensures ∙ c.if-not-is_kept.false)
-    (none_where (room_fault c.self.inside.limits (length c.self.inside.store.octets.items) (vec_len c.self.inside.store.entries) c.args.head)
-    (ap is_none (sym (λ i. room_fault c.self.inside.limits (c.len-kept.ensures i) (c.len.ensures i) c.args.head)) ∙ (sym c.has_room.ensures ∙ c.if-not-has_room.false)))
-    (λ ds s. sym c.if-not-whole.true ∙ c.whole.ensures.exactly ds s))
+returns-then-not-whole-clause-exactly c = λ ds s.
+    let exact = whole_exact c.len-kept.result c.len.result c.args.head c.args.octets.now c.self.invariant c.self.view_is c.len-kept.ensures c.len.ensures
+    c.requires.count (sym c.is_kept.ensures ∙ c.if-not-is_kept.false) ds s in
+    let layer = sym c.if-not-whole.true ∙ c.whole.ensures.exactly ds (rw (← c.self.view_is) at s).checked in sym (exact ∙ and_left _ _ (sym layer))
 
 pub returns-clause-exactly : goal.returns-clause-exactly
-returns-clause-exactly c =
-    subst (λ (f : FieldsPlace). (ds : List Dataset) → StandsAfter f ds → true ≡ is_none (add_fault (limits_of f) ds (data_of c.args.head c.args.octets.now))) c.self.view_is
-    (whole_within c.self.inside.check c.self.inside.limits c.self.inside.store c.self.inside.size.items c.args.head c.args.octets.now true c.self.invariant.store_is c.requires.count
-    (sym c.is_kept.ensures ∙ c.if-not-is_kept.false)
-    (none_where (room_fault c.self.inside.limits (length c.self.inside.store.octets.items) (vec_len c.self.inside.store.entries) c.args.head)
-    (ap is_none (sym (λ i. room_fault c.self.inside.limits (c.len-kept.ensures i) (c.len.ensures i) c.args.head)) ∙ (sym c.has_room.ensures ∙ c.if-not-has_room.false)))
-    (λ ds s. sym c.if-not-whole.false ∙ c.whole.ensures.exactly ds s))
+returns-clause-exactly c = λ ds s.
+    let exact = whole_exact c.len-kept.result c.len.result c.args.head c.args.octets.now c.self.invariant c.self.view_is c.len-kept.ensures c.len.ensures
+    c.requires.count (sym c.is_kept.ensures ∙ c.if-not-is_kept.false) ds s in
+    let layer = sym c.if-not-whole.false ∙ c.whole.ensures.exactly ds (rw (← c.self.view_is) at s).checked in
+    let room = sym c.has_room.ensures ∙ c.if-not-has_room.false in sym (exact ∙ and_from _ _ (sym layer) room)
 
--- the check took the dataset
-whole : (c : goal.After-keep) → Whole c.self.inside.check c.whole.new.self c.self.inside.limits c.self.inside.store c.self.inside.size.items c.args.head c.args.octets.now
-whole c = record {
-  reading = c.self.invariant;
-  between = subst IsBetween (sym c.self.view_is) c.requires.between;
-  took = c.whole.ensures.took c.if-not-whole.false;
-  next = c.whole.ensures.between;
-  keeps = sym c.is_kept.ensures ∙ c.if-not-is_kept.false;
-  fits = none_where (room_fault c.self.inside.limits (length c.self.inside.store.octets.items) (vec_len c.self.inside.store.entries) c.args.head)
-      (ap is_none (sym (λ i. room_fault c.self.inside.limits (c.len-kept.ensures i) (c.len.ensures i) c.args.head)) ∙ (sym c.has_room.ensures ∙ c.if-not-has_room.false));
-  count = c.requires.count;
-  small = λ i. omega (arith, c.type_inv.octets i);
-}
+-- the store has the dataset
+stored : (c : goal.After-keep) → Stored c.self.inside.store c.keep.new.self (data_of c.args.head c.args.octets.now)
+stored c = taken_kept c.self.inside.store c.take.new.self c.keep.new.self c.args.head.rec c.args.head.set c.args.octets.now
+    c.take.ensures.octets c.take.ensures.entries c.take.ensures.capacity c.keep.ensures.octets c.keep.ensures.entries c.keep.ensures.capacity
+
+-- it stands after the dataset
+stands : (c : goal.After-keep) (f : FieldsPlace) → place_of c.self.inside.check c.self.inside.limits c.self.inside.store c.self.inside.size.items ≡ f
+    → (ds : List Dataset) → StandsAfter f ds
+    → StandsAfter (place_of c.whole.new.self c.self.inside.limits c.keep.new.self c.self.inside.size.items) (ds ++ data_of c.args.head c.args.octets.now ∷ [])
+stands c f view =
+    let keeps = sym c.is_kept.ensures ∙ c.if-not-is_kept.false in
+    let fits = none_where _ (sym c.has_room.ensures ∙ c.if-not-has_room.false) in
+    stands_whole c.keep.new.self c.args.head c.args.octets.now c.self.invariant view (c.whole.ensures.took c.if-not-whole.false) c.whole.ensures.between
+    (kept_not_object c.args.head.rec keeps) (rw (← c.len-kept.ensures, ← c.len.ensures) fits) c.requires.count
+    (kept_whole (data_of c.args.head c.args.octets.now) c.self.invariant keeps (stored c))
 
 pub returns-clause-took : goal.returns-clause-took
-returns-clause-took c = λ _. record {
-  section = c.whole.ensures.section c.if-not-whole.false;
-  stands = subst (λ (f : FieldsPlace). (ds : List Dataset) → StandsAfter f ds → StandsAfter (place_of c.whole.new.self c.self.inside.limits c.keep.new.self c.self.inside.size.items) (ds ++ data_of c.args.head c.args.octets.now ∷ []))
-      c.self.view_is
-      (whole_stands c.self.inside.check c.whole.new.self c.self.inside.limits c.self.inside.store c.take.new.self c.keep.new.self c.self.inside.size.items c.args.head c.args.octets.now (whole c)
-      c.take.ensures.octets c.take.ensures.entries c.take.ensures.capacity c.keep.ensures.octets c.keep.ensures.entries);
-}
+returns-clause-took c = λ _. record { section = c.whole.ensures.section c.if-not-whole.false; stands = stands c c.args.self.now c.self.view_is }
 
 pub invariant_of-self-2 : goal.invariant_of-self-2
 invariant_of-self-2 c =
-    whole_reading c.self.inside.check c.whole.new.self c.self.inside.limits c.self.inside.store c.take.new.self c.keep.new.self c.self.inside.size.items c.args.head c.args.octets.now (whole c)
-    c.take.ensures.octets c.take.ensures.entries c.take.ensures.capacity c.keep.ensures.octets c.keep.ensures.entries c.keep.ensures.capacity
+    let between = rw (← c.self.view_is) at c.requires.between in
+    let d = data_of c.args.head c.args.octets.now in
+    reading_whole d c.self.invariant between c.whole.ensures.between (omega (arith, c.self.invariant.room, (stored c).octets_room, (stored c).entries_room))
+    (stored_is d c.self.invariant.store_is (none_between c.self.invariant between) (stored c)) (stands c _ refl)

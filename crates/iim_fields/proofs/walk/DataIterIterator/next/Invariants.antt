@@ -1,5 +1,5 @@
 use Rattle.std.proofs.Common.{◌≡◌, length}
-use Rattle.iim_fields.specs.States.Walks.{rest_of, data_left}
+use Rattle.iim_fields.proofs.Words.{rest_of, data_left}
 use Rattle.iim_fields.proofs.walk.DataIterIterator.next.Given as goal
 
 abbrev pub invariant-loop-rec : goal.invariant-loop-rec
