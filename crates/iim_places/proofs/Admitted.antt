@@ -1,8 +1,8 @@
 -- Admitted octets have one value, and end where they end.
 use Rattle.std.proofs.Common.{◌≡◌, ℕ, List, [], ap, sym, ◌∙◌, subst, append-nil}
-use Rattle.iim_places.proofs.Words.{Dataset, SpellsStream, count_octets, of_record, NoDatasetBeginsAnother, kept, NoSectionsBeginOthers, RecordsAreByNumber}
-use Rattle.iim_places.proofs.Words.{AreSized, SizesAreDetermined, HaveSizes, IsMessage, MessagesHaveOneReading, IsText, Value, Admits, object_of}
-use Rattle.iim_places.proofs.Words.{AdmittedOctetsHaveOneValue, NoAdmittedOctetsBeginOthers, AdmittedOctetsAreFramed}
+use Rattle.iim_places.proofs.Words.{SpellsStream, count_octets, of_record, NoDatasetBeginsAnother, kept, NoSectionsBeginOthers, RecordsAreByNumber, AreSized}
+use Rattle.iim_places.proofs.Words.{SizesAreDetermined, MessagesHaveOneReading, Value, Admits, object_of, AdmittedOctetsHaveOneValue}
+use Rattle.iim_places.proofs.Words.{NoAdmittedOctetsBeginOthers, AdmittedOctetsAreFramed}
 use Rattle.wire_story.specs.Laws.Texts.{TextsHaveOneReading}
 use Rattle.iim_places.proofs.Frames.{envelope_alone}
 use Rattle.iim_places.proofs.Objects.{are_records}
@@ -12,12 +12,10 @@ use Rattle.iim_places.proofs.Objects.{are_records}
 pub one_value : NoDatasetBeginsAnother → NoSectionsBeginOthers → SizesAreDetermined → MessagesHaveOneReading → TextsHaveOneReading → AdmittedOctetsHaveOneValue
 one_value one ends determined messages texts octets v w a b =
     let same = (envelope_alone one ends a.datasets b.datasets octets [] a.spelled a.sections (subst (SpellsStream count_octets b.datasets) (sym (append-nil octets)) b.spelled) b.sections).0 in
-    let message : IsMessage (object_of a.datasets) w.head b.text w.trailer = subst (λ (ds : List Dataset). IsMessage (object_of ds) w.head b.text w.trailer) (sym same) b.message in
-    let read = messages (object_of a.datasets) v.head w.head a.text b.text v.trailer w.trailer a.message message in
-    let lines = texts a.text v.lines w.lines a.lines (subst (λ (x : List ℕ). IsText x w.lines) (sym read.1) b.lines) in
+    let read = messages (object_of a.datasets) v.head w.head a.text b.text v.trailer w.trailer a.message (rw (← same) at b.message) in
+    let lines = texts a.text v.lines w.lines a.lines (rw (← read.1) at b.lines) in
     let fields : v.fields ≡ w.fields = sym a.fields ∙ (ap kept same ∙ b.fields) in
-    let sizes = determined (of_record 7 a.datasets) (of_record 8 a.datasets) (of_record 9 a.datasets) v.sizes w.sizes a.sizes
-    (subst (λ (ds : List Dataset). HaveSizes (of_record 7 ds) (of_record 8 ds) (of_record 9 ds) w.sizes) (sym same) b.sizes) in
+    let sizes = determined (of_record 7 a.datasets) (of_record 8 a.datasets) (of_record 9 a.datasets) v.sizes w.sizes a.sizes (rw (← same) at b.sizes) in
     λ i. record { fields = fields i; head = read.0 i; lines = lines i; trailer = read.2 i; sizes = sizes i }
 
 pub no_others : NoDatasetBeginsAnother → NoSectionsBeginOthers → NoAdmittedOctetsBeginOthers
@@ -30,11 +28,7 @@ pub sized_by : RecordsAreByNumber → (octets : List ℕ) (v : Value) → (a : A
 sized_by by_number octets v a =
     let records = are_records a.datasets a.sections in
     let is = by_number a.datasets records in
-    let have : HaveSizes records.r7 records.r8 records.r9 v.sizes =
-    subst (λ (xs : List Dataset). HaveSizes xs records.r8 records.r9 v.sizes) is.sevens
-    (subst (λ (xs : List Dataset). HaveSizes (of_record 7 a.datasets) xs records.r9 v.sizes) is.eights
-    (subst (λ (xs : List Dataset). HaveSizes (of_record 7 a.datasets) (of_record 8 a.datasets) xs v.sizes) is.nines a.sizes)) in
-    record { records = records; sizes = v.sizes; have = have }
+    record { records = records; sizes = v.sizes; have = rw (is.sevens, is.eights, is.nines) at a.sizes }
 
 pub framed_of : AdmittedOctetsAreFramed
 framed_of limits octets v a within =

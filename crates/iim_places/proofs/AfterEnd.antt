@@ -5,7 +5,7 @@ use Rattle.wire_message.specs.States.Reading.{is_ended}
 use Rattle.wire_message.specs.States.SoFar.{LeadsTo}
 use Rattle.wire_message.specs.States.Saved.{saved_part}
 use Rattle.wire_message.specs.declared.part.HeaderPart.{HeaderPart}
-use Rattle.wire_message.specs.declared.part.HeaderPart.TheVariants.{Source, Number, Priority, Category, Words}
+use Rattle.wire_message.specs.declared.part.HeaderPart.TheVariants.{Priority}
 use Rattle.wire_message.specs.declared.place.Place.{Place}
 use Rattle.wire_message.specs.declared.place.Place.TheVariants.{AfterEnd, InHeader, Text}
 use Rattle.wire_message.specs.declared.saved.MessagePart.TheVariants as part
@@ -23,12 +23,9 @@ after_end (AfterEnd h t count) e = refl
 after_end other e = absurd cc
 
 header_goes_on : (at : HeaderPart) (priority : List ℕ) → saved_part at priority ≡ part.AfterEnd → ⊥
-header_goes_on Source priority e = absurd cc
-header_goes_on Number priority e = absurd cc
 header_goes_on Priority [] e = absurd cc
 header_goes_on Priority (b ∷ bs) e = absurd cc
-header_goes_on Category priority e = absurd cc
-header_goes_on Words priority e = absurd cc
+header_goes_on at priority e = absurd cc
 
 pub ended_after : (at : Place) → (saved at).part ≡ part.AfterEnd → IsTrue (is_ended (Some at))
 ended_after (AfterEnd h t count) e = refl

@@ -1,11 +1,11 @@
 -- Readers at a place: the message that a ticket tells, and what the record layer can continue with.
-use Rattle.std.proofs.Common.{◌≡◌, ℕ, ◌<◌, ◌≤◌, ◌↔◌, Bool, true, false, cond, IsTrue, IsSome, IfSome, IfNone, OnOk, Option, Some, None, Result, Ok, Err, is_ok, List, [], ◌∷◌, zero, suc, length, map, get_or, refl, ap, sym, subst, ◌∙◌, arith, Bor}
-use Rattle.iim_places.proofs.Words.{same_Some, AllByRecursion, Dataset, count_octets, DatasetEvent, Head, DatasetPlace, nothing_fits, SectionsLive}
-use Rattle.iim_places.proofs.Words.{SectionsLiveAt, HasChecked, HasTaken, kept, kept_octets, IsWithin, RecordPlace, FieldFault, head_alive, taken_alive}
-use Rattle.iim_places.proofs.Words.{LeadsToSaved, MessagePlace, AreNumbers, IsSize, RecordsLive, head_of_numbers, number_list, widest, AreKept}
-use Rattle.iim_places.proofs.Words.{CanContinueWithin, IsMessageOf, numbers_told, told_datasets, texts_of, Phase, TagBegun, DataBegun, AllEnded}
-use Rattle.iim_dataset.specs.States.Places.{IsPlace, LeadsTo}
-use Rattle.iim_fields.specs.Format.Faults.{joined}
+use Rattle.std.proofs.Common.{◌≡◌, ℕ, ◌<◌, ◌≤◌, ◌↔◌, Bool, true, false, cond, IsTrue, IsSome, IfSome, IfNone, OnOk, Option, Some, None, Result, Ok, Err, is_ok}
+use Rattle.std.proofs.Common.{List, [], ◌∷◌, zero, suc, length, map, get_or, refl, sym, subst, ◌∙◌, arith, Bor}
+use Rattle.iim_places.proofs.Words.{same_Some, AllByRecursion, Dataset, Head, DatasetPlace, nothing_fits, SectionsLive, SectionsLiveAt, HasChecked, HasTaken}
+use Rattle.iim_places.proofs.Words.{kept, kept_octets, IsWithin, RecordPlace, FieldFault, head_alive, taken_alive, LeadsToSaved, MessagePlace, AreNumbers}
+use Rattle.iim_places.proofs.Words.{IsSize, RecordsLive, head_of_numbers, number_list, widest, AreKept, CanContinueWithin, IsMessageOf, numbers_told}
+use Rattle.iim_places.proofs.Words.{told_datasets, texts_of, Phase, DataBegun}
+use Rattle.iim_dataset.specs.States.Places.{IsPlace}
 use Rattle.wire_message.specs.States.Reading.{StandsAt}
 use Rattle.wire_message.specs.States.SoFar.{LeadsTo as LeadTo}
 use Rattle.wire_message.specs.States.Saved.{IsAt}
@@ -17,13 +17,13 @@ use Rattle.iim_places.proofs.TicketLengths.{texts_led}
 -- ---- tags
 
 -- A reader is made exactly at a place that octets lead to.
-pub some_place : {X : Type 0} (result : Option X) (place : DatasetPlace) → IsSome result ↔ ((octets : List ℕ) × (events : List DatasetEvent) × LeadsTo count_octets octets events place)
-    → IsPlace place ↔ ((octets : List ℕ) × (events : List DatasetEvent) × LeadsTo count_octets octets events place) → (P : Type 0) → (IsPlace place → P) → IfSome result (λ r. P)
+pub some_place : {X A : Type 0} (result : Option X) (place : DatasetPlace) → IsSome result ↔ A → IsPlace place ↔ A → (P : Type 0) → (IsPlace place → P)
+    → IfSome result (λ r. P)
 some_place (Some r) place exactly law P by = by (law.1 (exactly.0 refl))
 some_place None place exactly law P by = tt
 
-pub no_place : {X : Type 0} (result : Option X) (place : DatasetPlace) → IsSome result ↔ ((octets : List ℕ) × (events : List DatasetEvent) × LeadsTo count_octets octets events place)
-    → IsPlace place ↔ ((octets : List ℕ) × (events : List DatasetEvent) × LeadsTo count_octets octets events place) → (P : Type 0) → (P → IsPlace place) → IfNone result (P → ⊥)
+pub no_place : {X A : Type 0} (result : Option X) (place : DatasetPlace) → IsSome result ↔ A → IsPlace place ↔ A → (P : Type 0) → (P → IsPlace place)
+    → IfNone result (P → ⊥)
 no_place (Some r) place exactly law P by = tt
 no_place None place exactly law P by = λ p. let bad : false ≡ true = exactly.1 (law.0 (by p)) in cc
 
@@ -35,31 +35,27 @@ lives_at old new h (Ok u) stands yes' ds s = taken_alive new ds h (stands ds s)
 lives_at old new h (Err e) stands yes' ds s = let bad : false ≡ true = yes' in cc
 
 pub live_alive : (section : ℕ) (phase : Phase) (ds : List Dataset) → RecordsLive section phase ds → SectionsLive ds
-live_alive section (TagBegun held) ds lives = lives.1
 live_alive section (DataBegun set count left taken) ds lives = head_alive ds (head_of_numbers section set count) lives
-live_alive section AllEnded ds lives = lives.1
+live_alive section other ds lives = lives.1
 
 pub four_back : (numbers : List (Option ℕ)) → length numbers ≡ 4 → numbers ≡ number_list (numbers_told numbers)
 four_back (a ∷ b ∷ c ∷ d ∷ []) is = refl
 four_back numbers is = absurd (omega (arith, is))
 
-pub fits_told : (numbers : List (Option ℕ)) → AreNumbers numbers → AllByRecursion IsSize (number_list (numbers_told numbers))
-fits_told numbers fit = subst (AllByRecursion IsSize) (four_back numbers fit.four) fit.each
-
 -- the told datasets keep the fields
 pub kept_told : (fields : List Dataset) (numbers : List (Option ℕ)) (some ended : Bool) → AreNumbers numbers → AreKept fields
     → kept (told_datasets fields numbers some ended) ≡ fields
 kept_told fields numbers some ended fit each =
-    (plain_told fields (numbers_told numbers) (cond some 1 0) [] ended (record { kept = each; fit = fits_told numbers fit; room = nothing_fits _ })).kept_are
+    let fits = subst (AllByRecursion IsSize) (four_back numbers fit.four) fit.each in
+    (plain_told fields (numbers_told numbers) (cond some 1 0) [] ended (record { kept = each; fit = fits; room = nothing_fits _ })).kept_are
 
-pub leads_on_told : (section : ℕ) (phase : Phase) (fields : List Dataset) (numbers : List (Option ℕ)) (some ended : Bool) → AreNumbers numbers → AreKept fields → IsWithin widest (kept_octets fields) (length fields)
-    → RecordsLive section phase (told_datasets fields numbers some ended) → CanContinueWithin widest (told_datasets fields numbers some ended)
-leads_on_told section phase fields numbers some ended fit each within lives =
-    let told = told_datasets fields numbers some ended in
-    let are : kept told ≡ fields = kept_told fields numbers some ended fit each in
-    let octets : kept_octets told ≡ kept_octets fields = ap (λ (ds : List Dataset). length (joined ds)) (are ∙ sym (kept_fields fields each)) in
-    let many : length (kept told) ≡ length fields = ap length are in
-    record { alive = live_alive section phase told lives; within = record { octets_in = omega (arith, octets, within.octets_in); fields_in = omega (arith, many, within.fields_in) } }
+pub leads_on_told : (section : ℕ) (phase : Phase) (fields : List Dataset) (numbers : List (Option ℕ)) (some ended : Bool) → AreNumbers numbers → AreKept fields
+    → IsWithin widest (kept_octets fields) (length fields) → RecordsLive section phase (told_datasets fields numbers some ended)
+    → CanContinueWithin widest (told_datasets fields numbers some ended)
+leads_on_told section phase fields numbers some ended fit each within lives = record {
+  alive = live_alive section phase (told_datasets fields numbers some ended) lives;
+  within = rw (kept_told fields numbers some ended fit each) (rw (kept_fields fields each) at within);
+}
 
 -- ---- the message
 

@@ -1,21 +1,23 @@
 -- The ticket of a possible place has the form of a ticket: each number fits its octets.
-use Rattle.std.proofs.Common.{◌≡◌, ℕ, ◌+◌, ◌-◌, ◌<◌, ◌≤◌, ◌^◌, nat_eq, cond, if◌then◌else◌, Bool, true, false, List, [], ◌∷◌, ◌++◌, length, sum, get_or, Option, Some, None, ◌⊎◌, refl, ap, sym, subst, ◌∙◌, inl, inr, arith, append_assoc, append-nil, length-append}
-use Rattle.iim_places.proofs.Words.{AllByRecursion, flat_map, eqb-true, Octets, greatest_size, Dataset, SpellsStream, SpellsTag, count_octets, of_record, Begun}
-use Rattle.iim_places.proofs.Words.{InTag, InData, Reads, all_back, kept, kept_octets, is_kept, section_after, tells_number, SectionsLiveAt, Head, BeginsTag}
-use Rattle.iim_places.proofs.Words.{place_after_datasets, numbers_of, stated_numbers, Stated, number_at, LeadsToSaved, MessagePlace, object_of, LowerLaws}
-use Rattle.iim_places.proofs.Words.{object_so_far, section, AllCanContinue, ObjectLives, MayContinue, Phase, TagBegun, DataBegun, AllEnded, present_version}
-use Rattle.iim_places.proofs.Words.{phase_of, heads_of, place_of, ticket_in, layout, text_octets, texts_octets, part_number, IsLongField, IsSizeIn, AreTexts}
-use Rattle.iim_places.proofs.Words.{IsSize, AreNumbers, IsVersion, IsPhase, HasForm, Split, SplitsTicket, split_octets, place_in, Possible, IsSmall}
-use Rattle.iim_places.proofs.Words.{IsSmallPhase, IsSmallPlace, widest, SmallPlacesWerePossible, TicketsTellOnePlace, TicketsOfPlacesAreSplit, texts_of}
-use Rattle.iim_places.proofs.Words.{split_of}
+use Rattle.std.proofs.Common.{◌≡◌, ℕ, ◌+◌, ◌-◌, ◌<◌, ◌≤◌, ◌^◌, nat_eq, cond, if◌then◌else◌, Bool, true, false, List, [], ◌∷◌, ◌++◌, length, sum, get_or, Option}
+use Rattle.std.proofs.Common.{Some, None, refl, ap, sym, subst, ◌∙◌, inl, inr, arith, append_assoc, append-nil, length-append}
+use Rattle.iim_places.proofs.Words.{place_after, AllByRecursion, flat_map, eqb-true, Octets, greatest_size, Dataset, SpellsStream, SpellsTag, count_octets}
+use Rattle.iim_places.proofs.Words.{of_record, Begun, InTag, InData, Reads, kept, section_after, Head, BeginsTag, place_after_datasets, numbers_of}
+use Rattle.iim_places.proofs.Words.{stated_numbers, Stated, number_at, LeadsToSaved, MessagePlace, LowerLaws, object_so_far, section, AllCanContinue}
+use Rattle.iim_places.proofs.Words.{ObjectLives, MayContinue, Phase, TagBegun, AllEnded, present_version, phase_of, heads_of, place_of, ticket_in, layout}
+use Rattle.iim_places.proofs.Words.{text_octets, texts_octets, part_number, IsLongField, IsSizeIn, AreTexts, IsSize, AreNumbers, IsVersion, IsPhase, HasForm}
+use Rattle.iim_places.proofs.Words.{Split, SplitsTicket, split_octets, place_in, Possible, IsSmall, IsSmallPhase, IsSmallPlace, widest, SmallPlacesWerePossible}
+use Rattle.iim_places.proofs.Words.{TicketsTellOnePlace, TicketsOfPlacesAreSplit, texts_of, split_of, Limits, max_subfiles, greatest_size_before, CanContinueAt}
+use Rattle.iim_places.proofs.Words.{IsBegun, canonical_stream, place_at, place_ended, SubfileBegun}
 use Rattle.iim_fields.specs.Format.Faults.{joined}
 use Rattle.wire_message.specs.declared.saved.MessagePart.{MessagePart}
 use Rattle.wire_message.specs.declared.saved.MessagePart.TheVariants as part
 use Rattle.iim_places.specs.Format.Tickets.{Place}
 use Rattle.iim_dataset.proofs.Counts.{tag-lt}
-use Rattle.iim_places.proofs.Answering.{Lives, lives_open, lives_envelope, one_reading}
-use Rattle.iim_places.proofs.Bounds.{low, object_fits, IsOne, alive_ones, is_one, few_in_seven, IsFive, alive_five}
-use Rattle.iim_places.proofs.Following.{alive_of}
+use Rattle.iim_places.proofs.Answering.{Lives, lives_open, lives_envelope, coming}
+use Rattle.iim_places.proofs.Bounds.{low, object_fits, IsOne, alive_ones, is_one, few_in_seven}
+use Rattle.iim_object.specs.Format.Places as objects
+use Rattle.iim_places.proofs.Following.{alive_of, within_of}
 use Rattle.iim_places.proofs.Splitting.{one_split}
 use Rattle.iim_places.proofs.TicketLengths.{tag_length_in, held_length, AreShortIn, texts_led}
 use Rattle.iim_places.proofs.Tickets.{total_of, so_far_by}
@@ -36,19 +38,18 @@ pub record Lived (place : Place) : Type 0 where
 
 unfoldable pub lived : LowerLaws → (place : Place) → Possible place → Lived place
 lived laws place p =
-    let is = p.leads in
     let lives : Lives widest p.octets = elim p.comes [ inl o ↦ lives_open widest p.octets o | inr e ↦ lives_envelope laws widest p.octets e.0 e.1 ] in
-    let same = one_reading laws p.octets lives.whole is.whole lives.begun is.begun lives.reads is.reads in
+    let c = coming laws place p.octets p.leads lives.whole lives.begun lives.reads in
     record {
-      whole = is.whole;
-      begun = is.begun;
+      whole = lives.whole;
+      begun = lives.begun;
       octets = p.octets;
-      reads = is.reads;
-      leads_on = subst (λ (ds : List Dataset). AllCanContinue widest ds is.begun) same.whole_is (subst (λ (b : Begun). AllCanContinue widest lives.whole b) same.begun_is lives.leads_on);
-      text = is.text;
-      message = is.message;
-      leads = is.leads;
-      is_place = is.is_place;
+      reads = lives.reads;
+      leads_on = lives.leads_on;
+      text = c.text;
+      message = c.message;
+      leads = c.leads;
+      is_place = c.is_place;
     }
 
 -- ---- datasets
@@ -69,22 +70,23 @@ IsLow p = p.number < 2 ^ 64
 
 pub each_low : (ds : List Dataset) → AllByRecursion IsOne ds → AllByRecursion (λ (d : Dataset). Octets d.octets) ds → AllByRecursion IsLow (numbers_of (of_record 7 ds))
 each_low [] ones octets = tt
-each_low (d ∷ ds) ones octets = by (nat_eq d.rec 7) refl (each_low ds ones.1 octets.1)
-  where
-    by : (b : Bool) → nat_eq d.rec 7 ≡ b → AllByRecursion IsLow (numbers_of (of_record 7 ds)) → AllByRecursion IsLow (numbers_of (cond b (d ∷ of_record 7 ds) (of_record 7 ds)))
-    by true is more = (low 8 d.octets octets.0 (few_in_seven d (eqb-true d.rec 7 is) ones.0), more)
-    by false is more = more
+each_low (d ∷ ds) ones octets =
+    elim (nat_eq d.rec 7) as (λ b. nat_eq d.rec 7 ≡ b → AllByRecursion IsLow (numbers_of (cond b (d ∷ of_record 7 ds) (of_record 7 ds)))) [
+      | true ↦ λ is. (low 8 d.octets octets.0 (few_in_seven d (eqb-true d.rec 7 is) ones.0), each_low ds ones.1 octets.1)
+      | false ↦ λ is. each_low ds ones.1 octets.1
+    ] refl
 
-low_at : (set : ℕ) (ps : List Stated) → AllByRecursion IsLow ps → IsSize (number_at set ps)
-low_at set [] all = tt
-low_at set (p ∷ ps) all = by (nat_eq p.set set) (low_at set ps all.1)
-  where
-    by : (b : Bool) → IsSize (number_at set ps) → IsSize (cond b (Some p.number) (number_at set ps))
-    by true more = omega (arith, all.0)
-    by false more = more
+-- what holds of each number that is stated, and where none is, holds of those that are told
+pub told_at : (Q : Option ℕ → Type 0) (set : ℕ) (ps : List Stated) → Q None → AllByRecursion (λ p. Q (Some p.number)) ps → Q (number_at set ps)
+told_at Q set [] none all = none
+told_at Q set (p ∷ ps) none all =
+    elim (nat_eq p.set set) as (λ b. Q (cond b (Some p.number) (number_at set ps))) [ true ↦ all.0 | false ↦ told_at Q set ps none all.1 ]
+
+pub four_at : (Q : Option ℕ → Type 0) (ps : List Stated) → Q None → AllByRecursion (λ p. Q (Some p.number)) ps → AllByRecursion Q (stated_numbers ps)
+four_at Q ps none all = (told_at Q 10 ps none all, (told_at Q 20 ps none all, (told_at Q 90 ps none all, (told_at Q 95 ps none all, tt))))
 
 pub numbers_fit : (ps : List Stated) → AllByRecursion IsLow ps → AreNumbers (stated_numbers ps)
-numbers_fit ps all = record { each = (low_at 10 ps all, (low_at 20 ps all, (low_at 90 ps all, (low_at 95 ps all, tt)))); four = refl }
+numbers_fit ps all = record { each = four_at IsSize ps tt all; four = refl }
 
 pub ones_in : (ds : List Dataset) (b : Begun) → MayContinue widest ds b → AllByRecursion IsOne ds
 ones_in ds b goes = alive_ones ds (alive_of widest ds b goes)
@@ -103,34 +105,43 @@ pub lives_in : (ds : List Dataset) (b : Begun) → MayContinue widest ds b → O
 lives_in ds (InTag held) goes = goes.object
 lives_in ds (InData h taken) goes = goes.object
 
-pub object_low : (ds : List Dataset) → ObjectLives (place_after_datasets ds) → length (object_of ds) ≤ greatest_size
-object_low ds lives = let total = total_of (of_record 8 ds) in let fits = object_fits (place_after_datasets ds) lives in omega (arith, total, fits)
-
 pub taken_fits : (octets : List ℕ) (ds : List Dataset) (b : Begun) → Reads count_octets octets ds b → MayContinue widest ds b → length (object_so_far ds b) ≤ greatest_size
 taken_fits octets ds b reads goes = let less = so_far_fits count_octets octets ds b reads in let fits = object_fits (place_in ds b) (lives_in ds b goes) in omega (arith, less, fits)
 
-heads_fit : (ds : List Dataset) (b : Begun) → MayContinue widest ds b → heads_of ds b < 2 ^ 32
-heads_fit ds (InTag held) goes = let few = goes.within.subfiles in omega (arith, few)
-heads_fit ds (InData h taken) goes = by (nat_eq h.rec 8) refl
+heads_few : (limits : Limits) (ds : List Dataset) (b : Begun) → MayContinue limits ds b → heads_of ds b ≤ max_subfiles
+heads_few limits ds (InTag held) goes = goes.within.subfiles
+heads_few limits ds (InData h taken) goes =
+    elim (nat_eq h.rec 8) as (λ b. nat_eq h.rec 8 ≡ b → length (of_record 8 ds) + (if b then 1 else 0) ≤ max_subfiles) [
+      | true ↦ λ is. omega (arith, goes.room.subfiles (eqb-true h.rec 8 is))
+      | false ↦ λ is. omega (arith, goes.within.subfiles)
+    ] refl
+
+-- what holds of the place at a head of each record
+pub at_head : (P : objects.Place → Type 0) (ds : List Dataset) (h : Head) → P (place_after (place_after_datasets ds) (SubfileBegun h.count))
+    → P (place_ended ds) → P (place_after_datasets ds) → P (place_at ds h)
+at_head P ds h eight nine other = by (nat_eq h.rec 8) (nat_eq h.rec 9)
   where
-    by : (b : Bool) → nat_eq h.rec 8 ≡ b → length (of_record 8 ds) + (if b then 1 else 0) < 2 ^ 32
-    by true is = let few = goes.room.subfiles (eqb-true h.rec 8 is) in omega (arith, few)
-    by false is = let few = goes.within.subfiles in omega (arith, few)
-
-few_octets : (ds : List Dataset) (b : Begun) → MayContinue widest ds b → kept_octets ds < 2 ^ 32
-few_octets ds (InTag held) goes = let few = goes.within.kept.octets_in in omega (arith, few)
-few_octets ds (InData h taken) goes = let few = goes.within.kept.octets_in in omega (arith, few)
-
-few_kept : (ds : List Dataset) (b : Begun) → MayContinue widest ds b → length (kept ds) < 2 ^ 32
-few_kept ds (InTag held) goes = let few = goes.within.kept.fields_in in omega (arith, few)
-few_kept ds (InData h taken) goes = let few = goes.within.kept.fields_in in omega (arith, few)
+    by : (b c : Bool) → P (if b then place_after (place_after_datasets ds) (SubfileBegun h.count) else if c then place_ended ds else place_after_datasets ds)
+    by true c = eight
+    by false true = nine
+    by false false = other
 
 -- ---- what is begun
+
+-- what holds at the end and in a tag
+pub tag_or_end : (P : Phase → Type 0) (b : Bool) (held : List ℕ) → P AllEnded → P (TagBegun held) → P (if b then AllEnded else TagBegun held)
+tag_or_end P true held ended begun = ended
+tag_or_end P false held ended begun = begun
 
 pub begins_tag : (counts : ℕ) (octets : List ℕ) (ds : List Dataset) (held : List ℕ) → Reads counts octets ds (InTag held) → BeginsTag counts held
 begins_tag counts octets ds held reads =
     let (same, h, tag, spelled, (more, some, parts)) = reads.is_rest in
     record { head = h; more = more; some_more = some; whole = subst (SpellsTag counts h) (sym parts) spelled }
+
+-- canonical octets read so, with those of what is begun
+pub reads_of : (limit : ℕ) (ds : List Dataset) (b : Begun) (rest : List ℕ) → SpellsStream limit ds (canonical_stream ds) → IsBegun limit b rest
+    → Reads limit (canonical_stream ds ++ rest) ds b
+reads_of limit ds b rest spelled is = record { front = canonical_stream ds; rest = rest; is_front = spelled; is_rest = is; parts = refl }
 
 -- the data that are given are those that have come, where they are no subfile's
 pub given_fits : (b : Bool) (count : ℕ) (taken : List ℕ) → length taken < count → length (if b then [] else taken) ≡ (if b then 0 else count - (count - length taken))
@@ -138,12 +149,10 @@ given_fits true count taken less = refl
 given_fits false count taken less = omega (arith, less)
 
 phase_fits : (octets : List ℕ) (ds : List Dataset) (b : Begun) → Reads count_octets octets ds b → IsPhase present_version (section ds b) (phase_of ds b)
-phase_fits octets ds (InTag held) reads = by (nat_eq (section_after ds) 9)
-  where
-    by : (b : Bool) → IsPhase present_version (section_after ds) (if b then AllEnded else TagBegun held)
-    by true = tt
-    by false = omega (arith, held_length octets ds held reads)
-phase_fits octets ds (InData h taken) reads = (omega (arith, tag-lt h reads.is_rest.0 reads.is_rest.1), omega arith, given_fits (nat_eq h.rec 8) h.count taken reads.is_rest.2)
+phase_fits octets ds (InTag held) reads =
+    tag_or_end (IsPhase present_version (section_after ds)) (nat_eq (section_after ds) 9) held tt (omega (arith, held_length octets ds held reads))
+phase_fits octets ds (InData h taken) reads =
+    (omega (arith, tag-lt h reads.is_rest.0 reads.is_rest.1), omega arith, given_fits (nat_eq h.rec 8) h.count taken reads.is_rest.2)
 
 -- ---- the message
 
@@ -156,67 +165,14 @@ texts_fit m short = record {
   seven = refl;
 }
 
-join_texts : (a b c d e f g : List ℕ) → a ++ b ++ c ++ d ++ e ++ f ++ g ≡ a ++ (b ++ (c ++ (d ++ (e ++ (f ++ (g ++ []))))))
-join_texts a b c d e f g = simp (append_assoc, append-nil) refl
-
-texts_told : (m : MessagePlace) → texts_octets m ≡ flat_map text_octets (texts_of m)
-texts_told m =
-    join_texts (text_octets m.source.items) (text_octets m.number.items) (text_octets m.priority.items) (text_octets m.category.items) (text_octets m.words.items) (text_octets m.info.items) (text_octets m.trailer.items)
-
 -- ---- version 1
 
--- a begun dataset of records 1 and 2 counts no more than limits allow
-abbrev LowHead : ℕ → Phase → Type 0
-LowHead section (TagBegun held) = Unit {0}
-LowHead section (DataBegun set count left given) = ((is_kept section ≡ true) ⊎ ((section ≡ 8) ⊎ (tells_number section ≡ true))) × (is_kept section ≡ true → count < 2 ^ 32)
-LowHead section AllEnded = Unit {0}
-
--- ---- a ticket
-
-pub spelled : (version : ℕ) (p : Place) → ticket_in version p ≡ split_octets (split_of version p)
-spelled version p =
-    ap (λ (xs : List ℕ). layout version p.section p.phase p.fields p.numbers p.taken p.heads ((part_number p.message.part ∷ p.message.counter ∷ p.message.flag ∷ []) ++ xs)) (texts_told p.message)
-
-form_of : (place : Place) (l : Lived place) → HasForm (split_of present_version (place_of l.whole l.begun l.message))
-form_of place l = record {
-  version = inr refl;
-  phase = phase_fits l.octets l.whole l.begun l.reads;
-  fields = record { each = each_fits (kept l.whole) (let few = few_octets l.whole l.begun l.leads_on.sizes in omega (arith, few)); few = few_kept l.whole l.begun l.leads_on.sizes };
-  numbers = numbers_fit (numbers_of (of_record 7 l.whole)) (each_low l.whole (ones_in l.whole l.begun l.leads_on.sizes) (each_octets l.whole l.reads.front l.reads.is_front));
-  taken = let few = taken_fits l.octets l.whole l.begun l.reads l.leads_on.sizes in omega (arith, few);
-  heads = heads_fit l.whole l.begun l.leads_on.sizes;
-  texts = texts_fit l.message (texts_led _ l.text l.message l.leads);
-}
-
-five_of : (ds : List Dataset) (h : Head) → SectionsLiveAt ds h → IsFive h.rec
-five_of ds h (d, head, alive) = subst IsFive (ap (λ (k : Head). k.rec) head) (all_back (λ (x : Dataset). IsFive x.rec) ds (d ∷ []) (alive_five (ds ++ d ∷ []) alive)).0
-
-low_head : (ds : List Dataset) (b : Begun) → MayContinue widest ds b → LowHead (section ds b) (phase_of ds b)
-low_head ds (InTag held) goes = by (nat_eq (section_after ds) 9)
-  where
-    by : (b : Bool) → LowHead (section_after ds) (if b then AllEnded else TagBegun held)
-    by true = tt
-    by false = tt
-low_head ds (InData h taken) goes = (
-  elim (is_one ds h goes.records) [ inl keeps ↦ inl keeps | inr (inl eight) ↦ inr (inl eight) | inr (inr few) ↦ by_five (five_of ds h goes.records) ],
-  (λ keeps. let room = (goes.room.kept keeps).octets_in in omega (arith, room)),
-)
-  where
-    by_five : IsFive h.rec → (is_kept h.rec ≡ true) ⊎ ((h.rec ≡ 8) ⊎ (tells_number h.rec ≡ true))
-    by_five (inl is) = inl (ap is_kept is)
-    by_five (inr (inl is)) = inl (ap is_kept is)
-    by_five (inr (inr (inl is))) = inr (inr (ap tells_number is))
-    by_five (inr (inr (inr (inl is)))) = inr (inl is)
-    by_five (inr (inr (inr (inr is)))) = inr (inr (ap tells_number is))
-
-held_short : (held : List ℕ) → BeginsTag 4 held → length held < 5 + 4
-held_short held b = omega (arith, tag_length_in 4 b.head (held ++ b.more) b.whole, length-append held b.more, b.some_more)
-
-low_count : (section taken set count left : ℕ) (given : List ℕ) → LowHead section (DataBegun set count left given) → IsSmallPhase section taken (DataBegun set count left given) → left ≤ count → count < 2 ^ 32
-low_count section taken set count left given low small le = elim low.0 [
-  | inl keeps ↦ low.1 keeps
-  | inr (inl eight) ↦ let few = (small.1 eight).0 in omega (arith, few)
-  | inr (inr told) ↦ let few = small.0 told in omega (arith, few)
+-- a begun dataset counts no more octets than version 1 tells, where it was possible then
+pub low_count : (ds : List Dataset) (h : Head) → CanContinueAt widest ds h → (h.rec ≡ 8 → h.count ≤ greatest_size_before) → h.count < 2 ^ 32
+low_count ds h goes small = elim (is_one ds h goes.records) [
+  | inl keeps ↦ let room = (goes.room.kept keeps).octets_in in omega (arith, room)
+  | inr (inl eight) ↦ let low = small eight in omega (arith, low)
+  | inr (inr few) ↦ omega (arith, few)
 ]
 
 -- what a place has by the sizes of version 1 has the form of that version
@@ -225,35 +181,55 @@ small_sizes [] all = tt
 small_sizes (None ∷ numbers) all = (tt, small_sizes numbers all.1)
 small_sizes (Some n ∷ numbers) all = (omega (arith, all.0), small_sizes numbers all.1)
 
-small_phase : (place : Place) → LowHead place.section place.phase → IsSmallPhase place.section place.taken place.phase → IsPhase present_version place.section place.phase → IsPhase 1 place.section place.phase
-small_phase place low small phase = by place.section place.taken place.phase low small phase
-  where
-    by : (section taken : ℕ) (p : Phase) → LowHead section p → IsSmallPhase section taken p → IsPhase present_version section p → IsPhase 1 section p
-    by section taken (TagBegun held) low small form = held_short held small
-    by section taken (DataBegun set count left given) low small form = (low_count section taken set count left given low small form.1, form.1, form.2)
-    by section taken AllEnded low small form = tt
+small_phase : (taken : ℕ) (ds : List Dataset) (b : Begun) → MayContinue widest ds b → IsPhase present_version (section ds b) (phase_of ds b)
+    → IsSmallPhase (section ds b) taken (phase_of ds b) → IsPhase 1 (section ds b) (phase_of ds b)
+small_phase taken ds (InTag held) goes form small =
+    tag_or_end (λ (p : Phase). IsSmallPhase (section_after ds) taken p → IsPhase 1 (section_after ds) p) (nat_eq (section_after ds) 9) held
+    (λ ended. tt) (λ b. omega (arith, tag_length_in 4 b.head (held ++ b.more) b.whole, length-append held b.more, b.some_more)) small
+small_phase taken ds (InData h xs) goes form small = (low_count ds h goes (λ eight. (small.1 eight).0), form.1, form.2)
 
-form_in : (version : ℕ) (place : Place) → IsVersion version → LowHead place.section place.phase → (version ≡ 1 → IsSmallPlace place) → HasForm (split_of present_version place) → HasForm (split_of version place)
-form_in version place (inl one) low small form =
-    let s = small one in
-    subst (λ (v : ℕ). HasForm (split_of v place)) (sym one) (record {
-      version = inl refl;
-      phase = small_phase place low s.begun form.phase;
-      fields = form.fields;
-      numbers = record { each = small_sizes place.numbers s.numbers; four = form.numbers.four };
-      taken = omega (arith, s.taken);
-      heads = form.heads;
-      texts = form.texts;
-    })
-form_in version place (inr two) low small form = subst (λ (v : ℕ). HasForm (split_of v place)) (sym two) form
+-- ---- a ticket
+
+pub spelled : (version : ℕ) (p : Place) → ticket_in version p ≡ split_octets (split_of version p)
+spelled version p =
+    let texts : texts_octets p.message ≡ flat_map text_octets (texts_of p.message) = simp (append_assoc, append-nil) in
+    let message = part_number p.message.part ∷ p.message.counter ∷ p.message.flag ∷ [] in
+    ap (λ (xs : List ℕ). layout version p.section p.phase p.fields p.numbers p.taken p.heads (message ++ xs)) texts
+
+form_of : (version : ℕ) (place : Place) (l : Lived place) → IsVersion version → (version ≡ 1 → IsSmallPlace (place_of l.whole l.begun l.message))
+    → HasForm (split_of version (place_of l.whole l.begun l.message))
+form_of version place l is small =
+    let ds = l.whole in
+    let goes = l.leads_on.sizes in
+    let room = (within_of widest ds l.begun goes).kept in
+    let present : HasForm (split_of present_version (place_of ds l.begun l.message)) = record {
+      version = inr refl;
+      phase = phase_fits l.octets ds l.begun l.reads;
+      fields = record { each = each_fits (kept ds) (omega (arith, room.octets_in)); few = omega (arith, room.fields_in) };
+      numbers = numbers_fit (numbers_of (of_record 7 ds)) (each_low ds (ones_in ds l.begun goes) (each_octets ds l.reads.front l.reads.is_front));
+      taken = omega (arith, taken_fits l.octets ds l.begun l.reads goes);
+      heads = omega (arith, heads_few widest ds l.begun goes);
+      texts = texts_fit l.message (texts_led (object_so_far ds l.begun) l.text l.message l.leads);
+    } in
+    elim is [
+      | inl one ↦ (let s = small one in rw one (record {
+        version = inl refl;
+        phase = small_phase (length (object_so_far ds l.begun)) ds l.begun goes present.phase s.begun;
+        fields = present.fields;
+        numbers = record { each = small_sizes (stated_numbers (numbers_of (of_record 7 ds))) s.numbers; four = refl };
+        taken = omega (arith, s.taken);
+        heads = present.heads;
+        texts = present.texts;
+      }))
+      | inr two ↦ rw two present
+    ]
 
 -- The ticket of a possible place has the form of a ticket, with the parts of the place.
 pub tickets_split : LowerLaws → SmallPlacesWerePossible → TicketsOfPlacesAreSplit
 tickets_split laws scales version place is p =
     let l = lived laws place p.0 in
-    let form : HasForm (split_of present_version place) = subst (λ (q : Place). HasForm (split_of present_version q)) (sym l.is_place) (form_of place l) in
-    let low : LowHead place.section place.phase = subst (λ (q : Place). LowHead q.section q.phase) (sym l.is_place) (low_head l.whole l.begun l.leads_on.sizes) in
-    record { form = form_in version place is low (λ one. ((scales place).0 (p.1 one)).1) form; spelled = spelled version place }
+    let small = λ (one : version ≡ 1). subst IsSmallPlace l.is_place ((scales place).0 (p.1 one)).1 in
+    record { form = subst (λ (q : Place). HasForm (split_of version q)) (sym l.is_place) (form_of version place l is small); spelled = spelled version place }
 
 -- ---- one place
 
@@ -261,18 +237,8 @@ pub part_told : (p q : MessagePart) → part_number p ≡ part_number q → p �
 part_told p q e = sym (back p) ∙ ap part_at e ∙ back q
   where
     part_at : ℕ → MessagePart
-    part_at n =
-        cond (nat_eq n 0) part.Filler
-        (cond (nat_eq n 1) part.Source
-        (cond (nat_eq n 2) part.Number
-        (cond (nat_eq n 3) part.Priority
-        (cond (nat_eq n 4) part.PriorityRead
-        (cond (nat_eq n 5) part.Category
-        (cond (nat_eq n 6) part.Words
-        (cond (nat_eq n 7) part.Info
-        (cond (nat_eq n 8) part.Gap
-        (cond (nat_eq n 9) part.Text
-        (cond (nat_eq n 10) part.Trailer part.AfterEnd))))))))))
+    part_at n = get_or (part.Filler ∷ part.Source ∷ part.Number ∷ part.Priority ∷ part.PriorityRead ∷ part.Category ∷ part.Words ∷ part.Info ∷ part.Gap
+        ∷ part.Text ∷ part.Trailer ∷ part.AfterEnd ∷ []) n part.Filler
 
     back : (p : MessagePart) → part_at (part_number p) ≡ p
     back part.Filler = refl

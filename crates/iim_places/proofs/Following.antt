@@ -1,11 +1,13 @@
 -- What octets that every layer can continue from say of each token among them.
-use Rattle.std.proofs.Common.{◌≡◌, ℕ, ◌<◌, ◌≤◌, ◌⊎◌, cond, nat_eq, if◌then◌else◌, List, [], ◌∷◌, ◌++◌, length, map, refl, ap, sym, subst, ◌∙◌, inl, inr, arith, append-nil, append_assoc, length-append}
+use Rattle.std.proofs.Common.{◌≡◌, ℕ, ◌<◌, ◌≤◌, ◌⊎◌, nat_eq, if◌then◌else◌, List, [], ◌∷◌, ◌++◌, length, map, refl, ap, sym, subst, ◌∙◌, inl, inr}
+use Rattle.std.proofs.Common.{arith, append-nil, append_assoc, length-append}
 use Rattle.iim_places.proofs.Words.{flat_map-append, filter-append, Dataset, SpellsTag, SpellsStream, head_of, count_octets, of_record, Begun, InTag, InData}
-use Rattle.iim_places.proofs.Words.{IsBegun, Reads, NoTagBeginsAnother, Head, AreSections, SectionsLive, section_after, data_of, Limits, last_more}
+use Rattle.iim_places.proofs.Words.{IsBegun, Reads, NoTagBeginsAnother, Head, AreSections, SectionsLive, data_of, Limits, last_more}
 use Rattle.iim_places.proofs.Words.{ObjectLanguage, place_after, head_token, tokens_of, AreSized, place_after_datasets, Octet, End, MessageLanguage}
 use Rattle.iim_places.proofs.Words.{MessageLivesWith, StoryLivesIn, object_of, MayContinue, CanContinueAt, ObjectLives, place_at, AreWithin, object_so_far}
-use Rattle.iim_places.proofs.Words.{section, message_tokens, AllCanContinue, compare, LowerLaws}
+use Rattle.iim_places.proofs.Words.{message_tokens, AllCanContinue, compare, LowerLaws}
 use Rattle.iim_dataset.specs.Format.Languages as languages
+use Rattle.iim_dataset.specs.Parting.{same_front}
 use Rattle.iim_fields.specs.Format.Faults.{joined}
 use Rattle.iim_places.proofs.Fronts.{begun_none, empty_front, no_longer}
 use Rattle.iim_places.proofs.Lasts.{not_all}
@@ -25,17 +27,9 @@ longer_front (a ∷ x) y (b ∷ u) v e le =
     let rest : x ++ y ≡ u ++ v = cc in
     let more = longer_front x y u v rest (omega (arith, le)) in (more.0, λ i. first i ∷ more.1 i)
 
-nothing_more : (x m : List ℕ) → length (x ++ m) ≡ length x → x ++ m ≡ x
-nothing_more x [] e = append-nil x
-nothing_more x (b ∷ m) e = absurd (omega (arith, e, length-append x (b ∷ m)))
-
-same_front : (x y u v : List ℕ) → x ++ y ≡ u ++ v → length x ≡ length u → u ≡ x
-same_front x y u v e same =
-    let (m, is) = longer_front x y u v e (omega (arith, same)) in
-    is ∙ nothing_more x m (sym (ap length is) ∙ sym same)
-
 -- no stream begins what is less than a dataset
-no_longer_stream : NoTagBeginsAnother → (c : Begun) (y z r : List ℕ) (more : List Dataset) → IsBegun count_octets c y → SpellsStream count_octets more r → r ++ z ≡ y → more ≡ []
+no_longer_stream : NoTagBeginsAnother → (c : Begun) (y z r : List ℕ) (more : List Dataset) → IsBegun count_octets c y → SpellsStream count_octets more r
+    → r ++ z ≡ y → more ≡ []
 no_longer_stream one c y z r [] bc stream e = refl
 no_longer_stream one c y z r (m ∷ more) bc (first, rest, s, later, parts) e =
     absurd (begun_none one c y bc m first (rest ++ z) s (sym e ∙ ap (λ l. l ++ z) parts ∙ append_assoc first rest z))
@@ -48,7 +42,8 @@ Follows whole head z W c =
     ((d : Dataset) × (ws : List Dataset) × (tail : List ℕ) × (W ≡ whole ++ d ∷ ws) × (head_of d ≡ head) × (z ≡ d.octets ++ tail))
     ⊎ ((W ≡ whole) × (c ≡ InData head z) × (length z < head.count))
 
-begun_as : LowerLaws → (head : Head) (tag z rest : List ℕ) → SpellsTag count_octets head tag → (c : Begun) → IsBegun count_octets c rest → tag ++ z ≡ rest → (c ≡ InData head z) × (length z < head.count)
+begun_as : LowerLaws → (head : Head) (tag z rest : List ℕ) → SpellsTag count_octets head tag → (c : Begun) → IsBegun count_octets c rest → tag ++ z ≡ rest
+    → (c ≡ InData head z) × (length z < head.count)
 begun_as laws head tag z rest st (InTag held) b e =
     absurd (no_longer laws.one_tag head b.1 tag z b.4.0 st b.4.1 (subst (SpellsTag count_octets b.1) (sym b.4.2 ∙ ap (λ l. l ++ b.4.0) (sym b.0 ∙ sym e)) b.3))
 begun_as laws head tag z rest st (InData h taken) b e =
@@ -58,15 +53,16 @@ begun_as laws head tag z rest st (InData h taken) b e =
     let less = b.2 in
     (λ i. InData (sym one.0 i) (sym one.2 i), omega (arith, less, count, many))
 
-pub follows : LowerLaws → (octets : List ℕ) (W : List Dataset) (c : Begun) → Reads count_octets octets W c → (whole : List Dataset) (F tag z : List ℕ) (head : Head) → SpellsStream count_octets whole F
+pub follows : LowerLaws → (octets : List ℕ) (W : List Dataset) (c : Begun) → Reads count_octets octets W c
+    → (whole : List Dataset) (F tag z : List ℕ) (head : Head) → SpellsStream count_octets whole F
     → SpellsTag count_octets head tag → octets ≡ F ++ (tag ++ z) → Follows whole head z W c
 follows laws octets W c r whole F tag z head sw st parts =
     elim (compare laws.one_dataset whole W F r.front (tag ++ z) r.rest sw r.is_front (sym parts ∙ r.parts)) [
       | inl (more, q, is, stream, tail) ↦
           let none : more ≡ [] = no_longer_stream laws.one_tag c r.rest (tag ++ z) q more r.is_rest stream tail in
-          let empty : q ≡ [] = subst (λ (xs : List Dataset). SpellsStream count_octets xs q) none stream in
-          let same : W ≡ whole = sym (append-nil W) ∙ ap (λ (xs : List Dataset). W ++ xs) (sym none) ∙ is in
-          let begun = begun_as laws head tag z r.rest st c r.is_rest (ap (λ l. l ++ (tag ++ z)) (sym empty) ∙ tail) in
+          let empty : q ≡ [] = rw none at stream in
+          let same : W ≡ whole = rw (← is, none, append-nil) refl in
+          let begun = begun_as laws head tag z r.rest st c r.is_rest (rw empty at tail) in
           inr (same, begun.0, begun.1)
       | inr n ↦
           let s = n.spelled in
@@ -115,14 +111,15 @@ pub record InFront (limits : Limits) (whole : List Dataset) (d : Dataset) : Type
   pub sized : languages.IsAlive AreSized (whole ++ d ∷ [])
   pub goes_at : CanContinueAt limits whole (head_of d)
 
-pub in_front : LowerLaws → (limits : Limits) (W : List Dataset) (c : Begun) → MayContinue limits W c → (whole ws : List Dataset) (d : Dataset) → W ≡ whole ++ d ∷ ws → InFront limits whole d
+pub in_front : LowerLaws → (limits : Limits) (W : List Dataset) (c : Begun) → MayContinue limits W c → (whole ws : List Dataset) (d : Dataset)
+    → W ≡ whole ++ d ∷ ws → InFront limits whole d
 in_front laws limits W c goes whole ws d is =
     let alive = alive_of limits W c goes in
     let sized = sized_of laws limits W c goes in
-    let within : AreWithin limits (whole ++ d ∷ ws) = subst (AreWithin limits) is (within_of limits W c goes) in
-    let regroup : (ms : List Dataset) → W ++ ms ≡ (whole ++ d ∷ []) ++ (ws ++ ms) = λ ms. ap (λ (xs : List Dataset). xs ++ ms) is ∙ append_assoc whole (d ∷ ws) ms ∙ sym (append_assoc whole (d ∷ []) (ws ++ ms)) in
-    let front : SectionsLive (whole ++ d ∷ []) = (ws ++ alive.0, subst AreSections (regroup alive.0) alive.1) in
-    let sizes : languages.IsAlive AreSized (whole ++ d ∷ []) = (ws ++ sized.0, subst AreSized (regroup sized.0) sized.1) in
+    let within = rw is at (within_of limits W c goes) in
+    let regroup : (ms : List Dataset) → W ++ ms ≡ (whole ++ d ∷ []) ++ (ws ++ ms) = λ ms. rw is (simp append_assoc) in
+    let front : SectionsLive (whole ++ d ∷ []) = (ws ++ alive.0, rw regroup at alive.1) in
+    let sizes : languages.IsAlive AreSized (whole ++ d ∷ []) = (ws ++ sized.0, rw regroup at sized.1) in
     let room = leaves_room limits whole d ws within in
     record {
       alive = front;
@@ -136,9 +133,11 @@ in_front laws limits W c goes whole ws d is =
     }
 
 -- Every layer that is asked before the message can continue with a head that has come.
-pub head_lives : LowerLaws → (limits : Limits) (W : List Dataset) (c : Begun) → AllCanContinue limits W c → (whole : List Dataset) (head : Head) (z : List ℕ) → Follows whole head z W c → CanContinueAt limits whole head
-head_lives laws limits W c all whole head z (inl (d, ws, tail, is, h, rest)) = subst (CanContinueAt limits whole) h (in_front laws limits W c all.sizes whole ws d is).goes_at
-head_lives laws limits W c all whole head z (inr (same, begun, less)) = (subst (AllCanContinue limits whole) begun (subst (λ (ds : List Dataset). AllCanContinue limits ds c) same all)).sizes
+pub head_lives : LowerLaws → (limits : Limits) (W : List Dataset) (c : Begun) → AllCanContinue limits W c → (whole : List Dataset) (head : Head) (z : List ℕ)
+    → Follows whole head z W c → CanContinueAt limits whole head
+head_lives laws limits W c all whole head z (inl (d, ws, tail, is, h, rest)) = rw h at (in_front laws limits W c all.sizes whole ws d is).goes_at
+head_lives laws limits W c all whole head z (inr (same, begun, less)) =
+    let here : AllCanContinue limits whole (InData head z) = rw (same, begun) at all in here.sizes
 
 -- ---- values
 
@@ -146,14 +145,15 @@ pub same_data : (d : Dataset) (head : Head) (given : List ℕ) → head_of d ≡
 same_data d head given h o = λ i. record { rec = (h i).rec; set = (h i).set; octets = o i }
 
 -- The records and the sizes can continue with a value that has come.
-pub value_lives : LowerLaws → (limits : Limits) (W : List Dataset) (c : Begun) → AllCanContinue limits W c → (whole : List Dataset) (head : Head) (z given y : List ℕ) → Follows whole head z W c → z ≡ given ++ y
+pub value_lives : LowerLaws → (limits : Limits) (W : List Dataset) (c : Begun) → AllCanContinue limits W c
+    → (whole : List Dataset) (head : Head) (z given y : List ℕ) → Follows whole head z W c → z ≡ given ++ y
     → length given ≡ head.count → SectionsLive (whole ++ data_of head given ∷ []) × languages.IsAlive AreSized (whole ++ data_of head given ∷ [])
 value_lives laws limits W c all whole head z given y (inl (d, ws, tail, is, h, rest)) parts many =
     let front = in_front laws limits W c all.sizes whole ws d is in
     let count : length d.octets ≡ head.count = ap (λ (k : Head). k.count) h in
-    let octets : d.octets ≡ given = same_front given y d.octets tail (sym parts ∙ rest) (many ∙ sym count) in
+    let octets = (same_front d.octets given tail y (count ∙ sym many) (sym rest ∙ parts)).0 in
     let same = same_data d head given h octets in
-    (subst (λ (x : Dataset). SectionsLive (whole ++ x ∷ [])) same front.alive, subst (λ (x : Dataset). languages.IsAlive AreSized (whole ++ x ∷ [])) same front.sized)
+    (rw same at front.alive, rw same at front.sized)
 value_lives laws limits W c all whole head z given y (inr (same, begun, less)) parts many = absurd (omega (arith, less, many, ap length parts, length-append given y))
 
 -- ---- the message
@@ -170,68 +170,57 @@ object_more ds (InData h taken) = (if nat_eq h.rec 8 then taken else [], refl)
 pub with_data : (ds : List Dataset) (h : Head) (taken : List ℕ) → h.rec ≡ 8 → object_so_far ds (InData h taken) ≡ object_of ds ++ taken
 with_data ds h taken eight = ap (λ (r : ℕ). object_of ds ++ (if nat_eq r 8 then taken else [])) eight
 
+-- the octets of a subfile stand among those of all
+grown : (whole ws : List Dataset) (d : Dataset) (taken m : List ℕ) (next : ℕ) (e : List ℕ) → d.rec ≡ 8 → d.octets ≡ (taken ++ next ∷ []) ++ m
+    → object_of (whole ++ d ∷ ws) ++ e ≡ ((object_of whole ++ taken) ++ next ∷ []) ++ (m ++ (object_of ws ++ e))
+grown whole ws d taken m next e eight is = rw (objects_append whole (d ∷ ws), eight, is) (simp append_assoc)
+
 -- The octets of a begun subfile, and one more, are octets of the object so far.
-pub object_on : (W : List Dataset) (c : Begun) (whole : List Dataset) (head : Head) (taken more : List ℕ) (next : ℕ) → head.rec ≡ 8 → length taken < head.count → Follows whole head (taken ++ next ∷ more) W c
+pub object_on : (W : List Dataset) (c : Begun) (whole : List Dataset) (head : Head) (taken more : List ℕ) (next : ℕ) → head.rec ≡ 8
+    → length taken < head.count → Follows whole head (taken ++ next ∷ more) W c
     → (tail : List ℕ) × (object_so_far W c ≡ ((object_of whole ++ taken) ++ next ∷ []) ++ tail)
-object_on W c whole head taken more next eight less (inr (same, begun, short)) = (
-  more,
-  ap (λ (b : Begun). object_so_far W b) begun ∙ ap (λ (ds : List Dataset). object_so_far ds (InData head (taken ++ next ∷ more))) same ∙ with_data whole head (taken ++ next ∷ more) eight
-      ∙ sym (append_assoc (object_of whole) taken (next ∷ more)) ∙ sym (append_assoc (object_of whole ++ taken) (next ∷ []) more),
-)
+object_on W c whole head taken more next eight less (inr (same, begun, short)) = (more, rw (begun, same, eight) (simp append_assoc))
 object_on W c whole head taken more next eight less (inl (d, ws, tail, is, h, rest)) =
     let count : length d.octets ≡ head.count = ap (λ (k : Head). k.count) h in
-    let (m, octets) = longer_front (taken ++ next ∷ []) more d.octets tail (append_assoc taken (next ∷ []) more ∙ rest) (omega (arith, less, count, length-append taken (next ∷ []))) in
+    let long : length (taken ++ next ∷ []) ≤ length d.octets = omega (arith, less, count, length-append taken (next ∷ [])) in
+    let (m, octets) = longer_front (taken ++ next ∷ []) more d.octets tail (append_assoc taken (next ∷ []) more ∙ rest) long in
     let rec : d.rec ≡ 8 = ap (λ (k : Head). k.rec) h ∙ eight in
-    let subfile : object_of (d ∷ ws) ≡ d.octets ++ object_of ws = ap (λ (r : ℕ). joined (cond (nat_eq r 8) (d ∷ of_record 8 ws) (of_record 8 ws))) rec in
     let (e, more_is) = object_more W c in
-    let O : List ℕ = object_of whole in (
-      m ++ (object_of ws ++ e),
-      more_is ∙ ap (λ (ds : List Dataset). object_of ds ++ e) is ∙ ap (λ (xs : List ℕ). xs ++ e) (objects_append whole (d ∷ ws) ∙ ap (λ (xs : List ℕ). O ++ xs) (subfile ∙ ap (λ (xs : List ℕ). xs ++ object_of ws) octets))
-          ∙ regroup O taken (next ∷ []) m (object_of ws) e,
-    )
-  where
-    regroup : (o t n k s e : List ℕ) → (o ++ (((t ++ n) ++ k) ++ s)) ++ e ≡ ((o ++ t) ++ n) ++ (k ++ (s ++ e))
-    regroup o t n k s e = simp append_assoc
+    (m ++ (object_of ws ++ e), more_is ∙ (ap (λ (ds : List Dataset). object_of ds ++ e) is ∙ grown whole ws d taken m next e rec octets))
 
 -- A message can continue from the octets of the object so far.
-pub message_of : (limits : Limits) (W : List Dataset) (c : Begun) → AllCanContinue limits W c → (x tail : List ℕ) → object_so_far W c ≡ x ++ tail → MessageLivesWith x
-message_of limits W c all x tail is =
-    message_front x tail (if nat_eq (section W c) 9 then End ∷ [] else [])
-    (subst (λ (o : List ℕ). languages.IsAlive MessageLanguage (map Octet o ++ (if nat_eq (section W c) 9 then End ∷ [] else []))) is all.message)
+pub message_of : (limits : Limits) (W : List Dataset) (c : Begun) → AllCanContinue limits W c → (x tail : List ℕ) → object_so_far W c ≡ x ++ tail
+    → MessageLivesWith x
+message_of limits W c all x tail is = message_front x tail _ (rw is at all.message)
 
 pub story_of : (limits : Limits) (W : List Dataset) (c : Begun) → AllCanContinue limits W c → (x tail : List ℕ) → object_so_far W c ≡ x ++ tail → StoryLivesIn x
-story_of limits W c all x tail is = story_front x tail (subst StoryLivesIn is all.story)
+story_of limits W c all x tail is = story_front x tail (rw is at all.story)
 
 -- ---- the end of the message
 
 -- after the head of 9:10 the message has ended
 pub ends_tokens : (ds : List Dataset) (h : Head) (taken : List ℕ) → h.rec ≡ 9 → message_tokens ds (InData h taken) ≡ map Octet (object_of ds) ++ End ∷ []
-ends_tokens ds h taken nine =
-    ap (λ (r : ℕ). map Octet (object_of ds ++ (if nat_eq r 8 then taken else [])) ++ (if nat_eq r 9 then End ∷ [] else [])) nine
-    ∙ ap (λ (o : List ℕ). map Octet o ++ End ∷ []) (append-nil (object_of ds))
+ends_tokens ds h taken nine = rw (nine, append-nil) refl
 
-after_last : (ds : List Dataset) (d : Dataset) → d.rec ≡ 9 → map Octet (object_of (ds ++ d ∷ [])) ++ (if nat_eq (section_after (ds ++ d ∷ [])) 9 then End ∷ [] else []) ≡ map Octet (object_of ds) ++ End ∷ []
-after_last ds d nine =
-    let none : object_of (d ∷ []) ≡ [] = ap (λ (r : ℕ). joined (cond (nat_eq r 8) (d ∷ []) [])) nine in
-    let object : object_of (ds ++ d ∷ []) ≡ object_of ds = objects_append ds (d ∷ []) ∙ ap (λ (xs : List ℕ). object_of ds ++ xs) none ∙ append-nil (object_of ds) in
-    ap (λ (o : List ℕ). map Octet o ++ (if nat_eq (section_after (ds ++ d ∷ [])) 9 then End ∷ [] else [])) object
-    ∙ ap (λ (r : ℕ). map Octet (object_of ds) ++ (if nat_eq r 9 then End ∷ [] else [])) (last_more 0 ds d ∙ nine)
+after_last : (ds : List Dataset) (d : Dataset) → d.rec ≡ 9 → message_tokens (ds ++ d ∷ []) (InTag []) ≡ map Octet (object_of ds) ++ End ∷ []
+after_last ds d nine = rw (objects_append ds (d ∷ []), last_more 0 ds d, nine, append-nil) refl
 
 -- Where the head of 9:10 has come, a message can end with the octets of the object.
-pub message_ends : LowerLaws → (limits : Limits) (W : List Dataset) (c : Begun) → AllCanContinue limits W c → (whole : List Dataset) (head : Head) (z : List ℕ) → Follows whole head z W c → head.rec ≡ 9
+pub message_ends : LowerLaws → (limits : Limits) (W : List Dataset) (c : Begun) → AllCanContinue limits W c
+    → (whole : List Dataset) (head : Head) (z : List ℕ) → Follows whole head z W c → head.rec ≡ 9
     → languages.IsAlive MessageLanguage (map Octet (object_of whole) ++ End ∷ [])
 message_ends laws limits W c all whole head z (inr (same, begun, less)) nine =
-    subst (languages.IsAlive MessageLanguage) (ends_tokens whole head z nine) (subst (AllCanContinue limits whole) begun (subst (λ (ds : List Dataset). AllCanContinue limits ds c) same all)).message
+    let here : AllCanContinue limits whole (InData head z) = rw (same, begun) at all in rw (ends_tokens whole head z nine) at here.message
 message_ends laws limits W c all whole head z (inl (d, ws, tail, is, h, rest)) nine =
     let rec : d.rec ≡ 9 = ap (λ (k : Head). k.rec) h ∙ nine in
-    let front = in_front laws limits W c all.sizes whole ws d is in
-    let sections : AreSections (whole ++ d ∷ []) = (laws.last_record whole d front.alive).0 rec in
+    let sections = (laws.last_record whole d (in_front laws limits W c all.sizes whole ws d is).alive).0 rec in
     let alive = alive_of limits W c all.sizes in
-    let later : ws ++ alive.0 ≡ [] = laws.sections (whole ++ d ∷ []) (ws ++ alive.0) sections
-    (subst AreSections (ap (λ (xs : List Dataset). xs ++ alive.0) is ∙ append_assoc whole (d ∷ ws) alive.0 ∙ sym (append_assoc whole (d ∷ []) (ws ++ alive.0))) alive.1) in
-    let same : W ≡ whole ++ d ∷ [] = is ∙ ap (λ (xs : List Dataset). whole ++ d ∷ xs) (empty_front ws alive.0 later) in
-    at_last c (subst (λ (ds : List Dataset). AllCanContinue limits ds c) same all) sections rec
+    let regroup : (ms : List Dataset) → W ++ ms ≡ (whole ++ d ∷ []) ++ (ws ++ ms) = λ ms. rw is (simp append_assoc) in
+    let later : ws ++ alive.0 ≡ [] = laws.sections (whole ++ d ∷ []) (ws ++ alive.0) sections (rw regroup at alive.1) in
+    let none = empty_front ws alive.0 later in
+    at_last c (rw (is, none) at all) sections rec
   where
-    at_last : (b : Begun) → AllCanContinue limits (whole ++ d ∷ []) b → AreSections (whole ++ d ∷ []) → d.rec ≡ 9 → languages.IsAlive MessageLanguage (map Octet (object_of whole) ++ End ∷ [])
-    at_last (InTag held) all' sections rec = subst (languages.IsAlive MessageLanguage) (after_last whole d rec) all'.message
+    at_last : (b : Begun) → AllCanContinue limits (whole ++ d ∷ []) b → AreSections (whole ++ d ∷ []) → d.rec ≡ 9
+        → languages.IsAlive MessageLanguage (map Octet (object_of whole) ++ End ∷ [])
+    at_last (InTag held) all' sections rec = rw (after_last whole d rec) at all'.message
     at_last (InData k taken) all' sections rec = absurd (not_all laws.sections (whole ++ d ∷ []) k all'.sizes.records sections)

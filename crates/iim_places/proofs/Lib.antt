@@ -8,12 +8,10 @@ pub mod Objects
 pub mod Places
 pub mod Frames
 pub mod Limits
-pub mod Refused
 pub mod SizeConditions
 pub mod Lowest
 pub mod Results
 pub mod Lasts
-pub mod Opens
 pub mod Following
 pub mod Answering
 pub mod Admitted
@@ -26,9 +24,7 @@ pub mod Splitting
 pub mod Fitting
 pub mod Plain
 pub mod PlainSizes
-pub mod HeadsWithin
 pub mod PlainContinues
-pub mod PlainOpens
 pub mod ByLayers
 pub mod MessageOctets
 pub mod Taking
@@ -36,14 +32,11 @@ pub mod AtPlaces
 pub mod ObjectPlaces
 pub mod Twins
 pub mod Onward
-pub mod Continuing
 pub mod Saved
-pub mod TicketFaults
 pub mod SmallTags
 pub mod SmallSections
 pub mod Scales
 pub mod Listings
 pub mod PlacesTold
-pub mod Restoring
 pub mod ReadersAt
 pub mod ObjectOctets

@@ -1,5 +1,5 @@
 -- Places of the object at its end, and before it.
-use Rattle.std.proofs.Common.{◌≡◌, ℕ, ◌<◌, List, [], ◌∷◌, ◌++◌, length, Option, refl, subst, arith}
+use Rattle.std.proofs.Common.{◌≡◌, ℕ, ◌<◌, [], ◌∷◌, ◌++◌, length, Option, refl, subst, arith}
 use Rattle.iim_places.proofs.Words.{IsAlive, TokensFollow, ObjectToken, ObjectEnded, Confirmed, ObjectLanguage, NotEnded, Ended, ConfirmedAs, MayFollow}
 use Rattle.iim_places.proofs.Words.{place_after, tokens_of, IsPossible, State}
 use Rattle.iim_object.specs.Format.Places.{Place}
@@ -10,16 +10,15 @@ use Rattle.iim_places.specs.Nowhere.{goes_nowhere, stops_nowhere}
 use Rattle.iim_places.specs.declared.ticket.object.Nowhere.{Nowhere}
 use Rattle.iim_places.proofs.PlainSizes.{alive_front}
 
-some_lengths : (p : Place) → (p.lengths ≡ [] → Ended ≡ NotEnded) → 0 < length p.lengths
-some_lengths p none = by p.lengths none
-  where
-    by : (ls : List ℕ) → (ls ≡ [] → Ended ≡ NotEnded) → 0 < length ls
-    by [] none = absurd (let bad : Ended ≡ NotEnded = none refl in cc)
-    by (l ∷ ls) none = omega arith
-
 -- the end may follow at a place after which it is possible
 pub may_end : (p : Place) → p.ending ≡ NotEnded → IsPossible (place_after p ObjectEnded) → MayFollow p ObjectEnded
-may_end p open' is = (open', some_lengths p is.subfiles)
+may_end p open' is = (
+  open',
+  elim p.lengths as (λ ls. (ls ≡ [] → Ended ≡ NotEnded) → 0 < length ls) [
+    | [] ↦ λ none. absurd (let bad : Ended ≡ NotEnded = none refl in cc)
+    | l ∷ ls ↦ λ none. omega arith
+  ] is.subfiles,
+)
 
 before : TokensFollow → (p : Place) (token : ObjectToken) → MayFollow p token → IsAlive ObjectLanguage (tokens_of (place_after p token)) → IsAlive ObjectLanguage (tokens_of p)
 before law p token may alive = alive_front (tokens_of p) (token ∷ []) (subst (IsAlive ObjectLanguage) (law p token may) alive)

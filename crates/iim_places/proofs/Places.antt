@@ -1,12 +1,14 @@
 -- Where heads and values lead the object.
-use Rattle.std.proofs.Common.{◌≡◌, ℕ, ◌+◌, ◌<◌, ◌⊎◌, Bool, true, false, cond, if◌then◌else◌, nat_eq, List, [], ◌∷◌, ◌++◌, length, refl, ap, sym, subst, ◌∙◌, inl, inr, arith, append_assoc, length-append}
-use Rattle.iim_places.proofs.Words.{AllByRecursion, filter-append, or_cases, eqb-true, ne_eqb, number, Dataset, head_of, of_record, Head, all_append, all_front}
-use Rattle.iim_places.proofs.Words.{all_back, all_map, SectionsLive, SectionsLiveAt, tells_number, max_subfiles, ObjectToken, NumberRead, SubfileBegun}
-use Rattle.iim_places.proofs.Words.{ObjectEnded, Confirmed, MayFollow, place_after, head_token, value_token, AreObjectRecords, AreSized, place_after_datasets}
-use Rattle.iim_places.proofs.Words.{place_ended, DatasetsLiveWithTheirTokens, place_at, ObjectLives, LowerLaws}
-use Rattle.iim_dataset.specs.Format.Languages as languages
-use Rattle.iim_object.specs.Format.Places.{Place}
+use Rattle.std.proofs.Common.{◌≡◌, ℕ, ◌+◌, ◌<◌, ◌⊎◌, true, false, if◌then◌else◌, nat_eq, List, [], ◌∷◌, ◌++◌, length, refl, ap, sym, subst, ◌∙◌, inl, inr}
+use Rattle.std.proofs.Common.{arith, length-append}
+use Rattle.iim_places.proofs.Words.{AllByRecursion, filter-append, or_cases, eqb-true, ne_eqb, number, Dataset, head_of, of_record, Head, all_append}
+use Rattle.iim_places.proofs.Words.{all_front, all_back, all_map, SectionsLive, SectionsLiveAt, tells_number, max_subfiles, SubfileBegun, ObjectEnded}
+use Rattle.iim_places.proofs.Words.{MayFollow, place_after, head_token, value_token, AreObjectRecords, AreSized, place_after_datasets, place_ended}
+use Rattle.iim_places.proofs.Words.{DatasetsLiveWithTheirTokens, place_at, ObjectLives, LowerLaws, IsAlive, Limits, CanContinueAt, DiesAtHead, DiesAtValue}
+use Rattle.iim_places.proofs.Words.{Layer}
+use Rattle.iim_places.specs.declared.refusal.Layer.TheVariants as layers
 use Rattle.iim_places.proofs.Objects.{records_alive}
+use Rattle.iim_places.proofs.Living.{alive_front}
 
 -- ---- the records of datasets that are alive
 
@@ -36,10 +38,7 @@ pub at_number : (ds : List Dataset) (h : Head) → h.rec ≡ 7 → place_at ds h
 at_number ds h is = ap (λ (r : ℕ). if nat_eq r 8 then place_after (place_after_datasets ds) (SubfileBegun h.count) else if nat_eq r 9 then place_ended ds else place_after_datasets ds) is
 
 pub at_other : (ds : List Dataset) (h : Head) → h.rec < 7 → place_at ds h ≡ place_after_datasets ds
-at_other ds h less =
-    let not8 : nat_eq h.rec 8 ≡ false = ne_eqb h.rec 8 (λ e. omega (arith, e, less)) in
-    let not9 : nat_eq h.rec 9 ≡ false = ne_eqb h.rec 9 (λ e. omega (arith, e, less)) in
-    rw (not8, not9) refl
+at_other ds h less = rw (ne_eqb h.rec 8 (λ e. omega (arith, e, less)), ne_eqb h.rec 9 (λ e. omega (arith, e, less))) refl
 
 -- ---- heads
 
@@ -51,19 +50,15 @@ pub subfile_leads : LowerLaws → (ds : List Dataset) (h : Head) → SectionsLiv
 subfile_leads laws ds h (d, is, alive) eight few =
     let rec : d.rec ≡ 8 = ap (λ (k : Head). k.rec) is ∙ eight in
     let leads = laws.subfiles_lead ds d (records_alive (ds ++ d ∷ []) alive) rec few in
-    let token : head_token h.rec h.count ≡ SubfileBegun h.count = ap (λ (r : ℕ). head_token r h.count) eight in (
-      subst (MayFollow (place_after_datasets ds)) (sym token) leads.0,
-      ap (place_after (place_after_datasets ds)) token ∙ sym (at_subfile ds h eight),
-    )
+    let token : head_token h.rec h.count ≡ SubfileBegun h.count = ap (λ (r : ℕ). head_token r h.count) eight in
+    (rw token leads.0, rw token (sym (at_subfile ds h eight)))
 
 pub end_leads : LowerLaws → (ds : List Dataset) (h : Head) → SectionsLiveAt ds h → h.rec ≡ 9 → HeadLeads ds h
 end_leads laws ds h (d, is, alive) nine =
     let rec : d.rec ≡ 9 = ap (λ (k : Head). k.rec) is ∙ nine in
     let leads = (laws.ends_lead ds d (records_alive (ds ++ d ∷ []) alive) rec).0 in
-    let token : head_token h.rec h.count ≡ ObjectEnded = ap (λ (r : ℕ). head_token r h.count) nine in (
-      subst (MayFollow (place_after_datasets ds)) (sym token) leads.0,
-      ap (place_after (place_after_datasets ds)) token ∙ leads.1 ∙ sym (at_end ds h nine),
-    )
+    let token : head_token h.rec h.count ≡ ObjectEnded = ap (λ (r : ℕ). head_token r h.count) nine in
+    (rw token leads.0, rw (token, at_end ds h nine) leads.1)
 
 -- ---- values
 
@@ -72,21 +67,15 @@ abbrev pub ValueLeads : List Dataset → Dataset → Type 0
 ValueLeads ds d = MayFollow (place_at ds (head_of d)) (value_token d.rec d.set (number d.octets))
     × (place_after (place_at ds (head_of d)) (value_token d.rec d.set (number d.octets)) ≡ place_after_datasets (ds ++ d ∷ []))
 
-leads_as : (p q r : Place) (t u : ObjectToken) → p ≡ q → t ≡ u → MayFollow q u × (place_after q u ≡ r) → MayFollow p t × (place_after p t ≡ r)
-leads_as p q r t u is same leads =
-    subst (λ (x : Place). MayFollow x t × (place_after x t ≡ r)) (sym is) (subst (λ (x : ObjectToken). MayFollow q x × (place_after q x ≡ r)) (sym same) leads)
-
 pub number_leads : LowerLaws → (ds : List Dataset) (d : Dataset) → SectionsLive (ds ++ d ∷ []) → tells_number d.rec ≡ true → ValueLeads ds d
-number_leads laws ds d alive tells = elim (or_cases (nat_eq d.rec 7) (nat_eq d.rec 9) tells) [
-  | inl seven ↦
-      let is = eqb-true d.rec 7 seven in
-      leads_as _ (place_after_datasets ds) _ _ (NumberRead d.set (number d.octets)) (at_number ds (head_of d) is) (ap (λ (r : ℕ). value_token r d.set (number d.octets)) is)
-      (laws.numbers_lead ds d (records_alive (ds ++ d ∷ []) alive) is)
-  | inr nine ↦
-      let is = eqb-true d.rec 9 nine in
-      leads_as _ (place_ended ds) _ _ (Confirmed (number d.octets)) (at_end ds (head_of d) is) (ap (λ (r : ℕ). value_token r d.set (number d.octets)) is)
-      (laws.ends_lead ds d (records_alive (ds ++ d ∷ []) alive) is).1
-]
+number_leads laws ds d alive tells =
+    let token : (r : ℕ) → d.rec ≡ r → value_token d.rec d.set (number d.octets) ≡ value_token r d.set (number d.octets) =
+    λ r is. ap (λ (k : ℕ). value_token k d.set (number d.octets)) is in
+    let whole = records_alive (ds ++ d ∷ []) alive in
+    elim (or_cases (nat_eq d.rec 7) (nat_eq d.rec 9) tells) [
+      | inl seven ↦ let is = eqb-true d.rec 7 seven in rw (at_number ds (head_of d) is, token 7 is) (laws.numbers_lead ds d whole is)
+      | inr nine ↦ let is = eqb-true d.rec 9 nine in rw (at_end ds (head_of d) is, token 9 is) (laws.ends_lead ds d whole is).1
+    ]
 
 not_told : (r : ℕ) → r ≡ 7 ⊎ r ≡ 9 → tells_number r ≡ false → ⊥
 not_told r (inl seven) none = let bad : true ≡ false = sym (ap tells_number seven) ∙ none in cc
@@ -106,29 +95,19 @@ silent_leads laws ds d alive none few = elim (is_one ds d alive) [
 
 pub one_more : (ds : List Dataset) (d : Dataset) → length (of_record 8 (ds ++ d ∷ [])) ≡ length (of_record 8 ds) + (if nat_eq d.rec 8 then 1 else 0)
 one_more ds d =
-    ap length (filter-append (λ (x : Dataset). nat_eq x.rec 8) ds (d ∷ [])) ∙ length-append (of_record 8 ds) (of_record 8 (d ∷ []))
-    ∙ ap (λ n. length (of_record 8 ds) + n) (one_by (nat_eq d.rec 8))
-  where
-    one_by : (b : Bool) → length (cond b (d ∷ []) []) ≡ cond b 1 0
-    one_by true = refl
-    one_by false = refl
+    grind (arith, ap length (filter-append (λ (x : Dataset). nat_eq x.rec 8) ds (d ∷ [])), length-append (of_record 8 ds) (of_record 8 (d ∷ [])))
 
 -- ---- what continues to sized datasets
 
-pub lives_after : DatasetsLiveWithTheirTokens → (ds : List Dataset) → SectionsLive ds → languages.IsAlive AreSized ds → ObjectLives (place_after_datasets ds)
+pub lives_after : DatasetsLiveWithTheirTokens → (ds : List Dataset) → SectionsLive ds → IsAlive AreSized ds → ObjectLives (place_after_datasets ds)
 lives_after live ds alive sized = (live ds (records_alive ds alive)).0 sized
-
-less_alive : (ds : List Dataset) (d : Dataset) → languages.IsAlive AreSized (ds ++ d ∷ []) → languages.IsAlive AreSized ds
-less_alive ds d sized = (d ∷ sized.0, subst AreSized (append_assoc ds (d ∷ []) sized.0) sized.1)
-
-less_records : (ds : List Dataset) (d : Dataset) → SectionsLive (ds ++ d ∷ []) → languages.IsAlive AreObjectRecords ds
-less_records ds d alive = let r = records_alive (ds ++ d ∷ []) alive in (d ∷ r.0, subst AreObjectRecords (append_assoc ds (d ∷ []) r.0) r.1)
 
 -- the object layer can continue with the head of a dataset that continues to sized ones
 pub lives_at : LowerLaws → (ds : List Dataset) (d : Dataset) → SectionsLive (ds ++ d ∷ [])
-    → languages.IsAlive AreSized (ds ++ d ∷ []) → (d.rec ≡ 8 → length (of_record 8 ds) < max_subfiles) → ObjectLives (place_at ds (head_of d))
+    → IsAlive AreSized (ds ++ d ∷ []) → (d.rec ≡ 8 → length (of_record 8 ds) < max_subfiles) → ObjectLives (place_at ds (head_of d))
 lives_at laws ds d alive sized few =
-    let before : ObjectLives (place_after_datasets ds) = (laws.live ds (less_records ds d alive)).0 (less_alive ds d sized) in
+    let before : ObjectLives (place_after_datasets ds) =
+    (laws.live ds (alive_front AreObjectRecords ds (d ∷ []) (records_alive (ds ++ d ∷ []) alive))).0 (alive_front AreSized ds (d ∷ []) sized) in
     elim (is_one ds d alive) [
       | inl less ↦ subst ObjectLives (sym (at_other ds (head_of d) less)) before
       | inr (inl seven) ↦ subst ObjectLives (sym (at_number ds (head_of d) seven)) before
@@ -137,3 +116,17 @@ lives_at laws ds d alive sized few =
       | inr (inr (inr nine)) ↦
           subst ObjectLives (sym (at_end ds (head_of d) nine)) ((laws.ended ds d (records_alive (ds ++ d ∷ []) alive) nine).0 (d, nine, sized))
     ]
+
+-- ---- no layer dies with what all can continue with
+
+pub no_dead_head : (layer : Layer) (limits : Limits) (ds : List Dataset) (h : Head) → CanContinueAt limits ds h → DiesAtHead layer limits ds h → ⊥
+no_dead_head layers.Record limits ds h goes dead = dead goes.records
+no_dead_head layers.Limits limits ds h goes dead = dead.1 goes.room
+no_dead_head layers.Object limits ds h goes dead = dead.2 goes.object
+no_dead_head rest limits ds h goes dead = dead
+
+pub no_dead_value : DatasetsLiveWithTheirTokens → (layer : Layer) (ds : List Dataset) (d : Dataset) → SectionsLive (ds ++ d ∷ [])
+    → IsAlive AreSized (ds ++ d ∷ []) → DiesAtValue layer ds d → ⊥
+no_dead_value live layers.Record ds d alive sized dead = dead alive
+no_dead_value live layers.Object ds d alive sized dead = dead.1 (lives_after live (ds ++ d ∷ []) alive sized)
+no_dead_value live rest ds d alive sized dead = dead

@@ -1,12 +1,12 @@
 -- Plain datasets tell their place.
 use Rattle.std.proofs.Common.{◌≡◌, ℕ, zero, suc, ◌+◌, ◌*◌, ◌<◌, ◌≤◌, nat_eq, cond, Bool, true, false, List, [], ◌∷◌, ◌++◌, length, take, drop, Option, Some}
-use Rattle.std.proofs.Common.{None, refl, ap, sym, ◌∙◌, arith, append-nil, length-drop, subst, IfSome, inl, inr}
-use Rattle.iim_places.proofs.Words.{AllByRecursion, filter, unwrap_or, eqb-true, or_cases, ne_eqb, take-append-drop, length-take, filter-append, few_octets}
+use Rattle.std.proofs.Common.{None, refl, ap, sym, ◌∙◌, arith, append-nil, length-drop, subst, IfSome}
+use Rattle.iim_places.proofs.Words.{place_of, option_or, AllByRecursion, filter, unwrap_or, ne_eqb, take-append-drop, length-take, filter-append, few_octets}
 use Rattle.iim_places.proofs.Words.{number_back, IsOctet, Octets, number, Dataset, canonical_stream, of_record, all_append, all_map, front_are, Begun, InTag}
 use Rattle.iim_places.proofs.Words.{InData, HasSpellings, CanonicalStreamsAreSpelled, kept, is_kept, last_record, section_after, numbers_of, number_dataset}
-use Rattle.iim_places.proofs.Words.{subfile_datasets, stated_numbers, Stated, number_at, LeadsToSaved, object_of, IsSize, object_so_far, section, phase_of}
-use Rattle.iim_places.proofs.Words.{heads_of, AreSpellable, begun_object, begun_heads, PlainOctetsLeadToTheirPlace, Numbers, number_list, mode_dataset}
-use Rattle.iim_places.proofs.Words.{one_dataset, plain_numbers, filled, plain_end, plain, last_of_joined, map-append}
+use Rattle.iim_places.proofs.Words.{subfile_datasets, stated_numbers, Stated, number_at, LeadsToSaved, object_of, IsSize, object_so_far, heads_of}
+use Rattle.iim_places.proofs.Words.{AreSpellable, begun_object, begun_heads, PlainOctetsLeadToTheirPlace, Numbers, number_list, mode_dataset, one_dataset}
+use Rattle.iim_places.proofs.Words.{plain_numbers, filled, plain_end, plain, last_of_joined, map-append}
 use Rattle.iim_dataset.proofs.WrittenNumbers.{number_octets}
 use Rattle.iim_fields.specs.Format.Faults.{joined}
 use Rattle.iim_object.specs.Format.Packing.{subfile_dataset}
@@ -37,20 +37,22 @@ filter_none p (d ∷ ds) all = ap (λ (b : Bool). cond b (d ∷ filter p ds) (fi
 pub kept_fields : (ds : List Dataset) → AllByRecursion (λ (d : Dataset). is_kept d.rec ≡ true) ds → kept ds ≡ ds
 kept_fields ds all = filter_all (λ (d : Dataset). is_kept d.rec) ds all
 
-none_kept : (r : ℕ) (ds : List Dataset) → is_kept r ≡ false → AreOf r ds → kept ds ≡ []
-none_kept r ds is all = filter_none (λ (d : Dataset). is_kept d.rec) ds (all_map _ _ ds (λ d e. ap is_kept e ∙ is) all)
+pub kept_of : (r : ℕ) (ds : List Dataset) → is_kept r ≡ true → AreOf r ds → kept ds ≡ ds
+kept_of r ds is all = kept_fields ds (all_map _ _ ds (λ d e. ap is_kept e ∙ is) all)
 
 pub all_of : (r : ℕ) (ds : List Dataset) → nat_eq r r ≡ true → AreOf r ds → of_record r ds ≡ ds
 all_of r ds same all = filter_all (λ (d : Dataset). nat_eq d.rec r) ds (all_map _ _ ds (λ d e. ap (λ (n : ℕ). nat_eq n r) e ∙ same) all)
 
+pub none_by : (p : ℕ → Bool) (s : ℕ) (ds : List Dataset) → p s ≡ false → AreOf s ds → filter (λ (d : Dataset). p d.rec) ds ≡ []
+none_by p s ds none all = filter_none (λ (d : Dataset). p d.rec) ds (all_map _ _ ds (λ d e. ap p e ∙ none) all)
+
 pub none_of : (r s : ℕ) (ds : List Dataset) → nat_eq s r ≡ false → AreOf s ds → of_record r ds ≡ []
-none_of r s ds apart all = filter_none (λ (d : Dataset). nat_eq d.rec r) ds (all_map _ _ ds (λ d e. ap (λ (n : ℕ). nat_eq n r) e ∙ apart) all)
+none_of r s ds apart all = none_by (λ k. nat_eq k r) s ds apart all
 
 none_in_fields : (r : ℕ) (ds : List Dataset) → is_kept r ≡ false → AllByRecursion (λ (d : Dataset). is_kept d.rec ≡ true) ds → of_record r ds ≡ []
-none_in_fields r ds is all = filter_none (λ (d : Dataset). nat_eq d.rec r) ds (all_map _ _ ds (λ d keeps. ne_eqb d.rec r (apart d keeps)) all)
-  where
-    apart : (d : Dataset) → is_kept d.rec ≡ true → d.rec ≡ r → ⊥
-    apart d keeps same = let bad : true ≡ false = sym keeps ∙ ap is_kept same ∙ is in cc
+none_in_fields r ds is all =
+    filter_none (λ (d : Dataset). nat_eq d.rec r) ds
+    (all_map _ _ ds (λ d keeps. ne_eqb d.rec r (λ same. let bad : true ≡ false = sym keeps ∙ ap is_kept same ∙ is in absurd cc)) all)
 
 -- ---- what holds of each
 
@@ -109,44 +111,18 @@ all_stated n = one_stated 10 n.mode ++ (one_stated 20 n.largest ++ (one_stated 9
 pub numbers_join : (xs ys : List Dataset) → numbers_of (xs ++ ys) ≡ numbers_of xs ++ numbers_of ys
 numbers_join xs ys = map-append (λ (d : Dataset). record { set = d.set; number = number d.octets }) xs ys
 
-both_lists : {a b c d : List Stated} → a ≡ c → b ≡ d → a ++ b ≡ c ++ d
-both_lists {b = b} {c = c} e f = ap (λ (xs : List Stated). xs ++ b) e ∙ ap (λ (xs : List Stated). c ++ xs) f
-
 pub are_told : (n : Numbers) → AllByRecursion IsSize (number_list n) → numbers_of (plain_numbers n) ≡ all_stated n
-are_told n fit =
-    let last = numbers_join (one_dataset (number_dataset 7 90) n.announced) (one_dataset (number_dataset 7 95) n.maximum) ∙ both_lists (one_told 90 n.announced fit.1.1.0) (one_told 95 n.maximum fit.1.1.1.0) in
-    let more = numbers_join (one_dataset (number_dataset 7 20) n.largest) (one_dataset (number_dataset 7 90) n.announced ++ one_dataset (number_dataset 7 95) n.maximum) ∙ both_lists (one_told 20 n.largest fit.1.0) last in
-    numbers_join (one_dataset mode_dataset n.mode) (one_dataset (number_dataset 7 20) n.largest ++ (one_dataset (number_dataset 7 90) n.announced ++ one_dataset (number_dataset 7 95) n.maximum)) ∙ both_lists (mode_told n.mode) more
+are_told n fit = simp (numbers_join, mode_told, one_told 20 n.largest fit.1.0, one_told 90 n.announced fit.1.1.0, one_told 95 n.maximum fit.1.1.1.0)
 
-here : (set : ℕ) (o : Option ℕ) (ps : List Stated) → nat_eq set set ≡ true → number_at set ps ≡ None → number_at set (one_stated set o ++ ps) ≡ o
-here set None ps same none = none
-here set (Some n) ps same none = ap (λ (b : Bool). cond b (Some n) (number_at set ps)) same
+pub at_both : (set : ℕ) (ps qs : List Stated) → number_at set (ps ++ qs) ≡ option_or (number_at set ps) (number_at set qs)
+at_both set [] qs = refl
+at_both set (p ∷ ps) qs = grind (arith, at_both set ps qs)
 
-past : (set other : ℕ) (o : Option ℕ) (ps : List Stated) → nat_eq other set ≡ false → number_at set (one_stated other o ++ ps) ≡ number_at set ps
-past set other None ps apart = refl
-past set other (Some n) ps apart = ap (λ (b : Bool). cond b (Some n) (number_at set ps)) apart
-
-last_here : (set : ℕ) (o : Option ℕ) → nat_eq set set ≡ true → number_at set (one_stated set o) ≡ o
-last_here set None same = refl
-last_here set (Some n) same = ap (λ (b : Bool). cond b (Some n) None) same
-
-last_past : (set other : ℕ) (o : Option ℕ) → nat_eq other set ≡ false → number_at set (one_stated other o) ≡ None
-last_past set other None apart = refl
-last_past set other (Some n) apart = ap (λ (b : Bool). cond b (Some n) None) apart
+four_by : (a b c d : Option ℕ) → stated_numbers (one_stated 10 a ++ (one_stated 20 b ++ (one_stated 90 c ++ one_stated 95 d))) ≡ a ∷ b ∷ c ∷ d ∷ []
+four_by a b c d = grind arith
 
 pub four_told : (n : Numbers) → stated_numbers (all_stated n) ≡ number_list n
-four_told n =
-    let from90 = one_stated 90 n.announced ++ one_stated 95 n.maximum in
-    let from20 = one_stated 20 n.largest ++ from90 in
-    let mode : number_at 10 (all_stated n) ≡ n.mode =
-    here 10 n.mode from20 refl (past 10 20 n.largest from90 refl ∙ past 10 90 n.announced (one_stated 95 n.maximum) refl ∙ last_past 10 95 n.maximum refl) in
-    let largest : number_at 20 (all_stated n) ≡ n.largest =
-    past 20 10 n.mode from20 refl ∙ here 20 n.largest from90 refl (past 20 90 n.announced (one_stated 95 n.maximum) refl ∙ last_past 20 95 n.maximum refl) in
-    let announced : number_at 90 (all_stated n) ≡ n.announced =
-    past 90 10 n.mode from20 refl ∙ past 90 20 n.largest from90 refl ∙ here 90 n.announced (one_stated 95 n.maximum) refl (last_past 90 95 n.maximum refl) in
-    let maximum : number_at 95 (all_stated n) ≡ n.maximum =
-    past 95 10 n.mode from20 refl ∙ past 95 20 n.largest from90 refl ∙ past 95 90 n.announced (one_stated 95 n.maximum) refl ∙ last_here 95 n.maximum refl in
-    λ i. mode i ∷ largest i ∷ announced i ∷ maximum i ∷ []
+four_told n = four_by n.mode n.largest n.announced n.maximum
 
 -- ---- record 8
 
@@ -165,11 +141,6 @@ filled_all size (suc count) xs fits =
     let rest = length-drop size xs in
     ap (λ (ys : List ℕ). take size xs ++ ys) (filled_all size count (drop size xs) (omega (arith, fits, rest))) ∙ take-append-drop size xs
 
--- ---- record 9
-
-pub are_nines : (ended : Bool) (object : List ℕ) → AreOf 9 (plain_end ended object)
-are_nines ended object = end_each (λ d. d.rec ≡ 9) ended object refl
-
 -- ---- all of it
 
 -- what plain datasets have: their fields are of records 1 and 2, each number fits its octets, and the subfiles have room for the object
@@ -178,49 +149,39 @@ pub record Fits (fields : List Dataset) (numbers : Numbers) (heads : ℕ) (objec
   pub fit : AllByRecursion IsSize (number_list numbers)
   pub room : length object ≤ heads * unwrap_or numbers.largest 0
 
+told_by : (test : Dataset → Bool) (a b c d : List Dataset) {w x y z : List Dataset} → filter test a ≡ w → filter test b ≡ x → filter test c ≡ y
+    → filter test d ≡ z → filter test (a ++ (b ++ (c ++ d))) ≡ w ++ (x ++ (y ++ z))
+told_by test a b c d e f g h = simp (filter-append, e, f, g, h)
+
 -- The plain datasets tell what they are made of.
 pub plain_told : (fields : List Dataset) (numbers : Numbers) (heads : ℕ) (object : List ℕ) (ended : Bool) → Fits fields numbers heads object
     → Tell (plain fields numbers heads object ended) fields numbers heads object ended
 plain_told fields numbers heads object ended fits =
     let each = fits.kept in
-    let fit = fits.fit in
-    let room = fits.room in
-    let parts = filled (unwrap_or numbers.largest 0) heads object in
+    let size = unwrap_or numbers.largest 0 in
     let sevens = plain_numbers numbers in
-    let eights = subfile_datasets parts in
+    let eights = subfile_datasets (filled size heads object) in
     let nines = plain_end ended object in
     let are7 = are_sevens numbers in
-    let are8 = are_eights parts in
-    let are9 = are_nines ended object in
+    let are8 = are_eights (filled size heads object) in
+    let are9 : AreOf 9 nines = end_each _ ended object refl in
     let seven : of_record 7 (plain fields numbers heads object ended) ≡ sevens =
-    split (λ (d : Dataset). nat_eq d.rec 7) fields sevens eights nines
-    ∙ joins (none_in_fields 7 fields refl each) (all_of 7 sevens refl are7) (none_of 7 8 eights refl are8) (none_of 7 9 nines refl are9) ∙ append-nil sevens in
+    told_by (λ (d : Dataset). nat_eq d.rec 7) fields sevens eights nines (none_in_fields 7 fields refl each) (all_of 7 sevens refl are7)
+    (none_of 7 8 eights refl are8) (none_of 7 9 nines refl are9) ∙ append-nil sevens in
     let eight : of_record 8 (plain fields numbers heads object ended) ≡ eights =
-    split (λ (d : Dataset). nat_eq d.rec 8) fields sevens eights nines
-    ∙ joins (none_in_fields 8 fields refl each) (none_of 8 7 sevens refl are7) (all_of 8 eights refl are8) (none_of 8 9 nines refl are9) ∙ append-nil eights in
+    told_by (λ (d : Dataset). nat_eq d.rec 8) fields sevens eights nines (none_in_fields 8 fields refl each) (none_of 8 7 sevens refl are7)
+    (all_of 8 eights refl are8) (none_of 8 9 nines refl are9) ∙ append-nil eights in
     record {
-      kept_are =
-          split (λ (d : Dataset). is_kept d.rec) fields sevens eights nines
-          ∙ joins (kept_fields fields each) (none_kept 7 sevens refl are7) (none_kept 8 eights refl are8) (none_kept 9 nines refl are9) ∙ append-nil fields;
-      numbers_are = ap (λ (xs : List Dataset). stated_numbers (numbers_of xs)) seven ∙ ap stated_numbers (are_told numbers fit) ∙ four_told numbers;
-      object_is = ap joined eight ∙ filled_all (unwrap_or numbers.largest 0) heads object room;
-      heads_are = ap length eight ∙ filled_count (unwrap_or numbers.largest 0) heads object;
+      kept_are = told_by (λ (d : Dataset). is_kept d.rec) fields sevens eights nines (kept_fields fields each) (none_by is_kept 7 sevens refl are7)
+          (none_by is_kept 8 eights refl are8) (none_by is_kept 9 nines refl are9) ∙ append-nil fields;
+      numbers_are = ap (λ (xs : List Dataset). stated_numbers (numbers_of xs)) seven ∙ ap stated_numbers (are_told numbers fits.fit) ∙ four_told numbers;
+      object_is = ap joined eight ∙ filled_all size heads object fits.room;
+      heads_are = ap length eight ∙ filled_count size heads object;
       sevens_are = seven;
       eights_are = eight;
-      nines_are =
-          split (λ (d : Dataset). nat_eq d.rec 9) fields sevens eights nines
-          ∙ joins (none_in_fields 9 fields refl each) (none_of 9 7 sevens refl are7) (none_of 9 8 eights refl are8) (all_of 9 nines refl are9);
+      nines_are = told_by (λ (d : Dataset). nat_eq d.rec 9) fields sevens eights nines (none_in_fields 9 fields refl each) (none_of 9 7 sevens refl are7)
+          (none_of 9 8 eights refl are8) (all_of 9 nines refl are9);
     }
-  where
-    split : (test : Dataset → Bool) (a b c d : List Dataset) → filter test (a ++ (b ++ (c ++ d))) ≡ filter test a ++ (filter test b ++ (filter test c ++ filter test d))
-    split test a b c d =
-        filter-append test a (b ++ (c ++ d))
-        ∙ ap (λ (xs : List Dataset). filter test a ++ xs) (filter-append test b (c ++ d) ∙ ap (λ (xs : List Dataset). filter test b ++ xs) (filter-append test c d))
-
-    joins : {a b c d w x y z : List Dataset} → a ≡ w → b ≡ x → c ≡ y → d ≡ z → a ++ (b ++ (c ++ d)) ≡ w ++ (x ++ (y ++ z))
-    joins {b = b} {c = c} {d = d} {w = w} {x = x} {y = y} e f g h =
-        ap (λ (xs : List Dataset). xs ++ (b ++ (c ++ d))) e
-        ∙ ap (λ (xs : List Dataset). w ++ xs) (ap (λ (xs : List Dataset). xs ++ (c ++ d)) f ∙ ap (λ (xs : List Dataset). x ++ xs) (ap (λ (xs : List Dataset). xs ++ d) g ∙ ap (λ (xs : List Dataset). y ++ xs) h))
 
 -- ---- whether they have ended
 
@@ -228,25 +189,16 @@ last_low : (r : ℕ) (ds : List Dataset) → r ≤ 8 → AllByRecursion (λ (d :
 last_low r [] low all = low
 last_low r (d ∷ ds) low all = last_low d.rec ds all.0 all.1
 
-kept_low : (r : ℕ) → is_kept r ≡ true → r ≤ 8
-kept_low r is = elim (or_cases (nat_eq r 1) (nat_eq r 2) is) [
-  | inl one ↦ let e = eqb-true r 1 one in omega (arith, e)
-  | inr two ↦ let e = eqb-true r 2 two in omega (arith, e)
-]
+pub two_at_most : (r : ℕ) → is_kept r ≡ true → r ≤ 2
+two_at_most r is = grind arith
 
 pub present_ended : (fields : List Dataset) (numbers : Numbers) (heads : ℕ) (object : List ℕ) (ended : Bool)
     → AllByRecursion (λ (d : Dataset). is_kept d.rec ≡ true) fields → nat_eq (section_after (plain fields numbers heads object ended)) 9 ≡ ended
-present_ended fields numbers heads object true keeps =
-    let eights = subfile_datasets (filled (unwrap_or numbers.largest 0) heads object) in
-    let last = plain_end true object in
-    let front = last_record 0 fields in
-    ap (λ (r : ℕ). nat_eq r 9)
-    (last_of_joined 0 fields (plain_numbers numbers ++ (eights ++ last)) ∙ last_of_joined front (plain_numbers numbers) (eights ++ last)
-    ∙ last_of_joined (last_record front (plain_numbers numbers)) eights last)
+present_ended fields numbers heads object true keeps = simp last_of_joined
 present_ended fields numbers heads object false keeps =
     let parts = filled (unwrap_or numbers.largest 0) heads object in
     let low : AllByRecursion (λ (d : Dataset). d.rec ≤ 8) (plain fields numbers heads object false) =
-    all_append _ fields _ (all_map _ _ fields (λ d is. kept_low d.rec is) keeps)
+    all_append _ fields _ (all_map _ _ fields (λ d is. let few = two_at_most d.rec is in omega (arith, few)) keeps)
     (all_append _ (plain_numbers numbers) _ (all_map _ _ (plain_numbers numbers) (λ d is. omega (arith, is)) (are_sevens numbers))
     (all_append _ (subfile_datasets parts) [] (all_map _ _ (subfile_datasets parts) (λ d is. omega (arith, is)) (are_eights parts)) tt)) in
     let last = last_low 0 (plain fields numbers heads object false) (omega arith) low in
@@ -297,13 +249,5 @@ plain_led law fields numbers heads object ended begun rest text message are is l
       text = text;
       message = message;
       leads = subst (λ (xs : List ℕ). LeadsToSaved xs text message) (sym taken) leads;
-      is_place = λ i. record {
-        section = section ds begun;
-        phase = phase_of ds begun;
-        fields = sym tell.kept_are i;
-        numbers = sym tell.numbers_are i;
-        taken = length (sym taken i);
-        heads = sym count i;
-        message = message;
-      };
+      is_place = λ i. record (place_of ds begun message) { fields = sym tell.kept_are i; numbers = sym tell.numbers_are i; taken = length (sym taken i); heads = sym count i };
     }

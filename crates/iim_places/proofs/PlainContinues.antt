@@ -1,33 +1,28 @@
 -- Plain datasets continue as those do for which they stand.
 use Rattle.std.proofs.Common.{◌≡◌, ℕ, zero, suc, ◌+◌, ◌≤◌, ◌||◌, nat_eq, cond, Bool, true, false, List, [], ◌∷◌, ◌++◌, length, Option, Some, None, IfSome}
 use Rattle.std.proofs.Common.{is_some, refl, ap, sym, subst, ◌∙◌, inl, inr, arith, append-nil, append_assoc, ◌⊎◌, ◌*◌}
-use Rattle.iim_places.proofs.Words.{AllByRecursion, flat_map, unwrap_or, eqb-true, eq-eqb, filter-append, list_any-append, Octets, number, greatest_size}
-use Rattle.iim_places.proofs.Words.{Dataset, of_record, all_append, all_back, all_front, number_back, Meets, SectionsLive, kept, is_kept, section_after}
-use Rattle.iim_places.proofs.Words.{last_record, AreSections, AreRecords, records, IsGoodDataset, IsGoodRecord, occurs, occurrences, repeats, mandatory}
+use Rattle.iim_places.proofs.Words.{filter, AllByRecursion, flat_map, unwrap_or, eqb-true, eq-eqb, filter-append, list_any-append, Octets, number}
+use Rattle.iim_places.proofs.Words.{greatest_size, Dataset, of_record, all_append, all_back, all_front, number_back, Meets, SectionsLive, kept, is_kept}
+use Rattle.iim_places.proofs.Words.{section_after, last_record, AreRecords, records, IsGoodDataset, IsGoodRecord, occurs, occurrences, repeats, mandatory}
 use Rattle.iim_places.proofs.Words.{number_dataset, subfile_datasets, numbers_of, Stated, InRow, number_at, stated_numbers, IsSize, LowerLaws, Numbers}
 use Rattle.iim_places.proofs.Words.{number_list, mode_dataset, one_dataset, plain_numbers, filled, plain_end, plain, good_elsewhere, occurrences_cons}
-use Rattle.iim_places.proofs.Words.{part_meets, none_counts, occurrences_append, some_counts, last_more, last_of_joined, front_alive, max_subfiles, one_of_some}
-use Rattle.iim_places.proofs.Words.{eqb_tells, all_map}
+use Rattle.iim_places.proofs.Words.{part_meets, none_counts, occurrences_append, some_counts, last_of_joined, max_subfiles, one_of_some, eqb_tells, all_map}
+use Rattle.iim_places.proofs.Words.{AreSections}
 use Rattle.iim_tables.specs.Format.Rows.{table, row_of}
 use Rattle.iim_object.specs.Laws.Packing.{NumberDatasetsAreGood}
-use Rattle.iim_places.proofs.SizeRows.{by_number}
-use Rattle.iim_places.proofs.Plain.{AreOf, one_stated, are_told, four_told, filled_count, all_of, none_of, Tell, plain_told, parts_each, end_each}
-use Rattle.iim_places.proofs.PlainSizes.{all_kept, numbers_in, end_length}
-use Rattle.iim_places.proofs.SameRecords.{occurs_stated, same_stated, same_numbers, stated_after_all, tens_after, SameRecords, same_shape, tens_seen, AreTens}
-use Rattle.iim_places.proofs.SameRecords.{none_in_records}
+pub use Rattle.iim_places.proofs.Plain.{kept_of, two_at_most}
+use Rattle.iim_places.proofs.SameRecords.{SameShape, occurs_stated, same_stated, same_numbers, stated_after_all, tens_after, SameRecords, same_shape}
+use Rattle.iim_places.proofs.SameRecords.{tens_seen, none_in_front}
+use Rattle.iim_places.proofs.PlainSizes.{at_each, all_kept, numbers_in, end_length}
+use Rattle.iim_places.proofs.Plain.{numbers_each, AreOf, one_stated, are_told, four_told, filled_count, all_of, none_of, plain_told, parts_each, end_each}
 use Rattle.iim_places.proofs.Fronts.{empty_front}
 use Rattle.iim_places.proofs.Taking.{each_good}
-use Rattle.iim_fields.proofs.Follows.{alive_follows, is_coming}
 
 -- ---- counts
 
 -- what occurs once at most occurs no oftener than in other datasets where it is seen as well
 pub fewer_by : (n : ℕ) (xs ys : List Dataset) → occurs n xs ≡ occurs n ys → occurrences n ys ≤ 1 → occurrences n ys ≤ occurrences n xs
-fewer_by n xs ys same one = by (occurs n ys) refl
-  where
-    by : (b : Bool) → occurs n ys ≡ b → occurrences n ys ≤ occurrences n xs
-    by true is = let some = some_counts n xs (same ∙ is) in omega (arith, some, one)
-    by false is = let none = none_counts n ys is in omega (arith, none)
+fewer_by n xs ys same one = grind (arith, some_counts n xs, none_counts n ys)
 
 -- ---- one run for another
 
@@ -43,17 +38,12 @@ pub record MayReplace (r : ℕ) (xs ys : List Dataset) : Type 0 where
 pub good_with : (r : ℕ) (xs ys more : List Dataset) → MayReplace r xs ys → IsGoodRecord r (xs ++ more) → IsGoodRecord r (ys ++ more)
 good_with r xs ys more may good = record {
   each = all_append _ ys more may.each (all_back _ xs more good.each);
-  mandatory = all_seen (mandatory r) good.mandatory;
-  once = λ n no'. let one = good.once n no' in let a = occurrences_append n xs more in let b = occurrences_append n ys more in let less = may.fewer n no' in omega (arith, one, a, b, less);
+  mandatory = all_map _ _ (mandatory r) (λ n is. sym (seen n) ∙ is) good.mandatory;
+  once = λ n no'. omega (arith, good.once n no', occurrences_append n xs more, occurrences_append n ys more, may.fewer n no');
 }
   where
     seen : (n : ℕ) → occurs n (xs ++ more) ≡ occurs n (ys ++ more)
-    seen n =
-        list_any-append (λ (x : Dataset). nat_eq x.set n) xs more ∙ ap (λ (b : Bool). b || occurs n more) (may.seen n) ∙ sym (list_any-append (λ (x : Dataset). nat_eq x.set n) ys more)
-
-    all_seen : (ns : List ℕ) → AllByRecursion (λ n. occurs n (xs ++ more) ≡ true) ns → AllByRecursion (λ n. occurs n (ys ++ more) ≡ true) ns
-    all_seen [] all = tt
-    all_seen (n ∷ ns) all = (sym (seen n) ∙ all.0, all_seen ns all.1)
+    seen n = let in' = λ (x : Dataset). nat_eq x.set n in rw (list_any-append in' xs more, list_any-append in' ys more, may.seen n) refl
 
 are_of : (r : ℕ) (ds : List Dataset) → AreGood r ds → AreOf r ds
 are_of r ds all = all_map _ _ ds (λ d h. h.0) all
@@ -77,13 +67,6 @@ abbrev AreApart : List ℕ → Type 0
 AreApart [] = Unit {0}
 AreApart (r ∷ rs) = AllByRecursion (λ k. nat_eq k r ≡ false) rs × AllByRecursion (λ k. nat_eq r k ≡ false) rs × AreApart rs
 
-records_apart : AreApart records
-records_apart = (
-  (refl, (refl, (refl, (refl, tt)))),
-  (refl, (refl, (refl, (refl, tt)))),
-  ((refl, (refl, (refl, tt))), (refl, (refl, (refl, tt))), ((refl, (refl, tt)), (refl, (refl, tt)), ((refl, tt), (refl, tt), (tt, tt, tt)))),
-)
-
 -- each run may be replaced by one of these
 abbrev MayAll : (ℕ → List Dataset) → List ℕ → List Dataset → Type 0
 MayAll own rs ds = AllByRecursion (λ r. MayReplace r (of_record r ds) (own r)) rs
@@ -91,28 +74,25 @@ MayAll own rs ds = AllByRecursion (λ r. MayReplace r (of_record r ds) (own r)) 
 later_all : (own : ℕ → List Dataset) (r : ℕ) (rs : List ℕ) (run ds : List Dataset) → AreOf r run → AllByRecursion (λ k. nat_eq r k ≡ false) rs
     → MayAll own rs (run ++ ds) → MayAll own rs ds
 later_all own r [] run ds are apart may = tt
-later_all own r (k ∷ rs) run ds are apart may = (
-  subst (λ (xs : List Dataset). MayReplace k xs (own k))
-      (filter-append (λ (x : Dataset). nat_eq x.rec k) run ds ∙ ap (λ (xs : List Dataset). xs ++ of_record k ds) (none_of k r run apart.0 are)) may.0,
-  later_all own r rs run ds are apart.1 may.1,
-)
+later_all own r (k ∷ rs) run ds are apart may =
+    let later : of_record k (run ++ ds) ≡ of_record k ds =
+    filter-append (λ (x : Dataset). nat_eq x.rec k) run ds ∙ ap (λ (xs : List Dataset). xs ++ of_record k ds) (none_of k r run apart.0 are) in
+    (rw later at may.0, later_all own r rs run ds are apart.1 may.1)
 
 none_later : (own : ℕ → List Dataset) (r : ℕ) (rs : List ℕ) (ds : List Dataset) → AreOf r ds → AllByRecursion (λ k. nat_eq r k ≡ false) rs → MayAll own rs ds
     → flat_map own rs ≡ []
 none_later own r [] ds are apart may = refl
 none_later own r (k ∷ rs) ds are apart may =
-    ap (λ (xs : List Dataset). xs ++ flat_map own rs) (none_seen (own k) (λ n. ap (occurs n) (sym (none_of k r ds apart.0 are)) ∙ may.0.seen n))
-    ∙ none_later own r rs ds are apart.1 may.1
+    let none : own k ≡ [] = none_seen (own k) (λ n. ap (occurs n) (sym (none_of k r ds apart.0 are)) ∙ may.0.seen n) in
+    rw none (none_later own r rs ds are apart.1 may.1)
 
 -- where one list is parted in two ways
-parted : (a b c d : List Dataset) → a ++ b ≡ c ++ d
-    → ((x : List Dataset) × (c ≡ a ++ x) × (b ≡ x ++ d)) ⊎ ((y : List Dataset) × (a ≡ c ++ y) × (d ≡ y ++ b))
+parted : (a b c d : List Dataset) → a ++ b ≡ c ++ d → ((x : List Dataset) × (c ≡ a ++ x) × (b ≡ x ++ d)) ⊎ ((y : List Dataset) × (a ≡ c ++ y) × (d ≡ y ++ b))
 parted [] b c d e = inl (c, refl, e)
 parted (x ∷ a) b [] d e = inr (x ∷ a, refl, sym e)
 parted (x ∷ a) b (y ∷ c) d e =
     let first : x ≡ y = cc in
-    let rest : a ++ b ≡ c ++ d = cc in
-    elim (parted a b c d rest) [
+    elim (parted a b c d cc) [
       | inl (z, left, right) ↦ inl (z, (λ i. sym first i ∷ left i), right)
       | inr (z, left, right) ↦ inr (z, (λ i. first i ∷ left i), right)
     ]
@@ -124,39 +104,30 @@ swapped own [] ds more apart may none =
     let nil = empty_front ds more none in (ap (λ (xs : List Dataset). xs ++ more) (sym nil) ∙ none, (λ k. ap (last_record k) nil))
 swapped own (r ∷ rs) ds more apart may (run, rest, parts, good, later) = elim (parted ds more run rest parts) [
   | inl (x, run_is, more_is) ↦
-      (let are = are_of r ds (all_front _ ds x (subst (AreGood r) run_is good.each)) in
-      let here = subst (λ (xs : List Dataset). MayReplace r xs (own r)) (all_of r ds (eq-eqb r r refl) are) may.0 in
-      let is : own r ++ flat_map own rs ≡ own r = ap (λ (xs : List Dataset). own r ++ xs) (none_later own r rs ds are apart.1 may.1) ∙ append-nil (own r) in (
-        (
-          own r ++ x,
-          rest,
-          ap (λ (xs : List Dataset). xs ++ more) is ∙ ap (λ (xs : List Dataset). own r ++ xs) more_is ∙ sym (append_assoc (own r) x rest),
-          good_with r ds (own r) x here (subst (IsGoodRecord r) run_is good),
-          later,
-        ),
+      (let are = are_of r ds (all_front _ ds x (rw run_is at good.each)) in
+      let here : MayReplace r ds (own r) = rw (all_of r ds (eq-eqb r r refl) are) at may.0 in
+      let is : own r ++ flat_map own rs ≡ own r = rw (none_later own r rs ds are apart.1 may.1) (append-nil (own r)) in (
+        (own r ++ x, rest, rw (is, more_is) (sym (append_assoc (own r) x rest)), good_with r ds (own r) x here (rw run_is at good), later),
         (λ k. last_alike k r ds (own r) are (are_of r (own r) here.each) here.seen ∙ ap (last_record k) (sym is)),
       ))
   | inr (y, ds_is, rest_is) ↦
       (let are = are_of r run good.each in
-      let all = subst (MayAll own (r ∷ rs)) ds_is may in
-      let none : of_record r y ≡ [] =
-      empty_front (of_record r y) (of_record r more)
-      (sym (filter-append (λ (x : Dataset). nat_eq x.rec r) y more) ∙ ap (of_record r) (sym rest_is) ∙ none_in_records r rs rest later apart.0) in
-      let whole : of_record r (run ++ y) ≡ run =
-      filter-append (λ (x : Dataset). nat_eq x.rec r) run y ∙ (λ i. all_of r run (eq-eqb r r refl) are i ++ none i) ∙ append-nil run in
-      let here = subst (λ (xs : List Dataset). MayReplace r xs (own r)) whole all.0 in
-      let (sections, last) = swapped own rs y more apart.2 (later_all own r rs run y are apart.1 all.1) (subst (AreRecords rs) rest_is later) in (
+      let all : MayAll own (r ∷ rs) (run ++ y) = subst (MayAll own (r ∷ rs)) ds_is may in
+      let by_rec = λ (x : Dataset). nat_eq x.rec r in
+      let none = none_in_front (λ k. nat_eq k r) rs y more (rw rest_is at later) apart.0 in
+      let whole : of_record r (run ++ y) ≡ run = filter-append by_rec run y ∙ (λ i. all_of r run (eq-eqb r r refl) are i ++ none i) ∙ append-nil run in
+      let here : MayReplace r run (own r) = rw whole at all.0 in
+      let (sections, last) = swapped own rs y more apart.2 (later_all own r rs run y are apart.1 all.1) (rw rest_is at later) in (
         (
           own r,
           flat_map own rs ++ more,
           append_assoc (own r) (flat_map own rs) more,
-          subst (IsGoodRecord r) (append-nil (own r)) (good_with r run (own r) [] here (subst (IsGoodRecord r) (sym (append-nil run)) good)),
+          rw append-nil at (good_with r run (own r) [] here (rw append-nil good)),
           sections,
         ),
         (λ k.
-            ap (last_record k) ds_is ∙ last_of_joined k run y ∙ last (last_record k run)
-            ∙ ap (λ (j : ℕ). last_record j (flat_map own rs)) (last_alike k r run (own r) are (are_of r (own r) here.each) here.seen)
-            ∙ sym (last_of_joined k (own r) (flat_map own rs))),
+            rw (ds_is, last_of_joined k run y, last_of_joined k (own r) (flat_map own rs), last_alike k r run (own r) are (are_of r (own r) here.each) here.seen)
+            (last (last_record k (own r)))),
       ))
 ]
 
@@ -171,48 +142,32 @@ good_of r (d ∷ ds) all = by (nat_eq d.rec r) refl (good_of r ds all.1)
     by false is more = more
 
 -- they stand in their order
-kept_runs : (xs ys : List Dataset) → SectionsLive (xs ++ ys) → kept xs ≡ of_record 1 xs ++ of_record 2 xs
-    → kept (xs ++ ys) ≡ of_record 1 (xs ++ ys) ++ of_record 2 (xs ++ ys)
-kept_runs xs [] alive before = subst (λ (zs : List Dataset). kept zs ≡ of_record 1 zs ++ of_record 2 zs) (sym (append-nil xs)) before
-kept_runs xs (d ∷ ys) alive before =
-    let parts = append_assoc xs (d ∷ []) ys in
-    subst (λ (zs : List Dataset). kept zs ≡ of_record 1 zs ++ of_record 2 zs) parts (kept_runs (xs ++ d ∷ []) ys (subst SectionsLive (sym parts) alive) here)
-  where
-    a : List Dataset
-    a = of_record 1 xs
-
-    b : List Dataset
-    b = of_record 2 xs
-
-    none : nat_eq d.rec 1 ≡ true → b ≡ []
-    none one =
-        let front : SectionsLive (xs ++ d ∷ []) = front_alive (xs ++ d ∷ []) ys (subst SectionsLive (sym (append_assoc xs (d ∷ []) ys)) alive) in
-        let is : section_after (xs ++ d ∷ []) ≡ 1 = last_more 0 xs d ∙ eqb-true d.rec 1 one in
-        empty_front b (of_record 2 (d ∷ []))
-        (sym (filter-append (λ (x : Dataset). nat_eq x.rec 2) xs (d ∷ [])) ∙ (alive_follows (xs ++ d ∷ []) front).fresh 2 (ap (λ (s : ℕ). is_coming s 2) is))
-
-    by : (one two : Bool) → nat_eq d.rec 1 ≡ one → nat_eq d.rec 2 ≡ two
-        → kept xs ++ cond (one || two) (d ∷ []) [] ≡ (a ++ cond one (d ∷ []) []) ++ (b ++ cond two (d ∷ []) [])
-    by true true one two = absurd (let e = eqb-true d.rec 1 one in let f = eqb-true d.rec 2 two in omega (arith, e, f))
-    by true false one two =
-        ap (λ (ks : List Dataset). ks ++ d ∷ []) (before ∙ ap (λ (zs : List Dataset). a ++ zs) (none one) ∙ append-nil a)
-        ∙ sym (append-nil (a ++ d ∷ [])) ∙ sym (ap (λ (zs : List Dataset). (a ++ d ∷ []) ++ (zs ++ [])) (none one))
-    by false true one two =
-        ap (λ (ks : List Dataset). ks ++ d ∷ []) before ∙ append_assoc a b (d ∷ []) ∙ sym (ap (λ (zs : List Dataset). zs ++ (b ++ d ∷ [])) (append-nil a))
-    by false false one two = append-nil (kept xs) ∙ before ∙ sym (λ i. append-nil a i ++ append-nil b i)
-
-    here : kept (xs ++ d ∷ []) ≡ of_record 1 (xs ++ d ∷ []) ++ of_record 2 (xs ++ d ∷ [])
-    here =
-        filter-append (λ (x : Dataset). is_kept x.rec) xs (d ∷ []) ∙ by (nat_eq d.rec 1) (nat_eq d.rec 2) refl refl
-        ∙ sym (λ i. filter-append (λ (x : Dataset). nat_eq x.rec 1) xs (d ∷ []) i ++ filter-append (λ (x : Dataset). nat_eq x.rec 2) xs (d ∷ []) i)
-
-pub two_at_most : (r : ℕ) → is_kept r ≡ true → r ≤ 2
-two_at_most r is = by (nat_eq r 1) (nat_eq r 2) refl refl is
-  where
-    by : (b c : Bool) → nat_eq r 1 ≡ b → nat_eq r 2 ≡ c → (b || c) ≡ true → r ≤ 2
-    by true c one two yes' = let e = eqb-true r 1 one in omega (arith, e)
-    by false true one two yes' = let e = eqb-true r 2 two in omega (arith, e)
-    by false false one two bad = absurd (let no' : false ≡ true = bad in cc)
+kept_runs : (ds more : List Dataset) → AreSections (ds ++ more) → kept ds ≡ of_record 1 ds ++ of_record 2 ds
+kept_runs ds more (run, rest, parts, good, (next, others, later, fine, last)) = elim (parted ds more run rest parts) [
+  | inl (x, run_is, more_is) ↦
+      (let ones = are_of 1 ds (all_front _ ds x (rw run_is at good.each)) in
+      rw (kept_of 1 ds refl ones, all_of 1 ds refl ones, none_of 2 1 ds refl ones) (sym (append-nil ds)))
+  | inr (y, ds_is, rest_is) ↦
+      (let ones = are_of 1 run good.each in
+      let keeps = kept_of 1 run refl ones in
+      let own = all_of 1 run refl ones in
+      let no_two = none_of 2 1 run refl ones in
+      elim (parted y more next others (sym rest_is ∙ later)) [
+        | inl (x, next_is, more_is) ↦
+            (let twos = are_of 2 y (all_front _ y x (rw next_is at fine.each)) in
+            rw ds_is (simp (filter-append, keeps, own, no_two, kept_of 2 y refl twos, none_of 1 2 y refl twos, all_of 2 y refl twos, append-nil)))
+        | inr (z, y_is, others_is) ↦
+            (let twos = are_of 2 next fine.each in
+            let none : (p : ℕ → Bool) → AllByRecursion (λ k. p k ≡ false) (7 ∷ 8 ∷ 9 ∷ []) → filter (λ (d : Dataset). p d.rec) z ≡ [] =
+            λ p apart. none_in_front p (7 ∷ 8 ∷ 9 ∷ []) z more (rw others_is at last) apart in
+            let keeps2 = kept_of 2 next refl twos in
+            let own2 = all_of 2 next refl twos in
+            let kept_none = none is_kept (refl, (refl, (refl, tt))) in
+            let no_ones = none (λ k. nat_eq k 1) (refl, (refl, (refl, tt))) in
+            let no_twos = none (λ k. nat_eq k 2) (refl, (refl, (refl, tt))) in
+            rw (ds_is, y_is) (simp (filter-append, keeps, own, no_two, keeps2, none_of 1 2 next refl twos, own2, kept_none, no_ones, no_twos, append-nil)))
+      ])
+]
 
 -- ---- record 7
 
@@ -225,52 +180,26 @@ mode_meets zero h = refl
 mode_meets (suc zero) h = refl
 mode_meets (suc (suc n)) h = absurd (omega (arith, h))
 
-abbrev InRowAt : ℕ → Option ℕ → Type 0
-InRowAt set o = IfSome o (λ n. InRow (record { set = set; number = n }))
-
-pub in_row : (set : ℕ) (ps : List Stated) → AllByRecursion InRow ps → InRowAt set (number_at set ps)
-in_row set [] all = tt
-in_row set (p ∷ ps) all = by (nat_eq p.set set) refl (in_row set ps all.1)
+-- a number that is stated is as its row says
+row_at : (set : ℕ) (ps : List Stated) (n : ℕ) → AllByRecursion InRow ps → number_at set ps ≡ Some n → InRow (record { set = set; number = n })
+row_at set ps n all is = subst RowAt is (at_each (λ set o. IfSome o (λ n. InRow (record { set = set; number = n }))) (λ set. tt) set ps all)
   where
-    by : (b : Bool) → nat_eq p.set set ≡ b → InRowAt set (number_at set ps) → InRowAt set (cond b (Some p.number) (number_at set ps))
-    by true is more = subst (λ (s : ℕ). InRow (record { set = s; number = p.number })) (eqb-true p.set set is) all.0
-    by false is more = more
-
-good_mode : (o : Option ℕ) → InRowAt 10 o → AreGood 7 (one_dataset mode_dataset o)
-good_mode None h = tt
-good_mode (Some n) h = elim h [
-  | inl row ↦ ((refl, good_elsewhere refl (omega arith) ((let le = row.1 in omega (arith, le)), tt) (mode_meets n row.1)), tt)
-  | inr (inl row) ↦ absurd (let bad = row.0 in omega (arith, bad))
-  | inr (inr (inl is, le)) ↦ absurd (omega (arith, is))
-  | inr (inr (inr is, le)) ↦ absurd (omega (arith, is))
-]
-
-good_size : NumberDatasetsAreGood → (set n : ℕ) → (set ≡ 10 → ⊥) → InRow (record { set = set; number = n }) → IsGoodDataset (number_dataset 7 set n)
-good_size rows set n other h = elim h [
-  | inl row ↦ absurd (other row.0)
-  | inr (inl row) ↦ subst (λ (k : ℕ). IsGoodDataset (number_dataset 7 k n)) (sym row.0) (rows.largest n row.1 row.2)
-  | inr (inr (inl is, le)) ↦ subst (λ (k : ℕ). IsGoodDataset (number_dataset 7 k n)) (sym is) (rows.announced n le)
-  | inr (inr (inr is, le)) ↦ subst (λ (k : ℕ). IsGoodDataset (number_dataset 7 k n)) (sym is) (rows.maximum n le)
-]
-
-good_sizes : NumberDatasetsAreGood → (set : ℕ) → (set ≡ 10 → ⊥) → (o : Option ℕ) → InRowAt set o → AreGood 7 (one_dataset (number_dataset 7 set) o)
-good_sizes rows set other None h = tt
-good_sizes rows set other (Some n) h = ((refl, good_size rows set n other h), tt)
+    RowAt : Option ℕ → Type 0
+    RowAt o = IfSome o (λ k. InRow (record { set = set; number = k }))
 
 good_sevens : NumberDatasetsAreGood → (ps : List Stated) → AllByRecursion InRow ps → AreGood 7 (plain_numbers (numbers_in ps))
 good_sevens rows ps all =
-    all_append _ _ _ (good_mode (number_at 10 ps) (in_row 10 ps all))
-    (all_append _ _ _ (good_sizes rows 20 (λ is. omega (arith, is)) (number_at 20 ps) (in_row 20 ps all))
-    (all_append _ _ _ (good_sizes rows 90 (λ is. omega (arith, is)) (number_at 90 ps) (in_row 90 ps all)) (good_sizes rows 95 (λ is. omega (arith, is)) (number_at 95 ps) (in_row 95 ps all))))
+    numbers_each (λ d. (d.rec ≡ 7) × IsGoodDataset d) (numbers_in ps)
+    (λ n is. let row = row_at 10 ps n all is in (refl, good_elsewhere refl (omega arith) (omega (arith, row), tt) (mode_meets n (omega (arith, row)))))
+    (λ n is. let row = row_at 20 ps n all is in (refl, rows.largest n (omega (arith, row)) (omega (arith, row))))
+    (λ n is. let row = row_at 90 ps n all is in (refl, rows.announced n (omega (arith, row))))
+    (λ n is. let row = row_at 95 ps n all is in (refl, rows.maximum n (omega (arith, row))))
 
 -- ---- how often
 
 one_most : (n set : ℕ) (made : ℕ → Dataset) → ((k : ℕ) → (made k).set ≡ set) → (o : Option ℕ) → occurrences n (one_dataset made o) ≤ cond (nat_eq set n) 1 0
 one_most n set made is None = omega arith
-one_most n set made is (Some k) =
-    let all = occurrences_cons n (made k) [] in
-    let same = ap (λ (s : ℕ). cond {A = ℕ} (nat_eq s n) 1 0) (is k) in
-    omega (arith, all, same)
+one_most n set made is (Some k) = grind (arith, occurrences_cons n (made k) [], is k)
 
 sevens_once : (n : ℕ) (numbers : Numbers) → occurrences n (plain_numbers numbers) ≤ 1
 sevens_once n numbers =
@@ -278,88 +207,39 @@ sevens_once n numbers =
     let b = one_most n 20 (number_dataset 7 20) (λ k. refl) numbers.largest in
     let c = one_most n 90 (number_dataset 7 90) (λ k. refl) numbers.announced in
     let d = one_most n 95 (number_dataset 7 95) (λ k. refl) numbers.maximum in
-    let last = occurrences_append n (one_dataset (number_dataset 7 90) numbers.announced) (one_dataset (number_dataset 7 95) numbers.maximum) in
-    let more = occurrences_append n (one_dataset (number_dataset 7 20) numbers.largest) (one_dataset (number_dataset 7 90) numbers.announced ++ one_dataset (number_dataset 7 95) numbers.maximum) in
-    let all = occurrences_append n (one_dataset mode_dataset numbers.mode) (one_dataset (number_dataset 7 20) numbers.largest ++ (one_dataset (number_dataset 7 90) numbers.announced ++ one_dataset (number_dataset 7 95) numbers.maximum)) in
-    let sum = apart4 n in
-    omega (arith, a, b, c, d, last, more, all, sum)
-  where
-    apart4 : (n : ℕ) → cond (nat_eq 10 n) 1 0 + (cond (nat_eq 20 n) 1 0 + (cond (nat_eq 90 n) 1 0 + cond (nat_eq 95 n) 1 0)) ≤ 1
-    apart4 n =
-        by_number (λ (k : ℕ). cond (nat_eq 10 k) 1 0 + (cond (nat_eq 20 k) 1 0 + (cond (nat_eq 90 k) 1 0 + cond (nat_eq 95 k) 1 0)) ≤ 1) (omega arith) (omega arith) (omega arith) (omega arith)
-        (λ k other. rw (other.mode, other.largest, other.announced, other.maximum) (omega arith)) n
+    let sum : cond (nat_eq 10 n) 1 0 + (cond (nat_eq 20 n) 1 0 + (cond (nat_eq 90 n) 1 0 + cond (nat_eq 95 n) 1 0)) ≤ 1 = grind arith in
+    simp occurrences_append (omega (arith, a, b, c, d, sum))
 
 -- ---- records 8 and 9, whose one number is 10
 
-pub part_tens : (parts : List (List ℕ)) → AreTens (subfile_datasets parts)
-part_tens [] = tt
-part_tens (p ∷ parts) = (refl, part_tens parts)
-
-pub end_tens : (ended : Bool) (object : List ℕ) → AreTens (plain_end ended object)
-end_tens ended object = end_each (λ d. d.set ≡ 10) ended object refl
-
 end_once : (n : ℕ) (ended : Bool) (object : List ℕ) → occurrences n (plain_end ended object) ≤ 1
-end_once n true object = let all = occurrences_cons n (number_dataset 9 10 (length object)) [] in by (nat_eq 10 n) all
-  where
-    by : (b : Bool) → occurrences n (plain_end true object) ≡ cond b 1 0 + 0 → occurrences n (plain_end true object) ≤ 1
-    by true e = omega (arith, e)
-    by false e = omega (arith, e)
+end_once n true object = grind (arith, one_most n 10 (number_dataset 9 10) (λ k. refl) (Some (length object)))
 end_once n false object = omega arith
 
-pub good_parts : (size count : ℕ) (xs : List ℕ) → Octets xs → length xs ≤ greatest_size → AreGood 8 (subfile_datasets (filled size count xs))
-good_parts size count xs all few =
-    parts_each _ size count xs (λ ys short less good. (refl, good_elsewhere refl (omega arith) (good all) (part_meets ys (omega (arith, less, few)))))
-
-pub good_end : NumberDatasetsAreGood → (ended : Bool) (object : List ℕ) → length object ≤ greatest_size → AreGood 9 (plain_end ended object)
-good_end rows ended object few = end_each _ ended object (refl, rows.confirmed (length object) few)
-
-in_one : (set : ℕ) (o : Option ℕ) → InRowAt set o → AllByRecursion InRow (one_stated set o)
-in_one set None h = tt
-in_one set (Some n) h = (h, tt)
-
-low_in_row : (set : ℕ) (o : Option ℕ) → InRowAt set o → IsSize o
-low_in_row set None h = tt
-low_in_row set (Some n) h = elim h [
-  | inl row ↦ (let le = row.1 in omega (arith, le))
-  | inr (inl row) ↦ (let le = row.2 in omega (arith, le))
-  | inr (inr (is, le)) ↦ omega (arith, le)
-]
-
 pub fit_in_rows : (ps : List Stated) → AllByRecursion InRow ps → AllByRecursion IsSize (number_list (numbers_in ps))
-fit_in_rows ps all = (
-  low_in_row 10 (number_at 10 ps) (in_row 10 ps all),
-  (
-    low_in_row 20 (number_at 20 ps) (in_row 20 ps all),
-    (low_in_row 90 (number_at 90 ps) (in_row 90 ps all), (low_in_row 95 (number_at 95 ps) (in_row 95 ps all), tt)),
-  ),
-)
+fit_in_rows ps all = (fits 10, (fits 20, (fits 90, (fits 95, tt))))
+  where
+    fits : (set : ℕ) → IsSize (number_at set ps)
+    fits set = at_each (λ set o. IsSize o) (λ set. tt) set ps (all_map _ _ ps (λ p row. omega (arith, row)) all)
 
 replace_sevens : NumberDatasetsAreGood → (es : List Dataset) → AllByRecursion InRow (numbers_of es) → MayReplace 7 es (plain_numbers (numbers_in (numbers_of es)))
-replace_sevens rows es all = record { each = good_sevens rows ps all; seen = seen; fewer = λ n no'. fewer_by n es sevens (seen n) (sevens_once n numbers) }
+replace_sevens rows es all =
+    let ps = numbers_of es in
+    let numbers = numbers_in ps in
+    let sevens = plain_numbers numbers in
+    let told = are_told numbers (fit_in_rows ps all) in
+    let one : (set : ℕ) → AllByRecursion InRow (one_stated set (number_at set ps)) =
+    λ set. each_stated set (number_at set ps) (λ n is. row_at set ps n all is) in
+    let stated : AllByRecursion InRow (numbers_of sevens) =
+    rw told (all_append InRow _ _ (one 10) (all_append InRow _ _ (one 20) (all_append InRow _ _ (one 90) (one 95)))) in
+    let same = same_numbers ps (numbers_of sevens) (sym (ap stated_numbers told ∙ four_told numbers)) in
+    let seen : (n : ℕ) → occurs n es ≡ occurs n sevens =
+    λ n. occurs_stated n es ∙ ap is_some (same_stated n ps (numbers_of sevens) same all stated) ∙ sym (occurs_stated n sevens) in
+    record { each = good_sevens rows ps all; seen = seen; fewer = λ n no'. fewer_by n es sevens (seen n) (sevens_once n numbers) }
   where
-    ps : List Stated
-    ps = numbers_of es
-
-    numbers : Numbers
-    numbers = numbers_in ps
-
-    sevens : List Dataset
-    sevens = plain_numbers numbers
-
-    fit : AllByRecursion IsSize (number_list numbers)
-    fit = fit_in_rows ps all
-
-    stated : AllByRecursion InRow (numbers_of sevens)
-    stated =
-        subst (AllByRecursion InRow) (sym (are_told numbers fit))
-        (all_append InRow _ _ (in_one 10 (number_at 10 ps) (in_row 10 ps all)) (all_append InRow _ _ (in_one 20 (number_at 20 ps) (in_row 20 ps all))
-        (all_append InRow _ _ (in_one 90 (number_at 90 ps) (in_row 90 ps all)) (in_one 95 (number_at 95 ps) (in_row 95 ps all)))))
-
-    same : stated_numbers ps ≡ stated_numbers (numbers_of sevens)
-    same = sym (ap stated_numbers (are_told numbers fit) ∙ four_told numbers)
-
-    seen : (n : ℕ) → occurs n es ≡ occurs n sevens
-    seen n = occurs_stated n es ∙ ap is_some (same_stated n ps (numbers_of sevens) (same_numbers ps (numbers_of sevens) same) all stated) ∙ sym (occurs_stated n sevens)
+    each_stated : (set : ℕ) (o : Option ℕ) → ((n : ℕ) → o ≡ Some n → InRow (record { set = set; number = n })) → AllByRecursion InRow (one_stated set o)
+    each_stated set None each = tt
+    each_stated set (Some n) each = (each n refl, tt)
 
 -- the numbers of record 7 are those that a place of the object has
 pub record SameStated (numbers : Numbers) (ps : List Stated) : Type 0 where
@@ -406,88 +286,46 @@ pub record Continues (ds es : List Dataset) : Type 0 where
 
 pub plain_like : LowerLaws → (ds fields : List Dataset) (numbers : Numbers) (heads : ℕ) (object : List ℕ) (ended : Bool)
     → StandsFor ds fields numbers heads object ended → Continues ds (plain fields numbers heads object ended)
-plain_like laws ds fields numbers heads object ended s = record { alive = alive; present = both.1 0 ∙ ap section_after is; seen = seen }
-  where
-    ps : List Stated
-    ps = numbers_of (of_record 7 ds)
-
-    eights : List Dataset
-    eights = subfile_datasets (filled (unwrap_or numbers.largest 0) heads object)
-
-    last : List Dataset
-    last = plain_end ended object
-
-    es : List Dataset
-    es = plain fields numbers heads object ended
-
-    own : ℕ → List Dataset
-    own r = cond (nat_eq r 7) (plain_numbers numbers) (cond (nat_eq r 8) eights (cond (nat_eq r 9) last (of_record r ds)))
-
-    stated : AllByRecursion InRow ps
-    stated = (stated_after_all laws ds s.alive s.few).stated.each
-
-    are : numbers ≡ numbers_in ps
-    are = (numbers_same numbers ps (sym s.numbers_are)).are
-
-    tens : AreTens (of_record 8 ds) × AreTens (of_record 9 ds)
-    tens = tens_after laws.by_number ds s.alive
-
-    good : AllByRecursion IsGoodDataset ds
-    good = all_front _ ds s.alive.0 (each_good (ds ++ s.alive.0) s.alive.1)
-
-    itself : (r : ℕ) → MayReplace r (of_record r ds) (of_record r ds)
-    itself r = record { each = good_of r ds good; seen = λ n. refl; fewer = λ n no'. omega arith }
-
-    eight : MayReplace 8 (of_record 8 ds) eights
-    eight = record {
-      each = good_parts (unwrap_or numbers.largest 0) heads object s.octets s.fits;
-      seen = λ n. tens_seen n (of_record 8 ds) eights tens.0 (part_tens (filled (unwrap_or numbers.largest 0) heads object))
-          (s.some ∙ sym (ap one_of_some (filled_count (unwrap_or numbers.largest 0) heads object)));
+plain_like laws ds fields numbers heads object ended s =
+    let ps = numbers_of (of_record 7 ds) in
+    let size = unwrap_or numbers.largest 0 in
+    let eights = subfile_datasets (filled size heads object) in
+    let last = plain_end ended object in
+    let es = plain fields numbers heads object ended in
+    let stated = (stated_after_all laws ds s.alive s.few).stated.each in
+    let are : numbers ≡ numbers_in ps = (numbers_same numbers ps (sym s.numbers_are)).are in
+    let tens = tens_after laws.by_number ds s.alive in
+    let good : AllByRecursion IsGoodDataset ds = all_front _ ds s.alive.0 (each_good (ds ++ s.alive.0) s.alive.1) in
+    let itself : (r : ℕ) → MayReplace r (of_record r ds) (of_record r ds) =
+    λ r. record { each = good_of r ds good; seen = λ n. refl; fewer = λ n no'. omega arith } in
+    let seven : MayReplace 7 (of_record 7 ds) (plain_numbers numbers) = rw are (replace_sevens laws.rows (of_record 7 ds) stated) in
+    let some = s.some ∙ sym (ap one_of_some (filled_count size heads object)) in
+    let eight : MayReplace 8 (of_record 8 ds) eights = record {
+      each = parts_each (λ d. (d.rec ≡ 8) × IsGoodDataset d) size heads object
+          (λ xs short few octets. (refl, good_elsewhere refl (omega arith) (octets s.octets) (part_meets xs (omega (arith, few, s.fits)))));
+      seen = λ n. tens_seen n (of_record 8 ds) eights tens.0 (parts_each (λ d. d.set ≡ 10) size heads object (λ xs short few octets. refl)) some;
       fewer = λ n no'. absurd (let bad : true ≡ false = sym (eights_repeat n) ∙ no' in cc);
-    }
-
-    seven : MayReplace 7 (of_record 7 ds) (plain_numbers numbers)
-    seven = subst (λ (n : Numbers). MayReplace 7 (of_record 7 ds) (plain_numbers n)) (sym are) (replace_sevens laws.rows (of_record 7 ds) stated)
-
-    nine_seen : (n : ℕ) → occurs n (of_record 9 ds) ≡ occurs n last
-    nine_seen n = tens_seen n (of_record 9 ds) last tens.1 (end_tens ended object) (ap one_of_some (s.ends ∙ sym (end_length ended object)))
-
-    nine : MayReplace 9 (of_record 9 ds) last
-    nine = record {
-      each = good_end laws.rows ended object s.fits;
+    } in
+    let nine_seen : (n : ℕ) → occurs n (of_record 9 ds) ≡ occurs n last =
+    λ n. tens_seen n (of_record 9 ds) last tens.1 (end_each (λ d. d.set ≡ 10) ended object refl) (ap one_of_some (s.ends ∙ sym (end_length ended object))) in
+    let nine : MayReplace 9 (of_record 9 ds) last = record {
+      each = end_each (λ d. (d.rec ≡ 9) × IsGoodDataset d) ended object (refl, laws.rows.confirmed (length object) s.fits);
       seen = nine_seen;
       fewer = λ n no'. fewer_by n (of_record 9 ds) last (nine_seen n) (end_once n ended object);
-    }
-
-    both : AreSections (flat_map own records ++ s.alive.0) × ((k : ℕ) → last_record k ds ≡ last_record k (flat_map own records))
-    both =
-        swapped own records ds s.alive.0
-        records_apart
-        (itself 1, (itself 2, (seven, (eight, (nine, tt)))))
-        s.alive.1
-
-    is : flat_map own records ≡ es
-    is =
-        sym (append_assoc (of_record 1 ds) (of_record 2 ds) (plain_numbers numbers ++ (eights ++ (last ++ []))))
-        ∙ (λ i. (sym (kept_runs [] ds s.alive refl) ∙ s.fields_are) i ++ (plain_numbers numbers ++ (eights ++ append-nil last i)))
-
-    alive : SectionsLive es
-    alive = (s.alive.0, subst (λ (xs : List Dataset). AreSections (xs ++ s.alive.0)) is both.0)
-
-    tell : Tell es fields numbers heads object ended
-    tell = plain_told fields numbers heads object ended (record {
-      kept = subst (AllByRecursion (λ (d : Dataset). is_kept d.rec ≡ true)) s.fields_are (all_kept ds);
-      fit = subst (λ (n : Numbers). AllByRecursion IsSize (number_list n)) (sym are) (fit_in_rows ps stated);
-      room = s.room;
-    })
-
-    seen : SameRecords ds es
-    seen =
-        let count = tell.heads_are in
-        let many = s.many in
-        same_shape laws ds es s.alive alive s.few (omega (arith, count, many)) (record {
-          ended = ap (λ (r : ℕ). nat_eq r 9) (both.1 0 ∙ ap section_after is);
-          fields = s.fields_are ∙ sym tell.kept_are;
-          numbers = s.numbers_are ∙ sym tell.numbers_are;
-          some = s.some ∙ sym (ap one_of_some tell.heads_are);
-        })
+    } in
+    let own : ℕ → List Dataset = λ r. cond (nat_eq r 7) (plain_numbers numbers) (cond (nat_eq r 8) eights (cond (nat_eq r 9) last (of_record r ds))) in
+    let (sections, ends) = swapped own records ds s.alive.0 (assumption) (itself 1, (itself 2, (seven, (eight, (nine, tt))))) s.alive.1 in
+    let is : flat_map own records ≡ es =
+    sym (append_assoc (of_record 1 ds) (of_record 2 ds) (plain_numbers numbers ++ (eights ++ (last ++ []))))
+    ∙ (λ i. (sym (kept_runs ds s.alive.0 s.alive.1) ∙ s.fields_are) i ++ (plain_numbers numbers ++ (eights ++ append-nil last i))) in
+    let alive : SectionsLive es = (s.alive.0, rw is at sections) in
+    let present : section_after ds ≡ section_after es = ends 0 ∙ ap section_after is in
+    let tell = plain_told fields numbers heads object ended
+    (record { kept = rw s.fields_are at (all_kept ds); fit = rw are (fit_in_rows ps stated); room = s.room }) in
+    let shape : SameShape ds es = record {
+      ended = ap (λ (r : ℕ). nat_eq r 9) present;
+      fields = s.fields_are ∙ sym tell.kept_are;
+      numbers = s.numbers_are ∙ sym tell.numbers_are;
+      some = s.some ∙ sym (ap one_of_some tell.heads_are);
+    } in
+    record { alive = alive; present = present; seen = same_shape laws ds es s.alive alive s.few (rw (tell.heads_are) s.many) shape }

@@ -1,12 +1,12 @@
 -- Readers of a possible place stand where octets lead there.
 use Rattle.std.proofs.Common.{◌≡◌, ℕ, ◌+◌, ◌-◌, ◌<◌, ◌≤◌, nat_eq, if◌then◌else◌, Bool, true, false, List, [], ◌∷◌, ◌++◌, length, Option, Some, None, refl, ap}
 use Rattle.std.proofs.Common.{IsTrue, sym, subst, ◌∙◌, inl, inr, arith}
-use Rattle.iim_places.proofs.Words.{AllByRecursion, eqb-true, eqb_tells, Dataset, of_record, count_octets, Begun, InTag, InData, Reads, IsKeptAs, between, Head}
-use Rattle.iim_places.proofs.Words.{DatasetPlace, SectionsLive, is_kept, kept, section_after, Limits, head_alive, place_after_datasets, ObjectEnded, Confirmed}
-use Rattle.iim_places.proofs.Words.{NotEnded, place_after, max_subfiles, lengths_of, numbers_of, IsPossible, stated_numbers, State, AreLines, text_so_far}
-use Rattle.iim_places.proofs.Words.{Header, IsMessage, LeadsToSaved, saved, MessagePlace, object_of, IsSize, RecordsLive, begun_of_object, object_after}
-use Rattle.iim_places.proofs.Words.{one_of_some, are_ended, begun_subfiles, LowerLaws, section, Numbers, number_list, plain, are_some}
-use Rattle.iim_places.proofs.Words.{Phase, TagBegun, AllEnded, phase_of, place_at, CanContinue, CanContinueAt}
+use Rattle.iim_places.proofs.Words.{AllByRecursion, same_Some, eqb-true, eqb_tells, Dataset, of_record, count_octets, Begun, InTag, InData, Reads, IsKeptAs}
+use Rattle.iim_places.proofs.Words.{between, Head, DatasetPlace, SectionsLive, is_kept, kept, section_after, Limits, head_alive, place_after_datasets, NotEnded}
+use Rattle.iim_places.proofs.Words.{ObjectEnded, Confirmed, place_after, max_subfiles, lengths_of, numbers_of, IsPossible, stated_numbers, State, AreLines}
+use Rattle.iim_places.proofs.Words.{text_so_far, Header, IsMessage, LeadsToSaved, saved, MessagePlace, object_of, IsSize, RecordsLive, begun_of_object, section}
+use Rattle.iim_places.proofs.Words.{object_after, one_of_some, are_ended, begun_subfiles, LowerLaws, Numbers, number_list, plain, are_some, Phase, TagBegun}
+use Rattle.iim_places.proofs.Words.{AllEnded, phase_of, place_at, CanContinue, CanContinueAt}
 use Rattle.iim_fields.specs.States.Standing as records
 use Rattle.iim_object.specs.Format.Places as objects
 use Rattle.iim_object.specs.States.Reading as reading
@@ -21,7 +21,7 @@ use Rattle.wire_message.specs.declared.saved.MessagePart.TheVariants as part
 use Rattle.iim_places.specs.States.Readers.{RecordsStand, MessageStands, has_come, tag_place}
 use Rattle.iim_places.specs.Format.Tickets.{Place}
 use Rattle.iim_places.proofs.ByLayers.{less_none, opened_at, confirmed_at, nine_ended, one_same, few_subfiles, led_at, possible_at}
-use Rattle.iim_places.proofs.PlainOpens.{fit_in_rows}
+use Rattle.iim_places.proofs.PlainContinues.{fit_in_rows}
 use Rattle.iim_places.proofs.SamePlace.{has_begun, none_present}
 use Rattle.iim_places.proofs.SameRecords.{SameRecords, same_shape, stated_after_all}
 use Rattle.iim_places.proofs.Plain.{Fits, plain_told, present_ended}
@@ -62,16 +62,13 @@ like laws fields numbers some ended ds keeps same alive there few fields_are som
 abbrev IsWholeAt : Header → List ℕ → List ℕ → List ℕ → Type 0
 IsWholeAt h trailer octets text = (head : Header) × (Some h ≡ Some head) × IsMessage octets head text trailer × AreLines text
 
-some_place : {x y : Message} → Some x ≡ Some y → x ≡ y
-some_place e = cc
-
-whole_led : (h : Header) (t : _) (count : ℕ) (octets text : List ℕ) (p : Message) → Some (at_message.AfterEnd h t count) ≡ Some p → LeadsTo octets text p → IsWholeAt h t.items octets text
+whole_led : (h : Header) (t : _) (count : ℕ) (octets text : List ℕ) (p : Message) → Some (at_message.AfterEnd h t count) ≡ Some p → LeadsTo octets text p
+    → IsWholeAt h t.items octets text
 whole_led h t count octets text p same leads =
-    let here : LeadsTo octets text (at_message.AfterEnd h t count) = subst (LeadsTo octets text) (sym (some_place same)) leads in
-    (h, refl, here.spelled.0, here.story)
+    let here : LeadsTo octets text (at_message.AfterEnd h t count) = rw (← same_Some _ _ same) at leads in (h, refl, here.spelled.0, here.story)
 
 whole_place : (reader : Option Message) (at : Message) → reader ≡ Some at → IsTrue (is_ended (Some at)) → wire.IsWhole reader
-whole_place reader (at_message.AfterEnd h t count) is e = subst wire.IsWhole (sym is) (λ octets text s. whole_led h t count octets text s.0 s.1 s.2)
+whole_place reader (at_message.AfterEnd h t count) is e = rw is (λ octets text s. whole_led h t count octets text s.0 s.1 s.2)
 whole_place reader other is e = absurd cc
 
 pub ended_reader : LowerLaws → (reader : Option Message) (place : Place) (o text : List ℕ) → MessageStands reader place → LeadsToSaved o text place.message → place.message.part ≡ part.AfterEnd → wire.IsWhole reader
@@ -82,8 +79,7 @@ ended_reader laws reader place o text stands leads last =
 
 pub text_led : LowerLaws → (reader : Option Message) (place : Place) (o text : List ℕ) → MessageStands reader place → LeadsToSaved o text place.message → wire.StandsAt reader o (text_so_far o)
 text_led laws reader place o text stands leads =
-    let is = laws.texts o text leads.0 leads.1 in
-    subst (wire.StandsAt reader o) is (stands o text leads)
+    rw (laws.texts o text leads.0 leads.1) at (stands o text leads)
 
 -- ---- between datasets, or in a tag, or at the end
 
@@ -111,8 +107,8 @@ present_tag false section held ds ended live = live.0
 pub object_tag : (b : Bool) (reader : Option State) (numbers : List (Option ℕ)) (section taken heads : ℕ) (held : List ℕ) (p q : objects.Place)
     → ((p : objects.Place) → IsAt numbers taken (begun_of_object section (TagPhase b held)) heads p → IsPossible (object_after section (TagPhase b held) taken p) → reading.StandsAt reader (object_after section (TagPhase b held) taken p))
     → IsAt numbers taken None heads p → (if b then place_after (place_after p ObjectEnded) (Confirmed taken) else p) ≡ q → IsPossible q → reading.StandsAt reader q
-object_tag true reader numbers section taken heads held p q stands at is possible = subst (reading.StandsAt reader) is (stands p at (subst IsPossible (sym is) possible))
-object_tag false reader numbers section taken heads held p q stands at is possible = subst (reading.StandsAt reader) is (stands p at (subst IsPossible (sym is) possible))
+object_tag true reader numbers section taken heads held p q stands at is possible = rw is at (stands p at (rw is possible))
+object_tag false reader numbers section taken heads held p q stands at is possible = rw is at (stands p at (rw is possible))
 
 pub ending_tag : LowerLaws → (limits : Limits) (ds : List Dataset) → CanContinue limits ds → (b : Bool) → nat_eq (section_after ds) 9 ≡ b
     → (if b then place_after (place_after (record (place_after_datasets ds) { ending = NotEnded }) ObjectEnded) (Confirmed (length (object_of ds))) else record (place_after_datasets ds) { ending = NotEnded }) ≡ place_after_datasets ds

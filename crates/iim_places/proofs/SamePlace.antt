@@ -1,16 +1,14 @@
 -- Octets of one place: what stands on the one stands on the other.
-use Rattle.std.proofs.Common.{◌≡◌, ℕ, ◌+◌, ◌-◌, ◌<◌, Bool, true, false, cond, if◌then◌else◌, ◌==◌, nat_eq, List, [], ◌∷◌, ◌++◌, length, sum, Option, Some, refl}
-use Rattle.std.proofs.Common.{ap, sym, subst, ◌∙◌, inl, inr, arith, append-nil, length-append}
+use Rattle.std.proofs.Common.{◌≡◌, ℕ, ◌+◌, ◌-◌, ◌<◌, Bool, true, false, if◌then◌else◌, ◌==◌, nat_eq, List, [], ◌∷◌, ◌++◌, length, sum, Option, Some, refl, ap}
+use Rattle.std.proofs.Common.{sym, subst, ◌∙◌, inl, inr, arith, append-nil, length-append}
 use Rattle.iim_places.proofs.Words.{eqb_tells, Octets, filter-append, Dataset, head_of, of_record, count_octets, Begun, InTag, InData, Reads, IsKeptAs, Head}
 use Rattle.iim_places.proofs.Words.{DatasetPlace, sum_append, occurs, HasChecked, HasTaken, kept, section_after, SectionsLive, SectionsLiveAt}
-use Rattle.iim_places.proofs.Words.{ValuesDieWithTheirFault, Limits, RecordPlace, last_more, SubfileBegun, numbers_of, place_after_datasets, place_ended, State}
-use Rattle.iim_places.proofs.Words.{stated_numbers, text_so_far, LeadsToSaved, MessagePlace, object_of, LowerLaws, place_at, ObjectLives, object_so_far}
-use Rattle.iim_places.proofs.Words.{section, AllCanContinue, IsOpen, are_some, Phase, TagBegun, DataBegun, AllEnded, phase_of, heads_of}
+use Rattle.iim_places.proofs.Words.{ValuesDieWithTheirFault, Limits, RecordPlace, last_more, SubfileBegun, numbers_of, place_after_datasets, place_ended}
+use Rattle.iim_places.proofs.Words.{State, stated_numbers, text_so_far, LeadsToSaved, MessagePlace, object_of, LowerLaws, place_at, ObjectLives}
+use Rattle.iim_places.proofs.Words.{object_so_far, section, AllCanContinue, IsOpen, are_some, Phase, TagBegun, DataBegun, AllEnded, phase_of, heads_of}
 use Rattle.iim_dataset.specs.declared.place.DatasetPlace.TheVariants.{Tag, Inside}
 use Rattle.iim_fields.specs.States.Orders as orders
-use Rattle.iim_fields.specs.Format.Faults.{joined}
 use Rattle.iim_fields.specs.States.Standing as records
-use Rattle.iim_fields.specs.Format.Bounds as records_format
 use Rattle.iim_fields.specs.declared.order.Order.{Order}
 use Rattle.iim_object.specs.Format.Places as objects
 use Rattle.iim_object.specs.States.Reading as reading
@@ -33,9 +31,8 @@ pub record SameData (h : Head) (xs : List ℕ) (k : Head) (ys : List ℕ) : Type
 
 abbrev pub SameBegun : Begun → Begun → Type 0
 SameBegun (InTag x) (InTag y) = x ≡ y
-SameBegun (InTag x) (InData k ys) = ⊥
-SameBegun (InData h xs) (InTag y) = ⊥
 SameBegun (InData h xs) (InData k ys) = SameData h xs k ys
+SameBegun c d = ⊥
 
 abbrev tag_phase : Bool → List ℕ → Phase
 tag_phase b held = if b then AllEnded else TagBegun held
@@ -46,9 +43,7 @@ HeldAlike ds (InTag x) (InTag y) = nat_eq (section_after ds) 9 ≡ true → x �
 HeldAlike ds b c = Unit {0}
 
 same_tag : (b c : Bool) (x y : List ℕ) → b ≡ c → tag_phase b x ≡ tag_phase c y → (b ≡ true → x ≡ y) → x ≡ y
-same_tag true c x y is e held = held refl
-same_tag false true x y is e held = absurd cc
-same_tag false false x y is e held = cc
+same_tag b c x y is e held = grind arith
 
 no_data : {A : Type 0} (b : Bool) (x : List ℕ) (set count left : ℕ) (ys : List ℕ) → tag_phase b x ≡ DataBegun set count left ys → A
 no_data true x set count left ys e = absurd (let bad : AllEnded ≡ DataBegun set count left ys = e in cc)
@@ -74,9 +69,6 @@ same_tells : (o : Order) (ds es : List Dataset) → orders.IsOrderOf o ds → se
 same_tells o ds es t is s =
     record { places = t.places; present = t.present ∙ is; seen = λ n. t.seen n ∙ (s.seen (section_after ds) n ∙ ap (λ (r : ℕ). occurs n (of_record r es)) is) }
 
-last_same : (ds es : List Dataset) (d : Dataset) → section_after (ds ++ d ∷ []) ≡ section_after (es ++ d ∷ [])
-last_same ds es d = last_more 0 ds d ∙ sym (last_more 0 es d)
-
 checked_as : (check : Option RecordPlace) (ds es : List Dataset) → HasChecked check ds → SectionsLive es → section_after ds ≡ section_after es → SameRecords ds es → HasChecked check es
 checked_as check ds es at alive present same =
     record { order = at.order; begun = at.begun; at = at.at; none = at.none; alive = alive; tells = same_tells at.order ds es at.tells present same }
@@ -86,28 +78,26 @@ pub value_as : ValuesDieWithTheirFault → (ds es : List Dataset) (d : Dataset) 
 value_as law ds es d octets alive at = (law es d at octets).0 ((law ds d (d, refl, alive) octets).1 alive)
 
 taken_as : ValuesDieWithTheirFault → (check : Option RecordPlace) (ds es : List Dataset) (h : Head) → HasTaken check ds h → SectionsLiveAt es h → SameRecords ds es → HasTaken check es h
-taken_as law check ds es h at alive same = record {
-  checking = λ value.
-      let was = at.checking value in record {
-        order = was.order;
-        row = was.row;
-        inside = was.inside;
-        known = was.known;
-        value = value;
-        alive = alive;
-        tells = λ d is. same_tells was.order (ds ++ d ∷ []) (es ++ d ∷ []) (was.tells d is) (last_same ds es d) (same_more ds es d d refl same);
-      };
-  subfile = λ eight d is octets.
-      let was = at.subfile eight d is octets in
-      checked_as check (ds ++ d ∷ []) (es ++ d ∷ []) was (value_as law ds es d octets was.alive (subst (SectionsLiveAt es) (sym is) alive)) (last_same ds es d) (same_more ds es d d refl same);
-}
+taken_as law check ds es h at alive same =
+    let present : (d : Dataset) → section_after (ds ++ d ∷ []) ≡ section_after (es ++ d ∷ []) = λ d. last_more 0 ds d ∙ sym (last_more 0 es d) in
+    record {
+      checking = λ value.
+          let was = at.checking value in
+          let tells = λ (d : Dataset) (is : head_of d ≡ h).
+          same_tells was.order (ds ++ d ∷ []) (es ++ d ∷ []) (was.tells d is) (present d) (same_more ds es d d refl same) in
+          record { order = was.order; row = was.row; inside = was.inside; known = was.known; value = value; alive = alive; tells = tells };
+      subfile = λ eight d is octets.
+          let was = at.subfile eight d is octets in
+          let lives = value_as law ds es d octets was.alive (rw (← is) at alive) in
+          checked_as check (ds ++ d ∷ []) (es ++ d ∷ []) was lives (present d) (same_more ds es d d refl same);
+    }
 
 pub fields_after : (fields : records.FieldsPlace) (ds es : List Dataset) → records.StandsAfter fields ds → SectionsLive es → section_after ds ≡ section_after es → kept ds ≡ kept es → SameRecords ds es → records.StandsAfter fields es
 fields_after fields ds es at alive present keeps same = record {
   between = at.between;
   checked = checked_as fields.check ds es at.checked alive present same;
   alive = alive;
-  within = subst (λ (ks : List Dataset). records_format.IsWithin fields.limits (length (joined ks)) (length ks)) keeps at.within;
+  within = rw keeps at at.within;
   kept_are = at.kept_are ∙ keeps;
   taken_are = at.taken_are;
 }
@@ -118,8 +108,8 @@ fields_in law fields ds es h taken at alive keeps same = record {
   inside = at.inside;
   checked = taken_as law fields.check ds es h at.checked alive same;
   alive = alive;
-  within = λ is. subst (λ (ks : List Dataset). records_format.IsWithin fields.limits (length (joined ks) + h.count) (length ks + 1)) keeps (at.within is);
-  others = subst (λ (ks : List Dataset). records_format.IsWithin fields.limits (length (joined ks)) (length ks)) keeps at.others;
+  within = λ is. rw keeps at (at.within is);
+  others = rw keeps at at.others;
   kept_are = at.kept_are ∙ keeps;
   taken_are = at.taken_are;
   octets = at.octets;
@@ -206,8 +196,6 @@ same_message laws o r t v m n is (at, leads, saves) (other, goes, keeps) =
     let one : at ≡ other = laws.apart at other leads.is_place goes.is_place (saves ∙ is ∙ sym keeps) in
     record { text = t; other = v; at = at; here = leads; there = subst (λ (x : Message). LeadsTo r v x) (sym one) goes }
 
--- ---- the parts
-
 -- ---- whether an octet has come
 
 pub none_present : (es : List Dataset) → SectionsLive es → section_after es ≡ 0 → es ≡ []
@@ -217,9 +205,9 @@ none_present es alive zero = by (split_last es)
     by (inl none) = none
     by (inr (front, l, is)) =
         let rec : l.rec ≡ 0 = sym (last_more 0 front l) ∙ sym (ap section_after is) ∙ zero in
-        let none : of_record 0 (front ++ l ∷ []) ≡ [] = none_other 0 (refl, (refl, (refl, (refl, (refl, tt))))) (front ++ l ∷ []) (subst SectionsLive is alive) in
+        let none = none_other 0 (refl, (refl, (refl, (refl, (refl, tt))))) (front ++ l ∷ []) (rw is at alive) in
         let few = ap length (sym (filter-append (λ (x : Dataset). nat_eq x.rec 0) front (l ∷ [])) ∙ none) in
-        let one : length (of_record 0 (l ∷ [])) ≡ 1 = ap (λ (r : ℕ). length (cond (nat_eq r 0) (l ∷ []) [])) rec in
+        let one : length (of_record 0 (l ∷ [])) ≡ 1 = rw rec refl in
         absurd (omega (arith, few, one, length-append (of_record 0 front) (of_record 0 (l ∷ []))))
 
 abbrev pub has_begun : List Dataset → Begun → Bool
@@ -268,14 +256,11 @@ octets_of q es h ys r = r.is_rest.3
 
 pub keeps_as : (place : DatasetPlace) (c d : Begun) → SameBegun c d → IsKeptAs place c → IsKeptAs place d
 keeps_as (Tag held) (InTag x) (InTag y) same k = k ∙ same
-keeps_as (Tag held) (InTag x) (InData h ys) same k = absurd same
-keeps_as (Tag held) (InData h xs) d same k = absurd k
-keeps_as (Inside g left) (InTag x) d same k = absurd k
-keeps_as (Inside g left) (InData h xs) (InTag y) same k = absurd same
 keeps_as (Inside g left) (InData h xs) (InData i ys) same (is, many) =
     let count : h.count ≡ i.count = ap (λ (x : Head). x.count) same.head in
     let long = same.many in
     (is ∙ same.head, omega (arith, many, count, long))
+keeps_as place c d same k = absurd assumption
 
 -- what octets read is open
 pub record Opened (limits : Limits) (ds : List Dataset) (c : Begun) : Type 0 where

@@ -1,12 +1,12 @@
 -- Datasets of one place have the same numbers in each record.
-use Rattle.std.proofs.Common.{◌≡◌, ℕ, ◌+◌, ◌<◌, ◌≤◌, ◌||◌, Bool, true, false, cond, nat_eq, List, [], ◌∷◌, ◌++◌, length, is_some, Some, None, refl, ap, sym}
-use Rattle.std.proofs.Common.{subst, ◌∙◌, inl, inr, arith, append-nil, append_assoc, length-append}
-use Rattle.iim_places.proofs.Words.{AllByRecursion, eqb-true, eqb-false, ne_eqb, eqb_tells, filter-append, list_any-append, number, Dataset, head_of, of_record}
-use Rattle.iim_places.proofs.Words.{Head, all_front, Meets, AreSections, AreRecords, records, IsGoodDataset, occurs, SectionsLive, SectionsLiveAt}
-use Rattle.iim_places.proofs.Words.{section_after, kept, is_kept, last_more, by_record, max_subfiles, Stated, InRow, AreStated, number_at, numbers_of}
-use Rattle.iim_places.proofs.Words.{ObjectToken, NumberRead, SubfileBegun, ObjectEnded, Confirmed, NotEnded, Ended, HasBoth, MayFollow, place_after, head_token}
-use Rattle.iim_places.proofs.Words.{place_after_datasets, place_ended, RecordsAreByNumber, stated_numbers, one_of_some, place_at, LowerLaws}
-use Rattle.iim_places.proofs.Words.{all_map}
+use Rattle.std.proofs.Common.{◌≡◌, ℕ, ◌<◌, ◌≤◌, ◌||◌, Bool, true, false, cond, nat_eq, List, [], ◌∷◌, ◌++◌, length, is_some, None, refl, ap, sym, subst, ◌∙◌}
+use Rattle.std.proofs.Common.{inl, inr, arith, append-nil, append_assoc, length-append}
+use Rattle.iim_places.proofs.Words.{front_alive, filter, AllByRecursion, eqb-true, eqb-false, ne_eqb, filter-append, list_any-append, number, Dataset}
+use Rattle.iim_places.proofs.Words.{head_of, of_record, Head, all_front, Meets, AreSections, AreRecords, records, IsGoodDataset, occurs, SectionsLive}
+use Rattle.iim_places.proofs.Words.{SectionsLiveAt, section_after, kept, is_kept, last_more, by_record, max_subfiles, Stated, InRow, AreStated, number_at}
+use Rattle.iim_places.proofs.Words.{numbers_of, ObjectToken, NumberRead, SubfileBegun, ObjectEnded, Confirmed, NotEnded, Ended, HasBoth, MayFollow}
+use Rattle.iim_places.proofs.Words.{place_after, head_token, place_after_datasets, place_ended, RecordsAreByNumber, stated_numbers, one_of_some, place_at}
+use Rattle.iim_places.proofs.Words.{LowerLaws, all_map}
 use Rattle.iim_object.specs.Format.Places.{Place}
 use Rattle.iim_places.proofs.Fronts.{empty_front}
 use Rattle.iim_places.proofs.Lasts.{SplitLast, split_last}
@@ -14,7 +14,7 @@ use Rattle.iim_places.proofs.Objects.{records_alive}
 use Rattle.iim_places.proofs.SizeRows.{HasTen, Unstated, by_number, by_ten, eight_has, nine_has}
 use Rattle.iim_places.proofs.Places.{is_one, at_other, at_number, subfile_leads, end_leads}
 use Rattle.iim_places.proofs.Bounds.{none_nine}
-use Rattle.iim_places.proofs.Plain.{none_of}
+use Rattle.iim_places.proofs.Plain.{none_by}
 
 -- The datasets have the same numbers in each record.
 pub record SameRecords (ds es : List Dataset) : Type 0 where
@@ -22,35 +22,25 @@ pub record SameRecords (ds es : List Dataset) : Type 0 where
 
 -- ---- one dataset more
 
-one_seen : (b : Bool) (d : Dataset) (n : ℕ) → occurs n (cond b (d ∷ []) []) ≡ cond b (nat_eq d.set n || false) false
-one_seen true d n = refl
-one_seen false d n = refl
+seen_one : (d e : Dataset) → head_of d ≡ head_of e → SameRecords (d ∷ []) (e ∷ [])
+seen_one d e is = record { seen = λ r n. grind (arith, is) }
 
-seen_more : (ds : List Dataset) (d : Dataset) (r n : ℕ) → occurs n (of_record r (ds ++ d ∷ [])) ≡ (occurs n (of_record r ds) || cond (nat_eq d.rec r) (nat_eq d.set n || false) false)
-seen_more ds d r n =
-    ap (occurs n) (filter-append (λ (x : Dataset). nat_eq x.rec r) ds (d ∷ []))
-    ∙ list_any-append (λ (x : Dataset). nat_eq x.set n) (of_record r ds) (of_record r (d ∷ []))
-    ∙ ap (λ (b : Bool). occurs n (of_record r ds) || b) (one_seen (nat_eq d.rec r) d n)
+pub seen_on : {ds es xs ys : List Dataset} → SameRecords ds es → SameRecords xs ys → SameRecords (ds ++ xs) (es ++ ys)
+seen_on {ds} {es} {xs} {ys} same more = record { seen = λ r n. both r n ds xs ∙ (λ i. same.seen r n i || more.seen r n i) ∙ sym (both r n es ys) }
+  where
+    both : (r n : ℕ) (xs ys : List Dataset) → occurs n (of_record r (xs ++ ys)) ≡ (occurs n (of_record r xs) || occurs n (of_record r ys))
+    both r n xs ys =
+        ap (occurs n) (filter-append (λ (x : Dataset). nat_eq x.rec r) xs ys)
+        ∙ list_any-append (λ (x : Dataset). nat_eq x.set n) (of_record r xs) (of_record r ys)
 
 pub same_more : (ds es : List Dataset) (d e : Dataset) → head_of d ≡ head_of e → SameRecords ds es → SameRecords (ds ++ d ∷ []) (es ++ e ∷ [])
-same_more ds es d e is same = record {
-  seen = λ r n.
-      seen_more ds d r n ∙ ap (λ (b : Bool). b || cond (nat_eq d.rec r) (nat_eq d.set n || false) false) (same.seen r n)
-      ∙ ap (λ (h : Head). occurs n (of_record r es) || cond (nat_eq h.rec r) (nat_eq h.set n || false) false) is ∙ sym (seen_more es e r n);
-}
+same_more ds es d e is same = seen_on same (seen_one d e is)
 
 -- ---- records 1 and 2, which are kept
 
 pub of_kept : (r : ℕ) → is_kept r ≡ true → (ds : List Dataset) → of_record r (kept ds) ≡ of_record r ds
 of_kept r is [] = refl
-of_kept r is (d ∷ ds) = by (is_kept d.rec) (λ e. ap is_kept (eqb-true d.rec r e) ∙ is) (of_kept r is ds)
-  where
-    by : (b : Bool) → (nat_eq d.rec r ≡ true → b ≡ true) → of_record r (kept ds) ≡ of_record r ds → of_record r (cond b (d ∷ kept ds) (kept ds)) ≡ of_record r (d ∷ ds)
-    by true h more = ap (λ (xs : List Dataset). cond (nat_eq d.rec r) (d ∷ xs) xs) more
-    by false h more = elim (eqb_tells d.rec r) [
-      | inl same ↦ absurd (let bad : false ≡ true = h same.0 in cc)
-      | inr apart ↦ more ∙ sym (ap (λ (c : Bool). cond c (d ∷ of_record r ds) (of_record r ds)) apart.0)
-    ]
+of_kept r is (d ∷ ds) = grind (arith, of_kept r is ds, is, eqb-true)
 
 -- ---- record 7, of which the numbers are told
 
@@ -60,22 +50,17 @@ pub record IsStated (p : Place) : Type 0 where
   pub subfiles : p.lengths ≡ [] → p.ending ≡ NotEnded
   pub duties : 0 < length p.lengths → HasBoth p.stated
 
-none_some : {A : Type 0} (xs : List ℕ) → xs ≡ [] → 0 < length xs → A
-none_some xs none some = absurd (omega (arith, some, ap length none))
-
 stated_after : (p : Place) (token : ObjectToken) → MayFollow p token → IsStated p → IsStated (place_after p token)
-stated_after p (NumberRead set n) (open', none, stated) is = record { stated = stated; subfiles = λ e. open'; duties = λ some. none_some p.lengths none some }
+stated_after p (NumberRead set n) (open', none, stated) is =
+    record { stated = stated; subfiles = λ e. open'; duties = λ some. absurd (omega (arith, some, ap length none)) }
 stated_after p (SubfileBegun count) (open', both, few) is = record { stated = is.stated; subfiles = λ e. open'; duties = λ some. both }
-stated_after p ObjectEnded (open', some) is = record { stated = is.stated; subfiles = λ none. none_some p.lengths none some; duties = is.duties }
+stated_after p ObjectEnded (open', some) is = record { stated = is.stated; subfiles = λ none. absurd (omega (arith, some, ap length none)); duties = is.duties }
 stated_after p (Confirmed n) ended is = record { stated = is.stated; subfiles = λ none. absurd (let bad : Ended ≡ NotEnded = sym ended ∙ is.subfiles none in cc); duties = is.duties }
 
 -- how many subfiles come before a dataset
 few_front : (xs : List Dataset) (d : Dataset) (ys : List Dataset) → length (of_record 8 (xs ++ d ∷ ys)) ≤ max_subfiles → d.rec ≡ 8 → length (of_record 8 xs) < max_subfiles
 few_front xs d ys few eight =
-    let parts = ap length (filter-append (λ (x : Dataset). nat_eq x.rec 8) xs (d ∷ ys)) in
-    let both = length-append (of_record 8 xs) (of_record 8 (d ∷ ys)) in
-    let one : length (of_record 8 (d ∷ ys)) ≡ 1 + length (of_record 8 ys) = ap (λ (r : ℕ). length (cond (nat_eq r 8) (d ∷ of_record 8 ys) (of_record 8 ys))) eight ∙ omega arith in
-    omega (arith, few, parts, both, one)
+    grind (arith, few, eight, ap length (filter-append (λ (x : Dataset). nat_eq x.rec 8) xs (d ∷ ys)), length-append (of_record 8 xs) (of_record 8 (d ∷ ys)))
 
 stated_step : LowerLaws → (xs : List Dataset) (d : Dataset) → SectionsLive (xs ++ d ∷ []) → (d.rec ≡ 8 → length (of_record 8 xs) < max_subfiles) → IsStated (place_after_datasets xs) → IsStated (place_after_datasets (xs ++ d ∷ []))
 stated_step laws xs d alive few is = elim (is_one xs d alive) [
@@ -88,16 +73,13 @@ stated_step laws xs d alive few is = elim (is_one xs d alive) [
       subst IsStated leads.1.1 (stated_after (place_ended xs) (Confirmed (number d.octets)) leads.1.0 ended))
 ]
 
-front_alive : (xs : List Dataset) (d : Dataset) (ys : List Dataset) → SectionsLive (xs ++ d ∷ ys) → SectionsLive (xs ++ d ∷ [])
-front_alive xs d ys alive = (ys ++ alive.0, subst AreSections (append_assoc xs (d ∷ ys) alive.0 ∙ sym (append_assoc xs (d ∷ []) (ys ++ alive.0))) alive.1)
-
 stated_on : LowerLaws → (xs ys : List Dataset) → SectionsLive (xs ++ ys) → length (of_record 8 (xs ++ ys)) ≤ max_subfiles → IsStated (place_after_datasets xs) → IsStated (place_after_datasets (xs ++ ys))
-stated_on laws xs [] alive few is = subst (λ (zs : List Dataset). IsStated (place_after_datasets zs)) (sym (append-nil xs)) is
+stated_on laws xs [] alive few is = rw append-nil is
 stated_on laws xs (d ∷ ys) alive few is =
     let parts = append_assoc xs (d ∷ []) ys in
     subst (λ (zs : List Dataset). IsStated (place_after_datasets zs)) parts
     (stated_on laws (xs ++ d ∷ []) ys (subst SectionsLive (sym parts) alive) (subst (λ (zs : List Dataset). length (of_record 8 zs) ≤ max_subfiles) (sym parts) few)
-    (stated_step laws xs d (front_alive xs d ys alive) (few_front xs d ys few) is))
+    (stated_step laws xs d (front_alive (xs ++ d ∷ []) ys (rw append_assoc alive)) (few_front xs d ys few) is))
 
 pub stated_after_all : LowerLaws → (ds : List Dataset) → SectionsLive ds → length (of_record 8 ds) ≤ max_subfiles → IsStated (place_after_datasets ds)
 stated_after_all laws ds alive few = stated_on laws [] ds alive few (record { stated = record { each = tt; once = tt }; subfiles = λ e. refl; duties = λ some. absurd (omega (arith, some)) })
@@ -118,22 +100,11 @@ stated_at laws ds h at few room =
 -- a number occurs where it is stated
 pub occurs_stated : (n : ℕ) (ds : List Dataset) → occurs n ds ≡ is_some (number_at n (numbers_of ds))
 occurs_stated n [] = refl
-occurs_stated n (d ∷ ds) = by (nat_eq d.set n) (occurs_stated n ds)
-  where
-    by : (b : Bool) → occurs n ds ≡ is_some (number_at n (numbers_of ds)) → (b || occurs n ds) ≡ is_some (cond b (Some (number d.octets)) (number_at n (numbers_of ds)))
-    by true more = refl
-    by false more = more
+occurs_stated n (d ∷ ds) = grind (arith, occurs_stated n ds)
 
 not_stated : (n : ℕ) (ps : List Stated) → Unstated n → AllByRecursion InRow ps → number_at n ps ≡ None
 not_stated n [] other all = refl
-not_stated n (p ∷ ps) other all =
-    let apart : nat_eq p.set n ≡ false = elim all.0 [
-      | inl is ↦ ap (λ (k : ℕ). nat_eq k n) is.0 ∙ other.mode
-      | inr (inl is) ↦ ap (λ (k : ℕ). nat_eq k n) is.0 ∙ other.largest
-      | inr (inr (inl is, fits)) ↦ ap (λ (k : ℕ). nat_eq k n) is ∙ other.announced
-      | inr (inr (inr is, fits)) ↦ ap (λ (k : ℕ). nat_eq k n) is ∙ other.maximum
-    ] in
-    ap (λ (b : Bool). cond b (Some p.number) (number_at n ps)) apart ∙ not_stated n ps other all.1
+not_stated n (p ∷ ps) other all = grind (arith, not_stated n ps other all.1, all.0)
 
 -- the numbers of record 7, one by one
 pub record SameNumbers (ps qs : List Stated) : Type 0 where
@@ -178,22 +149,10 @@ tens_seen n (x ∷ xs) [] a b e = absurd (let bad : 1 ≡ 0 = e in omega (arith,
 tens_seen n (x ∷ xs) (y ∷ ys) a b e = first x xs a ∙ sym (first y ys b)
   where
     first : (z : Dataset) (zs : List Dataset) → AreTens (z ∷ zs) → occurs n (z ∷ zs) ≡ nat_eq 10 n
-    first z [] all = by (nat_eq z.set n) (ap (λ (s : ℕ). nat_eq s n) all.0)
-      where
-        by : (t : Bool) → t ≡ nat_eq 10 n → (t || false) ≡ nat_eq 10 n
-        by true is = is
-        by false is = is
-    first z (w ∷ zs) all = by (nat_eq z.set n) (occurs n (w ∷ zs)) (ap (λ (s : ℕ). nat_eq s n) all.0) (first w zs all.1)
-      where
-        by : (t u : Bool) → t ≡ nat_eq 10 n → u ≡ nat_eq 10 n → (t || u) ≡ nat_eq 10 n
-        by true u is more = is
-        by false u is more = more
+    first z [] all = grind arith
+    first z (w ∷ zs) all = grind (arith, first w zs all.1)
 
 -- ---- record 9 is the last
-
-length_one : (b : Bool) (d : Dataset) → length (cond b (d ∷ []) []) ≡ cond b 1 0
-length_one true d = refl
-length_one false d = refl
 
 abbrev pub CountsNines : List Dataset → Type 0
 CountsNines ds = length (of_record 9 ds) ≡ cond (nat_eq (section_after ds) 9) 1 0
@@ -203,12 +162,10 @@ nines laws ds alive = by (split_last ds)
   where
     at_last : (front : List Dataset) (d : Dataset) → SectionsLive (front ++ d ∷ []) → CountsNines (front ++ d ∷ [])
     at_last front d alive =
-        let parts = append_assoc front (d ∷ []) alive.0 in
-        let more : AreSections (front ++ d ∷ alive.0) = subst AreSections parts alive.1 in
+        let more : AreSections (front ++ d ∷ alive.0) = rw append_assoc at alive.1 in
         let none : of_record 9 front ≡ [] = none_nine laws.sections laws.last_record [] front ((d ∷ alive.0), more)
         (λ s. let bad : d ∷ alive.0 ≡ [] = laws.sections front (d ∷ alive.0) s more in absurd cc) in
-        ap length (filter-append (λ (x : Dataset). nat_eq x.rec 9) front (d ∷ [])) ∙ ap (λ (xs : List Dataset). length (xs ++ of_record 9 (d ∷ []))) none
-        ∙ length_one (nat_eq d.rec 9) d ∙ ap (λ (r : ℕ). cond (nat_eq r 9) 1 0) (sym (last_more 0 front d))
+        rw (filter-append (λ (x : Dataset). nat_eq x.rec 9) front (d ∷ []), none, last_more 0 front d) (grind arith)
 
     by : SplitLast ds → CountsNines ds
     by (inl none) = subst CountsNines (sym none) refl
@@ -216,17 +173,22 @@ nines laws ds alive = by (split_last ds)
 
 -- ---- there are no other records
 
-pub none_in_records : (r : ℕ) (rs : List ℕ) (ds : List Dataset) → AreRecords rs ds → AllByRecursion (λ k. nat_eq k r ≡ false) rs → of_record r ds ≡ []
-none_in_records r [] ds none apart = ap (of_record r) none
-none_in_records r (k ∷ rs) ds (run, rest, parts, good, later) apart =
-    ap (of_record r) parts ∙ filter-append (λ (x : Dataset). nat_eq x.rec r) run rest
-    ∙ ap (λ (xs : List Dataset). xs ++ of_record r rest)
-    (none_of r k run apart.0 (all_map _ _ run (λ d h. h.0) good.each)) ∙ none_in_records r rs rest later apart.1
+none_in_records : (p : ℕ → Bool) (rs : List ℕ) (ds : List Dataset) → AreRecords rs ds → AllByRecursion (λ k. p k ≡ false) rs
+    → filter (λ (d : Dataset). p d.rec) ds ≡ []
+none_in_records p [] ds none apart = ap (filter (λ (d : Dataset). p d.rec)) none
+none_in_records p (k ∷ rs) ds (run, rest, parts, good, later) apart =
+    let none = none_by p k run apart.0 (all_map _ _ run (λ d h. h.0) good.each) in
+    rw parts (simp (filter-append, none, none_in_records p rs rest later apart.1))
+
+-- nor in front of others
+pub none_in_front : (p : ℕ → Bool) (rs : List ℕ) (ds more : List Dataset) → AreRecords rs (ds ++ more) → AllByRecursion (λ k. p k ≡ false) rs
+    → filter (λ (d : Dataset). p d.rec) ds ≡ []
+none_in_front p rs ds more are apart =
+    let test = λ (d : Dataset). p d.rec in
+    empty_front (filter test ds) (filter test more) (sym (filter-append test ds more) ∙ none_in_records p rs (ds ++ more) are apart)
 
 pub none_other : (r : ℕ) → AllByRecursion (λ k. nat_eq k r ≡ false) records → (ds : List Dataset) → SectionsLive ds → of_record r ds ≡ []
-none_other r apart ds alive =
-    empty_front (of_record r ds) (of_record r alive.0)
-    (sym (filter-append (λ (x : Dataset). nat_eq x.rec r) ds alive.0) ∙ none_in_records r records (ds ++ alive.0) alive.1 apart)
+none_other r apart ds alive = none_in_front (λ k. nat_eq k r) records ds alive.0 alive.1 apart
 
 -- ---- all records
 
@@ -253,39 +215,26 @@ same_kept ds es r is same n =
 
 pub same_shape : LowerLaws → (ds es : List Dataset) → SectionsLive ds → SectionsLive es → length (of_record 8 ds) ≤ max_subfiles → length (of_record 8 es) ≤ max_subfiles → SameShape ds es
     → SameRecords ds es
-same_shape laws ds es a b few less same = record { seen = seen }
-  where
-    one : SameIn ds es 1
-    one = same_kept ds es 1 refl same.fields
-
-    two : SameIn ds es 2
-    two = same_kept ds es 2 refl same.fields
-
-    seven : SameIn ds es 7
-    seven n =
-        occurs_stated n (of_record 7 ds)
-        ∙ ap is_some (same_stated n (numbers_of (of_record 7 ds)) (numbers_of (of_record 7 es)) (same_numbers _ _ same.numbers)
-        (stated_after_all laws ds a few).stated.each (stated_after_all laws es b less).stated.each)
-        ∙ sym (occurs_stated n (of_record 7 es))
-
-    eight : SameIn ds es 8
-    eight n = tens_seen n (of_record 8 ds) (of_record 8 es) (tens_after laws.by_number ds a).0 (tens_after laws.by_number es b).0 same.some
-
-    nine : SameIn ds es 9
-    nine n =
-        tens_seen n (of_record 9 ds) (of_record 9 es) (tens_after laws.by_number ds a).1 (tens_after laws.by_number es b).1
-        (ap one_of_some (nines laws ds a ∙ ap (λ (b : Bool). cond b 1 0) same.ended ∙ sym (nines laws es b)))
-
-    other : (r : ℕ) → AllByRecursion (λ k. nat_eq k r ≡ false) records → SameIn ds es r
-    other r apart n = ap (occurs n) (none_other r apart ds a ∙ sym (none_other r apart es b))
-
-    seen : (r : ℕ) → SameIn ds es r
-    seen r =
-        by_record (SameIn ds es) r one two seven eight nine
-        (λ not1 not2 not7 not8 not9. other r (apart 1 not1, (apart 2 not2, (apart 7 not7, (apart 8 not8, (apart 9 not9, tt))))))
-      where
-        apart : (k : ℕ) → nat_eq r k ≡ false → nat_eq k r ≡ false
-        apart k not = ne_eqb k r (λ same. eqb-false r k not (sym same))
+same_shape laws ds es a b few less same =
+    let tens = tens_after laws.by_number ds a in
+    let others = tens_after laws.by_number es b in
+    let seven : SameIn ds es 7 = λ n.
+    let stated = (stated_after_all laws ds a few).stated.each in
+    let more = (stated_after_all laws es b less).stated.each in
+    occurs_stated n (of_record 7 ds)
+    ∙ ap is_some (same_stated n (numbers_of (of_record 7 ds)) (numbers_of (of_record 7 es)) (same_numbers _ _ same.numbers) stated more)
+    ∙ sym (occurs_stated n (of_record 7 es)) in
+    let eight : SameIn ds es 8 = λ n. tens_seen n (of_record 8 ds) (of_record 8 es) tens.0 others.0 same.some in
+    let ended = nines laws ds a ∙ ap (λ (b : Bool). cond b 1 0) same.ended ∙ sym (nines laws es b) in
+    let nine : SameIn ds es 9 = λ n. tens_seen n (of_record 9 ds) (of_record 9 es) tens.1 others.1 (ap one_of_some ended) in
+    let other : (r : ℕ) → AllByRecursion (λ k. nat_eq k r ≡ false) records → SameIn ds es r =
+    λ r apart n. ap (occurs n) (none_other r apart ds a ∙ sym (none_other r apart es b)) in
+    record {
+      seen = λ r.
+          let apart : (k : ℕ) → nat_eq r k ≡ false → nat_eq k r ≡ false = λ k not. ne_eqb k r (λ same. eqb-false r k not (sym same)) in
+          by_record (SameIn ds es) r (same_kept ds es 1 refl same.fields) (same_kept ds es 2 refl same.fields) seven eight nine
+          (λ not1 not2 not7 not8 not9. other r (apart 1 not1, (apart 2 not2, (apart 7 not7, (apart 8 not8, (apart 9 not9, tt))))));
+    }
 
 pub same_records : LowerLaws → (ds es : List Dataset) → SectionsLive ds → SectionsLive es → length (of_record 8 ds) ≤ max_subfiles → length (of_record 8 es) ≤ max_subfiles → SameFields ds es
     → SameRecords ds es

@@ -1,9 +1,10 @@
 -- What octets begin with is determined: their layout has one reading.
-use Rattle.std.proofs.Common.{◌≡◌, ℕ, ◌+◌, ◌-◌, ◌<◌, ◌≤◌, ◌^◌, ◌==◌, nat_eq, if◌then◌else◌, pred, Bool, true, false, List, [], ◌∷◌, ◌++◌, length, take, drop, Option, Some, None, refl, ap, sym, subst, ◌∙◌, inl, inr, arith, append_assoc, append-nil, length-append}
-use Rattle.iim_places.proofs.Words.{flat_map-append, take-append-drop, length-take, AllByRecursion, flat_map, Dataset, all_append, Phase, TagBegun, DataBegun}
-use Rattle.iim_places.proofs.Words.{AllEnded, ticket_name, present_version, four, wide, phase_octets, field_octets, fields_octets, text_octets, IsLongField}
-use Rattle.iim_places.proofs.Words.{AreFields, AreNumbersIn, AreTexts, IsSizeIn, IsShort, IsWide, IsVersion, IsPhase, IsFaultOf, HasForm, Split, SplitsTicket}
-use Rattle.iim_places.proofs.Words.{split_octets, came, TicketsHaveOneSplit, AreNoMessage, AreNoBody, BeginsWithNoData, body_octets, message_parts, Form}
+use Rattle.std.proofs.Common.{◌≡◌, ℕ, ◌+◌, ◌-◌, ◌<◌, ◌≤◌, ◌^◌, ◌==◌, nat_eq, if◌then◌else◌, Bool, true, false, List, [], ◌∷◌, ◌++◌, length, take, drop, Option}
+use Rattle.std.proofs.Common.{Some, None, refl, ap, sym, ◌∙◌, arith, append_assoc, append-nil, length-append}
+use Rattle.iim_places.proofs.Words.{nil_from_length, flat_map-append, take-append-drop, length-take, AllByRecursion, flat_map, Dataset, all_append, Phase, four}
+use Rattle.iim_places.proofs.Words.{TagBegun, DataBegun, AllEnded, ticket_name, wide, phase_octets, field_octets, fields_octets, text_octets, IsLongField, came}
+use Rattle.iim_places.proofs.Words.{AreFields, AreNumbersIn, AreTexts, IsSizeIn, IsShort, IsWide, IsPhase, HasForm, Split, split_octets, TicketsHaveOneSplit}
+use Rattle.iim_places.proofs.Words.{AreNoMessage, AreNoBody, BeginsWithNoData, body_octets, message_parts}
 use Rattle.std.specs.Int.{w64, from_be_bytes, to_be_bytes}
 use Rattle.std.proofs.lemmas.Nat.{from_be_bytes-to_be_bytes_8}
 use Rattle.iim_dataset.specs.Parting.{same_front}
@@ -24,10 +25,11 @@ one_eight m n a b hm hn e =
     (sym (from_be_bytes-to_be_bytes_8 m hm) ∙ ap (from_be_bytes w64) both.0 ∙ from_be_bytes-to_be_bytes_8 n hn, both.1)
 
 -- a number as wide as the version has it
-one_wide : (version m n : ℕ) (a b : List ℕ) → IsWide version m → IsWide version n → wide version m ++ a ≡ wide version n ++ b → (m ≡ n) × (a ≡ b)
+one_wide : (version : ℕ) → HasOne (IsWide version) (wide version)
 one_wide version m n a b = by (nat_eq version 1)
   where
-    by : (is : Bool) → m < 256 ^ (if is then 4 else 8) → n < 256 ^ (if is then 4 else 8) → (if is then four m else to_be_bytes w64 m) ++ a ≡ (if is then four n else to_be_bytes w64 n) ++ b → (m ≡ n) × (a ≡ b)
+    by : (is : Bool) → m < 256 ^ (if is then 4 else 8) → n < 256 ^ (if is then 4 else 8)
+        → (if is then four m else to_be_bytes w64 m) ++ a ≡ (if is then four n else to_be_bytes w64 n) ++ b → (m ≡ n) × (a ≡ b)
     by true hm hn e = one_four m n a b (omega (arith, hm)) (omega (arith, hn)) e
     by false hm hn e = one_eight m n a b (omega (arith, hm)) (omega (arith, hn)) e
 
@@ -45,45 +47,44 @@ one_number version x y a b hx hy e = absurd (let bad = first_same e in omega (ar
 -- ---- lists of them
 
 -- After some, what is left is spelled by the others.
-pub others : {X : Type 0} (Is : X → Type 0) (spelled : X → List ℕ) → HasOne Is spelled → (done xs : List X) (rest more : List ℕ) → AllByRecursion Is done → AllByRecursion Is xs
+pub others : {X : Type 0} (Is : X → Type 0) (spelled : X → List ℕ) → HasOne Is spelled → (done xs : List X) (rest more : List ℕ) → AllByRecursion Is done
+    → AllByRecursion Is xs
     → length done ≤ length xs → flat_map spelled done ++ rest ≡ flat_map spelled xs ++ more
     → (left : List X) × (xs ≡ done ++ left) × AllByRecursion Is left × (rest ≡ flat_map spelled left ++ more)
 others Is spelled one [] xs rest more h k few e = (xs, refl, k, e)
 others Is spelled one (d ∷ done) [] rest more h k few e = absurd (omega (arith, few))
 others Is spelled one (d ∷ done) (x ∷ xs) rest more h k few e =
-    let is : spelled d ++ (flat_map spelled done ++ rest) ≡ spelled x ++ (flat_map spelled xs ++ more) =
-    sym (append_assoc (spelled d) (flat_map spelled done) rest) ∙ e ∙ append_assoc (spelled x) (flat_map spelled xs) more in
-    let first = one d x _ _ h.0 k.0 is in
+    let first = one d x _ _ h.0 k.0 (simp append_assoc at e) in
     let (left, parts, each, rests) = others Is spelled one done xs rest more h.1 k.1 (omega (arith, few)) first.1 in
     (left, (let a = first.0 in let b = parts in cc), each, rests)
 
 -- Lists of as many have one reading.
-pub one_list : {X : Type 0} (Is : X → Type 0) (spelled : X → List ℕ) → HasOne Is spelled → (xs ys : List X) (a b : List ℕ) → AllByRecursion Is xs → AllByRecursion Is ys
+pub one_list : {X : Type 0} (Is : X → Type 0) (spelled : X → List ℕ) → HasOne Is spelled → (xs ys : List X) (a b : List ℕ) → AllByRecursion Is xs
+    → AllByRecursion Is ys
     → length xs ≡ length ys → flat_map spelled xs ++ a ≡ flat_map spelled ys ++ b → (xs ≡ ys) × (a ≡ b)
-one_list Is spelled one [] [] a b h k n e = (refl, e)
-one_list Is spelled one (x ∷ xs) (y ∷ ys) a b h k n e =
-    let is : spelled x ++ (flat_map spelled xs ++ a) ≡ spelled y ++ (flat_map spelled ys ++ b) =
-    sym (append_assoc (spelled x) (flat_map spelled xs) a) ∙ e ∙ append_assoc (spelled y) (flat_map spelled ys) b in
-    let first = one x y _ _ h.0 k.0 is in
-    let more = one_list Is spelled one xs ys a b h.1 k.1 (ap pred n) first.1 in
-    (let a = first.0 in let b = more.0 in cc, more.1)
-one_list Is spelled one xs ys a b h k n e = absurd (omega (arith, n))
+one_list Is spelled one xs ys a b h k n e =
+    let (left, parts, each, rests) = others Is spelled one xs ys a b h k (omega (arith, n)) e in
+    let none : left ≡ [] = nil_from_length left (omega (arith, n, ap length parts, length-append xs left)) in
+    (sym (parts ∙ (λ i. xs ++ none i) ∙ append-nil xs), rests ∙ (λ i. flat_map spelled (none i) ++ b))
 
 -- one, and then others
-pub spelled_then : {X : Type 0} (spelled : X → List ℕ) (x : X) (xs : List X) (octets rest more : List ℕ) → octets ≡ spelled x ++ rest → rest ≡ flat_map spelled xs ++ more → octets ≡ flat_map spelled (x ∷ xs) ++ more
+pub spelled_then : {X : Type 0} (spelled : X → List ℕ) (x : X) (xs : List X) (octets rest more : List ℕ) → octets ≡ spelled x ++ rest
+    → rest ≡ flat_map spelled xs ++ more → octets ≡ flat_map spelled (x ∷ xs) ++ more
 spelled_then spelled x xs octets rest more e f = e ∙ ap (λ (o : List ℕ). spelled x ++ o) f ∙ sym (append_assoc (spelled x) (flat_map spelled xs) more)
 
 -- where the first is missing
-pub no_first : {X : Type 0} (Is : X → Type 0) (spelled : X → List ℕ) (count : ℕ) (octets : List ℕ) → BeginsWithNone Is spelled octets → BeginsWithFewer Is spelled (count + 1) octets
+pub no_first : {X : Type 0} (Is : X → Type 0) (spelled : X → List ℕ) (count : ℕ) (octets : List ℕ) → BeginsWithNone Is spelled octets
+    → BeginsWithFewer Is spelled (count + 1) octets
 no_first Is spelled count octets none [] rest each many e = omega (arith, many)
-no_first Is spelled count octets none (x ∷ xs) rest each many e = none x (flat_map spelled xs ++ rest) each.0 (e ∙ append_assoc (spelled x) (flat_map spelled xs) rest)
+no_first Is spelled count octets none (x ∷ xs) rest each many e = none x (flat_map spelled xs ++ rest) each.0 (simp append_assoc at e)
 
 -- where one stands, and others are missing
-pub fewer_after : {X : Type 0} (Is : X → Type 0) (spelled : X → List ℕ) → HasOne Is spelled → (count : ℕ) (x : X) (octets rest : List ℕ) → Is x → octets ≡ spelled x ++ rest
+pub fewer_after : {X : Type 0} (Is : X → Type 0) (spelled : X → List ℕ) → HasOne Is spelled → (count : ℕ) (x : X) (octets rest : List ℕ) → Is x
+    → octets ≡ spelled x ++ rest
     → BeginsWithFewer Is spelled count rest → BeginsWithFewer Is spelled (count + 1) octets
 fewer_after Is spelled one count x octets rest is parts fewer [] more each many e = omega (arith, many)
 fewer_after Is spelled one count x octets rest is parts fewer (y ∷ ys) more each many e =
-    let both = one x y rest (flat_map spelled ys ++ more) is each.0 (sym parts ∙ e ∙ append_assoc (spelled y) (flat_map spelled ys) more) in
+    let both = one x y rest (flat_map spelled ys ++ more) is each.0 (sym parts ∙ (simp append_assoc at e)) in
     fewer ys more each.1 (omega (arith, many)) both.1
 
 -- ---- a walk over datasets
@@ -94,7 +95,8 @@ rest_held octets rest d ([], (each, same)) h e = absurd (some_octets d rest (sym
 rest_held octets rest d (x ∷ xs, (each, same)) h e = (xs, (each.1, sym (one_field x d (flat_map field_octets xs) rest each.0 h (sym same ∙ e)).1))
 
 -- What is held is the first dataset, and what the rest holds.
-pub first_held : (octets rest : List ℕ) (d : Dataset) (h : HoldsFields octets) (k : HoldsFields rest) → IsLongField d → octets ≡ field_octets d ++ rest → h.0 ≡ d ∷ k.0
+pub first_held : (octets rest : List ℕ) (d : Dataset) (h : HoldsFields octets) (k : HoldsFields rest) → IsLongField d → octets ≡ field_octets d ++ rest
+    → h.0 ≡ d ∷ k.0
 first_held octets rest d h k hd e = same_fields h.0 (d ∷ k.0) h.1.0 (hd, k.1.0) (sym h.1.1 ∙ e ∙ ap (λ (xs : List ℕ). field_octets d ++ xs) k.1.1)
 
 -- Octets that begin with no dataset hold none.
@@ -105,67 +107,55 @@ none_held octets (d ∷ ds, held) none = absurd (none d (flat_map field_octets d
 -- ---- datasets one after another
 
 -- One dataset more stands before the rest.
-pub one_more : (count : ℕ) (octets rest after : List ℕ) (d : Dataset) → FieldsBefore count octets rest → IsLongField d → rest ≡ field_octets d ++ after → FieldsBefore (count + 1) octets after
+pub one_more : (count : ℕ) (octets rest after : List ℕ) (d : Dataset) → FieldsBefore count octets rest → IsLongField d → rest ≡ field_octets d ++ after
+    → FieldsBefore (count + 1) octets after
 one_more count octets rest after d before hd e = record {
   datasets = before.datasets ++ d ∷ [];
   each = all_append IsLongField before.datasets (d ∷ []) before.each (hd, tt);
-  many = length-append before.datasets (d ∷ []) ∙ ap (λ n. n + 1) before.many;
-  spelled = before.spelled ∙ ap (λ (xs : List ℕ). flat_map field_octets before.datasets ++ xs) e
-      ∙ sym (append_assoc (flat_map field_octets before.datasets) (field_octets d) after)
-      ∙ ap (λ (xs : List ℕ). xs ++ after) (sym (flat_map-append field_octets before.datasets (d ∷ []) ∙ ap (λ (xs : List ℕ). flat_map field_octets before.datasets ++ xs) (append-nil (field_octets d))));
+  many = omega (arith, before.many, length-append before.datasets (d ∷ []));
+  spelled = before.spelled ∙ rw (e, flat_map-append) (simp (append_assoc, append-nil));
 }
-
-one_field_of : HasOne IsLongField field_octets
-one_field_of x y a b hx hy e = one_field x y a b hx hy e
 
 -- Where no dataset follows some, there are not more.
 pub no_more : (done count : ℕ) (octets rest : List ℕ) → FieldsBefore done octets rest → done < count → BeginsWithNone IsLongField field_octets rest
     → BeginsWithFewer IsLongField field_octets count octets
 no_more done count octets rest before fewer none ds more each many e =
-    let same : flat_map field_octets before.datasets ++ rest ≡ flat_map field_octets ds ++ more = sym before.spelled ∙ e in
-    let few = before.many in
-    let (left, parts, these, follow) = others IsLongField field_octets one_field_of before.datasets ds rest more before.each each (omega (arith, few, many, fewer)) same in
+    let few : length before.datasets ≤ length ds = omega (arith, before.many, many, fewer) in
+    let (left, parts, these, follow) = others IsLongField field_octets one_field before.datasets ds rest more before.each each few (sym before.spelled ∙ e) in
     bad left parts these follow
   where
     bad : (left : List Dataset) → ds ≡ before.datasets ++ left → AllByRecursion IsLongField left → rest ≡ flat_map field_octets left ++ more → ⊥
-    bad [] parts these follow = let n = ap length (parts ∙ append-nil before.datasets) in let few = before.many in omega (arith, n, few, many, fewer)
+    bad [] parts these follow = omega (arith, ap length (parts ∙ append-nil before.datasets), before.many, many, fewer)
     bad (x ∷ xs) parts these follow = none x (flat_map field_octets xs ++ more) these.0 (follow ∙ append_assoc (field_octets x) (flat_map field_octets xs) more)
 
 -- The datasets before a rest are cut off.
-cut_fields : (count : ℕ) (octets rest front back : List ℕ) → FieldsBefore count octets rest → front ≡ take (length octets - length rest) octets → back ≡ drop (length octets - length rest) octets
+cut_fields : (count : ℕ) (octets rest front back : List ℕ) → FieldsBefore count octets rest → front ≡ take (length octets - length rest) octets
+    → back ≡ drop (length octets - length rest) octets
     → (before : FieldsBefore count octets rest) × (front ≡ flat_map field_octets before.datasets) × (back ≡ rest)
 cut_fields count octets rest front back before is_front is_back =
-    let at = length octets - length rest in
-    let all : front ++ back ≡ octets = ap (λ (xs : List ℕ). xs ++ back) is_front ∙ ap (λ (xs : List ℕ). take at octets ++ xs) is_back ∙ take-append-drop at octets in
-    let some = ap length is_front ∙ length-take at octets in
-    let many = length-append (flat_map field_octets before.datasets) rest in
-    let is = ap length before.spelled in
-    let both = same_front front (flat_map field_octets before.datasets) back rest (omega (arith, some, is, many)) (all ∙ before.spelled) in
+    let all : front ++ back ≡ octets = rw (is_front, is_back, take-append-drop) refl in
+    let ds : List ℕ = flat_map field_octets before.datasets in
+    let long : length front ≡ length ds = omega (arith, ap length is_front, length-take {A = ℕ}, length-append {A = ℕ}, ap length before.spelled) in
+    let both = same_front front ds back rest long (all ∙ before.spelled) in
     (before, both.0, both.1)
 
-pub cut_held : (count : ℕ) (octets rest front back : List ℕ) → FieldsBefore count octets rest → front ≡ take (length octets - length rest) octets → back ≡ drop (length octets - length rest) octets → HoldsFields front
-cut_held count octets rest front back before is_front is_back = let (b, is, same) = cut_fields count octets rest front back before is_front is_back in (b.datasets, (b.each, is))
-
 -- These datasets are those that are held, and they stand there after their number.
-pub cut_told : (all : List ℕ) (count : ℕ) (octets rest front back : List ℕ) → count < 2 ^ 32 → all ≡ four count ++ octets → FieldsBefore count octets rest → front ≡ take (length octets - length rest) octets
-    → back ≡ drop (length octets - length rest) octets → (ds : List Dataset) → AllByRecursion IsLongField ds → front ≡ flat_map field_octets ds → (all ≡ fields_octets ds ++ back) × AreFields ds
+pub cut_told : (all : List ℕ) (count : ℕ) (octets rest front back : List ℕ) → count < 2 ^ 32 → all ≡ four count ++ octets → FieldsBefore count octets rest
+    → front ≡ take (length octets - length rest) octets
+    → back ≡ drop (length octets - length rest) octets → (ds : List Dataset) → AllByRecursion IsLongField ds → front ≡ flat_map field_octets ds
+    → (all ≡ fields_octets ds ++ back) × AreFields ds
 cut_told all count octets rest front back fits parts before is_front is_back ds each is =
     let (b, was, same) = cut_fields count octets rest front back before is_front is_back in
     let one = same_fields ds b.datasets each b.each (sym is ∙ was) in
     let many : length ds ≡ count = ap length one ∙ b.many in
-    let spelled : octets ≡ flat_map field_octets ds ++ back = b.spelled ∙ ap (λ (xs : List Dataset). flat_map field_octets xs ++ rest) (sym one) ∙ ap (λ (xs : List ℕ). flat_map field_octets ds ++ xs) (sym same) in (
-      parts ∙ ap (λ (n : ℕ). four n ++ octets) (sym many) ∙ ap (λ (xs : List ℕ). four (length ds) ++ xs) spelled ∙ sym (append_assoc (four (length ds)) (flat_map field_octets ds) back),
-      record { each = each; few = subst (λ (n : ℕ). n < 2 ^ 32) (sym many) fits },
-    )
+    (parts ∙ rw (b.spelled, ← one, ← same, ← many) (simp append_assoc), record { each = each; few = rw many fits })
 
 -- ---- parts
 
 one_fields : HasOne AreFields fields_octets
 one_fields x y a b hx hy e =
-    let is : four (length x) ++ (flat_map field_octets x ++ a) ≡ four (length y) ++ (flat_map field_octets y ++ b) =
-    sym (append_assoc (four (length x)) (flat_map field_octets x) a) ∙ e ∙ append_assoc (four (length y)) (flat_map field_octets y) b in
-    let count = one_four (length x) (length y) _ _ hx.few hy.few is in
-    one_list IsLongField field_octets one_field_of x y a b hx.each hy.each count.0 count.1
+    let count = one_four (length x) (length y) (flat_map field_octets x ++ a) (flat_map field_octets y ++ b) hx.few hy.few (simp append_assoc at e) in
+    one_list IsLongField field_octets one_field x y a b hx.each hy.each count.0 count.1
 
 one_numbers : (version : ℕ) → HasOne (AreNumbersIn version) (flat_map (number_octets version))
 one_numbers version x y a b hx hy e = one_list (IsSizeIn version) (number_octets version) (one_number version) x y a b hx.each hy.each (hx.four ∙ sym hy.four) e
@@ -173,20 +163,13 @@ one_numbers version x y a b hx hy e = one_list (IsSizeIn version) (number_octets
 one_texts : HasOne AreTexts (flat_map text_octets)
 one_texts x y a b hx hy e = one_list IsShort text_octets one_short x y a b hx.each hy.each (hx.seven ∙ sym hy.seven) e
 
-three : (w x y z : List ℕ) → (w ++ (x ++ y)) ++ z ≡ w ++ (x ++ (y ++ z))
-three w x y z = append_assoc w (x ++ y) z ∙ ap (λ (t : List ℕ). w ++ t) (append_assoc x y z)
-
-no_wider : (version m n : ℕ) → m ≤ n → IsWide version n → IsWide version m
-no_wider version m n le h = omega (arith, le, h)
-
 one_phase : (version section : ℕ) → HasOne (IsPhase version section) (phase_octets version)
 one_phase version section (TagBegun h) (TagBegun k) a b hx hy e = let held = one_text h k a b (rest_same e) in (ap TagBegun held.0, held.1)
 one_phase version section (DataBegun s m l t) (DataBegun u n k v) a b hx hy e =
     let set : s ≡ u = first_same (rest_same e) in
-    let moved : wide version m ++ (wide version l ++ (t ++ a)) ≡ wide version n ++ (wide version k ++ (v ++ b)) =
-    sym (three (wide version m) (wide version l) t a) ∙ rest_same (rest_same e) ∙ three (wide version n) (wide version k) v b in
+    let moved = simp append_assoc at (rest_same (rest_same e)) in
     let count = one_wide version m n (wide version l ++ (t ++ a)) (wide version k ++ (v ++ b)) hx.0 hy.0 moved in
-    let left = one_wide version l k (t ++ a) (v ++ b) (no_wider version l m hx.1 hx.0) (no_wider version k n hy.1 hy.0) count.1 in
+    let left = one_wide version l k (t ++ a) (v ++ b) (omega (arith, hx.1, hx.0)) (omega (arith, hy.1, hy.0)) count.1 in
     let c = count.0 in
     let d = left.0 in
     let taken = same_front t v a b (hx.2 ∙ (let same : came section m l ≡ came section n k = cc in same) ∙ sym hy.2) left.1 in
@@ -194,23 +177,27 @@ one_phase version section (DataBegun s m l t) (DataBegun u n k v) a b hx hy e =
 one_phase version section AllEnded AllEnded a b hx hy e = (refl, rest_same e)
 one_phase version section p q a b hx hy e = absurd (let bad = first_same e in omega (arith, bad))
 
-pub texts_after : (count : ℕ) (x octets rest : List ℕ) → IsShort x → octets ≡ text_octets x ++ rest → BeginsWithFewer IsShort text_octets count rest → BeginsWithFewer IsShort text_octets (count + 1) octets
+pub texts_after : (count : ℕ) (x octets rest : List ℕ) → IsShort x → octets ≡ text_octets x ++ rest → BeginsWithFewer IsShort text_octets count rest
+    → BeginsWithFewer IsShort text_octets (count + 1) octets
 texts_after = fewer_after IsShort text_octets one_short
 
-pub numbers_after : (version count : ℕ) (x : Option ℕ) (octets rest : List ℕ) → IsSizeIn version x → octets ≡ number_octets version x ++ rest → BeginsWithFewer (IsSizeIn version) (number_octets version) count rest
+pub numbers_after : (version count : ℕ) (x : Option ℕ) (octets rest : List ℕ) → IsSizeIn version x → octets ≡ number_octets version x ++ rest
+    → BeginsWithFewer (IsSizeIn version) (number_octets version) count rest
     → BeginsWithFewer (IsSizeIn version) (number_octets version) (count + 1) octets
 numbers_after version = fewer_after (IsSizeIn version) (number_octets version) (one_number version)
 
 pub no_text : (count : ℕ) (octets : List ℕ) → BeginsWithNone IsShort text_octets octets → BeginsWithFewer IsShort text_octets (count + 1) octets
 no_text = no_first IsShort text_octets
 
-pub no_number : (version count : ℕ) (octets : List ℕ) → BeginsWithNone (IsSizeIn version) (number_octets version) octets → BeginsWithFewer (IsSizeIn version) (number_octets version) (count + 1) octets
+pub no_number : (version count : ℕ) (octets : List ℕ) → BeginsWithNone (IsSizeIn version) (number_octets version) octets
+    → BeginsWithFewer (IsSizeIn version) (number_octets version) (count + 1) octets
 no_number version = no_first (IsSizeIn version) (number_octets version)
 
 pub no_texts : (octets : List ℕ) → BeginsWithFewer IsShort text_octets 7 octets → BeginsWithNone AreTexts (flat_map text_octets) octets
 no_texts octets fewer xs rest are e = fewer xs rest are.each are.seven e
 
-pub no_numbers : (version : ℕ) (octets : List ℕ) → BeginsWithFewer (IsSizeIn version) (number_octets version) 4 octets → BeginsWithNone (AreNumbersIn version) (flat_map (number_octets version)) octets
+pub no_numbers : (version : ℕ) (octets : List ℕ) → BeginsWithFewer (IsSizeIn version) (number_octets version) 4 octets
+    → BeginsWithNone (AreNumbersIn version) (flat_map (number_octets version)) octets
 no_numbers version octets fewer xs rest are e = fewer xs rest are.each are.four e
 
 -- ---- what follows the name, part by part
@@ -221,73 +208,70 @@ from_message s = message_parts s.part s.counter s.flag s.texts
 abbrev from_heads : Split → List ℕ
 from_heads s = four s.heads ++ from_message s
 
-abbrev from_taken : Split → List ℕ
-from_taken s = wide s.version s.taken ++ from_heads s
+abbrev from_taken : ℕ → Split → List ℕ
+from_taken version s = wide version s.taken ++ from_heads s
 
-abbrev from_numbers : Split → List ℕ
-from_numbers s = flat_map (number_octets s.version) s.numbers ++ from_taken s
+abbrev from_numbers : ℕ → Split → List ℕ
+from_numbers version s = flat_map (number_octets version) s.numbers ++ from_taken version s
 
-abbrev from_fields : Split → List ℕ
-from_fields s = fields_octets s.fields ++ from_numbers s
+abbrev from_fields : ℕ → Split → List ℕ
+from_fields version s = fields_octets s.fields ++ from_numbers version s
 
 -- Whatever the octets are split into in this version, the rest is spelled so.
 abbrev pub IsSpelledSo : (version : ℕ) (octets rest : List ℕ) → (Split → List ℕ) → Type 0
 IsSpelledSo version octets rest from = (s : Split) → s.version ≡ version → HasForm s → octets ≡ body_octets s → rest ≡ from s
 
-past : {X : Type 0} (version : ℕ) (Is : X → Type 0) (spelled : X → List ℕ) → HasOne Is spelled → (part : Split → X) (more : Split → List ℕ) → ((s : Split) → s.version ≡ version → HasForm s → Is (part s)) → (octets rest after : List ℕ) (x : X)
+past : {X : Type 0} (version : ℕ) (Is : X → Type 0) (spelled : X → List ℕ) → HasOne Is spelled → (part : Split → X) (more : Split → List ℕ)
+    → ((s : Split) → s.version ≡ version → HasForm s → Is (part s)) → (octets rest after : List ℕ) (x : X)
     → Is x → rest ≡ spelled x ++ after → IsSpelledSo version octets rest (λ s. spelled (part s) ++ more s) → IsSpelledSo version octets after more
-past version Is spelled one part more has octets rest after x is parts so s at form e = (one x (part s) after (more s) is (has s at form) (sym parts ∙ so s at form e)).1
+past version Is spelled one part more has octets rest after x is parts so s at form e =
+    (one x (part s) after (more s) is (has s at form) (sym parts ∙ so s at form e)).1
 
-missing : {X : Type 0} (version : ℕ) (Is : X → Type 0) (spelled : X → List ℕ) (part : Split → X) (more : Split → List ℕ) → ((s : Split) → s.version ≡ version → HasForm s → Is (part s)) → (octets rest : List ℕ)
+missing : {X : Type 0} (version : ℕ) (Is : X → Type 0) (spelled : X → List ℕ) (part : Split → X) (more : Split → List ℕ)
+    → ((s : Split) → s.version ≡ version → HasForm s → Is (part s)) → (octets rest : List ℕ)
     → BeginsWithNone Is spelled rest → IsSpelledSo version octets rest (λ s. spelled (part s) ++ more s) → AreNoBody version octets
 missing version Is spelled part more has octets rest none so s at form e = none (part s) (more s) (has s at form) (so s at form e)
 
-one_of_four : HasOne IsFour four
-one_of_four m n a b hm hn e = one_four m n a b hm hn e
-
-one_of_wide : (version : ℕ) → HasOne (IsWide version) (wide version)
-one_of_wide version m n a b hm hn e = one_wide version m n a b hm hn e
-
--- in the version that is told, numbers and octets are those of the split
-numbers_in : (version : ℕ) (octets rest : List ℕ) → IsSpelledSo version octets rest from_numbers → IsSpelledSo version octets rest (λ s. flat_map (number_octets version) s.numbers ++ from_taken s)
-numbers_in version octets rest so s at form e = so s at form e ∙ ap (λ (v : ℕ). flat_map (number_octets v) s.numbers ++ from_taken s) at
-
-taken_in : (version : ℕ) (octets rest : List ℕ) → IsSpelledSo version octets rest from_taken → IsSpelledSo version octets rest (λ s. wide version s.taken ++ from_heads s)
-taken_in version octets rest so s at form e = so s at form e ∙ ap (λ (v : ℕ). wide v s.taken ++ from_heads s) at
-
-pub past_phase : (version : ℕ) (octets rest after : List ℕ) (section : ℕ) (phase : Phase) → octets ≡ section ∷ rest → rest ≡ phase_octets version phase ++ after → IsPhase version section phase → IsSpelledSo version octets after from_fields
+pub past_phase : (version : ℕ) (octets rest after : List ℕ) (section : ℕ) (phase : Phase) → octets ≡ section ∷ rest
+    → rest ≡ phase_octets version phase ++ after → IsPhase version section phase → IsSpelledSo version octets after (from_fields version)
 past_phase version octets rest after section phase first parts is s at form e =
     let same : section ∷ rest ≡ body_octets s = sym first ∙ e in
     let here : s.section ≡ section = sym (first_same same) in
-    let phase_is : IsPhase version section s.phase = subst (λ (v : ℕ). IsPhase v section s.phase) at (subst (λ (n : ℕ). IsPhase s.version n s.phase) here form.phase) in
-    let rests : rest ≡ phase_octets version s.phase ++ from_fields s = rest_same same ∙ ap (λ (v : ℕ). phase_octets v s.phase ++ from_fields s) at in
-    (one_phase version section phase s.phase after (from_fields s) is phase_is (sym parts ∙ rests)).1
+    let phase_is = rw (at, here) at form.phase in
+    let rests : rest ≡ phase_octets version s.phase ++ from_fields version s = rw at at (rest_same same) in
+    (one_phase version section phase s.phase after (from_fields version s) is phase_is (sym parts ∙ rests)).1
 
-pub past_fields : (version : ℕ) (octets rest after : List ℕ) (x : List Dataset) → AreFields x → rest ≡ fields_octets x ++ after → IsSpelledSo version octets rest from_fields → IsSpelledSo version octets after from_numbers
-past_fields version = past version AreFields fields_octets one_fields (λ s. s.fields) from_numbers (λ s at form. form.fields)
+pub past_fields : (version : ℕ) (octets rest after : List ℕ) (x : List Dataset) → AreFields x → rest ≡ fields_octets x ++ after
+    → IsSpelledSo version octets rest (from_fields version) → IsSpelledSo version octets after (from_numbers version)
+past_fields version = past version AreFields fields_octets one_fields (λ s. s.fields) (from_numbers version) (λ s at form. form.fields)
 
-pub past_numbers : (version : ℕ) (octets rest after : List ℕ) (x : List (Option ℕ)) → AreNumbersIn version x → rest ≡ flat_map (number_octets version) x ++ after → IsSpelledSo version octets rest from_numbers → IsSpelledSo version octets after from_taken
-past_numbers version octets rest after x are parts so =
-    past version (AreNumbersIn version) (flat_map (number_octets version)) (one_numbers version) (λ s. s.numbers) from_taken (λ s at form. subst (λ (v : ℕ). AreNumbersIn v s.numbers) at form.numbers)
-    octets rest after x are parts (numbers_in version octets rest so)
+pub past_numbers : (version : ℕ) (octets rest after : List ℕ) (x : List (Option ℕ)) → AreNumbersIn version x
+    → rest ≡ flat_map (number_octets version) x ++ after → IsSpelledSo version octets rest (from_numbers version)
+    → IsSpelledSo version octets after (from_taken version)
+past_numbers version =
+    past version (AreNumbersIn version) (flat_map (number_octets version)) (one_numbers version) (λ s. s.numbers) (from_taken version)
+    (λ s at form. rw at at form.numbers)
 
-pub past_taken : (version : ℕ) (octets rest after : List ℕ) (x : ℕ) → IsWide version x → rest ≡ wide version x ++ after → IsSpelledSo version octets rest from_taken → IsSpelledSo version octets after from_heads
-past_taken version octets rest after x are parts so =
-    past version (IsWide version) (wide version) (one_of_wide version) (λ s. s.taken) from_heads (λ s at form. subst (λ (v : ℕ). IsWide v s.taken) at form.taken) octets rest after x are parts (taken_in version octets rest so)
+pub past_taken : (version : ℕ) (octets rest after : List ℕ) (x : ℕ) → IsWide version x → rest ≡ wide version x ++ after
+    → IsSpelledSo version octets rest (from_taken version) → IsSpelledSo version octets after from_heads
+past_taken version = past version (IsWide version) (wide version) (one_wide version) (λ s. s.taken) from_heads (λ s at form. rw at at form.taken)
 
-pub past_heads : (version : ℕ) (octets rest after : List ℕ) (x : ℕ) → IsFour x → rest ≡ four x ++ after → IsSpelledSo version octets rest from_heads → IsSpelledSo version octets after from_message
-past_heads version = past version IsFour four one_of_four (λ s. s.heads) from_message (λ s at form. form.heads)
+pub past_heads : (version : ℕ) (octets rest after : List ℕ) (x : ℕ) → IsFour x → rest ≡ four x ++ after → IsSpelledSo version octets rest from_heads
+    → IsSpelledSo version octets after from_message
+past_heads version = past version IsFour four one_four (λ s. s.heads) from_message (λ s at form. form.heads)
 
-pub no_fields : (version : ℕ) (octets rest : List ℕ) → BeginsWithNone AreFields fields_octets rest → IsSpelledSo version octets rest from_fields → AreNoBody version octets
-no_fields version = missing version AreFields fields_octets (λ s. s.fields) from_numbers (λ s at form. form.fields)
+pub no_fields : (version : ℕ) (octets rest : List ℕ) → BeginsWithNone AreFields fields_octets rest → IsSpelledSo version octets rest (from_fields version)
+    → AreNoBody version octets
+no_fields version = missing version AreFields fields_octets (λ s. s.fields) (from_numbers version) (λ s at form. form.fields)
 
-pub no_numbers_follow : (version : ℕ) (octets rest : List ℕ) → BeginsWithNone (AreNumbersIn version) (flat_map (number_octets version)) rest → IsSpelledSo version octets rest from_numbers → AreNoBody version octets
-no_numbers_follow version octets rest none so =
-    missing version (AreNumbersIn version) (flat_map (number_octets version)) (λ s. s.numbers) from_taken (λ s at form. subst (λ (v : ℕ). AreNumbersIn v s.numbers) at form.numbers) octets rest none (numbers_in version octets rest so)
+pub no_numbers_follow : (version : ℕ) (octets rest : List ℕ) → BeginsWithNone (AreNumbersIn version) (flat_map (number_octets version)) rest
+    → IsSpelledSo version octets rest (from_numbers version) → AreNoBody version octets
+no_numbers_follow version =
+    missing version (AreNumbersIn version) (flat_map (number_octets version)) (λ s. s.numbers) (from_taken version) (λ s at form. rw at at form.numbers)
 
-pub no_taken : (version : ℕ) (octets rest : List ℕ) → BeginsWithNone (IsWide version) (wide version) rest → IsSpelledSo version octets rest from_taken → AreNoBody version octets
-no_taken version octets rest none so =
-    missing version (IsWide version) (wide version) (λ s. s.taken) from_heads (λ s at form. subst (λ (v : ℕ). IsWide v s.taken) at form.taken) octets rest none (taken_in version octets rest so)
+pub no_taken : (version : ℕ) (octets rest : List ℕ) → BeginsWithNone (IsWide version) (wide version) rest
+    → IsSpelledSo version octets rest (from_taken version) → AreNoBody version octets
+no_taken version = missing version (IsWide version) (wide version) (λ s. s.taken) from_heads (λ s at form. rw at at form.taken)
 
 pub no_heads : (version : ℕ) (octets rest : List ℕ) → BeginsWithNone IsFour four rest → IsSpelledSo version octets rest from_heads → AreNoBody version octets
 no_heads version = missing version IsFour four (λ s. s.heads) from_message (λ s at form. form.heads)
@@ -295,132 +279,65 @@ no_heads version = missing version IsFour four (λ s. s.heads) from_message (λ 
 pub no_message : (version : ℕ) (octets rest : List ℕ) → AreNoMessage rest → IsSpelledSo version octets rest from_message → AreNoBody version octets
 no_message version octets rest none so s at form e = none s.part s.counter s.flag s.texts form.texts (so s at form e)
 
--- The parts one after another are the body.
-pub spelled_body : (s : Split) (octets r0 r1 r2 r3 r4 r5 : List ℕ) → octets ≡ s.section ∷ r0 → r0 ≡ phase_octets s.version s.phase ++ r1 → r1 ≡ fields_octets s.fields ++ r2 → r2 ≡ flat_map (number_octets s.version) s.numbers ++ r3
-    → r3 ≡ wide s.version s.taken ++ r4 → r4 ≡ four s.heads ++ r5 → r5 ≡ message_parts s.part s.counter s.flag s.texts → octets ≡ body_octets s
-spelled_body s octets r0 r1 r2 r3 r4 r5 section phase fields numbers taken heads message =
-    let from4 : r4 ≡ from_heads s = heads ∙ ap (λ (xs : List ℕ). four s.heads ++ xs) message in
-    let from3 : r3 ≡ from_taken s = taken ∙ ap (λ (xs : List ℕ). wide s.version s.taken ++ xs) from4 in
-    let from2 : r2 ≡ from_numbers s = numbers ∙ ap (λ (xs : List ℕ). flat_map (number_octets s.version) s.numbers ++ xs) from3 in
-    let from1 : r1 ≡ from_fields s = fields ∙ ap (λ (xs : List ℕ). fields_octets s.fields ++ xs) from2 in
-    section ∙ ap (λ (xs : List ℕ). s.section ∷ xs) (phase ∙ ap (λ (xs : List ℕ). phase_octets s.version s.phase ++ xs) from1)
-
 -- ---- the message
 
-three_off : (octets r1 r2 r3 : List ℕ) (p c f : ℕ) → octets ≡ p ∷ r1 → r1 ≡ c ∷ r2 → r2 ≡ f ∷ r3 → (q d g : ℕ) (xs : List ℕ) → octets ≡ q ∷ d ∷ g ∷ xs → r3 ≡ xs
-three_off octets r1 r2 r3 p c f e1 e2 e3 q d g xs e =
-    let one : r1 ≡ d ∷ g ∷ xs = rest_same (sym e1 ∙ e) in
-    let two : r2 ≡ g ∷ xs = rest_same (sym e2 ∙ one) in
-    rest_same (sym e3 ∙ two)
-
 -- whose texts are missing
-pub no_message_texts : (octets r1 r2 r3 : List ℕ) (p c f : ℕ) → octets ≡ p ∷ r1 → r1 ≡ c ∷ r2 → r2 ≡ f ∷ r3 → BeginsWithNone AreTexts (flat_map text_octets) r3 → AreNoMessage octets
-no_message_texts octets r1 r2 r3 p c f e1 e2 e3 none q d g texts are e =
-    none texts [] are (three_off octets r1 r2 r3 p c f e1 e2 e3 q d g (flat_map text_octets texts) e ∙ sym (append-nil (flat_map text_octets texts)))
+pub no_message_texts : (octets r1 r2 r3 : List ℕ) (p c f : ℕ) → octets ≡ p ∷ r1 → r1 ≡ c ∷ r2 → r2 ≡ f ∷ r3
+    → BeginsWithNone AreTexts (flat_map text_octets) r3 → AreNoMessage octets
+no_message_texts octets r1 r2 r3 p c f e1 e2 e3 none q d g texts are e = none texts [] are (cc (append-nil (flat_map text_octets texts)))
 
 pub some_left : (xs : List ℕ) (b : Bool) → b ≡ (length xs == 0) → b ≡ false → xs ≡ [] → ⊥
 some_left xs b is not e = let bad : true ≡ false = sym (ap (λ (l : List ℕ). length l == 0) e) ∙ sym is ∙ not in cc
 
 -- that other octets follow
-pub no_message_end : (octets r1 r2 r3 more : List ℕ) (p c f : ℕ) (texts : List (List ℕ)) → octets ≡ p ∷ r1 → r1 ≡ c ∷ r2 → r2 ≡ f ∷ r3 → AreTexts texts → r3 ≡ flat_map text_octets texts ++ more
+pub no_message_end : (octets r1 r2 r3 more : List ℕ) (p c f : ℕ) (texts : List (List ℕ)) → octets ≡ p ∷ r1 → r1 ≡ c ∷ r2 → r2 ≡ f ∷ r3 → AreTexts texts
+    → r3 ≡ flat_map text_octets texts ++ more
     → (more ≡ [] → ⊥) → AreNoMessage octets
 no_message_end octets r1 r2 r3 more p c f texts e1 e2 e3 are parts some q d g others these e =
-    let last = three_off octets r1 r2 r3 p c f e1 e2 e3 q d g (flat_map text_octets others) e in
-    some (one_texts texts others more [] are these (sym parts ∙ last ∙ sym (append-nil (flat_map text_octets others)))).1
+    some (one_texts texts others more [] are these (cc (append-nil (flat_map text_octets others)))).1
 
 -- ---- a ticket
 
--- the octets after a name and a version, part by part
-named_body : (n s p f m t h x : List ℕ) → ((((((n ++ s) ++ p) ++ f) ++ m) ++ t) ++ h) ++ x ≡ n ++ (s ++ (p ++ (f ++ (m ++ (t ++ (h ++ x))))))
-named_body n s p f m t h x = simp append_assoc refl
-
 pub whole_ticket : (s : Split) → split_octets s ≡ ticket_name s.version ++ body_octets s
-whole_ticket s =
-    named_body (ticket_name s.version) (s.section ∷ []) (phase_octets s.version s.phase) (fields_octets s.fields) (flat_map (number_octets s.version) s.numbers) (wide s.version s.taken) (four s.heads)
-    (message_parts s.part s.counter s.flag s.texts)
+whole_ticket s = simp append_assoc
 
--- the same split, told in another version
-abbrev told_in : ℕ → Split → Split
-told_in version s = record s { version = version }
+one_name : (m n : ℕ) (a b : List ℕ) → ticket_name m ++ a ≡ ticket_name n ++ b → (m ≡ n) × (a ≡ b)
+one_name m n a b e = (cc, cc)
 
-one_body_in : (version : ℕ) (s t : Split) → HasForm (told_in version s) → HasForm (told_in version t) → body_octets (told_in version s) ≡ body_octets (told_in version t) → told_in version s ≡ told_in version t
-one_body_in version s t hs ht e =
+-- A ticket has one split.
+pub one_split : TicketsHaveOneSplit
+one_split ticket s t x y =
+    let hs = x.form in
+    let ht = y.form in
+    let (at, body) = one_name s.version t.version (body_octets s) (body_octets t) (sym (whole_ticket s) ∙ sym x.spelled ∙ y.spelled ∙ whole_ticket t) in
+    let e = rw at at body in
     let section : s.section ≡ t.section = first_same e in
-    let phase = one_phase version t.section s.phase t.phase _ _ (subst (λ (n : ℕ). IsPhase version n s.phase) section hs.phase) ht.phase (rest_same e) in
+    let phase = one_phase t.version t.section s.phase t.phase _ _ (rw (at, section) at hs.phase) ht.phase (rest_same e) in
     let fields = one_fields s.fields t.fields _ _ hs.fields ht.fields phase.1 in
-    let numbers = one_numbers version s.numbers t.numbers _ _ hs.numbers ht.numbers fields.1 in
-    let taken = one_wide version s.taken t.taken _ _ hs.taken ht.taken numbers.1 in
+    let numbers = one_numbers t.version s.numbers t.numbers _ _ (rw at at hs.numbers) ht.numbers fields.1 in
+    let taken = one_wide t.version s.taken t.taken _ _ (rw at at hs.taken) ht.taken numbers.1 in
     let heads = one_four s.heads t.heads _ _ hs.heads ht.heads taken.1 in
-    let part : s.part ≡ t.part = first_same heads.1 in
-    let counter : s.counter ≡ t.counter = first_same (rest_same heads.1) in
-    let flag : s.flag ≡ t.flag = first_same (rest_same (rest_same heads.1)) in
-    let last : flat_map text_octets s.texts ≡ flat_map text_octets t.texts = rest_same (rest_same (rest_same heads.1)) in
-    let texts = one_texts s.texts t.texts [] [] hs.texts ht.texts (append-nil (flat_map text_octets s.texts) ∙ last ∙ sym (append-nil (flat_map text_octets t.texts))) in
+    let counter = rest_same heads.1 in
+    let last = rest_same (rest_same counter) in
+    let texts = one_texts s.texts t.texts [] [] hs.texts ht.texts (ap (λ (l : List ℕ). l ++ []) last) in
     λ i. record {
-      version = version;
+      version = at i;
       section = section i;
       phase = phase.0 i;
       fields = fields.0 i;
       numbers = numbers.0 i;
       taken = taken.0 i;
       heads = heads.0 i;
-      part = part i;
-      counter = counter i;
-      flag = flag i;
+      part = first_same heads.1 i;
+      counter = first_same counter i;
+      flag = first_same (rest_same counter) i;
       texts = texts.0 i;
     }
 
-same_version : (s t : Split) → ticket_name s.version ++ body_octets s ≡ ticket_name t.version ++ body_octets t → s.version ≡ t.version
-same_version s t e = first_same (rest_same (rest_same (rest_same (rest_same e))))
-
-one_name : (m n : ℕ) (a b : List ℕ) → ticket_name m ++ a ≡ ticket_name n ++ b → a ≡ b
-one_name m n a b e = rest_same (rest_same (rest_same (rest_same (rest_same e))))
-
--- told in the version of the other it is itself
-told_again : (version : ℕ) (s : Split) → s.version ≡ version → told_in version s ≡ s
-told_again version s at = λ i. record s { version = sym at i }
-
--- A ticket has one split.
-pub one_split : TicketsHaveOneSplit
-one_split ticket s t hs ht =
-    let whole : ticket_name s.version ++ body_octets s ≡ ticket_name t.version ++ body_octets t = sym (whole_ticket s) ∙ sym hs.spelled ∙ ht.spelled ∙ whole_ticket t in
-    let at : s.version ≡ t.version = same_version s t whole in
-    let again : told_in t.version s ≡ s = told_again t.version s at in
-    let body : body_octets s ≡ body_octets t = one_name s.version t.version _ _ whole in
-    sym again ∙ one_body_in t.version s t (subst HasForm (sym again) hs.form) ht.form (ap body_octets again ∙ body)
-
--- The name and the version before a body make a ticket.
-pub splits : (version : ℕ) (ticket body : List ℕ) (s : Split) → s.version ≡ version → ticket ≡ ticket_name version ++ body → body ≡ body_octets s → HasForm s → SplitsTicket ticket s
-splits version ticket body s at named parts form =
-    record { form = form; spelled = named ∙ ap (λ (v : ℕ). ticket_name v ++ body) (sym at) ∙ ap (λ (xs : List ℕ). ticket_name s.version ++ xs) parts ∙ sym (whole_ticket s) }
-
--- A ticket whose body has no parts has not the form.
-pub no_splits : (version : ℕ) (ticket body : List ℕ) → IsVersion version → ticket ≡ ticket_name version ++ body → AreNoBody version body → IsFaultOf ticket Form
-no_splits version ticket body is named none = (
-  (λ other. other.other (subst IsVersion (first_same (rest_same (rest_same (rest_same (rest_same (sym named ∙ other.named)))))) is)),
-  (λ s told.
-      let whole : ticket_name version ++ body ≡ ticket_name s.version ++ body_octets s = sym named ∙ told.spelled ∙ whole_ticket s in
-      none s (sym (first_same (rest_same (rest_same (rest_same (rest_same whole)))))) told.form (one_name version s.version _ _ whole)),
-)
-
--- ---- what a version has the present one has
-
-wider : (version n : ℕ) → IsVersion version → IsWide version n → IsWide present_version n
-wider version n (inl one) h = let low = subst (λ (v : ℕ). IsWide v n) one h in omega (arith, low)
-wider version n (inr two) h = subst (λ (v : ℕ). IsWide v n) two h
-
-wider_sizes : (version : ℕ) (ns : List (Option ℕ)) → IsVersion version → AllByRecursion (IsSizeIn version) ns → AllByRecursion (IsSizeIn present_version) ns
-wider_sizes version [] is all = tt
-wider_sizes version (None ∷ ns) is all = (tt, wider_sizes version ns is all.1)
-wider_sizes version (Some n ∷ ns) is all = (wider version n is all.0, wider_sizes version ns is all.1)
-
-pub wider_numbers : (version : ℕ) (ns : List (Option ℕ)) → IsVersion version → AreNumbersIn version ns → AreNumbersIn present_version ns
-wider_numbers version ns is are = record { each = wider_sizes version ns is are.each; four = are.four }
-
 -- ---- what is begun is no data
 
-pub no_begun : (version section kind : ℕ) (octets rest : List ℕ) → octets ≡ kind ∷ rest → kind ≡ 1 → BeginsWithNoData version section rest → BeginsWithNone (IsPhase version section) (phase_octets version) octets
-no_begun version section kind octets rest is one none (TagBegun held) more h e = absurd (let bad = first_same (sym is ∙ e) in omega (arith, bad, one))
+pub no_begun : (version section kind : ℕ) (octets rest : List ℕ) → octets ≡ kind ∷ rest → kind ≡ 1 → BeginsWithNoData version section rest
+    → BeginsWithNone (IsPhase version section) (phase_octets version) octets
 no_begun version section kind octets rest is one none (DataBegun set count left taken) more h e =
     none set count left taken more h (ap (λ (n : ℕ). n ∷ rest) (sym one) ∙ sym is ∙ e)
-no_begun version section kind octets rest is one none AllEnded more h e = absurd (let bad = first_same (sym is ∙ e) in omega (arith, bad, one))
+no_begun version section kind octets rest is one none x more h e = absurd (let bad = first_same (sym is ∙ e) in omega (arith, bad, one))

@@ -1,5 +1,6 @@
 -- What takes whole datasets one after another: takes joined, and datasets that can continue.
-use Rattle.std.proofs.Common.{◌≡◌, ℕ, ◌<◌, ◌≤◌, ◌≢◌, Bool, true, false, Option, Result, Ok, Err, OnOk, IfOk, IfErr, is_ok, List, [], ◌∷◌, ◌++◌, refl, sym, subst, ◌∙◌, arith, append_assoc}
+use Rattle.std.proofs.Common.{◌≡◌, ℕ, ◌≤◌, ◌≢◌, Bool, true, false, Option, Result, Ok, Err, OnOk, IfOk, IfErr, is_ok, List, [], ◌∷◌, ◌++◌, refl, sym, subst}
+use Rattle.std.proofs.Common.{◌∙◌, arith, append_assoc}
 use Rattle.iim_places.proofs.Words.{AllByRecursion, Dataset, head_of, Head, all_front, all_back, TakesHead, HasChecked, HasTaken, IsChecking, IsValueFault}
 use Rattle.iim_places.proofs.Words.{SectionsLive, AreSections, records, IsGoodDataset, data_of, number_told, RecordPlace, FieldFault, Limits, front_alive}
 use Rattle.iim_places.proofs.Words.{mode_dataset, widest, CanContinueWithin, TookDatasets}
@@ -10,10 +11,13 @@ use Rattle.iim_places.proofs.Limits.{kept_octets_append, kept_length_append}
 -- ---- datasets that can continue
 
 pub front_leads_on : (limits : Limits) (xs ys : List Dataset) → CanContinueWithin limits (xs ++ ys) → CanContinueWithin limits xs
-front_leads_on limits xs ys goes =
-    let octets = kept_octets_append xs ys in
-    let fields = kept_length_append xs ys in
-    record { alive = front_alive xs ys goes.alive; within = record { octets_in = omega (arith, octets, goes.within.octets_in); fields_in = omega (arith, fields, goes.within.fields_in) } }
+front_leads_on limits xs ys goes = record {
+  alive = front_alive xs ys goes.alive;
+  within = record {
+    octets_in = omega (arith, kept_octets_append xs ys, goes.within.octets_in);
+    fields_in = omega (arith, kept_length_append xs ys, goes.within.fields_in);
+  };
+}
 
 -- ---- takes
 
@@ -21,28 +25,23 @@ pub took_more : {T : Type 0} (ready : T → Type 0) (stands : T → List Dataset
     → TookDatasets ready stands limits a es b true → TookDatasets ready stands limits b fs c all → TookDatasets ready stands limits a (es ++ fs) c all
 took_more ready stands limits a b c es fs true h k = (k.0, k.1 ∙ h.1, λ ds s. subst (stands c) (append_assoc ds es fs) (k.2 (ds ++ es) (h.2 ds s)))
 took_more ready stands limits a b c es fs false h k = λ ds s goes.
-    k (ds ++ es) (h.2 ds s) (subst (λ (l : Limits). CanContinueWithin l ((ds ++ es) ++ fs)) (sym h.1) (subst (CanContinueWithin (limits a)) (sym (append_assoc ds es fs)) goes))
+    k (ds ++ es) (h.2 ds s) (rw h.1 (subst (CanContinueWithin (limits a)) (sym (append_assoc ds es fs)) goes))
 
 -- where some are not taken, they are not taken with others after them
 pub took_none : {T : Type 0} (ready : T → Type 0) (stands : T → List Dataset → Type 0) (limits : T → Limits) (a b c : T) (es fs : List Dataset)
     → TookDatasets ready stands limits a es b false → TookDatasets ready stands limits a (es ++ fs) c false
-took_none ready stands limits a b c es fs h = λ ds s goes. h ds s (front_leads_on (limits a) (ds ++ es) fs (subst (CanContinueWithin (limits a)) (sym (append_assoc ds es fs)) goes))
+took_none ready stands limits a b c es fs h =
+    λ ds s goes. h ds s (front_leads_on (limits a) (ds ++ es) fs (subst (CanContinueWithin (limits a)) (sym (append_assoc ds es fs)) goes))
 
 -- a take after another, and their value
 pub took_then : {T : Type 0} (ready : T → Type 0) (stands : T → List Dataset → Type 0) (limits : T → Limits) (a b c d : T) (es fs : List Dataset) (first last all : Bool)
-    → TookDatasets ready stands limits a es b first → first ≡ true → TookDatasets ready stands limits b fs c last → d ≡ c → all ≡ last → TookDatasets ready stands limits a (es ++ fs) d all
-took_then {T} ready stands limits a b c d es fs first last all h one k same is =
-    subst (λ (x : T). TookDatasets ready stands limits a (es ++ fs) x all) (sym same)
-    (subst (λ (v : Bool). TookDatasets ready stands limits a (es ++ fs) c v) (sym is) (took_more ready stands limits a b c es fs last (subst (λ (v : Bool). TookDatasets ready stands limits a es b v) one h) k))
+    → TookDatasets ready stands limits a es b first → first ≡ true → TookDatasets ready stands limits b fs c last → d ≡ c → all ≡ last
+    → TookDatasets ready stands limits a (es ++ fs) d all
+took_then ready stands limits a b c d es fs first last all h one k same is = rw (same, is) (took_more ready stands limits a b c es fs last (rw one at h) k)
 
 pub took_else : {T : Type 0} (ready : T → Type 0) (stands : T → List Dataset → Type 0) (limits : T → Limits) (a b c : T) (es fs : List Dataset) (first all : Bool)
     → TookDatasets ready stands limits a es b first → first ≡ false → all ≡ false → TookDatasets ready stands limits a (es ++ fs) c all
-took_else ready stands limits a b c es fs first all h none is =
-    subst (λ (v : Bool). TookDatasets ready stands limits a (es ++ fs) c v) (sym is) (took_none ready stands limits a b c es fs (subst (λ (v : Bool). TookDatasets ready stands limits a es b v) none h))
-
--- the same of the datasets and the value told otherwise
-pub took_as : {T : Type 0} (ready : T → Type 0) (stands : T → List Dataset → Type 0) (limits : T → Limits) (a b : T) (es fs : List Dataset) (v w : Bool) → es ≡ fs → v ≡ w → TookDatasets ready stands limits a es b v → TookDatasets ready stands limits a fs b w
-took_as {T} ready stands limits a b es fs v w same is took = subst (λ (x : Bool). TookDatasets ready stands limits a fs b x) is (subst (λ (xs : List Dataset). TookDatasets ready stands limits a xs b v) same took)
+took_else ready stands limits a b c es fs first all h none is = rw is (took_none ready stands limits a b c es fs (rw none at h))
 
 -- ---- what no datasets can continue with
 
@@ -58,14 +57,13 @@ good_at ds d (more, are) = (all_back IsGoodDataset ds (d ∷ []) (all_front IsGo
 -- a mode is an octet
 pub no_wide_mode : (limits : Limits) (ds : List Dataset) (n : ℕ) → 256 ≤ n → CanContinueWithin limits (ds ++ mode_dataset n ∷ []) → ⊥
 no_wide_mode limits ds n wide goes =
-    let good = good_at ds (mode_dataset n) goes.alive in
-    let low : n < 256 = good.octets.0 in
-    omega (arith, wide, low)
+    let good = good_at ds (mode_dataset n) goes.alive in omega (arith, wide, good.octets.0)
 
 -- ---- a check of records
 
 -- a value that was taken after its head, or not
-pub value_took : (a b c : Option RecordPlace) (d : Dataset) (r : Result (Option ℕ) FieldFault) → ((ds : List Dataset) → HasChecked a ds → HasTaken b ds (head_of d)) → d.rec ≢ 8
+pub value_took : (a b c : Option RecordPlace) (d : Dataset) (r : Result (Option ℕ) FieldFault)
+    → ((ds : List Dataset) → HasChecked a ds → HasTaken b ds (head_of d)) → d.rec ≢ 8
     → OnOk r (TakesHead c) → IfOk r (λ number. (ds : List Dataset) (h : Head) → IsChecking b ds h → HasChecked c (ds ++ data_of h d.octets ∷ []) × (number ≡ number_told (data_of h d.octets)))
     → IfErr r (λ fault. (ds : List Dataset) (h : Head) → IsChecking b ds h → IsValueFault ds (data_of h d.octets) fault)
     → TookDatasets TakesHead HasChecked (λ (_ : Option RecordPlace). widest) a (d ∷ []) c (is_ok r)
@@ -75,7 +73,8 @@ value_took a b c d (Err e) taken other takes stands fault = λ ds s goes. (fault
 -- ---- a reader of records
 
 -- a dataset that was taken after its head and its data, or not
-pub closed_took : (a b c : FieldsPlace) (d : Dataset) (taken : List ℕ) (r : Result (Option ℕ) FieldFault) → ((ds : List Dataset) → StandsAfter a ds → StandsIn b ds (head_of d) taken) → IsOf (head_of d) taken d
+pub closed_took : (a b c : FieldsPlace) (d : Dataset) (taken : List ℕ) (r : Result (Option ℕ) FieldFault)
+    → ((ds : List Dataset) → StandsAfter a ds → StandsIn b ds (head_of d) taken) → IsOf (head_of d) taken d
     → OnOk r (IsBetween c) → limits_of c ≡ limits_of a
     → IfOk r (λ number. (ds : List Dataset) (h : Head) (xs : List ℕ) → StandsIn b ds h xs → (e : Dataset) → IsOf h xs e → StandsAfter c (ds ++ e ∷ []) × (number ≡ number_told e))
     → IfErr r (λ fault. (ds : List Dataset) (h : Head) (xs : List ℕ) → StandsIn b ds h xs → IsValueFault ds (data_of h xs) fault)

@@ -1,12 +1,12 @@
 -- The ticket that an unpacker spells is that of the octets on which it stands.
-use Rattle.std.proofs.Common.{◌≡◌, ℕ, ◌+◌, ◌-◌, Bool, true, false, if◌then◌else◌, List, [], ◌∷◌, ◌++◌, length, sum, Option, refl, ap, sym, subst, ◌∙◌, arith, append-nil, length-append}
-use Rattle.iim_places.proofs.Words.{same_Some, length-map, Dataset, of_record, Begun, handed_on, OctetsAreHandedOnOneWay, EventsTellTheDatasets, sum_cons}
-use Rattle.iim_places.proofs.Words.{sum_append, SubfileBegun, lengths_of, numbers_of, place_after_datasets, place_ended, OctetsLeadToOnePlace, saved}
-use Rattle.iim_places.proofs.Words.{LeadsToSaved, MessagePlace, object_of, object_so_far, place_of, ticket_of, OctetsHaveOneTicket}
+use Rattle.std.proofs.Common.{◌≡◌, ℕ, ◌+◌, ◌-◌, Bool, true, false, if◌then◌else◌, List, [], ◌∷◌, ◌++◌, length, sum, Option, refl, ap, sym, ◌∙◌, arith}
+use Rattle.std.proofs.Common.{append-nil, length-append}
+use Rattle.iim_places.proofs.Words.{same_Some, length-map, Dataset, of_record, Begun, OctetsAreHandedOnOneWay, EventsTellTheDatasets, sum_cons, sum_append}
+use Rattle.iim_places.proofs.Words.{SubfileBegun, lengths_of, numbers_of, place_after_datasets, place_ended, OctetsLeadToOnePlace, saved, LeadsToSaved}
+use Rattle.iim_places.proofs.Words.{MessagePlace, object_of, object_so_far, place_of, ticket_of, OctetsHaveOneTicket}
 use Rattle.iim_fields.specs.Format.Faults.{joined}
 use Rattle.iim_object.specs.Format.Places as objects
 use Rattle.wire_message.specs.States.Reading as wire
-use Rattle.wire_message.specs.States.SoFar.{LeadsTo}
 use Rattle.wire_message.specs.States.Saved.{IsAt}
 use Rattle.wire_message.specs.declared.place.Place.{Place as Message}
 
@@ -35,28 +35,25 @@ stated_by false false ds count = refl
 
 pub heads_by : (b c : Bool) (ds : List Dataset) (count : ℕ) → length (at_by b c ds count).lengths ≡ length (of_record 8 ds) + (if b then 1 else 0)
 heads_by true c ds count = length-append (lengths_of (of_record 8 ds)) (count ∷ []) ∙ ap (λ n. n + 1) (count_of (of_record 8 ds))
-heads_by false true ds count = let same = count_of (of_record 8 ds) in omega (arith, same)
-heads_by false false ds count = let same = count_of (of_record 8 ds) in omega (arith, same)
+heads_by false true ds count = omega (arith, count_of (of_record 8 ds))
+heads_by false false ds count = omega (arith, count_of (of_record 8 ds))
 
 -- the octets so far, and what is to come of a begun subfile, are those of the subfiles
 pub so_far_by : (b c : Bool) (ds : List Dataset) (taken : List ℕ) (count left : ℕ) → length taken + left ≡ count
     → length (object_of ds ++ (if b then taken else [])) + (if b then left else 0) ≡ sum (at_by b c ds count).lengths
 so_far_by true c ds taken count left e =
-    let sums = sum_append (lengths_of (of_record 8 ds)) (count ∷ []) in
-    let one = sum_one count in
-    let total = total_of (of_record 8 ds) in
-    let both = length-append (object_of ds) taken in
-    omega (arith, sums, one, total, both, e)
-so_far_by false true ds taken count left e = let total = total_of (of_record 8 ds) in let same = ap length (append-nil (object_of ds)) in omega (arith, total, same)
-so_far_by false false ds taken count left e = let total = total_of (of_record 8 ds) in let same = ap length (append-nil (object_of ds)) in omega (arith, total, same)
+    omega (arith, sum_append (lengths_of (of_record 8 ds)) (count ∷ []), sum_one count, total_of (of_record 8 ds), length-append (object_of ds) taken, e)
+so_far_by false true ds taken count left e = omega (arith, total_of (of_record 8 ds), ap length (append-nil (object_of ds)))
+so_far_by false false ds taken count left e = omega (arith, total_of (of_record 8 ds), ap length (append-nil (object_of ds)))
 
 pub taken_by : (b c : Bool) (ds : List Dataset) (taken : List ℕ) (count left : ℕ) → length taken + left ≡ count
     → sum (at_by b c ds count).lengths - (if b then left else 0) ≡ length (object_of ds ++ (if b then taken else []))
-taken_by b c ds taken count left e = let all = so_far_by b c ds taken count left e in omega (arith, all)
+taken_by b c ds taken count left e = omega (arith, so_far_by b c ds taken count left e)
 
 -- ---- the message
 
-pub message_at : (reader : Option Message) (octets text : List ℕ) (m : MessagePlace) → wire.StandsAt reader octets text → IsAt reader m → LeadsToSaved octets text m
+pub message_at : (reader : Option Message) (octets text : List ℕ) (m : MessagePlace) → wire.StandsAt reader octets text → IsAt reader m
+    → LeadsToSaved octets text m
 message_at reader octets text m (at, is, leads) (place, has, same) = let one : at ≡ place = same_Some _ _ (sym is ∙ has) in (at, leads, ap saved one ∙ same)
 
 -- ---- one ticket
@@ -64,15 +61,16 @@ message_at reader octets text m (at, is, leads) (place, has, same) = let one : a
 pub same_place : OctetsLeadToOnePlace → (whole es : List Dataset) (b c : Begun) (m n : MessagePlace) (t v : List ℕ) → whole ≡ es → b ≡ c
     → LeadsToSaved (object_so_far whole b) t m → LeadsToSaved (object_so_far es c) v n → place_of whole b m ≡ place_of es c n
 same_place one whole es b c m n t v is same (at, leads, saves) (other, goes, keeps) =
-    let octets : object_so_far es c ≡ object_so_far whole b = ap (λ (ds : List Dataset). object_so_far ds c) (sym is) ∙ ap (object_so_far whole) (sym same) in
-    let met : at ≡ other = (one (object_so_far whole b) t v at other leads (subst (λ (xs : List ℕ). LeadsTo xs v other) octets goes)).1 in
-    let message : m ≡ n = sym saves ∙ ap saved met ∙ keeps in
-    ap (λ (ds : List Dataset). place_of ds b m) is ∙ ap (λ (x : Begun). place_of es x m) same ∙ ap (place_of es c) message
+    let octets : object_so_far es c ≡ object_so_far whole b = λ i. object_so_far (sym is i) (sym same i) in
+    let met = (one (object_so_far whole b) t v at other leads (rw octets at goes)).1 in
+    λ i. place_of (is i) (same i) ((sym saves ∙ ap saved met ∙ keeps) i)
 
 pub one_ticket : OctetsAreHandedOnOneWay → EventsTellTheDatasets → OctetsLeadToOnePlace → OctetsHaveOneTicket
 one_ticket way tell one octets ticket other x y =
     let a = x.is_place in
     let b = y.is_place in
-    let told = way octets (handed_on a.whole a.begun) (handed_on b.whole b.begun) a.begun b.begun (record { whole = a.whole; reads = a.reads; handed = refl }) (record { whole = b.whole; reads = b.reads; handed = refl }) in
+    let told = way octets _ _ a.begun b.begun (record { whole = a.whole; reads = a.reads; handed = refl })
+    (record { whole = b.whole; reads = b.reads; handed = refl }) in
     let whole = (tell a.whole b.whole a.begun b.begun told.0).0 in
-    x.spelled ∙ ap ticket_of (a.is_place ∙ same_place one a.whole b.whole a.begun b.begun a.message b.message a.text b.text whole told.1 a.leads b.leads ∙ sym b.is_place) ∙ sym y.spelled
+    let same = same_place one a.whole b.whole a.begun b.begun a.message b.message a.text b.text whole told.1 a.leads b.leads in
+    x.spelled ∙ ap ticket_of (a.is_place ∙ same ∙ sym b.is_place) ∙ sym y.spelled

@@ -91,8 +91,8 @@ pub use Rattle.iim_places.specs.Laws.Places.{PossiblePlacesAreTaken, PresentScal
 pub use Rattle.iim_places.specs.Laws.Streams.{EnvelopesAreBounded, LivingOctetsAreOpen, NothingContinuesFromRefusedOctets, OpenOctetsAreBounded}
 pub use Rattle.iim_places.specs.Laws.Streams.{OpenOctetsBeginWithNoEnvelope, RefusalsAreDetermined, RefusedOctetsWereOpen, StreamsHaveOneAnswer}
 pub use Rattle.iim_places.specs.Laws.Tickets.{OctetsHaveOneTicket, TicketsHaveOneSplit, TicketsOfPlacesAreSplit, split_of, texts_of}
-pub use Rattle.iim_places.specs.Plain.{AreSpellable, IsPlain, ObjectsArePossibleAlike, PlainOctetsAreOpenOrWhole, PlainOctetsLeadToTheirPlace, begun_heads}
-pub use Rattle.iim_places.specs.Plain.{begun_object, plain_octets, plain_of, plain_place}
+pub use Rattle.iim_places.specs.Plain.{AreSpellable, IsPlain, ObjectsArePossibleAlike, PlainOctetsLeadToTheirPlace, begun_heads}
+pub use Rattle.iim_places.specs.Plain.{begun_object, plain_octets, plain_place}
 pub use Rattle.iim_places.specs.States.Begins.{AreFields, AreNumbersIn, AreTexts, IsLongField, IsShort, IsSizeIn, IsWide}
 pub use Rattle.iim_places.specs.States.ByLayers.{LeadsByLayers, MessageLeads, ObjectLeads, PlacesArePossibleByLayers, RecordsLive, TagsLead, are_ended}
 pub use Rattle.iim_places.specs.States.ByLayers.{begun_of_object, begun_subfiles, head_of_numbers, object_after, one_of_some, record_datasets}

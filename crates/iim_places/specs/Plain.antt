@@ -3,21 +3,18 @@ use Rattle.std.specs.Prelude.{◌≡◌, ℕ, ◌+◌, ◌*◌, ◌≤◌, ◌==
 use Rattle.std.specs.List.{AllByRecursion}
 use Rattle.std.specs.Option.{unwrap_or}
 use Rattle.iim_dataset.specs.Format.Octets.{IsOctet, Octets, greatest_size}
-use Rattle.iim_dataset.specs.Format.Datasets.{Dataset, canonical_stream, count_octets, of_record}
+use Rattle.iim_dataset.specs.Format.Datasets.{Dataset, canonical_stream, count_octets}
 use Rattle.iim_dataset.specs.Format.Splits.{Begun, InTag, InData, IsBegun}
 use Rattle.iim_dataset.specs.Laws.Datasets.{HasSpellings}
-use Rattle.iim_fields.specs.Format.Faults.{is_kept, kept, section_after}
-use Rattle.iim_object.specs.Format.Records.{numbers_of}
+use Rattle.iim_fields.specs.Format.Faults.{is_kept}
 use Rattle.iim_object.specs.Format.Places as objects
 use Rattle.iim_object.specs.States.Saved.{IsPossible, stated_numbers}
 use Rattle.iim_object.specs.Format.Sizes.{AreStated, number_at}
-use Rattle.iim_places.specs.Format.Admitted.{object_of}
 use Rattle.wire_message.specs.States.Saved.{LeadsToSaved}
 use Rattle.wire_message.specs.declared.saved.MessagePlace.{MessagePlace}
 use Rattle.iim_places.specs.TicketParts.{IsSize}
 use Rattle.iim_places.specs.Format.Open.{section}
 use Rattle.iim_places.specs.States.PlainDatasets.{Numbers, number_list, plain}
-use Rattle.iim_places.specs.States.Possible.{Possible, AreOpenOrWhole, widest}
 use Rattle.iim_places.specs.Format.Tickets.{Place, phase_of, IsPlaceOf}
 
 -- The plain datasets can be spelled: the fields are datasets of records 1 and 2, each number fits its octets, and the subfiles have
@@ -77,22 +74,6 @@ pub record IsPlain (place : Place) : Type 0 where
 -- its plain octets
 abbrev pub plain_octets : (place : Place) → IsPlain place → List ℕ
 plain_octets place p = canonical_stream (plain place.fields p.numbers p.heads p.object p.ended) ++ p.rest
-
--- Each possible place is led to by plain octets that are open, or an envelope, under the widest limits.
-abbrev pub PlainOctetsAreOpenOrWhole : Type 0
-PlainOctetsAreOpenOrWhole = (place : Place) → Possible place → (p : IsPlain place) × AreOpenOrWhole widest (plain_octets place p)
-
--- the plain datasets of datasets
-abbrev pub plain_of : List Dataset → List Dataset
-plain_of ds =
-    plain (kept ds)
-    (record {
-      mode = number_at 10 (numbers_of (of_record 7 ds));
-      largest = number_at 20 (numbers_of (of_record 7 ds));
-      announced = number_at 90 (numbers_of (of_record 7 ds));
-      maximum = number_at 95 (numbers_of (of_record 7 ds));
-    })
-    (length (of_record 8 ds)) (object_of ds) (section_after ds == 9)
 
 -- Places of an object whose numbers, whose ends and whose subfiles in number and in octets are the same are possible alike, where no
 -- subfile is longer than 7:20.

@@ -1,5 +1,5 @@
-use Rattle.iim_places.proofs.Splitting.{past_phase, past_fields, past_numbers, past_taken, past_heads, no_fields, no_numbers_follow, no_taken, no_heads, no_message, spelled_body}
-use Rattle.iim_places.specs.States.TicketsTold.{split_told}
+use Rattle.iim_places.proofs.Splitting.{past_phase, past_fields, past_numbers, past_taken, past_heads, no_fields, no_numbers_follow, no_taken, no_heads}
+use Rattle.iim_places.proofs.Splitting.{no_message}
 use Rattle.iim_places.proofs.ticket.split.read_body.Goals as goal
 
 pub returns-in_err-fields-clause-none : goal.returns-in_err-fields-clause-none
@@ -16,21 +16,3 @@ returns-in_err-heads-clause-none c = rw c.from_residual-in_err-heads.ensures (no
 
 pub returns-in_err-message-clause-none : goal.returns-in_err-message-clause-none
 returns-in_err-message-clause-none c = rw c.from_residual-in_err-message.ensures (no_message c.args.version _ _ c.in_err-message.ensures.none (past_heads c.args.version _ _ _ c.in_ok-heads.heads c.in_ok-heads.ensures.fits c.in_ok-heads.ensures.parts (past_taken c.args.version _ _ _ c.in_ok-taken.taken c.in_ok-taken.ensures.fits c.in_ok-taken.ensures.parts (past_numbers c.args.version _ _ _ c.in_ok-numbers.numbers c.in_ok-numbers.ensures.fits c.in_ok-numbers.ensures.parts (past_fields c.args.version _ _ _ c.in_ok-fields.fields c.in_ok-fields.ensures.fits c.in_ok-fields.ensures.parts (past_phase c.args.version _ _ _ _ _ c.in_ok-section.ensures.parts c.in_ok-phase.ensures.parts c.in_ok-phase.ensures.fits))))))
-
-pub returns-clause-parts : goal.returns-clause-parts
-returns-clause-parts c =
-    spelled_body
-    (split_told (record {
-      version = c.args.version;
-      section = c.in_ok-section.section;
-      phase = c.in_ok-phase.phase;
-      fields = c.in_ok-fields.fields;
-      numbers = c.in_ok-numbers.numbers;
-      taken = c.in_ok-taken.taken;
-      heads = c.in_ok-heads.heads;
-      part = c.in_ok-message.message.part;
-      counter = c.in_ok-message.message.counter;
-      flag = c.in_ok-message.message.flag;
-      texts = c.in_ok-message.message.texts;
-    }))
-    _ _ _ _ _ _ _ c.in_ok-section.ensures.parts c.in_ok-phase.ensures.parts c.in_ok-fields.ensures.parts c.in_ok-numbers.ensures.parts c.in_ok-taken.ensures.parts c.in_ok-heads.ensures.parts c.in_ok-message.ensures.parts

@@ -1,8 +1,5 @@
-use Rattle.iim_places.proofs.Splitting.{cut_held, cut_told}
+use Rattle.iim_places.proofs.Splitting.{cut_told}
 use Rattle.iim_places.proofs.ticket.split.take_fields.Goals as goal
-
-pub walk_over-requires : goal.walk_over-requires
-walk_over-requires c = cut_held _ c.in_ok-count.start.now c.in_ok-rest.rest.now _ _ c.in_ok-rest.ensures.parts c.split_at.ensures.front c.split_at.ensures.back
 
 pub returns-clause-parts : goal.returns-clause-parts
 returns-clause-parts c =

@@ -1,5 +1,5 @@
-use Rattle.std.proofs.Common.{◌≡◌, Bool, true, false, List, [], ◌∷◌, ◌++◌, sym, ap, subst, ◌∙◌, append_assoc}
-use Rattle.iim_places.proofs.Words.{Dataset, is_kept, AreKept, CanContinueWithin, TookDatasets, all_append}
+use Rattle.std.proofs.Common.{◌≡◌, true, false, List, [], ◌∷◌, ◌++◌, sym, ◌∙◌, append_assoc}
+use Rattle.iim_places.proofs.Words.{Dataset, is_kept, AreKept, all_append}
 use Rattle.iim_places.specs.TicketParts.{dataset}
 use Rattle.iim_places.proofs.Taking.{took_more, took_none}
 use Rattle.iim_places.proofs.ticket.taker.take_fields.Goals as goal
@@ -11,39 +11,30 @@ not_all (x ∷ done) d rest is all = not_all done d rest is all.1
 
 pub returns-then-not-is_kept-clause-all : goal.returns-then-not-is_kept-clause-all
 returns-then-not-is_kept-clause-all g c all ds s goes =
-    let done : List Dataset = c.loop-rec.invariant.done in
+    let inv = c.loop-rec.invariant in
     let d : Dataset = dataset c.in-Some.rec c.in-Some.set c.in-Some.octets.now in
-    let parts : c.args.fields ≡ done ++ d ∷ c.next.new.self = c.loop-rec.invariant.parts ∙ ap (λ (t : List Dataset). done ++ t) c.in-Some.ensures.steps in
-    not_all done d c.next.new.self (sym c.is_kept.ensures ∙ c.if-not-is_kept.true) (subst AreKept parts all)
+    not_all inv.done d c.next.new.self (sym c.is_kept.ensures ∙ c.if-not-is_kept.true) (rw (inv.parts, c.in-Some.ensures.steps) at all)
 
 pub returns-then-not-take-clause-all : goal.returns-then-not-take-clause-all
 returns-then-not-take-clause-all g c all ds s goes =
-    let ready = g.T.DatasetTaker.ready in
-    let stands = g.T.DatasetTaker.stands in
-    let limits = g.T.DatasetTaker.limits in
-    let old = c.args.taker.now in
-    let new = c.take.new.self in
-    let done : List Dataset = c.loop-rec.invariant.done in
+    let taker = g.T.DatasetTaker in
+    let inv = c.loop-rec.invariant in
     let d : Dataset = dataset c.in-Some.rec c.in-Some.set c.in-Some.octets.now in
-    let rest : List Dataset = c.next.new.self in
-    let parts : c.args.fields ≡ (done ++ d ∷ []) ++ rest = c.loop-rec.invariant.parts ∙ (ap (λ (t : List Dataset). done ++ t) c.in-Some.ensures.steps ∙ sym (append_assoc done (d ∷ []) rest)) in
-    let one : TookDatasets ready stands limits c.loop-rec.taker (d ∷ []) new false = subst (λ (b : Bool). TookDatasets ready stands limits c.loop-rec.taker (d ∷ []) new b) c.if-not-take.true c.take.ensures.took in
-    let some : TookDatasets ready stands limits old (done ++ d ∷ []) new false = took_more ready stands limits old c.loop-rec.taker new done (d ∷ []) false c.loop-rec.invariant.took one in
-    took_none ready stands limits old new new (done ++ d ∷ []) rest some ds s (subst (λ (t : List Dataset). CanContinueWithin (limits old) (ds ++ t)) parts goes)
+    let one = rw c.if-not-take.true at c.take.ensures.took in
+    let some = took_more taker.ready taker.stands taker.limits c.args.taker.now c.loop-rec.taker c.take.new.self inv.done (d ∷ []) false inv.took one in
+    took_none taker.ready taker.stands taker.limits c.args.taker.now c.take.new.self c.take.new.self (inv.done ++ d ∷ []) c.next.new.self some ds s
+    (rw (inv.parts, c.in-Some.ensures.steps, ← append_assoc inv.done (d ∷ []) c.next.new.self) at goes)
 
 pub loop-rec-preserved : goal.loop-rec-preserved
 loop-rec-preserved g c =
-    let ready = g.T.DatasetTaker.ready in
-    let stands = g.T.DatasetTaker.stands in
-    let limits = g.T.DatasetTaker.limits in
-    let new = c.take.new.self in
-    let done : List Dataset = c.loop-rec.invariant.done in
+    let taker = g.T.DatasetTaker in
+    let inv = c.loop-rec.invariant in
     let d : Dataset = dataset c.in-Some.rec c.in-Some.set c.in-Some.octets.now in
-    let one : TookDatasets ready stands limits c.loop-rec.taker (d ∷ []) new true = subst (λ (b : Bool). TookDatasets ready stands limits c.loop-rec.taker (d ∷ []) new b) c.if-not-take.false c.take.ensures.took in
+    let one = rw c.if-not-take.false at c.take.ensures.took in
     record {
-      done = done ++ d ∷ [];
-      parts = c.loop-rec.invariant.parts ∙ (ap (λ (t : List Dataset). done ++ t) c.in-Some.ensures.steps ∙ sym (append_assoc done (d ∷ []) c.next.new.self));
-      each = all_append (λ (e : Dataset). is_kept e.rec ≡ true) done (d ∷ []) c.loop-rec.invariant.each (sym c.is_kept.ensures ∙ c.if-not-is_kept.false, tt);
-      took = took_more ready stands limits c.args.taker.now c.loop-rec.taker new done (d ∷ []) true c.loop-rec.invariant.took one;
-      room = c.take.ensures.room ∙ c.loop-rec.invariant.room;
+      done = inv.done ++ d ∷ [];
+      parts = inv.parts ∙ rw c.in-Some.ensures.steps (sym (append_assoc inv.done (d ∷ []) c.next.new.self));
+      each = all_append (λ (e : Dataset). is_kept e.rec ≡ true) inv.done (d ∷ []) inv.each (sym c.is_kept.ensures ∙ c.if-not-is_kept.false, tt);
+      took = took_more taker.ready taker.stands taker.limits c.args.taker.now c.loop-rec.taker c.take.new.self inv.done (d ∷ []) true inv.took one;
+      room = c.take.ensures.room ∙ inv.room;
     }

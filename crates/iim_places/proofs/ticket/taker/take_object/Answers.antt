@@ -1,14 +1,8 @@
-use Rattle.std.proofs.Common.{[], ◌∷◌, List, cond, refl}
+use Rattle.std.proofs.Common.{[], ◌∷◌, List, cond}
 use Rattle.iim_places.proofs.Words.{Dataset, plain_end}
 use Rattle.iim_places.specs.TicketParts.{dataset}
-use Rattle.iim_places.proofs.Taking.{took_else, took_then}
+use Rattle.iim_places.proofs.Taking.{took_else}
 use Rattle.iim_places.proofs.ticket.taker.take_object.Goals as goal
-
-pub returns-then-take_subfile-clause-took : goal.returns-then-take_subfile-clause-took
-returns-then-take_subfile-clause-took g c =
-    took_then g.T.DatasetTaker.ready g.T.DatasetTaker.stands g.T.DatasetTaker.limits c.args.taker.now c.take_subfile.new.taker c.take_end.new.taker c.take_end.new.taker
-    (cond {A = List Dataset} c.args.some (dataset 8 10 [] ∷ []) []) (plain_end c.args.ended []) c.take_subfile.result c.take_end.result c.take_end.result
-    c.take_subfile.ensures.took c.if-take_subfile.true c.take_end.ensures.took refl refl
 
 pub returns-else-take_subfile-clause-took : goal.returns-else-take_subfile-clause-took
 returns-else-take_subfile-clause-took g c =

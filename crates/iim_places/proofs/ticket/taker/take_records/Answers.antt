@@ -1,13 +1,6 @@
-use Rattle.std.proofs.Common.{refl}
 use Rattle.iim_places.proofs.Words.{plain_numbers, numbers_told}
-use Rattle.iim_places.proofs.Taking.{took_else, took_then}
+use Rattle.iim_places.proofs.Taking.{took_else}
 use Rattle.iim_places.proofs.ticket.taker.take_records.Goals as goal
-
-pub returns-then-take_fields-clause-all : goal.returns-then-take_fields-clause-all
-returns-then-take_fields-clause-all g c all =
-    took_then g.T.DatasetTaker.ready g.T.DatasetTaker.stands g.T.DatasetTaker.limits c.args.taker.now c.take_fields.new.taker c.take_numbers.new.taker c.take_numbers.new.taker
-    c.args.fields (plain_numbers (numbers_told c.args.numbers)) c.take_fields.result c.take_numbers.result c.take_numbers.result
-    (c.take_fields.ensures.all all) c.if-take_fields.true c.take_numbers.ensures.took refl refl
 
 pub returns-else-take_fields-clause-all : goal.returns-else-take_fields-clause-all
 returns-else-take_fields-clause-all g c all =

@@ -1,6 +1,6 @@
-use Rattle.std.proofs.Common.{◌≡◌, ℕ, Bool, true, false, cond, List, [], ◌∷◌, ◌++◌, refl, ap, sym, subst, ◌∙◌, append_assoc}
+use Rattle.std.proofs.Common.{◌≡◌, ℕ, Bool, true, false, cond, List, [], ◌∷◌, ◌++◌, refl, ap, sym, ◌∙◌, append_assoc}
 use Rattle.std.proofs.Math.Seq.{take-nil}
-use Rattle.iim_places.proofs.Words.{unwrap_or, Dataset, subfile_datasets, Numbers, filled, plain, plain_end, plain_numbers, TookDatasets, numbers_told}
+use Rattle.iim_places.proofs.Words.{unwrap_or, Dataset, subfile_datasets, Numbers, filled, plain, plain_end, plain_numbers, numbers_told}
 use Rattle.iim_object.specs.Format.Packing.{subfile_dataset}
 use Rattle.iim_places.specs.TicketParts.{dataset}
 use Rattle.iim_places.proofs.Taking.{took_else, took_then}
@@ -18,22 +18,24 @@ one_filled size false = refl
 joined : (fields : List Dataset) (numbers : Numbers) (some ended : Bool) → (fields ++ plain_numbers numbers) ++ (subfile some ++ plain_end ended []) ≡ plain fields numbers (cond some 1 0) [] ended
 joined fields numbers some ended =
     append_assoc fields (plain_numbers numbers) (subfile some ++ plain_end ended [])
-    ∙ ap (λ (es : List Dataset). fields ++ (plain_numbers numbers ++ (es ++ plain_end ended []))) (one_filled (unwrap_or numbers.largest 0) some)
+    ∙ (λ i. fields ++ (plain_numbers numbers ++ (one_filled (unwrap_or numbers.largest 0) some i ++ plain_end ended [])))
 
 pub returns-then-take_records-clause-all : goal.returns-then-take_records-clause-all
 unfolding subfile
 returns-then-take_records-clause-all g c all =
+    let t = g.T.DatasetTaker in
     let numbers : Numbers = numbers_told c.args.numbers in
-    subst (λ (es : List Dataset). TookDatasets g.T.DatasetTaker.ready g.T.DatasetTaker.stands g.T.DatasetTaker.limits c.args.taker.now es c.take_object.new.taker c.take_object.result) (joined c.args.fields numbers c.args.some c.args.ended)
-    (took_then g.T.DatasetTaker.ready g.T.DatasetTaker.stands g.T.DatasetTaker.limits c.args.taker.now c.take_records.new.taker c.take_object.new.taker c.take_object.new.taker
+    rw (← joined c.args.fields numbers c.args.some c.args.ended)
+    (took_then t.ready t.stands t.limits c.args.taker.now c.take_records.new.taker c.take_object.new.taker c.take_object.new.taker
     (c.args.fields ++ plain_numbers numbers) (subfile c.args.some ++ plain_end c.args.ended []) c.take_records.result c.take_object.result c.take_object.result
     (c.take_records.ensures.all all) c.if-take_records.true c.take_object.ensures.took refl refl)
 
 pub returns-else-take_records-clause-all : goal.returns-else-take_records-clause-all
 unfolding subfile
 returns-else-take_records-clause-all g c all =
+    let t = g.T.DatasetTaker in
     let numbers : Numbers = numbers_told c.args.numbers in
-    subst (λ (es : List Dataset). TookDatasets g.T.DatasetTaker.ready g.T.DatasetTaker.stands g.T.DatasetTaker.limits c.args.taker.now es c.take_records.new.taker c.take_records.result) (joined c.args.fields numbers c.args.some c.args.ended)
-    (took_else g.T.DatasetTaker.ready g.T.DatasetTaker.stands g.T.DatasetTaker.limits c.args.taker.now c.take_records.new.taker c.take_records.new.taker
-    (c.args.fields ++ plain_numbers numbers) (subfile c.args.some ++ plain_end c.args.ended []) c.take_records.result c.take_records.result
-    (c.take_records.ensures.all all) c.if-take_records.false c.if-take_records.false)
+    rw (← joined c.args.fields numbers c.args.some c.args.ended)
+    (took_else t.ready t.stands t.limits c.args.taker.now c.take_records.new.taker c.take_records.new.taker (c.args.fields ++ plain_numbers numbers)
+    (subfile c.args.some ++ plain_end c.args.ended []) c.take_records.result c.take_records.result (c.take_records.ensures.all all)
+    c.if-take_records.false c.if-take_records.false)

@@ -3,9 +3,6 @@ use Rattle.iim_places.specs.FieldLaws.{held_once}
 use Rattle.iim_places.specs.TicketFields.{HoldsFields}
 use Rattle.iim_places.proofs.ticket.fields.TicketFields.again.Goals as goal
 
-pub walk_over-requires : goal.walk_over-requires
-walk_over-requires c = c.self.inside.holds
-
 pub returns : goal.returns
 returns c =
     let here : HoldsFields c.self.inside.octets.now = (c.walk_over.result, (c.walk_over.ensures.each, c.walk_over.ensures.spelled)) in

@@ -1,6 +1,5 @@
-use Rattle.std.proofs.Common.{◌≡◌, ℕ, ◌-◌, Bool, [], ◌∷◌, length, refl, sym, subst, ◌∙◌, inr, arith}
-use Rattle.iim_places.proofs.Words.{Head, TookDatasets}
-use Rattle.iim_fields.specs.States.Standing.{FieldsPlace, IsBetween, StandsAfter, limits_of}
+use Rattle.std.proofs.Common.{◌≡◌, ℕ, ◌-◌, [], length, refl, ◌∙◌, inr, arith}
+use Rattle.iim_places.proofs.Words.{Head}
 use Rattle.iim_places.specs.TicketParts.{dataset}
 use Rattle.iim_dataset.proofs.OctetLists.{are_octets}
 use Rattle.iim_places.proofs.Taking.{closed_took}
@@ -15,25 +14,20 @@ close-requires-in-Ok-2 c =
     let head : Head = record { rec = c.args.rec; set = c.args.set; count = n } in
     (head, n - n, c.bytes.ensures.inside head n c.in-Ok.ensures.inside, inr (nothing_left n))
 
-pub returns-then-whole-clause-took : goal.returns-then-whole-clause-took
-returns-then-whole-clause-took c = (c.whole.ensures.between, c.whole.ensures.bounds.limits, (c.whole.ensures.took c.if-whole.true).stands)
-
 pub returns-in-Ok-clause-took : goal.returns-in-Ok-clause-took
 returns-in-Ok-clause-took c =
     let d = dataset c.args.rec c.args.set c.args.octets.now in
-    subst (λ (a : FieldsPlace). TookDatasets IsBetween StandsAfter limits_of a (d ∷ []) c.close.new.self c.is_ok.result) (c.whole.ensures.left c.if-whole.false)
-    (subst (λ (b : Bool). TookDatasets IsBetween StandsAfter limits_of c.whole.new.self (d ∷ []) c.close.new.self b) (sym c.is_ok.ensures.value)
+    rw (← c.whole.ensures.left c.if-whole.false, c.is_ok.ensures.value)
     (closed_took c.whole.new.self c.begin.new.self c.close.new.self d [] c.close.result c.in-Ok.ensures.stands
     (record { head = refl; octets = are_octets c.args.octets.now (λ i. omega (arith, c.type_inv.octets i)); given = λ other. absurd (other c.if-rec-eq-OBJECT.true) })
-    c.close.ensures.between (c.close.ensures.bounds.limits ∙ c.begin.ensures.bounds.limits) c.close.ensures.stands c.close.ensures.fault))
+    c.close.ensures.between (c.close.ensures.bounds.limits ∙ c.begin.ensures.bounds.limits) c.close.ensures.stands c.close.ensures.fault)
 
 pub returns-in-Ok-2-clause-took : goal.returns-in-Ok-2-clause-took
 returns-in-Ok-2-clause-took c =
     let d = dataset c.args.rec c.args.set c.args.octets.now in
     let h : Head = record { rec = c.args.rec; set = c.args.set; count = length c.args.octets.now } in
-    subst (λ (a : FieldsPlace). TookDatasets IsBetween StandsAfter limits_of a (d ∷ []) c.close-in-Ok-2.new.self c.is_ok-in-Ok-2.result) (c.whole.ensures.left c.if-whole.false)
-    (subst (λ (b : Bool). TookDatasets IsBetween StandsAfter limits_of c.whole.new.self (d ∷ []) c.close-in-Ok-2.new.self b) (sym c.is_ok-in-Ok-2.ensures.value)
+    rw (← c.whole.ensures.left c.if-whole.false, c.is_ok-in-Ok-2.ensures.value)
     (closed_took c.whole.new.self c.bytes.new.self c.close-in-Ok-2.new.self d c.args.octets.now c.close-in-Ok-2.result
     (λ ds s. c.bytes.ensures.stands ds h [] (c.in-Ok.ensures.stands ds s))
     (record { head = refl; octets = are_octets c.args.octets.now (λ i. omega (arith, c.type_inv.octets i)); given = λ other. refl })
-    c.close-in-Ok-2.ensures.between (c.close-in-Ok-2.ensures.bounds.limits ∙ (c.bytes.ensures.bounds.limits ∙ c.begin.ensures.bounds.limits)) c.close-in-Ok-2.ensures.stands c.close-in-Ok-2.ensures.fault))
+    c.close-in-Ok-2.ensures.between (c.close-in-Ok-2.ensures.bounds.limits ∙ (c.bytes.ensures.bounds.limits ∙ c.begin.ensures.bounds.limits)) c.close-in-Ok-2.ensures.stands c.close-in-Ok-2.ensures.fault)

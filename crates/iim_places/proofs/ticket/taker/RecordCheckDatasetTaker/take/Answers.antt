@@ -1,5 +1,4 @@
-use Rattle.std.proofs.Common.{Bool, [], ◌∷◌, refl, subst, sym, arith}
-use Rattle.iim_dataset.proofs.OctetLists.{are_octets}
+use Rattle.std.proofs.Common.{Bool, [], ◌∷◌, subst, sym}
 use Rattle.iim_places.proofs.Words.{TakesHead, HasChecked, widest, TookDatasets}
 use Rattle.iim_places.specs.TicketParts.{dataset}
 use Rattle.iim_places.proofs.Taking.{value_took}
@@ -10,9 +9,3 @@ returns-in-Ok-2-clause-took c =
     let d = dataset c.args.rec c.args.set c.args.octets.now in
     subst (λ (b : Bool). TookDatasets TakesHead HasChecked (λ _. widest) c.args.self.now (d ∷ []) c.value.new.self b) (sym c.is_ok.ensures.value)
     (value_took c.args.self.now c.head.new.self c.value.new.self d c.value.result c.in-Ok.ensures.stands c.if-rec-eq-OBJECT.false c.value.ensures.takes_head c.value.ensures.stands c.value.ensures.fault)
-
-pub returns-in-Ok-clause-took : goal.returns-in-Ok-clause-took
-returns-in-Ok-clause-took c =
-    let octets = are_octets c.args.octets.now (λ i. omega (arith, c.type_inv.octets i)) in
-    let is = c.if-rec-eq-OBJECT.true in
-    (c.in-Ok.ensures.takes_head is, refl, λ ds s. (c.in-Ok.ensures.stands ds s).subfile is (dataset c.args.rec c.args.set c.args.octets.now) refl octets)
