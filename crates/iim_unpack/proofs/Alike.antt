@@ -30,11 +30,7 @@ Matches n a (Err e) (Refused f) = (k : ℕ) × (fault : TokenFault) × (f ≡ re
 Matches n a _ _ = ⊥
 
 same_refusal : (n a : ℕ) (e e' f : Refusal) → Matches n a (Err e) (Refused f) → Matches n a (Err e') (Refused f) → e ≡ e'
-same_refusal n a e e' f (k, fault, all, is) (k', fault', all', is') =
-    let both : refusal_at (n + k) fault ≡ refusal_at (n + k') fault' = sym all ∙ all' in
-    let octets : n + k ≡ n + k' = ap (λ (x : Refusal). x.octet) both in
-    let same : k ≡ k' = omega (arith, octets) in
-    is ∙ (λ i. record { layer = (both i).layer; rec = (both i).rec; set = (both i).set; octet = raised a (same i); cause = (both i).cause }) ∙ sym is'
+same_refusal n a e e' f (k, fault, all, is) (k', fault', all', is') = grind arith
 
 -- one answer to all octets is told by one answer to the piece
 one_answer : (n a : ℕ) (one other : Result Progress Refusal) (all : Answer) → Matches n a one all → Matches n a other all → one ≡ other
@@ -69,8 +65,7 @@ answers_all u u' p piece a (Err e) at w calm =
     let r : IsRefusedIn (limits_in u) p a piece w.refused.0 e = w.refused.1 p a at in
     let stream : List ℕ = p ++ piece in
     let refuses : RefusesNext (limits_in u) (take (length p + r.k) stream) (slice_index stream (length p + r.k)) r.fault =
-    subst (λ (octets : List ℕ). RefusesNext (limits_in u) octets (slice_index stream (length p + r.k)) r.fault) (sym (take-append-add p piece r.k))
-    (subst (λ (octet : ℕ). RefusesNext (limits_in u) (p ++ take r.k piece) octet r.fault) (sym (get_or-append-add p piece r.k 0)) r.refuses) in
+    rw (take-append-add p piece r.k, get_or-append-add p piece r.k 0) r.refuses in
     let was : IsRefused (limits_in u) stream (refusal_at (length p + r.k) r.fault) = record {
       fits = omega (arith, r.within, length-append p piece);
       fault = r.fault;
@@ -114,7 +109,7 @@ of_stands law u v u' v' p piece a one other same at at' w w' calm calm' =
 -- nothing changes after an envelope, and after a refusal
 left_alike : (u v u' v' : Unpacking) → u' ≡ u → v' ≡ v → StandAlike u v → StandAlike u' v'
 left_alike u v u' v' one other alike =
-    subst (λ (x : Unpacking). StandAlike x v') (sym one) (subst (λ (x : Unpacking). StandAlike u x) (sym other) alike)
+    rw (one, other) alike
 
 pub piece_alike : StreamsHaveOneAnswer → PieceIsAnsweredAlike
 piece_alike law u v u' v' piece one other alike w w' calm calm' = by alike

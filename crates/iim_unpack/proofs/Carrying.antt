@@ -103,8 +103,7 @@ goes_within p ds h taken at = record {
 
 -- octets from which a message can continue, before its end
 lives_on : (o : List ℕ) (b : Bool) → b ≡ false → MessageLivesWith o → languages.IsAlive MessageLanguage (map Octet o ++ (if b then End ∷ [] else []))
-lives_on o true is lives = absurd (let bad : true ≡ false = is in cc)
-lives_on o false is lives = subst (languages.IsAlive MessageLanguage) (sym (append-nil (map Octet o))) lives
+lives_on o b is lives = rw is (subst (languages.IsAlive MessageLanguage) (sym (append-nil (map Octet o))) lives)
 
 is_language : (reader : Option Place) (o text : List ℕ) → wire.IsWhole reader → wire.StandsAt reader o text → MessageLanguage (with_end o)
 is_language reader o text whole at =
@@ -130,24 +129,6 @@ all_within living p ds h taken at =
 
 -- ---- data that is no subfile's
 
-pub within_other : (p : Parts) (ds : List Dataset) (h : Head) (taken run : List ℕ) (checker : FieldsPlace) → Within p ds h taken → (h.rec ≡ 8 → ⊥) → Octets run
-    → ((ds : List Dataset) (h : Head) (taken : List ℕ) → StandsIn p.fields ds h taken → StandsIn checker ds h (taken ++ run))
-    → Within (record p { fields = checker }) ds h (taken ++ run)
-within_other p ds h taken run checker at other octets stands =
-    let no : nat_eq h.rec 8 ≡ false = ne_eqb h.rec 8 other in
-    let same : (xs : List ℕ) → object_so_far ds (InData h xs) ≡ object_of ds ++ [] = λ xs. ap (λ (b : Bool). object_of ds ++ cond b xs []) no in
-    let is = same taken ∙ sym (same (taken ++ run)) in
-    record {
-      octets = octets_append taken run at.octets octets;
-      fields = subst (StandsIn checker ds h) (sym (ap (λ (b : Bool). cond b [] (taken ++ run)) no))
-          (stands ds h taken (subst (StandsIn p.fields ds h) (ap (λ (b : Bool). cond b [] taken) no) at.fields));
-      object = at.object;
-      few = at.few;
-      room = at.room;
-      message = subst (λ (o : List ℕ). wire.StandsAt p.message o (text_so_far o)) is at.message;
-      ended = at.ended;
-    }
-
 pub tells_parts_other : {S : Type 0} (goes : S → List story.StoryEvent → S → Type 0) (failures : S → ℕ) (p : Parts) (a : S) (run : List ℕ) (checker : FieldsPlace) (k : Head) → HasBegun p k → (k.rec ≡ 8 → ⊥)
     → Octets run → goes a [] a → limits_of checker ≡ limits_of p.fields
     → ((ds : List Dataset) (h : Head) (taken : List ℕ) → StandsIn p.fields ds h taken → StandsIn checker ds h (taken ++ run))
@@ -161,27 +142,31 @@ tells_parts_other goes failures p a run checker k begun other octets g same stan
       let one = in_one p k before text begun led in
       let apart : one.h.rec ≡ 8 → ⊥ = λ eight. other (ap (λ (k : Head). k.rec) (same_head p k one.ds one.h one.taken begun one.within) ∙ eight) in
       let no : nat_eq one.h.rec 8 ≡ false = ne_eqb one.h.rec 8 apart in
-      let same_object : object_so_far one.ds (InData one.h one.taken) ≡ object_so_far one.ds (InData one.h (one.taken ++ run)) =
-      ap (λ (b : Bool). object_of one.ds ++ cond b one.taken []) no ∙ sym (ap (λ (b : Bool). object_of one.ds ++ cond b (one.taken ++ run) []) no) in
+      let same_given : (xs : List ℕ) → (if nat_eq one.h.rec 8 then [] else xs) ≡ xs = λ xs. rw no refl in
+      let given = subst (StandsIn p.fields one.ds one.h) (same_given one.taken) one.within.fields in
+      let same_object : object_so_far one.ds (InData one.h one.taken) ≡ object_so_far one.ds (InData one.h (one.taken ++ run)) = rw no refl in
       record {
         whole = one.ds;
         begun = InData one.h (one.taken ++ run);
         told = ap (λ (es : List DatasetEvent). es ++ map DataOctet run) one.told ∙ data_more one.ds one.h one.taken run;
-        stands = within_other p one.ds one.h one.taken run checker one.within apart octets stands;
+        stands = record {
+          octets = octets_append one.taken run one.within.octets octets;
+          fields = subst (StandsIn checker one.ds one.h) (sym (same_given (one.taken ++ run))) (stands one.ds one.h one.taken given);
+          object = one.within.object;
+          few = one.within.few;
+          room = one.within.room;
+          message = subst (λ (o : List ℕ). wire.StandsAt p.message o (text_so_far o)) same_object one.within.message;
+          ended = one.within.ended;
+        };
         is_text = append-nil text ∙ one.is_text ∙ ap text_so_far same_object;
       };
 }
 
 -- ---- data of subfiles
 
-is_eight : (r : ℕ) → r ≡ 8 → nat_eq r 8 ≡ true
-is_eight r eight = ap (λ n. nat_eq n 8) eight
-
 -- the object, with octets more of a subfile
 object_more : (ds : List Dataset) (h : Head) (taken run : List ℕ) → h.rec ≡ 8 → object_so_far ds (InData h taken) ++ run ≡ object_so_far ds (InData h (taken ++ run))
-object_more ds h taken run eight =
-    let yes : nat_eq h.rec 8 ≡ true = is_eight h.rec eight in
-    ap (λ (b : Bool). (object_of ds ++ cond b taken []) ++ run) yes ∙ append_assoc (object_of ds) taken run ∙ sym (ap (λ (b : Bool). object_of ds ++ cond b (taken ++ run) []) yes)
+object_more ds h taken run eight = rw eight (append_assoc (object_of ds) taken run)
 
 pub tells_parts_object : {S : Type 0} (goes : S → List story.StoryEvent → S → Type 0) (failures : S → ℕ) (p : Parts) (a b : S) (run : List ℕ) (message : Option Place) → LowerLaws → (k : Head) → HasBegun p k → k.rec ≡ 8
     → Octets run → TellsMessage goes failures p.message a (map object_events.ObjectOctet run) message b
@@ -195,7 +180,7 @@ tells_parts_object goes failures p a b run message laws k begun eight octets pas
       let one = in_one p k before text begun led in
       let at = one.within in
       let is : one.h.rec ≡ 8 = sym (ap (λ (k : Head). k.rec) (same_head p k one.ds one.h one.taken begun at)) ∙ eight in
-      let yes : nat_eq one.h.rec 8 ≡ true = is_eight one.h.rec is in
+      let yes : nat_eq one.h.rec 8 ≡ true = rw is refl in
       let o : List ℕ = object_so_far one.ds (InData one.h one.taken) in
       let leads_on : wire.LeadsOn p.message run passed.more message = subst (λ (xs : List ℕ). wire.LeadsOn p.message xs passed.more message) (octets_in-octets run) passed.stands in
       let next = passes_on laws.texts p.message message o run passed.more leads_on at.message in
@@ -244,7 +229,7 @@ stopped_object goes failures p a b front octet cause laws k begun eight halted =
           let led_to : LeadsTo (o ++ front) (t ++ halted.more) next.0 = subst (λ (xs : List ℕ). LeadsTo (o ++ xs) (t ++ halted.more) next.0) (octets_in-octets front) next.1 in
           let both = laws.living (o ++ front) (t ++ halted.more) next.0 led_to in
           let has : wire_format.HasCause halted.why (o ++ front) octet = subst (λ (xs : List ℕ). wire_format.HasCause halted.why (o ++ xs) octet) (octets_in-octets front) (halted.has_cause o t at.message) in
-          let yes : nat_eq one.h.rec 8 ≡ true = is_eight one.h.rec is in
+          let yes : nat_eq one.h.rec 8 ≡ true = rw is refl in
           let in_full : object_so_far one.ds (InData one.h (one.taken ++ front)) ≡ object_of one.ds ++ (one.taken ++ front) = ap (λ (b : Bool). object_of one.ds ++ cond b (one.taken ++ front) []) yes in
           let not_nine : nat_eq one.h.rec 9 ≡ false = ap (λ n. nat_eq n 9) is in
           record {

@@ -1,13 +1,12 @@
 -- Where the end of a dataset leads the parts of an unpacker, and why it is refused.
-use Rattle.std.proofs.Common.{◌≡◌, ℕ, Bool, true, false, cond, if◌then◌else◌, nat_eq, List, [], ◌∷◌, ◌++◌, length, Option, Some, None, refl, ap, sym, subst, ◌∙◌, map, append-nil}
-use Rattle.std.proofs.lemmas.Bool.{ne_eqb}
+use Rattle.std.proofs.Common.{◌≡◌, ℕ, Bool, true, false, cond, if◌then◌else◌, nat_eq, List, [], ◌∷◌, ◌++◌, length, Option, Some, None, refl, ap, sym, subst, ◌∙◌, map, append-nil, arith}
+use Rattle.std.proofs.lemmas.Bool.{ne_eqb, true≢false}
 use Rattle.iim_dataset.specs.Format.Octets.{number}
 use Rattle.iim_dataset.specs.Format.Datasets.{Dataset, head_of}
 use Rattle.iim_dataset.specs.Format.Splits.{InTag, InData}
 use Rattle.iim_dataset.specs.States.Events.{DatasetEvent, DatasetEnd, HeadRead, DataOctet}
 use Rattle.iim_dataset.specs.declared.head.Head.{Head}
 use Rattle.iim_fields.specs.Format.Alive.{SectionsLiveAt}
-use Rattle.iim_fields.specs.Format.Faults.{section_after}
 use Rattle.iim_fields.specs.States.Checks.{IsValueFault}
 use Rattle.iim_fields.specs.States.Standing.{IsOf, limits_of, FieldsPlace, StandsAfter, StandsIn}
 use Rattle.iim_fields.specs.Format.Values.{data_of, tells_number, number_told}
@@ -19,13 +18,10 @@ use Rattle.iim_object.specs.States.Reading as objects
 use Rattle.iim_object.specs.Format.Numbers.{place_after_datasets}
 use Rattle.wire_message.specs.Format.Layers.{text_so_far}
 use Rattle.wire_message.specs.Laws.Messages.{ReadersStandAtLivingOctets}
-use Rattle.wire_message.specs.States.Reading as wire
-use Rattle.iim_places.specs.Format.Admitted.{object_of}
 use Rattle.iim_places.specs.Format.Tokens.{place_at, IsRefusedValue}
 use Rattle.iim_places.specs.Format.Refusals.{of_field}
-use Rattle.iim_unpack.specs.PartSteps.{IsObjectFault, Refused, TellsParts, TellsWhole, PartsRefuse, Closed, NotClosed}
-use Rattle.iim_places.specs.Format.Open.{object_so_far}
-use Rattle.iim_unpack.specs.States.Parts.{AreAfter, Within, CountsFor, AreLed}
+use Rattle.iim_unpack.specs.PartSteps.{IsObjectFault, TellsParts, TellsWhole, PartsRefuse, Closed, NotClosed}
+use Rattle.iim_unpack.specs.States.Parts.{AreAfter, Within, CountsFor}
 use Rattle.iim_unpack.specs.declared.parts.Parts.{Parts}
 use Rattle.iim_places.specs.declared.fault.TokenFault.{TokenFault}
 use Rattle.iim_unpack.proofs.Faults.{field_value, object_value}
@@ -42,11 +38,11 @@ use Rattle.wire_story.specs.Format.Delivery as story
 
 -- a value that tells a number
 number_tells : (d : Dataset) (n : ℕ) → Some n ≡ number_told d → (tells_number d.rec ≡ true) × (n ≡ number d.octets)
-number_tells d n told = tells_by (tells_number d.rec) refl told
-  where
-    tells_by : (b : Bool) → tells_number d.rec ≡ b → Some n ≡ (if b then Some (number d.octets) else None) → (tells_number d.rec ≡ true) × (n ≡ number d.octets)
-    tells_by true is e = (is, cc)
-    tells_by false is e = absurd cc
+number_tells d n told = grind arith
+
+-- and one that tells none
+tells_none : (d : Dataset) → None ≡ number_told d → tells_number d.rec ≡ false
+tells_none d told = grind arith
 
 -- ---- where the end leads
 
@@ -58,14 +54,12 @@ pub record Ends (new : Parts) (ds : List Dataset) (d : Dataset) : Type 0 where
 after_data : (p new : Parts) (ds : List Dataset) (h : Head) (taken : List ℕ) → Within p ds h taken → length taken ≡ h.count → Ends new ds (data_of h taken) → new.message ≡ p.message → AreAfter new (ds ++ data_of h taken ∷ [])
 after_data p new ds h taken at whole ends message =
     let d : Dataset = data_of h taken in
-    let present : section_after (ds ++ d ∷ []) ≡ h.rec = last_more 0 ds d in
-    let object : object_so_far ds (InData h taken) ≡ object_of (ds ++ d ∷ []) = sym (object_of_more ds d) in
     record {
       fields = ends.fields;
       object = ends.object;
       few = few_more ds d at.few at.room;
-      message = subst (λ m. wire.StandsAt m (object_of (ds ++ d ∷ [])) (text_so_far (object_of (ds ++ d ∷ [])))) (sym message) (subst (λ (o : List ℕ). wire.StandsAt p.message o (text_so_far o)) object at.message);
-      ended = λ nine. subst wire.IsWhole (sym message) (at.ended (sym present ∙ nine));
+      message = rw (message, object_of_more ds d) at.message;
+      ended = λ nine. rw message (at.ended (sym (last_more 0 ds d) ∙ nine));
     }
 
 closed_by : (p new : Parts) (k : Head) → HasBegun p k → limits_of new.fields ≡ limits_of p.fields → new.message ≡ p.message
@@ -87,11 +81,8 @@ closed_by p new k begun same message ends = record {
 
 -- the dataset is that of the head
 is_of : (ds : List Dataset) (p : Parts) (h : Head) (taken : List ℕ) → Within p ds h taken → length taken ≡ h.count → IsOf h (if nat_eq h.rec 8 then [] else taken) (data_of h taken)
-is_of ds p h taken at whole = record {
-  head = λ i. record { rec = h.rec; set = h.set; count = whole i };
-  octets = at.octets;
-  given = λ other. sym (ap (λ (b : Bool). cond b [] taken) (ne_eqb h.rec 8 other));
-}
+is_of ds p h taken at whole =
+    record { head = λ i. record { rec = h.rec; set = h.set; count = whole i }; octets = at.octets; given = λ other. rw (ne_eqb h.rec 8 other) refl }
 
 abbrev pub ClosesFields : FieldsPlace → FieldsPlace → Option ℕ → Type 0
 ClosesFields old new told = (ds : List Dataset) (h : Head) (taken : List ℕ) → StandsIn old ds h taken → (d : Dataset) → IsOf h taken d
@@ -107,8 +98,7 @@ closed_number laws p new n k begun same closes goes message =
     let tells = number_tells d n both.1 in
     let leads = number_leads laws ds d both.0.alive tells.0 in
     let head : head_of d ≡ h = λ i. record { rec = h.rec; set = h.set; count = whole i } in
-    let goes_d : objects.LeadsOn p.object (value_token d.rec d.set (number d.octets)) new.object =
-    subst (λ (m : ℕ). objects.LeadsOn p.object (value_token d.rec d.set m) new.object) tells.1 (subst (λ (x : Head). objects.LeadsOn p.object (value_token x.rec x.set n) new.object) (same_head p k ds h taken begun at) goes) in
+    let goes_d : objects.LeadsOn p.object (value_token d.rec d.set (number d.octets)) new.object = rw (same_head p k ds h taken begun at, tells.1) at goes in
     record {
       fields = both.0;
       object = subst (objects.StandsAt new.object) leads.1 (goes_d (place_at ds (head_of d)) (subst (λ (k : Head). objects.StandsAt p.object (place_at ds k)) (sym head) at.object) leads.0);
@@ -120,17 +110,13 @@ closed_silent laws p checker k begun same closes =
     (λ ds h taken at whole.
     let d : Dataset = data_of h taken in
     let both = closes ds h (if nat_eq h.rec 8 then [] else taken) at.fields d (is_of ds p h taken at whole) in
-    let silent = silent_by d (tells_number d.rec) refl both.1 in
+    let silent = tells_none d both.1 in
     let head : head_of d ≡ h = λ i. record { rec = h.rec; set = h.set; count = whole i } in
     let leads = silent_leads laws ds d both.0.alive silent at.room in
     record {
       fields = both.0;
       object = subst (objects.StandsAt p.object) leads (subst (λ (k : Head). objects.StandsAt p.object (place_at ds k)) (sym head) at.object);
     })
-  where
-    silent_by : (d : Dataset) (b : Bool) → tells_number d.rec ≡ b → None ≡ (if b then Some (number d.octets) else None) → tells_number d.rec ≡ false
-    silent_by d true is e = absurd cc
-    silent_by d false is e = is
 
 -- ---- refusals
 
@@ -153,7 +139,7 @@ not_closed_by p fault living sections k begun quiet refuses = record {
 }
 
 not_subfile : (r : ℕ) → tells_number r ≡ true → r ≡ 8 → ⊥
-not_subfile r tells eight = let bad : false ≡ true = sym (ap tells_number eight) ∙ tells in cc
+not_subfile r tells eight = true≢false (sym tells ∙ ap tells_number eight)
 
 pub not_closed_field : ReadersStandAtLivingOctets → NoSectionsBeginOthers → (p : Parts) (f : FieldFault) (k : Head) → HasBegun p k
     → ((ds : List Dataset) (h : Head) (taken : List ℕ) → StandsIn p.fields ds h taken → IsValueFault ds (data_of h taken) f) → NotClosed p (of_field f)
@@ -176,9 +162,7 @@ not_closed_number laws p checker n fault k begun closes bad =
     let head : head_of d ≡ h = λ i. record { rec = h.rec; set = h.set; count = whole i } in (
       not_subfile h.rec tells.0,
       object_value laws.values_die laws.tokens ds d fault p.object at.octets (subst (SectionsLiveAt ds) (sym head) at.fields.alive) both.0.alive tells.0 (number_leads laws ds d both.0.alive tells.0)
-          (subst (λ (k : Head). objects.StandsAt p.object (place_at ds k)) (sym head) at.object)
-          (subst (λ (m : ℕ). IsObjectFault p.object (value_token d.rec d.set m) (head_of d) fault) tells.1
-          (subst (λ (x : Head). IsObjectFault p.object (value_token x.rec x.set n) x fault) (same_head p k ds h taken begun at ∙ sym head) bad)),
+          (subst (λ (k : Head). objects.StandsAt p.object (place_at ds k)) (sym head) at.object) (rw (same_head p k ds h taken begun at ∙ sym head, tells.1) at bad),
     ))
 
 -- the end of a dataset, with which nothing is delivered
@@ -188,7 +172,7 @@ tells_parts_closed goes failures old new a nothing closed = record {
   more = [];
   told = nothing;
   calm = refl;
-  leads = λ before text order led. subst (AreLed new (before ++ DatasetEnd ∷ [])) (sym (append-nil text)) (closed.leads before text order led);
+  leads = λ before text order led. rw (append-nil text) (closed.leads before text order led);
 }
 
 -- a whole dataset, with which nothing is delivered
@@ -199,7 +183,7 @@ tells_parts_whole goes failures old new h xs a nothing whole = record {
   more = [];
   told = nothing;
   calm = refl;
-  leads = λ before text order led. subst (AreLed new (before ++ (HeadRead h ∷ (map DataOctet xs ++ DatasetEnd ∷ [])))) (sym (append-nil text)) (whole.leads before text led);
+  leads = λ before text order led. rw (append-nil text) (whole.leads before text led);
 }
 
 -- the end of a dataset, of which no sink is told
@@ -213,6 +197,5 @@ stopped_closed goes failures p a fault g bad = record {
   counts = bad.quiet (failures a);
   why = λ before text order led.
       let in_order : AreInOrder (before ++ DatasetEnd ∷ []) = subst (λ (es : List DatasetEvent). AreInOrder (es ++ DatasetEnd ∷ [])) (append-nil before) order in
-      subst (λ (t : List ℕ). Refused (limits_of p.fields) (before ++ []) t DatasetEnd fault) (sym (append-nil text))
-      (subst (λ (es : List DatasetEvent). Refused (limits_of p.fields) es text DatasetEnd fault) (sym (append-nil before)) (bad.why before text in_order led));
+      rw (append-nil text, append-nil before) (bad.why before text in_order led);
 }

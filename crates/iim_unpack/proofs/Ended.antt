@@ -1,5 +1,5 @@
 -- Whether the last dataset has ended.
-use Rattle.std.proofs.Common.{◌≡◌, ℕ, ◌&&◌, Bool, true, false, not, nat_eq, is_none, is_some, List, Option, Some, None, refl, ap, sym, ◌∙◌}
+use Rattle.std.proofs.Common.{◌≡◌, ℕ, ◌&&◌, Bool, true, false, not, nat_eq, is_some, List, Some, None, refl, ap, ◌∙◌, arith}
 use Rattle.std.proofs.lemmas.Bool.{ne_eqb}
 use Rattle.iim_dataset.specs.Format.Datasets.{Dataset}
 use Rattle.iim_dataset.specs.declared.head.Head.{Head}
@@ -10,35 +10,28 @@ use Rattle.iim_unpack.specs.States.Parts.{has_ended}
 use Rattle.iim_unpack.specs.declared.parts.Parts.{Parts}
 
 and_true : (b : Bool) → (b && true) ≡ b
-and_true true = refl
-and_true false = refl
+and_true b = grind arith
 
 and_false : (b : Bool) → (b && false) ≡ false
-and_false true = refl
-and_false false = refl
+and_false b = grind arith
 
 pub ended_by_record : (p : Parts) (ds : List Dataset) → StandsAfter p.fields ds → has_ended p ≡ nat_eq (section_after ds) 9
 unfolding has_ended
 ended_by_record p ds at =
     let none : begun_head_of p.fields ≡ None = ap begun_head at.between.between in
     let present : section_of p.fields ≡ section_after ds = ap section_at at.checked.at ∙ at.checked.tells.present in
-    ap (λ (h : Option Head). nat_eq (section_of p.fields) 9 && is_none h) none ∙ and_true (nat_eq (section_of p.fields) 9) ∙ ap (λ n. nat_eq n 9) present
+    rw (none, present) (and_true (nat_eq (section_after ds) 9))
 
 pub unended_inside : (p : Parts) (h : Head) (n : ℕ) → IsInside p.fields h n → has_ended p ≡ false
 unfolding has_ended
 unended_inside p h n at =
     let some : begun_head_of p.fields ≡ Some h = ap begun_head at.head.inside in
-    ap (λ (k : Option Head). nat_eq (section_of p.fields) 9 && is_none k) some ∙ and_false (nat_eq (section_of p.fields) 9)
-
-none_is : (o : Option Head) → is_none o ≡ not (is_some o)
-none_is None = refl
-none_is (Some h) = refl
+    rw some (and_false (nat_eq (section_of p.fields) 9))
 
 pub ended_by : (p : Parts) → section_of p.fields ≡ 9 → has_ended p ≡ not (is_some (begun_head_of p.fields))
 unfolding has_ended
-ended_by p nine = ap (λ (n : ℕ). nat_eq n 9 && is_none (begun_head_of p.fields)) nine ∙ none_is (begun_head_of p.fields)
+ended_by p nine = rw nine refl
 
 pub unended_by : (p : Parts) (section : ℕ) → section ≡ section_of p.fields → (section ≡ 9 → ⊥) → nat_eq section 9 ≡ has_ended p
 unfolding has_ended
-unended_by p section is other =
-    let apart = ne_eqb section 9 other in apart ∙ sym (ap (λ (b : Bool). b && is_none (begun_head_of p.fields)) (ap (λ (n : ℕ). nat_eq n 9) (sym is) ∙ apart))
+unended_by p section is other = let apart = ne_eqb section 9 other in rw (← is, apart) refl

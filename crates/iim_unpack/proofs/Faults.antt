@@ -1,15 +1,15 @@
 -- Which fault of a token is the first, and which layer dies with it.
-use Rattle.std.proofs.Common.{◌≡◌, ℕ, ◌+◌, ◌<◌, ◌≤◌, ◌⊎◌, Bool, true, false, not, ◌&&◌, ◌||◌, if◌then◌else◌, nat_eq, nat_le, nat_lt, List, [], ◌∷◌, ◌++◌, length, Option, Some, None, refl, ap, sym, subst, ◌∙◌, inl, inr, arith}
+use Rattle.std.proofs.Common.{◌≡◌, ℕ, ◌<◌, ◌≤◌, ◌⊎◌, Bool, true, false, not, ◌&&◌, ◌||◌, if◌then◌else◌, nat_eq, nat_lt, List, [], ◌∷◌, ◌++◌, length, Option, Some, None, refl, ap, sym, subst, ◌∙◌, inl, arith}
 use Rattle.std.specs.Option.{option_or, option_map}
-use Rattle.std.proofs.lemmas.Bool.{lt-ltb, le-ltb}
-use Rattle.iim_dataset.specs.Format.Octets.{IsOctet, Octets, number, within}
+use Rattle.std.proofs.lemmas.Bool.{le-ltb}
+use Rattle.iim_dataset.specs.Format.Octets.{IsOctet, Octets, number}
 use Rattle.iim_dataset.specs.Format.Datasets.{Dataset, head_of, of_record}
 use Rattle.iim_dataset.specs.Format.Languages as languages
 use Rattle.iim_dataset.specs.declared.head.Head.{Head}
-use Rattle.iim_tables.specs.Format.Rows.{row_of, is_admitted}
+use Rattle.iim_tables.specs.Format.Rows.{row_of}
 use Rattle.iim_tables.specs.declared.shape.Row.{Row}
 use Rattle.iim_fields.specs.Format.Records.{after}
-use Rattle.iim_tables.specs.Format.Records.{occurs, has_file_format}
+use Rattle.iim_tables.specs.Format.Records.{occurs}
 use Rattle.iim_fields.specs.Format.Alive.{SectionsLive, SectionsLiveAt}
 use Rattle.iim_fields.specs.Format.Values.{tells_number}
 use Rattle.iim_fields.specs.Format.Faults.{kept, kept_octets, is_kept, is_first, is_in_order, fault_on, row_fault, missing_fault, missing_of, head_fault, record_fault, room_fault, limits_fault, first_fault, value_fault, fault_by_row, section_after, section_run}
@@ -18,7 +18,7 @@ use Rattle.iim_fields.specs.States.Standing.{IsHeadFault}
 use Rattle.iim_fields.specs.Laws.Records.{HeadsDieWithTheirFault, ValuesDieWithTheirFault}
 use Rattle.iim_fields.specs.declared.limits.Limits.{Limits}
 use Rattle.iim_fields.specs.declared.fault.FieldFault.{FieldFault}
-use Rattle.iim_fields.specs.declared.fault.FieldCause.TheVariants.{RecordOrder, Repeated, CountRange, BadValue, FileFormat, HeaderFull, TooManyFields}
+use Rattle.iim_fields.specs.declared.fault.FieldCause.TheVariants.{RecordOrder}
 use Rattle.iim_object.specs.Format.Plans.{max_subfiles}
 use Rattle.iim_object.specs.Format.Objects.{ObjectToken, ObjectLanguage}
 use Rattle.iim_object.specs.Format.Places.{Place, MayFollow, place_after, head_token, value_token}
@@ -52,17 +52,13 @@ either P true x y h k = h
 either P false x y h k = k
 
 records_or : (x y : Option FieldFault) → IsRecords x → IsRecords y → IsRecords (option_or x y)
-records_or None y h k = k
-records_or (Some fault) y h k = h
+records_or x y h k = grind arith
 
 row_records : (again : Bool) (row : Option Row) (h : Head) → IsRecords (row_fault again row h)
-row_records again None h = refl
-row_records again (Some r) h =
-    either IsRecords (again && not r.repeats) (Some (fault_on h Repeated)) _ refl (either IsRecords (not (within r.min r.max h.count)) (Some (fault_on h CountRange)) None refl tt)
+row_records again row h = grind arith
 
 missing_records : (present : ℕ) (o : Option ℕ) → IsRecords (missing_fault present o)
-missing_records present None = tt
-missing_records present (Some n) = refl
+missing_records present o = grind arith
 
 head_records : (present : ℕ) (has : ℕ → Bool) (h : Head) → IsRecords (head_fault present has h)
 head_records present has h =
@@ -72,28 +68,21 @@ head_records present has h =
     (missing_records present (missing_of present has)) tt))
 
 room_limits : (limits : Limits) (octets fields : ℕ) (h : Head) → IsLimits (room_fault limits octets fields h)
-room_limits limits octets fields h =
-    either IsLimits (not (is_kept h.rec)) None _ tt
-    (either IsLimits (not (nat_le (octets + h.count) limits.octets)) (Some (fault_on h HeaderFull)) _ refl
-    (either IsLimits (not (nat_le (fields + 1) limits.fields)) (Some (fault_on h TooManyFields)) None refl tt))
+room_limits limits octets fields h = grind arith
 
 value_by : (row : Option Row) (d : Dataset) → IsRecords (fault_by_row row d)
-value_by None d = refl
-value_by (Some r) d =
-    either IsRecords (not (is_admitted r d.octets)) (Some (fault_on (head_of d) BadValue)) _ refl (either IsRecords (not (has_file_format d)) (Some (fault_on (head_of d) FileFormat)) None refl tt)
+value_by row d = grind arith
 
 dies_by : (limits : Limits) (ds : List Dataset) (h : Head) (fault : FieldFault) (o rest : Option FieldFault) → IsRecords o → IsLimits rest
     → ((o ≡ None) → SectionsLiveAt ds h) → (SectionsLiveAt ds h → o ≡ None) → option_or o rest ≡ Some fault
     → (SectionsLiveAt ds h → HaveRoom limits ds h → ⊥) → DiesAtHead (layer_of fault.cause) limits ds h
 dies_by limits ds h fault None None by more alive none is dead = absurd cc
 dies_by limits ds h fault None (Some other) by more alive none is dead =
-    let same : other ≡ fault = cc in
-    let layer : layer_of fault.cause ≡ layers.Limits = ap (λ (f : FieldFault). layer_of f.cause) (sym same) ∙ more in
-    subst (λ (l : Layer). DiesAtHead l limits ds h) (sym layer) (alive refl, dead (alive refl))
+    let layer : layer_of fault.cause ≡ layers.Limits = grind arith in
+    rw layer (alive refl, dead (alive refl))
 dies_by limits ds h fault (Some other) rest by more alive none is dead =
-    let same : other ≡ fault = cc in
-    let layer : layer_of fault.cause ≡ layers.Record = ap (λ (f : FieldFault). layer_of f.cause) (sym same) ∙ by in
-    subst (λ (l : Layer). DiesAtHead l limits ds h) (sym layer) (λ goes. let bad : Some other ≡ None = none goes in cc)
+    let layer : layer_of fault.cause ≡ layers.Record = grind arith in
+    rw layer (λ goes. let bad : Some other ≡ None = none goes in cc)
 
 -- a head that the records or the limits refuse
 pub field_head : HeadsDieWithTheirFault → (limits : Limits) (ds : List Dataset) (h : Head) (f : FieldFault) → IsOctet h.set → SectionsLive ds → IsHeadFault limits ds h f
@@ -107,8 +96,7 @@ field_head dies limits ds h f small alive is =
     }
 
 records_of : (o : Option FieldFault) (f : FieldFault) → IsRecords o → o ≡ Some f → layer_of f.cause ≡ layers.Record
-records_of None f h is = absurd cc
-records_of (Some g) f h is = let same : g ≡ f = cc in ap (λ (x : FieldFault). layer_of x.cause) (sym same) ∙ h
+records_of o f h is = grind arith
 
 -- a value that the records refuse
 pub field_value : (ds : List Dataset) (d : Dataset) (f : FieldFault) → IsValueFault ds d f → IsRefusedValue ds d (of_field f)
@@ -124,12 +112,10 @@ abbrev pub IsObjects : ℕ → Type 0
 IsObjects r = (r ≡ 8) ⊎ (r ≡ 9)
 
 not_kept : (r : ℕ) → IsObjects r → is_kept r ≡ false
-not_kept r (inl eight) = ap is_kept eight
-not_kept r (inr nine) = ap is_kept nine
+not_kept r is = grind arith
 
 objects : (r : ℕ) → IsObjects r → (nat_eq r 8 || nat_eq r 9) ≡ true
-objects r (inl eight) = ap (λ n. nat_eq n 8 || nat_eq n 9) eight
-objects r (inr nine) = ap (λ n. nat_eq n 8 || nat_eq n 9) nine
+objects r is = grind arith
 
 no_first : HeadsDieWithTheirFault → (limits : Limits) (ds : List Dataset) (h : Head) → SectionsLive ds → SectionsLiveAt ds h → IsObjects h.rec → first_fault limits ds h ≡ None
 no_first dies limits ds h alive at is =
@@ -138,10 +124,7 @@ no_first dies limits ds h alive at is =
     λ i. option_or (none i) (room i)
 
 pub have_room : (limits : Limits) (ds : List Dataset) (h : Head) → IsObjects h.rec → (h.rec ≡ 8 → length (of_record 8 ds) < max_subfiles) → HaveRoom limits ds h
-have_room limits ds h is few = record {
-  kept = λ kept. absurd (let bad : true ≡ false = sym kept ∙ not_kept h.rec is in cc);
-  subfiles = few;
-}
+have_room limits ds h is few = record { kept = λ kept. absurd (let bad : true ≡ false = sym kept ∙ not_kept h.rec is in cc); subfiles = few }
 
 -- where `max_subfiles` subfiles have come, the head of another is one too many
 pub too_many_head : HeadsDieWithTheirFault → (limits : Limits) (ds : List Dataset) (h : Head) (fault : TokenFault) → SectionsLive ds → SectionsLiveAt ds h → h.rec ≡ 8
@@ -180,11 +163,7 @@ object_head dies follow limits ds h fault old alive at is few leads stands (caus
     })
   where
     no_subfile : (ds : List Dataset) (h : Head) → IsObjects h.rec → (h.rec ≡ 8 → length (of_record 8 ds) < max_subfiles) → subfile_fault ds h ≡ None
-    no_subfile ds h (inl eight) few =
-        let is : nat_eq h.rec 8 ≡ true = ap (λ n. nat_eq n 8) eight in
-        let room : nat_lt (length (of_record 8 ds)) max_subfiles ≡ true = lt-ltb (length (of_record 8 ds)) max_subfiles (few eight) in
-        rw (is, room) refl
-    no_subfile ds h (inr nine) few = let is : nat_eq h.rec 8 ≡ false = ap (λ n. nat_eq n 8) nine in rw is refl
+    no_subfile ds h is few = grind arith
 
 -- the object refuses the number of a value
 pub object_value : ValuesDieWithTheirFault → TokensFollow → (ds : List Dataset) (d : Dataset) (fault : TokenFault) (old : Option State) → Octets d.octets → SectionsLiveAt ds (head_of d)

@@ -11,12 +11,11 @@ use Rattle.iim_dataset.specs.States.Events.{DatasetEvent, HeadRead, DataOctet, D
 use Rattle.iim_dataset.specs.States.Places.{LeadsTo, HandsOn, IsKeptAs, between, named_by, to_come}
 use Rattle.iim_dataset.specs.States.Reading.{Completes, TagDies, TakesCalls}
 use Rattle.iim_dataset.specs.Format.Completing.{CompletesData}
-use Rattle.iim_dataset.specs.Laws.Completing.{CompletesHead, CompletesOctet, CompletesEnd, CompletesNow}
+use Rattle.iim_dataset.specs.Laws.Completing.{CompletesNow}
 use Rattle.iim_dataset.specs.declared.head.Head.{Head}
 use Rattle.iim_dataset.specs.declared.head.HeadCause.{HeadCause}
-use Rattle.iim_dataset.specs.declared.head.HeadCause.TheVariants.{Marker, CountForm}
 use Rattle.iim_dataset.specs.declared.place.DatasetPlace.{DatasetPlace as Place}
-use Rattle.iim_dataset.specs.declared.place.DatasetPlace.TheVariants.{Tag, Inside}
+use Rattle.iim_dataset.specs.declared.place.DatasetPlace.TheVariants.{Tag}
 use Rattle.iim_fields.specs.Format.Records.{AreSections}
 use Rattle.iim_fields.specs.Format.Faults.{section_after, kept as kept_of}
 use Rattle.iim_fields.specs.States.Standing.{limits_of, StandsAfter}
@@ -49,7 +48,7 @@ use Rattle.iim_places.specs.declared.refusal.Refusal.{Refusal}
 use Rattle.iim_places.specs.declared.refusal.Cause.{Cause}
 use Rattle.iim_places.specs.declared.refusal.Layer.TheVariants as layers
 use Rattle.iim_places.proofs.Objects.{are_records}
-use Rattle.iim_unpack.proofs.Carrying.{all_after, all_within}
+use Rattle.iim_unpack.proofs.Carrying.{AreAfterAll, all_after, all_within}
 use Rattle.iim_places.proofs.Lasts.{sections_last, last_sections, not_all}
 use Rattle.iim_unpack.proofs.Ended.{ended_by_record, unended_inside}
 use Rattle.iim_unpack.proofs.Sequences.{by_data, handed_in_order}
@@ -129,9 +128,6 @@ open_parts parts (Some left) takes = unended_inside parts takes.head left takes.
 
 -- ---- a piece
 
-raised_on : (m n a k : ℕ) → m ≡ a → n ≡ raised m k → n ≡ raised a k
-raised_on m n a k same is = is ∙ ap (λ x. raised x k) same
-
 -- by octets, the parts went on from where events had led them
 tells_parts_on : {S : Type 0} (goes : S → List story.StoryEvent → S → Type 0) (failures : S → ℕ) (old : Place) (was : Parts) (p octets : List ℕ) (place : Place) (q : Parts) (a b : S)
     → (advanced : Advanced goes failures old octets place was a q b) → (events : List DatasetEvent) (text : List ℕ) → LeadsTo count_octets p events old → AreLed was events text
@@ -173,12 +169,12 @@ goes_more goes failures laws u v piece used a b advanced onward same more counts
     let there : Stands v (p ++ take used piece) (raised n used) = record {
       taking = same ∙ at.taking;
       unended = more;
-      counts = raised_on u.octets v.octets n used at.counts counts;
+      counts = rw at.counts at counts;
       begun = rw (sym whole) at (begun_on u.begun v.begun p piece at.begun some);
       is_led = led;
       is_open = open_by laws v.parts (p ++ take used piece) led.events led.text v.reader.place led.leads led.led more;
     } in (
-      subst (λ (xs : List ℕ). Stands v (p ++ xs) (raised n (length piece))) whole (subst (λ (k : ℕ). Stands v (p ++ take used piece) (raised n k)) all there),
+      rw (whole, all) at there,
       subst (λ (xs : List ℕ). Delivers p xs (story.delivered advanced.went.more)) whole (adds_by goes failures laws u v p (take used piece) v.reader.place v.parts a b advanced at.is_led),
     )
 
@@ -204,18 +200,12 @@ pub record WholeParts (v : Unpacking) (p : List ℕ) : Type 0 where
   pub lines : List (List ℕ)
   pub lined : IsText (text_so_far (object_of ds)) lines
 
-record AtEnd (v : Unpacking) (events : List DatasetEvent) : Type 0 where
-  pub ds : List Dataset
-  pub held : List ℕ
-  pub after : AreAfter v.parts ds
-  pub told : events ≡ handed_on ds (InTag held)
-
-at_end : (v : Unpacking) (events : List DatasetEvent) (text : List ℕ) → has_ended v.parts ≡ true → AreLed v.parts events text → AtEnd v events
-at_end v events text last led = by led.begun led.stands led.told
+at_end : (v : Unpacking) (events : List DatasetEvent) (text : List ℕ) → has_ended v.parts ≡ true → AreLed v.parts events text → AreAfterAll v.parts events text
+at_end v events text last led = by led.begun led.stands led.told led.is_text
   where
-    by : (b : Begun) → StandsFor v.parts led.whole b → events ≡ handed_on led.whole b → AtEnd v events
-    by (InTag held) after told = record { ds = led.whole; held = held; after = after; told = told }
-    by (InData h taken) at told = absurd (true≢false (sym last ∙ unended_inside v.parts h at.fields.inside.0 at.fields.inside.1))
+    by : (b : Begun) → StandsFor v.parts led.whole b → events ≡ handed_on led.whole b → text ≡ text_so_far (object_so_far led.whole b) → AreAfterAll v.parts events text
+    by (InTag held) after told is = record { ds = led.whole; held = held; after = after; told = told; is_text = is }
+    by (InData h taken) at told is = absurd (true≢false (sym last ∙ unended_inside v.parts h at.fields.inside.0 at.fields.inside.1))
 
 pub whole_parts : LowerLaws → (v : Unpacking) (p : List ℕ) → has_ended v.parts ≡ true → v.reader.place ≡ between → IsLed v p → WholeParts v p
 whole_parts laws v p last place led =
@@ -227,8 +217,7 @@ whole_parts laws v p last place led =
     record {
       ds = at.ds;
       after = after;
-      stream = subst (λ (ds : List Dataset). SpellsStream count_octets ds p) (sym same)
-          (stream_of p led.leads.hands.whole led.leads.begun led.leads.hands.reads (subst (λ (x : Place). IsKeptAs x led.leads.begun) place led.leads.keeps));
+      stream = rw same (stream_of p led.leads.hands.whole led.leads.begun led.leads.hands.reads (rw place at led.leads.keeps));
       sections = last_sections laws.last_record at.ds after.fields.alive nine;
       head = head;
       head_is = is;
@@ -289,20 +278,17 @@ goes_done goes failures laws u v piece used a b s advanced onward same last coun
     elim onward [ inl h ↦ absurd (true≢false (sym last ∙ open_parts v.parts (to_come v.reader.place) h.1)) | inr h ↦ h ] in
     let led = led_by goes failures u v p (take used piece) a b advanced at.is_led in (
       fits,
-      done_by laws v (p ++ take used piece) (raised n used) s (same ∙ at.taking) ended.0 ended.1 (raised_on u.octets v.octets n used at.counts counts) led sizes,
+      done_by laws v (p ++ take used piece) (raised n used) s (same ∙ at.taking) ended.0 ended.1 (rw at.counts at counts) led sizes,
       adds_by goes failures laws u v p (take used piece) v.reader.place v.parts a b advanced at.is_led,
     )
 
 -- ---- refusals
 
 tag_causes : (held : List ℕ) (cause : HeadCause) → Concerns cause (length held) → cause_of_tag cause ≡ tag_cause held
-tag_causes [] Marker is = refl
-tag_causes (x ∷ xs) CountForm is = refl
-tag_causes held cause is = absurd (omega (arith, is))
+tag_causes held cause is = grind arith
 
 kept_tag : (held : List ℕ) (begun : Begun) → IsKeptAs (Tag (record { items = held })) begun → begun ≡ InTag held
-kept_tag held (InTag octets) keeps = ap InTag (sym keeps)
-kept_tag held (InData h taken) keeps = absurd keeps
+kept_tag held begun keeps = grind arith
 
 bad_tag : LowerLaws → (limits : Limits) (parts : Parts) (p : List ℕ) (events : List DatasetEvent) (text : List ℕ) (place : Place) (next : ℕ) (cause : HeadCause) (fault : TokenFault) → limits_of parts.fields ≡ limits
     → LeadsTo count_octets p events place → AreLed parts events text → has_ended parts ≡ false → TagDies place next cause → fault ≡ tag_fault (named_by place) cause → IsBadTagAt limits p next fault
@@ -319,11 +305,6 @@ bad_tag laws limits parts p events text place next cause fault same leads led mo
       is_fault = is ∙ ap (λ (x : Place). tag_fault (named_by x) cause) dies.tag
           ∙ ap (λ (c : Cause). record { layer = layers.Dataset; rec = get_or dies.held 1 0; set = get_or dies.held 2 0; cause = c }) (tag_causes dies.held cause dies.concerns);
     }
-
--- What the octets are and what the parts say of them.
-record Told (limits : Limits) (octets text : List ℕ) (next : ℕ) (fault : TokenFault) : Type 0 where
-  pub text_is : IsTextOf octets text
-  pub refuses : RefusesByTests limits octets next fault
 
 -- why an event is refused, told of the same datasets
 refused_as : LowerLaws → (limits : Limits) (events : List DatasetEvent) (text : List ℕ) (event : DatasetEvent) (fault : TokenFault)
@@ -342,67 +323,9 @@ refused_as laws limits events text event fault r ds b told =
     in_tag (HeadRead h) x y g = g
     in_tag other x y g = absurd g
 
-head_refused : LowerLaws → (limits : Limits) (octets : List ℕ) (next : ℕ) (events : List DatasetEvent) (text : List ℕ) (h : Head) (fault : TokenFault) → CompletesHead octets next events h
-    → Refused limits events text (HeadRead h) fault → Told limits octets text next fault
-head_refused laws limits octets next events text h fault c r =
-    let (is_text, leads_on, unfinished', refuses) = refused_as laws limits events text (HeadRead h) fault r c.whole (InTag c.held) c.told in
-    record {
-      text_is = (c.whole, InTag c.held, c.reads, is_text);
-      refuses = inr (inl (record {
-        whole = c.whole;
-        held = c.held;
-        head = h;
-        reads = c.reads;
-        leads_on = leads_on;
-        unfinished = unfinished';
-        tag = c.tag;
-        refuses = refuses;
-      }));
-    }
-
-octet_refused : LowerLaws → (limits : Limits) (octets : List ℕ) (next : ℕ) (events : List DatasetEvent) (text : List ℕ) (fault : TokenFault) → CompletesOctet octets next events
-    → Refused limits events text (DataOctet next) fault → Told limits octets text next fault
-octet_refused laws limits octets next events text fault c r =
-    let (is_text, leads_on, unfinished', (eight, (cause, has, is_fault))) =
-    refused_as laws limits events text (DataOctet next) fault r c.whole (InData c.head c.taken) c.told in
-    record {
-      text_is = (c.whole, InData c.head c.taken, c.reads, is_text);
-      refuses = inr (inr (inl (record {
-        whole = c.whole;
-        head = c.head;
-        taken = c.taken;
-        reads = c.reads;
-        leads_on = leads_on;
-        unfinished = unfinished';
-        subfile = eight;
-        cause = cause;
-        has_cause = has;
-        is_fault = is_fault;
-      })));
-    }
-
 end_text : (octets : List ℕ) (next : ℕ) (ds : List Dataset) (h : Head) (given text : List ℕ) → (h.rec ≡ 8 → ⊥) → text ≡ text_so_far (object_of ds) → CompletesData octets next ds h given → IsTextOf octets text
 end_text octets next ds h given text other is (inl (taken, reads, parts, count)) = (ds, InData h taken, reads, is ∙ ap text_so_far (sym (no_object ds h taken other)))
 end_text octets next ds h given text other is (inr (held, reads, tag, count, none)) = (ds, InTag held, reads, is)
-
-end_refused : LowerLaws → (limits : Limits) (octets : List ℕ) (next : ℕ) (events : List DatasetEvent) (text : List ℕ) (fault : TokenFault) → CompletesEnd octets next events
-    → Refused limits events text DatasetEnd fault → Told limits octets text next fault
-end_refused laws limits octets next events text fault c r =
-    let (is_text, leads_on, unfinished', (other, refuses)) =
-    refused_as laws limits events text DatasetEnd fault r c.whole (InData c.head c.given) c.told in
-    record {
-      text_is = end_text octets next c.whole c.head c.given text other (is_text ∙ ap text_so_far (no_object c.whole c.head c.given other)) c.completes;
-      refuses = inr (inr (inr (record {
-        whole = c.whole;
-        head = c.head;
-        given = c.given;
-        is_value = other;
-        completes = c.completes;
-        leads_on = leads_on;
-        unfinished = unfinished';
-        refuses = refuses;
-      })));
-    }
 
 -- the events up to one that an octet completes
 completed_in_order : (octets : List ℕ) (next : ℕ) (events : List DatasetEvent) (event : DatasetEvent) → Completes octets next events event → AreInOrder (events ++ event ∷ [])
@@ -410,17 +333,40 @@ completed_in_order octets next events event c =
     front_in_order (events ++ event ∷ []) c.later
     (subst AreInOrder (sym (append_assoc events (event ∷ []) c.later)) (handed_in_order (octets ++ next ∷ []) (events ++ event ∷ c.later) c.next_begun c.with_next))
 
+-- the event that an octet completes is refused, and so is the octet after those before it
 token_refused : LowerLaws → (limits : Limits) (octets : List ℕ) (next : ℕ) (events : List DatasetEvent) (text : List ℕ) (event : DatasetEvent) (fault : TokenFault) → CompletesNow octets next events event
-    → Refused limits events text event fault → Told limits octets text next fault
-token_refused laws limits octets next events text (HeadRead h) fault c r = head_refused laws limits octets next events text h fault c r
-token_refused laws limits octets next events text (DataOctet b) fault c r =
-    octet_refused laws limits octets next events text fault c.1 (subst (λ (x : ℕ). Refused limits events text (DataOctet x) fault) c.0 r)
-token_refused laws limits octets next events text DatasetEnd fault c r = end_refused laws limits octets next events text fault c r
+    → Refused limits events text event fault → IsTextOf octets text × RefusesByTests limits octets next fault
+token_refused laws limits octets next events text (HeadRead h) fault c r =
+    let (is_text, on, unended, why) = refused_as laws limits events text (HeadRead h) fault r c.whole (InTag c.held) c.told in (
+      (c.whole, InTag c.held, c.reads, is_text),
+      inr (inl (record { whole = c.whole; held = c.held; head = h; reads = c.reads; leads_on = on; unfinished = unended; tag = c.tag; refuses = why })),
+    )
+token_refused laws limits octets next events text (DataOctet b) fault (same, c) r =
+    let (is_text, on, unended, (eight, (cause, has, is_fault))) = refused_as laws limits events text (DataOctet next) fault (rw same at r) c.whole (InData c.head c.taken) c.told in (
+      (c.whole, InData c.head c.taken, c.reads, is_text),
+      inr (inr (inl (record {
+        whole = c.whole;
+        head = c.head;
+        taken = c.taken;
+        reads = c.reads;
+        leads_on = on;
+        unfinished = unended;
+        subfile = eight;
+        cause = cause;
+        has_cause = has;
+        is_fault = is_fault;
+      }))),
+    )
+token_refused laws limits octets next events text DatasetEnd fault c r =
+    let (is_text, on, unended, (other, why)) = refused_as laws limits events text DatasetEnd fault r c.whole (InData c.head c.given) c.told in (
+      end_text octets next c.whole c.head c.given text other (is_text ∙ ap text_so_far (no_object c.whole c.head c.given other)) c.completes,
+      inr (inr (inr (record { whole = c.whole; head = c.head; given = c.given; is_value = other; completes = c.completes; leads_on = on; unfinished = unended; refuses = why }))),
+    )
 
 -- octet k of a piece is refused, after octets on which the unpacker stands
 refused_by : LowerLaws → RefusalsTellTheLowestCause → (u : Unpacking) (piece : List ℕ) (k : ℕ) (fault : TokenFault) (e : Refusal) (added : List ℕ)
     → k < length piece → IsOctet (slice_index piece k) → e ≡ refusal_at (raised u.octets k) fault → (p : List ℕ) (n : ℕ) (at : Stands u p n)
-    → Told (limits_in u) (p ++ take k piece) (at.is_led.text ++ added) (slice_index piece k) fault
+    → IsTextOf (p ++ take k piece) (at.is_led.text ++ added) × RefusesByTests (limits_in u) (p ++ take k piece) (slice_index piece k) fault
     → IsRefusedIn (limits_in u) p n piece (story.delivered added) e
 refused_by laws tests u piece k fault e added within low is p n at told = record {
   k = k;
@@ -432,8 +378,8 @@ refused_by laws tests u piece k fault e added within low is p n at told = record
   adds = λ text is_text.
       let led = at.is_led in
       let same = one_text laws p text led.text is_text (text_of laws u.parts p led.events led.text u.reader.place led.leads led.led) in
-      subst (λ (t : List ℕ). IsTextOf (p ++ take k piece) (t ++ added)) (sym same) told.text_is;
-  refuses = (tests (limits_in u) (p ++ take k piece) (slice_index piece k) fault).1 (low, told.refuses);
+      subst (λ (t : List ℕ). IsTextOf (p ++ take k piece) (t ++ added)) (sym same) told.0;
+  refuses = (tests (limits_in u) (p ++ take k piece) (slice_index piece k) fault).1 (low, told.1);
 }
 
 -- the sink's answer at a refusal
@@ -452,11 +398,9 @@ refused_in goes failures laws tests u piece k fault a b e within low is (inl (ca
           let leads = stuck.advanced.brings p led.events led.leads in
           let then_led =
           tells_parts_on goes failures u.reader.place u.parts p (take k piece) new stuck.parts a b stuck.advanced led.events led.text led.leads led.led in
-          refused_by laws tests u piece k fault e w.more within low is p n at (record {
-            text_is = text_of laws stuck.parts octets events text new leads then_led;
-            refuses = inl (bad_tag laws (limits_in u) stuck.parts octets events text new (slice_index piece k) cause fault w.limits leads then_led
-                (open_parts stuck.parts (to_come new) stuck.takes) stuck.dies is_fault);
-          }),
+          let takes = open_parts stuck.parts (to_come new) stuck.takes in
+          let bad = bad_tag laws (limits_in u) stuck.parts octets events text new (slice_index piece k) cause fault w.limits leads then_led takes stuck.dies is_fault in
+          refused_by laws tests u piece k fault e w.more within low is p n at (text_of laws stuck.parts octets events text new leads then_led, inl bad),
     )
 refused_in goes failures laws tests u piece k fault a b e within low is (inr stop) =
     let s = stop.stopped in (
@@ -470,8 +414,7 @@ refused_in goes failures laws tests u piece k fault a b e within low is (inr sto
           let completes = stop.completes p led.events led.leads in
           let now = laws.completes octets (slice_index piece k) events stop.event completes in
           let order : AreInOrder (events ++ stop.event ∷ []) = completed_in_order octets (slice_index piece k) events stop.event completes in
-          let why : Refused (limits_in u) events text stop.event fault =
-          subst (λ (f : TokenFault). Refused (limits_in u) events text stop.event f) (sym (same_Some _ _ s.is_fault)) (s.why led.events led.text order led.led) in
+          let why : Refused (limits_in u) events text stop.event fault = rw (same_Some _ _ s.is_fault) (s.why led.events led.text order led.led) in
           refused_by laws tests u piece k fault e s.more within low is p n at
           (token_refused laws (limits_in u) octets (slice_index piece k) events text stop.event fault now why),
     )
@@ -479,9 +422,7 @@ refused_in goes failures laws tests u piece k fault a b e within low is (inr sto
 -- ---- the beginning and the end
 
 named_as : (place : Place) (begun : Begun) → IsKeptAs place begun → named_by place ≡ (begun_record begun, begun_number begun)
-named_as (Tag held) (InTag octets) keeps = ap (λ (xs : List ℕ). (get_or xs 1 0, get_or xs 2 0)) keeps
-named_as (Inside h left) (InData k taken) keeps = ap (λ (x : Head). (x.rec, x.set)) keeps.0
-named_as place begun keeps = absurd keeps
+named_as place begun keeps = grind arith
 
 pub truncated_by : (u : Unpacking) (p : List ℕ) (a : ℕ) → Stands u p a → IsTruncatedAt p a (truncated_in u.octets (named_by u.reader.place))
 truncated_by u p a at =

@@ -1,5 +1,5 @@
 -- Where a head leads the parts of an unpacker, and why it is refused.
-use Rattle.std.proofs.Common.{◌≡◌, ℕ, ◌<◌, ◌≤◌, ◌⊎◌, Bool, true, false, cond, if◌then◌else◌, nat_eq, List, [], ◌∷◌, ◌++◌, length, flat_map, Option, Some, refl, ap, sym, subst, ◌∙◌, inl, inr, arith, append-nil}
+use Rattle.std.proofs.Common.{◌≡◌, ℕ, ◌<◌, ◌≤◌, ◌⊎◌, Bool, true, false, cond, nat_eq, List, [], ◌∷◌, ◌++◌, length, flat_map, Option, Some, refl, ap, sym, subst, ◌∙◌, inl, inr, arith, append-nil}
 use Rattle.iim_dataset.specs.Format.Datasets.{Dataset, of_record}
 use Rattle.iim_dataset.specs.Format.Splits.{InTag, InData}
 use Rattle.iim_dataset.specs.States.Events.{DatasetEvent, HeadRead, events_of}
@@ -8,7 +8,6 @@ use Rattle.iim_dataset.specs.declared.head.Head.{Head}
 use Rattle.iim_fields.specs.Format.Alive.{SectionsLiveAt}
 use Rattle.iim_fields.specs.States.Standing.{IsBetween, IsHeadFault, limits_of, FieldsPlace, StandsAfter, StandsIn}
 use Rattle.iim_fields.specs.declared.fault.FieldFault.{FieldFault}
-use Rattle.iim_object.specs.Format.Events.{ObjectEnd}
 use Rattle.iim_object.specs.Format.Plans.{max_subfiles}
 use Rattle.iim_object.specs.Format.Objects.{ObjectLanguage, ObjectEnded, SubfileBegun}
 use Rattle.iim_object.specs.Format.Places.{head_token}
@@ -33,7 +32,7 @@ use Rattle.iim_unpack.specs.declared.parts.Parts.{Parts}
 use Rattle.iim_places.specs.declared.fault.TokenFault.{TokenFault}
 use Rattle.iim_places.proofs.Places.{HeadLeads, subfile_leads, end_leads}
 use Rattle.iim_unpack.proofs.Faults.{field_head, too_many_head, object_head, have_room}
-use Rattle.std.proofs.lemmas.Bool.{true≢false, ne_eqb}
+use Rattle.std.proofs.lemmas.Bool.{true≢false, ne_eqb, cases_Bool}
 use Rattle.std.proofs.lemmas.List.{length-map}
 use Rattle.std.proofs.lemmas.Option.{same_Some}
 use Rattle.iim_places.proofs.Lasts.{sections_last}
@@ -51,8 +50,7 @@ pub record Begins (new : Parts) (ds : List Dataset) (h : Head) : Type 0 where
   pub ended : h.rec ≡ 9 → wire.IsWhole new.message
 
 either_way : (b : Bool) (xs : List ℕ) → cond b xs xs ≡ xs
-either_way true xs = refl
-either_way false xs = refl
+either_way b xs = grind arith
 
 no_more : (ds : List Dataset) (h : Head) → object_so_far ds (InData h []) ≡ object_of ds
 no_more ds h = ap (λ (xs : List ℕ). object_of ds ++ xs) (either_way (nat_eq h.rec 8) []) ∙ append-nil (object_of ds)
@@ -60,11 +58,11 @@ no_more ds h = ap (λ (xs : List ℕ). object_of ds ++ xs) (either_way (nat_eq h
 within_begun : (new : Parts) (ds : List Dataset) (h : Head) → Begins new ds h → Within new ds h []
 within_begun new ds h b = record {
   octets = tt;
-  fields = subst (StandsIn new.fields ds h) (sym (either_way (nat_eq h.rec 8) [])) b.fields;
+  fields = rw (either_way (nat_eq h.rec 8) []) b.fields;
   object = b.object;
   few = b.few;
   room = b.room;
-  message = subst (λ (o : List ℕ). wire.StandsAt new.message o (text_so_far o)) (sym (no_more ds h)) b.message;
+  message = rw (no_more ds h) b.message;
   ended = b.ended;
 }
 
@@ -92,12 +90,8 @@ tells_parts_head goes failures p new a b h more between same told calm begins = 
 
 -- ---- the message at a head
 
-none_by : (b : Bool) → octets_in (if b then ObjectEnd ∷ [] else []) ≡ []
-none_by true = refl
-none_by false = refl
-
 none_in : (r : ℕ) → octets_in (events_at r) ≡ []
-none_in r = none_by (nat_eq r 9)
+none_in r = elim (cases_Bool (nat_eq r 9)) [ inl nine ↦ rw nine refl | inr other ↦ rw other refl ]
 
 same_text : TextsStandBetweenStxAndEtx → (old new : Option Place) (r : ℕ) (o more : List ℕ) → wire.LeadsOn old (octets_in (events_at r)) more new → wire.StandsAt old o (text_so_far o)
     → wire.StandsAt new o (text_so_far o) × (text_so_far o ++ more ≡ text_so_far o)
@@ -120,45 +114,32 @@ as_many ds = length-map (of_record 8 ds) (λ (d : Dataset). length d.octets)
 few_of : (p : Parts) (ds : List Dataset) → AreAfter p ds → HasFewSubfiles p.object → length (of_record 8 ds) < max_subfiles
 few_of p ds at few = let n = few (place_after_datasets ds) at.object in omega (arith, n, as_many ds)
 
+-- a head of the object's, which is not of a value
+begins_object : {S : Type 0} (goes : S → List story.StoryEvent → S → Type 0) (failures : S → ℕ) → LowerLaws → (p : Parts) (a b : S) (ds : List Dataset) (h : Head) (checker : FieldsPlace) (object : Option State) (message : Option Place)
+    → HeadLeads ds h → (h.rec ≡ 8 → length (of_record 8 ds) < max_subfiles) → (h.rec ≡ 9 → wire.IsWhole message) → AreAfter p ds → StandsIn checker ds h [] → objects.LeadsOn p.object (head_token h.rec h.count) object
+    → (passed : TellsMessage goes failures p.message a (events_at h.rec) message b)
+    → Begins (record { fields = checker; object = object; message = message }) ds h × (text_so_far (object_of ds) ++ passed.more ≡ text_so_far (object_of ds))
+begins_object goes failures laws p a b ds h checker object message leads room ended at inside leads_on passed =
+    let text = same_text laws.texts p.message message h.rec (object_of ds) passed.more passed.stands at.message in
+    let stands : objects.StandsAt object (place_at ds h) = subst (objects.StandsAt object) leads.1 (leads_on (place_after_datasets ds) at.object leads.0) in
+    (record { fields = inside; object = stands; few = at.few; room = room; message = text.0; ended = ended }, text.1)
+
 pub begins_subfile : {S : Type 0} (goes : S → List story.StoryEvent → S → Type 0) (failures : S → ℕ) → LowerLaws → (p : Parts) (a b : S) (ds : List Dataset) (h : Head) (checker : FieldsPlace) (object : Option State) (message : Option Place)
     → h.rec ≡ 8 → AreAfter p ds → StandsIn checker ds h [] → objects.LeadsOn p.object (head_token h.rec h.count) object
     → (passed : TellsMessage goes failures p.message a (events_at h.rec) message b) → HasFewSubfiles p.object
-    → Begins (record { fields = checker; object = object; message = message }) ds h
-    × (text_so_far (object_of ds) ++ passed.more ≡ text_so_far (object_of ds))
+    → Begins (record { fields = checker; object = object; message = message }) ds h × (text_so_far (object_of ds) ++ passed.more ≡ text_so_far (object_of ds))
 begins_subfile goes failures laws p a b ds h checker object message eight at inside leads_on passed few =
     let room : length (of_record 8 ds) < max_subfiles = few_of p ds at few in
-    let leads = subfile_leads laws ds h inside.alive eight room in
-    let text = same_text laws.texts p.message message h.rec (object_of ds) passed.more passed.stands at.message in (
-      record {
-        fields = inside;
-        object = subst (objects.StandsAt object) leads.1 (leads_on (place_after_datasets ds) at.object leads.0);
-        few = at.few;
-        room = λ is. room;
-        message = text.0;
-        ended = λ nine. absurd (let bad : 8 ≡ 9 = sym eight ∙ nine in omega (arith, bad));
-      },
-      text.1,
-    )
+    begins_object goes failures laws p a b ds h checker object message (subfile_leads laws ds h inside.alive eight room) (λ _. room) (λ nine. absurd (omega (arith, eight, nine))) at inside leads_on passed
 
 pub begins_end : {S : Type 0} (goes : S → List story.StoryEvent → S → Type 0) (failures : S → ℕ) → LowerLaws → (p : Parts) (a b : S) (ds : List Dataset) (h : Head) (checker : FieldsPlace) (object : Option State) (message : Option Place)
     → h.rec ≡ 9 → AreAfter p ds → StandsIn checker ds h [] → objects.LeadsOn p.object (head_token h.rec h.count) object
     → (passed : TellsMessage goes failures p.message a (events_at h.rec) message b)
-    → Begins (record { fields = checker; object = object; message = message }) ds h
-    × (text_so_far (object_of ds) ++ passed.more ≡ text_so_far (object_of ds))
+    → Begins (record { fields = checker; object = object; message = message }) ds h × (text_so_far (object_of ds) ++ passed.more ≡ text_so_far (object_of ds))
 begins_end goes failures laws p a b ds h checker object message nine at inside leads_on passed =
-    let leads = end_leads laws ds h inside.alive nine in
-    let text = same_text laws.texts p.message message h.rec (object_of ds) passed.more passed.stands at.message in
-    let is_end : end_is_last false (events_at h.rec) ≡ true = ap (λ n. end_is_last false (events_at n)) nine in (
-      record {
-        fields = inside;
-        object = subst (objects.StandsAt object) leads.1 (leads_on (place_after_datasets ds) at.object leads.0);
-        few = at.few;
-        room = λ is. absurd (let bad : 8 ≡ 9 = sym is ∙ nine in omega (arith, bad));
-        message = text.0;
-        ended = λ is. passed.whole false (λ bad. absurd (let e : false ≡ true = bad in cc)) is_end;
-      },
-      text.1,
-    )
+    let is_end : end_is_last false (events_at h.rec) ≡ true = rw nine refl in
+    let ended = passed.whole false (λ bad. absurd (true≢false (sym bad))) is_end in
+    begins_object goes failures laws p a b ds h checker object message (end_leads laws ds h inside.alive nine) (λ eight. absurd (omega (arith, eight, nine))) (λ _. ended) at inside leads_on passed
 
 pub begins_other : (p : Parts) (ds : List Dataset) (h : Head) (checker : FieldsPlace) → (h.rec ≡ 8 → ⊥) → (h.rec ≡ 9 → ⊥) → AreAfter p ds → StandsIn checker ds h []
     → Begins (record { fields = checker; object = p.object; message = p.message }) ds h
@@ -245,17 +226,13 @@ stopped_end goes failures p a b h checker fault laws last between inside nine r 
     (λ ds at.
     let alive = (inside ds at.fields).alive in
     let leads = end_leads laws ds h alive nine in
-    let lives : ObjectLives (place_at ds h) = subst ObjectLives leads.1
-    (subst (languages.IsAlive ObjectLanguage) (sym (laws.tokens (place_after_datasets ds) (head_token h.rec h.count) leads.0)) (r.lives (place_after_datasets ds) at.object leads.0)) in
+    let follows = sym (laws.tokens (place_after_datasets ds) (head_token h.rec h.count) leads.0) in
+    let lives : ObjectLives (place_at ds h) = subst ObjectLives leads.1 (subst (languages.IsAlive ObjectLanguage) follows (r.lives (place_after_datasets ds) at.object leads.0)) in
+    let room = have_room (limits_of p.fields) ds h (inr nine) (λ eight. absurd (omega (arith, eight, nine))) in
     let has = r.halted.has_cause (object_of ds) (text_so_far (object_of ds)) at.message in (
       inr (record {
         last = nine;
-        leads_on = record {
-          records = alive;
-          within = record { kept = at.fields.within; subfiles = at.few };
-          room = have_room (limits_of p.fields) ds h (inr nine) (λ eight. absurd (let bad : 8 ≡ 9 = sym eight ∙ nine in omega (arith, bad)));
-          object = lives;
-        };
+        leads_on = record { records = alive; within = record { kept = at.fields.within; subfiles = at.few }; room = room; object = lives };
         dies = subst (λ (o : List ℕ). MessageDiesAt o End) (append-nil (object_of ds)) has.1;
         is_fault = r.is_fault ∙ ap (message_on h) (sym same ∙ has.0);
       }),
@@ -267,8 +244,7 @@ pub stopped_subfile : {S : Type 0} (goes : S → List story.StoryEvent → S →
     → RefusesSubfile goes failures p.object p.message h a b fault
     → PartsRefuse goes failures (p, a) [] (HeadRead h) (Some fault, b)
 stopped_subfile goes failures p a b h checker laws last between g inside eight fault (inl (many, is, same)) =
-    subst (λ (s : _). PartsRefuse goes failures (p, a) [] (HeadRead h) (Some fault, s)) (sym same)
-    (subst (λ (f : TokenFault). PartsRefuse goes failures (p, a) [] (HeadRead h) (Some f, a)) (sym is) (stopped_many goes failures p a h checker laws last between g inside eight many))
+    rw (same, is) (stopped_many goes failures p a h checker laws last between g inside eight many)
 stopped_subfile goes failures p a b h checker laws last between g inside eight fault (inr (few, inl r)) =
     stopped_size goes failures p a b h checker fault laws last between inside (inl eight) (λ is. few) r
 stopped_subfile goes failures p a b h checker laws last between g inside eight fault (inr (few, inr r)) =
@@ -278,5 +254,5 @@ pub stopped_last : {S : Type 0} (goes : S → List story.StoryEvent → S → Ty
     → ((ds : List Dataset) → StandsAfter p.fields ds → StandsIn checker ds h []) → h.rec ≡ 9 → (fault : TokenFault)
     → RefusesObject goes failures p.object p.message h a b fault → PartsRefuse goes failures (p, a) [] (HeadRead h) (Some fault, b)
 stopped_last goes failures p a b h checker laws last between inside nine fault (inl r) =
-    stopped_size goes failures p a b h checker fault laws last between inside (inr nine) (λ eight. absurd (let bad : 8 ≡ 9 = sym eight ∙ nine in omega (arith, bad))) r
+    stopped_size goes failures p a b h checker fault laws last between inside (inr nine) (λ eight. absurd (omega (arith, eight, nine))) r
 stopped_last goes failures p a b h checker laws last between inside nine fault (inr r) = stopped_end goes failures p a b h checker fault laws last between inside nine r

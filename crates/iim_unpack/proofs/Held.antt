@@ -1,5 +1,6 @@
 -- An unpacker holds few octets and entries.
-use Rattle.std.proofs.Common.{◌≡◌, ℕ, ◌+◌, ◌<◌, ◌≤◌, Bool, true, false, if◌then◌else◌, nat_eq, List, [], length, Option, Some, refl, ap, sym, subst, ◌∙◌, inl, inr, arith}
+use Rattle.std.proofs.Common.{◌≡◌, ℕ, ◌+◌, ◌<◌, ◌≤◌, if◌then◌else◌, nat_eq, List, [], length, Option, Some, ap, sym, subst, ◌∙◌, inl, inr, arith}
+use Rattle.std.proofs.lemmas.Bool.{cases_Bool}
 use Rattle.iim_dataset.specs.Format.Datasets.{Dataset, count_octets}
 use Rattle.iim_dataset.specs.Laws.Datasets.{EventsTellTheDatasets}
 use Rattle.iim_dataset.specs.States.Places.{IsKeptAs}
@@ -46,8 +47,7 @@ few_of_message reader octets text (place, is, leads) =
 few_of_tag : (place : DatasetPlace) (begun : Begun) (p : List ℕ) (ds : List Dataset) → IsKeptAs place begun → Reads count_octets p ds begun → tag_held place ≤ 12
 few_of_tag (tags.Tag held) (InTag octets) p ds keeps reads = let few = held_length p ds octets reads in omega (arith, few, ap length keeps)
 few_of_tag (tags.Tag held) (InData h taken) p ds keeps reads = absurd keeps
-few_of_tag (tags.Inside head left) (InTag octets) p ds keeps reads = omega arith
-few_of_tag (tags.Inside head left) (InData h taken) p ds keeps reads = omega arith
+few_of_tag (tags.Inside head left) begun p ds keeps reads = omega arith
 
 -- ---- the records
 
@@ -64,34 +64,27 @@ few_after parts ds at' =
     let nothing = ap length at'.taken_are in
     record { octets = omega (arith, octets, nothing, at'.within.octets_in); entries = omega (arith, none, entries, at'.within.fields_in) }
 
--- one entry, or none
-abbrev entries_if : Bool → ℕ
-entries_if b = if b then 1 else 0
+few_entries : (parts : Parts) (ds : List Dataset) (h : Head) (taken : List ℕ) → StandsIn parts.fields ds h (if nat_eq h.rec 8 then [] else taken)
+    → length parts.fields.kept + begun_entries (begun_head_of parts.fields) ≤ parts.fields.limits.fields
+few_entries parts ds h taken at' =
+    let one : begun_entries (begun_head_of parts.fields) ≡ (if is_kept h.rec then 1 else 0) = ap begun_entries (ap begun_head at'.inside.1.head.inside) in
+    let entries = ap length at'.kept_are in
+    elim (cases_Bool (is_kept h.rec)) [
+      | inl kept ↦ let room = at'.within kept in let is = (rw kept at one) in omega (arith, is, entries, room.fields_in)
+      | inr other ↦ let is = (rw other at one) in omega (arith, is, entries, at'.others.fields_in)
+    ]
 
 few_in : (parts : Parts) (ds : List Dataset) (h : Head) (taken : List ℕ) → StandsIn parts.fields ds h (if nat_eq h.rec 8 then [] else taken) → length taken < h.count → FewFields parts
 few_in parts ds h taken at' less =
-    let some : begun_head_of parts.fields ≡ Some h = ap begun_head at'.inside.1.head.inside in
-    let one : begun_entries (begun_head_of parts.fields) ≡ entries_if (is_kept h.rec) = ap begun_entries some in
     let octets = ap (λ (xs : List Dataset). length (joined xs)) at'.kept_are in
-    let entries = ap length at'.kept_are in
     let now = ap length at'.taken_are in
     let part = some_taken (nat_eq h.rec 8) taken in
-    elim (is_one ds h at'.alive) [
-      | inl keeps ↦
-          let room = at'.within keeps in
-          let is : entries_if (is_kept h.rec) ≡ 1 = ap entries_if keeps in
-          record { octets = omega (arith, octets, now, part, less, room.octets_in); entries = omega (arith, one, is, entries, room.fields_in) }
-      | inr (inl eight) ↦
-          let zero' = none_taken h.rec taken eight in
-          let is : entries_if (is_kept h.rec) ≡ 0 = ap (λ (r : ℕ). entries_if (is_kept r)) eight in
-          record { octets = omega (arith, octets, now, zero', at'.others.octets_in); entries = omega (arith, one, is, entries, at'.others.fields_in) }
-      | inr (inr few) ↦ record { octets = omega (arith, octets, now, part, less, few, at'.others.octets_in); entries = by (is_kept h.rec) refl one entries }
-    ]
-  where
-    by : (b : Bool) → is_kept h.rec ≡ b → begun_entries (begun_head_of parts.fields) ≡ entries_if (is_kept h.rec) → length parts.fields.kept ≡ length (kept ds)
-        → length parts.fields.kept + begun_entries (begun_head_of parts.fields) ≤ parts.fields.limits.fields
-    by true is one entries = let room = at'.within is in let n : entries_if (is_kept h.rec) ≡ 1 = ap entries_if is in omega (arith, one, n, entries, room.fields_in)
-    by false is one entries = let n : entries_if (is_kept h.rec) ≡ 0 = ap entries_if is in omega (arith, one, n, entries, at'.others.fields_in)
+    let all : length (joined parts.fields.kept) + length parts.fields.taken ≤ parts.fields.limits.octets + 8 = elim (is_one ds h at'.alive) [
+      | inl keeps ↦ let room = at'.within keeps in omega (arith, octets, now, part, less, room.octets_in)
+      | inr (inl eight) ↦ let zero' = none_taken h.rec taken eight in omega (arith, octets, now, zero', at'.others.octets_in)
+      | inr (inr few) ↦ omega (arith, octets, now, part, less, few, at'.others.octets_in)
+    ] in
+    record { octets = all; entries = few_entries parts ds h taken at' }
 
 -- ---- all of it
 

@@ -1,7 +1,8 @@
 -- What an intake feeds, piece after piece.
-use Rattle.std.proofs.Common.{◌≡◌, ℕ, ◌+◌, ◌-◌, ◌^◌, ◌<◌, ◌≤◌, Bool, true, false, List, [], ◌++◌, length, take, slice_index, Option, Some, None, refl, ap, sym, subst, ◌∙◌, inl, inr, arith, append-nil, append_assoc, length-append}
+use Rattle.std.proofs.Common.{◌≡◌, ℕ, ◌+◌, ◌-◌, ◌^◌, ◌<◌, ◌≤◌, Bool, false, List, [], ◌++◌, length, take, Option, Some, None, refl, ap, sym, subst, ◌∙◌, inl, inr, arith, append-nil, append_assoc, length-append}
 use Rattle.std.specs.Prelude.{IsTrue, ◌↔◌, IfNone, IfSome}
 use Rattle.std.proofs.lemmas.List.{get_or-append-add, length-take-le}
+use Rattle.std.proofs.lemmas.Bool.{true≢false}
 use Rattle.std.proofs.lemmas.Option.{same_Some}
 use Rattle.std.proofs.Math.Seq.{take-append-add}
 use Rattle.std.specs.Io.KnownBytes.{IsAtEnd}
@@ -20,9 +21,9 @@ use Rattle.iim_places.specs.Format.Refusals.{refusal_at}
 use Rattle.iim_unpack.specs.States.Unpacking.{Unpacking, Stands, IsDoneWith, Goes, IsRefusedIn, LeftAs, limits_in}
 use Rattle.iim_places.specs.States.Counts.{raised}
 use Rattle.iim_unpack.specs.UnpackerInside.{Stood}
-use Rattle.iim_places.specs.Format.Open.{IsOpen, IsTextOf, Delivers, IsTruncatedAt, RefusesNext}
+use Rattle.iim_places.specs.Format.Open.{IsOpen, Delivers, IsTruncatedAt}
 use Rattle.iim_unpack.specs.IntakeSteps.{IsRefusedPiece, read_fault}
-use Rattle.iim_unpack.specs.States.Intakes.{FedPiece, HasFed, StandsOn, WasDone, WasEnded, IsRefusedOf, IsTruncatedIn, WasRefused, WasTruncated, WasMissed, WasGiven, IsReady, Faults, GivesNothing, in_line}
+use Rattle.iim_unpack.specs.States.Intakes.{FedPiece, HasFed, StandsOn, WasDone, WasEnded, IsRefusedOf, IsTruncatedIn, WasRefused, WasTruncated, WasMissed, WasGiven, Came, IsReady, Faults, GivesNothing, in_line}
 use Rattle.iim_places.specs.Laws.Streams.{OpenOctetsAreBounded}
 use Rattle.iim_unpack.specs.declared.intake.Fed.{Fed}
 use Rattle.iim_unpack.specs.declared.intake.Fed.TheVariants as piece
@@ -49,14 +50,14 @@ raised_twice a m n = omega arith
 -- ---- what is delivered
 
 pub adds_none : (p : List ℕ) → Delivers p [] []
-adds_none p text is = ([], subst (λ (t : List ℕ). IsTextOf (p ++ []) t) (sym (append-nil text)) (subst (λ (q : List ℕ). IsTextOf q text) (sym (append-nil p)) is), refl)
+adds_none p text is = ([], rw (append-nil text, append-nil p) is, refl)
 
 pub adds_more : DeliveryMayBeCut → (p x y : List ℕ) (m n : List story.StoryEvent) → Delivers p x m → Delivers (p ++ x) y n → Delivers p (x ++ y) (m ++ n)
 adds_more cut p x y m n one two text is =
     let (first, there, told) = one text is in
     let (second, then', told') = two (text ++ first) there in (
       first ++ second,
-      subst (λ (t : List ℕ). IsTextOf (p ++ (x ++ y)) t) (append_assoc text first second) (subst (λ (q : List ℕ). IsTextOf q ((text ++ first) ++ second)) (append_assoc p x y) then'),
+      rw (← append_assoc text first second, ← append_assoc p x y) then',
       ap (λ (es : List story.StoryEvent). es ++ n) told ∙ ap (λ (es : List story.StoryEvent). story.delivered first ++ es) told' ∙ sym (cut first second),
     )
 
@@ -65,15 +66,13 @@ adds_more cut p x y m n one two text is =
 -- what is so of the unpacker now, on all octets, from what is so on the piece
 on_all : (used more : List ℕ) (p : List ℕ) (n : ℕ) (P : List ℕ → ℕ → Type 0) → P ((p ++ used) ++ more) (raised (raised n (length used)) (length more)) → P (p ++ (used ++ more)) (raised n (length (used ++ more)))
 on_all used more p n P is =
-    subst (λ (k : ℕ). P (p ++ (used ++ more)) (raised n k)) (sym (length-append used more))
-    (subst (λ (k : ℕ). P (p ++ (used ++ more)) k) (raised_twice n (length used) (length more)) (subst (λ (q : List ℕ). P q (raised (raised n (length used)) (length more))) (append_assoc p used more) is))
+    rw (length-append used more, ← raised_twice n (length used) (length more), ← append_assoc p used more) is
 
 -- no octets more
 stands_still : (u : Unpacking) → u.octets < 2 ^ 64 → StandsOn u u [] []
-stands_still u low p n at = (subst (λ (q : List ℕ). Stands u q (raised n 0)) (sym (append-nil p)) (subst (λ (k : ℕ). Stands u p k) (same n at.counts) at), adds_none p)
-  where
-    same : (k : ℕ) → u.octets ≡ k → k ≡ raised k 0
-    same k is = omega (arith, is, low)
+stands_still u low p n at =
+    let same : n ≡ raised n 0 = omega (arith, at.counts, low) in
+    (rw (append-nil p, ← same) at, adds_none p)
 
 -- ---- one piece
 
@@ -119,54 +118,34 @@ piece_refused goes failures old new u v a b piece e given still counts refused (
 
 -- ---- one piece, after a read
 
+-- what came with the piece came since before the read
+came_read : {S : Type 0} {goes : S → List story.StoryEvent → S → Type 0} {old mid new : Device} {a b : S} {octets : List ℕ} {more : List story.StoryEvent}
+    → GiftsJoin → HasGiven old mid [] → WithinInterruptionLimit 1 old mid → new.interruptions ≡ mid.interruptions
+    → Came goes mid new a b octets more → Came goes old new a b octets more
+came_read {old = old} {mid = mid} {new = new} {octets = octets} joins none limit still came =
+    record { given = joins.more old mid new [] octets none came.given; told = came.told; patience = omega (arith, came.patience, limit, still) }
+
 pub read_and_fed : {S : Type 0} (goes : S → List story.StoryEvent → S → Type 0) (old mid new : Device) (u v : Unpacking) (a b : S) → GiftsJoin → HasGiven old mid [] → WithinInterruptionLimit 1 old mid → new.interruptions ≡ mid.interruptions → (fed : Fed)
     → FedPiece goes (mid, u, a) (new, v, b) fed → FedPiece goes (old, u, a) (new, v, b) fed
-read_and_fed goes old mid new u v a b joins none limit still (piece.More used) (some, ready, h) = (
-  some,
-  ready,
-  record {
-    octets = h.octets;
-    more = h.more;
-    came = record { given = joins.more old mid new [] h.octets none h.came.given; told = h.came.told; patience = omega (arith, limit, still) };
-    patience = omega (arith, limit, still, some, h.counts);
-    counts = h.counts;
-    limits = h.limits;
-    stands = h.stands;
-  },
-)
-read_and_fed goes old mid new u v a b joins none limit still (piece.Done used) h = record {
-  octets = h.octets;
-  more = h.more;
-  came = record { given = joins.more old mid new [] h.octets none h.came.given; told = h.came.told; patience = omega (arith, limit, still) };
-  limits = h.limits;
-  counts = h.counts;
-  done = h.done;
-}
+read_and_fed goes old mid new u v a b joins none limit still (piece.More used) (some, ready, h) =
+    let patience : WithinInterruptionLimit (length h.octets) old new = omega (arith, limit, still, some, h.counts) in
+    let came = came_read joins none limit still h.came in
+    (some, ready, record { octets = h.octets; more = h.more; came = came; patience = patience; counts = h.counts; limits = h.limits; stands = h.stands })
+read_and_fed goes old mid new u v a b joins none limit still (piece.Done used) h =
+    record { octets = h.octets; more = h.more; came = came_read joins none limit still h.came; limits = h.limits; counts = h.counts; done = h.done }
 read_and_fed goes old mid new u v a b joins none limit still piece.End (same, h) = (
   same,
   record { given = joins.more old mid new [] [] none h.given; at_end = h.at_end; patience = omega (arith, limit, still); still = h.still; none = h.none },
 )
 
-read_and_was_refused : {S : Type 0} (goes : S → List story.StoryEvent → S → Type 0) (failures : S → ℕ) (old mid new : Device) (u v : Unpacking) (a b : S) (e : Refusal) → GiftsJoin → HasGiven old mid [] → WithinInterruptionLimit 1 old mid
-    → new.interruptions ≡ mid.interruptions → WasRefused goes failures mid new u v a b e → WasRefused goes failures old new u v a b e
-read_and_was_refused goes failures old mid new u v a b e joins none limit still h = record {
-  octets = h.octets;
-  more = h.more;
-  came = record { given = joins.more old mid new [] h.octets none h.came.given; told = h.came.told; patience = omega (arith, limit, still) };
-  counts = h.counts;
-  refused = h.refused;
-  refuses = h.refuses;
-}
-
 pub read_and_refused : {R S : Type 0} (goes : S → List story.StoryEvent → S → Type 0) (failures : S → ℕ) (state : R → Device) (old mid new : Intake R) (u v : Unpacking) (a b : S) → GiftsJoin → HasGiven (in_line state old) (in_line state mid) []
     → WithinInterruptionLimit 1 (in_line state old) (in_line state mid) → (state new.reader).interruptions ≡ (state mid.reader).interruptions → (fault : IntakeFault) → IsRefusedPiece goes failures state (mid, u, a) (new, v, b) fault
     → GivesNothing goes failures state (old, u, a) (new, v, b) fault
-read_and_refused goes failures state old mid new u v a b joins none limit still fault (e, is, failed, was) = (
-  e.octet,
-  failed,
-  subst (λ (f : IntakeFault). Faults goes failures (in_line state old) (in_line state new) u v a b e.octet f) (sym is)
-      (refl, inl (read_and_was_refused goes failures (in_line state old) (in_line state mid) (in_line state new) u v a b e joins none limit still was)),
-)
+read_and_refused goes failures state old mid new u v a b joins none limit still fault (e, is, failed, h) =
+    let came = came_read joins none limit still h.came in
+    let was : WasRefused goes failures (in_line state old) (in_line state new) u v a b e =
+    record { octets = h.octets; more = h.more; came = came; counts = h.counts; refused = h.refused; refuses = h.refuses } in
+    (e.octet, failed, subst (λ (f : IntakeFault). Faults goes failures (in_line state old) (in_line state new) u v a b e.octet f) (sym is) (refl, inl was))
 
 -- ---- nothing came
 
@@ -209,9 +188,6 @@ told_truncated q k answer e is (f, same, told) = subst (λ (x : Refusal). IsTrun
 pub not_told : (answer : Option Refusal) (q : List ℕ) (k : ℕ) → answer ≡ None → ((f : Refusal) × (answer ≡ Some f) × IsTruncatedAt q k f) → ⊥
 not_told answer q k none (f, same, told) = let bad : None ≡ Some f = sym none ∙ same in cc
 
-not_fresh : (b : Bool) (q : List ℕ) → b ≡ false → (IsTrue b ↔ (q ≡ [])) → q ≡ [] → ⊥
-not_fresh b q is both none = let bad : b ≡ true = both.1 none in cc
-
 -- what is missing at the end of the input, where the unpacker stands on some octets
 pub none_missing : (answer : Option Refusal) (u : Unpacking) → ((p : List ℕ) (n : ℕ) → Stands u p n → (e : Refusal) × (answer ≡ Some e) × IsTruncatedAt p n e) → IfNone answer ((p : List ℕ) (n : ℕ) → Stands u p n → p ≡ [])
 none_missing None u told = λ p n at. absurd (not_told None p n refl (told p n at))
@@ -220,7 +196,7 @@ none_missing (Some e) u told = tt
 pub some_missing : (answer : Option Refusal) (u : Unpacking) (fresh : Bool) → fresh ≡ false → ((p : List ℕ) (n : ℕ) → Stands u p n → IsTrue fresh ↔ (p ≡ []))
     → ((p : List ℕ) (n : ℕ) → Stands u p n → (e : Refusal) × (answer ≡ Some e) × IsTruncatedAt p n e) → IfSome answer (λ e. (p : List ℕ) (n : ℕ) → Stands u p n → (p ≡ [] → ⊥) × IsTruncatedAt p n e)
 some_missing None u fresh stale begun told = tt
-some_missing (Some e) u fresh stale begun told = λ p n at. (not_fresh fresh p stale (begun p n at), told_truncated p n (Some e) e refl (told p n at))
+some_missing (Some e) u fresh stale begun told = λ p n at. (λ none. true≢false (sym ((begun p n at).1 none) ∙ stale), told_truncated p n (Some e) e refl (told p n at))
 
 -- ---- what is given
 
@@ -327,9 +303,7 @@ refused_then cut limits p n xs ys first more e adds is =
       fault = is.fault;
       refusal = is.refusal ∙ ap (λ (m : ℕ). refusal_at m is.fault) (raised_twice n (length xs) is.k);
       adds = subst (λ (zs : List ℕ). Delivers p zs (first ++ more)) (sym front) (adds_more cut p xs (take is.k ys) first more adds is.adds);
-      refuses =
-          subst (λ (b : ℕ). RefusesNext limits (p ++ take (length xs + is.k) (xs ++ ys)) b is.fault) (sym (get_or-append-add xs ys is.k 0))
-          (subst (λ (zs : List ℕ). RefusesNext limits zs (slice_index ys is.k) is.fault) (append_assoc p xs (take is.k ys) ∙ ap (λ (zs : List ℕ). p ++ zs) (sym front)) is.refuses);
+      refuses = rw (get_or-append-add xs ys is.k 0, front, ← append_assoc p xs (take is.k ys)) is.refuses;
     }
 
 truncated_then : DeliveryMayBeCut → (limits : Limits) (p : List ℕ) (n : ℕ) (xs ys : List ℕ) (first more : List story.StoryEvent) (e : Refusal) → Delivers p xs first

@@ -20,7 +20,7 @@ use Rattle.iim_places.specs.Format.Refusals.{refusal_at}
 use Rattle.iim_places.specs.Format.Streams.{Answer, Answers, Finished, Refused, Truncated, IsEnvelopeWithin, IsFinished}
 use Rattle.iim_unpack.specs.States.Unpacking.{Unpacking, Stands, IsDone, IsDoneWith, Goes, IsRefusedIn, limits_in}
 use Rattle.iim_places.specs.States.Counts.{raised}
-use Rattle.iim_places.specs.Format.Open.{IsOpen, Delivers, IsTruncatedAt, RefusesNext}
+use Rattle.iim_places.specs.Format.Open.{IsOpen, Delivers, IsTruncatedAt}
 use Rattle.iim_unpack.specs.Format.Value.{HasParts}
 use Rattle.iim_places.specs.declared.refusal.Refusal.{Refusal}
 use Rattle.iim_unpack.specs.States.Parts.{CountsFor}
@@ -73,22 +73,15 @@ pub tells_parts_on : {S : Type 0} (goes : S → List story.StoryEvent → S → 
     → (DoneIn' : (used : ℕ) → used ≤ length o → IsDoneWith u (take used o) used → (v ≡ u) × (c ≡ b)) → HasFedPieces goes limits v a c (o ++ piece)
 tells_parts_on {S = S} goes joined cut laws limits low u v a b c o piece progress fed same step done' = by fed.stood
   where
-    by_progress : (q : Progress) → Stands u o (length o) → Delivers [] o fed.more → Goes v o (length o) piece step.0 q → HasFedPieces goes limits v a c (o ++ piece)
-    by_progress More at adds there = record {
-      limits_are = same;
-      more = fed.more ++ step.0;
-      told = joined a b c fed.more step.0 fed.told step.1;
-      stood = inl (on_more laws limits low v o piece same there.0, adds_more cut [] o piece fed.more step.0 adds there.1);
-    }
-    by_progress (Done used) at adds there = record {
-      limits_are = same;
-      more = fed.more ++ step.0;
-      told = joined a b c fed.more step.0 fed.told step.1;
-      stood = inr (on_done cut laws limits low v o piece fed.more step.0 used same there.0 there.1 adds there.2);
-    }
+    by_progress : (q : Progress) → Stands u o (length o) → Delivers [] o fed.more → Goes v o (length o) piece step.0 q
+        → (Stands v (o ++ piece) (length (o ++ piece)) × Delivers [] (o ++ piece) (fed.more ++ step.0)) ⊎ DoneIn v (o ++ piece) (fed.more ++ step.0)
+    by_progress More at adds there = inl (on_more laws limits low v o piece same there.0, adds_more cut [] o piece fed.more step.0 adds there.1)
+    by_progress (Done used) at adds there = inr (on_done cut laws limits low v o piece fed.more step.0 used same there.0 there.1 adds there.2)
 
     by : (Stands u o (length o) × Delivers [] o fed.more) ⊎ DoneIn u o fed.more → HasFedPieces goes limits v a c (o ++ piece)
-    by (inl (at, adds)) = by_progress progress at adds (step.2 o (length o) at)
+    by (inl (at, adds)) =
+        let stood = by_progress progress at adds (step.2 o (length o) at) in
+        record { limits_are = same; more = fed.more ++ step.0; told = joined a b c fed.more step.0 fed.told step.1; stood = stood }
     by (inr d) =
         let still = done' d.used d.fits d.done in
         let front : take d.used (o ++ piece) ≡ take d.used o = take-append-le d.used o piece d.fits in
@@ -131,8 +124,7 @@ was_refused goes joined cut laws limits low a b c o piece rest more next e told 
         fits = omega (arith, within, at, length-append o (piece ++ rest), length-append piece rest);
         fault = r.fault;
         refusal = r.refusal ∙ ap (λ (n : ℕ). refusal_at n r.fault) (sym (ap (λ (x : Refusal). x.octet) r.refusal));
-        refuses = subst (λ (x : List ℕ). RefusesNext limits x (slice_index stream e.octet) r.fault) (sym front)
-            (subst (λ (n : ℕ). RefusesNext limits (o ++ take r.k piece) n r.fault) (sym octet) r.refuses);
+        refuses = rw (front, octet) r.refuses;
       },
       (more ++ next, joined a b c more next told then', subst (λ (x : List ℕ). Delivers [] x (more ++ next)) (sym front) (adds_more cut [] o (take r.k piece) more next adds delivered)),
     )

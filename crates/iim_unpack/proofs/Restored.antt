@@ -1,5 +1,5 @@
 -- Readers that were made for a possible place stand at all octets that lead there, and an unpacker that is made of them is sound.
-use Rattle.std.proofs.Common.{◌≡◌, ℕ, ◌<◌, nat_eq, if◌then◌else◌, true, false, List, [], length, IsSome, refl, ap, sym, subst, ◌∙◌, arith, ◌⊎◌, Bool, inl, inr, None}
+use Rattle.std.proofs.Common.{◌+◌, ◌≡◌, ℕ, ◌<◌, nat_eq, if◌then◌else◌, true, false, List, [], length, IsSome, refl, ap, sym, subst, ◌∙◌, arith, ◌⊎◌, inl, inr, None}
 use Rattle.iim_dataset.specs.Format.Octets.{Octets}
 use Rattle.iim_dataset.specs.Format.Datasets.{Dataset, of_record, count_octets}
 use Rattle.iim_dataset.specs.Format.Splits.{Begun, InTag, InData, Reads}
@@ -26,7 +26,7 @@ use Rattle.iim_places.specs.Format.Open.{object_so_far, IsOpen}
 use Rattle.iim_unpack.specs.States.Parts.{AreAfter, Within, StandsFor, has_ended}
 use Rattle.iim_places.specs.States.PlainDatasets.{plain}
 use Rattle.iim_unpack.specs.Restoring.{IsMadeFor, ReadersMakeUnpackers}
-use Rattle.iim_places.specs.States.Readers.{RecordsStand, AreAt, ObjectStands, MessageStands, FieldsStand}
+use Rattle.iim_places.specs.States.Readers.{RecordsStand, AreAt, FieldsStand}
 use Rattle.iim_places.specs.Format.Streams.{IsEnvelopeWithin}
 use Rattle.iim_places.specs.Format.Tickets.{Place, IsPlaceOf, place_of}
 use Rattle.iim_places.specs.Format.Tokens.{CanContinue, CanContinueAt, MayContinue}
@@ -45,13 +45,12 @@ use Rattle.iim_places.proofs.SameRecords.{stated_after_all}
 use Rattle.iim_places.proofs.Tickets.{count_of}
 use Rattle.iim_places.specs.Laws.Lower.{LowerLaws}
 use Rattle.iim_places.proofs.ReadersAt.{like, ended_reader, text_led, TagPhase, base_tag, live_tag, stand_tag, present_tag, object_tag, ending_tag, object_data, keeps, come, between_tag}
-use Rattle.std.proofs.lemmas.Bool.{ne_eqb}
+use Rattle.std.proofs.lemmas.Bool.{ne_eqb, true≢false}
 use Rattle.iim_dataset.specs.declared.place.DatasetPlace.TheVariants.{Tag, Inside}
 use Rattle.iim_object.specs.Laws.Reading.{ReadersTellSizes}
 use Rattle.iim_places.specs.States.Possible.{AreOpenOrWhole}
 use Rattle.iim_places.specs.Laws.Places.{LimitsAreToldByPlace}
 use Rattle.iim_unpack.specs.Routing.{Takes, HasEnded}
-use Rattle.iim_dataset.specs.States.Reading.{TakesCalls}
 use Rattle.iim_places.specs.Format.TicketForm.{Split}
 use Rattle.iim_places.specs.declared.ticket.possible.Readers.{Readers}
 
@@ -168,8 +167,7 @@ made_done laws place limits at u s made sizes object message p v is whole =
     let reads = reads_envelope p v whole.admits in
     let same = one_reading laws p is.whole ds is.begun (InTag []) is.reads reads in
     let is_place : place ≡ place_of ds (InTag []) is.message = is.is_place ∙ ap (λ (es : List Dataset). place_of es is.begun is.message) same.whole_is ∙ ap (λ (b : Begun). place_of ds b is.message) same.begun_is in
-    let leads : LeadsToSaved (object_of ds) is.text is.message =
-    subst (λ (b : Begun). LeadsToSaved (object_so_far ds b) is.text is.message) same.begun_is (subst (λ (es : List Dataset). LeadsToSaved (object_so_far es is.begun) is.text is.message) same.whole_is is.leads) in
+    let leads : LeadsToSaved (object_of ds) is.text is.message = rw (same.whole_is, same.begun_is) at is.leads in
     let here : AreMadeFor limits at u (place_of ds (InTag []) is.message) = subst (AreMadeFor limits at u) is_place made in
     let goes = (goes_envelope laws limits p v whole).sizes in
     let stand = after_datasets laws limits at u ds [] is.message is.text here goes leads in
@@ -188,26 +186,17 @@ made_done laws place limits at u s made sizes object message p v is whole =
 -- What comes next is taken where the readers stand at open octets.
 takes_at : (parts : Parts) (place : DatasetPlace) (ds : List Dataset) (b : Begun) → StandsFor parts ds b → IsKeptAs place b → has_ended parts ≡ false → IsSome parts.object → IsSome parts.message → Takes parts (to_come place)
 takes_at parts (Tag held) ds (InTag octets) stand keeps more object message = record { fields = stand.fields.between; object = object; message = message; more = more }
-takes_at parts (Inside k left) ds (InData h xs) stand keeps more object message = record {
-  head = h;
-  fields = record {
-    head = stand.fields.inside.1.head;
-    to_come = λ other.
-        let given : parts.fields.taken ≡ xs = stand.fields.taken_are ∙ ap (λ (b : Bool). if b then [] else xs) (ne_eqb h.rec 8 other) in
-        let same : length parts.fields.taken ≡ length xs = ap length given in
-        let all = keeps.1 in
-        omega (arith, same, all);
-  };
-  object = object;
-  message = message;
-}
+takes_at parts (Inside k left) ds (InData h xs) stand keeps more object message =
+    let given : (h.rec ≡ 8 → ⊥) → parts.fields.taken ≡ xs = λ other. stand.fields.taken_are ∙ rw (ne_eqb h.rec 8 other) refl in
+    let to_come : (h.rec ≡ 8 → ⊥) → length parts.fields.taken + left ≡ h.count = λ other. omega (arith, ap length (given other), keeps.1) in
+    record { head = h; fields = record { head = stand.fields.inside.1.head; to_come = to_come }; object = object; message = message }
 takes_at parts place ds b stand keeps more object message = absurd keeps
 
 -- The last dataset has ended where the readers say so.
 ended_at : (parts : Parts) (ds : List Dataset) (b : Begun) → StandsFor parts ds b → has_ended parts ≡ true → IsSome parts.object → IsSome parts.message → HasEnded parts
 ended_at parts ds (InTag held) stand last object message = record { last = last; between = stand.fields.between; object = object; message = message }
 ended_at parts ds (InData h xs) stand last object message =
-    absurd (let more = unended_inside parts h stand.fields.inside.0 stand.fields.inside.1 in let bad : true ≡ false = sym last ∙ more in cc)
+    absurd (true≢false (sym last ∙ unended_inside parts h stand.fields.inside.0 stand.fields.inside.1))
 
 pub readers_make : LowerLaws → LimitsAreToldByPlace → ReadersTellSizes → ReadersMakeUnpackers
 readers_make laws told sizes place limits at u ticket is within leads made object message =
@@ -239,10 +228,10 @@ made_for s r at limits count u taking counts begun tags object message records l
   taking = taking;
   counts = counts;
   begun = begun ∙ at.begun_is;
-  calls = subst TakesCalls (sym tags) at.calls;
-  tags = ap (λ t. t.place) tags ∙ at.tags_are;
+  calls = rw tags at.calls;
+  tags = rw tags at.tags_are;
   records = records at.place at.parts at.leads;
   limits_are = limits_are;
-  object = subst (λ o. ObjectStands o at.place) (sym object) at.object_is;
-  message = subst (λ m. MessageStands m at.place) (sym message) at.message_is;
+  object = rw object at.object_is;
+  message = rw message at.message_is;
 }

@@ -28,17 +28,12 @@ data_more ds h taken run =
 -- its end
 pub end_told : (ds : List Dataset) (h : Head) (taken : List ℕ) → length taken ≡ h.count → handed_on ds (InData h taken) ++ DatasetEnd ∷ [] ≡ handed_on (ds ++ data_of h taken ∷ []) (InTag [])
 end_told ds h taken whole =
+    let same : h ≡ head_of (data_of h taken) = λ i. record { rec = h.rec; set = h.set; count = sym whole i } in
     append_assoc (flat_map events_of ds) (HeadRead h ∷ map DataOctet taken) (DatasetEnd ∷ [])
     ∙ ap (λ (k : Head). flat_map events_of ds ++ (HeadRead k ∷ (map DataOctet taken ++ DatasetEnd ∷ []))) same
-    ∙ ap (λ (es : List DatasetEvent). flat_map events_of ds ++ es) (sym (append-nil (events_of d)))
-    ∙ sym (flat_map-append events_of ds (d ∷ []))
-    ∙ sym (append-nil (flat_map events_of (ds ++ d ∷ [])))
-  where
-    d : Dataset
-    d = data_of h taken
-
-    same : h ≡ head_of (data_of h taken)
-    same = λ i. record { rec = h.rec; set = h.set; count = sym whole i }
+    ∙ ap (λ (es : List DatasetEvent). flat_map events_of ds ++ es) (sym (append-nil (events_of (data_of h taken))))
+    ∙ sym (flat_map-append events_of ds (data_of h taken ∷ []))
+    ∙ sym (append-nil (flat_map events_of (ds ++ data_of h taken ∷ [])))
 
 -- ---- what is handed on is in order
 

@@ -1,10 +1,9 @@
 -- The ticket that is spelled of an unpacker is that of its place, and how long it is.
-use Rattle.std.proofs.Common.{◌≡◌, ℕ, ◌-◌, nat_eq, Bool, false, if◌then◌else◌, List, length, sum, refl, ap, sym, ◌∙◌, inl, inr, ◌⊎◌, arith, ◌+◌, ◌*◌, ◌<◌, ◌≤◌, []}
+use Rattle.std.proofs.Common.{◌≡◌, ℕ, ◌-◌, nat_eq, false, if◌then◌else◌, List, length, refl, ap, sym, ◌∙◌, inl, inr, ◌⊎◌, arith, ◌+◌, ◌*◌, ◌≤◌, []}
 use Rattle.iim_dataset.specs.Format.Datasets.{Dataset, of_record, count_octets}
 use Rattle.iim_dataset.specs.Format.Splits.{Begun, InTag, InData, Reads}
 use Rattle.iim_dataset.specs.States.Places.{IsKeptAs}
 use Rattle.iim_dataset.specs.Laws.Datasets.{EventsTellTheDatasets}
-use Rattle.iim_dataset.specs.declared.head.Head.{Head}
 use Rattle.iim_dataset.specs.declared.place.DatasetPlace.{DatasetPlace}
 use Rattle.iim_dataset.specs.declared.place.DatasetPlace.TheVariants.{Tag, Inside}
 use Rattle.iim_fields.specs.Format.Faults.{kept, section_after, joined}
@@ -16,9 +15,9 @@ use Rattle.wire_message.specs.declared.saved.MessagePlace.{MessagePlace}
 use Rattle.iim_places.specs.Format.Admitted.{object_of}
 use Rattle.iim_places.specs.Format.Tokens.{place_at}
 use Rattle.iim_places.specs.Format.Open.{object_so_far, section}
-use Rattle.iim_unpack.specs.States.Parts.{AreAfter, Within, StandsFor, has_ended}
+use Rattle.iim_unpack.specs.States.Parts.{StandsFor, has_ended}
 use Rattle.iim_unpack.specs.States.Unpacking.{Unpacking, IsLed, Stands, IsDoneWith, limits_in}
-use Rattle.iim_places.specs.Format.Tickets.{TagBegun, DataBegun, AllEnded, phase_of, heads_of, place_of, ticket_of, IsTicketOf, present_version, phase_octets}
+use Rattle.iim_places.specs.Format.Tickets.{phase_of, heads_of, place_of, ticket_of, IsTicketOf, present_version, phase_octets}
 use Rattle.iim_unpack.specs.TicketReading.{phase_in, IsSpelled}
 use Rattle.iim_unpack.specs.declared.parts.Parts.{Parts}
 use Rattle.iim_unpack.proofs.Ended.{ended_by_record, unended_inside}
@@ -41,12 +40,11 @@ record Parted (place : DatasetPlace) (parts : Parts) (ticket : List ℕ) (s : Is
   pub text : List ℕ
   pub leads : LeadsToSaved (object_so_far whole begun) text s.message
 
-parted_after : (parts : Parts) (ticket : List ℕ) (ds : List Dataset) (held : List ℕ) (place : DatasetPlace) (s : IsSpelled place parts ticket) → IsKeptAs place (InTag held) → AreAfter parts ds
-    → Parted place parts ticket s ds (InTag held)
-parted_after parts ticket ds held (Inside g left) s keeps at = absurd keeps
-parted_after parts ticket ds held (Tag octets) s keeps at = record {
+parted : (parts : Parts) (ticket : List ℕ) (whole : List Dataset) (begun : Begun) (place : DatasetPlace) (s : IsSpelled place parts ticket) → IsKeptAs place begun → StandsFor parts whole begun
+    → Parted place parts ticket s whole begun
+parted parts ticket ds (InTag held) (Tag octets) s keeps at = record {
   section = s.after ds at.fields;
-  phase = ap (λ (b : Bool). if b then AllEnded else TagBegun octets.items) (ended_by_record parts ds at.fields) ∙ ap (λ (xs : List ℕ). if nat_eq (section_after ds) 9 then AllEnded else TagBegun xs) keeps;
+  phase = rw (ended_by_record parts ds at.fields, keeps) refl;
   fields = at.fields.kept_are;
   numbers = s.numbers_are (place_after_datasets ds) at.object;
   taken = let is = s.taken_is (place_after_datasets ds) at.object in let total = total_of (of_record 8 ds) in omega (arith, is, total);
@@ -54,33 +52,20 @@ parted_after parts ticket ds held (Tag octets) s keeps at = record {
   text = _;
   leads = message_at parts.message (object_of ds) _ s.message at.message s.message_is;
 }
-
-parted_within : (parts : Parts) (ticket : List ℕ) (ds : List Dataset) (h : Head) (given : List ℕ) (place : DatasetPlace) (s : IsSpelled place parts ticket) → IsKeptAs place (InData h given) → Within parts ds h given
-    → Parted place parts ticket s ds (InData h given)
-parted_within parts ticket ds h given (Tag octets) s keeps at = absurd keeps
-parted_within parts ticket ds h given (Inside g left) s (is, many) at =
+parted parts ticket ds (InData h given) (Inside g left) s (is, many) at =
     let ended : has_ended parts ≡ false = unended_inside parts h at.fields.inside.0 at.fields.inside.1 in
     let rest : left ≡ h.count - length given = omega (arith, many) in
     record {
       section = s.inside ds h _ at.fields;
-      phase = ap (λ (b : Bool). if b then AllEnded else DataBegun g.set g.count left parts.fields.taken) ended
-          ∙ ap (λ (k : Head). DataBegun k.set k.count left parts.fields.taken) is
-          ∙ ap (λ n. DataBegun h.set h.count n parts.fields.taken) rest
-          ∙ ap (DataBegun h.set h.count (h.count - length given)) at.fields.taken_are;
+      phase = rw (ended, is, rest, at.fields.taken_are) refl;
       fields = at.fields.kept_are;
       numbers = s.numbers_are (place_at ds h) at.object ∙ ap stated_numbers (stated_by (nat_eq h.rec 8) (nat_eq h.rec 9) ds h.count);
-      taken = s.taken_is (place_at ds h) at.object
-          ∙ (ap (λ (k : Head). sum (place_at ds h).lengths - (if nat_eq k.rec 8 then left else 0)) is
-          ∙ taken_by (nat_eq h.rec 8) (nat_eq h.rec 9) ds given h.count left many);
+      taken = s.taken_is (place_at ds h) at.object ∙ rw is (taken_by (nat_eq h.rec 8) (nat_eq h.rec 9) ds given h.count left many);
       heads = s.heads_are (place_at ds h) at.object ∙ heads_by (nat_eq h.rec 8) (nat_eq h.rec 9) ds h.count;
       text = _;
       leads = message_at parts.message (object_so_far ds (InData h given)) _ s.message at.message s.message_is;
     }
-
-parted : (parts : Parts) (ticket : List ℕ) (whole : List Dataset) (begun : Begun) (place : DatasetPlace) (s : IsSpelled place parts ticket) → IsKeptAs place begun → StandsFor parts whole begun
-    → Parted place parts ticket s whole begun
-parted parts ticket whole (InTag held) place s keeps at = parted_after parts ticket whole held place s keeps at
-parted parts ticket whole (InData h given) place s keeps at = parted_within parts ticket whole h given place s keeps at
+parted parts ticket ds begun place s keeps at = absurd keeps
 
 -- The ticket is that of octets that led here.
 pub record Placed (u : Unpacking) (p ticket : List ℕ) : Type 0 where
@@ -128,32 +113,16 @@ begun_length : (parts : Parts) (p : List ℕ) (ds : List Dataset) (b : Begun) �
     → length (phase_octets present_version (phase_of ds b)) + (6 * length (kept ds) + length (joined (kept ds))) ≤ 26 + (parts.fields.limits.octets + 6 * parts.fields.limits.fields)
 begun_length parts p ds (InTag held) reads stands =
     let phase = tag_begun_length (nat_eq (section_after ds) 9) held (held_length p ds held reads) in
-    by (length (phase_octets present_version (phase_of ds (InTag held)))) (length (kept ds)) (length (joined (kept ds))) parts.fields.limits.octets parts.fields.limits.fields phase stands.fields.within.octets_in stands.fields.within.fields_in
-  where
-    by : (phase n data_all octets fields : ℕ) → phase ≤ 14 → data_all ≤ octets → n ≤ fields → phase + (6 * n + data_all) ≤ 26 + (octets + 6 * fields)
-    by phase n data_all octets fields a b c = omega (arith, a, b, c)
+    omega (arith, phase, stands.fields.within.octets_in, stands.fields.within.fields_in)
 begun_length parts p ds (InData h taken) reads stands =
     let phase = data_length h.set h.count (h.count - length taken) (if nat_eq h.rec 8 then [] else taken) in
     let some = some_taken (nat_eq h.rec 8) taken in
     let less = reads.is_rest.2 in
-    let all = length (phase_octets present_version (phase_of ds (InData h taken))) in
     elim (is_one ds h stands.fields.alive) [
-      | inl keeps ↦
-          let room = stands.fields.within keeps in
-          in_kept all (length (if nat_eq h.rec 8 then [] else taken)) (length taken) h.count (length (kept ds)) (length (joined (kept ds))) parts.fields.limits.octets parts.fields.limits.fields phase some less room.octets_in room.fields_in
-      | inr (inl eight) ↦
-          in_other all (length (if nat_eq h.rec 8 then [] else taken)) (length (kept ds)) (length (joined (kept ds))) parts.fields.limits.octets parts.fields.limits.fields phase (let zero = none_taken h.rec taken eight in omega (arith, zero))
-          stands.fields.others.octets_in stands.fields.others.fields_in
-      | inr (inr few) ↦
-          in_other all (length (if nat_eq h.rec 8 then [] else taken)) (length (kept ds)) (length (joined (kept ds))) parts.fields.limits.octets parts.fields.limits.fields phase (omega (arith, some, less, few)) stands.fields.others.octets_in
-          stands.fields.others.fields_in
+      | inl keeps ↦ let room = stands.fields.within keeps in omega (arith, phase, some, less, room.octets_in, room.fields_in)
+      | inr (inl eight) ↦ let zero = none_taken h.rec taken eight in omega (arith, phase, zero, stands.fields.others.octets_in, stands.fields.others.fields_in)
+      | inr (inr few) ↦ omega (arith, phase, some, less, few, stands.fields.others.octets_in, stands.fields.others.fields_in)
     ]
-  where
-    in_kept : (phase some taken count n data_all octets fields : ℕ) → phase ≡ 18 + some → some ≤ taken → taken < count → data_all + count ≤ octets → n + 1 ≤ fields → phase + (6 * n + data_all) ≤ 26 + (octets + 6 * fields)
-    in_kept phase some taken count n data_all octets fields a b c d e = omega (arith, a, b, c, d, e)
-
-    in_other : (phase some n data_all octets fields : ℕ) → phase ≡ 18 + some → some ≤ 8 → data_all ≤ octets → n ≤ fields → phase + (6 * n + data_all) ≤ 26 + (octets + 6 * fields)
-    in_other phase some n data_all octets fields a b c d = omega (arith, a, b, c, d)
 
 -- Wherever the unpacker stands, its ticket is short.
 pub short_ticket : EventsTellTheDatasets → (u : Unpacking) (ticket : List ℕ) → IsSpelled u.reader.place u.parts ticket → Stood u → length ticket ≤ (limits_in u).octets + 6 * (limits_in u).fields + 256
@@ -162,7 +131,4 @@ short_ticket tell u ticket s (p, a, stood) =
     let rest = rest_length (place_of by.whole by.begun by.message) (numbers_length _ _ _ _) (texts_short _ by.text by.message by.leads) in
     let begun = begun_length u.parts p by.whole by.begun by.reads by.stands in
     let is = ap length by.spelled in
-    sums (length ticket) _ (length (phase_octets present_version (phase_of by.whole by.begun))) _ (limits_in u).octets (limits_in u).fields is rest begun
-  where
-    sums : (ticket whole phase kept octets fields : ℕ) → ticket ≡ whole → whole ≤ 227 + phase + kept → phase + kept ≤ 26 + (octets + 6 * fields) → ticket ≤ octets + 6 * fields + 256
-    sums ticket whole phase kept octets fields a b c = omega (arith, a, b, c)
+    omega (arith, is, rest, begun)

@@ -1,5 +1,6 @@
 -- What a run of octets, or the end, tells a message, and what the object's refusal of a head says of it.
-use Rattle.std.proofs.Common.{◌≡◌, ℕ, true, false, List, [], ◌∷◌, ◌++◌, map, Option, Some, IsSome, refl, ap, sym, subst, ◌∙◌, append-nil, length, ◌==◌, arith}
+use Rattle.std.proofs.Common.{◌≡◌, ℕ, true, false, List, [], ◌∷◌, ◌++◌, map, Option, Some, IsSome, refl, ap, sym, subst, ◌∙◌, append-nil, length, ◌==◌}
+use Rattle.std.proofs.lemmas.List.{nil_from_length}
 use Rattle.std.proofs.lemmas.Bool.{eqb-true}
 use Rattle.iim_object.specs.Format.Events.{ObjectOctet, ObjectEnd}
 use Rattle.wire_message.specs.Format.Layers.{MessageDiesAt}
@@ -43,14 +44,8 @@ tells_message_octets goes failures old new a b (x ∷ xs) more some takes told c
 
 pub tells_message_end : {S : Type 0} (goes : S → List story.StoryEvent → S → Type 0) (failures : S → ℕ) (old : Option Place) (a : S) → IsSome old → goes a [] a → IsWhole old
     → TellsMessage goes failures old a (ObjectEnd ∷ []) old a
-tells_message_end goes failures old a some g whole = record {
-  takes_calls = some;
-  more = [];
-  told = g;
-  calm = refl;
-  stands = goes_nowhere old;
-  whole = λ before w e. whole;
-}
+tells_message_end goes failures old a some g whole =
+    record { takes_calls = some; more = []; told = g; calm = refl; stands = goes_nowhere old; whole = λ before w e. whole }
 
 pub message_refuses_octet : {S : Type 0} (goes : S → List story.StoryEvent → S → Type 0) (failures : S → ℕ) (old : Option Place) (a b : S) (front : List ℕ) (octet : ℕ) (why : MessageCause) (more : List ℕ)
     → goes a (story.delivered more) b → CountsCause (failures a) (failures b) why → GoesSomewhere old front more
@@ -85,8 +80,7 @@ message_refuses_end goes failures old a why some is g dies = record {
 -- an empty run
 pub tells_message_empty : {S : Type 0} (goes : S → List story.StoryEvent → S → Type 0) (failures : S → ℕ) (old : Option Place) (a : S) (run : List ℕ) → true ≡ (length run == 0) → IsSome old → goes a [] a
     → TellsMessage goes failures old a (map ObjectOctet run) old a
-tells_message_empty goes failures old a [] none some g = tells_message_nothing goes failures old a some g
-tells_message_empty goes failures old a (x ∷ xs) none some g = absurd (let is = eqb-true (length (x ∷ xs)) 0 (sym none) in omega (arith, is))
+tells_message_empty goes failures old a run none some g = rw (nil_from_length run (eqb-true (length run) 0 (sym none))) (tells_message_nothing goes failures old a some g)
 
 pub by_fault : {S : Type 0} (goes : S → List story.StoryEvent → S → Type 0) (failures : S → ℕ)
     (object : Option State) (token : ObjectToken) (a b : ToMessage S) → IsSome a.message.now

@@ -1,7 +1,7 @@
 -- A whole dataset leads the parts of an unpacker on; or a subfile is refused at an octet.
-use Rattle.std.specs.Prelude.{IsSome, is_none, is_some, ◌&&◌}
-use Rattle.std.proofs.Common.{◌≡◌, ℕ, ◌<◌, Bool, true, false, ◌||◌, ◌&&◌, cond, nat_eq, List, [], ◌∷◌, ◌++◌, length, map, flat_map, get_or, Option, Some, None, refl, ap, sym, subst, ◌∙◌, inl, inr, arith, append_assoc, append-nil}
-use Rattle.std.proofs.lemmas.Bool.Decides.{eqb_tells}
+use Rattle.std.specs.Prelude.{IsSome, is_none, is_some}
+use Rattle.std.proofs.Common.{◌≡◌, ℕ, ◌<◌, Bool, true, false, nat_eq, List, [], ◌∷◌, ◌++◌, length, map, flat_map, get_or, Option, Some, None, refl, ap, sym, subst, ◌∙◌, inl, inr, arith, append_assoc, append-nil}
+use Rattle.std.proofs.lemmas.Bool.{eqb-false, eqb-true, or_cases}
 use Rattle.iim_dataset.specs.Format.Datasets.{Dataset, head_of}
 use Rattle.iim_dataset.specs.Format.Splits.{InTag}
 use Rattle.iim_dataset.specs.States.Events.{DatasetEvent, HeadRead, DataOctet, DatasetEnd, events_of, handed_on}
@@ -58,8 +58,7 @@ pub spells_number : (h : Head) (xs : List ℕ) (o : Option ℕ) (n : ℕ) → h.
 spells_number h xs o n count some is value fits = record { count = count; few = some (ap is_some is); fit = are_octets xs fits; is = value }
 
 none_where : {X : Type 0} (o : Option X) → is_none o ≡ true → o ≡ None
-none_where None e = refl
-none_where (Some x) e = absurd cc
+none_where o e = grind arith
 
 -- they may come
 pub admits_where : (f : FieldsPlace) (h : Head) (n : ℕ) (xs : List ℕ) (b : Bool) → Spells xs h n
@@ -68,61 +67,47 @@ admits_where f h n xs b s exactly is = record { count = s.count; octets = s.fit;
 
 -- ---- the kept records
 
--- what holds of a record that is kept
-record Keeps (r : ℕ) : Type 0 where
-  seven : (r ≡ 7 → ⊥)
-  eight : nat_eq r 8 ≡ false
-  nine : nat_eq r 9 ≡ false
-  silent : tells_number r ≡ false
-
-keeps_one : (r s : ℕ) → r ≡ s → Keeps s → Keeps r
-keeps_one r s is k = subst Keeps (sym is) k
-
-keeps : (r : ℕ) → is_kept r ≡ true → Keeps r
-keeps r kept = elim (eqb_tells r 1) [
-  | inl one ↦ keeps_one r 1 one.1 (record { seven = λ is. omega (arith, is); eight = refl; nine = refl; silent = refl })
-  | inr other ↦ elim (eqb_tells r 2) [
-    | inl two ↦ keeps_one r 2 two.1 (record { seven = λ is. omega (arith, is); eight = refl; nine = refl; silent = refl })
-    | inr neither ↦ let bad : false ≡ true = sym (ap (λ (b : Bool). b || nat_eq r 2) other.0 ∙ neither.0) ∙ kept in absurd cc
-  ]
-]
+-- a record that is kept is not the object's, and tells no number
+keeps : (r : ℕ) → is_kept r ≡ true → (nat_eq r 8 ≡ false) × (nat_eq r 9 ≡ false) × (tells_number r ≡ false)
+keeps r kept = elim (or_cases (nat_eq r 1) (nat_eq r 2) kept) [ inl one ↦ rw (eqb-true r 1 one) (refl, refl, refl) | inr two ↦ rw (eqb-true r 2 two) (refl, refl, refl) ]
 
 -- ---- the dataset
 
 told_one : (ds : List Dataset) (h : Head) (xs : List ℕ) → h.count ≡ length xs → flat_map events_of ds ++ (HeadRead h ∷ (map DataOctet xs ++ DatasetEnd ∷ [])) ≡ handed_on (ds ++ data_of h xs ∷ []) (InTag [])
 told_one ds h xs count = sym (append_assoc (flat_map events_of ds) (HeadRead h ∷ map DataOctet xs) (DatasetEnd ∷ [])) ∙ end_told ds h xs (sym count)
 
--- the dataset is of no record after 7, and leads the object to its place
-after_one : (p new : Parts) (ds : List Dataset) (h : Head) (xs : List ℕ) → nat_eq h.rec 8 ≡ false → nat_eq h.rec 9 ≡ false → AreAfter p ds → StandsAfter new.fields (ds ++ data_of h xs ∷ [])
+-- it adds nothing to the object
+same_object : (ds : List Dataset) (h : Head) (xs : List ℕ) → nat_eq h.rec 8 ≡ false → object_of (ds ++ data_of h xs ∷ []) ≡ object_of ds
+same_object ds h xs eight = rw (object_of_more ds (data_of h xs), eight) (append-nil (object_of ds))
+
+-- the dataset is of no subfile, and leads the object to its place
+after_one : (p new : Parts) (ds : List Dataset) (h : Head) (xs : List ℕ) → nat_eq h.rec 8 ≡ false → (h.rec ≡ 9 → wire.IsWhole p.message) → AreAfter p ds → StandsAfter new.fields (ds ++ data_of h xs ∷ [])
     → objects.StandsAt new.object (place_after_datasets (ds ++ data_of h xs ∷ [])) → new.message ≡ p.message → AreAfter new (ds ++ data_of h xs ∷ [])
-after_one p new ds h xs eight nine at fields object message =
+after_one p new ds h xs eight whole at fields object message =
     let d : Dataset = data_of h xs in
-    let not_eight : d.rec ≡ 8 → ⊥ = λ is. (let bad : true ≡ false = sym (ap (λ (r : ℕ). nat_eq r 8) is) ∙ eight in cc) in
-    let same : object_of (ds ++ d ∷ []) ≡ object_of ds = object_of_more ds d ∙ (ap (λ (b : Bool). object_of ds ++ cond b xs []) eight ∙ append-nil (object_of ds)) in
     record {
       fields = fields;
       object = object;
-      few = few_more ds d at.few (λ is. absurd (not_eight is));
-      message = subst (λ (o : List ℕ). wire.StandsAt new.message o (text_so_far o)) (sym same) (subst (λ m. wire.StandsAt m (object_of ds) (text_so_far (object_of ds))) (sym message) at.message);
-      ended = λ is. absurd (let bad : true ≡ false = sym (ap (λ (r : ℕ). nat_eq r 9) (sym (last_more 0 ds d) ∙ is)) ∙ nine in cc);
+      few = few_more ds d at.few (λ is. absurd (eqb-false h.rec 8 eight is));
+      message = rw (message, same_object ds h xs eight) at.message;
+      ended = λ is. rw message (whole (sym (last_more 0 ds d) ∙ is));
     }
 
-after_whole : LowerLaws → (p new : Parts) (ds : List Dataset) (h : Head) (xs : List ℕ) → Keeps h.rec → AreAfter p ds → StandsAfter new.fields (ds ++ data_of h xs ∷ []) → new.object ≡ p.object → new.message ≡ p.message
-    → AreAfter new (ds ++ data_of h xs ∷ [])
-after_whole laws p new ds h xs k at fields object message =
+after_whole : LowerLaws → (p new : Parts) (ds : List Dataset) (h : Head) (xs : List ℕ) → is_kept h.rec ≡ true → AreAfter p ds → StandsAfter new.fields (ds ++ data_of h xs ∷ []) → new.object ≡ p.object
+    → new.message ≡ p.message → AreAfter new (ds ++ data_of h xs ∷ [])
+after_whole laws p new ds h xs kept at fields object message =
     let d : Dataset = data_of h xs in
-    let not_eight : d.rec ≡ 8 → ⊥ = λ is. (let bad : true ≡ false = sym (ap (λ (r : ℕ). nat_eq r 8) is) ∙ k.eight in cc) in
-    let elsewhere : place_at ds (head_of d) ≡ place_after_datasets ds = rw (k.eight, k.nine) refl in
-    let leads : place_at ds (head_of d) ≡ place_after_datasets (ds ++ d ∷ []) = silent_leads laws ds d fields.alive k.silent (λ is. absurd (not_eight is)) in
-    after_one p new ds h xs k.eight k.nine at fields
-    (subst (objects.StandsAt new.object) (sym elsewhere ∙ leads) (subst (λ o. objects.StandsAt o (place_after_datasets ds)) (sym object) at.object)) message
+    let (eight, nine, silent) = keeps h.rec kept in
+    let elsewhere : place_at ds (head_of d) ≡ place_after_datasets ds = rw (eight, nine) refl in
+    let leads : place_at ds (head_of d) ≡ place_after_datasets (ds ++ d ∷ []) = silent_leads laws ds d fields.alive silent (λ is. absurd (eqb-false h.rec 8 eight is)) in
+    after_one p new ds h xs eight (λ is. absurd (eqb-false h.rec 9 nine is)) at fields (rw object (subst (objects.StandsAt p.object) (sym elsewhere ∙ leads) at.object)) message
 
 after_number : LowerLaws → (p new : Parts) (ds : List Dataset) (h : Head) (xs : List ℕ) → h.rec ≡ 7 → AreAfter p ds → StandsAfter new.fields (ds ++ data_of h xs ∷ []) → objects.LeadsOn p.object (NumberRead h.set (number xs)) new.object
     → new.message ≡ p.message → AreAfter new (ds ++ data_of h xs ∷ [])
 after_number laws p new ds h xs seven at fields leads message =
     let d : Dataset = data_of h xs in
     let next = laws.numbers_lead ds d (records_alive (ds ++ d ∷ []) fields.alive) seven in
-    after_one p new ds h xs (ap (λ (r : ℕ). nat_eq r 8) seven) (ap (λ (r : ℕ). nat_eq r 9) seven) at fields
+    after_one p new ds h xs (rw seven refl) (λ is. absurd (omega (arith, seven, is))) at fields
     (subst (objects.StandsAt new.object) next.1 (leads (place_after_datasets ds) at.object next.0)) message
 
 -- the object ends, and its size is confirmed
@@ -131,16 +116,8 @@ after_end : LowerLaws → (p new : Parts) (ds : List Dataset) (h : Head) (xs : L
 after_end laws p new ds h xs nine at fields leads whole message =
     let d : Dataset = data_of h xs in
     let next = laws.ends_lead ds d (records_alive (ds ++ d ∷ []) fields.alive) nine in
-    let other : nat_eq h.rec 8 ≡ false = ap (λ (r : ℕ). nat_eq r 8) nine in
-    let same : object_of (ds ++ d ∷ []) ≡ object_of ds = object_of_more ds d ∙ (ap (λ (b : Bool). object_of ds ++ cond b xs []) other ∙ append-nil (object_of ds)) in
     let ended = subst (objects.StandsAt leads.ended) next.0.1 (leads.at_end (place_after_datasets ds) at.object next.0.0) in
-    record {
-      fields = fields;
-      object = subst (objects.StandsAt new.object) next.1.1 (leads.at_number (place_ended ds) ended next.1.0);
-      few = few_more ds d at.few (λ is. absurd (let bad : true ≡ false = sym (ap (λ (r : ℕ). nat_eq r 8) is) ∙ other in cc));
-      message = subst (λ (o : List ℕ). wire.StandsAt new.message o (text_so_far o)) (sym same) (subst (λ m. wire.StandsAt m (object_of ds) (text_so_far (object_of ds))) (sym message) at.message);
-      ended = λ _. subst wire.IsWhole (sym message) whole;
-    }
+    after_one p new ds h xs (rw nine refl) (λ _. whole) at fields (subst (objects.StandsAt new.object) next.1.1 (leads.at_number (place_ended ds) ended next.1.0)) message
 
 tells_parts_one : (p new : Parts) (h : Head) (xs : List ℕ) → IsBetween p.fields → nat_eq h.rec 8 ≡ false → h.count ≡ length xs → limits_of new.fields ≡ limits_of p.fields
     → ((ds : List Dataset) → AreAfter p ds → AreAfter new (ds ++ data_of h xs ∷ [])) → TellsWhole p h xs new
@@ -154,62 +131,47 @@ tells_parts_one p new h xs between eight count limits after = record {
         begun = InTag [];
         told = ap (λ (es : List DatasetEvent). es ++ (HeadRead h ∷ (map DataOctet xs ++ DatasetEnd ∷ []))) (at.told ∙ append-nil (flat_map events_of at.ds)) ∙ told_one at.ds h xs count;
         stands = after at.ds at.after;
-        is_text = at.is_text ∙ ap text_so_far (sym (object_of_more at.ds d ∙ (ap (λ (b : Bool). object_of at.ds ++ cond b xs []) eight ∙ append-nil (object_of at.ds))));
+        is_text = at.is_text ∙ ap text_so_far (sym (same_object at.ds h xs eight));
       };
 }
 
 pub whole_went : LowerLaws → (p new : Parts) (h : Head) (xs : List ℕ) → IsBetween p.fields → is_kept h.rec ≡ true → h.count ≡ length xs → limits_of new.fields ≡ limits_of p.fields
     → ((ds : List Dataset) → StandsAfter p.fields ds → StandsAfter new.fields (ds ++ data_of h xs ∷ [])) → new.object ≡ p.object → new.message ≡ p.message → TellsWhole p h xs new
 whole_went laws p new h xs between kept count limits stands object message =
-    let k = keeps h.rec kept in
-    tells_parts_one p new h xs between k.eight count limits (λ ds at. after_whole laws p new ds h xs k at (stands ds at.fields) object message)
+    tells_parts_one p new h xs between (keeps h.rec kept).0 count limits (λ ds at. after_whole laws p new ds h xs kept at (stands ds at.fields) object message)
 
 pub number_went : LowerLaws → (p new : Parts) (h : Head) (xs : List ℕ) → IsBetween p.fields → h.rec ≡ 7 → h.count ≡ length xs → limits_of new.fields ≡ limits_of p.fields
     → ((ds : List Dataset) → StandsAfter p.fields ds → StandsAfter new.fields (ds ++ data_of h xs ∷ [])) → objects.LeadsOn p.object (NumberRead h.set (number xs)) new.object → new.message ≡ p.message → TellsWhole p h xs new
 number_went laws p new h xs between seven count limits stands leads message =
-    tells_parts_one p new h xs between (ap (λ (r : ℕ). nat_eq r 8) seven) count limits (λ ds at. after_number laws p new ds h xs seven at (stands ds at.fields) leads message)
+    tells_parts_one p new h xs between (rw seven refl) count limits (λ ds at. after_number laws p new ds h xs seven at (stands ds at.fields) leads message)
 
 pub end_went : LowerLaws → (p new : Parts) (h : Head) (xs : List ℕ) → IsBetween p.fields → h.rec ≡ 9 → h.count ≡ length xs → limits_of new.fields ≡ limits_of p.fields
     → ((ds : List Dataset) → StandsAfter p.fields ds → StandsAfter new.fields (ds ++ data_of h xs ∷ [])) → objects.EndsAs p.object (number xs) new.object → wire.IsWhole p.message → new.message ≡ p.message
     → TellsWhole p h xs new
 end_went laws p new h xs between nine count limits stands leads whole message =
-    tells_parts_one p new h xs between (ap (λ (r : ℕ). nat_eq r 8) nine) count limits (λ ds at. after_end laws p new ds h xs nine at (stands ds at.fields) leads whole message)
+    tells_parts_one p new h xs between (rw nine refl) count limits (λ ds at. after_end laws p new ds h xs nine at (stands ds at.fields) leads whole message)
 
 -- ---- what it takes next
 
 -- the envelope has ended
 pub end_ends : (p new : Parts) (h : Head) → TakesHead p → h.rec ≡ 9 → IsBetween new.fields → section_of new.fields ≡ h.rec → IsSome new.object → new.message ≡ p.message → HasEnded new
 unfolding has_ended
-end_ends p new h t nine between section object message = record {
-  last = ap (λ (n : ℕ). nat_eq n 9 && is_none (begun_head_of new.fields)) (section ∙ nine) ∙ ap (λ k. is_none (begun_head k)) between.between;
-  between = between;
-  object = object;
-  message = subst (λ m. IsSome m) (sym message) t.message;
-}
+end_ends p new h t nine between section object message =
+    let none : begun_head_of new.fields ≡ None = ap begun_head between.between in
+    record { last = rw (section, nine, none) refl; between = between; object = object; message = rw message t.message }
 
-section_takes : (p new : Parts) (h : Head) → TakesHead p → nat_eq h.rec 9 ≡ false → IsBetween new.fields → section_of new.fields ≡ h.rec → IsSome new.object → new.message ≡ p.message → TakesHead new
+-- after a dataset before record 9 the parts take a head
+pub takes_next : (new : Parts) (r : ℕ) → nat_eq r 9 ≡ false → IsBetween new.fields → section_of new.fields ≡ r → IsSome new.object → IsSome new.message → TakesHead new
 unfolding has_ended
-section_takes p new h t nine between section object message = record {
-  fields = between;
-  object = object;
-  message = subst (λ m. IsSome m) (sym message) t.message;
-  more = ap (λ (b : Bool). b && is_none (begun_head_of new.fields)) (ap (λ (r : ℕ). nat_eq r 9) section ∙ nine);
-}
-
-pub number_takes : (p new : Parts) (h : Head) → TakesHead p → h.rec ≡ 7 → IsBetween new.fields → section_of new.fields ≡ h.rec → IsSome new.object → new.message ≡ p.message → TakesHead new
-number_takes p new h t seven between section object message = section_takes p new h t (ap (λ (r : ℕ). nat_eq r 9) seven) between section object message
+takes_next new r nine between section object message = record { fields = between; object = object; message = message; more = rw (section, nine) refl }
 
 pub takes_either : (p new : Parts) (h : Head) (b : Bool) → TakesHead p → (b ≡ true → is_kept h.rec ≡ true) → IsBetween new.fields → (b ≡ true → section_of new.fields ≡ h.rec) → (b ≡ false → new.fields ≡ p.fields)
     → new.object ≡ p.object → new.message ≡ p.message → TakesHead new
 unfolding has_ended
 takes_either p new h true t kept between section left object message =
-    section_takes p new h t (keeps h.rec (kept refl)).nine between (section refl) (subst (λ o. IsSome o) (sym object) t.object) message
-takes_either p new h false t kept between section left object message = record {
-  fields = between;
-  object = subst (λ o. IsSome o) (sym object) t.object;
-  message = subst (λ m. IsSome m) (sym message) t.message;
-  more = ap (λ (f : FieldsPlace). nat_eq (section_of f) 9 && is_none (begun_head_of f)) (left refl) ∙ t.more;
-}
+    takes_next new h.rec (keeps h.rec (kept refl)).1 between (section refl) (rw object t.object) (rw message t.message)
+takes_either p new h false t kept between section left object message =
+    record { fields = between; object = rw object t.object; message = rw message t.message; more = rw (left refl) t.more }
 
 -- The head of a subfile was taken by the records, as by a reader that stands in it, and by the object.
 pub record Entered (p : Parts) (h : Head) (fields : FieldsPlace) (object : Option State) : Type 0 where
@@ -259,16 +221,6 @@ subfile_stopped goes failures nothing joined laws p a b h front octet cause fiel
     let p1 : Parts = inside_of p h fields object e in
     stopped_joined goes failures joined p p1 a a b (HeadRead h ∷ []) (map DataOctet front) (DataOctet octet) (Some (message_on h cause)) (tells_parts_in goes failures laws p a h fields object (nothing a) e)
     (stopped_object goes failures p1 a b front octet cause laws h e.passes.head e.eight halted)
-
--- after it the parts take a head
-pub subfile_takes : (p new : Parts) (h : Head) → TakesHead p → h.rec ≡ 8 → IsBetween new.fields → section_of new.fields ≡ h.rec → IsSome new.object → IsSome new.message → TakesHead new
-unfolding has_ended
-subfile_takes p new h t eight between section object message = record {
-  fields = between;
-  object = object;
-  message = message;
-  more = ap (λ (b : Bool). b && is_none (begun_head_of new.fields)) (ap (λ (r : ℕ). nat_eq r 9) (section ∙ eight));
-}
 
 -- ---- the answer
 

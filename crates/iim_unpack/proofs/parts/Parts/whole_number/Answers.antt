@@ -3,7 +3,7 @@ use Rattle.iim_dataset.specs.declared.head.Head.{Head}
 use Rattle.iim_object.specs.Format.Objects.{NumberRead}
 use Rattle.iim_object.specs.States.Reading.{LeadsOn}
 use Rattle.iim_fields.specs.States.Admitting.{Admits}
-use Rattle.iim_unpack.proofs.Wholes.{number_went, number_takes, spells_number, admits_where}
+use Rattle.iim_unpack.proofs.Wholes.{number_went, takes_next, spells_number, admits_where}
 use Rattle.iim_unpack.proofs.parts.Parts.whole_number.Goals as goal
 
 -- the head of the dataset
@@ -27,7 +27,7 @@ admitted c = admits_where c.args.self.now.fields (of_seven c.args.set c.args.cou
 
 pub returns-clause-takes : goal.returns-clause-takes
 returns-clause-takes c =
-    number_takes c.args.self.now _ (of_seven c.args.set c.args.count) c.requires.takes refl c.put_number.ensures.between (c.put_number.ensures.took c.args.octets.now (admitted c)).section c.put_number-2.ensures.takes_calls refl
+    takes_next _ 7 refl c.put_number.ensures.between (c.put_number.ensures.took c.args.octets.now (admitted c)).section c.put_number-2.ensures.takes_calls c.requires.takes.message
 
 pub returns-clause-whole : goal.returns-clause-whole
 returns-clause-whole c is =

@@ -1,8 +1,8 @@
-use Rattle.std.proofs.Common.{Option, take, slice_index, sym, subst, arith}
+use Rattle.std.proofs.Common.{refl, ◌∙◌, Option, take, slice_index, sym, subst, arith}
 use Rattle.std.specs.Prelude.{IsSome}
 use Rattle.iim_object.specs.declared.reading.state.State.{State}
 use Rattle.iim_dataset.proofs.OctetLists.{are_octets}
-use Rattle.iim_unpack.proofs.Wholes.{subfile_went, subfile_stopped, subfile_takes}
+use Rattle.iim_unpack.proofs.Wholes.{subfile_went, subfile_stopped, takes_next}
 use Rattle.iim_unpack.proofs.parts.Parts.whole_subfile.Goals as goal
 
 pub put_subfile-requires-clause-accepts : goal.put_subfile-requires-clause-accepts
@@ -21,7 +21,7 @@ returns-in-Ok-clause-taken g c =
             leads = c.put_subfile.ensures.leads_on;
             few = c.accepts_subfile.ensures.few c.if-not-accepts_subfile.false;
           }) (are_octets run (λ i. omega (arith, c.type_inv.octets i))) c.whole_subfile.ensures.bounds.limits c.in-Ok.ensures.told),
-      subfile_takes p _ c.args.head c.requires.takes c.requires.subfile c.whole_subfile.ensures.between (c.whole_subfile.ensures.section c.if-not-whole_subfile.false) some c.in-Ok.ensures.told.takes_calls,
+      takes_next _ 8 refl c.whole_subfile.ensures.between (c.whole_subfile.ensures.section c.if-not-whole_subfile.false ∙ c.requires.subfile) some c.in-Ok.ensures.told.takes_calls,
     )
 
 pub returns-in-Err-clause-stopped : goal.returns-in-Err-clause-stopped
