@@ -2,10 +2,11 @@
 use Rattle.std.proofs.Common.{◌≡◌, inl, inr, ℕ, zero, suc, ◌+◌, ◌-◌, ◌<◌, ◌==◌, Bool, true, false, not, cond, List, [], ◌∷◌, ◌++◌, append_assoc, length, length-append, take, drop, get_or, refl, ap, sym, ◌∙◌, subst, arith}
 use Rattle.std.specs.List.{position_or_len, list_all}
 use Rattle.std.proofs.Math.Numerals.{one-add}
-use Rattle.std.proofs.lemmas.Bool.{eq-eqb, eqb-true, false≢true, and_parts}
+use Rattle.std.proofs.lemmas.Bool.{eq-eqb, eqb-true, false≢true, and_parts, false_from_ne_true}
 use Rattle.std.proofs.lemmas.List.Sums.{split_at_first, passes_at_first}
 use Rattle.std.proofs.lemmas.List.{take_rest}
 use Rattle.std.proofs.Math.Seq.{take-length}
+use Rattle.iim_dataset.proofs.Each.{all_append, all_front}
 use Rattle.iim_script.specs.Format.Lines.{HasNo, EndsLine}
 
 before_cons : (b x : ℕ) (xs : List ℕ) (n : ℕ) (same : Bool) → (x == b) ≡ same → HasNo b (take n xs) → HasNo b (take (cond (not same) (suc n) 0) (x ∷ xs))
@@ -44,22 +45,17 @@ cut_once b (x ∷ xs) ys [] vs h k e = let same : x ≡ b = cc in absurd (not_se
 cut_once b (x ∷ xs) ys (u ∷ us) vs h k e = let rest = cut_once b xs ys us vs h.1 k.1 (cc) in (cc, rest.1)
 
 pub has_no_append : (b : ℕ) (xs ys : List ℕ) → HasNo b xs → HasNo b ys → HasNo b (xs ++ ys)
-has_no_append b [] ys h k = k
-has_no_append b (x ∷ xs) ys h k = (h.0, has_no_append b xs ys h.1 k)
+has_no_append b xs ys h k = all_append (λ x. (x == b) ≡ false) xs ys h k
 
 pub has_no_front : (b : ℕ) (xs ys : List ℕ) → HasNo b (xs ++ ys) → HasNo b xs
-has_no_front b [] ys h = tt
-has_no_front b (x ∷ xs) ys h = (h.0, has_no_front b xs ys h.1)
-
-lacks_by : (test : ℕ → Bool) (b x : ℕ) (same : Bool) → (x == b) ≡ same → test b ≡ false → test x ≡ true → same ≡ false
-lacks_by test b x true e fails passes = let is : x ≡ b = eqb-true x b e in cc
-lacks_by test b x false e fails passes = refl
+has_no_front b xs ys h = all_front (λ x. (x == b) ≡ false) xs ys h
 
 -- a test that an octet fails leaves none of it where it is passed
 pub lacks : (test : ℕ → Bool) (b : ℕ) (xs : List ℕ) → test b ≡ false → list_all test xs ≡ true → HasNo b xs
 lacks test b [] fails h = tt
 lacks test b (x ∷ xs) fails h =
-    let both = and_parts (test x) (list_all test xs) h in (lacks_by test b x (x == b) refl fails both.0, lacks test b xs fails both.1)
+    let both = and_parts (test x) (list_all test xs) h in
+    (false_from_ne_true (x == b) (λ e. false≢true (sym fails ∙ rw (eqb-true x b e) at both.0)), lacks test b xs fails both.1)
 
 passes_more : (test : ℕ → Bool) (d x : ℕ) (xs : List ℕ) (n : ℕ) (is : Bool) → test x ≡ is → test (get_or (drop n xs) 0 d) ≡ true
     → test (get_or (drop (cond (not is) (suc n) 0) (x ∷ xs)) 0 d) ≡ true
@@ -73,10 +69,9 @@ first_passes test d (x ∷ xs) h = rw one-add (passes_more test d x xs (position
 
 -- the last octet of a list, and those before it
 pub last_one : (xs : List ℕ) (b n : ℕ) → length xs ≡ suc n → get_or xs n 0 ≡ b → xs ≡ take n xs ++ b ∷ []
-last_one [] b n len e = absurd (omega (arith, len))
 last_one (x ∷ []) b zero len e = ap (λ (m : ℕ). m ∷ []) e
-last_one (x ∷ y ∷ xs) b zero len e = absurd (omega (arith, len))
 last_one (x ∷ xs) b (suc n) len e = ap (λ (l : List ℕ). x ∷ l) (last_one xs b n (omega (arith, len)) e)
+last_one xs b n len e = absurd (omega (arith, len))
 
 pub at_last : (xs : List ℕ) (b : ℕ) → get_or (xs ++ b ∷ []) (length xs) 0 ≡ b
 at_last [] b = refl

@@ -5,9 +5,9 @@ use Rattle.std.proofs.lemmas.Bool.{false≢true, and_parts}
 use Rattle.iim_dataset.specs.Format.Datasets.{Dataset}
 use Rattle.iim_fields.specs.States.Builders.{Building, add_fault, finish_fault}
 use Rattle.iim_fields.specs.declared.limits.Limits.{Limits}
-use Rattle.wire_message.specs.Format.Messages.{Header, IsTrailer}
+use Rattle.wire_message.specs.Format.Messages.{Header}
 use Rattle.iim_script.specs.Format.Lines.{HasNo, NextLine}
-use Rattle.iim_script.specs.Format.Forms.{TellsField, TellsHead, TellsTrailer, text_word}
+use Rattle.iim_script.specs.Format.Forms.{TellsField, TellsHead, text_word}
 use Rattle.iim_dataset.specs.Format.Octets.{is_digit}
 use Rattle.iim_script.specs.Format.Scripts.{TellFields, AreTaken, AreFieldLines, AreTrailer, IsFront, max_script}
 use Rattle.iim_script.specs.Format.Faults.{Stage, InFields, AfterMessage, AfterTrailer, HaveCome, Stands, TellsNoField, TellsNoHead, TellsNoTrailer, IsNextWrong, IsFrontFault, IsScriptFault}
@@ -18,14 +18,13 @@ use Rattle.iim_script.proofs.Next.{lines_more, count_more, next_once, no_next}
 
 fields_more : (lines : List (List ℕ)) (ds : List Dataset) (line : List ℕ) (d : Dataset) → TellFields lines ds → TellsField line d → TellFields (lines ++ line ∷ []) (ds ++ d ∷ [])
 fields_more [] [] line d h t = (t, tt)
-fields_more [] (x ∷ ds) line d h t = absurd h
-fields_more (l ∷ lines) [] line d h t = absurd h
 fields_more (l ∷ lines) (x ∷ ds) line d h t = (h.0, fields_more lines ds line d h.1 t)
+fields_more lines ds line d h t = absurd h
 
 taken_more : (limits : Limits) (before ds : List Dataset) (d : Dataset) → AreTaken limits before ds → add_fault limits (before ++ ds) d ≡ None → AreTaken limits before (ds ++ d ∷ [])
-taken_more limits before [] d h g = (subst (λ (l : List Dataset). add_fault limits l d ≡ None) (append-nil before) g, tt)
+taken_more limits before [] d h g = (rw append-nil at g, tt)
 taken_more limits before (x ∷ ds) d h g =
-    (h.0, taken_more limits (before ++ x ∷ []) ds d h.1 (subst (λ (l : List Dataset). add_fault limits l d ≡ None) (sym (append_assoc before (x ∷ []) ds)) g))
+    (h.0, taken_more limits (before ++ x ∷ []) ds d h.1 (rw (sym (append_assoc before (x ∷ []) ds)) at g))
 
 stands_on : (limits : Limits) (script rest line after : List ℕ) (stage next : Stage) (count more : ℕ) (s : Stands limits script stage rest count) → NextLine rest line after
     → more ≡ count + 1 → HaveCome limits (s.lines ++ line ∷ []) next → Stands limits script next after more
@@ -33,30 +32,16 @@ stands_on limits script rest line after stage next count more s n e come = recor
   lines = s.lines ++ line ∷ [];
   front = s.front ++ n.ended;
   lined = lines_more s.lines s.front line n.ended s.lined n.ends;
-  parts = s.parts ∙ (ap (λ (l : List ℕ). s.front ++ l) n.parts ∙ sym (append_assoc s.front n.ended after));
-  count_is = e ∙ (ap (λ (k : ℕ). k + 1) s.count_is ∙ sym (count_more s.lines line));
+  parts = rw (s.parts, n.parts) (sym (append_assoc s.front n.ended after));
+  count_is = omega (arith, e, s.count_is, count_more s.lines line);
   come = come;
 }
-
-pub stands_field : (limits : Limits) (script rest line after : List ℕ) (ds : List Dataset) (d : Dataset) (count : ℕ) → Stands limits script (InFields ds) rest count
-    → NextLine rest line after → TellsField line d → add_fault limits ds d ≡ None → Stands limits script (InFields (ds ++ d ∷ [])) after (count + 1)
-stands_field limits script rest line after ds d count s n t taken =
-    stands_on limits script rest line after (InFields ds) (InFields (ds ++ d ∷ [])) count (count + 1) s n refl
-    (record { told = fields_more s.lines ds line d s.come.told t; taken = taken_more limits [] ds d s.come.taken taken })
 
 pub stands_head : {limits : Limits} {script rest after : List ℕ} {ds : List Dataset} {head : Header} {count more : ℕ}
     → Stands limits script (InFields ds) rest count → NextIs (λ line. TellsHead line head) rest after → more ≡ count + 1
     → Stands limits script (AfterMessage ds head) after more
 stands_head {limits} {script} {rest} {after} {ds} {head} {count} {more} s (line, n, t) e =
     stands_on limits script rest line after (InFields ds) (AfterMessage ds head) count more s n e (s.lines, line, s.come, t, refl)
-
-stands_trailer : (limits : Limits) (script rest line after : List ℕ) (ds : List Dataset) (head : Header) (trailer : List ℕ) (count more : ℕ)
-    → Stands limits script (AfterMessage ds head) rest count → NextLine rest line after → TellsTrailer line trailer → IsTrailer trailer → more ≡ count + 1
-    → Stands limits script (AfterTrailer ds head trailer) after more
-stands_trailer limits script rest line after ds head trailer count more s n t is e =
-    let come = s.come in
-    stands_on limits script rest line after (AfterMessage ds head) (AfterTrailer ds head trailer) count more s n e
-    (come.0, come.1, line, come.2, come.3, t, is, ap (λ (l : List (List ℕ)). l ++ line ∷ []) come.4 ∙ append_assoc come.0 (come.1 ∷ []) (line ∷ []))
 
 -- Where the line `text` is wanted: the trailer's line has come, or the next line is none.
 abbrev pub Past : Limits → List ℕ → List Dataset → Header → List ℕ → List ℕ → ℕ → Type 0
@@ -67,7 +52,9 @@ Past limits script ds head trailer rest count =
 pub past_trailer : {limits : Limits} {script rest after : List ℕ} {ds : List Dataset} {head : Header} {trailer : List ℕ} {count more : ℕ}
     → Stands limits script (AfterMessage ds head) rest count → TakesTrailer rest count trailer after more → Past limits script ds head trailer after more
 past_trailer {limits} {script} {rest} {after} {ds} {head} {trailer} {count} {more} s (inl ((line, n, t), e)) =
-    inr (stands_trailer limits script rest line after ds head trailer count more s n t.0 t.1 e)
+    let come = s.come in
+    inr (stands_on limits script rest line after (AfterMessage ds head) (AfterTrailer ds head trailer) count more s n e
+    (come.0, come.1, line, come.2, come.3, t.0, t.1, rw come.4 (append_assoc come.0 (come.1 ∷ []) (line ∷ []))))
 past_trailer s (inr (none, empty, same, e)) = inl (rw (same, e) s, rw same none, empty)
 
 -- what stands before the story, once the line `text` has come
@@ -108,8 +95,7 @@ pub field_digit : (line : List ℕ) (d : Dataset) → TellsField line d → is_d
 field_digit line d t =
     let names = t.names in
     let rest = 58 ∷ names.set_digits ++ t.end in
-    subst (λ (l : List ℕ). is_digit (get_or l 0 0) ≡ true) (sym names.line_is)
-    (begins_with_digit names.rec_digits rest names.is_rec.some names.is_rec.are_digits)
+    rw names.line_is (begins_with_digit names.rec_digits rest names.is_rec.some names.is_rec.are_digits)
 
 -- a line that begins with no digit tells no dataset
 pub tells_no_field : (line : List ℕ) → is_digit (get_or line 0 0) ≡ false → TellsNoField line
@@ -168,7 +154,11 @@ pub fields_added : {limits : Limits} {script rest line after : List ℕ} {old ne
     → Stands limits script (InFields old.fields) rest count → NextLine rest line after → AddsField line old new
     → Stands limits script (InFields new.fields) after (count + 1)
 fields_added {limits} {script} {rest} {line} {after} {old} {new} {count} same s n a =
-    rw a.fields (stands_field limits script rest line after old.fields a.dataset count s n a.told (rw same at a.taken))
+    rw a.fields (stands_on limits script rest line after (InFields old.fields) (InFields (old.fields ++ a.dataset ∷ [])) count (count + 1) s n refl
+    (record {
+      told = fields_more s.lines old.fields line a.dataset s.come.told a.told;
+      taken = taken_more limits [] old.fields a.dataset s.come.taken (rw same at a.taken);
+    }))
 
 -- the next line, where there is one, is as said of this one
 pub next_must_be : (said : List ℕ → Type 0) {rest line after : List ℕ} → NextLine rest line after → said line → NextMustBe said rest

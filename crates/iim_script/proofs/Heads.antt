@@ -55,22 +55,6 @@ words_once octets w v end other a b =
     let five = word_once w.words end v.words other a.words b.words a.ends b.ends four.1 in
     (same_words w v one.0 two.0 three.0 four.0 five.0, five.1)
 
--- what follows the first word, the second, and the third
-pub after_first : (octets source r1 : List ℕ) (w : HeadWords) (end : List ℕ) → HasNo 32 source → octets ≡ source ++ 32 ∷ r1 → AreWords octets w end
-    → r1 ≡ w.number ++ 32 ∷ after_number w end
-after_first octets source r1 w end h e t = (cut_once 32 source r1 w.source (after_source w end) h t.source (sym e ∙ t.octets_are)).1
-
-pub after_second : (octets source r1 number r2 : List ℕ) (w : HeadWords) (end : List ℕ) → HasNo 32 source → octets ≡ source ++ 32 ∷ r1
-    → HasNo 32 number → r1 ≡ number ++ 32 ∷ r2 → AreWords octets w end → r2 ≡ w.priority ++ 32 ∷ after_priority w end
-after_second octets source r1 number r2 w end h e k f t =
-    (cut_once 32 number r2 w.number (after_number w end) k t.number (sym f ∙ after_first octets source r1 w end h e t)).1
-
-pub after_third : (octets source r1 number r2 priority r3 : List ℕ) (w : HeadWords) (end : List ℕ) → HasNo 32 source → octets ≡ source ++ 32 ∷ r1
-    → HasNo 32 number → r1 ≡ number ++ 32 ∷ r2 → HasNo 32 priority → r2 ≡ priority ++ 32 ∷ r3 → AreWords octets w end
-    → r3 ≡ w.category ++ 32 ∷ after_category w end
-after_third octets source r1 number r2 priority r3 w end h e k f m g t =
-    (cut_once 32 priority r3 w.priority (after_priority w end) m t.priority (sym g ∙ after_second octets source r1 number r2 w end h e k f t)).1
-
 -- the words of a header are words
 pub words_of_header : (head : Header) (end : List ℕ) → IsHeader head → get_or end 0 32 ≡ 32
     → AreWords (head.source ++ (32 ∷ after_source (words_of head) end)) (words_of head) end
@@ -89,13 +73,10 @@ pub last_ends : (end octets : List ℕ) → TellsLast end octets → get_or end 
 last_ends end [] told = ap (λ (l : List ℕ). get_or l 0 32) told
 last_ends end (octet ∷ octets) told = ap (λ (l : List ℕ). get_or l 0 32) told.1
 
-drop_word : (a b c d e f g h : ℕ) (xs ys : List ℕ) → a ∷ b ∷ c ∷ d ∷ e ∷ f ∷ g ∷ h ∷ xs ≡ a ∷ b ∷ c ∷ d ∷ e ∷ f ∷ g ∷ h ∷ ys → xs ≡ ys
-drop_word a b c d e f g h xs ys eq = ap (λ (l : List ℕ). drop 8 l) eq
-
 -- the words of a line that tells a header
 pub words_told : (line rest : List ℕ) (head : Header) (t : TellsHead line head) → line ≡ message_word ++ rest → AreWords rest (words_of head) t.end
 words_told line rest head t e =
-    subst (λ (l : List ℕ). AreWords l (words_of head) t.end) (drop_word 109 101 115 115 97 103 101 32 _ _ (sym t.line_is ∙ e))
+    subst (λ (l : List ℕ). AreWords l (words_of head) t.end) (ap (λ (l : List ℕ). drop 8 l) (sym t.line_is ∙ e))
     (words_of_header head t.end t.is_header (last_ends t.end head.info t.is_end))
 
 -- The one header that a line can tell.
@@ -111,15 +92,14 @@ pub is_told : (line rest end info : List ℕ) (w : HeadWords) (r : Option Header
     → (IsSome r → IsHeader (header_with w info)) → IfSome r (λ head. head ≡ header_with w info) → IfSome r (λ head. TellsHead line head)
 is_told line rest end info w None e words last admitted parts = tt
 is_told line rest end info w (Some head) e words last admitted parts =
-    subst (λ (h : Header). TellsHead line h) (sym parts)
-    (record { end = end; is_header = admitted refl; is_end = last; line_is = e ∙ ap (λ (l : List ℕ). message_word ++ l) words.octets_are })
+    rw parts (record { end = end; is_header = admitted refl; is_end = last; line_is = rw (e, words.octets_are) refl })
 
 pub head_once : (line rest end info : List ℕ) (w : HeadWords) (head : Header) → line ≡ message_word ++ rest → AreWords rest w end → TellsLast end info
     → TellsHead line head → head ≡ header_with w info
 head_once line rest end info w head e words last t =
     let same = head_told line rest end w head e words t in
-    let same_info : head.info ≡ info = last_once end head.info info (subst (λ (l : List ℕ). TellsLast l head.info) (sym same.1) t.is_end) last in
-    ap (λ (l : List ℕ). header_with (words_of head) l) same_info ∙ ap (λ (v : HeadWords). header_with v info) (sym same.0)
+    let same_info : head.info ≡ info = last_once end head.info info (rw same.1 t.is_end) last in
+    rw (same.0, ← same_info) refl
 
 pub is_not_told : (line rest end info : List ℕ) (w : HeadWords) (r : Option Header) → line ≡ message_word ++ rest → AreWords rest w end → TellsLast end info
     → (IsHeader (header_with w info) → IsSome r) → IfNone r ((head : Header) → TellsHead line head → ⊥)

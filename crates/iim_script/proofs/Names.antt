@@ -1,7 +1,7 @@
 -- The numbers at the front of a line.
 use Rattle.std.proofs.Common.{◌≡◌, ℕ, suc, ◌-◌, Bool, true, false, not, cond, List, [], ◌∷◌, ◌++◌, length, take, drop, get_or, refl, ap, sym, ◌∙◌, subst}
 use Rattle.std.specs.List.{position_or_len, list_all}
-use Rattle.std.proofs.lemmas.Bool.{false≢true, and_from, and_parts}
+use Rattle.std.proofs.lemmas.Bool.{false≢true, and_from, and_parts, not-true}
 use Rattle.std.proofs.Math.Numerals.{one-add}
 use Rattle.std.proofs.lemmas.List.{take_rest, take-append-drop}
 use Rattle.iim_script.specs.Format.Lines.{HasNo}
@@ -20,12 +20,8 @@ pub digits_before : (xs : List ℕ) → list_all is_digit (take (position_or_len
 digits_before [] = refl
 digits_before (x ∷ xs) = rw one-add (front_more x xs (position_or_len no_digit xs) (is_digit x) refl (digits_before xs))
 
-not_not : (b : Bool) → not b ≡ true → b ≡ false
-not_not true e = absurd (false≢true e)
-not_not false e = refl
-
 pub no_digit_after : (xs : List ℕ) → is_digit (get_or (drop (position_or_len no_digit xs) xs) 0 0) ≡ false
-no_digit_after xs = not_not (is_digit (get_or (drop (position_or_len no_digit xs) xs) 0 0)) (first_passes no_digit 0 xs refl)
+no_digit_after xs = not-true (is_digit (get_or (drop (position_or_len no_digit xs) xs) 0 0)) (first_passes no_digit 0 xs refl)
 
 -- digits, and then no digit, are split in one way
 pub digits_once : (ds es us vs : List ℕ) → list_all is_digit ds ≡ true → list_all is_digit us ≡ true → is_digit (get_or es 0 0) ≡ false → is_digit (get_or vs 0 0) ≡ false
@@ -65,12 +61,14 @@ has_names line before after n rec set e at is_rec is_set = record {
   line_is = e ∙ rw take_rest (ap (λ (l : List ℕ). before ++ 58 ∷ l) (sym (take-append-drop n after)));
 }
 
--- a line has these names in one way
-pub names_once : (line : List ℕ) (rec set r s : ℕ) (end other : List ℕ) → TellsNames line rec set end → TellsNames line r s other → end ≡ other
+-- a line has one pair of names, and one end after them
+pub names_once : (line : List ℕ) (rec set r s : ℕ) (end other : List ℕ) → TellsNames line rec set end → TellsNames line r s other
+    → (rec ≡ r) × (set ≡ s) × (end ≡ other)
 names_once line rec set r s end other t u =
     let whole = cut_once 58 t.rec_digits (t.set_digits ++ end) u.rec_digits (u.set_digits ++ other)
     (no_colon t.rec_digits t.is_rec.are_digits) (no_colon u.rec_digits u.is_rec.are_digits) (sym t.line_is ∙ u.line_is) in
-    (digits_once t.set_digits end u.set_digits other t.is_set.are_digits u.is_set.are_digits t.undigited u.undigited whole.1).1
+    let parts = digits_once t.set_digits end u.set_digits other t.is_set.are_digits u.is_set.are_digits t.undigited u.undigited whole.1 in
+    (rw (t.is_rec.value, u.is_rec.value, whole.0) refl, rw (t.is_set.value, u.is_set.value, parts.0) refl, parts.1)
 
 -- a line with no colon
 pub no_names : (line : List ℕ) (rec set : ℕ) (end : List ℕ) → HasNo 58 line → TellsNames line rec set end → ⊥

@@ -7,9 +7,8 @@ use Rattle.iim_script.specs.Plain.{IsWithoutReturn}
 
 pub snoc_once : (xs ys : List ℕ) (b : ℕ) → xs ++ b ∷ [] ≡ ys ++ b ∷ [] → xs ≡ ys
 snoc_once [] [] b e = refl
-snoc_once [] (y ∷ ys) b e = absurd (omega (arith, ap length e, length-append ys (b ∷ [])))
-snoc_once (x ∷ xs) [] b e = absurd (omega (arith, ap length e, length-append xs (b ∷ [])))
 snoc_once (x ∷ xs) (y ∷ ys) b e = let rest = snoc_once xs ys b (cc) in cc
+snoc_once xs ys b e = absurd (omega (arith, ap length e, length-append xs (b ∷ []), length-append ys (b ∷ [])))
 
 -- what stands before the LF: the line, or the line and a CR
 record AtFeed (octets line after : List ℕ) : Type 0 where
@@ -18,14 +17,13 @@ record AtFeed (octets line after : List ℕ) : Type 0 where
   parts : octets ≡ before ++ 10 ∷ after
   is_line : (before ≡ line ++ 13 ∷ []) ⊎ ((before ≡ line) × (EndsInReturn line → ⊥))
 
-at_feed_of : (octets line after ended : List ℕ) → EndsLine line ended → octets ≡ ended ++ after → AtFeed octets line after
-at_feed_of octets line after ended (h, inl e) parts =
-    record { before = line ++ 13 ∷ []; none = has_no_append 10 line (13 ∷ []) h (refl, tt); parts = rw (parts, e) (simp append_assoc); is_line = inl refl }
-at_feed_of octets line after ended (h, inr (e, n)) parts =
-    record { before = line; none = h; parts = rw (parts, e) (simp append_assoc); is_line = inr (refl, n) }
-
 at_feed : (octets line after : List ℕ) → NextLine octets line after → AtFeed octets line after
-at_feed octets line after n = at_feed_of octets line after n.ended n.ends n.parts
+at_feed octets line after n = elim n.ends.1 [
+  | inl e ↦
+      let none = has_no_append 10 line (13 ∷ []) n.ends.0 (refl, tt) in
+      record { before = line ++ 13 ∷ []; none = none; parts = rw (n.parts, e) (simp append_assoc); is_line = inl refl }
+  | inr e ↦ record { before = line; none = n.ends.0; parts = rw (n.parts, e.0) (simp append_assoc); is_line = inr (refl, e.1) }
+]
 
 line_once : (l m before other : List ℕ) → before ≡ other → (before ≡ l ++ 13 ∷ []) ⊎ ((before ≡ l) × (EndsInReturn l → ⊥))
     → (other ≡ m ++ 13 ∷ []) ⊎ ((other ≡ m) × (EndsInReturn m → ⊥)) → l ≡ m
@@ -48,11 +46,16 @@ no_next octets line after h x =
     let f = at_feed octets line after x in
     has_no_octet 10 f.before after (subst (λ (l : List ℕ). HasNo 10 l) f.parts h)
 
+-- lines after others
+pub lines_append : (lines others : List (List ℕ)) (front next : List ℕ) → EndLines lines front → EndLines others next
+    → EndLines (lines ++ others) (front ++ next)
+lines_append [] others front next h k = rw h k
+lines_append (x ∷ lines) others front next (first, rest, is, more, e) k =
+    (first, rest ++ next, is, lines_append lines others rest next more k, rw e (append_assoc first rest next))
+
 -- one line more
 pub lines_more : (lines : List (List ℕ)) (front line ended : List ℕ) → EndLines lines front → EndsLine line ended → EndLines (lines ++ line ∷ []) (front ++ ended)
-lines_more [] front line ended h ends = (ended, [], ends, refl, ap (λ (l : List ℕ). l ++ ended) h ∙ sym (append-nil ended))
-lines_more (x ∷ lines) front line ended (first, rest, is, more, e) ends =
-    (first, rest ++ ended, is, lines_more lines rest line ended more ends, ap (λ (l : List ℕ). l ++ ended) e ∙ append_assoc first rest ended)
+lines_more lines front line ended h ends = lines_append lines (line ∷ []) front ended h (ended, [], ends, refl, sym (append-nil ended))
 
 pub count_more : (lines : List (List ℕ)) (line : List ℕ) → length (lines ++ line ∷ []) ≡ length lines + 1
 count_more lines line = length-append lines (line ∷ [])
@@ -62,13 +65,10 @@ count_more lines line = length-append lines (line ∷ [])
 pub no_feed : (line : List ℕ) → IsLine line → HasNo 10 line
 no_feed line h = lacks is_line_octet 10 line refl h
 
-pub no_return : (line front : List ℕ) → IsLine line → line ≡ front ++ 13 ∷ [] → ⊥
-no_return line front h e = has_no_octet 13 front [] (rw e at (lacks is_line_octet 13 line refl h))
-
 -- ---- the line without the CR of its end
 
 left_alone : (line octets front : List ℕ) → IsLine line → octets ≡ line → IsWithoutReturn octets front → front ≡ line
-left_alone line octets front is e (inl f) = absurd (no_return line front is (sym e ∙ f))
+left_alone line octets front is e (inl f) = absurd (has_no_octet 13 front [] (rw (sym e ∙ f) at (lacks is_line_octet 13 line refl is)))
 left_alone line octets front is e (inr f) = sym f.0 ∙ e
 
 left_of_one : (line octets front : List ℕ) → octets ≡ line ++ 13 ∷ [] → IsWithoutReturn octets front → front ≡ line
@@ -89,26 +89,9 @@ no_feeds : (n : ℕ) → HasNo 10 (replicate n 13)
 no_feeds zero = tt
 no_feeds (suc n) = (refl, no_feeds n)
 
--- a line with no LF but the one after its CR
-record FirstEnd (text : List ℕ) (lines : List (List ℕ)) (line : List ℕ) : Type 0 where
-  returns : ℕ
-  few : returns ≤ 2
-  is : IsLine line
-  rest : List ℕ
-  parts : text ≡ (line ++ replicate returns 13) ++ 10 ∷ rest
-  more : IsText rest lines
-
-first_end : (text line : List ℕ) (next : List ℕ) (lines : List (List ℕ)) → IsText text (line ∷ next ∷ lines) → FirstEnd text (next ∷ lines) line
-first_end text line next lines (is, n, few, rest, e, more) = record {
-  returns = n;
-  few = few;
-  is = is;
-  rest = rest;
-  parts =
-      e
-      ∙ (ap (λ (l : List ℕ). line ++ l) (append_assoc (replicate n 13) (10 ∷ []) rest) ∙ sym (append_assoc line (replicate n 13) (10 ∷ rest)));
-  more = more;
-}
+-- what stands before the first LF of a text, and what after it
+first_end : (line rest : List ℕ) (n : ℕ) → line ++ ((replicate n 13 ++ 10 ∷ []) ++ rest) ≡ (line ++ replicate n 13) ++ 10 ∷ rest
+first_end line rest n = simp append_assoc
 
 pub split_more : (text ended after found : List ℕ) (lines : List (List ℕ)) → IsText text lines → HasNo 10 ended → text ≡ ended ++ 10 ∷ after
     → ((line : List ℕ) (n : ℕ) → IsLine line → n ≤ 2 → ended ≡ line ++ replicate n 13 → found ≡ line)
@@ -116,17 +99,13 @@ pub split_more : (text ended after found : List ℕ) (lines : List (List ℕ)) �
 split_more text ended after found [] h none e cut = absurd h
 split_more text ended after found (line ∷ []) h none e cut =
     absurd (has_no_octet 10 ended after (subst (λ (l : List ℕ). HasNo 10 l) (sym h.1 ∙ e) (no_feed line h.0)))
-split_more text ended after found (line ∷ next ∷ lines) h none e cut =
-    let f = first_end text line next lines h in
-    let same = cut_once 10 ended after (line ++ replicate f.returns 13) f.rest none (has_no_append 10 line (replicate f.returns 13) (no_feed line f.is) (no_feeds f.returns)) (sym e ∙ f.parts) in (
-      next ∷ lines,
-      ap (λ (l : List ℕ). l ∷ next ∷ lines) (sym (cut line f.returns f.is f.few same.0)),
-      subst (λ (l : List ℕ). IsText l (next ∷ lines)) (sym same.1) f.more,
-    )
+split_more text ended after found (line ∷ next ∷ lines) (is, n, few, rest, parts, more) none e cut =
+    let same = cut_once 10 ended after (line ++ replicate n 13) rest none (has_no_append 10 line (replicate n 13) (no_feed line is) (no_feeds n))
+    (sym e ∙ (parts ∙ first_end line rest n)) in
+    (next ∷ lines, rw (cut line n is few same.0) refl, rw same.1 more)
 
 pub split_one : (text : List ℕ) (lines : List (List ℕ)) → IsText text lines → HasNo 10 text → lines ≡ text ∷ []
 split_one text [] h none = absurd h
 split_one text (line ∷ []) h none = ap (λ (l : List ℕ). l ∷ []) (sym h.1)
-split_one text (line ∷ next ∷ lines) h none =
-    let f = first_end text line next lines h in
-    absurd (has_no_octet 10 (line ++ replicate f.returns 13) f.rest (subst (λ (l : List ℕ). HasNo 10 l) f.parts none))
+split_one text (line ∷ next ∷ lines) (is, n, few, rest, parts, more) none =
+    absurd (has_no_octet 10 (line ++ replicate n 13) rest (rw (parts, first_end line rest n) at none))

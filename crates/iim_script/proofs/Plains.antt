@@ -1,5 +1,5 @@
 -- Stories whose lines end in LF alone.
-use Rattle.std.proofs.Common.{◌≡◌, inl, inr, ℕ, zero, suc, ◌+◌, ◌*◌, ◌<◌, ◌==◌, ◌||◌, Bool, true, false, cond, List, [], ◌∷◌, ◌++◌, append_assoc, append-nil, length, take, take-add, drop, map, count_by, get_or, refl, ap, sym, ◌∙◌, subst, arith, IsTrue}
+use Rattle.std.proofs.Common.{◌≡◌, inl, inr, ℕ, zero, suc, ◌+◌, ◌*◌, ◌<◌, ◌==◌, Bool, true, false, cond, List, [], ◌∷◌, ◌++◌, append_assoc, append-nil, length, take, take-add, drop, map, count_by, get_or, refl, ap, sym, ◌∙◌, subst, arith, IsTrue}
 use Rattle.std.specs.List.{list_all, onto_first, AllByRecursion, join_with_byte}
 use Rattle.std.specs.Simd.Lanes.{mask_l}
 use Rattle.std.proofs.lemmas.Bool.{and_parts, and_from, cases_Bool}
@@ -15,16 +15,14 @@ use Rattle.iim_script.specs.Format.Lines.{HasNo, EndsLine, EndLines}
 use Rattle.iim_script.specs.Format.Printed.{PrintsStory}
 use Rattle.iim_script.specs.Format.Scripts.{IsStory}
 use Rattle.iim_script.proofs.Cuts.{lacks, ended}
-use Rattle.iim_script.proofs.Next.{no_feed}
+use Rattle.iim_script.proofs.Next.{no_feed, lines_more}
+use Rattle.iim_dataset.proofs.Each.{all_last}
 use Rattle.iim_script.specs.Plain.{is_plain, is_low, TellsText, IsWithoutFeed}
 
 -- ---- octets
 
 bits : (a b : Bool) (m n : ℕ) → cond a 1 0 + 2 * m ≡ cond b 1 0 + 2 * n → (a ≡ b) × (m ≡ n)
-bits true true m n e = (refl, omega (arith, e))
-bits true false m n e = absurd (omega (arith, e))
-bits false true m n e = absurd (omega (arith, e))
-bits false false m n e = (refl, omega (arith, e))
+bits a b m n e = grind arith
 
 plain_octet : (b : ℕ) → b < 256 → is_low b ≡ (b == 10) → is_plain b ≡ true
 plain_octet b fits e = grind (arith, nat_tests)
@@ -40,12 +38,8 @@ plain_front (suc n) (x ∷ xs) fits e =
 
 -- ---- lines
 
-or_left : (p q : Bool) → (p || q) ≡ true → q ≡ false → p ≡ true
-or_left true q h e = refl
-or_left false q h e = sym e ∙ h
-
 line_octet : (b : ℕ) → is_plain b ≡ true → (b == 10) ≡ false → is_line_octet b ≡ true
-line_octet b h e = or_left (is_line_octet b) (b == 10) h e
+line_octet b h e = grind (arith, nat_tests)
 
 -- each of the lines may stand in a text
 abbrev Each : List (List ℕ) → Type 0
@@ -77,14 +71,6 @@ joined_text (line ∷ next ∷ lines) some h =
 ends_line : (line : List ℕ) → IsLine line → EndsLine line (line ++ 10 ∷ [])
 ends_line line is = ended line (no_feed line is) (lacks is_line_octet 13 line refl is)
 
--- with an LF at the end
-all_ended : (lines : List (List ℕ)) → 0 < length lines → Each lines → EndLines lines (join_with_byte 10 lines ++ 10 ∷ [])
-all_ended [] some h = absurd (omega (arith, some))
-all_ended (line ∷ []) some h = (line ++ 10 ∷ [], [], ends_line line h.0, refl, sym (append-nil (line ++ 10 ∷ [])))
-all_ended (line ∷ next ∷ lines) some h =
-    let rest = join_with_byte 10 (next ∷ lines) in
-    (line ++ 10 ∷ [], rest ++ 10 ∷ [], ends_line line h.0, all_ended (next ∷ lines) (omega arith) h.1, simp append_assoc)
-
 -- The last of the lines is not ended.
 record Open (lines : List (List ℕ)) (text : List ℕ) : Type 0 where
   before : List (List ℕ)
@@ -110,30 +96,28 @@ last_open (line ∷ next ∷ lines) some h =
       none = o.none;
     }
 
-feed_at_end : (line ended : List ℕ) → EndsLine line ended → (front : List ℕ) × (ended ≡ front ++ 10 ∷ [])
-feed_at_end line ended (none, inl e) = (line ++ 13 ∷ [], e ∙ sym (append_assoc line (13 ∷ []) (10 ∷ [])))
-feed_at_end line ended (none, inr e) = (line, e.0)
-
 -- lines that are ended have an LF at their end
 feed_at_last : (line : List ℕ) (lines : List (List ℕ)) (octets : List ℕ) → EndLines (line ∷ lines) octets → (front : List ℕ) × (octets ≡ front ++ 10 ∷ [])
-feed_at_last line [] octets (ended, rest, ends, none, e) =
-    let f = feed_at_end line ended ends in
-    (f.0, e ∙ (ap (λ (l : List ℕ). ended ++ l) none ∙ (append-nil ended ∙ f.1)))
-feed_at_last line (next ∷ lines) octets (ended, rest, ends, more, e) =
-    let f = feed_at_last next lines rest more in
-    (ended ++ f.0, e ∙ (ap (λ (l : List ℕ). ended ++ l) f.1 ∙ sym (append_assoc ended f.0 (10 ∷ []))))
+feed_at_last line [] octets (first, rest, ends, none, e) =
+    elim ends.1 [ inl f ↦ (line ++ 13 ∷ [], rw (e, none, f) (simp append_assoc)) | inr f ↦ (line, rw (e, none, f.0) (simp append_assoc)) ]
+feed_at_last line (next ∷ lines) octets (first, rest, ends, more, e) =
+    let f = feed_at_last next lines rest more in (first ++ f.0, e ∙ (ap (λ (l : List ℕ). first ++ l) f.1 ∙ sym (append_assoc first f.0 (10 ∷ []))))
 
 stands_alone : (before : List (List ℕ)) (ended last text : List ℕ) → EndLines before ended → text ≡ ended ++ last → ((front : List ℕ) → text ≡ front ++ 10 ∷ [] → ⊥) → last ≡ [] → before ≡ []
 stands_alone [] ended last text lined is not empty = refl
 stands_alone (line ∷ lines) ended last text lined is not empty =
     let f = feed_at_last line lines ended lined in
-    absurd (not f.0 (is ∙ (ap (λ (l : List ℕ). ended ++ l) empty ∙ (append-nil ended ∙ f.1))))
+    absurd (not f.0 (rw (is, empty, append-nil) f.1))
 
 -- ---- the whole
 
 -- what is printed of a story is one
 pub story_printed : (story : List ℕ) (lines : List (List ℕ)) → 0 < length lines → Each lines → PrintsStory story lines → IsStory story lines
-story_printed story lines some each (inl is) = (some, inl (rw is (all_ended lines some each)))
+story_printed story lines some each (inl is) =
+    let o = last_open lines some each in
+    let last = ends_line o.last (all_last IsLine o.before o.last (rw o.lines_are at each)) in
+    let lined = lines_more o.before o.ended o.last (o.last ++ 10 ∷ []) o.lined last in
+    (some, inl (rw is (rw (← append_assoc o.ended o.last (10 ∷ []), ← o.text_is, ← o.lines_are) at lined)))
 story_printed story lines some each (inr (is, alone)) =
     let o = last_open lines some each in
     let alone_empty = λ (empty : o.last ≡ []). alone o.before (rw empty at o.lines_are) in
@@ -157,20 +141,16 @@ tells_plain story text feeds len cut plain counted e =
       is_story = story_is story text lines (some_line text) each is cut;
       texts = each;
       is_text = subst (λ (l : List ℕ). IsText l lines) (sym is) (joined_text lines (some_line text) each);
-      len_is = e ∙ (ap (λ (n : ℕ). length text + n) counted ∙ sym (packed_len text));
+      len_is = omega (arith, e, counted, packed_len text);
     }
 
 -- ---- octets block by block
 
 pub plain_more : (xs : List ℕ) (at n : ℕ) → IsTrue (list_all is_plain (take at xs)) → IsTrue (list_all is_plain (take n (drop at xs))) → IsTrue (list_all is_plain (take (at + n) xs))
-plain_more xs at n h more =
-    subst (λ (ys : List ℕ). IsTrue (list_all is_plain ys)) (sym (take-add at n xs))
-    (list_all-append is_plain (take at xs) (take n (drop at xs)) ∙ and_from (list_all is_plain (take at xs)) (list_all is_plain (take n (drop at xs))) h more)
+plain_more xs at n h more = rw (take-add, list_all-append, h, more) refl
 
 pub plain_all : (xs : List ℕ) (at : ℕ) → IsTrue (list_all is_plain (take at xs)) → IsTrue (list_all is_plain (drop at xs)) → IsTrue (list_all is_plain xs)
-plain_all xs at h rest =
-    subst (λ (ys : List ℕ). IsTrue (list_all is_plain ys)) (take-append-drop at xs)
-    (list_all-append is_plain (take at xs) (drop at xs) ∙ and_from (list_all is_plain (take at xs)) (list_all is_plain (drop at xs)) h rest)
+plain_all xs at h rest = let whole = list_all-append is_plain (take at xs) (drop at xs) in rw (take-append-drop, h, rest) at whole
 
 -- the next ones after those before them, and the rest
 pub count_next : (p : ℕ → Bool) (xs : List ℕ) (at n : ℕ) → count_by p (take n (drop at xs)) + count_by p (drop (at + n) xs) ≡ count_by p (drop at xs)

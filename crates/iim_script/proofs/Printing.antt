@@ -1,5 +1,5 @@
 -- What is printed tells what it is printed of, and ends in lines.
-use Rattle.std.proofs.Common.{◌≡◌, inl, inr, ℕ, ◌+◌, ◌/◌, ◌%◌, ◌<◌, ◌≤◌, ◌==◌, ◌&&◌, nat_le, nat_lt, Bool, true, false, cond, List, [], ◌∷◌, ◌++◌, append_assoc, length, map, get_or, refl, ap, sym, ◌∙◌, subst, arith}
+use Rattle.std.proofs.Common.{◌≡◌, inl, inr, ℕ, ◌+◌, ◌/◌, ◌%◌, ◌<◌, ◌≤◌, ◌==◌, ◌&&◌, nat_le, nat_lt, Bool, true, false, cond, List, [], ◌∷◌, ◌++◌, append_assoc, length, map, get_or, refl, sym, subst, arith}
 use Rattle.std.specs.Prelude.{decimal}
 use Rattle.std.specs.List.{AllByRecursion, list_all, flat_map}
 use Rattle.std.proofs.lemmas.Bool.{false≢true, and_from, and_parts, leb-true, le-leb}
@@ -21,12 +21,8 @@ use Rattle.iim_script.proofs.Cuts.{has_no_append, lacks, ended}
 
 -- ---- octets
 
-hex_by : (n : ℕ) (b : Bool) → nat_lt n 10 ≡ b → n < 16 → IsHexDigit (cond b (48 + n) (55 + n)) n
-hex_by n true e h = inl (omega arith, grind (arith, nat_tests), omega arith)
-hex_by n false e h = inr (inl (grind (arith, nat_tests), omega (arith, h), omega arith))
-
 hex : (n : ℕ) → n < 16 → IsHexDigit (hex_digit n) n
-hex n h = hex_by n (nat_lt n 10) refl h
+hex n h = grind (arith, nat_tests)
 
 octet_by : (octet : ℕ) (b : Bool) → is_plain octet ≡ b → octet < 256 → TellsOctet (cond b (octet ∷ []) (escape octet)) octet
 octet_by octet true e h = inl (λ is. false≢true (subst (λ (n : ℕ). is_plain n ≡ true) is e), refl)
@@ -52,8 +48,7 @@ other : (x b : ℕ) → b < x → (x == b) ≡ false
 other x b h = grind (arith, nat_tests)
 
 hex_least : (n : ℕ) (b : Bool) → 48 ≤ cond b (48 + n) (55 + n)
-hex_least n true = omega arith
-hex_least n false = omega arith
+hex_least n b = grind arith
 
 octet_lacks : (b x : ℕ) (plain : Bool) → is_plain x ≡ plain → b < 32 → HasNo b (cond plain (x ∷ []) (escape x))
 octet_lacks b x true e h =
@@ -70,8 +65,6 @@ shown_lacks b (x ∷ xs) h = has_no_append b (shown_octet x) (shown xs) (octet_l
 pub after_lacks : (b : ℕ) (xs : List ℕ) → b < 32 → HasNo b (after_space xs)
 after_lacks b [] h = tt
 after_lacks b (x ∷ xs) h = (other 32 b h, shown_lacks b (x ∷ xs) h)
-
--- ---- lines
 
 -- ---- numbers
 
@@ -155,13 +148,9 @@ field_ends d h =
 pub fields_end : (ds : List Dataset) (lines : List (List ℕ)) (octets : List ℕ) → AllByRecursion IsPrintable ds → EndLines lines octets
     → EndLines (map field_words ds ++ lines) (flat_map field_line ds ++ octets)
 fields_end [] lines octets h ends = ends
-fields_end (d ∷ ds) lines octets h ends = (
-  field_line d,
-  flat_map field_line ds ++ octets,
-  field_ends d h.0,
-  fields_end ds lines octets h.1 ends,
-  append_assoc (field_line d) (flat_map field_line ds) octets,
-)
+fields_end (d ∷ ds) lines octets h ends =
+    let rest = flat_map field_line ds ++ octets in
+    (field_line d, rest, field_ends d h.0, fields_end ds lines octets h.1 ends, append_assoc (field_line d) (flat_map field_line ds) octets)
 
 pub fields_told : (ds : List Dataset) → AllByRecursion IsPrintable ds → TellFields (map field_words ds) ds
 fields_told [] h = tt
@@ -173,12 +162,6 @@ octets_by : (test : ℕ → Bool) (xs : List ℕ) → ((x : ℕ) → test x ≡ 
 octets_by test [] small h = tt
 octets_by test (x ∷ xs) small h = let both = and_parts (test x) (list_all test xs) h in (small x both.0, octets_by test xs small both.1)
 
-info_small : (x : ℕ) → message.is_info_octet x ≡ true → x < 256
-info_small x h = grind (arith, nat_tests)
-
-trailer_small : (x : ℕ) → message.is_trailer_octet x ≡ true → x < 256
-trailer_small x h = grind (arith, nat_tests)
-
 -- the header's line, without its end
 abbrev pub message_words : Header → List ℕ
 message_words head = message_word ++ (head.source ++ (32 ∷ after_source (words_of head) (after_space head.info)))
@@ -187,7 +170,7 @@ pub head_told : (head : Header) → IsHeader head → TellsHead (message_words h
 head_told head h = record {
   end = after_space head.info;
   is_header = h;
-  is_end = after_tells head.info (octets_by message.is_info_octet head.info info_small h.info.0);
+  is_end = after_tells head.info (octets_by message.is_info_octet head.info (λ x is. grind (arith, nat_tests)) h.info.0);
   line_is = refl;
 }
 
@@ -207,18 +190,8 @@ message_lacks b head small letter digit alphanumeric word h =
     (word_lacks is_alphanumeric b head.category (after_category w end) small alphanumeric h.category.0
     (has_no_append b head.words end (lacks is_digit b head.words digit h.words.0) (after_lacks b head.info small))))))
 
--- a word, SP and what follows, and an end
-pushed : (word rest more after : List ℕ) → rest ++ more ≡ after → (word ++ (32 ∷ rest)) ++ more ≡ word ++ (32 ∷ after)
-pushed word rest more after e = append_assoc word (32 ∷ rest) more ∙ ap (λ (l : List ℕ). word ++ (32 ∷ l)) e
-
 message_ended : (head : Header) → message_words head ++ 10 ∷ [] ≡ message_line head
-message_ended head =
-    let end = after_space head.info in
-    let w = words_of head in
-    let last : after_category w end ++ 10 ∷ [] ≡ head.words ++ (end ++ 10 ∷ []) = append_assoc head.words end (10 ∷ []) in
-    ap (λ (l : List ℕ). message_word ++ l)
-    (pushed head.source (after_source w end) (10 ∷ []) _ (pushed head.number (after_number w end) (10 ∷ []) _ (pushed head.priority (after_priority w end) (10 ∷ []) _
-    (pushed head.category (after_category w end) (10 ∷ []) _ last))))
+message_ended head = simp append_assoc
 
 pub message_ends : (head : Header) → IsHeader head → EndsLine (message_words head) (message_line head)
 message_ends head h =
@@ -233,7 +206,7 @@ trailer_words trailer = trailer_word ++ after_space trailer
 pub trailer_told : (trailer : List ℕ) → Are message.is_trailer_octet trailer → TellsTrailer (trailer_words trailer) trailer
 trailer_told trailer h = record {
   end = after_space trailer;
-  is_end = after_tells trailer (octets_by message.is_trailer_octet trailer trailer_small h);
+  is_end = after_tells trailer (octets_by message.is_trailer_octet trailer (λ x is. grind (arith, nat_tests)) h);
   line_is = refl;
 }
 

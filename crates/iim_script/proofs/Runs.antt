@@ -1,13 +1,14 @@
 -- Scripts line by line: what a line tells and leads to is one thing, and so is what lines lead to.
 use Rattle.std.proofs.Common.{◌≡◌, ℕ, List, ◌∷◌, ◌++◌, get_or, drop, refl, ap, sym, ◌∙◌, subst, arith, ◌⊎◌, inl, inr, ◌+◌, [], append_assoc, append-nil, length, length-append, None}
-use Rattle.std.specs.List.{position_or_len}
+use Rattle.std.specs.List.{AllByRecursion}
+use Rattle.wire_story.specs.Format.Texts.{IsLine}
 use Rattle.iim_dataset.specs.Format.Datasets.{Dataset}
 use Rattle.iim_dataset.proofs.Spelled.{dataset_is}
 use Rattle.wire_message.specs.Format.Messages.{Header, IsTrailer}
 use Rattle.iim_script.specs.Format.Shown.{TellsLast}
-use Rattle.iim_script.specs.Format.Forms.{TellsNumber, TellsNames, TellsField, TellsHead, TellsTrailer, words_of, after_source, text_word}
+use Rattle.iim_script.specs.Format.Forms.{TellsField, TellsHead, TellsTrailer, words_of, after_source, text_word}
 use Rattle.iim_script.proofs.Texts.{last_once}
-use Rattle.iim_script.proofs.Names.{no_digit, no_colon, NamesAt, names_at, names_once}
+use Rattle.iim_script.proofs.Names.{names_once}
 use Rattle.iim_script.proofs.Heads.{words_of_header, last_ends, head_once}
 use Rattle.iim_script.proofs.Fronts.{field_digit, tells_no_head}
 use Rattle.iim_fields.specs.States.Builders.{add_fault, finish_fault}
@@ -17,27 +18,15 @@ use Rattle.iim_script.specs.Format.Lines.{NextLine, EndLines}
 use Rattle.iim_script.specs.Format.Scripts.{TellFields, AreTaken, AreTrailer, IsFront}
 use Rattle.iim_script.specs.Format.Faults.{Stage, InFields, AfterMessage, AfterTrailer, HaveCome, Stands, TellsBadField, EndsTooSoon, IsWrong, IsNextWrong}
 use Rattle.iim_script.specs.declared.fault.ScriptCause.{ScriptCause}
-use Rattle.iim_script.specs.declared.fault.ScriptCause.TheVariants.{ScriptLine, ScriptTooLong, Field, BadTrailer, BadTextOctet, OutOfMemory}
-use Rattle.iim_script.proofs.Next.{next_once, no_next}
+use Rattle.iim_script.specs.declared.fault.ScriptCause.TheVariants.{ScriptLine, Field, BadTrailer}
+use Rattle.iim_script.proofs.Next.{next_once, no_next, lines_append}
 
 -- ---- what a line tells is one thing
 
-number_once : (digits : List ℕ) (n m : ℕ) → TellsNumber digits n → TellsNumber digits m → n ≡ m
-number_once digits n m t u = t.value ∙ sym u.value
-
--- the numbers, with the digits of another reading of the line
-at_others : (line : List ℕ) (rec set r s : ℕ) (end other : List ℕ) → TellsNames line rec set end → (u : TellsNames line r s other)
-    → NamesAt u.rec_digits (u.set_digits ++ other) (position_or_len no_digit (u.set_digits ++ other)) rec set end
-at_others line rec set r s end other t u =
-    names_at line u.rec_digits (u.set_digits ++ other) (position_or_len no_digit (u.set_digits ++ other)) rec set end (no_colon u.rec_digits u.is_rec.are_digits) u.line_is refl t
-
 pub field_once : (line : List ℕ) (d e : Dataset) → TellsField line d → TellsField line e → d ≡ e
 field_once line d e t u =
-    let a = at_others line d.rec d.set e.rec e.set t.end u.end t.names u.names in
-    let b = at_others line e.rec e.set e.rec e.set u.end u.end u.names u.names in
     let same = names_once line d.rec d.set e.rec e.set t.end u.end t.names u.names in
-    dataset_is d e (number_once _ d.rec e.rec a.is_rec b.is_rec) (number_once _ d.set e.set a.is_set b.is_set)
-    (last_once u.end d.octets e.octets (subst (λ (l : List ℕ). TellsLast l d.octets) same t.is_end) u.is_end)
+    dataset_is d e same.0 same.1 (last_once u.end d.octets e.octets (rw same.2 at t.is_end) u.is_end)
 
 pub one_head : (line : List ℕ) (head other : Header) → TellsHead line head → TellsHead line other → head ≡ other
 one_head line head other t u =
@@ -57,74 +46,12 @@ text_no_trailer octets t =
     let second : 101 ≡ 114 = ap (λ (l : List ℕ). get_or l 1 0) t.line_is in
     absurd (omega (arith, second))
 
--- ---- lines at the front of octets
-
--- The octets are these lines, each with its end, and what is left.
-pub record Lined (lines : List (List ℕ)) (octets rest : List ℕ) : Type 0 where
-  pub front : List ℕ
-  pub lined : EndLines lines front
-  pub parts : octets ≡ front ++ rest
-
--- Other lines continue after these, and this one is the next.
-pub record Beyond (lines others : List (List ℕ)) (rest : List ℕ) : Type 0 where
-  pub next : List ℕ
-  pub more : List (List ℕ)
-  pub others_are : others ≡ lines ++ next ∷ more
-  pub after : List ℕ
-  pub is_next : NextLine rest next after
-
--- Of two lists of lines at the front of the same octets they are one, or one continues after the other.
-abbrev pub Compared : List (List ℕ) → List (List ℕ) → List ℕ → List ℕ → Type 0
-Compared lines others rest left = ((lines ≡ others) × (rest ≡ left)) ⊎ (Beyond lines others rest ⊎ Beyond others lines left)
-
--- the line that lined octets begin with, and what follows it
-record First (line : List ℕ) (lines : List (List ℕ)) (octets rest : List ℕ) : Type 0 where
-  after : List ℕ
-  is_next : NextLine octets line after
-  others : Lined lines after rest
-
-first_of_lined : (line : List ℕ) (lines : List (List ℕ)) (octets rest : List ℕ) → Lined (line ∷ lines) octets rest → First line lines octets rest
-first_of_lined line lines octets rest l =
-    let h = l.lined in record {
-      after = h.1 ++ rest;
-      is_next = record { ended = h.0; ends = h.2; parts = l.parts ∙ (ap (λ (x : List ℕ). x ++ rest) h.4 ∙ append_assoc h.0 h.1 rest) };
-      others = record { front = h.1; lined = h.3; parts = refl };
-    }
-
-none_lined : (octets rest : List ℕ) → Lined [] octets rest → octets ≡ rest
-none_lined octets rest l = l.parts ∙ ap (λ (x : List ℕ). x ++ rest) l.lined
-
-beyond_none : (line : List ℕ) (lines : List (List ℕ)) (octets rest left : List ℕ) → octets ≡ rest → Lined (line ∷ lines) octets left → Beyond [] (line ∷ lines) rest
-beyond_none line lines octets rest left e l =
-    let f = first_of_lined line lines octets left l in
-    record { next = line; more = lines; others_are = refl; after = f.after; is_next = subst (λ (x : List ℕ). NextLine x line f.after) e f.is_next }
-
-beyond_more : (line other : List ℕ) (lines others : List (List ℕ)) (rest : List ℕ) → line ≡ other → Beyond lines others rest → Beyond (line ∷ lines) (other ∷ others) rest
-beyond_more line other lines others rest e b = record { next = b.next; more = b.more; others_are = cc; after = b.after; is_next = b.is_next }
-
-compared_more : (line other : List ℕ) (lines others : List (List ℕ)) (rest left : List ℕ) → line ≡ other → Compared lines others rest left
-    → Compared (line ∷ lines) (other ∷ others) rest left
-compared_more line other lines others rest left e (inl h) = inl (cc, h.1)
-compared_more line other lines others rest left e (inr (inl b)) = inr (inl (beyond_more line other lines others rest e b))
-compared_more line other lines others rest left e (inr (inr b)) = inr (inr (beyond_more other line others lines left (sym e) b))
-
-pub compared : (lines others : List (List ℕ)) (octets rest left : List ℕ) → Lined lines octets rest → Lined others octets left → Compared lines others rest left
-compared [] [] octets rest left l k = inl (refl, sym (none_lined octets rest l) ∙ none_lined octets left k)
-compared [] (other ∷ others) octets rest left l k = inr (inl (beyond_none other others octets rest left (none_lined octets rest l) k))
-compared (line ∷ lines) [] octets rest left l k = inr (inr (beyond_none line lines octets left rest (none_lined octets left k) l))
-compared (line ∷ lines) (other ∷ others) octets rest left l k =
-    let f = first_of_lined line lines octets rest l in
-    let g = first_of_lined other others octets left k in
-    let same = next_once octets line f.after other g.after f.is_next g.is_next in
-    compared_more line other lines others rest left same.0
-    (compared lines others g.after rest left (subst (λ (x : List ℕ). Lined lines x rest) same.1 f.others) g.others)
-
 -- ---- places
 
--- where a script is: before its line `text`, or after it, with what the lines tell
+-- where a script is: before its line `text`, or after it, with what the lines tell and the lines of the story so far
 pub data Place : Type 0 where
   At : Stage → Place
-  InStory : List Dataset → Header → List ℕ → Place
+  InStory : List Dataset → Header → List ℕ → List (List ℕ) → Place
 
 -- What a line leads to.
 abbrev pub Leads : Limits → Place → List ℕ → Place → Type 0
@@ -133,12 +60,12 @@ Leads limits (At (InFields ds)) line next =
     ⊎ ((head : Header) × TellsHead line head × (next ≡ At (AfterMessage ds head)))
 Leads limits (At (AfterMessage ds head)) line next =
     ((trailer : List ℕ) × TellsTrailer line trailer × IsTrailer trailer × (next ≡ At (AfterTrailer ds head trailer)))
-    ⊎ ((line ≡ text_word) × (finish_fault ds ≡ None) × (next ≡ InStory ds head []))
-Leads limits (At (AfterTrailer ds head trailer)) line next = (line ≡ text_word) × (finish_fault ds ≡ None) × (next ≡ InStory ds head trailer)
-Leads limits (InStory ds head trailer) line next = ⊥
+    ⊎ ((line ≡ text_word) × (finish_fault ds ≡ None) × (next ≡ InStory ds head [] []))
+Leads limits (At (AfterTrailer ds head trailer)) line next = (line ≡ text_word) × (finish_fault ds ≡ None) × (next ≡ InStory ds head trailer [])
+Leads limits (InStory ds head trailer done) line next = IsLine line × (next ≡ InStory ds head trailer (done ++ line ∷ []))
 
 no_text_trailer : (line trailer : List ℕ) → line ≡ text_word → TellsTrailer line trailer → ⊥
-no_text_trailer line trailer e t = text_no_trailer trailer (subst (λ (l : List ℕ). TellsTrailer l trailer) e t)
+no_text_trailer line trailer e t = text_no_trailer trailer (rw e at t)
 
 leads_once : (limits : Limits) (place : Place) (line : List ℕ) (next other : Place) → Leads limits place line next → Leads limits place line other → next ≡ other
 leads_once limits (At (InFields ds)) line next other (inl (d, t, a, e)) (inl (c, u, b, f)) = cc (field_once line d c t u)
@@ -149,8 +76,8 @@ leads_once limits (At (AfterMessage ds head)) line next other (inl (x, t, a, e))
 leads_once limits (At (AfterMessage ds head)) line next other (inl (x, t, a, e)) (inr (is, b, f)) = absurd (no_text_trailer line x is t)
 leads_once limits (At (AfterMessage ds head)) line next other (inr (is, a, e)) (inl (y, u, b, f)) = absurd (no_text_trailer line y is u)
 leads_once limits (At (AfterMessage ds head)) line next other (inr (is, a, e)) (inr (js, b, f)) = e ∙ sym f
-leads_once limits (At (AfterTrailer ds head trailer)) line next other (is, a, e) (js, b, f) = e ∙ sym f
-leads_once limits (InStory ds head trailer) line next other h k = absurd h
+leads_once limits (At (AfterTrailer ds head trailer)) line next other h k = h.2 ∙ sym k.2
+leads_once limits (InStory ds head trailer done) line next other h k = h.1 ∙ sym k.1
 
 -- What lines lead to, one after another.
 abbrev pub Path : Limits → Place → List (List ℕ) → Place → Type 0
@@ -159,20 +86,40 @@ Path limits place (line ∷ lines) end = (next : Place) × Leads limits place li
 
 path_on : (limits : Limits) (place : Place) (lines others : List (List ℕ)) (next end : Place) → Path limits place lines next → Path limits next others end
     → Path limits place (lines ++ others) end
-path_on limits place [] others next end p q = subst (λ (x : Place). Path limits x others end) (sym p) q
+path_on limits place [] others next end p q = rw p q
 path_on limits place (line ∷ lines) others next end (there, leads, p) q = (there, leads, path_on limits there lines others next end p q)
 
-path_once : (limits : Limits) (place : Place) (lines : List (List ℕ)) (end other : Place) → Path limits place lines end → Path limits place lines other → end ≡ other
-path_once limits place [] end other p q = sym p ∙ q
-path_once limits place (line ∷ lines) end other (there, leads, p) (here, so, q) =
-    path_once limits there lines end other p (subst (λ (x : Place). Path limits x lines other) (leads_once limits place line here there so leads) q)
+-- The octets begin with these lines, which lead on to this place, and this is left.
+abbrev pub Walk : Limits → Place → List (List ℕ) → List ℕ → Place → List ℕ → Type 0
+Walk limits place [] octets end rest = (place ≡ end) × (octets ≡ rest)
+Walk limits place (line ∷ lines) octets end rest =
+    (after : List ℕ) × (next : Place) × NextLine octets line after × Leads limits place line next × Walk limits next lines after end rest
 
--- where a path is left, the next line leads on
-path_leads : (limits : Limits) (place : Place) (lines : List (List ℕ)) (line : List ℕ) (more : List (List ℕ)) (end other : Place)
-    → Path limits place lines end → Path limits place (lines ++ line ∷ more) other → (next : Place) × Leads limits end line next
-path_leads limits place [] line more end other p (there, leads, q) = (there, subst (λ (x : Place). Leads limits x line there) p leads)
-path_leads limits place (l ∷ lines) line more end other (there, leads, p) (here, so, q) =
-    path_leads limits there lines line more end other p (subst (λ (x : Place). Path limits x (lines ++ line ∷ more) other) (leads_once limits place l here there so leads) q)
+walk_of : (limits : Limits) (place : Place) (lines : List (List ℕ)) (front rest : List ℕ) (end : Place) → EndLines lines front → Path limits place lines end
+    → Walk limits place lines (front ++ rest) end rest
+walk_of limits place [] front rest end h p = (p, rw h refl)
+walk_of limits place (line ∷ lines) front rest end (ended, more, ends, lined, e) (next, leads, p) =
+    let is : NextLine (front ++ rest) line (more ++ rest) = record { ended = ended; ends = ends; parts = rw e (append_assoc ended more rest) } in
+    (more ++ rest, next, is, leads, walk_of limits next lines more rest end lined p)
+
+-- The next line leads on.
+abbrev pub Onward : Limits → Place → List ℕ → Type 0
+Onward limits place rest = (line : List ℕ) × (after : List ℕ) × (next : Place) × NextLine rest line after × Leads limits place line next
+
+-- Octets from which no line leads on are reached in one way.
+walk_once : (limits : Limits) (place : Place) (lines others : List (List ℕ)) (octets : List ℕ) (end other : Place) (rest left : List ℕ)
+    → Walk limits place lines octets end rest → Walk limits place others octets other left → (Onward limits end rest → ⊥) → (Onward limits other left → ⊥)
+    → (lines ≡ others) × (end ≡ other) × (rest ≡ left)
+walk_once limits place [] [] octets end other rest left (p, e) (q, g) f h = (refl, sym p ∙ q, sym e ∙ g)
+walk_once limits place [] (m ∷ others) octets end other rest left (p, e) (after, next, n, leads, q) f h =
+    let stuck = rw (← p, ← e) at f in absurd (stuck (m, after, next, n, leads))
+walk_once limits place (l ∷ lines) [] octets end other rest left (after, next, n, leads, p) (q, e) f h =
+    let stuck = rw (← q, ← e) at h in absurd (stuck (l, after, next, n, leads))
+walk_once limits place (l ∷ lines) (m ∷ others) octets end other rest left (after, next, n, leads, p) (more, there, k, so, q) f h =
+    let same = next_once octets l after m more n k in
+    let at = leads_once limits place m next there (rw same.0 at leads) so in
+    let one = walk_once limits there lines others more end other rest left (rw (at, same.1) at p) q f h in
+    (rw (same.0, one.0) refl, one.1, one.2)
 
 -- ---- runs
 
@@ -182,56 +129,27 @@ start = At (InFields [])
 -- The octets begin with `count` lines, which lead to this place, and this is left.
 pub record Run (limits : Limits) (octets : List ℕ) (place : Place) (rest : List ℕ) (count : ℕ) : Type 0 where
   pub lines : List (List ℕ)
-  pub lined : Lined lines octets rest
-  pub path : Path limits start lines place
+  pub walk : Walk limits start lines octets place rest
   pub count_is : count ≡ length lines
-
--- The next line leads on.
-abbrev pub Onward : Limits → Place → List ℕ → Type 0
-Onward limits place rest = (line : List ℕ) × (after : List ℕ) × (next : Place) × NextLine rest line after × Leads limits place line next
-
-onward : (limits : Limits) (octets : List ℕ) (place other : Place) (rest left : List ℕ) (n m : ℕ) (r : Run limits octets place rest n) (k : Run limits octets other left m)
-    → Beyond r.lines k.lines rest → Onward limits place rest
-onward limits octets place other rest left n m r k b =
-    let path : Path limits start (r.lines ++ b.next ∷ b.more) other = subst (λ (ls : List (List ℕ)). Path limits start ls other) b.others_are k.path in
-    let on = path_leads limits start r.lines b.next b.more place other r.path path in
-    (b.next, b.after, on.0, b.is_next, on.1)
-
--- They are one run.
-pub record AreOne (place other : Place) (rest left : List ℕ) (n m : ℕ) : Type 0 where
-  pub place_is : place ≡ other
-  pub rest_is : rest ≡ left
-  pub count_is : n ≡ m
-
-settled : (limits : Limits) (octets : List ℕ) (place other : Place) (rest left : List ℕ) (n m : ℕ) (r : Run limits octets place rest n) (k : Run limits octets other left m)
-    → (Onward limits place rest → ⊥) → (Onward limits other left → ⊥) → Compared r.lines k.lines rest left → AreOne place other rest left n m
-settled limits octets place other rest left n m r k f g (inl h) = record {
-  place_is = path_once limits start r.lines place other r.path (subst (λ (ls : List (List ℕ)). Path limits start ls other) (sym h.0) k.path);
-  rest_is = h.1;
-  count_is = r.count_is ∙ (ap length h.0 ∙ sym k.count_is);
-}
-settled limits octets place other rest left n m r k f g (inr (inl b)) = absurd (f (onward limits octets place other rest left n m r k b))
-settled limits octets place other rest left n m r k f g (inr (inr b)) = absurd (g (onward limits octets other place left rest m n k r b))
 
 -- Two runs that no line leads on from are one.
 pub runs_once : (limits : Limits) (octets : List ℕ) (place other : Place) (rest left : List ℕ) (n m : ℕ) → Run limits octets place rest n → Run limits octets other left m
-    → (Onward limits place rest → ⊥) → (Onward limits other left → ⊥) → AreOne place other rest left n m
+    → (Onward limits place rest → ⊥) → (Onward limits other left → ⊥) → (place ≡ other) × (rest ≡ left) × (n ≡ m)
 runs_once limits octets place other rest left n m r k f g =
-    settled limits octets place other rest left n m r k f g (compared r.lines k.lines octets rest left r.lined k.lined)
+    let one = walk_once limits start r.lines k.lines octets place other rest left r.walk k.walk f g in
+    (one.1, one.2, omega (arith, ap length one.0, r.count_is, k.count_is))
 
 -- ---- what has come is a run
 
 fields_path : (limits : Limits) (before : List Dataset) (lines : List (List ℕ)) (ds : List Dataset) → TellFields lines ds → AreTaken limits before ds
     → Path limits (At (InFields before)) lines (At (InFields (before ++ ds)))
-fields_path limits before [] [] told taken = ap (λ (l : List Dataset). At (InFields l)) (sym (append-nil before))
-fields_path limits before [] (d ∷ ds) told taken = absurd told
-fields_path limits before (line ∷ lines) [] told taken = absurd told
+fields_path limits before [] [] told taken = rw append-nil refl
 fields_path limits before (line ∷ lines) (d ∷ ds) told taken = (
   At (InFields (before ++ d ∷ [])),
   inl (d, told.0, taken.0, refl),
-  subst (λ (l : List Dataset). Path limits (At (InFields (before ++ d ∷ []))) lines (At (InFields l))) (append_assoc before (d ∷ []) ds)
-      (fields_path limits (before ++ d ∷ []) lines ds told.1 taken.1),
+  rw (← append_assoc before (d ∷ []) ds) (fields_path limits (before ++ d ∷ []) lines ds told.1 taken.1),
 )
+fields_path limits before lines ds told taken = absurd told
 
 head_path : (limits : Limits) (fields : List (List ℕ)) (message : List ℕ) (ds : List Dataset) (head : Header) → TellFields fields ds → AreTaken limits [] ds → TellsHead message head
     → Path limits start (fields ++ message ∷ []) (At (AfterMessage ds head))
@@ -248,33 +166,41 @@ come_path limits lines (AfterTrailer ds head trailer) (fields, message, line, ar
     (head_path limits fields message ds head are.told are.taken t) (At (AfterTrailer ds head trailer), inl (trailer, u, is, refl), refl))
 
 pub stands_run : (limits : Limits) (octets : List ℕ) (stage : Stage) (rest : List ℕ) (count : ℕ) → Stands limits octets stage rest count → Run limits octets (At stage) rest count
-stands_run limits octets stage rest count s = record {
-  lines = s.lines;
-  lined = record { front = s.front; lined = s.lined; parts = s.parts };
-  path = come_path limits s.lines stage s.come;
-  count_is = s.count_is;
-}
+stands_run limits octets stage rest count s =
+    let walk = walk_of limits start s.lines s.front rest (At stage) s.lined (come_path limits s.lines stage s.come) in
+    record { lines = s.lines; walk = rw s.parts walk; count_is = s.count_is }
 
 text_path : (limits : Limits) (trailers : List (List ℕ)) (ds : List Dataset) (head : Header) (trailer : List ℕ) → AreTrailer trailers trailer → finish_fault ds ≡ None
-    → Path limits (At (AfterMessage ds head)) (trailers ++ text_word ∷ []) (InStory ds head trailer)
-text_path limits [] ds head trailer is whole = (InStory ds head [], inr (refl, whole, refl), ap (λ (l : List ℕ). InStory ds head l) (sym is))
+    → Path limits (At (AfterMessage ds head)) (trailers ++ text_word ∷ []) (InStory ds head trailer [])
+text_path limits [] ds head trailer is whole = (InStory ds head [] [], inr (refl, whole, refl), rw is refl)
 text_path limits (line ∷ []) ds head trailer is whole =
-    (At (AfterTrailer ds head trailer), inl (trailer, is.0, is.1, refl), (InStory ds head trailer, (refl, whole, refl), refl))
+    (At (AfterTrailer ds head trailer), inl (trailer, is.0, is.1, refl), (InStory ds head trailer [], (refl, whole, refl), refl))
 text_path limits (line ∷ other ∷ lines) ds head trailer is whole = absurd is
 
--- what stands before the story is a run
-pub front_run : (limits : Limits) (octets front story : List ℕ) (ds : List Dataset) (head : Header) (trailer : List ℕ) (text_line : ℕ) → octets ≡ front ++ story
-    → IsFront limits front ds head trailer text_line → Run limits octets (InStory ds head trailer) story text_line
-front_run limits octets front story ds head trailer text_line e f =
+story_path : (limits : Limits) (ds : List Dataset) (head : Header) (trailer : List ℕ) (done more : List (List ℕ)) → AllByRecursion IsLine more
+    → Path limits (InStory ds head trailer done) more (InStory ds head trailer (done ++ more))
+story_path limits ds head trailer done [] h = rw append-nil refl
+story_path limits ds head trailer done (line ∷ more) h =
+    let next = InStory ds head trailer (done ++ line ∷ []) in
+    (next, (h.0, refl), rw (← append_assoc done (line ∷ []) more) (story_path limits ds head trailer (done ++ line ∷ []) more h.1))
+
+-- what stands before the story, and lines of the story after it, are a run
+pub story_run : (limits : Limits) (octets front story ended rest : List ℕ) (ds : List Dataset) (head : Header) (trailer : List ℕ)
+    → (done : List (List ℕ)) (text_line : ℕ) → octets ≡ front ++ story → IsFront limits front ds head trailer text_line
+    → story ≡ ended ++ rest → EndLines done ended → AllByRecursion IsLine done
+    → Run limits octets (InStory ds head trailer done) rest (text_line + length done)
+story_run limits octets front story ended rest ds head trailer done text_line e f parts lined each =
     let body : List (List ℕ) = f.message ∷ f.trailers ++ text_word ∷ [] in
-    let count : length (f.field_lines ++ body) ≡ length f.field_lines + length body = length-append f.field_lines body in
-    let rest : length (f.trailers ++ text_word ∷ []) ≡ length f.trailers + 1 = length-append f.trailers (text_word ∷ []) in
+    let lines : List (List ℕ) = f.field_lines ++ body in
+    let path = path_on limits start f.field_lines body (At (InFields ds)) (InStory ds head trailer [])
+    (fields_path limits [] f.field_lines ds f.are_fields.told f.are_fields.taken)
+    (At (AfterMessage ds head), inr (head, f.is_head, refl), text_path limits f.trailers ds head trailer f.is_trailer f.whole) in
     record {
-      lines = f.field_lines ++ body;
-      lined = record { front = front; lined = f.lined; parts = e };
-      path = path_on limits start f.field_lines body (At (InFields ds)) (InStory ds head trailer) (fields_path limits [] f.field_lines ds f.are_fields.told f.are_fields.taken)
-          (At (AfterMessage ds head), inr (head, f.is_head, refl), text_path limits f.trailers ds head trailer f.is_trailer f.whole);
-      count_is = omega (arith, f.text_line_is, count, rest);
+      lines = lines ++ done;
+      walk = rw (e, parts, ← append_assoc front ended rest)
+          (walk_of limits start (lines ++ done) (front ++ ended) rest (InStory ds head trailer done) (lines_append lines done front ended f.lined lined)
+          (path_on limits start lines done (InStory ds head trailer []) (InStory ds head trailer done) path (story_path limits ds head trailer [] done each)));
+      count_is = omega (arith, f.text_line_is, length-append lines done, length-append f.field_lines body, length-append f.trailers (text_word ∷ []));
     }
 
 -- ---- what is wrong leads nowhere, and is wrong for one cause
@@ -286,7 +212,6 @@ too_soon_once : (ds : List Dataset) (line : List ℕ) (a b : FieldCause) → End
 too_soon_once ds line a b (f, is, e, p) (g, js, h, q) = cc
 
 wrong_once : (limits : Limits) (stage : Stage) (line : List ℕ) (a b : ScriptCause) → IsWrong limits stage line a → IsWrong limits stage line b → a ≡ b
-wrong_once limits stage line ScriptLine ScriptLine w v = refl
 wrong_once limits (InFields ds) line ScriptLine (Field b) w v = absurd (w.0 v.0 v.2)
 wrong_once limits (InFields ds) line (Field a) ScriptLine w v = absurd (v.0 w.0 w.2)
 wrong_once limits (InFields ds) line (Field a) (Field b) w v = ap (λ (c : FieldCause). Field c) (bad_field_once limits ds line a b w v)
@@ -297,16 +222,10 @@ wrong_once limits (AfterMessage ds head) line (Field a) (Field b) w v = ap (λ (
 wrong_once limits (AfterMessage ds head) line (Field a) BadTrailer w v = absurd (no_text_trailer line v.0 w.1 v.1)
 wrong_once limits (AfterMessage ds head) line BadTrailer ScriptLine w v = absurd (v.0 w.0 w.1)
 wrong_once limits (AfterMessage ds head) line BadTrailer (Field b) w v = absurd (no_text_trailer line w.0 v.1 w.1)
-wrong_once limits (AfterMessage ds head) line BadTrailer BadTrailer w v = refl
 wrong_once limits (AfterTrailer ds head trailer) line ScriptLine (Field b) w v = absurd (w v.1)
 wrong_once limits (AfterTrailer ds head trailer) line (Field a) ScriptLine w v = absurd (v w.1)
 wrong_once limits (AfterTrailer ds head trailer) line (Field a) (Field b) w v = ap (λ (c : FieldCause). Field c) (too_soon_once ds line a b w v)
-wrong_once limits (InFields ds) line a BadTrailer w v = absurd v
-wrong_once limits (AfterTrailer ds head trailer) line a BadTrailer w v = absurd v
-wrong_once limits stage line a ScriptTooLong w v = absurd v
-wrong_once limits stage line a BadTextOctet w v = absurd v
-wrong_once limits stage line a OutOfMemory w v = absurd v
-wrong_once limits stage line a b w v = absurd w
+wrong_once limits stage line a b w v = grind arith
 
 wrong_stuck : (limits : Limits) (stage : Stage) (line : List ℕ) (cause : ScriptCause) (next : Place) → IsWrong limits stage line cause → Leads limits (At stage) line next → ⊥
 wrong_stuck limits (InFields ds) line ScriptLine next w (inl y) = w.0 y.0 y.1

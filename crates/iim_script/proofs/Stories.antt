@@ -3,6 +3,7 @@ use Rattle.std.proofs.Common.{◌≡◌, ◌⊎◌, inl, inr, ℕ, ◌+◌, ◌<
 use Rattle.std.specs.List.{AllByRecursion}
 use Rattle.std.proofs.Math.Seq.{take-append_seam}
 use Rattle.iim_dataset.proofs.Each.{all_append}
+use Rattle.iim_dataset.proofs.Lists.{some_none}
 use Rattle.wire_story.specs.Format.Texts.{IsLine, IsText, packed_text}
 use Rattle.iim_script.specs.Format.Lines.{HasNo, EndsLine, NextLine, EndLines}
 use Rattle.iim_script.specs.Format.Scripts.{IsStory}
@@ -24,9 +25,6 @@ pub record StoryStands (story : List ℕ) (before : ℕ) (rest : List ℕ) (coun
   pub text : (left : List ℕ) (lines : List (List ℕ)) → IsText left lines → IsText (front ++ left) (done ++ lines)
   pub len_is : (lines : List (List ℕ)) → 0 < length lines → length (packed_text (done ++ lines)) ≡ len + length (packed_text lines)
 
-some_left : (after : List ℕ) (done : List (List ℕ)) → 0 < length after → after ≡ [] → done ≡ []
-some_left after done some e = absurd (omega (arith, some, ap length e))
-
 -- a line with its end goes before a text
 text_more : (line ended left : List ℕ) (lines : List (List ℕ)) → IsLine line → EndsLine line ended → IsText left lines → IsText (ended ++ left) (line ∷ lines)
 text_more line ended left [] is ends h = absurd h
@@ -46,58 +44,30 @@ story_step {line = line} {after = after} s n some is e f = record {
   done = s.done ++ line ∷ [];
   front = s.front ++ n.ended;
   lined = lines_more s.done s.front line n.ended s.lined n.ends;
-  parts = s.parts ∙ (ap (λ (l : List ℕ). s.front ++ l) n.parts ∙ sym (append_assoc s.front n.ended after));
+  parts = rw (s.parts, n.parts) (sym (append_assoc s.front n.ended after));
   texts = all_append IsLine s.done (line ∷ []) s.texts (is, tt);
   count_is = omega (arith, e, s.count_is, count_more s.done line);
-  more = some_left after (s.done ++ line ∷ []) some;
-  text = λ left lines h.
-      subst (λ (ls : List (List ℕ)). IsText ((s.front ++ n.ended) ++ left) ls) (sym (append_assoc s.done (line ∷ []) lines))
-      (subst (λ (l : List ℕ). IsText l (s.done ++ line ∷ lines)) (sym (append_assoc s.front n.ended left))
-      (s.text (n.ended ++ left) (line ∷ lines) (text_more line n.ended left lines is n.ends h)));
-  len_is = λ lines some.
-      ap (λ (ls : List (List ℕ)). length (packed_text ls)) (append_assoc s.done (line ∷ []) lines)
-      ∙ omega (arith, f, s.len_is (line ∷ lines) (omega arith), len_more line lines some);
+  more = λ none. absurd (some_none after some none);
+  text = λ left lines h. rw (append_assoc s.done (line ∷ []) lines, append_assoc s.front n.ended left)
+      (s.text (n.ended ++ left) (line ∷ lines) (text_more line n.ended left lines is n.ends h));
+  len_is = λ lines some. rw (append_assoc s.done (line ∷ []) lines) (omega (arith, f, s.len_is (line ∷ lines) (omega arith), len_more line lines some));
 }
-
-some_lines : (done : List (List ℕ)) (line : List ℕ) → 0 < length (done ++ line ∷ [])
-some_lines done line = omega (arith, count_more done line)
-
-ended_story : (story front rest : List ℕ) (done : List (List ℕ)) (line ended : List ℕ) → EndLines done front → story ≡ front ++ rest → EndsLine line ended → rest ≡ ended ++ []
-    → EndLines (done ++ line ∷ []) story
-ended_story story front rest done line ended h e ends f =
-    let whole : front ++ ended ≡ story = ap (λ (l : List ℕ). front ++ l) (sym (append-nil ended) ∙ sym f) ∙ sym e in
-    subst (λ (l : List ℕ). EndLines (done ++ line ∷ []) l) whole (lines_more done front line ended h ends)
 
 is_whole : (story rest line : List ℕ) (before count len : ℕ) (s : StoryStands story before rest count len) → IsLastLine rest line
     → IsStory story (s.done ++ line ∷ [])
 is_whole story rest line before count len s (inl n) =
-    (some_lines s.done line, inl (ended_story story s.front rest s.done line n.ended s.lined s.parts n.ends n.parts))
-is_whole story rest line before count len s (inr (none, is)) = (
-  some_lines s.done line,
-  inr (
-    s.done,
-    line,
-    s.front,
-    refl,
-    s.lined,
-    s.parts ∙ ap (λ (l : List ℕ). s.front ++ l) (sym is),
-    subst (λ (l : List ℕ). HasNo 10 l) (sym is) none,
-    λ empty. s.more (sym is ∙ empty),
-  ),
-)
-
-begins_ended : (rest line ended after : List ℕ) → EndsLine line ended → rest ≡ ended ++ after → (end : List ℕ) × (rest ≡ line ++ end)
-begins_ended rest line ended after (none, inl e) f = (13 ∷ 10 ∷ after, f ∙ (ap (λ (l : List ℕ). l ++ after) e ∙ append_assoc line (13 ∷ 10 ∷ []) after))
-begins_ended rest line ended after (none, inr e) f = (10 ∷ after, f ∙ (ap (λ (l : List ℕ). l ++ after) e.0 ∙ append_assoc line (10 ∷ []) after))
+    (omega (arith, count_more s.done line), inl (rw (s.parts, n.parts, append-nil) (lines_more s.done s.front line n.ended s.lined n.ends)))
+is_whole story rest line before count len s (inr (none, is)) =
+    (omega (arith, count_more s.done line), inr (s.done, line, s.front, refl, s.lined, rw is s.parts, rw is none, λ empty. s.more (sym is ∙ empty)))
 
 -- the last line begins what is left
 last_begins : (rest line : List ℕ) → IsLastLine rest line → (end : List ℕ) × (rest ≡ line ++ end)
-last_begins rest line (inl n) = begins_ended rest line n.ended [] n.ends n.parts
-last_begins rest line (inr (none, is)) = ([], sym is ∙ sym (append-nil line))
+last_begins rest line (inl n) =
+    elim n.ends.1 [ inl e ↦ (13 ∷ 10 ∷ [], rw (n.parts, e) (simp append_assoc)) | inr e ↦ (10 ∷ [], rw (n.parts, e.0) (simp append_assoc)) ]
+last_begins rest line (inr (none, is)) = ([], rw is (sym (append-nil rest)))
 
 take_parts : (front line end : List ℕ) (n : ℕ) → n ≡ length front + length line → take n (front ++ (line ++ end)) ≡ front ++ line
-take_parts front line end n e =
-    ap (take n) (sym (append_assoc front line end)) ∙ (ap (λ (k : ℕ). take k ((front ++ line) ++ end)) (e ∙ sym (length-append front line)) ∙ take-append_seam (front ++ line) end)
+take_parts front line end n e = rw (e, ← length-append front line, ← append_assoc front line end) (take-append_seam (front ++ line) end)
 
 pub story_ends : {story rest line text : List ℕ} {before count len whole : ℕ} (at : ℕ) → StoryStands story before rest count len → IsLastLine rest line
     → IsLine line → text ≡ take at story → at + length rest ≡ length story + length line → whole ≡ len + length line → TellsText story text whole

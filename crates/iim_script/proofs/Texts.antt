@@ -10,10 +10,8 @@ first_and_rest (x ∷ xs) some = ap (λ (l : List ℕ). x ∷ l) (sym (take_rest
 
 -- the first three, and the others
 pub three_and_rest : (xs : List ℕ) → 3 ≤ length xs → xs ≡ get_or xs 0 0 ∷ get_or xs 1 0 ∷ get_or xs 2 0 ∷ take (length xs - 3) (drop 3 xs)
-three_and_rest [] some = absurd (omega (arith, some))
-three_and_rest (x ∷ []) some = absurd (omega (arith, some))
-three_and_rest (x ∷ y ∷ []) some = absurd (omega (arith, some))
 three_and_rest (x ∷ y ∷ z ∷ xs) some = ap (λ (l : List ℕ). x ∷ y ∷ z ∷ l) (sym (take_rest (x ∷ y ∷ z ∷ xs) 3))
+three_and_rest xs some = absurd (omega (arith, some))
 
 -- an escape at the front
 pub escape_begins : (after : List ℕ) (octet : ℕ) → 3 ≤ length after → get_or after 0 0 ≡ 120 → IsOfDigits (get_or after 1 0) (get_or after 2 0) octet
@@ -35,15 +33,13 @@ begun : (text rest : List ℕ) (octet : ℕ) → BeginsWith text octet rest → 
 begun text rest octet (piece, inl (other, is), e) = inl (other, rw is at e)
 begun text rest octet (piece, inr (high, low, is, digits), e) = inr (high, low, rw is at e, digits)
 
-escaped : (after rest : List ℕ) (octet : ℕ) → Begun (92 ∷ after) octet rest
-    → (3 ≤ length after) × (get_or after 0 0 ≡ 120) × IsOfDigits (get_or after 1 0) (get_or after 2 0) octet
-escaped after rest octet (inl (other, e)) = absurd (other (cc))
-escaped after rest octet (inr (high, low, e, digits)) = let whole : after ≡ 120 ∷ high ∷ low ∷ rest = cc in rw whole (omega arith, refl, digits)
-
 -- what begins with a backslash and an octet begins with an escape
 pub escape_at : (after rest : List ℕ) (octet : ℕ) → BeginsWith (92 ∷ after) octet rest
     → (3 ≤ length after) × (get_or after 0 0 ≡ 120) × IsOfDigits (get_or after 1 0) (get_or after 2 0) octet
-escape_at after rest octet h = escaped after rest octet (begun (92 ∷ after) rest octet h)
+escape_at after rest octet h = elim (begun (92 ∷ after) rest octet h) [
+  | inl (other, e) ↦ absurd (other (cc))
+  | inr (high, low, e, digits) ↦ let whole : after ≡ 120 ∷ high ∷ low ∷ rest = cc in rw whole (omega arith, refl, digits)
+]
 
 pub empty_begins : (rest : List ℕ) (octet : ℕ) → BeginsWith [] octet rest → ⊥
 empty_begins rest octet h = elim (begun [] rest octet h) [ inl b ↦ cc | inr b ↦ cc ]
@@ -59,13 +55,7 @@ octet_once high low a b (h, l, is_h, is_l, e) (k, m, is_k, is_m, f) =
     omega (arith, same_high, same_low, e, f)
 
 begun_once : (text rest more : List ℕ) (a b : ℕ) → Begun text a rest → Begun text b more → (a ≡ b) × (rest ≡ more)
-begun_once text rest more a b (inl (n, e)) (inl (m, f)) = (cc, cc)
-begun_once text rest more a b (inl (n, e)) (inr (high, low, f, digits)) = absurd (n (cc))
-begun_once text rest more a b (inr (high, low, e, digits)) (inl (m, f)) = absurd (m (cc))
-begun_once text rest more a b (inr (high, low, e, digits)) (inr (h, l, f, others)) =
-    let same_high : h ≡ high = cc in
-    let same_low : l ≡ low = cc in
-    (octet_once high low a b digits (rw (same_high, same_low) at others), cc)
+begun_once text rest more a b h k = let once = octet_once in grind arith
 
 -- a text begins in one way
 pub begins_once : (text rest more : List ℕ) (a b : ℕ) → BeginsWith text a rest → BeginsWith text b more → (a ≡ b) × (rest ≡ more)
@@ -84,7 +74,7 @@ only_step : (octets rest more ys all : List ℕ) (octet : ℕ) → BeginsWith re
 only_step octets rest more [] all octet begins e told = absurd (none_left rest octet more begins told)
 only_step octets rest more (y ∷ ys) all octet begins e (after, at, told) =
     let same = begins_once rest more after octet y begins at in
-    (ys, e ∙ (ap (λ (n : ℕ). octets ++ n ∷ ys) (sym same.0) ∙ sym (append_assoc octets (octet ∷ []) ys)), subst (λ (l : List ℕ). TellsOctets l ys) (sym same.1) told)
+    (ys, rw (e, same.0) (sym (append_assoc octets (y ∷ []) ys)), rw same.1 told)
 
 pub onto_step : (text octets rest more : List ℕ) (octet : ℕ) → Onto text octets rest → BeginsWith rest octet more → Onto text (octets ++ octet ∷ []) more
 onto_step text octets rest more octet onto begins = record {
@@ -119,7 +109,7 @@ tells_once text [] (y ∷ ys) h (rest, begins, told) = absurd (none_left text y 
 tells_once text (x ∷ xs) [] (rest, begins, told) k = absurd (none_left text x rest begins k)
 tells_once text (x ∷ xs) (y ∷ ys) (rest, begins, told) (more, at, tells) =
     let same = begins_once text rest more x y begins at in
-    ap (λ (n : ℕ). n ∷ xs) same.0 ∙ ap (λ (l : List ℕ). y ∷ l) (tells_once rest xs ys told (subst (λ (l : List ℕ). TellsOctets l ys) (sym same.1) tells))
+    rw (same.0, tells_once rest xs ys told (rw same.1 tells)) refl
 
 pub last_once : (end xs ys : List ℕ) → TellsLast end xs → TellsLast end ys → xs ≡ ys
 last_once end [] [] h k = refl

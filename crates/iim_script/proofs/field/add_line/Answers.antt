@@ -8,4 +8,4 @@ pub returns-in-Ok-None-clause-refused : goal.returns-in-Ok-None-clause-refused
 returns-in-Ok-None-clause-refused c = λ d told.
     let none = rw c.in-Ok-None.field-0-is at c.in-Ok-None.ensures.none in
     none d.octets
-    (rw (← names_once c.args.line.now d.rec d.set c.in-Some.rec c.in-Some.set told.end c.in-Some.end.now told.names c.in-Some.ensures.some) told.is_end)
+    (rw (← (names_once c.args.line.now d.rec d.set c.in-Some.rec c.in-Some.set told.end c.in-Some.end.now told.names c.in-Some.ensures.some).2) told.is_end)

@@ -1,12 +1,7 @@
-use Rattle.std.proofs.Common.{◌≡◌, ◌-◌, ◌<◌, ℕ, List, [], ◌∷◌, length, take, drop, get_or, sym, ◌∙◌, ap, subst, inl, refl, rules, IfSome, IfNone, arith}
+use Rattle.std.proofs.Common.{◌≡◌, ◌-◌, ◌<◌, ℕ, List, [], ◌∷◌, length, take, drop, get_or, ◌∙◌, ap, inl, refl, rules}
 use Rattle.iim_dataset.proofs.Lists.{some_there}
-use Rattle.iim_script.specs.Format.Shown.{BeginsWith}
-use Rattle.iim_script.proofs.Texts.{first_and_rest, empty_begins}
+use Rattle.iim_script.proofs.Texts.{first_and_rest}
 use Rattle.iim_script.proofs.shown.first_octet.Goals as goal
-
-none_there : (xs rest : List ℕ) (octet : ℕ) → length xs ≡ 0 → BeginsWith xs octet rest → ⊥
-none_there [] rest octet e h = empty_begins rest octet h
-none_there (x ∷ xs) rest octet e h = absurd (omega (arith, e))
 
 backslashed : (xs : List ℕ) → 0 < length xs → get_or xs 0 0 ≡ 92 → xs ≡ 92 ∷ take (length xs - 1) (drop 1 xs)
 backslashed xs some e = first_and_rest xs some ∙ ap (λ (n : ℕ). n ∷ take (length xs - 1) (drop 1 xs)) e
@@ -14,14 +9,12 @@ backslashed xs some e = first_and_rest xs some ∙ ap (λ (n : ℕ). n ∷ take 
 pub returns-then-shown-eq-BACKSLASH-clause-some : goal.returns-then-shown-eq-BACKSLASH-clause-some
 returns-then-shown-eq-BACKSLASH-clause-some c =
     let xs = c.args.shown.now in
-    let whole = backslashed xs (some_there xs (λ none. absurd (search rules))) c.if-shown-eq-BACKSLASH.true in
-    subst (λ (l : List ℕ). IfSome c.escape.result (λ first. BeginsWith l first.0 first.1.now)) (sym whole) c.escape.ensures.some
+    rw (backslashed xs (some_there xs (λ none. absurd (search rules))) c.if-shown-eq-BACKSLASH.true) c.escape.ensures.some
 
 pub returns-then-shown-eq-BACKSLASH-clause-none : goal.returns-then-shown-eq-BACKSLASH-clause-none
 returns-then-shown-eq-BACKSLASH-clause-none c =
     let xs = c.args.shown.now in
-    let whole = backslashed xs (some_there xs (λ none. absurd (search rules))) c.if-shown-eq-BACKSLASH.true in
-    subst (λ (l : List ℕ). IfNone c.escape.result ((octet : ℕ) (rest : List ℕ) → BeginsWith l octet rest → ⊥)) (sym whole) c.escape.ensures.none
+    rw (backslashed xs (some_there xs (λ none. absurd (search rules))) c.if-shown-eq-BACKSLASH.true) c.escape.ensures.none
 
 pub returns-clause-some : goal.returns-clause-some
 returns-clause-some c =
