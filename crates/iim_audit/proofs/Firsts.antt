@@ -1,26 +1,105 @@
--- The first row with each id, by the order of the ids.
-use Rattle.std.proofs.Common.{◌&&◌, ◌==◌, ◌≡◌, ℕ, zero, suc, ◌+◌, ◌-◌, ◌<◌, ◌≤◌, ◌⊎◌, inl, inr, ⊎_elim, Bool, true, false, List, [], ◌∷◌, Some, None, take, length, get_or, ap, sym, ◌∙◌, refl, arith}
+-- The order of the ids, the first row with each of them in it, and rows that are told their first one.
+use Rattle.std.proofs.Common.{◌≡◌, ℕ, zero, suc, ◌+◌, ◌^◌, ◌<◌, ◌≤◌, List, [], ◌∷◌, ◌++◌, length, map, get_or, Some, ap, sym, ◌∙◌, refl, arith, ◌-◌, ◌⊎◌, Option, inl, inr, ⊎_elim, Bool, true, false, None, take, ◌≢◌, set}
+use Rattle.std.specs.List.{All, Contains, slice_get}
+use Rattle.std.specs.List.Sorted.{IsPermutation, IsSortedBy}
+use Rattle.std.specs.Ordering.{is_lt, nat_cmp, ordering_then, ordering_reverse}
 use Rattle.std.specs.Option.{option_cmp}
-use Rattle.std.specs.List.{slice_get}
-use Rattle.std.specs.Ordering.{is_lt, is_eq, nat_cmp, ordering_then, ordering_reverse}
 use Rattle.std.specs.Cmp.{IsTotalOrder, IsStrictWeakOrder, then_total, on_total, nat_cmp_total}
 use Rattle.std.specs.Cmp.Lexicographic.{options_total}
 use Rattle.std.specs.declared.cmp.Ordering.{Ordering}
-use Rattle.std.specs.declared.cmp.Ordering.TheVariants.{Less, Equal, Greater}
-use Rattle.std.proofs.lemmas.List.{get_or_default}
-use Rattle.std.proofs.lemmas.Bool.{and_parts, cases_Bool, eqb-true}
-use Rattle.std.proofs.lemmas.Bool.Decides.{leb_tells}
-use Rattle.std.proofs.lemmas.List.Sorted.{ranks_by, sorted_far}
-use Rattle.std.proofs.lemmas.Cmp.{tied_itself, tied_back}
-use Rattle.iim_fields.specs.Format.Ids.{Identity, id_eq, id_cmp, text_eq}
+use Rattle.std.specs.declared.cmp.Ordering.TheVariants.{Equal}
+use Rattle.std.proofs.lemmas.List.{get_or-map, length-map, get_or_default, get_or-set_same, get_or-set_other}
+use Rattle.std.proofs.lemmas.List.Sorted.{All-permutation, Contains-permutation, IsPermutation-map, ranks_by, sorted_far}
+use Rattle.iim_fields.specs.Format.Ids.{Identity, id_cmp, id_eq, text_eq}
 use Rattle.iim_fields.specs.IdLaws.{id_total, id_ties}
+use Rattle.iim_audit.specs.Repeats.{IsOrder, IsPlace, by_keyed, index_at, key_at, key_of, keyed_cmp, keyed_index_cmp, place_cmp, place_of, places_of, AreFilled, AreFresh, filled, ids_of}
+use Rattle.std.proofs.lemmas.Option.{slice_get-get_or}
+use Rattle.std.proofs.lemmas.Bool.{cases_eq}
+use Rattle.std.proofs.lemmas.Bool.Decides.{leb_tells, nat_tests}
+use Rattle.std.proofs.lemmas.Cmp.{tied_itself, tied_back}
 use Rattle.iim_audit.specs.Format.Rows.{first_same}
-use Rattle.iim_audit.specs.Repeats.{IsOrder, by_keyed, key_after, key_of, keyed_cmp, keyed_index_cmp}
+use Rattle.iim_audit.specs.declared.row.AuditRow.{AuditRow}
+use Rattle.iim_audit.proofs.Lines.{id_at, length_ids}
+
+-- ---- the order of places
+
+places_total : (ids : List Identity) → IsTotalOrder (place_cmp ids)
+places_total ids = then_total (on_total key_at nat_cmp_total) (on_total index_at (then_total (on_total (slice_get ids) (options_total id_total)) nat_cmp_total))
+
+pub places_rank : (ids : List Identity) → IsStrictWeakOrder (λ a b. is_lt (place_cmp ids a b))
+places_rank ids = ranks_by (places_total ids) (λ (p : ℕ). p)
+
+then_assoc : (o p q : Ordering) → ordering_then o (ordering_then p q) ≡ ordering_then (ordering_then o p) q
+then_assoc Equal p q = refl
+then_assoc _ p q = refl
+
+nobody : Identity
+nobody = record { service = []; number = []; date_sent = [] }
+
+-- places stand to each other as the indices of their rows
+same_cmp : (ids : List Identity) (a b : ℕ) → IsPlace ids a → IsPlace ids b → place_cmp ids a b ≡ keyed_index_cmp ids (index_at a) (index_at b)
+same_cmp ids a b is_a is_b =
+    let x = get_or ids (index_at a) nobody in
+    let y = get_or ids (index_at b) nobody in
+    let at_a = slice_get-get_or ids (index_at a) nobody is_a.below in
+    let at_b = slice_get-get_or ids (index_at b) nobody is_b.below in
+    rw (is_a.key nobody, is_b.key nobody, at_a, at_b) (then_assoc (nat_cmp (key_of x) (key_of y)) (id_cmp x y) (nat_cmp (index_at a) (index_at b)))
+
+-- ---- the places of all rows
+
+length_places : (n : ℕ) (ids : List Identity) → length (places_of n ids) ≡ length ids
+length_places n [] = refl
+length_places n (id ∷ ids) = ap suc (length_places (n + 1) ids)
+
+at_place : (n : ℕ) (ids : List Identity) (k d : ℕ) (x : Identity) → k < length ids → get_or (places_of n ids) k d ≡ place_of (get_or ids k x) (n + k)
+at_place n [] k d x there = absurd (omega (arith, there))
+at_place n (id ∷ ids) zero d x there = ap (place_of id) (omega arith)
+at_place n (id ∷ ids) (suc k) d x there = at_place (n + 1) ids k d x (omega (arith, there)) ∙ ap (place_of (get_or ids k x)) (omega arith)
+
+pub are_places : (ids : List Identity) → length ids ≤ 2 ^ 32 → All (IsPlace ids) (places_of 0 ids)
+are_places ids few k d there =
+    let here : k < length ids = omega (arith, there, length_places 0 ids) in
+    let index : index_at (get_or (places_of 0 ids) k d) ≡ k = omega (arith, at_place 0 ids k d nobody here, here, few) in
+    record { below = omega (arith, index, here); key = λ x. rw index (omega (arith, at_place 0 ids k d x here, here, few)) }
+
+each_there : (ids : List Identity) → length ids ≤ 2 ^ 32 → (i : ℕ) → i < length ids → Contains (map index_at (places_of 0 ids)) i
+each_there ids few i there =
+    let places = places_of 0 ids in
+    let inside : i < length places = omega (arith, there, length_places 0 ids) in
+    let is = at_place 0 ids i 0 nobody there in
+    (i, omega (arith, length-map places index_at, inside), get_or-map index_at places i 0 i inside ∙ omega (arith, is, there, few))
+
+-- indices of all rows, once their places are sorted
+pub order_of : (ids : List Identity) (sorted : List ℕ) → length ids ≤ 2 ^ 32 → IsPermutation (places_of 0 ids) sorted
+    → IsSortedBy (λ a b. is_lt (place_cmp ids a b)) sorted → IsOrder ids (map index_at sorted)
+order_of ids sorted few moved in_order =
+    let places = places_of 0 ids in
+    let all : All (IsPlace ids) sorted = All-permutation (IsPlace ids) places sorted moved (are_places ids few) in
+    let counted : length (map index_at sorted) ≡ length sorted = length-map sorted index_at in
+    record {
+      below = λ k d there.
+          let inside : k < length sorted = omega (arith, there, counted) in
+          rw (get_or-map index_at sorted k 0 d inside) (all k 0 inside).below;
+      each = λ i there. Contains-permutation (map index_at places) (map index_at sorted) i (IsPermutation-map index_at places sorted moved) (each_there ids few i there);
+      sorted = λ k d low high.
+          let next : k + 1 < length sorted = omega (arith, high, counted) in
+          let here : k < length sorted = omega (arith, next) in
+          let a = get_or sorted (k + 1) 0 in
+          let b = get_or sorted k 0 in
+          let same = same_cmp ids a b (all (k + 1) 0 next) (all k 0 here) in
+          rw (get_or-map index_at sorted (k + 1) 0 d next, get_or-map index_at sorted k 0 d here, ← same) (in_order k 0 low next);
+    }
+
+-- a row more
+pub places_push : (n : ℕ) (ids : List Identity) (id : Identity) → places_of n (ids ++ id ∷ []) ≡ places_of n ids ++ place_of id (n + length ids) ∷ []
+places_push n [] id = ap (λ k. place_of id k ∷ []) (omega arith)
+places_push n (x ∷ ids) id =
+    ap (λ (ps : List ℕ). place_of x n ∷ ps) (places_push (n + 1) ids id ∙ ap (λ k. places_of (n + 1) ids ++ place_of id k ∷ []) (omega arith))
 
 pub below_or_not : (a b : ℕ) → (a < b) ⊎ (b ≤ a)
 below_or_not a b = ⊎_elim (λ from. inr from.1) (λ less. inl less.1) (leb_tells b a)
 
--- ---- the order
+-- ---- the order of the ids
 
 ids_total : IsTotalOrder (option_cmp keyed_cmp)
 ids_total = options_total (then_total (on_total key_of nat_cmp_total) id_total)
@@ -49,137 +128,86 @@ same_or_not Equal = inl refl
 same_or_not _ = inr (λ e. cc)
 
 -- where neither comes before the other
-neither : (o p : Ordering) → o ≡ ordering_reverse p → (is_lt o ≡ true → ⊥) → (is_lt p ≡ true → ⊥) → o ≡ Equal
-neither Equal p flips up down = refl
-neither Less p flips up down = absurd (up refl)
-neither Greater Less flips up down = absurd (down refl)
-neither Greater _ flips up down = cc
+neither : (o p : Ordering) → o ≡ ordering_reverse p → is_lt o ≡ false → is_lt p ≡ false → o ≡ Equal
+neither o p flips up down = grind arith
 
-less_first : (o p : Ordering) → is_lt (ordering_then o p) ≡ false → is_lt o ≡ true → ⊥
-less_first Less p none less = cc
-less_first _ p none less = cc
+less_first : (o p : Ordering) → is_lt (ordering_then o p) ≡ false → is_lt o ≡ false
+less_first o p none = grind arith
 
-less_second : (o p : Ordering) → o ≡ Equal → is_lt (ordering_then o p) ≡ false → is_lt p ≡ false
-less_second Equal p same none = none
-less_second _ p same none = cc
+less_second : (o : Ordering) (a b : ℕ) → o ≡ Equal → is_lt (ordering_then o (nat_cmp a b)) ≡ false → b ≤ a
+less_second o a b same none = grind arith
 
-not_less : (a b : ℕ) → is_lt (nat_cmp a b) ≡ false → b ≤ a
-not_less a b none = grind arith
+-- ---- the least index with an id
 
--- ---- a run of the same ids, in the order
-
--- From the place m on up to k, the ids are that of the index `group`, which stands at m; and before m stands none of them.
+-- The index `group` is the least one with its id, and so far the last one in the order has that id.
 pub record IsRun (ids : List Identity) (order : List ℕ) (k group : ℕ) : Type 0 where
-  pub m : ℕ
-  pub within : m < length order
-  pub begins : group ≡ get_or order m 0
-  pub upto : m ≤ k
-  pub some : 0 < k → m < k
-  pub inside : (j : ℕ) → m ≤ j → j < k → AreSame ids (get_or order j 0) group
-  pub apart : (j : ℕ) → j + 1 ≡ m → AreSame ids (get_or order j 0) group → ⊥
+  pub within : group < length ids
+  pub least : (i : ℕ) → i < length ids → AreSame ids i group → group ≤ i
+  pub last : (j : ℕ) → j + 1 ≡ k → AreSame ids (get_or order j 0) group
 
--- no index before the first one of a run has its id
-pub least : (ids : List Identity) (order : List ℕ) (k group i : ℕ) → IsOrder ids order → IsRun ids order k group → i < length ids → AreSame ids i group → group ≤ i
-least ids order k group i is run there same =
+-- the index at a place is the least one with its id where the one before it has another
+begins_least : (ids : List Identity) (order : List ℕ) (k i : ℕ) → IsOrder ids order → k < length order
+    → ((j : ℕ) → j + 1 ≡ k → AreSame ids (get_or order j 0) (get_or order k 0) → ⊥) → i < length ids → AreSame ids i (get_or order k 0) → get_or order k 0 ≤ i
+begins_least ids order k i is within apart there same =
+    let group = get_or order k 0 in
     let (p, p_within, p_is) = is.each i there in
     let at : get_or order p 0 ≡ i = get_or_default order p 0 i p_within ∙ p_is in
     let lt : ℕ → ℕ → Bool = λ a b. is_lt (keyed_index_cmp ids a b) in
     let P : ℕ → ℕ → Type 0 = λ a b. lt a b ≡ false in
     ⊎_elim
     (λ before.
-    let q = run.m - 1 in
+    let q = k - 1 in
     let x = get_or order q 0 in
-    let far : lt x (get_or order p 0) ≡ false = sorted_far lt (order_rank ids) order is.sorted p q 0 (omega arith) (omega (arith, run.within)) in
-    let near : lt (get_or order (q + 1) 0) x ≡ false = is.sorted q 0 (omega arith) (omega (arith, run.within)) in
-    let one : q + 1 ≡ run.m = omega arith in
-    let far_i : P x i = rw at at far in
-    let near_group : P group x = rw (one, ← run.begins) at near in
-    let flips : by_keyed ids x i ≡ ordering_reverse (by_keyed ids i x) = ids_total.antisymm (slice_get ids x) (slice_get ids i) in
-    let like : by_keyed ids i x ≡ by_keyed ids group x = ids_total.congr (slice_get ids i) (slice_get ids group) (slice_get ids x) same in
-    let none : is_lt (by_keyed ids i x) ≡ true → ⊥ = λ less. less_first (by_keyed ids group x) (nat_cmp group x) near_group (ap is_lt (sym like) ∙ less) in
-    let tied : AreSame ids x i = neither (by_keyed ids x i) (by_keyed ids i x) flips (less_first (by_keyed ids x i) (nat_cmp x i) far_i) none in
-    absurd (run.apart q one (same_on ids x i group tied same)))
+    let one : q + 1 ≡ k = omega arith in
+    let far : P x i = rw at at (sorted_far lt (order_rank ids) order is.sorted p q 0 (omega arith) (omega (arith, within))) in
+    let near : P group x = rw one at (is.sorted q 0 (omega arith) (omega (arith, within))) in
+    let flips = ids_total.antisymm (slice_get ids x) (slice_get ids i) in
+    let like = ids_total.congr (slice_get ids i) (slice_get ids group) (slice_get ids x) same in
+    let tied : AreSame ids x i = neither _ _ flips (less_first _ _ far) (rw like (less_first _ _ near)) in
+    absurd (apart q one (same_on ids x i group tied same)))
     (λ after.
-    let far : lt (get_or order p 0) (get_or order run.m 0) ≡ false = sorted_far lt (order_rank ids) order is.sorted run.m p 0 after p_within in
-    let here : P i group = rw (at, ← run.begins) at far in
-    not_less i group (less_second (by_keyed ids i group) (nat_cmp i group) same here))
-    (below_or_not p run.m)
+    let here : P i group = rw at at (sorted_far lt (order_rank ids) order is.sorted k p 0 after p_within) in
+    less_second (by_keyed ids i group) i group same here)
+    (below_or_not p k)
 
--- a run of one place more: it is the same run, or begins there
-pub run_more : (ids : List Identity) (order : List ℕ) (k group now : ℕ) → k < length order → IsRun ids order k group
+-- one place more: it has the same least index, or is the least one itself
+pub run_more : (ids : List Identity) (order : List ℕ) (k group now : ℕ) → IsOrder ids order → k < length order → IsRun ids order k group
     → (AreSame ids (get_or order k 0) group → now ≡ group) → ((AreSame ids (get_or order k 0) group → ⊥) → now ≡ get_or order k 0)
     → IsRun ids order (k + 1) now × AreSame ids (get_or order k 0) now
-run_more ids order k group now there run keeps begins =
+run_more ids order k group now is there run keeps begins =
     let at = get_or order k 0 in
+    let last : (g : ℕ) → AreSame ids at g → (j : ℕ) → j + 1 ≡ k + 1 → AreSame ids (get_or order j 0) g =
+    λ g same j next. let is_k : j ≡ k = omega arith in rw is_k same in
     ⊎_elim
-    (λ same.
-    let more : (j : ℕ) → run.m ≤ j → j < k + 1 → AreSame ids (get_or order j 0) group = λ j from below.
-    ⊎_elim (λ earlier. run.inside j from earlier) (λ late. let last : j ≡ k = omega arith in rw last same) (below_or_not j k) in
-    let upto = run.upto in
-    rw (keeps same) (
-      record { m = run.m; within = run.within; begins = run.begins; upto = omega arith; some = λ above. omega arith; inside = more; apart = run.apart },
-      same,
-    ))
+    (λ same. rw (keeps same) (record { within = run.within; least = run.least; last = last group same }, same))
     (λ differs.
-    let inside : (j : ℕ) → k ≤ j → j < k + 1 → AreSame ids (get_or order j 0) at = λ j from below. let is : j ≡ k = omega arith in rw is (same_itself ids at) in
-    let apart : (j : ℕ) → j + 1 ≡ k → AreSame ids (get_or order j 0) at → ⊥ = λ j next same.
-    let back : AreSame ids (get_or order j 0) group = run.inside j (omega (arith, run.some)) (omega arith) in
-    differs (same_on ids at (get_or order j 0) group (same_back ids (get_or order j 0) at same) back) in
-    let begun : IsRun ids order (k + 1) at =
-    record { m = k; within = there; begins = refl; upto = omega arith; some = λ above. omega arith; inside = inside; apart = apart } in
-    rw (begins differs) (begun, same_itself ids at))
+    let apart : (j : ℕ) → j + 1 ≡ k → AreSame ids (get_or order j 0) at → ⊥ =
+    λ j next same. differs (same_on ids at (get_or order j 0) group (same_back ids (get_or order j 0) at same) (run.last j next)) in
+    let least : (i : ℕ) → i < length ids → AreSame ids i at → at ≤ i = λ i. begins_least ids order k i is there apart in
+    rw (begins differs) (record { within = is.below k 0 there; least = least; last = last at (same_itself ids at) }, same_itself ids at))
     (same_or_not (by_keyed ids at group))
-
-pub run_none : (ids : List Identity) (order : List ℕ) (group : ℕ) → 0 < length order → group ≡ get_or order 0 0 → IsRun ids order 0 group
-run_none ids order group some begins = record {
-  m = 0;
-  within = some;
-  begins = begins;
-  upto = omega arith;
-  some = λ above. above;
-  inside = λ j from below. absurd (omega arith);
-  apart = λ j next same. absurd (omega arith);
-}
 
 -- ---- the first one with an id
 
-second_tied : (o p : Ordering) → ordering_then o p ≡ Equal → p ≡ Equal
-second_tied Equal p e = e
-second_tied _ p e = cc
-
 pub eq_same : (x y : Identity) → keyed_cmp x y ≡ Equal → id_eq x y ≡ true
-eq_same x y same = id_ties x y ∙ ap is_eq (second_tied (nat_cmp (key_of x) (key_of y)) (id_cmp x y) same)
+eq_same x y same = let ties = id_ties x y in grind arith
 
 text_same : (xs ys : List ℕ) → text_eq xs ys ≡ true → xs ≡ ys
-text_same [] [] e = refl
-text_same [] (y ∷ ys) e = cc
+text_same [] ys e = grind arith
 text_same (x ∷ xs) [] e = cc
-text_same (x ∷ xs) (y ∷ ys) e =
-    let both = and_parts (x == y) (text_eq xs ys) e in
-    let first = eqb-true x y both.0 in
-    let rest = text_same xs ys both.1 in
-    cc
+text_same (x ∷ xs) (y ∷ ys) e = grind (arith, nat_tests, text_same xs ys)
 
 -- the same ids have one key
 pub key_same : (x y : Identity) → id_eq x y ≡ true → key_of x ≡ key_of y
-key_same x y e =
-    let others = and_parts (text_eq x.service y.service) (text_eq x.number y.number && text_eq x.date_sent y.date_sent) e in
-    ap (key_after 0) (text_same x.number y.number (and_parts (text_eq x.number y.number) (text_eq x.date_sent y.date_sent) others.1).0)
-
-is_tied : (o : Ordering) → is_eq o ≡ true → o ≡ Equal
-is_tied Equal e = refl
-is_tied _ e = cc
+key_same x y e = grind (arith, text_same x.number y.number)
 
 keyed_tied : (x y : Identity) → id_eq x y ≡ true → keyed_cmp x y ≡ Equal
 keyed_tied x y e =
-    let key : nat_cmp (key_of x) (key_of y) ≡ Equal = ap (λ n. nat_cmp (key_of x) n) (sym (key_same x y e)) ∙ tied_itself nat_cmp_total (key_of x) in
-    ap (λ o. ordering_then o (id_cmp x y)) key ∙ is_tied (id_cmp x y) (sym (id_ties x y) ∙ e)
+    let ties = id_ties x y in
+    rw (key_same x y e, tied_itself nat_cmp_total (key_of y)) (grind arith)
 
 pub eq_apart : (x y : Identity) → (keyed_cmp x y ≡ Equal → ⊥) → id_eq x y ≡ false
-eq_apart x y apart = elim (cases_Bool (id_eq x y)) [
-  | inl same ↦ absurd (apart (keyed_tied x y same))
-  | inr other ↦ other
-]
+eq_apart x y apart = grind (arith, keyed_tied x y)
 
 -- the id at an index is not there before it
 found : (n : ℕ) (id : Identity) (ids : List Identity) (at g : ℕ) → g < at → at ≤ length ids → option_cmp keyed_cmp (Some id) (slice_get ids g) ≡ Equal
@@ -200,13 +228,119 @@ missing n id (x ∷ ids) (suc at) fits apart =
     rw (eq_apart id x (apart 0 (omega arith))) (missing (n + 1) id ids at (omega arith) (λ i less. apart (suc i) (omega arith)))
 
 -- what the first index of a run tells a row with its id
-pub first_of_run : (ids : List Identity) (order : List ℕ) (k group at : ℕ) (id : Identity) → IsOrder ids order → IsRun ids order k group → group < length ids → at < length ids
+pub first_of_run : (ids : List Identity) (order : List ℕ) (k group at : ℕ) (id : Identity) → IsRun ids order k group → at < length ids
     → slice_get ids at ≡ Some id → AreSame ids at group → (group < at → first_same 1 id (take at ids) ≡ Some (group + 1)) × ((group < at → ⊥) → first_same 1 id (take at ids) ≡ None)
-first_of_run ids order k group at id is run within there here same =
+first_of_run ids order k group at id run there here same =
     let earlier : (i : ℕ) → i < group → option_cmp keyed_cmp (Some id) (slice_get ids i) ≡ Equal → ⊥ = λ i less tied.
     let with_at : AreSame ids at i = rw here tied in
-    let low : group ≤ i = least ids order k group i is run (omega arith) (same_on ids i at group (same_back ids at i with_at) same) in
+    let low : group ≤ i = run.least i (omega (arith, run.within)) (same_on ids i at group (same_back ids at i with_at) same) in
     omega arith in (
       λ less. found 1 id ids at group less (omega arith) (rw here at same) earlier ∙ ap Some (omega arith),
       λ none. missing 1 id ids at (omega arith) (λ i less. earlier i (omega (arith, none))),
     )
+
+-- ---- rows that are told their first one
+
+-- The first k indices of the order are gone through: their rows are told, and the others are told or as they were.
+pub record SoFar (old : List AuditRow) (order : List ℕ) (k group : ℕ) (now : List AuditRow) : Type 0 where
+  pub run : IsRun (ids_of old) order k group
+  pub rows : (i : ℕ) (d : AuditRow) → i < length old → (get_or now i d ≡ get_or old i d) ⊎ (get_or now i d ≡ filled old i (get_or old i d))
+  pub done : (j : ℕ) (d : AuditRow) → j < k → get_or now (get_or order j 0) d ≡ filled old (get_or order j 0) (get_or old (get_or order j 0) d)
+
+pub so_far_none : (old : List AuditRow) (places : List ℕ) (place : ℕ) → IsOrder (ids_of old) (map index_at places) → Some place ≡ slice_get places 0
+    → SoFar old (map index_at places) 0 (index_at place) old
+so_far_none old [] place is begins = cc
+so_far_none old (first ∷ places) place is begins =
+    let same : place ≡ first = cc in
+    let run : IsRun (ids_of old) (map index_at (first ∷ places)) 0 (index_at first) = record {
+      within = is.below 0 0 (omega arith);
+      least = λ i. begins_least (ids_of old) (map index_at (first ∷ places)) 0 i is (omega arith) (λ j next. absurd (omega arith));
+      last = λ j next. absurd (omega arith);
+    } in
+    rw same (record { run = run; rows = λ i d there. inl refl; done = λ j d below. absurd (omega arith) })
+
+-- the id at an index of rows
+id_there : (rows : List AuditRow) (i : ℕ) (d : AuditRow) → i < length rows → slice_get (ids_of rows) i ≡ Some (get_or rows i d).id
+id_there rows i d there =
+    let x = (get_or rows i d).id in
+    slice_get-get_or (ids_of rows) i x (omega (arith, length_ids rows)) ∙ ap Some (id_at rows i d x there)
+
+-- the ids at two indices of rows, as the order compares them
+same_ids : (rows : List AuditRow) (a b : ℕ) (d : AuditRow) → a < length rows → b < length rows
+    → by_keyed (ids_of rows) a b ≡ keyed_cmp (get_or rows a d).id (get_or rows b d).id
+same_ids rows a b d a_there b_there = rw (id_there rows a d a_there, id_there rows b d b_there)
+
+-- a row that is told its first one, or not where it has none; and this may have been told before
+told_row : {f g : Option ℕ} (was there row : AuditRow) → f ≡ g → there.first ≡ None → (was ≡ there) ⊎ (was ≡ record there { first = f })
+    → (row ≡ record was { first = g }) ⊎ ((row ≡ was) × (g ≡ None)) → row ≡ record there { first = f }
+told_row was there row same fresh was_old is = grind arith
+
+-- one index more: `next` is the first one with the id of the row at the index `at`, `was` is that row, and `row` what it is told to be
+pub so_far_more : (old : List AuditRow) (order : List ℕ) (k group next at : ℕ) (now new : List AuditRow) (was row : AuditRow) → get_or order k 0 ≡ at
+    → IsOrder (ids_of old) order → AreFresh old → k < length order → length now ≡ length old → SoFar old order k group now
+    → ((d : AuditRow) → id_eq (get_or now at d).id (get_or now group d).id ≡ true → next ≡ group)
+    → ((d : AuditRow) → id_eq (get_or now at d).id (get_or now group d).id ≡ false → next ≡ at)
+    → was ≡ get_or now at was
+    → (next < at → row ≡ record was { first = Some (next + 1) }) → ((next < at → ⊥) → row ≡ was)
+    → new ≡ set now at row
+    → SoFar old order (k + 1) next new
+so_far_more old order k group next at now new was row at_is is fresh here_k len so_far on_same on_other was_is told untold new_is =
+    let ids = ids_of old in
+    let run = so_far.run in
+    let counted : length ids ≡ length old = length_ids old in
+    let at_ids : at < length ids = rw at_is at (is.below k 0 here_k) in
+    let was_there = get_or old at was in
+    let now_id : (i : ℕ) → i < length ids → (get_or now i was).id ≡ (get_or old i was).id =
+    λ i there. let so = so_far.rows i was (omega arith) in grind arith in
+    let at_id = now_id at at_ids in
+    let group_id = now_id group run.within in
+    let ids_are = same_ids old at group was (omega arith) (omega (arith, run.within)) in
+    let x = (get_or old group was).id in
+    let keeps : AreSame ids at group → next ≡ group = λ same. on_same was (rw (at_id, group_id) (eq_same was_there.id x (sym ids_are ∙ same))) in
+    let begins : (AreSame ids at group → ⊥) → next ≡ at =
+    λ differs. on_other was (rw (at_id, group_id) (eq_apart was_there.id x (λ same. differs (ids_are ∙ same)))) in
+    let (longer, same) = run_more ids order k group next is here_k run (rw at_is keeps) (rw at_is begins) in
+    let tells = first_of_run ids order (k + 1) next at was_there.id longer at_ids (id_there old at was (omega arith)) (rw at_is at same) in
+    let was_old = rw (← was_is) at (so_far.rows at was (omega arith)) in
+    let was_fresh = fresh at was (omega arith) in
+    let is_filled : row ≡ filled old at was_there = elim (below_or_not next at) [
+      | inl less ↦ told_row was was_there row (tells.0 less) was_fresh was_old (inl (told less))
+      | inr from ↦ told_row was was_there row (tells.1 (λ less. omega arith)) was_fresh was_old (inr (untold (λ less. omega arith), refl))
+    ] in
+    let new_at : (d : AuditRow) → get_or new at d ≡ filled old at (get_or old at d) =
+    λ d. rw (new_is, ← get_or_default old at was d (omega arith)) (get_or-set_same now at row d (omega arith) ∙ is_filled) in
+    let apart : (i : ℕ) (d : AuditRow) → i ≢ at → get_or new i d ≡ get_or now i d = λ i d differs. rw new_is (get_or-set_other now at i row d differs) in
+    let told_at : (i : ℕ) (d : AuditRow) → i ≡ at → get_or new i d ≡ filled old i (get_or old i d) = λ i d e. rw e (new_at d) in
+    record {
+      run = longer;
+      rows = λ i d there. elim (cases_eq i at) [
+        | inl e ↦ inr (told_at i d e)
+        | inr differs ↦ rw (apart i d differs) (so_far.rows i d there)
+      ];
+      done = λ j d below. elim (cases_eq (get_or order j 0) at) [
+        | inl e ↦ told_at (get_or order j 0) d e
+        | inr differs ↦ apart (get_or order j 0) d differs ∙ so_far.done j d (let other : j ≢ k = λ e. differs (rw e at_is) in omega arith)
+      ];
+    }
+
+-- at the end each row is told
+pub all_filled : (old : List AuditRow) (order : List ℕ) (group : ℕ) (now : List AuditRow) → IsOrder (ids_of old) order → length now ≡ length old
+    → SoFar old order (length order) group now → AreFilled old now
+all_filled old order group now is len so_far = record {
+  len = len;
+  rows = λ i d there.
+      let counted : length (ids_of old) ≡ length old = length_ids old in
+      let (p, within, p_is) = is.each i (omega arith) in
+      let at : get_or order p 0 ≡ i = get_or_default order p 0 i within ∙ p_is in
+      rw at at (so_far.done p d within);
+}
+
+-- where there is no index, there is no row
+pub none_filled : (old : List AuditRow) (order : List ℕ) → IsOrder (ids_of old) order → length order ≡ 0 → AreFilled old old
+none_filled old order is none = record {
+  len = refl;
+  rows = λ i d there.
+      let counted : length (ids_of old) ≡ length old = length_ids old in
+      let (p, within, p_is) = is.each i (omega arith) in
+      absurd (omega (arith, within, none));
+}

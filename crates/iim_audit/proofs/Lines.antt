@@ -1,17 +1,90 @@
--- The lines of rows.
-use Rattle.std.proofs.Common.{◌≡◌, ℕ, ◌+◌, ◌<◌, List, [], ◌∷◌, ◌++◌, length, take, get_or, append-nil, append_assoc, add-zero, suc, ap, sym, ◌∙◌, arith}
-use Rattle.std.proofs.Math.Nat.{le_of_lt}
-use Rattle.std.proofs.lemmas.List.{length-take-le, take_more}
-use Rattle.iim_audit.specs.Format.Texts.{row_line, lines_from}
+-- The rows of envelopes, without and with their first ones, and the lines of rows.
+use Rattle.std.proofs.Common.{◌≡◌, ℕ, zero, suc, ◌<◌, ℤ, List, [], ◌∷◌, ◌++◌, length, append_assoc, append-nil, None, Some, map, take, get_or, ap, sym, ◌∙◌, refl, arith, subst, ◌+◌, add-zero}
+use Rattle.std.proofs.lemmas.List.{get_or-map, length-map, map-append, map_push, same_lists, length-take-le, take_more}
+use Rattle.std.proofs.lemmas.List.Elements.{All-push}
+use Rattle.iim_dataset.specs.Format.Datasets.{Dataset}
+use Rattle.iim_fields.specs.Format.Ids.{Identity}
+use Rattle.iim_fields.specs.Format.Views.{first_data}
+use Rattle.iim_places.specs.Format.Admitted.{Value}
+use Rattle.iim_audit.specs.Format.Rows.{id_of, first_same, row_with, rows_after, report_of}
+use Rattle.iim_audit.specs.Lines.{HaveShortIds, IsShort}
+use Rattle.iim_audit.specs.Repeats.{AreFilled, AreFresh, ids_of}
 use Rattle.iim_audit.specs.declared.row.AuditRow.{AuditRow}
+use Rattle.std.proofs.Math.Nat.{le_of_lt}
+use Rattle.iim_audit.specs.Format.Texts.{row_line, lines_from}
+
+-- ---- the ids of rows
+
+-- there are as many as rows
+pub length_ids : (rows : List AuditRow) → length (ids_of rows) ≡ length rows
+length_ids rows = length-map rows (λ (row : AuditRow). row.id)
+
+-- the id of the row at an index
+pub id_at : (rows : List AuditRow) (i : ℕ) (d : AuditRow) (x : Identity) → i < length rows → get_or (ids_of rows) i x ≡ (get_or rows i d).id
+id_at rows i d x there = get_or-map (λ (row : AuditRow). row.id) rows i d x there
+
+-- ---- rows by the values of envelopes
+
+-- the rows of envelopes, none with its first one
+abbrev pub bare_rows : ℤ → List Value → List AuditRow
+bare_rows now values = map (λ v. row_with now v None) values
+
+length_rows : (now : ℤ) (earlier vs : List Value) → length (rows_after now earlier vs) ≡ length vs
+length_rows now earlier [] = refl
+length_rows now earlier (x ∷ vs) = ap (λ n. suc n) (length_rows now (earlier ++ x ∷ []) vs)
+
+ids_bare : (now : ℤ) (vs : List Value) → ids_of (bare_rows now vs) ≡ map id_of vs
+ids_bare now [] = refl
+ids_bare now (v ∷ vs) = ap (λ (ids : List Identity). id_of v ∷ ids) (ids_bare now vs)
+
+pub fresh_bare : (now : ℤ) (vs : List Value) → AreFresh (bare_rows now vs)
+fresh_bare now [] k d there = absurd (omega arith)
+fresh_bare now (v ∷ vs) zero d there = refl
+fresh_bare now (v ∷ vs) (suc k) d there = fresh_bare now vs k d (omega arith)
+
+-- a row with the number of the first of these ids
+abbrev with_first : List Identity → AuditRow → AuditRow
+with_first ids row = record row { first = first_same 1 row.id ids }
+
+row_at : (now : ℤ) (earlier vs : List Value) (i : ℕ) (d : AuditRow) → i < length vs
+    → get_or (rows_after now earlier vs) i d ≡ with_first (map id_of earlier ++ take i (map id_of vs)) (get_or (bare_rows now vs) i d)
+row_at now earlier [] i d there = absurd (omega arith)
+row_at now earlier (v ∷ vs) zero d there = rw (append-nil (map id_of earlier)) refl
+row_at now earlier (v ∷ vs) (suc i) d there =
+    rw (map-append id_of earlier (v ∷ []), append_assoc (map id_of earlier) (id_of v ∷ []) (take i (map id_of vs)))
+    at (row_at now (earlier ++ v ∷ []) vs i d (omega arith))
+
+-- rows that are told their first ones are the report
+pub report_told : (now : ℤ) (values : List Value) (old new : List AuditRow) → old ≡ bare_rows now values → AreFilled old new → new ≡ report_of now values
+report_told now values old new same filled =
+    let are : AreFilled (bare_rows now values) new = rw same at filled in
+    let counted : length (bare_rows now values) ≡ length values = length-map values (λ v. row_with now v None) in
+    same_lists new (report_of now values) (are.len ∙ counted ∙ sym (length_rows now [] values))
+    (λ i d there. rw (row_at now [] values i d (omega (arith, are.len)), ← ids_bare now values) (are.rows i d (omega (arith, are.len))))
+
+-- the id that these data tell
+pub id_told : (fields : List Dataset) (id : Identity) (v : Value) → first_data 1 30 fields ≡ Some id.service → first_data 1 40 fields ≡ Some id.number
+    → first_data 1 70 fields ≡ Some id.date_sent → fields ≡ v.fields → id ≡ id_of v
+id_told fields id v service number date same = rw (← same, service, number, date) refl
+
+-- ---- rows whose ids are short
+
+-- a row more
+pub short_push : (rows : List AuditRow) (row : AuditRow) → HaveShortIds rows → IsShort row.id → HaveShortIds (rows ++ row ∷ [])
+short_push rows row have is = rw (map_push (λ (r : AuditRow). r.id) rows row) (All-push IsShort (ids_of rows) row.id have is)
+
+-- the row at an index
+pub short_at : (rows : List AuditRow) (i : ℕ) (d : AuditRow) → i < length rows → HaveShortIds rows → IsShort (get_or rows i d).id
+short_at rows i d there have =
+    let x = (get_or rows i d).id in
+    subst IsShort (id_at rows i d x there) (have i x (omega (arith, length_ids rows)))
 
 -- a row more
 pub lines_from-push : (n : ℕ) (rows : List AuditRow) (row : AuditRow) → lines_from n (rows ++ row ∷ []) ≡ lines_from n rows ++ row_line (n + length rows) row
 lines_from-push n [] row = append-nil (row_line n row) ∙ ap (λ (k : ℕ). row_line k row) (sym (add-zero n))
 lines_from-push n (x ∷ rows) row =
     let count : n + 1 + length rows ≡ n + suc (length rows) = omega arith in
-    ap (λ (more : List ℕ). row_line n x ++ more) (lines_from-push (n + 1) rows row ∙ ap (λ (k : ℕ). lines_from (n + 1) rows ++ row_line k row) count)
-    ∙ sym (append_assoc (row_line n x) (lines_from (n + 1) rows) (row_line (n + suc (length rows)) row))
+    rw (lines_from-push (n + 1) rows row, count) (sym (append_assoc (row_line n x) (lines_from (n + 1) rows) (row_line (n + suc (length rows)) row)))
 
 some_row : (rows : List AuditRow) → 0 < length rows → AuditRow
 some_row [] some = absurd (omega (arith, some))
@@ -24,5 +97,4 @@ lines_more rows i line there is =
     let row = some_row rows (omega (arith, there)) in
     let taken : length (take i rows) ≡ i = length-take-le i rows (le_of_lt there) in
     let count : i + 1 ≡ 1 + length (take i rows) = omega arith in
-    ap (λ (t : List ℕ). lines_from 1 (take i rows) ++ t) (is row ∙ ap (λ (k : ℕ). row_line k (get_or rows i row)) count) ∙ sym (lines_from-push 1 (take i rows) (get_or rows i row))
-    ∙ ap (lines_from 1) (sym (take_more rows i row there))
+    rw (is row, take_more rows i row there, count) (sym (lines_from-push 1 (take i rows) (get_or rows i row)))

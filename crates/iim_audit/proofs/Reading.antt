@@ -9,7 +9,7 @@ use Rattle.iim_dataset.specs.declared.device.IoFault.{IoFault}
 use Rattle.iim_dataset.proofs.DeviceLaws.{missed_later}
 use Rattle.iim_fields.specs.declared.limits.Limits.{Limits}
 use Rattle.iim_places.specs.Format.Admitted.{Value, Admits}
-use Rattle.iim_places.specs.Format.Listing.{Listed, Divides, IsListed, joined, values_of, max_envelopes}
+use Rattle.iim_places.specs.Format.Listing.{Listed, Divides, IsListed, IsListing, Whole, RefusedBy, TooMany, joined, values_of, max_envelopes}
 use Rattle.iim_unpack.specs.States.Unpacking.{Unpacking, IsDoneWith}
 use Rattle.iim_places.specs.States.Counts.{raised}
 use Rattle.iim_unpack.specs.Format.Value.{ShowsParts}
@@ -40,16 +40,9 @@ pub record HasRead (limits : Limits) (now : ℤ) (old new : Device) (ledger : Le
 
 -- without memory for the unpacker
 pub short_first : (limits : Limits) (old : Device) (before : ℕ) (left : Option ℕ) → GiftsJoin → left ≡ None → FailsLeaving limits (old, before) (old, left, before) 1 causes.OutOfMemory
-short_first limits old before left joins lives = (
-  record {
-    input = [];
-    given = joins.none old;
-    envelopes = [];
-    divides = record { admitted = tt; parts = refl; few = omega arith };
-    in_hand = inl refl;
-  },
-  (lives, refl),
-)
+short_first limits old before left joins lives =
+    let divides : Divides limits [] [] [] = record { admitted = tt; parts = refl; few = omega arith } in
+    (record { input = []; given = joins.none old; envelopes = []; divides = divides; in_hand = inl refl }, (lives, refl))
 
 -- ---- after envelopes, with the number of the next one
 
@@ -69,68 +62,50 @@ module _ {limits : Limits} {now : ℤ} {old mid : Device} {ledger : Ledger} {bef
   divides_then : (rest : List ℕ) → Divides limits (joined read.envelopes ++ rest) read.envelopes rest
   divides_then rest = record { admitted = read.admitted; parts = refl; few = omega (arith, count, few) }
 
+  -- the number is that of the next one
+  next : number ≡ length read.envelopes + 1
+  next = omega (arith, count)
+
   -- at the end of the input
   pub audited : {new : Device} {rows : List AuditRow} → HasGiven mid new [] → IsAtEnd new.octets
       → ((values : List Value) → Keeps now ledger values → rows ≡ report_of now values) → IsAudited limits now old new rows
-  audited {new} given at_end reports = record {
-    input = joined read.envelopes ++ [];
-    given = given_then new [] given;
-    at_end = at_end;
-    envelopes = read.envelopes;
-    listing = record { rest = []; divides = divides_then []; ends = refl };
-    report = reports (values_of read.envelopes) read.keeps;
-  }
+  audited {new} given at_end reports =
+      let listing : IsListing limits (joined read.envelopes ++ []) read.envelopes Whole = record { rest = []; divides = divides_then []; ends = refl } in
+      let report = reports (values_of read.envelopes) read.keeps in
+      record { input = _; given = given_then new [] given; at_end = at_end; envelopes = read.envelopes; listing = listing; report = report }
 
   missed_at : {new : Device} {kept : Option ℕ} {fault : IoFault} → IsCutOff limits mid new kept fault
       → (why : IsMissedAt limits old new number fault) × (kept ≡ Some (raised 0 (length why.rest)))
-  missed_at {new} {kept} {fault} took = (
-    record {
-      input = joined read.envelopes ++ took.rest;
-      missed = missed_later old mid new (joined read.envelopes) took.rest fault read.given took.missed;
-      envelopes = read.envelopes;
-      rest = took.rest;
-      divides = divides_then took.rest;
-      is_open = took.is_open;
-      in_hand = omega (arith, count);
-    },
-    took.keeps,
-  )
+  missed_at {new} {kept} {fault} took =
+      let rest = took.rest in
+      let missed = missed_later old mid new (joined read.envelopes) rest fault read.given took.missed in
+      let divides = divides_then rest in (
+        record { input = _; missed = missed; envelopes = read.envelopes; rest = rest; divides = divides; is_open = took.is_open; in_hand = next },
+        took.keeps,
+      )
 
   -- at a fault
   pub fails : (new : Device) (kept : Option ℕ) (used : ℕ) (cause : AuditCause) → TookNone limits mid new told kept used cause
       → FailsLeaving limits (old, before) (new, kept, used) number cause
-  fails new kept used (causes.Refused e) (was, keeps, none) = (
-    record {
-      input = joined read.envelopes ++ was.rest;
-      given = given_then new was.rest was.given;
-      envelopes = read.envelopes;
-      listing = record { rest = was.rest; divides = divides_then was.rest; ends = (was.k, was.refused) };
-      at_end = was.at_end;
-      in_hand = omega (arith, count);
-    },
-    (keeps, none),
-  )
+  fails new kept used (causes.Refused e) (was, keeps, none) =
+      let given = given_then new was.rest was.given in
+      let listing : IsListing limits (joined read.envelopes ++ was.rest) read.envelopes (RefusedBy e) =
+      record { rest = was.rest; divides = divides_then was.rest; ends = (was.k, was.refused) } in
+      (record { input = _; given = given; envelopes = read.envelopes; listing = listing; at_end = was.at_end; in_hand = next }, (keeps, none))
   fails new kept used causes.Read (was, none) = let missed = missed_at was in (missed.0, (missed.1, none))
   fails new kept used causes.Interrupted (was, none) = let missed = missed_at was in (missed.0, (missed.1, none))
-  fails new kept used causes.OutOfMemory took = absurd took
-  fails new kept used causes.TooManyEnvelopes took = absurd took
+  fails new kept used _ took = absurd took
 
   -- with one envelope more than are listed
   pub one_too_many : {new : Device} {left : Option ℕ} {used words : ℕ} {u : Unpacking} → max_envelopes < number → left ≡ None
       → TookOne limits mid new u used words → FailsLeaving limits (old, before) (new, left, used) number causes.TooManyEnvelopes
   one_too_many {new} many lives one =
       let e = one.envelope in
-      let full : length read.envelopes ≡ max_envelopes = omega (arith, count) in (
-        record {
-          input = joined read.envelopes ++ e.octets;
-          given = given_then new e.octets one.given;
-          envelopes = read.envelopes;
-          listing = record { rest = e.octets; divides = divides_then e.octets; ends = (full, e, one.listed, [], sym (append-nil e.octets)) };
-          nothing_more = refl;
-          in_hand = omega (arith, count);
-        },
-        (lives, one.counts),
-      )
+      let full : length read.envelopes ≡ max_envelopes = omega (arith, count) in
+      let listing : IsListing limits (joined read.envelopes ++ e.octets) read.envelopes TooMany =
+      record { rest = e.octets; divides = divides_then e.octets; ends = (full, e, one.listed, [], sym (append-nil e.octets)) } in
+      let given = given_then new e.octets one.given in
+      (record { input = _; given = given; envelopes = read.envelopes; listing = listing; nothing_more = refl; in_hand = next }, (lives, one.counts))
 
   -- without memory for the row of an envelope
   pub short_after : {new : Device} {left : Option ℕ} {used words : ℕ} {u : Unpacking} → number ≤ max_envelopes → left ≡ None
@@ -138,18 +113,10 @@ module _ {limits : Limits} {now : ℤ} {old mid : Device} {ledger : Ledger} {bef
   short_after {new} less lives one =
       let es = read.envelopes ++ one.envelope ∷ [] in
       let longer : length es ≡ length read.envelopes + 1 = length-append read.envelopes (one.envelope ∷ []) in
-      let fits : length es ≤ max_envelopes = omega (arith, count) in (
-        record {
-          input = joined es;
-          given = given_more new one.envelope one.given;
-          envelopes = es;
-          divides = record {
-            admitted = admitted_more limits read.envelopes one.envelope read.admitted one.listed;
-            parts = sym (append-nil (joined es));
-            few = fits;
-          };
-          in_hand = inr (omega (arith, count), omega arith);
-        },
+      let admitted = admitted_more limits read.envelopes one.envelope read.admitted one.listed in
+      let divides : Divides limits (joined es) es [] = record { admitted = admitted; parts = sym (append-nil (joined es)); few = omega (arith, count) } in
+      let given = given_more new one.envelope one.given in (
+        record { input = _; given = given; envelopes = es; divides = divides; in_hand = inr (omega (arith, count), omega arith) },
         (lives, one.counts ∙ sym (told_more before read.envelopes one.envelope)),
       )
 

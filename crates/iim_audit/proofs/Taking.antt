@@ -1,24 +1,89 @@
--- From what an intake answers to what an audit takes of it.
-use Rattle.std.proofs.Common.{◌≡◌, ◌≢◌, ℕ, ◌⊎◌, List, [], length, Option, Some, None, subst, sym, Bool, true, false, ◌∙◌, inl, inr, ⊎_elim, arith, refl, ap}
+-- From what an intake and an unpacker answer to what an audit takes of it.
+use Rattle.std.proofs.Common.{◌≡◌, ℕ, List, [], length, refl, sym, ap, subst, ◌∙◌, false, ◌≢◌, ◌⊎◌, Option, Some, None, Bool, true, inl, inr, ⊎_elim, arith, ℤ, ◌≤◌, ◌++◌, take, Result, Ok, Err, IfOk, IfErr}
+use Rattle.iim_dataset.specs.Format.Datasets.{Dataset, count_octets}
+use Rattle.iim_dataset.specs.Format.Splits.{InTag}
+use Rattle.iim_dataset.specs.States.Events.{handed_on}
+use Rattle.iim_dataset.specs.States.Places.{HandsOn}
+use Rattle.iim_dataset.specs.Laws.Datasets.{OctetsAreHandedOnOneWay, EventsTellTheDatasets}
+use Rattle.iim_dataset.proofs.Spelled.{whole_read}
+use Rattle.wire_story.specs.Format.Delivery.{StoryEvent}
+use Rattle.wire_story.specs.Format.Texts.{IsText}
+use Rattle.wire_story.specs.Laws.Words.{TextsAreCountedAsLines}
+use Rattle.wire_story.specs.Format.Words.{WordsSoFar, CountsWords, capped, words}
+use Rattle.wire_message.specs.Laws.Messages.{TextsStandBetweenStxAndEtx}
+use Rattle.wire_message.specs.Format.Layers.{text_so_far}
+use Rattle.wire_message.specs.Format.Messages.{Header, IsMessage}
+use Rattle.wire_message.specs.declared.place.Place.TheVariants.{AfterEnd}
+use Rattle.iim_places.specs.Format.Admitted.{Value, Admits, object_of}
+use Rattle.iim_places.specs.Format.Open.{object_so_far, IsTextOf, Delivers}
+use Rattle.iim_places.proofs.Answering.{no_text}
 use Rattle.iim_dataset.specs.States.Devices.{Device}
 use Rattle.iim_dataset.specs.declared.device.IoFault.{IoFault}
-use Rattle.iim_dataset.specs.declared.device.IoFault.TheVariants as io
 use Rattle.iim_fields.specs.declared.limits.Limits.{Limits}
-use Rattle.wire_story.specs.Format.Delivery.{StoryEvent}
-use Rattle.wire_story.specs.Format.Words.{WordsSoFar, CountsWords}
-use Rattle.iim_unpack.proofs.Intakes.{missed_open}
+use Rattle.iim_unpack.proofs.Intakes.{missed_open, adds_none, adds_more}
 use Rattle.iim_unpack.specs.States.Intakes.{FedEnvelope, Faults, WasMissed, WasRefused, WasTruncated}
-use Rattle.iim_unpack.specs.States.Parts.{CountsFor}
-use Rattle.iim_unpack.specs.States.Unpacking.{Unpacking, IsDoneWith, Stands, limits_in}
+use Rattle.iim_unpack.specs.States.Parts.{CountsFor, has_ended}
+use Rattle.iim_unpack.specs.States.Unpacking.{Unpacking, IsDoneWith, Stands, limits_in, Goes, IsDone, IsRefusedIn, failed_at}
 use Rattle.iim_unpack.specs.declared.intake.IntakeFault.{IntakeFault}
-use Rattle.iim_unpack.specs.declared.intake.IntakeFault.TheVariants as intakes
 use Rattle.iim_places.specs.declared.refusal.Cause.{Cause}
 use Rattle.iim_places.specs.declared.refusal.Cause.TheVariants.{Message}
 use Rattle.wire_message.specs.declared.fault.MessageCause.TheVariants.{Sink}
 use Rattle.iim_places.specs.declared.refusal.Refusal.{Refusal}
 use Rattle.iim_audit.specs.Faults.{cause_of}
-use Rattle.iim_audit.specs.Taking.{IsCutOff, IsRefusal, TookEnvelope, TookOne, TookNone}
-use Rattle.iim_audit.proofs.Texts.{TextLaws, words_of_value}
+use Rattle.iim_audit.specs.Taking.{IsCutOff, IsRefusal, TookEnvelope, TookOne, TookNone, IsTaken}
+use Rattle.std.specs.Option.{option_map}
+use Rattle.iim_fields.specs.Format.Views.{instant_of_release, instant_of_expiration}
+use Rattle.wire_story.specs.CountingLaws.{counts_joined}
+use Rattle.wire_story.specs.Laws.Texts.{DeliveryMayBeCut}
+use Rattle.iim_places.specs.States.Counts.{raised}
+use Rattle.iim_unpack.specs.Format.Value.{ShowsParts}
+use Rattle.iim_unpack.specs.declared.unpacker.Progress.{Progress}
+use Rattle.iim_unpack.specs.declared.unpacker.Progress.TheVariants.{More, Done}
+use Rattle.iim_unpack.specs.declared.unpacker.UnpackedRef.{UnpackedRef}
+use Rattle.iim_audit.specs.Counting.{HasFed, IsRefusedFor, IsSound}
+use Rattle.iim_audit.specs.Format.Pieces.{Finds, HaveWords, IsRowOf, Refuses, StandsOn, no_words}
+use Rattle.iim_audit.specs.Format.Rows.{row_with, counted_words}
+use Rattle.iim_audit.specs.declared.pieces.PieceAudit.{PieceAudit}
+use Rattle.iim_audit.specs.declared.pieces.PieceRow.{PieceRow}
+use Rattle.iim_dataset.specs.declared.device.IoFault.TheVariants as io
+use Rattle.iim_unpack.specs.declared.intake.IntakeFault.TheVariants as intakes
+
+pub record TextLaws : Type 0 where
+  pub way : OctetsAreHandedOnOneWay
+  pub tell : EventsTellTheDatasets
+  pub texts : TextsStandBetweenStxAndEtx
+  pub counts : TextsAreCountedAsLines
+
+text_of_message : TextsStandBetweenStxAndEtx → (object text trailer : List ℕ) (head : Header) (lines : List (List ℕ)) → IsMessage object head text trailer → IsText text lines
+    → text ≡ text_so_far object
+text_of_message law object text trailer head lines m are =
+    let place = AfterEnd head (record { items = trailer }) (length m.after) in
+    law object text place (record { is_place = (m.is_header, m.is_trailer, m.is_after.2); spelled = (m, refl); story = (lines, are) })
+
+-- The text in an envelope has the lines of its value.
+text_of_value : TextLaws → (octets text : List ℕ) (v : Value) → Admits octets v → IsTextOf octets text → IsText text v.lines
+text_of_value laws octets text v admits (whole, begun, reads, is) =
+    let hands : HandsOn count_octets octets (handed_on whole begun) begun = record { whole = whole; reads = reads; handed = refl } in
+    let gives : HandsOn count_octets octets (handed_on admits.datasets (InTag [])) (InTag []) =
+    record { whole = admits.datasets; reads = whole_read octets admits.datasets admits.spelled; handed = refl } in
+    let way = laws.way octets (handed_on whole begun) (handed_on admits.datasets (InTag [])) begun (InTag []) hands gives in
+    let told = laws.tell whole admits.datasets begun (InTag []) way.0 in
+    let object : object_so_far whole begun ≡ object_of admits.datasets =
+    ap (λ (ds : List Dataset). object_so_far ds begun) told.0 ∙ ap (object_so_far admits.datasets) way.1 in
+    let same : admits.text ≡ text =
+    text_of_message laws.texts (object_of admits.datasets) admits.text v.trailer v.head v.lines admits.message admits.lines
+    ∙ sym (is ∙ ap text_so_far object) in
+    subst (λ (t : List ℕ). IsText t v.lines) same admits.lines
+
+-- The words of an envelope are counted, from a count of none on.
+pub words_of_value : TextLaws → (octets : List ℕ) (more : List StoryEvent) (v : Value) (old new : WordsSoFar) → Admits octets v → Delivers [] octets more
+    → old.words ≡ 0 → old.inside ≡ false → CountsWords old more new → new.words ≡ capped (words v.lines)
+words_of_value laws octets more v old new admits adds none outside counts =
+    let (added, is, delivers) = adds [] no_text in
+    laws.counts added v.lines old new (text_of_value laws octets added v admits is) none outside
+    (subst (λ (events : List StoryEvent). CountsWords old events new) delivers counts)
+
+-- ---- what an intake answers
 
 -- an unpacker that stood on no octets was fed an envelope, and a count of no words its lines
 pub took_one : TextLaws → (limits : Limits) (old new : Device) (u v : Unpacking) (a b : WordsSoFar) (used n : ℕ) (whole : Bool) → whole ≡ true
@@ -49,49 +114,138 @@ took_end limits old new u v a b used whole is fed =
 pub unsunk : (cause : Cause) → CountsFor cause 0 0 → cause ≢ Message Sink
 unsunk cause counts same = ⊎_elim (λ rose. omega arith) (λ full. omega arith) (rw same at counts)
 
-refused_fresh : {S : Type 0} (goes : S → List StoryEvent → S → Type 0) (failures : S → ℕ) (old new : Device) (u v : Unpacking) (a b : S) (e : Refusal)
-    → failures a ≡ 0 → failures b ≡ 0 → Stands u [] 0 → WasRefused goes failures old new u v a b e ⊎ WasTruncated goes failures old new u v a b e
-    → IsRefusal (limits_in u) old new e
-refused_fresh goes failures old new u v a b e before after stands (inl was) =
-    let of = was.refuses [] 0 stands in
-    let same : e.cause ≡ of.fault.cause = ap (λ (r : Refusal). r.cause) of.refusal in
-    let counts : CountsFor of.fault.cause 0 0 = rw (before, after, same) at was.counts in
-    record {
-      rest = was.octets;
-      given = was.came.given;
-      k = of.k;
-      refused = inr (record {
-        within = of.within;
-        fault = of.fault;
-        refusal = of.refusal;
-        kills = record { refuses = of.refuses; by_octets = unsunk of.fault.cause counts };
-      });
-      at_end = λ all. absurd (omega (arith, all, of.within));
-    }
-refused_fresh goes failures old new u v a b e before after stands (inr was) =
-    let in_it = was.truncated [] 0 stands in
-    record {
-      rest = was.octets;
-      given = was.came.given;
-      k = length was.octets;
-      refused = inl (record { some = in_it.some; is_open = in_it.is_open; truncated = in_it.truncated }, refl);
-      at_end = λ all. was.at_end;
-    }
+module _ {S : Type 0} (goes : S → List StoryEvent → S → Type 0) (failures : S → ℕ) (old new : Device) (u v : Unpacking) (a b : S) where
+  refused_fresh : (e : Refusal) → failures a ≡ 0 → failures b ≡ 0 → Stands u [] 0
+      → WasRefused goes failures old new u v a b e ⊎ WasTruncated goes failures old new u v a b e → IsRefusal (limits_in u) old new e
+  refused_fresh e before after stands (inl was) =
+      let of = was.refuses [] 0 stands in
+      let sinks = unsunk of.fault.cause (rw (before, after, of.refusal) at was.counts) in
+      record {
+        rest = was.octets;
+        given = was.came.given;
+        k = of.k;
+        refused = inr (record { within = of.within; fault = of.fault; refusal = of.refusal; kills = record { refuses = of.refuses; by_octets = sinks } });
+        at_end = λ all. absurd (omega (arith, all, of.within));
+      }
+  refused_fresh e before after stands (inr was) =
+      let in_it = was.truncated [] 0 stands in
+      let refused = inl (record { some = in_it.some; is_open = in_it.is_open; truncated = in_it.truncated }, refl) in
+      record { rest = was.octets; given = was.came.given; k = length was.octets; refused = refused; at_end = λ all. was.at_end }
 
-cut_off : {S : Type 0} (goes : S → List StoryEvent → S → Type 0) (failures : S → ℕ) (old new : Device) (u v : Unpacking) (a b : S) (octet : ℕ) (kept : Option ℕ) (fault : IoFault)
-    → kept ≡ Some octet → Stands u [] 0 → WasMissed goes failures old new u v a b octet fault → IsCutOff (limits_in u) old new kept fault
-cut_off goes failures old new u v a b octet kept fault keeps stands was =
-    let here = missed_open goes failures old new u v a b octet fault was [] 0 stands in
-    record { rest = was.octets; missed = was.missed; is_open = here.0; keeps = keeps ∙ ap Some here.2 }
+  cut_off : (octet : ℕ) (kept : Option ℕ) (fault : IoFault) → kept ≡ Some octet → Stands u [] 0 → WasMissed goes failures old new u v a b octet fault
+      → IsCutOff (limits_in u) old new kept fault
+  cut_off octet kept fault keeps stands was =
+      let here = missed_open goes failures old new u v a b octet fault was [] 0 stands in
+      record { rest = was.octets; missed = was.missed; is_open = here.0; keeps = keeps ∙ ap Some here.2 }
 
--- why an intake gives nothing to an unpacker that stands on no octets
-pub none_fresh : {S : Type 0} (goes : S → List StoryEvent → S → Type 0) (failures : S → ℕ) (old new : Device) (u v : Unpacking) (a b : S)
-    (octet before : ℕ) (kept : Option ℕ) (told : ℕ) (fault : IntakeFault)
-    → failures a ≡ 0 → failures b ≡ 0 → kept ≡ Some octet → told ≡ 0 → Stands u [] 0 → Faults goes failures old new u v a b octet fault
-    → TookNone (limits_in u) old new before kept told (cause_of fault)
-none_fresh goes failures old new u v a b octet before kept told (intakes.Refused e) at_first at_last keeps none stands faults =
-    (refused_fresh goes failures old new u v a b e at_first at_last stands faults.1, keeps ∙ ap Some faults.0, none)
-none_fresh goes failures old new u v a b octet before kept told intakes.Read at_first at_last keeps none stands faults =
-    (cut_off goes failures old new u v a b octet kept io.Failed keeps stands faults, none)
-none_fresh goes failures old new u v a b octet before kept told intakes.Interrupted at_first at_last keeps none stands faults =
-    (cut_off goes failures old new u v a b octet kept io.Interrupted keeps stands faults, none)
+  -- why an intake gives nothing to an unpacker that stands on no octets
+  pub none_fresh : (octet before : ℕ) (kept : Option ℕ) (told : ℕ) (fault : IntakeFault) → failures a ≡ 0 → failures b ≡ 0 → kept ≡ Some octet → told ≡ 0
+      → Stands u [] 0 → Faults goes failures old new u v a b octet fault → TookNone (limits_in u) old new before kept told (cause_of fault)
+  none_fresh octet before kept told (intakes.Refused e) first last keeps none stands faults =
+      (refused_fresh e first last stands faults.1, keeps ∙ ap Some faults.0, none)
+  none_fresh octet before kept told intakes.Read first last keeps none stands faults = (cut_off octet kept io.Failed keeps stands faults, none)
+  none_fresh octet before kept told intakes.Interrupted first last keeps none stands faults = (cut_off octet kept io.Interrupted keeps stands faults, none)
+
+-- ---- words
+
+-- of no octets
+pub none_by : (count : WordsSoFar) → count.words ≡ 0 → count.inside ≡ false → HaveWords [] count
+none_by count none outside = record { more = []; delivers = adds_none []; counts = record { words = λ few. omega (arith, none); inside = outside } }
+
+-- and of a piece more
+pub more_words : DeliveryMayBeCut → (p piece : List ℕ) (old new : WordsSoFar) (more : List StoryEvent) → HaveWords p old → Delivers p piece more → CountsWords old more new
+    → HaveWords (p ++ piece) new
+more_words cut p piece old new more before delivers counts = record {
+  more = before.more ++ more;
+  delivers = adds_more cut [] p piece before.more more before.delivers delivers;
+  counts = counts_joined no_words old new before.more more before.counts counts;
+}
+
+-- those of an envelope are the words of its lines
+all_words : TextLaws → (p : List ℕ) (v : Value) (count : WordsSoFar) → HaveWords p count → Admits p v → count.words ≡ counted_words v
+all_words laws p v count have admits = words_of_value laws p have.more v no_words count admits have.delivers refl refl have.counts
+
+-- ---- a piece that is fed
+
+module _ (u v : Unpacking) (piece : List ℕ) where
+  -- what is told of an unpacker is so: of one that was inside an envelope, and of one that was at the end of one
+  sound_on : (progress : Progress) (p : List ℕ) (a : ℕ) (more : List StoryEvent) → Goes v p a piece more progress → IsSound v piece progress
+  sound_on More p a more goes = record { alive = goes.0.taking; ends = tt }
+  sound_on (Done used) p a more goes = record { alive = goes.1.taking; ends = ((goes.1.taking, goes.1.ended), goes.0) }
+
+  sound : (progress : Progress) (more : List StoryEvent) (b : Bool) → b ≡ has_ended u.parts → u.refused ≡ None
+      → ((IsDone u → ⊥) → (p : List ℕ) × (a : ℕ) × Stands u p a) → ((p : List ℕ) (a : ℕ) → Stands u p a → Goes v p a piece more progress)
+      → (IsDone u → (progress ≡ Done 0) × (v ≡ u)) → IsSound v piece progress
+  sound progress more true is alive stood goes again =
+      let done : IsDone u = (alive, sym is) in
+      let (is_done, same) = again done in
+      rw (is_done, same) (record { alive = alive; ends = (done, omega arith) })
+  sound progress more false is alive stood goes again =
+      let there = stood (λ done. let bad = is ∙ done.1 in cc) in
+      sound_on progress there.0 there.1 more (goes there.0 there.1 there.2)
+
+  -- what the unpacker answers, with the words that were counted
+  pub fed_by : (r : Result Progress Refusal) (old new : WordsSoFar) → (u.refused ≡ None → (IsDone u → ⊥) → (p : List ℕ) × (a : ℕ) × Stands u p a)
+      → IfOk r (λ progress. (◌≡◌ {A = ℕ} 0 0) × ((more : List StoryEvent) × CountsWords old more new
+      × ((p : List ℕ) (a : ℕ) → Stands u p a → Goes v p a piece more progress)))
+      → (IsDone u → (r ≡ Ok (Done 0)) × ((v ≡ u) × (new ≡ old)))
+      → ((octet : ℕ) → u.refused ≡ Some octet → (r ≡ Err (failed_at octet)) × ((v ≡ u) × (new ≡ old))) → IfOk r (HasFed u old piece v new)
+  fed_by (Err e) old new stood fed done again = tt
+  fed_by (Ok progress) old new stood fed done again = by u.refused refl
+    where
+      by : (o : Option ℕ) → u.refused ≡ o → HasFed u old piece v new progress
+      by None alive =
+          let same : IsDone u → (progress ≡ Done 0) × (v ≡ u) = λ is. let h = done is in ((let e = h.0 in cc), h.1.0) in
+          let is_sound = sound progress fed.1.0 (has_ended u.parts) refl alive (stood alive) fed.1.2 same in
+          record { more = fed.1.0; counts = fed.1.1; goes = fed.1.2; sound = is_sound }
+      by (Some octet) failed = let bad = (again octet failed).0 in absurd (let e = bad in cc)
+
+pub refused_as : (r : Result Progress Refusal) (u : Unpacking) (old new : WordsSoFar) (piece : List ℕ)
+    → IfErr r (λ e. (more : List StoryEvent) × CountsWords old more new × ((p : List ℕ) (a : ℕ) → Stands u p a → IsRefusedIn (limits_in u) p a piece more e))
+    → IfErr r (λ e. CountsFor e.cause 0 0) → IfErr r (IsRefusedFor u piece)
+refused_as (Ok progress) u old new piece refuses counts = tt
+refused_as (Err e) u old new piece refuses counts = record { more = refuses.0; refuses = refuses.2; by_octets = unsunk e.cause counts }
+
+-- ---- what is found
+
+pub found_none : DeliveryMayBeCut → (limits : Limits) (now : ℤ) (old new : PieceAudit) (piece : List ℕ) → HasFed old.unpacker old.count piece new.unpacker new.count More
+    → (p : List ℕ) (a : ℕ) → StandsOn old p a → Finds limits now p a piece new None
+found_none cut limits now old new piece fed p a stands =
+    let goes = fed.goes p a stands.unpacker in
+    record { unpacker = goes.0; words = more_words cut p piece old.count new.count fed.more stands.words goes.1 fed.counts }
+
+pub found_row : DeliveryMayBeCut → (limits : Limits) (now : ℤ) (old mid new : PieceAudit) (piece : List ℕ) (used : ℕ) (found : PieceRow)
+    → HasFed old.unpacker old.count piece mid.unpacker mid.count (Done used) → limits_in mid.unpacker ≡ limits
+    → found.used ≡ used → found.octets ≡ mid.unpacker.octets
+    → ((p : List ℕ) (a : ℕ) → IsDoneWith mid.unpacker p a → HaveWords p mid.count → IsRowOf (limits_in mid.unpacker) now p found)
+    → StandsOn new [] 0 → (p : List ℕ) (a : ℕ) → StandsOn old p a → Finds limits now p a piece new (Some found)
+found_row cut limits now old mid new piece used found fed same is_used counts row again p a stands =
+    let goes = fed.goes p a stands.unpacker in
+    let done : IsDoneWith mid.unpacker (p ++ take used piece) (raised a used) = goes.1 in
+    let words = more_words cut p (take used piece) old.count mid.count fed.more stands.words goes.2 fed.counts in
+    let is_row = rw same at (row (p ++ take used piece) (raised a used) done words) in
+    subst (λ (n : ℕ). (n ≤ length piece) × (found.octets ≡ raised a n) × IsRowOf limits now (p ++ take n piece) found × StandsOn new [] 0) (sym is_used)
+    (goes.0, counts ∙ done.counts, is_row, again)
+
+pub refused_by : (u : Unpacking) (piece : List ℕ) (e : Refusal) → IsRefusedFor u piece e → (p : List ℕ) (a : ℕ) → Stands u p a → Refuses (limits_in u) p a piece e
+refused_by u piece e is p a stands =
+    let r = is.refuses p a stands in
+    let same = ap (λ (x : Refusal). x.cause) r.refusal in
+    let sinks = is.by_octets in
+    record { k = r.k; within = r.within; fault = r.fault; refusal = r.refusal; kills = record { refuses = r.refuses; by_octets = λ e. sinks (same ∙ e) } }
+
+-- the row of an envelope with which an unpacker is done
+pub row_of_done : TextLaws → (now : ℤ) (u : Unpacking) (count : WordsSoFar) (got : UnpackedRef) (words : ℕ) (found : PieceRow)
+    → ((p : List ℕ) (a : ℕ) → IsDoneWith u p a → (v : Value) → Admits p v → ShowsParts got v) → words ≡ count.words
+    → ((v : Value) → IsTaken (record { unpacked = got; words = words }) v → found.row ≡ row_with now v None)
+    → option_map (λ t. t.nanosecond) found.release ≡ instant_of_release got.envelope → option_map (λ t. t.nanosecond) found.expires ≡ instant_of_expiration got.envelope
+    → (p : List ℕ) (a : ℕ) → IsDoneWith u p a → HaveWords p count → IsRowOf (limits_in u) now p found
+row_of_done laws now u count got words found shows same row release expires p a done have =
+    let parts = shows p a done done.value done.admits in
+    record {
+      value = done.value;
+      envelope = record { admits = done.admits; within = done.within };
+      row = row done.value (record { parts = parts; words = same ∙ all_words laws p done.value count have done.admits });
+      release = release ∙ ap instant_of_release parts.fields;
+      expires = expires ∙ ap instant_of_expiration parts.fields;
+    }

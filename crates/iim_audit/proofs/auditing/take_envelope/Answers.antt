@@ -1,21 +1,15 @@
-use Rattle.std.proofs.Common.{refl}
+use Rattle.std.proofs.Common.{refl, rules}
 use Rattle.wire_story.specs.Format.Words.{WordsSoFar, CountsWords}
 use Rattle.iim_unpack.specs.States.Intakes.{in_line}
 use Rattle.iim_unpack.specs.States.Unpacking.{limits_in}
-use Rattle.iim_audit.proofs.Taking.{none_fresh, took_end, took_one}
-use Rattle.iim_audit.proofs.Texts.{TextLaws}
+use Rattle.iim_audit.proofs.Taking.{none_fresh, took_end, took_one, TextLaws}
 use Rattle.iim_audit.proofs.auditing.take_envelope.Goals as goal
 
 pub returns-in-Ok-true-clause-took : goal.returns-in-Ok-true-clause-took
 returns-in-Ok-true-clause-took g c =
     let old = in_line g.R.Source.state c.args.intake.now in
     let new = in_line g.R.Source.state c.feed_envelope.new.self in
-    let laws : TextLaws = record {
-      way = c.dataset_laws.ensures.octets_are_handed_on_one_way;
-      tell = c.dataset_laws.ensures.events_tell_the_datasets;
-      texts = c.message_laws.ensures.texts_stand_between_stx_and_etx;
-      counts = c.story_laws.ensures.texts_are_counted_as_lines;
-    } in
+    let laws : TextLaws = search rules in
     took_one laws (limits_in c.args.unpacker.now) old new c.again.new.self c.feed_envelope.new.unpacker c.new-count.result c.feed_envelope.new.sink c.feed_envelope.new.self.octets c.words.result
     c.in-Ok-true.field-0 c.in-Ok-true.field-0-test c.again.ensures.limits c.again.ensures.stands c.new-count.ensures.words c.new-count.ensures.inside c.words.ensures c.in-Ok-true.ensures.fed
 

@@ -1,9 +1,9 @@
-use Rattle.iim_audit.proofs.PieceRows.{fed_by, refused_as}
+use Rattle.iim_audit.proofs.Taking.{fed_by, refused_as}
 use Rattle.iim_audit.proofs.pieces.feed_count.Goals as goal
 
 pub returns-clause-fed : goal.returns-clause-fed
 returns-clause-fed c =
-    fed_by c.feed.result c.args.unpacker.now c.feed.new.self c.args.count.now c.feed.new.sink c.args.piece.now c.unpackers_stand_somewhere.ensures.stands
+    fed_by c.args.unpacker.now c.feed.new.self c.args.piece.now c.feed.result c.args.count.now c.feed.new.sink c.unpackers_stand_somewhere.ensures.stands
     c.feed.ensures.goes c.feed.ensures.done c.feed.ensures.again
 
 pub returns-clause-refused : goal.returns-clause-refused

@@ -3,8 +3,11 @@ use Rattle.std.proofs.lemmas.List.{get_or_default, get_or-map, length-map, lengt
 use Rattle.std.proofs.Math.Seq.{map-set_same}
 use Rattle.iim_audit.specs.Repeats.{index_at}
 use Rattle.iim_audit.specs.declared.row.AuditRow.{AuditRow}
-use Rattle.iim_audit.proofs.Filling.{all_filled, so_far_more}
+use Rattle.iim_audit.proofs.Firsts.{all_filled, so_far_more, so_far_none}
 use Rattle.iim_audit.proofs.repeats.fill_firsts.Goals as goal
+
+pub loop-place-init : goal.loop-place-init
+loop-place-init c = record { len = refl; group = search rules; so_far = λ is fresh. so_far_none _ _ _ is c.in-Some.ensures.value; ids = refl }
 
 pub loop-place-preserved : goal.loop-place-preserved
 loop-place-preserved c =

@@ -1,6 +1,6 @@
 use Rattle.std.proofs.Common.{◌≡◌, length, map}
 use Rattle.iim_audit.specs.Repeats.{AreFresh, IsOrder, IsPlace, ids_of, index_at}
-use Rattle.iim_audit.proofs.Filling.{SoFar}
+use Rattle.iim_audit.proofs.Firsts.{SoFar}
 use Rattle.iim_audit.proofs.repeats.fill_firsts.Given as goal
 
 abbrev pub invariant-loop-place : goal.invariant-loop-place

@@ -1,7 +1,7 @@
 use Rattle.std.proofs.Common.{◌≡◌, ◌∙◌}
 use Rattle.std.proofs.lemmas.List.{with_items_is}
 use Rattle.iim_audit.specs.Repeats.{AreFilled, AreFresh}
-use Rattle.iim_audit.proofs.Rows.{bare_rows, fresh_bare, report_told}
+use Rattle.iim_audit.proofs.Lines.{bare_rows, fresh_bare, report_told}
 use Rattle.iim_audit.proofs.ledger.Ledger.into_report.Goals as goal
 
 pub tell_repeats-requires-clause-few : goal.tell_repeats-requires-clause-few

@@ -1,4 +1,4 @@
-use Rattle.iim_audit.proofs.PieceRows.{none_by}
+use Rattle.iim_audit.proofs.Taking.{none_by}
 use Rattle.iim_audit.proofs.pieces.PieceAudit.new.Goals as goal
 
 pub returns-clause-stands : goal.returns-clause-stands

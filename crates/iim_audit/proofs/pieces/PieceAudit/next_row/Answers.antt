@@ -1,6 +1,6 @@
 use Rattle.iim_unpack.specs.States.Unpacking.{limits_in}
 use Rattle.iim_audit.specs.declared.pieces.PieceAudit.{PieceAudit}
-use Rattle.iim_audit.proofs.PieceRows.{found_none, found_row, refused_by}
+use Rattle.iim_audit.proofs.Taking.{found_none, found_row, refused_by}
 use Rattle.iim_audit.proofs.pieces.PieceAudit.next_row.Goals as goal
 
 pub returns-in-Ok-More-clause-found : goal.returns-in-Ok-More-clause-found

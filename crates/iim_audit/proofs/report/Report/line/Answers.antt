@@ -1,4 +1,4 @@
-use Rattle.iim_audit.proofs.Rows.{short_at}
+use Rattle.iim_audit.proofs.Lines.{short_at}
 use Rattle.iim_audit.proofs.report.Report.line.Goals as goal
 
 pub line_of-requires : goal.line_of-requires
