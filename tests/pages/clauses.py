@@ -33,7 +33,7 @@ def first_sentence(doc):
 def brought_in(path):
     """The public definitions that a file brings in, by the words that stand for them there."""
     text = items.text_of(f"{TOP}/{path}")
-    groups = re.findall(rf"^ *ghost use Rattle\.\w+\.specs\.(?:{'|'.join(ROOMS)})\.[\w.]+\.\{{([^}}]*)\}};", text, re.M)
+    groups = re.findall(rf"^ *ghost use Rattle\.\w+\.specs\.(?:{'|'.join(ROOMS)})(?:\.[\w.]+)?\.\{{([^}}]*)\}};", text, re.M)
     return {name.split(" as ")[-1].strip() for group in groups for name in group.split(",")}
 
 

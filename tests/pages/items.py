@@ -48,16 +48,29 @@ def sources_of(crate):
     return sorted(glob.glob(f"{TOP}/crates/{crate}/src/**/*.rt", recursive=True))
 
 
+def record_of_laws(crate):
+    """The record that has the laws of a crate, the last one of specs/Laws.antt that is named so: its name, and its lines. None and none
+    where there is no such record."""
+    path = f"{TOP}/crates/{crate}/specs/Laws.antt"
+    found = re.findall(r"^pub record (\w+Laws) : Type 0 where\n((?:  .*\n)+)", text_of(path), re.M) if os.path.isfile(path) else []
+    return found[-1] if found else (None, "")
+
+
+def words_of(comment):
+    """What a comment says, without what it says of twins."""
+    return " ".join(line.strip()[3:] for line in re.sub(r"^ *-- (?:no )?twins?\b.*", "", comment, flags=re.M | re.S).splitlines())
+
+
 def laws_of(crate):
-    """The laws of a crate that are one record, the contract of one call (specs/Laws/All.antt): the record's name, and of each field its name,
-    its statement and what is said of it. (What ends in a colon is said of several fields.)"""
-    path = f"{TOP}/crates/{crate}/specs/Laws/All.antt"
-    if not os.path.isfile(path):
+    """The laws of a crate that are one record, the contract of one call: the record's name, and of each field its name, its statement and
+    what is said of it: above the field, or else above the statement. (What ends in a colon is said of several fields.)"""
+    name, fields = record_of_laws(crate)
+    if not name:
         return None, []
-    name, fields = re.search(r"^pub record (\w+) : Type 0 where\n(.*)", text_of(path), re.M | re.S).groups()
-    found = re.findall(r"((?:^  -- .*\n)*)^  pub (\w+) : (\w+)$", fields, re.M)
-    said = [" ".join(line[5:] for line in comment.splitlines() if not line.endswith(":")) for comment, _, _ in found]
-    return name, [(field, statement, words) for (_, field, statement), words in zip(found, said)]
+    text = text_of(f"{TOP}/crates/{crate}/specs/Laws.antt")
+    above = {statement: comment for comment, statement in re.findall(r"((?:^--.*\n)+)^(?:abbrev )?pub (?:record )?(\w+)\b", text, re.M)}
+    found = re.findall(r"((?:^  -- .*\n)*)^  pub (\w+) : (\w+)$", re.sub("^  -- .*:\n", "", fields, flags=re.M), re.M)
+    return name, [(field, statement, words_of(comment or above.get(statement, ""))) for comment, field, statement in found]
 
 
 def laws_at(item):

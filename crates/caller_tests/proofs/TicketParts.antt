@@ -2,7 +2,7 @@
 use Rattle.std.proofs.Common.{◌≡◌, ℕ, List, sym, subst, ap}
 use Rattle.iim_places.specs.Format.TicketForm.{Split, SplitsTicket}
 use Rattle.iim_places.specs.Format.Tickets.{Place}
-use Rattle.iim_places.specs.Laws.Tickets.{TicketsHaveOneSplit, TicketsOfPlacesAreSplit, split_of}
+use Rattle.iim_places.specs.Laws.{TicketsHaveOneSplit, TicketsOfPlacesAreSplit, split_of}
 use Rattle.iim_places.specs.States.Restored.{IsTicketAt}
 
 -- The parts of the ticket of a place are those of the place.

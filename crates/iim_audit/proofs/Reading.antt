@@ -4,7 +4,7 @@ use Rattle.std.specs.Io.KnownBytes.{IsAtEnd}
 use Rattle.std.specs.List.{AllByRecursion}
 use Rattle.std.proofs.lemmas.List.{length-map, map-append}
 use Rattle.iim_dataset.specs.States.Devices.{Device, HasGiven}
-use Rattle.iim_dataset.specs.Laws.Devices.{GiftsJoin}
+use Rattle.iim_dataset.specs.Laws.{GiftsJoin}
 use Rattle.iim_dataset.specs.declared.device.IoFault.{IoFault}
 use Rattle.iim_dataset.proofs.DeviceLaws.{missed_later}
 use Rattle.iim_fields.specs.declared.limits.Limits.{Limits}
@@ -16,8 +16,7 @@ use Rattle.iim_unpack.specs.Format.Value.{ShowsParts}
 use Rattle.iim_unpack.specs.declared.unpacker.UnpackedRef.{UnpackedRef}
 use Rattle.iim_places.proofs.Listings.{admitted_more, joined_more}
 use Rattle.iim_audit.specs.Format.Auditing.{IsAudited, IsMissedAt, FailsLeaving, told_after}
-use Rattle.iim_audit.specs.Ledgers.{Keeps}
-use Rattle.iim_audit.specs.Taking.{IsCutOff, IsTaken, TookOne, TookNone}
+use Rattle.iim_audit.specs.Taking.{Keeps, IsCutOff, IsTaken, TookOne, TookNone}
 use Rattle.iim_audit.specs.declared.fault.AuditCause.{AuditCause}
 use Rattle.iim_audit.specs.declared.fault.AuditCause.TheVariants as causes
 use Rattle.iim_audit.specs.declared.ledger.Ledger.{Ledger}

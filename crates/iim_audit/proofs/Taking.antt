@@ -4,13 +4,13 @@ use Rattle.iim_dataset.specs.Format.Datasets.{Dataset, count_octets}
 use Rattle.iim_dataset.specs.Format.Splits.{InTag}
 use Rattle.iim_dataset.specs.States.Events.{handed_on}
 use Rattle.iim_dataset.specs.States.Places.{HandsOn}
-use Rattle.iim_dataset.specs.Laws.Datasets.{OctetsAreHandedOnOneWay, EventsTellTheDatasets}
+use Rattle.iim_dataset.specs.Laws.{OctetsAreHandedOnOneWay, EventsTellTheDatasets}
 use Rattle.iim_dataset.proofs.Spelled.{whole_read}
 use Rattle.wire_story.specs.Format.Delivery.{StoryEvent}
 use Rattle.wire_story.specs.Format.Texts.{IsText}
-use Rattle.wire_story.specs.Laws.Words.{TextsAreCountedAsLines}
+use Rattle.wire_story.specs.Laws.{TextsAreCountedAsLines, DeliveryMayBeCut}
 use Rattle.wire_story.specs.Format.Words.{WordsSoFar, CountsWords, capped, words}
-use Rattle.wire_message.specs.Laws.Messages.{TextsStandBetweenStxAndEtx}
+use Rattle.wire_message.specs.Laws.{TextsStandBetweenStxAndEtx}
 use Rattle.wire_message.specs.Format.Layers.{text_so_far}
 use Rattle.wire_message.specs.Format.Messages.{Header, IsMessage}
 use Rattle.wire_message.specs.declared.place.Place.TheVariants.{AfterEnd}
@@ -29,12 +29,10 @@ use Rattle.iim_places.specs.declared.refusal.Cause.{Cause}
 use Rattle.iim_places.specs.declared.refusal.Cause.TheVariants.{Message}
 use Rattle.wire_message.specs.declared.fault.MessageCause.TheVariants.{Sink}
 use Rattle.iim_places.specs.declared.refusal.Refusal.{Refusal}
-use Rattle.iim_audit.specs.Faults.{cause_of}
-use Rattle.iim_audit.specs.Taking.{IsCutOff, IsRefusal, TookEnvelope, TookOne, TookNone, IsTaken}
+use Rattle.iim_audit.specs.Taking.{cause_of, IsCutOff, IsRefusal, TookEnvelope, TookOne, TookNone, IsTaken}
 use Rattle.std.specs.Option.{option_map}
 use Rattle.iim_fields.specs.Format.Views.{instant_of_release, instant_of_expiration}
-use Rattle.wire_story.specs.CountingLaws.{counts_joined}
-use Rattle.wire_story.specs.Laws.Texts.{DeliveryMayBeCut}
+use Rattle.wire_story.specs.SinkLaws.{counts_joined}
 use Rattle.iim_places.specs.States.Counts.{raised}
 use Rattle.iim_unpack.specs.Format.Value.{ShowsParts}
 use Rattle.iim_unpack.specs.declared.unpacker.Progress.{Progress}

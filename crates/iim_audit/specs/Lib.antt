@@ -2,8 +2,6 @@
 pub mod Format
 -- What only proofs and private clauses cite.
 pub mod Counting
-pub mod Faults
-pub mod Ledgers
 pub mod Lines
 pub mod Repeats
 pub mod Taking

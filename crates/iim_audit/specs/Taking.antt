@@ -1,21 +1,38 @@
 -- What one envelope of an intake's line comes to.
-use Rattle.std.specs.Prelude.{◌≡◌, ℕ, List, [], length, Option, Some, None}
+use Rattle.iim_unpack.specs.declared.intake.IntakeFault.{IntakeFault}
+use Rattle.iim_unpack.specs.declared.intake.IntakeFault.TheVariants as intakes
+use Rattle.iim_audit.specs.declared.fault.AuditCause.{AuditCause}
+use Rattle.iim_audit.specs.declared.fault.AuditCause.TheVariants as causes
+use Rattle.std.specs.Prelude.{◌≡◌, ℤ, List, None, map, ℕ, [], length, Option, Some}
+use Rattle.iim_places.specs.Format.Admitted.{Value}
+use Rattle.iim_audit.specs.Format.Rows.{row_with, counted_words}
+use Rattle.iim_audit.specs.declared.ledger.Ledger.{Ledger}
 use Rattle.std.specs.Io.KnownBytes.{IsAtEnd}
 use Rattle.iim_dataset.specs.States.Devices.{Device, HasGiven, MissedAfter}
 use Rattle.iim_dataset.specs.declared.device.IoFault.{IoFault}
 use Rattle.iim_dataset.specs.declared.device.IoFault.TheVariants as io
 use Rattle.iim_fields.specs.declared.limits.Limits.{Limits}
-use Rattle.iim_places.specs.Format.Admitted.{Value}
 use Rattle.iim_places.specs.Format.Listing.{Listed, IsListed, IsRefusedAfter}
 use Rattle.iim_places.specs.Format.Open.{IsOpen}
 use Rattle.iim_unpack.specs.States.Unpacking.{Unpacking, IsDoneWith, limits_in}
 use Rattle.iim_places.specs.States.Counts.{raised}
 use Rattle.iim_unpack.specs.Format.Value.{ShowsParts}
 use Rattle.iim_places.specs.declared.refusal.Refusal.{Refusal}
-use Rattle.iim_audit.specs.Format.Rows.{counted_words}
 use Rattle.iim_audit.specs.declared.row.Taken.{Taken}
-use Rattle.iim_audit.specs.declared.fault.AuditCause.{AuditCause}
-use Rattle.iim_audit.specs.declared.fault.AuditCause.TheVariants as causes
+
+-- ---- How the faults of an intake are told.
+
+-- the cause for a fault of an intake
+abbrev pub cause_of : IntakeFault → AuditCause
+cause_of (intakes.Refused e) = causes.Refused e
+cause_of intakes.Read = causes.Read
+cause_of intakes.Interrupted = causes.Interrupted
+
+-- ---- What an audit keeps while it reads.
+
+-- The rows are those of the envelopes so far, none with its first one yet.
+pub record Keeps (now : ℤ) (ledger : Ledger) (values : List Value) : Type 0 where
+  pub rows : ledger.rows.items ≡ map (λ v. row_with now v None) values
 
 -- The parts of the value, and the words of its lines.
 pub record IsTaken (got : Taken) (v : Value) : Type 0 where

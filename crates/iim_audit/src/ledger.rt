@@ -20,7 +20,7 @@ pub(crate) struct Ledger {
 }
 
 impl Ledger {
-    ghost use Rattle.iim_audit.specs.Ledgers.{Keeps};
+    ghost use Rattle.iim_audit.specs.Taking.{Keeps};
     ghost use Rattle.iim_audit.specs.Lines.{HaveShortIds};
     ghost use Rattle.iim_audit.specs.Repeats.{ids_of, places_of};
 

@@ -11,15 +11,13 @@ use Rattle.iim_unpack.specs.States.Unpacking.{Unpacking, Stands, IsDone, IsDoneW
 use Rattle.iim_audit.specs.Format.Pieces.{HaveWords, StandsOn}
 use Rattle.iim_audit.specs.declared.pieces.PieceAudit.{PieceAudit}
 use Rattle.iim_c.specs.Format.Answers.{status_answer, refusal_answer, ticket_answer}
-use Rattle.iim_c.specs.Beginning.{IsBegun, IsNotBegun}
+use Rattle.iim_c.specs.Steps.{IsBegun, IsNotBegun, HasSaved, saved_with, short_with, HasFound, IsWithin, LivesOn, RoomBy, IsKept, kept_of, refused_for}
 use Rattle.iim_c.specs.Format.Statuses as status
-use Rattle.iim_c.specs.Saving.{HasSaved, saved_with, short_with}
 use Rattle.iim_c.specs.declared.answer.IimAnswer.{IimAnswer}
 use Rattle.iim_c.proofs.Places.{Begun, begun, is_done}
-use Rattle.iim_places.specs.Laws.All.{PlaceLaws}
+use Rattle.iim_places.specs.Laws.{PlaceLaws}
 use Rattle.iim_c.specs.Format.Auditing.{InHand, IsAuditedAt, IsSaidOf, GoesOn, StandFirst, UsesAll, UsesSome, RefusesOne, IsTold, IsShort, More, Full, Refused, Ended, BadTicket, NoMemory, with_more}
 use Rattle.iim_c.specs.Format.SoFar.{words_so_far, begins_at}
-use Rattle.iim_c.specs.AuditSteps.{HasFound, IsWithin, LivesOn, RoomBy, IsKept, kept_of, refused_for}
 use Rattle.iim_c.specs.declared.finding.Ending.{Ending}
 use Rattle.iim_c.specs.declared.finding.Ending.TheVariants as ending
 use Rattle.iim_c.specs.declared.finding.Found.{Found}

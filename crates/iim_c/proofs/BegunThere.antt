@@ -8,7 +8,7 @@ use Rattle.iim_dataset.specs.declared.head.Head.{Head}
 use Rattle.iim_fields.specs.Format.Faults.{section_after}
 use Rattle.iim_places.specs.Format.TicketForm.{Split, SplitsTicket, HasOtherVersion, IsFaultOf, IsVersion}
 use Rattle.iim_places.specs.Format.Tickets.{Place, Phase, TagBegun, DataBegun, AllEnded, IsPlaceOf, place_of, wide, four, ticket_name, phase_octets, fields_octets, number_octets, text_octets}
-use Rattle.iim_places.specs.Laws.Tickets.{TicketsHaveOneSplit, TicketsOfPlacesAreSplit, split_of}
+use Rattle.iim_places.specs.Laws.{TicketsHaveOneSplit, TicketsOfPlacesAreSplit, split_of}
 use Rattle.iim_places.specs.States.Restored.{IsTicketAt}
 use Rattle.iim_places.specs.declared.ticket.fault.TicketFault.{TicketFault}
 use Rattle.iim_places.specs.declared.ticket.fault.TicketFault.TheVariants.{Form, Version}
@@ -17,7 +17,7 @@ use Rattle.iim_c.specs.declared.span.IimSpan.{IimSpan}
 use Rattle.iim_c.specs.Format.TicketAnswers.{StandAt}
 use Rattle.iim_c.specs.declared.begun.IimBegun.{IimBegun}
 use Rattle.iim_c.specs.Format.Begun.{IsBegunOf, TellsOctets, begun_by, begun_of, kept_of}
-use Rattle.iim_c.specs.PlaceSteps.{span_of, taken_offset}
+use Rattle.iim_c.specs.Steps.{span_of, taken_offset}
 use Rattle.iim_c.proofs.TicketFields.{stands_after, length-wide}
 
 -- ---- where the octets stand

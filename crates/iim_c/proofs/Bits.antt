@@ -5,7 +5,7 @@ use Rattle.std.proofs.lemmas.Bool.{cases_eq, cases_lt}
 use Rattle.std.proofs.lemmas.List.{get_or-set_same, get_or-set_other, get_or-replicate, get_or_past, length-replicate}
 use Rattle.std.proofs.lemmas.Nat.Bits.{bit_at_set_same, bit_at_set_other, bit_at-zero}
 use Rattle.iim_c.specs.Format.Next.{bit_of, no_octets}
-use Rattle.iim_c.specs.PlaceSteps.{IsSet}
+use Rattle.iim_c.specs.Steps.{IsSet}
 
 -- the bits with that of an octet set
 abbrev pub with_bit : List ℕ → ℕ → List ℕ

@@ -5,7 +5,7 @@ use Rattle.wire_story.specs.Format.Delivery.{StoryEvent}
 use Rattle.iim_places.specs.Format.Open.{IsTruncatedAt}
 use Rattle.iim_places.specs.Format.Refusals.{refusal_at}
 use Rattle.iim_places.specs.Format.Streams.{Answer, Answers, Finished, Refused, Truncated}
-use Rattle.iim_places.specs.Laws.Streams.{StreamsHaveOneAnswer}
+use Rattle.iim_places.specs.Laws.{StreamsHaveOneAnswer}
 use Rattle.iim_unpack.specs.States.Unpacking.{Unpacking, Stands, Goes, IsRefusedIn, limits_in}
 use Rattle.iim_places.specs.States.Counts.{raised}
 use Rattle.iim_unpack.specs.declared.unpacker.Progress.TheVariants.{More, Done}

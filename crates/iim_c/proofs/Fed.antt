@@ -12,16 +12,14 @@ use Rattle.iim_unpack.specs.declared.unpacker.Progress.TheVariants as progress
 use Rattle.iim_places.specs.declared.refusal.Refusal.{Refusal}
 use Rattle.iim_places.specs.declared.ticket.fault.TicketFault.{TicketFault}
 use Rattle.iim_c.specs.declared.answer.IimAnswer.{IimAnswer}
-use Rattle.iim_c.specs.Beginning.{IsNotBegun}
-use Rattle.iim_c.specs.Saving.{IsSaved, saved_with, short_with}
-use Rattle.iim_c.specs.FeedSteps.{HasFedText, HasRefusedText, refused_with, used_in}
+use Rattle.iim_c.specs.Steps.{IsNotBegun, IsSaved, saved_with, short_with, HasFedText, HasRefusedText, refused_with, used_in}
 use Rattle.iim_c.specs.Format.Answers.{status_answer, refusal_answer, ticket_answer}
 use Rattle.iim_c.specs.Format.Statuses as status
 use Rattle.iim_c.specs.Format.Feeding.{Outcome, More, Done, Refused, BadTicket, NoMemory, IsOutcome, IsAnswered, IsFed, IsEnd, text_for, text_of, next_of, answer_of}
 use Rattle.iim_c.specs.Format.Writing.{HasTaken, StandIn, counted}
 use Rattle.iim_c.proofs.TextLengths.{delivers_few, events_few}
 use Rattle.iim_c.proofs.Places.{Begun, is_done}
-use Rattle.iim_dataset.specs.Laws.All.{DatasetLaws}
+use Rattle.iim_dataset.specs.Laws.{DatasetLaws}
 use Rattle.std.proofs.lemmas.List.{length-take}
 
 -- ---- what it comes to

@@ -1,7 +1,7 @@
 -- What packing comes to.
 use Rattle.std.proofs.Common.{◌≡◌, ℕ, List, length, refl, ap, subst, ◌∙◌}
 use Rattle.iim_dataset.specs.States.Devices.{Device}
-use Rattle.iim_pack_script.specs.Format.Packing.{Asked, asked, IsNotPacked, IsScriptRefusal, refusal_line}
+use Rattle.iim_pack_script.specs.Format.{Asked, asked, IsNotPacked, IsScriptRefusal, refusal_line}
 use Rattle.iim_request.specs.declared.pack_request.PackRequest.{PackRequest}
 use Rattle.iim_pack_script.specs.declared.packing.PackFault.{PackFault}
 use Rattle.iim_pack_script.specs.declared.packing.PackFault.TheVariants.{Refused, Around}

@@ -3,14 +3,13 @@ use Rattle.std.proofs.Common.{◌≡◌, ◌==◌, ℕ, true, length, arith, Lis
 use Rattle.std.proofs.lemmas.Bool.{eqb-true}
 use Rattle.iim_fields.specs.declared.limits.Limits.{Limits}
 use Rattle.iim_places.specs.Format.Framed.{Framed}
-use Rattle.iim_places.specs.Laws.All.{PlaceLaws}
+use Rattle.iim_places.specs.Laws.{PlaceLaws, TicketsTellOnePlace}
 use Rattle.iim_places.specs.Format.Open.{IsOpen}
 use Rattle.iim_places.specs.States.Restored.{IsTicketAt}
-use Rattle.iim_places.specs.Laws.Places.{TicketsTellOnePlace}
 use Rattle.iim_places.specs.States.Scales.{IsPossibleIn}
 use Rattle.iim_places.specs.Format.Tickets.{Place, IsPlaceOf, ticket_in}
 use Rattle.iim_unpack.specs.States.Unpacking.{Unpacking, Stands, IsDone, IsDoneWith, limits_in}
-use Rattle.iim_c.specs.Beginning.{IsBegun}
+use Rattle.iim_c.specs.Steps.{IsBegun}
 use Rattle.iim_c.specs.Format.Feeding.{LedTo, StandsAt, EndsAt, IsPlace}
 
 -- ---- a ticket tells one place

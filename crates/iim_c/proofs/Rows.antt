@@ -8,7 +8,7 @@ use Rattle.iim_audit.specs.Format.Pieces.{Finds, IsRowOf, Refuses, StandsOn}
 use Rattle.iim_audit.specs.declared.pieces.PieceAudit.{PieceAudit}
 use Rattle.iim_audit.specs.declared.pieces.PieceRow.{PieceRow}
 use Rattle.iim_c.specs.Format.Auditing.{AreRows, InHand, IsRow, StandFirst, after, with_more}
-use Rattle.iim_c.specs.AuditSteps.{HasFound, TellsFound}
+use Rattle.iim_c.specs.Steps.{HasFound, TellsFound}
 use Rattle.iim_c.specs.declared.finding.Ending.TheVariants.{Used, Full, Refused}
 use Rattle.iim_c.specs.declared.finding.Found.{Found}
 use Rattle.iim_c.specs.declared.row.IimAuditRow.{IimAuditRow}

@@ -6,8 +6,7 @@ use Rattle.std.proofs.lemmas.List.{length-map, length-take}
 use Rattle.iim_dataset.specs.Format.Characters.{stx, etx, lf, cr}
 use Rattle.iim_dataset.specs.Format.Datasets.{Dataset, SpellsStream, SpellsTag, head_of, count_octets, of_record}
 use Rattle.iim_dataset.specs.Format.Splits.{Begun, InTag, InData, IsBegun, Reads}
-use Rattle.iim_dataset.specs.Laws.All.{DatasetLaws}
-use Rattle.iim_dataset.specs.Laws.Datasets.{NoTagBeginsAnother}
+use Rattle.iim_dataset.specs.Laws.{DatasetLaws, NoTagBeginsAnother}
 use Rattle.iim_dataset.specs.declared.head.Head.{Head}
 use Rattle.iim_dataset.proofs.Agreeing.{compare}
 use Rattle.iim_fields.specs.Format.Faults.{joined}

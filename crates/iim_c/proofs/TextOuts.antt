@@ -11,7 +11,7 @@ use Rattle.iim_places.specs.declared.refusal.Cause.TheVariants.{Message}
 use Rattle.wire_message.specs.declared.fault.MessageCause.TheVariants.{Sink}
 use Rattle.iim_c.specs.declared.text_out.TextOut.{TextOut}
 use Rattle.iim_c.specs.Format.Writing.{HasTaken, WritesLines}
-use Rattle.iim_c.specs.FeedSteps.{HasFedText, HasRefusedText}
+use Rattle.iim_c.specs.Steps.{HasFedText, HasRefusedText}
 
 -- ---- causes
 

@@ -7,7 +7,7 @@ use Rattle.iim_dataset.specs.Format.Datasets.{Dataset}
 use Rattle.iim_places.specs.Format.TicketForm.{Split, SplitsTicket, split_octets}
 use Rattle.iim_places.specs.Format.Tickets.{Phase, TagBegun, DataBegun, AllEnded, width, wide, four, ticket_name, phase_octets, field_octets, number_octets, text_octets}
 use Rattle.iim_c.specs.Format.TicketAnswers.{StandAt}
-use Rattle.iim_c.specs.TicketSteps.{begun_octets, fields_start}
+use Rattle.iim_c.specs.Steps.{begun_octets, fields_start}
 
 -- ---- what stands before and after them
 

@@ -5,7 +5,7 @@ use Rattle.iim_places.specs.Format.TicketForm.{Split, SplitsTicket}
 use Rattle.iim_places.specs.Format.Tickets.{four, wide, ticket_name, phase_octets, fields_octets, number_octets, text_octets}
 use Rattle.iim_c.specs.Format.TicketAnswers.{StandAt}
 use Rattle.iim_c.specs.declared.span.IimSpan.{IimSpan}
-use Rattle.iim_c.specs.TicketSteps.{span_before}
+use Rattle.iim_c.specs.Steps.{span_before}
 use Rattle.iim_c.proofs.TicketFields.{stands_after}
 
 -- After so many octets of the ticket these stand, to its end.

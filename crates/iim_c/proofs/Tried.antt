@@ -5,7 +5,7 @@ use Rattle.iim_fields.specs.declared.limits.Limits.{Limits}
 use Rattle.wire_story.specs.Format.Delivery.{StoryEvent}
 use Rattle.iim_places.specs.Format.Open.{IsOpen, RefusesNext}
 use Rattle.iim_places.specs.Format.Streams.{IsEnvelopeWithin}
-use Rattle.iim_places.specs.Laws.Streams.{NothingContinuesFromRefusedOctets, OpenOctetsBeginWithNoEnvelope}
+use Rattle.iim_places.specs.Laws.{NothingContinuesFromRefusedOctets, OpenOctetsBeginWithNoEnvelope, PlaceLaws}
 use Rattle.iim_places.specs.States.Counts.{raised}
 use Rattle.iim_places.specs.declared.refusal.Refusal.{Refusal}
 use Rattle.iim_places.specs.declared.refusal.Cause.TheVariants.{Message}
@@ -15,15 +15,13 @@ use Rattle.iim_unpack.specs.States.Parts.{CountsFor}
 use Rattle.iim_unpack.specs.States.Unpacking.{Unpacking, Stands, Goes, IsDone, IsDoneWith, IsRefusedIn, limits_in}
 use Rattle.iim_unpack.specs.declared.unpacker.Progress.{Progress}
 use Rattle.iim_unpack.specs.declared.unpacker.Progress.TheVariants.{More, Done}
-use Rattle.iim_c.specs.Beginning.{IsNotBegun}
+use Rattle.iim_c.specs.Steps.{IsNotBegun, SaidOf, TellsFirst, IsSet, bit_for}
 use Rattle.iim_c.specs.declared.answer.IimAnswer.{IimAnswer}
 use Rattle.iim_c.specs.Format.Answers.{ticket_answer}
 use Rattle.iim_c.proofs.Places.{Begun, is_done}
 use Rattle.iim_c.proofs.TextOuts.{not_sink}
-use Rattle.iim_places.specs.Laws.All.{PlaceLaws}
 use Rattle.iim_c.proofs.Bits.{no_bit}
 use Rattle.iim_c.specs.Format.Next.{IsTaken, IsRefusedNext, IsNext, TellsNext, HasEndedThere, GoesOnBy, bit_of, no_octets}
-use Rattle.iim_c.specs.PlaceSteps.{SaidOf, TellsFirst, IsSet, bit_for}
 
 -- ---- one octet
 

@@ -1,6 +1,6 @@
 -- The steps of a call that packs.
 use Rattle.std.specs.Prelude.{◌≡◌, ℕ, ◌<◌, ◌≤◌, ◌⊎◌, List, [], ◌++◌, length, drop}
-use Rattle.iim_pack_script.specs.Format.Packing.{asked}
+use Rattle.iim_pack_script.specs.Format.{asked}
 use Rattle.iim_pack_script.specs.declared.packing.PackFault.{PackFault}
 use Rattle.iim_pack_script.specs.declared.packing.PackFault.TheVariants.{Refused, Around}
 use Rattle.iim_request.specs.declared.pack_request.PackRequest.{PackRequest}

@@ -3,7 +3,7 @@
 ghost use Rattle.std.specs.Prelude.{◌≡◌, None};
 ghost use Rattle.iim_c.specs.Format.Checking.{limits_for};
 ghost use Rattle.iim_c.specs.Format.Auditing.{IsAudited, IsAuditedAt};
-ghost use Rattle.iim_c.specs.AuditSteps.{IsKept, refused_for};
+ghost use Rattle.iim_c.specs.Steps.{IsKept, refused_for};
 
 use crate::answer::{IimAnswer, refusal_answer, status_answer, ticket_answer};
 use crate::begin::begin;

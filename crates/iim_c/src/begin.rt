@@ -1,7 +1,7 @@
 //! The unpacker that a ticket begins.
 
 ghost use Rattle.std.specs.Prelude.{IfOk, IfErr};
-ghost use Rattle.iim_c.specs.Beginning.{IsBegun, IsNotBegun};
+ghost use Rattle.iim_c.specs.Steps.{IsBegun, IsNotBegun};
 
 use iim_fields::Limits;
 use iim_unpack::{TicketFault, Unpacker};

@@ -6,7 +6,7 @@ ghost use Rattle.iim_places.specs.Format.Tickets.{DataBegun, IsPlaceOf, Place, T
 ghost use Rattle.iim_places.specs.States.Restored.{IsTicketAt};
 ghost use Rattle.iim_places.specs.States.TicketsTold.{phase_told, split_told};
 ghost use Rattle.iim_c.specs.Format.Begun.{IsBegunOf, IsBegunTold, TellsOctets, TellsToken, begun_by};
-ghost use Rattle.iim_c.specs.PlaceSteps.{span_of, taken_offset};
+ghost use Rattle.iim_c.specs.Steps.{span_of, taken_offset};
 
 use crate::answer::{IimAnswer, status_answer, ticket_answer};
 use crate::span::IimSpan;

@@ -4,8 +4,7 @@ ghost use Rattle.std.specs.Prelude.{◌≡◌, None, Ok, IfOk, IfErr, OnOk};
 ghost use Rattle.iim_unpack.specs.States.Unpacking.{IsDone, limits_in};
 ghost use Rattle.iim_c.specs.Format.Checking.{limits_for};
 ghost use Rattle.iim_c.specs.Format.Feeding.{IsFed};
-ghost use Rattle.iim_c.specs.Saving.{IsSaved, short_with};
-ghost use Rattle.iim_c.specs.FeedSteps.{HasFedText, HasRefusedText, refused_with, used_in};
+ghost use Rattle.iim_c.specs.Steps.{IsSaved, short_with, HasFedText, HasRefusedText, refused_with, used_in};
 
 use crate::answer::{IimAnswer, refusal_answer, status_answer, ticket_answer};
 use crate::begin::begin;

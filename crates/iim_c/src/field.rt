@@ -4,7 +4,7 @@ ghost use Rattle.std.specs.Prelude.{◌≡◌, ◌+◌, ◌^◌, ◌<◌, IfSome
 ghost use Rattle.iim_places.specs.Format.TicketForm.{SplitsTicket};
 ghost use Rattle.iim_places.specs.States.TicketsTold.{phase_told, split_told};
 ghost use Rattle.iim_c.specs.Format.TicketAnswers.{IsField, IsFieldAt};
-ghost use Rattle.iim_c.specs.TicketSteps.{HasFewer, begun_octets, fields_start};
+ghost use Rattle.iim_c.specs.Steps.{HasFewer, begun_octets, fields_start};
 
 use crate::answer::{IimAnswer, status_answer, ticket_answer};
 use crate::span::{IimSpan, NO_SPAN};

@@ -3,7 +3,7 @@
 ghost use Rattle.std.specs.Prelude.{◌≡◌, ◌≤◌, ◌<◌, ℕ, List, length, drop, None, OnErr};
 ghost use Rattle.iim_audit.specs.Format.Pieces.{StandsOn};
 ghost use Rattle.iim_unpack.specs.States.Unpacking.{limits_in};
-ghost use Rattle.iim_c.specs.AuditSteps.{HasFound, IsWithin, LivesOn};
+ghost use Rattle.iim_c.specs.Steps.{HasFound, IsWithin, LivesOn};
 
 use crate::row::{IimAuditRow, row_for};
 use iim_audit::PieceAudit;

@@ -4,7 +4,7 @@ ghost use Rattle.std.specs.Prelude.{◌≡◌, ◌-◌};
 ghost use Rattle.iim_places.specs.Format.TicketForm.{SplitsTicket};
 ghost use Rattle.iim_places.specs.States.TicketsTold.{split_told};
 ghost use Rattle.iim_c.specs.Format.TicketAnswers.{IsHeader, IsMessageOf};
-ghost use Rattle.iim_c.specs.TicketSteps.{span_before};
+ghost use Rattle.iim_c.specs.Steps.{span_before};
 
 use crate::answer::{IimAnswer, status_answer, ticket_answer};
 use crate::span::{IimSpan, NO_SPAN};

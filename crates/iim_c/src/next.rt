@@ -1,10 +1,9 @@
 //! The octets that can come next.
 
 ghost use Rattle.std.specs.Prelude.{◌≡◌, true, false, IfOk, IfErr};
-ghost use Rattle.iim_c.specs.Beginning.{IsNotBegun};
+ghost use Rattle.iim_c.specs.Steps.{IsNotBegun, AreTried, IsSet, IsTried};
 ghost use Rattle.iim_c.specs.Format.Checking.{limits_for};
 ghost use Rattle.iim_c.specs.Format.Next.{IsNext};
-ghost use Rattle.iim_c.specs.PlaceSteps.{AreTried, IsSet, IsTried};
 
 use crate::answer::{IimAnswer, status_answer, ticket_answer};
 use crate::begin::begin;

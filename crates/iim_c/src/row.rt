@@ -3,7 +3,7 @@
 ghost use Rattle.std.specs.Prelude.{◌≡◌, ◌≤◌, length};
 ghost use Rattle.iim_audit.specs.Lines.{IsShort};
 ghost use Rattle.iim_c.specs.Format.Rows.{copy_number, padded};
-ghost use Rattle.iim_c.specs.AuditSteps.{TellsFound};
+ghost use Rattle.iim_c.specs.Steps.{TellsFound};
 
 use crate::instant::{IimInstant, told};
 use iim_audit::{CopyState, PieceRow};

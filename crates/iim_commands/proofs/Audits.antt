@@ -1,23 +1,23 @@
 -- What stops an audit's report.
-use Rattle.std.proofs.Common.{◌≡◌, ℕ, ◌+◌, ◌<◌, ℤ, inl, inr, refl, sym, ap, subst, ◌∙◌, List, [], ◌∷◌, ◌++◌, length, take, drop, append_assoc, arith, Result, Ok, Err, OnOk, IfErr}
+use Rattle.std.proofs.Common.{◌≡◌, ℕ, ◌+◌, ◌<◌, ℤ, inl, inr, refl, sym, ap, subst, ◌∙◌, List, [], ◌∷◌, ◌++◌, length, take, drop, append_assoc, arith, Result, Ok, Err, OnOk, IfErr, Option, None, Some}
 use Rattle.std.proofs.lemmas.List.{take-append-drop}
 use Rattle.iim_dataset.specs.States.Devices.{Device}
-use Rattle.iim_dataset.specs.Laws.Devices.{TextsJoin}
+use Rattle.iim_dataset.specs.Laws.{TextsJoin}
 use Rattle.iim_audit.specs.Format.Auditing.{FailsAt}
 use Rattle.iim_audit.specs.declared.fault.AuditCause.{AuditCause}
 use Rattle.iim_audit.specs.declared.fault.AuditCause.TheVariants as causes
 use Rattle.iim_audit.specs.Format.Texts.{lines_from, printed_report, row_line, sums_line}
 use Rattle.iim_audit.specs.declared.row.AuditRow.{AuditRow}
-use Rattle.iim_commands.specs.Format.Audits.{IsAuditAnswer, IsUnaudited}
-use Rattle.iim_commands.specs.Untold.{CannotTell}
-use Rattle.iim_output.specs.States.Holding.{HasPut, HoldsNothing, device_of}
-use Rattle.iim_output.specs.States.Holding.{IsCutShort, IsUnadded}
+use Rattle.iim_commands.specs.Format.{IsAuditAnswer, IsUnaudited}
+use Rattle.iim_commands.specs.Endings.{CannotTell}
+use Rattle.iim_output.specs.States.Holding.{HasPut, HoldsNothing, device_of, IsCutShort, IsUnadded}
 use Rattle.iim_output.specs.Format.Limits.{limits}
-use Rattle.iim_output.specs.Format.Said.{IsUnsaid}
+use Rattle.iim_output.specs.Format.Statuses.{IsUnsaid}
 use Rattle.iim_output.specs.HoldingLaws.{put_on}
 use Rattle.iim_output.specs.declared.block_writer.BlockWriter.{BlockWriter}
 use Rattle.iim_output.proofs.Holding.{cut_on, stopped_in}
 use Rattle.iim_output.specs.declared.fault.CommandFault.{CommandFault}
+use Rattle.iim_unpack.specs.States.Blocks.{with_held, put_before}
 
 -- the output broke inside the answer
 pub unsaid : (now : ℤ) (source rest old new : Device) (words : List ℕ) (status : ℕ) (fault : CommandFault) → IsAuditAnswer now source rest words status
@@ -104,3 +104,12 @@ cut_in_last state texts a b c rows k line (Err fault) all is put unadded = (
 pub unsaid_in : {W : Type 0} (state : W → Device) (a b : BlockWriter W) (words : List ℕ) (fault : CommandFault) → HoldsNothing a → IsUnadded state a b words fault
     → IsUnsaid (device_of state a) (device_of state b) words fault
 unsaid_in state a b words fault before unadded = (unadded.0, length unadded.1.out, stopped_in state a b words before unadded.1)
+
+-- ---- The device of a reader, and that of an intake that holds nothing.
+
+pub none_before : (known : Option (List ℕ)) → put_before [] known ≡ known
+none_before None = refl
+none_before (Some xs) = refl
+
+pub with_none_held : (held : List ℕ) (d : Device) → held ≡ [] → with_held held d ≡ d
+with_none_held held d is = rw is (λ i. record { octets = none_before d.octets i; failures = d.failures; interruptions = d.interruptions })

@@ -1,3 +1,2 @@
 pub mod Audits
-pub mod Runs
 pub mod Scripts

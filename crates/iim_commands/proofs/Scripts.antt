@@ -10,14 +10,14 @@ use Rattle.iim_fields.specs.Format.Records.{AreRecords, AreSections}
 use Rattle.iim_tables.specs.Format.Records.{IsGoodDataset}
 use Rattle.iim_fields.specs.Format.Bounds.{IsWithin}
 use Rattle.wire_story.specs.Format.Texts.{IsLine, IsText}
-use Rattle.iim_script.specs.Laws.Scripts.{PrintedValuesAreScripts, ScriptsTellOneThing, ScriptsHaveNoFault, IsOneScript}
+use Rattle.iim_script.specs.Laws.{PrintedValuesAreScripts, ScriptsTellOneThing, ScriptsHaveNoFault, IsOneScript}
 use Rattle.iim_script.specs.Format.Printed.{field_line, message_line, trailer_line, value_lines}
 use Rattle.iim_script.specs.Format.Scripts.{max_script}
 use Rattle.iim_output.specs.Format.Limits.{limits}
 use Rattle.iim_places.specs.Format.Listing.{Listed, IsListed}
 use Rattle.iim_listing.specs.Format.Narration.{story_of}
-use Rattle.iim_pack_script.specs.Format.Packing.{ScriptContent, IsScriptOf}
-use Rattle.iim_commands.specs.Laws.Scripts.{told_of, TellsJust, ShownEnvelopesAreScripts}
+use Rattle.iim_pack_script.specs.Format.{ScriptContent, IsScriptOf}
+use Rattle.iim_commands.specs.Laws.{told_of, TellsJust, ShownEnvelopesAreScripts}
 use Rattle.iim_listing.specs.Format.Texts.{number_line, sizes_line, shown_of}
 
 -- ---- the datasets that are kept

@@ -1,2 +1,86 @@
-pub mod Audits
-pub mod Outcomes
+use Rattle.std.specs.Prelude.{◌≡◌, ℕ, ℤ, ◌⊎◌, List}
+use Rattle.iim_dataset.specs.States.Devices.{Device, Wrote, Stopped, HasGiven}
+use Rattle.iim_audit.specs.Format.Auditing.{IsAudited, FailsAt}
+use Rattle.iim_audit.specs.Format.Texts.{printed_report}
+use Rattle.iim_audit.specs.declared.fault.AuditCause.{AuditCause}
+use Rattle.iim_audit.specs.declared.fault.AuditCause.TheVariants as causes
+use Rattle.iim_audit.specs.declared.row.AuditRow.{AuditRow}
+use Rattle.iim_output.specs.Format.Lines.{refused_line, too_many_line, fault_line}
+use Rattle.iim_output.specs.Format.Limits.{limits}
+use Rattle.iim_output.specs.declared.fault.CommandFault.{CommandFault}
+use Rattle.iim_output.specs.declared.fault.CommandFault.TheVariants.{CannotRead, CannotWrite, OutOfMemory}
+use Rattle.iim_output.specs.Format.Statuses.{status_accepted, status_refused, status_failed}
+use Rattle.iim_request.specs.declared.request.Job.{Job}
+use Rattle.iim_request.specs.declared.request.Job.TheVariants.{Check, Show, Story, Pack, Audit}
+use Rattle.iim_output.specs.States.Devices.{Devices}
+use Rattle.iim_places.specs.Format.Listing.{Listed}
+use Rattle.iim_listing.specs.Format.Listings.{line_of}
+use Rattle.iim_listing.specs.Format.Narration.{IsUnnarrated, Narrated}
+use Rattle.iim_pack_script.specs.Format.{Answered, Asked, IsUnanswered, asked}
+use Rattle.iim_listing.specs.Format.WrittenListings.{WritesListing, FailsListing}
+use Rattle.iim_listing.specs.Format.Texts.{shown_of}
+
+-- ---- What `audit` leaves.
+
+-- The line tells why there is no report, at the envelope of this number: its octets are refused, or it is one too many.
+abbrev pub TellsWhy : ℕ → AuditCause → List ℕ → Type 0
+TellsWhy number (causes.Refused e) words = words ≡ refused_line number e
+TellsWhy number causes.TooManyEnvelopes words = words ≡ too_many_line
+TellsWhy number causes.Read words = ⊥
+TellsWhy number causes.Interrupted words = ⊥
+TellsWhy number causes.OutOfMemory words = ⊥
+
+-- The report of the input, at this instant; or the line that tells why it has none.
+abbrev pub IsAuditAnswer : ℤ → Device → Device → List ℕ → ℕ → Type 0
+IsAuditAnswer now source rest words status =
+    ((rows : List AuditRow) × IsAudited limits now source rest rows × (words ≡ printed_report rows) × (status ≡ status_accepted))
+    ⊎ ((number : ℕ) × (cause : AuditCause) × FailsAt limits source rest number cause × TellsWhy number cause words × (status ≡ status_refused))
+
+-- That is out, and nothing else. (The input before and after, then the output.)
+abbrev pub Audited : ℤ → Device → Device → Device → Device → ℕ → Type 0
+Audited now source rest old new status = (words : List ℕ) × IsAuditAnswer now source rest words status × Wrote old new words
+
+-- Why it isn't out. The reader failed, or memory was short: nothing is out. Or the output broke inside it.
+abbrev pub IsUnaudited : ℤ → Device → Device → Device → Device → CommandFault → Type 0
+IsUnaudited now source rest old new CannotRead = (number : ℕ) × (FailsAt limits source rest number causes.Read ⊎ FailsAt limits source rest number causes.Interrupted)
+    × (new ≡ old)
+IsUnaudited now source rest old new CannotWrite = (words : List ℕ) × (status : ℕ) × (n : ℕ) × IsAuditAnswer now source rest words status × Stopped old new words n
+IsUnaudited now source rest old new OutOfMemory = (input : List ℕ) × HasGiven source rest input × (new ≡ old)
+
+-- ---- What a run leaves.
+
+-- The line of the fault is out, or the device broke inside it.
+abbrev pub Complained : Device → Device → CommandFault → Type 0
+Complained old new fault = Wrote old new (fault_line fault) ⊎ ((n : ℕ) × Stopped old new (fault_line fault) n)
+
+-- The input was listed, without a word on the errors; or a fault came and was told there, and the status is 3.
+-- twins (with ToldAsStory, Reviewed, EndsPacking): `tells_a_read_that_fails`, `tells_a_write_that_fails`,
+--   `leaves_the_front_of_an_envelope_that_can_t_be_written`
+abbrev pub EndsListing : (ℕ → Listed → List ℕ) → Devices → Devices → ℕ → Type 0
+EndsListing text old new status = (WritesListing text old.input new.input old.output new.output status × (new.errors ≡ old.errors))
+    ⊎ ((fault : CommandFault) × FailsListing text old.input new.input old.output new.output fault × Complained old.errors new.errors fault × (status ≡ status_failed))
+
+-- The stories of the input were told, with the lines of `check` on the errors; or a fault came and was told there after them, and the
+-- status is 3.
+abbrev pub ToldAsStory : Devices → Devices → ℕ → Type 0
+ToldAsStory old new status = Narrated old.input new.input old.output new.output old.errors new.errors status
+    ⊎ ((fault : CommandFault) × (errors : Device) × IsUnnarrated old.input new.input old.output new.output old.errors errors fault
+    × Complained errors new.errors fault × (status ≡ status_failed))
+
+-- The audit of the input was reported, without a word on the errors; or a fault came and was told there, and the status is 3.
+abbrev pub Reviewed : ℤ → Devices → Devices → ℕ → Type 0
+Reviewed now old new status = (Audited now old.input new.input old.output new.output status × (new.errors ≡ old.errors))
+    ⊎ ((fault : CommandFault) × IsUnaudited now old.input new.input old.output new.output fault × Complained old.errors new.errors fault × (status ≡ status_failed))
+
+-- The script was answered; or a fault came and was told on the errors, and the status is 3.
+abbrev pub EndsPacking : Asked → Devices → Devices → ℕ → Type 0
+EndsPacking asked old new status = Answered asked old new status
+    ⊎ ((fault : CommandFault) × IsUnanswered asked old new fault × Complained old.errors new.errors fault × (status ≡ status_failed))
+
+-- What each job leaves.
+abbrev pub Ran : Job → Devices → Devices → ℕ → Type 0
+Ran Check old new status = EndsListing line_of old new status
+Ran Show old new status = EndsListing shown_of old new status
+Ran Story old new status = ToldAsStory old new status
+Ran (Pack request) old new status = EndsPacking (asked request.subfile request.unknown request.max) old new status
+Ran (Audit now) old new status = Reviewed now.nanosecond old new status

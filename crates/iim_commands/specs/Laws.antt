@@ -1,1 +1,29 @@
-pub mod Scripts
+-- What `show` and `story` print of an envelope makes a script of it.
+use Rattle.std.specs.Prelude.{◌≡◌, ℕ, ◌+◌, ◌≤◌, List, ◌++◌, length, codes}
+use Rattle.iim_script.specs.Format.Faults.{IsScriptFault}
+use Rattle.iim_script.specs.Format.Scripts.{max_script}
+use Rattle.iim_script.specs.declared.fault.ScriptCause.{ScriptCause}
+use Rattle.iim_script.specs.declared.fault.ScriptCause.TheVariants.{OutOfMemory}
+use Rattle.iim_places.specs.Format.Admitted.{Value}
+use Rattle.iim_output.specs.Format.Limits.{limits}
+use Rattle.iim_places.specs.Format.Listing.{Listed, IsListed}
+use Rattle.iim_listing.specs.Format.Narration.{story_of}
+use Rattle.iim_pack_script.specs.Format.{ScriptContent, IsScriptOf}
+use Rattle.iim_listing.specs.Format.Texts.{number_line, sizes_line, shown_of}
+
+-- what a script tells of these values, where each dataset, the header and the trailer has a line
+-- twins (with ShownEnvelopesAreScripts): law `shown_envelopes_are_scripts`; `gives_back_what_was_packed`, `gives_back_octets_of_every_kind`
+abbrev pub told_of : Value → ScriptContent
+told_of v = record { fields = v.fields; head = v.head; trailer = v.trailer; lines = v.lines; text_line = length v.fields + 3 }
+
+-- The octets are a script that tells this, and nothing else; it has no fault, but that memory may be refused.
+pub record TellsJust (script : List ℕ) (t : ScriptContent) : Type 0 where
+  pub told : IsScriptOf script t
+  pub only : (other : ScriptContent) → IsScriptOf script other → other ≡ t
+  pub sound : (line : ℕ) (cause : ScriptCause) → IsScriptFault limits script line cause → cause ≡ OutOfMemory
+
+-- What `show` prints of an envelope is its first line, other lines, and the line of its sizes. The other lines, the line `text`, and
+-- what `story` prints of the envelope are a script that tells just its values, where they are not too long for one.
+abbrev pub ShownEnvelopesAreScripts : Type 0
+ShownEnvelopesAreScripts = (number : ℕ) (e : Listed) → IsListed limits e → (lines : List ℕ) × (shown_of number e ≡ number_line number ++ (lines ++ sizes_line e.value.sizes))
+    × (length (lines ++ (codes "text\n" ++ story_of number e)) ≤ max_script → TellsJust (lines ++ (codes "text\n" ++ story_of number e)) (told_of e.value))

@@ -4,4 +4,3 @@ pub mod Format
 pub mod Laws
 -- What only proofs and private clauses cite.
 pub mod Endings
-pub mod Untold

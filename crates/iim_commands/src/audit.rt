@@ -3,10 +3,9 @@
 ghost use Rattle.std.specs.Prelude.{◌≡◌, None, IfOk, IfErr, OnOk};
 ghost use Rattle.iim_audit.specs.Format.Texts.{printed_report};
 ghost use Rattle.iim_unpack.specs.States.Intakes.{in_line};
-ghost use Rattle.iim_commands.specs.Format.Audits.{Audited, IsUnaudited, TellsWhy};
-ghost use Rattle.iim_output.specs.States.Holding.{HasPut, HoldsNothing, KeepsWriter, device_of};
-ghost use Rattle.iim_output.specs.States.Holding.{IsUnadded};
-ghost use Rattle.iim_commands.specs.Untold.{CannotTell};
+ghost use Rattle.iim_commands.specs.Format.{Audited, IsUnaudited, TellsWhy};
+ghost use Rattle.iim_output.specs.States.Holding.{HasPut, HoldsNothing, KeepsWriter, device_of, IsUnadded};
+ghost use Rattle.iim_commands.specs.Endings.{CannotTell};
 
 use iim_audit::{AuditCause, AuditFault, Report, audit};
 use iim_dataset::device_laws::{gifts_join, texts_join};

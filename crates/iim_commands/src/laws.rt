@@ -1,6 +1,6 @@
 //! What holds of all inputs.
 
-ghost use Rattle.iim_commands.specs.Laws.Scripts.{ShownEnvelopesAreScripts};
+ghost use Rattle.iim_commands.specs.Laws.{ShownEnvelopesAreScripts};
 
 pub use iim_listing::laws::envelopes_are_delivered_as_lines;
 use iim_script::laws::script_laws;

@@ -2,9 +2,9 @@
 
 ghost use Rattle.std.specs.Prelude.{◌≡◌, ℕ, List};
 ghost use Rattle.iim_unpack.specs.States.Blocks.{with_held};
-ghost use Rattle.iim_commands.specs.Format.Outcomes.{Complained, EndsListing, EndsPacking, Ran, Reviewed, ToldAsStory};
+ghost use Rattle.iim_commands.specs.Format.{Complained, EndsListing, EndsPacking, Ran, Reviewed, ToldAsStory};
 ghost use Rattle.iim_commands.specs.Endings.{EndsRun};
-ghost use Rattle.iim_pack_script.specs.Format.Packing.{asked};
+ghost use Rattle.iim_pack_script.specs.Format.{asked};
 ghost use Rattle.iim_output.specs.States.Devices.{devices};
 ghost use Rattle.iim_output.specs.Format.Statuses.{status_failed};
 

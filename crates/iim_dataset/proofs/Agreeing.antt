@@ -1,7 +1,7 @@
 -- Two streams of datasets that agree: the one is the other and more, for the proofs of every crate. Nothing here is to be believed.
 use Rattle.std.proofs.Common.{◌≡◌, ℕ, ◌⊎◌, List, [], ◌∷◌, ◌++◌, refl, sym, inl, inr, append_assoc}
 use Rattle.iim_dataset.specs.Format.Datasets.{Dataset, SpellsDataset, SpellsStream, count_octets}
-use Rattle.iim_dataset.specs.Laws.Datasets.{NoDatasetBeginsAnother}
+use Rattle.iim_dataset.specs.Laws.{NoDatasetBeginsAnother}
 
 -- The one stream is the other and further datasets.
 abbrev pub Longer : List Dataset → List Dataset → List ℕ → List ℕ → Type 0

@@ -8,7 +8,7 @@ use Rattle.iim_dataset.proofs.WrittenNumbers.{some_octets, few_octets, number_oc
 use Rattle.iim_dataset.specs.Format.Octets.{IsOctet}
 use Rattle.iim_dataset.specs.Format.Datasets.{Dataset, SpellsCount, SpellsTag, SpellsDataset, canonical_count, canonical_tag, canonical_dataset, canonical_stream, count_octets, head_of}
 use Rattle.iim_dataset.specs.Format.Tags.{HasNoTag}
-use Rattle.iim_dataset.specs.Laws.Datasets.{CanonicalTagsReadBack, CanonicalStreamsAreSpelled, HasSpellings}
+use Rattle.iim_dataset.specs.Laws.{CanonicalTagsReadBack, CanonicalStreamsAreSpelled, HasSpellings}
 use Rattle.iim_dataset.specs.declared.head.Head.{Head}
 use Rattle.iim_dataset.specs.declared.head.HeadFault.{HeadFault}
 use Rattle.std.specs.Prelude.{◌↔◌, IsTrue, nat_le}

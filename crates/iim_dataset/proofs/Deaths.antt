@@ -3,7 +3,7 @@ use Rattle.std.proofs.Common.{◌≡◌, ℕ, ◌⊎◌, List, [], ◌∷◌, �
 use Rattle.iim_dataset.specs.Format.Octets.{IsOctet}
 use Rattle.iim_dataset.specs.Format.Datasets.{Dataset, SpellsTag, SpellsDataset, head_of, count_octets}
 use Rattle.iim_dataset.specs.Format.Splits.{Begun, InTag, InData, Reads}
-use Rattle.iim_dataset.specs.Laws.Datasets.{NoOctetsContinue, AreDatasets, ReadOctetsSplit, OctetsDieInTheirTag, ReadersDieExactly}
+use Rattle.iim_dataset.specs.Laws.{NoOctetsContinue, AreDatasets, ReadOctetsSplit, OctetsDieInTheirTag, ReadersDieExactly}
 use Rattle.iim_dataset.specs.declared.head.Head.{Head}
 use Rattle.iim_dataset.proofs.Spelled.{one_tag, one_dataset, whole_read, with_data, stream_more}
 use Rattle.iim_dataset.proofs.OneHanding.{read_octets_continue, not_within, splits}

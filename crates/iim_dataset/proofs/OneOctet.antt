@@ -9,8 +9,7 @@ use Rattle.iim_dataset.specs.Format.Splits.{Begun, InTag, InData}
 use Rattle.iim_dataset.specs.Format.Tags.{BeginsTag}
 use Rattle.iim_dataset.specs.States.Events.{DatasetEvent, HeadRead, DataOctet, DatasetEnd, events_of}
 use Rattle.iim_dataset.specs.States.Places.{HandsOn, LeadsTo}
-use Rattle.iim_dataset.specs.Laws.Completing.{CompletesNow}
-use Rattle.iim_dataset.specs.Laws.Datasets.{WhatAnOctetCompletes}
+use Rattle.iim_dataset.specs.Laws.{CompletesNow, WhatAnOctetCompletes}
 use Rattle.iim_dataset.specs.declared.head.Head.{Head}
 use Rattle.iim_dataset.specs.declared.place.DatasetPlace.TheVariants.{Tag, Inside}
 use Rattle.iim_dataset.proofs.OneHanding.{one_handing}

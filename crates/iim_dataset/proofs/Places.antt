@@ -18,7 +18,7 @@ use Rattle.iim_dataset.specs.declared.place.DatasetPlace.{DatasetPlace}
 use Rattle.iim_dataset.specs.declared.place.DatasetPlace.TheVariants.{Tag, Inside}
 use Rattle.iim_dataset.proofs.Spelled.{with_data, stream_more, held_of, whole_read}
 use Rattle.iim_dataset.proofs.OctetLists.{octets_append, zeros_are}
-use Rattle.iim_dataset.specs.Laws.Datasets.{PlacesAreReached, OctetsLeadToOnePlace}
+use Rattle.iim_dataset.specs.Laws.{PlacesAreReached, OctetsLeadToOnePlace}
 use Rattle.iim_dataset.proofs.OneHanding.{one_handing}
 
 -- ---- what is begun, and what was handed on of it

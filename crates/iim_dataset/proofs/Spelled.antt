@@ -6,7 +6,7 @@ use Rattle.iim_dataset.specs.Format.Splits.{InTag, IsBegun, Reads, IsPart, Split
 use Rattle.iim_dataset.specs.Format.Tags.{BeginsTag}
 use Rattle.iim_dataset.specs.declared.head.Head.{Head}
 use Rattle.iim_dataset.proofs.Fronts.{begun_none}
-use Rattle.iim_dataset.specs.Parting.{same_front}
+use Rattle.iim_dataset.specs.HandedIn.{same_front}
 
 pub dataset_is : (d e : Dataset) → d.rec ≡ e.rec → d.set ≡ e.set → d.octets ≡ e.octets → d ≡ e
 dataset_is d e r s o = rw (r, s, o) refl

@@ -4,7 +4,5 @@ pub mod Datasets
 pub mod Splits
 pub mod Languages
 pub mod Tags
-pub mod Completing
 pub mod Counts
-pub mod DeviceNames
 pub mod Shown

@@ -9,7 +9,4 @@ pub mod Fronts
 pub mod TagEnds
 pub mod Calls
 -- What impls of sources, targets and sinks hand in.
-pub mod Later
-pub mod Appending
-pub mod Rising
-pub mod Parting
+pub mod HandedIn

@@ -3,7 +3,7 @@
 ghost use Rattle.std.specs.Prelude.{◌≡◌, ◌≢◌, ◌↔◌, Some};
 ghost use Rattle.std.specs.IoError.{error_kind};
 ghost use Rattle.iim_dataset.specs.States.Devices.{CountedFailure, Faulted};
-ghost use Rattle.iim_dataset.specs.Format.DeviceNames.{text_of_fault};
+ghost use Rattle.iim_dataset.specs.Format.Shown.{text_of_fault};
 ghost use Rattle.iim_dataset.specs.Calls.{counted, no_faults};
 
 use std::fmt::{Display, Formatter};

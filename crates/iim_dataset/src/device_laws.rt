@@ -1,6 +1,6 @@
 //! What several calls of one device come to.
 
-ghost use Rattle.iim_dataset.specs.Laws.Devices.{GiftsJoin, TextsJoin};
+ghost use Rattle.iim_dataset.specs.Laws.{GiftsJoin, TextsJoin};
 
 /// Octets that a source gave one after another were given joined, and a fault comes after all of them.
 pub fn gifts_join()

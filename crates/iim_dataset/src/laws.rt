@@ -1,7 +1,6 @@
 //! What holds of all spellings, whatever form the counts have.
 
-ghost use Rattle.iim_dataset.specs.Laws.Datasets.{PlacesAreReached};
-ghost use Rattle.iim_dataset.specs.Laws.All.{DatasetLaws};
+ghost use Rattle.iim_dataset.specs.Laws.{PlacesAreReached, DatasetLaws};
 
 /// What holds of all spellings, whatever form the counts have, and of readers of datasets: a field for each law.
 pub fn dataset_laws()

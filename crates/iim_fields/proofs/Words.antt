@@ -1,6 +1,5 @@
 -- The words that most of these proofs use.
-pub use Rattle.std.proofs.lemmas.Bool.{and_from, and_left, and_parts, and_right, cases_Bool, cases_eq, cases_lt, cond_both, eq-eqb, eqb-true}
-pub use Rattle.std.proofs.lemmas.Bool.{false_from_ne_true, le-leb, ne_eqb, or_cases, or_right, true_from_ne_false}
+pub use Rattle.std.proofs.lemmas.Bool.{and_from, and_left, and_parts, and_right, cases_Bool, cases_eq, cases_lt, cond_both, eq-eqb, eqb-true, false_from_ne_true, le-leb, ne_eqb, or_cases, or_right, true_from_ne_false}
 pub use Rattle.std.proofs.lemmas.Bool.Decides.{eqb_tells, leb_tells, nat_tests}
 pub use Rattle.std.proofs.lemmas.Grind.{flat_map-append, get_or-set_at}
 pub use Rattle.std.proofs.lemmas.List.{get_or-append_right, get_or-set_other, get_or-set_same, get_or_append_left, get_or_past, length-replicate, length-set}
@@ -17,8 +16,7 @@ pub use Rattle.iim_dataset.proofs.OctetLists.{are_octets, number-cons, octets_ap
 pub use Rattle.iim_dataset.specs.Format.Datasets.{Dataset, head_of, of_record}
 pub use Rattle.iim_dataset.specs.Format.Octets.{IsOctet, Octets, greatest_size, is_digit, number, within}
 pub use Rattle.iim_dataset.specs.declared.head.Head.{Head}
-pub use Rattle.iim_tables.proofs.GoodDatasets.{admitted_as, good_elsewhere, meets_as, none_counts, none_meets, occurrences_append, occurrences_cons, repeats_as}
-pub use Rattle.iim_tables.proofs.GoodDatasets.{some_counts}
+pub use Rattle.iim_tables.proofs.GoodDatasets.{admitted_as, good_elsewhere, meets_as, none_counts, none_meets, occurrences_append, occurrences_cons, repeats_as, some_counts}
 pub use Rattle.iim_tables.specs.Format.Kinds.{has_kind}
 pub use Rattle.iim_tables.specs.Format.Numbers.{size_octets}
 pub use Rattle.iim_tables.specs.Format.Records.{HasValue, IsGoodDataset, IsGoodRecord, has_file_format, has_to_occur, mandatory, occurrences, occurs, repeats}
@@ -30,31 +28,25 @@ pub use Rattle.iim_fields.specs.Checking.{IsRecordPlace, TakesSubfile, TakesWhol
 pub use Rattle.iim_fields.specs.Format.Alive.{SectionsLive, SectionsLiveAt}
 pub use Rattle.iim_fields.specs.Format.Bounds.{IsWithin}
 pub use Rattle.iim_fields.specs.Format.Envelopes.{IsEnvelope}
-pub use Rattle.iim_fields.specs.Format.Faults.{fault_by_row, fault_on, first_fault, head_fault, is_first, is_in_order, is_kept, joined, kept, kept_octets}
-pub use Rattle.iim_fields.specs.Format.Faults.{last_record, limit_passed, limits_fault, missing_fault, missing_of, record_fault, room_fault, row_fault}
-pub use Rattle.iim_fields.specs.Format.Faults.{section_after, section_run, value_fault}
+pub use Rattle.iim_fields.specs.Format.Faults.{fault_by_row, fault_on, first_fault, head_fault, is_first, is_in_order, is_kept, joined, kept, kept_octets, last_record, limit_passed, limits_fault, missing_fault, missing_of, record_fault, room_fault, row_fault, section_after, section_run, value_fault}
 pub use Rattle.iim_fields.specs.Format.Records.{AreRecords, AreSections, after, records}
 pub use Rattle.iim_fields.specs.Format.Values.{data_of, number_told, tells_number}
 pub use Rattle.iim_fields.specs.Format.Views.{first_data, has_names}
-pub use Rattle.iim_fields.specs.Laws.Records.{DatasetsLeadToOnePlace, DatasetsOfEnvelopesAreAdded, EnvelopesEndWithTheLastRecord, HeadsDieWithTheirFault}
-pub use Rattle.iim_fields.specs.Laws.Records.{HeadsTellTheLowestCause, IsFaultIfAny, NoSectionsBeginOthers, ValuesDieWithTheirFault, ValuesTellTheLowestCause}
+pub use Rattle.iim_fields.specs.Laws.{DatasetsLeadToOnePlace, DatasetsOfEnvelopesAreAdded, EnvelopesEndWithTheLastRecord, HeadsDieWithTheirFault, HeadsTellTheLowestCause, IsFaultIfAny, NoSectionsBeginOthers, ValuesDieWithTheirFault, ValuesTellTheLowestCause}
 pub use Rattle.iim_fields.specs.NumberTaking.{MayTake, admits_once, is_number}
 pub use Rattle.iim_fields.specs.OrderChanges.{AddsHead, end_fault, is_subfile_head, no_application, nothing, takes_subfile}
 pub use Rattle.iim_fields.specs.Reading.{HasRoom, IsReading, StandsSomewhere, place_of}
 pub use Rattle.iim_fields.specs.States.Admitting.{Admits, Spells}
 pub use Rattle.iim_fields.specs.States.Builders.{Building, add_fault, finish_fault, passed_by}
-pub use Rattle.iim_fields.specs.States.Checks.{AwaitsHead, AwaitsNone, HasChecked, HasEnded, HasTaken, IsChecking, IsIn, IsRecordFault, IsValueFault, TakesHead}
-pub use Rattle.iim_fields.specs.States.Checks.{begun_head, section_at}
+pub use Rattle.iim_fields.specs.States.Checks.{AwaitsHead, AwaitsNone, HasChecked, HasEnded, HasTaken, IsChecking, IsIn, IsRecordFault, IsValueFault, TakesHead, begun_head, section_at}
 pub use Rattle.iim_fields.specs.States.Orders.{IsOrderOf, has_seen}
-pub use Rattle.iim_fields.specs.States.Standing.{CanClose, CanTake, FieldsPlace, IsBetween, IsEnded, IsHeadFault, IsInside, IsOf, PassesSubfile, StandsAfter}
-pub use Rattle.iim_fields.specs.States.Standing.{StandsIn, begun_head_of, limits_of, section_of}
+pub use Rattle.iim_fields.specs.States.Standing.{CanClose, CanTake, FieldsPlace, IsBetween, IsEnded, IsHeadFault, IsInside, IsOf, PassesSubfile, StandsAfter, StandsIn, begun_head_of, limits_of, section_of}
 pub use Rattle.iim_fields.specs.States.Stores.{fields_from}
 pub use Rattle.iim_fields.specs.States.Walks.{data_left, rest_of}
 pub use Rattle.iim_fields.specs.StoreLayout.{HasStored, IsStore, begun_octets, ends_at, entries_of, fields_of, is_sound}
 pub use Rattle.iim_fields.specs.declared.check.Begun.{Begun}
 pub use Rattle.iim_fields.specs.declared.check.RecordPlace.{RecordPlace}
-pub use Rattle.iim_fields.specs.declared.fault.FieldCause.TheVariants.{BadValue, CountRange, FileFormat, HeaderFull, Missing, RecordOrder, Repeated}
-pub use Rattle.iim_fields.specs.declared.fault.FieldCause.TheVariants.{TooManyFields, UnknownDataset}
+pub use Rattle.iim_fields.specs.declared.fault.FieldCause.TheVariants.{BadValue, CountRange, FileFormat, HeaderFull, Missing, RecordOrder, Repeated, TooManyFields, UnknownDataset}
 pub use Rattle.iim_fields.specs.declared.fault.FieldFault.{FieldFault}
 pub use Rattle.iim_fields.specs.declared.limits.Limits.{Limits}
 pub use Rattle.iim_fields.specs.declared.order.Order.{Order}

@@ -3,7 +3,6 @@ pub mod Alive
 pub mod Faults
 pub mod Causes
 pub mod Names
-pub mod WireLimits
 pub mod Values
 pub mod Bounds
 pub mod Envelopes

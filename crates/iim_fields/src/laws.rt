@@ -1,8 +1,8 @@
 //! What holds of all datasets, and of the limits of wire copy.
 
 ghost use Rattle.std.specs.Prelude.{◌≡◌};
-ghost use Rattle.iim_fields.specs.Format.WireLimits.{wire_limits};
-ghost use Rattle.iim_fields.specs.Laws.All.{RecordLaws};
+ghost use Rattle.iim_fields.specs.Format.Bounds.{wire_limits};
+ghost use Rattle.iim_fields.specs.Laws.{RecordLaws};
 
 use crate::limits::Limits;
 use iim_tables::laws::each_row_has_values;

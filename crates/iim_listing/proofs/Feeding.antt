@@ -2,11 +2,11 @@
 use Rattle.std.proofs.Common.{◌≡◌, ℕ, ◌-◌, ◌^◌, ◌<◌, List, [], ◌∷◌, length, length-append, refl, sym, ap, subst, ◌∙◌, append-nil, arith}
 use Rattle.std.specs.Io.KnownBytes.{IsAtEnd}
 use Rattle.iim_dataset.specs.States.Devices.{Device, HasGiven}
-use Rattle.iim_dataset.specs.Laws.Devices.{GiftsJoin}
+use Rattle.iim_dataset.specs.Laws.{GiftsJoin}
 use Rattle.wire_story.specs.Format.Delivery.{StoryEvent}
-use Rattle.wire_story.specs.Laws.Texts.{DeliveryMayBeCut}
+use Rattle.wire_story.specs.Laws.{DeliveryMayBeCut}
 use Rattle.iim_unpack.specs.States.Intakes.{HasFed, IsReady, WasEnded}
-use Rattle.iim_places.specs.Laws.Streams.{OpenOctetsAreBounded}
+use Rattle.iim_places.specs.Laws.{OpenOctetsAreBounded}
 use Rattle.iim_unpack.specs.States.Unpacking.{Stands, Unpacking, limits_in}
 use Rattle.iim_places.specs.States.Counts.{raised}
 use Rattle.iim_unpack.proofs.Intakes.{Joined, fed_few, fed_none, fed_nothing, fed_on, fed_then, raised_on, some_came}

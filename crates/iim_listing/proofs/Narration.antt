@@ -7,21 +7,20 @@ use Rattle.std.proofs.lemmas.List.{map-append, take-append-le}
 use Rattle.std.specs.Io.KnownBytes.{Appends}
 use Rattle.iim_dataset.specs.States.Devices.{Device, Wrote, HasGiven}
 use Rattle.iim_dataset.specs.Format.Counts.{Rose}
-use Rattle.iim_dataset.specs.Laws.Devices.{GiftsJoin, TextsJoin}
+use Rattle.iim_dataset.specs.Laws.{GiftsJoin, TextsJoin, OctetsAreHandedOnOneWay, EventsTellTheDatasets}
 use Rattle.iim_dataset.specs.States.Events.{handed_on}
 use Rattle.iim_dataset.specs.Format.Datasets.{Dataset, count_octets}
-use Rattle.iim_dataset.specs.Laws.Datasets.{OctetsAreHandedOnOneWay, EventsTellTheDatasets}
 use Rattle.iim_dataset.specs.States.Places.{HandsOn}
 use Rattle.iim_dataset.specs.Format.Splits.{InTag}
-use Rattle.iim_dataset.specs.Appending.{appends_joined}
+use Rattle.iim_dataset.specs.HandedIn.{appends_joined}
 use Rattle.iim_dataset.proofs.Each.{all_append, all_back, all_front}
 use Rattle.iim_dataset.proofs.Lists.{some_none}
 use Rattle.iim_dataset.proofs.DeviceLaws.{missed_later}
-use Rattle.wire_message.specs.Laws.Messages.{TextsStandBetweenStxAndEtx}
+use Rattle.wire_message.specs.Laws.{TextsStandBetweenStxAndEtx}
 use Rattle.wire_message.specs.Format.Layers.{text_so_far}
 use Rattle.wire_message.specs.declared.place.Place.TheVariants.{AfterEnd}
 use Rattle.wire_story.specs.Format.Delivery.{StoryEvent, delivered, octet_for}
-use Rattle.wire_story.specs.Laws.Texts.{LinesAreJoinedByLineFeeds, TextsAreDeliveredAsLines}
+use Rattle.wire_story.specs.Laws.{LinesAreJoinedByLineFeeds, TextsAreDeliveredAsLines}
 use Rattle.iim_output.specs.States.Holding.{HoldsNothing, KeepsWriter, PutsOn, device_of, held_of}
 use Rattle.iim_output.specs.States.Holding as blocks
 use Rattle.iim_output.specs.HoldingLaws.{puts_nothing, puts_on}
@@ -32,12 +31,12 @@ use Rattle.iim_places.specs.Format.Open.{object_so_far}
 use Rattle.iim_places.specs.declared.refusal.Refusal.{Refusal}
 use Rattle.iim_unpack.specs.States.Unpacking.{Unpacking}
 use Rattle.iim_places.proofs.Answering.{leads_to, reads_envelope, no_text}
-use Rattle.iim_listing.specs.States.Coming.{EnvelopeHasCome, IsCalm, IsNext, IsRefusal}
+use Rattle.iim_listing.specs.States.{EnvelopeHasCome, IsCalm, IsNext, IsRefusal}
 use Rattle.iim_output.specs.States.Devices.{HasOctets}
 use Rattle.iim_listing.specs.Format.Listings.{ending_line, line_of, status_of, texts_from, IsDelivered}
 use Rattle.iim_output.specs.Format.Limits.{limits}
 use Rattle.iim_places.specs.Format.Listing.{joined, max_envelopes, Divides, InputEnding, EndsBy, Listed, IsListed, IsRefusedAfter, RefusedBy}
-use Rattle.iim_listing.specs.Laws.Narration.{EnvelopesAreDeliveredAsLines}
+use Rattle.iim_listing.specs.Laws.{EnvelopesAreDeliveredAsLines}
 use Rattle.iim_listing.specs.Format.Narration.{AreEnvelope, AreToldWith, IsTextIn, IsUnnarrated, LeavesText, Narrated, stories, story_of, text_of}
 use Rattle.iim_listing.specs.Narrating.{EndsStory, HoldsLines, IsLost, IsSettled, IsStuck, IsUnended, IsUntold, KeepsTargets, LetsOut, TellsOn, errors_of, output_of, stops_of}
 use Rattle.iim_listing.specs.declared.narrator.Narrator.{Narrator}

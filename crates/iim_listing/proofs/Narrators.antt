@@ -4,8 +4,8 @@ use Rattle.std.proofs.lemmas.List.{take-append-le}
 use Rattle.std.specs.Borrow.{MutBor}
 use Rattle.std.specs.Io.KnownBytes.{Appends}
 use Rattle.iim_dataset.specs.States.Devices.{Device, Stopped}
-use Rattle.iim_dataset.specs.Laws.Devices.{TextsJoin}
-use Rattle.iim_output.specs.Format.Said.{IsUnsaid}
+use Rattle.iim_dataset.specs.Laws.{TextsJoin}
+use Rattle.iim_output.specs.Format.Statuses.{IsUnsaid}
 use Rattle.iim_output.specs.declared.fault.CommandFault.{CommandFault}
 use Rattle.iim_listing.specs.Narrating.{IsLost, IsUntold, LetsOut, TextIsOut, errors_of, output_of}
 use Rattle.iim_listing.specs.declared.narrator.Narrator.{Narrator}

@@ -15,19 +15,19 @@ use Rattle.iim_places.specs.Format.Open.{Delivers, IsOpen}
 use Rattle.iim_unpack.specs.States.Unpacking.{IsDoneWith, LeftAs, Stands, Unpacking, limits_in}
 use Rattle.iim_places.specs.States.Counts.{raised}
 use Rattle.iim_unpack.proofs.Intakes.{Joined, fed_and_done, fed_and_faults, missed_open}
-use Rattle.iim_dataset.specs.Laws.Devices.{GiftsJoin}
-use Rattle.wire_story.specs.Laws.Texts.{DeliveryMayBeCut}
+use Rattle.iim_dataset.specs.Laws.{GiftsJoin}
+use Rattle.wire_story.specs.Laws.{DeliveryMayBeCut}
 use Rattle.iim_listing.proofs.Feeding.{HasTaken}
 use Rattle.iim_places.specs.declared.refusal.Refusal.{Refusal}
 use Rattle.iim_places.specs.declared.refusal.Cause.{Cause}
 use Rattle.iim_places.specs.declared.refusal.Cause.TheVariants.{Message, Truncated}
 use Rattle.wire_message.specs.declared.fault.MessageCause.TheVariants as messages
-use Rattle.iim_listing.specs.Feeding.{IsOfFault}
+use Rattle.iim_listing.specs.Turns.{IsOfFault}
 use Rattle.iim_output.specs.declared.fault.CommandFault.{CommandFault}
 use Rattle.iim_listing.specs.declared.coming.Next.{Next}
 use Rattle.iim_listing.specs.declared.coming.Next.TheVariants as next
 use Rattle.iim_output.specs.declared.fault.CommandFault.TheVariants.{CannotRead, CannotWrite, OutOfMemory}
-use Rattle.iim_listing.specs.States.Coming.{CanAskForMore, EnvelopeHasCome, IsCalm, IsCutOff, IsHeldUp, IsNext, IsRefusal, IsUnheard}
+use Rattle.iim_listing.specs.States.{CanAskForMore, EnvelopeHasCome, IsCalm, IsCutOff, IsHeldUp, IsNext, IsRefusal, IsUnheard}
 use Rattle.iim_output.specs.Format.Limits.{limits}
 use Rattle.iim_listing.specs.Format.Listings.{IsDelivered}
 use Rattle.iim_places.proofs.Answering.{no_text}

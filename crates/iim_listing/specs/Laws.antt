@@ -1,1 +1,11 @@
-pub mod Narration
+-- What `story` leaves: the text of each envelope on the output, and the lines of `check` on the errors.
+use Rattle.std.specs.Prelude.{◌≡◌, ℕ, List}
+use Rattle.wire_story.specs.Format.Delivery.{StoryEvent, events_of_lines}
+use Rattle.iim_places.specs.Format.Admitted.{Value, Admits}
+use Rattle.iim_listing.specs.Format.Listings.{IsDelivered}
+
+-- ---- a law
+
+-- What is delivered of the text in an envelope is its lines.
+abbrev pub EnvelopesAreDeliveredAsLines : Type 0
+EnvelopesAreDeliveredAsLines = (octets : List ℕ) (v : Value) (more : List StoryEvent) → Admits octets v → IsDelivered octets more → more ≡ events_of_lines v.lines

@@ -5,8 +5,6 @@ pub mod States
 -- What holds of these: statements, each the contract of a law.
 pub mod Laws
 -- What only proofs and private clauses cite.
-pub mod Feeding
-pub mod Listing
 pub mod Narrating
 pub mod NarratingLaws
 pub mod Turns

@@ -2,7 +2,7 @@
 use Rattle.std.proofs.Common.{◌≡◌, ℕ, List, [], ◌++◌, ◌⊎◌, inl, inr, refl, sym, ap, subst, ◌∙◌, append-nil, append_assoc, arith}
 use Rattle.std.specs.Borrow.{MutBor}
 use Rattle.iim_dataset.specs.States.Devices.{Device, Wrote}
-use Rattle.iim_dataset.specs.Appending.{appends_joined}
+use Rattle.iim_dataset.specs.HandedIn.{appends_joined}
 use Rattle.wire_story.specs.Format.Delivery.{StoryEvent}
 use Rattle.iim_output.specs.HoldingLaws.{puts_nothing, puts_joined}
 use Rattle.iim_output.specs.States.Holding.{PutsLines}

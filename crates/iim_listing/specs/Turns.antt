@@ -1,22 +1,47 @@
 -- What is listed and told of an input by turns, one for each envelope, and how it goes on.
-use Rattle.std.specs.Prelude.{◌≡◌, ℕ, ◌+◌, ◌<◌, ◌≤◌, ⊤, List, [], ◌++◌, length, Option, Some, None}
+use Rattle.std.specs.Prelude.{◌≡◌, ℕ, List, ◌⊎◌, [], Result, Err, ◌+◌, ◌<◌, ◌≤◌, ⊤, ◌++◌, length, Option, Some, None, Ok}
+use Rattle.iim_dataset.specs.States.Devices.{Device, HasGiven, Wrote}
+use Rattle.iim_output.specs.declared.block_writer.BlockWriter.{BlockWriter}
+use Rattle.iim_output.specs.States.Holding.{device_of, HasPut, HoldsNothing, StaysStuck, KeepsWriter, PutsOn}
+use Rattle.iim_output.specs.States.Holding as blocks
+use Rattle.iim_places.specs.Format.Listing.{Divides, Listed, joined, max_envelopes, IsListed}
+use Rattle.iim_listing.specs.Format.Listings.{texts_from, line_of, told}
+use Rattle.iim_output.specs.Format.Limits.{limits}
+use Rattle.iim_listing.specs.Format.WrittenListings.{FailsListing, WritesListing}
+use Rattle.iim_output.specs.declared.fault.CommandFault.{CommandFault}
+use Rattle.iim_output.specs.declared.fault.CommandFault.TheVariants.{CannotWrite, OutOfMemory, CannotRead}
 use Rattle.std.specs.List.{AllByRecursion}
-use Rattle.iim_dataset.specs.States.Devices.{Device, Wrote, HasGiven}
 use Rattle.iim_fields.specs.declared.limits.Limits.{Limits}
 use Rattle.iim_places.specs.Format.Admitted.{Admits}
-use Rattle.iim_places.specs.Format.Listing.{joined, max_envelopes, Listed, IsListed}
 use Rattle.iim_unpack.specs.States.Unpacking.{IsDoneWith, Unpacking}
-use Rattle.iim_output.specs.Format.Limits.{limits}
-use Rattle.iim_output.specs.States.Holding.{device_of, HasPut, HoldsNothing, KeepsWriter, PutsOn}
-use Rattle.iim_output.specs.States.Holding as blocks
-use Rattle.iim_output.specs.declared.block_writer.BlockWriter.{BlockWriter}
-use Rattle.iim_output.specs.declared.fault.CommandFault.{CommandFault}
-use Rattle.iim_listing.specs.Format.Listings.{line_of, texts_from, told}
 use Rattle.iim_listing.specs.Format.Narration.{IsTextIn, IsUnnarrated, Narrated, stories, story_of, text_of}
-use Rattle.iim_listing.specs.Format.WrittenListings.{WritesListing}
-use Rattle.iim_listing.specs.Listing.{IsUnlisted}
 use Rattle.iim_listing.specs.Narrating.{KeepsTargets, errors_of, output_of, stops_of}
 use Rattle.iim_listing.specs.declared.narrator.Narrator.{Narrator}
+use Rattle.iim_unpack.specs.declared.intake.IntakeFault.{IntakeFault}
+use Rattle.iim_unpack.specs.declared.intake.IntakeFault.TheVariants.{Refused, Read, Interrupted}
+use Rattle.iim_places.specs.declared.refusal.Refusal.{Refusal}
+use Rattle.iim_places.specs.declared.refusal.Cause.TheVariants.{Message}
+use Rattle.wire_message.specs.declared.fault.MessageCause.TheVariants.{Sink}
+use Rattle.iim_listing.specs.declared.coming.Next.{Next}
+use Rattle.iim_listing.specs.declared.coming.Next.TheVariants as next
+
+-- ---- How a listing is held and let out.
+
+-- Memory was short: some of the envelopes that came are listed, out or held.
+abbrev pub IsStarved : {W : Type 0} → (W → Device) → (ℕ → Listed → List ℕ) → Device → Device → BlockWriter W → BlockWriter W → Type 0
+IsStarved state text source rest old new = (input : List ℕ) × (envelopes : List Listed) × (begun : List ℕ)
+    × Divides limits input envelopes begun × HasGiven source rest input × HasPut state old new (texts_from text 1 envelopes)
+
+-- Why the listing isn't out; where memory was short, some of it may be held.
+abbrev pub IsUnlisted : {W : Type 0} → (W → Device) → (ℕ → Listed → List ℕ) → Device → Device → BlockWriter W → BlockWriter W → CommandFault → Type 0
+IsUnlisted state text source rest old new OutOfMemory = IsStarved state text source rest old new
+IsUnlisted state text source rest old new fault = FailsListing text source rest (device_of state old) (device_of state new) fault
+
+-- What was held is let out where memory was short, or the output breaks; any other answer is handed on, and nothing is done.
+abbrev pub Settles : {W : Type 0} → (W → Device) → BlockWriter W → BlockWriter W → Result ℕ CommandFault → Result ℕ CommandFault → Type 0
+Settles state old new (Err OutOfMemory) result = ((result ≡ Err OutOfMemory) × HasPut state old new [] × HoldsNothing new)
+    ⊎ ((result ≡ Err CannotWrite) × StaysStuck state old new)
+Settles state old new answer result = (result ≡ answer) × (new ≡ old)
 
 -- These envelopes, `count` of them, came from the input, and nothing else.
 pub record AreTaken (source rest : Device) (count : ℕ) (envelopes : List Listed) : Type 0 where
@@ -104,3 +129,15 @@ TellsNext {W = W} {E = E} ws es mid rest now new count next = (source : Device) 
 abbrev pub TellsNoMore : {W E : Type 0} → (W → Device) → (E → Device) → Device → Device → Narrator W E → Narrator W E → ℕ → CommandFault → Type 0
 TellsNoMore {W = W} {E = E} ws es mid rest now new count fault = (source : Device) (first : Narrator W E) → IsTelling ws es first source mid now count
     → IsUnnarrated source rest (output_of ws first) (output_of ws new) (errors_of es first) (errors_of es new) fault × KeepsTargets first new
+
+-- ---- What it comes to that an intake gives nothing.
+
+-- Octets are refused, or where the sink refused them it is a fault of the output.
+abbrev pub IsOfRefusal : Refusal → Result Next CommandFault → Type 0
+IsOfRefusal e result = ((e.cause ≡ Message Sink) × (result ≡ Err CannotWrite)) ⊎ ((e.cause ≡ Message Sink → ⊥) × (result ≡ Ok (next.Refused e)))
+
+-- what a fault of an intake comes to
+abbrev pub IsOfFault : IntakeFault → Result Next CommandFault → Type 0
+IsOfFault (Refused e) result = IsOfRefusal e result
+IsOfFault Read result = result ≡ Err CannotRead
+IsOfFault Interrupted result = result ≡ Err CannotRead

@@ -2,9 +2,9 @@
 
 ghost use Rattle.std.specs.Prelude.{◌≡◌, [], None, OnOk, OnErr};
 ghost use Rattle.iim_unpack.specs.States.Intakes.{in_line};
-ghost use Rattle.iim_listing.specs.States.Coming.{IsNext, IsCalm, CanAskForMore};
+ghost use Rattle.iim_listing.specs.States.{IsNext, IsCalm, CanAskForMore};
 ghost use Rattle.iim_unpack.specs.States.Unpacking.{limits_in};
-ghost use Rattle.iim_listing.specs.Feeding.{IsOfFault, IsOfRefusal};
+ghost use Rattle.iim_listing.specs.Turns.{IsOfFault, IsOfRefusal};
 ghost use Rattle.iim_output.specs.Format.Limits.{limits};
 
 use iim_dataset::device_laws::gifts_join;

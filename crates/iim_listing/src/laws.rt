@@ -1,6 +1,6 @@
 //! What holds of all inputs.
 
-ghost use Rattle.iim_listing.specs.Laws.Narration.{EnvelopesAreDeliveredAsLines};
+ghost use Rattle.iim_listing.specs.Laws.{EnvelopesAreDeliveredAsLines};
 
 use iim_dataset::laws::dataset_laws;
 use wire_message::laws::message_laws;

@@ -9,8 +9,7 @@ ghost use Rattle.iim_places.specs.Format.Listing.{Listed, max_envelopes};
 ghost use Rattle.iim_listing.specs.Format.Listings.{told};
 ghost use Rattle.iim_listing.specs.Format.WrittenListings.{WritesListing, FailsListing};
 ghost use Rattle.iim_output.specs.States.Holding.{HoldsNothing, KeepsWriter, device_of};
-ghost use Rattle.iim_listing.specs.Listing.{IsUnlisted, Settles};
-ghost use Rattle.iim_listing.specs.Turns.{GoesOn, IsShown, ListsNext, ListsNoMore};
+ghost use Rattle.iim_listing.specs.Turns.{IsUnlisted, Settles, GoesOn, IsShown, ListsNext, ListsNoMore};
 
 use crate::coming::{LIMITS, Next, take_next};
 use iim_dataset::device_laws::{gifts_join, texts_join};

@@ -9,7 +9,7 @@ use Rattle.iim_object.specs.Format.Sizes.{Stated, InRow, number_at}
 use Rattle.iim_object.specs.Format.Objects.{ObjectToken, NumberRead, SubfileBegun, ObjectEnded, Confirmed, ObjectLanguage}
 use Rattle.iim_object.specs.Format.Places.{Place, MayFollow, place_after, tokens_of}
 use Rattle.iim_object.specs.States.Reading.{IsStateAt, StandsAt, LeadsOn}
-use Rattle.iim_object.specs.Laws.Places.{TokensLead, TokensLeadOnAlike}
+use Rattle.iim_object.specs.Laws.{TokensLead, TokensLeadOnAlike}
 use Rattle.iim_object.proofs.Numbers.{once-append}
 use Rattle.iim_object.proofs.Steps.{tells_of, once_last, cause_in, next, leads_on, refused, tokens_follow}
 use Rattle.iim_object.proofs.Subfiles.{front_lives}

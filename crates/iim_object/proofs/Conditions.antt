@@ -8,7 +8,7 @@ use Rattle.iim_object.specs.Format.Objects.{ObjectToken, SubfileBegun, ObjectLan
 use Rattle.iim_object.specs.Format.Places.{Place, HasBoth, MayFollow, tokens_of}
 use Rattle.iim_object.specs.Format.Causes.{bound, cause_at}
 use Rattle.iim_object.specs.Format.Conditions.{number_of, PassesBound, HasCause}
-use Rattle.iim_object.specs.Laws.Conditions.{CausesAreTheFirst, ObjectsDieForCauses}
+use Rattle.iim_object.specs.Laws.{CausesAreTheFirst, ObjectsDieForCauses}
 use Rattle.iim_object.proofs.Steps.{announced_small, lives_on, tokens_follow}
 
 -- causes of one number are one

@@ -10,7 +10,7 @@ use Rattle.iim_dataset.proofs.Lists.{nothing_of_two}
 use Rattle.iim_object.specs.Format.Places.{Place}
 use Rattle.iim_object.specs.Format.Records.{AreObjectRecords, numbers_of, lengths_of}
 use Rattle.iim_object.specs.Format.Numbers.{ending_of, place_after_datasets}
-use Rattle.iim_object.specs.Laws.Numbers.{RecordsAreByNumber}
+use Rattle.iim_object.specs.Laws.{RecordsAreByNumber}
 use Rattle.iim_object.proofs.Members.{IsMember, one_confirmation}
 
 -- ---- the datasets of a record

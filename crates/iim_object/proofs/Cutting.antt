@@ -3,9 +3,9 @@ use Rattle.std.proofs.Common.{◌≡◌, ℕ, ◌+◌, ◌*◌, ◌≤◌, inl, 
 use Rattle.std.proofs.Math.Nat.{le_of_mul-le-mul_left, mul-le-mul_left}
 use Rattle.std.proofs.lemmas.List.{nil_from_length}
 use Rattle.std.proofs.lemmas.Bool.{cases_lt}
-use Rattle.iim_dataset.specs.Parting.{same_front}
+use Rattle.iim_dataset.specs.HandedIn.{same_front}
 use Rattle.iim_object.specs.Format.Cuts.{joined_parts, AreFull, IsCut}
-use Rattle.iim_object.specs.Laws.Cuts.{ObjectsAreCutOneWay}
+use Rattle.iim_object.specs.Laws.{ObjectsAreCutOneWay}
 use Rattle.iim_object.specs.Format.Plans.{max_subfiles}
 
 -- a last part after a full one has an octet

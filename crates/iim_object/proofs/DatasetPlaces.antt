@@ -13,9 +13,8 @@ use Rattle.iim_object.specs.Format.Sizes.{Stated, InRow, number_at, mode_number,
 use Rattle.iim_object.specs.Format.Objects.{ObjectToken, SubfileBegun, ObjectEnded, Confirmed, ObjectLanguage, number_tokens}
 use Rattle.iim_object.specs.Format.Places.{Place, Ended, ending_tokens, tokens_of}
 use Rattle.iim_object.specs.Format.Records.{AreObjectRecords, numbers_of, lengths_of}
-use Rattle.iim_object.specs.Laws.Records.{AreSized}
+use Rattle.iim_object.specs.Laws.{AreSized, object_tokens, TokensAreOfSizedDatasets, DatasetsLiveWithTheirTokens, DatasetsEndWithTheirTokens}
 use Rattle.iim_object.specs.Format.Numbers.{ending_of, place_ended}
-use Rattle.iim_object.specs.Laws.Numbers.{object_tokens, TokensAreOfSizedDatasets, DatasetsLiveWithTheirTokens, DatasetsEndWithTheirTokens}
 use Rattle.iim_object.proofs.Numbers.{in_row_at, largest_at_most}
 use Rattle.iim_object.proofs.Subfiles.{numbers_front, parts_of, ended_parts}
 use Rattle.iim_object.proofs.Members.{IsMember, are_stated, descriptor_of, object_of, confirmation_of, one_confirmation, some_subfile, ten_of, stating, subfiles, confirmation}

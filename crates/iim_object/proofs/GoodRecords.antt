@@ -10,7 +10,7 @@ use Rattle.iim_object.specs.Format.Records.{numbers_of}
 use Rattle.iim_object.specs.Format.Cuts.{AreFull, joined_parts}
 use Rattle.iim_object.specs.Format.Plans.{limit_of}
 use Rattle.iim_object.specs.Format.Packing.{number_dataset, is_known, size_datasets, plan_datasets, subfile_dataset, subfile_datasets}
-use Rattle.iim_object.specs.Laws.Packing.{PackedRecordsAreGood}
+use Rattle.iim_object.specs.Laws.{PackedRecordsAreGood}
 use Rattle.iim_object.specs.declared.size.Size.{Size}
 use Rattle.iim_object.specs.declared.size.Size.TheVariants.{Known, Unknown}
 use Rattle.iim_object.proofs.PlanParts.{plan_parts}

@@ -6,7 +6,7 @@ use Rattle.iim_object.specs.Format.Sizes.{Stated, AreStated}
 use Rattle.iim_object.specs.Format.Objects.{ObjectToken, SubfileBegun, ObjectLanguage, number_tokens}
 use Rattle.iim_object.specs.Format.Places.{Place, Ending, NotEnded, Ended, ConfirmedAs, HasBoth, MayFollow, ending_tokens, place_start, place_after, tokens_of}
 use Rattle.iim_object.specs.States.Saved.{IsPossible}
-use Rattle.iim_object.specs.Laws.Places.{TokensLead, PlacesAreLedTo}
+use Rattle.iim_object.specs.Laws.{TokensLead, PlacesAreLedTo}
 use Rattle.iim_object.proofs.Leads.{stated_front}
 use Rattle.iim_object.proofs.Steps.{IsAdmitted, admitted_at, starts, stays_admitted, tokens_follow}
 

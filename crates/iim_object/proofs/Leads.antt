@@ -6,7 +6,7 @@ use Rattle.iim_dataset.proofs.Each.{all_front}
 use Rattle.iim_object.specs.Format.Sizes.{Stated, InRow, AreOnce, AreStated, number_at}
 use Rattle.iim_object.specs.Format.Records.{AreObjectRecords, numbers_of, lengths_of}
 use Rattle.iim_object.specs.Format.Numbers.{ending_of}
-use Rattle.iim_object.specs.Laws.Numbers.{OthersLeadNowhere, NumbersLead, SubfilesLead, EndsLead}
+use Rattle.iim_object.specs.Laws.{OthersLeadNowhere, NumbersLead, SubfilesLead, EndsLead}
 use Rattle.iim_object.proofs.Numbers.{at-append}
 use Rattle.iim_object.proofs.Members.{are_stated, have_both, some_subfile, stated_of}
 use Rattle.iim_object.proofs.Cuts.{more_of, same_of, next_number, next_subfile, next_end, records_by_number}

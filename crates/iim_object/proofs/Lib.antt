@@ -19,7 +19,6 @@ pub mod Leading
 pub mod Alike
 pub mod Within
 -- What proofs of other crates cite.
-pub mod PlanLengths
 pub mod PlanParts
 pub mod Outputs
 pub mod Written

@@ -15,7 +15,7 @@ use Rattle.iim_tables.proofs.GoodDatasets.{good_elsewhere, occurrences_cons, par
 use Rattle.iim_object.specs.Format.Sizes.{Stated, InRow, AreOnce, AreStated, number_at}
 use Rattle.iim_object.specs.Format.Records.{numbers_of, lengths_of}
 use Rattle.iim_object.specs.Format.Packing.{number_dataset}
-use Rattle.iim_object.specs.Laws.Packing.{NumberDatasetsAreGood}
+use Rattle.iim_object.specs.Laws.{NumberDatasetsAreGood}
 
 -- ---- what the rows say
 

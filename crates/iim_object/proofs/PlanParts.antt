@@ -1,8 +1,12 @@
 -- What a plan of subfiles keeps to, part by part, for the proofs of every crate: nothing here is to be believed.
-use Rattle.std.proofs.Common.{ℕ, ◌≤◌, IsTrue, arith}
+use Rattle.std.proofs.Common.{ℕ, ◌≤◌, IsTrue, arith, List, [], ◌∷◌, ◌++◌, length, Some, None, length-append}
 use Rattle.iim_dataset.specs.Format.Octets.{greatest_size}
-use Rattle.iim_object.specs.Format.Plans.{is_plan, limit_of}
+use Rattle.iim_object.specs.Format.Plans.{is_plan, limit_of, most_sizes}
 use Rattle.iim_object.specs.declared.size.Size.{Size}
+use Rattle.iim_dataset.specs.Format.Datasets.{canonical_dataset, canonical_stream, tag_octets}
+use Rattle.iim_object.specs.Format.Packing.{number_dataset, size_datasets, plan_datasets, is_known}
+use Rattle.iim_object.specs.Format.Sizes.{mode_number}
+use Rattle.iim_object.specs.declared.size.Size.TheVariants.{Known, Unknown}
 
 pub record IsPlan (subfile : ℕ) (size : Size) : Type 0 where
   pub least : 1 ≤ subfile
@@ -11,3 +15,20 @@ pub record IsPlan (subfile : ℕ) (size : Size) : Type 0 where
 
 pub plan_parts : (subfile : ℕ) (size : Size) → IsTrue (is_plan subfile size) → IsPlan subfile size
 plan_parts subfile size h = grind arith
+
+-- ---- Lemmas on how long record 7 is, for the proofs of every crate: nothing here is to be believed.
+
+pub number_length : (rec set n : ℕ) → length (canonical_dataset (number_dataset rec set n)) ≤ tag_octets
+number_length rec set n = grind arith
+
+size_datasets_length : (size : Size) → length (canonical_stream (size_datasets size)) ≤ tag_octets
+size_datasets_length (Known n) = omega (arith, number_length 7 90 n, length-append (canonical_dataset (number_dataset 7 90 n)) [])
+size_datasets_length (Unknown (Some m)) = omega (arith, number_length 7 95 m, length-append (canonical_dataset (number_dataset 7 95 m)) [])
+size_datasets_length (Unknown None) = omega arith
+
+pub plan_length : (subfile : ℕ) (size : Size) → length (canonical_stream (plan_datasets subfile size)) ≤ most_sizes
+plan_length subfile size =
+    let first : List ℕ = canonical_dataset (record { rec = 7; set = 10; octets = mode_number (is_known size) ∷ [] }) in
+    let number : List ℕ = canonical_dataset (number_dataset 7 20 subfile) in
+    let more : List ℕ = canonical_stream (size_datasets size) in
+    omega (arith, length-append first (number ++ more), length-append number more, number_length 7 20 subfile, size_datasets_length size)

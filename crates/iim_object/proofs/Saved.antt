@@ -12,7 +12,7 @@ use Rattle.iim_object.specs.States.KeptNumbers.{IsState, state_numbers}
 use Rattle.iim_object.specs.States.Changes.{TakesSubfile}
 use Rattle.iim_object.specs.States.Reading.{IsStateAt, StandsAt, LeadsOn, Refuses}
 use Rattle.iim_object.specs.States.Saved.{IsAt, LastIsBegun, IsPossible, stated_numbers}
-use Rattle.iim_object.specs.Laws.Places.{PlacesHaveOneReader}
+use Rattle.iim_object.specs.Laws.{PlacesHaveOneReader}
 use Rattle.iim_object.specs.Finding.{Finds}
 use Rattle.iim_object.proofs.Subfiles.{front_lives}
 use Rattle.iim_object.proofs.Steps.{sum_more, tokens_follow}

@@ -12,9 +12,8 @@ use Rattle.iim_object.specs.declared.reading.fault.SizeCause.{SizeCause}
 use Rattle.iim_object.specs.declared.size.Sizes.{Sizes}
 use Rattle.iim_object.specs.Format.Sizes.{Stated, AreOnce, AreStated, number_at, mode_number}
 use Rattle.iim_object.specs.Format.Objects.{ObjectToken, NumberRead, SubfileBegun, ObjectEnded, Confirmed, ObjectLanguage, number_tokens}
-use Rattle.iim_object.specs.Laws.Living.{NoClash, HasDuties, Fit, MeetsAnnounced}
+use Rattle.iim_object.specs.Laws.{NoClash, HasDuties, Fit, MeetsAnnounced, TokensFollow}
 use Rattle.iim_object.specs.Format.Places.{Place, NotEnded, ConfirmedAs, tokens_of, place_after, place_start, HasBoth, MayFollow}
-use Rattle.iim_object.specs.Laws.Numbers.{TokensFollow}
 use Rattle.iim_object.specs.Format.Causes.{is_given, number_cause, subfile_cause, end_cause, confirmed_cause, cause_at}
 use Rattle.iim_object.specs.States.Reading.{IsStateAt, StandsAt, LeadsOn, LivesWith, Refuses, IsSizes}
 use Rattle.iim_object.specs.States.Changes.{set_where, state_start, state_with}

@@ -7,11 +7,10 @@ use Rattle.iim_dataset.specs.Format.Languages.{IsAlive}
 use Rattle.iim_dataset.specs.Format.Octets.{greatest_size}
 use Rattle.iim_dataset.proofs.Each.{all_append, all_front}
 use Rattle.iim_dataset.proofs.Lists.{sum_append, sum_cons}
-use Rattle.iim_object.specs.Laws.Records.{SizesAreDetermined}
+use Rattle.iim_object.specs.Laws.{SizesAreDetermined, NoClash, HasDuties, Fit, MeetsAnnounced, NumbersLiveWithoutClash, SubfilesLiveWhileTheyFit, ObjectsEndWhereTheyAreWhole, TotalsAreConfirmed}
 use Rattle.iim_object.specs.Format.Within.{LanguageWithin}
 use Rattle.iim_object.specs.Format.Sizes.{Stated, InRow, AreStated, Agree, number_at, mode_number, sizes_at}
 use Rattle.iim_object.specs.Format.Places.{Ending, NotEnded, Ended, ConfirmedAs, ending_tokens}
-use Rattle.iim_object.specs.Laws.Living.{NoClash, HasDuties, Fit, MeetsAnnounced, NumbersLiveWithoutClash, SubfilesLiveWhileTheyFit, ObjectsEndWhereTheyAreWhole, TotalsAreConfirmed}
 use Rattle.iim_object.specs.Format.Objects.{ObjectToken, NumberRead, SubfileBegun, ObjectEnded, Confirmed, ObjectLanguage, number_tokens}
 use Rattle.iim_object.proofs.Numbers.{AreLow, at-append, none-append, once-append, low_at, rows_low, whole_within, in_row_at, at_least_one, at_most_size, mode_at_most_one}
 

@@ -5,7 +5,7 @@ use Rattle.iim_object.specs.Format.Sizes.{Stated, AreStated}
 use Rattle.iim_object.specs.Format.Objects.{SubfileBegun, ObjectLanguage, number_tokens}
 use Rattle.iim_object.specs.Format.Places.{Ending, NotEnded, HasBoth, ending_tokens}
 use Rattle.iim_object.specs.Format.Within.{LanguageWithin}
-use Rattle.iim_object.specs.Laws.Within.{PlacesLiveWithin}
+use Rattle.iim_object.specs.Laws.{PlacesLiveWithin}
 use Rattle.iim_object.proofs.Numbers.{AreLow, numbers_low}
 use Rattle.iim_object.proofs.Subfiles.{numbers_law, lives_by, alive_within, numbers_alive_within}
 use Rattle.iim_object.proofs.Steps.{both_of}

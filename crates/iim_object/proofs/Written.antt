@@ -4,10 +4,10 @@ use Rattle.std.specs.Prelude.{IfNone}
 use Rattle.std.proofs.lemmas.List.{map-append, take-append-drop}
 use Rattle.iim_dataset.proofs.Each.{all_append}
 use Rattle.iim_dataset.specs.States.Devices.{Device}
-use Rattle.iim_dataset.specs.Laws.Devices.{TextsJoin}
+use Rattle.iim_dataset.specs.Laws.{TextsJoin}
 use Rattle.iim_dataset.specs.Format.Datasets.{Dataset, canonical_dataset, canonical_stream}
 use Rattle.iim_object.specs.Format.Cuts.{joined_parts, AreFull, IsCut}
-use Rattle.iim_object.specs.Laws.Cuts.{ObjectsAreCutOneWay}
+use Rattle.iim_object.specs.Laws.{ObjectsAreCutOneWay}
 use Rattle.iim_object.specs.Format.Packing.{plan_datasets, subfile_dataset, subfile_datasets, confirmed_datasets, number_dataset, object_datasets}
 use Rattle.iim_object.specs.Outputs.{Puts, Cuts}
 use Rattle.iim_object.specs.States.Writing.{Writing, total_of, octets_out, HasWritten, Lengthens, Begins, BreaksOff, ContinuesWith, IsTheWhole, Finishes, write_cause, finish_cause}

@@ -1,9 +1,7 @@
 //! When the object layer can continue, and how its tokens come from datasets. The functions do nothing: their contracts are
 //! the laws.
 
-ghost use Rattle.iim_object.specs.Laws.Reading.{ReadersTellSizes};
-ghost use Rattle.iim_object.specs.Laws.Cuts.{ObjectsAreCutOneWay};
-ghost use Rattle.iim_object.specs.Laws.All.{ObjectLaws};
+ghost use Rattle.iim_object.specs.Laws.{ReadersTellSizes, ObjectsAreCutOneWay, ObjectLaws};
 
 /// What holds of sizes, subfiles and their places: a field for each law.
 pub fn object_laws()

@@ -1,19 +1,34 @@
 -- Writers of blocks.
-use Rattle.std.proofs.Common.{◌≡◌, ℕ, zero, suc, ◌+◌, ◌^◌, ◌<◌, ◌≤◌, inl, inr, List, [], ◌∷◌, ◌++◌, length, take, drop, map, refl, sym, ap, subst, ◌∙◌, append-nil, append_assoc, length-append, length-take, arith, Result, Ok, Err, IfErr, OnErr}
-use Rattle.std.proofs.lemmas.List.{take-append-drop}
+use Rattle.std.proofs.Common.{◌≡◌, ℕ, zero, suc, ◌+◌, ◌≤◌, List, [], ◌∷◌, ◌++◌, length, drop, refl, sym, ap, ◌∙◌, arith, ◌^◌, ◌<◌, inl, inr, take, map, subst, append-nil, append_assoc, length-append, length-take, Result, Ok, Err, IfErr, OnErr}
+use Rattle.std.proofs.lemmas.List.{drop-drop, length-drop, take-append-drop}
 use Rattle.std.specs.Borrow.{MutBor}
 use Rattle.std.specs.Io.KnownBytes.{Appends}
 use Rattle.iim_dataset.specs.States.Devices.{Device, Broke, RoseAtLeast, Stopped, WithinInterruptionLimit, Wrote}
 use Rattle.iim_dataset.specs.Format.Counts.{Rose}
-use Rattle.iim_dataset.specs.Laws.Devices.{TextsJoin}
+use Rattle.iim_dataset.specs.Laws.{TextsJoin}
 use Rattle.wire_story.specs.Format.Delivery.{LineOctet}
 use Rattle.wire_story.specs.States.Writing.{HasBroken}
-use Rattle.wire_story.specs.WritingLaws.{octets_of_line}
-use Rattle.iim_output.specs.States.Holding.{HasPut, HasStuck, HoldsNothing, KeepsWriter, PutsOn, PutsLines, StaysStuck, device_of, held_of, stops_of}
-use Rattle.iim_output.specs.States.Holding.{IsCutShort}
+use Rattle.wire_story.specs.SinkLaws.{octets_of_line}
+use Rattle.iim_output.specs.States.Holding.{HasPut, HasStuck, HoldsNothing, KeepsWriter, PutsOn, PutsLines, StaysStuck, device_of, held_of, stops_of, IsCutShort}
 use Rattle.iim_output.specs.HoldingLaws.{parts_on}
 use Rattle.iim_dataset.specs.declared.stop.Stop.{Stop}
 use Rattle.iim_output.specs.declared.block_writer.BlockWriter.{BlockWriter}
+
+-- ---- Octets that are held.
+
+drop_more : (n : ℕ) (xs ys : List ℕ) → n ≤ length xs → drop n (xs ++ ys) ≡ drop n xs ++ ys
+drop_more zero xs ys le = refl
+drop_more (suc n) [] ys le = absurd (omega (arith, le))
+drop_more (suc n) (x ∷ xs) ys le = drop_more n xs ys (omega (arith, le))
+
+pub takes : (out : ℕ) (items new more octets : List ℕ) → drop out items ≡ octets → new ≡ items ++ more → out ≤ length items → drop out new ≡ octets ++ more
+takes out items new more octets is added within = ap (drop out) added ∙ drop_more out items more within ∙ ap (λ (t : List ℕ). t ++ more) is
+
+pub passes : (out k : ℕ) (items octets : List ℕ) → drop out items ≡ octets → drop (out + k) items ≡ drop k octets
+passes out k items octets is = sym (drop-drop k out items) ∙ ap (drop k) is
+
+pub few_out : (out k room : ℕ) (items octets : List ℕ) → drop out items ≡ octets → k ≤ length octets → out ≤ length items → length items ≤ room → room ≡ 4096 → out + k ≤ 4096
+few_out out k room items octets is le within few whole = omega (arith, le, ap length is, length-drop out items, within, few, whole)
 
 -- ---- counts
 

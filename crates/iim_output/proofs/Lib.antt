@@ -1,3 +1,2 @@
-pub mod HeldOctets
 -- What proofs of other crates cite.
 pub mod Holding

@@ -1,7 +1,7 @@
 -- What a packer has begun with, call by call.
 use Rattle.std.proofs.Common.{ℕ, List, [], ◌++◌, arith, length-append}
 use Rattle.iim_dataset.specs.States.Devices.{Device}
-use Rattle.iim_dataset.specs.Laws.Devices.{TextsJoin}
+use Rattle.iim_dataset.specs.Laws.{TextsJoin}
 use Rattle.iim_dataset.specs.Format.Datasets.{Dataset}
 use Rattle.iim_object.specs.declared.plan.Plan.{Plan}
 use Rattle.wire_story.specs.Format.Delivery.{StoryEvent}

@@ -3,7 +3,7 @@ use Rattle.std.proofs.Common.{◌≡◌, ℕ, ◌≤◌, List, [], ◌++◌, len
 use Rattle.std.specs.List.{AllByRecursion}
 use Rattle.iim_dataset.specs.Format.Octets.{Octets, greatest_size}
 use Rattle.iim_dataset.specs.Format.Datasets.{Dataset, SpellsStream, canonical_stream, count_octets, of_record}
-use Rattle.iim_dataset.specs.Laws.Datasets.{HasSpellings, CanonicalStreamsAreSpelled}
+use Rattle.iim_dataset.specs.Laws.{HasSpellings, CanonicalStreamsAreSpelled}
 use Rattle.iim_dataset.proofs.Each.{all_append, all_map}
 use Rattle.iim_fields.specs.Format.Records.{AreSections}
 use Rattle.iim_tables.specs.Format.Records.{IsGoodDataset, IsGoodRecord}
@@ -11,11 +11,11 @@ use Rattle.iim_fields.specs.Format.Faults.{kept, joined}
 use Rattle.iim_object.specs.Format.Records.{HaveSizes}
 use Rattle.iim_object.specs.Format.Plans.{bound_of}
 use Rattle.iim_object.specs.Format.Packing.{plan_datasets, subfile_datasets, confirmed_datasets, packed_sizes}
-use Rattle.iim_object.specs.Laws.Packing.{PackedObjectsHaveSizes, PackedRecordsAreGood}
+use Rattle.iim_object.specs.Laws.{PackedObjectsHaveSizes, PackedRecordsAreGood}
 use Rattle.iim_object.proofs.PlanParts.{plan_parts}
 use Rattle.iim_object.proofs.Written.{stream_append}
 use Rattle.wire_message.specs.Format.Canonical.{canonical}
-use Rattle.iim_pack.specs.Laws.Packed.{PackedOctetsCarryTheValue}
+use Rattle.iim_pack.specs.Laws.{PackedOctetsCarryTheValue}
 use Rattle.wire_message.proofs.MessageOctets.{message_octets}
 use Rattle.iim_pack.proofs.Spelling.{record_spelled}
 use Rattle.iim_pack.proofs.Sorting.{AreInOrder, AreOf, kept_are, sevens_are, eights_are, nines_are, object_joined}

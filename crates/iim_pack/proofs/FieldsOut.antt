@@ -2,7 +2,7 @@
 use Rattle.std.proofs.Common.{◌≡◌, ℕ, ◌+◌, ◌*◌, ◌^◌, ◌<◌, ◌≤◌, List, [], ◌∷◌, ◌++◌, length, sym, ap, subst, ◌∙◌, arith, append_assoc, append-nil, length-append}
 use Rattle.iim_object.proofs.Written.{stream_append}
 use Rattle.iim_dataset.specs.States.Devices.{Device, Wrote, Stopped}
-use Rattle.iim_dataset.specs.Laws.Devices.{TextsJoin}
+use Rattle.iim_dataset.specs.Laws.{TextsJoin}
 use Rattle.iim_dataset.specs.Format.Datasets.{Dataset, canonical_dataset, canonical_stream, tag_octets}
 use Rattle.iim_dataset.proofs.StoppedTexts.{stopped_more}
 use Rattle.iim_dataset.proofs.WrittenNumbers.{dataset_length}

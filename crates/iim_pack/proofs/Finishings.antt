@@ -15,13 +15,13 @@ use Rattle.iim_object.specs.declared.size.Size.TheVariants.{Known, Unknown}
 use Rattle.wire_story.specs.Format.Texts.{packed_text}
 use Rattle.wire_story.specs.Format.Delivery.{StoryEvent}
 use Rattle.wire_story.specs.Format.Packing.{packed_events, lines_of}
-use Rattle.wire_story.specs.Laws.Packing.{EventsArePackedAsLines}
+use Rattle.wire_story.specs.Laws.{EventsArePackedAsLines}
 use Rattle.wire_message.specs.Format.Fields.{is_trailer_octet}
 use Rattle.wire_message.specs.Format.Messages.{Header, IsTrailer}
 use Rattle.wire_message.specs.Format.Canonical.{packed_head, packed_tail, canonical}
-use Rattle.wire_message.specs.Laws.Messages.{CanonicalObjectsAreMessages}
+use Rattle.wire_message.specs.Laws.{CanonicalObjectsAreMessages}
 use Rattle.iim_pack.specs.States.Packing.{BreaksOff, EndsIn, Finishes, is_trailer, ending_cause}
-use Rattle.iim_pack.specs.Ending.{Ends, EndsWithTail}
+use Rattle.iim_pack.specs.Steps.{Ends, EndsWithTail}
 use Rattle.iim_pack.proofs.Goings.{breaks}
 
 -- ---- causes

@@ -12,7 +12,7 @@ use Rattle.iim_object.specs.declared.plan.Plan.{Plan}
 use Rattle.wire_story.specs.Format.Texts.{is_line_octet, IsLine, packed_text}
 use Rattle.wire_story.specs.Format.Delivery.{StoryEvent, LineOctet, events_of_lines}
 use Rattle.wire_story.specs.Format.Packing.{packed_events, AreEvents}
-use Rattle.wire_story.specs.Laws.Packing.{LinesArePackedAsTheirEvents}
+use Rattle.wire_story.specs.Laws.{LinesArePackedAsTheirEvents}
 use Rattle.wire_story.proofs.PackedEvents.{events_append}
 use Rattle.wire_message.specs.Format.Messages.{Header}
 use Rattle.wire_message.specs.Format.Canonical.{packed_head, packed_tail, canonical}

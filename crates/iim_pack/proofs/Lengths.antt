@@ -6,13 +6,12 @@ use Rattle.iim_dataset.specs.Format.Octets.{greatest_size}
 use Rattle.iim_fields.specs.Format.Faults.{joined}
 use Rattle.iim_object.specs.Format.Cuts.{IsCut}
 use Rattle.iim_object.specs.Format.Packing.{number_dataset, plan_datasets, subfile_dataset, subfile_datasets, confirmed_datasets, object_datasets}
-use Rattle.iim_object.specs.Laws.Packing.{SubfilesAreFew}
+use Rattle.iim_object.specs.Laws.{SubfilesAreFew}
 use Rattle.iim_object.specs.States.Writing.{plan_octets}
-use Rattle.iim_object.proofs.PlanLengths.{number_length}
+use Rattle.iim_object.proofs.PlanParts.{number_length, plan_parts}
 use Rattle.iim_object.specs.declared.plan.Plan.{Plan}
 use Rattle.wire_message.specs.Format.Canonical.{canonical}
-use Rattle.iim_pack.specs.Laws.Packed.{PackedOctetsAreFew}
-use Rattle.iim_object.proofs.PlanParts.{plan_parts}
+use Rattle.iim_pack.specs.Laws.{PackedOctetsAreFew}
 use Rattle.iim_object.proofs.Written.{stream_append}
 use Rattle.iim_pack.proofs.FieldsOut.{stream_length}
 use Rattle.iim_pack.proofs.Ones.{few_subfiles}

@@ -3,18 +3,18 @@ use Rattle.std.proofs.Common.{◌≡◌, ℕ, ◌+◌, ◌≤◌, None, List, []
 use Rattle.std.proofs.lemmas.List.{take-append-drop}
 use Rattle.std.proofs.lemmas.Bool.{le-leb}
 use Rattle.iim_dataset.specs.States.Devices.{Device, Wrote, Stopped, BrokeAfter, WithinInterruptionLimit}
-use Rattle.iim_dataset.specs.Laws.Devices.{TextsJoin}
+use Rattle.iim_dataset.specs.Laws.{TextsJoin}
 use Rattle.iim_dataset.specs.Format.Datasets.{canonical_stream}
 use Rattle.iim_object.specs.Format.Packing.{IsWritten, plan_datasets, subfile_datasets, confirmed_datasets}
 use Rattle.iim_object.specs.Format.Plans.{most_sizes}
-use Rattle.iim_object.proofs.PlanLengths.{plan_length}
+use Rattle.iim_object.proofs.PlanParts.{plan_length}
 use Rattle.iim_object.specs.Format.Cuts.{joined_parts}
 use Rattle.iim_object.specs.States.Writing.{Writing, IsWrittenFrom, HasWritten, Lengthens, BreaksOff, ContinuesWith, Begins, most_of, total_of, plan_octets, write_cause}
 use Rattle.iim_object.specs.declared.plan.Plan.{Plan}
 use Rattle.iim_object.specs.declared.writing.cause.StartFault.{StartFault}
 use Rattle.iim_object.specs.declared.writing.cause.PackCause.TheVariants as causes
 use Rattle.iim_object.proofs.Written.{stream_append, front_length}
-use Rattle.iim_pack.specs.Opening.{Opens}
+use Rattle.iim_pack.specs.Steps.{Opens}
 use Rattle.iim_pack.specs.States.Starting.{StartBreaksOff}
 
 pub begins_by : (text rest whole : List ℕ) (n : ℕ) → whole ≡ text ++ rest → Begins (take n text) whole

@@ -5,7 +5,7 @@ use Rattle.std.specs.Option.{option_map, option_or}
 use Rattle.std.proofs.lemmas.Bool.{and_parts, leb-true, cond_both}
 use Rattle.iim_dataset.specs.Format.Octets.{IsOctet, greatest_size, within}
 use Rattle.iim_dataset.specs.Format.Datasets.{Dataset, count_octets}
-use Rattle.iim_dataset.specs.Laws.Datasets.{HasSpellings}
+use Rattle.iim_dataset.specs.Laws.{HasSpellings}
 use Rattle.iim_tables.specs.Format.Rows.{table, row_of, row_in, row_of_others, is_admitted}
 use Rattle.iim_tables.specs.declared.shape.Row.{Row}
 use Rattle.iim_tables.specs.Format.Records.{IsGoodDataset}

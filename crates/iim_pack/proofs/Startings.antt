@@ -1,7 +1,7 @@
 -- How a packer begins.
 use Rattle.std.proofs.Common.{◌≡◌, ℕ, ◌+◌, List, [], ◌++◌, length, take, refl, sym, subst, ◌∙◌, arith, append-nil, length-append, length-take}
 use Rattle.iim_dataset.specs.States.Devices.{Device, Wrote, Stopped, WithinInterruptionLimit}
-use Rattle.iim_dataset.specs.Laws.Devices.{TextsJoin}
+use Rattle.iim_dataset.specs.Laws.{TextsJoin}
 use Rattle.iim_dataset.specs.Format.Datasets.{Dataset, canonical_stream}
 use Rattle.iim_fields.specs.Format.Envelopes.{IsEnvelope}
 use Rattle.iim_object.specs.States.Writing as object
@@ -13,7 +13,7 @@ use Rattle.wire_story.specs.Format.Texts.{packed_text}
 use Rattle.wire_message.specs.Format.Messages.{Header, IsHeader}
 use Rattle.wire_message.specs.Format.Canonical.{packed_head, packed_tail}
 use Rattle.iim_pack.specs.States.Packing.{FormWith}
-use Rattle.iim_pack.specs.Opening.{Opens}
+use Rattle.iim_pack.specs.Steps.{Opens}
 use Rattle.iim_pack.specs.States.Starting.{StartBreaksOff, Starts}
 use Rattle.iim_pack.proofs.Goings.{begins_after}
 use Rattle.iim_pack.proofs.Openings.{begins_by, halts_after}

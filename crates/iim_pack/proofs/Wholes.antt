@@ -2,7 +2,7 @@
 use Rattle.std.proofs.Common.{◌≡◌, ℕ, ◌+◌, ◌≤◌, true, false, not, nat_le, None, inl, inr, List, [], ◌∷◌, ◌++◌, length, refl, sym, ap, subst, ◌∙◌, arith, append-nil, length-append}
 use Rattle.std.proofs.lemmas.Bool.{leb-true, le-leb, not-false}
 use Rattle.iim_dataset.specs.States.Devices.{Device}
-use Rattle.iim_dataset.specs.Laws.Devices.{TextsJoin}
+use Rattle.iim_dataset.specs.Laws.{TextsJoin}
 use Rattle.iim_dataset.specs.Format.Datasets.{Dataset}
 use Rattle.iim_object.specs.Format.Plans.{is_short}
 use Rattle.iim_object.specs.States.Writing.{most_of, total_of, passes_plan}
@@ -12,9 +12,8 @@ use Rattle.iim_object.specs.declared.writing.cause.PackCause.TheVariants as caus
 use Rattle.wire_story.specs.Format.Texts.{packed_text, MakeText}
 use Rattle.wire_story.specs.Format.Delivery.{StoryEvent, events_of_lines}
 use Rattle.wire_story.specs.States.Collecting.{collect}
-use Rattle.wire_story.specs.Laws.Texts.{PackedLinesAreAText, TextsAreDeliveredAsLines, TextsAreCollectedAsLines}
+use Rattle.wire_story.specs.Laws.{PackedLinesAreAText, TextsAreDeliveredAsLines, TextsAreCollectedAsLines, LinesArePackedAsTheirEvents}
 use Rattle.wire_story.specs.Format.Packing.{packed_events, lines_of}
-use Rattle.wire_story.specs.Laws.Packing.{LinesArePackedAsTheirEvents}
 use Rattle.wire_message.specs.Format.Messages.{Header}
 use Rattle.wire_message.specs.Format.Canonical.{packed_head, packed_tail, canonical}
 use Rattle.iim_pack.specs.Format.Packed.{Packed}

@@ -1,1 +1,49 @@
-pub mod Packed
+-- What holds of all packed octets.
+use Rattle.std.specs.Prelude.{◌≡◌, ℕ, ◌<◌, ◌≤◌, List, ◌++◌, length}
+use Rattle.iim_dataset.specs.Format.Datasets.{Dataset, SpellsStream, count_octets, of_record}
+use Rattle.iim_fields.specs.Format.Records.{AreSections}
+use Rattle.iim_fields.specs.States.Builders.{AreFew}
+use Rattle.iim_fields.specs.Format.Faults.{kept, joined}
+use Rattle.iim_object.specs.Format.Plans.{max_subfiles, most_out}
+use Rattle.iim_object.specs.Format.Records.{HaveSizes}
+use Rattle.iim_object.specs.Format.Packing.{object_datasets, packed_sizes}
+use Rattle.iim_object.specs.declared.plan.Plan.{Plan}
+use Rattle.iim_object.specs.declared.size.Sizes.{Sizes}
+use Rattle.wire_message.specs.Format.Messages.{Header}
+use Rattle.wire_message.specs.Format.Canonical.{canonical}
+use Rattle.iim_pack.specs.Format.Packed.{Packed}
+
+-- the datasets of a packed form
+abbrev pub datasets_of : {fields : List Dataset} → {head : Header} → {lines : List (List ℕ)} → {trailer : List ℕ} → {plan : Plan} → {octets : List ℕ} → Packed fields head lines trailer plan octets → List Dataset
+datasets_of {fields} {head} {lines} {trailer} {plan} {octets} p = fields ++ object_datasets plan.subfile plan.size (canonical head lines trailer) p.written.parts
+
+-- The octets spell datasets that are the records 1, 2, 7, 8 and 9, each good; of these the first two are the fields, the data of
+-- record 8 are the object, and records 7 to 9 state the sizes.
+-- no twin: no code has these words
+pub record Carries (octets : List ℕ) (datasets fields : List Dataset) (object : List ℕ) (sizes : Sizes) : Type 0 where
+  pub spelled : SpellsStream count_octets datasets octets
+  pub sections : AreSections datasets
+  pub fields_are : kept datasets ≡ fields
+  pub object_is : joined (of_record 8 datasets) ≡ object
+  pub sizes_are : HaveSizes (of_record 7 datasets) (of_record 8 datasets) (of_record 9 datasets) sizes
+
+-- Packed octets carry the fields, the canonical object, and the sizes of the plan.
+abbrev pub PackedOctetsCarryTheValue : Type 0
+PackedOctetsCarryTheValue = (fields : List Dataset) (head : Header) (lines : List (List ℕ)) (trailer : List ℕ) (plan : Plan) (octets : List ℕ)
+    → (p : Packed fields head lines trailer plan octets)
+    → Carries octets (datasets_of p) fields (canonical head lines trailer) (packed_sizes plan.subfile plan.size (canonical head lines trailer) p.written.parts)
+
+-- There is one packed form: it is a function of what is packed, and of the plan.
+abbrev pub PackedOctetsAreOne : Type 0
+PackedOctetsAreOne = (fields : List Dataset) (head : Header) (lines : List (List ℕ)) (trailer : List ℕ) (plan : Plan) (octets others : List ℕ)
+    → Packed fields head lines trailer plan octets → Packed fields head lines trailer plan others → octets ≡ others
+
+-- A packed form has no more subfiles than one envelope may have.
+abbrev pub PackedSubfilesAreFew : Type 0
+PackedSubfilesAreFew = (fields : List Dataset) (head : Header) (lines : List (List ℕ)) (trailer : List ℕ) (plan : Plan) (octets : List ℕ)
+    → (p : Packed fields head lines trailer plan octets) → length p.written.parts ≤ max_subfiles
+
+-- A packed form of no more fields than limits can allow has fewer octets than are ever out.
+abbrev pub PackedOctetsAreFew : Type 0
+PackedOctetsAreFew = (fields : List Dataset) (head : Header) (lines : List (List ℕ)) (trailer : List ℕ) (plan : Plan) (octets : List ℕ)
+    → Packed fields head lines trailer plan octets → AreFew fields → length octets < most_out

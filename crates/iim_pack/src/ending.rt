@@ -4,7 +4,7 @@ ghost use Rattle.std.specs.Prelude.{◌≡◌, ◌+◌, ◌≤◌, false, length
 ghost use Rattle.iim_object.specs.Format.Plans.{is_short};
 ghost use Rattle.iim_object.specs.States.Writing.{BreaksOff, most_of, total_of};
 ghost use Rattle.iim_object.specs.declared.writing.cause.PackCause.TheVariants as causes;
-ghost use Rattle.iim_pack.specs.Ending.{Ends, EndsWithTail};
+ghost use Rattle.iim_pack.specs.Steps.{Ends, EndsWithTail};
 
 use iim_dataset::Target;
 use iim_dataset::device_laws::texts_join;

@@ -1,6 +1,6 @@
 //! What holds of all packed octets. The functions do nothing: their contracts are the laws.
 
-ghost use Rattle.iim_pack.specs.Laws.Packed.{PackedOctetsAreFew, PackedOctetsAreOne, PackedOctetsCarryTheValue, PackedSubfilesAreFew};
+ghost use Rattle.iim_pack.specs.Laws.{PackedOctetsAreFew, PackedOctetsAreOne, PackedOctetsCarryTheValue, PackedSubfilesAreFew};
 
 use iim_dataset::laws::dataset_laws;
 use iim_object::laws::{object_laws, objects_are_cut_one_way};

@@ -7,7 +7,7 @@ ghost use Rattle.wire_story.specs.Format.Texts.{IsLine, MakeText};
 ghost use Rattle.wire_story.specs.Format.Packing.{packed_events};
 ghost use Rattle.wire_story.specs.Format.Delivery.{events_of_lines};
 ghost use Rattle.iim_pack.specs.States.Packing.{Lengthens, BreaksOff, ContinuesWith, least_ending};
-ghost use Rattle.iim_pack.specs.LineEvents.{line_events};
+ghost use Rattle.iim_pack.specs.Steps.{line_events};
 
 use crate::packer::Packer;
 use iim_dataset::Target;

@@ -3,7 +3,7 @@
 ghost use Rattle.std.specs.Prelude.{◌≡◌, ◌+◌, ◌<◌, ◌≤◌, ◌^◌, length, IfOk, IfErr};
 ghost use Rattle.iim_object.specs.Format.Plans.{most_out};
 ghost use Rattle.iim_object.specs.States.Writing.{most_of, room_of, IsWrittenFrom};
-ghost use Rattle.iim_pack.specs.Opening.{Opens};
+ghost use Rattle.iim_pack.specs.Steps.{Opens};
 ghost use Rattle.iim_pack.specs.States.Starting.{StartBreaksOff};
 
 use iim_dataset::Target;

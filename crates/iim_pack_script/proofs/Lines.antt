@@ -13,11 +13,11 @@ use Rattle.wire_story.specs.Format.Texts.{IsLine, IsText}
 use Rattle.wire_story.specs.Format.Delivery.{StoryEvent, LineOctet, LineEnd, events_of_lines}
 use Rattle.wire_story.specs.Format.Packing.{lines_of, packed_events}
 use Rattle.wire_story.specs.States.Collecting.{collect}
-use Rattle.wire_story.specs.Laws.Texts.{TextsAreDeliveredAsLines}
+use Rattle.wire_story.specs.Laws.{TextsAreDeliveredAsLines}
 use Rattle.wire_story.proofs.Collected.{text_collected}
 use Rattle.wire_story.proofs.PackedEvents.{events_append, line_packed}
 use Rattle.iim_pack.specs.States.Packing.{is_trailer, pack_cause}
-use Rattle.iim_pack_script.specs.Format.Packing.{Asked, IsPlanOf, ScriptContent, object_of, said_size}
+use Rattle.iim_pack_script.specs.Format.{Asked, IsPlanOf, ScriptContent, object_of, said_size}
 
 -- the lines of the events of lines are these
 pub again : TextsAreDeliveredAsLines → (text : List ℕ) (lines : List (List ℕ)) → IsText text lines → lines_of (events_of_lines lines) ≡ lines

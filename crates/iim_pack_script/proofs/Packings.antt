@@ -2,9 +2,9 @@
 use Rattle.std.proofs.Common.{◌≡◌, ℕ, ◌+◌, ap, length-append, IfOk, ◌&&◌, min, nat_le, ◌<◌, ◌≤◌, ◌++◌, List, [], ◌∷◌, length, inl, inr, refl, take, drop, append_assoc, take-append-drop, sym, subst, ◌∙◌, arith, Bool, true, false, Option, Some, None, Result, Ok, Err, IfErr, IfSome, IfNone, IsTrue}
 use Rattle.std.proofs.lemmas.Bool.{and_parts, leb-true}
 use Rattle.iim_dataset.specs.Format.Octets.{greatest_size}
-use Rattle.iim_dataset.specs.Appending.{appends_nothing}
+use Rattle.iim_dataset.specs.HandedIn.{appends_nothing}
 use Rattle.iim_dataset.specs.States.Devices.{Device, BrokeAfter, HasGiven, Stopped, Wrote}
-use Rattle.iim_dataset.specs.Laws.Devices.{GiftsJoin}
+use Rattle.iim_dataset.specs.Laws.{GiftsJoin}
 use Rattle.iim_object.specs.Format.Plans.{bound_of, fits, is_plan, most_in}
 use Rattle.iim_object.specs.States.Writing.{Begins, most_of, IsBelowKnown}
 use Rattle.iim_object.specs.declared.writing.cause.PackCause.{PackCause}
@@ -19,7 +19,7 @@ use Rattle.iim_dataset.proofs.DeviceLaws.{broke_later}
 use Rattle.iim_pack.specs.States.Packing.{pack_cause}
 use Rattle.iim_pack.specs.Format.Orders.{IsFirstOf, AgainstPack}
 use Rattle.iim_pack.specs.Format.Packed.{Packed}
-use Rattle.iim_pack.specs.Laws.Packed.{PackedOctetsAreOne}
+use Rattle.iim_pack.specs.Laws.{PackedOctetsAreOne}
 use Rattle.iim_pack.specs.States.Starting.{StartIsRefused, StartBreaksOff}
 use Rattle.iim_pack.specs.States.Whole.{IsPackFault, Packs}
 use Rattle.iim_script.specs.Format.Faults.{IsScriptFault}
@@ -27,8 +27,8 @@ use Rattle.iim_script.specs.Format.Scripts.{max_script}
 use Rattle.iim_script.specs.declared.fault.ScriptFault.{ScriptFault}
 use Rattle.iim_output.specs.Format.Limits.{limits}
 use Rattle.iim_output.specs.States.Devices.{devices}
-use Rattle.iim_output.specs.Format.Said.{IsSaid}
-use Rattle.iim_pack_script.specs.Format.Packing.{Answered, Asked, FitsAsked, IsNotPacked, IsPast, IsPlanOf, IsRead, IsScriptRefusal, IsScriptOf, IsUnanswered, IsUnread, ScriptContent, most_asked, most_for, object_of, refusal_line, said_size}
+use Rattle.iim_output.specs.Format.Statuses.{IsSaid}
+use Rattle.iim_pack_script.specs.Format.{Answered, Asked, FitsAsked, IsNotPacked, IsPast, IsPlanOf, IsRead, IsScriptRefusal, IsScriptOf, IsUnanswered, IsUnread, ScriptContent, most_asked, most_for, object_of, refusal_line, said_size}
 use Rattle.iim_pack_script.specs.Blocks.{IsFresh, block_device, held_in, octets_behind}
 use Rattle.iim_pack_script.specs.declared.blocks.BlockTarget.{BlockTarget}
 use Rattle.iim_pack_script.proofs.BlockSteps.{broken_off, finished}

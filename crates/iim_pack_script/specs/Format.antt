@@ -1,1 +1,162 @@
-pub mod Packing
+-- What `pack` leaves of its input, its output and its errors.
+use Rattle.std.specs.Prelude.{◌≡◌, ◌≢◌, ℕ, min, ◌+◌, ◌<◌, ◌≤◌, ◌⊎◌, Bool, true, false, List, ◌++◌, length, codes, decimal, Option, Some}
+use Rattle.std.specs.Io.KnownBytes.{IsAtEnd}
+use Rattle.iim_dataset.specs.Format.Octets.{greatest_size}
+use Rattle.iim_dataset.specs.Format.Datasets.{Dataset}
+use Rattle.iim_dataset.specs.States.Devices.{Device, Wrote, BrokeAfter, HasGiven, MissedAfter}
+use Rattle.iim_dataset.specs.declared.device.IoFault.{IoFault}
+use Rattle.iim_object.specs.Format.Plans.{most_in}
+use Rattle.iim_object.specs.Format.PackCauses.{pack_number}
+use Rattle.iim_object.specs.States.Writing.{Begins}
+use Rattle.iim_object.specs.declared.writing.cause.PackCause.TheVariants as causes
+use Rattle.iim_object.specs.declared.plan.Plan.{Plan}
+use Rattle.iim_object.specs.declared.size.Size.{Size}
+use Rattle.iim_object.specs.declared.size.Size.TheVariants.{Known, Unknown}
+use Rattle.wire_message.specs.Format.Messages.{Header}
+use Rattle.wire_message.specs.Format.Canonical.{canonical}
+use Rattle.iim_pack.specs.Format.Packed.{Packed}
+use Rattle.iim_script.specs.Format.Causes.{cause_name, cause_number}
+use Rattle.iim_script.specs.Format.Faults.{IsScriptFault}
+use Rattle.iim_script.specs.Format.Scripts.{IsScript, max_script}
+use Rattle.iim_script.specs.declared.fault.ScriptCause.{ScriptCause}
+use Rattle.iim_script.specs.declared.fault.ScriptCause.TheVariants as script
+use Rattle.iim_output.specs.declared.fault.CommandFault.{CommandFault}
+use Rattle.iim_output.specs.declared.fault.CommandFault.TheVariants.{CannotRead, CannotWrite, OutOfMemory}
+use Rattle.iim_pack_script.specs.declared.packing.PackFault.{PackFault}
+use Rattle.iim_pack_script.specs.declared.packing.PackFault.TheVariants.{Refused, Around}
+use Rattle.iim_output.specs.States.Devices.{Devices}
+use Rattle.iim_output.specs.Format.Limits.{limits}
+use Rattle.iim_output.specs.Format.Statuses.{IsSaid, status_accepted, status_refused}
+
+-- how an envelope is to be packed: the octets of a full subfile; whether the size is to be left unknown, and then the most octets of
+-- the object
+pub record Asked : Type 0 where
+  pub subfile : ℕ
+  pub unknown : Bool
+  pub max : Option ℕ
+
+abbrev pub asked : ℕ → Bool → Option ℕ → Asked
+asked subfile unknown max = record { subfile = subfile; unknown = unknown; max = max }
+
+-- the size that is said of an object: how many octets it has, or no more than a maximum
+-- twins (with most_asked): `packs_great_sizes_in_eight_octets`, `packs_as_it_is_asked`
+abbrev pub said_size : Bool → Option ℕ → List ℕ → Size
+said_size false max object = Known (length object)
+said_size true max object = Unknown max
+
+-- the most octets of an object: the maximum of an unknown size, or else the greatest size
+abbrev pub most_asked : Bool → Option ℕ → ℕ
+most_asked true (Some most) = most
+most_asked unknown max = greatest_size
+
+-- and no more than the subfiles hold that there may be
+-- twin that nothing finds: a script is too short for so long an object. The bound itself: "Plans: the most octets of an object"
+abbrev pub most_for : Asked → ℕ
+most_for a = min (most_asked a.unknown a.max) (most_in a.subfile)
+
+-- The plan is the one that is asked for, of this object.
+pub record IsPlanOf (a : Asked) (object : List ℕ) (plan : Plan) : Type 0 where
+  pub subfile_is : plan.subfile ≡ a.subfile
+  pub size_is : plan.size ≡ said_size a.unknown a.max object
+
+-- ---- what a script tells
+
+pub record ScriptContent : Type 0 where
+  pub fields : List Dataset
+  pub head : Header
+  pub trailer : List ℕ
+  pub lines : List (List ℕ)
+  pub text_line : ℕ
+
+-- the object of it
+abbrev pub object_of : ScriptContent → List ℕ
+object_of t = canonical t.head t.lines t.trailer
+
+-- The object has no more octets than are asked for.
+abbrev pub FitsAsked : Asked → ScriptContent → Type 0
+FitsAsked a t = length (object_of t) ≤ most_for a
+
+-- It has more.
+-- twins (with IsPastLine): `tells_what_is_wrong_with_a_script`, `takes_numbers_with_a_plus_and_zeros`
+abbrev pub IsPast : Asked → ScriptContent → Type 0
+IsPast a t = most_for a < length (object_of t)
+
+-- The octets are a script, within the program's limits, that tells this.
+abbrev pub IsScriptOf : List ℕ → ScriptContent → Type 0
+IsScriptOf octets t = IsScript limits octets t.fields t.head t.trailer t.lines t.text_line
+
+-- The form is the packed one of what is told, as it is asked for.
+pub record IsFormOf (a : Asked) (t : ScriptContent) (form : List ℕ) : Type 0 where
+  pub plan : Plan
+  pub is_plan : IsPlanOf a (object_of t) plan
+  pub packed : Packed t.fields t.head t.lines t.trailer plan form
+
+-- the line that tells a refusal: the number of a line of the script, and a cause's number and name
+-- twin: `tells_what_is_wrong_with_a_script`, `tells_the_first_wrong_line`
+abbrev pub refusal_line : ℕ → ℕ → List ℕ → List ℕ
+refusal_line line number name =
+    codes "refused: script line " ++ (decimal line ++ (codes " cause " ++ (decimal number ++ (codes " " ++ (name ++ codes "\n")))))
+
+-- The octets are no script, and the line tells their first fault.
+abbrev pub IsFaultLine : List ℕ → List ℕ → Type 0
+IsFaultLine octets text = (line : ℕ) × (cause : ScriptCause) × IsScriptFault limits octets line cause × (cause ≢ script.OutOfMemory)
+    × (text ≡ refusal_line line (cause_number cause) (cause_name cause))
+
+-- The octets are a script whose object has more octets than are asked for, which is told of the line `text`.
+abbrev pub IsPastLine : Asked → List ℕ → List ℕ → Type 0
+IsPastLine a octets text = (t : ScriptContent) × IsScriptOf octets t × IsPast a t
+    × (text ≡ refusal_line t.text_line (pack_number causes.PastAnnounced) (codes "PastAnnounced"))
+
+-- Why the octets are not packed, and the line that tells it.
+abbrev pub IsScriptRefusal : Asked → List ℕ → List ℕ → Type 0
+IsScriptRefusal a octets text = IsFaultLine octets text ⊎ IsPastLine a octets text
+
+-- ---- the input
+
+-- These octets were read, and no read failed: all that the input has, or one more than a script may have.
+-- twin: `reads_one_octet_of_a_script_too_many_at_most`
+abbrev pub IsRead : Device → Device → List ℕ → Type 0
+IsRead old new octets = HasGiven old new octets × ((IsAtEnd new.octets × (length octets ≤ max_script)) ⊎ (length octets ≡ max_script + 1))
+
+-- Why the input was not read: a read failed after no more octets than a script may have; or memory was short.
+abbrev pub IsUnread : Device → Device → CommandFault → Type 0
+IsUnread old new CannotRead = (octets : List ℕ) × (fault : IoFault) × (length octets ≤ max_script) × MissedAfter old new octets fault
+IsUnread old new CannotWrite = ⊥
+IsUnread old new OutOfMemory = (octets : List ℕ) × (length octets ≤ max_script + 1) × HasGiven old new octets
+
+-- ---- the output
+
+-- The octets are a script, and the form that is asked for of what it tells is out.
+abbrev pub IsPacked : Asked → List ℕ → Device → Device → Type 0
+IsPacked a octets old new = (t : ScriptContent) × (form : List ℕ) × IsScriptOf octets t × IsFormOf a t form × Wrote old new form
+
+-- The octets are a script whose object has room, and a write failed after octets with which the form begins that is packed of what
+-- the script tells by the plan that is asked for.
+abbrev pub IsBrokenOff : Asked → List ℕ → Device → Device → Type 0
+IsBrokenOff a octets old new = (t : ScriptContent) × (plan : Plan) × (out : List ℕ) × IsScriptOf octets t × FitsAsked a t × IsPlanOf a (object_of t) plan × BrokeAfter old new out
+    × ((form : List ℕ) → Packed t.fields t.head t.lines t.trailer plan form → Begins out form)
+
+-- ---- octets
+
+-- Why the octets are not packed: they are refused, by the line that tells it; or the output broke; or memory was short. Only where the
+-- output broke anything is written.
+abbrev pub IsNotPacked : Asked → List ℕ → Device → Device → PackFault → Type 0
+IsNotPacked a octets old new (Refused line number name) = (new ≡ old) × IsScriptRefusal a octets (refusal_line line number name.now)
+IsNotPacked a octets old new (Around CannotRead) = ⊥
+IsNotPacked a octets old new (Around CannotWrite) = IsBrokenOff a octets old new
+IsNotPacked a octets old new (Around OutOfMemory) = new ≡ old
+
+-- ---- what is left
+
+-- The envelope of the script is packed, and nothing is told; or the script is refused, nothing is written to the output, and the
+-- errors tell it.
+abbrev pub Answered : Asked → Devices → Devices → ℕ → Type 0
+Answered a old new status = (octets : List ℕ) × IsRead old.input new.input octets
+    × ((IsPacked a octets old.output new.output × (new.errors ≡ old.errors) × (status ≡ status_accepted))
+    ⊎ ((text : List ℕ) × IsScriptRefusal a octets text × (new.output ≡ old.output) × IsSaid old.errors new.errors text status_refused status))
+
+-- Why there is no answer: the input was not read; or memory was short; or the output broke. Only in the last case anything is written.
+abbrev pub IsUnanswered : Asked → Devices → Devices → CommandFault → Type 0
+IsUnanswered a old new CannotRead = IsUnread old.input new.input CannotRead × (new.output ≡ old.output)
+IsUnanswered a old new CannotWrite = (octets : List ℕ) × IsRead old.input new.input octets × IsBrokenOff a octets old.output new.output
+IsUnanswered a old new OutOfMemory = IsUnread old.input new.input OutOfMemory × (new.output ≡ old.output)

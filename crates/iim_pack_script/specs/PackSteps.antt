@@ -18,7 +18,7 @@ use Rattle.iim_output.specs.declared.fault.CommandFault.{CommandFault}
 use Rattle.iim_output.specs.declared.fault.CommandFault.TheVariants.{CannotRead, CannotWrite, OutOfMemory}
 use Rattle.iim_pack_script.specs.declared.packing.PackFault.{PackFault}
 use Rattle.iim_pack_script.specs.declared.packing.PackFault.TheVariants.{Refused, Around}
-use Rattle.iim_pack_script.specs.Format.Packing.{Asked, FitsAsked, IsFormOf, IsPast, IsPlanOf, ScriptContent, object_of}
+use Rattle.iim_pack_script.specs.Format.{Asked, FitsAsked, IsFormOf, IsPast, IsPlanOf, ScriptContent, object_of}
 
 -- One read, past interruptions, added `count` octets: none only at the end.
 pub record GotSome (old new : Device) (before after : List ℕ) (count : ℕ) : Type 0 where

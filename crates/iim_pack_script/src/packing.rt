@@ -6,11 +6,10 @@ ghost use Rattle.wire_story.specs.Format.Texts.{IsText, packed_text};
 ghost use Rattle.iim_pack.specs.States.Packing.{pack_cause};
 ghost use Rattle.iim_script.specs.Format.Scripts.{text_lines};
 ghost use Rattle.iim_output.specs.States.Devices.{devices};
-ghost use Rattle.iim_pack_script.specs.Format.Packing.{Answered, IsNotPacked, IsPacked, IsPast, IsPlanOf, IsRead, IsUnanswered, IsUnread, asked, object_of, refusal_line};
+ghost use Rattle.iim_pack_script.specs.Format.{Answered, IsNotPacked, IsPacked, IsPast, IsPlanOf, IsRead, IsUnanswered, IsUnread, asked, object_of, refusal_line};
 ghost use Rattle.iim_pack_script.specs.PackSteps.{ComesTo, GotSome, IsFailedRead, MayComeOf, PacksTold, TellsFault, UnpacksTold, told_by};
-ghost use Rattle.iim_output.specs.Format.Said.{IsSaid};
+ghost use Rattle.iim_output.specs.Format.Statuses.{IsSaid, status_refused};
 ghost use Rattle.iim_output.specs.declared.fault.CommandFault.TheVariants.{OutOfMemory};
-ghost use Rattle.iim_output.specs.Format.Statuses.{status_refused};
 
 use crate::blocks::BlockTarget;
 use crate::script::read_script;

@@ -1,9 +1,7 @@
 -- Admitted octets have one value, and end where they end.
 use Rattle.std.proofs.Common.{◌≡◌, ℕ, List, [], ap, sym, ◌∙◌, subst, append-nil}
-use Rattle.iim_places.proofs.Words.{SpellsStream, count_octets, of_record, NoDatasetBeginsAnother, kept, NoSectionsBeginOthers, RecordsAreByNumber, AreSized}
-use Rattle.iim_places.proofs.Words.{SizesAreDetermined, MessagesHaveOneReading, Value, Admits, object_of, AdmittedOctetsHaveOneValue}
-use Rattle.iim_places.proofs.Words.{NoAdmittedOctetsBeginOthers, AdmittedOctetsAreFramed}
-use Rattle.wire_story.specs.Laws.Texts.{TextsHaveOneReading}
+use Rattle.iim_places.proofs.Words.{SpellsStream, count_octets, of_record, NoDatasetBeginsAnother, kept, NoSectionsBeginOthers, RecordsAreByNumber, AreSized, SizesAreDetermined, MessagesHaveOneReading, Value, Admits, object_of, AdmittedOctetsHaveOneValue, NoAdmittedOctetsBeginOthers, AdmittedOctetsAreFramed}
+use Rattle.wire_story.specs.Laws.{TextsHaveOneReading}
 use Rattle.iim_places.proofs.Frames.{envelope_alone}
 use Rattle.iim_places.proofs.Objects.{are_records}
 

@@ -1,29 +1,19 @@
 -- A stream has one answer: what is refused, what is open and what is an envelope exclude one another.
-use Rattle.std.proofs.Common.{◌≡◌, ◌≢◌, ℕ, zero, suc, ◌-◌, ◌^◌, ◌<◌, ◌≤◌, ◌⊎◌, false, nat_eq, List, [], ◌∷◌, ◌++◌, length, take, drop, slice_index, refl, ap}
-use Rattle.std.proofs.Common.{sym, subst, ◌∙◌, inl, inr, arith, append-nil, append_assoc, length-append}
-use Rattle.iim_places.proofs.Words.{cases_lt, ne_eqb, same_Some, eqb_tells, map-append, take-append-drop, take-length, take-take, Dataset, SpellsTag, head_of}
-use Rattle.iim_places.proofs.Words.{SpellsDataset, SpellsStream, count_octets, Begun, InTag, InData, IsBegun, Reads, BeginsNoTag, Head, AreSections, data_of}
-use Rattle.iim_places.proofs.Words.{SectionsLive, section_after, Limits, AreSized, Holds, Octet, MessageLanguage, MessageLivesWith, MessageDiesAt, StoryLivesIn}
-use Rattle.iim_places.proofs.Words.{text_so_far, HasCause, MessageCause, Value, Admits, object_of, begun_record, begun_number, tag_cause, refusal_at, IsTextOf}
-use Rattle.iim_places.proofs.Words.{message_on, AdmittedOctetsHaveOneValue, NoAdmittedOctetsBeginOthers, object_so_far, AllCanContinue, IsUnfinished, Answer}
-use Rattle.iim_places.proofs.Words.{RefusesByTests, RefusesNext, truncated_in, IsRefusedHead, IsRefusedValue, OpenOctetsBeginWithNoEnvelope, IsEnvelopeWithin}
-use Rattle.iim_places.proofs.Words.{EnvelopesAreBounded, NothingContinuesFromRefusedOctets, RefusalsAreDetermined, StreamsHaveOneAnswer, Answers, Finished}
-use Rattle.iim_places.proofs.Words.{Refused, Truncated, IsFinished, IsRefused, IsTruncated, TokenFault, LowerLaws, IsPlaceOf, place_of, LeadsToSaved, IsOpen}
-use Rattle.iim_places.proofs.Words.{MessagePlace}
-use Rattle.iim_dataset.specs.Format.Completing.{CompletesData}
+use Rattle.std.proofs.Common.{◌≡◌, ◌≢◌, ℕ, zero, suc, ◌-◌, ◌^◌, ◌<◌, ◌≤◌, ◌⊎◌, false, nat_eq, List, [], ◌∷◌, ◌++◌, length, take, drop, slice_index, refl, ap, sym, subst, ◌∙◌, inl, inr, arith, append-nil, append_assoc, length-append}
+use Rattle.iim_places.proofs.Words.{cases_lt, ne_eqb, same_Some, eqb_tells, map-append, take-append-drop, take-length, take-take, Dataset, SpellsTag, head_of, SpellsDataset, SpellsStream, count_octets, Begun, InTag, InData, IsBegun, Reads, BeginsNoTag, Head, AreSections, data_of, SectionsLive, section_after, Limits, AreSized, Holds, Octet, MessageLanguage, MessageLivesWith, MessageDiesAt, StoryLivesIn, text_so_far, HasCause, MessageCause, Value, Admits, object_of, begun_record, begun_number, tag_cause, refusal_at, IsTextOf, message_on, AdmittedOctetsHaveOneValue, NoAdmittedOctetsBeginOthers, object_so_far, AllCanContinue, IsUnfinished, Answer, RefusesByTests, RefusesNext, truncated_in, IsRefusedHead, IsRefusedValue, OpenOctetsBeginWithNoEnvelope, IsEnvelopeWithin, EnvelopesAreBounded, NothingContinuesFromRefusedOctets, RefusalsAreDetermined, StreamsHaveOneAnswer, Answers, Finished, Refused, Truncated, IsFinished, IsRefused, IsTruncated, TokenFault, LowerLaws, IsPlaceOf, place_of, LeadsToSaved, IsOpen, MessagePlace}
+use Rattle.iim_dataset.specs.Format.Splits.{CompletesData}
 use Rattle.iim_dataset.specs.Format.Languages as languages
 use Rattle.iim_dataset.proofs.Spelled.{tag_length}
 use Rattle.wire_message.specs.States.SoFar.{LeadsTo}
 use Rattle.wire_message.specs.declared.place.Place.TheVariants.{AfterEnd}
 use Rattle.wire_message.specs.declared.fault.MessageCause.TheVariants as messages
-use Rattle.iim_places.specs.Laws.Conditions.{RefusalsTellTheLowestCause}
+use Rattle.iim_places.specs.Laws.{RefusalsTellTheLowestCause}
 use Rattle.iim_places.specs.declared.refusal.Refusal.{Refusal}
 use Rattle.iim_places.specs.declared.refusal.Layer.TheVariants as layers
 use Rattle.iim_places.specs.declared.refusal.Cause.TheVariants.{Message}
 use Rattle.wire_message.specs.declared.fault.MessageCause.TheVariants.{Sink}
 use Rattle.iim_places.proofs.ObjectOctets.{lives_whole}
-use Rattle.iim_places.proofs.Following.{Follows, in_front, follows, alive_of, head_lives, value_lives, object_lives_after, object_on, message_of, story_of}
-use Rattle.iim_places.proofs.Following.{message_ends, ends_tokens}
+use Rattle.iim_places.proofs.Following.{Follows, in_front, follows, alive_of, head_lives, value_lives, object_lives_after, object_on, message_of, story_of, message_ends, ends_tokens}
 use Rattle.iim_places.proofs.Bounds.{head_fits}
 use Rattle.iim_places.proofs.Frames.{no_sections}
 use Rattle.iim_places.proofs.Lasts.{SplitLast, split_last, last_sections}

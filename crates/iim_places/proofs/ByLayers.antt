@@ -1,35 +1,21 @@
 -- A place is possible exactly where each layer alone can be there.
-use Rattle.std.proofs.Common.{◌≡◌, ℕ, zero, suc, ◌+◌, ◌-◌, ◌<◌, ◌≤◌, nat_eq, cond, if◌then◌else◌, Bool, true, false, List, [], ◌∷◌, ◌++◌, length, map, Some}
-use Rattle.std.proofs.Common.{None, refl, ap, sym, subst, ◌∙◌, inl, inr, arith, append-nil, length-append, ◌*◌, ◌^◌, sum, take, drop, length-drop}
-use Rattle.iim_places.proofs.Words.{eqb-true, eqb_tells, Octets, Dataset, count_octets, of_record, Begun, InTag, InData, Reads, Head, sum_append, SectionsLive}
-use Rattle.iim_places.proofs.Words.{SectionsLiveAt, kept, section_after, Limits, place_after_datasets, place_ended, ending_of, ObjectEnded, SubfileBegun}
-use Rattle.iim_places.proofs.Words.{NotEnded, ConfirmedAs, place_after, max_subfiles, lengths_of, numbers_of, IsPossible, stated_numbers, Octet, End}
-use Rattle.iim_places.proofs.Words.{MessageLanguage, LeadsToSaved, MessagePlace, object_of, LeadsByLayers, TagsLead, RecordsLive, ObjectLeads, record_datasets}
-use Rattle.iim_places.proofs.Words.{begun_subfiles, one_of_some, are_ended, object_so_far, section, plain, Possible, widest, Phase, TagBegun, AllEnded}
-use Rattle.iim_places.proofs.Words.{phase_of, place_of, ObjectLives, CanContinueAt, MayContinue, LowerLaws, AllByRecursion, unwrap_or, length-take}
-use Rattle.iim_places.proofs.Words.{take-append-drop, nil_from_length, greatest_size, SpellsStream, canonical_stream, HasSpellings, IsBegun, all_append}
-use Rattle.iim_places.proofs.Words.{all_front, all_back, front_are, sum_fits, is_kept, IsGoodDataset, head_alive, Confirmed, Ending, number_at, IsSize}
-use Rattle.iim_places.proofs.Words.{head_of_numbers, AreWithin, AreSpellable, begun_object, Numbers, number_list, plain_end, AreOpenOrWhole, DataBegun}
-use Rattle.iim_places.proofs.Words.{IsPlaceOf, IsMessage, place_at, begun_heads, eq-eqb, CanContinue, place_in, IsWithin, AllCanContinue, kept_octets}
-use Rattle.iim_places.proofs.Words.{AreHeadsWithin, LimitsAreToldByPlace, begun_count, begun_fields, IsPlain, plain_octets, subfile_datasets, filled, Stated}
-use Rattle.iim_places.proofs.Words.{AreStated, HasBoth, number, with_end}
+use Rattle.std.proofs.Common.{◌≡◌, ℕ, zero, suc, ◌+◌, ◌-◌, ◌<◌, ◌≤◌, nat_eq, cond, if◌then◌else◌, Bool, true, false, List, [], ◌∷◌, ◌++◌, length, map, Some, None, refl, ap, sym, subst, ◌∙◌, inl, inr, arith, append-nil, length-append, ◌*◌, ◌^◌, sum, take, drop, length-drop}
+use Rattle.iim_places.proofs.Words.{eqb-true, eqb_tells, Octets, Dataset, count_octets, of_record, Begun, InTag, InData, Reads, Head, sum_append, SectionsLive, SectionsLiveAt, kept, section_after, Limits, place_after_datasets, place_ended, ending_of, ObjectEnded, SubfileBegun, NotEnded, ConfirmedAs, place_after, max_subfiles, lengths_of, numbers_of, IsPossible, stated_numbers, Octet, End, MessageLanguage, LeadsToSaved, MessagePlace, object_of, LeadsByLayers, TagsLead, RecordsLive, ObjectLeads, record_datasets, begun_subfiles, one_of_some, are_ended, object_so_far, section, plain, Possible, widest, Phase, TagBegun, AllEnded, phase_of, place_of, ObjectLives, CanContinueAt, MayContinue, LowerLaws, AllByRecursion, unwrap_or, length-take, take-append-drop, nil_from_length, greatest_size, SpellsStream, canonical_stream, HasSpellings, IsBegun, all_append, all_front, all_back, front_are, sum_fits, is_kept, IsGoodDataset, head_alive, Confirmed, Ending, number_at, IsSize, head_of_numbers, AreWithin, AreSpellable, begun_object, Numbers, number_list, plain_end, AreOpenOrWhole, DataBegun, IsPlaceOf, IsMessage, place_at, begun_heads, eq-eqb, CanContinue, place_in, IsWithin, AllCanContinue, kept_octets, AreHeadsWithin, LimitsAreToldByPlace, begun_count, begun_fields, IsPlain, plain_octets, subfile_datasets, filled, Stated, AreStated, HasBoth, number, with_end}
 use Rattle.iim_object.specs.States.Saved.{IsAt}
 use Rattle.iim_places.specs.Format.Tickets.{Place}
 use Rattle.iim_places.proofs.AfterEnd.{after_end, ended_after, ended_at}
 use Rattle.iim_places.proofs.Fitting.{reads_of, lived, begins_tag, given_fits, tag_or_end}
 use Rattle.iim_places.proofs.Lasts.{last_sections, not_all, sections_last}
 use Rattle.iim_places.proofs.PlainContinues.{low_number, Continues, plain_like, fit_in_rows, two_at_most, numbers_same, SameStated}
-use Rattle.iim_places.proofs.PlainSizes.{Lives as Living, numbers_in, all_kept, low_mode, mode_octet, end_length, possible_of, duties_of, possible_like}
-use Rattle.iim_places.proofs.PlainSizes.{each_small}
+use Rattle.iim_places.proofs.PlainSizes.{Lives as Living, numbers_in, all_kept, low_mode, mode_octet, end_length, possible_of, duties_of, possible_like, each_small}
 use Rattle.iim_places.proofs.SameRecords.{nines, stated_after_all, stated_at}
 use Rattle.iim_places.proofs.Tickets.{total_of, count_of, sum_one}
 use Rattle.iim_places.proofs.Twins.{alive_at_as, enveloped, value_of}
 use Rattle.iim_fields.specs.Format.Faults.{joined}
-use Rattle.iim_object.specs.Laws.Living.{HasDuties}
-use Rattle.iim_places.proofs.ObjectOctets.{lives_whole}
+use Rattle.iim_object.specs.Laws.{HasDuties}
+use Rattle.iim_places.proofs.ObjectOctets.{lives_whole, living_octets}
 use Rattle.iim_places.proofs.Answering.{nothing_held, Lives, lives_open, lives_envelope, reads_envelope, coming}
 use Rattle.iim_places.proofs.Bounds.{object_fits}
-use Rattle.iim_places.proofs.MessageOctets.{living_octets}
 use Rattle.iim_places.proofs.Plain.{Tell, taken_told, plain_led, plain_spelled, back_octets, plain_told, present_ended}
 use Rattle.iim_places.proofs.Taking.{each_good}
 use Rattle.iim_dataset.specs.Format.Languages as languages

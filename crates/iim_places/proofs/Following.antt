@@ -1,13 +1,8 @@
 -- What octets that every layer can continue from say of each token among them.
-use Rattle.std.proofs.Common.{◌≡◌, ℕ, ◌<◌, ◌≤◌, ◌⊎◌, nat_eq, if◌then◌else◌, List, [], ◌∷◌, ◌++◌, length, map, refl, ap, sym, subst, ◌∙◌, inl, inr}
-use Rattle.std.proofs.Common.{arith, append-nil, append_assoc, length-append}
-use Rattle.iim_places.proofs.Words.{flat_map-append, filter-append, Dataset, SpellsTag, SpellsStream, head_of, count_octets, of_record, Begun, InTag, InData}
-use Rattle.iim_places.proofs.Words.{IsBegun, Reads, NoTagBeginsAnother, Head, AreSections, SectionsLive, data_of, Limits, last_more}
-use Rattle.iim_places.proofs.Words.{ObjectLanguage, place_after, head_token, tokens_of, AreSized, place_after_datasets, Octet, End, MessageLanguage}
-use Rattle.iim_places.proofs.Words.{MessageLivesWith, StoryLivesIn, object_of, MayContinue, CanContinueAt, ObjectLives, place_at, AreWithin, object_so_far}
-use Rattle.iim_places.proofs.Words.{message_tokens, AllCanContinue, compare, LowerLaws}
+use Rattle.std.proofs.Common.{◌≡◌, ℕ, ◌<◌, ◌≤◌, ◌⊎◌, nat_eq, if◌then◌else◌, List, [], ◌∷◌, ◌++◌, length, map, refl, ap, sym, subst, ◌∙◌, inl, inr, arith, append-nil, append_assoc, length-append}
+use Rattle.iim_places.proofs.Words.{flat_map-append, filter-append, Dataset, SpellsTag, SpellsStream, head_of, count_octets, of_record, Begun, InTag, InData, IsBegun, Reads, NoTagBeginsAnother, Head, AreSections, SectionsLive, data_of, Limits, last_more, ObjectLanguage, place_after, head_token, tokens_of, AreSized, place_after_datasets, Octet, End, MessageLanguage, MessageLivesWith, StoryLivesIn, object_of, MayContinue, CanContinueAt, ObjectLives, place_at, AreWithin, object_so_far, message_tokens, AllCanContinue, compare, LowerLaws}
 use Rattle.iim_dataset.specs.Format.Languages as languages
-use Rattle.iim_dataset.specs.Parting.{same_front}
+use Rattle.iim_dataset.specs.HandedIn.{same_front}
 use Rattle.iim_fields.specs.Format.Faults.{joined}
 use Rattle.iim_places.proofs.Fronts.{begun_none, empty_front, no_longer}
 use Rattle.iim_places.proofs.Lasts.{not_all}

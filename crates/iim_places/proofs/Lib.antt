@@ -26,7 +26,6 @@ pub mod Plain
 pub mod PlainSizes
 pub mod PlainContinues
 pub mod ByLayers
-pub mod MessageOctets
 pub mod Taking
 pub mod AtPlaces
 pub mod ObjectPlaces

@@ -1,15 +1,11 @@
 -- Envelopes one after another.
-use Rattle.std.proofs.Common.{◌≡◌, ◌≤◌, ◌<◌, ◌⊎◌, ◌^◌, ℕ, List, [], ◌∷◌, ◌++◌, length, take, slice_index, refl, ap, sym, subst, ◌∙◌, inl, inr, arith}
-use Rattle.std.proofs.Common.{append_assoc, length-append}
-use Rattle.iim_places.proofs.Words.{AllByRecursion, cases_lt, append-nil, length-take-le, append_cancel_left, take-append_seam, Limits, OpenOctetsAreBounded}
-use Rattle.iim_places.proofs.Words.{StreamsHaveOneAnswer, RefusedOctetsWereOpen, AdmittedOctetsAreFramed, AdmittedOctetsHaveOneValue, NoEnvelopeIsEmpty, Kills}
-use Rattle.iim_places.proofs.Words.{NoAdmittedOctetsBeginOthers, refusal_at, Answers, IsEnvelopeWithin, Finished, Refused, Truncated, IsTruncatedAt, raised}
+use Rattle.std.proofs.Common.{◌≡◌, ◌≤◌, ◌<◌, ◌⊎◌, ◌^◌, ℕ, List, [], ◌∷◌, ◌++◌, length, take, slice_index, refl, ap, sym, subst, ◌∙◌, inl, inr, arith, append_assoc, length-append}
+use Rattle.iim_places.proofs.Words.{AllByRecursion, cases_lt, append-nil, length-take-le, append_cancel_left, take-append_seam, Limits, OpenOctetsAreBounded, StreamsHaveOneAnswer, RefusedOctetsWereOpen, AdmittedOctetsAreFramed, AdmittedOctetsHaveOneValue, NoEnvelopeIsEmpty, Kills, NoAdmittedOctetsBeginOthers, refusal_at, Answers, IsEnvelopeWithin, Finished, Refused, Truncated, IsTruncatedAt, raised}
 use Rattle.iim_places.proofs.Following.{longer_front}
 use Rattle.iim_places.proofs.Fronts.{empty_front}
 use Rattle.iim_places.specs.declared.refusal.Refusal.{Refusal}
-use Rattle.iim_places.specs.Format.Listing.{max_envelopes, joined, Listed, IsListed, InputEnding, Whole, RefusedBy, TooMany, EndsBy, IsDeadAfter, EndsTruncated}
-use Rattle.iim_places.specs.Format.Listing.{IsRefusedAfter, Divides, IsListing}
-use Rattle.iim_places.specs.Laws.Listing.{InputsHaveOneListing, ListingsAreLongest}
+use Rattle.iim_places.specs.Format.Listing.{max_envelopes, joined, Listed, IsListed, InputEnding, Whole, RefusedBy, TooMany, EndsBy, IsDeadAfter, EndsTruncated, IsRefusedAfter, Divides, IsListing}
+use Rattle.iim_places.specs.Laws.{InputsHaveOneListing, ListingsAreLongest}
 
 -- the laws that one listing rests on, under limits of 32 bits
 pub record ListingLaws (limits : Limits) : Type 0 where

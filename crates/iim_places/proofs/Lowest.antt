@@ -1,20 +1,11 @@
 -- A refusal tells the lowest cause of its layer exactly where tests find it first.
-use Rattle.std.proofs.Common.{◌≡◌, ◌≢◌, ℕ, zero, suc, ◌<◌, ◌≤◌, ◌⊎◌, ◌↔◌, Bool, true, false, not, ◌&&◌, ◌||◌, nat_eq, nat_lt, if◌then◌else◌, List, [], ◌∷◌, map}
-use Rattle.std.proofs.Common.{◌++◌, length, replicate, Option, Some, None, refl, ap, sym, ◌∙◌, inl, inr, arith, length-append, append-nil}
+use Rattle.std.proofs.Common.{◌≡◌, ◌≢◌, ℕ, zero, suc, ◌<◌, ◌≤◌, ◌⊎◌, ◌↔◌, Bool, true, false, not, ◌&&◌, ◌||◌, nat_eq, nat_lt, if◌then◌else◌, List, [], ◌∷◌, map, ◌++◌, length, replicate, Option, Some, None, refl, ap, sym, ◌∙◌, inl, inr, arith, length-append, append-nil}
 use Rattle.std.specs.Prelude.{⊤}
 use Rattle.std.proofs.lemmas.Bool.{ltb-false}
-use Rattle.iim_places.proofs.Words.{option_or, option_map, cases_lt, eqb-true, lt-ltb, le-ltb, or_cases, same_Some, length-replicate, map-append, IsAlive, Head}
-use Rattle.iim_places.proofs.Words.{IsOctet, Octets, IsProperPrefix, number, zeros_are, Dataset, SpellsTag, SpellsCount, head_of, of_record, count_octets, Dies}
-use Rattle.iim_places.proofs.Words.{InTag, InData, Begun, IsBegun, Reads, BeginsNoTag, SectionsLive, SectionsLiveAt, first_fault, value_fault, data_of, Limits}
-use Rattle.iim_places.proofs.Words.{tells_number, FieldFault, cause_at, max_subfiles, SizeCause, Holds, Octet, MessageLanguage, text_so_far, HasCause, Token}
-use Rattle.iim_places.proofs.Words.{MessageCause, object_of, AtOctet, AtHead, AtValue, IsNoCount, Names, TellsTheLowest, rule_of, AreWithin, AllCanContinue}
-use Rattle.iim_places.proofs.Words.{IsUnfinished, RefusesByTests, RefusesNext, Completes, layer_of, layer_of_message, of_field, size_on, too_many_on, LowerLaws}
-use Rattle.iim_places.proofs.Words.{message_on, DiesAtHead, DiesAtValue, IsRefusedValue, subfile_fault, TokenFault, Layer, eq-eqb, eqb_tells, limits_fault}
-use Rattle.iim_places.proofs.Words.{fault_on, is_kept, StoryLanguage, MessageLivesWith, StoryLivesIn, tag_cause, begun_record, begun_number, HaveRoom, IsInText}
-use Rattle.iim_places.proofs.Words.{octets_append}
+use Rattle.iim_places.proofs.Words.{option_or, option_map, cases_lt, eqb-true, lt-ltb, le-ltb, or_cases, same_Some, length-replicate, map-append, IsAlive, Head, IsOctet, Octets, IsProperPrefix, number, zeros_are, Dataset, SpellsTag, SpellsCount, head_of, of_record, count_octets, Dies, InTag, InData, Begun, IsBegun, Reads, BeginsNoTag, SectionsLive, SectionsLiveAt, first_fault, value_fault, data_of, Limits, tells_number, FieldFault, cause_at, max_subfiles, SizeCause, Holds, Octet, MessageLanguage, text_so_far, HasCause, Token, MessageCause, object_of, AtOctet, AtHead, AtValue, IsNoCount, Names, TellsTheLowest, rule_of, AreWithin, AllCanContinue, IsUnfinished, RefusesByTests, RefusesNext, Completes, layer_of, layer_of_message, of_field, size_on, too_many_on, LowerLaws, message_on, DiesAtHead, DiesAtValue, IsRefusedValue, subfile_fault, TokenFault, Layer, eq-eqb, eqb_tells, limits_fault, fault_on, is_kept, StoryLanguage, MessageLivesWith, StoryLivesIn, tag_cause, begun_record, begun_number, HaveRoom, IsInText, octets_append}
 use Rattle.iim_places.specs.Format.Conditions.{begun_in}
 use Rattle.iim_fields.specs.Format.Causes.{number_of_cause}
-use Rattle.iim_fields.specs.Laws.Records.{IsFaultIfAny}
+use Rattle.iim_fields.specs.Laws.{IsFaultIfAny}
 use Rattle.iim_fields.specs.Format.Causes.Token.{AtHead as HeadToken, AtValue as ValueToken}
 use Rattle.iim_fields.specs.declared.fault.FieldCause.{FieldCause}
 use Rattle.iim_places.specs.declared.refusal.Cause.{Cause}
@@ -27,7 +18,7 @@ use Rattle.iim_places.proofs.StoryDies.{in_text, lone_return, control}
 use Rattle.iim_places.proofs.Living.{alive_front}
 use Rattle.iim_fields.specs.Format.Causes as records
 use Rattle.iim_fields.specs.declared.fault.FieldCause.TheVariants as fields
-use Rattle.iim_object.specs.Laws.Conditions as objects
+use Rattle.iim_object.specs.Laws as objects
 use Rattle.iim_object.specs.Format.Conditions as objects_format
 use Rattle.iim_object.specs.declared.reading.fault.SizeCause.TheVariants as sizes
 use Rattle.wire_message.specs.Format.Causes.{number_of_message}

@@ -1,10 +1,10 @@
 -- The octets of the object: with one dataset more, and with its end.
-use Rattle.std.proofs.Common.{◌≡◌, ℕ, Bool, true, false, nat_eq, if◌then◌else◌, List, [], ◌++◌, ap, ◌∙◌, append-nil, ◌<◌, ◌≤◌, cond, ◌∷◌, length, refl, arith}
-use Rattle.std.proofs.Common.{map, sym, subst}
-use Rattle.iim_places.proofs.Words.{ne_eqb, IsAlive, Dataset, of_record, InData, Head, object_of, object_so_far, flat_map-append, filter-append, max_subfiles}
-use Rattle.iim_places.proofs.Words.{End, Octet, with_end, MessageLanguage, MessageLivesWith}
+use Rattle.std.proofs.Common.{◌≡◌, ℕ, Bool, true, false, nat_eq, if◌then◌else◌, List, [], ◌++◌, ap, ◌∙◌, append-nil, ◌<◌, ◌≤◌, cond, ◌∷◌, length, refl, arith, map, sym, subst}
+use Rattle.iim_places.proofs.Words.{ne_eqb, IsAlive, Dataset, of_record, InData, Head, object_of, object_so_far, flat_map-append, filter-append, max_subfiles, End, Octet, with_end, MessageLanguage, MessageLivesWith, IsOctet, Octets, all_front}
 use Rattle.iim_fields.specs.Format.Faults.{joined}
 use Rattle.iim_places.proofs.Places.{one_more}
+use Rattle.wire_story.proofs.SoFar.{front_of}
+use Rattle.wire_message.proofs.MessageOctets.{message_octets}
 
 -- data of another record than 8 are no part of the object
 pub no_object : (ds : List Dataset) (h : Head) (taken : List ℕ) → (h.rec ≡ 8 → ⊥) → object_so_far ds (InData h taken) ≡ object_of ds
@@ -24,3 +24,10 @@ pub lives_whole : (o : List ℕ) (b : Bool) → MessageLivesWith o → (b ≡ tr
     → IsAlive MessageLanguage (map Octet o ++ (if b then End ∷ [] else []))
 lives_whole o true lives whole = ([], subst MessageLanguage (sym (append-nil (map Octet o ++ End ∷ []))) (whole refl))
 lives_whole o false lives whole = subst (IsAlive MessageLanguage) (sym (append-nil (map Octet o))) lives
+
+-- ---- The octets from which a message can be completed are octets.
+
+pub living_octets : (o : List ℕ) → MessageLivesWith o → Octets o
+living_octets o (rest, m) =
+    let f = front_of o m.object rest m.tokens_are in
+    all_front IsOctet o f.0 (subst Octets f.1 (message_octets m.object m.head m.text m.trailer m.message))

@@ -1,34 +1,18 @@
 -- Open octets begin with no envelope. Octets that lead to one place read on and continue alike, and the same octet is refused, for the same fault.
-use Rattle.std.proofs.Common.{◌≡◌, ℕ, nat_eq, if◌then◌else◌, Bool, true, false, List, [], ◌∷◌, ◌++◌, length, Some, refl, ap, sym, subst, ◌∙◌, inl, inr, arith}
-use Rattle.std.proofs.Common.{append-nil, ◌&&◌, ◌||◌, ◌⊎◌, not, nat_lt, Option, None, map, append_assoc, ◌<◌, ◌≤◌, length-append}
-use Rattle.iim_places.proofs.Words.{append_cancel_left, Dataset, count_octets, of_record, Begun, InTag, InData, Reads, Head, SectionsLive, SectionsLiveAt}
-use Rattle.iim_places.proofs.Words.{section_after, AreSections, Limits, HaveSizes, mode_number, Sizes, text_so_far, Value, object_of, are_ended, AreAlike}
-use Rattle.iim_places.proofs.Words.{PlacesContinueAlike, NoAdmittedOctetsBeginOthers, AllCanContinue, object_so_far, Delivers, IsOpen, IsTextOf}
-use Rattle.iim_places.proofs.Words.{IsEnvelopeWithin, IsPlaceOf, heads_of, phase_of, place_of, OpenOctetsBeginWithNoEnvelope, LowerLaws, ne_eqb, option_or}
-use Rattle.iim_places.proofs.Words.{option_map, number, head_of, head_fault, room_fault, value_fault, occurs, data_of, tells_number, place_after_datasets}
-use Rattle.iim_places.proofs.Words.{cause_at, confirmed_cause, end_cause, number_cause, subfile_cause, Confirmed, NumberRead, ObjectEnded, ObjectToken}
-use Rattle.iim_places.proofs.Words.{SubfileBegun, head_token, value_token, max_subfiles, SizeCause, End, PlacesRefuseAlike, IsUnfinished, of_field, size_on}
-use Rattle.iim_places.proofs.Words.{too_many_on, RefusedOctetsWereOpen, DiesAtHead, DiesAtValue, CanContinueAt, IsRefusedHead, IsRefusedValue, fault_at_head}
-use Rattle.iim_places.proofs.Words.{fault_at_value, place_at, TokenFault, Layer, Octet, with_end, MessageLanguage, MessageLivesWith, LivingOctetsAreOpen}
-use Rattle.iim_places.proofs.Words.{section, AreOpenOrWhole, same_Some, NotEnded, ConfirmedAs, IsAlive, NoTagBeginsAnother, NoDatasetBeginsAnother}
-use Rattle.iim_places.proofs.Words.{NoSectionsBeginOthers, MayContinue, compare, eqb_tells, IsOctet, Octets, SpellsStream, SpellsTag, all_back, octets_append}
-use Rattle.iim_places.proofs.Words.{ValuesDieWithTheirFault, last_more, Meets, IsGoodDataset, good_elsewhere}
+use Rattle.std.proofs.Common.{◌≡◌, ℕ, nat_eq, if◌then◌else◌, Bool, true, false, List, [], ◌∷◌, ◌++◌, length, Some, refl, ap, sym, subst, ◌∙◌, inl, inr, arith, append-nil, ◌&&◌, ◌||◌, ◌⊎◌, not, nat_lt, Option, None, map, append_assoc, ◌<◌, ◌≤◌, length-append}
+use Rattle.iim_places.proofs.Words.{append_cancel_left, Dataset, count_octets, of_record, Begun, InTag, InData, Reads, Head, SectionsLive, SectionsLiveAt, section_after, AreSections, Limits, HaveSizes, mode_number, Sizes, text_so_far, Value, object_of, are_ended, AreAlike, PlacesContinueAlike, NoAdmittedOctetsBeginOthers, AllCanContinue, object_so_far, Delivers, IsOpen, IsTextOf, IsEnvelopeWithin, IsPlaceOf, heads_of, phase_of, place_of, OpenOctetsBeginWithNoEnvelope, LowerLaws, ne_eqb, option_or, option_map, number, head_of, head_fault, room_fault, value_fault, occurs, data_of, tells_number, place_after_datasets, cause_at, confirmed_cause, end_cause, number_cause, subfile_cause, Confirmed, NumberRead, ObjectEnded, ObjectToken, SubfileBegun, head_token, value_token, max_subfiles, SizeCause, End, PlacesRefuseAlike, IsUnfinished, of_field, size_on, too_many_on, RefusedOctetsWereOpen, DiesAtHead, DiesAtValue, CanContinueAt, IsRefusedHead, IsRefusedValue, fault_at_head, fault_at_value, place_at, TokenFault, Layer, Octet, with_end, MessageLanguage, MessageLivesWith, LivingOctetsAreOpen, section, AreOpenOrWhole, same_Some, NotEnded, ConfirmedAs, IsAlive, NoTagBeginsAnother, NoDatasetBeginsAnother, NoSectionsBeginOthers, MayContinue, compare, eqb_tells, IsOctet, Octets, SpellsStream, SpellsTag, all_back, octets_append, ValuesDieWithTheirFault, last_more, Meets, IsGoodDataset, good_elsewhere}
 use Rattle.wire_message.specs.States.SoFar.{LeadsTo}
 use Rattle.iim_places.specs.Format.Tickets.{Place}
-use Rattle.iim_places.proofs.Answering.{Lives, goes_envelope, leads_to, lives_envelope, lives_open, one_reading, reads_envelope, IsRefusedAt, IsRefusedWith}
-use Rattle.iim_places.proofs.Answering.{refuses_by, tests_of, nothing_held}
-use Rattle.iim_places.proofs.Following.{alive_of, message_of, story_of, within_of, with_data, object_lives_after, follows, in_front, longer_front}
-use Rattle.iim_places.proofs.Following.{objects_append, same_data}
+use Rattle.iim_places.proofs.Answering.{Lives, goes_envelope, leads_to, lives_envelope, lives_open, one_reading, reads_envelope, IsRefusedAt, IsRefusedWith, refuses_by, tests_of, nothing_held}
+use Rattle.iim_places.proofs.Following.{alive_of, message_of, story_of, within_of, with_data, object_lives_after, follows, in_front, longer_front, objects_append, same_data}
 use Rattle.iim_places.proofs.PlainSizes.{ending_after}
 use Rattle.iim_places.proofs.Lasts.{last_sections, sections_last, not_all}
-use Rattle.iim_places.proofs.SamePlace.{SameObject, SameWhole, HeldAlike, object_lives_after_as, SameBegun, SameData, SameMessage, count_as, opened}
-use Rattle.iim_places.proofs.SamePlace.{same_begun, same_message, total_as, value_as, object_at}
+use Rattle.iim_places.proofs.SamePlace.{SameObject, SameWhole, HeldAlike, object_lives_after_as, SameBegun, SameData, SameMessage, count_as, opened, same_begun, same_message, total_as, value_as, object_at}
 use Rattle.iim_places.proofs.SameRecords.{same_records, SameRecords, same_more, seen_on}
-use Rattle.iim_places.proofs.Twins.{Twins, enveloped, value_of, at_as, after_as, numbers_on, room_as, same_tail, twins_on, may_as, alive_at_as, flip}
-use Rattle.iim_places.proofs.Twins.{bounded_after, heads_same, AreBounded, SameTail, alive_on, eights, present_on, sevens}
+use Rattle.iim_places.proofs.Twins.{Twins, enveloped, value_of, at_as, after_as, numbers_on, room_as, same_tail, twins_on, may_as, alive_at_as, flip, bounded_after, heads_same, AreBounded, SameTail, alive_on, eights, present_on, sevens}
 use Rattle.iim_dataset.specs.Format.Datasets.{of_record as of_fields}
 use Rattle.iim_fields.specs.Format.Faults.{joined}
-use Rattle.iim_places.specs.Laws.Conditions.{RefusalsTellTheLowestCause}
+use Rattle.iim_places.specs.Laws.{RefusalsTellTheLowestCause}
 use Rattle.iim_places.proofs.ObjectOctets.{few_more, no_object, object_of_more}
 use Rattle.iim_places.proofs.Taking.{good_at}
 use Rattle.wire_message.specs.declared.place.Place.{Place as Message}

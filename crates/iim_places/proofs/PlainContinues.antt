@@ -1,18 +1,10 @@
 -- Plain datasets continue as those do for which they stand.
-use Rattle.std.proofs.Common.{◌≡◌, ℕ, zero, suc, ◌+◌, ◌≤◌, ◌||◌, nat_eq, cond, Bool, true, false, List, [], ◌∷◌, ◌++◌, length, Option, Some, None, IfSome}
-use Rattle.std.proofs.Common.{is_some, refl, ap, sym, subst, ◌∙◌, inl, inr, arith, append-nil, append_assoc, ◌⊎◌, ◌*◌}
-use Rattle.iim_places.proofs.Words.{filter, AllByRecursion, flat_map, unwrap_or, eqb-true, eq-eqb, filter-append, list_any-append, Octets, number}
-use Rattle.iim_places.proofs.Words.{greatest_size, Dataset, of_record, all_append, all_back, all_front, number_back, Meets, SectionsLive, kept, is_kept}
-use Rattle.iim_places.proofs.Words.{section_after, last_record, AreRecords, records, IsGoodDataset, IsGoodRecord, occurs, occurrences, repeats, mandatory}
-use Rattle.iim_places.proofs.Words.{number_dataset, subfile_datasets, numbers_of, Stated, InRow, number_at, stated_numbers, IsSize, LowerLaws, Numbers}
-use Rattle.iim_places.proofs.Words.{number_list, mode_dataset, one_dataset, plain_numbers, filled, plain_end, plain, good_elsewhere, occurrences_cons}
-use Rattle.iim_places.proofs.Words.{part_meets, none_counts, occurrences_append, some_counts, last_of_joined, max_subfiles, one_of_some, eqb_tells, all_map}
-use Rattle.iim_places.proofs.Words.{AreSections}
+use Rattle.std.proofs.Common.{◌≡◌, ℕ, zero, suc, ◌+◌, ◌≤◌, ◌||◌, nat_eq, cond, Bool, true, false, List, [], ◌∷◌, ◌++◌, length, Option, Some, None, IfSome, is_some, refl, ap, sym, subst, ◌∙◌, inl, inr, arith, append-nil, append_assoc, ◌⊎◌, ◌*◌}
+use Rattle.iim_places.proofs.Words.{filter, AllByRecursion, flat_map, unwrap_or, eqb-true, eq-eqb, filter-append, list_any-append, Octets, number, greatest_size, Dataset, of_record, all_append, all_back, all_front, number_back, Meets, SectionsLive, kept, is_kept, section_after, last_record, AreRecords, records, IsGoodDataset, IsGoodRecord, occurs, occurrences, repeats, mandatory, number_dataset, subfile_datasets, numbers_of, Stated, InRow, number_at, stated_numbers, IsSize, LowerLaws, Numbers, number_list, mode_dataset, one_dataset, plain_numbers, filled, plain_end, plain, good_elsewhere, occurrences_cons, part_meets, none_counts, occurrences_append, some_counts, last_of_joined, max_subfiles, one_of_some, eqb_tells, all_map, AreSections}
 use Rattle.iim_tables.specs.Format.Rows.{table, row_of}
-use Rattle.iim_object.specs.Laws.Packing.{NumberDatasetsAreGood}
+use Rattle.iim_object.specs.Laws.{NumberDatasetsAreGood}
 pub use Rattle.iim_places.proofs.Plain.{kept_of, two_at_most}
-use Rattle.iim_places.proofs.SameRecords.{SameShape, occurs_stated, same_stated, same_numbers, stated_after_all, tens_after, SameRecords, same_shape}
-use Rattle.iim_places.proofs.SameRecords.{tens_seen, none_in_front}
+use Rattle.iim_places.proofs.SameRecords.{SameShape, occurs_stated, same_stated, same_numbers, stated_after_all, tens_after, SameRecords, same_shape, tens_seen, none_in_front}
 use Rattle.iim_places.proofs.PlainSizes.{at_each, all_kept, numbers_in, end_length}
 use Rattle.iim_places.proofs.Plain.{numbers_each, AreOf, one_stated, are_told, four_told, filled_count, all_of, none_of, plain_told, parts_each, end_each}
 use Rattle.iim_places.proofs.Fronts.{empty_front}

@@ -1,13 +1,8 @@
 -- What an object's numbers and lengths tell: the object layer lives alike with others that tell the same.
 use Rattle.std.proofs.lemmas.Option.{IfSome_then}
-use Rattle.std.proofs.Common.{◌≡◌, ℕ, ◌<◌, ◌≤◌, nat_eq, cond, Bool, true, false, List, [], ◌∷◌, ◌++◌, length, map, sum, Option, Some, None, IfSome, refl, ap}
-use Rattle.std.proofs.Common.{sym, subst, ◌∙◌, arith, append_assoc, is_some, append-nil, if◌then◌else◌}
-use Rattle.iim_places.proofs.Words.{AllByRecursion, eqb-true, IsOctet, Dataset, of_record}
-use Rattle.iim_places.proofs.Words.{some_of, kept, is_kept, ObjectToken, SubfileBegun, ObjectLanguage, number_tokens, ending_tokens, place_after_datasets}
-use Rattle.iim_places.proofs.Words.{lengths_of, numbers_of, Stated, InRow, number_at, object_of, ObjectLives, Numbers, plain_end, ending_of, SectionsLive}
-use Rattle.iim_places.proofs.Words.{section_after, number, mode_known, IsAlive, greatest_size, Ending, NotEnded, Ended, ConfirmedAs, HasBoth, AreStated}
-use Rattle.iim_places.proofs.Words.{mode_number, ObjectsArePossibleAlike, LowerLaws, max_subfiles, IsPossible, HaveSizes, Sizes, nil_from_length, all_map}
-use Rattle.iim_object.specs.Laws.Living.{NoClash, HasDuties, Fit, MeetsAnnounced}
+use Rattle.std.proofs.Common.{◌≡◌, ℕ, ◌<◌, ◌≤◌, nat_eq, cond, Bool, true, false, List, [], ◌∷◌, ◌++◌, length, map, sum, Option, Some, None, IfSome, refl, ap, sym, subst, ◌∙◌, arith, append_assoc, is_some, append-nil, if◌then◌else◌}
+use Rattle.iim_places.proofs.Words.{AllByRecursion, eqb-true, IsOctet, Dataset, of_record, some_of, kept, is_kept, ObjectToken, SubfileBegun, ObjectLanguage, number_tokens, ending_tokens, place_after_datasets, lengths_of, numbers_of, Stated, InRow, number_at, object_of, ObjectLives, Numbers, plain_end, ending_of, SectionsLive, section_after, number, mode_known, IsAlive, greatest_size, Ending, NotEnded, Ended, ConfirmedAs, HasBoth, AreStated, mode_number, ObjectsArePossibleAlike, LowerLaws, max_subfiles, IsPossible, HaveSizes, Sizes, nil_from_length, all_map}
+use Rattle.iim_object.specs.Laws.{NoClash, HasDuties, Fit, MeetsAnnounced}
 use Rattle.iim_places.proofs.SameRecords.{IsStated, SameNumbers, same_numbers, nines, stated_after_all}
 use Rattle.iim_places.proofs.Tickets.{total_of}
 use Rattle.iim_object.specs.Format.Places as objects

@@ -1,17 +1,6 @@
 -- Places that were possible by smaller sizes, and by the sizes that there are.
-use Rattle.std.proofs.Common.{◌≡◌, ℕ, ◌-◌, ◌≤◌, nat_eq, cond, if◌then◌else◌, Bool, true, false, List, [], ◌∷◌, ◌++◌, length, map, sum, Some, refl, ap, sym}
-use Rattle.std.proofs.Common.{subst, ◌∙◌, inl, inr, arith, ◌^◌, ◌<◌, Option, None, append-nil, length-append}
-use Rattle.iim_places.proofs.Words.{AllByRecursion, eqb-true, eq-eqb, Dataset, SpellsDataset, SpellsStream, count_octets, head_of, of_record, IsAlive, Begun}
-use Rattle.iim_places.proofs.Words.{InTag, InData, IsBegun, Reads, Head, all_front, all_back, section_after, tells_number, SubfileBegun, ObjectEnded, Confirmed}
-use Rattle.iim_places.proofs.Words.{number_tokens, numbers_of, Stated, TokensWithin, LanguageWithin, LowerLaws, object_of, AreWithin, object_so_far, section}
-use Rattle.iim_places.proofs.Words.{Possible, IsSmall, IsSmallPhase, IsSmallPlace, greatest_size_before, widest, Scale, FitsRow, SectionsLiveIn, HaveRoomIn}
-use Rattle.iim_places.proofs.Words.{IsOpenIn, PossibleAt, place_in, first_scale, IsPlaceOf, TagBegun, AllEnded, phase_of, MayContinue, unwrap_or, cases_lt}
-use Rattle.iim_places.proofs.Words.{lt-ltb, le-ltb, eqb_tells, IsOctet, SpellsCount, SpellsTag, canonical_count, canonical_tag, canonical_dataset}
-use Rattle.iim_places.proofs.Words.{canonical_stream, written_number, all_append, all_map, HasSpellings, is_kept, AreSections, place_after_datasets}
-use Rattle.iim_places.proofs.Words.{place_ended, ending_of, number_dataset, ending_tokens, within_append, begun_within, AreOpenOrWhole, AreHeadsWithin}
-use Rattle.iim_places.proofs.Words.{SmallPlacesWerePossible, plain_octets, IsPlain, begun_object, Numbers, number_list, plain_numbers, plain, within}
-use Rattle.iim_places.proofs.Words.{greatest_size, within_most_and, Meets, IsGoodDataset, SectionsIn, PresentScaleSaysNothingMore, present_scale, or_cases}
-use Rattle.iim_places.proofs.Words.{AllCanContinue}
+use Rattle.std.proofs.Common.{◌≡◌, ℕ, ◌-◌, ◌≤◌, nat_eq, cond, if◌then◌else◌, Bool, true, false, List, [], ◌∷◌, ◌++◌, length, map, sum, Some, refl, ap, sym, subst, ◌∙◌, inl, inr, arith, ◌^◌, ◌<◌, Option, None, append-nil, length-append}
+use Rattle.iim_places.proofs.Words.{AllByRecursion, eqb-true, eq-eqb, Dataset, SpellsDataset, SpellsStream, count_octets, head_of, of_record, IsAlive, Begun, InTag, InData, IsBegun, Reads, Head, all_front, all_back, section_after, tells_number, SubfileBegun, ObjectEnded, Confirmed, number_tokens, numbers_of, Stated, TokensWithin, LanguageWithin, LowerLaws, object_of, AreWithin, object_so_far, section, Possible, IsSmall, IsSmallPhase, IsSmallPlace, greatest_size_before, widest, Scale, FitsRow, SectionsLiveIn, HaveRoomIn, IsOpenIn, PossibleAt, place_in, first_scale, IsPlaceOf, TagBegun, AllEnded, phase_of, MayContinue, unwrap_or, cases_lt, lt-ltb, le-ltb, eqb_tells, IsOctet, SpellsCount, SpellsTag, canonical_count, canonical_tag, canonical_dataset, canonical_stream, written_number, all_append, all_map, HasSpellings, is_kept, AreSections, place_after_datasets, place_ended, ending_of, number_dataset, ending_tokens, within_append, begun_within, AreOpenOrWhole, AreHeadsWithin, SmallPlacesWerePossible, plain_octets, IsPlain, begun_object, Numbers, number_list, plain_numbers, plain, within, greatest_size, within_most_and, Meets, IsGoodDataset, SectionsIn, PresentScaleSaysNothingMore, present_scale, or_cases, AllCanContinue}
 use Rattle.iim_places.specs.Format.Tickets.{Place}
 use Rattle.iim_places.proofs.Answering.{one_reading, reads_envelope, open_at, coming}
 use Rattle.iim_places.proofs.Bounds.{part_of_whole, object_fits, sized_seven, sized_nine}
@@ -22,7 +11,7 @@ use Rattle.iim_places.proofs.SmallSections.{short_by, Short, told_in, sections_l
 use Rattle.iim_places.proofs.Tickets.{so_far_by, total_of}
 use Rattle.byteorder.specs.Numbers.{big_number-reads_back}
 use Rattle.iim_fields.specs.Format.Faults.{joined}
-use Rattle.iim_object.specs.Laws.Within.{PlacesLiveWithin}
+use Rattle.iim_object.specs.Laws.{PlacesLiveWithin}
 use Rattle.iim_places.proofs.Following.{within_of}
 use Rattle.iim_places.proofs.Lasts.{last_sections}
 use Rattle.iim_places.proofs.Plain.{plain_spelled, plain_told, taken_told, numbers_each, parts_each, end_each}

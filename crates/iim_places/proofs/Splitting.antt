@@ -1,16 +1,12 @@
 -- What octets begin with is determined: their layout has one reading.
-use Rattle.std.proofs.Common.{◌≡◌, ℕ, ◌+◌, ◌-◌, ◌<◌, ◌≤◌, ◌^◌, ◌==◌, nat_eq, if◌then◌else◌, Bool, true, false, List, [], ◌∷◌, ◌++◌, length, take, drop, Option}
-use Rattle.std.proofs.Common.{Some, None, refl, ap, sym, ◌∙◌, arith, append_assoc, append-nil, length-append}
-use Rattle.iim_places.proofs.Words.{nil_from_length, flat_map-append, take-append-drop, length-take, AllByRecursion, flat_map, Dataset, all_append, Phase, four}
-use Rattle.iim_places.proofs.Words.{TagBegun, DataBegun, AllEnded, ticket_name, wide, phase_octets, field_octets, fields_octets, text_octets, IsLongField, came}
-use Rattle.iim_places.proofs.Words.{AreFields, AreNumbersIn, AreTexts, IsSizeIn, IsShort, IsWide, IsPhase, HasForm, Split, split_octets, TicketsHaveOneSplit}
-use Rattle.iim_places.proofs.Words.{AreNoMessage, AreNoBody, BeginsWithNoData, body_octets, message_parts}
+use Rattle.std.proofs.Common.{◌≡◌, ℕ, ◌+◌, ◌-◌, ◌<◌, ◌≤◌, ◌^◌, ◌==◌, nat_eq, if◌then◌else◌, Bool, true, false, List, [], ◌∷◌, ◌++◌, length, take, drop, Option, Some, None, refl, ap, sym, ◌∙◌, arith, append_assoc, append-nil, length-append}
+use Rattle.iim_places.proofs.Words.{nil_from_length, flat_map-append, take-append-drop, length-take, AllByRecursion, flat_map, Dataset, all_append, Phase, four, TagBegun, DataBegun, AllEnded, ticket_name, wide, phase_octets, field_octets, fields_octets, text_octets, IsLongField, came, AreFields, AreNumbersIn, AreTexts, IsSizeIn, IsShort, IsWide, IsPhase, HasForm, Split, split_octets, TicketsHaveOneSplit, AreNoMessage, AreNoBody, BeginsWithNoData, body_octets, message_parts}
 use Rattle.std.specs.Int.{w64, from_be_bytes, to_be_bytes}
 use Rattle.std.proofs.lemmas.Nat.{from_be_bytes-to_be_bytes_8}
-use Rattle.iim_dataset.specs.Parting.{same_front}
+use Rattle.iim_dataset.specs.HandedIn.{same_front}
 use Rattle.iim_places.specs.Format.Tickets.{number_octets}
-use Rattle.iim_places.specs.TicketFields.{HoldsFields}
-use Rattle.iim_places.specs.Shortfalls.{BeginsWithNone, BeginsWithFewer, FieldsBefore, IsFour}
+use Rattle.iim_places.specs.TicketParts.{HoldsFields}
+use Rattle.iim_places.specs.Restoring.{BeginsWithNone, BeginsWithFewer, FieldsBefore, IsFour}
 use Rattle.iim_places.specs.FieldLaws.{first_same, rest_same, one_four, one_field, some_octets, same_fields}
 
 -- octets that two spellings begin have one reading

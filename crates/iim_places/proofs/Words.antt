@@ -1,10 +1,8 @@
 -- The words that most of these proofs use.
 pub use Rattle.std.proofs.Math.Seq.{drop-append-add, take-append-add, take-append_seam, take-length}
-pub use Rattle.std.proofs.lemmas.Bool.{and_parts, cases_Bool, cases_lt, eq-eqb, eqb-false, eqb-true, false≢true, le-leb, le-ltb, leb-true, lt-ltb, ltb-true}
-pub use Rattle.std.proofs.lemmas.Bool.{ne_eqb, or_cases}
+pub use Rattle.std.proofs.lemmas.Bool.{and_parts, cases_Bool, cases_lt, eq-eqb, eqb-false, eqb-true, false≢true, le-leb, le-ltb, leb-true, lt-ltb, ltb-true, ne_eqb, or_cases}
 pub use Rattle.std.proofs.lemmas.Bool.Decides.{eqb_tells, nat_tests}
-pub use Rattle.std.proofs.lemmas.List.{append-nil, append_cancel_left, drop-append-le, length-drop, length-map, length-replicate, length-take, length-take-le}
-pub use Rattle.std.proofs.lemmas.List.{map-append, nil_from_length, take-append-drop, take-append-le, take-take}
+pub use Rattle.std.proofs.lemmas.List.{append-nil, append_cancel_left, drop-append-le, length-drop, length-map, length-replicate, length-take, length-take-le, map-append, nil_from_length, take-append-drop, take-append-le, take-take}
 pub use Rattle.std.proofs.lemmas.List.Concat.{flat_map-append}
 pub use Rattle.std.proofs.lemmas.List.Elements.{filter-append}
 pub use Rattle.std.proofs.lemmas.List.Folds.{list_all-append, list_any-append}
@@ -16,14 +14,12 @@ pub use Rattle.iim_dataset.proofs.Each.{all_append, all_back, all_front, all_map
 pub use Rattle.iim_dataset.proofs.Lists.{nothing_fits, some_of, sum_append, sum_cons, sum_fits, within_most_and}
 pub use Rattle.iim_dataset.proofs.OctetLists.{front_are, number-lt, octets_append, zeros_are}
 pub use Rattle.iim_dataset.proofs.WrittenNumbers.{few_octets, number_back}
-pub use Rattle.iim_dataset.specs.Format.Datasets.{Dataset, SpellsCount, SpellsDataset, SpellsStream, SpellsTag, canonical_count, canonical_dataset}
-pub use Rattle.iim_dataset.specs.Format.Datasets.{canonical_stream, canonical_tag, count_octets, head_of, of_record, tag_octets, written_number}
+pub use Rattle.iim_dataset.specs.Format.Datasets.{Dataset, SpellsCount, SpellsDataset, SpellsStream, SpellsTag, canonical_count, canonical_dataset, canonical_stream, canonical_tag, count_octets, head_of, of_record, tag_octets, written_number}
 pub use Rattle.iim_dataset.specs.Format.Languages.{IsAlive}
 pub use Rattle.iim_dataset.specs.Format.Octets.{IsOctet, IsProperPrefix, Octets, greatest_size, number, within}
 pub use Rattle.iim_dataset.specs.Format.Splits.{Begun, InData, InTag, IsBegun, Reads}
 pub use Rattle.iim_dataset.specs.Format.Tags.{BeginsNoTag, BeginsTag}
-pub use Rattle.iim_dataset.specs.Laws.Datasets.{CanonicalStreamsAreSpelled, EventsTellTheDatasets, HasSpellings, NoDatasetBeginsAnother, NoTagBeginsAnother}
-pub use Rattle.iim_dataset.specs.Laws.Datasets.{OctetsAreHandedOnOneWay}
+pub use Rattle.iim_dataset.specs.Laws.{CanonicalStreamsAreSpelled, EventsTellTheDatasets, HasSpellings, NoDatasetBeginsAnother, NoTagBeginsAnother, OctetsAreHandedOnOneWay}
 pub use Rattle.iim_dataset.specs.States.Events.{DatasetEvent, handed_on}
 pub use Rattle.iim_dataset.specs.States.Places.{IsKeptAs, between}
 pub use Rattle.iim_dataset.specs.declared.head.Head.{Head}
@@ -34,12 +30,10 @@ pub use Rattle.iim_tables.specs.Format.Rows.{Meets}
 pub use Rattle.iim_fields.proofs.Sections.{by_record, front_alive, head_alive, last_more, last_of_joined, taken_alive}
 pub use Rattle.iim_fields.specs.Format.Alive.{SectionsLive, SectionsLiveAt}
 pub use Rattle.iim_fields.specs.Format.Bounds.{IsWithin}
-pub use Rattle.iim_fields.specs.Format.Faults.{fault_by_row, fault_on, first_fault, head_fault, is_kept, kept, kept_octets, last_record, limits_fault}
-pub use Rattle.iim_fields.specs.Format.Faults.{record_fault, room_fault, section_after, value_fault}
+pub use Rattle.iim_fields.specs.Format.Faults.{fault_by_row, fault_on, first_fault, head_fault, is_kept, kept, kept_octets, last_record, limits_fault, record_fault, room_fault, section_after, value_fault}
 pub use Rattle.iim_fields.specs.Format.Records.{AreRecords, AreSections, after, records}
 pub use Rattle.iim_fields.specs.Format.Values.{data_of, number_told, tells_number}
-pub use Rattle.iim_fields.specs.Laws.Records.{EnvelopesEndWithTheLastRecord, HeadsDieWithTheirFault, HeadsTellTheLowestCause, NoSectionsBeginOthers}
-pub use Rattle.iim_fields.specs.Laws.Records.{ValuesDieWithTheirFault, ValuesTellTheLowestCause}
+pub use Rattle.iim_fields.specs.Laws.{EnvelopesEndWithTheLastRecord, HeadsDieWithTheirFault, HeadsTellTheLowestCause, NoSectionsBeginOthers, ValuesDieWithTheirFault, ValuesTellTheLowestCause}
 pub use Rattle.iim_fields.specs.States.Checks.{HasChecked, HasTaken, IsChecking, IsValueFault, TakesHead}
 pub use Rattle.iim_fields.specs.declared.check.RecordPlace.{RecordPlace}
 pub use Rattle.iim_fields.specs.declared.fault.FieldFault.{FieldFault}
@@ -49,14 +43,12 @@ pub use Rattle.iim_object.specs.Format.Causes.{cause_at, confirmed_cause, end_ca
 pub use Rattle.iim_object.specs.Format.Numbers.{ending_of, place_after_datasets, place_ended}
 pub use Rattle.iim_object.specs.Format.Objects.{Confirmed, NumberRead, ObjectEnded, ObjectLanguage, ObjectToken, SubfileBegun, number_tokens}
 pub use Rattle.iim_object.specs.Format.Packing.{number_dataset, subfile_datasets}
-pub use Rattle.iim_object.specs.Format.Places.{ConfirmedAs, Ended, Ending, HasBoth, MayFollow, NotEnded, ending_tokens, head_token, place_after, tokens_of}
-pub use Rattle.iim_object.specs.Format.Places.{value_token}
+pub use Rattle.iim_object.specs.Format.Places.{ConfirmedAs, Ended, Ending, HasBoth, MayFollow, NotEnded, ending_tokens, head_token, place_after, tokens_of, value_token}
 pub use Rattle.iim_object.specs.Format.Plans.{max_subfiles}
 pub use Rattle.iim_object.specs.Format.Records.{AreObjectRecords, HaveSizes, lengths_of, numbers_of}
 pub use Rattle.iim_object.specs.Format.Sizes.{AreOnce, AreStated, InRow, Stated, mode_number, number_at}
 pub use Rattle.iim_object.specs.Format.Within.{LanguageWithin, TokensWithin}
-pub use Rattle.iim_object.specs.Laws.Numbers.{DatasetsEndWithTheirTokens, DatasetsLiveWithTheirTokens, RecordsAreByNumber, TokensFollow}
-pub use Rattle.iim_object.specs.Laws.Records.{AreSized, SizesAreDetermined}
+pub use Rattle.iim_object.specs.Laws.{DatasetsEndWithTheirTokens, DatasetsLiveWithTheirTokens, RecordsAreByNumber, TokensFollow, AreSized, SizesAreDetermined}
 pub use Rattle.iim_object.specs.States.Saved.{IsPossible, LastIsBegun, stated_numbers}
 pub use Rattle.iim_object.specs.declared.reading.fault.SizeCause.{SizeCause}
 pub use Rattle.iim_object.specs.declared.reading.state.State.{State}
@@ -66,43 +58,28 @@ pub use Rattle.wire_story.specs.Format.Tokens.{End, Octet, OctetOrEnd, StoryLang
 pub use Rattle.wire_message.specs.Format.Causes.{HasCause, StoryDiesWith}
 pub use Rattle.wire_message.specs.Format.Layers.{MessageDiesAt, MessageLanguage, MessageLivesWith, StoryLivesIn, after_stx, text_so_far}
 pub use Rattle.wire_message.specs.Format.Messages.{Header, IsMessage}
-pub use Rattle.wire_message.specs.Laws.Messages.{MessagesEndAfterEot, MessagesHaveOneReading, OctetsLeadToOnePlace}
+pub use Rattle.wire_message.specs.Laws.{MessagesEndAfterEot, MessagesHaveOneReading, OctetsLeadToOnePlace}
 pub use Rattle.wire_message.specs.States.Saved.{LeadsToSaved, saved}
 pub use Rattle.wire_message.specs.declared.fault.MessageCause.{MessageCause}
 pub use Rattle.wire_message.specs.declared.saved.MessagePlace.{MessagePlace}
 pub use Rattle.iim_places.specs.Format.Admitted.{Admits, Value, object_of}
 pub use Rattle.iim_places.specs.Format.Conditions.{AtHead, AtOctet, AtValue, IsInText, IsNoCount, Names, TellsTheLowest, Token, rule_of, stated, total}
 pub use Rattle.iim_places.specs.Format.Framed.{AreWithin, Framed}
-pub use Rattle.iim_places.specs.Format.Open.{AllCanContinue, Completes, Delivers, Dies, IsOpen, IsTextOf, IsTruncatedAt, IsUnfinished, RefusesByTests}
-pub use Rattle.iim_places.specs.Format.Open.{RefusesNext, message_tokens, object_so_far, section, truncated_in}
-pub use Rattle.iim_places.specs.Format.Refusals.{begun_number, begun_record, layer_of, layer_of_message, message_on}
-pub use Rattle.iim_places.specs.Format.Refusals.{of_field, refusal_at, size_on, tag_cause, too_many_on}
+pub use Rattle.iim_places.specs.Format.Open.{AllCanContinue, Completes, Delivers, Dies, IsOpen, IsTextOf, IsTruncatedAt, IsUnfinished, RefusesByTests, RefusesNext, message_tokens, object_so_far, section, truncated_in}
+pub use Rattle.iim_places.specs.Format.Refusals.{begun_number, begun_record, layer_of, layer_of_message, message_on, of_field, refusal_at, size_on, tag_cause, too_many_on}
 pub use Rattle.iim_places.specs.Format.Streams.{Answer, Answers, Finished, IsEnvelopeWithin, IsFinished, IsRefused, IsTruncated, Kills, Refused, Truncated}
 pub use Rattle.iim_places.specs.Format.TicketForm.{HasForm, HasOtherVersion, IsFaultOf, IsPhase, IsVersion, Split, SplitsTicket, came, split_octets}
-pub use Rattle.iim_places.specs.Format.Tickets.{AllEnded, DataBegun, IsPlaceOf, Phase, TagBegun, field_octets, fields_octets, four, heads_of, layout}
-pub use Rattle.iim_places.specs.Format.Tickets.{part_number, phase_octets, phase_of, place_of, present_version, text_octets, texts_octets, ticket_in}
-pub use Rattle.iim_places.specs.Format.Tickets.{ticket_name, ticket_of, wide}
-pub use Rattle.iim_places.specs.Format.Tokens.{CanContinue, CanContinueAt, DiesAtHead, DiesAtValue, HaveRoom, IsRefusedHead, IsRefusedValue, MayContinue}
-pub use Rattle.iim_places.specs.Format.Tokens.{ObjectLives, fault_at_head, fault_at_value, number_fault, object_fault, place_at, subfile_fault}
-pub use Rattle.iim_places.specs.Laws.Admitted.{AdmittedOctetsAreFramed, AdmittedOctetsHaveOneValue, NoAdmittedOctetsBeginOthers, NoEnvelopeIsEmpty}
-pub use Rattle.iim_places.specs.Laws.Lower.{LowerLaws}
-pub use Rattle.iim_places.specs.Laws.Places.{AreAlike, ContinueAlike, LimitsAreToldByPlace, OctetsHaveOnePlace, PlacesContinueAlike, PlacesRefuseAlike}
-pub use Rattle.iim_places.specs.Laws.Places.{PossiblePlacesAreTaken, PresentScaleSaysNothingMore, SmallPlacesWerePossible, TicketsTellOnePlace, present_scale}
-pub use Rattle.iim_places.specs.Laws.Streams.{EnvelopesAreBounded, LivingOctetsAreOpen, NothingContinuesFromRefusedOctets, OpenOctetsAreBounded}
-pub use Rattle.iim_places.specs.Laws.Streams.{OpenOctetsBeginWithNoEnvelope, RefusalsAreDetermined, RefusedOctetsWereOpen, StreamsHaveOneAnswer}
-pub use Rattle.iim_places.specs.Laws.Tickets.{OctetsHaveOneTicket, TicketsHaveOneSplit, TicketsOfPlacesAreSplit, split_of, texts_of}
-pub use Rattle.iim_places.specs.Plain.{AreSpellable, IsPlain, ObjectsArePossibleAlike, PlainOctetsLeadToTheirPlace, begun_heads}
-pub use Rattle.iim_places.specs.Plain.{begun_object, plain_octets, plain_place}
+pub use Rattle.iim_places.specs.Format.Tickets.{AllEnded, DataBegun, IsPlaceOf, Phase, TagBegun, field_octets, fields_octets, four, heads_of, layout, part_number, phase_octets, phase_of, place_of, present_version, text_octets, texts_octets, ticket_in, ticket_name, ticket_of, wide}
+pub use Rattle.iim_places.specs.Format.Tokens.{CanContinue, CanContinueAt, DiesAtHead, DiesAtValue, HaveRoom, IsRefusedHead, IsRefusedValue, MayContinue, ObjectLives, fault_at_head, fault_at_value, number_fault, object_fault, place_at, subfile_fault}
+pub use Rattle.iim_places.specs.Laws.{AdmittedOctetsAreFramed, AdmittedOctetsHaveOneValue, NoAdmittedOctetsBeginOthers, NoEnvelopeIsEmpty, LowerLaws, AreAlike, ContinueAlike, LimitsAreToldByPlace, OctetsHaveOnePlace, PlacesContinueAlike, PlacesRefuseAlike, PossiblePlacesAreTaken, PresentScaleSaysNothingMore, SmallPlacesWerePossible, TicketsTellOnePlace, present_scale, EnvelopesAreBounded, LivingOctetsAreOpen, NothingContinuesFromRefusedOctets, OpenOctetsAreBounded, OpenOctetsBeginWithNoEnvelope, RefusalsAreDetermined, RefusedOctetsWereOpen, StreamsHaveOneAnswer, OctetsHaveOneTicket, TicketsHaveOneSplit, TicketsOfPlacesAreSplit, split_of, texts_of}
+pub use Rattle.iim_places.specs.Plain.{AreSpellable, IsPlain, ObjectsArePossibleAlike, PlainOctetsLeadToTheirPlace, begun_heads, begun_object, plain_octets, plain_place}
 pub use Rattle.iim_places.specs.States.Begins.{AreFields, AreNumbersIn, AreTexts, IsLongField, IsShort, IsSizeIn, IsWide}
-pub use Rattle.iim_places.specs.States.ByLayers.{LeadsByLayers, MessageLeads, ObjectLeads, PlacesArePossibleByLayers, RecordsLive, TagsLead, are_ended}
-pub use Rattle.iim_places.specs.States.ByLayers.{begun_of_object, begun_subfiles, head_of_numbers, object_after, one_of_some, record_datasets}
+pub use Rattle.iim_places.specs.States.ByLayers.{LeadsByLayers, MessageLeads, ObjectLeads, PlacesArePossibleByLayers, RecordsLive, TagsLead, are_ended, begun_of_object, begun_subfiles, head_of_numbers, object_after, one_of_some, record_datasets}
 pub use Rattle.iim_places.specs.States.Counts.{are_some, raised}
 pub use Rattle.iim_places.specs.States.PlainDatasets.{Numbers, filled, mode_dataset, number_list, one_dataset, plain, plain_end, plain_numbers}
-pub use Rattle.iim_places.specs.States.Possible.{AreHeadsWithin, AreOpenOrWhole, IsSmall, IsSmallPhase, IsSmallPlace, Possible, begun_count, begun_fields}
-pub use Rattle.iim_places.specs.States.Possible.{greatest_size_before, widest}
+pub use Rattle.iim_places.specs.States.Possible.{AreHeadsWithin, AreOpenOrWhole, IsSmall, IsSmallPhase, IsSmallPlace, Possible, begun_count, begun_fields, greatest_size_before, widest}
 pub use Rattle.iim_places.specs.States.Restored.{IsLimitFault, IsRestoreFault, IsTicketAt, fields_told, octets_told}
-pub use Rattle.iim_places.specs.States.Scales.{FitsRow, HaveRoomIn, IsOpenIn, IsPossibleIn, IsWholeIn, PossibleAt, Scale, SectionsIn, SectionsLiveIn}
-pub use Rattle.iim_places.specs.States.Scales.{first_scale, place_in}
+pub use Rattle.iim_places.specs.States.Scales.{FitsRow, HaveRoomIn, IsOpenIn, IsPossibleIn, IsWholeIn, PossibleAt, Scale, SectionsIn, SectionsLiveIn, first_scale, place_in}
 pub use Rattle.iim_places.specs.Taking.{AreKept, CanContinueWithin, IsMessageOf, TookDatasets, numbers_told, told_datasets}
 pub use Rattle.iim_places.specs.TicketParts.{AreNoBody, AreNoMessage, AreNumbers, BeginsWithNoData, IsSize, body_octets, message_parts}
 pub use Rattle.iim_places.specs.declared.fault.TokenFault.{TokenFault}

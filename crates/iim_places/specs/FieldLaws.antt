@@ -5,10 +5,10 @@ use Rattle.std.specs.Int.{w32, from_be_bytes}
 use Rattle.std.specs.List.{AllByRecursion, flat_map}
 use Rattle.std.proofs.lemmas.Nat.{from_be_bytes-to_be_bytes_4}
 use Rattle.iim_dataset.specs.Format.Datasets.{Dataset}
-use Rattle.iim_dataset.specs.Parting.{same_front}
+use Rattle.iim_dataset.specs.HandedIn.{same_front}
 use Rattle.iim_places.specs.Format.Tickets.{four, field_octets}
 use Rattle.iim_places.specs.States.Begins.{IsLongField}
-use Rattle.iim_places.specs.TicketFields.{HoldsFields}
+use Rattle.iim_places.specs.TicketParts.{HoldsFields}
 use mathlib.Core.HLevel.{Σ_prop_path}
 
 -- ---- lists

@@ -5,7 +5,7 @@ use Rattle.std.specs.Option.{unwrap_or}
 use Rattle.iim_dataset.specs.Format.Octets.{IsOctet, Octets, greatest_size}
 use Rattle.iim_dataset.specs.Format.Datasets.{Dataset, canonical_stream, count_octets}
 use Rattle.iim_dataset.specs.Format.Splits.{Begun, InTag, InData, IsBegun}
-use Rattle.iim_dataset.specs.Laws.Datasets.{HasSpellings}
+use Rattle.iim_dataset.specs.Laws.{HasSpellings}
 use Rattle.iim_fields.specs.Format.Faults.{is_kept}
 use Rattle.iim_object.specs.Format.Places as objects
 use Rattle.iim_object.specs.States.Saved.{IsPossible, stated_numbers}

@@ -9,7 +9,7 @@ use Rattle.iim_fields.specs.States.Stores.{Room}
 use Rattle.iim_fields.specs.declared.limits.Limits.{Limits}
 use Rattle.wire_message.specs.declared.saved.MessagePlace.{MessagePlace}
 use Rattle.iim_places.specs.States.PlainDatasets.{Numbers, plain}
-use Rattle.iim_places.specs.Laws.Tickets.{texts_of}
+use Rattle.iim_places.specs.Laws.{texts_of}
 use Rattle.iim_places.specs.Format.Tickets.{part_number}
 
 -- all are of records 1 and 2

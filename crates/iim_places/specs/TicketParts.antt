@@ -1,12 +1,18 @@
 -- The parts of a ticket, one by one.
-use Rattle.std.specs.Prelude.{◌≡◌, ℕ, ◌+◌, ◌<◌, List, ◌∷◌, ◌++◌, length, codes, Option}
-use Rattle.std.specs.List.{flat_map}
-use Rattle.iim_places.specs.Format.Tickets.{DataBegun, four, wide, width, phase_octets, fields_octets, number_octets, text_octets, present_version}
-use Rattle.iim_places.specs.States.Begins.{AreTexts, IsSizeIn, AreNumbersIn}
+use Rattle.std.specs.Prelude.{◌≡◌, ℕ, List, ◌+◌, ◌<◌, ◌∷◌, ◌++◌, length, codes, Option}
+use Rattle.std.specs.List.{AllByRecursion, flat_map}
+use Rattle.iim_dataset.specs.Format.Datasets.{Dataset}
+use Rattle.iim_places.specs.Format.Tickets.{field_octets, DataBegun, four, wide, width, phase_octets, fields_octets, number_octets, text_octets, present_version}
+use Rattle.iim_places.specs.States.Begins.{IsLongField, AreTexts, IsSizeIn, AreNumbersIn}
 use Rattle.iim_places.specs.declared.ticket.fault.TicketFault.{TicketFault}
 use Rattle.iim_places.specs.declared.ticket.fault.TicketFault.TheVariants.{Form, Version}
 use Rattle.iim_places.specs.Format.TicketForm.{Split, IsPhase, HasForm, HasOtherVersion}
-use Rattle.iim_dataset.specs.Format.Datasets.{Dataset}
+
+-- ---- The datasets that stand in a ticket.
+
+-- Octets hold some datasets, and nothing else.
+abbrev pub HoldsFields : List ℕ → Type 0
+HoldsFields octets = (datasets : List Dataset) × (AllByRecursion IsLongField datasets × (octets ≡ flat_map field_octets datasets))
 
 -- ---- part by part
 

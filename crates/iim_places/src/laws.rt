@@ -1,7 +1,6 @@
 //! What holds of all envelopes.
 
-ghost use Rattle.iim_places.specs.Laws.Lower.{LowerLaws};
-ghost use Rattle.iim_places.specs.Laws.All.{PlaceLaws};
+ghost use Rattle.iim_places.specs.Laws.{LowerLaws, PlaceLaws};
 
 use iim_dataset::laws::dataset_laws;
 use iim_fields::laws::record_laws;

@@ -16,14 +16,13 @@ use Rattle.clap.specs.declared.parser.matches.ArgMatches.TheViews.{out-ArgMatche
 use Rattle.clap.specs.declared.parser.matches.Found.{Found}
 use Rattle.clap.proofs.OnLiterals.{clap_on_literals}
 use Rattle.clap.proofs.WalkLemmas.{first_value-rows, one_text-rows}
-use Rattle.jiff.specs.Words.{parse_timestamp}
-use Rattle.jiff.specs.Words.{Error as InstantError}
+use Rattle.jiff.specs.Words.{parse_timestamp, Error as InstantError}
 use Rattle.std.specs.Borrow.{Bor}
 use Rattle.iim_request.specs.declared.request.Verb.{Verb}
 use Rattle.iim_request.specs.declared.request.Verb.TheVariants.{Check, Show, Story, Pack, Audit}
 use Rattle.iim_request.specs.declared.request.UsageFault.{UsageFault}
 use Rattle.iim_request.specs.declared.request.UsageFault.TheVariants as usage
-use Rattle.iim_request.specs.Format.Requests.{GivesNumber, IsFaultOf, IsFlag, IsInstant, IsNoInstant, IsSubfile, NamesCommand, TellsPacking, program, text_given}
+use Rattle.iim_request.specs.Format.{GivesNumber, IsFaultOf, IsFlag, IsInstant, IsNoInstant, IsSubfile, NamesCommand, TellsPacking, program, text_given}
 use Rattle.iim_request.specs.Verbs.{IsFoundOf, IsJobFault, verb_name}
 
 program_simple : is_simple program ≡ true

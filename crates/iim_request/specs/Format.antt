@@ -1,2 +1,164 @@
-pub mod Requests
-pub mod Shown
+use Rattle.std.specs.Prelude.{◌≡◌, ℕ, ℤ, ⊤, List, [], Option, None, Some, IsSome, Bool, true, false, Ok, Err, codes, option_map, ◌==◌, ◌&&◌, ◌||◌, nat_le, if◌then◌else◌, ◌∷◌, ◌++◌}
+use Rattle.std.specs.Borrow.{Bor}
+use Rattle.std.specs.Option.{unwrap_or}
+use Rattle.std.specs.Str.Parse.{digits_value, without_leading_plus}
+use Rattle.clap.specs.Values.{IsUnsignedIn}
+use Rattle.clap.specs.Words.{App, Row, Rule, Text, fault_of, first_of, kind_of, new_app, new_rule, one_of, subcommand_of, with_rule, with_subcommand, IsAmong}
+use Rattle.clap.specs.declared.builder.action.ArgAction.TheVariants.{SetTrue}
+use Rattle.clap.specs.declared.builder.value_parser.ValueParser.TheVariants.{Unsigned}
+use Rattle.iim_dataset.specs.Format.Octets.{greatest_size}
+use Rattle.jiff.specs.Words.{parse_timestamp, Error as InstantError}
+use Rattle.iim_request.specs.declared.request.Job.{Job}
+use Rattle.iim_request.specs.declared.request.Job.TheVariants.{Check, Show, Story, Pack, Audit}
+use Rattle.iim_request.specs.declared.request.Request.{Request}
+use Rattle.iim_request.specs.declared.request.UsageFault.{UsageFault}
+use Rattle.iim_request.specs.declared.request.UsageFault.TheVariants.{Words, MaxNeedsUnknown, BadNow, OutOfMemory}
+use Rattle.std.specs.Char.{is_ascii_control}
+use Rattle.iim_dataset.specs.Format.Characters.{backslash}
+use Rattle.iim_dataset.specs.Format.Shown.{escape}
+
+-- ---- What the words of a command line ask for, by the rules of clap.
+
+-- ---- the program's commands, as clap is told of them
+
+-- a command that may be given a FILE
+-- twins (with unknown_rule, now_rule, pack_command, audit_command, wanting, program): `tells_the_whole_help`, `refuses_other_words`,
+--   `tells_what_words_ask_wrongly`
+abbrev pub file_command : Text → App
+file_command name = with_rule (new_app name) (new_rule (codes "FILE"))
+
+-- an option of this name, which takes a number from the least one to the greatest size
+-- twin: `refuses_words_of_pack_and_audit`, `packs_great_sizes_in_eight_octets`, `takes_numbers_with_a_plus_and_zeros`
+abbrev pub number_rule : Text → ℕ → Rule
+number_rule name least = record (new_rule name) { long = Some name; value_names = 1; parser = Some (Unsigned least greatest_size) }
+
+-- an option that leaves the size of the object unknown
+abbrev pub unknown_rule : Rule
+unknown_rule = record (new_rule (codes "unknown")) { long = Some (codes "unknown"); action = Some SetTrue }
+
+-- the option that tells the present instant, and has to be given
+abbrev pub now_rule : Rule
+now_rule = record (new_rule (codes "now")) { long = Some (codes "now"); value_names = 1; required = true }
+
+-- `pack [FILE] [--subfile N] [--unknown] [--max M]`
+abbrev pub pack_command : App
+pack_command = with_rule (with_rule (with_rule (file_command (codes "pack")) (number_rule (codes "subfile") 1)) unknown_rule) (number_rule (codes "max") 0)
+
+-- `audit [FILE] --now INSTANT`
+abbrev pub audit_command : App
+audit_command = with_rule (file_command (codes "audit")) now_rule
+
+-- a command that wants to be given one of its own, has none for help, and tells its release
+abbrev pub wanting : App → App
+wanting a = record a { top = record a.top { has_version = true; subcommand_required = true; disable_help_subcommand = true } }
+
+-- the program, which wants to be given one of its commands
+abbrev pub program : App
+program = with_subcommand (with_subcommand (with_subcommand (with_subcommand (with_subcommand (wanting (new_app (codes "iimwire")))
+    (file_command (codes "check")).top) (file_command (codes "show")).top) (file_command (codes "story")).top) pack_command.top) audit_command.top
+
+-- ---- what an option tells
+
+-- the text of an argument, where it was given
+abbrev pub text_given : Option (Bor Text) → Option Text
+text_given given = option_map (λ text. text.now) given
+
+-- The text is a number from the least one to the greatest size, and this is it.
+-- twin: `takes_numbers_with_a_plus_and_zeros`
+abbrev pub IsNumber : ℕ → Text → ℕ → Type 0
+IsNumber least text n = IsUnsignedIn least greatest_size text × (n ≡ digits_value 10 (without_leading_plus text))
+
+-- The option was given such a number. (Of any other text clap tells a fault.)
+abbrev pub GivesNumber : ℕ → Option Text → Option ℕ → Type 0
+GivesNumber least None number = number ≡ None
+GivesNumber least (Some text) (Some n) = IsNumber least text n
+GivesNumber least (Some text) None = IsUnsignedIn least greatest_size text → ⊥
+
+-- The option was given. (What clap notes of one that takes no value.)
+-- twins (with TellsPacking, AsksJob, AsksFor): `packs_as_it_is_asked`, `takes_any_name_for_a_file`, `audits_a_stream`
+abbrev pub IsFlag : Option Text → Bool → Type 0
+IsFlag None flag = flag ≡ false
+IsFlag (Some text) flag = (text ≡ codes "true" → flag ≡ true) × (text ≡ codes "false" → flag ≡ false)
+
+-- the most octets of a subfile where no number is given
+-- twins (with IsSubfile): `packs_a_script`, `packs_as_it_is_asked`
+abbrev pub default_subfile : ℕ
+default_subfile = 1024
+
+-- The octets of a subfile: the number that was given, or 1,024.
+abbrev pub IsSubfile : Option Text → ℕ → Type 0
+IsSubfile given subfile = (number : Option ℕ) × GivesNumber 1 given number × (subfile ≡ unwrap_or number default_subfile)
+
+-- The text is this instant, by the rules of jiff.
+abbrev pub IsInstant : Option Text → ℤ → Type 0
+IsInstant None now = ⊥
+IsInstant (Some text) now = parse_timestamp text ≡ Ok now
+
+-- There is no such text, or it is no instant.
+abbrev pub IsNoInstant : Option Text → Type 0
+IsNoInstant None = ⊤
+IsNoInstant (Some text) = (error : InstantError) × (parse_timestamp text ≡ Err error)
+
+-- ---- what the words ask for
+
+-- what --subfile, --unknown and --max come to
+pub record TellsPacking (rows : List Row) (subfile : ℕ) (unknown : Bool) (max : Option ℕ) : Type 0 where
+  pub subfile_is : IsSubfile (first_of (codes "subfile") rows) subfile
+  pub unknown_is : IsFlag (one_of (codes "unknown") rows) unknown
+  pub max_is : GivesNumber 0 (first_of (codes "max") rows) max
+
+-- The command with this name, and the values of its arguments, ask for the job. A maximum is given of an unknown size alone.
+abbrev pub AsksJob : Text → List Row → Job → Type 0
+AsksJob name rows Check = name ≡ codes "check"
+AsksJob name rows Show = name ≡ codes "show"
+AsksJob name rows Story = name ≡ codes "story"
+AsksJob name rows (Pack request) = (name ≡ codes "pack") × TellsPacking rows request.subfile request.unknown request.max
+    × (IsSome request.max → request.unknown ≡ true)
+AsksJob name rows (Audit now) = (name ≡ codes "audit") × IsInstant (first_of (codes "now") rows) now.nanosecond
+
+-- The words have no fault, and name a command, with these values of its arguments.
+pub record NamesCommand (words : List Text) (name : Text) (rows : List Row) : Type 0 where
+  pub faultless : fault_of program words ≡ []
+  pub named : subcommand_of program words ≡ Some (name, rows)
+
+-- The words ask for the job, and name the file.
+abbrev pub AsksFor : List Text → Request → Type 0
+AsksFor words request = (name : Text) × (rows : List Row) × NamesCommand words name rows × AsksJob name rows request.job
+    × (text_given request.file ≡ first_of (codes "FILE") rows)
+
+-- A maximum is given of a known size.
+-- twins (with IsFaultOf): `refuses_words_of_pack_and_audit`, `tells_what_words_ask_wrongly`
+abbrev pub IsMaxAlone : Text → List Row → Type 0
+IsMaxAlone name rows = (name ≡ codes "pack") × ((subfile : ℕ) × (max : Option ℕ) × TellsPacking rows subfile false max × IsSome max)
+
+-- The fault is one of those that clap finds in the words, or that their command has. Memory may always be short.
+abbrev pub IsFaultOf : List Text → UsageFault → Type 0
+IsFaultOf words (Words error) = IsAmong (kind_of error) (fault_of program words)
+IsFaultOf words MaxNeedsUnknown = (name : Text) × (rows : List Row) × NamesCommand words name rows × IsMaxAlone name rows
+IsFaultOf words BadNow = (name : Text) × (rows : List Row) × NamesCommand words name rows × (name ≡ codes "audit") × IsNoInstant (first_of (codes "now") rows)
+IsFaultOf words OutOfMemory = ⊤
+
+-- ---- Names, and words of a command line, as text that can be printed.
+
+-- the two octets of a control character from U+0080 to U+009F
+-- twins (with is_hidden, shown_after, shown_name): `shows_each_character_of_a_name`, `shows_control_characters_of_words`
+abbrev pub spell_control : ℕ → ℕ → Bool
+spell_control first second = first == 0xc2 && (nat_le 0x80 second && nat_le second 0x9f)
+
+-- the first of some octets, or 0
+abbrev pub next_of : List ℕ → ℕ
+next_of [] = 0
+next_of (octet ∷ octets) = octet
+
+-- An octet between others that is not printed as it is: a control character, an octet of one, or a backslash.
+abbrev pub is_hidden : ℕ → ℕ → ℕ → Bool
+is_hidden before octet next = is_ascii_control octet || (octet == backslash || (spell_control before octet || spell_control octet next))
+
+-- octets after this one: those that are hidden as \x and two digits, any other one as it is
+abbrev pub shown_after : ℕ → List ℕ → List ℕ
+shown_after before [] = []
+shown_after before (octet ∷ octets) = (if is_hidden before octet (next_of octets) then escape octet else octet ∷ []) ++ shown_after octet octets
+
+-- a name without its control characters and backslashes
+abbrev pub shown_name : List ℕ → List ℕ
+shown_name name = shown_after 0 name

@@ -1,6 +1,4 @@
 -- What octets are, and what is said of them.
 pub mod Format
 -- What only proofs and private clauses cite.
-pub mod Commands
-pub mod Faults
 pub mod Verbs

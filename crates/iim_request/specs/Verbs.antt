@@ -1,12 +1,32 @@
 -- The names of the commands.
-use Rattle.std.specs.Prelude.{◌≡◌, List, [], codes}
-use Rattle.clap.specs.Words.{Row, Text, fault_of, first_of, subcommand_of, subcommand_rows_of}
-use Rattle.clap.specs.declared.parser.matches.ArgMatches.{ArgMatches}
-use Rattle.iim_request.specs.Format.Requests.{IsMaxAlone, IsNoInstant, program}
+use Rattle.std.specs.Prelude.{◌≡◌, IfOk, Result, false, List, [], codes}
+use Rattle.clap.specs.Words.{kind_of, App, app_of, Row, Text, fault_of, first_of, subcommand_of, subcommand_rows_of}
+use Rattle.clap.specs.declared.error.Error.{Error}
+use Rattle.clap.specs.declared.error.kind.ErrorKind.TheVariants as kind
 use Rattle.iim_request.specs.declared.request.UsageFault.{UsageFault}
+use Rattle.iim_request.specs.declared.request.UsageFault.TheVariants.{Words, MaxNeedsUnknown, BadNow, OutOfMemory}
 use Rattle.iim_request.specs.declared.request.UsageFault.TheVariants as usage
+use Rattle.clap.specs.declared.builder.command.Command.{Command}
+use Rattle.clap.specs.declared.builder.command.Command.TheViews.{out-Command as fields_of}
+use Rattle.clap.specs.declared.parser.matches.ArgMatches.{ArgMatches}
+use Rattle.iim_request.specs.Format.{IsMaxAlone, IsNoInstant, program}
 use Rattle.iim_request.specs.declared.request.Verb.{Verb}
 use Rattle.iim_request.specs.declared.request.Verb.TheVariants as verbs
+
+-- ---- What an error of clap comes to.
+
+-- An error of refused memory is that, and any other is a fault of the words.
+abbrev pub IsUsageOf : Error → UsageFault → Type 0
+IsUsageOf error (Words same) = (same ≡ error) × (kind_of error ≡ kind.OutOfMemory → ⊥)
+IsUsageOf error MaxNeedsUnknown = ⊥
+IsUsageOf error BadNow = ⊥
+IsUsageOf error OutOfMemory = kind_of error ≡ kind.OutOfMemory
+
+-- ---- Commands that are being made.
+
+-- Where there was memory for it, the command is this one, and no argument of it is global.
+abbrev pub IsCommand : {E : Type 0} → App → Result Command E → Type 0
+IsCommand app command = IfOk command (λ c. (app_of c ≡ app) × ((fields_of c).has_globals ≡ false))
 
 abbrev pub verb_name : Verb → Text
 verb_name verbs.Check = codes "check"

@@ -2,8 +2,8 @@
 
 ghost use Rattle.std.specs.Prelude.{◌≡◌, codes, false, IfOk};
 ghost use Rattle.clap.specs.Words.{App, Rule, app_of, new_app, rule_of, with_rule, with_subcommand};
-ghost use Rattle.iim_request.specs.Commands.{IsCommand};
-ghost use Rattle.iim_request.specs.Format.Requests.{audit_command, file_command, now_rule, number_rule, pack_command, program, unknown_rule, wanting};
+ghost use Rattle.iim_request.specs.Verbs.{IsCommand};
+ghost use Rattle.iim_request.specs.Format.{audit_command, file_command, now_rule, number_rule, pack_command, program, unknown_rule, wanting};
 
 use clap::builder::ValueParser;
 use clap::{Arg, ArgAction, Command};

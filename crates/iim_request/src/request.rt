@@ -67,7 +67,7 @@ impl From<AllocError> for UsageFault {
 }
 
 impl From<Error> for UsageFault {
-    ghost use Rattle.iim_request.specs.Faults.{IsUsageOf};
+    ghost use Rattle.iim_request.specs.Verbs.{IsUsageOf};
 
     ghost from_gives = { IsUsageOf };
 
@@ -80,7 +80,7 @@ impl From<Error> for UsageFault {
 }
 
 ghost use Rattle.iim_request.specs.declared.request.Verb.{Verb as VerbValue};
-ghost use Rattle.iim_request.specs.Format.Requests.{AsksFor, AsksJob, GivesNumber, IsFaultOf, IsSubfile, text_given};
+ghost use Rattle.iim_request.specs.Format.{AsksFor, AsksJob, GivesNumber, IsFaultOf, IsSubfile, text_given};
 ghost use Rattle.iim_request.specs.Verbs.{verb_name, IsFoundOf, IsJobFault};
 
 /// A command's name.

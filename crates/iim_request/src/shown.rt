@@ -2,7 +2,7 @@
 
 ghost use Rattle.std.specs.Prelude.{◌≡◌, ◌++◌, [], ◌∷◌, if◌then◌else◌, OnOk};
 ghost use Rattle.iim_dataset.specs.Format.Shown.{escape};
-ghost use Rattle.iim_request.specs.Format.Shown.{is_hidden, next_of, shown_name, spell_control};
+ghost use Rattle.iim_request.specs.Format.{is_hidden, next_of, shown_name, spell_control};
 
 use iim_dataset::push_escape;
 use std::alloc::AllocError;

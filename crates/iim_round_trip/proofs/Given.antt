@@ -14,7 +14,7 @@ use Rattle.iim_places.specs.declared.refusal.Refusal.{Refusal}
 use Rattle.iim_unpack.specs.declared.unpacker.Unpacked.{Unpacked}
 use Rattle.iim_round_trip.specs.Format.RoundTrip.{packed_value, GivesBack, FailsOutside}
 use Rattle.iim_round_trip.specs.Format.Results.{CountsCause}
-use Rattle.iim_round_trip.specs.Laws.Packed.{packed_answer, PackedStreamsHaveTheirAnswer}
+use Rattle.iim_round_trip.specs.Laws.{packed_answer, PackedStreamsHaveTheirAnswer}
 use Rattle.iim_round_trip.specs.declared.unpacking.UnpackFault.TheVariants.{Refused}
 
 -- whether a cause is the sink's

@@ -1,11 +1,11 @@
 -- What is packed is admitted, and found.
 use Rattle.std.proofs.Common.{◌≡◌, ℕ, ◌⊎◌, inl, inr, List, [], ◌∷◌, ◌++◌, refl, sym, ap, subst, ◌∙◌, append-nil}
 use Rattle.wire_message.specs.Format.Messages.{IsMessage}
-use Rattle.iim_pack.specs.Laws.Packed.{datasets_of, PackedOctetsCarryTheValue}
+use Rattle.iim_pack.specs.Laws.{datasets_of, PackedOctetsCarryTheValue}
 use Rattle.iim_places.specs.Format.Admitted.{Value, Admits}
-use Rattle.iim_places.specs.Laws.Admitted.{AdmittedOctetsHaveOneValue, NoAdmittedOctetsBeginOthers}
+use Rattle.iim_places.specs.Laws.{AdmittedOctetsHaveOneValue, NoAdmittedOctetsBeginOthers}
 use Rattle.iim_round_trip.specs.Format.RoundTrip.{packed_value}
-use Rattle.iim_round_trip.specs.Laws.Packed.{PackedOctetsAreAdmitted, PackedEnvelopesAreFound}
+use Rattle.iim_round_trip.specs.Laws.{PackedOctetsAreAdmitted, PackedEnvelopesAreFound}
 
 pub admitted : PackedOctetsCarryTheValue → PackedOctetsAreAdmitted
 admitted carry fields head lines trailer plan octets p =

@@ -2,11 +2,11 @@
 use Rattle.std.proofs.Common.{◌≡◌, ℕ, ◌≤◌, List, length, take, sym, subst, ◌∙◌, arith, ap, length-append}
 use Rattle.std.proofs.Math.Seq.{take-append_seam}
 use Rattle.iim_object.specs.Format.Plans.{max_subfiles}
-use Rattle.iim_pack.specs.Laws.Packed.{PackedSubfilesAreFew}
+use Rattle.iim_pack.specs.Laws.{PackedSubfilesAreFew}
 use Rattle.iim_places.specs.Format.Streams.{IsEnvelopeWithin, Answers}
-use Rattle.iim_places.specs.Laws.Streams.{StreamsHaveOneAnswer}
+use Rattle.iim_places.specs.Laws.{StreamsHaveOneAnswer}
 use Rattle.iim_round_trip.specs.Format.RoundTrip.{packed_value, FieldsAreWithin}
-use Rattle.iim_round_trip.specs.Laws.Packed.{PackedOctetsAreAdmitted, PackedOctetsAreWithin, PackedStreamsHaveTheirAnswer, packed_answer}
+use Rattle.iim_round_trip.specs.Laws.{PackedOctetsAreAdmitted, PackedOctetsAreWithin, PackedStreamsHaveTheirAnswer, packed_answer}
 
 pub within : PackedOctetsAreAdmitted → PackedSubfilesAreFew → PackedOctetsAreWithin
 within admits few limits fields head lines trailer plan octets p fits =

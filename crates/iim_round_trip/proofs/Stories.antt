@@ -5,10 +5,10 @@ use Rattle.iim_fields.specs.declared.limits.Limits.{Limits}
 use Rattle.wire_story.specs.States.Collecting.{Collected, collect}
 use Rattle.wire_story.specs.Format.Delivery.{StoryEvent, events_of_lines}
 use Rattle.wire_story.specs.Format.Texts.{IsText}
-use Rattle.wire_story.specs.Laws.Texts.{TextsAreDeliveredAsLines, TextsAreCollectedAsLines}
+use Rattle.wire_story.specs.Laws.{TextsAreDeliveredAsLines, TextsAreCollectedAsLines}
 use Rattle.iim_unpack.specs.Format.Pieces.{IsUnpacked}
 use Rattle.iim_places.specs.Format.Streams.{Answer, Answers, Finished, Truncated}
-use Rattle.iim_places.specs.Laws.Streams.{StreamsHaveOneAnswer}
+use Rattle.iim_places.specs.Laws.{StreamsHaveOneAnswer}
 use Rattle.iim_places.specs.Format.Streams as answers
 use Rattle.iim_round_trip.specs.Format.Results.{IsAnswer, IsTurnedDown}
 use Rattle.iim_round_trip.specs.Format.RoundTrip.{GivesBack}

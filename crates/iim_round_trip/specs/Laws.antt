@@ -1,1 +1,42 @@
-pub mod Packed
+-- What is packed is admitted.
+use Rattle.std.specs.Prelude.{◌≡◌, ℕ, List, ◌++◌, length}
+use Rattle.iim_dataset.specs.Format.Datasets.{Dataset}
+use Rattle.iim_object.specs.declared.plan.Plan.{Plan}
+use Rattle.wire_message.specs.Format.Messages.{Header}
+use Rattle.iim_pack.specs.Format.Packed.{Packed}
+use Rattle.iim_places.specs.Format.Admitted.{Value, Admits}
+use Rattle.iim_round_trip.specs.Format.RoundTrip.{packed_value, FieldsAreWithin, BeginsPacked}
+use Rattle.iim_fields.specs.declared.limits.Limits.{Limits}
+use Rattle.iim_places.specs.Format.Streams.{IsEnvelopeWithin, Answer, Answers, Finished}
+
+-- Packed octets are admitted, with the value that was packed and the sizes of the plan.
+abbrev pub PackedOctetsAreAdmitted : Type 0
+PackedOctetsAreAdmitted = (fields : List Dataset) (head : Header) (lines : List (List ℕ)) (trailer : List ℕ) (plan : Plan) (octets : List ℕ)
+    → (p : Packed fields head lines trailer plan octets) → Admits octets (packed_value fields head lines trailer plan p.written.parts)
+
+-- Whatever follows packed octets, and whatever admitted octets stand at the front: these are the packed octets, with their value.
+abbrev pub PackedEnvelopesAreFound : Type 0
+PackedEnvelopesAreFound = (fields : List Dataset) (head : Header) (lines : List (List ℕ)) (trailer : List ℕ) (plan : Plan) (octets : List ℕ)
+    → (p : Packed fields head lines trailer plan octets) (front rest more : List ℕ) (v : Value) → Admits front v → front ++ rest ≡ octets ++ more
+    → (front ≡ octets) × (v ≡ packed_value fields head lines trailer plan p.written.parts)
+
+-- Packed octets are an envelope within each limits that its fields are within.
+abbrev pub PackedOctetsAreWithin : Type 0
+PackedOctetsAreWithin = (limits : Limits) (fields : List Dataset) (head : Header) (lines : List (List ℕ)) (trailer : List ℕ) (plan : Plan) (octets : List ℕ)
+    → (p : Packed fields head lines trailer plan octets) → FieldsAreWithin limits fields
+    → IsEnvelopeWithin limits octets (packed_value fields head lines trailer plan p.written.parts)
+
+-- the answer to such a stream: an envelope of just the packed octets, with the value that was packed
+abbrev pub packed_answer : {limits : Limits} → {stream : List ℕ} → {fields : List Dataset} → {head : Header} → {lines : List (List ℕ)} → {trailer : List ℕ} → {plan : Plan}
+    → BeginsPacked limits stream fields head lines trailer plan → Answer
+packed_answer {limits} {stream} {fields} {head} {lines} {trailer} {plan} b =
+    Finished (length b.octets) (packed_value fields head lines trailer plan b.packed.written.parts)
+
+-- A stream that begins with what was packed has this answer, and no other.
+pub record IsAnsweredSo (limits : Limits) (stream : List ℕ) (answer : Answer) : Type 0 where
+  pub answers : Answers limits stream answer
+  pub only : (other : Answer) → Answers limits stream other → other ≡ answer
+
+abbrev pub PackedStreamsHaveTheirAnswer : Type 0
+PackedStreamsHaveTheirAnswer = (limits : Limits) (stream : List ℕ) (fields : List Dataset) (head : Header) (lines : List (List ℕ)) (trailer : List ℕ) (plan : Plan)
+    → (b : BeginsPacked limits stream fields head lines trailer plan) → IsAnsweredSo limits stream (packed_answer b)

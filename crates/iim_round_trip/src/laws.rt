@@ -1,6 +1,6 @@
 //! What holds of packing and unpacking together.
 
-ghost use Rattle.iim_round_trip.specs.Laws.Packed.{PackedOctetsAreAdmitted, PackedEnvelopesAreFound, PackedOctetsAreWithin, PackedStreamsHaveTheirAnswer};
+ghost use Rattle.iim_round_trip.specs.Laws.{PackedOctetsAreAdmitted, PackedEnvelopesAreFound, PackedOctetsAreWithin, PackedStreamsHaveTheirAnswer};
 
 use iim_pack::laws::{packed_octets_carry_the_value, packed_subfiles_are_few};
 use iim_unpack::laws::place_laws;

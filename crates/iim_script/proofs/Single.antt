@@ -9,7 +9,7 @@ use Rattle.wire_story.specs.Format.Texts.{IsLine}
 use Rattle.iim_script.specs.Format.Lines.{HasNo, NextLine}
 use Rattle.iim_script.specs.Format.Scripts.{IsStory, IsScript, max_script}
 use Rattle.iim_script.specs.Format.Faults.{IsNextWrong, IsFrontFault, IsStoryFault, IsScriptFault}
-use Rattle.iim_script.specs.Laws.Scripts.{IsOneScript}
+use Rattle.iim_script.specs.Laws.{IsOneScript}
 use Rattle.iim_script.specs.declared.fault.ScriptCause.{ScriptCause}
 use Rattle.iim_script.specs.declared.fault.ScriptCause.TheVariants.{ScriptTooLong, BadTextOctet, OutOfMemory}
 use Rattle.iim_script.proofs.Next.{next_once, no_next}

@@ -13,7 +13,7 @@ use Rattle.iim_dataset.proofs.Lists.{all_there}
 use Rattle.iim_fields.specs.Format.Envelopes.{IsEnvelope}
 use Rattle.iim_fields.specs.States.Builders.{absent, finish_fault}
 use Rattle.iim_fields.specs.Format.Faults.{joined, missing_fault}
-use Rattle.iim_fields.specs.Laws.Records.{DatasetsOfEnvelopesAreAdded}
+use Rattle.iim_fields.specs.Laws.{DatasetsOfEnvelopesAreAdded}
 use Rattle.iim_tables.specs.Format.Records.{IsGoodDataset, mandatory, occurs}
 use Rattle.iim_fields.specs.Format.Bounds.{IsWithin}
 use Rattle.iim_fields.specs.declared.fault.FieldFault.{FieldFault}
@@ -23,7 +23,7 @@ use Rattle.iim_script.proofs.Printing.{IsPrintable, field_words, fields_end, fie
 use Rattle.std.specs.Prelude.{codes}
 use Rattle.wire_message.specs.Format.Messages.{Header, IsHeader}
 use Rattle.iim_script.specs.Format.Forms.{text_word}
-use Rattle.iim_script.specs.Laws.Scripts.{PrintedValuesAreScripts}
+use Rattle.iim_script.specs.Laws.{PrintedValuesAreScripts}
 use Rattle.iim_script.specs.Format.Lines.{EndLines}
 use Rattle.iim_script.specs.Format.Printed.{field_line, message_line, trailer_line, script_of}
 use Rattle.iim_script.proofs.Cuts.{ended}

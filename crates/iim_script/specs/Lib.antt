@@ -5,4 +5,3 @@ pub mod Laws
 -- What only proofs and private clauses cite.
 pub mod Plain
 pub mod Steps
-pub mod ThreeDigits

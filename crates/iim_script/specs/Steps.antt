@@ -1,6 +1,7 @@
 -- What the parts of the reader answer, each of what is left after the lines before it.
-use Rattle.std.specs.Prelude.{◌≡◌, ℕ, ◌+◌, ◌⊎◌, List, [], ◌∷◌, ◌++◌, Some, None}
-use Rattle.iim_dataset.specs.Format.Characters.{lf}
+use Rattle.std.specs.Prelude.{ℕ, ◌+◌, ◌*◌, ◌-◌, IsTrue, ◌≡◌, ◌⊎◌, List, [], ◌∷◌, ◌++◌, Some, None}
+use Rattle.iim_dataset.specs.Format.Characters.{digit_zero, lf}
+use Rattle.iim_dataset.specs.Format.Octets.{is_digit}
 use Rattle.iim_dataset.specs.Format.Datasets.{Dataset}
 use Rattle.iim_fields.specs.States.Builders.{Building, add_fault, finish_fault}
 use Rattle.iim_fields.specs.declared.limits.Limits.{Limits}
@@ -11,6 +12,16 @@ use Rattle.iim_script.specs.Format.Forms.{TellsField, TellsTrailer, text_word}
 use Rattle.iim_script.specs.Format.Faults.{IsFrontFault, IsBadStory, TellsNoHead, TellsNoTrailer, TellsBadTrailer}
 use Rattle.iim_script.specs.declared.fault.ScriptCause.{ScriptCause}
 use Rattle.iim_script.specs.declared.fault.ScriptCause.TheVariants.{ScriptLine, Field, BadTrailer, BadTextOctet, OutOfMemory}
+
+-- ---- The number of a record or a dataset, by its three digits.
+
+-- three decimal digits
+abbrev pub AreDigits : ℕ → ℕ → ℕ → Type 0
+AreDigits hundreds tens ones = IsTrue (is_digit hundreds) × IsTrue (is_digit tens) × IsTrue (is_digit ones)
+
+-- the number that they spell
+abbrev pub value_of : ℕ → ℕ → ℕ → ℕ
+value_of hundreds tens ones = (hundreds - digit_zero) * 100 + (tens - digit_zero) * 10 + (ones - digit_zero)
 
 -- the number of the line after the first `count` lines, or 0 where memory is refused
 abbrev pub number_after : ℕ → ScriptCause → ℕ

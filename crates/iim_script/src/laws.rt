@@ -1,6 +1,6 @@
 //! What holds of all lines of scripts, and of all scripts. The functions do nothing: their contracts are the laws.
 
-ghost use Rattle.iim_script.specs.Laws.All.{ScriptLaws};
+ghost use Rattle.iim_script.specs.Laws.{ScriptLaws};
 
 use iim_fields::laws::record_laws;
 

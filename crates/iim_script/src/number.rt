@@ -3,7 +3,7 @@
 ghost use Rattle.std.specs.Prelude.{◌≡◌, ◌+◌, ◌≤◌, ◌<◌, ◌-◌, ◌*◌, ℕ, false, IsTrue, IfSome, IfNone};
 ghost use Rattle.iim_dataset.specs.Format.Characters.{digit_zero};
 ghost use Rattle.iim_script.specs.Format.Forms.{TellsNumber};
-ghost use Rattle.iim_script.specs.ThreeDigits.{AreDigits, value_of};
+ghost use Rattle.iim_script.specs.Steps.{AreDigits, value_of};
 ghost use Rattle.iim_dataset.specs.Format.Octets.{is_digit};
 
 /// Whether the octet is a decimal digit.

@@ -8,16 +8,14 @@ use Rattle.iim_places.specs.Format.Open.{IsOpen, RefusesNext}
 use Rattle.iim_places.specs.Format.Open as opens
 use Rattle.iim_places.specs.Format.Refusals.{refusal_at, begun_record, begun_number}
 use Rattle.iim_places.specs.Format.Streams.{Answer, Answers, Finished, Refused, Truncated, IsFinished, IsRefused, IsTruncated, IsEnvelopeWithin}
-use Rattle.iim_places.specs.Laws.Streams.{StreamsHaveOneAnswer}
+use Rattle.iim_places.specs.Laws.{StreamsHaveOneAnswer, TicketsTellOnePlace}
 use Rattle.iim_places.specs.States.Counts.{raised}
 use Rattle.iim_places.specs.declared.fault.TokenFault.{TokenFault}
 use Rattle.iim_places.specs.declared.refusal.Refusal.{Refusal}
-use Rattle.iim_unpack.specs.Laws.Alike.{AnswersPiece, IsOfNoSink, StandAlike, StandOnSame, PieceIsAnsweredAlike, PiecesAreAnsweredAlike, RestoredStandAlike}
-use Rattle.iim_unpack.specs.Laws.Places.{RestoredStandAsSaved}
+use Rattle.iim_unpack.specs.Laws.{AnswersPiece, IsOfNoSink, StandAlike, StandOnSame, PieceIsAnsweredAlike, PiecesAreAnsweredAlike, RestoredStandAlike, RestoredStandAsSaved}
 use Rattle.iim_unpack.specs.States.Unpacking.{Unpacking, Stands, IsDoneWith, IsRefusedIn, limits_in}
 use Rattle.iim_unpack.specs.declared.unpacker.Progress.{Progress}
 use Rattle.iim_unpack.specs.declared.unpacker.Progress.TheVariants.{More, Done}
-use Rattle.iim_places.specs.Laws.Places.{TicketsTellOnePlace}
 use Rattle.iim_places.proofs.Saved.{open_wider, whole_wider, at_restored}
 
 -- ---- an answer to a piece as the answer to all octets

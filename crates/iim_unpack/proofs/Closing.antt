@@ -10,14 +10,14 @@ use Rattle.iim_fields.specs.Format.Alive.{SectionsLiveAt}
 use Rattle.iim_fields.specs.States.Checks.{IsValueFault}
 use Rattle.iim_fields.specs.States.Standing.{IsOf, limits_of, FieldsPlace, StandsAfter, StandsIn}
 use Rattle.iim_fields.specs.Format.Values.{data_of, tells_number, number_told}
-use Rattle.iim_fields.specs.Laws.Records.{NoSectionsBeginOthers}
+use Rattle.iim_fields.specs.Laws.{NoSectionsBeginOthers}
 use Rattle.iim_fields.specs.declared.fault.FieldFault.{FieldFault}
 use Rattle.iim_fields.proofs.Sections.{last_more}
 use Rattle.iim_object.specs.Format.Places.{value_token}
 use Rattle.iim_object.specs.States.Reading as objects
 use Rattle.iim_object.specs.Format.Numbers.{place_after_datasets}
 use Rattle.wire_message.specs.Format.Layers.{text_so_far}
-use Rattle.wire_message.specs.Laws.Messages.{ReadersStandAtLivingOctets}
+use Rattle.wire_message.specs.Laws.{ReadersStandAtLivingOctets}
 use Rattle.iim_places.specs.Format.Tokens.{place_at, IsRefusedValue}
 use Rattle.iim_places.specs.Format.Refusals.{of_field}
 use Rattle.iim_unpack.specs.PartSteps.{IsObjectFault, TellsParts, TellsWhole, PartsRefuse, Closed, NotClosed}
@@ -29,7 +29,7 @@ use Rattle.iim_places.proofs.Places.{number_leads, silent_leads}
 use Rattle.iim_unpack.proofs.Carrying.{HasBegun, in_one, same_head, all_within}
 use Rattle.iim_unpack.proofs.Sequences.{end_told, all_came}
 use Rattle.iim_places.proofs.Lasts.{not_all}
-use Rattle.iim_places.specs.Laws.Lower.{LowerLaws}
+use Rattle.iim_places.specs.Laws.{LowerLaws}
 use Rattle.iim_places.proofs.ObjectOctets.{object_of_more, few_more}
 use Rattle.iim_unpack.specs.Sequence.{AreInOrder}
 use Rattle.wire_story.specs.Format.Delivery as story

@@ -15,7 +15,7 @@ use Rattle.iim_fields.specs.Format.Values.{tells_number}
 use Rattle.iim_fields.specs.Format.Faults.{kept, kept_octets, is_kept, is_first, is_in_order, fault_on, row_fault, missing_fault, missing_of, head_fault, record_fault, room_fault, limits_fault, first_fault, value_fault, fault_by_row, section_after, section_run}
 use Rattle.iim_fields.specs.States.Checks.{IsValueFault}
 use Rattle.iim_fields.specs.States.Standing.{IsHeadFault}
-use Rattle.iim_fields.specs.Laws.Records.{HeadsDieWithTheirFault, ValuesDieWithTheirFault}
+use Rattle.iim_fields.specs.Laws.{HeadsDieWithTheirFault, ValuesDieWithTheirFault}
 use Rattle.iim_fields.specs.declared.limits.Limits.{Limits}
 use Rattle.iim_fields.specs.declared.fault.FieldFault.{FieldFault}
 use Rattle.iim_fields.specs.declared.fault.FieldCause.TheVariants.{RecordOrder}
@@ -25,7 +25,7 @@ use Rattle.iim_object.specs.Format.Places.{Place, MayFollow, place_after, head_t
 use Rattle.iim_object.specs.Format.Causes.{cause_at}
 use Rattle.iim_object.specs.States.Reading.{StandsAt, Refuses}
 use Rattle.iim_object.specs.Format.Numbers.{place_after_datasets}
-use Rattle.iim_object.specs.Laws.Numbers.{TokensFollow}
+use Rattle.iim_object.specs.Laws.{TokensFollow}
 use Rattle.iim_object.specs.declared.reading.state.State.{State}
 use Rattle.iim_object.specs.declared.reading.fault.SizeCause.{SizeCause}
 use Rattle.iim_places.specs.Format.Refusals.{layer_of, of_field, size_on, too_many_on}

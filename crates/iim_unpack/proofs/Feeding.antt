@@ -5,13 +5,12 @@ use Rattle.std.proofs.lemmas.Option.{same_Some}
 use Rattle.std.proofs.lemmas.Bool.{eqb-true, true≢false}
 use Rattle.iim_dataset.specs.Format.Octets.{IsOctet}
 use Rattle.iim_dataset.specs.Format.Datasets.{Dataset, SpellsStream, count_octets, of_record}
-use Rattle.iim_dataset.specs.Format.Splits.{Begun, InTag, InData, Reads}
+use Rattle.iim_dataset.specs.Format.Splits.{Begun, InTag, InData, Reads, CompletesData}
 use Rattle.iim_dataset.specs.Format.Tags.{Concerns}
 use Rattle.iim_dataset.specs.States.Events.{DatasetEvent, HeadRead, DataOctet, DatasetEnd, handed_on, begun_data}
 use Rattle.iim_dataset.specs.States.Places.{LeadsTo, HandsOn, IsKeptAs, between, named_by, to_come}
 use Rattle.iim_dataset.specs.States.Reading.{Completes, TagDies, TakesCalls}
-use Rattle.iim_dataset.specs.Format.Completing.{CompletesData}
-use Rattle.iim_dataset.specs.Laws.Completing.{CompletesNow}
+use Rattle.iim_dataset.specs.Laws.{CompletesNow}
 use Rattle.iim_dataset.specs.declared.head.Head.{Head}
 use Rattle.iim_dataset.specs.declared.head.HeadCause.{HeadCause}
 use Rattle.iim_dataset.specs.declared.place.DatasetPlace.{DatasetPlace as Place}
@@ -26,11 +25,11 @@ use Rattle.iim_object.specs.Format.Records.{AreObjectRecords, HaveSizes}
 use Rattle.iim_object.specs.declared.size.Sizes.{Sizes}
 use Rattle.wire_story.specs.Format.Delivery as story
 use Rattle.wire_message.specs.Format.Layers.{text_so_far}
-use Rattle.wire_message.specs.Laws.Messages.{ReadersStandAtLivingOctets}
+use Rattle.wire_message.specs.Laws.{ReadersStandAtLivingOctets}
 use Rattle.wire_message.specs.States.Reading as wire
 use Rattle.wire_story.specs.Format.Texts.{IsText}
 use Rattle.wire_message.specs.Format.Messages.{Header, IsMessage}
-use Rattle.iim_places.specs.Laws.Admitted.{AdmittedOctetsHaveOneValue}
+use Rattle.iim_places.specs.Laws.{AdmittedOctetsHaveOneValue, RefusalsTellTheLowestCause, LowerLaws}
 use Rattle.iim_places.specs.Format.Admitted.{Value, Admits, object_of}
 use Rattle.iim_places.specs.Format.Refusals.{begun_record, begun_number, tag_cause, refusal_at}
 use Rattle.iim_unpack.specs.UnpackerInside.{cause_of_tag, Advanced, FailsAs, IsOnward, tag_fault, begins, Stood, IsUnpacking}
@@ -52,8 +51,6 @@ use Rattle.iim_unpack.proofs.Carrying.{AreAfterAll, all_after, all_within}
 use Rattle.iim_places.proofs.Lasts.{sections_last, last_sections, not_all}
 use Rattle.iim_unpack.proofs.Ended.{ended_by_record, unended_inside}
 use Rattle.iim_unpack.proofs.Sequences.{by_data, handed_in_order}
-use Rattle.iim_places.specs.Laws.Conditions.{RefusalsTellTheLowestCause}
-use Rattle.iim_places.specs.Laws.Lower.{LowerLaws}
 use Rattle.iim_places.proofs.ObjectOctets.{no_object}
 
 -- ---- begun datasets that are told alike

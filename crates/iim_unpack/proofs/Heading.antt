@@ -18,7 +18,7 @@ use Rattle.iim_object.specs.declared.reading.state.State.{State}
 use Rattle.wire_story.specs.Format.Delivery as story
 use Rattle.wire_story.specs.Format.Tokens.{End}
 use Rattle.wire_message.specs.Format.Layers.{text_so_far, MessageDiesAt}
-use Rattle.wire_message.specs.Laws.Messages.{TextsStandBetweenStxAndEtx}
+use Rattle.wire_message.specs.Laws.{TextsStandBetweenStxAndEtx}
 use Rattle.wire_message.specs.States.Reading as wire
 use Rattle.wire_message.specs.declared.place.Place.{Place}
 use Rattle.iim_places.specs.Format.Admitted.{object_of}
@@ -38,7 +38,7 @@ use Rattle.std.proofs.lemmas.Option.{same_Some}
 use Rattle.iim_places.proofs.Lasts.{sections_last}
 use Rattle.iim_unpack.proofs.Ended.{ended_by_record}
 use Rattle.iim_unpack.proofs.Carrying.{counts_for, passes_on, after_all, all_after}
-use Rattle.iim_places.specs.Laws.Lower.{LowerLaws}
+use Rattle.iim_places.specs.Laws.{LowerLaws}
 
 -- What stands after a head.
 pub record Begins (new : Parts) (ds : List Dataset) (h : Head) : Type 0 where

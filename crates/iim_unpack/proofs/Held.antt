@@ -2,7 +2,7 @@
 use Rattle.std.proofs.Common.{◌≡◌, ℕ, ◌+◌, ◌<◌, ◌≤◌, if◌then◌else◌, nat_eq, List, [], length, Option, Some, ap, sym, subst, ◌∙◌, inl, inr, arith}
 use Rattle.std.proofs.lemmas.Bool.{cases_Bool}
 use Rattle.iim_dataset.specs.Format.Datasets.{Dataset, count_octets}
-use Rattle.iim_dataset.specs.Laws.Datasets.{EventsTellTheDatasets}
+use Rattle.iim_dataset.specs.Laws.{EventsTellTheDatasets}
 use Rattle.iim_dataset.specs.States.Places.{IsKeptAs}
 use Rattle.iim_dataset.specs.Format.Splits.{Begun, InTag, InData, Reads}
 use Rattle.iim_dataset.specs.declared.head.Head.{Head}

@@ -7,15 +7,15 @@ use Rattle.std.proofs.lemmas.Option.{same_Some}
 use Rattle.std.proofs.Math.Seq.{take-append-add}
 use Rattle.std.specs.Io.KnownBytes.{IsAtEnd}
 use Rattle.iim_dataset.specs.States.Devices.{Device, HasGiven, MissedAfter, WithinInterruptionLimit}
-use Rattle.iim_dataset.specs.Laws.Devices.{GiftsJoin}
+use Rattle.iim_dataset.specs.Laws.{GiftsJoin}
 use Rattle.iim_dataset.specs.declared.device.IoFault.{IoFault}
 use Rattle.iim_dataset.specs.declared.device.IoFault.TheVariants as io
 use Rattle.iim_dataset.proofs.Lists.{nothing_of_two}
 use Rattle.iim_dataset.proofs.DeviceLaws.{broke_for_later}
-use Rattle.iim_dataset.specs.Later.{consumes_consumes}
+use Rattle.iim_dataset.specs.HandedIn.{consumes_consumes}
 use Rattle.iim_fields.specs.declared.limits.Limits.{Limits}
 use Rattle.wire_story.specs.Format.Delivery as story
-use Rattle.wire_story.specs.Laws.Texts.{DeliveryMayBeCut}
+use Rattle.wire_story.specs.Laws.{DeliveryMayBeCut}
 use Rattle.iim_unpack.specs.States.Parts.{CountsFor}
 use Rattle.iim_places.specs.Format.Refusals.{refusal_at}
 use Rattle.iim_unpack.specs.States.Unpacking.{Unpacking, Stands, IsDoneWith, Goes, IsRefusedIn, LeftAs, limits_in}
@@ -24,7 +24,7 @@ use Rattle.iim_unpack.specs.UnpackerInside.{Stood}
 use Rattle.iim_places.specs.Format.Open.{IsOpen, Delivers, IsTruncatedAt}
 use Rattle.iim_unpack.specs.IntakeSteps.{IsRefusedPiece, read_fault}
 use Rattle.iim_unpack.specs.States.Intakes.{FedPiece, HasFed, StandsOn, WasDone, WasEnded, IsRefusedOf, IsTruncatedIn, WasRefused, WasTruncated, WasMissed, WasGiven, Came, IsReady, Faults, GivesNothing, in_line}
-use Rattle.iim_places.specs.Laws.Streams.{OpenOctetsAreBounded}
+use Rattle.iim_places.specs.Laws.{OpenOctetsAreBounded}
 use Rattle.iim_unpack.specs.declared.intake.Fed.{Fed}
 use Rattle.iim_unpack.specs.declared.intake.Fed.TheVariants as piece
 use Rattle.iim_unpack.specs.declared.intake.Intake.{Intake}

@@ -7,15 +7,13 @@ use Rattle.std.specs.Result.{IsErrAnd}
 use Rattle.iim_dataset.specs.Format.Splits.{InTag}
 use Rattle.iim_fields.specs.declared.limits.Limits.{Limits}
 use Rattle.wire_story.specs.Format.Delivery as story
-use Rattle.wire_story.specs.Laws.Texts.{DeliveryMayBeCut, TextsAreDeliveredAsLines}
+use Rattle.wire_story.specs.Laws.{DeliveryMayBeCut, TextsAreDeliveredAsLines}
 use Rattle.wire_message.specs.Format.Layers.{text_so_far}
 use Rattle.wire_message.specs.declared.place.Place.TheVariants.{AfterEnd}
 use Rattle.iim_places.specs.Format.Admitted.{Value, Admits, object_of}
-use Rattle.iim_places.specs.Laws.All.{PlaceLaws}
-use Rattle.iim_places.specs.Laws.Streams.{StreamsHaveOneAnswer}
-use Rattle.iim_places.specs.Laws.Lower.{LowerLaws}
+use Rattle.iim_places.specs.Laws.{PlaceLaws, StreamsHaveOneAnswer, LowerLaws}
 use Rattle.iim_unpack.specs.Format.Pieces.{stream_of, IsUnpacked, IsTurnedDown, IsAnswer}
-use Rattle.iim_unpack.specs.PiecesSoFar.{DoneIn, HasFedPieces}
+use Rattle.iim_unpack.specs.IntakeSteps.{DoneIn, HasFedPieces}
 use Rattle.iim_places.specs.Format.Refusals.{refusal_at}
 use Rattle.iim_places.specs.Format.Streams.{Answer, Answers, Finished, Refused, Truncated, IsEnvelopeWithin, IsFinished}
 use Rattle.iim_unpack.specs.States.Unpacking.{Unpacking, Stands, IsDone, IsDoneWith, Goes, IsRefusedIn, limits_in}

@@ -43,13 +43,12 @@ use Rattle.iim_places.proofs.PlainSizes.{possible_of}
 use Rattle.iim_places.proofs.SamePlace.{opened, fields_after, fields_in, some_read}
 use Rattle.iim_places.proofs.SameRecords.{stated_after_all}
 use Rattle.iim_places.proofs.Tickets.{count_of}
-use Rattle.iim_places.specs.Laws.Lower.{LowerLaws}
+use Rattle.iim_places.specs.Laws.{LowerLaws, LimitsAreToldByPlace}
 use Rattle.iim_places.proofs.ReadersAt.{like, ended_reader, text_led, TagPhase, base_tag, live_tag, stand_tag, present_tag, object_tag, ending_tag, object_data, keeps, come, between_tag}
 use Rattle.std.proofs.lemmas.Bool.{ne_eqb, true≢false}
 use Rattle.iim_dataset.specs.declared.place.DatasetPlace.TheVariants.{Tag, Inside}
-use Rattle.iim_object.specs.Laws.Reading.{ReadersTellSizes}
+use Rattle.iim_object.specs.Laws.{ReadersTellSizes}
 use Rattle.iim_places.specs.States.Possible.{AreOpenOrWhole}
-use Rattle.iim_places.specs.Laws.Places.{LimitsAreToldByPlace}
 use Rattle.iim_unpack.specs.Routing.{Takes, HasEnded}
 use Rattle.iim_places.specs.Format.TicketForm.{Split}
 use Rattle.iim_places.specs.declared.ticket.possible.Readers.{Readers}

@@ -13,14 +13,14 @@ use Rattle.iim_fields.proofs.Sections.{head_alive}
 use Rattle.iim_object.specs.Format.Numbers.{place_after_datasets}
 use Rattle.wire_message.specs.Format.Layers.{text_so_far}
 use Rattle.iim_places.specs.Format.Admitted.{object_of}
-use Rattle.iim_places.specs.Laws.Lower.{LowerLaws}
+use Rattle.iim_places.specs.Laws.{LowerLaws}
 use Rattle.iim_places.specs.Format.Tokens.{place_at, CanContinue, CanContinueAt}
 use Rattle.iim_places.specs.Format.Open.{object_so_far, AllCanContinue}
 use Rattle.iim_unpack.specs.States.Parts.{AreAfter, Within, StandsFor}
 use Rattle.iim_unpack.specs.States.Unpacking.{Unpacking, IsLed, Stands, IsDoneWith, limits_in}
 use Rattle.iim_places.specs.States.Counts.{are_some}
 use Rattle.iim_places.specs.Format.Tickets.{Place, place_of}
-use Rattle.iim_unpack.specs.Laws.Tickets.{UnpackersStandByPlace}
+use Rattle.iim_unpack.specs.Laws.{UnpackersStandByPlace}
 use Rattle.iim_unpack.specs.declared.parts.Parts.{Parts}
 use Rattle.iim_unpack.proofs.Sequences.{by_data}
 use Rattle.iim_places.proofs.Following.{alive_of}

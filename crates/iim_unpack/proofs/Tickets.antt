@@ -3,7 +3,7 @@ use Rattle.std.proofs.Common.{◌≡◌, ℕ, ◌-◌, nat_eq, false, if◌then�
 use Rattle.iim_dataset.specs.Format.Datasets.{Dataset, of_record, count_octets}
 use Rattle.iim_dataset.specs.Format.Splits.{Begun, InTag, InData, Reads}
 use Rattle.iim_dataset.specs.States.Places.{IsKeptAs}
-use Rattle.iim_dataset.specs.Laws.Datasets.{EventsTellTheDatasets}
+use Rattle.iim_dataset.specs.Laws.{EventsTellTheDatasets}
 use Rattle.iim_dataset.specs.declared.place.DatasetPlace.{DatasetPlace}
 use Rattle.iim_dataset.specs.declared.place.DatasetPlace.TheVariants.{Tag, Inside}
 use Rattle.iim_fields.specs.Format.Faults.{kept, section_after, joined}

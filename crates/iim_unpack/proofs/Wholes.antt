@@ -27,7 +27,7 @@ use Rattle.iim_places.specs.Format.Tokens.{place_at}
 use Rattle.iim_unpack.specs.States.Parts.{AreAfter, has_ended}
 use Rattle.iim_unpack.specs.PartSteps.{TakesHead, TellsWhole, TellsParts, PartsRefuse}
 use Rattle.iim_unpack.specs.Routing.{HasEnded, Takes, TookWhole}
-use Rattle.iim_places.specs.Laws.Lower.{LowerLaws}
+use Rattle.iim_places.specs.Laws.{LowerLaws}
 use Rattle.iim_unpack.specs.declared.parts.Parts.{Parts}
 use Rattle.iim_unpack.proofs.Sequences.{end_told}
 use Rattle.iim_places.proofs.Objects.{records_alive}

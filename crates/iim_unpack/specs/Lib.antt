@@ -16,4 +16,3 @@ pub mod Going
 pub mod Routing
 pub mod TicketReading
 pub mod Restoring
-pub mod PiecesSoFar

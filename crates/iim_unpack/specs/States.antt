@@ -4,4 +4,3 @@ pub mod Parts
 pub mod Intakes
 pub mod Unpacking
 pub mod Held
-pub mod Saving

@@ -4,7 +4,7 @@ ghost use Rattle.std.specs.Prelude.{◌≡◌, ℕ, List, None};
 ghost use Rattle.iim_unpack.specs.States.Held.{HoldsFew};
 ghost use Rattle.iim_unpack.specs.States.Unpacking.{IsDone, IsDoneWith, Stands};
 ghost use Rattle.iim_unpack.specs.Restoring.{ReadersMakeUnpackers};
-ghost use Rattle.iim_unpack.specs.Laws.All.{UnpackerLaws};
+ghost use Rattle.iim_unpack.specs.Laws.{UnpackerLaws};
 
 use crate::unpacker::Unpacker;
 use iim_object::laws::readers_tell_sizes;

@@ -2,7 +2,7 @@
 
 ghost use Rattle.std.specs.Prelude.{◌≡◌, ◌≢◌, [], IfOk, IfErr, OnOk};
 ghost use Rattle.iim_unpack.specs.States.Parts.{CountsFor};
-ghost use Rattle.iim_unpack.specs.PiecesSoFar.{HasFedPieces};
+ghost use Rattle.iim_unpack.specs.IntakeSteps.{HasFedPieces};
 ghost use Rattle.iim_unpack.specs.Format.Pieces.{IsAnswer, IsTurnedDown, IsUnpacked, stream_of};
 ghost use Rattle.iim_places.specs.Format.Streams.{Answer, Answers};
 ghost use Rattle.iim_unpack.specs.States.Unpacking.{Stands, limits_in};

@@ -12,7 +12,7 @@ ghost use Rattle.iim_unpack.specs.UnpackerInside.{HasAdvanced, FailsFor, FailsAs
 ghost use Rattle.iim_places.specs.States.Counts.{raised};
 ghost use Rattle.iim_unpack.specs.States.Unpacking.{failed_at, Stands, IsDoneWith, IsDone, IsRefusedIn, Goes, limits_in, room_in, LeftAs};
 ghost use Rattle.iim_unpack.specs.States.Held.{HoldsFew};
-ghost use Rattle.iim_unpack.specs.States.Saving.{HasTicketIn};
+ghost use Rattle.iim_unpack.specs.States.Restored.{HasTicketIn};
 ghost use Rattle.iim_places.specs.Format.Open.{IsTruncatedAt};
 ghost use Rattle.iim_places.specs.Format.Admitted.{Value, Admits};
 ghost use Rattle.iim_places.specs.Format.Tickets.{IsTicketOf};

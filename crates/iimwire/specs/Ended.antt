@@ -1,11 +1,11 @@
 -- The status that the program ends with. What its streams hold is not known.
 use Rattle.std.specs.Prelude.{◌≡◌, ℕ, ◌⊎◌}
 use Rattle.iim_output.specs.States.Devices.{Devices}
-use Rattle.iim_commands.specs.Format.Outcomes.{Ran}
+use Rattle.iim_commands.specs.Format.{Ran}
 use Rattle.iim_request.specs.declared.request.Job.{Job}
 use Rattle.iim_output.specs.Format.Statuses.{status_failed}
 use Rattle.iimwire.specs.declared.start.RunFault.{RunFault}
-use Rattle.iimwire.specs.Format.Starts.{status_of_start}
+use Rattle.iimwire.specs.Format.{status_of_start}
 
 -- The job was carried out over some devices, and this is the status of that.
 abbrev pub EndsWith : Job → ℕ → Type 0

@@ -1,6 +1,6 @@
 //! All that the program does once it has its words and its input.
 
-ghost use Rattle.iimwire.specs.Format.Served.{Served};
+ghost use Rattle.iimwire.specs.Format.{Served};
 
 use crate::start::{RunFault, hinder};
 use iim_commands::request::Request;

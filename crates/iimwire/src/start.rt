@@ -23,8 +23,8 @@ pub enum RunFault<'a> {
     OutOfMemory,
 }
 
-ghost use Rattle.iim_request.specs.Format.Shown.{shown_name};
-ghost use Rattle.iimwire.specs.Format.Starts.{status_of_usage, status_of_start, IsHindered, IsUsageText, TellsRunFault};
+ghost use Rattle.iim_request.specs.Format.{shown_name};
+ghost use Rattle.iimwire.specs.Format.{status_of_usage, status_of_start, IsHindered, IsUsageText, TellsRunFault};
 
 /// The status for a fault of the words.
 fn usage_status(fault: &UsageFault) -> u8

@@ -1,8 +1,8 @@
 //! The words of the command line, as what `clap` says of them is printed.
 
 ghost use Rattle.std.specs.Prelude.{◌≡◌, IfOk, IsUtf8, string_bytes};
-ghost use Rattle.iim_request.specs.Format.Shown.{shown_name};
-ghost use Rattle.iimwire.specs.Format.Starts.{IsPrintedAs};
+ghost use Rattle.iim_request.specs.Format.{shown_name};
+ghost use Rattle.iimwire.specs.Format.{IsPrintedAs};
 
 use iim_commands::request::{UsageFault, parse};
 use iim_commands::shown::push_name;

@@ -5,8 +5,8 @@ use Rattle.trials.specs.declared.device.Trouble.{Trouble}
 use Rattle.trials.specs.declared.device.Trouble.TheVariants.{Failure, Interruptions}
 use Rattle.trials.specs.declared.device.TrialReader.{TrialReader}
 use Rattle.iim_dataset.specs.States.Devices.{Calm}
-use Rattle.trials.specs.States.Devices.{planned, SameTrouble, KeepsFailures, GoesByPlan, ReadsOn, trial_device}
-use Rattle.iim_dataset.specs.Later.{later_stays, later_leads_on}
+use Rattle.trials.specs.States.{planned, SameTrouble, KeepsFailures, GoesByPlan, ReadsOn, trial_device}
+use Rattle.iim_dataset.specs.HandedIn.{later_stays, later_leads_on}
 
 same_stays : (t : Trouble) → SameTrouble t t
 same_stays Failure = tt

@@ -2,7 +2,7 @@
 
 ghost use Rattle.std.specs.Prelude.{◌≡◌, ◌≤◌, [], Some, None, IfOk, IfErr, OnOk};
 ghost use Rattle.iim_dataset.specs.States.Devices.{Gave, Accepted, Calm, Faulted, CountedFailure, unbroken};
-ghost use Rattle.trials.specs.States.Devices.{planned, new_plan, trial_device, reader_plan, writer_plan, taken_octets, trial_target, TakesOne, WentWell, MetTrouble, GoesByPlan, ReadsOn};
+ghost use Rattle.trials.specs.States.{planned, new_plan, trial_device, reader_plan, writer_plan, taken_octets, trial_target, TakesOne, WentWell, MetTrouble, GoesByPlan, ReadsOn};
 
 use arrayvec::ArrayVec;
 use iim_dataset::{IoFault, Source, Target};

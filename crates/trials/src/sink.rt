@@ -20,7 +20,7 @@ pub struct TrialSink<S> {
 }
 
 impl<S: StorySink> TrialSink<S> {
-    ghost use Rattle.trials.specs.States.Sinks.{sink_of, good_of, front_of, failures_of, PassesOn, UsesCall, StopsByPlan};
+    ghost use Rattle.trials.specs.States.{sink_of, good_of, front_of, failures_of, PassesOn, UsesCall, StopsByPlan};
 
     /// A sink with `good` good calls, which stops then after `front` octets of a run, or after all but its last.
     pub fn new(sink: S, good: u64, front: usize) -> TrialSink<S>
@@ -89,7 +89,7 @@ impl<S: StorySink> TrialSink<S> {
 }
 
 impl<S: StorySink> StorySink for TrialSink<S> {
-    ghost use Rattle.trials.specs.States.Sinks.{sink_of, good_of, failures_of, PassesOn, UsesCall, StopsByPlan};
+    ghost use Rattle.trials.specs.States.{sink_of, good_of, failures_of, PassesOn, UsesCall, StopsByPlan};
 
     ghost goes = { PassesOn S.goes };
 

@@ -1,8 +1,7 @@
 -- The names that most of these proofs use.
 pub use Rattle.std.proofs.Math.Bool.{or-false, or_assoc}
 pub use Rattle.std.proofs.Math.Seq.{drop-append-add, drop-append_seam, take-add, take-append_seam, take-length}
-pub use Rattle.std.proofs.lemmas.Bool.{and_from, and_left, and_parts, and_right, both_ways, cases_lt, cond-false, cond-true, cond_both, eqb-true, le-ltb}
-pub use Rattle.std.proofs.lemmas.Bool.{lt-ltb, ltb-true, ne_eqb, not-true, not_from_false, or_from, or_left, or_right, true_from_ne_false}
+pub use Rattle.std.proofs.lemmas.Bool.{and_from, and_left, and_parts, and_right, both_ways, cases_lt, cond-false, cond-true, cond_both, eqb-true, le-ltb, lt-ltb, ltb-true, ne_eqb, not-true, not_from_false, or_from, or_left, or_right, true_from_ne_false}
 pub use Rattle.std.proofs.lemmas.Bool.Decides.{nat_tests}
 pub use Rattle.std.proofs.lemmas.List.{append_cancel_left, append_cancel_right, get_or-drop, length-replicate, take_more, take_rest}
 pub use Rattle.std.proofs.lemmas.List.Folds.{list_all-append, list_any-append}
@@ -14,22 +13,17 @@ pub use Rattle.wire_story.proofs.SoFar.{end_of, front_of, map_snoc, so_far_two, 
 pub use Rattle.wire_story.proofs.Spans.{Are-append, Are-cons, Are-head, Are-tail}
 pub use Rattle.wire_story.specs.Format.Texts.{AreLines, Holds, IsLine, IsText, IsTextSoFar, is_line_octet, line_end, packed_text}
 pub use Rattle.wire_story.specs.Format.Tokens.{End, LivesWith, Octet, StoryDiesAt, StoryLanguage, with_end}
-pub use Rattle.wire_story.specs.Laws.All.{StoryLaws}
+pub use Rattle.wire_story.specs.Laws.{StoryLaws}
 pub use Rattle.wire_story.specs.declared.fault.TextCause.{TextCause}
 pub use Rattle.wire_story.specs.declared.reader.TextReader.{TextReader}
 pub use Rattle.wire_message.specs.Format.Canonical.{canonical, packed_info}
 pub use Rattle.wire_message.specs.Format.Causes.{HasCause, StoryDiesWith}
-pub use Rattle.wire_message.specs.Format.Fields.{Are, IsField, is_alphanumeric, is_filler_octet, is_info_octet, is_text_octet, is_trailer_octet, max_category}
-pub use Rattle.wire_message.specs.Format.Fields.{max_filler, max_info, max_number, max_priority, max_source, max_trailer, max_words}
+pub use Rattle.wire_message.specs.Format.Fields.{Are, IsField, is_alphanumeric, is_filler_octet, is_info_octet, is_text_octet, is_trailer_octet, max_category, max_filler, max_info, max_number, max_priority, max_source, max_trailer, max_words}
 pub use Rattle.wire_message.specs.Format.Layers.{MessageDiesAt, MessageLivesWith, StoryLivesIn, after_stx, story_tokens_of, text_so_far, trailer_so_far}
-pub use Rattle.wire_message.specs.Format.Messages.{BeginsWithHeader, Header, IsFiller, IsGap, IsHeader, IsMessage, IsTrailer, SpellsInfo, fixed_header}
-pub use Rattle.wire_message.specs.Format.Messages.{has_feed, header_of}
-pub use Rattle.wire_message.specs.Laws.Messages.{HeadersAreToldFromStx, LivingOctetsLeadOn, MessagesEndAfterEot, MessagesKeepTheirHeader, OctetsAreRefusedAlike}
-pub use Rattle.wire_message.specs.Laws.Messages.{OctetsLeadOnAlike, OctetsLeadToOnePlace, PlacesAreReached, PlacesAreSavedApart, ReadersStandAtLivingOctets}
-pub use Rattle.wire_message.specs.Laws.Messages.{TellsHeaderOf, TextsStandBetweenStxAndEtx, TrailersAreToldFromEtx, TrailersStandBetweenEtxAndEot}
+pub use Rattle.wire_message.specs.Format.Messages.{BeginsWithHeader, Header, IsFiller, IsGap, IsHeader, IsMessage, IsTrailer, SpellsInfo, fixed_header, has_feed, header_of}
+pub use Rattle.wire_message.specs.Laws.{HeadersAreToldFromStx, LivingOctetsLeadOn, MessagesEndAfterEot, MessagesKeepTheirHeader, OctetsAreRefusedAlike, OctetsLeadOnAlike, OctetsLeadToOnePlace, PlacesAreReached, PlacesAreSavedApart, ReadersStandAtLivingOctets, TellsHeaderOf, TextsStandBetweenStxAndEtx, TrailersAreToldFromEtx, TrailersStandBetweenEtxAndEot}
 pub use Rattle.wire_message.specs.Parts.{EndsPart, TakesInPart, begins, begun, ends, is_octet_of, lengthens_gap, most_of, text_of}
-pub use Rattle.wire_message.specs.States.Reading.{CountsCause, GoesSomewhere, IsWhole, LeadsOn, Refuses, RefusesOne, StandsAt, TakesPiece, head_read, is_ended}
-pub use Rattle.wire_message.specs.States.Reading.{trailer_read}
+pub use Rattle.wire_message.specs.States.Reading.{CountsCause, GoesSomewhere, IsWhole, LeadsOn, Refuses, RefusesOne, StandsAt, TakesPiece, head_read, is_ended, trailer_read}
 pub use Rattle.wire_message.specs.States.SoFar.{IsPlace, LeadsTo, Spells, StoryStands, so_far}
 pub use Rattle.wire_message.specs.Steps.{DiesWith, RefusesInPart, TakesOctets, TakesSome, cause_of}
 pub use Rattle.wire_message.specs.declared.fault.MessageCause.{MessageCause}

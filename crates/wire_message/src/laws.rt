@@ -1,7 +1,6 @@
 //! What holds of all messages, and where a reader of messages stands. The functions do nothing: their contracts are the laws.
 
-ghost use Rattle.wire_message.specs.Laws.All.{MessageLaws};
-ghost use Rattle.wire_message.specs.Laws.Messages.{ReadersStandAtLivingOctets, PlacesAreReached, PlacesAreSavedApart};
+ghost use Rattle.wire_message.specs.Laws.{MessageLaws, ReadersStandAtLivingOctets, PlacesAreReached, PlacesAreSavedApart};
 
 use wire_story::laws::story_laws;
 

@@ -15,7 +15,7 @@ use Rattle.wire_story.specs.Format.Delivery.{LineOctet}
 use Rattle.wire_story.specs.Format.Words.{WordsSoFar, CountsWords, capped, is_word_octet, words_begun, begun_with, inside_after}
 use Rattle.wire_story.proofs.Words.{told_last}
 use Rattle.wire_story.proofs.Marked.{mask_drop, mask_join}
-use Rattle.wire_story.specs.CountingLaws.{inside-append}
+use Rattle.wire_story.specs.SinkLaws.{inside-append}
 use Rattle.wire_story.specs.Marking.{is_blank, outside_after}
 
 -- which octets begin a word

@@ -11,10 +11,10 @@ use Rattle.wire_story.specs.Format.Delivery.{StoryEvent, LineOctet, LineEnd, del
 use Rattle.wire_story.specs.States.Collecting.{add_octet, collect}
 use Rattle.wire_story.specs.Format.Packing.{AreEvents}
 use Rattle.wire_story.specs.Joining.{lines_in}
-use Rattle.wire_story.specs.CollectingLaws.{collect-append}
+use Rattle.wire_story.specs.SinkLaws.{collect-append}
 use Rattle.wire_story.proofs.Spans.{Are-head, Are-tail, Are-append}
 use Rattle.std.proofs.lemmas.Option.{same_Some}
-use Rattle.wire_story.specs.Laws.Texts.{TextsHaveOneReading, TextsSoFarHaveOneReading}
+use Rattle.wire_story.specs.Laws.{TextsHaveOneReading, TextsSoFarHaveOneReading}
 use Rattle.wire_story.proofs.HeldReturns.{not_at, held_is}
 use Rattle.wire_story.proofs.Told.{delivered_lines, delivered_so_far}
 

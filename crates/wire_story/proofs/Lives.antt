@@ -1,7 +1,7 @@
 -- The story layer is alive exactly where the octets are a text so far.
 use Rattle.std.proofs.Common.{◌≡◌, ℕ, ◌<◌, ◌≤◌, List, [], ◌∷◌, ◌++◌, map, Some, None, sym, ap, subst, ◌∙◌, arith, append-nil, option_and_then}
 use Rattle.std.proofs.lemmas.Option.{same_Some}
-use Rattle.wire_story.specs.Laws.Texts.{OctetsLeadToOnePlace, OctetsLeadOnAlike}
+use Rattle.wire_story.specs.Laws.{OctetsLeadToOnePlace, OctetsLeadOnAlike}
 use Rattle.iim_dataset.specs.Format.Languages.{IsAlive}
 use Rattle.wire_story.specs.Format.Texts.{IsLine, line_end, IsText, IsTextSoFar, Holds, AreLines}
 use Rattle.wire_story.specs.Format.Tokens.{Octet, End, with_end, StoryLanguage, LivesWith, StoryDiesAt}

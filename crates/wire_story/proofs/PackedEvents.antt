@@ -8,8 +8,8 @@ use Rattle.wire_story.specs.Format.Texts.{is_line_octet, line_end, packed_text, 
 use Rattle.wire_story.specs.Format.Delivery.{StoryEvent, LineOctet, LineEnd, events_of_lines, octet_for}
 use Rattle.wire_story.specs.States.Collecting.{add_octet, collect}
 use Rattle.wire_story.specs.Format.Packing.{packed_event, packed_events}
-use Rattle.wire_story.specs.Laws.Packing.{LinesArePackedAsTheirEvents, EventsArePackedAsLines}
-use Rattle.wire_story.specs.WritingLaws.{octets_of_line}
+use Rattle.wire_story.specs.Laws.{LinesArePackedAsTheirEvents, EventsArePackedAsLines}
+use Rattle.wire_story.specs.SinkLaws.{octets_of_line}
 use Rattle.wire_story.proofs.Collected.{octet_some, collected_made}
 
 pub line_packed : (line : List ℕ) → packed_events (map LineOctet line) ≡ line

@@ -4,9 +4,9 @@ use Rattle.std.proofs.lemmas.Bool.{cases_Bool, both_ways}
 use Rattle.std.proofs.lemmas.List.Sums.{sum_by-cons}
 use Rattle.wire_story.specs.Format.Delivery.{LineOctet, LineEnd, delivered, events_of_lines}
 use Rattle.wire_story.specs.Format.Words.{is_word_octet, words_begun, words_in, words, EndsWord, HasWords, capped, words_told}
-use Rattle.wire_story.specs.Laws.Words.{WordsAreLongestRuns, TextsAreCountedAsLines}
+use Rattle.wire_story.specs.Laws.{WordsAreLongestRuns, TextsAreCountedAsLines}
 use Rattle.wire_story.proofs.Spans.{Are, Are-head, Are-tail, Are-cons, span, no_stop}
-use Rattle.wire_story.specs.CountingLaws.{told-append}
+use Rattle.wire_story.specs.SinkLaws.{told-append}
 use Rattle.wire_story.specs.Marking.{is_blank}
 use Rattle.std.proofs.lemmas.Bool.Decides.{nat_tests}
 use Rattle.wire_story.proofs.Told.{delivered_lines}

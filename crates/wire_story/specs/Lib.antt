@@ -5,8 +5,6 @@ pub mod States
 -- What holds of these: statements, each the contract of a law.
 pub mod Laws
 -- What only proofs and private clauses cite.
-pub mod CollectingLaws
-pub mod WritingLaws
 pub mod Marking
 pub mod Joining
-pub mod CountingLaws
+pub mod SinkLaws

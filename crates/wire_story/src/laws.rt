@@ -2,9 +2,7 @@
 
 ghost use Rattle.std.specs.Prelude.{◌≡◌};
 ghost use Rattle.wire_story.specs.Format.Texts.{line_end};
-ghost use Rattle.wire_story.specs.Laws.Packing.{LinesArePackedAsTheirEvents};
-ghost use Rattle.wire_story.specs.Laws.Texts.{TextsAreDeliveredAsLines, DeliveryMayBeCut, PlacesAreReached};
-ghost use Rattle.wire_story.specs.Laws.All.{StoryLaws};
+ghost use Rattle.wire_story.specs.Laws.{LinesArePackedAsTheirEvents, TextsAreDeliveredAsLines, DeliveryMayBeCut, PlacesAreReached, StoryLaws};
 
 use crate::line::LINE_END;
 

@@ -77,7 +77,7 @@ impl StorySink for Lines {
 
     ghost failures = { λ sink. sink.failures };
 
-    ghost use Rattle.wire_story.specs.CollectingLaws.{collect_joined};
+    ghost use Rattle.wire_story.specs.SinkLaws.{collect_joined};
 
     ghost nothing = { λ sink. refl };
 

@@ -240,7 +240,7 @@ impl StorySink for WordCount {
 
     ghost failures = { λ sink. 0 };
 
-    ghost use Rattle.wire_story.specs.CountingLaws.{counts_nothing, counts_joined};
+    ghost use Rattle.wire_story.specs.SinkLaws.{counts_nothing, counts_joined};
 
     ghost nothing = { counts_nothing };
 

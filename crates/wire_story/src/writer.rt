@@ -67,7 +67,7 @@ impl<W: Target> StorySink for LineWriter<W> {
 
     ghost failures = { stops_of };
 
-    ghost use Rattle.wire_story.specs.WritingLaws.{writes_nothing, writes_joined};
+    ghost use Rattle.wire_story.specs.SinkLaws.{writes_nothing, writes_joined};
 
     ghost nothing = { λ sink. writes_nothing (device_of W.state sink) (stops_of sink) };
 

@@ -2,8 +2,8 @@
 use Rattle.std.specs.Prelude.{◌≡◌, ℕ, ◌<◌, ◌≤◌, ◌==◌, ◌⊎◌, Bool, true, false, IsTrue, if◌then◌else◌, List, [], ◌++◌, length, drop, Option, Some, None}
 use Rattle.iim_object.specs.Format.Plans.{is_plan}
 use Rattle.iim_object.specs.declared.size.Size.TheVariants.{Unknown}
-use Rattle.iim_pack_script.specs.Format.Packing.{Asked, asked, IsFormOf, IsScriptRefusal, IsScriptOf, ScriptContent, refusal_line}
-use Rattle.iim_request.specs.Format.Requests.{default_subfile}
+use Rattle.iim_pack_script.specs.Format.{Asked, asked, IsFormOf, IsScriptRefusal, IsScriptOf, ScriptContent, refusal_line}
+use Rattle.iim_request.specs.Format.{default_subfile}
 use Rattle.iim_c.specs.declared.answer.IimAnswer.{IimAnswer}
 use Rattle.iim_c.specs.declared.packing.IimPacking.{IimPacking}
 use Rattle.iim_c.specs.Format.Answers.{status_answer}

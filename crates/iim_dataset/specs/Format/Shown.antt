@@ -2,6 +2,8 @@
 use Rattle.std.specs.Prelude.{ℕ, ◌+◌, ◌-◌, ◌/◌, ◌%◌, ◌==◌, ◌&&◌, not, Bool, if◌then◌else◌, nat_le, nat_lt, List, [], ◌∷◌, ◌++◌, codes, decimal, Option, Some, None}
 use Rattle.std.specs.List.{flat_map}
 use Rattle.iim_dataset.specs.Format.Characters.{sp, digit_zero, capital_a, backslash, small_x}
+use Rattle.iim_dataset.specs.declared.device.IoFault.{IoFault}
+use Rattle.iim_dataset.specs.declared.device.IoFault.TheVariants.{Interrupted, Failed}
 
 -- the digit of a number below 16: 0 to 9, A to F
 -- twins (with escape, is_plain, shown_octet): "Octets as they are shown": each of the 256; `shows_each_octet`
@@ -37,3 +39,10 @@ dataset_name rec set = decimal rec ++ (codes ":" ++ (padding set ++ decimal set)
 abbrev pub number_or_dash : Option ℕ → List ℕ
 number_or_dash None = codes "-"
 number_or_dash (Some n) = decimal n
+
+-- ---- How faults of devices are printed.
+
+-- twin: `faults_are_printed`
+abbrev pub text_of_fault : IoFault → List ℕ
+text_of_fault Interrupted = codes "the device was interrupted"
+text_of_fault Failed = codes "the device failed"

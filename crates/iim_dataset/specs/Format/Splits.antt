@@ -1,7 +1,7 @@
 -- What the octets so far split into.
-use Rattle.std.specs.Prelude.{◌≡◌, ℕ, ◌<◌, List, ◌++◌, length}
+use Rattle.std.specs.Prelude.{◌≡◌, ℕ, ◌<◌, List, ◌++◌, length, ◌⊎◌, [], ◌∷◌}
 use Rattle.iim_dataset.specs.Format.Octets.{Octets, IsProperPrefix}
-use Rattle.iim_dataset.specs.Format.Datasets.{Dataset, SpellsTag, SpellsDataset, SpellsStream}
+use Rattle.iim_dataset.specs.Format.Datasets.{Dataset, SpellsTag, SpellsDataset, SpellsStream, count_octets}
 use Rattle.iim_dataset.specs.declared.head.Head.{Head}
 
 -- less than the whole spelling of one dataset
@@ -35,3 +35,13 @@ pub record Reads (limit : ℕ) (xs : List ℕ) (whole : List Dataset) (begun : B
   pub is_front : SpellsStream limit whole front
   pub is_rest : IsBegun limit begun rest
   pub parts : xs ≡ front ++ rest
+
+-- ---- What one octet completes, as the octets themselves say it.
+
+-- ---- what the octets themselves say
+
+-- The next octet completes the data of the head: it is the last of them, or the head has none and its tag ends there.
+abbrev pub CompletesData : List ℕ → ℕ → List Dataset → Head → List ℕ → Type 0
+CompletesData octets next whole head given =
+    ((taken : List ℕ) × Reads count_octets octets whole (InData head taken) × (given ≡ taken ++ next ∷ []) × (length given ≡ head.count))
+    ⊎ ((held : List ℕ) × Reads count_octets octets whole (InTag held) × SpellsTag count_octets head (held ++ next ∷ []) × (head.count ≡ 0) × (given ≡ []))

@@ -1,5 +1,5 @@
 -- What the commands take of an envelope.
-use Rattle.iim_fields.specs.Format.WireLimits.{wire_limits}
+use Rattle.iim_fields.specs.Format.Bounds.{wire_limits}
 use Rattle.iim_fields.specs.declared.limits.Limits.{Limits}
 
 -- what the records 1 and 2 of an envelope may have: the limits of wire copy

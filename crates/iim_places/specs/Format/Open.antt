@@ -2,7 +2,7 @@
 use Rattle.std.specs.Prelude.{◌≡◌, ◌≢◌, ℕ, ◌==◌, ◌⊎◌, if◌then◌else◌, List, [], ◌∷◌, ◌++◌, length, map}
 use Rattle.iim_dataset.specs.Format.Octets.{IsOctet}
 use Rattle.iim_dataset.specs.Format.Datasets.{Dataset, SpellsTag, head_of, count_octets}
-use Rattle.iim_dataset.specs.Format.Splits.{Begun, InTag, InData, Reads}
+use Rattle.iim_dataset.specs.Format.Splits.{Begun, InTag, InData, Reads, CompletesData}
 use Rattle.iim_dataset.specs.Format.Languages as languages
 use Rattle.iim_dataset.specs.declared.head.Head.{Head}
 use Rattle.iim_fields.specs.Format.Alive.{SectionsLive, SectionsLiveAt}
@@ -24,7 +24,6 @@ use Rattle.iim_places.specs.Format.Refusals.{message_on, begun_record, begun_num
 use Rattle.iim_places.specs.declared.fault.TokenFault.{TokenFault}
 use Rattle.iim_places.specs.declared.refusal.Cause.TheVariants.{Truncated}
 use Rattle.iim_dataset.specs.Format.Tags.{BeginsNoTag}
-use Rattle.iim_dataset.specs.Format.Completing.{CompletesData}
 use Rattle.iim_places.specs.declared.refusal.Refusal.{Refusal}
 use Rattle.iim_places.specs.declared.refusal.Layer.{Layer}
 use Rattle.iim_places.specs.declared.refusal.Layer.TheVariants as layers

@@ -17,7 +17,7 @@ use Rattle.wire_message.specs.States.Saved.{LeadsToSaved}
 use Rattle.wire_message.specs.declared.place.Place.{Place as Message}
 use Rattle.iim_places.specs.States.Possible.{IsSmallPlace, AreHeadsWithin}
 use Rattle.iim_fields.specs.declared.limits.Limits.{Limits}
-use Rattle.iim_places.specs.Laws.Tickets.{split_of}
+use Rattle.iim_places.specs.Laws.{split_of}
 use Rattle.iim_places.specs.Format.TicketForm.{Split}
 use Rattle.iim_places.specs.declared.ticket.possible.Readers.{Readers}
 use Rattle.iim_places.specs.States.Restored.{octets_told, fields_told}

@@ -4,7 +4,7 @@ ghost use Rattle.std.specs.Prelude.{◌≡◌};
 ghost use Rattle.std.specs.List.{AllByRecursion, flat_map};
 ghost use Rattle.iim_places.specs.Format.Tickets.{field_octets};
 ghost use Rattle.iim_places.specs.States.Begins.{IsLongField};
-ghost use Rattle.iim_places.specs.TicketFields.{HoldsFields};
+ghost use Rattle.iim_places.specs.TicketParts.{HoldsFields};
 ghost use Rattle.iim_places.specs.FieldLaws.{held_once};
 
 use crate::ticket::front::take_field;

@@ -5,7 +5,7 @@ ghost use Rattle.iim_places.specs.Format.Tickets.{four, wide, field_octets, numb
 ghost use Rattle.iim_places.specs.States.Begins.{IsLongField, IsSizeIn, IsShort, IsWide};
 ghost use Rattle.iim_places.specs.TicketParts.{dataset};
 ghost use Rattle.std.specs.Int.{w64, to_be_bytes};
-ghost use Rattle.iim_places.specs.Shortfalls.{BeginsWithNone, IsFour};
+ghost use Rattle.iim_places.specs.Restoring.{BeginsWithNone, IsFour};
 
 use crate::form::FIRST_VERSION;
 

@@ -4,7 +4,7 @@ ghost use Rattle.std.specs.Prelude.{◌≡◌, ◌+◌, ◌++◌, ◌∷◌, map
 ghost use Rattle.std.specs.List.{flat_map};
 ghost use Rattle.iim_places.specs.Format.Tickets.{ticket_name, width, phase_octets, field_octets, fields_octets, number_octets, text_octets};
 ghost use Rattle.iim_places.specs.States.Begins.{IsLongField, AreFields, AreNumbersIn, AreTexts};
-ghost use Rattle.iim_places.specs.Shortfalls.{BeginsWithNone, BeginsWithFewer, FieldsBefore};
+ghost use Rattle.iim_places.specs.Restoring.{BeginsWithNone, BeginsWithFewer, FieldsBefore};
 ghost use Rattle.iim_places.specs.TicketParts.{IsHeld, IsNameFault, BeginsWithNoData, AreNoMessage, AreNoBody, message_parts, body_octets};
 ghost use Rattle.iim_places.specs.States.TicketsTold.{phase_told, split_told};
 ghost use Rattle.iim_places.specs.Format.TicketForm.{IsVersion, IsPhase, IsFaultOf, HasForm, SplitsTicket};

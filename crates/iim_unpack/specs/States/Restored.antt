@@ -1,10 +1,10 @@
 -- What a ticket is restored to.
-use Rattle.std.specs.Prelude.{◌≡◌, ℕ, ◌⊎◌, List}
+use Rattle.std.specs.Prelude.{◌≡◌, ℕ, ◌⊎◌, List, ◌+◌, ◌*◌, ◌≤◌, length, take}
 use Rattle.iim_fields.specs.declared.limits.Limits.{Limits}
 use Rattle.iim_places.specs.Format.Admitted.{Value}
 use Rattle.iim_places.specs.States.Possible.{AreHeadsWithin}
 use Rattle.iim_places.specs.Format.Streams.{IsEnvelopeWithin}
-use Rattle.iim_places.specs.Format.Tickets.{Place, IsPlaceOf}
+use Rattle.iim_places.specs.Format.Tickets.{Place, IsPlaceOf, IsTicketOf}
 use Rattle.iim_unpack.specs.States.Unpacking.{Unpacking, Stands, IsDoneWith, limits_in}
 use Rattle.iim_places.specs.Format.Open.{IsOpen}
 use Rattle.iim_places.specs.States.Restored.{IsTicketAt}
@@ -20,3 +20,14 @@ pub record IsRestored (limits : Limits) (ticket : List ℕ) (at : ℕ) (u : Unpa
   pub stands : (p : List ℕ) → IsPlaceOf p place → IsOpen limits p → Stands u p at
   pub done : (p : List ℕ) (v : Value) → IsPlaceOf p place → IsEnvelopeWithin limits p v → IsDoneWith u p at
   pub some : (p : List ℕ) × IsPlaceOf p place × (Stands u p at ⊎ IsDoneWith u p at)
+
+-- ---- A ticket that is written at the front of a buffer.
+
+-- The ticket of the unpacker has so many octets, and stands at the front of the buffer, where that has room for it.
+-- no twin: a bound that is proved of it; no code has the number
+pub record HasTicketIn (u : Unpacking) (out : List ℕ) (count : ℕ) : Type 0 where
+  pub ticket : List ℕ
+  pub is_ticket : (p : List ℕ) (a : ℕ) → Stands u p a ⊎ IsDoneWith u p a → IsTicketOf p ticket
+  pub counts : count ≡ length ticket
+  pub few : count ≤ (limits_in u).octets + 6 * (limits_in u).fields + 256
+  pub stands : count ≤ length out → take count out ≡ ticket

@@ -1,5 +1,5 @@
 use Rattle.std.proofs.Common.{Bool, Option, arith, subst}
-use Rattle.iim_c.specs.PlaceSteps.{IsTried}
+use Rattle.iim_c.specs.Steps.{IsTried}
 use Rattle.iim_c.proofs.Tried.{one_put, tells_none, all_told}
 use Rattle.iim_c.proofs.next.try_all.Goals as goal
 

@@ -3,7 +3,7 @@ use Rattle.iim_dataset.proofs.Lists.{handed_on}
 use Rattle.iim_audit.specs.Format.Auditing.{FailsAt, IsAudited}
 use Rattle.iim_audit.specs.Format.Texts.{printed_report}
 use Rattle.iim_unpack.specs.States.Intakes.{in_line}
-use Rattle.iim_commands.specs.Format.Audits.{IsUnaudited}
+use Rattle.iim_commands.specs.Format.{IsUnaudited}
 use Rattle.iim_output.specs.States.Holding.{device_of}
 use Rattle.iim_output.specs.Format.Limits.{limits}
 use Rattle.iim_commands.proofs.Audits.{unsaid, unsaid_in, untold}

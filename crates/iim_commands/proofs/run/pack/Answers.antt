@@ -2,8 +2,8 @@ use Rattle.std.proofs.Common.{◌≡◌, ℕ, Result, Ok, Err, IfOk, IfErr, OnEr
 use Rattle.iim_dataset.specs.States.Devices.{Device}
 use Rattle.iim_output.specs.States.Devices.{devices}
 use Rattle.iim_commands.specs.Endings.{EndsRun}
-use Rattle.iim_commands.specs.Format.Outcomes.{Complained, EndsPacking}
-use Rattle.iim_pack_script.specs.Format.Packing.{Answered, Asked, IsUnanswered, asked}
+use Rattle.iim_commands.specs.Format.{Complained, EndsPacking}
+use Rattle.iim_pack_script.specs.Format.{Answered, Asked, IsUnanswered, asked}
 use Rattle.iim_output.specs.declared.fault.CommandFault.{CommandFault}
 use Rattle.iim_output.specs.declared.fault.CommandFault.TheVariants.{CannotRead, CannotWrite, OutOfMemory}
 use Rattle.iim_commands.proofs.run.pack.Goals as goal

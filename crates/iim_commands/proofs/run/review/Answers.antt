@@ -1,12 +1,11 @@
 use Rattle.std.proofs.Common.{◌≡◌, ℕ, ℤ, Result, Ok, Err, IfOk, IfErr, ap, sym, ◌∙◌, inl, inr, subst}
 use Rattle.iim_dataset.specs.States.Devices.{Device}
 use Rattle.iim_unpack.specs.States.Intakes.{in_line}
-use Rattle.iim_commands.specs.Format.Audits.{Audited, IsUnaudited}
+use Rattle.iim_commands.specs.Format.{Audited, IsUnaudited, Reviewed}
 use Rattle.iim_output.specs.States.Devices.{devices}
 use Rattle.iim_commands.specs.Endings.{EndsRun}
-use Rattle.iim_commands.specs.Format.Outcomes.{Reviewed}
 use Rattle.iim_output.specs.declared.fault.CommandFault.{CommandFault}
-use Rattle.iim_commands.proofs.Runs.{with_none_held}
+use Rattle.iim_commands.proofs.Audits.{with_none_held}
 use Rattle.iim_commands.proofs.run.review.Goals as goal
 
 reviewed : (now : ℤ) (source rest old new errors_old errors_new : Device) (answer : Result ℕ CommandFault) (status : ℕ)

@@ -2,9 +2,9 @@ use Rattle.std.proofs.Common.{[], refl, sym, subst}
 use Rattle.iim_dataset.specs.States.Devices.{Device}
 use Rattle.iim_unpack.specs.States.Blocks.{with_held}
 use Rattle.iim_output.specs.States.Devices.{Devices, devices}
-use Rattle.iim_commands.specs.Format.Outcomes.{Ran}
+use Rattle.iim_commands.specs.Format.{Ran}
 use Rattle.iim_request.specs.declared.request.Job.{Job}
-use Rattle.iim_commands.proofs.Runs.{with_none_held}
+use Rattle.iim_commands.proofs.Audits.{with_none_held}
 use Rattle.iim_commands.proofs.run.run.Goals as goal
 
 pub returns-in-Story : goal.returns-in-Story

@@ -5,9 +5,9 @@ use Rattle.wire_story.specs.States.Writing.{device_of}
 use Rattle.iim_output.specs.States.Devices.{devices}
 use Rattle.iim_listing.specs.Format.Narration.{IsUnnarrated, Narrated}
 use Rattle.iim_commands.specs.Endings.{EndsRun}
-use Rattle.iim_commands.specs.Format.Outcomes.{ToldAsStory}
+use Rattle.iim_commands.specs.Format.{ToldAsStory}
 use Rattle.iim_output.specs.declared.fault.CommandFault.{CommandFault}
-use Rattle.iim_commands.proofs.Runs.{with_none_held}
+use Rattle.iim_commands.proofs.Audits.{with_none_held}
 use Rattle.iim_commands.proofs.run.tell.Goals as goal
 
 told : (source rest old new errors_old errors errors_new : Device) (answer : Result ℕ CommandFault) (status : ℕ) → IfOk answer (Narrated source rest old new errors_old errors)

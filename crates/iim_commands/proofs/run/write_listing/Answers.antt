@@ -4,10 +4,10 @@ use Rattle.iim_unpack.specs.States.Intakes.{in_line}
 use Rattle.iim_output.specs.States.Devices.{devices}
 use Rattle.iim_places.specs.Format.Listing.{Listed}
 use Rattle.iim_commands.specs.Endings.{EndsRun}
-use Rattle.iim_commands.specs.Format.Outcomes.{EndsListing}
+use Rattle.iim_commands.specs.Format.{EndsListing}
 use Rattle.iim_listing.specs.Format.WrittenListings.{WritesListing, FailsListing}
 use Rattle.iim_output.specs.declared.fault.CommandFault.{CommandFault}
-use Rattle.iim_commands.proofs.Runs.{with_none_held}
+use Rattle.iim_commands.proofs.Audits.{with_none_held}
 use Rattle.iim_commands.proofs.run.write_listing.Goals as goal
 
 listed : (text : ℕ → Listed → List ℕ) (source rest old new errors_old errors_new : Device) (answer : Result ℕ CommandFault) (status : ℕ)

@@ -7,7 +7,7 @@ use Rattle.wire_story.specs.Format.Delivery.{LineOctet, LineEnd}
 use Rattle.wire_story.specs.Format.Packing.{packed_events}
 use Rattle.wire_story.proofs.PackedEvents.{line_packed}
 use Rattle.iim_pack.specs.States.Packing.{Packing, Lengthens, text_cause, line_end_cause}
-use Rattle.iim_pack.specs.LineEvents.{line_events}
+use Rattle.iim_pack.specs.Steps.{line_events}
 use Rattle.iim_pack.proofs.Goings.{of_none}
 use Rattle.iim_pack.proofs.LinesOut.{leads_on, breaks_later, breaks_before, may_text, may_end_line}
 use Rattle.iim_pack.proofs.lines.put_line.Goals as goal

@@ -4,7 +4,7 @@ use Rattle.std.proofs.lemmas.Bool.{and_parts}
 use Rattle.wire_story.specs.Format.Texts.{is_line_octet}
 use Rattle.wire_story.specs.Format.Delivery.{StoryEvent}
 use Rattle.iim_pack.specs.States.Packing.{BreaksOff, ContinuesWith}
-use Rattle.iim_pack.specs.LineEvents.{line_events}
+use Rattle.iim_pack.specs.Steps.{line_events}
 use Rattle.iim_pack.proofs.LinesOut.{events_left, goes_nowhere, leads_on, breaks_later, breaks_before, all_left}
 use Rattle.iim_pack.proofs.lines.put_lines.Goals as goal
 

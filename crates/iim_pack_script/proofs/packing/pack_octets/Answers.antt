@@ -1,6 +1,6 @@
 use Rattle.std.proofs.Common.{rules}
 use Rattle.std.proofs.lemmas.Result.{IfErr-weaker, IfOk-weaker}
-use Rattle.iim_pack_script.specs.Format.Packing.{asked}
+use Rattle.iim_pack_script.specs.Format.{asked}
 use Rattle.iim_pack_script.specs.PackSteps.{told_by}
 use Rattle.iim_pack_script.proofs.Packings.{told_fault, unpacked_of}
 use Rattle.iim_pack_script.proofs.packing.pack_octets.Goals as goal

@@ -1,5 +1,5 @@
 use Rattle.std.proofs.Common.{inl, refl, sym, subst, arith}
-use Rattle.iim_pack_script.specs.Format.Packing.{IsRead, asked, refusal_line}
+use Rattle.iim_pack_script.specs.Format.{IsRead, asked, refusal_line}
 use Rattle.iim_pack_script.proofs.Packings.{starved_as, told_refused, unanswered_as, unread_as}
 use Rattle.iim_pack_script.proofs.packing.pack_script.Goals as goal
 

@@ -4,7 +4,7 @@ use Rattle.iim_object.specs.declared.writing.cause.PackCause.{PackCause}
 use Rattle.iim_pack.specs.States.Packing.{pack_cause}
 use Rattle.iim_pack.specs.States.Starting.{StartIsRefused}
 use Rattle.iim_pack.proofs.Orders.{pack_order}
-use Rattle.iim_pack_script.specs.Format.Packing.{asked}
+use Rattle.iim_pack_script.specs.Format.{asked}
 use Rattle.iim_pack_script.specs.PackSteps.{told_by}
 use Rattle.iim_pack_script.proofs.Packings.{breaks_last, packs_told, unpacks_told}
 use Rattle.iim_pack_script.proofs.packing.pack_told.Goals as goal

@@ -1,6 +1,6 @@
 use Rattle.std.proofs.Common.{rules, ◌≡◌, ℕ, List, subst}
-use Rattle.iim_pack_script.specs.Format.Packing.{refusal_line}
-use Rattle.iim_output.specs.Format.Said.{IsSaid}
+use Rattle.iim_pack_script.specs.Format.{refusal_line}
+use Rattle.iim_output.specs.Format.Statuses.{IsSaid}
 use Rattle.iim_pack_script.proofs.packing.tell_refusal.Goals as goal
 
 pub returns-in-Ok-clause-told : goal.returns-in-Ok-clause-told

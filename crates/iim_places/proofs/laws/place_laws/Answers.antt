@@ -1,7 +1,6 @@
 use Rattle.std.proofs.Common.{◌<◌, ◌^◌}
 use Rattle.iim_fields.specs.declared.limits.Limits.{Limits}
-use Rattle.iim_places.specs.Laws.Conditions.{RefusalsTellTheLowestCause}
-use Rattle.iim_places.specs.Laws.Streams.{RefusedOctetsWereOpen}
+use Rattle.iim_places.specs.Laws.{RefusalsTellTheLowestCause, RefusedOctetsWereOpen}
 use Rattle.iim_places.specs.States.ByLayers.{PlacesArePossibleByLayers}
 use Rattle.iim_places.proofs.Frames.{no_envelope_is_empty}
 use Rattle.iim_places.proofs.Admitted.{one_value, no_others, framed_of}

@@ -1,7 +1,7 @@
 use Rattle.std.proofs.Common.{Bool, refl, subst}
 use Rattle.clap.specs.Matches.{found_of}
 use Rattle.clap.specs.Walk.{rows_of}
-use Rattle.iim_request.specs.Format.Requests.{TellsPacking}
+use Rattle.iim_request.specs.Format.{TellsPacking}
 use Rattle.iim_request.proofs.Requests.{tells_packing}
 use Rattle.iim_request.proofs.request.pack_job.Goals as goal
 

@@ -3,7 +3,7 @@ use Rattle.iim_dataset.proofs.Lists.{handed_on}
 use Rattle.clap.specs.Matches.{found_of}
 use Rattle.clap.specs.Walk.{Text, rows_of}
 use Rattle.clap.proofs.WalkLemmas.{first_value-rows}
-use Rattle.iim_request.specs.Format.Requests.{AsksJob, IsFaultOf}
+use Rattle.iim_request.specs.Format.{AsksJob, IsFaultOf}
 use Rattle.iim_request.specs.Verbs.{verb_name}
 use Rattle.iim_request.proofs.Requests.{fault_of_job, names, names_one, names_verb}
 use Rattle.iim_request.proofs.request.request_of.Goals as goal

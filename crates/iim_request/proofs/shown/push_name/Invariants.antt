@@ -1,5 +1,5 @@
 use Rattle.std.proofs.Common.{◌≡◌, ◌++◌, length}
-use Rattle.iim_request.specs.Format.Shown.{shown_after}
+use Rattle.iim_request.specs.Format.{shown_after}
 use Rattle.iim_request.proofs.shown.push_name.Given as goal
 
 abbrev pub invariant-loop-octet : goal.invariant-loop-octet

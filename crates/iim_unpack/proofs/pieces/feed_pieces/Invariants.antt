@@ -1,5 +1,5 @@
 use Rattle.std.proofs.Common.{◌≡◌, take}
-use Rattle.iim_unpack.specs.PiecesSoFar.{HasFedPieces}
+use Rattle.iim_unpack.specs.IntakeSteps.{HasFedPieces}
 use Rattle.iim_unpack.specs.Format.Pieces.{stream_of}
 use Rattle.iim_unpack.specs.States.Unpacking.{limits_in}
 use Rattle.iim_unpack.proofs.pieces.feed_pieces.Given as goal

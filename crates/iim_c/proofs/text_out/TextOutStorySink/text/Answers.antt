@@ -1,5 +1,5 @@
 use Rattle.std.proofs.Common.{List, ℕ, subst, sym}
-use Rattle.wire_story.specs.WritingLaws.{octets_of_line}
+use Rattle.wire_story.specs.SinkLaws.{octets_of_line}
 use Rattle.iim_c.specs.Format.Writing.{WritesOctets}
 use Rattle.iim_c.proofs.text_out.TextOutStorySink.text.Goals as goal
 

@@ -1,6 +1,6 @@
 use Rattle.std.proofs.Common.{◌≤◌, ◌+◌, ap, arith}
 use Rattle.iim_output.specs.States.Held.{Holding}
-use Rattle.iim_output.proofs.HeldOctets.{few_out, passes}
+use Rattle.iim_output.proofs.Holding.{few_out, passes}
 use Rattle.iim_output.proofs.held.Held.pass.Goals as goal
 
 pub overflow_add-self : goal.overflow_add-self

@@ -1,6 +1,6 @@
 use Rattle.std.proofs.Common.{ap}
 use Rattle.iim_output.specs.States.Held.{Holding}
-use Rattle.iim_output.proofs.HeldOctets.{takes}
+use Rattle.iim_output.proofs.Holding.{takes}
 use Rattle.iim_output.proofs.held.Held.take.Goals as goal
 
 pub returns : goal.returns

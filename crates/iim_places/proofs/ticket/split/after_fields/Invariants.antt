@@ -1,4 +1,4 @@
-use Rattle.iim_places.specs.Shortfalls.{FieldsBefore}
+use Rattle.iim_places.specs.Restoring.{FieldsBefore}
 use Rattle.iim_places.proofs.ticket.split.after_fields.Given as goal
 
 abbrev pub invariant-loop : goal.invariant-loop

@@ -1,7 +1,7 @@
 use Rattle.std.proofs.Common.{◌≡◌, ◌⊎◌, arith, ℕ, List, not, ap, ◌+◌, ◌*◌, ◌≤◌, take, length, refl, sym, subst, ◌∙◌}
 use Rattle.std.proofs.lemmas.List.{length-take-le}
 use Rattle.iim_dataset.proofs.Lists.{no_some}
-use Rattle.iim_unpack.specs.States.Saving.{HasTicketIn}
+use Rattle.iim_unpack.specs.States.Restored.{HasTicketIn}
 use Rattle.iim_places.specs.Format.Tickets.{IsTicketOf}
 use Rattle.iim_unpack.specs.States.Unpacking.{Unpacking, Stands, IsDoneWith, limits_in}
 use Rattle.iim_unpack.proofs.Tickets.{ticket_by, short_ticket}

@@ -5,7 +5,7 @@ use Rattle.iim_object.specs.States.Writing.{total_of, finish_cause}
 use Rattle.iim_object.specs.Cutting.{writing_of}
 use Rattle.iim_object.proofs.Outputs.{puts_more, cuts_later, cuts_more}
 use Rattle.iim_dataset.proofs.WrittenNumbers.{dataset_length}
-use Rattle.iim_object.proofs.PlanLengths.{number_length}
+use Rattle.iim_object.proofs.PlanParts.{number_length}
 use Rattle.iim_object.proofs.Rooms.{room_halted}
 use Rattle.iim_object.proofs.Written.{finished, unfinished, if_none, may_finish}
 use Rattle.iim_object.proofs.writing.cutter.Cutter.finish.Goals as goal

@@ -3,7 +3,7 @@ use Rattle.iim_dataset.specs.Format.Datasets.{canonical_stream}
 use Rattle.iim_object.specs.Format.Packing.{plan_datasets}
 use Rattle.iim_object.specs.States.Writing.{plan_octets, octets_out}
 use Rattle.iim_object.specs.declared.plan.Plan.{Plan}
-use Rattle.iim_object.proofs.PlanLengths.{plan_length}
+use Rattle.iim_object.proofs.PlanParts.{plan_length}
 use Rattle.iim_object.proofs.writing.writer.SubfileWriter.start.Goals as goal
 
 -- nothing but record 7 is out
