@@ -17,8 +17,7 @@ use Rattle.std.proofs.lemmas.Option.{slice_get-get_or}
 use Rattle.std.proofs.lemmas.Bool.{cases_eq}
 use Rattle.std.proofs.lemmas.Bool.Decides.{leb_tells, nat_tests}
 use Rattle.std.proofs.lemmas.Cmp.{tied_itself, tied_back}
-use Rattle.iim_audit.specs.Format.Rows.{first_same}
-use Rattle.iim_audit.specs.declared.row.AuditRow.{AuditRow}
+use Rattle.iim_audit.specs.Format.Rows.{first_same, AuditRow}
 use Rattle.iim_audit.proofs.Lines.{id_at, length_ids}
 
 -- ---- the order of places

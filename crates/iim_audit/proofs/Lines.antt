@@ -6,10 +6,9 @@ use Rattle.iim_dataset.specs.Format.Datasets.{Dataset}
 use Rattle.iim_fields.specs.Format.Ids.{Identity}
 use Rattle.iim_fields.specs.Format.Views.{first_data}
 use Rattle.iim_places.specs.Format.Admitted.{Value}
-use Rattle.iim_audit.specs.Format.Rows.{id_of, first_same, row_with, rows_after, report_of}
+use Rattle.iim_audit.specs.Format.Rows.{id_of, first_same, row_with, rows_after, report_of, AuditRow}
 use Rattle.iim_audit.specs.Lines.{HaveShortIds, IsShort}
 use Rattle.iim_audit.specs.Repeats.{AreFilled, AreFresh, ids_of}
-use Rattle.iim_audit.specs.declared.row.AuditRow.{AuditRow}
 use Rattle.std.proofs.Math.Nat.{le_of_lt}
 use Rattle.iim_audit.specs.Format.Texts.{row_line, lines_from}
 

@@ -20,8 +20,7 @@ use Rattle.iim_audit.specs.Taking.{Keeps, IsCutOff, IsTaken, TookOne, TookNone}
 use Rattle.iim_audit.specs.declared.fault.AuditCause.{AuditCause}
 use Rattle.iim_audit.specs.declared.fault.AuditCause.TheVariants as causes
 use Rattle.iim_audit.specs.declared.ledger.Ledger.{Ledger}
-use Rattle.iim_audit.specs.Format.Rows.{report_of, row_with}
-use Rattle.iim_audit.specs.declared.row.AuditRow.{AuditRow}
+use Rattle.iim_audit.specs.Format.Rows.{report_of, row_with, AuditRow}
 
 -- how many octets are told of the last envelope
 told_more : (before : ℕ) (es : List Listed) (e : Listed) → told_after before (es ++ e ∷ []) ≡ raised 0 (length e.octets)

@@ -6,8 +6,7 @@ use Rattle.std.specs.List.Sorted.{IsSortedBy}
 use Rattle.std.specs.Ordering.{is_lt, nat_cmp, on, then_cmp}
 use Rattle.std.specs.declared.cmp.Ordering.{Ordering}
 use Rattle.iim_fields.specs.Format.Ids.{Identity, id_cmp}
-use Rattle.iim_audit.specs.Format.Rows.{first_same}
-use Rattle.iim_audit.specs.declared.row.AuditRow.{AuditRow}
+use Rattle.iim_audit.specs.Format.Rows.{first_same, AuditRow}
 
 -- the ids of rows
 abbrev pub ids_of : List AuditRow → List Identity

@@ -10,10 +10,9 @@ use Rattle.iim_places.specs.declared.ticket.fault.TicketFault.{TicketFault}
 use Rattle.iim_unpack.specs.States.Unpacking.{Unpacking, Stands, IsDone, IsDoneWith, limits_in}
 use Rattle.iim_audit.specs.Format.Pieces.{HaveWords, StandsOn}
 use Rattle.iim_audit.specs.declared.pieces.PieceAudit.{PieceAudit}
-use Rattle.iim_c.specs.Format.Answers.{status_answer, refusal_answer, ticket_answer}
+use Rattle.iim_c.specs.Format.Answers.{status_answer, refusal_answer, ticket_answer, IimAnswer}
 use Rattle.iim_c.specs.Steps.{IsBegun, IsNotBegun, HasSaved, saved_with, short_with, HasFound, IsWithin, LivesOn, RoomBy, IsKept, kept_of, refused_for}
 use Rattle.iim_c.specs.Format.Statuses as status
-use Rattle.iim_c.specs.declared.answer.IimAnswer.{IimAnswer}
 use Rattle.iim_c.proofs.Places.{Begun, begun, is_done}
 use Rattle.iim_places.specs.Laws.{PlaceLaws}
 use Rattle.iim_c.specs.Format.Auditing.{InHand, IsAuditedAt, IsSaidOf, GoesOn, StandFirst, UsesAll, UsesSome, RefusesOne, IsTold, IsShort, More, Full, Refused, Ended, BadTicket, NoMemory, with_more}

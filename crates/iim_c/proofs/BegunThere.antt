@@ -13,8 +13,7 @@ use Rattle.iim_places.specs.States.Restored.{IsTicketAt}
 use Rattle.iim_places.specs.declared.ticket.fault.TicketFault.{TicketFault}
 use Rattle.iim_places.specs.declared.ticket.fault.TicketFault.TheVariants.{Form, Version}
 use Rattle.wire_message.specs.declared.saved.MessagePlace.{MessagePlace}
-use Rattle.iim_c.specs.declared.span.IimSpan.{IimSpan}
-use Rattle.iim_c.specs.Format.TicketAnswers.{StandAt}
+use Rattle.iim_c.specs.Format.TicketAnswers.{StandAt, IimSpan}
 use Rattle.iim_c.specs.declared.begun.IimBegun.{IimBegun}
 use Rattle.iim_c.specs.Format.Begun.{IsBegunOf, TellsOctets, begun_by, begun_of, kept_of}
 use Rattle.iim_c.specs.Steps.{span_of, taken_offset}

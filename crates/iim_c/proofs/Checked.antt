@@ -12,8 +12,7 @@ use Rattle.iim_unpack.specs.declared.unpacker.Progress.TheVariants.{More, Done}
 use Rattle.iim_places.specs.declared.refusal.Refusal.{Refusal}
 use Rattle.iim_places.specs.declared.refusal.Cause.TheVariants.{Message}
 use Rattle.wire_message.specs.declared.fault.MessageCause.TheVariants.{Sink}
-use Rattle.iim_c.specs.declared.answer.IimAnswer.{IimAnswer}
-use Rattle.iim_c.specs.Format.Answers.{status_answer, refusal_answer}
+use Rattle.iim_c.specs.Format.Answers.{status_answer, refusal_answer, IimAnswer}
 use Rattle.iim_c.specs.Format.Checking.{IsChecked, IsOnly, answer_for, finished}
 use Rattle.iim_c.specs.Format.Statuses as status
 

@@ -3,8 +3,7 @@ use Rattle.std.proofs.Common.{◌≡◌, ℕ, ◌+◌, List, [], ◌∷◌, ◌+
 use Rattle.std.specs.List.{flat_map}
 use Rattle.iim_places.specs.Format.TicketForm.{Split, SplitsTicket}
 use Rattle.iim_places.specs.Format.Tickets.{four, wide, ticket_name, phase_octets, fields_octets, number_octets, text_octets}
-use Rattle.iim_c.specs.Format.TicketAnswers.{StandAt}
-use Rattle.iim_c.specs.declared.span.IimSpan.{IimSpan}
+use Rattle.iim_c.specs.Format.TicketAnswers.{StandAt, IimSpan}
 use Rattle.iim_c.specs.Steps.{span_before}
 use Rattle.iim_c.proofs.TicketFields.{stands_after}
 

@@ -16,8 +16,7 @@ use Rattle.iim_unpack.specs.States.Unpacking.{Unpacking, Stands, Goes, IsDone, I
 use Rattle.iim_unpack.specs.declared.unpacker.Progress.{Progress}
 use Rattle.iim_unpack.specs.declared.unpacker.Progress.TheVariants.{More, Done}
 use Rattle.iim_c.specs.Steps.{IsNotBegun, SaidOf, TellsFirst, IsSet, bit_for}
-use Rattle.iim_c.specs.declared.answer.IimAnswer.{IimAnswer}
-use Rattle.iim_c.specs.Format.Answers.{ticket_answer}
+use Rattle.iim_c.specs.Format.Answers.{ticket_answer, IimAnswer}
 use Rattle.iim_c.proofs.Places.{Begun, is_done}
 use Rattle.iim_c.proofs.TextOuts.{not_sink}
 use Rattle.iim_c.proofs.Bits.{no_bit}

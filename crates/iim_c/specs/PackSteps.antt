@@ -4,9 +4,8 @@ use Rattle.iim_pack_script.specs.Format.{asked}
 use Rattle.iim_pack_script.specs.declared.packing.PackFault.{PackFault}
 use Rattle.iim_pack_script.specs.declared.packing.PackFault.TheVariants.{Refused, Around}
 use Rattle.iim_request.specs.declared.pack_request.PackRequest.{PackRequest}
-use Rattle.iim_c.specs.declared.answer.IimAnswer.{IimAnswer}
 use Rattle.iim_c.specs.declared.packing.IimPacking.{IimPacking}
-use Rattle.iim_c.specs.Format.Answers.{status_answer}
+use Rattle.iim_c.specs.Format.Answers.{status_answer, IimAnswer}
 use Rattle.iim_c.specs.Format.Packing.{AsksSomething, PackOutcome, IsPackOutcome, asked_for, form_of, pack_answer}
 use Rattle.iim_c.specs.Format.Packing as packing
 use Rattle.iim_c.specs.Format.Statuses as status

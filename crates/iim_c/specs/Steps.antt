@@ -1,8 +1,7 @@
 use Rattle.std.specs.Prelude.{◌≡◌, ℕ, ◌<◌, ◌≤◌, ◌⊎◌, List, length, ◌≢◌, [], ◌∷◌, nat_lt, if◌then◌else◌, map, ◌+◌, ◌*◌, Bool, true, false, Option, Some, None, ◌-◌, ℤ, ◌++◌, take, drop}
 use Rattle.iim_places.specs.Format.Tickets.{IsTicketOf, Phase, TagBegun, DataBegun, AllEnded, width}
 use Rattle.iim_unpack.specs.States.Unpacking.{Unpacking, Stands, IsDoneWith, limits_in, Goes, IsRefusedIn}
-use Rattle.iim_c.specs.declared.answer.IimAnswer.{IimAnswer}
-use Rattle.iim_c.specs.Format.Answers.{status_answer, refusal_answer}
+use Rattle.iim_c.specs.Format.Answers.{status_answer, refusal_answer, IimAnswer}
 use Rattle.iim_c.specs.Format.Feeding.{most_of_ticket, IsSaid}
 use Rattle.iim_c.specs.Format.Statuses as status
 use Rattle.iim_c.specs.Format.Writing.{StandIn, HasTaken}
@@ -17,8 +16,7 @@ use Rattle.iim_places.specs.declared.refusal.Refusal.{Refusal}
 use Rattle.iim_places.specs.declared.refusal.Cause.TheVariants.{Message}
 use Rattle.wire_message.specs.declared.fault.MessageCause.TheVariants.{Sink}
 use Rattle.iim_unpack.specs.declared.unpacker.Progress.TheVariants.{More, Done}
-use Rattle.iim_c.specs.declared.span.IimSpan.{IimSpan}
-use Rattle.iim_c.specs.Format.TicketAnswers.{no_span}
+use Rattle.iim_c.specs.Format.TicketAnswers.{no_span, IimSpan}
 use Rattle.iim_c.specs.Format.Next.{HasEndedThere, GoesOnBy, TellsNext, bit_of}
 use Rattle.iim_places.specs.Format.TicketForm.{Split}
 use Rattle.std.specs.Option.{option_map}

@@ -2,8 +2,7 @@
 use Rattle.std.proofs.Common.{ℕ, ◌^◌, ◌<◌, ◌≤◌, [], ◌∷◌, List, length, arith, inl, inr}
 use Rattle.std.proofs.Math.Nat.{pow-le-pow_right}
 use Rattle.iim_dataset.specs.Format.Octets.{Octets, number}
-use Rattle.iim_dataset.specs.Format.Datasets.{SpellsCount, SpellsTag, count_octets}
-use Rattle.iim_dataset.specs.declared.head.Head.{Head}
+use Rattle.iim_dataset.specs.Format.Datasets.{SpellsCount, SpellsTag, count_octets, Head}
 use Rattle.iim_dataset.proofs.OctetLists.{number-lt}
 
 -- n octets or fewer

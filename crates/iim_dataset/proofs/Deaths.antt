@@ -1,22 +1,20 @@
 -- What octets go on with, and where no octets do.
 use Rattle.std.proofs.Common.{◌≡◌, ℕ, ◌⊎◌, List, [], ◌∷◌, ◌++◌, length, refl, ap, sym, ◌∙◌, arith, inl, inr, append_assoc, append-nil, length-append, replicate}
 use Rattle.iim_dataset.specs.Format.Octets.{IsOctet}
-use Rattle.iim_dataset.specs.Format.Datasets.{Dataset, SpellsTag, SpellsDataset, head_of, count_octets}
+use Rattle.iim_dataset.specs.Format.Datasets.{Dataset, SpellsTag, SpellsDataset, head_of, count_octets, Head}
 use Rattle.iim_dataset.specs.Format.Splits.{Begun, InTag, InData, Reads}
 use Rattle.iim_dataset.specs.Laws.{NoOctetsContinue, AreDatasets, ReadOctetsSplit, OctetsDieInTheirTag, ReadersDieExactly}
-use Rattle.iim_dataset.specs.declared.head.Head.{Head}
 use Rattle.iim_dataset.proofs.Spelled.{one_tag, one_dataset, whole_read, with_data, stream_more}
 use Rattle.iim_dataset.proofs.OneHanding.{read_octets_continue, not_within, splits}
 use Rattle.iim_dataset.proofs.Agreeing.{compare}
 use Rattle.iim_dataset.proofs.Each.{all_back}
 use Rattle.std.proofs.lemmas.List.{length-replicate}
 use Rattle.iim_dataset.specs.States.Events.{DatasetEvent}
-use Rattle.iim_dataset.specs.States.Places.{HandsOn, LeadsTo}
+use Rattle.iim_dataset.specs.States.Places.{HandsOn, LeadsTo, DatasetPlace}
 use Rattle.iim_dataset.specs.States.Reading.{TagDies}
 use Rattle.iim_dataset.specs.Format.Tags.{BeginsNoTag}
 use Rattle.iim_dataset.specs.Format.Languages.{IsAlive, DiesAt}
 use Rattle.iim_dataset.specs.declared.head.HeadCause.{HeadCause}
-use Rattle.iim_dataset.specs.declared.place.DatasetPlace.{DatasetPlace}
 use Rattle.iim_dataset.proofs.Places.{tag_held}
 use Rattle.iim_dataset.proofs.OctetLists.{zeros_are}
 

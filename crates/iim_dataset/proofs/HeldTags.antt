@@ -3,10 +3,8 @@ use Rattle.std.proofs.Common.{◌≡◌, ℕ, ◌+◌, ◌-◌, ◌<◌, ◌≤�
 use Rattle.std.proofs.lemmas.Bool.{cases_lt}
 use Rattle.std.proofs.lemmas.List.{take_all, take_min, take-take, take-append-drop, take-append-le, length-take, length-take-le}
 use Rattle.std.proofs.Math.Seq.{take-append-add, take-suc}
-use Rattle.iim_dataset.specs.Format.Datasets.{SpellsTag, count_octets, tag_octets}
-use Rattle.iim_dataset.specs.Format.Tags.{BeginsTag, BeginsNoTag, HasTag, HasNoTag}
-use Rattle.iim_dataset.specs.declared.head.Head.{Head}
-use Rattle.iim_dataset.specs.declared.head.HeadFault.{HeadFault}
+use Rattle.iim_dataset.specs.Format.Datasets.{SpellsTag, count_octets, tag_octets, Head}
+use Rattle.iim_dataset.specs.Format.Tags.{BeginsTag, BeginsNoTag, HasTag, HasNoTag, HeadFault}
 use Rattle.iim_dataset.proofs.Spelled.{no_longer, tag_length}
 
 -- ---- how long a tag is

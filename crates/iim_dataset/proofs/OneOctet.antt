@@ -4,14 +4,12 @@ use Rattle.std.proofs.lemmas.Bool.{cases_lt}
 use Rattle.std.proofs.lemmas.List.{append_cancel_left}
 use Rattle.arrayvec.specs.ArrayVec.{ArrayVec}
 use Rattle.iim_dataset.specs.Format.Octets.{Octets}
-use Rattle.iim_dataset.specs.Format.Datasets.{SpellsTag, count_octets}
+use Rattle.iim_dataset.specs.Format.Datasets.{SpellsTag, count_octets, Head}
 use Rattle.iim_dataset.specs.Format.Splits.{Begun, InTag, InData}
 use Rattle.iim_dataset.specs.Format.Tags.{BeginsTag}
 use Rattle.iim_dataset.specs.States.Events.{DatasetEvent, HeadRead, DataOctet, DatasetEnd, events_of}
-use Rattle.iim_dataset.specs.States.Places.{HandsOn, LeadsTo}
+use Rattle.iim_dataset.specs.States.Places.{HandsOn, LeadsTo, Tag, Inside}
 use Rattle.iim_dataset.specs.Laws.{CompletesNow, WhatAnOctetCompletes}
-use Rattle.iim_dataset.specs.declared.head.Head.{Head}
-use Rattle.iim_dataset.specs.declared.place.DatasetPlace.TheVariants.{Tag, Inside}
 use Rattle.iim_dataset.proofs.OneHanding.{one_handing}
 use Rattle.iim_dataset.proofs.Deaths.{tag_goes_on, data_go_on}
 use Rattle.iim_dataset.proofs.Places.{handed_data, tag_on, head_on, empty_on, data_on, data_end}

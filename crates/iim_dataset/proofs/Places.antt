@@ -6,16 +6,13 @@ use Rattle.std.proofs.lemmas.List.{map-append, length-replicate}
 use Rattle.std.proofs.lemmas.List.Concat.{flat_map-append}
 use Rattle.arrayvec.specs.ArrayVec.{ArrayVec}
 use Rattle.iim_dataset.specs.Format.Octets.{Octets}
-use Rattle.iim_dataset.specs.Format.Datasets.{Dataset, SpellsTag, count_octets}
+use Rattle.iim_dataset.specs.Format.Datasets.{Dataset, SpellsTag, count_octets, Head}
 use Rattle.iim_dataset.specs.Format.Splits.{Begun, InTag, InData, IsBegun, Reads}
 use Rattle.iim_dataset.specs.Format.Tags.{BeginsTag}
 use Rattle.iim_dataset.specs.States.Events.{DatasetEvent, HeadRead, DataOctet, DatasetEnd, events_of, handed_on}
-use Rattle.iim_dataset.specs.States.Places.{LeadsTo, HandsOn, IsKeptAs, Brings, between, IsPlace}
+use Rattle.iim_dataset.specs.States.Places.{LeadsTo, HandsOn, IsKeptAs, Brings, between, IsPlace, DatasetPlace, Tag, Inside}
 use Rattle.iim_dataset.specs.States.Reading.{Stops}
 use Rattle.iim_dataset.specs.TagEnds.{head_events, place_after_head}
-use Rattle.iim_dataset.specs.declared.head.Head.{Head}
-use Rattle.iim_dataset.specs.declared.place.DatasetPlace.{DatasetPlace}
-use Rattle.iim_dataset.specs.declared.place.DatasetPlace.TheVariants.{Tag, Inside}
 use Rattle.iim_dataset.proofs.Spelled.{with_data, stream_more, held_of, whole_read}
 use Rattle.iim_dataset.proofs.OctetLists.{octets_append, zeros_are}
 use Rattle.iim_dataset.specs.Laws.{PlacesAreReached, OctetsLeadToOnePlace}

@@ -6,20 +6,17 @@ use Rattle.std.proofs.Common.{◌≡◌, ℕ, ◌==◌, Bool, true, false, if◌
 use Rattle.std.proofs.Math.Seq.{take-add, take-append-add}
 use Rattle.arrayvec.specs.ArrayVec.{ArrayVec}
 use Rattle.iim_dataset.specs.Format.Octets.{Octets, IsOctet}
-use Rattle.iim_dataset.specs.Format.Datasets.{SpellsTag, count_octets}
+use Rattle.iim_dataset.specs.Format.Datasets.{SpellsTag, count_octets, Head}
 use Rattle.iim_dataset.specs.States.Events.{DatasetEvent, DataOctet, DatasetEnd, HeadRead}
-use Rattle.iim_dataset.specs.States.Places.{between, IsPlace, Brings, TellsSink}
+use Rattle.iim_dataset.specs.States.Places.{between, IsPlace, Brings, TellsSink, DatasetPlace, Tag, Inside}
 use Rattle.iim_dataset.specs.States.Reading.{AfterStep, Stops, RefusesFor, RefusesOne}
 use Rattle.iim_dataset.specs.Fronts.{TakesOnward, WholeFront}
 use Rattle.iim_dataset.specs.TagEnds.{StopsAmong, head_events, place_after_head}
-use Rattle.iim_dataset.specs.declared.head.Head.{Head}
 use Rattle.iim_dataset.specs.declared.head.HeadCause.{HeadCause}
 use Rattle.iim_dataset.specs.declared.fault.Fault.{Fault}
 use Rattle.iim_dataset.specs.declared.fault.FaultCause.TheVariants.{Stopped}
 use Rattle.iim_dataset.specs.declared.sink.Step.{Step}
 use Rattle.iim_dataset.specs.declared.sink.Step.TheVariants.{More, Last}
-use Rattle.iim_dataset.specs.declared.place.DatasetPlace.{DatasetPlace}
-use Rattle.iim_dataset.specs.declared.place.DatasetPlace.TheVariants.{Tag, Inside}
 use Rattle.iim_dataset.proofs.Fronts.{begun_none, whole_standard}
 use Rattle.iim_dataset.proofs.Places.{brings_on, tag_on, head_leads, data_on, data_end, octet_on, stops_at, whole_on, head_on}
 use Rattle.iim_dataset.proofs.HeldTags.{one_more, unfinished}

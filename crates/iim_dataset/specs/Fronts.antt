@@ -1,12 +1,10 @@
 -- What a front of octets leads to.
 use Rattle.std.specs.Prelude.{ℕ, ◌<◌, ◌≤◌, List, ◌++◌, length, take, Option, ◌≡◌}
 use Rattle.iim_dataset.specs.Format.Octets.{Octets}
-use Rattle.iim_dataset.specs.Format.Datasets.{SpellsTag, count_octets}
-use Rattle.iim_dataset.specs.declared.head.Head.{Head}
+use Rattle.iim_dataset.specs.Format.Datasets.{SpellsTag, count_octets, Head}
 use Rattle.iim_dataset.specs.States.Events.{DatasetEvent}
-use Rattle.iim_dataset.specs.States.Places.{IsPlace, TellsSink, between, to_come}
+use Rattle.iim_dataset.specs.States.Places.{IsPlace, TellsSink, between, to_come, DatasetPlace}
 use Rattle.iim_dataset.specs.declared.piece.Front.{Front}
-use Rattle.iim_dataset.specs.declared.place.DatasetPlace.{DatasetPlace}
 use Rattle.iim_dataset.specs.declared.sink.Step.{Step}
 use Rattle.iim_dataset.specs.declared.sink.Step.TheVariants.{More, Last}
 

@@ -1,20 +1,17 @@
 use Rattle.std.specs.Prelude.{◌≡◌, ℕ, List, [], ◌∷◌, ◌++◌, ◌+◌, length, ◌^◌, ◌<◌, ◌≤◌, ◌↔◌}
-use Rattle.iim_dataset.specs.Format.Datasets.{Dataset, SpellsTag, count_octets, SpellsDataset, SpellsStream, canonical_tag, canonical_stream, written_number}
+use Rattle.iim_dataset.specs.Format.Datasets.{Dataset, SpellsTag, count_octets, SpellsDataset, SpellsStream, canonical_tag, canonical_stream, written_number, Head}
 use Rattle.iim_dataset.specs.Format.Splits.{InTag, InData, Reads, Begun, SplitsInto, IsBegun, CompletesData}
 use Rattle.iim_dataset.specs.States.Events.{DatasetEvent, HeadRead, DataOctet, DatasetEnd, handed_on, begun_data}
-use Rattle.iim_dataset.specs.declared.head.Head.{Head}
 use Rattle.std.specs.Io.KnownBytes.{Consumes}
 use Rattle.iim_dataset.specs.States.Devices.{Device, Broke, Missed, Wrote, Stopped, HasGiven, MissedAfter, BrokeAfter}
 use Rattle.iim_dataset.specs.declared.device.IoFault.{IoFault}
 use Rattle.std.specs.List.{AllByRecursion}
 use Rattle.iim_dataset.specs.Format.Octets.{IsOctet, Octets, number}
-use Rattle.iim_dataset.specs.States.Places.{HandsOn, IsPlace, LeadsTo}
+use Rattle.iim_dataset.specs.States.Places.{HandsOn, IsPlace, LeadsTo, DatasetPlace}
 use Rattle.iim_dataset.specs.States.Reading.{Completes, TagDies}
 use Rattle.iim_dataset.specs.Format.Languages.{IsAlive, DiesAt}
-use Rattle.iim_dataset.specs.Format.Tags.{BeginsTag, BeginsNoTag, HasTag, HasNoTag}
-use Rattle.iim_dataset.specs.declared.head.HeadFault.{HeadFault}
+use Rattle.iim_dataset.specs.Format.Tags.{BeginsTag, BeginsNoTag, HasTag, HasNoTag, HeadFault}
 use Rattle.iim_dataset.specs.declared.head.HeadCause.{HeadCause}
-use Rattle.iim_dataset.specs.declared.place.DatasetPlace.{DatasetPlace}
 
 -- ---- What one octet completes, as the octets themselves say it.
 

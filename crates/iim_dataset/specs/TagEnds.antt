@@ -1,10 +1,8 @@
 -- What the last octet of a tag completes, and where the sink stops among it.
 use Rattle.std.specs.Prelude.{◌≡◌, ◌==◌, if◌then◌else◌, List, [], ◌∷◌, ◌++◌}
 use Rattle.iim_dataset.specs.States.Events.{DatasetEvent, HeadRead, DatasetEnd}
-use Rattle.iim_dataset.specs.States.Places.{between}
+use Rattle.iim_dataset.specs.States.Places.{between, DatasetPlace, Inside}
 use Rattle.iim_dataset.specs.declared.head.Head.{Head}
-use Rattle.iim_dataset.specs.declared.place.DatasetPlace.{DatasetPlace}
-use Rattle.iim_dataset.specs.declared.place.DatasetPlace.TheVariants.{Inside}
 
 -- The last octet of a tag completes its head, and the dataset where it has no data.
 abbrev pub head_events : Head → List DatasetEvent

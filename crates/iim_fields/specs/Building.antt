@@ -1,13 +1,11 @@
 -- A builder of envelopes, and an envelope, from inside: their stores.
 use Rattle.std.specs.Prelude.{◌≡◌, ℕ, true, is_some, List, length, [], Option}
-use Rattle.iim_fields.specs.Format.Faults.{joined, kept}
+use Rattle.iim_fields.specs.Format.Faults.{joined, kept, Limits}
 use Rattle.iim_fields.specs.StoreLayout.{HasStored, store_room, fields_of}
-use Rattle.iim_fields.specs.States.Checks.{HasChecked}
+use Rattle.iim_fields.specs.States.Checks.{HasChecked, RecordPlace}
 use Rattle.iim_fields.specs.Format.Bounds.{IsWithin}
 use Rattle.iim_fields.specs.Reading.{HasRoom}
-use Rattle.iim_fields.specs.declared.limits.Limits.{Limits}
 use Rattle.iim_fields.specs.declared.store.Store.{Store}
-use Rattle.iim_fields.specs.declared.check.RecordPlace.{RecordPlace}
 use Rattle.iim_fields.specs.States.Builders.{Building, AreFew}
 use Rattle.iim_fields.specs.Format.Envelopes.{IsEnvelope}
 use Rattle.iim_fields.specs.Format.Views.{first_data}

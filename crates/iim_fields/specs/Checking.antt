@@ -4,13 +4,11 @@ use Rattle.iim_dataset.specs.Format.Datasets.{Dataset, head_of}
 use Rattle.iim_dataset.specs.declared.head.Head.{Head}
 use Rattle.iim_fields.specs.States.Orders.{has_seen}
 use Rattle.iim_fields.specs.OrderChanges.{end_fault, AddsHead}
-use Rattle.iim_fields.specs.declared.fault.FieldFault.{FieldFault}
-use Rattle.iim_fields.specs.declared.check.RecordPlace.{RecordPlace}
-use Rattle.iim_fields.specs.States.Checks.{HasChecked, HasTaken, IsChecking, IsIn}
+use Rattle.iim_fields.specs.States.Checks.{HasChecked, HasTaken, IsChecking, IsIn, RecordPlace}
 use Rattle.iim_tables.specs.Format.Rows.{row_of}
 use Rattle.iim_tables.specs.declared.shape.Row.{Row}
 use Rattle.std.specs.Option.{option_or}
-use Rattle.iim_fields.specs.Format.Faults.{head_fault, record_fault, value_fault}
+use Rattle.iim_fields.specs.Format.Faults.{head_fault, record_fault, value_fault, FieldFault}
 use Rattle.iim_fields.specs.Format.Values.{data_of, tells_number, number_told}
 
 -- Some datasets lead to the place, or some datasets and a head.

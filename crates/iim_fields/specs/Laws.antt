@@ -4,16 +4,13 @@ use Rattle.iim_dataset.specs.Format.Datasets.{Dataset, head_of}
 use Rattle.iim_dataset.specs.declared.head.Head.{Head}
 use Rattle.iim_fields.specs.Format.Records.{AreSections}
 use Rattle.iim_fields.specs.Format.Alive.{SectionsLive, SectionsLiveAt}
-use Rattle.iim_fields.specs.Format.Faults.{record_fault, value_fault, first_fault, joined}
+use Rattle.iim_fields.specs.Format.Faults.{record_fault, value_fault, first_fault, joined, Limits, FieldFault}
 use Rattle.iim_fields.specs.States.Builders.{add_fault}
 use Rattle.iim_fields.specs.Format.Envelopes.{IsEnvelope}
 use Rattle.iim_fields.specs.Format.Bounds.{IsWithin}
-use Rattle.iim_fields.specs.States.Checks.{AwaitsHead, HasChecked, IsChecking}
+use Rattle.iim_fields.specs.States.Checks.{AwaitsHead, HasChecked, IsChecking, RecordPlace}
 use Rattle.iim_fields.specs.Format.Causes.{Token, IsFault, HasNoFault}
 use Rattle.iim_fields.specs.Format.Causes.Token.{AtHead, AtValue}
-use Rattle.iim_fields.specs.declared.limits.Limits.{Limits}
-use Rattle.iim_fields.specs.declared.fault.FieldFault.{FieldFault}
-use Rattle.iim_fields.specs.declared.check.RecordPlace.{RecordPlace}
 
 -- ---- Faults stand exactly where the record layer dies, and are those of the lowest number.
 

@@ -3,8 +3,7 @@ use Rattle.std.specs.Prelude.{◌≡◌, ◌≢◌, ℕ, Bool, true, false, List
 use Rattle.iim_dataset.specs.Format.Octets.{greatest_size}
 use Rattle.iim_dataset.specs.declared.head.Head.{Head}
 use Rattle.std.specs.Option.{option_or}
-use Rattle.iim_fields.specs.Format.Faults.{missing_fault, missing_of}
-use Rattle.iim_fields.specs.declared.fault.FieldFault.{FieldFault}
+use Rattle.iim_fields.specs.Format.Faults.{missing_fault, missing_of, FieldFault}
 use Rattle.iim_fields.specs.declared.order.Order.{Order}
 
 -- none of the 256 numbers has occurred

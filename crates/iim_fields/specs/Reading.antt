@@ -2,12 +2,10 @@
 use Rattle.std.specs.Prelude.{◌≡◌, ℕ, ◌≤◌, ◌<◌, ◌^◌, ◌⊎◌, List, [], ◌++◌, false, Option, Some, None, IsTrue, vec_capacity}
 use Rattle.iim_dataset.specs.Format.Datasets.{Dataset}
 use Rattle.iim_dataset.specs.declared.head.Head.{Head}
-use Rattle.iim_fields.specs.Format.Faults.{is_kept}
-use Rattle.iim_fields.specs.States.Checks.{begun_head}
+use Rattle.iim_fields.specs.Format.Faults.{is_kept, Limits}
+use Rattle.iim_fields.specs.States.Checks.{begun_head, RecordPlace}
 use Rattle.iim_fields.specs.StoreLayout.{store_room, fields_of, begun_octets, IsStore}
-use Rattle.iim_fields.specs.declared.limits.Limits.{Limits}
 use Rattle.iim_fields.specs.declared.store.Store.{Store}
-use Rattle.iim_fields.specs.declared.check.RecordPlace.{RecordPlace}
 use Rattle.iim_fields.specs.States.Standing.{FieldsPlace, StandsAfter, StandsIn}
 
 -- ---- from inside

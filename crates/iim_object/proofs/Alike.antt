@@ -3,12 +3,10 @@ use Rattle.std.proofs.Common.{◌≡◌, ℕ, List, [], ◌∷◌, ◌++◌, len
 use Rattle.std.proofs.lemmas.List.{nil_from_length}
 use Rattle.iim_dataset.specs.Format.Languages.{IsAlive}
 use Rattle.iim_dataset.proofs.Each.{all_append, all_last}
-use Rattle.iim_object.specs.declared.reading.state.State.{State}
-use Rattle.iim_object.specs.declared.reading.fault.SizeCause.{SizeCause}
 use Rattle.iim_object.specs.Format.Sizes.{Stated, InRow, number_at}
 use Rattle.iim_object.specs.Format.Objects.{ObjectToken, NumberRead, SubfileBegun, ObjectEnded, Confirmed, ObjectLanguage}
 use Rattle.iim_object.specs.Format.Places.{Place, MayFollow, place_after, tokens_of}
-use Rattle.iim_object.specs.States.Reading.{IsStateAt, StandsAt, LeadsOn}
+use Rattle.iim_object.specs.States.Reading.{IsStateAt, StandsAt, LeadsOn, State, SizeCause}
 use Rattle.iim_object.specs.Laws.{TokensLead, TokensLeadOnAlike}
 use Rattle.iim_object.proofs.Numbers.{once-append}
 use Rattle.iim_object.proofs.Steps.{tells_of, once_last, cause_in, next, leads_on, refused, tokens_follow}

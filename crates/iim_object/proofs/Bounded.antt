@@ -1,13 +1,12 @@
 -- Numbers and subfiles that stay within bounds: lemmas for the proofs of every crate, of which nothing is to be believed.
 use Rattle.std.proofs.Common.{◌≡◌, ℕ, zero, suc, ◌≤◌, Bool, true, false, List, [], ◌∷◌, ◌++◌, map, length, Option, refl, arith, inl, inr}
 use Rattle.iim_dataset.specs.Format.Octets.{greatest_size}
-use Rattle.iim_object.specs.declared.reading.state.State.{State}
 use Rattle.iim_object.specs.Format.Objects.{ObjectToken, NumberRead, SubfileBegun, ObjectEnded, Confirmed}
 use Rattle.iim_object.specs.Format.Places.{Place}
 use Rattle.iim_object.specs.Format.Plans.{max_subfiles}
 use Rattle.iim_object.specs.Format.Sizes.{Stated, InRow, mode_number}
 use Rattle.iim_object.specs.Format.Within.{TokensWithin}
-use Rattle.iim_object.specs.States.Reading.{StandsAt}
+use Rattle.iim_object.specs.States.Reading.{StandsAt, State}
 use Rattle.iim_object.specs.States.Saved.{IsPossible}
 
 pub mode_known : (n : ℕ) → n ≤ 1 → (known : Bool) × (n ≡ mode_number known)

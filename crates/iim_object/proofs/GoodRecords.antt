@@ -8,11 +8,9 @@ use Rattle.iim_dataset.proofs.Each.{all_front, all_back}
 use Rattle.iim_object.specs.Format.Sizes.{AreOnce, mode_number}
 use Rattle.iim_object.specs.Format.Records.{numbers_of}
 use Rattle.iim_object.specs.Format.Cuts.{AreFull, joined_parts}
-use Rattle.iim_object.specs.Format.Plans.{limit_of}
+use Rattle.iim_object.specs.Format.Plans.{limit_of, Size, Known, Unknown}
 use Rattle.iim_object.specs.Format.Packing.{number_dataset, is_known, size_datasets, plan_datasets, subfile_dataset, subfile_datasets}
 use Rattle.iim_object.specs.Laws.{PackedRecordsAreGood}
-use Rattle.iim_object.specs.declared.size.Size.{Size}
-use Rattle.iim_object.specs.declared.size.Size.TheVariants.{Known, Unknown}
 use Rattle.iim_object.proofs.PlanParts.{plan_parts}
 use Rattle.iim_object.proofs.Members.{IsMember, descriptor_of, object_of, confirmation_of, numbers_good, mode_good}
 

@@ -7,13 +7,11 @@ use Rattle.iim_dataset.specs.Format.Datasets.{written_number}
 use Rattle.iim_dataset.proofs.WrittenNumbers.{number_back}
 use Rattle.iim_dataset.specs.Format.Octets.{number, greatest_size}
 use Rattle.iim_object.specs.Format.Sizes.{Agree, number_at, mode_number}
-use Rattle.iim_object.specs.Format.Plans.{fits, announced_of, maximum_of, limit_of}
+use Rattle.iim_object.specs.Format.Plans.{fits, announced_of, maximum_of, limit_of, Size, Known, Unknown}
 use Rattle.iim_object.specs.Format.Records.{numbers_of, lengths_of}
 use Rattle.iim_object.specs.Format.Cuts.{joined_parts, AreFull, IsCut}
 use Rattle.iim_object.specs.Format.Packing.{is_known, plan_datasets, subfile_dataset, subfile_datasets, IsAsKnown, packed_sizes}
 use Rattle.iim_object.specs.Laws.{PackedObjectsHaveSizes}
-use Rattle.iim_object.specs.declared.size.Size.{Size}
-use Rattle.iim_object.specs.declared.size.Size.TheVariants.{Known, Unknown}
 use Rattle.iim_object.proofs.PlanParts.{plan_parts}
 
 -- ---- lengths

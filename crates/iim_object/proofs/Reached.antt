@@ -6,14 +6,13 @@ use Rattle.std.proofs.lemmas.List.{nil_from_length}
 use Rattle.std.proofs.Math.Nat.{suc-mul}
 use Rattle.iim_dataset.specs.Format.Languages.{IsAlive}
 use Rattle.iim_dataset.proofs.Lists.{sum_cons, sum_fits}
-use Rattle.iim_object.specs.declared.reading.state.State.{State}
 use Rattle.iim_object.specs.Format.Plans.{max_subfiles}
 use Rattle.iim_object.specs.Format.Sizes.{Stated, InRow, AreOnce, AreStated, number_at}
 use Rattle.iim_object.specs.Format.Objects.{SubfileBegun, ObjectLanguage, number_tokens}
 use Rattle.iim_object.specs.Laws.{NoClash, HasDuties, Fit, PlacesAreReached}
 use Rattle.iim_object.specs.Format.Places.{Place, NotEnded, HasBoth, ending_tokens, tokens_of}
 use Rattle.iim_object.specs.States.KeptNumbers.{HasNumbers, HasSubfiles, IsState}
-use Rattle.iim_object.specs.States.Reading.{IsStateAt, StandsAt}
+use Rattle.iim_object.specs.States.Reading.{IsStateAt, StandsAt, State}
 use Rattle.iim_object.proofs.Numbers.{in_row_at}
 use Rattle.iim_object.proofs.Subfiles.{front_lives, numbers_law, subfiles_law}
 use Rattle.iim_object.proofs.Steps.{tells_of, both_of, not_ended_tokens, number_before}

@@ -3,14 +3,12 @@ use Rattle.std.proofs.Common.{◌≡◌, ℕ, ◌+◌, ◌-◌, ◌≤◌, [], �
 use Rattle.std.proofs.lemmas.List.{length_push}
 use Rattle.std.proofs.lemmas.Option.{same_Some}
 use Rattle.std.specs.Result.{result_ok}
-use Rattle.iim_object.specs.declared.reading.state.State.{State}
-use Rattle.iim_object.specs.declared.reading.fault.SizeCause.{SizeCause}
 use Rattle.iim_object.specs.Format.Plans.{max_subfiles}
 use Rattle.iim_object.specs.Format.Objects.{ObjectToken, ObjectLanguage, SubfileBegun}
 use Rattle.iim_object.specs.Format.Places.{Place, HasBoth, MayFollow, place_after, tokens_of}
 use Rattle.iim_object.specs.States.KeptNumbers.{IsState, state_numbers}
 use Rattle.iim_object.specs.States.Changes.{TakesSubfile}
-use Rattle.iim_object.specs.States.Reading.{IsStateAt, StandsAt, LeadsOn, Refuses}
+use Rattle.iim_object.specs.States.Reading.{IsStateAt, StandsAt, LeadsOn, Refuses, State, SizeCause}
 use Rattle.iim_object.specs.States.Saved.{IsAt, LastIsBegun, IsPossible, stated_numbers}
 use Rattle.iim_object.specs.Laws.{PlacesHaveOneReader}
 use Rattle.iim_object.specs.Finding.{Finds}

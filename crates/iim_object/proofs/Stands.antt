@@ -4,12 +4,11 @@ use Rattle.std.proofs.lemmas.List.{length-map}
 use Rattle.std.proofs.lemmas.Bool.{eq-eqb}
 use Rattle.iim_dataset.specs.Format.Octets.{number}
 use Rattle.iim_dataset.specs.Format.Datasets.{Dataset}
-use Rattle.iim_object.specs.declared.reading.state.State.{State}
 use Rattle.iim_object.specs.Format.Sizes.{Agree, sizes_at}
 use Rattle.iim_object.specs.Laws.{HasDuties, ReadersTellSizes}
 use Rattle.iim_object.specs.Format.Records.{AreObjectRecords, HaveSizes, numbers_of, lengths_of}
 use Rattle.iim_object.specs.Format.Numbers.{place_after_datasets}
-use Rattle.iim_object.specs.States.Reading.{StandsAt}
+use Rattle.iim_object.specs.States.Reading.{StandsAt, State}
 use Rattle.iim_object.proofs.Subfiles.{agree_of, confirmed_law}
 use Rattle.iim_object.proofs.Steps.{sizes_are, sizes_in}
 use Rattle.iim_object.proofs.Members.{one_confirmation, some_subfile, ten_of}

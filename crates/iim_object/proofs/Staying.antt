@@ -3,8 +3,6 @@ use Rattle.std.proofs.Common.{◌≡◌, ℕ, ◌+◌, ◌≤◌, ◌∷◌, [],
 use Rattle.iim_dataset.specs.Format.Octets.{greatest_size}
 use Rattle.iim_dataset.proofs.Each.{all_last}
 use Rattle.iim_dataset.proofs.Lists.{no_some, some_of}
-use Rattle.iim_object.specs.declared.reading.state.State.{State}
-use Rattle.iim_object.specs.declared.reading.fault.SizeCause.{SizeCause}
 use Rattle.iim_object.specs.declared.reading.fault.SizeCause.TheVariants.{ModeClash}
 use Rattle.iim_object.specs.Format.Sizes.{InRow}
 use Rattle.iim_object.specs.Format.Objects.{ObjectToken, NumberRead, SubfileBegun, ObjectEnded, Confirmed}
@@ -12,7 +10,7 @@ use Rattle.iim_object.specs.Format.Places.{Place, MayFollow, place_after}
 use Rattle.iim_object.specs.Format.Causes.{end_cause, confirmed_cause}
 use Rattle.iim_object.specs.States.KeptNumbers.{HasNumbers, IsState}
 use Rattle.iim_object.specs.States.Changes.{TakesNumber, TakesSubfile, state_with}
-use Rattle.iim_object.specs.States.Reading.{StandsAt, Refuses, EndsAs, RefusesToEnd}
+use Rattle.iim_object.specs.States.Reading.{StandsAt, Refuses, EndsAs, RefusesToEnd, State, SizeCause}
 use Rattle.iim_object.proofs.Steps.{cause_in, next, tells_of, leads_on, refused}
 use Rattle.iim_object.proofs.Reached.{mode_in, largest_in, place_in, tells_in, stands_in, state_of}
 

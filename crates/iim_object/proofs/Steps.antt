@@ -7,15 +7,12 @@ use Rattle.iim_dataset.specs.Format.Languages.{IsAlive}
 use Rattle.iim_dataset.specs.Format.Octets.{greatest_size}
 use Rattle.iim_dataset.proofs.Each.{all_append, all_last}
 use Rattle.iim_dataset.proofs.Lists.{sum_append, some_of}
-use Rattle.iim_object.specs.declared.reading.state.State.{State}
-use Rattle.iim_object.specs.declared.reading.fault.SizeCause.{SizeCause}
-use Rattle.iim_object.specs.declared.size.Sizes.{Sizes}
-use Rattle.iim_object.specs.Format.Sizes.{Stated, AreOnce, AreStated, number_at, mode_number}
+use Rattle.iim_object.specs.Format.Sizes.{Stated, AreOnce, AreStated, number_at, mode_number, Sizes}
 use Rattle.iim_object.specs.Format.Objects.{ObjectToken, NumberRead, SubfileBegun, ObjectEnded, Confirmed, ObjectLanguage, number_tokens}
 use Rattle.iim_object.specs.Laws.{NoClash, HasDuties, Fit, MeetsAnnounced, TokensFollow}
 use Rattle.iim_object.specs.Format.Places.{Place, NotEnded, ConfirmedAs, tokens_of, place_after, place_start, HasBoth, MayFollow}
 use Rattle.iim_object.specs.Format.Causes.{is_given, number_cause, subfile_cause, end_cause, confirmed_cause, cause_at}
-use Rattle.iim_object.specs.States.Reading.{IsStateAt, StandsAt, LeadsOn, LivesWith, Refuses, IsSizes}
+use Rattle.iim_object.specs.States.Reading.{IsStateAt, StandsAt, LeadsOn, LivesWith, Refuses, IsSizes, State, SizeCause}
 use Rattle.iim_object.specs.States.Changes.{set_where, state_start, state_with}
 use Rattle.iim_object.proofs.Numbers.{at-append, at_most_size, in_row_at, mode_at_most_one, none-append}
 use Rattle.iim_object.proofs.Subfiles.{numbers_law, subfiles_law, ends_law, confirmed_law}

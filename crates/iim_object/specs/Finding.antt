@@ -1,8 +1,7 @@
 -- A state that is found for saved numbers.
 use Rattle.std.specs.Prelude.{◌≡◌, ◌↔◌, Option, Some, IsSome}
 use Rattle.iim_object.specs.Format.Places.{Place}
-use Rattle.iim_object.specs.States.Reading.{StandsAt}
-use Rattle.iim_object.specs.declared.reading.state.State.{State}
+use Rattle.iim_object.specs.States.Reading.{StandsAt, State}
 use Rattle.iim_object.specs.States.Saved.{IsPossible}
 
 -- A state is found exactly where one of these places is possible, and then it stands at each of them that is.

@@ -13,8 +13,7 @@ use Rattle.iim_places.specs.States.Possible.{AreOpenOrWhole, widest, AreHeadsWit
 use Rattle.iim_places.specs.States.Restored.{IsTicketAt, octets_told, fields_told, IsRestoreFault}
 use Rattle.iim_places.specs.Format.Tickets.{Place, IsPlaceOf, ticket_in, IsTicketOf, part_number}
 use Rattle.iim_places.specs.declared.ticket.fault.TicketFault.{TicketFault}
-use Rattle.iim_places.specs.declared.ticket.fault.TicketFault.TheVariants.{HeaderFull, TooManyFields, OutOfMemory}
-use Rattle.iim_places.specs.Format.TicketForm.{IsVersion, Split, SplitsTicket}
+use Rattle.iim_places.specs.Format.TicketForm.{IsVersion, Split, SplitsTicket, HeaderFull, TooManyFields, OutOfMemory}
 use Rattle.iim_places.specs.States.Scales.{Scale, first_scale, PossibleAt, IsPossibleIn}
 use Rattle.iim_places.specs.Format.Framed.{AreWithin, Framed}
 use Rattle.wire_message.specs.declared.saved.MessagePlace.{MessagePlace}

@@ -5,8 +5,7 @@ use Rattle.iim_dataset.specs.Format.Datasets.{Dataset}
 use Rattle.iim_places.specs.Format.Tickets.{field_octets, DataBegun, four, wide, width, phase_octets, fields_octets, number_octets, text_octets, present_version}
 use Rattle.iim_places.specs.States.Begins.{IsLongField, AreTexts, IsSizeIn, AreNumbersIn}
 use Rattle.iim_places.specs.declared.ticket.fault.TicketFault.{TicketFault}
-use Rattle.iim_places.specs.declared.ticket.fault.TicketFault.TheVariants.{Form, Version}
-use Rattle.iim_places.specs.Format.TicketForm.{Split, IsPhase, HasForm, HasOtherVersion}
+use Rattle.iim_places.specs.Format.TicketForm.{Split, IsPhase, HasForm, HasOtherVersion, Form, Version}
 
 -- ---- The datasets that stand in a ticket.
 

@@ -10,10 +10,8 @@ use Rattle.iim_script.specs.Format.Lines.{HasNo, NextLine}
 use Rattle.iim_script.specs.Format.Forms.{TellsField, TellsHead, text_word}
 use Rattle.iim_dataset.specs.Format.Octets.{is_digit}
 use Rattle.iim_script.specs.Format.Scripts.{TellFields, AreTaken, AreFieldLines, AreTrailer, IsFront, max_script}
-use Rattle.iim_script.specs.Format.Faults.{Stage, InFields, AfterMessage, AfterTrailer, HaveCome, Stands, TellsNoField, TellsNoHead, TellsNoTrailer, IsNextWrong, IsFrontFault, IsScriptFault}
+use Rattle.iim_script.specs.Format.Faults.{Stage, InFields, AfterMessage, AfterTrailer, HaveCome, Stands, TellsNoField, TellsNoHead, TellsNoTrailer, IsNextWrong, IsFrontFault, IsScriptFault, ScriptLine, Field, BadTrailer, OutOfMemory, ScriptCause}
 use Rattle.iim_script.specs.Steps.{AddsField, RefusesLine, number_after, NextIs, NextMustBe, RefusesFields, RefusesHeader, TakesTrailer, RefusesTrailer, RefusesText, RefusesEnvelope}
-use Rattle.iim_script.specs.declared.fault.ScriptCause.{ScriptCause}
-use Rattle.iim_script.specs.declared.fault.ScriptCause.TheVariants.{ScriptLine, Field, BadTrailer, OutOfMemory}
 use Rattle.iim_script.proofs.Next.{lines_more, count_more, next_once, no_next}
 
 fields_more : (lines : List (List ℕ)) (ds : List Dataset) (line : List ℕ) (d : Dataset) → TellFields lines ds → TellsField line d → TellFields (lines ++ line ∷ []) (ds ++ d ∷ [])

@@ -16,9 +16,7 @@ use Rattle.iim_fields.specs.declared.limits.Limits.{Limits}
 use Rattle.iim_fields.specs.declared.fault.FieldCause.{FieldCause}
 use Rattle.iim_script.specs.Format.Lines.{NextLine, EndLines}
 use Rattle.iim_script.specs.Format.Scripts.{TellFields, AreTaken, AreTrailer, IsFront}
-use Rattle.iim_script.specs.Format.Faults.{Stage, InFields, AfterMessage, AfterTrailer, HaveCome, Stands, TellsBadField, EndsTooSoon, IsWrong, IsNextWrong}
-use Rattle.iim_script.specs.declared.fault.ScriptCause.{ScriptCause}
-use Rattle.iim_script.specs.declared.fault.ScriptCause.TheVariants.{ScriptLine, Field, BadTrailer}
+use Rattle.iim_script.specs.Format.Faults.{Stage, InFields, AfterMessage, AfterTrailer, HaveCome, Stands, TellsBadField, EndsTooSoon, IsWrong, IsNextWrong, ScriptLine, Field, BadTrailer, ScriptCause}
 use Rattle.iim_script.proofs.Next.{next_once, no_next, lines_append}
 
 -- ---- what a line tells is one thing

@@ -8,10 +8,8 @@ use Rattle.wire_message.specs.Format.Messages.{Header}
 use Rattle.wire_story.specs.Format.Texts.{IsLine}
 use Rattle.iim_script.specs.Format.Lines.{HasNo, NextLine}
 use Rattle.iim_script.specs.Format.Scripts.{IsStory, IsScript, max_script}
-use Rattle.iim_script.specs.Format.Faults.{IsNextWrong, IsFrontFault, IsStoryFault, IsScriptFault}
+use Rattle.iim_script.specs.Format.Faults.{IsNextWrong, IsFrontFault, IsStoryFault, IsScriptFault, ScriptTooLong, BadTextOctet, OutOfMemory, ScriptCause}
 use Rattle.iim_script.specs.Laws.{IsOneScript}
-use Rattle.iim_script.specs.declared.fault.ScriptCause.{ScriptCause}
-use Rattle.iim_script.specs.declared.fault.ScriptCause.TheVariants.{ScriptTooLong, BadTextOctet, OutOfMemory}
 use Rattle.iim_script.proofs.Next.{next_once, no_next}
 use Rattle.iim_script.proofs.Runs.{Place, At, InStory, Run, Onward, runs_once, stands_run, story_run, next_wrong_stuck, next_wrong_once}
 

@@ -11,9 +11,7 @@ use Rattle.iim_script.specs.Format.Lines.{NextLine}
 use Rattle.iim_script.specs.Format.Forms.{TellsField, TellsHead, TellsTrailer, text_word}
 use Rattle.iim_script.specs.Format.Printed.{PrintsStory, script_of}
 use Rattle.iim_script.specs.Format.Scripts.{IsScript, max_script}
-use Rattle.iim_script.specs.Format.Faults.{IsScriptFault}
-use Rattle.iim_script.specs.declared.fault.ScriptCause.{ScriptCause}
-use Rattle.iim_script.specs.declared.fault.ScriptCause.TheVariants.{OutOfMemory}
+use Rattle.iim_script.specs.Format.Faults.{IsScriptFault, OutOfMemory, ScriptCause}
 
 -- ---- What holds of all lines of scripts, and of all scripts.
 

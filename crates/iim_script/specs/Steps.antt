@@ -9,9 +9,7 @@ use Rattle.iim_fields.specs.declared.fault.FieldFault.{FieldFault}
 use Rattle.wire_message.specs.Format.Messages.{IsTrailer}
 use Rattle.iim_script.specs.Format.Lines.{HasNo, NextLine}
 use Rattle.iim_script.specs.Format.Forms.{TellsField, TellsTrailer, text_word}
-use Rattle.iim_script.specs.Format.Faults.{IsFrontFault, IsBadStory, TellsNoHead, TellsNoTrailer, TellsBadTrailer}
-use Rattle.iim_script.specs.declared.fault.ScriptCause.{ScriptCause}
-use Rattle.iim_script.specs.declared.fault.ScriptCause.TheVariants.{ScriptLine, Field, BadTrailer, BadTextOctet, OutOfMemory}
+use Rattle.iim_script.specs.Format.Faults.{IsFrontFault, IsBadStory, TellsNoHead, TellsNoTrailer, TellsBadTrailer, ScriptLine, Field, BadTrailer, BadTextOctet, OutOfMemory, ScriptCause}
 
 -- ---- The number of a record or a dataset, by its three digits.
 

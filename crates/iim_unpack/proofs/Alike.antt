@@ -13,9 +13,7 @@ use Rattle.iim_places.specs.States.Counts.{raised}
 use Rattle.iim_places.specs.declared.fault.TokenFault.{TokenFault}
 use Rattle.iim_places.specs.declared.refusal.Refusal.{Refusal}
 use Rattle.iim_unpack.specs.Laws.{AnswersPiece, IsOfNoSink, StandAlike, StandOnSame, PieceIsAnsweredAlike, PiecesAreAnsweredAlike, RestoredStandAlike, RestoredStandAsSaved}
-use Rattle.iim_unpack.specs.States.Unpacking.{Unpacking, Stands, IsDoneWith, IsRefusedIn, limits_in}
-use Rattle.iim_unpack.specs.declared.unpacker.Progress.{Progress}
-use Rattle.iim_unpack.specs.declared.unpacker.Progress.TheVariants.{More, Done}
+use Rattle.iim_unpack.specs.States.Unpacking.{Unpacking, Stands, IsDoneWith, IsRefusedIn, limits_in, More, Done, Progress}
 use Rattle.iim_places.proofs.Saved.{open_wider, whole_wider, at_restored}
 
 -- ---- an answer to a piece as the answer to all octets

@@ -30,9 +30,8 @@ use Rattle.iim_unpack.proofs.ToldMessage.{octets_in-octets}
 use Rattle.iim_places.specs.Format.Refusals.{message_on}
 use Rattle.iim_places.specs.declared.refusal.Cause.TheVariants as causes
 use Rattle.iim_places.specs.Format.Open.{object_so_far, section, AllCanContinue}
-use Rattle.iim_unpack.specs.States.Parts.{CountsFor, AreAfter, Within, StandsFor, AreLed}
+use Rattle.iim_unpack.specs.States.Parts.{CountsFor, AreAfter, Within, StandsFor, AreLed, Parts}
 use Rattle.iim_unpack.specs.PartSteps.{TellsParts, PartsRefuse}
-use Rattle.iim_unpack.specs.declared.parts.Parts.{Parts}
 use Rattle.iim_places.specs.Laws.{LowerLaws}
 use Rattle.iim_places.proofs.Lasts.{not_all}
 use Rattle.iim_unpack.proofs.Sequences.{data_more}

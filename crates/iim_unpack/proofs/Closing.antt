@@ -21,8 +21,7 @@ use Rattle.wire_message.specs.Laws.{ReadersStandAtLivingOctets}
 use Rattle.iim_places.specs.Format.Tokens.{place_at, IsRefusedValue}
 use Rattle.iim_places.specs.Format.Refusals.{of_field}
 use Rattle.iim_unpack.specs.PartSteps.{IsObjectFault, TellsParts, TellsWhole, PartsRefuse, Closed, NotClosed}
-use Rattle.iim_unpack.specs.States.Parts.{AreAfter, Within, CountsFor}
-use Rattle.iim_unpack.specs.declared.parts.Parts.{Parts}
+use Rattle.iim_unpack.specs.States.Parts.{AreAfter, Within, CountsFor, Parts}
 use Rattle.iim_places.specs.declared.fault.TokenFault.{TokenFault}
 use Rattle.iim_unpack.proofs.Faults.{field_value, object_value}
 use Rattle.iim_places.proofs.Places.{number_leads, silent_leads}

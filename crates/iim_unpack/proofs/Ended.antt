@@ -6,8 +6,7 @@ use Rattle.iim_dataset.specs.declared.head.Head.{Head}
 use Rattle.iim_fields.specs.States.Checks.{begun_head, section_at}
 use Rattle.iim_fields.specs.Format.Faults.{section_after}
 use Rattle.iim_fields.specs.States.Standing.{IsInside, StandsAfter, begun_head_of, section_of}
-use Rattle.iim_unpack.specs.States.Parts.{has_ended}
-use Rattle.iim_unpack.specs.declared.parts.Parts.{Parts}
+use Rattle.iim_unpack.specs.States.Parts.{has_ended, Parts}
 
 and_true : (b : Bool) → (b && true) ≡ b
 and_true b = grind arith

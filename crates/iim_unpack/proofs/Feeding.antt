@@ -34,14 +34,13 @@ use Rattle.iim_places.specs.Format.Admitted.{Value, Admits, object_of}
 use Rattle.iim_places.specs.Format.Refusals.{begun_record, begun_number, tag_cause, refusal_at}
 use Rattle.iim_unpack.specs.UnpackerInside.{cause_of_tag, Advanced, FailsAs, IsOnward, tag_fault, begins, Stood, IsUnpacking}
 use Rattle.iim_places.specs.Format.Open.{object_so_far, AllCanContinue, IsTextOf, Delivers, IsOpen, IsBadTagAt, RefusesByTests, IsTruncatedAt, truncated_in}
-use Rattle.iim_unpack.specs.States.Parts.{AreAfter, StandsFor, AreLed, has_ended}
+use Rattle.iim_unpack.specs.States.Parts.{AreAfter, StandsFor, AreLed, has_ended, Parts}
 use Rattle.iim_unpack.specs.PartSteps.{Refused, RefusesAt}
 use Rattle.iim_unpack.specs.Sequence.{AreInOrder}
 use Rattle.iim_unpack.specs.Going.{front_in_order}
 use Rattle.iim_unpack.specs.Routing.{Takes, HasEnded}
 use Rattle.iim_unpack.specs.States.Unpacking.{Unpacking, limits_in, IsLed, Stands, IsDoneWith, IsRefusedIn}
 use Rattle.iim_places.specs.States.Counts.{raised, are_some}
-use Rattle.iim_unpack.specs.declared.parts.Parts.{Parts}
 use Rattle.iim_places.specs.declared.fault.TokenFault.{TokenFault}
 use Rattle.iim_places.specs.declared.refusal.Refusal.{Refusal}
 use Rattle.iim_places.specs.declared.refusal.Cause.{Cause}

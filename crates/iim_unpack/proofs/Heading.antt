@@ -26,9 +26,8 @@ use Rattle.iim_places.specs.Format.Tokens.{place_at, ObjectLives, IsRefusedHead}
 use Rattle.iim_unpack.specs.Passed.{TellsMessage, HasFewSubfiles, IsFullOfSubfiles, RefusesBySize, RefusesAtEnd, RefusesObject, RefusesSubfile, octets_in, end_is_last}
 use Rattle.iim_places.specs.Format.Refusals.{of_field, too_many_on, message_on}
 use Rattle.iim_places.specs.Format.Open.{object_so_far, IsUnfinished}
-use Rattle.iim_unpack.specs.States.Parts.{AreAfter, Within, CountsFor, has_ended}
+use Rattle.iim_unpack.specs.States.Parts.{AreAfter, Within, CountsFor, has_ended, Parts}
 use Rattle.iim_unpack.specs.PartSteps.{TellsParts, PartsRefuse}
-use Rattle.iim_unpack.specs.declared.parts.Parts.{Parts}
 use Rattle.iim_places.specs.declared.fault.TokenFault.{TokenFault}
 use Rattle.iim_places.proofs.Places.{HeadLeads, subfile_leads, end_leads}
 use Rattle.iim_unpack.proofs.Faults.{field_head, too_many_head, object_head, have_room}

@@ -17,10 +17,9 @@ use Rattle.wire_message.specs.States.SoFar.{IsPlace}
 use Rattle.wire_message.specs.declared.place.Place.{Place as Message}
 use Rattle.wire_message.specs.declared.place.Place.TheVariants as at
 use Rattle.iim_unpack.specs.States.Held.{tag_held, texts_held, returns_held, message_held, begun_entries, HoldsFew}
-use Rattle.iim_unpack.specs.States.Parts.{StandsFor}
+use Rattle.iim_unpack.specs.States.Parts.{StandsFor, Parts}
 use Rattle.iim_unpack.specs.States.Unpacking.{Unpacking, IsLed}
 use Rattle.iim_unpack.specs.UnpackerInside.{Stood}
-use Rattle.iim_unpack.specs.declared.parts.Parts.{Parts}
 use Rattle.iim_places.proofs.Bounds.{is_one}
 use Rattle.iim_places.proofs.TicketLengths.{AreShortIn, texts_at, held_length, some_taken, none_taken}
 use Rattle.iim_unpack.proofs.SamePlace.{told_by, led_of}

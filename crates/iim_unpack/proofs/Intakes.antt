@@ -18,7 +18,7 @@ use Rattle.wire_story.specs.Format.Delivery as story
 use Rattle.wire_story.specs.Laws.{DeliveryMayBeCut}
 use Rattle.iim_unpack.specs.States.Parts.{CountsFor}
 use Rattle.iim_places.specs.Format.Refusals.{refusal_at}
-use Rattle.iim_unpack.specs.States.Unpacking.{Unpacking, Stands, IsDoneWith, Goes, IsRefusedIn, LeftAs, limits_in}
+use Rattle.iim_unpack.specs.States.Unpacking.{Unpacking, Stands, IsDoneWith, Goes, IsRefusedIn, LeftAs, limits_in, More, Done, Progress}
 use Rattle.iim_places.specs.States.Counts.{raised}
 use Rattle.iim_unpack.specs.UnpackerInside.{Stood}
 use Rattle.iim_places.specs.Format.Open.{IsOpen, Delivers, IsTruncatedAt}
@@ -34,10 +34,7 @@ use Rattle.iim_unpack.proofs.Feeding.{stood_stands}
 use Rattle.iim_places.specs.declared.refusal.Refusal.{Refusal}
 use Rattle.iim_places.specs.Format.Admitted.{Value, Admits}
 use Rattle.iim_places.specs.Format.Framed.{AreWithin}
-use Rattle.iim_unpack.specs.Format.Value.{HasParts}
-use Rattle.iim_unpack.specs.declared.unpacker.Unpacked.{Unpacked}
-use Rattle.iim_unpack.specs.declared.unpacker.Progress.{Progress}
-use Rattle.iim_unpack.specs.declared.unpacker.Progress.TheVariants.{More, Done}
+use Rattle.iim_unpack.specs.Format.Value.{HasParts, Unpacked}
 
 abbrev pub Joined : {S : Type 0} → (S → List story.StoryEvent → S → Type 0) → Type 0
 Joined {S} goes = (a b c : S) (xs ys : List story.StoryEvent) → goes a xs b → goes b ys c → goes a (xs ++ ys) c

@@ -16,18 +16,15 @@ use Rattle.iim_unpack.specs.Format.Pieces.{stream_of, IsUnpacked, IsTurnedDown, 
 use Rattle.iim_unpack.specs.IntakeSteps.{DoneIn, HasFedPieces}
 use Rattle.iim_places.specs.Format.Refusals.{refusal_at}
 use Rattle.iim_places.specs.Format.Streams.{Answer, Answers, Finished, Refused, Truncated, IsEnvelopeWithin, IsFinished}
-use Rattle.iim_unpack.specs.States.Unpacking.{Unpacking, Stands, IsDone, IsDoneWith, Goes, IsRefusedIn, limits_in}
+use Rattle.iim_unpack.specs.States.Unpacking.{Unpacking, Stands, IsDone, IsDoneWith, Goes, IsRefusedIn, limits_in, More, Done, Progress}
 use Rattle.iim_places.specs.States.Counts.{raised}
 use Rattle.iim_places.specs.Format.Open.{IsOpen, Delivers, IsTruncatedAt}
-use Rattle.iim_unpack.specs.Format.Value.{HasParts}
+use Rattle.iim_unpack.specs.Format.Value.{HasParts, Unpacked}
 use Rattle.iim_places.specs.declared.refusal.Refusal.{Refusal}
 use Rattle.iim_unpack.specs.States.Parts.{CountsFor}
 use Rattle.iim_places.specs.declared.refusal.Cause.{Cause}
 use Rattle.iim_places.specs.declared.refusal.Cause.TheVariants.{Message}
 use Rattle.wire_message.specs.declared.fault.MessageCause.TheVariants.{Sink}
-use Rattle.iim_unpack.specs.declared.unpacker.Progress.{Progress}
-use Rattle.iim_unpack.specs.declared.unpacker.Progress.TheVariants.{More, Done}
-use Rattle.iim_unpack.specs.declared.unpacker.Unpacked.{Unpacked}
 use Rattle.iim_places.proofs.Answering.{reads_envelope, leads_to, no_text}
 use Rattle.iim_unpack.proofs.Feeding.{one_text}
 use Rattle.iim_unpack.proofs.Intakes.{Joined, adds_more, told_truncated, not_told}

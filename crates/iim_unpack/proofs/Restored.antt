@@ -23,7 +23,7 @@ use Rattle.wire_message.specs.declared.saved.MessagePlace.{MessagePlace}
 use Rattle.iim_places.specs.Format.Admitted.{Value, object_of}
 use Rattle.iim_places.specs.States.ByLayers.{LeadsByLayers, RecordsLive, record_datasets, one_of_some}
 use Rattle.iim_places.specs.Format.Open.{object_so_far, IsOpen}
-use Rattle.iim_unpack.specs.States.Parts.{AreAfter, Within, StandsFor, has_ended}
+use Rattle.iim_unpack.specs.States.Parts.{AreAfter, Within, StandsFor, has_ended, Parts}
 use Rattle.iim_places.specs.States.PlainDatasets.{plain}
 use Rattle.iim_unpack.specs.Restoring.{IsMadeFor, ReadersMakeUnpackers}
 use Rattle.iim_places.specs.States.Readers.{RecordsStand, AreAt, FieldsStand}
@@ -31,7 +31,6 @@ use Rattle.iim_places.specs.Format.Streams.{IsEnvelopeWithin}
 use Rattle.iim_places.specs.Format.Tickets.{Place, IsPlaceOf, place_of}
 use Rattle.iim_places.specs.Format.Tokens.{CanContinue, CanContinueAt, MayContinue}
 use Rattle.iim_unpack.specs.States.Unpacking.{Unpacking, Stands, IsDoneWith, limits_in}
-use Rattle.iim_unpack.specs.declared.parts.Parts.{Parts}
 use Rattle.iim_places.proofs.Answering.{one_reading, reads_envelope, goes_envelope}
 use Rattle.iim_unpack.proofs.Ended.{ended_by_record, unended_inside}
 use Rattle.iim_unpack.proofs.Feeding.{TellsSizes, done_by}

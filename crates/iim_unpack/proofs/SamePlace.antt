@@ -16,12 +16,11 @@ use Rattle.iim_places.specs.Format.Admitted.{object_of}
 use Rattle.iim_places.specs.Laws.{LowerLaws}
 use Rattle.iim_places.specs.Format.Tokens.{place_at, CanContinue, CanContinueAt}
 use Rattle.iim_places.specs.Format.Open.{object_so_far, AllCanContinue}
-use Rattle.iim_unpack.specs.States.Parts.{AreAfter, Within, StandsFor}
+use Rattle.iim_unpack.specs.States.Parts.{AreAfter, Within, StandsFor, Parts}
 use Rattle.iim_unpack.specs.States.Unpacking.{Unpacking, IsLed, Stands, IsDoneWith, limits_in}
 use Rattle.iim_places.specs.States.Counts.{are_some}
 use Rattle.iim_places.specs.Format.Tickets.{Place, place_of}
 use Rattle.iim_unpack.specs.Laws.{UnpackersStandByPlace}
-use Rattle.iim_unpack.specs.declared.parts.Parts.{Parts}
 use Rattle.iim_unpack.proofs.Sequences.{by_data}
 use Rattle.iim_places.proofs.Following.{alive_of}
 use Rattle.iim_places.proofs.SameRecords.{same_records, stated_after_all, stated_at}

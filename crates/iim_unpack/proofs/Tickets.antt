@@ -15,11 +15,10 @@ use Rattle.wire_message.specs.declared.saved.MessagePlace.{MessagePlace}
 use Rattle.iim_places.specs.Format.Admitted.{object_of}
 use Rattle.iim_places.specs.Format.Tokens.{place_at}
 use Rattle.iim_places.specs.Format.Open.{object_so_far, section}
-use Rattle.iim_unpack.specs.States.Parts.{StandsFor, has_ended}
+use Rattle.iim_unpack.specs.States.Parts.{StandsFor, has_ended, Parts}
 use Rattle.iim_unpack.specs.States.Unpacking.{Unpacking, IsLed, Stands, IsDoneWith, limits_in}
 use Rattle.iim_places.specs.Format.Tickets.{phase_of, heads_of, place_of, ticket_of, IsTicketOf, present_version, phase_octets}
 use Rattle.iim_unpack.specs.TicketReading.{phase_in, IsSpelled}
-use Rattle.iim_unpack.specs.declared.parts.Parts.{Parts}
 use Rattle.iim_unpack.proofs.Ended.{ended_by_record, unended_inside}
 use Rattle.iim_unpack.proofs.SamePlace.{told_by, led_of}
 use Rattle.iim_places.proofs.Tickets.{total_of, count_of, message_at, stated_by, heads_by, taken_by}

@@ -24,11 +24,10 @@ use Rattle.wire_message.specs.Format.Layers.{text_so_far}
 use Rattle.wire_message.specs.States.Reading as wire
 use Rattle.iim_places.specs.Format.Admitted.{object_of}
 use Rattle.iim_places.specs.Format.Tokens.{place_at}
-use Rattle.iim_unpack.specs.States.Parts.{AreAfter, has_ended}
+use Rattle.iim_unpack.specs.States.Parts.{AreAfter, has_ended, Parts}
 use Rattle.iim_unpack.specs.PartSteps.{TakesHead, TellsWhole, TellsParts, PartsRefuse}
 use Rattle.iim_unpack.specs.Routing.{HasEnded, Takes, TookWhole}
 use Rattle.iim_places.specs.Laws.{LowerLaws}
-use Rattle.iim_unpack.specs.declared.parts.Parts.{Parts}
 use Rattle.iim_unpack.proofs.Sequences.{end_told}
 use Rattle.iim_places.proofs.Objects.{records_alive}
 use Rattle.iim_places.proofs.Places.{silent_leads}

@@ -5,12 +5,11 @@ use Rattle.iim_fields.specs.States.Standing.{limits_of}
 use Rattle.iim_fields.specs.declared.check.RecordPlace.{RecordPlace}
 use Rattle.iim_fields.specs.declared.limits.Limits.{Limits}
 use Rattle.wire_story.specs.Format.Delivery as story
-use Rattle.iim_unpack.specs.States.Parts.{AreLed, CountsFor}
+use Rattle.iim_unpack.specs.States.Parts.{AreLed, CountsFor, Parts}
 use Rattle.iim_unpack.specs.PartSteps.{Refused, TellsParts, PartsRefuse}
 use Rattle.iim_unpack.specs.Passing.{delivered-append}
 use Rattle.iim_unpack.specs.Routing.{Takes, HasEnded}
 use Rattle.iim_unpack.specs.Sequence.{AreInOrder}
-use Rattle.iim_unpack.specs.declared.parts.Parts.{Parts}
 use Rattle.iim_places.specs.declared.fault.TokenFault.{TokenFault}
 
 -- the events before others

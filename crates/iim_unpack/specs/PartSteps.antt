@@ -6,8 +6,7 @@ use Rattle.iim_fields.specs.States.Standing as records
 use Rattle.wire_story.specs.Format.Delivery as story
 use Rattle.iim_unpack.specs.Sequence.{AreInOrder}
 use Rattle.iim_places.specs.declared.fault.TokenFault.{TokenFault}
-use Rattle.iim_unpack.specs.declared.parts.Parts.{Parts}
-use Rattle.iim_unpack.specs.States.Parts.{AreLed, has_ended, CountsFor}
+use Rattle.iim_unpack.specs.States.Parts.{AreLed, has_ended, CountsFor, Parts}
 use Rattle.iim_object.specs.Format.Objects.{ObjectToken}
 use Rattle.iim_object.specs.States.Reading.{Refuses}
 use Rattle.iim_object.specs.declared.reading.state.State.{State}

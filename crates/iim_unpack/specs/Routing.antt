@@ -8,8 +8,7 @@ use Rattle.iim_dataset.specs.declared.sink.Step.{Step}
 use Rattle.iim_fields.specs.States.Standing.{IsBetween, room_of}
 use Rattle.wire_story.specs.Format.Delivery as story
 use Rattle.iim_unpack.specs.PartSteps.{TakesHead, TakesData, TellsParts, PartsRefuse}
-use Rattle.iim_unpack.specs.States.Parts.{has_ended}
-use Rattle.iim_unpack.specs.declared.parts.Parts.{Parts}
+use Rattle.iim_unpack.specs.States.Parts.{has_ended, Parts}
 use Rattle.iim_unpack.specs.declared.parts.router.Router.{Router}
 
 abbrev pub Routes : {S : Type 0} → (S → List story.StoryEvent → S → Type 0) → (S → ℕ) → Router S → List DatasetEvent → Router S → Type 0

@@ -11,8 +11,7 @@ use Rattle.iim_object.specs.States.Reading as objects
 use Rattle.iim_object.specs.States.Saved.{stated_numbers}
 use Rattle.wire_message.specs.States.Saved.{IsAt}
 use Rattle.wire_message.specs.declared.saved.MessagePlace.{MessagePlace}
-use Rattle.iim_unpack.specs.States.Parts.{has_ended}
-use Rattle.iim_unpack.specs.declared.parts.Parts.{Parts}
+use Rattle.iim_unpack.specs.States.Parts.{has_ended, Parts}
 use Rattle.iim_places.specs.Format.Tickets.{Phase, TagBegun, DataBegun, AllEnded, ticket_of}
 
 -- ---- what the readers tell

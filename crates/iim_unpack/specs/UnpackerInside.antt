@@ -10,10 +10,9 @@ use Rattle.iim_dataset.specs.States.Places.{LeadsTo, Brings, between, to_come, n
 use Rattle.iim_dataset.specs.States.Reading.{Reader, Completes, TagDies, TakesCalls}
 use Rattle.iim_dataset.specs.declared.place.DatasetPlace.{DatasetPlace as Place}
 use Rattle.wire_story.specs.Format.Delivery as story
-use Rattle.iim_unpack.specs.States.Parts.{has_ended}
+use Rattle.iim_unpack.specs.States.Parts.{has_ended, Parts}
 use Rattle.iim_unpack.specs.PartSteps.{TellsParts, PartsRefuse}
 use Rattle.iim_unpack.specs.Routing.{Takes, HasEnded}
-use Rattle.iim_unpack.specs.declared.parts.Parts.{Parts}
 use Rattle.iim_places.specs.declared.fault.TokenFault.{TokenFault}
 use Rattle.iim_places.specs.declared.refusal.Layer.TheVariants as layers
 use Rattle.iim_unpack.specs.States.Unpacking.{Unpacking, Stands, IsDoneWith}

@@ -7,11 +7,10 @@ use Rattle.wire_message.specs.Format.Canonical.{canonical}
 use Rattle.iim_dataset.specs.Format.Languages.{IsAlive}
 use Rattle.wire_story.specs.Format.Tokens.{with_end}
 use Rattle.wire_message.specs.Format.Layers.{MessageLanguage, MessageLivesWith, text_so_far, trailer_so_far, StoryLivesIn}
-use Rattle.wire_message.specs.States.SoFar.{IsPlace, LeadsTo}
+use Rattle.wire_message.specs.States.SoFar.{IsPlace, LeadsTo, Place}
 use Rattle.wire_message.specs.States.Reading.{StandsAt, head_read, trailer_read, is_ended}
 use Rattle.wire_message.specs.Format.Causes.{HasCause}
 use Rattle.wire_message.specs.States.Saved.{saved}
-use Rattle.wire_message.specs.declared.place.Place.{Place}
 use Rattle.wire_message.specs.declared.fault.MessageCause.{MessageCause}
 
 -- ---- What holds of all messages, and where a reader of messages stands.

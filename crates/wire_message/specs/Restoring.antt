@@ -1,14 +1,12 @@
 -- A place that is made again from a saved one.
 use Rattle.std.specs.Prelude.{◌≡◌, ◌==◌, Option, Some}
 use Rattle.wire_message.specs.Format.Messages.{Header, header_of}
-use Rattle.wire_message.specs.States.SoFar.{IsPlace}
+use Rattle.wire_message.specs.States.SoFar.{IsPlace, Place, Filler, InHeader, Info, Gap, Text, Trailer, AfterEnd}
 use Rattle.wire_message.specs.declared.part.HeaderPart.TheVariants.{Source, Number, Priority, Category, Words}
 use Rattle.wire_message.specs.declared.part.HeaderTexts.{HeaderTexts}
 use Rattle.wire_message.specs.declared.saved.MessagePart.{MessagePart}
 use Rattle.wire_message.specs.declared.saved.MessagePart.TheVariants as part
 use Rattle.wire_message.specs.declared.saved.MessagePlace.{MessagePlace}
-use Rattle.wire_message.specs.declared.place.Place.{Place}
-use Rattle.wire_message.specs.declared.place.Place.TheVariants.{Filler, InHeader, Info, Gap, Text, Trailer, AfterEnd}
 use Rattle.wire_message.specs.States.Saved.{saved}
 
 -- the header of a saved place

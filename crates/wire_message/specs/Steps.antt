@@ -5,9 +5,7 @@ use Rattle.wire_story.specs.Format.Tokens.{Octet}
 use Rattle.wire_story.specs.declared.fault.TextCause.{TextCause}
 use Rattle.wire_story.specs.declared.fault.TextCause.TheVariants as text_cause
 use Rattle.wire_message.specs.Format.Layers.{MessageDiesAt}
-use Rattle.wire_message.specs.States.SoFar.{IsPlace, Spells, StoryStands}
-use Rattle.wire_message.specs.declared.place.Place.{Place}
-use Rattle.wire_message.specs.declared.place.Place.TheVariants.{InHeader, Text}
+use Rattle.wire_message.specs.States.SoFar.{IsPlace, Spells, StoryStands, Place, InHeader, Text}
 use Rattle.wire_message.specs.declared.fault.MessageCause.{MessageCause}
 use Rattle.wire_message.specs.declared.fault.MessageCause.TheVariants.{LoneReturn, ControlOctet, Sink}
 use Rattle.wire_message.specs.declared.fault.MessageFault.{MessageFault}

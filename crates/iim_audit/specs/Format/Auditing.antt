@@ -10,10 +10,9 @@ use Rattle.iim_places.specs.Format.Open.{IsOpen}
 use Rattle.iim_unpack.specs.States.Unpacking.{failed_at}
 use Rattle.iim_places.specs.States.Counts.{raised}
 use Rattle.iim_places.specs.declared.refusal.Refusal.{Refusal}
-use Rattle.iim_audit.specs.Format.Rows.{report_of}
+use Rattle.iim_audit.specs.Format.Rows.{report_of, AuditRow}
 use Rattle.iim_audit.specs.declared.fault.AuditCause.{AuditCause}
 use Rattle.iim_audit.specs.declared.fault.AuditCause.TheVariants as causes
-use Rattle.iim_audit.specs.declared.row.AuditRow.{AuditRow}
 
 -- The whole input is envelopes, not too many, and the rows are their report.
 pub record IsAudited (limits : Limits) (now : ℤ) (old new : Device) (rows : List AuditRow) : Type 0 where

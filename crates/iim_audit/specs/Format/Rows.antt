@@ -8,7 +8,7 @@ use Rattle.wire_story.specs.Format.Words.{words, capped}
 use Rattle.iim_places.specs.Format.Admitted.{Value}
 use Rattle.iim_audit.specs.Format.Ages.{age_at}
 use Rattle.iim_audit.specs.Format.Copies.{copy_at}
-use Rattle.iim_audit.specs.declared.row.AuditRow.{AuditRow}
+pub use Rattle.iim_audit.specs.declared.row.AuditRow.{AuditRow}
 
 -- what an envelope is known by: 1:30 Service Identifier, 1:40 Envelope Number and 1:70 Date Sent
 -- twin: "A repeated one names the first of the same service, number and day"

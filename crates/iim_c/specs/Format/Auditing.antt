@@ -12,8 +12,7 @@ use Rattle.iim_places.specs.declared.refusal.Refusal.{Refusal}
 use Rattle.iim_places.specs.declared.ticket.fault.TicketFault.{TicketFault}
 use Rattle.iim_audit.specs.Format.Pieces.{HaveWords, Refuses}
 use Rattle.iim_audit.specs.Format.Rows.{row_with}
-use Rattle.iim_c.specs.declared.answer.IimAnswer.{IimAnswer}
-use Rattle.iim_c.specs.Format.Answers.{status_answer, refusal_answer, ticket_answer}
+use Rattle.iim_c.specs.Format.Answers.{status_answer, refusal_answer, ticket_answer, IimAnswer}
 use Rattle.iim_c.specs.Format.Feeding.{IsSaid, most_of_ticket}
 use Rattle.iim_c.specs.Format.Statuses as status
 use Rattle.iim_c.specs.declared.instant.IimInstant.{IimInstant}

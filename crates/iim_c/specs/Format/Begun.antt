@@ -10,11 +10,9 @@ use Rattle.iim_places.specs.Format.Refusals.{begun_record, begun_number}
 use Rattle.iim_places.specs.declared.fault.TokenFault.{TokenFault}
 use Rattle.iim_places.specs.Format.TicketForm.{Split, SplitsTicket}
 use Rattle.iim_places.specs.Format.Tickets.{Phase, TagBegun, DataBegun, AllEnded}
-use Rattle.iim_c.specs.declared.answer.IimAnswer.{IimAnswer}
-use Rattle.iim_c.specs.declared.span.IimSpan.{IimSpan}
-use Rattle.iim_c.specs.Format.Answers.{status_answer}
+use Rattle.iim_c.specs.Format.Answers.{status_answer, IimAnswer}
 use Rattle.iim_c.specs.Format.Statuses as status
-use Rattle.iim_c.specs.Format.TicketAnswers.{StandAt, IsNoTicket, no_span}
+use Rattle.iim_c.specs.Format.TicketAnswers.{StandAt, IsNoTicket, no_span, IimSpan}
 use Rattle.iim_c.specs.declared.begun.IimBegun.{IimBegun}
 
 -- ---- what is begun, by its number

@@ -3,9 +3,8 @@ use Rattle.std.specs.Prelude.{◌≡◌, ℕ, ◌==◌, ◌⊎◌, if◌then◌e
 use Rattle.iim_fields.specs.Format.Bounds.{wire_limits}
 use Rattle.iim_fields.specs.declared.limits.Limits.{Limits}
 use Rattle.iim_places.specs.Format.Streams.{Answer, Finished, Refused, Truncated, Answers}
-use Rattle.iim_c.specs.declared.answer.IimAnswer.{IimAnswer}
 use Rattle.iim_c.specs.declared.limits.IimLimits.{IimLimits}
-use Rattle.iim_c.specs.Format.Answers.{status_answer, refusal_answer}
+use Rattle.iim_c.specs.Format.Answers.{status_answer, refusal_answer, IimAnswer}
 use Rattle.iim_c.specs.Format.Statuses as status
 
 -- what is given, or else what stands for 0

@@ -13,8 +13,7 @@ use Rattle.iim_places.specs.declared.refusal.Refusal.{Refusal}
 use Rattle.iim_places.specs.declared.refusal.Cause.TheVariants.{Message}
 use Rattle.wire_message.specs.declared.fault.MessageCause.TheVariants.{Sink}
 use Rattle.iim_places.specs.declared.ticket.fault.TicketFault.{TicketFault}
-use Rattle.iim_c.specs.declared.answer.IimAnswer.{IimAnswer}
-use Rattle.iim_c.specs.Format.Answers.{status_answer, refusal_answer, ticket_answer}
+use Rattle.iim_c.specs.Format.Answers.{status_answer, refusal_answer, ticket_answer, IimAnswer}
 use Rattle.iim_c.specs.Format.Statuses as status
 use Rattle.iim_c.specs.Format.Writing.{counted}
 

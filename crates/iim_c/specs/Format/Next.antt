@@ -8,8 +8,7 @@ use Rattle.iim_places.specs.Format.Streams.{IsEnvelopeWithin, Kills}
 use Rattle.iim_places.specs.States.Restored.{IsRestoreFault}
 use Rattle.iim_places.specs.declared.fault.TokenFault.{TokenFault}
 use Rattle.iim_places.specs.declared.ticket.fault.TicketFault.{TicketFault}
-use Rattle.iim_c.specs.declared.answer.IimAnswer.{IimAnswer}
-use Rattle.iim_c.specs.Format.Answers.{status_answer, ticket_answer}
+use Rattle.iim_c.specs.Format.Answers.{status_answer, ticket_answer, IimAnswer}
 use Rattle.iim_c.specs.Format.Feeding.{IsSaid}
 use Rattle.iim_c.specs.Format.Statuses as status
 

@@ -4,9 +4,8 @@ use Rattle.iim_object.specs.Format.Plans.{is_plan}
 use Rattle.iim_object.specs.declared.size.Size.TheVariants.{Unknown}
 use Rattle.iim_pack_script.specs.Format.{Asked, asked, IsFormOf, IsScriptRefusal, IsScriptOf, ScriptContent, refusal_line}
 use Rattle.iim_request.specs.Format.{default_subfile}
-use Rattle.iim_c.specs.declared.answer.IimAnswer.{IimAnswer}
 use Rattle.iim_c.specs.declared.packing.IimPacking.{IimPacking}
-use Rattle.iim_c.specs.Format.Answers.{status_answer}
+use Rattle.iim_c.specs.Format.Answers.{status_answer, IimAnswer}
 use Rattle.iim_c.specs.Format.Statuses as status
 
 -- ---- the way of packing

@@ -3,12 +3,11 @@ use Rattle.std.specs.Prelude.{◌≡◌, ℕ, ◌+◌, ◌≤◌, ◌⊎◌, Boo
 use Rattle.iim_dataset.specs.Format.Datasets.{Dataset}
 use Rattle.iim_places.specs.Format.TicketForm.{Split, SplitsTicket, IsFaultOf}
 use Rattle.iim_places.specs.declared.ticket.fault.TicketFault.{TicketFault}
-use Rattle.iim_c.specs.declared.answer.IimAnswer.{IimAnswer}
 use Rattle.iim_c.specs.declared.field.IimDataset.{IimDataset}
 use Rattle.iim_c.specs.declared.header.IimMessage.{IimMessage}
 use Rattle.iim_c.specs.declared.sizes.IimObject.{IimObject}
-use Rattle.iim_c.specs.declared.span.IimSpan.{IimSpan}
-use Rattle.iim_c.specs.Format.Answers.{status_answer, ticket_answer}
+pub use Rattle.iim_c.specs.declared.span.IimSpan.{IimSpan}
+use Rattle.iim_c.specs.Format.Answers.{status_answer, ticket_answer, IimAnswer}
 use Rattle.iim_c.specs.Format.Statuses as status
 
 -- ---- places in a ticket

@@ -2,7 +2,7 @@
 use Rattle.std.specs.Prelude.{◌≡◌, ℕ, ◌+◌, ◌^◌, ◌<◌, ◌≤◌, nat_lt, ◌⊎◌, if◌then◌else◌, List, [], ◌∷◌, ◌++◌, length, flat_map, ◌==◌}
 use Rattle.byteorder.specs.Endian.{big_bytes}
 use Rattle.iim_dataset.specs.Format.Octets.{IsOctet, Octets, number}
-use Rattle.iim_dataset.specs.declared.head.Head.{Head}
+pub use Rattle.iim_dataset.specs.declared.head.Head.{Head}
 use Rattle.std.specs.List.{filter}
 
 -- a dataset: the number of its record, its number in the record, and its data

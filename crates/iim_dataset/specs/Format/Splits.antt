@@ -1,8 +1,7 @@
 -- What the octets so far split into.
 use Rattle.std.specs.Prelude.{◌≡◌, ℕ, ◌<◌, List, ◌++◌, length, ◌⊎◌, [], ◌∷◌}
 use Rattle.iim_dataset.specs.Format.Octets.{Octets, IsProperPrefix}
-use Rattle.iim_dataset.specs.Format.Datasets.{Dataset, SpellsTag, SpellsDataset, SpellsStream, count_octets}
-use Rattle.iim_dataset.specs.declared.head.Head.{Head}
+use Rattle.iim_dataset.specs.Format.Datasets.{Dataset, SpellsTag, SpellsDataset, SpellsStream, count_octets, Head}
 
 -- less than the whole spelling of one dataset
 pub record IsPart (limit : ℕ) (xs : List ℕ) : Type 0 where

@@ -1,8 +1,7 @@
 -- What a reader of datasets hands on.
 use Rattle.std.specs.Prelude.{ℕ, List, [], ◌∷◌, ◌++◌, map, flat_map, Option, Some, None}
-use Rattle.iim_dataset.specs.Format.Datasets.{Dataset, head_of}
+use Rattle.iim_dataset.specs.Format.Datasets.{Dataset, head_of, Head}
 use Rattle.iim_dataset.specs.Format.Splits.{Begun, InTag, InData}
-use Rattle.iim_dataset.specs.declared.head.Head.{Head}
 
 -- a complete head, an octet of data, or the end of a dataset
 pub data DatasetEvent : Type 0 where

@@ -4,8 +4,8 @@ use Rattle.iim_dataset.specs.Format.Datasets.{Dataset, SpellsTag, count_octets}
 use Rattle.iim_dataset.specs.Format.Splits.{Begun, InTag, InData, Reads}
 use Rattle.iim_dataset.specs.Format.Tags.{BeginsTag}
 use Rattle.iim_dataset.specs.States.Events.{DatasetEvent, handed_on}
-use Rattle.iim_dataset.specs.declared.place.DatasetPlace.{DatasetPlace}
-use Rattle.iim_dataset.specs.declared.place.DatasetPlace.TheVariants.{Tag, Inside}
+pub use Rattle.iim_dataset.specs.declared.place.DatasetPlace.{DatasetPlace}
+pub use Rattle.iim_dataset.specs.declared.place.DatasetPlace.TheVariants.{Tag, Inside}
 
 -- Less than a tag is held; or some octets of data are to come, no more than the head counts, and some tag tells that head.
 abbrev pub IsPlace : DatasetPlace → Type 0

@@ -4,11 +4,9 @@ use Rattle.iim_dataset.specs.Format.Datasets.{count_octets}
 use Rattle.iim_dataset.specs.Format.Splits.{Begun}
 use Rattle.iim_dataset.specs.Format.Tags.{BeginsNoTag, Concerns}
 use Rattle.iim_dataset.specs.States.Events.{DatasetEvent}
-use Rattle.iim_dataset.specs.States.Places.{between, to_come, HandsOn, LeadsTo, TellsSink, IsPlace}
+use Rattle.iim_dataset.specs.States.Places.{between, to_come, HandsOn, LeadsTo, TellsSink, IsPlace, DatasetPlace, Tag}
 use Rattle.iim_dataset.specs.declared.head.HeadCause.{HeadCause}
 use Rattle.iim_dataset.specs.declared.head.HeadCause.TheVariants as tags
-use Rattle.iim_dataset.specs.declared.place.DatasetPlace.{DatasetPlace}
-use Rattle.iim_dataset.specs.declared.place.DatasetPlace.TheVariants.{Tag}
 use Rattle.iim_dataset.specs.declared.sink.Step.{Step}
 use Rattle.iim_dataset.specs.declared.sink.Step.TheVariants.{More, Last}
 use Rattle.iim_dataset.specs.declared.fault.Fault.{Fault}

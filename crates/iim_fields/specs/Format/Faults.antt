@@ -9,8 +9,8 @@ use Rattle.iim_tables.specs.Format.Rows.{row_of, is_admitted}
 use Rattle.iim_tables.specs.declared.shape.Row.{Row}
 use Rattle.iim_fields.specs.Format.Records.{after}
 use Rattle.iim_tables.specs.Format.Records.{mandatory, occurs, has_file_format}
-use Rattle.iim_fields.specs.declared.limits.Limits.{Limits}
-use Rattle.iim_fields.specs.declared.fault.FieldFault.{FieldFault}
+pub use Rattle.iim_fields.specs.declared.limits.Limits.{Limits}
+pub use Rattle.iim_fields.specs.declared.fault.FieldFault.{FieldFault}
 use Rattle.iim_fields.specs.declared.fault.FieldCause.{FieldCause}
 use Rattle.iim_fields.specs.declared.fault.FieldCause.TheVariants.{RecordOrder, UnknownDataset, Repeated, CountRange, Missing, BadValue, FileFormat, HeaderFull, TooManyFields}
 

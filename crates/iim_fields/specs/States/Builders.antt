@@ -3,10 +3,8 @@ use Rattle.std.specs.Prelude.{◌≡◌, ℕ, ◌^◌, ◌<◌, length, not, if�
 use Rattle.std.specs.Option.{option_or}
 use Rattle.iim_dataset.specs.Format.Datasets.{Dataset, head_of, of_record}
 use Rattle.iim_tables.specs.Format.Records.{occurs}
-use Rattle.iim_fields.specs.Format.Faults.{joined, first_fault, value_fault, missing_fault, missing_of, is_kept, fault_on, limit_passed}
+use Rattle.iim_fields.specs.Format.Faults.{joined, first_fault, value_fault, missing_fault, missing_of, is_kept, fault_on, limit_passed, Limits, FieldFault}
 use Rattle.iim_fields.specs.States.Stores.{Room}
-use Rattle.iim_fields.specs.declared.limits.Limits.{Limits}
-use Rattle.iim_fields.specs.declared.fault.FieldFault.{FieldFault}
 use Rattle.iim_fields.specs.declared.fault.FieldCause.{FieldCause}
 use Rattle.iim_fields.specs.declared.fault.FieldCause.TheVariants.{RecordOrder}
 use Rattle.iim_fields.specs.declared.fault.CopyFault.{CopyFault}

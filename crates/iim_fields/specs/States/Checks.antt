@@ -7,15 +7,13 @@ use Rattle.iim_dataset.specs.declared.head.Head.{Head}
 use Rattle.iim_tables.specs.Format.Rows.{row_of}
 use Rattle.iim_tables.specs.declared.shape.Row.{Row}
 use Rattle.iim_fields.specs.Format.Alive.{SectionsLive, SectionsLiveAt}
-use Rattle.iim_fields.specs.Format.Faults.{record_fault, value_fault}
+use Rattle.iim_fields.specs.Format.Faults.{record_fault, value_fault, Limits, FieldFault}
 use Rattle.iim_fields.specs.Format.Causes.{IsFault}
 use Rattle.iim_fields.specs.Format.Causes.Token.{AtHead, AtValue}
 use Rattle.iim_fields.specs.States.Orders.{IsOrderOf}
-use Rattle.iim_fields.specs.declared.limits.Limits.{Limits}
-use Rattle.iim_fields.specs.declared.fault.FieldFault.{FieldFault}
 use Rattle.iim_fields.specs.declared.order.Order.{Order}
 use Rattle.iim_fields.specs.declared.check.Begun.{Begun}
-use Rattle.iim_fields.specs.declared.check.RecordPlace.{RecordPlace}
+pub use Rattle.iim_fields.specs.declared.check.RecordPlace.{RecordPlace}
 
 -- ---- a check, from outside: its place, or None after a refusal
 

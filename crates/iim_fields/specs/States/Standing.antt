@@ -4,16 +4,13 @@ use Rattle.iim_dataset.specs.Format.Octets.{Octets}
 use Rattle.iim_dataset.specs.Format.Datasets.{Dataset, head_of}
 use Rattle.iim_dataset.specs.declared.head.Head.{Head}
 use Rattle.iim_fields.specs.Format.Alive.{SectionsLive, SectionsLiveAt}
-use Rattle.iim_fields.specs.Format.Faults.{first_fault, kept, kept_octets, is_kept}
+use Rattle.iim_fields.specs.Format.Faults.{first_fault, kept, kept_octets, is_kept, Limits, FieldFault}
 use Rattle.iim_fields.specs.Format.Causes.{IsFault}
 use Rattle.iim_fields.specs.Format.Causes.Token.{AtHead}
-use Rattle.iim_fields.specs.States.Checks.{IsIn, HasChecked, HasTaken, HasEnded, begun_head, section_at}
+use Rattle.iim_fields.specs.States.Checks.{IsIn, HasChecked, HasTaken, HasEnded, begun_head, section_at, RecordPlace}
 use Rattle.iim_fields.specs.States.Checks as checks
 use Rattle.iim_fields.specs.States.Stores.{Room}
 use Rattle.iim_fields.specs.Format.Values.{number_told, data_of}
-use Rattle.iim_fields.specs.declared.limits.Limits.{Limits}
-use Rattle.iim_fields.specs.declared.fault.FieldFault.{FieldFault}
-use Rattle.iim_fields.specs.declared.check.RecordPlace.{RecordPlace}
 use Rattle.iim_fields.specs.Format.Bounds.{IsWithin}
 
 -- A reader of records is seen as where its check stands, its limits, the datasets that it has kept, the octets that it has

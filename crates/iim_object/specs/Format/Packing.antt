@@ -1,12 +1,9 @@
 -- What a packer writes of an object by a plan: record 7, the subfiles and record 9.
 use Rattle.std.specs.Prelude.{◌≡◌, ℕ, ◌≤◌, Bool, List, [], ◌∷◌, ◌++◌, length, map, Some, None, is_some, IfSome}
 use Rattle.iim_dataset.specs.Format.Datasets.{Dataset, canonical_stream, written_number}
-use Rattle.iim_object.specs.Format.Sizes.{mode_number}
-use Rattle.iim_object.specs.Format.Plans.{announced_of, maximum_of, bound_of}
+use Rattle.iim_object.specs.Format.Sizes.{mode_number, Sizes}
+use Rattle.iim_object.specs.Format.Plans.{announced_of, maximum_of, bound_of, Size, Known, Unknown}
 use Rattle.iim_object.specs.Format.Cuts.{IsCut}
-use Rattle.iim_object.specs.declared.size.Size.{Size}
-use Rattle.iim_object.specs.declared.size.Size.TheVariants.{Known, Unknown}
-use Rattle.iim_object.specs.declared.size.Sizes.{Sizes}
 
 -- a dataset whose value is this number
 -- twins (with subfile_dataset, confirmed_datasets): "Objects that are written"; `packs_by_every_small_plan_and_gives_back_what_was_packed`

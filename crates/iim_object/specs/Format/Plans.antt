@@ -3,8 +3,8 @@ use Rattle.std.specs.Prelude.{ℕ, ◌+◌, ◌*◌, ◌^◌, Bool, true, false,
 use Rattle.std.specs.Option.{option_or}
 use Rattle.iim_dataset.specs.Format.Datasets.{tag_octets}
 use Rattle.iim_dataset.specs.Format.Octets.{greatest_size, greatest_u32}
-use Rattle.iim_object.specs.declared.size.Size.{Size}
-use Rattle.iim_object.specs.declared.size.Size.TheVariants.{Known, Unknown}
+pub use Rattle.iim_object.specs.declared.size.Size.{Size}
+pub use Rattle.iim_object.specs.declared.size.Size.TheVariants.{Known, Unknown}
 
 -- the most subfiles of one envelope
 -- twin: "4,294,967,295 subfiles, and one more"; `refuses_one_subfile_too_many`

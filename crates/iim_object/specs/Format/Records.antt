@@ -5,8 +5,7 @@ use Rattle.std.specs.List.{AllByRecursion}
 use Rattle.iim_dataset.specs.Format.Octets.{number}
 use Rattle.iim_dataset.specs.Format.Datasets.{Dataset}
 use Rattle.iim_tables.specs.Format.Records.{IsGoodRecord}
-use Rattle.iim_object.specs.Format.Sizes.{Stated, Agree, number_at, mode_number}
-use Rattle.iim_object.specs.declared.size.Sizes.{Sizes}
+use Rattle.iim_object.specs.Format.Sizes.{Stated, Agree, number_at, mode_number, Sizes}
 
 -- Records 7, 8 and 9 in this order, each good, after datasets of the records before them.
 -- twin: "Before the first octet, and an envelope in one piece", "Sizes: the mode"

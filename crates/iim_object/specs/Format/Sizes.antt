@@ -2,7 +2,7 @@
 use Rattle.std.specs.Prelude.{◌≡◌, ℕ, ◌≤◌, ◌==◌, ◌⊎◌, Bool, true, false, cond, List, [], ◌∷◌, length, sum, is_some, Option, Some, None, IfSome}
 use Rattle.std.specs.List.{AllByRecursion}
 use Rattle.iim_dataset.specs.Format.Octets.{greatest_size}
-use Rattle.iim_object.specs.declared.size.Sizes.{Sizes}
+pub use Rattle.iim_object.specs.declared.size.Sizes.{Sizes}
 
 -- the number of a dataset of record 7, with the dataset's own number
 pub record Stated : Type 0 where

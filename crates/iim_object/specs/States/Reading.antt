@@ -1,16 +1,15 @@
 -- Where a reader of objects stands, and why it refuses a token.
 use Rattle.std.specs.Prelude.{◌≡◌, ℕ, ◌<◌, ◌⊎◌, Bool, ◌==◌, if◌then◌else◌, List, [], ◌∷◌, ◌++◌, length, map, sum, take, slice_index, Option, Some}
 use Rattle.iim_dataset.specs.Format.Languages.{IsAlive, DiesAt}
-use Rattle.iim_object.specs.Format.Sizes.{AreStated, number_at, mode_number, sizes_at}
+use Rattle.iim_object.specs.Format.Sizes.{AreStated, number_at, mode_number, sizes_at, Sizes}
 use Rattle.iim_object.specs.Format.Objects.{ObjectToken, ObjectEnded, Confirmed, ObjectLanguage}
 use Rattle.iim_object.specs.Format.Places.{Place, NotEnded, MayFollow, HasBoth, place_after, tokens_of}
 use Rattle.iim_object.specs.Format.Causes.{cause_at}
-use Rattle.iim_object.specs.declared.reading.state.State.{State}
-use Rattle.iim_object.specs.declared.reading.fault.SizeCause.{SizeCause}
+pub use Rattle.iim_object.specs.declared.reading.state.State.{State}
+pub use Rattle.iim_object.specs.declared.reading.fault.SizeCause.{SizeCause}
 use Rattle.iim_object.specs.declared.reading.fault.ObjectFault.{ObjectFault}
 use Rattle.iim_object.specs.declared.reading.fault.ObjectFault.TheVariants.{Size, Stopped}
 use Rattle.iim_object.specs.Format.Events.{ObjectEvent, ObjectOctet, ObjectEnd}
-use Rattle.iim_object.specs.declared.size.Sizes.{Sizes}
 
 -- The state has the numbers of the place, how many subfiles there are and their octets together.
 -- twins (with IsSizes): "Readers put where tokens lead", "The numbers that have come, the sizes"

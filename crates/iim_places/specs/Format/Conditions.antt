@@ -21,9 +21,7 @@ use Rattle.wire_story.specs.Format.Tokens.{with_end}
 use Rattle.wire_message.specs.declared.fault.MessageCause.TheVariants as messages
 use Rattle.wire_message.specs.Format.Layers.{MessageLanguage, MessageLivesWith, after_stx, text_so_far}
 use Rattle.iim_places.specs.Format.Admitted.{object_of}
-use Rattle.iim_places.specs.Format.Refusals.{begun_record, begun_number}
-use Rattle.iim_places.specs.declared.fault.TokenFault.{TokenFault}
-use Rattle.iim_places.specs.declared.refusal.Layer.{Layer}
+use Rattle.iim_places.specs.Format.Refusals.{begun_record, begun_number, TokenFault, Layer}
 use Rattle.iim_places.specs.declared.refusal.Layer.TheVariants as layers
 use Rattle.iim_places.specs.declared.refusal.Cause.{Cause}
 use Rattle.iim_places.specs.declared.refusal.Cause.TheVariants.{Marker, CountForm, Truncated, Field, Size, Message, TooManySubfiles, Failed}

@@ -3,11 +3,10 @@ use Rattle.std.specs.Prelude.{◌≡◌, ◌≢◌, ℕ, ◌<◌, ◌≤◌, ◌
 use Rattle.std.specs.List.{AllByRecursion}
 use Rattle.iim_fields.specs.declared.limits.Limits.{Limits}
 use Rattle.iim_places.specs.Format.Admitted.{Value}
-use Rattle.iim_places.specs.Format.Refusals.{refusal_at}
+use Rattle.iim_places.specs.Format.Refusals.{refusal_at, TokenFault}
 use Rattle.iim_places.specs.Format.Streams.{IsEnvelopeWithin, Kills}
 use Rattle.iim_places.specs.Format.Open.{IsOpen, IsTruncatedAt}
 use Rattle.iim_places.specs.States.Counts.{raised}
-use Rattle.iim_places.specs.declared.fault.TokenFault.{TokenFault}
 use Rattle.iim_places.specs.declared.refusal.Refusal.{Refusal}
 
 -- how many envelopes are listed at most

@@ -20,12 +20,10 @@ use Rattle.wire_message.specs.declared.fault.MessageCause.TheVariants.{Unfinishe
 use Rattle.iim_places.specs.Format.Admitted.{object_of}
 use Rattle.iim_places.specs.Format.Conditions.{Token, AtOctet, AtHead, AtValue, IsNoOctet, IsNoEnd, TellsTheLowest, Names}
 use Rattle.iim_places.specs.Format.Tokens.{CanContinueAt, HaveRoom, IsRefusedHead, IsRefusedValue, MayContinue, ObjectLives, place_at}
-use Rattle.iim_places.specs.Format.Refusals.{message_on, begun_record, begun_number, tag_cause}
-use Rattle.iim_places.specs.declared.fault.TokenFault.{TokenFault}
+use Rattle.iim_places.specs.Format.Refusals.{message_on, begun_record, begun_number, tag_cause, TokenFault, Layer}
 use Rattle.iim_places.specs.declared.refusal.Cause.TheVariants.{Truncated}
 use Rattle.iim_dataset.specs.Format.Tags.{BeginsNoTag}
 use Rattle.iim_places.specs.declared.refusal.Refusal.{Refusal}
-use Rattle.iim_places.specs.declared.refusal.Layer.{Layer}
 use Rattle.iim_places.specs.declared.refusal.Layer.TheVariants as layers
 
 -- ---- what octets so far say

@@ -3,9 +3,8 @@ use Rattle.std.specs.Prelude.{◌≡◌, ◌≢◌, ℕ, ◌<◌, ◌≤◌, Lis
 use Rattle.iim_fields.specs.declared.limits.Limits.{Limits}
 use Rattle.iim_places.specs.Format.Admitted.{Value, Admits}
 use Rattle.iim_places.specs.Format.Framed.{AreWithin}
-use Rattle.iim_places.specs.Format.Refusals.{refusal_at}
+use Rattle.iim_places.specs.Format.Refusals.{refusal_at, TokenFault}
 use Rattle.iim_places.specs.Format.Open.{IsOpen, RefusesNext, IsTruncatedAt}
-use Rattle.iim_places.specs.declared.fault.TokenFault.{TokenFault}
 use Rattle.iim_places.specs.declared.refusal.Refusal.{Refusal}
 use Rattle.iim_places.specs.declared.refusal.Cause.TheVariants.{Message}
 use Rattle.wire_message.specs.declared.fault.MessageCause.TheVariants.{Sink}

@@ -5,7 +5,7 @@ use Rattle.iim_dataset.specs.Format.Datasets.{Dataset}
 use Rattle.iim_places.specs.Format.Tickets.{Phase, TagBegun, DataBegun, AllEnded, first_version, second_version, width, layout, text_octets}
 use Rattle.iim_places.specs.States.Begins.{IsWide, AreFields, AreNumbersIn, AreTexts}
 use Rattle.iim_places.specs.declared.ticket.fault.TicketFault.{TicketFault}
-use Rattle.iim_places.specs.declared.ticket.fault.TicketFault.TheVariants.{Form, Version}
+pub use Rattle.iim_places.specs.declared.ticket.fault.TicketFault.TheVariants.{Form, Version, HeaderFull, Impossible, OutOfMemory, TooManyFields}
 
 -- ---- parts
 

@@ -18,9 +18,7 @@ use Rattle.iim_object.specs.Format.Causes.{cause_at}
 use Rattle.iim_object.specs.Format.Records.{lengths_of}
 use Rattle.iim_object.specs.Format.Numbers.{place_after_datasets, place_ended}
 use Rattle.iim_places.specs.Format.Framed.{AreWithin}
-use Rattle.iim_places.specs.Format.Refusals.{of_field, size_on, too_many_on}
-use Rattle.iim_places.specs.declared.fault.TokenFault.{TokenFault}
-use Rattle.iim_places.specs.declared.refusal.Layer.{Layer}
+use Rattle.iim_places.specs.Format.Refusals.{of_field, size_on, too_many_on, TokenFault, Layer}
 use Rattle.iim_places.specs.declared.refusal.Layer.TheVariants as layers
 
 -- the place of the object after datasets and a head: a subfile more, or the end

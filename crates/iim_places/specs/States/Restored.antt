@@ -4,10 +4,9 @@ use Rattle.iim_fields.specs.Format.Faults.{joined}
 use Rattle.iim_fields.specs.declared.limits.Limits.{Limits}
 use Rattle.iim_places.specs.States.Scales.{IsPossibleIn}
 use Rattle.iim_places.specs.States.Possible.{AreHeadsWithin, begun_count, begun_fields}
-use Rattle.iim_places.specs.Format.TicketForm.{Split, IsVersion, SplitsTicket, IsFaultOf}
+use Rattle.iim_places.specs.Format.TicketForm.{Split, IsVersion, SplitsTicket, IsFaultOf, Form, Version, Impossible, HeaderFull, TooManyFields, OutOfMemory}
 use Rattle.iim_places.specs.Format.Tickets.{Place, ticket_in}
 use Rattle.iim_places.specs.declared.ticket.fault.TicketFault.{TicketFault}
-use Rattle.iim_places.specs.declared.ticket.fault.TicketFault.TheVariants.{Form, Version, Impossible, HeaderFull, TooManyFields, OutOfMemory}
 
 -- The octets are the ticket of this place in a version in which it is possible.
 pub record IsTicketAt (ticket : List ℕ) (place : Place) : Type 0 where

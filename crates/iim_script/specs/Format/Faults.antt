@@ -12,8 +12,8 @@ use Rattle.wire_story.specs.Format.Texts.{IsLine}
 use Rattle.iim_script.specs.Format.Lines.{HasNo, NextLine, EndLines}
 use Rattle.iim_script.specs.Format.Forms.{TellsField, TellsHead, TellsTrailer, text_word}
 use Rattle.iim_script.specs.Format.Scripts.{AreFieldLines, IsFront, max_script}
-use Rattle.iim_script.specs.declared.fault.ScriptCause.{ScriptCause}
-use Rattle.iim_script.specs.declared.fault.ScriptCause.TheVariants.{ScriptLine, ScriptTooLong, Field, BadTrailer, BadTextOctet, OutOfMemory}
+pub use Rattle.iim_script.specs.declared.fault.ScriptCause.{ScriptCause}
+pub use Rattle.iim_script.specs.declared.fault.ScriptCause.TheVariants.{ScriptLine, ScriptTooLong, Field, BadTrailer, BadTextOctet, OutOfMemory}
 
 -- how far a script has come after some lines, and what they tell: datasets; then the header too; then the trailer too
 pub data Stage : Type 0 where

@@ -6,9 +6,8 @@ use Rattle.wire_story.specs.Format.Delivery as story
 use Rattle.iim_places.specs.Format.Admitted.{Value}
 use Rattle.iim_places.specs.Format.Streams.{Answer, Finished, Refused, Truncated, IsFinished, IsRefused, IsTruncated}
 use Rattle.iim_places.specs.Format.Open.{Delivers}
-use Rattle.iim_unpack.specs.Format.Value.{HasParts}
+use Rattle.iim_unpack.specs.Format.Value.{HasParts, Unpacked}
 use Rattle.iim_places.specs.declared.refusal.Refusal.{Refusal}
-use Rattle.iim_unpack.specs.declared.unpacker.Unpacked.{Unpacked}
 
 -- the stream of which these are the pieces
 abbrev pub stream_of : List (Bor (List ℕ)) → List ℕ

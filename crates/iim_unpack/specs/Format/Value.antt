@@ -1,7 +1,7 @@
 -- The value that an unpacker hands over.
 use Rattle.std.specs.Prelude.{◌≡◌}
 use Rattle.iim_places.specs.Format.Admitted.{Value}
-use Rattle.iim_unpack.specs.declared.unpacker.Unpacked.{Unpacked}
+pub use Rattle.iim_unpack.specs.declared.unpacker.Unpacked.{Unpacked}
 use Rattle.iim_unpack.specs.declared.unpacker.UnpackedRef.{UnpackedRef}
 
 -- It has the parts of the value, but for the lines.

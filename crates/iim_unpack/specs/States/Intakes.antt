@@ -14,7 +14,7 @@ use Rattle.iim_places.specs.Format.Refusals.{refusal_at}
 use Rattle.iim_unpack.specs.States.Unpacking.{Unpacking, Stands, IsDoneWith, LeftAs, limits_in}
 use Rattle.iim_places.specs.States.Counts.{raised}
 use Rattle.iim_places.specs.Format.Open.{IsOpen, Delivers, RefusesNext, IsTruncatedAt}
-use Rattle.iim_unpack.specs.Format.Value.{HasParts}
+use Rattle.iim_unpack.specs.Format.Value.{HasParts, Unpacked}
 use Rattle.iim_places.specs.declared.fault.TokenFault.{TokenFault}
 use Rattle.iim_unpack.specs.declared.intake.Fed.{Fed}
 use Rattle.iim_unpack.specs.declared.intake.Fed.TheVariants as piece
@@ -22,7 +22,6 @@ use Rattle.iim_unpack.specs.declared.intake.Intake.{Intake}
 use Rattle.iim_unpack.specs.declared.intake.IntakeFault.{IntakeFault}
 use Rattle.iim_unpack.specs.declared.intake.IntakeFault.TheVariants.{Refused, Read, Interrupted}
 use Rattle.iim_places.specs.declared.refusal.Refusal.{Refusal}
-use Rattle.iim_unpack.specs.declared.unpacker.Unpacked.{Unpacked}
 
 -- an intake's reader as a device, with the octets of the block put before its own: what is next in line
 abbrev pub in_line : {R : Type 0} → (R → Device) → Intake R → Device

@@ -10,13 +10,12 @@ use Rattle.iim_fields.specs.declared.limits.Limits.{Limits}
 use Rattle.wire_story.specs.Format.Delivery as story
 use Rattle.iim_places.specs.Format.Refusals.{refusal_at}
 use Rattle.iim_places.specs.Format.Open.{IsTextOf, Delivers, IsOpen, RefusesNext}
-use Rattle.iim_unpack.specs.States.Parts.{AreLed, has_ended}
+use Rattle.iim_unpack.specs.States.Parts.{AreLed, has_ended, Parts}
 use Rattle.iim_places.specs.Format.Admitted.{Value, Admits}
 use Rattle.iim_places.specs.Format.Framed.{AreWithin}
-use Rattle.iim_unpack.specs.declared.unpacker.Progress.{Progress}
-use Rattle.iim_unpack.specs.declared.unpacker.Progress.TheVariants.{More, Done}
+pub use Rattle.iim_unpack.specs.declared.unpacker.Progress.{Progress}
+pub use Rattle.iim_unpack.specs.declared.unpacker.Progress.TheVariants.{More, Done}
 use Rattle.iim_places.specs.declared.refusal.Cause.TheVariants.{Failed}
-use Rattle.iim_unpack.specs.declared.parts.Parts.{Parts}
 use Rattle.iim_places.specs.declared.fault.TokenFault.{TokenFault}
 use Rattle.iim_places.specs.declared.refusal.Refusal.{Refusal}
 use Rattle.iim_places.specs.declared.refusal.Layer.TheVariants as layers

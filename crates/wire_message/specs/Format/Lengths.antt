@@ -4,9 +4,7 @@ use Rattle.wire_message.specs.Format.Fields.{max_filler}
 use Rattle.wire_message.specs.Format.Messages.{Header, fixed_header}
 use Rattle.wire_message.specs.Format.Canonical.{packed_info}
 use Rattle.wire_message.specs.States.Reading.{StandsAt}
-use Rattle.wire_message.specs.States.SoFar.{so_far}
-use Rattle.wire_message.specs.declared.place.Place.{Place}
-use Rattle.wire_message.specs.declared.place.Place.TheVariants.{Filler, InHeader, Info, Gap, Text, Trailer, AfterEnd}
+use Rattle.wire_message.specs.States.SoFar.{so_far, Place, Filler, InHeader, Info, Gap, Text, Trailer, AfterEnd}
 
 -- Some octets, `count` of them, lead to where the reader stands.
 abbrev pub LeadsIn : Option Place → ℕ → Type 0

@@ -5,9 +5,7 @@ use Rattle.wire_story.specs.Format.Texts.{AreLines}
 use Rattle.wire_story.specs.Format.Delivery.{StoryEvent, delivered}
 use Rattle.wire_message.specs.Format.Messages.{Header, IsMessage}
 use Rattle.wire_message.specs.Format.Layers.{MessageLivesWith, StoryLivesIn}
-use Rattle.wire_message.specs.States.SoFar.{LeadsTo}
-use Rattle.wire_message.specs.declared.place.Place.{Place}
-use Rattle.wire_message.specs.declared.place.Place.TheVariants.{Text, Trailer, AfterEnd}
+use Rattle.wire_message.specs.States.SoFar.{LeadsTo, Place, Text, Trailer, AfterEnd}
 use Rattle.wire_message.specs.declared.fault.MessageCause.{MessageCause}
 use Rattle.wire_message.specs.declared.fault.MessageCause.TheVariants.{Sink}
 use Rattle.wire_message.specs.declared.fault.MessageFault.{MessageFault}

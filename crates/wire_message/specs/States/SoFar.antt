@@ -9,8 +9,8 @@ use Rattle.wire_message.specs.Format.Messages.{IsHeader, IsTrailer, IsFiller, Is
 use Rattle.wire_message.specs.declared.part.HeaderPart.{HeaderPart}
 use Rattle.wire_message.specs.declared.part.HeaderPart.TheVariants.{Source, Number, Priority, Category, Words}
 use Rattle.wire_message.specs.declared.part.HeaderTexts.{HeaderTexts}
-use Rattle.wire_message.specs.declared.place.Place.{Place}
-use Rattle.wire_message.specs.declared.place.Place.TheVariants.{Filler, InHeader, Info, Gap, Text, Trailer, AfterEnd}
+pub use Rattle.wire_message.specs.declared.place.Place.{Place}
+pub use Rattle.wire_message.specs.declared.place.Place.TheVariants.{Filler, InHeader, Info, Gap, Text, Trailer, AfterEnd}
 
 -- ---- the parts of a header
 

@@ -1,6 +1,5 @@
 use Rattle.std.proofs.Common.{ℕ, ap, ◌∙◌}
-use Rattle.iim_c.specs.declared.answer.IimAnswer.{IimAnswer}
-use Rattle.iim_c.specs.Format.Answers.{status_answer}
+use Rattle.iim_c.specs.Format.Answers.{status_answer, IimAnswer}
 use Rattle.iim_c.specs.Format.Statuses as status
 use Rattle.iim_c.proofs.Fed.{ended_short, ended_whole}
 use Rattle.iim_c.proofs.Places.{begun}

@@ -1,7 +1,6 @@
 use Rattle.std.proofs.Common.{◌≡◌, ◌+◌, ◌++◌, ◌∷◌, [], length, None, ap, sym, subst, arith, rules}
 use Rattle.std.proofs.lemmas.List.{length_push, map_push}
-use Rattle.iim_audit.specs.Format.Rows.{row_with}
-use Rattle.iim_audit.specs.declared.row.AuditRow.{AuditRow}
+use Rattle.iim_audit.specs.Format.Rows.{row_with, AuditRow}
 use Rattle.iim_audit.specs.Lines.{HaveShortIds}
 use Rattle.iim_audit.specs.Repeats.{ids_of, place_of}
 use Rattle.iim_audit.proofs.Firsts.{places_push}
