@@ -1,26 +1,18 @@
 -- What a piece comes to that is audited from the place of a ticket on.
-use Rattle.std.proofs.Common.{◌≡◌, ◌≢◌, ℕ, ◌<◌, ◌≤◌, ℤ, List, ◌⊎◌, inl, inr, length, take, drop, refl, sym, ap, subst, ◌∙◌, arith}
-use Rattle.std.proofs.lemmas.List.{length-take-le}
-use Rattle.iim_fields.specs.declared.limits.Limits.{Limits}
+use Rattle.iim_c.proofs.Words.{◌≡◌, ◌≢◌, ℕ, ◌<◌, ◌≤◌, ℤ, List, ◌⊎◌, inl, inr, length, take, drop, refl, sym, ap, subst, ◌∙◌, arith, length-take-le, Limits}
+use Rattle.iim_c.proofs.Words.{IsOpen, IsTicketOf, Refusal, TicketFault, Unpacking, Stands, IsDone, IsDoneWith, limits_in, StandsOn, PieceAudit}
+use Rattle.iim_c.proofs.Words.{status_answer, refusal_answer, ticket_answer, IsNotBegun, saved_with, short_with, HasFound, PlaceLaws, InHand, StandFirst}
+use Rattle.iim_c.proofs.Words.{with_more, Found, IimAuditRow}
 use Rattle.wire_story.specs.Format.Words.{WordsSoFar}
-use Rattle.iim_places.specs.Format.Open.{IsOpen}
-use Rattle.iim_places.specs.Format.Tickets.{IsTicketOf}
-use Rattle.iim_places.specs.declared.refusal.Refusal.{Refusal}
-use Rattle.iim_places.specs.declared.ticket.fault.TicketFault.{TicketFault}
-use Rattle.iim_unpack.specs.States.Unpacking.{Unpacking, Stands, IsDone, IsDoneWith, limits_in}
-use Rattle.iim_audit.specs.Format.Pieces.{HaveWords, StandsOn}
-use Rattle.iim_audit.specs.declared.pieces.PieceAudit.{PieceAudit}
-use Rattle.iim_c.specs.Format.Answers.{status_answer, refusal_answer, ticket_answer, IimAnswer}
-use Rattle.iim_c.specs.Steps.{IsBegun, IsNotBegun, HasSaved, saved_with, short_with, HasFound, IsWithin, LivesOn, RoomBy, IsKept, kept_of, refused_for}
+use Rattle.iim_audit.specs.Format.Pieces.{HaveWords}
+use Rattle.iim_c.specs.Format.Answers.{IimAnswer}
+use Rattle.iim_c.specs.Steps.{IsBegun, HasSaved, IsWithin, LivesOn, RoomBy, IsKept, kept_of, refused_for}
 use Rattle.iim_c.specs.Format.Statuses as status
 use Rattle.iim_c.proofs.Places.{Begun, begun, is_done}
-use Rattle.iim_places.specs.Laws.{PlaceLaws}
-use Rattle.iim_c.specs.Format.Auditing.{InHand, IsAuditedAt, IsSaidOf, GoesOn, StandFirst, UsesAll, UsesSome, RefusesOne, IsTold, IsShort, More, Full, Refused, Ended, BadTicket, NoMemory, with_more}
+use Rattle.iim_c.specs.Format.Auditing.{IsAuditedAt, IsSaidOf, GoesOn, UsesAll, UsesSome, RefusesOne, IsTold, IsShort, More, Full, Refused, Ended, BadTicket, NoMemory}
 use Rattle.iim_c.specs.Format.SoFar.{words_so_far, begins_at}
 use Rattle.iim_c.specs.declared.finding.Ending.{Ending}
 use Rattle.iim_c.specs.declared.finding.Ending.TheVariants as ending
-use Rattle.iim_c.specs.declared.finding.Found.{Found}
-use Rattle.iim_c.specs.declared.row.IimAuditRow.{IimAuditRow}
 use Rattle.iim_c.specs.declared.so_far.IimSoFar.{IimSoFar}
 use Rattle.iim_c.proofs.Rows.{stand_first}
 

@@ -1,21 +1,17 @@
 -- What is begun at the place of a ticket.
-use Rattle.std.proofs.Common.{◌≡◌, ℕ, ◌-◌, ◌<◌, ◌==◌, Bool, true, false, if◌then◌else◌, List, [], ◌∷◌, ◌++◌, inl, inr, length, get_or, refl, sym, ap, subst, ◌∙◌, arith, append_assoc, length-append}
-use Rattle.std.specs.List.{flat_map}
-use Rattle.std.proofs.lemmas.Bool.{eqb-true}
-use Rattle.iim_dataset.specs.Format.Datasets.{Dataset, count_octets}
-use Rattle.iim_dataset.specs.Format.Splits.{Begun, InTag, InData, Reads}
-use Rattle.iim_dataset.specs.declared.head.Head.{Head}
+use Rattle.iim_c.proofs.Words.{◌≡◌, ℕ, ◌-◌, ◌<◌, ◌==◌, Bool, true, false, if◌then◌else◌, List, [], ◌∷◌, ◌++◌, inl, inr, length, get_or, refl, sym, ap, subst}
+use Rattle.iim_c.proofs.Words.{◌∙◌, arith, append_assoc, length-append, flat_map, eqb-true, Dataset, count_octets, InTag, InData, Reads, Head, Split}
+use Rattle.iim_c.proofs.Words.{SplitsTicket, Place, Phase, TagBegun, DataBegun, AllEnded, IsPlaceOf, wide, four, ticket_name, phase_octets, fields_octets}
+use Rattle.iim_c.proofs.Words.{number_octets, text_octets, IsTicketAt, TicketFault, StandAt, IimBegun, TellsOctets}
+use Rattle.iim_dataset.specs.Format.Splits.{Begun}
 use Rattle.iim_fields.specs.Format.Faults.{section_after}
-use Rattle.iim_places.specs.Format.TicketForm.{Split, SplitsTicket, HasOtherVersion, IsFaultOf, IsVersion}
-use Rattle.iim_places.specs.Format.Tickets.{Place, Phase, TagBegun, DataBegun, AllEnded, IsPlaceOf, place_of, wide, four, ticket_name, phase_octets, fields_octets, number_octets, text_octets}
+use Rattle.iim_places.specs.Format.TicketForm.{HasOtherVersion, IsFaultOf, IsVersion}
+use Rattle.iim_places.specs.Format.Tickets.{place_of}
 use Rattle.iim_places.specs.Laws.{TicketsHaveOneSplit, TicketsOfPlacesAreSplit, split_of}
-use Rattle.iim_places.specs.States.Restored.{IsTicketAt}
-use Rattle.iim_places.specs.declared.ticket.fault.TicketFault.{TicketFault}
 use Rattle.iim_places.specs.declared.ticket.fault.TicketFault.TheVariants.{Form, Version}
 use Rattle.wire_message.specs.declared.saved.MessagePlace.{MessagePlace}
-use Rattle.iim_c.specs.Format.TicketAnswers.{StandAt, IimSpan}
-use Rattle.iim_c.specs.declared.begun.IimBegun.{IimBegun}
-use Rattle.iim_c.specs.Format.Begun.{IsBegunOf, TellsOctets, begun_by, begun_of, kept_of}
+use Rattle.iim_c.specs.Format.TicketAnswers.{IimSpan}
+use Rattle.iim_c.specs.Format.Begun.{IsBegunOf, begun_by, begun_of, kept_of}
 use Rattle.iim_c.specs.Steps.{span_of, taken_offset}
 use Rattle.iim_c.proofs.TicketFields.{stands_after, length-wide}
 

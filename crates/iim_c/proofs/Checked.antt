@@ -1,18 +1,11 @@
 -- What octets in memory are answered.
-use Rattle.std.proofs.Common.{◌≡◌, ◌≢◌, ℕ, ◌<◌, ◌^◌, List, [], inl, inr, length, refl, sym, ap, subst, ◌∙◌, arith, Some}
-use Rattle.iim_fields.specs.declared.limits.Limits.{Limits}
-use Rattle.wire_story.specs.Format.Delivery.{StoryEvent}
-use Rattle.iim_places.specs.Format.Open.{IsTruncatedAt}
+use Rattle.iim_c.proofs.Words.{◌≡◌, ◌≢◌, ℕ, ◌<◌, ◌^◌, List, [], inl, inr, length, refl, sym, ap, subst, ◌∙◌, arith, Some, Limits, StoryEvent, IsTruncatedAt}
+use Rattle.iim_c.proofs.Words.{Unpacking, Stands, Goes, IsRefusedIn, limits_in, raised, Refusal, Message, Sink, status_answer, refusal_answer}
 use Rattle.iim_places.specs.Format.Refusals.{refusal_at}
 use Rattle.iim_places.specs.Format.Streams.{Answer, Answers, Finished, Refused, Truncated}
 use Rattle.iim_places.specs.Laws.{StreamsHaveOneAnswer}
-use Rattle.iim_unpack.specs.States.Unpacking.{Unpacking, Stands, Goes, IsRefusedIn, limits_in}
-use Rattle.iim_places.specs.States.Counts.{raised}
 use Rattle.iim_unpack.specs.declared.unpacker.Progress.TheVariants.{More, Done}
-use Rattle.iim_places.specs.declared.refusal.Refusal.{Refusal}
-use Rattle.iim_places.specs.declared.refusal.Cause.TheVariants.{Message}
-use Rattle.wire_message.specs.declared.fault.MessageCause.TheVariants.{Sink}
-use Rattle.iim_c.specs.Format.Answers.{status_answer, refusal_answer, IimAnswer}
+use Rattle.iim_c.specs.Format.Answers.{IimAnswer}
 use Rattle.iim_c.specs.Format.Checking.{IsChecked, IsOnly, answer_for, finished}
 use Rattle.iim_c.specs.Format.Statuses as status
 

@@ -1,25 +1,16 @@
 -- What a piece comes to that is fed from the place of a ticket.
-use Rattle.std.proofs.Common.{◌≡◌, ℕ, ◌<◌, ◌≤◌, ◌^◌, List, [], ◌∷◌, ◌⊎◌, inl, inr, length, take, Bool, true, false, nat_lt, Some, None, refl, sym, ap, subst, ◌∙◌, arith}
-use Rattle.std.proofs.lemmas.Bool.{ltb-true, ltb-false}
-use Rattle.iim_fields.specs.declared.limits.Limits.{Limits}
-use Rattle.wire_story.specs.Format.Delivery.{StoryEvent}
-use Rattle.wire_message.specs.Format.Layers.{text_so_far}
-use Rattle.iim_places.specs.Format.Open.{IsTextOf, IsTruncatedAt, object_so_far}
-use Rattle.iim_places.specs.Format.Tickets.{IsTicketOf}
-use Rattle.iim_unpack.specs.States.Unpacking.{Unpacking, Stands, Goes, IsDone, IsDoneWith, IsRefusedIn, limits_in}
-use Rattle.iim_unpack.specs.declared.unpacker.Progress.{Progress}
+use Rattle.iim_c.proofs.Words.{◌≡◌, ℕ, ◌<◌, ◌≤◌, ◌^◌, List, [], ◌∷◌, ◌⊎◌, inl, inr, length, take, Bool, true, false, nat_lt, Some, None, refl, sym, ap, subst}
+use Rattle.iim_c.proofs.Words.{◌∙◌, arith, ltb-true, ltb-false, Limits, StoryEvent, text_so_far, IsTextOf, IsTruncatedAt, object_so_far, IsTicketOf}
+use Rattle.iim_c.proofs.Words.{Unpacking, Stands, Goes, IsDone, IsDoneWith, IsRefusedIn, limits_in, Progress, Refusal, TicketFault, IsNotBegun, saved_with}
+use Rattle.iim_c.proofs.Words.{short_with, HasFedText, HasRefusedText, status_answer, refusal_answer, ticket_answer, HasTaken, DatasetLaws, length-take}
 use Rattle.iim_unpack.specs.declared.unpacker.Progress.TheVariants as progress
-use Rattle.iim_places.specs.declared.refusal.Refusal.{Refusal}
-use Rattle.iim_places.specs.declared.ticket.fault.TicketFault.{TicketFault}
-use Rattle.iim_c.specs.Steps.{IsNotBegun, IsSaved, saved_with, short_with, HasFedText, HasRefusedText, refused_with, used_in}
-use Rattle.iim_c.specs.Format.Answers.{status_answer, refusal_answer, ticket_answer, IimAnswer}
+use Rattle.iim_c.specs.Steps.{IsSaved, refused_with, used_in}
+use Rattle.iim_c.specs.Format.Answers.{IimAnswer}
 use Rattle.iim_c.specs.Format.Statuses as status
 use Rattle.iim_c.specs.Format.Feeding.{Outcome, More, Done, Refused, BadTicket, NoMemory, IsOutcome, IsAnswered, IsFed, IsEnd, text_for, text_of, next_of, answer_of}
-use Rattle.iim_c.specs.Format.Writing.{HasTaken, StandIn, counted}
+use Rattle.iim_c.specs.Format.Writing.{StandIn, counted}
 use Rattle.iim_c.proofs.TextLengths.{delivers_few, events_few}
 use Rattle.iim_c.proofs.Places.{Begun, is_done}
-use Rattle.iim_dataset.specs.Laws.{DatasetLaws}
-use Rattle.std.proofs.lemmas.List.{length-take}
 
 -- ---- what it comes to
 

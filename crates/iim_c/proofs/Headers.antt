@@ -1,8 +1,6 @@
 -- The texts of a ticket's parts.
-use Rattle.std.proofs.Common.{◌≡◌, ◌∙◌, ℕ, List, [], ◌∷◌, map, get_or, Bor, sym, subst}
-use Rattle.std.proofs.lemmas.List.{length-map}
-use Rattle.iim_places.specs.Format.TicketForm.{SplitsTicket}
-use Rattle.iim_places.specs.States.TicketsTold.{split_told}
+use Rattle.iim_c.proofs.Words.{◌≡◌, ◌∙◌, ℕ, List, [], ◌∷◌, map, get_or, sym, subst, length-map, SplitsTicket, split_told}
+use Rattle.std.proofs.Common.{Bor}
 use Rattle.iim_places.specs.declared.ticket.split.TicketParts.{TicketParts}
 use Rattle.iim_c.specs.declared.header.IimMessage.{IimMessage}
 use Rattle.iim_c.specs.Format.TicketAnswers.{TextsStand}

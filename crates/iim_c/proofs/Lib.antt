@@ -1,3 +1,4 @@
+pub mod Words
 pub mod Audited
 pub mod BegunThere
 pub mod Bits

@@ -1,14 +1,10 @@
 -- The place of a ticket, and the unpacker that stands there.
-use Rattle.std.proofs.Common.{◌≡◌, ◌==◌, ℕ, true, length, arith, List, [], ◌∷◌, inl, inr, refl, sym, ap, subst, ◌∙◌, get_or, None}
-use Rattle.std.proofs.lemmas.Bool.{eqb-true}
-use Rattle.iim_fields.specs.declared.limits.Limits.{Limits}
+use Rattle.iim_c.proofs.Words.{◌≡◌, ◌==◌, ℕ, true, length, arith, List, [], ◌∷◌, inl, inr, refl, sym, ap, subst, ◌∙◌, get_or, None, eqb-true, Limits}
+use Rattle.iim_c.proofs.Words.{PlaceLaws, IsOpen, IsTicketAt, Place, IsPlaceOf, Unpacking, Stands, IsDone, IsDoneWith, limits_in}
 use Rattle.iim_places.specs.Format.Framed.{Framed}
-use Rattle.iim_places.specs.Laws.{PlaceLaws, TicketsTellOnePlace}
-use Rattle.iim_places.specs.Format.Open.{IsOpen}
-use Rattle.iim_places.specs.States.Restored.{IsTicketAt}
+use Rattle.iim_places.specs.Laws.{TicketsTellOnePlace}
 use Rattle.iim_places.specs.States.Scales.{IsPossibleIn}
-use Rattle.iim_places.specs.Format.Tickets.{Place, IsPlaceOf, ticket_in}
-use Rattle.iim_unpack.specs.States.Unpacking.{Unpacking, Stands, IsDone, IsDoneWith, limits_in}
+use Rattle.iim_places.specs.Format.Tickets.{ticket_in}
 use Rattle.iim_c.specs.Steps.{IsBegun}
 use Rattle.iim_c.specs.Format.Feeding.{LedTo, StandsAt, EndsAt, IsPlace}
 

@@ -1,25 +1,21 @@
 -- The octets of the token that the next octet completes.
-use Rattle.std.proofs.Common.{◌≡◌, ◌≢◌, ℕ, ◌-◌, Bool, if◌then◌else◌, List, [], ◌∷◌, ◌++◌, ◌⊎◌, inl, inr, length, drop, refl, sym, ap, subst, ◌∙◌, arith, append_assoc, length-append}
-use Rattle.std.proofs.lemmas.List.{drop_at}
+use Rattle.iim_c.proofs.Words.{◌≡◌, ◌≢◌, ℕ, ◌-◌, Bool, if◌then◌else◌, List, [], ◌∷◌, ◌++◌, ◌⊎◌, inl, inr, length, drop, refl, sym, ap, subst, ◌∙◌, arith}
+use Rattle.iim_c.proofs.Words.{append_assoc, length-append, drop_at, Dataset, SpellsTag, count_octets, head_of, InTag, InData, Reads, Head, Limits, Cause}
+use Rattle.iim_c.proofs.Words.{Message, IimBegun, TellsOctets}
 use Rattle.std.proofs.lemmas.Bool.{eq-eqb, ne_eqb}
-use Rattle.iim_dataset.specs.Format.Datasets.{Dataset, SpellsTag, count_octets, head_of}
-use Rattle.iim_dataset.specs.Format.Splits.{Begun, InTag, InData, Reads}
+use Rattle.iim_dataset.specs.Format.Splits.{Begun}
 use Rattle.iim_dataset.specs.Laws.{OctetsAreHandedOnOneWay, EventsTellTheDatasets}
 use Rattle.iim_dataset.specs.States.Events.{handed_on}
-use Rattle.iim_dataset.specs.declared.head.Head.{Head}
 use Rattle.iim_fields.specs.Format.Records.{AreSections}
 use Rattle.iim_fields.specs.Laws.{EnvelopesEndWithTheLastRecord}
-use Rattle.iim_fields.specs.declared.limits.Limits.{Limits}
 use Rattle.iim_places.specs.Format.Conditions.{Token, AtOctet, AtHead, AtValue, rule_of}
 use Rattle.iim_places.specs.Format.Open.{AllCanContinue, Completes}
-use Rattle.iim_places.specs.declared.refusal.Cause.{Cause}
-use Rattle.iim_places.specs.declared.refusal.Cause.TheVariants.{Field, Size, Message}
+use Rattle.iim_places.specs.declared.refusal.Cause.TheVariants.{Field, Size}
 use Rattle.iim_fields.specs.declared.fault.FieldCause.TheVariants as fields
 use Rattle.iim_object.specs.declared.reading.fault.SizeCause.TheVariants as sizes
 use Rattle.wire_message.specs.declared.fault.MessageCause.TheVariants as messages
 use Rattle.iim_places.proofs.Lasts.{last_sections}
-use Rattle.iim_c.specs.declared.begun.IimBegun.{IimBegun}
-use Rattle.iim_c.specs.Format.Begun.{AreOctetsOf, HaveEnded, TellsBegun, TellsOctets, TellsToken, token_of}
+use Rattle.iim_c.specs.Format.Begun.{AreOctetsOf, HaveEnded, TellsBegun, TellsToken, token_of}
 
 -- the last octets of some, and the next
 from_there : (p front xs : List ℕ) (next n : ℕ) → p ≡ front ++ xs → n ≡ length p - length xs → drop n (p ++ next ∷ []) ≡ xs ++ next ∷ []

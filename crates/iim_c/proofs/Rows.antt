@@ -1,17 +1,14 @@
 -- Rows, one after the other.
-use Rattle.std.proofs.Common.{◌≡◌, ℕ, ◌+◌, ◌<◌, ◌≤◌, ℤ, List, [], ◌∷◌, ◌++◌, length, take, drop, set, Option, Some, None, IfSome, refl, sym, ap, subst, ◌∙◌, arith, append-nil, append_assoc, take-add}
-use Rattle.std.proofs.lemmas.List.{length-take-le, take_more_set, drop-set-lt, drop-drop, take-append-drop}
-use Rattle.iim_fields.specs.declared.limits.Limits.{Limits}
-use Rattle.iim_places.specs.States.Counts.{raised}
-use Rattle.iim_places.specs.declared.refusal.Refusal.{Refusal}
-use Rattle.iim_audit.specs.Format.Pieces.{Finds, IsRowOf, Refuses, StandsOn}
-use Rattle.iim_audit.specs.declared.pieces.PieceAudit.{PieceAudit}
+use Rattle.iim_c.proofs.Words.{◌≡◌, ℕ, ◌+◌, ◌<◌, ◌≤◌, ℤ, List, [], ◌∷◌, ◌++◌, length, take, drop, set, Option, Some, None, refl, sym, ap, subst, ◌∙◌, arith}
+use Rattle.iim_c.proofs.Words.{append-nil, append_assoc, length-take-le, drop-drop, Limits, raised, Refusal, StandsOn, PieceAudit, InHand, StandFirst}
+use Rattle.iim_c.proofs.Words.{with_more, HasFound, Found, IimAuditRow}
+use Rattle.std.proofs.Common.{IfSome, take-add}
+use Rattle.std.proofs.lemmas.List.{take_more_set, drop-set-lt, take-append-drop}
+use Rattle.iim_audit.specs.Format.Pieces.{Finds, IsRowOf, Refuses}
 use Rattle.iim_audit.specs.declared.pieces.PieceRow.{PieceRow}
-use Rattle.iim_c.specs.Format.Auditing.{AreRows, InHand, IsRow, StandFirst, after, with_more}
-use Rattle.iim_c.specs.Steps.{HasFound, TellsFound}
+use Rattle.iim_c.specs.Format.Auditing.{AreRows, IsRow, after}
+use Rattle.iim_c.specs.Steps.{TellsFound}
 use Rattle.iim_c.specs.declared.finding.Ending.TheVariants.{Used, Full, Refused}
-use Rattle.iim_c.specs.declared.finding.Found.{Found}
-use Rattle.iim_c.specs.declared.row.IimAuditRow.{IimAuditRow}
 
 -- one row more
 more_rows : (limits : Limits) (now : ℤ) (hand : InHand) (octets : List ℕ) (rows : List IimAuditRow) (last : InHand) → AreRows limits now hand octets rows last → (ended : List ℕ) (row : IimAuditRow)

@@ -1,17 +1,10 @@
 -- A buffer for text.
-use Rattle.std.proofs.Common.{◌≡◌, ◌≢◌, ℕ, List, [], inl, inr, refl, subst, arith, Result, Ok, Err, IfOk, IfErr}
+use Rattle.iim_c.proofs.Words.{◌≡◌, ◌≢◌, ℕ, List, [], inl, inr, refl, subst, arith, StoryEvent, CountsFor, Unpacking, Stands, Goes, IsRefusedIn, limits_in}
+use Rattle.iim_c.proofs.Words.{Progress, Refusal, Cause, Message, Sink, HasTaken, HasFedText, HasRefusedText}
+use Rattle.std.proofs.Common.{Result, Ok, Err, IfOk, IfErr}
 use Rattle.iim_dataset.specs.Format.Counts.{Rose}
-use Rattle.wire_story.specs.Format.Delivery.{StoryEvent}
-use Rattle.iim_unpack.specs.States.Parts.{CountsFor}
-use Rattle.iim_unpack.specs.States.Unpacking.{Unpacking, Stands, Goes, IsRefusedIn, limits_in}
-use Rattle.iim_unpack.specs.declared.unpacker.Progress.{Progress}
-use Rattle.iim_places.specs.declared.refusal.Refusal.{Refusal}
-use Rattle.iim_places.specs.declared.refusal.Cause.{Cause}
-use Rattle.iim_places.specs.declared.refusal.Cause.TheVariants.{Message}
-use Rattle.wire_message.specs.declared.fault.MessageCause.TheVariants.{Sink}
 use Rattle.iim_c.specs.declared.text_out.TextOut.{TextOut}
-use Rattle.iim_c.specs.Format.Writing.{HasTaken, WritesLines}
-use Rattle.iim_c.specs.Steps.{HasFedText, HasRefusedText}
+use Rattle.iim_c.specs.Format.Writing.{WritesLines}
 
 -- ---- causes
 

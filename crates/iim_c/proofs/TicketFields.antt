@@ -1,12 +1,11 @@
 -- Where the datasets of a ticket stand.
-use Rattle.std.proofs.Common.{◌≡◌, ℕ, ◌+◌, ◌≤◌, ◌==◌, Bool, true, false, if◌then◌else◌, List, [], ◌∷◌, ◌++◌, length, take, drop, refl, sym, ap, ◌∙◌, arith, append_assoc, length-append, length-drop}
+use Rattle.iim_c.proofs.Words.{◌≡◌, ℕ, ◌+◌, ◌≤◌, ◌==◌, Bool, true, false, if◌then◌else◌, List, [], ◌∷◌, ◌++◌, length, take, drop, refl, sym, ap, ◌∙◌, arith}
+use Rattle.iim_c.proofs.Words.{append_assoc, length-append, length-drop, flat_map, drop_at, drop-drop, Dataset, Split, SplitsTicket, Phase, TagBegun}
+use Rattle.iim_c.proofs.Words.{DataBegun, AllEnded, wide, four, ticket_name, phase_octets, number_octets, text_octets, StandAt}
 use Rattle.std.specs.Int.{w64, to_be_bytes}
-use Rattle.std.specs.List.{flat_map}
-use Rattle.std.proofs.lemmas.List.{drop_at, take_at, drop-drop}
-use Rattle.iim_dataset.specs.Format.Datasets.{Dataset}
-use Rattle.iim_places.specs.Format.TicketForm.{Split, SplitsTicket, split_octets}
-use Rattle.iim_places.specs.Format.Tickets.{Phase, TagBegun, DataBegun, AllEnded, width, wide, four, ticket_name, phase_octets, field_octets, number_octets, text_octets}
-use Rattle.iim_c.specs.Format.TicketAnswers.{StandAt}
+use Rattle.std.proofs.lemmas.List.{take_at}
+use Rattle.iim_places.specs.Format.TicketForm.{split_octets}
+use Rattle.iim_places.specs.Format.Tickets.{width, field_octets}
 use Rattle.iim_c.specs.Steps.{begun_octets, fields_start}
 
 -- ---- what stands before and after them

@@ -1,9 +1,7 @@
 -- Where the texts of a ticket stand.
-use Rattle.std.proofs.Common.{◌≡◌, ℕ, ◌+◌, List, [], ◌∷◌, ◌++◌, length, refl, ap, sym, subst, ◌∙◌, arith, append_assoc, length-append}
-use Rattle.std.specs.List.{flat_map}
-use Rattle.iim_places.specs.Format.TicketForm.{Split, SplitsTicket}
-use Rattle.iim_places.specs.Format.Tickets.{four, wide, ticket_name, phase_octets, fields_octets, number_octets, text_octets}
-use Rattle.iim_c.specs.Format.TicketAnswers.{StandAt, IimSpan}
+use Rattle.iim_c.proofs.Words.{◌≡◌, ℕ, ◌+◌, List, [], ◌∷◌, ◌++◌, length, refl, ap, sym, subst, ◌∙◌, arith, append_assoc, length-append, flat_map, Split}
+use Rattle.iim_c.proofs.Words.{SplitsTicket, four, wide, ticket_name, phase_octets, fields_octets, number_octets, text_octets, StandAt}
+use Rattle.iim_c.specs.Format.TicketAnswers.{IimSpan}
 use Rattle.iim_c.specs.Steps.{span_before}
 use Rattle.iim_c.proofs.TicketFields.{stands_after}
 

@@ -1,26 +1,17 @@
 -- Which octets can come next at the place of a ticket.
-use Rattle.std.proofs.Common.{◌≡◌, ◌≢◌, ℕ, ◌+◌, ◌≤◌, List, [], ◌∷◌, ◌++◌, inl, inr, take, refl, sym, ap, subst, ◌∙◌, arith, append-nil, Bool, true, false}
-use Rattle.std.proofs.lemmas.Bool.{cases_eq}
-use Rattle.iim_fields.specs.declared.limits.Limits.{Limits}
-use Rattle.wire_story.specs.Format.Delivery.{StoryEvent}
-use Rattle.iim_places.specs.Format.Open.{IsOpen, RefusesNext}
+use Rattle.iim_c.proofs.Words.{◌≡◌, ◌≢◌, ℕ, ◌+◌, ◌≤◌, List, [], ◌∷◌, ◌++◌, inl, inr, take, refl, sym, ap, subst, ◌∙◌, arith, append-nil, Bool, true, false}
+use Rattle.iim_c.proofs.Words.{cases_eq, Limits, StoryEvent, IsOpen, PlaceLaws, raised, Refusal, Message, Sink, TicketFault, CountsFor, Unpacking, Stands}
+use Rattle.iim_c.proofs.Words.{Goes, IsDone, IsDoneWith, IsRefusedIn, limits_in, Progress, IsNotBegun, TellsFirst, IsSet, ticket_answer, bit_of, no_octets}
+use Rattle.iim_places.specs.Format.Open.{RefusesNext}
 use Rattle.iim_places.specs.Format.Streams.{IsEnvelopeWithin}
-use Rattle.iim_places.specs.Laws.{NothingContinuesFromRefusedOctets, OpenOctetsBeginWithNoEnvelope, PlaceLaws}
-use Rattle.iim_places.specs.States.Counts.{raised}
-use Rattle.iim_places.specs.declared.refusal.Refusal.{Refusal}
-use Rattle.iim_places.specs.declared.refusal.Cause.TheVariants.{Message}
-use Rattle.wire_message.specs.declared.fault.MessageCause.TheVariants.{Sink}
-use Rattle.iim_places.specs.declared.ticket.fault.TicketFault.{TicketFault}
-use Rattle.iim_unpack.specs.States.Parts.{CountsFor}
-use Rattle.iim_unpack.specs.States.Unpacking.{Unpacking, Stands, Goes, IsDone, IsDoneWith, IsRefusedIn, limits_in}
-use Rattle.iim_unpack.specs.declared.unpacker.Progress.{Progress}
+use Rattle.iim_places.specs.Laws.{NothingContinuesFromRefusedOctets, OpenOctetsBeginWithNoEnvelope}
 use Rattle.iim_unpack.specs.declared.unpacker.Progress.TheVariants.{More, Done}
-use Rattle.iim_c.specs.Steps.{IsNotBegun, SaidOf, TellsFirst, IsSet, bit_for}
-use Rattle.iim_c.specs.Format.Answers.{ticket_answer, IimAnswer}
+use Rattle.iim_c.specs.Steps.{SaidOf, bit_for}
+use Rattle.iim_c.specs.Format.Answers.{IimAnswer}
 use Rattle.iim_c.proofs.Places.{Begun, is_done}
 use Rattle.iim_c.proofs.TextOuts.{not_sink}
 use Rattle.iim_c.proofs.Bits.{no_bit}
-use Rattle.iim_c.specs.Format.Next.{IsTaken, IsRefusedNext, IsNext, TellsNext, HasEndedThere, GoesOnBy, bit_of, no_octets}
+use Rattle.iim_c.specs.Format.Next.{IsTaken, IsRefusedNext, IsNext, TellsNext, HasEndedThere, GoesOnBy}
 
 -- ---- one octet
 

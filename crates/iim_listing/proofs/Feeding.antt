@@ -1,16 +1,11 @@
 -- How an unpacker is fed up to the end of an envelope.
-use Rattle.std.proofs.Common.{◌≡◌, ℕ, ◌-◌, ◌^◌, ◌<◌, List, [], ◌∷◌, length, length-append, refl, sym, ap, subst, ◌∙◌, append-nil, arith}
-use Rattle.std.specs.Io.KnownBytes.{IsAtEnd}
-use Rattle.iim_dataset.specs.States.Devices.{Device, HasGiven}
-use Rattle.iim_dataset.specs.Laws.{GiftsJoin}
-use Rattle.wire_story.specs.Format.Delivery.{StoryEvent}
-use Rattle.wire_story.specs.Laws.{DeliveryMayBeCut}
+use Rattle.iim_listing.proofs.Words.{◌≡◌, ℕ, ◌-◌, ◌^◌, ◌<◌, List, [], ◌∷◌, length, length-append, refl, sym, ap, subst, ◌∙◌, arith, IsAtEnd, Device, HasGiven}
+use Rattle.iim_listing.proofs.Words.{GiftsJoin, StoryEvent, DeliveryMayBeCut, Unpacking, limits_in, raised, Joined, limits}
+use Rattle.std.proofs.Common.{append-nil}
 use Rattle.iim_unpack.specs.States.Intakes.{HasFed, IsReady, WasEnded}
 use Rattle.iim_places.specs.Laws.{OpenOctetsAreBounded}
-use Rattle.iim_unpack.specs.States.Unpacking.{Stands, Unpacking, limits_in}
-use Rattle.iim_places.specs.States.Counts.{raised}
-use Rattle.iim_unpack.proofs.Intakes.{Joined, fed_few, fed_none, fed_nothing, fed_on, fed_then, raised_on, some_came}
-use Rattle.iim_output.specs.Format.Limits.{limits}
+use Rattle.iim_unpack.specs.States.Unpacking.{Stands}
+use Rattle.iim_unpack.proofs.Intakes.{fed_few, fed_none, fed_nothing, fed_on, fed_then, raised_on, some_came}
 
 empty_too : (used : ℕ) (xs ys : List ℕ) → used ≡ raised 0 (length xs) → used ≡ raised 0 (length ys) → xs ≡ [] → ys ≡ []
 empty_too used xs [] one two none = refl

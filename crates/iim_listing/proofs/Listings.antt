@@ -1,32 +1,23 @@
 -- Listings of inputs.
-use Rattle.std.proofs.Common.{◌≡◌, ℕ, ◌+◌, inl, inr, refl, sym, ap, subst, ◌∙◌, arith, List, [], ◌∷◌, ◌++◌, length, take, slice_index, length-append, append_assoc, Option, None, Some, Result, Ok, Err, IfErr}
+use Rattle.iim_listing.proofs.Words.{◌≡◌, ℕ, ◌+◌, inl, inr, refl, sym, ap, subst, ◌∙◌, arith, List, [], ◌∷◌, ◌++◌, length, take, length-append, append_assoc}
+use Rattle.iim_listing.proofs.Words.{Option, None, Some, Result, Ok, Err, IfErr, take-append-le, IsAtEnd, Device, Wrote, HasGiven, Rose, GiftsJoin, TextsJoin}
+use Rattle.iim_listing.proofs.Words.{missed_later, StoryEvent, Unpacking, Refusal, IsNext, IsRefusal, HoldsNothing, PassesOver, refuses_never, put_nothing}
+use Rattle.iim_listing.proofs.Words.{AreListed, AreTaken, BlockWriter, HasOctets, ending_line, status_of, texts_from, limits, joined, max_envelopes, Divides}
+use Rattle.iim_listing.proofs.Words.{InputEnding, EndsBy, Listed, IsListed, IsRefusedAfter, FailsListing, CommandFault, CannotRead, CannotWrite, OutOfMemory}
+use Rattle.std.proofs.Common.{slice_index}
 use Rattle.std.proofs.Math.ListN.{get_or-append}
-use Rattle.std.proofs.lemmas.List.{append-nil, take-append-le}
-use Rattle.std.specs.Io.KnownBytes.{Consumes, IsAtEnd}
-use Rattle.iim_dataset.specs.States.Devices.{Device, Wrote, HasGiven}
-use Rattle.iim_dataset.specs.Format.Counts.{Rose}
-use Rattle.iim_dataset.specs.Laws.{GiftsJoin, TextsJoin}
-use Rattle.iim_dataset.proofs.DeviceLaws.{missed_later}
-use Rattle.wire_story.specs.Format.Delivery.{StoryEvent}
+use Rattle.std.proofs.lemmas.List.{append-nil}
+use Rattle.std.specs.Io.KnownBytes.{Consumes}
 use Rattle.iim_places.specs.Format.Streams.{Kills}
 use Rattle.iim_places.proofs.Listings.{admitted_more, joined_more}
-use Rattle.iim_unpack.specs.States.Unpacking.{Unpacking}
-use Rattle.iim_places.specs.declared.refusal.Refusal.{Refusal}
-use Rattle.iim_listing.specs.States.{IsNext, IsRefusal}
-use Rattle.iim_output.specs.States.Holding.{HasPut, HoldsNothing, device_of, IsUnadded}
-use Rattle.iim_output.specs.States.Silence.{IsSettled, IsStuck, PassesOver, refuses_never}
-use Rattle.iim_output.specs.HoldingLaws.{put_nothing, put_on}
-use Rattle.iim_listing.specs.Turns.{IsUnlisted, Settles, AreListed, AreTaken}
-use Rattle.iim_output.specs.declared.block_writer.BlockWriter.{BlockWriter}
+use Rattle.iim_output.specs.States.Holding.{HasPut, device_of, IsUnadded}
+use Rattle.iim_output.specs.States.Silence.{IsSettled, IsStuck}
+use Rattle.iim_output.specs.HoldingLaws.{put_on}
+use Rattle.iim_listing.specs.Turns.{IsUnlisted, Settles}
 use Rattle.iim_output.specs.declared.silent.Silent.{Silent}
 use Rattle.iim_output.proofs.Holding.{all_out, cut_by_stuck, cut_on, stopped_in}
-use Rattle.iim_output.specs.States.Devices.{HasOctets}
-use Rattle.iim_listing.specs.Format.Listings.{ending_line, status_of, texts_from}
-use Rattle.iim_output.specs.Format.Limits.{limits}
-use Rattle.iim_places.specs.Format.Listing.{joined, max_envelopes, Divides, InputEnding, EndsBy, Listed, IsDeadAfter, IsListed, IsRefusedAfter}
-use Rattle.iim_listing.specs.Format.WrittenListings.{FailsListing, WritesListing}
-use Rattle.iim_output.specs.declared.fault.CommandFault.{CommandFault}
-use Rattle.iim_output.specs.declared.fault.CommandFault.TheVariants.{CannotRead, CannotWrite, OutOfMemory}
+use Rattle.iim_places.specs.Format.Listing.{IsDeadAfter}
+use Rattle.iim_listing.specs.Format.WrittenListings.{WritesListing}
 
 -- ---- texts of envelopes
 

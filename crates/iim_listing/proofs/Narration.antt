@@ -1,13 +1,16 @@
 -- What `story` writes.
-use Rattle.std.proofs.Common.{◌≡◌, ℕ, ◌+◌, ◌<◌, ◌≤◌, ◌⊎◌, inl, inr, refl, sym, ap, subst, ◌∙◌, arith, List, [], ◌∷◌, ◌++◌, length, map, take, append-nil, append_assoc, length-append, Err}
+use Rattle.iim_listing.proofs.Words.{◌≡◌, ℕ, ◌+◌, ◌<◌, ◌⊎◌, inl, inr, refl, sym, ap, subst, ◌∙◌, arith, List, [], ◌∷◌, ◌++◌, length, map, take, append_assoc}
+use Rattle.iim_listing.proofs.Words.{length-append, Err, MutBor, take-length, take-append-le, Appends, Device, Wrote, HasGiven, Rose, GiftsJoin, TextsJoin}
+use Rattle.iim_listing.proofs.Words.{missed_later, StoryEvent, octet_for, HoldsNothing, KeepsWriter, puts_nothing, BlockWriter, Refusal, Unpacking, no_text}
+use Rattle.iim_listing.proofs.Words.{EnvelopeHasCome, IsCalm, IsNext, IsRefusal, HasOctets, ending_line, status_of, texts_from, IsDelivered, limits, joined}
+use Rattle.iim_listing.proofs.Words.{max_envelopes, Divides, InputEnding, EndsBy, Listed, IsListed, IsRefusedAfter, RefusedBy, IsUnnarrated, text_of}
+use Rattle.iim_listing.proofs.Words.{EndsStory, IsLost, IsUntold, KeepsTargets, LetsOut, TellsOn, errors_of, output_of, stops_of, Narrator, CommandFault}
+use Rattle.iim_listing.proofs.Words.{CannotRead, CannotWrite, OutOfMemory, AreTaken}
+use Rattle.std.proofs.Common.{◌≤◌, append-nil}
 use Rattle.std.specs.List.{AllByRecursion}
-use Rattle.std.specs.Borrow.{MutBor}
-use Rattle.std.proofs.Math.Seq.{take-length, take-append_seam}
-use Rattle.std.proofs.lemmas.List.{map-append, take-append-le}
-use Rattle.std.specs.Io.KnownBytes.{Appends}
-use Rattle.iim_dataset.specs.States.Devices.{Device, Wrote, HasGiven}
-use Rattle.iim_dataset.specs.Format.Counts.{Rose}
-use Rattle.iim_dataset.specs.Laws.{GiftsJoin, TextsJoin, OctetsAreHandedOnOneWay, EventsTellTheDatasets}
+use Rattle.std.proofs.Math.Seq.{take-append_seam}
+use Rattle.std.proofs.lemmas.List.{map-append}
+use Rattle.iim_dataset.specs.Laws.{OctetsAreHandedOnOneWay, EventsTellTheDatasets}
 use Rattle.iim_dataset.specs.States.Events.{handed_on}
 use Rattle.iim_dataset.specs.Format.Datasets.{Dataset, count_octets}
 use Rattle.iim_dataset.specs.States.Places.{HandsOn}
@@ -15,34 +18,23 @@ use Rattle.iim_dataset.specs.Format.Splits.{InTag}
 use Rattle.iim_dataset.specs.HandedIn.{appends_joined}
 use Rattle.iim_dataset.proofs.Each.{all_append, all_back, all_front}
 use Rattle.iim_dataset.proofs.Lists.{some_none}
-use Rattle.iim_dataset.proofs.DeviceLaws.{missed_later}
 use Rattle.wire_message.specs.Laws.{TextsStandBetweenStxAndEtx}
 use Rattle.wire_message.specs.Format.Layers.{text_so_far}
 use Rattle.wire_message.specs.declared.place.Place.TheVariants.{AfterEnd}
-use Rattle.wire_story.specs.Format.Delivery.{StoryEvent, delivered, octet_for}
+use Rattle.wire_story.specs.Format.Delivery.{delivered}
 use Rattle.wire_story.specs.Laws.{LinesAreJoinedByLineFeeds, TextsAreDeliveredAsLines}
-use Rattle.iim_output.specs.States.Holding.{HoldsNothing, KeepsWriter, PutsOn, device_of, held_of}
+use Rattle.iim_output.specs.States.Holding.{PutsOn, device_of, held_of}
 use Rattle.iim_output.specs.States.Holding as blocks
-use Rattle.iim_output.specs.HoldingLaws.{puts_nothing, puts_on}
+use Rattle.iim_output.specs.HoldingLaws.{puts_on}
 use Rattle.iim_output.proofs.Holding.{puts_of_stuck}
-use Rattle.iim_output.specs.declared.block_writer.BlockWriter.{BlockWriter}
 use Rattle.iim_places.specs.Format.Admitted.{object_of}
 use Rattle.iim_places.specs.Format.Open.{object_so_far}
-use Rattle.iim_places.specs.declared.refusal.Refusal.{Refusal}
-use Rattle.iim_unpack.specs.States.Unpacking.{Unpacking}
-use Rattle.iim_places.proofs.Answering.{leads_to, reads_envelope, no_text}
-use Rattle.iim_listing.specs.States.{EnvelopeHasCome, IsCalm, IsNext, IsRefusal}
-use Rattle.iim_output.specs.States.Devices.{HasOctets}
-use Rattle.iim_listing.specs.Format.Listings.{ending_line, line_of, status_of, texts_from, IsDelivered}
-use Rattle.iim_output.specs.Format.Limits.{limits}
-use Rattle.iim_places.specs.Format.Listing.{joined, max_envelopes, Divides, InputEnding, EndsBy, Listed, IsListed, IsRefusedAfter, RefusedBy}
+use Rattle.iim_places.proofs.Answering.{leads_to, reads_envelope}
+use Rattle.iim_listing.specs.Format.Listings.{line_of}
 use Rattle.iim_listing.specs.Laws.{EnvelopesAreDeliveredAsLines}
-use Rattle.iim_listing.specs.Format.Narration.{AreEnvelope, AreToldWith, IsTextIn, IsUnnarrated, LeavesText, Narrated, stories, story_of, text_of}
-use Rattle.iim_listing.specs.Narrating.{EndsStory, HoldsLines, IsLost, IsSettled, IsStuck, IsUnended, IsUntold, KeepsTargets, LetsOut, TellsOn, errors_of, output_of, stops_of}
-use Rattle.iim_listing.specs.declared.narrator.Narrator.{Narrator}
-use Rattle.iim_output.specs.declared.fault.CommandFault.{CommandFault}
-use Rattle.iim_output.specs.declared.fault.CommandFault.TheVariants.{CannotRead, CannotWrite, OutOfMemory}
-use Rattle.iim_listing.specs.Turns.{AreNarrated, AreTaken, HasText, Stands}
+use Rattle.iim_listing.specs.Format.Narration.{AreEnvelope, AreToldWith, IsTextIn, LeavesText, Narrated, stories, story_of}
+use Rattle.iim_listing.specs.Narrating.{HoldsLines, IsSettled, IsStuck, IsUnended}
+use Rattle.iim_listing.specs.Turns.{AreNarrated, HasText, Stands}
 use Rattle.iim_listing.proofs.Listings.{consumes_holds, divides, given_then, none_taken, taken_more, texts_parts}
 
 -- ---- what is delivered of an envelope

@@ -1,14 +1,11 @@
 -- What a narrator loses.
-use Rattle.std.proofs.Common.{◌≡◌, ℕ, ◌+◌, ◌<◌, inl, inr, sym, ap, subst, ◌∙◌, arith, List, [], ◌++◌, length, take, append-nil, length-append, Result, Ok, Err, IfErr}
-use Rattle.std.proofs.lemmas.List.{take-append-le}
-use Rattle.std.specs.Borrow.{MutBor}
-use Rattle.std.specs.Io.KnownBytes.{Appends}
-use Rattle.iim_dataset.specs.States.Devices.{Device, Stopped}
-use Rattle.iim_dataset.specs.Laws.{TextsJoin}
+use Rattle.iim_listing.proofs.Words.{◌≡◌, ℕ, ◌+◌, ◌<◌, inl, inr, sym, ap, subst, ◌∙◌, arith, List, [], ◌++◌, length, take, length-append, Result, Ok, Err}
+use Rattle.iim_listing.proofs.Words.{IfErr, take-append-le, MutBor, Appends, Device, TextsJoin, CommandFault, IsLost, IsUntold, LetsOut, errors_of, output_of}
+use Rattle.iim_listing.proofs.Words.{Narrator}
+use Rattle.std.proofs.Common.{append-nil}
+use Rattle.iim_dataset.specs.States.Devices.{Stopped}
 use Rattle.iim_output.specs.Format.Statuses.{IsUnsaid}
-use Rattle.iim_output.specs.declared.fault.CommandFault.{CommandFault}
-use Rattle.iim_listing.specs.Narrating.{IsLost, IsUntold, LetsOut, TextIsOut, errors_of, output_of}
-use Rattle.iim_listing.specs.declared.narrator.Narrator.{Narrator}
+use Rattle.iim_listing.specs.Narrating.{TextIsOut}
 
 stopped_before : (old new : Device) (xs ys : List ℕ) (n : ℕ) → Stopped old new (xs ++ []) n → Stopped old new (xs ++ ys) n
 stopped_before old new xs ys n s =

@@ -1,36 +1,28 @@
 -- What an intake gives, of an unpacker that stands on no octets.
-use Rattle.std.proofs.Common.{◌≡◌, ◌≢◌, ◌⊎◌, ℕ, inl, inr, refl, sym, ap, subst, ◌∙◌, arith, List, [], length, take, Option, Some, Result, Ok, Err}
-use Rattle.std.proofs.Math.Seq.{take-length}
-use Rattle.iim_dataset.specs.States.Devices.{Device}
+use Rattle.iim_listing.proofs.Words.{◌≡◌, ◌⊎◌, ℕ, inl, inr, refl, sym, ap, subst, ◌∙◌, arith, List, [], length, take, Option, Some, Result, Ok, Err}
+use Rattle.iim_listing.proofs.Words.{take-length, Device, StoryEvent, Unpacking, limits_in, raised, Joined, GiftsJoin, DeliveryMayBeCut, Refusal}
+use Rattle.iim_listing.proofs.Words.{CommandFault, CannotRead, CannotWrite, OutOfMemory, EnvelopeHasCome, IsCalm, IsNext, IsRefusal, limits, IsDelivered}
+use Rattle.iim_listing.proofs.Words.{no_text}
+use Rattle.std.proofs.Common.{◌≢◌}
 use Rattle.iim_dataset.specs.declared.device.IoFault.{IoFault}
 use Rattle.iim_dataset.specs.declared.device.IoFault.TheVariants as io
 use Rattle.iim_fields.specs.declared.limits.Limits.{Limits}
-use Rattle.wire_story.specs.Format.Delivery.{StoryEvent}
 use Rattle.iim_places.specs.Format.Framed.{AreWithin}
 use Rattle.iim_unpack.specs.declared.intake.IntakeFault.{IntakeFault}
 use Rattle.iim_unpack.specs.declared.intake.IntakeFault.TheVariants.{Refused, Read, Interrupted}
 use Rattle.iim_unpack.specs.States.Intakes.{Faults, IsOfReader, WasDone, WasMissed, WasRefused, WasTruncated}
 use Rattle.iim_unpack.specs.States.Parts.{CountsFor}
 use Rattle.iim_places.specs.Format.Open.{Delivers, IsOpen}
-use Rattle.iim_unpack.specs.States.Unpacking.{IsDoneWith, LeftAs, Stands, Unpacking, limits_in}
-use Rattle.iim_places.specs.States.Counts.{raised}
-use Rattle.iim_unpack.proofs.Intakes.{Joined, fed_and_done, fed_and_faults, missed_open}
-use Rattle.iim_dataset.specs.Laws.{GiftsJoin}
-use Rattle.wire_story.specs.Laws.{DeliveryMayBeCut}
+use Rattle.iim_unpack.specs.States.Unpacking.{IsDoneWith, LeftAs, Stands}
+use Rattle.iim_unpack.proofs.Intakes.{fed_and_done, fed_and_faults, missed_open}
 use Rattle.iim_listing.proofs.Feeding.{HasTaken}
-use Rattle.iim_places.specs.declared.refusal.Refusal.{Refusal}
 use Rattle.iim_places.specs.declared.refusal.Cause.{Cause}
 use Rattle.iim_places.specs.declared.refusal.Cause.TheVariants.{Message, Truncated}
 use Rattle.wire_message.specs.declared.fault.MessageCause.TheVariants as messages
 use Rattle.iim_listing.specs.Turns.{IsOfFault}
-use Rattle.iim_output.specs.declared.fault.CommandFault.{CommandFault}
 use Rattle.iim_listing.specs.declared.coming.Next.{Next}
 use Rattle.iim_listing.specs.declared.coming.Next.TheVariants as next
-use Rattle.iim_output.specs.declared.fault.CommandFault.TheVariants.{CannotRead, CannotWrite, OutOfMemory}
-use Rattle.iim_listing.specs.States.{CanAskForMore, EnvelopeHasCome, IsCalm, IsCutOff, IsHeldUp, IsNext, IsRefusal, IsUnheard}
-use Rattle.iim_output.specs.Format.Limits.{limits}
-use Rattle.iim_listing.specs.Format.Listings.{IsDelivered}
-use Rattle.iim_places.proofs.Answering.{no_text}
+use Rattle.iim_listing.specs.States.{CanAskForMore, IsCutOff, IsHeldUp, IsUnheard}
 
 pub delivered_of : (octets : List ℕ) (more : List StoryEvent) → Delivers [] octets more → IsDelivered octets more
 delivered_of octets more adds =

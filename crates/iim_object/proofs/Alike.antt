@@ -1,13 +1,9 @@
 -- From places at which one reader stands the same tokens lead on alike.
-use Rattle.std.proofs.Common.{◌≡◌, ℕ, List, [], ◌∷◌, ◌++◌, length, Option, Some, None, is_some, refl, sym, ap, ◌∙◌, arith}
-use Rattle.std.proofs.lemmas.List.{nil_from_length}
-use Rattle.iim_dataset.specs.Format.Languages.{IsAlive}
-use Rattle.iim_dataset.proofs.Each.{all_append, all_last}
-use Rattle.iim_object.specs.Format.Sizes.{Stated, InRow, number_at}
-use Rattle.iim_object.specs.Format.Objects.{ObjectToken, NumberRead, SubfileBegun, ObjectEnded, Confirmed, ObjectLanguage}
-use Rattle.iim_object.specs.Format.Places.{Place, MayFollow, place_after, tokens_of}
-use Rattle.iim_object.specs.States.Reading.{IsStateAt, StandsAt, LeadsOn, State, SizeCause}
-use Rattle.iim_object.specs.Laws.{TokensLead, TokensLeadOnAlike}
+use Rattle.iim_object.proofs.Words.{◌≡◌, ℕ, List, [], ◌∷◌, ◌++◌, length, Option, Some, None, is_some, refl, sym, ap, ◌∙◌, arith, nil_from_length, IsAlive}
+use Rattle.iim_object.proofs.Words.{all_append, all_last, Stated, InRow, number_at, ObjectToken, NumberRead, SubfileBegun, ObjectEnded, Confirmed}
+use Rattle.iim_object.proofs.Words.{ObjectLanguage, Place, MayFollow, place_after, tokens_of, IsStateAt, StandsAt, LeadsOn, State, TokensLead}
+use Rattle.iim_object.specs.States.Reading.{SizeCause}
+use Rattle.iim_object.specs.Laws.{TokensLeadOnAlike}
 use Rattle.iim_object.proofs.Numbers.{once-append}
 use Rattle.iim_object.proofs.Steps.{tells_of, once_last, cause_in, next, leads_on, refused, tokens_follow}
 use Rattle.iim_object.proofs.Subfiles.{front_lives}

@@ -1,13 +1,7 @@
 -- Numbers and subfiles that stay within bounds: lemmas for the proofs of every crate, of which nothing is to be believed.
-use Rattle.std.proofs.Common.{◌≡◌, ℕ, zero, suc, ◌≤◌, Bool, true, false, List, [], ◌∷◌, ◌++◌, map, length, Option, refl, arith, inl, inr}
-use Rattle.iim_dataset.specs.Format.Octets.{greatest_size}
-use Rattle.iim_object.specs.Format.Objects.{ObjectToken, NumberRead, SubfileBegun, ObjectEnded, Confirmed}
-use Rattle.iim_object.specs.Format.Places.{Place}
-use Rattle.iim_object.specs.Format.Plans.{max_subfiles}
-use Rattle.iim_object.specs.Format.Sizes.{Stated, InRow, mode_number}
-use Rattle.iim_object.specs.Format.Within.{TokensWithin}
-use Rattle.iim_object.specs.States.Reading.{StandsAt, State}
-use Rattle.iim_object.specs.States.Saved.{IsPossible}
+use Rattle.iim_object.proofs.Words.{◌≡◌, ℕ, zero, suc, ◌≤◌, Bool, true, false, List, [], ◌∷◌, ◌++◌, map, length, Option, refl, arith, inl, inr, greatest_size}
+use Rattle.iim_object.proofs.Words.{ObjectToken, NumberRead, SubfileBegun, ObjectEnded, Confirmed, Place, max_subfiles, Stated, InRow, mode_number}
+use Rattle.iim_object.proofs.Words.{TokensWithin, StandsAt, State, IsPossible}
 
 pub mode_known : (n : ℕ) → n ≤ 1 → (known : Bool) × (n ≡ mode_number known)
 mode_known zero h = (false, refl)

@@ -1,7 +1,5 @@
 -- A plan's bound leaves room for just the objects that keep to what is said of their sizes.
-use Rattle.std.proofs.Common.{ℕ, ◌≤◌, length, IfSome, arith}
-use Rattle.iim_dataset.specs.Format.Octets.{greatest_size}
-use Rattle.iim_object.specs.Format.Plans.{announced_of, maximum_of, limit_of, Size}
+use Rattle.iim_object.proofs.Words.{ℕ, ◌≤◌, length, IfSome, arith, greatest_size, announced_of, maximum_of, limit_of, Size}
 use Rattle.iim_object.specs.Laws.{SubfilesAreFew}
 use Rattle.iim_object.proofs.Cutting.{few_parts, held_in_few}
 use Rattle.iim_object.proofs.PlanParts.{plan_parts}

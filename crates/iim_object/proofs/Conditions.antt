@@ -1,12 +1,9 @@
 -- The first cause by tests is the cause of the lowest number whose condition holds.
-use Rattle.std.proofs.Common.{◌≡◌, ℕ, ◌<◌, ◌≤◌, ◌+◌, ◌⊎◌, List, [], ◌∷◌, ◌++◌, sum, Option, Some, None, IfSome, unwrap_or, refl, ap, ◌∙◌, arith, inl, inr}
-use Rattle.iim_dataset.specs.Format.Languages.{IsAlive}
-use Rattle.iim_dataset.specs.Format.Octets.{greatest_size}
+use Rattle.iim_object.proofs.Words.{◌≡◌, ℕ, ◌<◌, ◌≤◌, ◌+◌, ◌⊎◌, List, [], ◌∷◌, ◌++◌, sum, Option, Some, None, IfSome, unwrap_or, refl, ap, ◌∙◌, arith, inl}
+use Rattle.iim_object.proofs.Words.{inr, IsAlive, greatest_size, Stated, number_at, ObjectToken, SubfileBegun, ObjectLanguage, Place, HasBoth, MayFollow}
+use Rattle.iim_object.proofs.Words.{tokens_of, cause_at}
 use Rattle.iim_object.specs.declared.reading.fault.SizeCause.{SizeCause}
-use Rattle.iim_object.specs.Format.Sizes.{Stated, number_at}
-use Rattle.iim_object.specs.Format.Objects.{ObjectToken, SubfileBegun, ObjectLanguage}
-use Rattle.iim_object.specs.Format.Places.{Place, HasBoth, MayFollow, tokens_of}
-use Rattle.iim_object.specs.Format.Causes.{bound, cause_at}
+use Rattle.iim_object.specs.Format.Causes.{bound}
 use Rattle.iim_object.specs.Format.Conditions.{number_of, PassesBound, HasCause}
 use Rattle.iim_object.specs.Laws.{CausesAreTheFirst, ObjectsDieForCauses}
 use Rattle.iim_object.proofs.Steps.{announced_small, lives_on, tokens_follow}

@@ -1,15 +1,10 @@
 -- Where datasets end in records 7 to 9, and the places there.
-use Rattle.std.proofs.Common.{◌≡◌, ℕ, ◌<◌, ◌≤◌, ◌⊎◌, Bool, ◌==◌, List, [], ◌∷◌, ◌++◌, length, refl, sym, ap, ◌∙◌, arith, inl, inr, append-nil, length-append}
-use Rattle.std.specs.List.{AllByRecursion}
-use Rattle.std.proofs.lemmas.Bool.{eq-eqb, ne_eqb}
-use Rattle.std.proofs.lemmas.List.{nil_from_length}
+use Rattle.iim_object.proofs.Words.{◌≡◌, ℕ, ◌<◌, ◌≤◌, ◌⊎◌, Bool, ◌==◌, List, [], ◌∷◌, ◌++◌, length, refl, sym, ap, ◌∙◌, arith, inl, inr, append-nil}
+use Rattle.iim_object.proofs.Words.{length-append, AllByRecursion, eq-eqb, nil_from_length, Dataset, of_record, all_front, all_back, all_map, nothing_of_two}
+use Rattle.iim_object.proofs.Words.{Place, AreObjectRecords, numbers_of, lengths_of, place_after_datasets}
+use Rattle.std.proofs.lemmas.Bool.{ne_eqb}
 use Rattle.std.proofs.lemmas.List.Elements.{filter-append}
-use Rattle.iim_dataset.specs.Format.Datasets.{Dataset, of_record}
-use Rattle.iim_dataset.proofs.Each.{all_front, all_back, all_map}
-use Rattle.iim_dataset.proofs.Lists.{nothing_of_two}
-use Rattle.iim_object.specs.Format.Places.{Place}
-use Rattle.iim_object.specs.Format.Records.{AreObjectRecords, numbers_of, lengths_of}
-use Rattle.iim_object.specs.Format.Numbers.{ending_of, place_after_datasets}
+use Rattle.iim_object.specs.Format.Numbers.{ending_of}
 use Rattle.iim_object.specs.Laws.{RecordsAreByNumber}
 use Rattle.iim_object.proofs.Members.{IsMember, one_confirmation}
 

@@ -1,18 +1,9 @@
 -- The language over numbers and lengths is that of the datasets.
-use Rattle.std.proofs.Common.{◌≡◌, ℕ, ◌<◌, ◌≤◌, ◌⊎◌, List, [], ◌∷◌, ◌++◌, length, map, sum, Some, refl, sym, ap, ◌∙◌, arith, inl, inr, append_assoc, append-nil, length-append}
-use Rattle.std.specs.List.{AllByRecursion}
-use Rattle.std.proofs.lemmas.List.{map-append, length-map}
-use Rattle.std.proofs.lemmas.Bool.{eq-eqb}
-use Rattle.std.proofs.lemmas.Option.{same_Some}
-use Rattle.iim_dataset.specs.Format.Octets.{number, greatest_size}
-use Rattle.iim_dataset.specs.Format.Datasets.{Dataset}
-use Rattle.iim_dataset.specs.Format.Languages.{IsAlive}
-use Rattle.iim_dataset.proofs.Lists.{nothing_of_two}
-use Rattle.iim_dataset.proofs.Each.{all_append, all_back, all_map}
-use Rattle.iim_object.specs.Format.Sizes.{Stated, InRow, number_at, mode_number, sizes_at}
-use Rattle.iim_object.specs.Format.Objects.{ObjectToken, SubfileBegun, ObjectEnded, Confirmed, ObjectLanguage, number_tokens}
-use Rattle.iim_object.specs.Format.Places.{Place, Ended, ending_tokens, tokens_of}
-use Rattle.iim_object.specs.Format.Records.{AreObjectRecords, numbers_of, lengths_of}
+use Rattle.iim_object.proofs.Words.{◌≡◌, ℕ, ◌<◌, ◌≤◌, ◌⊎◌, List, [], ◌∷◌, ◌++◌, length, map, sum, Some, refl, sym, ap, ◌∙◌, arith, inl, inr, append_assoc}
+use Rattle.iim_object.proofs.Words.{append-nil, length-append, AllByRecursion, map-append, length-map, eq-eqb, same_Some, number, greatest_size, Dataset}
+use Rattle.iim_object.proofs.Words.{IsAlive, nothing_of_two, all_append, all_back, all_map, Stated, InRow, number_at, mode_number, sizes_at, ObjectToken}
+use Rattle.iim_object.proofs.Words.{SubfileBegun, ObjectEnded, Confirmed, ObjectLanguage, number_tokens, Place, Ended, ending_tokens, tokens_of}
+use Rattle.iim_object.proofs.Words.{AreObjectRecords, numbers_of, lengths_of}
 use Rattle.iim_object.specs.Laws.{AreSized, object_tokens, TokensAreOfSizedDatasets, DatasetsLiveWithTheirTokens, DatasetsEndWithTheirTokens}
 use Rattle.iim_object.specs.Format.Numbers.{ending_of, place_ended}
 use Rattle.iim_object.proofs.Numbers.{in_row_at, largest_at_most}

@@ -1,15 +1,9 @@
 -- The records 7, 8 and 9 that are written of an object are good.
-use Rattle.std.proofs.Common.{ℕ, ◌<◌, ◌≤◌, List, [], ◌∷◌, ◌++◌, length, Some, None, refl, ap, arith, append_assoc, length-append}
-use Rattle.std.specs.List.{AllByRecursion}
-use Rattle.std.proofs.lemmas.List.{length-map}
-use Rattle.iim_tables.proofs.GoodDatasets.{good_elsewhere, part_meets}
-use Rattle.iim_dataset.specs.Format.Octets.{IsOctet, Octets, greatest_size}
-use Rattle.iim_dataset.proofs.Each.{all_front, all_back}
-use Rattle.iim_object.specs.Format.Sizes.{AreOnce, mode_number}
-use Rattle.iim_object.specs.Format.Records.{numbers_of}
-use Rattle.iim_object.specs.Format.Cuts.{AreFull, joined_parts}
-use Rattle.iim_object.specs.Format.Plans.{limit_of, Size, Known, Unknown}
-use Rattle.iim_object.specs.Format.Packing.{number_dataset, is_known, size_datasets, plan_datasets, subfile_dataset, subfile_datasets}
+use Rattle.iim_object.proofs.Words.{ℕ, ◌<◌, ◌≤◌, List, [], ◌∷◌, ◌++◌, length, Some, None, refl, ap, arith, append_assoc, length-append, AllByRecursion}
+use Rattle.iim_object.proofs.Words.{length-map, good_elsewhere, part_meets, greatest_size, all_front, all_back, AreOnce, mode_number, numbers_of, AreFull}
+use Rattle.iim_object.proofs.Words.{joined_parts, limit_of, Size, Known, Unknown, number_dataset, is_known, size_datasets, plan_datasets, subfile_dataset}
+use Rattle.iim_object.proofs.Words.{subfile_datasets}
+use Rattle.iim_dataset.specs.Format.Octets.{IsOctet, Octets}
 use Rattle.iim_object.specs.Laws.{PackedRecordsAreGood}
 use Rattle.iim_object.proofs.PlanParts.{plan_parts}
 use Rattle.iim_object.proofs.Members.{IsMember, descriptor_of, object_of, confirmation_of, numbers_good, mode_good}

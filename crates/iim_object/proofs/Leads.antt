@@ -1,10 +1,6 @@
 -- What datasets tell leads from place to place.
-use Rattle.std.proofs.Common.{◌≡◌, ℕ, ◌<◌, List, [], ◌∷◌, ◌++◌, length, None, refl, sym, ap, ◌∙◌, arith, append_assoc}
-use Rattle.std.proofs.lemmas.List.{map-append, length-map}
-use Rattle.iim_dataset.specs.Format.Datasets.{Dataset, of_record}
-use Rattle.iim_dataset.proofs.Each.{all_front}
-use Rattle.iim_object.specs.Format.Sizes.{Stated, InRow, AreOnce, AreStated, number_at}
-use Rattle.iim_object.specs.Format.Records.{AreObjectRecords, numbers_of, lengths_of}
+use Rattle.iim_object.proofs.Words.{◌≡◌, ℕ, ◌<◌, List, [], ◌∷◌, ◌++◌, length, None, refl, sym, ap, ◌∙◌, arith, append_assoc, map-append, length-map, Dataset}
+use Rattle.iim_object.proofs.Words.{of_record, all_front, Stated, InRow, AreOnce, AreStated, number_at, AreObjectRecords, numbers_of, lengths_of}
 use Rattle.iim_object.specs.Format.Numbers.{ending_of}
 use Rattle.iim_object.specs.Laws.{OthersLeadNowhere, NumbersLead, SubfilesLead, EndsLead}
 use Rattle.iim_object.proofs.Numbers.{at-append}

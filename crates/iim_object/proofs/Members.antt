@@ -1,20 +1,19 @@
 -- Datasets of records 7, 8 and 9 as their rows say, and the numbers that they state.
-use Rattle.std.proofs.Common.{◌≡◌, ℕ, suc, ◌<◌, ◌≤◌, true, false, ◌&&◌, ◌==◌, nat_le, List, [], ◌∷◌, length, replicate, Some, None, is_some, refl, sym, ◌∙◌, arith, inl, inr}
-use Rattle.std.specs.List.{AllByRecursion, list_any}
+use Rattle.iim_object.proofs.Words.{◌≡◌, ℕ, suc, ◌<◌, ◌≤◌, true, false, ◌==◌, List, [], ◌∷◌, length, replicate, Some, None, is_some, refl, sym, ◌∙◌, arith}
+use Rattle.iim_object.proofs.Words.{inl, inr, AllByRecursion, eq-eqb, number, greatest_size, Dataset, written_number, number_back, good_elsewhere, part_meets}
+use Rattle.iim_object.proofs.Words.{Stated, InRow, AreOnce, AreStated, number_at, numbers_of, lengths_of, number_dataset}
+use Rattle.std.proofs.Common.{◌&&◌, nat_le}
+use Rattle.std.specs.List.{list_any}
 use Rattle.std.proofs.lemmas.List.{length-replicate}
-use Rattle.std.proofs.lemmas.Bool.{and_from, le-leb, eq-eqb}
-use Rattle.iim_dataset.specs.Format.Octets.{number, greatest_size, within}
-use Rattle.iim_dataset.specs.Format.Datasets.{Dataset, written_number}
+use Rattle.std.proofs.lemmas.Bool.{and_from, le-leb}
+use Rattle.iim_dataset.specs.Format.Octets.{within}
 use Rattle.iim_dataset.proofs.OctetLists.{zeros_are}
-use Rattle.iim_dataset.proofs.WrittenNumbers.{number_back, number_octets, some_octets, few_octets}
+use Rattle.iim_dataset.proofs.WrittenNumbers.{number_octets, some_octets, few_octets}
 use Rattle.iim_tables.specs.Format.Numbers.{size_octets}
 use Rattle.iim_tables.specs.Format.Kinds.{is_mode, is_size_from}
 use Rattle.iim_tables.specs.Format.Rows.{table, row_of, Meets}
 use Rattle.iim_tables.specs.Format.Records.{repeats, occurrences, IsGoodDataset, IsGoodRecord}
-use Rattle.iim_tables.proofs.GoodDatasets.{good_elsewhere, occurrences_cons, part_meets}
-use Rattle.iim_object.specs.Format.Sizes.{Stated, InRow, AreOnce, AreStated, number_at}
-use Rattle.iim_object.specs.Format.Records.{numbers_of, lengths_of}
-use Rattle.iim_object.specs.Format.Packing.{number_dataset}
+use Rattle.iim_tables.proofs.GoodDatasets.{occurrences_cons}
 use Rattle.iim_object.specs.Laws.{NumberDatasetsAreGood}
 
 -- ---- what the rows say

@@ -1,11 +1,6 @@
 -- The numbers of record 7: what is stated stays stated, what rows say of them, and their tokens.
-use Rattle.std.proofs.Common.{◌≡◌, ℕ, ◌≤◌, false, ◌==◌, List, [], ◌∷◌, ◌++◌, map, Some, None, refl, arith}
-use Rattle.std.specs.List.{AllByRecursion}
-use Rattle.iim_dataset.specs.Format.Octets.{greatest_size}
-use Rattle.iim_dataset.proofs.Each.{all_map}
-use Rattle.iim_object.specs.Format.Sizes.{Stated, InRow, AreOnce, number_at}
-use Rattle.iim_object.specs.Format.Within.{TokensWithin}
-use Rattle.iim_object.specs.Format.Objects.{ObjectToken, SubfileBegun, ObjectEnded, Confirmed, number_tokens}
+use Rattle.iim_object.proofs.Words.{◌≡◌, ℕ, ◌≤◌, false, ◌==◌, List, [], ◌∷◌, ◌++◌, map, Some, None, refl, arith, AllByRecursion, greatest_size, all_map}
+use Rattle.iim_object.proofs.Words.{Stated, InRow, AreOnce, number_at, TokensWithin, ObjectToken, SubfileBegun, ObjectEnded, Confirmed, number_tokens}
 use Rattle.iim_object.proofs.Bounded.{within_append, begun_within, row_low}
 
 -- ---- what is stated stays stated

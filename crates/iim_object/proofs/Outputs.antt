@@ -1,12 +1,8 @@
 -- Writes after one another.
-use Rattle.std.proofs.Common.{◌≡◌, ℕ, ◌+◌, List, ◌++◌, length, take, sym, subst, arith, length-append}
+use Rattle.iim_object.proofs.Words.{◌≡◌, ℕ, ◌+◌, List, ◌++◌, length, take, sym, subst, arith, length-append, Device, TextsJoin, Puts, Cuts, Output}
 use Rattle.std.specs.Prelude.{Result, Ok, Err, OnOk, OnErr}
 use Rattle.std.proofs.lemmas.List.{take-append-le}
 use Rattle.std.specs.Io.KnownBytes.{Appends}
-use Rattle.iim_dataset.specs.States.Devices.{Device}
-use Rattle.iim_dataset.specs.Laws.{TextsJoin}
-use Rattle.iim_object.specs.Outputs.{Puts, Cuts}
-use Rattle.iim_object.specs.declared.writing.output.Output.{Output}
 
 pub puts_more : {W : Type 0} (state : W → Device) (a b c : Output W) (xs ys : List ℕ) → TextsJoin → Puts state a b xs → Puts state b c ys → Puts state a c (xs ++ ys)
 puts_more state a b c xs ys join p q = record {

@@ -1,16 +1,10 @@
 -- What is written of an object by a plan has the sizes of the plan.
-use Rattle.std.proofs.Common.{◌≡◌, ℕ, ◌≤◌, List, [], ◌∷◌, ◌++◌, length, map, sum, Some, None, refl, ap, arith, append_assoc, length-append}
-use Rattle.std.specs.List.{AllByRecursion}
-use Rattle.std.proofs.lemmas.List.{length-map}
-use Rattle.iim_dataset.proofs.Lists.{sum_cons}
-use Rattle.iim_dataset.specs.Format.Datasets.{written_number}
-use Rattle.iim_dataset.proofs.WrittenNumbers.{number_back}
-use Rattle.iim_dataset.specs.Format.Octets.{number, greatest_size}
-use Rattle.iim_object.specs.Format.Sizes.{Agree, number_at, mode_number}
-use Rattle.iim_object.specs.Format.Plans.{fits, announced_of, maximum_of, limit_of, Size, Known, Unknown}
-use Rattle.iim_object.specs.Format.Records.{numbers_of, lengths_of}
-use Rattle.iim_object.specs.Format.Cuts.{joined_parts, AreFull, IsCut}
-use Rattle.iim_object.specs.Format.Packing.{is_known, plan_datasets, subfile_dataset, subfile_datasets, IsAsKnown, packed_sizes}
+use Rattle.iim_object.proofs.Words.{◌≡◌, ℕ, ◌≤◌, List, [], ◌∷◌, ◌++◌, length, map, sum, Some, None, refl, ap, arith, append_assoc, length-append}
+use Rattle.iim_object.proofs.Words.{AllByRecursion, length-map, sum_cons, written_number, number_back, number, greatest_size, Agree, number_at, mode_number}
+use Rattle.iim_object.proofs.Words.{announced_of, maximum_of, limit_of, Size, Known, Unknown, numbers_of, lengths_of, joined_parts, AreFull, IsCut, is_known}
+use Rattle.iim_object.proofs.Words.{plan_datasets, subfile_dataset, subfile_datasets}
+use Rattle.iim_object.specs.Format.Plans.{fits}
+use Rattle.iim_object.specs.Format.Packing.{IsAsKnown, packed_sizes}
 use Rattle.iim_object.specs.Laws.{PackedObjectsHaveSizes}
 use Rattle.iim_object.proofs.PlanParts.{plan_parts}
 

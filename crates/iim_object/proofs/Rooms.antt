@@ -1,14 +1,7 @@
 -- How many octets are out of an object that is cut into subfiles.
-use Rattle.std.proofs.Common.{◌≡◌, ℕ, ◌+◌, ◌≤◌, true, false, List, length, sym, ◌∙◌, arith}
-use Rattle.std.proofs.Math.Nat.{le_of_mul-le-mul_left}
-use Rattle.iim_dataset.specs.Format.Datasets.{canonical_dataset, tag_octets}
-use Rattle.iim_dataset.specs.States.Devices.{Device}
-use Rattle.iim_dataset.specs.Format.Octets.{greatest_size}
-use Rattle.iim_dataset.proofs.WrittenNumbers.{dataset_length}
-use Rattle.iim_object.specs.Format.Packing.{subfile_dataset}
-use Rattle.iim_object.specs.Format.Plans.{max_subfiles}
-use Rattle.iim_object.specs.Cutting.{most_written, HasRoom, Flushes, Halts}
-use Rattle.iim_object.specs.declared.writing.cutter.Cutter.{Cutter}
+use Rattle.iim_object.proofs.Words.{◌≡◌, ℕ, ◌+◌, ◌≤◌, true, false, List, length, sym, ◌∙◌, arith, le_of_mul-le-mul_left, canonical_dataset, tag_octets}
+use Rattle.iim_object.proofs.Words.{Device, greatest_size, dataset_length, subfile_dataset, max_subfiles, HasRoom, Flushes, Halts, Cutter}
+use Rattle.iim_object.specs.Cutting.{most_written}
 use Rattle.iim_object.proofs.PlanParts.{plan_parts}
 
 -- what is out and what is held, while no write failed

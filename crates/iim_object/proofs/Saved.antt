@@ -1,15 +1,13 @@
 -- Where numbers are those of a possible place, and the state that stands there.
-use Rattle.std.proofs.Common.{◌≡◌, ℕ, ◌+◌, ◌-◌, ◌≤◌, [], ◌∷◌, length, sum, Option, Some, None, IsSome, IfSome, Result, Ok, Err, IfOk, IfErr, refl, sym, ap, ◌∙◌, arith}
+use Rattle.iim_object.proofs.Words.{◌≡◌, ℕ, ◌+◌, ◌-◌, ◌≤◌, [], ◌∷◌, length, sum, Option, Some, None, IfSome, refl, sym, ap, ◌∙◌, arith, same_Some}
+use Rattle.iim_object.proofs.Words.{max_subfiles, ObjectToken, ObjectLanguage, SubfileBegun, Place, HasBoth, MayFollow, place_after, tokens_of, IsState}
+use Rattle.iim_object.proofs.Words.{TakesSubfile, IsStateAt, StandsAt, LeadsOn, Refuses, State, IsPossible}
+use Rattle.std.proofs.Common.{IsSome, Result, Ok, Err, IfOk, IfErr}
 use Rattle.std.proofs.lemmas.List.{length_push}
-use Rattle.std.proofs.lemmas.Option.{same_Some}
 use Rattle.std.specs.Result.{result_ok}
-use Rattle.iim_object.specs.Format.Plans.{max_subfiles}
-use Rattle.iim_object.specs.Format.Objects.{ObjectToken, ObjectLanguage, SubfileBegun}
-use Rattle.iim_object.specs.Format.Places.{Place, HasBoth, MayFollow, place_after, tokens_of}
-use Rattle.iim_object.specs.States.KeptNumbers.{IsState, state_numbers}
-use Rattle.iim_object.specs.States.Changes.{TakesSubfile}
-use Rattle.iim_object.specs.States.Reading.{IsStateAt, StandsAt, LeadsOn, Refuses, State, SizeCause}
-use Rattle.iim_object.specs.States.Saved.{IsAt, LastIsBegun, IsPossible, stated_numbers}
+use Rattle.iim_object.specs.States.KeptNumbers.{state_numbers}
+use Rattle.iim_object.specs.States.Reading.{SizeCause}
+use Rattle.iim_object.specs.States.Saved.{IsAt, LastIsBegun, stated_numbers}
 use Rattle.iim_object.specs.Laws.{PlacesHaveOneReader}
 use Rattle.iim_object.specs.Finding.{Finds}
 use Rattle.iim_object.proofs.Subfiles.{front_lives}

@@ -1,14 +1,8 @@
 -- What a reader that stands after whole records says of their sizes.
-use Rattle.std.proofs.Common.{◌≡◌, subst, ◌<◌, List, [], ◌∷◌, length, true, Some, None, refl, sym, ap, ◌∙◌, arith}
-use Rattle.std.proofs.lemmas.List.{length-map}
-use Rattle.std.proofs.lemmas.Bool.{eq-eqb}
-use Rattle.iim_dataset.specs.Format.Octets.{number}
-use Rattle.iim_dataset.specs.Format.Datasets.{Dataset}
-use Rattle.iim_object.specs.Format.Sizes.{Agree, sizes_at}
-use Rattle.iim_object.specs.Laws.{HasDuties, ReadersTellSizes}
-use Rattle.iim_object.specs.Format.Records.{AreObjectRecords, HaveSizes, numbers_of, lengths_of}
-use Rattle.iim_object.specs.Format.Numbers.{place_after_datasets}
-use Rattle.iim_object.specs.States.Reading.{StandsAt, State}
+use Rattle.iim_object.proofs.Words.{◌≡◌, subst, ◌<◌, List, [], ◌∷◌, length, true, Some, None, refl, sym, ap, ◌∙◌, arith, length-map, eq-eqb, number, Dataset}
+use Rattle.iim_object.proofs.Words.{Agree, sizes_at, HasDuties, AreObjectRecords, numbers_of, lengths_of, place_after_datasets, StandsAt, State}
+use Rattle.iim_object.specs.Laws.{ReadersTellSizes}
+use Rattle.iim_object.specs.Format.Records.{HaveSizes}
 use Rattle.iim_object.proofs.Subfiles.{agree_of, confirmed_law}
 use Rattle.iim_object.proofs.Steps.{sizes_are, sizes_in}
 use Rattle.iim_object.proofs.Members.{one_confirmation, some_subfile, ten_of}

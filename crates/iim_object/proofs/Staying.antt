@@ -1,16 +1,12 @@
 -- From state to state: each token leads from a state to which tokens lead to another.
-use Rattle.std.proofs.Common.{◌≡◌, ℕ, ◌+◌, ◌≤◌, ◌∷◌, [], length, Option, Some, None, is_some, true, false, refl, ap, ◌∙◌, arith, inl, inr, length-append}
-use Rattle.iim_dataset.specs.Format.Octets.{greatest_size}
-use Rattle.iim_dataset.proofs.Each.{all_last}
-use Rattle.iim_dataset.proofs.Lists.{no_some, some_of}
+use Rattle.iim_object.proofs.Words.{◌≡◌, ℕ, ◌+◌, ◌≤◌, ◌∷◌, [], length, Option, Some, None, is_some, true, false, refl, ap, ◌∙◌, arith, inl, inr}
+use Rattle.iim_object.proofs.Words.{length-append, greatest_size, all_last, some_of, InRow, ObjectToken, NumberRead, SubfileBegun, ObjectEnded, Confirmed}
+use Rattle.iim_object.proofs.Words.{Place, MayFollow, place_after, end_cause, confirmed_cause, HasNumbers, IsState, TakesSubfile, state_with, StandsAt}
+use Rattle.iim_object.proofs.Words.{Refuses, State}
+use Rattle.iim_dataset.proofs.Lists.{no_some}
 use Rattle.iim_object.specs.declared.reading.fault.SizeCause.TheVariants.{ModeClash}
-use Rattle.iim_object.specs.Format.Sizes.{InRow}
-use Rattle.iim_object.specs.Format.Objects.{ObjectToken, NumberRead, SubfileBegun, ObjectEnded, Confirmed}
-use Rattle.iim_object.specs.Format.Places.{Place, MayFollow, place_after}
-use Rattle.iim_object.specs.Format.Causes.{end_cause, confirmed_cause}
-use Rattle.iim_object.specs.States.KeptNumbers.{HasNumbers, IsState}
-use Rattle.iim_object.specs.States.Changes.{TakesNumber, TakesSubfile, state_with}
-use Rattle.iim_object.specs.States.Reading.{StandsAt, Refuses, EndsAs, RefusesToEnd, State, SizeCause}
+use Rattle.iim_object.specs.States.Changes.{TakesNumber}
+use Rattle.iim_object.specs.States.Reading.{EndsAs, RefusesToEnd, SizeCause}
 use Rattle.iim_object.proofs.Steps.{cause_in, next, tells_of, leads_on, refused}
 use Rattle.iim_object.proofs.Reached.{mode_in, largest_in, place_in, tells_in, stands_in, state_of}
 

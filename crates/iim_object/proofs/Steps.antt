@@ -1,19 +1,15 @@
 -- How each token leads on, and where the object layer dies with it.
-use Rattle.std.proofs.Common.{◌≡◌, ℕ, ◌+◌, ◌<◌, ◌≤◌, Bool, List, [], ◌∷◌, ◌++◌, length, map, sum, Option, Some, None, IfSome, unwrap_or, refl, sym, ap, ◌∙◌, arith, append_assoc, append-nil, length-append}
-use Rattle.std.specs.List.{AllByRecursion}
-use Rattle.std.proofs.lemmas.List.{map-append, nil_from_length}
-use Rattle.std.proofs.lemmas.Option.{same_Some}
-use Rattle.iim_dataset.specs.Format.Languages.{IsAlive}
-use Rattle.iim_dataset.specs.Format.Octets.{greatest_size}
-use Rattle.iim_dataset.proofs.Each.{all_append, all_last}
-use Rattle.iim_dataset.proofs.Lists.{sum_append, some_of}
-use Rattle.iim_object.specs.Format.Sizes.{Stated, AreOnce, AreStated, number_at, mode_number, Sizes}
-use Rattle.iim_object.specs.Format.Objects.{ObjectToken, NumberRead, SubfileBegun, ObjectEnded, Confirmed, ObjectLanguage, number_tokens}
-use Rattle.iim_object.specs.Laws.{NoClash, HasDuties, Fit, MeetsAnnounced, TokensFollow}
-use Rattle.iim_object.specs.Format.Places.{Place, NotEnded, ConfirmedAs, tokens_of, place_after, place_start, HasBoth, MayFollow}
-use Rattle.iim_object.specs.Format.Causes.{is_given, number_cause, subfile_cause, end_cause, confirmed_cause, cause_at}
-use Rattle.iim_object.specs.States.Reading.{IsStateAt, StandsAt, LeadsOn, LivesWith, Refuses, IsSizes, State, SizeCause}
-use Rattle.iim_object.specs.States.Changes.{set_where, state_start, state_with}
+use Rattle.iim_object.proofs.Words.{◌≡◌, ℕ, ◌+◌, ◌<◌, ◌≤◌, Bool, List, [], ◌∷◌, ◌++◌, length, map, sum, Option, Some, None, IfSome, unwrap_or, refl, sym, ap}
+use Rattle.iim_object.proofs.Words.{◌∙◌, arith, append_assoc, append-nil, length-append, AllByRecursion, map-append, nil_from_length, same_Some, IsAlive}
+use Rattle.iim_object.proofs.Words.{greatest_size, all_append, all_last, sum_append, some_of, Stated, AreOnce, AreStated, number_at, mode_number, ObjectToken}
+use Rattle.iim_object.proofs.Words.{NumberRead, SubfileBegun, ObjectEnded, Confirmed, ObjectLanguage, number_tokens, NoClash, HasDuties, Fit, MeetsAnnounced}
+use Rattle.iim_object.proofs.Words.{Place, NotEnded, ConfirmedAs, tokens_of, place_after, place_start, HasBoth, MayFollow, end_cause, confirmed_cause}
+use Rattle.iim_object.proofs.Words.{cause_at, IsStateAt, StandsAt, LeadsOn, Refuses, State, state_with}
+use Rattle.iim_object.specs.Format.Sizes.{Sizes}
+use Rattle.iim_object.specs.Laws.{TokensFollow}
+use Rattle.iim_object.specs.Format.Causes.{is_given, number_cause, subfile_cause}
+use Rattle.iim_object.specs.States.Reading.{LivesWith, IsSizes, SizeCause}
+use Rattle.iim_object.specs.States.Changes.{set_where, state_start}
 use Rattle.iim_object.proofs.Numbers.{at-append, at_most_size, in_row_at, mode_at_most_one, none-append}
 use Rattle.iim_object.proofs.Subfiles.{numbers_law, subfiles_law, ends_law, confirmed_law}
 use Rattle.iim_object.proofs.Bounded.{mode_known}

@@ -1,20 +1,15 @@
 -- How a writer of subfiles continues, breaks off and finishes.
-use Rattle.std.proofs.Common.{◌≡◌, ℕ, ◌<◌, ◌≤◌, Bool, true, false, cond, Option, Some, None, List, [], ◌∷◌, ◌++◌, length, take, drop, refl, sym, ap, ◌∙◌, arith, append_assoc, append-nil, length-append, length-take}
+use Rattle.iim_object.proofs.Words.{◌≡◌, ℕ, ◌<◌, ◌≤◌, Bool, true, false, Option, Some, None, List, [], ◌∷◌, ◌++◌, length, take, drop, refl, sym, ap, ◌∙◌}
+use Rattle.iim_object.proofs.Words.{arith, append_assoc, append-nil, length-append, length-take, map-append, all_append, Device, TextsJoin, Dataset}
+use Rattle.iim_object.proofs.Words.{canonical_dataset, canonical_stream, joined_parts, AreFull, IsCut, ObjectsAreCutOneWay, plan_datasets, subfile_dataset}
+use Rattle.iim_object.proofs.Words.{subfile_datasets, number_dataset, Puts, Cuts, total_of, octets_out, Lengthens, write_cause, finish_cause, writing_of}
+use Rattle.iim_object.proofs.Words.{HasRoom, Flushes, Halts, Plan, Output, Cutter}
+use Rattle.std.proofs.Common.{cond}
 use Rattle.std.specs.Prelude.{IfNone}
-use Rattle.std.proofs.lemmas.List.{map-append, take-append-drop}
-use Rattle.iim_dataset.proofs.Each.{all_append}
-use Rattle.iim_dataset.specs.States.Devices.{Device}
-use Rattle.iim_dataset.specs.Laws.{TextsJoin}
-use Rattle.iim_dataset.specs.Format.Datasets.{Dataset, canonical_dataset, canonical_stream}
-use Rattle.iim_object.specs.Format.Cuts.{joined_parts, AreFull, IsCut}
-use Rattle.iim_object.specs.Laws.{ObjectsAreCutOneWay}
-use Rattle.iim_object.specs.Format.Packing.{plan_datasets, subfile_dataset, subfile_datasets, confirmed_datasets, number_dataset, object_datasets}
-use Rattle.iim_object.specs.Outputs.{Puts, Cuts}
-use Rattle.iim_object.specs.States.Writing.{Writing, total_of, octets_out, HasWritten, Lengthens, Begins, BreaksOff, ContinuesWith, IsTheWhole, Finishes, write_cause, finish_cause}
-use Rattle.iim_object.specs.Cutting.{writing_of, HasRoom, Fills, Flushes, Halts}
-use Rattle.iim_object.specs.declared.plan.Plan.{Plan}
-use Rattle.iim_object.specs.declared.writing.output.Output.{Output}
-use Rattle.iim_object.specs.declared.writing.cutter.Cutter.{Cutter}
+use Rattle.std.proofs.lemmas.List.{take-append-drop}
+use Rattle.iim_object.specs.Format.Packing.{confirmed_datasets, object_datasets}
+use Rattle.iim_object.specs.States.Writing.{Writing, HasWritten, Begins, BreaksOff, ContinuesWith, IsTheWhole, Finishes}
+use Rattle.iim_object.specs.Cutting.{Fills}
 use Rattle.iim_object.proofs.PlanParts.{plan_parts}
 use Rattle.iim_object.proofs.Cutting.{same_first, some_octet, too_short}
 

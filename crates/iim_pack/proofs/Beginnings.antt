@@ -1,13 +1,6 @@
 -- What a packer has begun with, call by call.
-use Rattle.std.proofs.Common.{ℕ, List, [], ◌++◌, arith, length-append}
-use Rattle.iim_dataset.specs.States.Devices.{Device}
-use Rattle.iim_dataset.specs.Laws.{TextsJoin}
-use Rattle.iim_dataset.specs.Format.Datasets.{Dataset}
-use Rattle.iim_object.specs.declared.plan.Plan.{Plan}
-use Rattle.wire_story.specs.Format.Delivery.{StoryEvent}
-use Rattle.wire_message.specs.Format.Messages.{Header}
-use Rattle.iim_pack.specs.States.Packing.{Packing, Lengthens, Finishes}
-use Rattle.iim_pack.specs.States.Starting.{Starts}
+use Rattle.iim_pack.proofs.Words.{ℕ, List, [], ◌++◌, arith, length-append, Device, TextsJoin, Dataset, Plan, StoryEvent, Header, Packing, Starts}
+use Rattle.iim_pack.specs.States.Packing.{Lengthens, Finishes}
 use Rattle.iim_pack.specs.States.Begun.{HasBegun, ContinuesBegun, EndsBegun}
 
 pub begun_at_start : {W : Type 0} (state : W → Device) (writer : W) (fields : List Dataset) (head : Header) (plan : Plan) (k : Packing W) → Starts state writer fields head plan k → HasBegun state (state writer) k fields head [] plan

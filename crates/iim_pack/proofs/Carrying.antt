@@ -1,20 +1,15 @@
 -- What is packed carries the fields, the object and the sizes of the plan.
-use Rattle.std.proofs.Common.{◌≡◌, ℕ, ◌≤◌, List, [], ◌++◌, length, refl, sym, ap, subst, ◌∙◌, arith, append_assoc, append-nil}
-use Rattle.std.specs.List.{AllByRecursion}
-use Rattle.iim_dataset.specs.Format.Octets.{Octets, greatest_size}
-use Rattle.iim_dataset.specs.Format.Datasets.{Dataset, SpellsStream, canonical_stream, count_octets, of_record}
-use Rattle.iim_dataset.specs.Laws.{HasSpellings, CanonicalStreamsAreSpelled}
-use Rattle.iim_dataset.proofs.Each.{all_append, all_map}
+use Rattle.iim_pack.proofs.Words.{◌≡◌, ℕ, ◌≤◌, List, [], ◌++◌, length, refl, sym, ap, subst, ◌∙◌, arith, append_assoc, append-nil, AllByRecursion}
+use Rattle.iim_pack.proofs.Words.{greatest_size, Dataset, canonical_stream, count_octets, of_record, HasSpellings, all_append, all_map, IsGoodDataset, kept}
+use Rattle.iim_pack.proofs.Words.{joined, bound_of, plan_datasets, subfile_datasets, confirmed_datasets, plan_parts, stream_append, canonical}
+use Rattle.iim_dataset.specs.Format.Octets.{Octets}
+use Rattle.iim_dataset.specs.Format.Datasets.{SpellsStream}
+use Rattle.iim_dataset.specs.Laws.{CanonicalStreamsAreSpelled}
 use Rattle.iim_fields.specs.Format.Records.{AreSections}
-use Rattle.iim_tables.specs.Format.Records.{IsGoodDataset, IsGoodRecord}
-use Rattle.iim_fields.specs.Format.Faults.{kept, joined}
+use Rattle.iim_tables.specs.Format.Records.{IsGoodRecord}
 use Rattle.iim_object.specs.Format.Records.{HaveSizes}
-use Rattle.iim_object.specs.Format.Plans.{bound_of}
-use Rattle.iim_object.specs.Format.Packing.{plan_datasets, subfile_datasets, confirmed_datasets, packed_sizes}
+use Rattle.iim_object.specs.Format.Packing.{packed_sizes}
 use Rattle.iim_object.specs.Laws.{PackedObjectsHaveSizes, PackedRecordsAreGood}
-use Rattle.iim_object.proofs.PlanParts.{plan_parts}
-use Rattle.iim_object.proofs.Written.{stream_append}
-use Rattle.wire_message.specs.Format.Canonical.{canonical}
 use Rattle.iim_pack.specs.Laws.{PackedOctetsCarryTheValue}
 use Rattle.wire_message.proofs.MessageOctets.{message_octets}
 use Rattle.iim_pack.proofs.Spelling.{record_spelled}

@@ -1,14 +1,8 @@
 -- How the end of an object is written.
-use Rattle.std.proofs.Common.{◌≡◌, ℕ, ◌+◌, ◌≤◌, false, None, List, [], ◌++◌, length, refl, sym, subst, append_assoc, append-nil, arith, length-append}
-use Rattle.std.proofs.lemmas.Bool.{le-leb}
-use Rattle.iim_dataset.specs.States.Devices.{Device}
-use Rattle.iim_dataset.specs.Laws.{TextsJoin}
-use Rattle.iim_object.specs.Format.Plans.{is_short}
-use Rattle.iim_object.specs.Format.Packing.{IsWritten}
-use Rattle.iim_object.specs.States.Writing.{Writing, Lengthens, BreaksOff, ContinuesWith, IsTheWhole, Finishes, most_of, total_of, write_cause, finish_cause}
-use Rattle.iim_object.specs.declared.plan.Plan.{Plan}
+use Rattle.iim_pack.proofs.Words.{◌≡◌, ℕ, ◌+◌, ◌≤◌, false, None, List, [], ◌++◌, length, refl, sym, subst, append_assoc, append-nil, arith, length-append}
+use Rattle.iim_pack.proofs.Words.{le-leb, Device, TextsJoin, is_short, IsWritten, Writing, most_of, total_of, write_cause, Plan, Ends, EndsWithTail}
+use Rattle.iim_object.specs.States.Writing.{Lengthens, BreaksOff, ContinuesWith, IsTheWhole, Finishes, finish_cause}
 use Rattle.iim_object.proofs.Written.{breaks_on}
-use Rattle.iim_pack.specs.Steps.{Ends, EndsWithTail}
 
 pub ends : {W : Type 0} (state : W → Device) (old mid : Writing W) (tail : List ℕ) (writer : W) → TextsJoin → Lengthens state old mid tail → Finishes state mid writer → Ends state old tail writer
 ends state old mid tail writer join l f = record {

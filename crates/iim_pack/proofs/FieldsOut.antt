@@ -1,12 +1,9 @@
 -- Records 1 and 2 written one dataset after another.
-use Rattle.std.proofs.Common.{◌≡◌, ℕ, ◌+◌, ◌*◌, ◌^◌, ◌<◌, ◌≤◌, List, [], ◌∷◌, ◌++◌, length, sym, ap, subst, ◌∙◌, arith, append_assoc, append-nil, length-append}
-use Rattle.iim_object.proofs.Written.{stream_append}
-use Rattle.iim_dataset.specs.States.Devices.{Device, Wrote, Stopped}
-use Rattle.iim_dataset.specs.Laws.{TextsJoin}
-use Rattle.iim_dataset.specs.Format.Datasets.{Dataset, canonical_dataset, canonical_stream, tag_octets}
+use Rattle.iim_pack.proofs.Words.{◌≡◌, ℕ, ◌+◌, ◌*◌, ◌^◌, ◌<◌, ◌≤◌, List, [], ◌∷◌, ◌++◌, length, sym, ap, subst, ◌∙◌, arith, append_assoc, append-nil}
+use Rattle.iim_pack.proofs.Words.{length-append, stream_append, Device, Wrote, Stopped, TextsJoin, Dataset, canonical_dataset, canonical_stream, tag_octets}
+use Rattle.iim_pack.proofs.Words.{joined}
 use Rattle.iim_dataset.proofs.StoppedTexts.{stopped_more}
 use Rattle.iim_dataset.proofs.WrittenNumbers.{dataset_length}
-use Rattle.iim_fields.specs.Format.Faults.{joined}
 use Rattle.iim_fields.specs.States.Builders.{AreFew}
 
 -- ---- how long datasets are

@@ -1,27 +1,14 @@
 -- How a packer finishes, by the writer of its object.
-use Rattle.std.proofs.Common.{◌≡◌, ℕ, ◌+◌, ◌≤◌, Bool, true, false, not, nat_le, cond, Option, Some, None, List, ◌++◌, length, refl, sym, ap, subst, ◌∙◌, arith, append_assoc, length-append}
-use Rattle.std.specs.List.{list_all}
-use Rattle.std.proofs.lemmas.Bool.{and_parts, leb-true, ltb-false, not-false}
-use Rattle.iim_dataset.specs.States.Devices.{Device}
-use Rattle.iim_dataset.specs.Format.Datasets.{canonical_stream}
-use Rattle.iim_object.specs.Format.Plans.{bound_of, is_short}
-use Rattle.iim_object.specs.Format.Packing.{IsWritten, IsAsKnown}
-use Rattle.iim_object.specs.Format.Cuts.{joined_parts}
+use Rattle.iim_pack.proofs.Words.{◌≡◌, ℕ, ◌+◌, ◌≤◌, Bool, true, false, not, nat_le, cond, Option, Some, None, List, ◌++◌, length, refl, sym, ap, subst, ◌∙◌}
+use Rattle.iim_pack.proofs.Words.{arith, append_assoc, length-append, list_all, and_parts, leb-true, ltb-false, not-false, Device, canonical_stream, bound_of}
+use Rattle.iim_pack.proofs.Words.{is_short, IsWritten, joined_parts, Writing, most_of, total_of, passes_plan, Plan, Size, Known, Unknown, packed_text}
+use Rattle.iim_pack.proofs.Words.{StoryEvent, packed_events, lines_of, is_trailer_octet, Header, IsTrailer, packed_head, packed_tail, canonical, EndsIn}
+use Rattle.iim_pack.proofs.Words.{is_trailer, Ends, EndsWithTail}
+use Rattle.iim_object.specs.Format.Packing.{IsAsKnown}
 use Rattle.iim_object.specs.States.Writing as object
-use Rattle.iim_object.specs.States.Writing.{Writing, most_of, total_of, passes_plan}
-use Rattle.iim_object.specs.declared.plan.Plan.{Plan}
-use Rattle.iim_object.specs.declared.size.Size.{Size}
-use Rattle.iim_object.specs.declared.size.Size.TheVariants.{Known, Unknown}
-use Rattle.wire_story.specs.Format.Texts.{packed_text}
-use Rattle.wire_story.specs.Format.Delivery.{StoryEvent}
-use Rattle.wire_story.specs.Format.Packing.{packed_events, lines_of}
 use Rattle.wire_story.specs.Laws.{EventsArePackedAsLines}
-use Rattle.wire_message.specs.Format.Fields.{is_trailer_octet}
-use Rattle.wire_message.specs.Format.Messages.{Header, IsTrailer}
-use Rattle.wire_message.specs.Format.Canonical.{packed_head, packed_tail, canonical}
 use Rattle.wire_message.specs.Laws.{CanonicalObjectsAreMessages}
-use Rattle.iim_pack.specs.States.Packing.{BreaksOff, EndsIn, Finishes, is_trailer, ending_cause}
-use Rattle.iim_pack.specs.Steps.{Ends, EndsWithTail}
+use Rattle.iim_pack.specs.States.Packing.{BreaksOff, Finishes, ending_cause}
 use Rattle.iim_pack.proofs.Goings.{breaks}
 
 -- ---- causes

@@ -1,21 +1,11 @@
 -- How a packer continues, breaks off and finishes, by the writer of its object.
-use Rattle.std.proofs.Common.{◌≡◌, ℕ, ◌+◌, ◌≤◌, false, not, nat_le, Option, Some, None, List, [], ◌∷◌, ◌++◌, map, refl, sym, ap, subst, ◌∙◌, arith, append_assoc, IfNone}
-use Rattle.std.proofs.lemmas.Bool.{and_parts, le-leb, leb-true, not-false}
-use Rattle.std.specs.List.{list_all}
-use Rattle.iim_dataset.specs.States.Devices.{Device}
-use Rattle.iim_dataset.specs.Format.Datasets.{Dataset, canonical_stream}
-use Rattle.iim_dataset.proofs.Each.{all_append}
-use Rattle.iim_object.specs.Format.Packing.{IsWritten}
+use Rattle.iim_pack.proofs.Words.{◌≡◌, ℕ, ◌+◌, ◌≤◌, false, not, nat_le, Option, Some, None, List, [], ◌∷◌, ◌++◌, map, refl, sym, ap, subst, ◌∙◌, arith}
+use Rattle.iim_pack.proofs.Words.{append_assoc, and_parts, le-leb, leb-true, not-false, list_all, Device, Dataset, canonical_stream, all_append, IsWritten}
+use Rattle.iim_pack.proofs.Words.{Writing, most_of, total_of, write_cause, Begins, Plan, is_line_octet, IsLine, packed_text, StoryEvent, LineOctet}
+use Rattle.iim_pack.proofs.Words.{events_of_lines, packed_events, AreEvents, LinesArePackedAsTheirEvents, events_append, Header, packed_head, packed_tail}
+use Rattle.iim_pack.proofs.Words.{canonical}
+use Rattle.std.proofs.Common.{IfNone}
 use Rattle.iim_object.specs.States.Writing as object
-use Rattle.iim_object.specs.States.Writing.{Writing, most_of, total_of, write_cause, Begins}
-use Rattle.iim_object.specs.declared.plan.Plan.{Plan}
-use Rattle.wire_story.specs.Format.Texts.{is_line_octet, IsLine, packed_text}
-use Rattle.wire_story.specs.Format.Delivery.{StoryEvent, LineOctet, events_of_lines}
-use Rattle.wire_story.specs.Format.Packing.{packed_events, AreEvents}
-use Rattle.wire_story.specs.Laws.{LinesArePackedAsTheirEvents}
-use Rattle.wire_story.proofs.PackedEvents.{events_append}
-use Rattle.wire_message.specs.Format.Messages.{Header}
-use Rattle.wire_message.specs.Format.Canonical.{packed_head, packed_tail, canonical}
 use Rattle.iim_pack.specs.States.Packing.{Lengthens, BreaksOff, ContinuesWith}
 
 -- ---- results

@@ -1,18 +1,12 @@
 -- How long a packed form is.
-use Rattle.std.proofs.Common.{◌≡◌, ℕ, ◌+◌, ◌*◌, ◌≤◌, List, [], ◌++◌, length, sym, ap, ◌∙◌, arith, length-append}
+use Rattle.iim_pack.proofs.Words.{◌≡◌, ℕ, ◌+◌, ◌*◌, ◌≤◌, List, [], ◌++◌, length, sym, ap, ◌∙◌, arith, length-append, canonical_dataset, canonical_stream}
+use Rattle.iim_pack.proofs.Words.{tag_octets, greatest_size, joined, plan_datasets, subfile_datasets, confirmed_datasets, object_datasets, SubfilesAreFew}
+use Rattle.iim_pack.proofs.Words.{plan_octets, plan_parts, Plan, canonical, stream_append}
 use Rattle.std.proofs.lemmas.List.{length-map}
-use Rattle.iim_dataset.specs.Format.Datasets.{canonical_dataset, canonical_stream, tag_octets}
-use Rattle.iim_dataset.specs.Format.Octets.{greatest_size}
-use Rattle.iim_fields.specs.Format.Faults.{joined}
 use Rattle.iim_object.specs.Format.Cuts.{IsCut}
-use Rattle.iim_object.specs.Format.Packing.{number_dataset, plan_datasets, subfile_dataset, subfile_datasets, confirmed_datasets, object_datasets}
-use Rattle.iim_object.specs.Laws.{SubfilesAreFew}
-use Rattle.iim_object.specs.States.Writing.{plan_octets}
-use Rattle.iim_object.proofs.PlanParts.{number_length, plan_parts}
-use Rattle.iim_object.specs.declared.plan.Plan.{Plan}
-use Rattle.wire_message.specs.Format.Canonical.{canonical}
+use Rattle.iim_object.specs.Format.Packing.{number_dataset, subfile_dataset}
+use Rattle.iim_object.proofs.PlanParts.{number_length}
 use Rattle.iim_pack.specs.Laws.{PackedOctetsAreFew}
-use Rattle.iim_object.proofs.Written.{stream_append}
 use Rattle.iim_pack.proofs.FieldsOut.{stream_length}
 use Rattle.iim_pack.proofs.Ones.{few_subfiles}
 use Rattle.iim_pack.proofs.Openings.{plan_small}

@@ -1,14 +1,8 @@
 -- Lines packed one after another.
-use Rattle.std.proofs.Common.{◌≡◌, ℕ, ◌+◌, ◌≤◌, Bool, true, false, None, List, [], ◌∷◌, ◌++◌, length, map, refl, sym, ap, subst, ◌∙◌, arith, append_assoc, append-nil, length-append}
-use Rattle.std.proofs.lemmas.Bool.{le-leb}
-use Rattle.iim_dataset.specs.States.Devices.{Device}
-use Rattle.iim_dataset.specs.Laws.{TextsJoin}
-use Rattle.iim_object.specs.States.Writing.{most_of, total_of, Begins}
-use Rattle.wire_story.specs.Format.Texts.{IsLine}
-use Rattle.wire_story.specs.Format.Delivery.{StoryEvent, LineOctet, LineEnd, events_of_lines}
-use Rattle.wire_story.specs.Format.Packing.{packed_events}
-use Rattle.wire_story.proofs.PackedEvents.{events_append}
-use Rattle.iim_pack.specs.States.Packing.{Packing, Lengthens, BreaksOff, ContinuesWith, FormWith, text_cause, line_end_cause}
+use Rattle.iim_pack.proofs.Words.{◌≡◌, ℕ, ◌+◌, ◌≤◌, Bool, true, false, None, List, [], ◌∷◌, ◌++◌, length, map, refl, sym, ap, subst, ◌∙◌, arith, append_assoc}
+use Rattle.iim_pack.proofs.Words.{append-nil, length-append, le-leb, Device, TextsJoin, most_of, total_of, Begins, IsLine, StoryEvent, LineOctet, LineEnd}
+use Rattle.iim_pack.proofs.Words.{events_of_lines, packed_events, events_append, Packing, FormWith, text_cause, line_end_cause}
+use Rattle.iim_pack.specs.States.Packing.{Lengthens, BreaksOff, ContinuesWith}
 use Rattle.iim_pack.specs.Steps.{line_events}
 
 pub goes_nowhere : {W : Type 0} (state : W → Device) (k : Packing W) → TextsJoin → k.object.failed ≡ false → Lengthens state k k []

@@ -1,13 +1,8 @@
 -- There is one packed form, and it has few subfiles.
-use Rattle.std.proofs.Common.{◌≡◌, ℕ, ◌≤◌, ◌&&◌, nat_le, IsTrue, List, ◌++◌, sym, ap, ◌∙◌}
-use Rattle.std.proofs.lemmas.Bool.{and_parts, leb-true}
-use Rattle.iim_dataset.specs.Format.Datasets.{canonical_stream}
-use Rattle.iim_dataset.specs.Format.Octets.{greatest_size}
+use Rattle.iim_pack.proofs.Words.{◌≡◌, ℕ, ◌≤◌, ◌&&◌, nat_le, IsTrue, List, ◌++◌, sym, ap, ◌∙◌, and_parts, leb-true, canonical_stream, greatest_size}
+use Rattle.iim_pack.proofs.Words.{SubfilesAreFew, object_datasets, Size, canonical}
 use Rattle.iim_object.specs.Format.Plans.{is_plan, fits}
-use Rattle.iim_object.specs.Laws.{ObjectsAreCutOneWay, SubfilesAreFew}
-use Rattle.iim_object.specs.Format.Packing.{object_datasets}
-use Rattle.iim_object.specs.declared.size.Size.{Size}
-use Rattle.wire_message.specs.Format.Canonical.{canonical}
+use Rattle.iim_object.specs.Laws.{ObjectsAreCutOneWay}
 use Rattle.iim_pack.specs.Laws.{PackedOctetsAreOne, PackedSubfilesAreFew}
 
 pub least_subfile : (subfile : ℕ) (size : Size) → IsTrue (is_plan subfile size) → 1 ≤ subfile

@@ -1,21 +1,16 @@
 -- How an object begins.
-use Rattle.std.proofs.Common.{◌≡◌, ℕ, ◌+◌, ◌≤◌, None, List, [], ◌++◌, length, take, drop, refl, sym, ap, subst, ◌∙◌, arith, append_assoc, length-append}
+use Rattle.iim_pack.proofs.Words.{◌≡◌, ℕ, ◌+◌, ◌≤◌, None, List, [], ◌++◌, length, take, refl, sym, ap, subst, ◌∙◌, arith, append_assoc, length-append, le-leb}
+use Rattle.iim_pack.proofs.Words.{Device, Wrote, Stopped, WithinInterruptionLimit, TextsJoin, canonical_stream, IsWritten, plan_datasets, subfile_datasets}
+use Rattle.iim_pack.proofs.Words.{confirmed_datasets, joined_parts, Writing, IsWrittenFrom, Begins, most_of, total_of, plan_octets, write_cause, Plan}
+use Rattle.iim_pack.proofs.Words.{StartFault, stream_append, Opens, StartBreaksOff}
+use Rattle.std.proofs.Common.{drop}
 use Rattle.std.proofs.lemmas.List.{take-append-drop}
-use Rattle.std.proofs.lemmas.Bool.{le-leb}
-use Rattle.iim_dataset.specs.States.Devices.{Device, Wrote, Stopped, BrokeAfter, WithinInterruptionLimit}
-use Rattle.iim_dataset.specs.Laws.{TextsJoin}
-use Rattle.iim_dataset.specs.Format.Datasets.{canonical_stream}
-use Rattle.iim_object.specs.Format.Packing.{IsWritten, plan_datasets, subfile_datasets, confirmed_datasets}
+use Rattle.iim_dataset.specs.States.Devices.{BrokeAfter}
 use Rattle.iim_object.specs.Format.Plans.{most_sizes}
 use Rattle.iim_object.proofs.PlanParts.{plan_length}
-use Rattle.iim_object.specs.Format.Cuts.{joined_parts}
-use Rattle.iim_object.specs.States.Writing.{Writing, IsWrittenFrom, HasWritten, Lengthens, BreaksOff, ContinuesWith, Begins, most_of, total_of, plan_octets, write_cause}
-use Rattle.iim_object.specs.declared.plan.Plan.{Plan}
-use Rattle.iim_object.specs.declared.writing.cause.StartFault.{StartFault}
+use Rattle.iim_object.specs.States.Writing.{HasWritten, Lengthens, BreaksOff, ContinuesWith}
 use Rattle.iim_object.specs.declared.writing.cause.PackCause.TheVariants as causes
-use Rattle.iim_object.proofs.Written.{stream_append, front_length}
-use Rattle.iim_pack.specs.Steps.{Opens}
-use Rattle.iim_pack.specs.States.Starting.{StartBreaksOff}
+use Rattle.iim_object.proofs.Written.{front_length}
 
 pub begins_by : (text rest whole : List ℕ) (n : ℕ) → whole ≡ text ++ rest → Begins (take n text) whole
 begins_by text rest whole n e =

@@ -1,19 +1,13 @@
 -- The first cause of an order.
-use Rattle.std.proofs.Common.{◌≡◌, ℕ, ◌+◌, Bool, true, false, not, nat_le, cond, IsTrue, Option, Some, None, List, [], ◌∷◌, length, refl, sym, ap, subst, ◌∙◌, arith, length-append}
-use Rattle.std.specs.List.{list_all}
-use Rattle.std.proofs.lemmas.Bool.{and_from, and_parts, leb-false, leb-true, le-leb, ltb-true, ltb-false, not-true, not-false}
-use Rattle.iim_object.specs.Format.Plans.{is_short}
-use Rattle.iim_object.specs.States.Writing.{most_of, total_of, passes_plan, PassesPlan, IsBelowKnown}
-use Rattle.iim_object.specs.declared.plan.Plan.{Plan}
-use Rattle.iim_object.specs.declared.size.Size.{Size}
-use Rattle.iim_object.specs.declared.size.Size.TheVariants.{Known, Unknown}
+use Rattle.iim_pack.proofs.Words.{◌≡◌, ℕ, ◌+◌, Bool, true, false, not, nat_le, cond, IsTrue, Option, Some, None, List, [], ◌∷◌, length, refl, sym, ap, subst}
+use Rattle.iim_pack.proofs.Words.{◌∙◌, arith, length-append, list_all, and_parts, leb-true, le-leb, ltb-false, not-false, is_short, most_of, total_of}
+use Rattle.iim_pack.proofs.Words.{passes_plan, Plan, Size, Known, Unknown, is_line_octet, is_trailer_octet, Header, IsTrailer, packed_head, packed_tail}
+use Rattle.iim_pack.proofs.Words.{canonical, Packing, is_trailer, start_cause, text_cause, line_end_cause, pack_cause}
+use Rattle.std.proofs.lemmas.Bool.{and_from, leb-false, ltb-true, not-true}
+use Rattle.iim_object.specs.States.Writing.{PassesPlan, IsBelowKnown}
 use Rattle.iim_object.specs.declared.writing.cause.PackCause.{PackCause}
 use Rattle.iim_object.specs.declared.writing.cause.PackCause.TheVariants.{PastAnnounced, ShortOfAnnounced, BadTextOctet, BadTrailer, Failed}
-use Rattle.wire_story.specs.Format.Texts.{is_line_octet}
-use Rattle.wire_message.specs.Format.Fields.{is_trailer_octet}
-use Rattle.wire_message.specs.Format.Messages.{Header, IsTrailer}
-use Rattle.wire_message.specs.Format.Canonical.{packed_head, packed_tail, canonical}
-use Rattle.iim_pack.specs.States.Packing.{Packing, is_trailer, start_cause, text_cause, line_end_cause, finish_cause, pack_cause}
+use Rattle.iim_pack.specs.States.Packing.{finish_cause}
 use Rattle.iim_pack.specs.Format.Orders.{IsFirstOf, AgainstStart, AgainstText, AgainstLineEnd, AgainstFinish, AgainstPack}
 
 -- a test that tells what its cause says

@@ -1,12 +1,9 @@
 -- Which datasets of a packed form are of which record.
-use Rattle.std.proofs.Common.{◌≡◌, ℕ, Bool, true, false, nat_eq, List, [], ◌∷◌, ◌++◌, refl, sym, ap, ◌∙◌, append_assoc, append-nil}
-use Rattle.std.specs.List.{AllByRecursion, filter}
+use Rattle.iim_pack.proofs.Words.{◌≡◌, ℕ, Bool, true, false, nat_eq, List, [], ◌∷◌, ◌++◌, refl, sym, ap, ◌∙◌, append_assoc, append-nil, AllByRecursion}
+use Rattle.iim_pack.proofs.Words.{Dataset, of_record, all_map, kept, joined, joined_parts, subfile_datasets}
+use Rattle.std.specs.List.{filter}
 use Rattle.std.proofs.lemmas.List.Elements.{filter-append}
-use Rattle.iim_dataset.specs.Format.Datasets.{Dataset, of_record}
-use Rattle.iim_dataset.proofs.Each.{all_map}
-use Rattle.iim_fields.specs.Format.Faults.{kept, is_kept, joined}
-use Rattle.iim_object.specs.Format.Cuts.{joined_parts}
-use Rattle.iim_object.specs.Format.Packing.{subfile_datasets}
+use Rattle.iim_fields.specs.Format.Faults.{is_kept}
 
 -- ---- what passes a test
 

@@ -1,14 +1,13 @@
 -- Good datasets have spellings: no row allows more octets than a count can tell.
-use Rattle.std.proofs.Common.{◌≡◌, ℕ, ◌<◌, ◌≤◌, ◌^◌, true, ◌&&◌, ◌||◌, nat_eq, nat_le, List, [], ◌∷◌, length, Option, Some, None, IfSome, IsSomeAnd, arith}
-use Rattle.std.specs.List.{AllByRecursion, list_all, find}
+use Rattle.iim_pack.proofs.Words.{◌≡◌, ℕ, ◌<◌, ◌≤◌, ◌^◌, true, ◌&&◌, nat_eq, nat_le, List, [], ◌∷◌, length, Option, Some, None, arith, AllByRecursion}
+use Rattle.iim_pack.proofs.Words.{list_all, and_parts, leb-true, greatest_size, Dataset, count_octets, HasSpellings, IsGoodDataset}
+use Rattle.std.proofs.Common.{◌||◌, IfSome, IsSomeAnd}
+use Rattle.std.specs.List.{find}
 use Rattle.std.specs.Option.{option_map, option_or}
-use Rattle.std.proofs.lemmas.Bool.{and_parts, leb-true, cond_both}
-use Rattle.iim_dataset.specs.Format.Octets.{IsOctet, greatest_size, within}
-use Rattle.iim_dataset.specs.Format.Datasets.{Dataset, count_octets}
-use Rattle.iim_dataset.specs.Laws.{HasSpellings}
+use Rattle.std.proofs.lemmas.Bool.{cond_both}
+use Rattle.iim_dataset.specs.Format.Octets.{IsOctet, within}
 use Rattle.iim_tables.specs.Format.Rows.{table, row_of, row_in, row_of_others, is_admitted}
 use Rattle.iim_tables.specs.declared.shape.Row.{Row}
-use Rattle.iim_tables.specs.Format.Records.{IsGoodDataset}
 use Rattle.iim_tables.proofs.GoodDatasets.{table_bounded}
 
 abbrev IsBounded : Option Row → Type 0

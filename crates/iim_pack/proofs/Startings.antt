@@ -1,20 +1,12 @@
 -- How a packer begins.
-use Rattle.std.proofs.Common.{◌≡◌, ℕ, ◌+◌, List, [], ◌++◌, length, take, refl, sym, subst, ◌∙◌, arith, append-nil, length-append, length-take}
-use Rattle.iim_dataset.specs.States.Devices.{Device, Wrote, Stopped, WithinInterruptionLimit}
-use Rattle.iim_dataset.specs.Laws.{TextsJoin}
-use Rattle.iim_dataset.specs.Format.Datasets.{Dataset, canonical_stream}
+use Rattle.iim_pack.proofs.Words.{◌≡◌, ℕ, ◌+◌, List, [], ◌++◌, length, take, refl, sym, subst, ◌∙◌, arith, append-nil, length-append, Device, Wrote, Stopped}
+use Rattle.iim_pack.proofs.Words.{WithinInterruptionLimit, TextsJoin, Dataset, canonical_stream, Writing, IsWrittenFrom, Begins, Plan, StartFault}
+use Rattle.iim_pack.proofs.Words.{packed_text, Header, packed_head, packed_tail, FormWith, Opens, StartBreaksOff, Starts}
+use Rattle.std.proofs.Common.{length-take}
 use Rattle.iim_fields.specs.Format.Envelopes.{IsEnvelope}
 use Rattle.iim_object.specs.States.Writing as object
-use Rattle.iim_object.specs.States.Writing.{Writing, IsWrittenFrom, Begins}
-use Rattle.iim_object.specs.declared.plan.Plan.{Plan}
-use Rattle.iim_object.specs.declared.writing.cause.StartFault.{StartFault}
 use Rattle.iim_object.specs.declared.writing.cause.PackCause.TheVariants as causes
-use Rattle.wire_story.specs.Format.Texts.{packed_text}
-use Rattle.wire_message.specs.Format.Messages.{Header, IsHeader}
-use Rattle.wire_message.specs.Format.Canonical.{packed_head, packed_tail}
-use Rattle.iim_pack.specs.States.Packing.{FormWith}
-use Rattle.iim_pack.specs.Steps.{Opens}
-use Rattle.iim_pack.specs.States.Starting.{StartBreaksOff, Starts}
+use Rattle.wire_message.specs.Format.Messages.{IsHeader}
 use Rattle.iim_pack.proofs.Goings.{begins_after}
 use Rattle.iim_pack.proofs.Openings.{begins_by, halts_after}
 

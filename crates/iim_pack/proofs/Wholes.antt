@@ -1,24 +1,17 @@
 -- A whole envelope packed in one call.
-use Rattle.std.proofs.Common.{◌≡◌, ℕ, ◌+◌, ◌≤◌, true, false, not, nat_le, None, inl, inr, List, [], ◌∷◌, ◌++◌, length, refl, sym, ap, subst, ◌∙◌, arith, append-nil, length-append}
-use Rattle.std.proofs.lemmas.Bool.{leb-true, le-leb, not-false}
-use Rattle.iim_dataset.specs.States.Devices.{Device}
-use Rattle.iim_dataset.specs.Laws.{TextsJoin}
-use Rattle.iim_dataset.specs.Format.Datasets.{Dataset}
-use Rattle.iim_object.specs.Format.Plans.{is_short}
-use Rattle.iim_object.specs.States.Writing.{most_of, total_of, passes_plan}
-use Rattle.iim_object.specs.declared.plan.Plan.{Plan}
-use Rattle.iim_object.specs.declared.writing.cause.StartFault.{StartFault}
+use Rattle.iim_pack.proofs.Words.{◌≡◌, ℕ, ◌+◌, ◌≤◌, true, false, not, nat_le, None, inr, List, [], ◌∷◌, ◌++◌, length, refl, sym, ap, subst, ◌∙◌, arith}
+use Rattle.iim_pack.proofs.Words.{append-nil, length-append, leb-true, le-leb, not-false, Device, TextsJoin, Dataset, is_short, most_of, total_of}
+use Rattle.iim_pack.proofs.Words.{passes_plan, Plan, StartFault, packed_text, StoryEvent, events_of_lines, LinesArePackedAsTheirEvents, packed_events}
+use Rattle.iim_pack.proofs.Words.{lines_of, Header, packed_head, packed_tail, canonical, Packing, EndsIn, is_trailer, pack_cause, start_cause, Starts}
+use Rattle.iim_pack.proofs.Words.{StartBreaksOff}
+use Rattle.std.proofs.Common.{inl}
 use Rattle.iim_object.specs.declared.writing.cause.PackCause.TheVariants as causes
-use Rattle.wire_story.specs.Format.Texts.{packed_text, MakeText}
-use Rattle.wire_story.specs.Format.Delivery.{StoryEvent, events_of_lines}
+use Rattle.wire_story.specs.Format.Texts.{MakeText}
 use Rattle.wire_story.specs.States.Collecting.{collect}
-use Rattle.wire_story.specs.Laws.{PackedLinesAreAText, TextsAreDeliveredAsLines, TextsAreCollectedAsLines, LinesArePackedAsTheirEvents}
-use Rattle.wire_story.specs.Format.Packing.{packed_events, lines_of}
-use Rattle.wire_message.specs.Format.Messages.{Header}
-use Rattle.wire_message.specs.Format.Canonical.{packed_head, packed_tail, canonical}
+use Rattle.wire_story.specs.Laws.{PackedLinesAreAText, TextsAreDeliveredAsLines, TextsAreCollectedAsLines}
 use Rattle.iim_pack.specs.Format.Packed.{Packed}
-use Rattle.iim_pack.specs.States.Packing.{Packing, Lengthens, BreaksOff, ContinuesWith, EndsIn, Finishes, is_trailer, pack_cause, start_cause, finish_cause, least_ending, written_of}
-use Rattle.iim_pack.specs.States.Starting.{Starts, StartBreaksOff, IsStartFault}
+use Rattle.iim_pack.specs.States.Packing.{Lengthens, BreaksOff, ContinuesWith, Finishes, finish_cause, least_ending, written_of}
+use Rattle.iim_pack.specs.States.Starting.{IsStartFault}
 use Rattle.iim_pack.specs.States.Whole.{Packs, IsPackFault}
 use Rattle.iim_pack.proofs.Finishings.{first_none}
 use Rattle.iim_pack.proofs.Openings.{halts_after}

@@ -1,13 +1,9 @@
 -- What stands before the first of an octet, and after it.
-use Rattle.std.proofs.Common.{◌≡◌, inl, inr, ℕ, zero, suc, ◌+◌, ◌-◌, ◌<◌, ◌==◌, Bool, true, false, not, cond, List, [], ◌∷◌, ◌++◌, append_assoc, length, length-append, take, drop, get_or, refl, ap, sym, ◌∙◌, subst, arith}
-use Rattle.std.specs.List.{position_or_len, list_all}
-use Rattle.std.proofs.Math.Numerals.{one-add}
-use Rattle.std.proofs.lemmas.Bool.{eq-eqb, eqb-true, false≢true, and_parts, false_from_ne_true}
+use Rattle.iim_script.proofs.Words.{◌≡◌, inl, inr, ℕ, zero, suc, ◌+◌, ◌-◌, ◌<◌, ◌==◌, Bool, true, false, not, cond, List, [], ◌∷◌, ◌++◌, append_assoc, length}
+use Rattle.iim_script.proofs.Words.{length-append, take, drop, get_or, refl, ap, sym, ◌∙◌, subst, arith, position_or_len, list_all, one-add, eq-eqb, eqb-true}
+use Rattle.iim_script.proofs.Words.{false≢true, and_parts, false_from_ne_true, take_rest, all_append, all_front, HasNo, EndsLine}
 use Rattle.std.proofs.lemmas.List.Sums.{split_at_first, passes_at_first}
-use Rattle.std.proofs.lemmas.List.{take_rest}
 use Rattle.std.proofs.Math.Seq.{take-length}
-use Rattle.iim_dataset.proofs.Each.{all_append, all_front}
-use Rattle.iim_script.specs.Format.Lines.{HasNo, EndsLine}
 
 before_cons : (b x : ℕ) (xs : List ℕ) (n : ℕ) (same : Bool) → (x == b) ≡ same → HasNo b (take n xs) → HasNo b (take (cond (not same) (suc n) 0) (x ∷ xs))
 before_cons b x xs n true e h = tt

@@ -1,16 +1,12 @@
 -- What stands before the story, line by line.
-use Rattle.std.proofs.Common.{◌≡◌, ◌⊎◌, inl, inr, ℕ, ◌+◌, ◌≤◌, true, false, List, [], ◌∷◌, ◌++◌, append_assoc, append-nil, length, length-append, get_or, refl, ap, sym, ◌∙◌, subst, arith, None}
-use Rattle.std.specs.List.{list_all}
-use Rattle.std.proofs.lemmas.Bool.{false≢true, and_parts}
-use Rattle.iim_dataset.specs.Format.Datasets.{Dataset}
-use Rattle.iim_fields.specs.States.Builders.{Building, add_fault, finish_fault}
-use Rattle.iim_fields.specs.declared.limits.Limits.{Limits}
-use Rattle.wire_message.specs.Format.Messages.{Header}
-use Rattle.iim_script.specs.Format.Lines.{HasNo, NextLine}
-use Rattle.iim_script.specs.Format.Forms.{TellsField, TellsHead, text_word}
-use Rattle.iim_dataset.specs.Format.Octets.{is_digit}
-use Rattle.iim_script.specs.Format.Scripts.{TellFields, AreTaken, AreFieldLines, AreTrailer, IsFront, max_script}
-use Rattle.iim_script.specs.Format.Faults.{Stage, InFields, AfterMessage, AfterTrailer, HaveCome, Stands, TellsNoField, TellsNoHead, TellsNoTrailer, IsNextWrong, IsFrontFault, IsScriptFault, ScriptLine, Field, BadTrailer, OutOfMemory, ScriptCause}
+use Rattle.iim_script.proofs.Words.{◌≡◌, ◌⊎◌, inl, inr, ℕ, ◌+◌, ◌≤◌, true, false, List, [], ◌∷◌, ◌++◌, append_assoc, length, length-append, get_or, refl, ap}
+use Rattle.iim_script.proofs.Words.{sym, ◌∙◌, subst, arith, None, list_all, false≢true, and_parts, Dataset, Building, add_fault, finish_fault, Limits, Header}
+use Rattle.iim_script.proofs.Words.{HasNo, NextLine, TellsField, TellsHead, text_word, is_digit, TellFields, AreTaken, AreTrailer, IsFront, max_script, Stage}
+use Rattle.iim_script.proofs.Words.{InFields, AfterMessage, AfterTrailer, HaveCome, Stands, TellsNoField, TellsNoTrailer, IsNextWrong, IsFrontFault}
+use Rattle.iim_script.proofs.Words.{IsScriptFault, ScriptLine, Field, BadTrailer, OutOfMemory, ScriptCause}
+use Rattle.std.proofs.Common.{append-nil}
+use Rattle.iim_script.specs.Format.Scripts.{AreFieldLines}
+use Rattle.iim_script.specs.Format.Faults.{TellsNoHead}
 use Rattle.iim_script.specs.Steps.{AddsField, RefusesLine, number_after, NextIs, NextMustBe, RefusesFields, RefusesHeader, TakesTrailer, RefusesTrailer, RefusesText, RefusesEnvelope}
 use Rattle.iim_script.proofs.Next.{lines_more, count_more, next_once, no_next}
 

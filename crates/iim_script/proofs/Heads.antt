@@ -1,14 +1,10 @@
 -- The words of a header's line.
-use Rattle.std.proofs.Common.{◌≡◌, ℕ, ◌-◌, ◌==◌, List, [], ◌∷◌, ◌++◌, append-nil, length, take, drop, get_or, refl, ap, sym, ◌∙◌, subst, Option, Some, None, IsSome, IfSome, IfNone}
-use Rattle.std.specs.List.{position_or_len}
-use Rattle.std.proofs.lemmas.Bool.{eqb-true, false≢true}
-use Rattle.std.proofs.lemmas.List.{take_rest, take-append-drop}
-use Rattle.wire_message.specs.Format.Fields.{is_alphanumeric}
-use Rattle.iim_dataset.specs.Format.Octets.{is_letter, is_digit}
-use Rattle.wire_message.specs.Format.Messages.{Header, header_of, IsHeader}
-use Rattle.iim_script.specs.Format.Lines.{HasNo}
-use Rattle.iim_script.specs.Format.Shown.{TellsLast}
-use Rattle.iim_script.specs.Format.Forms.{HeadWords, AreWords, TellsHead, words_of, message_word, after_source, after_number, after_priority, after_category}
+use Rattle.iim_script.proofs.Words.{◌≡◌, ℕ, ◌-◌, ◌==◌, List, [], ◌∷◌, ◌++◌, length, take, drop, get_or, refl, ap, sym, ◌∙◌, subst, Option, Some, None, IfSome}
+use Rattle.iim_script.proofs.Words.{IfNone, position_or_len, eqb-true, false≢true, take_rest, take-append-drop, is_alphanumeric, is_letter, is_digit, Header}
+use Rattle.iim_script.proofs.Words.{IsHeader, HasNo, TellsLast, TellsHead, words_of, message_word, after_source, after_number, after_priority, after_category}
+use Rattle.std.proofs.Common.{append-nil, IsSome}
+use Rattle.wire_message.specs.Format.Messages.{header_of}
+use Rattle.iim_script.specs.Format.Forms.{HeadWords, AreWords}
 use Rattle.iim_script.proofs.Cuts.{cut_once, has_no_octet, has_no_before, lacks, first_passes}
 use Rattle.iim_script.proofs.Texts.{last_once}
 

@@ -1,12 +1,9 @@
 -- The numbers at the front of a line.
-use Rattle.std.proofs.Common.{◌≡◌, ℕ, suc, ◌-◌, Bool, true, false, not, cond, List, [], ◌∷◌, ◌++◌, length, take, drop, get_or, refl, ap, sym, ◌∙◌, subst}
-use Rattle.std.specs.List.{position_or_len, list_all}
-use Rattle.std.proofs.lemmas.Bool.{false≢true, and_from, and_parts, not-true}
-use Rattle.std.proofs.Math.Numerals.{one-add}
-use Rattle.std.proofs.lemmas.List.{take_rest, take-append-drop}
-use Rattle.iim_script.specs.Format.Lines.{HasNo}
-use Rattle.iim_script.specs.Format.Forms.{TellsNumber, TellsNames}
-use Rattle.iim_dataset.specs.Format.Octets.{is_digit}
+use Rattle.iim_script.proofs.Words.{◌≡◌, ℕ, suc, ◌-◌, Bool, true, false, not, cond, List, [], ◌∷◌, ◌++◌, length, take, drop, get_or, refl, ap, sym, ◌∙◌}
+use Rattle.iim_script.proofs.Words.{subst, position_or_len, list_all, false≢true, and_from, and_parts, one-add, take_rest, take-append-drop, HasNo}
+use Rattle.iim_script.proofs.Words.{TellsNumber, is_digit}
+use Rattle.std.proofs.lemmas.Bool.{not-true}
+use Rattle.iim_script.specs.Format.Forms.{TellsNames}
 use Rattle.iim_script.proofs.Cuts.{cut_once, has_no_octet, lacks, first_passes}
 
 abbrev pub no_digit : ℕ → Bool

@@ -1,23 +1,22 @@
 -- Stories whose lines end in LF alone.
-use Rattle.std.proofs.Common.{◌≡◌, inl, inr, ℕ, zero, suc, ◌+◌, ◌*◌, ◌<◌, ◌==◌, Bool, true, false, cond, List, [], ◌∷◌, ◌++◌, append_assoc, append-nil, length, take, take-add, drop, map, count_by, get_or, refl, ap, sym, ◌∙◌, subst, arith, IsTrue}
-use Rattle.std.specs.List.{list_all, onto_first, AllByRecursion, join_with_byte}
+use Rattle.iim_script.proofs.Words.{◌≡◌, inl, inr, ℕ, zero, suc, ◌+◌, ◌*◌, ◌<◌, ◌==◌, Bool, true, false, cond, List, [], ◌∷◌, ◌++◌, append_assoc, length}
+use Rattle.iim_script.proofs.Words.{take, drop, map, count_by, get_or, refl, ap, sym, ◌∙◌, subst, arith, IsTrue, list_all, AllByRecursion, and_parts}
+use Rattle.iim_script.proofs.Words.{and_from, nat_tests, take-append-drop, is_line_octet, IsLine, IsText, HasNo, EndsLine, EndLines, IsStory, all_last}
+use Rattle.iim_script.proofs.Words.{TellsText}
+use Rattle.std.proofs.Common.{append-nil, take-add}
+use Rattle.std.specs.List.{onto_first, join_with_byte}
 use Rattle.std.specs.Simd.Lanes.{mask_l}
-use Rattle.std.proofs.lemmas.Bool.{and_parts, and_from, cases_Bool}
-use Rattle.std.proofs.lemmas.Bool.Decides.{nat_tests}
-use Rattle.std.proofs.lemmas.List.{drop-drop, take-append-drop}
+use Rattle.std.proofs.lemmas.Bool.{cases_Bool}
+use Rattle.std.proofs.lemmas.List.{drop-drop}
 use Rattle.std.proofs.lemmas.List.Sums.{sum_by-take-drop}
 use Rattle.std.proofs.lemmas.List.Folds.{list_all-append}
 use Rattle.std.proofs.lemmas.List.Splits.{slice_split-cons_yes, slice_split-cons_no, join_with_byte-slice_split}
 use Rattle.wire_story.specs.Joining.{lines_in}
-use Rattle.wire_story.specs.Format.Texts.{is_line_octet, IsLine, IsText}
 use Rattle.wire_story.proofs.Collected.{some_line, packed_len}
-use Rattle.iim_script.specs.Format.Lines.{HasNo, EndsLine, EndLines}
 use Rattle.iim_script.specs.Format.Printed.{PrintsStory}
-use Rattle.iim_script.specs.Format.Scripts.{IsStory}
 use Rattle.iim_script.proofs.Cuts.{lacks, ended}
 use Rattle.iim_script.proofs.Next.{no_feed, lines_more}
-use Rattle.iim_dataset.proofs.Each.{all_last}
-use Rattle.iim_script.specs.Plain.{is_plain, is_low, TellsText, IsWithoutFeed}
+use Rattle.iim_script.specs.Plain.{is_plain, is_low, IsWithoutFeed}
 
 -- ---- octets
 

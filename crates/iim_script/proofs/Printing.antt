@@ -1,22 +1,21 @@
 -- What is printed tells what it is printed of, and ends in lines.
-use Rattle.std.proofs.Common.{◌≡◌, inl, inr, ℕ, ◌+◌, ◌/◌, ◌%◌, ◌<◌, ◌≤◌, ◌==◌, ◌&&◌, nat_le, nat_lt, Bool, true, false, cond, List, [], ◌∷◌, ◌++◌, append_assoc, length, map, get_or, refl, sym, subst, arith}
+use Rattle.iim_script.proofs.Words.{◌≡◌, inl, inr, ℕ, ◌+◌, ◌/◌, ◌%◌, ◌<◌, ◌≤◌, ◌==◌, ◌&&◌, nat_le, nat_lt, Bool, true, false, cond, List, [], ◌∷◌, ◌++◌}
+use Rattle.iim_script.proofs.Words.{append_assoc, length, map, get_or, refl, sym, subst, arith, AllByRecursion, list_all, flat_map, false≢true, and_from}
+use Rattle.iim_script.proofs.Words.{and_parts, nat_tests, is_letter, is_digit, Dataset, is_alphanumeric, Header, IsHeader, HasNo, EndsLine, EndLines}
+use Rattle.iim_script.proofs.Words.{IsHexDigit, TellsOctets, TellsLast, TellsNumber, TellsField, TellsHead, TellsTrailer, message_word, words_of}
+use Rattle.iim_script.proofs.Words.{after_source, after_number, after_priority, after_category, shown_octet, shown, field_line, message_line, trailer_line}
+use Rattle.iim_script.proofs.Words.{TellFields}
 use Rattle.std.specs.Prelude.{decimal}
-use Rattle.std.specs.List.{AllByRecursion, list_all, flat_map}
-use Rattle.std.proofs.lemmas.Bool.{false≢true, and_from, and_parts, leb-true, le-leb}
-use Rattle.std.proofs.lemmas.Bool.Decides.{nat_tests}
+use Rattle.std.proofs.lemmas.Bool.{leb-true, le-leb}
 use Rattle.std.proofs.lemmas.Fmt.{decimal_nonempty, digits_decimal, digits_value-decimal, length-decimal-le}
 use Rattle.std.proofs.lemmas.Str.Parse.{IsDigitsTest, IsNumeralModel, numerals_by_fold}
-use Rattle.iim_dataset.specs.Format.Octets.{Octets, is_letter, is_digit}
-use Rattle.iim_dataset.specs.Format.Datasets.{Dataset}
-use Rattle.wire_message.specs.Format.Fields.{Are, is_alphanumeric}
+use Rattle.iim_dataset.specs.Format.Octets.{Octets}
+use Rattle.wire_message.specs.Format.Fields.{Are}
 use Rattle.wire_message.specs.Format.Fields as message
-use Rattle.wire_message.specs.Format.Messages.{Header, IsHeader}
-use Rattle.iim_script.specs.Format.Lines.{HasNo, EndsLine, EndLines}
-use Rattle.iim_script.specs.Format.Shown.{IsHexDigit, TellsOctet, TellsOctets, TellsLast}
-use Rattle.iim_script.specs.Format.Forms.{TellsNumber, TellsField, TellsHead, TellsTrailer, decimal_from, message_word, trailer_word, words_of, after_source, after_number, after_priority, after_category}
-use Rattle.iim_dataset.specs.Format.Shown.{hex_digit, escape, is_plain, shown_octet, shown, padding, dataset_name}
-use Rattle.iim_script.specs.Format.Printed.{after_space, field_line, message_line, trailer_line}
-use Rattle.iim_script.specs.Format.Scripts.{TellFields}
+use Rattle.iim_script.specs.Format.Shown.{TellsOctet}
+use Rattle.iim_script.specs.Format.Forms.{decimal_from, trailer_word}
+use Rattle.iim_dataset.specs.Format.Shown.{hex_digit, escape, is_plain, padding, dataset_name}
+use Rattle.iim_script.specs.Format.Printed.{after_space}
 use Rattle.iim_script.proofs.Cuts.{has_no_append, lacks, ended}
 
 -- ---- octets

@@ -1,15 +1,14 @@
 -- What is put at places of a text: digits, octets that stand for themselves, and the lines of datasets.
-use Rattle.std.proofs.Common.{◌≡◌, ℕ, ◌+◌, ◌/◌, ◌%◌, ◌<◌, ◌≤◌, List, [], ◌∷◌, ◌++◌, ap, ◌∙◌, decimal, arith, ◌&&◌, Bool, true, not, nat_eq, nat_le, length, map, take, refl, sym, append-nil, append_assoc, bit_and}
+use Rattle.iim_script.proofs.Words.{◌≡◌, ℕ, ◌+◌, ◌/◌, ◌%◌, ◌<◌, ◌≤◌, List, [], ◌∷◌, ◌++◌, ap, ◌∙◌, arith, ◌&&◌, Bool, true, not, nat_eq, nat_le, length, map}
+use Rattle.iim_script.proofs.Words.{take, refl, sym, append_assoc, list_all, flat_map, shown, Dataset, field_line}
+use Rattle.std.proofs.Common.{decimal, append-nil, bit_and}
 use Rattle.std.proofs.lemmas.Fmt.{decimal_digit, decimal_step}
 use Rattle.std.specs.Simd.Lanes.{zip2}
-use Rattle.std.specs.List.{list_all, flat_map}
 use Rattle.std.proofs.lemmas.List.{take-take, take-append-le}
 use Rattle.std.proofs.lemmas.List.Concat.{flat_map-append}
-use Rattle.iim_dataset.specs.Format.Shown.{is_plain, shown}
+use Rattle.iim_dataset.specs.Format.Shown.{is_plain}
 use Rattle.iim_dataset.proofs.Lanes.{lane, both_lanes, from_on, up_to, other_than, are_set, first_of}
 use Rattle.iim_dataset.proofs.PlainLanes.{shown_plain}
-use Rattle.iim_dataset.specs.Format.Datasets.{Dataset}
-use Rattle.iim_script.specs.Format.Printed.{field_line}
 
 -- ---- numbers of up to three digits, by their digits
 

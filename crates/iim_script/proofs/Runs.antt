@@ -1,22 +1,17 @@
 -- Scripts line by line: what a line tells and leads to is one thing, and so is what lines lead to.
-use Rattle.std.proofs.Common.{◌≡◌, ℕ, List, ◌∷◌, ◌++◌, get_or, drop, refl, ap, sym, ◌∙◌, subst, arith, ◌⊎◌, inl, inr, ◌+◌, [], append_assoc, append-nil, length, length-append, None}
-use Rattle.std.specs.List.{AllByRecursion}
-use Rattle.wire_story.specs.Format.Texts.{IsLine}
-use Rattle.iim_dataset.specs.Format.Datasets.{Dataset}
+use Rattle.iim_script.proofs.Words.{◌≡◌, ℕ, List, ◌∷◌, ◌++◌, get_or, drop, refl, ap, sym, ◌∙◌, subst, arith, ◌⊎◌, inl, inr, ◌+◌, [], append_assoc, length}
+use Rattle.iim_script.proofs.Words.{length-append, None, AllByRecursion, IsLine, Dataset, Header, TellsLast, TellsField, TellsHead, TellsTrailer, words_of}
+use Rattle.iim_script.proofs.Words.{after_source, text_word, add_fault, finish_fault, Limits, NextLine, EndLines, TellFields, AreTaken, AreTrailer, IsFront}
+use Rattle.iim_script.proofs.Words.{Stage, InFields, AfterMessage, AfterTrailer, HaveCome, Stands, IsNextWrong, ScriptLine, Field, BadTrailer, ScriptCause}
+use Rattle.std.proofs.Common.{append-nil}
 use Rattle.iim_dataset.proofs.Spelled.{dataset_is}
-use Rattle.wire_message.specs.Format.Messages.{Header, IsTrailer}
-use Rattle.iim_script.specs.Format.Shown.{TellsLast}
-use Rattle.iim_script.specs.Format.Forms.{TellsField, TellsHead, TellsTrailer, words_of, after_source, text_word}
+use Rattle.wire_message.specs.Format.Messages.{IsTrailer}
 use Rattle.iim_script.proofs.Texts.{last_once}
 use Rattle.iim_script.proofs.Names.{names_once}
 use Rattle.iim_script.proofs.Heads.{words_of_header, last_ends, head_once}
 use Rattle.iim_script.proofs.Fronts.{field_digit, tells_no_head}
-use Rattle.iim_fields.specs.States.Builders.{add_fault, finish_fault}
-use Rattle.iim_fields.specs.declared.limits.Limits.{Limits}
 use Rattle.iim_fields.specs.declared.fault.FieldCause.{FieldCause}
-use Rattle.iim_script.specs.Format.Lines.{NextLine, EndLines}
-use Rattle.iim_script.specs.Format.Scripts.{TellFields, AreTaken, AreTrailer, IsFront}
-use Rattle.iim_script.specs.Format.Faults.{Stage, InFields, AfterMessage, AfterTrailer, HaveCome, Stands, TellsBadField, EndsTooSoon, IsWrong, IsNextWrong, ScriptLine, Field, BadTrailer, ScriptCause}
+use Rattle.iim_script.specs.Format.Faults.{TellsBadField, EndsTooSoon, IsWrong}
 use Rattle.iim_script.proofs.Next.{next_once, no_next, lines_append}
 
 -- ---- what a line tells is one thing

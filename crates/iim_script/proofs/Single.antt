@@ -1,14 +1,9 @@
 -- Octets tell one script or have one fault.
-use Rattle.std.proofs.Common.{◌≡◌, ◌⊎◌, inl, inr, ℕ, ◌+◌, ◌<◌, ◌≤◌, List, [], ◌∷◌, ◌++◌, append-nil, length, refl, ap, sym, ◌∙◌, arith}
-use Rattle.std.specs.List.{AllByRecursion}
-use Rattle.iim_dataset.specs.Format.Datasets.{Dataset}
-use Rattle.iim_dataset.proofs.Each.{all_front, all_last}
-use Rattle.iim_fields.specs.declared.limits.Limits.{Limits}
-use Rattle.wire_message.specs.Format.Messages.{Header}
-use Rattle.wire_story.specs.Format.Texts.{IsLine}
-use Rattle.iim_script.specs.Format.Lines.{HasNo, NextLine}
-use Rattle.iim_script.specs.Format.Scripts.{IsStory, IsScript, max_script}
-use Rattle.iim_script.specs.Format.Faults.{IsNextWrong, IsFrontFault, IsStoryFault, IsScriptFault, ScriptTooLong, BadTextOctet, OutOfMemory, ScriptCause}
+use Rattle.iim_script.proofs.Words.{◌≡◌, ◌⊎◌, inl, inr, ℕ, ◌+◌, ◌<◌, ◌≤◌, List, [], ◌∷◌, ◌++◌, length, refl, ap, sym, ◌∙◌, arith, AllByRecursion, Dataset}
+use Rattle.iim_script.proofs.Words.{all_front, all_last, Limits, Header, IsLine, HasNo, NextLine, IsStory, IsScript, max_script, IsNextWrong, IsFrontFault}
+use Rattle.iim_script.proofs.Words.{IsScriptFault, OutOfMemory, ScriptCause}
+use Rattle.std.proofs.Common.{append-nil}
+use Rattle.iim_script.specs.Format.Faults.{IsStoryFault, ScriptTooLong, BadTextOctet}
 use Rattle.iim_script.specs.Laws.{IsOneScript}
 use Rattle.iim_script.proofs.Next.{next_once, no_next}
 use Rattle.iim_script.proofs.Runs.{Place, At, InStory, Run, Onward, runs_once, stands_run, story_run, next_wrong_stuck, next_wrong_once}

@@ -1,13 +1,11 @@
 -- The lines of a story, one after another.
-use Rattle.std.proofs.Common.{◌≡◌, ◌⊎◌, inl, inr, ℕ, ◌+◌, ◌<◌, List, [], ◌∷◌, ◌++◌, append_assoc, append-nil, length, length-append, take, refl, ap, sym, ◌∙◌, subst, arith, Option, Some, None, IfSome, IfNone, Bor}
-use Rattle.std.specs.List.{AllByRecursion}
+use Rattle.iim_script.proofs.Words.{◌≡◌, ◌⊎◌, inl, inr, ℕ, ◌+◌, ◌<◌, List, [], ◌∷◌, ◌++◌, append_assoc, length, length-append, take, refl, ap, sym, ◌∙◌}
+use Rattle.iim_script.proofs.Words.{subst, arith, Option, Some, None, IfSome, IfNone, Bor, AllByRecursion, all_append, IsLine, IsText, HasNo, EndsLine}
+use Rattle.iim_script.proofs.Words.{NextLine, EndLines, IsStory, TellsText}
+use Rattle.std.proofs.Common.{append-nil}
 use Rattle.std.proofs.Math.Seq.{take-append_seam}
-use Rattle.iim_dataset.proofs.Each.{all_append}
 use Rattle.iim_dataset.proofs.Lists.{some_none}
-use Rattle.wire_story.specs.Format.Texts.{IsLine, IsText, packed_text}
-use Rattle.iim_script.specs.Format.Lines.{HasNo, EndsLine, NextLine, EndLines}
-use Rattle.iim_script.specs.Format.Scripts.{IsStory}
-use Rattle.iim_script.specs.Plain.{TellsText}
+use Rattle.wire_story.specs.Format.Texts.{packed_text}
 use Rattle.iim_script.specs.Steps.{IsLastLine, RefusesStory}
 use Rattle.iim_script.specs.declared.fault.ScriptCause.TheVariants.{BadTextOctet}
 use Rattle.iim_script.proofs.Next.{lines_more, count_more}

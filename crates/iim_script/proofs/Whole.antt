@@ -1,31 +1,26 @@
 -- What is printed of an envelope is a script: a builder takes its datasets.
-use Rattle.std.proofs.Common.{◌≡◌, ℕ, ◌<◌, true, List, [], ◌∷◌, ◌++◌, append_assoc, length, refl, ap, sym, ◌∙◌, subst, arith, Option, None, map}
-use Rattle.std.specs.List.{AllByRecursion, flat_map}
+use Rattle.iim_script.proofs.Words.{◌≡◌, ℕ, ◌<◌, true, List, [], ◌∷◌, ◌++◌, append_assoc, length, refl, ap, sym, ◌∙◌, subst, arith, Option, None, map}
+use Rattle.iim_script.proofs.Words.{AllByRecursion, flat_map, eq-eqb, Dataset, all_append, finish_fault, Limits, AreTaken, Header, IsHeader, text_word}
+use Rattle.iim_script.proofs.Words.{EndLines, field_line, message_line, trailer_line}
 use Rattle.std.specs.Option.{option_or}
 use Rattle.std.proofs.lemmas.List.Elements.{filter-append}
 use Rattle.std.proofs.lemmas.List.Folds.{list_any-append}
-use Rattle.std.proofs.lemmas.Bool.{eq-eqb}
 use Rattle.std.proofs.Math.Bool.{or-true}
 use Rattle.std.proofs.lemmas.List.{length-map}
-use Rattle.iim_dataset.specs.Format.Datasets.{Dataset, of_record}
-use Rattle.iim_dataset.proofs.Each.{all_append, all_map}
+use Rattle.iim_dataset.specs.Format.Datasets.{of_record}
+use Rattle.iim_dataset.proofs.Each.{all_map}
 use Rattle.iim_dataset.proofs.Lists.{all_there}
 use Rattle.iim_fields.specs.Format.Envelopes.{IsEnvelope}
-use Rattle.iim_fields.specs.States.Builders.{absent, finish_fault}
+use Rattle.iim_fields.specs.States.Builders.{absent}
 use Rattle.iim_fields.specs.Format.Faults.{joined, missing_fault}
 use Rattle.iim_fields.specs.Laws.{DatasetsOfEnvelopesAreAdded}
 use Rattle.iim_tables.specs.Format.Records.{IsGoodDataset, mandatory, occurs}
 use Rattle.iim_fields.specs.Format.Bounds.{IsWithin}
 use Rattle.iim_fields.specs.declared.fault.FieldFault.{FieldFault}
-use Rattle.iim_fields.specs.declared.limits.Limits.{Limits}
-use Rattle.iim_script.specs.Format.Scripts.{AreTaken}
 use Rattle.iim_script.proofs.Printing.{IsPrintable, field_words, fields_end, fields_told, message_words, message_ends, head_told, trailer_words, trailer_ends, trailer_told}
 use Rattle.std.specs.Prelude.{codes}
-use Rattle.wire_message.specs.Format.Messages.{Header, IsHeader}
-use Rattle.iim_script.specs.Format.Forms.{text_word}
 use Rattle.iim_script.specs.Laws.{PrintedValuesAreScripts}
-use Rattle.iim_script.specs.Format.Lines.{EndLines}
-use Rattle.iim_script.specs.Format.Printed.{field_line, message_line, trailer_line, script_of}
+use Rattle.iim_script.specs.Format.Printed.{script_of}
 use Rattle.iim_script.proofs.Cuts.{ended}
 use Rattle.iim_script.proofs.Plains.{story_printed}
 

@@ -1,19 +1,15 @@
 -- What unpackers that stand alike answer, and that a restored one stands as the saved one.
-use Rattle.std.proofs.Common.{◌≡◌, ℕ, ◌+◌, ◌≤◌, ◌⊎◌, List, [], ◌∷◌, ◌++◌, length, take, slice_index, Result, Ok, Err, refl, ap, sym, subst, ◌∙◌, inl, inr, arith, rules, length-append}
-use Rattle.std.proofs.lemmas.List.{get_or-append-add}
-use Rattle.std.proofs.Math.Seq.{take-append-add}
-use Rattle.iim_fields.specs.declared.limits.Limits.{Limits}
-use Rattle.iim_places.specs.Format.Framed.{AreWithin}
-use Rattle.iim_places.specs.Format.Open.{IsOpen, RefusesNext}
+use Rattle.iim_unpack.proofs.Words.{◌≡◌, ℕ, ◌+◌, ◌≤◌, ◌⊎◌, List, [], ◌∷◌, ◌++◌, length, take, slice_index, Ok, Err, refl, ap, sym, subst, ◌∙◌, inl, inr}
+use Rattle.iim_unpack.proofs.Words.{arith, length-append, get_or-append-add, take-append-add, Limits, AreWithin, IsOpen, refusal_at, begun_record}
+use Rattle.iim_unpack.proofs.Words.{begun_number, Answer, Answers, Finished, Truncated, IsFinished, IsEnvelopeWithin, StreamsHaveOneAnswer, raised}
+use Rattle.iim_unpack.proofs.Words.{TokenFault, Refusal, Unpacking, Stands, IsDoneWith, IsRefusedIn, limits_in, Done, Progress}
+use Rattle.std.proofs.Common.{Result, rules}
+use Rattle.iim_places.specs.Format.Open.{RefusesNext}
 use Rattle.iim_places.specs.Format.Open as opens
-use Rattle.iim_places.specs.Format.Refusals.{refusal_at, begun_record, begun_number}
-use Rattle.iim_places.specs.Format.Streams.{Answer, Answers, Finished, Refused, Truncated, IsFinished, IsRefused, IsTruncated, IsEnvelopeWithin}
-use Rattle.iim_places.specs.Laws.{StreamsHaveOneAnswer, TicketsTellOnePlace}
-use Rattle.iim_places.specs.States.Counts.{raised}
-use Rattle.iim_places.specs.declared.fault.TokenFault.{TokenFault}
-use Rattle.iim_places.specs.declared.refusal.Refusal.{Refusal}
+use Rattle.iim_places.specs.Format.Streams.{Refused, IsRefused, IsTruncated}
+use Rattle.iim_places.specs.Laws.{TicketsTellOnePlace}
 use Rattle.iim_unpack.specs.Laws.{AnswersPiece, IsOfNoSink, StandAlike, StandOnSame, PieceIsAnsweredAlike, PiecesAreAnsweredAlike, RestoredStandAlike, RestoredStandAsSaved}
-use Rattle.iim_unpack.specs.States.Unpacking.{Unpacking, Stands, IsDoneWith, IsRefusedIn, limits_in, More, Done, Progress}
+use Rattle.iim_unpack.specs.States.Unpacking.{More}
 use Rattle.iim_places.proofs.Saved.{open_wider, whole_wider, at_restored}
 
 -- ---- an answer to a piece as the answer to all octets

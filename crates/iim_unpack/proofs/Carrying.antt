@@ -1,39 +1,26 @@
 -- Where heads, data and ends of datasets lead the parts of an unpacker.
-use Rattle.std.proofs.Common.{◌≡◌, ℕ, Bool, true, false, cond, if◌then◌else◌, nat_eq, List, [], ◌∷◌, ◌++◌, map, Option, Some, None, refl, ap, sym, subst, ◌∙◌, arith, append_assoc, append-nil}
-use Rattle.std.proofs.lemmas.Bool.{eqb-true, ne_eqb}
-use Rattle.std.proofs.lemmas.Option.{same_Some}
-use Rattle.iim_dataset.specs.Format.Octets.{Octets}
-use Rattle.iim_dataset.specs.Format.Datasets.{Dataset}
-use Rattle.iim_dataset.specs.Format.Splits.{Begun, InTag, InData}
-use Rattle.iim_dataset.specs.States.Events.{DatasetEvent, DataOctet, handed_on}
+use Rattle.iim_unpack.proofs.Words.{◌≡◌, ℕ, Bool, true, false, cond, if◌then◌else◌, nat_eq, List, [], ◌∷◌, ◌++◌, map, Option, Some, None, refl, ap, sym}
+use Rattle.iim_unpack.proofs.Words.{subst, ◌∙◌, arith, append_assoc, eqb-true, ne_eqb, same_Some, Octets, Dataset, Begun, InTag, InData, DatasetEvent}
+use Rattle.iim_unpack.proofs.Words.{DataOctet, Head, begun_head, IsBetween, begun_head_of, limits_of, FieldsPlace, StandsIn, Limits, End, text_so_far}
+use Rattle.iim_unpack.proofs.Words.{TextsStandBetweenStxAndEtx, ReadersStandAtLivingOctets, MessageCause, object_of, MayContinue, CanContinue, CanContinueAt}
+use Rattle.iim_unpack.proofs.Words.{TellsMessage, MessageRefuses, message_on, object_so_far, section, AllCanContinue, CountsFor, AreAfter, Within, StandsFor}
+use Rattle.iim_unpack.proofs.Words.{AreLed, TellsParts, PartsRefuse, LowerLaws, not_all}
+use Rattle.std.proofs.Common.{append-nil}
+use Rattle.iim_dataset.specs.States.Events.{handed_on}
 use Rattle.iim_dataset.specs.Format.Languages as languages
-use Rattle.iim_dataset.specs.declared.head.Head.{Head}
 use Rattle.iim_dataset.proofs.OctetLists.{octets_append}
-use Rattle.iim_fields.specs.States.Checks.{begun_head}
-use Rattle.iim_fields.specs.States.Standing.{IsBetween, begun_head_of, limits_of, FieldsPlace, StandsIn}
-use Rattle.iim_fields.specs.declared.limits.Limits.{Limits}
 use Rattle.iim_object.specs.Format.Events as object_events
 use Rattle.wire_story.specs.Format.Delivery as story
-use Rattle.wire_story.specs.Format.Tokens.{End, Octet, with_end}
-use Rattle.wire_message.specs.Format.Layers.{MessageLanguage, MessageLivesWith, StoryLivesIn, text_so_far}
-use Rattle.wire_message.specs.Laws.{TextsStandBetweenStxAndEtx, ReadersStandAtLivingOctets}
+use Rattle.wire_story.specs.Format.Tokens.{Octet, with_end}
+use Rattle.wire_message.specs.Format.Layers.{MessageLanguage, MessageLivesWith, StoryLivesIn}
 use Rattle.wire_message.specs.States.Reading as wire
 use Rattle.wire_message.specs.Format.Causes as wire_format
 use Rattle.wire_message.specs.States.SoFar.{LeadsTo}
 use Rattle.wire_message.specs.declared.place.Place.{Place}
-use Rattle.wire_message.specs.declared.fault.MessageCause.{MessageCause}
 use Rattle.wire_message.specs.declared.fault.MessageCause.TheVariants as messages
-use Rattle.iim_places.specs.Format.Admitted.{object_of}
-use Rattle.iim_places.specs.Format.Tokens.{MayContinue, CanContinue, CanContinueAt}
-use Rattle.iim_unpack.specs.Passed.{TellsMessage, MessageRefuses}
 use Rattle.iim_unpack.proofs.ToldMessage.{octets_in-octets}
-use Rattle.iim_places.specs.Format.Refusals.{message_on}
 use Rattle.iim_places.specs.declared.refusal.Cause.TheVariants as causes
-use Rattle.iim_places.specs.Format.Open.{object_so_far, section, AllCanContinue}
-use Rattle.iim_unpack.specs.States.Parts.{CountsFor, AreAfter, Within, StandsFor, AreLed, Parts}
-use Rattle.iim_unpack.specs.PartSteps.{TellsParts, PartsRefuse}
-use Rattle.iim_places.specs.Laws.{LowerLaws}
-use Rattle.iim_places.proofs.Lasts.{not_all}
+use Rattle.iim_unpack.specs.States.Parts.{Parts}
 use Rattle.iim_unpack.proofs.Sequences.{data_more}
 use Rattle.iim_places.proofs.ObjectOctets.{lives_whole}
 

@@ -1,36 +1,21 @@
 -- Where the end of a dataset leads the parts of an unpacker, and why it is refused.
-use Rattle.std.proofs.Common.{◌≡◌, ℕ, Bool, true, false, cond, if◌then◌else◌, nat_eq, List, [], ◌∷◌, ◌++◌, length, Option, Some, None, refl, ap, sym, subst, ◌∙◌, map, append-nil, arith}
-use Rattle.std.proofs.lemmas.Bool.{ne_eqb, true≢false}
-use Rattle.iim_dataset.specs.Format.Octets.{number}
-use Rattle.iim_dataset.specs.Format.Datasets.{Dataset, head_of}
-use Rattle.iim_dataset.specs.Format.Splits.{InTag, InData}
-use Rattle.iim_dataset.specs.States.Events.{DatasetEvent, DatasetEnd, HeadRead, DataOctet}
-use Rattle.iim_dataset.specs.declared.head.Head.{Head}
-use Rattle.iim_fields.specs.Format.Alive.{SectionsLiveAt}
-use Rattle.iim_fields.specs.States.Checks.{IsValueFault}
-use Rattle.iim_fields.specs.States.Standing.{IsOf, limits_of, FieldsPlace, StandsAfter, StandsIn}
-use Rattle.iim_fields.specs.Format.Values.{data_of, tells_number, number_told}
+use Rattle.iim_unpack.proofs.Words.{◌≡◌, ℕ, Bool, true, false, cond, if◌then◌else◌, nat_eq, List, [], ◌∷◌, ◌++◌, length, Option, Some, None, refl, ap, sym}
+use Rattle.iim_unpack.proofs.Words.{subst, ◌∙◌, map, arith, ne_eqb, true≢false, number, Dataset, head_of, InTag, InData, DatasetEvent, DatasetEnd, HeadRead}
+use Rattle.iim_unpack.proofs.Words.{DataOctet, Head, SectionsLiveAt, IsValueFault, limits_of, FieldsPlace, StandsAfter, StandsIn, data_of, tells_number}
+use Rattle.iim_unpack.proofs.Words.{FieldFault, last_more, value_token, place_after_datasets, text_so_far, ReadersStandAtLivingOctets, place_at}
+use Rattle.iim_unpack.proofs.Words.{IsRefusedValue, of_field, IsObjectFault, TellsParts, TellsWhole, PartsRefuse, AreAfter, Within, CountsFor, TokenFault}
+use Rattle.iim_unpack.proofs.Words.{silent_leads, not_all, LowerLaws, object_of_more, few_more, AreInOrder}
+use Rattle.std.proofs.Common.{append-nil}
+use Rattle.iim_fields.specs.States.Standing.{IsOf}
+use Rattle.iim_fields.specs.Format.Values.{number_told}
 use Rattle.iim_fields.specs.Laws.{NoSectionsBeginOthers}
-use Rattle.iim_fields.specs.declared.fault.FieldFault.{FieldFault}
-use Rattle.iim_fields.proofs.Sections.{last_more}
-use Rattle.iim_object.specs.Format.Places.{value_token}
 use Rattle.iim_object.specs.States.Reading as objects
-use Rattle.iim_object.specs.Format.Numbers.{place_after_datasets}
-use Rattle.wire_message.specs.Format.Layers.{text_so_far}
-use Rattle.wire_message.specs.Laws.{ReadersStandAtLivingOctets}
-use Rattle.iim_places.specs.Format.Tokens.{place_at, IsRefusedValue}
-use Rattle.iim_places.specs.Format.Refusals.{of_field}
-use Rattle.iim_unpack.specs.PartSteps.{IsObjectFault, TellsParts, TellsWhole, PartsRefuse, Closed, NotClosed}
-use Rattle.iim_unpack.specs.States.Parts.{AreAfter, Within, CountsFor, Parts}
-use Rattle.iim_places.specs.declared.fault.TokenFault.{TokenFault}
+use Rattle.iim_unpack.specs.PartSteps.{Closed, NotClosed}
+use Rattle.iim_unpack.specs.States.Parts.{Parts}
 use Rattle.iim_unpack.proofs.Faults.{field_value, object_value}
-use Rattle.iim_places.proofs.Places.{number_leads, silent_leads}
+use Rattle.iim_places.proofs.Places.{number_leads}
 use Rattle.iim_unpack.proofs.Carrying.{HasBegun, in_one, same_head, all_within}
 use Rattle.iim_unpack.proofs.Sequences.{end_told, all_came}
-use Rattle.iim_places.proofs.Lasts.{not_all}
-use Rattle.iim_places.specs.Laws.{LowerLaws}
-use Rattle.iim_places.proofs.ObjectOctets.{object_of_more, few_more}
-use Rattle.iim_unpack.specs.Sequence.{AreInOrder}
 use Rattle.wire_story.specs.Format.Delivery as story
 
 -- ---- numbers

@@ -1,11 +1,9 @@
 -- Whether the last dataset has ended.
-use Rattle.std.proofs.Common.{◌≡◌, ℕ, ◌&&◌, Bool, true, false, not, nat_eq, is_some, List, Some, None, refl, ap, ◌∙◌, arith}
-use Rattle.std.proofs.lemmas.Bool.{ne_eqb}
-use Rattle.iim_dataset.specs.Format.Datasets.{Dataset}
-use Rattle.iim_dataset.specs.declared.head.Head.{Head}
-use Rattle.iim_fields.specs.States.Checks.{begun_head, section_at}
-use Rattle.iim_fields.specs.Format.Faults.{section_after}
-use Rattle.iim_fields.specs.States.Standing.{IsInside, StandsAfter, begun_head_of, section_of}
+use Rattle.iim_unpack.proofs.Words.{◌≡◌, ℕ, ◌&&◌, Bool, true, false, not, nat_eq, List, Some, None, refl, ap, ◌∙◌, arith, ne_eqb, Dataset, Head, begun_head}
+use Rattle.iim_unpack.proofs.Words.{section_after, StandsAfter, begun_head_of, section_of}
+use Rattle.std.proofs.Common.{is_some}
+use Rattle.iim_fields.specs.States.Checks.{section_at}
+use Rattle.iim_fields.specs.States.Standing.{IsInside}
 use Rattle.iim_unpack.specs.States.Parts.{has_ended, Parts}
 
 and_true : (b : Bool) → (b && true) ≡ b

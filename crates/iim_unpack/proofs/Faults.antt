@@ -1,40 +1,30 @@
 -- Which fault of a token is the first, and which layer dies with it.
-use Rattle.std.proofs.Common.{◌≡◌, ℕ, ◌<◌, ◌≤◌, ◌⊎◌, Bool, true, false, not, ◌&&◌, ◌||◌, if◌then◌else◌, nat_eq, nat_lt, List, [], ◌∷◌, ◌++◌, length, Option, Some, None, refl, ap, sym, subst, ◌∙◌, inl, arith}
-use Rattle.std.specs.Option.{option_or, option_map}
+use Rattle.iim_unpack.proofs.Words.{◌≡◌, ℕ, ◌<◌, ◌≤◌, ◌⊎◌, Bool, true, false, not, ◌&&◌, if◌then◌else◌, nat_eq, List, [], ◌∷◌, ◌++◌, length, Option, Some}
+use Rattle.iim_unpack.proofs.Words.{None, refl, ap, sym, subst, ◌∙◌, inl, arith, option_or, option_map, IsOctet, Octets, number, Dataset, head_of, of_record}
+use Rattle.iim_unpack.proofs.Words.{Head, SectionsLiveAt, tells_number, kept, is_kept, first_fault, value_fault, section_after, IsValueFault, IsHeadFault}
+use Rattle.iim_unpack.proofs.Words.{Limits, FieldFault, max_subfiles, ObjectToken, ObjectLanguage, head_token, value_token, place_after_datasets, State}
+use Rattle.iim_unpack.proofs.Words.{of_field, too_many_on, IsObjectFault, ObjectLives, place_at, IsRefusedHead, IsRefusedValue, TokenFault, HeadLeads}
+use Rattle.std.proofs.Common.{◌||◌, nat_lt}
 use Rattle.std.proofs.lemmas.Bool.{le-ltb}
-use Rattle.iim_dataset.specs.Format.Octets.{IsOctet, Octets, number}
-use Rattle.iim_dataset.specs.Format.Datasets.{Dataset, head_of, of_record}
 use Rattle.iim_dataset.specs.Format.Languages as languages
-use Rattle.iim_dataset.specs.declared.head.Head.{Head}
 use Rattle.iim_tables.specs.Format.Rows.{row_of}
 use Rattle.iim_tables.specs.declared.shape.Row.{Row}
 use Rattle.iim_fields.specs.Format.Records.{after}
 use Rattle.iim_tables.specs.Format.Records.{occurs}
-use Rattle.iim_fields.specs.Format.Alive.{SectionsLive, SectionsLiveAt}
-use Rattle.iim_fields.specs.Format.Values.{tells_number}
-use Rattle.iim_fields.specs.Format.Faults.{kept, kept_octets, is_kept, is_first, is_in_order, fault_on, row_fault, missing_fault, missing_of, head_fault, record_fault, room_fault, limits_fault, first_fault, value_fault, fault_by_row, section_after, section_run}
-use Rattle.iim_fields.specs.States.Checks.{IsValueFault}
-use Rattle.iim_fields.specs.States.Standing.{IsHeadFault}
+use Rattle.iim_fields.specs.Format.Alive.{SectionsLive}
+use Rattle.iim_fields.specs.Format.Faults.{kept_octets, is_first, is_in_order, fault_on, row_fault, missing_fault, missing_of, head_fault, record_fault, room_fault, limits_fault, fault_by_row, section_run}
 use Rattle.iim_fields.specs.Laws.{HeadsDieWithTheirFault, ValuesDieWithTheirFault}
-use Rattle.iim_fields.specs.declared.limits.Limits.{Limits}
-use Rattle.iim_fields.specs.declared.fault.FieldFault.{FieldFault}
 use Rattle.iim_fields.specs.declared.fault.FieldCause.TheVariants.{RecordOrder}
-use Rattle.iim_object.specs.Format.Plans.{max_subfiles}
-use Rattle.iim_object.specs.Format.Objects.{ObjectToken, ObjectLanguage}
-use Rattle.iim_object.specs.Format.Places.{Place, MayFollow, place_after, head_token, value_token}
+use Rattle.iim_object.specs.Format.Places.{Place, MayFollow, place_after}
 use Rattle.iim_object.specs.Format.Causes.{cause_at}
 use Rattle.iim_object.specs.States.Reading.{StandsAt, Refuses}
-use Rattle.iim_object.specs.Format.Numbers.{place_after_datasets}
 use Rattle.iim_object.specs.Laws.{TokensFollow}
-use Rattle.iim_object.specs.declared.reading.state.State.{State}
 use Rattle.iim_object.specs.declared.reading.fault.SizeCause.{SizeCause}
-use Rattle.iim_places.specs.Format.Refusals.{layer_of, of_field, size_on, too_many_on}
-use Rattle.iim_unpack.specs.PartSteps.{IsObjectFault}
-use Rattle.iim_places.specs.Format.Tokens.{HaveRoom, ObjectLives, place_at, DiesAtHead, DiesAtValue, subfile_fault, object_fault, number_fault, IsRefusedHead, IsRefusedValue}
-use Rattle.iim_places.specs.declared.fault.TokenFault.{TokenFault}
+use Rattle.iim_places.specs.Format.Refusals.{layer_of, size_on}
+use Rattle.iim_places.specs.Format.Tokens.{HaveRoom, DiesAtHead, DiesAtValue, subfile_fault, object_fault, number_fault}
 use Rattle.iim_places.specs.declared.refusal.Layer.{Layer}
 use Rattle.iim_places.specs.declared.refusal.Layer.TheVariants as layers
-use Rattle.iim_places.proofs.Places.{HeadLeads, ValueLeads}
+use Rattle.iim_places.proofs.Places.{ValueLeads}
 
 -- ---- the layer of a fault of the records and limits
 

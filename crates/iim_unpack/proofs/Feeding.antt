@@ -1,53 +1,41 @@
 -- Where an unpacker stands after a piece.
-use Rattle.std.proofs.Common.{◌≡◌, ℕ, ◌<◌, ◌≤◌, Bool, true, false, nat_eq, get_or, List, [], ◌∷◌, ◌++◌, length, take, slice_index, Option, Some, None, IsSome, refl, ap, sym, subst, ◌∙◌, inl, inr, arith, append-nil, append_assoc}
-use Rattle.std.proofs.lemmas.List.{take_all}
-use Rattle.std.proofs.lemmas.Option.{same_Some}
-use Rattle.std.proofs.lemmas.Bool.{eqb-true, true≢false}
-use Rattle.iim_dataset.specs.Format.Octets.{IsOctet}
-use Rattle.iim_dataset.specs.Format.Datasets.{Dataset, SpellsStream, count_octets, of_record}
-use Rattle.iim_dataset.specs.Format.Splits.{Begun, InTag, InData, Reads, CompletesData}
+use Rattle.iim_unpack.proofs.Words.{◌≡◌, ℕ, ◌<◌, ◌≤◌, Bool, true, false, nat_eq, get_or, List, [], ◌∷◌, ◌++◌, length, take, slice_index, Option, Some, None}
+use Rattle.iim_unpack.proofs.Words.{refl, ap, sym, subst, ◌∙◌, inl, inr, arith, append_assoc, take_all, same_Some, eqb-true, true≢false, IsOctet, Dataset}
+use Rattle.iim_unpack.proofs.Words.{count_octets, of_record, Begun, InTag, InData, Reads, DatasetEvent, HeadRead, DataOctet, DatasetEnd, begun_data, HandsOn}
+use Rattle.iim_unpack.proofs.Words.{IsKeptAs, between, named_by, to_come, TakesCalls, Head, HeadCause, Tag, section_after, limits_of, StandsAfter, Limits}
+use Rattle.iim_unpack.proofs.Words.{place_after_datasets, Sizes, text_so_far, ReadersStandAtLivingOctets, LowerLaws, Value, object_of, begun_record}
+use Rattle.iim_unpack.proofs.Words.{begun_number, refusal_at, Stood, IsUnpacking, object_so_far, AllCanContinue, Delivers, IsOpen, IsTruncatedAt}
+use Rattle.iim_unpack.proofs.Words.{truncated_in, AreAfter, StandsFor, AreLed, AreInOrder, Takes, HasEnded, Unpacking, limits_in, IsLed, Stands, IsDoneWith}
+use Rattle.iim_unpack.proofs.Words.{IsRefusedIn, raised, are_some, TokenFault, Refusal, Cause, sections_last, not_all}
+use Rattle.std.proofs.Common.{IsSome, append-nil}
+use Rattle.iim_dataset.specs.Format.Datasets.{SpellsStream}
+use Rattle.iim_dataset.specs.Format.Splits.{CompletesData}
 use Rattle.iim_dataset.specs.Format.Tags.{Concerns}
-use Rattle.iim_dataset.specs.States.Events.{DatasetEvent, HeadRead, DataOctet, DatasetEnd, handed_on, begun_data}
-use Rattle.iim_dataset.specs.States.Places.{LeadsTo, HandsOn, IsKeptAs, between, named_by, to_come}
-use Rattle.iim_dataset.specs.States.Reading.{Completes, TagDies, TakesCalls}
+use Rattle.iim_dataset.specs.States.Events.{handed_on}
+use Rattle.iim_dataset.specs.States.Places.{LeadsTo}
+use Rattle.iim_dataset.specs.States.Reading.{Completes, TagDies}
 use Rattle.iim_dataset.specs.Laws.{CompletesNow}
-use Rattle.iim_dataset.specs.declared.head.Head.{Head}
-use Rattle.iim_dataset.specs.declared.head.HeadCause.{HeadCause}
 use Rattle.iim_dataset.specs.declared.place.DatasetPlace.{DatasetPlace as Place}
-use Rattle.iim_dataset.specs.declared.place.DatasetPlace.TheVariants.{Tag}
 use Rattle.iim_fields.specs.Format.Records.{AreSections}
-use Rattle.iim_fields.specs.Format.Faults.{section_after, kept as kept_of}
-use Rattle.iim_fields.specs.States.Standing.{limits_of, StandsAfter}
-use Rattle.iim_fields.specs.declared.limits.Limits.{Limits}
+use Rattle.iim_fields.specs.Format.Faults.{kept as kept_of}
 use Rattle.iim_object.specs.States.Reading as objects
-use Rattle.iim_object.specs.Format.Numbers.{place_after_datasets}
 use Rattle.iim_object.specs.Format.Records.{AreObjectRecords, HaveSizes}
-use Rattle.iim_object.specs.declared.size.Sizes.{Sizes}
 use Rattle.wire_story.specs.Format.Delivery as story
-use Rattle.wire_message.specs.Format.Layers.{text_so_far}
-use Rattle.wire_message.specs.Laws.{ReadersStandAtLivingOctets}
 use Rattle.wire_message.specs.States.Reading as wire
 use Rattle.wire_story.specs.Format.Texts.{IsText}
 use Rattle.wire_message.specs.Format.Messages.{Header, IsMessage}
-use Rattle.iim_places.specs.Laws.{AdmittedOctetsHaveOneValue, RefusalsTellTheLowestCause, LowerLaws}
-use Rattle.iim_places.specs.Format.Admitted.{Value, Admits, object_of}
-use Rattle.iim_places.specs.Format.Refusals.{begun_record, begun_number, tag_cause, refusal_at}
-use Rattle.iim_unpack.specs.UnpackerInside.{cause_of_tag, Advanced, FailsAs, IsOnward, tag_fault, begins, Stood, IsUnpacking}
-use Rattle.iim_places.specs.Format.Open.{object_so_far, AllCanContinue, IsTextOf, Delivers, IsOpen, IsBadTagAt, RefusesByTests, IsTruncatedAt, truncated_in}
-use Rattle.iim_unpack.specs.States.Parts.{AreAfter, StandsFor, AreLed, has_ended, Parts}
+use Rattle.iim_places.specs.Laws.{AdmittedOctetsHaveOneValue, RefusalsTellTheLowestCause}
+use Rattle.iim_places.specs.Format.Admitted.{Admits}
+use Rattle.iim_places.specs.Format.Refusals.{tag_cause}
+use Rattle.iim_unpack.specs.UnpackerInside.{cause_of_tag, Advanced, FailsAs, IsOnward, tag_fault, begins}
+use Rattle.iim_places.specs.Format.Open.{IsTextOf, IsBadTagAt, RefusesByTests}
+use Rattle.iim_unpack.specs.States.Parts.{has_ended, Parts}
 use Rattle.iim_unpack.specs.PartSteps.{Refused, RefusesAt}
-use Rattle.iim_unpack.specs.Sequence.{AreInOrder}
 use Rattle.iim_unpack.specs.Going.{front_in_order}
-use Rattle.iim_unpack.specs.Routing.{Takes, HasEnded}
-use Rattle.iim_unpack.specs.States.Unpacking.{Unpacking, limits_in, IsLed, Stands, IsDoneWith, IsRefusedIn}
-use Rattle.iim_places.specs.States.Counts.{raised, are_some}
-use Rattle.iim_places.specs.declared.fault.TokenFault.{TokenFault}
-use Rattle.iim_places.specs.declared.refusal.Refusal.{Refusal}
-use Rattle.iim_places.specs.declared.refusal.Cause.{Cause}
 use Rattle.iim_places.specs.declared.refusal.Layer.TheVariants as layers
 use Rattle.iim_places.proofs.Objects.{are_records}
 use Rattle.iim_unpack.proofs.Carrying.{AreAfterAll, all_after, all_within}
-use Rattle.iim_places.proofs.Lasts.{sections_last, last_sections, not_all}
+use Rattle.iim_places.proofs.Lasts.{last_sections}
 use Rattle.iim_unpack.proofs.Ended.{ended_by_record, unended_inside}
 use Rattle.iim_unpack.proofs.Sequences.{by_data, handed_in_order}
 use Rattle.iim_places.proofs.ObjectOctets.{no_object}

@@ -1,43 +1,26 @@
 -- Where a head leads the parts of an unpacker, and why it is refused.
-use Rattle.std.proofs.Common.{◌≡◌, ℕ, ◌<◌, ◌≤◌, ◌⊎◌, Bool, true, false, cond, nat_eq, List, [], ◌∷◌, ◌++◌, length, flat_map, Option, Some, refl, ap, sym, subst, ◌∙◌, inl, inr, arith, append-nil}
-use Rattle.iim_dataset.specs.Format.Datasets.{Dataset, of_record}
-use Rattle.iim_dataset.specs.Format.Splits.{InTag, InData}
-use Rattle.iim_dataset.specs.States.Events.{DatasetEvent, HeadRead, events_of}
+use Rattle.iim_unpack.proofs.Words.{◌≡◌, ℕ, ◌<◌, ◌≤◌, ◌⊎◌, Bool, true, false, cond, nat_eq, List, [], ◌∷◌, ◌++◌, length, Option, Some, refl, ap, sym, subst}
+use Rattle.iim_unpack.proofs.Words.{◌∙◌, inl, inr, arith, Dataset, of_record, InTag, InData, DatasetEvent, HeadRead, events_of, Head, SectionsLiveAt}
+use Rattle.iim_unpack.proofs.Words.{IsBetween, IsHeadFault, limits_of, FieldsPlace, StandsAfter, StandsIn, FieldFault, max_subfiles, ObjectLanguage}
+use Rattle.iim_unpack.proofs.Words.{SubfileBegun, head_token, events_at, place_after_datasets, State, End, text_so_far, MessageDiesAt}
+use Rattle.iim_unpack.proofs.Words.{TextsStandBetweenStxAndEtx, object_of, place_at, ObjectLives, IsRefusedHead, TellsMessage, HasFewSubfiles, octets_in}
+use Rattle.iim_unpack.proofs.Words.{end_is_last, of_field, too_many_on, message_on, object_so_far, AreAfter, Within, CountsFor, TellsParts, PartsRefuse}
+use Rattle.iim_unpack.proofs.Words.{TokenFault, HeadLeads, true≢false, ne_eqb, cases_Bool, same_Some, sections_last, LowerLaws}
+use Rattle.std.proofs.Common.{flat_map, append-nil}
 use Rattle.iim_dataset.specs.Format.Languages as languages
-use Rattle.iim_dataset.specs.declared.head.Head.{Head}
-use Rattle.iim_fields.specs.Format.Alive.{SectionsLiveAt}
-use Rattle.iim_fields.specs.States.Standing.{IsBetween, IsHeadFault, limits_of, FieldsPlace, StandsAfter, StandsIn}
-use Rattle.iim_fields.specs.declared.fault.FieldFault.{FieldFault}
-use Rattle.iim_object.specs.Format.Plans.{max_subfiles}
-use Rattle.iim_object.specs.Format.Objects.{ObjectLanguage, ObjectEnded, SubfileBegun}
-use Rattle.iim_object.specs.Format.Places.{head_token}
+use Rattle.iim_object.specs.Format.Objects.{ObjectEnded}
 use Rattle.iim_object.specs.States.Reading as objects
-use Rattle.iim_object.specs.States.Reading.{events_at}
-use Rattle.iim_object.specs.Format.Numbers.{place_after_datasets}
-use Rattle.iim_object.specs.declared.reading.state.State.{State}
 use Rattle.wire_story.specs.Format.Delivery as story
-use Rattle.wire_story.specs.Format.Tokens.{End}
-use Rattle.wire_message.specs.Format.Layers.{text_so_far, MessageDiesAt}
-use Rattle.wire_message.specs.Laws.{TextsStandBetweenStxAndEtx}
 use Rattle.wire_message.specs.States.Reading as wire
 use Rattle.wire_message.specs.declared.place.Place.{Place}
-use Rattle.iim_places.specs.Format.Admitted.{object_of}
-use Rattle.iim_places.specs.Format.Tokens.{place_at, ObjectLives, IsRefusedHead}
-use Rattle.iim_unpack.specs.Passed.{TellsMessage, HasFewSubfiles, IsFullOfSubfiles, RefusesBySize, RefusesAtEnd, RefusesObject, RefusesSubfile, octets_in, end_is_last}
-use Rattle.iim_places.specs.Format.Refusals.{of_field, too_many_on, message_on}
-use Rattle.iim_places.specs.Format.Open.{object_so_far, IsUnfinished}
-use Rattle.iim_unpack.specs.States.Parts.{AreAfter, Within, CountsFor, has_ended, Parts}
-use Rattle.iim_unpack.specs.PartSteps.{TellsParts, PartsRefuse}
-use Rattle.iim_places.specs.declared.fault.TokenFault.{TokenFault}
-use Rattle.iim_places.proofs.Places.{HeadLeads, subfile_leads, end_leads}
+use Rattle.iim_unpack.specs.Passed.{IsFullOfSubfiles, RefusesBySize, RefusesAtEnd, RefusesObject, RefusesSubfile}
+use Rattle.iim_places.specs.Format.Open.{IsUnfinished}
+use Rattle.iim_unpack.specs.States.Parts.{has_ended, Parts}
+use Rattle.iim_places.proofs.Places.{subfile_leads, end_leads}
 use Rattle.iim_unpack.proofs.Faults.{field_head, too_many_head, object_head, have_room}
-use Rattle.std.proofs.lemmas.Bool.{true≢false, ne_eqb, cases_Bool}
 use Rattle.std.proofs.lemmas.List.{length-map}
-use Rattle.std.proofs.lemmas.Option.{same_Some}
-use Rattle.iim_places.proofs.Lasts.{sections_last}
 use Rattle.iim_unpack.proofs.Ended.{ended_by_record}
 use Rattle.iim_unpack.proofs.Carrying.{counts_for, passes_on, after_all, all_after}
-use Rattle.iim_places.specs.Laws.{LowerLaws}
 
 -- What stands after a head.
 pub record Begins (new : Parts) (ds : List Dataset) (h : Head) : Type 0 where

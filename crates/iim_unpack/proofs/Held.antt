@@ -1,27 +1,17 @@
 -- An unpacker holds few octets and entries.
-use Rattle.std.proofs.Common.{◌≡◌, ℕ, ◌+◌, ◌<◌, ◌≤◌, if◌then◌else◌, nat_eq, List, [], length, Option, Some, ap, sym, subst, ◌∙◌, inl, inr, arith}
-use Rattle.std.proofs.lemmas.Bool.{cases_Bool}
-use Rattle.iim_dataset.specs.Format.Datasets.{Dataset, count_octets}
-use Rattle.iim_dataset.specs.Laws.{EventsTellTheDatasets}
-use Rattle.iim_dataset.specs.States.Places.{IsKeptAs}
-use Rattle.iim_dataset.specs.Format.Splits.{Begun, InTag, InData, Reads}
-use Rattle.iim_dataset.specs.declared.head.Head.{Head}
-use Rattle.iim_dataset.specs.declared.place.DatasetPlace.{DatasetPlace}
+use Rattle.iim_unpack.proofs.Words.{◌≡◌, ℕ, ◌+◌, ◌<◌, ◌≤◌, if◌then◌else◌, nat_eq, List, [], length, Option, Some, ap, sym, subst, ◌∙◌, inl, inr, arith}
+use Rattle.iim_unpack.proofs.Words.{cases_Bool, Dataset, count_octets, EventsTellTheDatasets, IsKeptAs, Begun, InTag, InData, Reads, Head, DatasetPlace}
+use Rattle.iim_unpack.proofs.Words.{begun_head, is_kept, joined, kept, begun_head_of, StandsAfter, StandsIn, HoldsFew, StandsFor, Unpacking, IsLed, Stood}
+use Rattle.iim_unpack.proofs.Words.{is_one, held_length, some_taken, none_taken}
 use Rattle.iim_dataset.specs.declared.place.DatasetPlace.TheVariants as tags
-use Rattle.iim_fields.specs.States.Checks.{begun_head}
-use Rattle.iim_fields.specs.Format.Faults.{is_kept, joined, kept}
-use Rattle.iim_fields.specs.States.Standing.{begun_head_of, StandsAfter, StandsIn}
 use Rattle.wire_message.specs.States.Reading as wire
 use Rattle.wire_message.specs.States.Saved.{saved}
 use Rattle.wire_message.specs.States.SoFar.{IsPlace}
 use Rattle.wire_message.specs.declared.place.Place.{Place as Message}
 use Rattle.wire_message.specs.declared.place.Place.TheVariants as at
-use Rattle.iim_unpack.specs.States.Held.{tag_held, texts_held, returns_held, message_held, begun_entries, HoldsFew}
-use Rattle.iim_unpack.specs.States.Parts.{StandsFor, Parts}
-use Rattle.iim_unpack.specs.States.Unpacking.{Unpacking, IsLed}
-use Rattle.iim_unpack.specs.UnpackerInside.{Stood}
-use Rattle.iim_places.proofs.Bounds.{is_one}
-use Rattle.iim_places.proofs.TicketLengths.{AreShortIn, texts_at, held_length, some_taken, none_taken}
+use Rattle.iim_unpack.specs.States.Held.{tag_held, texts_held, returns_held, message_held, begun_entries}
+use Rattle.iim_unpack.specs.States.Parts.{Parts}
+use Rattle.iim_places.proofs.TicketLengths.{AreShortIn, texts_at}
 use Rattle.iim_unpack.proofs.SamePlace.{told_by, led_of}
 
 -- ---- the message

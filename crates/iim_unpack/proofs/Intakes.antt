@@ -1,29 +1,23 @@
 -- What an intake feeds, piece after piece.
-use Rattle.std.proofs.Common.{◌≡◌, ℕ, ◌+◌, ◌-◌, ◌^◌, ◌<◌, ◌≤◌, Bool, false, List, [], ◌++◌, length, take, Option, Some, None, refl, ap, sym, subst, ◌∙◌, inl, inr, arith, append-nil, append_assoc, length-append}
+use Rattle.iim_unpack.proofs.Words.{◌≡◌, ℕ, ◌+◌, ◌-◌, ◌^◌, ◌<◌, ◌≤◌, Bool, false, List, [], ◌++◌, length, take, Option, Some, None, refl, ap, sym, subst, ◌∙◌}
+use Rattle.iim_unpack.proofs.Words.{inl, inr, arith, append_assoc, length-append, get_or-append-add, length-take-le, true≢false, same_Some, take-append-add}
+use Rattle.iim_unpack.proofs.Words.{Device, HasGiven, Limits, DeliveryMayBeCut, CountsFor, refusal_at, Unpacking, Stands, IsDoneWith, Goes, IsRefusedIn}
+use Rattle.iim_unpack.proofs.Words.{LeftAs, limits_in, Done, Progress, raised, Stood, IsOpen, Delivers, IsTruncatedAt, HasFed, IsReady, in_line, Refusal}
+use Rattle.iim_unpack.proofs.Words.{Value, AreWithin, HasParts, Unpacked}
+use Rattle.std.proofs.Common.{append-nil}
 use Rattle.std.specs.Prelude.{IsTrue, ◌↔◌, IfNone, IfSome}
-use Rattle.std.proofs.lemmas.List.{get_or-append-add, length-take-le}
-use Rattle.std.proofs.lemmas.Bool.{true≢false}
-use Rattle.std.proofs.lemmas.Option.{same_Some}
-use Rattle.std.proofs.Math.Seq.{take-append-add}
 use Rattle.std.specs.Io.KnownBytes.{IsAtEnd}
-use Rattle.iim_dataset.specs.States.Devices.{Device, HasGiven, MissedAfter, WithinInterruptionLimit}
+use Rattle.iim_dataset.specs.States.Devices.{MissedAfter, WithinInterruptionLimit}
 use Rattle.iim_dataset.specs.Laws.{GiftsJoin}
 use Rattle.iim_dataset.specs.declared.device.IoFault.{IoFault}
 use Rattle.iim_dataset.specs.declared.device.IoFault.TheVariants as io
 use Rattle.iim_dataset.proofs.Lists.{nothing_of_two}
 use Rattle.iim_dataset.proofs.DeviceLaws.{broke_for_later}
 use Rattle.iim_dataset.specs.HandedIn.{consumes_consumes}
-use Rattle.iim_fields.specs.declared.limits.Limits.{Limits}
 use Rattle.wire_story.specs.Format.Delivery as story
-use Rattle.wire_story.specs.Laws.{DeliveryMayBeCut}
-use Rattle.iim_unpack.specs.States.Parts.{CountsFor}
-use Rattle.iim_places.specs.Format.Refusals.{refusal_at}
-use Rattle.iim_unpack.specs.States.Unpacking.{Unpacking, Stands, IsDoneWith, Goes, IsRefusedIn, LeftAs, limits_in, More, Done, Progress}
-use Rattle.iim_places.specs.States.Counts.{raised}
-use Rattle.iim_unpack.specs.UnpackerInside.{Stood}
-use Rattle.iim_places.specs.Format.Open.{IsOpen, Delivers, IsTruncatedAt}
+use Rattle.iim_unpack.specs.States.Unpacking.{More}
 use Rattle.iim_unpack.specs.IntakeSteps.{IsRefusedPiece, read_fault}
-use Rattle.iim_unpack.specs.States.Intakes.{FedPiece, HasFed, StandsOn, WasDone, WasEnded, IsRefusedOf, IsTruncatedIn, WasRefused, WasTruncated, WasMissed, WasGiven, Came, IsReady, Faults, GivesNothing, in_line}
+use Rattle.iim_unpack.specs.States.Intakes.{FedPiece, StandsOn, WasDone, WasEnded, IsRefusedOf, IsTruncatedIn, WasRefused, WasTruncated, WasMissed, WasGiven, Came, Faults, GivesNothing}
 use Rattle.iim_places.specs.Laws.{OpenOctetsAreBounded}
 use Rattle.iim_unpack.specs.declared.intake.Fed.{Fed}
 use Rattle.iim_unpack.specs.declared.intake.Fed.TheVariants as piece
@@ -31,10 +25,7 @@ use Rattle.iim_unpack.specs.declared.intake.Intake.{Intake}
 use Rattle.iim_unpack.specs.declared.intake.IntakeFault.{IntakeFault}
 use Rattle.iim_unpack.specs.declared.intake.IntakeFault.TheVariants.{Refused, Read, Interrupted}
 use Rattle.iim_unpack.proofs.Feeding.{stood_stands}
-use Rattle.iim_places.specs.declared.refusal.Refusal.{Refusal}
-use Rattle.iim_places.specs.Format.Admitted.{Value, Admits}
-use Rattle.iim_places.specs.Format.Framed.{AreWithin}
-use Rattle.iim_unpack.specs.Format.Value.{HasParts, Unpacked}
+use Rattle.iim_places.specs.Format.Admitted.{Admits}
 
 abbrev pub Joined : {S : Type 0} → (S → List story.StoryEvent → S → Type 0) → Type 0
 Joined {S} goes = (a b c : S) (xs ys : List story.StoryEvent) → goes a xs b → goes b ys c → goes a (xs ++ ys) c

@@ -1,31 +1,25 @@
 -- What an unpacker says of a stream that comes in pieces.
-use Rattle.std.proofs.Common.{◌≡◌, ℕ, ◌+◌, ◌-◌, ◌^◌, ◌<◌, ◌≤◌, ◌⊎◌, List, [], ◌∷◌, ◌++◌, length, take, drop, get_or, slice_index, Option, Some, None, Result, Ok, Err, IfErr, Bor, refl, ap, sym, subst, ◌∙◌, inl, inr, arith, append-nil, append_assoc, length-append}
-use Rattle.std.proofs.lemmas.List.{get_or-append-add, get_or_append_left, length-take-le, take-append-le, take-append-drop, take_more}
-use Rattle.std.proofs.lemmas.List.Concat.{flat_map-append}
-use Rattle.std.proofs.Math.Seq.{take-append-add}
+use Rattle.iim_unpack.proofs.Words.{◌≡◌, ℕ, ◌+◌, ◌-◌, ◌^◌, ◌<◌, ◌≤◌, ◌⊎◌, List, [], ◌∷◌, ◌++◌, length, take, drop, get_or, slice_index, Option, Some, None}
+use Rattle.iim_unpack.proofs.Words.{Ok, Err, Bor, refl, ap, sym, subst, ◌∙◌, inl, inr, arith, append_assoc, length-append, get_or-append-add, length-take-le}
+use Rattle.iim_unpack.proofs.Words.{take-append-drop, flat_map-append, take-append-add, InTag, Limits, DeliveryMayBeCut, text_so_far, Value, object_of}
+use Rattle.iim_unpack.proofs.Words.{StreamsHaveOneAnswer, LowerLaws, IsTurnedDown, HasFedPieces, refusal_at, Answer, Answers, Finished, Truncated}
+use Rattle.iim_unpack.proofs.Words.{IsEnvelopeWithin, IsFinished, Unpacking, Stands, IsDone, IsDoneWith, Goes, IsRefusedIn, limits_in, Done, Progress, raised}
+use Rattle.iim_unpack.proofs.Words.{IsOpen, Delivers, IsTruncatedAt, HasParts, Unpacked, Refusal, CountsFor, Cause, reads_envelope}
+use Rattle.std.proofs.Common.{Result, IfErr, append-nil}
+use Rattle.std.proofs.lemmas.List.{get_or_append_left, take-append-le, take_more}
 use Rattle.std.specs.Result.{IsErrAnd}
-use Rattle.iim_dataset.specs.Format.Splits.{InTag}
-use Rattle.iim_fields.specs.declared.limits.Limits.{Limits}
 use Rattle.wire_story.specs.Format.Delivery as story
-use Rattle.wire_story.specs.Laws.{DeliveryMayBeCut, TextsAreDeliveredAsLines}
-use Rattle.wire_message.specs.Format.Layers.{text_so_far}
+use Rattle.wire_story.specs.Laws.{TextsAreDeliveredAsLines}
 use Rattle.wire_message.specs.declared.place.Place.TheVariants.{AfterEnd}
-use Rattle.iim_places.specs.Format.Admitted.{Value, Admits, object_of}
-use Rattle.iim_places.specs.Laws.{PlaceLaws, StreamsHaveOneAnswer, LowerLaws}
-use Rattle.iim_unpack.specs.Format.Pieces.{stream_of, IsUnpacked, IsTurnedDown, IsAnswer}
-use Rattle.iim_unpack.specs.IntakeSteps.{DoneIn, HasFedPieces}
-use Rattle.iim_places.specs.Format.Refusals.{refusal_at}
-use Rattle.iim_places.specs.Format.Streams.{Answer, Answers, Finished, Refused, Truncated, IsEnvelopeWithin, IsFinished}
-use Rattle.iim_unpack.specs.States.Unpacking.{Unpacking, Stands, IsDone, IsDoneWith, Goes, IsRefusedIn, limits_in, More, Done, Progress}
-use Rattle.iim_places.specs.States.Counts.{raised}
-use Rattle.iim_places.specs.Format.Open.{IsOpen, Delivers, IsTruncatedAt}
-use Rattle.iim_unpack.specs.Format.Value.{HasParts, Unpacked}
-use Rattle.iim_places.specs.declared.refusal.Refusal.{Refusal}
-use Rattle.iim_unpack.specs.States.Parts.{CountsFor}
-use Rattle.iim_places.specs.declared.refusal.Cause.{Cause}
+use Rattle.iim_places.specs.Format.Admitted.{Admits}
+use Rattle.iim_places.specs.Laws.{PlaceLaws}
+use Rattle.iim_unpack.specs.Format.Pieces.{stream_of, IsUnpacked, IsAnswer}
+use Rattle.iim_unpack.specs.IntakeSteps.{DoneIn}
+use Rattle.iim_places.specs.Format.Streams.{Refused}
+use Rattle.iim_unpack.specs.States.Unpacking.{More}
 use Rattle.iim_places.specs.declared.refusal.Cause.TheVariants.{Message}
 use Rattle.wire_message.specs.declared.fault.MessageCause.TheVariants.{Sink}
-use Rattle.iim_places.proofs.Answering.{reads_envelope, leads_to, no_text}
+use Rattle.iim_places.proofs.Answering.{leads_to, no_text}
 use Rattle.iim_unpack.proofs.Feeding.{one_text}
 use Rattle.iim_unpack.proofs.Intakes.{Joined, adds_more, told_truncated, not_told}
 

@@ -1,55 +1,31 @@
 -- Readers that were made for a possible place stand at all octets that lead there, and an unpacker that is made of them is sound.
-use Rattle.std.proofs.Common.{◌+◌, ◌≡◌, ℕ, ◌<◌, nat_eq, if◌then◌else◌, true, false, List, [], length, IsSome, refl, ap, sym, subst, ◌∙◌, arith, ◌⊎◌, inl, inr, None}
-use Rattle.iim_dataset.specs.Format.Octets.{Octets}
-use Rattle.iim_dataset.specs.Format.Datasets.{Dataset, of_record, count_octets}
-use Rattle.iim_dataset.specs.Format.Splits.{Begun, InTag, InData, Reads}
+use Rattle.iim_unpack.proofs.Words.{◌+◌, ◌≡◌, ℕ, ◌<◌, nat_eq, if◌then◌else◌, true, false, List, [], length, refl, ap, sym, subst, ◌∙◌, arith, ◌⊎◌, inl, inr}
+use Rattle.iim_unpack.proofs.Words.{None, Octets, Dataset, of_record, count_octets, Begun, InTag, InData, Reads, IsKeptAs, between, to_come, Head}
+use Rattle.iim_unpack.proofs.Words.{DatasetPlace, SectionsLiveAt, kept, section_after, Limits, head_alive, place_after_datasets, numbers_of, stated_numbers}
+use Rattle.iim_unpack.proofs.Words.{Sizes, text_so_far, LeadsToSaved, MessagePlace, Value, object_of, object_so_far, IsOpen, AreAfter, Within, StandsFor}
+use Rattle.iim_unpack.proofs.Words.{IsMadeFor, IsEnvelopeWithin, place_of, CanContinue, CanContinueAt, MayContinue, Unpacking, Stands, IsDoneWith, limits_in}
+use Rattle.iim_unpack.proofs.Words.{reads_envelope, alive_of, sections_last, opened, fields_after, fields_in, some_read, stated_after_all, count_of}
+use Rattle.iim_unpack.proofs.Words.{LowerLaws, ne_eqb, true≢false, Tag, Inside, Takes, HasEnded, Split}
+use Rattle.std.proofs.Common.{IsSome}
 use Rattle.iim_dataset.specs.States.Events.{handed_on}
-use Rattle.iim_dataset.specs.States.Places.{IsKeptAs, between, to_come}
-use Rattle.iim_dataset.specs.declared.head.Head.{Head}
-use Rattle.iim_dataset.specs.declared.place.DatasetPlace.{DatasetPlace}
-use Rattle.iim_fields.specs.Format.Alive.{SectionsLiveAt}
-use Rattle.iim_fields.specs.Format.Faults.{kept, section_after}
 use Rattle.iim_fields.specs.States.Standing as records
-use Rattle.iim_fields.specs.declared.limits.Limits.{Limits}
-use Rattle.iim_fields.proofs.Sections.{head_alive}
-use Rattle.iim_object.specs.Format.Numbers.{place_after_datasets}
 use Rattle.iim_object.specs.Format.Places.{NotEnded}
-use Rattle.iim_object.specs.Format.Records.{numbers_of}
-use Rattle.iim_object.specs.States.Saved.{stated_numbers}
-use Rattle.iim_object.specs.declared.size.Sizes.{Sizes}
-use Rattle.wire_message.specs.Format.Layers.{text_so_far}
-use Rattle.wire_message.specs.States.Saved.{LeadsToSaved}
-use Rattle.wire_message.specs.declared.saved.MessagePlace.{MessagePlace}
-use Rattle.iim_places.specs.Format.Admitted.{Value, object_of}
 use Rattle.iim_places.specs.States.ByLayers.{LeadsByLayers, RecordsLive, record_datasets, one_of_some}
-use Rattle.iim_places.specs.Format.Open.{object_so_far, IsOpen}
-use Rattle.iim_unpack.specs.States.Parts.{AreAfter, Within, StandsFor, has_ended, Parts}
+use Rattle.iim_unpack.specs.States.Parts.{has_ended, Parts}
 use Rattle.iim_places.specs.States.PlainDatasets.{plain}
-use Rattle.iim_unpack.specs.Restoring.{IsMadeFor, ReadersMakeUnpackers}
+use Rattle.iim_unpack.specs.Restoring.{ReadersMakeUnpackers}
 use Rattle.iim_places.specs.States.Readers.{RecordsStand, AreAt, FieldsStand}
-use Rattle.iim_places.specs.Format.Streams.{IsEnvelopeWithin}
-use Rattle.iim_places.specs.Format.Tickets.{Place, IsPlaceOf, place_of}
-use Rattle.iim_places.specs.Format.Tokens.{CanContinue, CanContinueAt, MayContinue}
-use Rattle.iim_unpack.specs.States.Unpacking.{Unpacking, Stands, IsDoneWith, limits_in}
-use Rattle.iim_places.proofs.Answering.{one_reading, reads_envelope, goes_envelope}
+use Rattle.iim_places.specs.Format.Tickets.{Place, IsPlaceOf}
+use Rattle.iim_places.proofs.Answering.{one_reading, goes_envelope}
 use Rattle.iim_unpack.proofs.Ended.{ended_by_record, unended_inside}
 use Rattle.iim_unpack.proofs.Feeding.{TellsSizes, done_by}
-use Rattle.iim_places.proofs.Following.{alive_of}
-use Rattle.iim_places.proofs.Lasts.{sections_last}
 use Rattle.iim_places.proofs.Plain.{present_ended}
 use Rattle.iim_places.proofs.ByLayers.{whole_at, begun_same}
 use Rattle.iim_places.proofs.PlainSizes.{possible_of}
-use Rattle.iim_places.proofs.SamePlace.{opened, fields_after, fields_in, some_read}
-use Rattle.iim_places.proofs.SameRecords.{stated_after_all}
-use Rattle.iim_places.proofs.Tickets.{count_of}
-use Rattle.iim_places.specs.Laws.{LowerLaws, LimitsAreToldByPlace}
+use Rattle.iim_places.specs.Laws.{LimitsAreToldByPlace}
 use Rattle.iim_places.proofs.ReadersAt.{like, ended_reader, text_led, TagPhase, base_tag, live_tag, stand_tag, present_tag, object_tag, ending_tag, object_data, keeps, come, between_tag}
-use Rattle.std.proofs.lemmas.Bool.{ne_eqb, true≢false}
-use Rattle.iim_dataset.specs.declared.place.DatasetPlace.TheVariants.{Tag, Inside}
 use Rattle.iim_object.specs.Laws.{ReadersTellSizes}
 use Rattle.iim_places.specs.States.Possible.{AreOpenOrWhole}
-use Rattle.iim_unpack.specs.Routing.{Takes, HasEnded}
-use Rattle.iim_places.specs.Format.TicketForm.{Split}
 use Rattle.iim_places.specs.declared.ticket.possible.Readers.{Readers}
 
 -- ---- between datasets, or in a tag, or at the end

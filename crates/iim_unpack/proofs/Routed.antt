@@ -1,9 +1,8 @@
 -- What a refusal of the reader of tags says of the parts.
-use Rattle.std.proofs.Common.{◌≡◌, ℕ, List, Option, Some, None, Ok, Err}
+use Rattle.iim_unpack.proofs.Words.{◌≡◌, ℕ, List, Option, Some, None, Ok, Err, TakesCalls, HeadCause}
 use Rattle.std.specs.Prelude.{Result, IfOk, IfErr, OnOk}
-use Rattle.iim_dataset.specs.States.Reading.{Reader, RefusesFor, RefusesOne, StillStands, TakesCalls, TakesPiece, tag_cause_of}
+use Rattle.iim_dataset.specs.States.Reading.{Reader, RefusesFor, RefusesOne, StillStands, TakesPiece, tag_cause_of}
 use Rattle.iim_dataset.specs.declared.fault.Fault.{Fault}
-use Rattle.iim_dataset.specs.declared.head.HeadCause.{HeadCause}
 use Rattle.iim_dataset.specs.declared.place.DatasetPlace.{DatasetPlace as Place}
 use Rattle.iim_fields.specs.States.Standing.{room_of}
 use Rattle.wire_story.specs.Format.Delivery as story

@@ -1,30 +1,17 @@
 -- What is read of octets of one place leaves the parts of an unpacker alike.
-use Rattle.std.proofs.Common.{◌≡◌, ℕ, if◌then◌else◌, ◌==◌, nat_eq, List, [], length, refl, ap, sym, subst, ◌∙◌, ◌⊎◌, inl, inr}
-use Rattle.iim_dataset.specs.Format.Octets.{Octets}
-use Rattle.iim_dataset.specs.Format.Datasets.{Dataset, count_octets}
-use Rattle.iim_dataset.specs.Format.Splits.{Begun, InTag, InData, Reads}
-use Rattle.iim_dataset.specs.States.Events.{handed_on, begun_data}
-use Rattle.iim_dataset.specs.States.Places.{IsKeptAs}
-use Rattle.iim_dataset.specs.declared.head.Head.{Head}
-use Rattle.iim_fields.specs.Format.Faults.{section_after}
+use Rattle.iim_unpack.proofs.Words.{◌≡◌, ℕ, if◌then◌else◌, ◌==◌, nat_eq, List, [], length, refl, ap, sym, subst, ◌∙◌, ◌⊎◌, inl, inr, Octets, Dataset}
+use Rattle.iim_unpack.proofs.Words.{count_octets, Begun, InTag, InData, Reads, begun_data, IsKeptAs, Head, section_after, Limits, head_alive}
+use Rattle.iim_unpack.proofs.Words.{place_after_datasets, text_so_far, object_of, LowerLaws, place_at, CanContinue, CanContinueAt, object_so_far}
+use Rattle.iim_unpack.proofs.Words.{AllCanContinue, AreAfter, Within, StandsFor, Unpacking, IsLed, Stands, IsDoneWith, limits_in, are_some, place_of}
+use Rattle.iim_unpack.proofs.Words.{alive_of, stated_after_all, fields_after, fields_in, some_read, opened}
+use Rattle.iim_dataset.specs.States.Events.{handed_on}
 use Rattle.iim_fields.specs.States.Standing as records
-use Rattle.iim_fields.specs.declared.limits.Limits.{Limits}
-use Rattle.iim_fields.proofs.Sections.{head_alive}
-use Rattle.iim_object.specs.Format.Numbers.{place_after_datasets}
-use Rattle.wire_message.specs.Format.Layers.{text_so_far}
-use Rattle.iim_places.specs.Format.Admitted.{object_of}
-use Rattle.iim_places.specs.Laws.{LowerLaws}
-use Rattle.iim_places.specs.Format.Tokens.{place_at, CanContinue, CanContinueAt}
-use Rattle.iim_places.specs.Format.Open.{object_so_far, AllCanContinue}
-use Rattle.iim_unpack.specs.States.Parts.{AreAfter, Within, StandsFor, Parts}
-use Rattle.iim_unpack.specs.States.Unpacking.{Unpacking, IsLed, Stands, IsDoneWith, limits_in}
-use Rattle.iim_places.specs.States.Counts.{are_some}
-use Rattle.iim_places.specs.Format.Tickets.{Place, place_of}
+use Rattle.iim_unpack.specs.States.Parts.{Parts}
+use Rattle.iim_places.specs.Format.Tickets.{Place}
 use Rattle.iim_unpack.specs.Laws.{UnpackersStandByPlace}
 use Rattle.iim_unpack.proofs.Sequences.{by_data}
-use Rattle.iim_places.proofs.Following.{alive_of}
-use Rattle.iim_places.proofs.SameRecords.{same_records, stated_after_all, stated_at}
-use Rattle.iim_places.proofs.SamePlace.{fields_after, object_as, SameWhole, object_lives_after_as, message_as, SameMessage, fields_in, object_at_as, SameAll, total_as, count_as, SameData, SameBegun, octets_of, same_message, some_read, keeps_as, opened, held_open, has_as, same_begun}
+use Rattle.iim_places.proofs.SameRecords.{same_records, stated_at}
+use Rattle.iim_places.proofs.SamePlace.{object_as, SameWhole, object_lives_after_as, message_as, SameMessage, object_at_as, SameAll, total_as, count_as, SameData, SameBegun, octets_of, same_message, keeps_as, held_open, has_as, same_begun}
 
 -- ---- the parts
 

@@ -1,15 +1,11 @@
 -- Events in order: what is handed on of octets is in order, and a dataset ends where its head says.
-use Rattle.std.proofs.Common.{◌≡◌, ℕ, ◌-◌, ◌<◌, List, [], ◌∷◌, ◌++◌, length, map, flat_map, replicate, ap, sym, subst, ◌∙◌, arith, append-nil, append_assoc, length-append}
+use Rattle.iim_unpack.proofs.Words.{◌≡◌, ℕ, ◌-◌, ◌<◌, List, [], ◌∷◌, ◌++◌, length, map, ap, sym, subst, ◌∙◌, arith, append_assoc, length-append}
+use Rattle.iim_unpack.proofs.Words.{flat_map-append, Dataset, head_of, count_octets, Begun, InTag, InData, DatasetEvent, HeadRead, DataOctet, DatasetEnd}
+use Rattle.iim_unpack.proofs.Words.{events_of, begun_data, HandsOn, Head, data_of, AreInOrder}
+use Rattle.std.proofs.Common.{flat_map, replicate, append-nil}
 use Rattle.std.proofs.lemmas.List.{length-replicate, map-append}
-use Rattle.std.proofs.lemmas.List.Concat.{flat_map-append}
-use Rattle.iim_dataset.specs.Format.Datasets.{Dataset, head_of, count_octets}
-use Rattle.iim_dataset.specs.Format.Splits.{Begun, InTag, InData}
-use Rattle.iim_dataset.specs.States.Events.{DatasetEvent, HeadRead, DataOctet, DatasetEnd, events_of, handed_on, begun_data}
-use Rattle.iim_dataset.specs.States.Places.{HandsOn}
-use Rattle.iim_dataset.specs.declared.head.Head.{Head}
+use Rattle.iim_dataset.specs.States.Events.{handed_on}
 use Rattle.iim_dataset.proofs.Telling.{same_data}
-use Rattle.iim_fields.specs.Format.Values.{data_of}
-use Rattle.iim_unpack.specs.Sequence.{AreInOrder}
 
 -- ---- the events of a begun dataset
 

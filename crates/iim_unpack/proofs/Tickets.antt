@@ -1,30 +1,16 @@
 -- The ticket that is spelled of an unpacker is that of its place, and how long it is.
-use Rattle.std.proofs.Common.{◌≡◌, ℕ, ◌-◌, nat_eq, false, if◌then◌else◌, List, length, refl, ap, sym, ◌∙◌, inl, inr, ◌⊎◌, arith, ◌+◌, ◌*◌, ◌≤◌, []}
-use Rattle.iim_dataset.specs.Format.Datasets.{Dataset, of_record, count_octets}
-use Rattle.iim_dataset.specs.Format.Splits.{Begun, InTag, InData, Reads}
-use Rattle.iim_dataset.specs.States.Places.{IsKeptAs}
-use Rattle.iim_dataset.specs.Laws.{EventsTellTheDatasets}
-use Rattle.iim_dataset.specs.declared.place.DatasetPlace.{DatasetPlace}
-use Rattle.iim_dataset.specs.declared.place.DatasetPlace.TheVariants.{Tag, Inside}
-use Rattle.iim_fields.specs.Format.Faults.{kept, section_after, joined}
-use Rattle.iim_object.specs.Format.Records.{numbers_of}
-use Rattle.iim_object.specs.Format.Numbers.{place_after_datasets}
-use Rattle.iim_object.specs.States.Saved.{stated_numbers}
-use Rattle.wire_message.specs.States.Saved.{LeadsToSaved}
-use Rattle.wire_message.specs.declared.saved.MessagePlace.{MessagePlace}
-use Rattle.iim_places.specs.Format.Admitted.{object_of}
-use Rattle.iim_places.specs.Format.Tokens.{place_at}
-use Rattle.iim_places.specs.Format.Open.{object_so_far, section}
-use Rattle.iim_unpack.specs.States.Parts.{StandsFor, has_ended, Parts}
-use Rattle.iim_unpack.specs.States.Unpacking.{Unpacking, IsLed, Stands, IsDoneWith, limits_in}
-use Rattle.iim_places.specs.Format.Tickets.{phase_of, heads_of, place_of, ticket_of, IsTicketOf, present_version, phase_octets}
+use Rattle.iim_unpack.proofs.Words.{◌≡◌, ℕ, ◌-◌, nat_eq, false, if◌then◌else◌, List, length, refl, ap, sym, ◌∙◌, inl, inr, ◌⊎◌, arith, ◌+◌, ◌*◌, ◌≤◌, []}
+use Rattle.iim_unpack.proofs.Words.{Dataset, of_record, count_octets, Begun, InTag, InData, Reads, IsKeptAs, EventsTellTheDatasets, DatasetPlace, Tag, Inside}
+use Rattle.iim_unpack.proofs.Words.{kept, section_after, joined, numbers_of, place_after_datasets, stated_numbers, LeadsToSaved, MessagePlace, object_of}
+use Rattle.iim_unpack.proofs.Words.{place_at, object_so_far, section, StandsFor, Unpacking, IsLed, Stands, IsDoneWith, limits_in, place_of, IsTicketOf}
+use Rattle.iim_unpack.proofs.Words.{present_version, count_of, Stood, is_one, held_length, some_taken, none_taken}
+use Rattle.iim_unpack.specs.States.Parts.{has_ended, Parts}
+use Rattle.iim_places.specs.Format.Tickets.{phase_of, heads_of, ticket_of, phase_octets}
 use Rattle.iim_unpack.specs.TicketReading.{phase_in, IsSpelled}
 use Rattle.iim_unpack.proofs.Ended.{ended_by_record, unended_inside}
 use Rattle.iim_unpack.proofs.SamePlace.{told_by, led_of}
-use Rattle.iim_places.proofs.Tickets.{total_of, count_of, message_at, stated_by, heads_by, taken_by}
-use Rattle.iim_unpack.specs.UnpackerInside.{Stood}
-use Rattle.iim_places.proofs.Bounds.{is_one}
-use Rattle.iim_places.proofs.TicketLengths.{held_length, data_length, tag_begun_length, some_taken, none_taken, rest_length, texts_short, numbers_length}
+use Rattle.iim_places.proofs.Tickets.{total_of, message_at, stated_by, heads_by, taken_by}
+use Rattle.iim_places.proofs.TicketLengths.{data_length, tag_begun_length, rest_length, texts_short, numbers_length}
 
 -- ---- the place
 

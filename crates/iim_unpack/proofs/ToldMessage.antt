@@ -1,22 +1,19 @@
 -- What a run of octets, or the end, tells a message, and what the object's refusal of a head says of it.
-use Rattle.std.proofs.Common.{◌≡◌, ℕ, true, false, List, [], ◌∷◌, ◌++◌, map, Option, Some, IsSome, refl, ap, sym, subst, ◌∙◌, append-nil, length, ◌==◌}
+use Rattle.iim_unpack.proofs.Words.{◌≡◌, ℕ, true, false, List, [], ◌∷◌, ◌++◌, map, Option, Some, refl, ap, sym, subst, ◌∙◌, length, ◌==◌, eqb-true}
+use Rattle.iim_unpack.proofs.Words.{MessageDiesAt, MessageCause, End, octets_in, end_is_last, TellsMessage, MessageRefuses, tells_message_nothing}
+use Rattle.iim_unpack.proofs.Words.{ObjectToken, State}
+use Rattle.std.proofs.Common.{IsSome, append-nil}
 use Rattle.std.proofs.lemmas.List.{nil_from_length}
-use Rattle.std.proofs.lemmas.Bool.{eqb-true}
 use Rattle.iim_object.specs.Format.Events.{ObjectOctet, ObjectEnd}
-use Rattle.wire_message.specs.Format.Layers.{MessageDiesAt}
 use Rattle.wire_message.specs.States.Reading.{StandsAt, LeadsOn, GoesSomewhere, CountsCause, IsWhole}
 use Rattle.wire_message.specs.Format.Causes.{HasCause}
 use Rattle.wire_message.specs.States.SoFar.{LeadsTo}
 use Rattle.wire_message.specs.declared.place.Place.{Place}
-use Rattle.wire_message.specs.declared.fault.MessageCause.{MessageCause}
 use Rattle.wire_message.specs.declared.fault.MessageCause.TheVariants.{Unfinished}
-use Rattle.wire_story.specs.Format.Tokens.{End}
-use Rattle.iim_unpack.specs.Passed.{octets_in, end_is_last, TellsMessage, MessageRefuses, PassesTo, HaltsAt, RefusesEnd}
-use Rattle.iim_unpack.specs.Passing.{goes_nowhere, tells_message_nothing}
+use Rattle.iim_unpack.specs.Passed.{PassesTo, HaltsAt, RefusesEnd}
+use Rattle.iim_unpack.specs.Passing.{goes_nowhere}
 use Rattle.wire_story.specs.Format.Delivery as story
-use Rattle.iim_object.specs.Format.Objects.{ObjectToken}
 use Rattle.iim_object.specs.States.Reading.{RefusesHead}
-use Rattle.iim_object.specs.declared.reading.state.State.{State}
 use Rattle.iim_object.specs.declared.reading.fault.ObjectFault.{ObjectFault}
 use Rattle.iim_object.specs.declared.reading.fault.ObjectFault.TheVariants.{Size, Stopped}
 use Rattle.iim_unpack.specs.declared.parts.message.ToMessage.{ToMessage}

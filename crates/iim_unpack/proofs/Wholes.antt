@@ -1,52 +1,35 @@
 -- A whole dataset leads the parts of an unpacker on; or a subfile is refused at an octet.
 use Rattle.std.specs.Prelude.{IsSome, is_none, is_some}
-use Rattle.std.proofs.Common.{◌≡◌, ℕ, ◌<◌, Bool, true, false, nat_eq, List, [], ◌∷◌, ◌++◌, length, map, flat_map, get_or, Option, Some, None, refl, ap, sym, subst, ◌∙◌, inl, inr, arith, append_assoc, append-nil}
-use Rattle.std.proofs.lemmas.Bool.{eqb-false, eqb-true, or_cases}
-use Rattle.iim_dataset.specs.Format.Datasets.{Dataset, head_of}
-use Rattle.iim_dataset.specs.Format.Splits.{InTag}
-use Rattle.iim_dataset.specs.States.Events.{DatasetEvent, HeadRead, DataOctet, DatasetEnd, events_of, handed_on}
-use Rattle.iim_dataset.specs.declared.head.Head.{Head}
+use Rattle.iim_unpack.proofs.Words.{◌≡◌, ℕ, ◌<◌, Bool, true, false, nat_eq, List, [], ◌∷◌, ◌++◌, length, map, get_or, Option, Some, None, refl, ap, sym}
+use Rattle.iim_unpack.proofs.Words.{subst, ◌∙◌, inl, inr, arith, append_assoc, eqb-true, Dataset, head_of, InTag, DatasetEvent, HeadRead, DataOctet}
+use Rattle.iim_unpack.proofs.Words.{DatasetEnd, events_of, Head, option_or, are_octets, is_kept, first_fault, value_fault, begun_head, FieldsPlace, IsBetween}
+use Rattle.iim_unpack.proofs.Words.{section_of, begun_head_of, limits_of, StandsAfter, data_of, tells_number, last_more, number, Octets, NumberRead}
+use Rattle.iim_unpack.proofs.Words.{SubfileBegun, place_after_datasets, text_so_far, object_of, place_at, AreAfter, TellsWhole, TellsParts, PartsRefuse}
+use Rattle.iim_unpack.proofs.Words.{HasEnded, Takes, LowerLaws, silent_leads, object_of_more, few_more, head_token, events_at, State, MessageCause}
+use Rattle.iim_unpack.proofs.Words.{message_on, TellsMessage, MessageRefuses, HasFewSubfiles, tells_message_nothing}
+use Rattle.std.proofs.Common.{flat_map, append-nil}
+use Rattle.std.proofs.lemmas.Bool.{eqb-false, or_cases}
+use Rattle.iim_dataset.specs.States.Events.{handed_on}
 use Rattle.std.specs.Int.{IsInRange}
-use Rattle.std.specs.Option.{option_or}
-use Rattle.iim_dataset.proofs.OctetLists.{are_octets}
 use Rattle.iim_tables.specs.Format.Numbers.{size_octets}
 use Rattle.iim_fields.specs.States.Admitting.{Admits, Spells}
-use Rattle.iim_fields.specs.Format.Faults.{is_kept, first_fault, value_fault}
-use Rattle.iim_fields.specs.States.Checks.{begun_head}
-use Rattle.iim_fields.specs.States.Standing.{FieldsPlace, IsBetween, section_of, begun_head_of, PassesSubfile, limits_of, StandsAfter}
-use Rattle.iim_fields.specs.Format.Values.{data_of, tells_number}
-use Rattle.iim_fields.proofs.Sections.{last_more}
-use Rattle.iim_dataset.specs.Format.Octets.{number, Octets}
-use Rattle.iim_object.specs.Format.Objects.{NumberRead, SubfileBegun}
+use Rattle.iim_fields.specs.States.Standing.{PassesSubfile}
 use Rattle.iim_object.specs.States.Reading as objects
-use Rattle.iim_object.specs.Format.Numbers.{place_after_datasets, place_ended}
-use Rattle.wire_message.specs.Format.Layers.{text_so_far}
+use Rattle.iim_object.specs.Format.Numbers.{place_ended}
 use Rattle.wire_message.specs.States.Reading as wire
-use Rattle.iim_places.specs.Format.Admitted.{object_of}
-use Rattle.iim_places.specs.Format.Tokens.{place_at}
-use Rattle.iim_unpack.specs.States.Parts.{AreAfter, has_ended, Parts}
-use Rattle.iim_unpack.specs.PartSteps.{TakesHead, TellsWhole, TellsParts, PartsRefuse}
-use Rattle.iim_unpack.specs.Routing.{HasEnded, Takes, TookWhole}
-use Rattle.iim_places.specs.Laws.{LowerLaws}
+use Rattle.iim_unpack.specs.States.Parts.{has_ended, Parts}
+use Rattle.iim_unpack.specs.PartSteps.{TakesHead}
+use Rattle.iim_unpack.specs.Routing.{TookWhole}
 use Rattle.iim_unpack.proofs.Sequences.{end_told}
 use Rattle.iim_places.proofs.Objects.{records_alive}
-use Rattle.iim_places.proofs.Places.{silent_leads}
 use Rattle.iim_unpack.proofs.Carrying.{after_all, tells_parts_object, stopped_object}
-use Rattle.iim_places.proofs.ObjectOctets.{object_of_more, few_more}
 use Rattle.std.specs.Bool.{then_some}
 use Rattle.iim_dataset.specs.States.Reading.{AfterStep}
 use Rattle.iim_dataset.specs.declared.sink.Step.{Step}
 use Rattle.iim_object.specs.Format.Events as object_events
-use Rattle.iim_object.specs.Format.Places.{head_token}
-use Rattle.iim_object.specs.States.Reading.{events_at}
-use Rattle.iim_object.specs.declared.reading.state.State.{State}
-use Rattle.wire_message.specs.declared.fault.MessageCause.{MessageCause}
 use Rattle.wire_message.specs.declared.place.Place.{Place}
 use Rattle.wire_story.specs.Format.Delivery as story
-use Rattle.iim_places.specs.Format.Refusals.{message_on}
 use Rattle.iim_unpack.specs.Going.{tells_parts_joined, stopped_joined}
-use Rattle.iim_unpack.specs.Passed.{TellsMessage, MessageRefuses, HasFewSubfiles}
-use Rattle.iim_unpack.specs.Passing.{tells_message_nothing}
 use Rattle.iim_unpack.proofs.Closing.{closed_silent, tells_parts_closed, tells_parts_whole}
 use Rattle.iim_unpack.proofs.Heading.{tells_parts_head, begins_subfile}
 

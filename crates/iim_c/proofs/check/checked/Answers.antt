@@ -1,5 +1,4 @@
-use Rattle.std.proofs.Common.{[], length, ◌∙◌, arith}
-use Rattle.iim_places.specs.States.Counts.{raised}
+use Rattle.iim_c.proofs.Words.{[], length, ◌∙◌, arith, raised}
 use Rattle.iim_c.proofs.Checked.{finished_for, truncated_for, refused_for}
 use Rattle.iim_c.proofs.TextOuts.{not_sink}
 use Rattle.iim_c.proofs.check.checked.Goals as goal

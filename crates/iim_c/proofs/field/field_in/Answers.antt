@@ -1,7 +1,5 @@
-use Rattle.std.proofs.Common.{◌≡◌, ℕ, ◌+◌, ◌-◌, ◌≤◌, List, [], ◌∷◌, length, drop, refl, ap, sym, subst, ◌∙◌, arith, length-drop}
-use Rattle.std.proofs.lemmas.List.{drop-drop}
-use Rattle.iim_dataset.specs.Format.Datasets.{Dataset}
-use Rattle.iim_places.specs.States.TicketsTold.{split_told}
+use Rattle.iim_c.proofs.Words.{◌≡◌, ℕ, ◌+◌, ◌-◌, ◌≤◌, List, [], ◌∷◌, length, drop, refl, ap, sym, subst, ◌∙◌, arith, length-drop, drop-drop, Dataset}
+use Rattle.iim_c.proofs.Words.{split_told}
 use Rattle.iim_c.proofs.TicketFields.{FieldsAt, fields_at, next_at, stands_there}
 use Rattle.iim_c.proofs.field.field_in.Goals as goal
 

@@ -1,7 +1,6 @@
-use Rattle.std.proofs.Common.{◌≡◌, ◌<◌, ◌≤◌, length, drop, Some, None, arith, length-drop, ap, ◌∙◌}
+use Rattle.iim_c.proofs.Words.{◌≡◌, ◌<◌, ◌≤◌, length, drop, Some, None, arith, length-drop, ap, ◌∙◌, limits_in}
 use Rattle.std.specs.List.{slice_range}
 use Rattle.std.proofs.lemmas.List.{take_rest, length-set}
-use Rattle.iim_unpack.specs.States.Unpacking.{limits_in}
 use Rattle.iim_c.proofs.Rows.{one_found, found_as, all_found, refused_then, fits_then, others_stay}
 use Rattle.iim_c.proofs.finding.find_rows.Goals as goal
 

@@ -1,7 +1,4 @@
-use Rattle.std.proofs.Common.{◌≡◌, ◌-◌, ◌≤◌, ℕ, List, length, drop, None}
-use Rattle.iim_unpack.specs.States.Unpacking.{limits_in}
-use Rattle.iim_audit.specs.Format.Pieces.{StandsOn}
-use Rattle.iim_c.specs.Steps.{HasFound}
+use Rattle.iim_c.proofs.Words.{◌≡◌, ◌-◌, ◌≤◌, ℕ, List, length, drop, None, limits_in, StandsOn, HasFound}
 use Rattle.iim_c.specs.declared.finding.Ending.TheVariants.{Full}
 use Rattle.iim_c.proofs.finding.find_rows.Given as goal
 

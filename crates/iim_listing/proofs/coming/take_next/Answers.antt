@@ -1,5 +1,4 @@
-use Rattle.std.proofs.Common.{◌∙◌, refl, inr}
-use Rattle.iim_unpack.specs.States.Intakes.{in_line}
+use Rattle.iim_listing.proofs.Words.{◌∙◌, refl, inr, in_line}
 use Rattle.iim_unpack.proofs.Intakes.{more_of, done_of, end_of}
 use Rattle.iim_listing.proofs.Feeding.{take_none, take_out, take_more, take_ended, is_ready, fewer_left}
 use Rattle.iim_listing.proofs.Taken.{taken_whole, taken_faults, held_up, fault_next}

@@ -1,5 +1,4 @@
-use Rattle.std.proofs.Common.{◌≡◌, ◌-◌, ◌^◌, None}
-use Rattle.iim_unpack.specs.States.Intakes.{in_line}
+use Rattle.iim_listing.proofs.Words.{◌≡◌, ◌-◌, ◌^◌, None, in_line}
 use Rattle.iim_listing.proofs.Feeding.{HasTaken}
 use Rattle.iim_listing.proofs.coming.take_next.Given as goal
 

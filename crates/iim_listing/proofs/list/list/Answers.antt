@@ -1,8 +1,4 @@
-use Rattle.std.proofs.Common.{rules, IfErr, ap, ◌∙◌}
-use Rattle.iim_dataset.specs.States.Devices.{Device}
-use Rattle.iim_unpack.specs.States.Intakes.{in_line}
-use Rattle.iim_listing.specs.Format.WrittenListings.{FailsListing}
-use Rattle.iim_output.specs.declared.fault.CommandFault.TheVariants.{OutOfMemory}
+use Rattle.iim_listing.proofs.Words.{rules, IfErr, ap, ◌∙◌, Device, in_line, FailsListing, OutOfMemory}
 use Rattle.iim_output.proofs.Holding.{between}
 use Rattle.iim_listing.proofs.Listings.{nothing_listed, settled_starved}
 use Rattle.iim_listing.proofs.list.list.Goals as goal

@@ -1,16 +1,10 @@
-use Rattle.std.proofs.Common.{rules, ◌≡◌, ◌∙◌, ◌+◌, ℕ, List, [], ◌++◌, refl, sym, append-nil, arith}
+use Rattle.iim_listing.proofs.Words.{rules, ◌≡◌, ◌∙◌, ◌+◌, ℕ, List, [], ◌++◌, refl, sym, arith, Device, in_line, max_envelopes, Whole, RefusedBy, TooMany}
+use Rattle.iim_listing.proofs.Words.{KeepsWriter, PassesOver, refuses_never, BlockWriter, OutOfMemory, put_nothing, AreListed}
+use Rattle.std.proofs.Common.{append-nil}
 use Rattle.iim_dataset.proofs.Lists.{handed_on}
-use Rattle.iim_dataset.specs.States.Devices.{Device}
-use Rattle.iim_unpack.specs.States.Intakes.{in_line}
-use Rattle.iim_places.specs.Format.Listing.{max_envelopes, Whole, RefusedBy, TooMany}
-use Rattle.iim_output.specs.States.Holding.{KeepsWriter}
-use Rattle.iim_output.specs.States.Silence.{IsSettled, IsStuck, PassesOver, refuses_never}
-use Rattle.iim_output.specs.declared.block_writer.BlockWriter.{BlockWriter}
-use Rattle.iim_output.specs.declared.fault.CommandFault.TheVariants.{OutOfMemory}
+use Rattle.iim_output.specs.States.Silence.{IsSettled, IsStuck}
 use Rattle.iim_listing.proofs.Listings.{ends_refused, failed, left_of, none_left, listed, listed_more, listed_out, starved, unended, unsaid_of}
-use Rattle.iim_output.specs.HoldingLaws.{put_nothing}
 use Rattle.iim_listing.proofs.Taken.{kept_next}
-use Rattle.iim_listing.specs.Turns.{AreListed}
 use Rattle.iim_listing.proofs.list.list_next.Given.{Over}
 use Rattle.iim_listing.proofs.list.list_next.Goals.{After-take_next}
 use Rattle.iim_listing.proofs.list.list_next.Goals as goal

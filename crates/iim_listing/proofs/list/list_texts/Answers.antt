@@ -1,7 +1,5 @@
-use Rattle.std.proofs.Common.{[], arith}
+use Rattle.iim_listing.proofs.Words.{[], arith, in_line, OutOfMemory}
 use Rattle.iim_dataset.proofs.Lists.{handed_on}
-use Rattle.iim_unpack.specs.States.Intakes.{in_line}
-use Rattle.iim_output.specs.declared.fault.CommandFault.TheVariants.{OutOfMemory}
 use Rattle.iim_listing.proofs.Listings.{none_listed, starved}
 use Rattle.iim_listing.proofs.list.list_texts.Goals as goal
 

@@ -1,8 +1,4 @@
-use Rattle.std.proofs.Common.{◌≡◌, ◌-◌, None}
-use Rattle.iim_unpack.specs.States.Intakes.{in_line}
-use Rattle.iim_unpack.specs.States.Unpacking.{limits_in}
-use Rattle.iim_output.specs.Format.Limits.{limits}
-use Rattle.iim_listing.specs.Turns.{AreListed}
+use Rattle.iim_listing.proofs.Words.{◌≡◌, ◌-◌, None, in_line, limits_in, limits, AreListed}
 use Rattle.iim_listing.proofs.list.list_texts.Given as goal
 
 abbrev pub invariant-listing : goal.invariant-listing

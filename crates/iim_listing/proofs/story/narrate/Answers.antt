@@ -1,9 +1,5 @@
-use Rattle.std.proofs.Common.{rules, IfErr, ap, ◌∙◌}
-use Rattle.iim_dataset.specs.States.Devices.{Device}
-use Rattle.iim_unpack.specs.States.Intakes.{in_line}
+use Rattle.iim_listing.proofs.Words.{rules, IfErr, ap, ◌∙◌, Device, in_line, IsUnnarrated, OutOfMemory}
 use Rattle.wire_story.specs.States.Writing.{device_of}
-use Rattle.iim_listing.specs.Format.Narration.{IsUnnarrated}
-use Rattle.iim_output.specs.declared.fault.CommandFault.TheVariants.{OutOfMemory}
 use Rattle.iim_listing.proofs.Narration.{nothing_told}
 use Rattle.iim_listing.proofs.Narrators.{between}
 use Rattle.iim_listing.proofs.story.narrate.Goals as goal

@@ -1,14 +1,10 @@
-use Rattle.std.proofs.Common.{rules, ◌≡◌, ◌+◌, [], length, map, refl, sym, ap, ◌∙◌, append-nil, arith}
-use Rattle.iim_dataset.specs.States.Devices.{Device}
+use Rattle.iim_listing.proofs.Words.{rules, ◌≡◌, ◌+◌, [], length, map, refl, sym, ap, ◌∙◌, arith, Device, in_line, octet_for, refused_line, max_envelopes}
+use Rattle.iim_listing.proofs.Words.{Whole, RefusedBy, TooMany, EndsStory, KeepsTargets, TellsOn, errors_of, output_of, stops_of, text_of, IsTelling}
+use Rattle.iim_listing.proofs.Words.{Narrator}
+use Rattle.std.proofs.Common.{append-nil}
 use Rattle.iim_dataset.proofs.Lists.{handed_on}
-use Rattle.iim_unpack.specs.States.Intakes.{in_line}
-use Rattle.wire_story.specs.Format.Delivery.{octet_for}
-use Rattle.iim_output.specs.Format.Lines.{accepted_line, refused_line}
-use Rattle.iim_places.specs.Format.Listing.{max_envelopes, Whole, RefusedBy, TooMany}
-use Rattle.iim_listing.specs.Narrating.{EndsStory, IsSettled, IsStuck, KeepsTargets, TellsOn, errors_of, output_of, stops_of}
-use Rattle.iim_listing.specs.Format.Narration.{text_of}
-use Rattle.iim_listing.specs.Turns.{IsTelling}
-use Rattle.iim_listing.specs.declared.narrator.Narrator.{Narrator}
+use Rattle.iim_output.specs.Format.Lines.{accepted_line}
+use Rattle.iim_listing.specs.Narrating.{IsSettled, IsStuck}
 use Rattle.iim_listing.proofs.Narration.{TextIsTaken, all_out, all_settled, keeps_on, narrated, narrated_more, refused_within, stands_told, text_refused, text_taken, unended, unended_keeps, unfed, untold, untold_keeps, whole_text}
 use Rattle.iim_listing.proofs.Listings.{ends_refused, left_of, none_left}
 use Rattle.iim_listing.proofs.Taken.{kept_next}

@@ -1,8 +1,5 @@
-use Rattle.std.proofs.Common.{refl, arith}
+use Rattle.iim_listing.proofs.Words.{refl, arith, in_line, errors_of, output_of, OutOfMemory}
 use Rattle.iim_dataset.proofs.Lists.{handed_on}
-use Rattle.iim_unpack.specs.States.Intakes.{in_line}
-use Rattle.iim_listing.specs.Narrating.{errors_of, output_of}
-use Rattle.iim_output.specs.declared.fault.CommandFault.TheVariants.{OutOfMemory}
 use Rattle.iim_listing.proofs.Narration.{none_narrated, nothing_told}
 use Rattle.iim_listing.proofs.story.tell_stories.Goals as goal
 

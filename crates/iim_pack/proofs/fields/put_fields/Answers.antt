@@ -1,7 +1,5 @@
-use Rattle.std.proofs.Common.{◌≡◌, ℕ, ◌+◌, List, [], ◌∷◌, ◌++◌, length, sym, ap, subst, ◌∙◌, arith, append_assoc, length-append}
-use Rattle.iim_dataset.specs.Format.Datasets.{Dataset, canonical_dataset, canonical_stream}
-use Rattle.iim_dataset.specs.States.Devices.{Wrote, Stopped}
-use Rattle.iim_fields.specs.States.Walks.{rest_of}
+use Rattle.iim_pack.proofs.Words.{◌≡◌, ℕ, ◌+◌, List, [], ◌∷◌, ◌++◌, length, sym, ap, subst, ◌∙◌, arith, append_assoc, length-append, Dataset}
+use Rattle.iim_pack.proofs.Words.{canonical_dataset, canonical_stream, Wrote, Stopped, rest_of}
 use Rattle.iim_pack.proofs.FieldsOut.{stream_one, front_small, part_small, part_stopped}
 use Rattle.iim_pack.proofs.fields.put_fields.Goals as goal
 

@@ -1,7 +1,4 @@
-use Rattle.std.proofs.Common.{◌≡◌, List, ◌++◌, length}
-use Rattle.iim_dataset.specs.Format.Datasets.{Dataset, canonical_stream}
-use Rattle.iim_dataset.specs.States.Devices.{Wrote, WithinInterruptionLimit}
-use Rattle.iim_fields.specs.States.Walks.{rest_of}
+use Rattle.iim_pack.proofs.Words.{◌≡◌, List, ◌++◌, length, Dataset, canonical_stream, Wrote, WithinInterruptionLimit, rest_of}
 use Rattle.iim_pack.proofs.fields.put_fields.Given as goal
 
 -- some datasets are out

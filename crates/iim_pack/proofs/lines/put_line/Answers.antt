@@ -1,12 +1,6 @@
-use Rattle.std.proofs.Common.{◌≡◌, ℕ, ◌+◌, ◌≤◌, Bool, true, false, None, List, [], ◌∷◌, length, map, ap, ◌∙◌, arith}
-use Rattle.std.proofs.lemmas.Result.{on_ok_weaker, on_err_weaker}
-use Rattle.iim_object.specs.States.Writing.{most_of, total_of}
-use Rattle.iim_dataset.specs.States.Devices.{Device}
-use Rattle.wire_story.specs.Format.Texts.{IsLine}
-use Rattle.wire_story.specs.Format.Delivery.{LineOctet, LineEnd}
-use Rattle.wire_story.specs.Format.Packing.{packed_events}
-use Rattle.wire_story.proofs.PackedEvents.{line_packed}
-use Rattle.iim_pack.specs.States.Packing.{Packing, Lengthens, text_cause, line_end_cause}
+use Rattle.iim_pack.proofs.Words.{◌≡◌, ℕ, ◌+◌, ◌≤◌, Bool, true, false, None, List, [], ◌∷◌, length, map, ap, ◌∙◌, arith, on_ok_weaker, on_err_weaker, most_of}
+use Rattle.iim_pack.proofs.Words.{total_of, Device, IsLine, LineOctet, LineEnd, packed_events, line_packed, Packing, text_cause, line_end_cause}
+use Rattle.iim_pack.specs.States.Packing.{Lengthens}
 use Rattle.iim_pack.specs.Steps.{line_events}
 use Rattle.iim_pack.proofs.Goings.{of_none}
 use Rattle.iim_pack.proofs.LinesOut.{leads_on, breaks_later, breaks_before, may_text, may_end_line}

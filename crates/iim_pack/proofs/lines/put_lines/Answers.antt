@@ -1,8 +1,4 @@
-use Rattle.std.proofs.Common.{ℕ, Bool, true, false, List, [], ◌++◌, sym, ap, subst, ◌∙◌, append_assoc}
-use Rattle.std.specs.List.{list_all}
-use Rattle.std.proofs.lemmas.Bool.{and_parts}
-use Rattle.wire_story.specs.Format.Texts.{is_line_octet}
-use Rattle.wire_story.specs.Format.Delivery.{StoryEvent}
+use Rattle.iim_pack.proofs.Words.{ℕ, Bool, true, false, List, [], ◌++◌, sym, ap, subst, ◌∙◌, append_assoc, list_all, and_parts, is_line_octet, StoryEvent}
 use Rattle.iim_pack.specs.States.Packing.{BreaksOff, ContinuesWith}
 use Rattle.iim_pack.specs.Steps.{line_events}
 use Rattle.iim_pack.proofs.LinesOut.{events_left, goes_nowhere, leads_on, breaks_later, breaks_before, all_left}

@@ -1,7 +1,4 @@
-use Rattle.std.proofs.Common.{◌≡◌, List, ◌++◌, length, IsTrue}
-use Rattle.std.specs.List.{list_all}
-use Rattle.wire_story.specs.Format.Texts.{is_line_octet}
-use Rattle.wire_story.specs.Format.Delivery.{StoryEvent, events_of_lines}
+use Rattle.iim_pack.proofs.Words.{◌≡◌, List, ◌++◌, length, IsTrue, list_all, is_line_octet, StoryEvent, events_of_lines}
 use Rattle.iim_pack.specs.States.Packing.{Lengthens}
 use Rattle.iim_pack.proofs.LinesOut.{events_left}
 use Rattle.iim_pack.proofs.lines.put_lines.Given as goal

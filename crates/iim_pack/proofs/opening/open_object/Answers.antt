@@ -1,5 +1,4 @@
-use Rattle.std.proofs.Common.{length, arith}
-use Rattle.iim_object.specs.States.Writing.{write_cause}
+use Rattle.iim_pack.proofs.Words.{length, arith, write_cause}
 use Rattle.iim_pack.proofs.Goings.{of_none}
 use Rattle.iim_pack.proofs.Openings.{not_begun, opened, opening_broke, may_open, plan_small}
 use Rattle.iim_pack.proofs.opening.open_object.Goals as goal

@@ -1,6 +1,5 @@
-use Rattle.std.proofs.Common.{List, ℕ, inr, sym, ◌∙◌}
-use Rattle.iim_object.proofs.Written.{if_none}
-use Rattle.iim_pack.specs.States.Packing.{pack_cause, start_cause, finish_cause}
+use Rattle.iim_pack.proofs.Words.{List, ℕ, inr, sym, ◌∙◌, if_none, pack_cause, start_cause}
+use Rattle.iim_pack.specs.States.Packing.{finish_cause}
 use Rattle.iim_pack.proofs.Goings.{of_none}
 use Rattle.iim_pack.proofs.Wholes.{lines_again, packs, lines_broke, finish_broke, not_started, may_pack, may_start, lines_fit, may_finish}
 use Rattle.iim_pack.proofs.packing.pack.Goals as goal

@@ -1,5 +1,4 @@
-use Rattle.std.proofs.Common.{◌∙◌, ap, not, length, sym, arith}
-use Rattle.std.proofs.lemmas.List.Sums.{position_or_len_is}
+use Rattle.iim_script.proofs.Words.{◌∙◌, ap, not, length, sym, arith, position_or_len_is}
 use Rattle.iim_script.proofs.Names.{no_digit}
 use Rattle.iim_script.proofs.field.digits.Goals as goal
 

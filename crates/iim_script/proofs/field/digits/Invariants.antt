@@ -1,5 +1,4 @@
-use Rattle.std.proofs.Common.{◌≡◌, ℕ, ◌<◌, false, not, get_or}
-use Rattle.iim_dataset.specs.Format.Octets.{is_digit}
+use Rattle.iim_script.proofs.Words.{◌≡◌, ℕ, ◌<◌, false, not, get_or, is_digit}
 use Rattle.iim_script.proofs.field.digits.Given as goal
 
 abbrev pub invariant-loop-at : goal.invariant-loop-at

@@ -1,8 +1,6 @@
-use Rattle.std.proofs.Common.{◌≡◌, ◌<◌, ◌==◌, ℕ, List, length, get_or, Option, Some, None, sym, ◌∙◌, arith}
+use Rattle.iim_script.proofs.Words.{◌≡◌, ◌<◌, ◌==◌, ℕ, List, length, get_or, Option, Some, None, sym, ◌∙◌, arith, position_or_len, false_from_ne_true}
+use Rattle.iim_script.proofs.Words.{position_or_len_is}
 use Rattle.std.specs.Option.{unwrap_or}
-use Rattle.std.specs.List.{position_or_len}
-use Rattle.std.proofs.lemmas.Bool.{false_from_ne_true}
-use Rattle.std.proofs.lemmas.List.Sums.{position_or_len_is}
 use Rattle.memchr.specs.Find.{IsFirstByte, is_byte}
 use Rattle.iim_script.proofs.line.before_first.Goals as goal
 

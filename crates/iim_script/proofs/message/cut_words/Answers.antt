@@ -1,5 +1,4 @@
-use Rattle.std.proofs.Common.{sym, ◌∙◌}
-use Rattle.iim_script.specs.Format.Forms.{after_source, after_number, after_priority, after_category}
+use Rattle.iim_script.proofs.Words.{sym, ◌∙◌, after_source, after_number, after_priority, after_category}
 use Rattle.iim_script.proofs.Cuts.{cut_once}
 use Rattle.iim_script.proofs.Heads.{words_found, no_more}
 use Rattle.iim_script.proofs.message.cut_words.Goals as goal

@@ -1,5 +1,4 @@
-use Rattle.iim_script.specs.Format.Shown.{TellsLast}
-use Rattle.iim_script.specs.Format.Forms.{words_of}
+use Rattle.iim_script.proofs.Words.{TellsLast, words_of}
 use Rattle.iim_script.proofs.Heads.{words_told, head_told, is_told, is_not_told}
 use Rattle.iim_script.proofs.message.read_head_line.Goals as goal
 

@@ -1,5 +1,4 @@
-use Rattle.std.proofs.Common.{◌≡◌, ◌+◌, ◌*◌, ◌≤◌, ◌++◌, take, length}
-use Rattle.iim_dataset.specs.Format.Shown.{shown}
+use Rattle.iim_script.proofs.Words.{◌≡◌, ◌+◌, ◌*◌, ◌≤◌, ◌++◌, take, length, shown}
 use Rattle.iim_script.proofs.places.put_by_sixteen.Given as goal
 
 -- what is there and the rest, shown, are what there was and all, shown

@@ -1,6 +1,4 @@
-use Rattle.std.proofs.Common.{◌≡◌, ◌+◌, ◌*◌, ◌≤◌, ◌++◌, take}
-use Rattle.std.specs.List.{flat_map}
-use Rattle.iim_dataset.specs.Format.Shown.{shown_octet}
+use Rattle.iim_script.proofs.Words.{◌≡◌, ◌+◌, ◌*◌, ◌≤◌, ◌++◌, take, flat_map, shown_octet}
 use Rattle.iim_script.proofs.places.put_each.Given as goal
 
 abbrev pub invariant-loop-octet : goal.invariant-loop-octet

@@ -1,5 +1,4 @@
-use Rattle.std.proofs.Common.{ℕ, List, ◌++◌, take, ap, sym, ◌∙◌, arith}
-use Rattle.std.specs.List.{list_all}
+use Rattle.iim_script.proofs.Words.{ℕ, List, ◌++◌, take, ap, sym, ◌∙◌, arith, list_all}
 use Rattle.std.proofs.lemmas.List.{take_all}
 use Rattle.iim_dataset.specs.Format.Shown.{is_plain}
 use Rattle.iim_script.proofs.Put.{all_plain}

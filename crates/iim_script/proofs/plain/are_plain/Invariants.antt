@@ -1,5 +1,4 @@
-use Rattle.std.proofs.Common.{◌≡◌, ◌-◌, ◌≤◌, true, length, take}
-use Rattle.std.specs.List.{list_all}
+use Rattle.iim_script.proofs.Words.{◌≡◌, ◌-◌, ◌≤◌, true, length, take, list_all}
 use Rattle.iim_dataset.specs.Format.Shown.{is_plain}
 use Rattle.iim_script.proofs.plain.are_plain.Given as goal
 

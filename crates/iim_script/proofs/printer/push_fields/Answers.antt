@@ -1,6 +1,4 @@
-use Rattle.std.proofs.Common.{rules, List, [], ◌∷◌, ◌++◌, drop, length, sym, ap, ◌∙◌, append_assoc, arith}
-use Rattle.iim_dataset.specs.Format.Datasets.{Dataset}
-use Rattle.iim_fields.specs.States.Walks.{rest_of}
+use Rattle.iim_script.proofs.Words.{rules, List, [], ◌∷◌, ◌++◌, drop, length, sym, ap, ◌∙◌, append_assoc, arith, Dataset, rest_of}
 use Rattle.iim_script.proofs.Put.{stands, line_more}
 use Rattle.iim_script.proofs.printer.push_fields.Goals as goal
 

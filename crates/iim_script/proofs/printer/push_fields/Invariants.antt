@@ -1,8 +1,5 @@
-use Rattle.std.proofs.Common.{◌≡◌, ◌≤◌, List, ◌++◌, length, take, vec_len}
-use Rattle.std.specs.List.{flat_map}
-use Rattle.iim_dataset.specs.Format.Datasets.{Dataset}
-use Rattle.iim_fields.specs.States.Walks.{rest_of}
-use Rattle.iim_script.specs.Format.Printed.{field_line}
+use Rattle.iim_script.proofs.Words.{◌≡◌, ◌≤◌, List, ◌++◌, length, take, flat_map, Dataset, rest_of, field_line}
+use Rattle.std.proofs.Common.{vec_len}
 use Rattle.iim_script.proofs.printer.push_fields.Given as goal
 
 -- some datasets are shown

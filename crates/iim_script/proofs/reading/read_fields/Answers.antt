@@ -1,5 +1,4 @@
-use Rattle.std.proofs.Common.{sym, ◌∙◌, arith}
-use Rattle.iim_script.specs.Format.Faults.{TellsNoField}
+use Rattle.iim_script.proofs.Words.{sym, ◌∙◌, arith, TellsNoField}
 use Rattle.iim_script.proofs.Fronts.{fields_added, fields_refused, tells_no_field, next_must_be, must_be_none}
 use Rattle.iim_script.proofs.reading.read_fields.Goals as goal
 

@@ -1,5 +1,4 @@
-use Rattle.std.proofs.Common.{◌≡◌, ◌+◌, ◌≤◌, length}
-use Rattle.iim_script.specs.Format.Faults.{Stands, InFields}
+use Rattle.iim_script.proofs.Words.{◌≡◌, ◌+◌, ◌≤◌, length, Stands, InFields}
 use Rattle.iim_script.proofs.reading.read_fields.Given as goal
 
 abbrev pub invariant-loop-line : goal.invariant-loop-line

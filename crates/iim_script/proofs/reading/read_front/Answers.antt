@@ -1,6 +1,5 @@
-use Rattle.std.proofs.Common.{ap}
+use Rattle.iim_script.proofs.Words.{ap, Building}
 use Rattle.std.proofs.lemmas.Result.{err_from_is_err_and}
-use Rattle.iim_fields.specs.States.Builders.{Building}
 use Rattle.iim_script.proofs.Fronts.{stands_head, past_trailer, is_front, head_fault, trailer_fault, text_fault, end_fault}
 use Rattle.iim_script.proofs.reading.read_front.Goals as goal
 

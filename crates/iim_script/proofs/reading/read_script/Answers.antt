@@ -1,6 +1,5 @@
-use Rattle.std.proofs.Common.{List, ℕ, sym, subst, arith}
+use Rattle.iim_script.proofs.Words.{List, ℕ, sym, subst, arith, IsScript}
 use Rattle.wire_story.proofs.Collected.{text_collected}
-use Rattle.iim_script.specs.Format.Scripts.{IsScript}
 use Rattle.iim_script.proofs.reading.read_script.Goals as goal
 
 pub returns-clause-script : goal.returns-clause-script

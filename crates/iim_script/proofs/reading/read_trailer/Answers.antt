@@ -1,5 +1,4 @@
-use Rattle.std.proofs.Common.{inr, refl}
-use Rattle.iim_script.specs.Format.Faults.{TellsNoTrailer}
+use Rattle.iim_script.proofs.Words.{inr, refl, TellsNoTrailer}
 use Rattle.iim_script.proofs.Fronts.{next_must_be, must_be_none}
 use Rattle.iim_script.proofs.reading.read_trailer.Goals as goal
 

@@ -1,6 +1,4 @@
-use Rattle.std.proofs.Common.{◌≡◌, ◌==◌, ℕ, List, count_by, take, subst, arith, IsTrue}
-use Rattle.std.specs.List.{list_all}
-use Rattle.std.proofs.lemmas.List.{take_rest}
+use Rattle.iim_script.proofs.Words.{◌≡◌, ◌==◌, ℕ, List, count_by, take, subst, arith, IsTrue, list_all, take_rest}
 use Rattle.iim_script.specs.Plain.{is_plain}
 use Rattle.iim_script.proofs.Plains.{plain_more, count_next}
 use Rattle.iim_script.proofs.text.feeds_in.Goals as goal

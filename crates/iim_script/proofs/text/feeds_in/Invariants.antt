@@ -1,5 +1,4 @@
-use Rattle.std.proofs.Common.{◌≡◌, ◌==◌, ◌≤◌, ◌+◌, ◌-◌, length, count_by, take, drop, IsTrue}
-use Rattle.std.specs.List.{list_all}
+use Rattle.iim_script.proofs.Words.{◌≡◌, ◌==◌, ◌≤◌, ◌+◌, ◌-◌, length, count_by, take, drop, IsTrue, list_all}
 use Rattle.iim_script.specs.Plain.{is_plain}
 use Rattle.iim_script.proofs.text.feeds_in.Given as goal
 

@@ -1,6 +1,4 @@
-use Rattle.std.proofs.Common.{take, nat_lt, arith, w8}
-use Rattle.std.proofs.lemmas.List.{length-take-le}
-use Rattle.std.proofs.lemmas.Simd.{bitmask_splat}
+use Rattle.iim_script.proofs.Words.{take, nat_lt, arith, w8, length-take-le, bitmask_splat}
 use Rattle.iim_script.proofs.text.low_in_block.Goals as goal
 
 pub returns : goal.returns

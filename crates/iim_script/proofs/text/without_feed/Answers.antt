@@ -1,6 +1,4 @@
-use Rattle.std.proofs.Common.{inl, [], ◌∷◌}
-use Rattle.std.proofs.lemmas.Bool.Decides.{Decides-eqb}
-use Rattle.std.proofs.lemmas.Slice.Eq.{strip_suffix_is}
+use Rattle.iim_script.proofs.Words.{inl, [], ◌∷◌, Decides-eqb, strip_suffix_is}
 use Rattle.iim_script.proofs.text.without_feed.Goals as goal
 
 pub returns-in-Some : goal.returns-in-Some

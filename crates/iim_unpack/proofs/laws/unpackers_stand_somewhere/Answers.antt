@@ -1,6 +1,4 @@
-use Rattle.std.proofs.Common.{ℕ, List, inl, inr}
-use Rattle.iim_unpack.specs.States.Unpacking.{Unpacking, IsDone, Stands}
-use Rattle.iim_unpack.specs.UnpackerInside.{Stood}
+use Rattle.iim_unpack.proofs.Words.{ℕ, List, inl, inr, Unpacking, IsDone, Stands, Stood}
 use Rattle.iim_unpack.proofs.Held.{holds_few}
 use Rattle.iim_unpack.proofs.laws.unpackers_stand_somewhere.Goals as goal
 

@@ -1,9 +1,7 @@
-use Rattle.std.proofs.Common.{◌+◌, ℕ, [], List, Bor, get_or, take, drop, refl, sym, subst, ◌∙◌, inl, arith}
-use Rattle.std.proofs.lemmas.List.{take_all}
+use Rattle.iim_unpack.proofs.Words.{◌+◌, ℕ, [], List, Bor, get_or, take, drop, refl, sym, subst, ◌∙◌, inl, arith, take_all, HasFedPieces, IsTurnedDown}
+use Rattle.iim_unpack.proofs.Words.{limits_in}
 use Rattle.iim_dataset.proofs.Lists.{handed_on}
-use Rattle.iim_unpack.specs.IntakeSteps.{HasFedPieces}
-use Rattle.iim_unpack.specs.Format.Pieces.{IsTurnedDown, stream_of}
-use Rattle.iim_unpack.specs.States.Unpacking.{limits_in}
+use Rattle.iim_unpack.specs.Format.Pieces.{stream_of}
 use Rattle.iim_unpack.proofs.Intakes.{adds_none}
 use Rattle.iim_unpack.proofs.PieceLemmas.{AreLow, tells_parts_on, turned_down, still_taking, stream_step, stream_rest}
 use Rattle.iim_unpack.proofs.pieces.feed_pieces.Goals as goal

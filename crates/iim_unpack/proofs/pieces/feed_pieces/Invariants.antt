@@ -1,7 +1,5 @@
-use Rattle.std.proofs.Common.{◌≡◌, take}
-use Rattle.iim_unpack.specs.IntakeSteps.{HasFedPieces}
+use Rattle.iim_unpack.proofs.Words.{◌≡◌, take, HasFedPieces, limits_in}
 use Rattle.iim_unpack.specs.Format.Pieces.{stream_of}
-use Rattle.iim_unpack.specs.States.Unpacking.{limits_in}
 use Rattle.iim_unpack.proofs.pieces.feed_pieces.Given as goal
 
 abbrev pub invariant-loop-piece : goal.invariant-loop-piece

@@ -1,5 +1,4 @@
-use Rattle.std.proofs.Common.{rules, ◌≡◌, refl}
-use Rattle.iim_output.specs.Format.Lines.{refused_line}
+use Rattle.iim_listing.proofs.Words.{rules, ◌≡◌, refl, refused_line}
 use Rattle.iim_listing.proofs.Narrators.{lost_more, unsaid}
 use Rattle.iim_listing.proofs.narrator.Narrator.tell_refusal.Goals as goal
 

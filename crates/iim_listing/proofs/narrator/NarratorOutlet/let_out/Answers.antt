@@ -1,6 +1,4 @@
-use Rattle.std.proofs.Common.{[], inr, refl, subst}
-use Rattle.iim_dataset.specs.States.Devices.{Wrote}
-use Rattle.iim_output.specs.HoldingLaws.{puts_nothing}
+use Rattle.iim_listing.proofs.Words.{[], inr, refl, subst, Wrote, puts_nothing}
 use Rattle.iim_listing.proofs.narrator.NarratorOutlet.let_out.Goals as goal
 
 pub returns-in-Ok-clause-told : goal.returns-in-Ok-clause-told

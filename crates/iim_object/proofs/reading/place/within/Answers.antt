@@ -1,5 +1,4 @@
-use Rattle.std.proofs.Common.{◌≡◌, None, rules}
-use Rattle.iim_object.specs.States.Changes.{TakesSubfile}
+use Rattle.iim_object.proofs.Words.{◌≡◌, None, rules, TakesSubfile}
 use Rattle.iim_object.proofs.Saved.{no_state_before, finds_after, state_before}
 use Rattle.iim_object.proofs.reading.place.within.Goals as goal
 

@@ -1,5 +1,4 @@
-use Rattle.std.proofs.Common.{Some}
-use Rattle.iim_object.specs.Format.Objects.{ObjectEnded}
+use Rattle.iim_object.proofs.Words.{Some, ObjectEnded}
 use Rattle.iim_object.proofs.Steps.{leads_on, refused, lives_with}
 use Rattle.iim_object.proofs.reading.step.take_end.Goals as goal
 

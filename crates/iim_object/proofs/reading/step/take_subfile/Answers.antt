@@ -1,5 +1,4 @@
-use Rattle.std.proofs.Common.{rules}
-use Rattle.iim_object.specs.Format.Objects.{SubfileBegun}
+use Rattle.iim_object.proofs.Words.{rules, SubfileBegun}
 use Rattle.iim_object.proofs.Steps.{leads_on, refused}
 use Rattle.iim_object.proofs.Staying.{subfile_state}
 use Rattle.iim_object.proofs.reading.step.take_subfile.Goals as goal

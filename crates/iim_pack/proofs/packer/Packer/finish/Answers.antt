@@ -1,6 +1,5 @@
-use Rattle.std.proofs.Common.{length, ap, sym, ◌∙◌, arith}
+use Rattle.iim_pack.proofs.Words.{length, ap, sym, ◌∙◌, arith, if_none}
 use Rattle.iim_object.specs.States.Writing as object
-use Rattle.iim_object.proofs.Written.{if_none}
 use Rattle.iim_pack.specs.States.Packing.{finish_cause}
 use Rattle.iim_pack.proofs.Finishings.{may_end, finished, unfinished}
 use Rattle.iim_pack.proofs.Beginnings.{begun_ends}

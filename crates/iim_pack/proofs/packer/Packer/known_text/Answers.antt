@@ -1,11 +1,5 @@
-use Rattle.std.proofs.Common.{ℕ, List, length, map, sym, ◌∙◌}
-use Rattle.std.proofs.lemmas.Result.{on_ok_weaker, on_err_weaker}
+use Rattle.iim_pack.proofs.Words.{ℕ, List, length, map, sym, ◌∙◌, on_ok_weaker, on_err_weaker, if_none, LineOctet, AreEvents, line_packed, text_cause}
 use Rattle.iim_object.specs.States.Writing as object
-use Rattle.iim_object.proofs.Written.{if_none}
-use Rattle.wire_story.specs.Format.Delivery.{LineOctet}
-use Rattle.wire_story.specs.Format.Packing.{AreEvents}
-use Rattle.wire_story.proofs.PackedEvents.{line_packed}
-use Rattle.iim_pack.specs.States.Packing.{text_cause}
 use Rattle.iim_pack.proofs.Goings.{of_none, line_events, lengthened, broken, may_write}
 use Rattle.iim_pack.proofs.Beginnings.{begun_on}
 use Rattle.iim_pack.proofs.packer.Packer.known_text.Goals as goal

@@ -1,9 +1,5 @@
-use Rattle.std.proofs.Common.{[], ◌∷◌, sym, ◌∙◌}
-use Rattle.std.proofs.lemmas.Result.{on_ok_weaker, on_err_weaker}
+use Rattle.iim_pack.proofs.Words.{[], ◌∷◌, sym, ◌∙◌, on_ok_weaker, on_err_weaker, if_none, LineEnd, line_end_cause}
 use Rattle.iim_object.specs.States.Writing as object
-use Rattle.iim_object.proofs.Written.{if_none}
-use Rattle.wire_story.specs.Format.Delivery.{LineEnd}
-use Rattle.iim_pack.specs.States.Packing.{line_end_cause}
 use Rattle.iim_pack.proofs.Goings.{of_none, lengthened, broken, may_write}
 use Rattle.iim_pack.proofs.Beginnings.{begun_on}
 use Rattle.iim_pack.proofs.packer.Packer.line_end.Goals as goal

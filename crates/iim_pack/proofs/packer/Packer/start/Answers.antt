@@ -1,7 +1,5 @@
-use Rattle.std.proofs.Common.{◌+◌, inr, refl, ◌∙◌}
+use Rattle.iim_pack.proofs.Words.{◌+◌, inr, refl, ◌∙◌, if_none, start_cause}
 use Rattle.iim_object.specs.declared.writing.cause.PackCause.TheVariants as causes
-use Rattle.iim_object.proofs.Written.{if_none}
-use Rattle.iim_pack.specs.States.Packing.{start_cause}
 use Rattle.iim_pack.proofs.Startings.{fields_broke, object_broke, started}
 use Rattle.iim_pack.proofs.Beginnings.{begun_at_start}
 use Rattle.iim_pack.proofs.packer.Packer.start.Goals as goal

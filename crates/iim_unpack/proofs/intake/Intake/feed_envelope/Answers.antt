@@ -1,6 +1,4 @@
-use Rattle.std.proofs.Common.{◌<◌, ◌∙◌, refl, subst, sym, arith}
-use Rattle.iim_fields.specs.declared.limits.Limits.{Limits}
-use Rattle.iim_unpack.specs.States.Intakes.{in_line}
+use Rattle.iim_unpack.proofs.Words.{◌<◌, ◌∙◌, refl, subst, sym, arith, Limits, in_line}
 use Rattle.iim_unpack.proofs.Intakes.{fed_none, fed_then, fed_and_done, fed_and_ended, fed_and_faults, fed_few, raised_on, some_came, more_of, done_of, end_of, somewhere}
 use Rattle.iim_unpack.proofs.intake.Intake.feed_envelope.Goals as goal
 

@@ -1,6 +1,4 @@
-use Rattle.std.proofs.Common.{◌≡◌, ◌-◌, ◌^◌, [], None}
-use Rattle.iim_unpack.specs.States.Intakes.{HasFed, IsReady, in_line}
-use Rattle.iim_unpack.specs.States.Unpacking.{LeftAs}
+use Rattle.iim_unpack.proofs.Words.{◌≡◌, ◌-◌, ◌^◌, [], None, HasFed, IsReady, in_line, LeftAs}
 use Rattle.iim_unpack.proofs.intake.Intake.feed_envelope.Given as goal
 
 abbrev pub invariant-feeding : goal.invariant-feeding

@@ -1,6 +1,4 @@
-use Rattle.std.proofs.Common.{◌≡◌, ◌<◌, ◌≤◌, ℕ, List, length, refl, ap, sym, subst, ◌∙◌, arith}
-use Rattle.iim_unpack.specs.States.Intakes.{in_line}
-use Rattle.iim_places.specs.States.Counts.{raised}
+use Rattle.iim_unpack.proofs.Words.{◌≡◌, ◌<◌, ◌≤◌, ℕ, List, length, refl, ap, sym, subst, ◌∙◌, arith, in_line, raised}
 use Rattle.iim_unpack.proofs.Blocks.{line_used, line_front}
 use Rattle.iim_unpack.proofs.Intakes.{piece_more, piece_done, piece_refused, somewhere}
 use Rattle.iim_unpack.proofs.intake.Intake.feed_held.Goals as goal

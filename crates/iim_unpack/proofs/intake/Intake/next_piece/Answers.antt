@@ -1,7 +1,5 @@
-use Rattle.std.proofs.Common.{refl, inr, ap}
-use Rattle.std.proofs.lemmas.Result.{IfOk-weaker, IfErr-weaker}
-use Rattle.iim_unpack.specs.States.Blocks.{with_held}
-use Rattle.iim_unpack.specs.States.Intakes.{in_line}
+use Rattle.iim_unpack.proofs.Words.{refl, inr, ap, IfErr-weaker, with_held, in_line}
+use Rattle.std.proofs.lemmas.Result.{IfOk-weaker}
 use Rattle.iim_unpack.proofs.Intakes.{none_missed, none_truncated, read_and_fed, read_and_refused}
 use Rattle.iim_unpack.proofs.intake.Intake.next_piece.Goals as goal
 

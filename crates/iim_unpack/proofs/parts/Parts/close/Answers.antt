@@ -1,6 +1,5 @@
-use Rattle.std.proofs.Common.{refl, sym, ◌∙◌}
+use Rattle.iim_unpack.proofs.Words.{refl, sym, ◌∙◌, IfErr-weaker, on_ok_weaker}
 use Rattle.iim_unpack.proofs.Closing.{closed_number, closed_silent, not_closed_field, not_closed_number}
-use Rattle.std.proofs.lemmas.Result.{IfErr-weaker, on_ok_weaker}
 use Rattle.iim_unpack.proofs.parts.Parts.close.Goals as goal
 
 pub returns-in-Ok-Some-clause-closed : goal.returns-in-Ok-Some-clause-closed

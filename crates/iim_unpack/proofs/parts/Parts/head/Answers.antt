@@ -1,9 +1,7 @@
-use Rattle.std.proofs.Common.{[], refl, arith, append-nil}
-use Rattle.iim_places.specs.Format.Admitted.{object_of}
-use Rattle.wire_message.specs.Format.Layers.{text_so_far}
+use Rattle.iim_unpack.proofs.Words.{[], refl, arith, object_of, text_so_far, IfErr-weaker, on_ok_weaker}
+use Rattle.std.proofs.Common.{append-nil}
 use Rattle.iim_unpack.proofs.Heading.{tells_parts_head, begins_subfile, begins_end, begins_other, stopped_field, stopped_subfile, stopped_last}
 use Rattle.iim_places.proofs.Results.{on_both}
-use Rattle.std.proofs.lemmas.Result.{IfErr-weaker, on_ok_weaker}
 use Rattle.iim_unpack.proofs.parts.Parts.head.Goals as goal
 
 pub returns-in-Err-clause-stopped : goal.returns-in-Err-clause-stopped

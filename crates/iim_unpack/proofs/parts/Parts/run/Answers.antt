@@ -1,5 +1,4 @@
-use Rattle.std.proofs.Common.{take, slice_index, sym, ◌∙◌, arith}
-use Rattle.iim_dataset.proofs.OctetLists.{are_octets}
+use Rattle.iim_unpack.proofs.Words.{take, slice_index, sym, ◌∙◌, arith, are_octets}
 use Rattle.iim_unpack.proofs.Carrying.{tells_parts_other, tells_parts_object, stopped_object}
 use Rattle.iim_unpack.proofs.parts.Parts.run.Goals as goal
 

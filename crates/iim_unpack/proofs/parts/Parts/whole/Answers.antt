@@ -1,7 +1,5 @@
-use Rattle.std.proofs.Common.{◌≡◌, ℕ, List, sym, subst}
-use Rattle.iim_dataset.specs.declared.head.Head.{Head}
+use Rattle.iim_unpack.proofs.Words.{◌≡◌, ℕ, List, sym, subst, Head, TellsWhole}
 use Rattle.iim_dataset.specs.declared.sink.Step.TheVariants.{More, Last}
-use Rattle.iim_unpack.specs.PartSteps.{TellsWhole}
 use Rattle.iim_unpack.specs.declared.parts.Parts.{Parts}
 use Rattle.iim_unpack.proofs.Wholes.{answered}
 use Rattle.iim_unpack.proofs.parts.Parts.whole.Goals as goal

@@ -1,5 +1,4 @@
-use Rattle.std.proofs.Common.{ℕ, refl, subst, arith}
-use Rattle.iim_dataset.specs.declared.head.Head.{Head}
+use Rattle.iim_unpack.proofs.Words.{ℕ, refl, subst, arith, Head}
 use Rattle.iim_fields.specs.States.Admitting.{Admits}
 use Rattle.iim_object.specs.States.Reading.{EndsAs}
 use Rattle.iim_unpack.proofs.Wholes.{end_went, end_ends, spells_number, admits_where}

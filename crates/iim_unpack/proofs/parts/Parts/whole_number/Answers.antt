@@ -1,6 +1,4 @@
-use Rattle.std.proofs.Common.{ℕ, refl, subst, arith}
-use Rattle.iim_dataset.specs.declared.head.Head.{Head}
-use Rattle.iim_object.specs.Format.Objects.{NumberRead}
+use Rattle.iim_unpack.proofs.Words.{ℕ, refl, subst, arith, Head, NumberRead}
 use Rattle.iim_object.specs.States.Reading.{LeadsOn}
 use Rattle.iim_fields.specs.States.Admitting.{Admits}
 use Rattle.iim_unpack.proofs.Wholes.{number_went, takes_next, spells_number, admits_where}

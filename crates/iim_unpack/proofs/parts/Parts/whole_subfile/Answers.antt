@@ -1,7 +1,5 @@
-use Rattle.std.proofs.Common.{refl, ◌∙◌, Option, take, slice_index, sym, subst, arith}
+use Rattle.iim_unpack.proofs.Words.{refl, ◌∙◌, Option, take, slice_index, sym, subst, arith, State, are_octets}
 use Rattle.std.specs.Prelude.{IsSome}
-use Rattle.iim_object.specs.declared.reading.state.State.{State}
-use Rattle.iim_dataset.proofs.OctetLists.{are_octets}
 use Rattle.iim_unpack.proofs.Wholes.{subfile_went, subfile_stopped, takes_next}
 use Rattle.iim_unpack.proofs.parts.Parts.whole_subfile.Goals as goal
 

@@ -1,10 +1,6 @@
-use Rattle.std.proofs.Common.{None, refl, sym, subst}
-use Rattle.iim_unpack.specs.Restoring.{IsMadeFor}
+use Rattle.iim_unpack.proofs.Words.{None, refl, sym, subst, IsMadeFor, Split, split_told, Unpacking, heads_within, ticket_at}
 use Rattle.iim_unpack.specs.States.Restored.{IsRestored}
-use Rattle.iim_places.specs.Format.TicketForm.{Split, split_octets}
-use Rattle.iim_places.specs.States.TicketsTold.{split_told}
-use Rattle.iim_unpack.specs.States.Unpacking.{Unpacking}
-use Rattle.iim_places.proofs.PlacesTold.{heads_within, ticket_at}
+use Rattle.iim_places.specs.Format.TicketForm.{split_octets}
 use Rattle.iim_unpack.proofs.Restored.{made_for}
 use Rattle.iim_unpack.proofs.ticket.restore.unpacker_at.Goals as goal
 

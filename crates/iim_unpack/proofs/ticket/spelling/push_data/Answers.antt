@@ -1,6 +1,5 @@
-use Rattle.std.proofs.Common.{◌≡◌, ℕ, List, [], ◌∷◌, ◌++◌, ap, ◌∙◌, append_assoc}
-use Rattle.std.proofs.lemmas.Result.{on_ok_weaker}
-use Rattle.iim_places.specs.Format.Tickets.{wide, present_version}
+use Rattle.iim_unpack.proofs.Words.{◌≡◌, ℕ, List, [], ◌∷◌, ◌++◌, ap, ◌∙◌, append_assoc, on_ok_weaker, present_version}
+use Rattle.iim_places.specs.Format.Tickets.{wide}
 use Rattle.iim_unpack.proofs.ticket.spelling.push_data.Goals as goal
 
 pub returns-clause-octets : goal.returns-clause-octets

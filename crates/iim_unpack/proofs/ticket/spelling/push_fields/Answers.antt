@@ -1,9 +1,6 @@
-use Rattle.std.proofs.Common.{ℕ, List, [], ◌∷◌, ◌++◌, length, sym, ap, ◌∙◌, append_assoc}
+use Rattle.iim_unpack.proofs.Words.{ℕ, List, [], ◌∷◌, ◌++◌, length, sym, ap, ◌∙◌, append_assoc, Dataset, rest_of, four, field_octets}
 use Rattle.std.specs.List.{flat_map}
 use Rattle.std.proofs.lemmas.List.{append-nil, flat_map_more}
-use Rattle.iim_dataset.specs.Format.Datasets.{Dataset}
-use Rattle.iim_fields.specs.States.Walks.{rest_of}
-use Rattle.iim_places.specs.Format.Tickets.{four, field_octets}
 use Rattle.iim_unpack.proofs.ticket.spelling.push_fields.Goals as goal
 
 pub loop-rec-init : goal.loop-rec-init

@@ -1,8 +1,5 @@
-use Rattle.std.proofs.Common.{◌≡◌, List, ◌++◌, length}
+use Rattle.iim_unpack.proofs.Words.{◌≡◌, List, ◌++◌, length, Dataset, rest_of, four, field_octets}
 use Rattle.std.specs.List.{flat_map}
-use Rattle.iim_dataset.specs.Format.Datasets.{Dataset}
-use Rattle.iim_fields.specs.States.Walks.{rest_of}
-use Rattle.iim_places.specs.Format.Tickets.{four, field_octets}
 use Rattle.iim_unpack.proofs.ticket.spelling.push_fields.Given as goal
 
 -- some datasets are there

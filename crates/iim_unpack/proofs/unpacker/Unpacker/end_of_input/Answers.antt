@@ -1,7 +1,4 @@
-use Rattle.std.proofs.Common.{ℕ, Some, ap, sym, subst}
-use Rattle.iim_dataset.specs.States.Places.{named_by}
-use Rattle.iim_unpack.specs.States.Unpacking.{Unpacking, Stands}
-use Rattle.iim_places.specs.Format.Open.{truncated_in}
+use Rattle.iim_unpack.proofs.Words.{ℕ, Some, ap, sym, subst, named_by, Unpacking, Stands, truncated_in}
 use Rattle.iim_unpack.proofs.Feeding.{truncated_by}
 use Rattle.iim_unpack.proofs.unpacker.Unpacker.end_of_input.Goals as goal
 

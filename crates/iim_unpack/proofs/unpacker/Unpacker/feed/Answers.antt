@@ -1,13 +1,10 @@
-use Rattle.std.proofs.Common.{◌≡◌, ℕ, [], true, false, None, slice_index, refl, ap, sym, subst, ◌∙◌, arith}
-use Rattle.iim_dataset.specs.Format.Octets.{IsOctet}
-use Rattle.iim_places.specs.Format.Refusals.{refusal_at}
-use Rattle.iim_unpack.specs.States.Unpacking.{Unpacking, Stands, IsRefusedIn, limits_in, room_in}
+use Rattle.iim_unpack.proofs.Words.{◌≡◌, ℕ, [], true, false, None, slice_index, refl, ap, sym, subst, ◌∙◌, arith, IsOctet, refusal_at, Unpacking, Stands}
+use Rattle.iim_unpack.proofs.Words.{IsRefusedIn, limits_in, HoldsFew, IsUnpacking}
+use Rattle.iim_unpack.specs.States.Unpacking.{room_in}
 use Rattle.iim_unpack.specs.States.Parts.{has_ended}
 use Rattle.wire_story.specs.Format.Delivery as story
-use Rattle.iim_unpack.specs.States.Held.{HoldsFew}
 use Rattle.iim_unpack.proofs.Held.{holds_few}
 use Rattle.iim_unpack.proofs.Feeding.{goes_more, goes_done, refused_in, sound_more, sound_done}
-use Rattle.iim_unpack.specs.UnpackerInside.{IsUnpacking}
 use Rattle.iim_unpack.proofs.unpacker.Unpacker.feed.Given.{Over}
 use Rattle.iim_unpack.proofs.unpacker.Unpacker.feed.Goals.{Then-has_ended-2, Else-has_ended-2}
 use Rattle.iim_unpack.proofs.unpacker.Unpacker.feed.Goals as goal

@@ -1,6 +1,5 @@
-use Rattle.std.proofs.Common.{◌≡◌, true, false, None, Some, List, ℕ, ◌++◌, length, ap, sym, subst, ◌∙◌, arith}
-use Rattle.std.specs.Option.{option_map}
-use Rattle.iim_unpack.specs.States.Unpacking.{Unpacking, IsDone, IsDoneWith}
+use Rattle.iim_unpack.proofs.Words.{◌≡◌, true, false, None, Some, List, ℕ, ◌++◌, length, ap, sym, subst, ◌∙◌, arith, option_map, Unpacking, IsDone}
+use Rattle.iim_unpack.proofs.Words.{IsDoneWith}
 use Rattle.iim_unpack.proofs.Feeding.{tells_value, whole_of}
 use Rattle.iim_unpack.proofs.unpacker.Unpacker.into_unpacked.Goals as goal
 

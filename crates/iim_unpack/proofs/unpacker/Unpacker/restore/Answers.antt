@@ -1,6 +1,5 @@
-use Rattle.iim_places.specs.Format.TicketForm.{Split}
-use Rattle.iim_places.specs.States.TicketsTold.{split_told}
-use Rattle.iim_places.proofs.PlacesTold.{heads_within, limit_told, no_ticket, ticket_at}
+use Rattle.iim_unpack.proofs.Words.{Split, split_told, heads_within, ticket_at}
+use Rattle.iim_places.proofs.PlacesTold.{limit_told, no_ticket}
 use Rattle.iim_unpack.proofs.unpacker.Unpacker.restore.Goals as goal
 
 pub returns-in_default-clause-fault : goal.returns-in_default-clause-fault

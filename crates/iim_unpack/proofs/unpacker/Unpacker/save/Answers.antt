@@ -1,6 +1,4 @@
-use Rattle.std.proofs.Common.{◌+◌, ◌*◌, ◌≤◌, length, ◌⊎◌, sym, subst, ◌∙◌}
-use Rattle.iim_dataset.proofs.Lists.{no_some}
-use Rattle.iim_unpack.specs.States.Unpacking.{Unpacking, Stands, IsDoneWith, limits_in}
+use Rattle.iim_unpack.proofs.Words.{◌+◌, ◌*◌, ◌≤◌, length, ◌⊎◌, sym, subst, ◌∙◌, no_some, Unpacking, Stands, IsDoneWith, limits_in}
 use Rattle.iim_unpack.proofs.Tickets.{ticket_by, short_ticket}
 use Rattle.iim_unpack.proofs.unpacker.Unpacker.save.Goals as goal
 

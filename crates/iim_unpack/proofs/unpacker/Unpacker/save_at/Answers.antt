@@ -1,9 +1,6 @@
-use Rattle.std.proofs.Common.{◌≡◌, ◌⊎◌, arith, ℕ, List, not, ap, ◌+◌, ◌*◌, ◌≤◌, take, length, refl, sym, subst, ◌∙◌}
-use Rattle.std.proofs.lemmas.List.{length-take-le}
-use Rattle.iim_dataset.proofs.Lists.{no_some}
+use Rattle.iim_unpack.proofs.Words.{◌≡◌, ◌⊎◌, arith, ℕ, List, not, ap, ◌+◌, ◌*◌, ◌≤◌, take, length, refl, sym, subst, ◌∙◌, length-take-le, no_some}
+use Rattle.iim_unpack.proofs.Words.{IsTicketOf, Unpacking, Stands, IsDoneWith, limits_in}
 use Rattle.iim_unpack.specs.States.Restored.{HasTicketIn}
-use Rattle.iim_places.specs.Format.Tickets.{IsTicketOf}
-use Rattle.iim_unpack.specs.States.Unpacking.{Unpacking, Stands, IsDoneWith, limits_in}
 use Rattle.iim_unpack.proofs.Tickets.{ticket_by, short_ticket}
 use Rattle.iim_unpack.proofs.unpacker.Unpacker.save_at.Goals as goal
 

@@ -1,7 +1,5 @@
-use Rattle.std.proofs.Common.{◌≡◌, None, Some, sym, ap, subst, ◌∙◌}
-use Rattle.std.specs.Option.{option_map}
+use Rattle.iim_unpack.proofs.Words.{◌≡◌, None, Some, sym, ap, subst, ◌∙◌, option_map, Unpacking, IsDone, IsDoneWith}
 use Rattle.iim_dataset.proofs.Lists.{none_is_none}
-use Rattle.iim_unpack.specs.States.Unpacking.{Unpacking, IsDone, IsDoneWith}
 use Rattle.iim_unpack.proofs.Feeding.{tells_value, whole_of}
 use Rattle.iim_unpack.proofs.unpacker.Unpacker.unpacked.Goals as goal
 

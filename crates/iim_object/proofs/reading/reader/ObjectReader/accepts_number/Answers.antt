@@ -1,5 +1,4 @@
-use Rattle.std.proofs.Common.{◌∙◌, sym}
-use Rattle.iim_object.specs.Format.Objects.{NumberRead}
+use Rattle.iim_object.proofs.Words.{◌∙◌, sym, NumberRead}
 use Rattle.iim_object.proofs.Staying.{refuses}
 use Rattle.iim_object.proofs.reading.reader.ObjectReader.accepts_number.Goals as goal
 

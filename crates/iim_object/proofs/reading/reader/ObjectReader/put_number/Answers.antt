@@ -1,6 +1,4 @@
-use Rattle.std.proofs.Common.{◌∙◌, sym}
-use Rattle.std.proofs.lemmas.Option.{same_Some}
-use Rattle.iim_object.specs.Format.Objects.{NumberRead}
+use Rattle.iim_object.proofs.Words.{◌∙◌, sym, same_Some, NumberRead}
 use Rattle.iim_object.proofs.Steps.{leads_on}
 use Rattle.iim_object.proofs.Staying.{number_state}
 use Rattle.iim_object.proofs.reading.reader.ObjectReader.put_number.Goals as goal

@@ -1,6 +1,4 @@
-use Rattle.std.proofs.Common.{◌∙◌, sym, arith}
-use Rattle.std.proofs.lemmas.Option.{same_Some}
-use Rattle.iim_object.specs.Format.Objects.{SubfileBegun}
+use Rattle.iim_object.proofs.Words.{◌∙◌, sym, arith, same_Some, SubfileBegun}
 use Rattle.iim_object.proofs.Steps.{leads_on}
 use Rattle.iim_object.proofs.Staying.{room_for, subfile_state}
 use Rattle.iim_object.proofs.reading.reader.ObjectReader.put_subfile.Goals as goal

@@ -1,10 +1,6 @@
-use Rattle.std.proofs.Common.{true, ◌++◌, refl, sym, ◌∙◌, arith, length-append}
-use Rattle.iim_dataset.specs.Format.Datasets.{canonical_dataset}
-use Rattle.iim_object.specs.Format.Packing.{number_dataset, subfile_dataset}
-use Rattle.iim_object.specs.States.Writing.{total_of, finish_cause}
-use Rattle.iim_object.specs.Cutting.{writing_of}
+use Rattle.iim_object.proofs.Words.{true, ◌++◌, refl, sym, ◌∙◌, arith, length-append, canonical_dataset, number_dataset, subfile_dataset, total_of}
+use Rattle.iim_object.proofs.Words.{finish_cause, writing_of, dataset_length}
 use Rattle.iim_object.proofs.Outputs.{puts_more, cuts_later, cuts_more}
-use Rattle.iim_dataset.proofs.WrittenNumbers.{dataset_length}
 use Rattle.iim_object.proofs.PlanParts.{number_length}
 use Rattle.iim_object.proofs.Rooms.{room_halted}
 use Rattle.iim_object.proofs.Written.{finished, unfinished, if_none, may_finish}

@@ -1,7 +1,4 @@
-use Rattle.std.proofs.Common.{◌+◌, true, refl, arith}
-use Rattle.iim_dataset.specs.Format.Datasets.{canonical_dataset}
-use Rattle.iim_object.specs.Format.Packing.{subfile_dataset}
-use Rattle.iim_dataset.proofs.WrittenNumbers.{dataset_length}
+use Rattle.iim_object.proofs.Words.{◌+◌, true, refl, arith, canonical_dataset, subfile_dataset, dataset_length}
 use Rattle.iim_object.proofs.Rooms.{room_flushed, room_halted}
 use Rattle.iim_object.proofs.writing.cutter.Cutter.flush.Goals as goal
 

@@ -1,8 +1,7 @@
-use Rattle.std.proofs.Common.{length, take, drop, refl, sym, ap, ◌∙◌, arith, length-drop, take-append-drop}
+use Rattle.iim_object.proofs.Words.{length, take, drop, refl, sym, ap, ◌∙◌, arith, write_cause, writing_of}
+use Rattle.std.proofs.Common.{length-drop, take-append-drop}
 use Rattle.std.proofs.lemmas.List.{take_rest}
 use Rattle.std.proofs.Math.Seq.{take-add}
-use Rattle.iim_object.specs.States.Writing.{write_cause}
-use Rattle.iim_object.specs.Cutting.{writing_of}
 use Rattle.iim_object.proofs.Written.{goes_nowhere, leads_on, breaks_later, if_none, may_write}
 use Rattle.iim_object.proofs.writing.cutter.Cutter.write.Goals as goal
 

@@ -1,6 +1,4 @@
-use Rattle.std.proofs.Common.{◌≡◌, ◌≤◌, ◌-◌, length, take}
-use Rattle.iim_object.specs.States.Writing.{Lengthens}
-use Rattle.iim_object.specs.Cutting.{HasRoom, writing_of}
+use Rattle.iim_object.proofs.Words.{◌≡◌, ◌≤◌, ◌-◌, length, take, Lengthens, HasRoom, writing_of}
 use Rattle.iim_object.proofs.writing.cutter.Cutter.write.Given as goal
 
 abbrev pub invariant-loop-at : goal.invariant-loop-at

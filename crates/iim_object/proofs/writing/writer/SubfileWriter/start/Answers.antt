@@ -1,8 +1,5 @@
-use Rattle.std.proofs.Common.{◌≡◌, [], refl, sym, ap, ◌∙◌, arith, append-nil, length}
-use Rattle.iim_dataset.specs.Format.Datasets.{canonical_stream}
-use Rattle.iim_object.specs.Format.Packing.{plan_datasets}
-use Rattle.iim_object.specs.States.Writing.{plan_octets, octets_out}
-use Rattle.iim_object.specs.declared.plan.Plan.{Plan}
+use Rattle.iim_object.proofs.Words.{◌≡◌, [], refl, sym, ap, ◌∙◌, arith, append-nil, length, canonical_stream, plan_datasets, octets_out, Plan}
+use Rattle.iim_object.specs.States.Writing.{plan_octets}
 use Rattle.iim_object.proofs.PlanParts.{plan_length}
 use Rattle.iim_object.proofs.writing.writer.SubfileWriter.start.Goals as goal
 
