@@ -333,13 +333,3 @@ all_filled old order group now is len so_far = record {
       let at : get_or order p 0 ≡ i = get_or_default order p 0 i within ∙ p_is in
       rw at at (so_far.done p d within);
 }
-
--- where there is no index, there is no row
-pub none_filled : (old : List AuditRow) (order : List ℕ) → IsOrder (ids_of old) order → length order ≡ 0 → AreFilled old old
-none_filled old order is none = record {
-  len = refl;
-  rows = λ i d there.
-      let counted : length (ids_of old) ≡ length old = length_ids old in
-      let (p, within, p_is) = is.each i (omega arith) in
-      absurd (omega (arith, within, none));
-}

@@ -1,10 +1,8 @@
 -- The rows of envelopes, without and with their first ones, and the lines of rows.
-use Rattle.std.proofs.Common.{◌≡◌, ℕ, zero, suc, ◌<◌, ℤ, List, [], ◌∷◌, ◌++◌, length, append_assoc, append-nil, None, Some, map, take, get_or, ap, sym, ◌∙◌, refl, arith, subst, ◌+◌, add-zero}
+use Rattle.std.proofs.Common.{◌≡◌, ℕ, zero, suc, ◌<◌, ℤ, List, [], ◌∷◌, ◌++◌, length, append_assoc, append-nil, None, map, take, get_or, ap, sym, ◌∙◌, refl, arith, subst, ◌+◌, add-zero}
 use Rattle.std.proofs.lemmas.List.{get_or-map, length-map, map-append, map_push, same_lists, length-take-le, take_more}
 use Rattle.std.proofs.lemmas.List.Elements.{All-push}
-use Rattle.iim_dataset.specs.Format.Datasets.{Dataset}
 use Rattle.iim_fields.specs.Format.Ids.{Identity}
-use Rattle.iim_fields.specs.Format.Views.{first_data}
 use Rattle.iim_places.specs.Format.Admitted.{Value}
 use Rattle.iim_audit.specs.Format.Rows.{id_of, first_same, row_with, rows_after, report_of, AuditRow}
 use Rattle.iim_audit.specs.Lines.{HaveShortIds, IsShort}
@@ -60,11 +58,6 @@ report_told now values old new same filled =
     let counted : length (bare_rows now values) ≡ length values = length-map values (λ v. row_with now v None) in
     same_lists new (report_of now values) (are.len ∙ counted ∙ sym (length_rows now [] values))
     (λ i d there. rw (row_at now [] values i d (omega (arith, are.len)), ← ids_bare now values) (are.rows i d (omega (arith, are.len))))
-
--- the id that these data tell
-pub id_told : (fields : List Dataset) (id : Identity) (v : Value) → first_data 1 30 fields ≡ Some id.service → first_data 1 40 fields ≡ Some id.number
-    → first_data 1 70 fields ≡ Some id.date_sent → fields ≡ v.fields → id ≡ id_of v
-id_told fields id v service number date same = rw (← same, service, number, date) refl
 
 -- ---- rows whose ids are short
 

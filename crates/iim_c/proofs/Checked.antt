@@ -1,6 +1,6 @@
 -- What octets in memory are answered.
-use Rattle.iim_c.proofs.Words.{◌≡◌, ◌≢◌, ℕ, ◌<◌, ◌^◌, List, [], inl, inr, length, refl, sym, ap, subst, ◌∙◌, arith, Some, Limits, StoryEvent, IsTruncatedAt}
-use Rattle.iim_c.proofs.Words.{Unpacking, Stands, Goes, IsRefusedIn, limits_in, raised, Refusal, Message, Sink, status_answer, refusal_answer}
+use Rattle.iim_c.proofs.Words.{◌≡◌, ◌≢◌, ℕ, ◌<◌, ◌^◌, List, [], inl, length, sym, ap, subst, ◌∙◌, arith, Some, Limits, StoryEvent, IsTruncatedAt}
+use Rattle.iim_c.proofs.Words.{Unpacking, Stands, Goes, IsRefusedIn, limits_in, raised, Refusal, Message, Sink, refusal_answer}
 use Rattle.iim_places.specs.Format.Refusals.{refusal_at}
 use Rattle.iim_places.specs.Format.Streams.{Answer, Answers, Finished, Refused, Truncated}
 use Rattle.iim_places.specs.Laws.{StreamsHaveOneAnswer}
@@ -19,9 +19,6 @@ answered law limits octets told a holds is = record {
   answer = inl (a, holds, is);
   only = λ b other. inl (is ∙ ap answer_for (law limits octets a b holds other));
 }
-
-pub without_memory : (limits : Limits) (octets : List ℕ) → Answered limits octets (status_answer status.no_memory)
-without_memory limits octets = record { answer = inr refl; only = λ b other. inr refl }
 
 exact : (k : ℕ) → k < 2 ^ 63 → raised 0 k ≡ k
 exact k few = omega (arith, few)

@@ -241,7 +241,3 @@ ended_whole limits ticket at u told b not_open is = inl (record {
   envelopes = λ p a ends.
       is ∙ ap (λ (n : ℕ). record (status_answer status.done) { octet = n }) (b.ends p a ends).counts;
 })
-
-pub ended_not_begun : (limits : Limits) (ticket : List ℕ) (at : ℕ) (fault : TicketFault) (told : IimAnswer) → IsNotBegun limits ticket fault → told ≡ ticket_answer fault → IsEnd limits ticket at told
-ended_not_begun limits ticket at fault told (inl memory) is = inr (inr (is ∙ ap ticket_answer memory))
-ended_not_begun limits ticket at fault told (inr why) is = inr (inl (fault, why.0, why.1, is))

@@ -36,11 +36,6 @@ is_row : (limits : Limits) (now : ℤ) (hand : InHand) (found : PieceRow) (row :
 is_row limits now hand found row is counts tells =
     record { value = is.value; envelope = is.envelope; tells = rw (← is.row, ← is.release, ← is.expires, ← counts) tells }
 
--- nothing is found at first
-pub none_found : (limits : Limits) (now : ℤ) (at : ℕ) (piece : List ℕ) (array : List IimAuditRow) (audit : PieceAudit) (p : List ℕ) (a : ℕ) → StandsOn audit p a
-    → HasFound limits now (record { at = at; octets = p; count = a }) piece array audit (record { rows = 0; used = 0; at = at }) Full
-none_found limits now at piece array audit p a stands = record { last = record { at = at; octets = p; count = a }; rows_are = (refl, refl); at_is = refl; ends = stands }
-
 -- and then one row after the other
 pub one_found : (limits : Limits) (now : ℤ) (hand : InHand) (piece : List ℕ) (array : List IimAuditRow) (old new : PieceAudit) (found : Found) (rest : List ℕ) (next : PieceRow) (row : IimAuditRow) (at : ℕ)
     → HasFound limits now hand piece array old found Full → rest ≡ drop found.used piece → found.rows < length array

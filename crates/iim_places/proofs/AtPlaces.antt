@@ -1,10 +1,10 @@
 -- Readers at a place: the message that a ticket tells, and what the record layer can continue with.
-use Rattle.std.proofs.Common.{◌≡◌, ℕ, ◌<◌, ◌≤◌, ◌↔◌, Bool, true, false, cond, IsTrue, IsSome, IfSome, IfNone, OnOk, Option, Some, None, Result, Ok, Err, is_ok}
-use Rattle.std.proofs.Common.{List, [], ◌∷◌, zero, suc, length, map, get_or, refl, sym, subst, ◌∙◌, arith, Bor}
+use Rattle.std.proofs.Common.{◌≡◌, ℕ, ◌↔◌, Bool, true, false, cond, IsTrue, IsSome, IfNone, OnOk, Option, Some, None, Result, Ok, Err, is_ok}
+use Rattle.std.proofs.Common.{List, [], ◌∷◌, length, map, get_or, refl, sym, subst, ◌∙◌, arith, Bor}
 use Rattle.iim_places.proofs.Words.{same_Some, AllByRecursion, Dataset, Head, DatasetPlace, nothing_fits, SectionsLive, SectionsLiveAt, HasChecked, HasTaken}
 use Rattle.iim_places.proofs.Words.{kept, kept_octets, IsWithin, RecordPlace, FieldFault, head_alive, taken_alive, LeadsToSaved, MessagePlace, AreNumbers}
 use Rattle.iim_places.proofs.Words.{IsSize, RecordsLive, head_of_numbers, number_list, widest, AreKept, CanContinueWithin, IsMessageOf, numbers_told}
-use Rattle.iim_places.proofs.Words.{told_datasets, texts_of, Phase, DataBegun}
+use Rattle.iim_places.proofs.Words.{told_datasets, Phase, DataBegun}
 use Rattle.iim_dataset.specs.States.Places.{IsPlace}
 use Rattle.wire_message.specs.States.Reading.{StandsAt}
 use Rattle.wire_message.specs.States.SoFar.{LeadsTo as LeadTo}
@@ -12,15 +12,8 @@ use Rattle.wire_message.specs.States.Saved.{IsAt}
 use Rattle.wire_message.specs.declared.place.Place.{Place as Message}
 use Rattle.iim_places.proofs.Fitting.{message_told}
 use Rattle.iim_places.proofs.Plain.{kept_fields, plain_told}
-use Rattle.iim_places.proofs.TicketLengths.{texts_led}
 
 -- ---- tags
-
--- A reader is made exactly at a place that octets lead to.
-pub some_place : {X A : Type 0} (result : Option X) (place : DatasetPlace) → IsSome result ↔ A → IsPlace place ↔ A → (P : Type 0) → (IsPlace place → P)
-    → IfSome result (λ r. P)
-some_place (Some r) place exactly law P by = by (law.1 (exactly.0 refl))
-some_place None place exactly law P by = tt
 
 pub no_place : {X A : Type 0} (result : Option X) (place : DatasetPlace) → IsSome result ↔ A → IsPlace place ↔ A → (P : Type 0) → (P → IsPlace place)
     → IfNone result (P → ⊥)
@@ -63,21 +56,6 @@ pub texts_seven : (texts : List (Bor (List ℕ))) (z : Bor (List ℕ)) → lengt
     → (get_or texts 0 z).now ∷ (get_or texts 1 z).now ∷ (get_or texts 2 z).now ∷ (get_or texts 3 z).now ∷ (get_or texts 4 z).now ∷ (get_or texts 5 z).now ∷ (get_or texts 6 z).now ∷ [] ≡ map (λ t. t.now) texts
 texts_seven (a ∷ b ∷ c ∷ d ∷ e ∷ f ∷ g ∷ []) z is = refl
 texts_seven texts z is = absurd (omega (arith, is))
-
-room_for_each : (texts : List (Bor (List ℕ))) (k : ℕ) → AllByRecursion (λ t. length t ≤ 64) (map (λ t. t.now) texts)
-    → length (get_or texts k (record { ref_ptr = (0, 0); now = [] })).now ≤ 64
-room_for_each [] k all = omega arith
-room_for_each (t ∷ texts) zero all = all.0
-room_for_each (t ∷ texts) (suc k) all = room_for_each texts k all.1
-
--- a text that is too long is of no message
-pub none_long : (part counter flag : ℕ) (texts : List (Bor (List ℕ))) (k : ℕ) → 64 < length (get_or texts k (record { ref_ptr = (0, 0); now = [] })).now
-    → (m : MessagePlace) (octets text : List ℕ) → IsMessageOf part counter flag (map (λ t. t.now) texts) m → LeadsToSaved octets text m → ⊥
-none_long part counter flag texts k long m octets text is leads =
-    let s = texts_led octets text m leads in
-    let all : AllByRecursion (λ t. length t ≤ 64) (texts_of m) =
-    (omega arith, (omega arith, (omega arith, (omega arith, (omega arith, (s.info, (s.trailer, tt))))))) in
-    omega (arith, long, room_for_each texts k (subst (AllByRecursion (λ t. length t ≤ 64)) is.texts_are all))
 
 -- What a ticket tells of a message is one place.
 pub same_message : (part counter flag : ℕ) (texts : List (List ℕ)) (m n : MessagePlace) → IsMessageOf part counter flag texts m → IsMessageOf part counter flag texts n → m ≡ n
