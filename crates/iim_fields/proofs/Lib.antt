@@ -5,7 +5,6 @@ pub mod Entries
 pub mod Table
 pub mod Numbers
 pub mod Runs
-pub mod Dies
 pub mod Checking
 pub mod Stand
 pub mod Endings
@@ -17,5 +16,6 @@ pub mod Finish
 pub mod Wholes
 pub mod Subfiles
 -- What proofs of other crates cite.
+pub mod Dies
 pub mod Follows
 pub mod Sections
