@@ -12,7 +12,7 @@ use Rattle.iim_dataset.specs.Format.Tags.{BeginsTag}
 use Rattle.iim_dataset.specs.States.Events.{DatasetEvent, HeadRead, DataOctet, DatasetEnd, events_of, handed_on}
 use Rattle.iim_dataset.specs.States.Places.{LeadsTo, HandsOn, IsKeptAs, Brings, between, IsPlace, DatasetPlace, Tag, Inside}
 use Rattle.iim_dataset.specs.States.Reading.{Stops}
-use Rattle.iim_dataset.specs.TagEnds.{head_events, place_after_head}
+use Rattle.iim_dataset.specs.TagEnds.{head_events}
 use Rattle.iim_dataset.proofs.Spelled.{with_data, stream_more, held_of, whole_read}
 use Rattle.iim_dataset.proofs.OctetLists.{octets_append, zeros_are}
 use Rattle.iim_dataset.specs.Laws.{PlacesAreReached, OctetsLeadToOnePlace}
@@ -114,6 +114,18 @@ empty_on held ys h s none octets events l =
     let parts : t.reads.rest ++ ys ≡ (held.items ++ ys) ++ [] = ap (λ l. l ++ ys) t.reads.is_rest.0 ∙ sym (append-nil (held.items ++ ys)) in
     let ended = hands_end ys (HeadRead h ∷ DatasetEnd ∷ []) t h (held.items ++ ys) [] s tt (sym none) parts in
     record { begun = InTag []; hands = ended (simp append-nil); keeps = refl }
+
+-- the head comes first
+pub head_first : (h : Head) → (later : List DatasetEvent) × (head_events h ≡ HeadRead h ∷ later)
+head_first h = by_count (h.count == 0)
+  where
+    by_count : (b : Bool) → (later : List DatasetEvent) × ((if b then HeadRead h ∷ DatasetEnd ∷ [] else HeadRead h ∷ []) ≡ HeadRead h ∷ later)
+    by_count true = (DatasetEnd ∷ [], refl)
+    by_count false = ([], refl)
+
+-- where the last octet of a tag leads
+abbrev pub place_after_head : Head → DatasetPlace
+place_after_head h = if h.count == 0 then between else Inside h h.count
 
 pub head_leads : (held : ArrayVec ℕ) (ys : List ℕ) (h : Head) → SpellsTag count_octets h (held.items ++ ys) → Brings (Tag held) ys (head_events h) (place_after_head h)
 head_leads held ys h s = by_count (h.count == 0) refl

@@ -2,7 +2,7 @@
 use Rattle.std.specs.List.{slice_range}
 use Rattle.std.proofs.lemmas.List.{take_rest, map-append, length-take-le, take-take, get_or-take, get_or-append-add}
 use Rattle.std.proofs.lemmas.Bool.Decides.{nat_tests}
-use Rattle.std.proofs.Common.{◌≡◌, ℕ, ◌==◌, Bool, true, false, if◌then◌else◌, suc, ◌+◌, ◌-◌, ◌<◌, ◌≤◌, List, [], ◌∷◌, ◌++◌, length, take, slice_index, refl, ap, sym, ◌∙◌, arith, append_assoc, append-nil, map, zero, Option, Some, None, get_or-drop, ◌*◌, drop, get_or, length-drop, length-append}
+use Rattle.std.proofs.Common.{◌≡◌, ℕ, ◌⊎◌, inl, inr, ◌==◌, Bool, true, false, if◌then◌else◌, suc, ◌+◌, ◌-◌, ◌<◌, ◌≤◌, List, [], ◌∷◌, ◌++◌, length, take, slice_index, refl, ap, sym, ◌∙◌, arith, append_assoc, append-nil, map, zero, Option, Some, None, get_or-drop, ◌*◌, drop, get_or, length-drop, length-append}
 use Rattle.std.proofs.Math.Seq.{take-add, take-append-add}
 use Rattle.arrayvec.specs.ArrayVec.{ArrayVec}
 use Rattle.iim_dataset.specs.Format.Octets.{Octets, IsOctet}
@@ -11,14 +11,14 @@ use Rattle.iim_dataset.specs.States.Events.{DatasetEvent, DataOctet, DatasetEnd,
 use Rattle.iim_dataset.specs.States.Places.{between, IsPlace, Brings, TellsSink, DatasetPlace, Tag, Inside}
 use Rattle.iim_dataset.specs.States.Reading.{AfterStep, Stops, RefusesFor, RefusesOne}
 use Rattle.iim_dataset.specs.Fronts.{TakesOnward, WholeFront}
-use Rattle.iim_dataset.specs.TagEnds.{StopsAmong, head_events, place_after_head}
+use Rattle.iim_dataset.specs.TagEnds.{head_events}
 use Rattle.iim_dataset.specs.declared.head.HeadCause.{HeadCause}
 use Rattle.iim_dataset.specs.declared.fault.Fault.{Fault}
 use Rattle.iim_dataset.specs.declared.fault.FaultCause.TheVariants.{Stopped}
 use Rattle.iim_dataset.specs.declared.sink.Step.{Step}
 use Rattle.iim_dataset.specs.declared.sink.Step.TheVariants.{More, Last}
 use Rattle.iim_dataset.proofs.Fronts.{begun_none, whole_standard}
-use Rattle.iim_dataset.proofs.Places.{brings_on, tag_on, head_leads, data_on, data_end, octet_on, stops_at, whole_on, head_on}
+use Rattle.iim_dataset.proofs.Places.{brings_on, tag_on, head_leads, data_on, data_end, octet_on, stops_at, whole_on, head_on, head_first, no_data, place_after_head}
 use Rattle.iim_dataset.proofs.HeldTags.{one_more, unfinished}
 use Rattle.iim_dataset.proofs.OctetLists.{front_are, Fit, are_octets}
 use Rattle.iim_dataset.proofs.Each.{all_back}
@@ -56,12 +56,16 @@ module _ {D : Type 0} {stops : D → List DatasetEvent → DatasetEvent → D �
 
   -- at what the last octet of a tag completes
   pub tag_stops : (held : ArrayVec ℕ) {rest : List ℕ} {h : Head} {k : ℕ} {a b : D} → k < length rest
-      → SpellsTag count_octets h (held.items ++ take (k + 1) rest) → StopsAmong stops (head_events h) a b → Stops stops (Tag held) rest k a b
-  tag_stops held {rest} {h} {k} lt s among =
+      → SpellsTag count_octets h (held.items ++ take (k + 1) rest)
+      → stops a [] (HeadRead h) b ⊎ ((h.count ≡ 0) × stops a (HeadRead h ∷ []) DatasetEnd b) → Stops stops (Tag held) rest k a b
+  tag_stops held {rest} {h} {k} lt s refused =
       let before : ArrayVec ℕ = record { items = held.items ++ take k rest } in
-      stops_at (Tag before) (place_after_head h) [] (head_events h) among.taken among.later among.event
-      (tag_on held before (take k rest) (unfinished held.items rest h k lt s) refl)
-      (head_leads before (slice_index rest k ∷ []) h (rw (one_more held.items rest k lt) at s)) among.parts among.stopped
+      let on = tag_on held before (take k rest) (unfinished held.items rest h k lt s) refl in
+      let leads = head_leads before (slice_index rest k ∷ []) h (rw (one_more held.items rest k lt) at s) in
+      elim refused [
+        | inl at ↦ let (later, is) = head_first h in stops_at (Tag before) (place_after_head h) [] (head_events h) [] later (HeadRead h) on leads is at
+        | inr (none, at) ↦ stops_at (Tag before) (place_after_head h) [] (head_events h) (HeadRead h ∷ []) [] DatasetEnd on leads (no_data h none) at
+      ]
 
   -- nothing is begun then, and the fault says so
   pub stopped_at : {goes : D → List DatasetEvent → D → Type 0} {stands : D → Option ℕ → Type 0} {old : DatasetPlace} {octets : List ℕ} {k : ℕ}

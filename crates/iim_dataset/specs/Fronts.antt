@@ -22,14 +22,6 @@ pub record TakesFront {D : Type 0} (goes : D → List DatasetEvent → D → Typ
   pub told : TellsSink goes old.0 (take front.used rest) front.place old.1 b
   pub onward : TakesOnward stands ends front.step front.place b
 
--- Whole datasets were taken, or none: the sink was told of them, and takes what comes next or has ended. (What the sink answered to the
--- last, and how many octets were used.)
-pub record TakesWholes {D : Type 0} (goes : D → List DatasetEvent → D → Type 0) (stands : D → Option ℕ → Type 0) (ends : D → Type 0) (rest : List ℕ) (front : Step × ℕ) (a b : D) : Type 0 where
-  pub within : front.1 ≤ length rest
-  pub told : TellsSink goes between (take front.1 rest) between a b
-  pub onward : TakesOnward stands ends front.0 between b
-  pub none : front.1 ≡ 0 → b ≡ a
-
 -- The first `used` octets are a tag of this head, and then these data, all of them.
 pub record WholeFront (rest : List ℕ) (h : Head) (xs : List ℕ) (used : ℕ) : Type 0 where
   pub tag : List ℕ

@@ -33,8 +33,7 @@ pub later_leads_on : (a b c : Device) → LaterThan a b → LaterThan b c → La
 later_leads_on a b c h k =
     (omega (arith, h.0, k.0), omega (arith, h.1, k.1), (h.2.0 ++ k.2.0, consumes_consumes a.octets b.octets c.octets h.2.0 k.2.0 h.2.1 k.2.1))
 
--- ---- Lists that begin with lists of one length: what impls hand in.
-
+-- Lists that begin with lists of one length: what impls hand in.
 pub same_front : {A : Type 0} (a b x y : List A) → length a ≡ length b → a ++ x ≡ b ++ y → (a ≡ b) × (x ≡ y)
 same_front [] [] x y l e = (refl, e)
 same_front [] (b ∷ bs) x y l e = absurd (omega (arith, l))

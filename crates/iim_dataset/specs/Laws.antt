@@ -172,8 +172,7 @@ pub record HasSpellings (d : Dataset) : Type 0 where
 abbrev pub CanonicalStreamsAreSpelled : Type 0
 CanonicalStreamsAreSpelled = (ds : List Dataset) → AllByRecursion HasSpellings ds → SpellsStream count_octets ds (canonical_stream ds)
 
--- ---- The laws of datasets, as one record: a field for each.
-
+-- The laws of datasets, as one record: a field for each.
 pub record DatasetLaws : Type 0 where
   -- what octets spell:
   pub numbers_are_read_back : NumbersAreReadBack

@@ -7,6 +7,5 @@ pub mod Laws
 -- What only proofs and private clauses cite.
 pub mod Fronts
 pub mod TagEnds
-pub mod Calls
 -- What impls of sources, targets and sinks hand in.
 pub mod HandedIn

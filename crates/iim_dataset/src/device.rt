@@ -1,10 +1,9 @@
 //! What sources and targets have in common.
 
-ghost use Rattle.std.specs.Prelude.{◌≡◌, ◌≢◌, ◌↔◌, Some};
+ghost use Rattle.std.specs.Prelude.{◌≡◌, ◌≢◌, ◌↔◌, None, Some};
 ghost use Rattle.std.specs.IoError.{error_kind};
-ghost use Rattle.iim_dataset.specs.States.Devices.{CountedFailure, Faulted};
+ghost use Rattle.iim_dataset.specs.States.Devices.{CountedFailure, Faulted, faulty};
 ghost use Rattle.iim_dataset.specs.Format.Shown.{text_of_fault};
-ghost use Rattle.iim_dataset.specs.Calls.{counted, no_faults};
 
 use std::fmt::{Display, Formatter};
 use std::io::{Error, ErrorKind};
@@ -65,7 +64,7 @@ pub(crate) struct Faults {
 impl Faults {
     /// None so far.
     pub(crate) fn new() -> Faults
-        ensures { result ≡ no_faults }
+        ensures { result ≡ record { failures = 0; interruptions = 0 } }
     {
         Faults {
             failures: 0,
@@ -75,7 +74,7 @@ impl Faults {
 
     /// Counts a failure.
     pub(crate) fn fail(&mut self)
-        ensures { CountedFailure (counted self.old) (counted self.new) }
+        ensures { CountedFailure (faulty None self.old) (faulty None self.new) }
     {
         self.failures = self.failures.saturating_add(1);
     }
@@ -83,7 +82,7 @@ impl Faults {
     /// Counts an error of std's as the fault that it is, and answers this fault: an interruption exactly where the error's kind is
     /// "interrupted", and else a failure.
     pub(crate) fn count(&mut self, error: Error) -> IoFault
-        ensures counted { Faulted (counted self.old) (counted self.new) result }
+        ensures counted { Faulted (faulty None self.old) (faulty None self.new) result }
         ensures interrupted { (result ≡ IoFault.Interrupted) ↔ (error_kind error ≡ ErrorKind.Interrupted) }
         ensures failed { (result ≡ IoFault.Failed) ↔ (error_kind error ≢ ErrorKind.Interrupted) }
     {

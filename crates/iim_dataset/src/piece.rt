@@ -3,13 +3,14 @@
 //! A fault comes with the place before its octet, where no tag can continue with that; and with the one between datasets, where the
 //! sink stopped.
 
-ghost use Rattle.std.specs.Prelude.{◌≡◌, ◌<◌, ◌≤◌, [], length, take, Some, None, IfSome, IfOk, IfErr, OnOk, OnErr};
+ghost use Rattle.std.specs.Prelude.{◌≡◌, ◌==◌, if◌then◌else◌, ◌<◌, ◌⊎◌, [], ◌∷◌, length, Some, None, IfSome, IfOk, IfErr, OnOk, OnErr};
 ghost use Rattle.iim_dataset.specs.Format.Datasets.{count_octets};
 ghost use Rattle.iim_dataset.specs.Format.Tags.{BeginsTag};
 ghost use Rattle.iim_dataset.specs.States.Places.{IsPlace, between, to_come};
-ghost use Rattle.iim_dataset.specs.Fronts.{TakesOnward, TakesFront, TakesWholes, WholeFront};
+ghost use Rattle.iim_dataset.specs.Fronts.{TakesOnward, TakesFront, WholeFront};
 ghost use Rattle.iim_dataset.specs.States.Reading.{TakesPiece, RefusesOne, Stops};
-ghost use Rattle.iim_dataset.specs.TagEnds.{StopsAmong, head_events, place_after_head};
+ghost use Rattle.iim_dataset.specs.TagEnds.{head_events};
+ghost use Rattle.iim_dataset.specs.States.Events.{HeadRead, DatasetEnd};
 
 use crate::fault::{Fault, FaultCause, tag_fault};
 use crate::head::{EXTENDED, Head, TAG_LENGTH, TAG_MARKER};
@@ -48,10 +49,12 @@ fn stopped(used: usize) -> (DatasetPlace, Fault)
 /// Hands on what the last octet of a tag completes.
 fn begin<D: DatasetSink>(head: Head, sink: &mut D) -> Result<(DatasetPlace, Step), Stop>
     requires { D.stands sink.old None }
-    ensures place { IfOk result (λ next. next.0 ≡ place_after_head head) }
+    ensures place { IfOk result (λ next. next.0
+        ≡ (if head.count == 0 then between else DatasetPlace.Inside head head.count)) }
     ensures told { OnOk result (D.goes sink.old (head_events head) sink.new) }
     ensures onward { IfOk result (λ next. TakesOnward D.stands D.ends next.1 next.0 sink.new) }
-    ensures stopped { OnErr result (StopsAmong D.stops (head_events head) sink.old sink.new) }
+    ensures stopped { OnErr result (D.stops sink.old [] (HeadRead head) sink.new
+        ⊎ ((head.count ≡ 0) × D.stops sink.old (HeadRead head ∷ []) DatasetEnd sink.new)) }
 {
     sink.head(head)?;
     if head.count > 0 {
@@ -170,11 +173,13 @@ fn whole_dataset(rest: &[u8]) -> Option<(Head, &[u8], usize)>
 
 /// Takes whole datasets at the front, as long as the sink takes them at once: up to the one that it called the last, and answers
 /// its last answer and how many octets they have; or up to the octet that it refuses.
+#[tactic(auto, using(crate::proofs::Fronts::begun_none))]
 #[inline(always)]
 fn take_wholes<D: DatasetSink>(rest: &[u8], sink: &mut D) -> Result<(Step, usize), usize>
     requires stands { D.stands sink.old None }
-    ensures wholes { IfOk result (λ front.
-        TakesWholes D.goes D.stands D.ends rest.now front sink.old sink.new) }
+    ensures wholes { IfOk result (λ front. 0 < front.1 → TakesFront D.goes D.stands D.ends (between, sink.old)
+        rest.now record { place = between; step = front.0; used = front.1 } sink.new) }
+    ensures none { IfOk result (λ front. front.1 ≡ 0 → sink.new ≡ sink.old) }
     ensures before { IfErr result (λ used. used < length rest.now) }
     ensures stopped { IfErr result (λ used. Stops D.stops between rest.now used sink.old sink.new) }
 {
@@ -198,8 +203,9 @@ fn take_wholes_after<D: DatasetSink>(
     sink: &mut D,
 ) -> Result<(Step, usize), usize>
     requires stands { D.stands sink.old None }
-    ensures wholes { IfOk result (λ front.
-        TakesWholes D.goes D.stands D.ends rest.now front sink.old sink.new) }
+    ensures wholes { IfOk result (λ front. 0 < front.1 → TakesFront D.goes D.stands D.ends (between, sink.old)
+        rest.now record { place = between; step = front.0; used = front.1 } sink.new) }
+    ensures none { IfOk result (λ front. front.1 ≡ 0 → sink.new ≡ sink.old) }
     ensures between { IfOk result (λ front. 0 < front.1 → held.now.items ≡ []) }
     ensures before { IfErr result (λ used. used < length rest.now) }
     ensures stopped { IfErr result (λ used. (held.now.items ≡ [])

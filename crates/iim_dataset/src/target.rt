@@ -1,9 +1,8 @@
 //! Where octets go.
 
-ghost use Rattle.std.specs.Prelude.{◌≡◌, ◌+◌, ◌<◌, length, IfOk, IfErr, OnOk, OnErr};
+ghost use Rattle.std.specs.Prelude.{◌≡◌, ◌+◌, ◌<◌, ◌≤◌, length, take, IfOk, IfErr, OnOk, OnErr};
 ghost use Rattle.iim_dataset.specs.Format.Datasets.{canonical_dataset};
 ghost use Rattle.iim_dataset.specs.States.Devices.{Device, Accepted, Faulted, Wrote, Stopped, WithinInterruptionLimit, unbroken, writer_device};
-ghost use Rattle.iim_dataset.specs.Calls.{Sent};
 
 use crate::device::{Faults, IoFault, MAX_INTERRUPTIONS};
 use crate::device_laws::texts_join;
@@ -24,7 +23,9 @@ pub trait Target {
 /// Writes once, past interruptions: the millionth in a row is answered.
 fn send<W: Target>(writer: &mut W, piece: &[u8]) -> Result<usize, IoFault>
     requires { 0 < length piece.now }
-    ensures ok { IfOk result (Sent (W.state writer.old) (W.state writer.new) piece.now) }
+    ensures within { IfOk result (λ n. n ≤ length piece.now) }
+    ensures ok { IfOk result (λ n. 0 < n → Wrote (W.state writer.old) (W.state writer.new) (take n piece.now)) }
+    ensures none { IfOk result (λ n. n ≡ 0 → Stopped (W.state writer.old) (W.state writer.new) piece.now 0) }
     ensures err { OnErr result (Stopped (W.state writer.old) (W.state writer.new) piece.now 0) }
     ensures patience { WithinInterruptionLimit 1 (W.state writer.old) (W.state writer.new) }
 {

@@ -1,16 +1,16 @@
 -- Where a check of records stands, token by token.
 use Rattle.std.proofs.Common.{set, ◌≡◌, ◌≢◌, ℕ, zero, suc, ◌<◌, ◌≤◌, Bool, true, false, ◌||◌, nat_eq, List, [], ◌∷◌, ◌++◌, length, replicate, get_or, refl, ap, sym, ◌∙◌, inl, inr, arith, subst, length-set, Option, Some, None}
 use Rattle.iim_tables.specs.declared.shape.Kind.{Kind}
-use Rattle.iim_fields.proofs.Words.{nat_tests, option_or, list_any-append, and_from, eqb_tells, same_Some, Octets, within, Dataset, head_of, of_record, Head}
-use Rattle.iim_fields.proofs.Words.{are_octets, row_of, is_admitted, Row, has_kind, records, occurs, SectionsLive, SectionsLiveAt, head_fault, record_fault}
-use Rattle.iim_fields.proofs.Words.{value_fault, limits_fault, section_after, section_run, has_seen, IsOrderOf, AddsHead, nothing, data_of, number_told}
-use Rattle.iim_fields.proofs.Words.{AwaitsHead, TakesHead, AwaitsNone, IsIn, HasChecked, IsChecking, HasTaken, IsRecordFault, IsValueFault, IsRecordPlace}
-use Rattle.iim_fields.proofs.Words.{Order, Begun, RecordPlace, FieldFault, good_elsewhere, meets_as, DatasetsLeadToOnePlace}
+use Rattle.iim_fields.proofs.Words.{nat_tests, option_or, list_any-append, and_from, eqb_tells, same_Some, Octets, within, Dataset, head_of, of_record}
+use Rattle.iim_fields.proofs.Words.{Head, are_octets, row_of, is_admitted, Row, has_kind, records, occurs, SectionsLiveAt, head_fault, record_fault}
+use Rattle.iim_fields.proofs.Words.{value_fault, limits_fault, section_after, section_run, has_seen, IsOrderOf, AddsHead, data_of, number_told, AwaitsHead}
+use Rattle.iim_fields.proofs.Words.{TakesHead, AwaitsNone, IsIn, HasChecked, IsChecking, HasTaken, IsRecordFault, IsValueFault, IsRecordPlace, Order, Begun}
+use Rattle.iim_fields.proofs.Words.{RecordPlace, FieldFault, good_elsewhere, meets_as, DatasetsLeadToOnePlace}
 use Rattle.iim_fields.proofs.NumberSets.{seen_more, same_members}
 use Rattle.iim_fields.proofs.Table.{EachRowHasValues, not_after_itself, object_kind}
 use Rattle.iim_fields.proofs.Runs.{records_to_come}
 use Rattle.iim_fields.proofs.Follows.{Follows, alive_follows, fresh_next, present_more, run_more}
-use Rattle.iim_fields.proofs.Telling.{head_fault_told, value_fault_told}
+use Rattle.iim_fields.proofs.Telling.{head_fault_told, values_tell}
 use Rattle.iim_fields.proofs.Dies.{HasNoFault, no_fault_parts, in_order_cases, head_alive, head_no_fault, head_octet, good_value, value_alive, value_no_fault}
 use Rattle.iim_fields.proofs.Sections.{some_data}
 
@@ -21,7 +21,7 @@ nothing_seen zero n = refl
 nothing_seen (suc k) zero = refl
 nothing_seen (suc k) (suc n) = nothing_seen k n
 
-pub tells_start : (o : Order) → o.rec ≡ 0 → o.seen ≡ nothing → IsOrderOf o []
+pub tells_start : (o : Order) → o.rec ≡ 0 → o.seen ≡ replicate 256 false → IsOrderOf o []
 tells_start o first none = record {
   places = ap (λ (xs : List Bool). length xs) none;
   present = first;
@@ -49,7 +49,8 @@ tells_more o new ds d follows fits f takes tells = elim (in_order_cases (section
       (λ n. tells.seen n ∙ ap (λ (r : ℕ). occurs n (of_record r ds)) (sym same))
   | inr next ↦
       let other : d.rec ≢ o.rec = λ same. not_after_itself (section_after ds) d.rec next (sym (same ∙ tells.present)) in
-      tells_by new ds d nothing fits refl takes.rec (takes.next other) (λ n. nothing_seen 256 n ∙ ap (occurs n) (sym (fresh_next ds d follows next)))
+      tells_by new ds d (replicate 256 false) fits refl takes.rec (takes.next other)
+      (λ n. nothing_seen 256 n ∙ ap (occurs n) (sym (fresh_next ds d follows next)))
 ]
 
 -- the fault by what is kept is the fault by the datasets
@@ -76,21 +77,16 @@ subfile_value ds d at eight octets =
 
 -- ---- the start
 
-pub start_alive : EachRowHasValues → SectionsLive []
-start_alive values = records_to_come values records
-
-pub checked_start : EachRowHasValues → (o : Order) → o.rec ≡ 0 → o.seen ≡ nothing → HasChecked (Some (record { order = o; begun = None })) []
-checked_start values o first none = record { order = o; begun = None; at = refl; none = tt; alive = start_alive values; tells = tells_start o first none }
+pub checked_start : EachRowHasValues → (o : Order) → o.rec ≡ 0 → o.seen ≡ replicate 256 false → HasChecked (Some (record { order = o; begun = None })) []
+checked_start values o first none =
+    record { order = o; begun = None; at = refl; none = tt; alive = records_to_come values records; tells = tells_start o first none }
 
 -- ---- places
 
--- the order of the place
-pub order_at : (place : RecordPlace) (o : Order) (b : Option Begun) → Some place ≡ Some (record { order = o; begun = b }) → place.order ≡ o
-order_at place o b e = ap (λ (p : RecordPlace). p.order) (same_Some place (record { order = o; begun = b }) e)
-
 -- it tells of the datasets
 pub told_at : (place : RecordPlace) (ds : List Dataset) → HasChecked (Some place) ds → IsOrderOf place.order ds
-told_at place ds s = subst (λ (o : Order). IsOrderOf o ds) (sym (order_at place s.order s.begun s.at)) s.tells
+told_at place ds s =
+    let same = same_Some place (record { order = s.order; begun = s.begun }) s.at in subst (λ (p : RecordPlace). IsOrderOf p.order ds) (sym same) s.tells
 
 -- one dataset is begun, or none
 pub one_begun : (check : Option RecordPlace) (o p : Order) (a b : Option Begun) → check ≡ Some (record { order = o; begun = a }) → check ≡ Some (record { order = p; begun = b }) → a ≡ b
@@ -111,19 +107,45 @@ not_both check o p a begun e none f other = other (subst AwaitsNone (one_begun c
 
 -- ---- a head
 
+-- a head without a fault at the place has none after the datasets
+clear_after : (old : RecordPlace) (h : Head) → head_fault old.order.rec (has_seen old.order) h ≡ None → (ds : List Dataset) → HasChecked (Some old) ds
+    → record_fault ds h ≡ None
+clear_after old h none ds s = sym (record_fault_is old.order ds h (told_at old ds s)) ∙ none
+
+-- the order tells of the datasets, and of one more with the head that was added
+tells_headed : (old new : RecordPlace) (h : Head) → h.set < 256 → AddsHead old.order h new.order → (ds : List Dataset) → HasChecked (Some old) ds
+    → record_fault ds h ≡ None → (d : Dataset) → head_of d ≡ h → IsOrderOf new.order (ds ++ d ∷ [])
+tells_headed old new h small adds ds s clear d is =
+    subst (λ (k : Head). k.set < 256 → AddsHead old.order k new.order → record_fault ds k ≡ None → IsOrderOf new.order (ds ++ d ∷ [])) is
+    (λ fits takes none. tells_more old.order new.order ds d (alive_follows ds s.alive) fits
+    (no_fault_parts (section_after ds) (λ n. occurs n (section_run ds)) (head_of d) none) takes (told_at old ds s)) small adds clear
+
+-- a whole dataset was taken, of which no value is to come
+pub checked_more : EachRowHasValues → (old new : RecordPlace) (h : Head) (begun : Option Begun) → new.begun ≡ begun → AwaitsNone begun → h.set < 256
+    → AddsHead old.order h new.order → head_fault old.order.rec (has_seen old.order) h ≡ None → (ds : List Dataset) → HasChecked (Some old) ds
+    → (d : Dataset) → head_of d ≡ h → Octets d.octets → (h.rec ≢ 8 → value_fault d ≡ None) → HasChecked (Some new) (ds ++ d ∷ [])
+checked_more values old new h begun begun_is no_value small adds none ds s d is octets fine =
+    let clear = clear_after old h none ds s in
+    let at : SectionsLiveAt ds (head_of d) = subst (SectionsLiveAt ds) (sym is) (head_alive values ds h s.alive small clear) in
+    let fine_too : value_fault d ≡ None = elim (eqb_tells h.rec 8) [
+      | inl eight ↦ subfile_value ds d at (ap (λ (k : Head). k.rec) is ∙ eight.1) octets
+      | inr other ↦ fine other.1
+    ] in
+    record {
+      order = new.order;
+      begun = begun;
+      at = (λ i. Some (record { order = new.order; begun = begun_is i }));
+      none = no_value;
+      alive = value_alive values ds d at octets fine_too;
+      tells = tells_headed old new h small adds ds s clear d is;
+    }
+
 -- the head was taken
-pub taken_by : EachRowHasValues → (old new : RecordPlace) (h : Head) (row : Row) → h.set < 256 → AddsHead old.order h new.order → new.begun ≡ Some (record { head = h; row = row }) → row_of h.rec h.set ≡ Some row
-    → head_fault old.order.rec (has_seen old.order) h ≡ None → (ds : List Dataset) → HasChecked (Some old) ds → HasTaken (Some new) ds h
-taken_by values old new h row small takes begun known none ds s =
-    let told = told_at old ds s in
-    let follows = alive_follows ds s.alive in
-    let ok : record_fault ds h ≡ None = sym (record_fault_is old.order ds h told) ∙ none in
-    let f = no_fault_parts (section_after ds) (λ n. occurs n (section_run ds)) h ok in
-    let at : SectionsLiveAt ds h = head_alive values ds h s.alive small ok in
-    let more : (d : Dataset) → head_of d ≡ h → IsOrderOf new.order (ds ++ d ∷ []) =
-    λ d is. tells_more old.order new.order ds d follows (omega (arith, ap (λ (k : Head). k.set) is))
-    (subst (λ (k : Head). HasNoFault (section_after ds) (λ n. occurs n (section_run ds)) k) (sym is) f)
-    (subst (λ (k : Head). AddsHead old.order k new.order) (sym is) takes) told in
+pub taken_by : EachRowHasValues → (old new : RecordPlace) (h : Head) (row : Row) → h.set < 256 → AddsHead old.order h new.order
+    → new.begun ≡ Some (record { head = h; row = row }) → row_of h.rec h.set ≡ Some row → head_fault old.order.rec (has_seen old.order) h ≡ None
+    → (ds : List Dataset) → HasChecked (Some old) ds → HasTaken (Some new) ds h
+taken_by values old new h row small adds begun known none ds s =
+    let clear = clear_after old h none ds s in
     record {
       checking = λ other. record {
         order = new.order;
@@ -131,17 +153,11 @@ taken_by values old new h row small takes begun known none ds s =
         inside = (λ i. Some (record { order = new.order; begun = begun i }));
         known = known;
         value = other;
-        alive = at;
-        tells = more;
+        alive = head_alive values ds h s.alive small clear;
+        tells = tells_headed old new h small adds ds s clear;
       };
-      subfile = λ eight d is octets. record {
-        order = new.order;
-        begun = Some (record { head = h; row = row });
-        at = (λ i. Some (record { order = new.order; begun = begun i }));
-        none = eight;
-        alive = value_alive values ds d (subst (SectionsLiveAt ds) (sym is) at) octets (subfile_value ds d (subst (SectionsLiveAt ds) (sym is) at) (ap (λ (k : Head). k.rec) is ∙ eight) octets);
-        tells = more d is;
-      };
+      subfile = λ eight d is octets.
+          checked_more values old new h (Some (record { head = h; row = row })) begun eight small adds none ds s d is octets (λ other. absurd (other eight));
     }
 
 -- the head has this fault
@@ -162,6 +178,27 @@ place_headed old new h takes (inl (ds, s)) on = elim (eqb_tells h.rec 8) [
   | inr other ↦ inr (ds, h, (on ds s).checking other.1)
 ]
 place_headed old new h takes (inr (ds, g, s)) on = absurd (not_both (Some old) takes.order s.order takes.begun (record { head = g; row = s.row }) takes.at takes.none s.inside s.value)
+
+-- and a whole dataset to the next, or nothing did
+pub place_led : (old new : RecordPlace) (taken : Bool) (d : Dataset) → AwaitsHead (Some old) → IsRecordPlace old
+    → (taken ≡ true → (ds : List Dataset) → HasChecked (Some old) ds → HasChecked (Some new) (ds ++ d ∷ [])) → (taken ≡ false → new ≡ old)
+    → IsRecordPlace new
+place_led old new true d between (inl (ds, s)) took left = inl (ds ++ d ∷ [], took refl ds s)
+place_led old new true d between (inr (ds, g, s)) took left =
+    absurd (not_both (Some old) between.order s.order None (record { head = g; row = s.row }) between.between tt s.inside s.value)
+place_led old new false d between is took left = subst IsRecordPlace (sym (left refl)) is
+
+-- what is begun is another, and the same datasets are told
+pub checked_as : {old new : Option RecordPlace} (order : Order) (before after : Option Begun) → old ≡ Some (record { order = order; begun = before })
+    → new ≡ Some (record { order = order; begun = after }) → AwaitsNone after → (ds : List Dataset) → HasChecked old ds → HasChecked new ds
+checked_as {old} order before after old_is new_is none ds s = record {
+  order = order;
+  begun = after;
+  at = new_is;
+  none = none;
+  alive = s.alive;
+  tells = subst (λ (o : Order). IsOrderOf o ds) (same_order old s.order order s.begun before s.at old_is) s.tells;
+}
 
 -- ---- a value
 
@@ -199,16 +236,13 @@ value_fault_by old begun xs fault is some ds h s =
     record {
       value = s.value;
       first = here;
-      lowest = λ limits. value_fault_told limits ds (data_of h xs) fault here;
+      lowest = λ limits. ((values_tell limits ds (data_of h xs)).0 fault).0 here;
       dead = λ alive. let none = value_no_fault ds (data_of h xs) alive in cc;
     }
 
 -- the head whose value is awaited is that of the begun dataset
-pub awaited_head : (place : RecordPlace) (begun : Begun) → place.begun ≡ Some begun → (h : Head) → IsIn (Some place) h → begun.head ≡ h
-awaited_head place begun is h s = ap (λ (b : Begun). b.head) (one_awaited place begun is s.order h s.row s.inside).1
-
 pub awaited_count : (place : RecordPlace) (begun : Begun) → place.begun ≡ Some begun → (h : Head) → IsIn (Some place) h → begun.head.count ≡ h.count
-awaited_count place begun is h s = ap (λ (k : Head). k.count) (awaited_head place begun is h s)
+awaited_count place begun is h s = ap (λ (b : Begun). b.head.count) (one_awaited place begun is s.order h s.row s.inside).1
 
 -- ---- datasets lead to one place
 

@@ -1,62 +1,21 @@
 -- A builder takes the datasets of an envelope that is within its limits.
-use Rattle.std.proofs.Common.{◌≡◌, ℕ, ◌+◌, ◌≤◌, Bool, true, cond, List, [], ◌∷◌, ◌++◌, append_assoc, length, length-append, refl, ap, sym, ◌∙◌, subst, arith, Some, None, Result, Ok, Err, IfErr, IsOk}
+use Rattle.std.proofs.Common.{◌≡◌, ℕ, ◌+◌, Bool, true, cond, List, [], ◌∷◌, ◌++◌, append_assoc, length, length-append, refl, ap, sym, ◌∙◌, subst, arith, Some, None, Result, Ok, Err, IfErr, IsOk}
 use Rattle.std.proofs.lemmas.List.Concat.{flat_map-append}
-use Rattle.iim_fields.proofs.Words.{occurrences, AllByRecursion, option_or, nat_tests, Octets, Dataset, head_of, table, row_of, IsGoodDataset, IsGoodRecord}
-use Rattle.iim_fields.proofs.Words.{SectionsLive, IsEnvelope, add_fault, passed_by, joined, kept, kept_octets, is_kept, limits_fault, fault_on}
-use Rattle.iim_fields.proofs.Words.{HeadsDieWithTheirFault, ValuesDieWithTheirFault, DatasetsOfEnvelopesAreAdded, AreRecords, AreSections, IsWithin, FieldFault}
-use Rattle.iim_fields.proofs.Words.{RecordOrder, Limits, all_append, all_front, all_back, good_elsewhere}
-use Rattle.iim_fields.proofs.Table.{passes}
-
--- ---- records that can follow
-
-abbrev mode : Dataset
-mode = record { rec = 7; set = 10; octets = 0 ∷ [] }
-
-abbrev subfile_size : Dataset
-subfile_size = record { rec = 7; set = 20; octets = 1 ∷ [] }
-
-abbrev subfile : Dataset
-subfile = record { rec = 8; set = 10; octets = [] }
-
-abbrev size : Dataset
-size = record { rec = 9; set = 10; octets = 0 ∷ [] }
-
-two_once : (n : ℕ) → occurrences n (mode ∷ subfile_size ∷ []) ≤ 1
-two_once n = grind (arith, nat_tests)
-
-one_once : (n : ℕ) (d : Dataset) → occurrences n (d ∷ []) ≤ 1
-one_once n d = grind (arith, nat_tests)
-
-seven : IsGoodRecord 7 (mode ∷ subfile_size ∷ [])
-unfolding row_of table
-seven = record {
-  each = ((refl, good_elsewhere refl (omega arith) (omega arith, tt) refl), ((refl, good_elsewhere refl (omega arith) (omega arith, tt) refl), tt));
-  mandatory = (refl, (refl, tt));
-  once = λ n h. two_once n;
-}
-
-eight : IsGoodRecord 8 (subfile ∷ [])
-unfolding row_of table
-eight = record { each = ((refl, good_elsewhere refl (omega arith) tt refl), tt); mandatory = (refl, tt); once = λ n h. one_once n subfile }
-
-nine : IsGoodRecord 9 (size ∷ [])
-unfolding row_of table
-nine = record { each = ((refl, good_elsewhere refl (omega arith) (omega arith) refl), tt); mandatory = (refl, tt); once = λ n h. one_once n size }
-
-abbrev object_records : List Dataset
-object_records = mode ∷ subfile_size ∷ subfile ∷ size ∷ []
-
-object_follows : AreRecords (7 ∷ 8 ∷ 9 ∷ []) object_records
-object_follows = (mode ∷ subfile_size ∷ [], subfile ∷ size ∷ [], refl, seven, (subfile ∷ [], size ∷ [], refl, eight, (size ∷ [], [], refl, nine, refl)))
+use Rattle.iim_fields.proofs.Words.{AllByRecursion, option_or, nat_tests, Octets, Dataset, head_of, IsGoodDataset, SectionsLive, IsEnvelope, add_fault}
+use Rattle.iim_fields.proofs.Words.{passed_by, joined, kept, kept_octets, is_kept, limits_fault, fault_on, HeadsDieWithTheirFault, ValuesDieWithTheirFault}
+use Rattle.iim_fields.proofs.Words.{DatasetsOfEnvelopesAreAdded, AreRecords, AreSections, IsWithin, FieldFault, RecordOrder, Limits, all_append, all_front}
+use Rattle.iim_fields.proofs.Words.{all_back}
+use Rattle.iim_fields.proofs.Runs.{records_to_come}
+use Rattle.iim_fields.proofs.Table.{EachRowHasValues, passes}
 
 -- the datasets of an envelope can be followed by those of an object
-sections_of : (ds : List Dataset) → IsEnvelope ds → AreSections (ds ++ object_records)
-sections_of ds e = (
+sections_of : (ds object : List Dataset) → IsEnvelope ds → AreRecords (7 ∷ 8 ∷ 9 ∷ []) object → AreSections (ds ++ object)
+sections_of ds object e follows = (
   e.r1,
-  e.r2 ++ object_records,
-  ap (λ (l : List Dataset). l ++ object_records) e.parts ∙ append_assoc e.r1 e.r2 object_records,
+  e.r2 ++ object,
+  ap (λ (l : List Dataset). l ++ object) e.parts ∙ append_assoc e.r1 e.r2 object,
   e.envelope,
-  (e.r2, object_records, refl, e.application, object_follows),
+  (e.r2, object, refl, e.application, follows),
 )
 
 -- ---- what holds of each dataset
@@ -91,14 +50,15 @@ has_room limits before ds d all within =
     let more = joined_more before d ds in
     let longer = length-append before (d ∷ ds) in grind (arith, nat_tests)
 
-pub added : HeadsDieWithTheirFault → ValuesDieWithTheirFault → DatasetsOfEnvelopesAreAdded
-added heads values limits before ds d e within =
-    let sections = sections_of (before ++ d ∷ ds) e in
+pub added : EachRowHasValues → HeadsDieWithTheirFault → ValuesDieWithTheirFault → DatasetsOfEnvelopesAreAdded
+added rows heads values limits before ds d e within =
+    let (object, follows) = records_to_come rows (7 ∷ 8 ∷ 9 ∷ []) in
+    let sections = sections_of (before ++ d ∷ ds) object e follows in
     let each = all_takeable (before ++ d ∷ ds) e in
     let this : IsTakeable d = (all_back IsTakeable before (d ∷ ds) each).0 in
-    let whole : AreSections (before ++ d ∷ (ds ++ object_records)) = rw append_assoc at sections in
-    let alive : SectionsLive (before ++ d ∷ []) = (ds ++ object_records, rw append_assoc whole) in
-    let head = ((heads before (head_of d) (d ∷ ds ++ object_records, whole)).1 (d, refl, alive)).0 in
+    let whole : AreSections (before ++ d ∷ (ds ++ object)) = rw append_assoc at sections in
+    let alive : SectionsLive (before ++ d ∷ []) = (ds ++ object, rw append_assoc whole) in
+    let head = ((heads before (head_of d) (d ∷ ds ++ object, whole)).1 (d, refl, alive)).0 in
     let room = has_room limits before ds d (all_kept before (all_front IsTakeable before (d ∷ ds) each)) within in
     let value = (values before d (d, refl, alive) this.octets).1 alive in
     passes (is_kept d.rec) (fault_on (head_of d) RecordOrder) _ this.is_kept (λ i. option_or (option_or (head i) (room i)) (value i))

@@ -1,9 +1,9 @@
 -- The record layer dies exactly with a fault.
-use Rattle.std.proofs.Common.{◌≡◌, ℕ, ◌+◌, ◌⊎◌, Bool, true, false, not, ◌&&◌, cond, if◌then◌else◌, nat_eq, List, [], ◌∷◌, ◌++◌, length, refl, ap, sym, ◌∙◌, inl, inr, arith, subst, append_assoc, Option, Some, None}
+use Rattle.std.proofs.Common.{◌≡◌, ℕ, ◌+◌, ◌⊎◌, Bool, true, false, not, ◌&&◌, cond, nat_eq, List, [], ◌∷◌, ◌++◌, length, refl, ap, sym, ◌∙◌, inl, inr, arith, subst, append_assoc, Option, Some, None}
 use Rattle.iim_fields.proofs.Words.{of_record, IsSomeAnd, IsTrue, AllByRecursion, find, and_parts, or_cases, eqb-true, eq-eqb, IsOctet, Octets, within, Dataset}
 use Rattle.iim_fields.proofs.Words.{head_of, Head, all_there, has_kind, row_of, is_admitted, Row, after, mandatory, repeats, occurs, occurrences}
 use Rattle.iim_fields.proofs.Words.{has_file_format, IsGoodDataset, IsGoodRecord, SectionsLive, SectionsLiveAt, section_after, section_run, is_first}
-use Rattle.iim_fields.proofs.Words.{is_in_order, fault_on, missing_fault, missing_of, head_fault, record_fault, fault_by_row, value_fault, BadValue, FileFormat}
+use Rattle.iim_fields.proofs.Words.{is_in_order, fault_on, missing_of, head_fault, record_fault, fault_by_row, value_fault, BadValue, FileFormat}
 use Rattle.iim_fields.proofs.Words.{repeats_as, meets_as, occurrences_append, some_counts, all_back, false_from_ne_true, cases_Bool, ne_eqb, nat_tests}
 use Rattle.iim_fields.proofs.Words.{occurrences_cons}
 use Rattle.iim_fields.proofs.Table.{passed, passes, EachRowHasValues, next_of, not_after_itself, not_record0, value_for}
@@ -30,12 +30,8 @@ parts_by present has h (Some row) known none =
 pub no_fault_parts : (present : ℕ) (has : ℕ → Bool) (h : Head) → head_fault present has h ≡ None → HasNoFault present has h
 no_fault_parts present has h none = parts_by present has h (row_of h.rec h.set) refl none
 
-whole_built : (c : Bool) (p : ℕ) (m : Option ℕ) → (c ≡ true → m ≡ None) → (if c then missing_fault p m else None) ≡ None
-whole_built true p m h = ap (missing_fault p) (h refl)
-whole_built false p m h = refl
-
 pub no_fault_built : (present : ℕ) (has : ℕ → Bool) (h : Head) → HasNoFault present has h → head_fault present has h ≡ None
-no_fault_built present has h f = rw (f.order, f.known, f.once, f.fits) (whole_built (is_first h.rec (after present)) present (missing_of present has) f.whole)
+no_fault_built present has h f = let whole = f.whole in rw (f.order, f.known, f.once, f.fits) (grind arith)
 
 -- ---- what is missing
 
@@ -180,16 +176,13 @@ value_parts (Some row) d small known octets none =
     let format = passed (has_file_format d) (fault_on (head_of d) FileFormat) _ admitted.1 in
     record { numbered = small; octets = octets; meets = meets_as d.rec d.set row d.octets known admitted.0; file_format = format.0 }
 
-pub value_good : (d : Dataset) → IsOctet d.set → Octets d.octets → value_fault d ≡ None → IsGoodDataset d
-value_good d small octets none = value_parts (row_of d.rec d.set) d small refl octets none
-
 pub good_value : (d : Dataset) → IsGoodDataset d → value_fault d ≡ None
 good_value d good =
     let m = meets_row (row_of d.rec d.set) d.octets good.meets in rw (m.1, m.3) (passes (has_file_format d) _ _ good.file_format refl)
 
 pub value_alive : EachRowHasValues → (ds : List Dataset) (d : Dataset) → SectionsLiveAt ds (head_of d) → Octets d.octets → value_fault d ≡ None → SectionsLive (ds ++ d ∷ [])
 value_alive values ds d at octets none = alive_next values ds d (front_alive ds (at.0 ∷ []) at.2) (head_no_fault ds (head_of d) at)
-    (value_good d (head_octet ds (head_of d) at) octets none)
+    (value_parts (row_of d.rec d.set) d (head_octet ds (head_of d) at) refl octets none)
 
 pub value_no_fault : (ds : List Dataset) (d : Dataset) → SectionsLive (ds ++ d ∷ []) → value_fault d ≡ None
 value_no_fault ds d alive = good_value d (good_next ds d alive.0 (from_alive ds d alive).1)

@@ -3,8 +3,8 @@ use Rattle.std.proofs.Common.{arith, ◌≡◌, ℕ, Bool, true, false, nat_eq, 
 use Rattle.iim_fields.proofs.Words.{all_back, eqb_tells, AllByRecursion, list_any, filter, option_or, filter-append, filter_passes, recursion_from_All}
 use Rattle.iim_fields.proofs.Words.{or_cases, eqb-true, Dataset, of_record, all_there, after, AreRecords, AreSections, mandatory, occurs, IsGoodDataset}
 use Rattle.iim_fields.proofs.Words.{IsGoodRecord, SectionsLive, last_record, section_after, is_kept, kept, missing_fault, missing_of, has_seen, IsOrderOf}
-use Rattle.iim_fields.proofs.Words.{end_fault, no_application, IsEnvelope, finish_fault, IsEnvelopeStore, IsBuilding, missing_at, fields_of, Limits, Store}
-use Rattle.iim_fields.proofs.Words.{RecordPlace, Order, joined, HasChecked, HasEnded, AwaitsHead, HasStored, IsReading, place_of}
+use Rattle.iim_fields.proofs.Words.{end_fault, IsEnvelope, finish_fault, IsEnvelopeStore, IsBuilding, fields_of, Limits, Store, RecordPlace, Order, joined}
+use Rattle.iim_fields.proofs.Words.{HasChecked, HasEnded, AwaitsHead, HasStored, IsReading, place_of, FieldFault, IsSomeAnd}
 use Rattle.iim_fields.proofs.Table.{EachRowHasValues, no_application_fault}
 use Rattle.iim_fields.proofs.Runs.{part_front, part_of, records_to_come}
 use Rattle.iim_fields.proofs.Follows.{From, alive_follows}
@@ -57,7 +57,7 @@ two_case ds o alive tells two =
     λ i. option_or (missing_fault 1 (sym whole i)) (missing_fault 2 (missing_of 2 (λ n. seen n i)))
 
 one_case : (ds : List Dataset) (o : Order) → ((n : ℕ) → has_seen o n ≡ occurs n (of_record 1 ds)) → of_record 2 ds ≡ []
-    → option_or (missing_fault 1 (missing_of 1 (has_seen o))) no_application ≡ finish_fault ds
+    → option_or (missing_fault 1 (missing_of 1 (has_seen o))) (missing_fault 2 (missing_of 2 (λ _. false))) ≡ finish_fault ds
 one_case ds o seen none = λ i. option_or (missing_fault 1 (missing_of 1 (λ n. seen n i))) (missing_fault 2 (missing_of 2 (λ n. occurs n (sym none i))))
 
 -- the last of kept datasets is of record 1 or 2
@@ -129,18 +129,26 @@ finished values ds o alive same tells none =
 
 -- ---- the builder
 
-pub finish_is : (check : Option RecordPlace) (limits : Limits) (store : Store) → IsBuilding check limits store → missing_at check ≡ finish_fault (fields_of store)
-finish_is check limits store b =
-    let s = b.checked in ap missing_at s.at ∙ end_fault_is (fields_of store) s.order s.alive b.all_kept s.tells
+-- what a check says is missing where records 1 and 2 end
+abbrev pub TellsEnd : Option FieldFault → Option RecordPlace → Type 0
+TellsEnd told check = IsSomeAnd check (λ place. told ≡ end_fault place.order.rec (has_seen place.order))
 
-pub envelope_store : EachRowHasValues → (check : Option RecordPlace) (limits : Limits) (store : Store) → IsBuilding check limits store → missing_at check ≡ None → IsEnvelopeStore store
-envelope_store values check limits store b none =
+end_at : {check : Option RecordPlace} {ds : List Dataset} {told : Option FieldFault} (s : HasChecked check ds) → TellsEnd told check
+    → told ≡ end_fault s.order.rec (has_seen s.order)
+end_at {told = told} s tells = subst (TellsEnd told) s.at tells
+
+pub finish_is : {check : Option RecordPlace} {limits : Limits} {store : Store} {told : Option FieldFault} → IsBuilding check limits store
+    → TellsEnd told check → told ≡ finish_fault (fields_of store)
+finish_is {store = store} b tells = let s = b.checked in end_at s tells ∙ end_fault_is (fields_of store) s.order s.alive b.all_kept s.tells
+
+pub envelope_store : EachRowHasValues → {check : Option RecordPlace} {limits : Limits} {store : Store} {told : Option FieldFault}
+    → IsBuilding check limits store → TellsEnd told check → told ≡ None → IsEnvelopeStore store
+envelope_store values {store = store} b tells none =
     let s = b.checked in
-    let here : end_fault s.order.rec (has_seen s.order) ≡ None = sym (ap missing_at s.at) ∙ none in
     record {
       few = record { datasets = omega (arith, b.room.small_fields, b.within.fields_in); octets = omega (arith, b.room.small_octets, b.within.octets_in) };
       holds = b.holds;
-      envelope = finished values (fields_of store) s.order s.alive b.all_kept s.tells here;
+      envelope = finished values (fields_of store) s.order s.alive b.all_kept s.tells (sym (end_at s tells) ∙ none);
     }
 
 -- ---- the reader

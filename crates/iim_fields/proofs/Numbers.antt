@@ -1,11 +1,24 @@
 -- Where the head of a whole dataset may stand, and whether datasets of records 7 and 9 may come, by their number.
 use Rattle.std.proofs.Common.{subst, ◌≡◌, ℕ, ◌⊎◌, Bool, true, false, ◌&&◌, nat_eq, nat_le, List, [], ◌∷◌, length, Option, Some, None, refl, ap, sym, ◌∙◌, inl, inr, arith, ◌≢◌, not, ◌||◌, if◌then◌else◌, ne_eqb}
 use Rattle.iim_tables.specs.declared.shape.Kind.TheVariants.{Mode, Size, SizeFromOne}
-use Rattle.iim_fields.proofs.Words.{IsInRange, nat_tests, is_none, option_or, number, within, greatest_size, Head, number-cons, size_octets, has_kind, table}
-use Rattle.iim_fields.proofs.Words.{row_of, Row, head_fault, value_fault, data_of, Spells, admits_once, is_number, FieldFault, eq-eqb, eqb_tells, after}
-use Rattle.iim_fields.proofs.Words.{missing_of, is_first}
+use Rattle.iim_fields.proofs.Words.{IsInRange, nat_tests, is_none, option_or, number, within, greatest_size, Head, number-cons, size_octets, has_kind}
+use Rattle.iim_fields.proofs.Words.{table, row_of, Row, head_fault, value_fault, data_of, Spells, FieldFault, eq-eqb, eqb_tells, after, missing_of}
+use Rattle.iim_fields.proofs.Words.{is_first}
 use Rattle.iim_fields.proofs.Sections.{one_of}
 use Rattle.iim_fields.proofs.Table.{not_record0, first_self}
+
+-- a dataset that doesn't repeat may come next, by what an order says
+abbrev pub admits_once : ℕ → (ℕ → Bool) → ℕ → ℕ → Bool
+admits_once present has rec set =
+    if nat_eq rec present then not (has set) else is_first rec (after present) && is_none (missing_of present has)
+
+-- a dataset of record 7 or 9 may have this number
+abbrev is_number : Head → ℕ → Bool
+is_number h n =
+    if nat_eq h.rec 9 then nat_eq h.set 10 && nat_le n greatest_size
+    else if nat_eq h.set 10 then nat_eq h.count 1 && nat_le n 1
+    else if nat_eq h.set 20 then nat_le 1 n && nat_le n greatest_size
+    else (nat_eq h.set 90 || nat_eq h.set 95) && nat_le n greatest_size
 
 -- ---- in the present record
 
@@ -38,8 +51,7 @@ once_admitted present has h row known once =
 -- ---- the rows
 
 pub and_true : (b : Bool) → (b && true) ≡ b
-and_true true = refl
-and_true false = refl
+and_true b = grind arith
 
 mode_by : (xs : List ℕ) → length xs ≡ 1 → has_kind Mode xs ≡ nat_le (number xs) 1
 mode_by [] e = let bad : 0 ≡ 1 = e in absurd (omega (arith, bad))
@@ -81,8 +93,7 @@ meant r s count n xs (inr nine) long few is =
 -- ---- a dataset
 
 both_none : (a b : Option FieldFault) → is_none (option_or a b) ≡ (is_none a && is_none b)
-both_none None b = refl
-both_none (Some f) b = refl
+both_none a b = grind arith
 
 exact_by : (p : ℕ) (has : ℕ → Bool) (h : Head) (n : ℕ) (xs : List ℕ) (o : Option Row) → row_of h.rec h.set ≡ o → Meant o h n xs → nat_eq h.rec 1 ≡ false
     → h.count ≡ length xs → (is_number h n && admits_once p has h.rec h.set) ≡ is_none (option_or (head_fault p has h) (value_fault (data_of h xs)))
@@ -92,11 +103,7 @@ exact_by p has h n xs (Some row) known meant other count =
     let value : is_none (value_fault (data_of h xs)) ≡ (within row.min row.max h.count && has_kind row.kind xs) = rw (known, count, other) (grind arith) in
     rw (both_none, ← head, value, meant.1) (grind arith)
 
--- neither 7 nor 9 is 1
-not_first : (r : ℕ) → (r ≡ 7) ⊎ (r ≡ 9) → nat_eq r 1 ≡ false
-not_first r is = grind (arith, nat_tests)
-
 pub number_exact : (p : ℕ) (has : ℕ → Bool) (h : Head) (n : ℕ) (xs : List ℕ) → (h.rec ≡ 7) ⊎ (h.rec ≡ 9) → Spells xs h n
     → (is_number h n && admits_once p has h.rec h.set) ≡ is_none (option_or (head_fault p has h) (value_fault (data_of h xs)))
 number_exact p has h n xs number s =
-    exact_by p has h n xs (row_of h.rec h.set) refl (meant h.rec h.set h.count n xs number s.count s.few s.is) (not_first h.rec number) s.count
+    exact_by p has h n xs (row_of h.rec h.set) refl (meant h.rec h.set h.count n xs number s.count s.few s.is) (grind (arith, nat_tests)) s.count

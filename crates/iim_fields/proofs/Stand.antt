@@ -2,12 +2,12 @@
 use Rattle.std.proofs.Common.{◌≡◌, ◌≢◌, ℕ, suc, ◌+◌, ◌-◌, ◌<◌, ◌≤◌, ◌⊎◌, Bool, true, false, cond, List, [], ◌∷◌, ◌++◌, length, get_or, refl, ap, sym, ◌∙◌, inl, inr, arith, subst, append_assoc, append-nil, length-append, Option, Some, None}
 use Rattle.std.proofs.Math.Seq.{take-append_seam, drop-append_seam}
 use Rattle.iim_fields.proofs.Words.{limits_of, AwaitsHead, cases_Bool, nat_tests, HasRoom, IsEnvelopeStore, vec_len, vec_capacity, option_or, filter-append}
-use Rattle.iim_fields.proofs.Words.{flat_map-append, eqb_tells, Octets, Dataset, head_of, Head, octets_append, are_octets, nothing_of_two, size_octets, occurs}
-use Rattle.iim_fields.proofs.Words.{SectionsLiveAt, room_fault, limits_fault, first_fault, is_kept, kept, kept_octets, joined, section_after, section_run}
-use Rattle.iim_fields.proofs.Words.{data_of, number_told, tells_number, section_at, IsIn, HasChecked, IsChecking, HasTaken, IsRecordFault, IsValueFault}
-use Rattle.iim_fields.proofs.Words.{begun_head, HasStored, IsStore, entries_of, fields_of, ends_at, begun_octets, fields_from, FieldsPlace, IsBetween, IsInside}
-use Rattle.iim_fields.proofs.Words.{CanTake, CanClose, StandsAfter, StandsIn, IsHeadFault, IsOf, section_of, begun_head_of, IsWithin, place_of, StandsSomewhere}
-use Rattle.iim_fields.proofs.Words.{IsReading, Limits, Store, FieldFault, RecordPlace}
+use Rattle.iim_fields.proofs.Words.{flat_map-append, eqb_tells, Octets, Dataset, head_of, Head, octets_append, are_octets, nothing_of_two, size_octets}
+use Rattle.iim_fields.proofs.Words.{occurs, SectionsLiveAt, room_fault, limits_fault, first_fault, is_kept, kept, kept_octets, joined, section_after}
+use Rattle.iim_fields.proofs.Words.{section_run, data_of, number_told, tells_number, section_at, IsIn, HasChecked, IsChecking, HasTaken, IsRecordFault}
+use Rattle.iim_fields.proofs.Words.{IsValueFault, begun_head, HasStored, entries_of, fields_of, ends_at, begun_octets, fields_from, FieldsPlace}
+use Rattle.iim_fields.proofs.Words.{IsBetween, IsInside, CanTake, CanClose, StandsAfter, StandsIn, IsHeadFault, IsOf, section_of, begun_head_of, IsWithin}
+use Rattle.iim_fields.proofs.Words.{place_of, StandsSomewhere, IsReading, Limits, Store, FieldFault, RecordPlace}
 use Rattle.iim_fields.proofs.Table.{EachRowHasValues, size_row, kept_or_tells}
 use Rattle.iim_fields.proofs.Follows.{present_more}
 use Rattle.iim_fields.proofs.Telling.{head_fault_told}
@@ -30,6 +30,10 @@ no_room limits octets fields h fault some in_limits = elim (cases_Bool (is_kept 
 ]
 
 -- ---- the store
+
+-- each entry tells where the octets of its dataset are
+abbrev pub IsStore : Store → Type 0
+IsStore store = HasStored store (fields_of store) (begun_octets store)
 
 length-entries_of : (from : ℕ) (ds : List Dataset) → length (entries_of from ds) ≡ length ds
 length-entries_of from [] = refl
@@ -88,6 +92,27 @@ counts store ks more holds = (
   ap (λ (xs : List ℕ). length xs) holds.octets ∙ length-append (joined ks) more,
   store.entries.ok.0 ∙ (ap (λ xs. length xs) holds.entries ∙ length-entries_of 0 ks),
 )
+
+-- a store that has taken octets
+pub takes_holds : {old new : Store} {ks : List Dataset} {more : List ℕ} (xs : List ℕ) → HasStored old ks more → new.octets.items ≡ old.octets.items ++ xs
+    → new.entries ≡ old.entries → HasStored new ks (more ++ xs)
+takes_holds {ks = ks} {more} xs holds octets entries = record {
+  entries = ap (λ v. v.items) entries ∙ holds.entries;
+  octets = octets ∙ (ap (λ (ys : List ℕ). ys ++ xs) holds.octets ∙ append_assoc (joined ks) more xs);
+}
+
+-- and one that has kept those that it took as the data of a dataset
+pub keeps_holds : {old new : Store} {ks : List Dataset} {more : List ℕ} (rec set : ℕ) → HasStored old ks more → new.octets ≡ old.octets
+    → new.entries.items ≡ old.entries.items ++ record { rec = rec; set = set; end = length old.octets.items } ∷ []
+    → HasStored new (ks ++ record { rec = rec; set = set; octets = more } ∷ []) []
+keeps_holds {old} {ks = ks} {more} rec set holds octets entries =
+    let d : Dataset = record { rec = rec; set = set; octets = more } in
+    let c = counts old ks more holds in
+    let end : length old.octets.items ≡ 0 + length (joined ks) + length more = omega (arith, c.0) in
+    record {
+      entries = entries ∙ ((λ i. holds.entries i ++ record { rec = rec; set = set; end = end i } ∷ []) ∙ sym (entries_append 0 ks d));
+      octets = ap (λ v. v.items) octets ∙ (holds.octets ∙ (sym (joined_more ks d) ∙ sym (append-nil (joined (ks ++ d ∷ [])))));
+    }
 
 -- what an envelope's store has of octets and entries
 pub totals : (store : Store) → IsEnvelopeStore store
@@ -153,7 +178,7 @@ holds_after check limits store size ds is s =
     subst (HasStored store (kept ds)) (nothing_of_two (begun_octets store) size s.taken_are).0 (holds_kept store ds is s.kept_are)
 
 -- the fault by these numbers of octets and datasets is the fault by the datasets
-room_is : {check : Option RecordPlace} {limits : Limits} {store : Store} {size : List ℕ} (octets fields : ℕ) (h : Head) (o : Option FieldFault)
+pub room_is : {check : Option RecordPlace} {limits : Limits} {store : Store} {size : List ℕ} (octets fields : ℕ) (h : Head) (o : Option FieldFault)
     → IsReading check limits store size → octets ≡ length store.octets.items → fields ≡ vec_len store.entries → o ≡ room_fault limits octets fields h
     → (ds : List Dataset) → StandsAfter (place_of check limits store size) ds → limits_fault limits ds h ≡ o
 room_is {check} {limits} {store} {size} octets fields h o r long count told ds s =
@@ -260,13 +285,6 @@ reading_more {check} {limits} {store} {last} {size} {more} xs head r kept_is tak
       in_size = λ h e none. in_size (rw (same_head h head (begun_head check) e begun) at none);
     }
 
--- the store has taken octets
-pub holds_more : (old new : Store) (xs : List ℕ) → new.octets.items ≡ old.octets.items ++ xs → new.entries ≡ old.entries → IsStore old → HasStored new (fields_of old) (begun_octets old ++ xs)
-holds_more old new xs octets entries is = record {
-  entries = ap (λ v. v.items) entries ∙ is.entries;
-  octets = octets ∙ (ap (λ (ys : List ℕ). ys ++ xs) is.octets ∙ append_assoc (joined (fields_of old)) (begun_octets old) xs);
-}
-
 -- a dataset that will be kept has its octets in the store
 pub in_store_alone : (store : Store) (size : List ℕ) → size ≡ [] → begun_octets store ++ size ≡ begun_octets store
 in_store_alone store size none = ap (λ (ys : List ℕ). begun_octets store ++ ys) none ∙ append-nil (begun_octets store)
@@ -274,7 +292,7 @@ in_store_alone store size none = ap (λ (ys : List ℕ). begun_octets store ++ y
 pub taken_in_store : (old new : Store) (size xs : List ℕ) → size ≡ [] → new.octets.items ≡ old.octets.items ++ xs → new.entries ≡ old.entries → IsStore old
     → (fields_of new ≡ fields_of old) × (begun_octets new ++ size ≡ (begun_octets old ++ size) ++ xs)
 taken_in_store old new size xs none octets entries is =
-    let holds = holds_more old new xs octets entries is in (
+    let holds = takes_holds xs is octets entries in (
       fields_held new (fields_of old) (begun_octets old ++ xs) holds,
       in_store_alone new size none ∙ (begun_held new (fields_of old) (begun_octets old ++ xs) holds ∙ ap (λ (ys : List ℕ). ys ++ xs) (sym (in_store_alone old size none))),
     )
@@ -422,24 +440,11 @@ somewhere_closed {f} {g = g} stands a all on =
 no_head : (check : Option RecordPlace) → AwaitsHead check → (h : Head) → begun_head check ≡ Some h → ⊥
 no_head check t h e = let clash = sym e ∙ none_between check t in cc
 
--- the dataset is kept in the store
-pub holds_kept_more : (old new : Store) (h : Head) → IsStore old → new.octets ≡ old.octets → new.entries.items ≡ old.entries.items ++ record { rec = h.rec; set = h.set; end = length old.octets.items } ∷ []
-    → HasStored new (fields_of old ++ data_of h (begun_octets old) ∷ []) []
-holds_kept_more old new h is octets entries =
-    let ks = fields_of old in
-    let d = data_of h (begun_octets old) in
-    let c = counts old ks (begun_octets old) is in
-    let end : length old.octets.items ≡ 0 + length (joined ks) + length (begun_octets old) = omega (arith, c.0) in
-    record {
-      entries = entries ∙ ((λ i. is.entries i ++ record { rec = h.rec; set = h.set; end = end i } ∷ []) ∙ sym (entries_append 0 ks d));
-      octets = ap (λ v. v.items) octets ∙ (is.octets ∙ (sym (joined_more ks d) ∙ sym (append-nil (joined (ks ++ d ∷ [])))));
-    }
-
 pub kept_in_store : (old new : Store) (size : List ℕ) (h : Head) → size ≡ [] → IsStore old → is_kept h.rec ≡ true → new.octets ≡ old.octets
     → new.entries.items ≡ old.entries.items ++ record { rec = h.rec; set = h.set; end = length old.octets.items } ∷ []
     → Kept (fields_of old) (data_of h (begun_octets old ++ size)) (fields_of new) × (begun_octets new ++ size ≡ [])
 kept_in_store old new size h none is keeps octets entries =
-    let holds = holds_kept_more old new h is octets entries in (
+    let holds = keeps_holds h.rec h.set is octets entries in (
       Added keeps (fields_held new _ [] holds ∙ ap (λ (ys : List ℕ). fields_of old ++ data_of h ys ∷ []) (sym (in_store_alone old size none))),
       in_store_alone new size none ∙ begun_held new _ [] holds,
     )
@@ -461,7 +466,7 @@ pub reading_kept : {check after : Option RecordPlace} {limits : Limits} {old new
     → vec_capacity new.entries ≡ vec_capacity old.entries → StandsSomewhere (place_of after limits new size) → IsReading after limits new size
 reading_kept {limits = limits} {old} {new} h r t octets entries capacity somewhere =
     let room : HasRoom limits new = omega (arith, r.room, ap (λ v. v.room) octets, capacity) in
-    reading_between room (store_is new _ [] (holds_kept_more old new h r.store_is octets entries)) t somewhere
+    reading_between room (store_is new _ [] (keeps_holds h.rec h.set r.store_is octets entries)) t somewhere
 
 -- there is room for one entry more
 pub entry_room : {check : Option RecordPlace} {limits : Limits} {store : Store} {size : List ℕ} {h : Head} → IsReading check limits store size → IsIn check h

@@ -1,21 +1,19 @@
 -- What the table says of the records of an envelope.
 use Rattle.std.proofs.Common.{not, ◌≡◌, ◌≢◌, ℕ, ◌<◌, ◌≤◌, ◌⊎◌, Bool, true, false, ◌&&◌, ◌||◌, cond, nat_eq, List, [], ◌∷◌, length, map, Option, Some, None, refl, ap, sym, ◌∙◌, inl, inr, arith, subst}
-use Rattle.iim_fields.proofs.Words.{ne_eqb, cases_Bool, true_from_ne_false, nat_tests, AllByRecursion, list_all, filter, find, option_or, option_map, is_kept}
-use Rattle.iim_fields.proofs.Words.{is_first, value_fault, fault_by_row, missing_fault, no_application, and_parts, or_cases, eqb-true, is_none, IsOctet, within}
-use Rattle.iim_fields.proofs.Words.{Dataset, head_of, Head, size_octets, has_kind, tells_number, data_of, table, row_of, row_of_others, Meets, is_admitted}
-use Rattle.iim_fields.proofs.Words.{HasValue, mandatory, has_to_occur, has_file_format, IsGoodDataset, Row, after}
+use Rattle.iim_fields.proofs.Words.{ne_eqb, cases_Bool, true_from_ne_false, nat_tests, AllByRecursion, list_all, filter, find, option_or, option_map}
+use Rattle.iim_fields.proofs.Words.{is_kept, is_first, value_fault, fault_by_row, missing_fault, missing_of, and_parts, or_cases, eqb-true, is_none}
+use Rattle.iim_fields.proofs.Words.{IsOctet, within, Dataset, head_of, Head, size_octets, has_kind, tells_number, data_of, table, row_of, row_of_others}
+use Rattle.iim_fields.proofs.Words.{Meets, is_admitted, HasValue, mandatory, has_to_occur, has_file_format, IsGoodDataset, Row, after}
 use Rattle.iim_fields.specs.declared.fault.FieldCause.TheVariants as causes
 use Rattle.iim_tables.specs.declared.shape.Kind.TheVariants as kinds
 use Rattle.iim_fields.proofs.Sections.{by_record, one_of}
 
 -- something is told where a test fails, and else what later tests tell: nothing is told exactly where each test is passed
 pub passed : {A : Type 0} (b : Bool) (told : A) (later : Option A) → cond (not b) (Some told) later ≡ None → (b ≡ true) × (later ≡ None)
-passed true told later none = (refl, none)
-passed false told later none = absurd cc
+passed b told later none = grind arith
 
 pub passes : {A : Type 0} (b : Bool) (told : A) (later : Option A) → b ≡ true → later ≡ None → cond (not b) (Some told) later ≡ None
-passes true told later is none = none
-passes false told later is none = absurd cc
+passes b told later is none = rw is none
 
 -- the numbers that the table makes mandatory, written out
 abbrev pub mandatory_numbers : ℕ → List ℕ
@@ -234,5 +232,5 @@ object_kind set = one_of (λ s. (row : Row) → row_of 8 s ≡ Some row → row.
     (λ not row known. let none = rw not.0.0 at known in absurd cc)
 
 -- an envelope without record 2 lacks 2:00
-pub no_application_fault : no_application ≡ Some (record { rec = 2; set = 0; cause = causes.Missing })
+pub no_application_fault : missing_fault 2 (missing_of 2 (λ _. false)) ≡ Some (record { rec = 2; set = 0; cause = causes.Missing })
 no_application_fault = ap (λ (ns : List ℕ). missing_fault 2 (find (λ n. true) ns)) (mandatory_is 2)

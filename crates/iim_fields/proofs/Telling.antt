@@ -1,14 +1,14 @@
 -- The first fault is that of the cause of the lowest number whose condition holds.
-use Rattle.std.proofs.Common.{◌≡◌, ℕ, ◌+◌, ◌<◌, ◌≤◌, ◌⊎◌, Bool, true, false, not, ◌&&◌, cond, nat_eq, nat_le, List, [], ◌∷◌, length, refl, ap, sym, ◌∙◌, inl, inr, arith, subst, Option, Some, None, Decides}
-use Rattle.iim_fields.specs.Format.Causes.{Token, IsInPresent, BeginsNext, IsOutOfOrder, IsRepeated, IsOutOfRange, IsAbsent, number_of_cause, HasCause, Names, IsFault, HasNoFault, head_at}
+use Rattle.std.proofs.Common.{◌≡◌, ◌≢◌, ℕ, ◌+◌, ◌<◌, ◌≤◌, ◌⊎◌, Bool, true, false, not, ◌&&◌, cond, nat_eq, nat_le, List, [], ◌∷◌, length, refl, ap, sym, ◌∙◌, inl, inr, arith, subst, Option, Some, None, Decides}
+use Rattle.iim_fields.specs.Format.Causes.{Token, BeginsNext, IsOutOfOrder, IsRepeated, IsOutOfRange, IsAbsent, number_of_cause, HasCause, Names, IsFault, HasNoFault, head_at}
 use Rattle.iim_fields.specs.Format.Causes.Token.{AtHead, AtValue}
 use Rattle.iim_fields.specs.declared.fault.FieldCause.{FieldCause}
 use Rattle.iim_fields.proofs.Words.{cases_lt, false_from_ne_true, nat_tests, record_fault, find, list_any, option_or, or_cases, or_right, eq-eqb, within}
 use Rattle.iim_fields.proofs.Words.{Dataset, Head, row_of, is_admitted, Row, after, mandatory, occurs, has_file_format, section_after, section_run, is_first}
 use Rattle.iim_fields.proofs.Words.{is_in_order, fault_on, row_fault, missing_fault, missing_of, is_kept, kept, kept_octets, limits_fault, first_fault}
-use Rattle.iim_fields.proofs.Words.{value_fault, fault_by_row, IsFaultIfAny, HeadsTellTheLowestCause, ValuesTellTheLowestCause, Limits, FieldFault, RecordOrder}
-use Rattle.iim_fields.proofs.Words.{UnknownDataset, Repeated, CountRange, Missing, BadValue, FileFormat, HeaderFull, TooManyFields, repeats_as, meets_as}
-use Rattle.iim_fields.proofs.Words.{admitted_as, none_meets}
+use Rattle.iim_fields.proofs.Words.{value_fault, fault_by_row, IsFaultIfAny, HeadsTellTheLowestCause, ValuesTellTheLowestCause, Limits, FieldFault}
+use Rattle.iim_fields.proofs.Words.{RecordOrder, UnknownDataset, Repeated, CountRange, Missing, BadValue, FileFormat, HeaderFull, TooManyFields, repeats_as}
+use Rattle.iim_fields.proofs.Words.{meets_as, admitted_as, none_meets}
 use Rattle.iim_fields.proofs.Sections.{by_record}
 use Rattle.iim_fields.proofs.Table.{passed, mandatory_is, mandatory_numbers}
 use Rattle.iim_fields.proofs.Dies.{next_is}
@@ -37,7 +37,8 @@ one_fault limits ds t f g is also =
 begins : (ds : List Dataset) (h : Head) → BeginsNext ds h → is_first h.rec (after (section_after ds)) ≡ true
 begins ds h (later, is) = ap (is_first h.rec) is ∙ eq-eqb h.rec h.rec refl
 
-in_order : (ds : List Dataset) (h : Head) → is_in_order (section_after ds) h.rec ≡ true → IsInPresent ds h ⊎ BeginsNext ds h
+in_order : (ds : List Dataset) (h : Head) → is_in_order (section_after ds) h.rec ≡ true
+    → ((h.rec ≢ 0) × (h.rec ≡ section_after ds)) ⊎ BeginsNext ds h
 in_order ds h is = elim (or_cases (nat_eq h.rec (section_after ds) && not (nat_eq h.rec 0)) (is_first h.rec (after (section_after ds))) is) [
   | inl same ↦ inl (grind (arith, nat_tests))
   | inr first ↦ inr (after h.rec, next_is (section_after ds) h.rec first)
@@ -221,6 +222,3 @@ values_tell limits ds d = tells limits ds (AtValue d) (value_fault d) (value_tol
 
 pub head_fault_told : (limits : Limits) (ds : List Dataset) (h : Head) (f : FieldFault) → first_fault limits ds h ≡ Some f → IsFault limits ds (AtHead h) f
 head_fault_told limits ds h f is = ((heads_tell limits ds h).0 f).0 is
-
-pub value_fault_told : (limits : Limits) (ds : List Dataset) (d : Dataset) (f : FieldFault) → value_fault d ≡ Some f → IsFault limits ds (AtValue d) f
-value_fault_told limits ds d f is = ((values_tell limits ds d).0 f).0 is

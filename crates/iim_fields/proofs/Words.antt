@@ -2,7 +2,7 @@
 pub use Rattle.std.proofs.lemmas.Bool.{and_from, and_left, and_parts, and_right, cases_Bool, cases_eq, cases_lt, cond_both, eq-eqb, eqb-true, false_from_ne_true, le-leb, ne_eqb, or_cases, or_right, true_from_ne_false}
 pub use Rattle.std.proofs.lemmas.Bool.Decides.{eqb_tells, leb_tells, nat_tests}
 pub use Rattle.std.proofs.lemmas.Grind.{flat_map-append, get_or-set_at}
-pub use Rattle.std.proofs.lemmas.List.{get_or-append_right, get_or-set_other, get_or-set_same, get_or_append_left, get_or_past, length-replicate, length-set}
+pub use Rattle.std.proofs.lemmas.List.{get_or-append_right, get_or-set_other, get_or-set_same, get_or_append_left, length-replicate, length-set}
 pub use Rattle.std.proofs.lemmas.List.Elements.{filter-append, filter_passes, recursion_from_All}
 pub use Rattle.std.proofs.lemmas.List.Folds.{list_any-append}
 pub use Rattle.std.proofs.lemmas.Option.{same_Some}
@@ -23,8 +23,8 @@ pub use Rattle.iim_tables.specs.Format.Records.{HasValue, IsGoodDataset, IsGoodR
 pub use Rattle.iim_tables.specs.Format.Rows.{Meets, is_admitted, row_of_others}
 unfoldable pub use Rattle.iim_tables.specs.Format.Rows.{row_of, table}
 pub use Rattle.iim_tables.specs.declared.shape.Row.{Row}
-pub use Rattle.iim_fields.specs.Building.{IsBuilding, IsEnvelopeStore, building_of}
-pub use Rattle.iim_fields.specs.Checking.{IsRecordPlace, TakesSubfile, TakesWhole, TookSubfile, TookWhole, missing_at, place_fault, record_layer_fault}
+pub use Rattle.iim_fields.specs.Building.{IsBuilding, IsEnvelopeStore}
+pub use Rattle.iim_fields.specs.Checking.{IsRecordPlace, place_fault}
 pub use Rattle.iim_fields.specs.Format.Alive.{SectionsLive, SectionsLiveAt}
 pub use Rattle.iim_fields.specs.Format.Bounds.{IsWithin}
 pub use Rattle.iim_fields.specs.Format.Envelopes.{IsEnvelope}
@@ -33,8 +33,8 @@ pub use Rattle.iim_fields.specs.Format.Records.{AreRecords, AreSections, after, 
 pub use Rattle.iim_fields.specs.Format.Values.{data_of, number_told, tells_number}
 pub use Rattle.iim_fields.specs.Format.Views.{first_data, has_names}
 pub use Rattle.iim_fields.specs.Laws.{DatasetsLeadToOnePlace, DatasetsOfEnvelopesAreAdded, EnvelopesEndWithTheLastRecord, HeadsDieWithTheirFault, HeadsTellTheLowestCause, IsFaultIfAny, NoSectionsBeginOthers, ValuesDieWithTheirFault, ValuesTellTheLowestCause}
-pub use Rattle.iim_fields.specs.NumberTaking.{MayTake, admits_once, is_number}
-pub use Rattle.iim_fields.specs.OrderChanges.{AddsHead, end_fault, is_subfile_head, no_application, nothing, takes_subfile}
+pub use Rattle.iim_fields.specs.NumberTaking.{MayTake}
+pub use Rattle.iim_fields.specs.OrderChanges.{AddsHead, end_fault}
 pub use Rattle.iim_fields.specs.Reading.{HasRoom, IsReading, StandsSomewhere, place_of}
 pub use Rattle.iim_fields.specs.States.Admitting.{Admits, Spells}
 pub use Rattle.iim_fields.specs.States.Builders.{Building, add_fault, finish_fault, passed_by}
@@ -43,7 +43,7 @@ pub use Rattle.iim_fields.specs.States.Orders.{IsOrderOf, has_seen}
 pub use Rattle.iim_fields.specs.States.Standing.{CanClose, CanTake, FieldsPlace, IsBetween, IsEnded, IsHeadFault, IsInside, IsOf, PassesSubfile, StandsAfter, StandsIn, begun_head_of, limits_of, section_of}
 pub use Rattle.iim_fields.specs.States.Stores.{fields_from}
 pub use Rattle.iim_fields.specs.States.Walks.{data_left, rest_of}
-pub use Rattle.iim_fields.specs.StoreLayout.{HasStored, IsStore, begun_octets, ends_at, entries_of, fields_of, is_sound}
+pub use Rattle.iim_fields.specs.StoreLayout.{HasStored, begun_octets, ends_at, entries_of, fields_of, is_sound, store_room}
 pub use Rattle.iim_fields.specs.declared.check.Begun.{Begun}
 pub use Rattle.iim_fields.specs.declared.check.RecordPlace.{RecordPlace}
 pub use Rattle.iim_fields.specs.declared.fault.FieldCause.TheVariants.{BadValue, CountRange, FileFormat, HeaderFull, Missing, RecordOrder, Repeated, TooManyFields, UnknownDataset}

@@ -1,19 +1,13 @@
 -- A builder of envelopes, and an envelope, from inside: their stores.
-use Rattle.std.specs.Prelude.{◌≡◌, ℕ, true, is_some, List, length, [], Option}
+use Rattle.std.specs.Prelude.{◌≡◌, length, [], Option}
 use Rattle.iim_fields.specs.Format.Faults.{joined, kept, Limits}
-use Rattle.iim_fields.specs.StoreLayout.{HasStored, store_room, fields_of}
+use Rattle.iim_fields.specs.StoreLayout.{HasStored, fields_of}
 use Rattle.iim_fields.specs.States.Checks.{HasChecked, RecordPlace}
 use Rattle.iim_fields.specs.Format.Bounds.{IsWithin}
 use Rattle.iim_fields.specs.Reading.{HasRoom}
 use Rattle.iim_fields.specs.declared.store.Store.{Store}
-use Rattle.iim_fields.specs.States.Builders.{Building, AreFew}
+use Rattle.iim_fields.specs.States.Builders.{AreFew}
 use Rattle.iim_fields.specs.Format.Envelopes.{IsEnvelope}
-use Rattle.iim_fields.specs.Format.Views.{first_data}
-use Rattle.iim_dataset.specs.Format.Datasets.{Dataset}
-
--- what a builder has with these limits and this store
-abbrev pub building_of : Limits → Store → Building
-building_of limits store = record { limits = limits; fields = fields_of store; room = store_room store }
 
 -- the builder's check stands after the datasets that are kept, and there are no others
 pub record IsBuilding (check : Option RecordPlace) (limits : Limits) (store : Store) : Type 0 where
@@ -28,7 +22,3 @@ pub record IsEnvelopeStore (store : Store) : Type 0 where
   pub few : AreFew (fields_of store)
   pub holds : HasStored store (fields_of store) []
   pub envelope : IsEnvelope (fields_of store)
-
--- Each envelope has a dataset with the numbers.
-abbrev pub IsInEach : ℕ → ℕ → Type 0
-IsInEach rec set = (ds : List Dataset) → IsEnvelope ds → is_some (first_data rec set ds) ≡ true

@@ -12,8 +12,6 @@ use Rattle.iim_fields.specs.States.Checks.{AwaitsHead, HasChecked, IsChecking, R
 use Rattle.iim_fields.specs.Format.Causes.{Token, IsFault, HasNoFault}
 use Rattle.iim_fields.specs.Format.Causes.Token.{AtHead, AtValue}
 
--- ---- Faults stand exactly where the record layer dies, and are those of the lowest number.
-
 -- The record layer dies at a head exactly where the head has a fault: every head without one can be completed.
 abbrev pub HeadsDieWithTheirFault : Type 0
 HeadsDieWithTheirFault = (ds : List Dataset) (h : Head) → SectionsLive ds → ((record_fault ds h ≡ None) × IsOctet h.set) ↔ SectionsLiveAt ds h
@@ -56,8 +54,7 @@ abbrev pub DatasetsOfEnvelopesAreAdded : Type 0
 DatasetsOfEnvelopesAreAdded = (limits : Limits) (before ds : List Dataset) (d : Dataset) → IsEnvelope (before ++ d ∷ ds)
     → IsWithin limits (length (joined (before ++ d ∷ ds))) (length (before ++ d ∷ ds)) → add_fault limits before d ≡ None
 
--- ---- The laws of records, as one record: a field for each.
-
+-- The laws of records, as one record: a field for each.
 pub record RecordLaws : Type 0 where
   -- where the record layer dies, and for which cause:
   pub heads_die_with_their_fault : HeadsDieWithTheirFault

@@ -4,11 +4,9 @@ use Rattle.iim_dataset.specs.Format.Datasets.{Dataset}
 use Rattle.iim_dataset.specs.declared.head.Head.{Head}
 use Rattle.iim_fields.specs.Format.Faults.{is_kept, Limits}
 use Rattle.iim_fields.specs.States.Checks.{begun_head, RecordPlace}
-use Rattle.iim_fields.specs.StoreLayout.{store_room, fields_of, begun_octets, IsStore}
+use Rattle.iim_fields.specs.StoreLayout.{store_room, fields_of, begun_octets, HasStored}
 use Rattle.iim_fields.specs.declared.store.Store.{Store}
 use Rattle.iim_fields.specs.States.Standing.{FieldsPlace, StandsAfter, StandsIn}
-
--- ---- from inside
 
 -- what it is seen as whose size is these octets
 abbrev pub place_of : Option RecordPlace → Limits → Store → List ℕ → FieldsPlace
@@ -30,7 +28,7 @@ pub record HasRoom (limits : Limits) (store : Store) : Type 0 where
 -- in the size.
 pub record IsReading (check : Option RecordPlace) (limits : Limits) (store : Store) (size : List ℕ) : Type 0 where
   pub room : HasRoom limits store
-  pub store_is : IsStore store
+  pub store_is : HasStored store (fields_of store) (begun_octets store)
   pub stands : (check ≡ None) ⊎ StandsSomewhere (place_of check limits store size)
   pub in_store : (h : Head) → begun_head check ≡ Some h → IsTrue (is_kept h.rec) → size ≡ []
   pub in_size : (h : Head) → begun_head check ≡ Some h → is_kept h.rec ≡ false → begun_octets store ≡ []

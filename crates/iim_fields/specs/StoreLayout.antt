@@ -38,7 +38,3 @@ ends_at from (e ∷ es) = ends_at e.end es
 -- the octets of a begun dataset: those after the kept ones
 abbrev pub begun_octets : Store → List ℕ
 begun_octets store = drop (ends_at 0 store.entries.items) store.octets.items
-
--- Each entry tells where the octets of its dataset are.
-abbrev pub IsStore : Store → Type 0
-IsStore store = HasStored store (fields_of store) (begun_octets store)

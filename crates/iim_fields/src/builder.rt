@@ -29,11 +29,13 @@ pub struct EnvelopeBuilder {
 
 impl Model for EnvelopeBuilder {
     ghost use Rattle.iim_fields.specs.States.Builders.{Building};
-    ghost use Rattle.iim_fields.specs.Building.{building_of, IsBuilding};
+    ghost use Rattle.iim_fields.specs.Building.{IsBuilding};
+    ghost use Rattle.iim_fields.specs.StoreLayout.{fields_of, store_room};
 
     ghost Value = { Building };
 
-    ghost view = { λ b. building_of b.limits b.store };
+    ghost view = { λ b. record
+        { limits = b.limits; fields = fields_of b.store; room = store_room b.store } };
 
     ghost invariant = { λ b. IsBuilding b.check b.limits b.store };
 }

@@ -1,17 +1,18 @@
 //! The record layer alone: the heads and values of an envelope's datasets, one by one.
 
-ghost use Rattle.std.specs.Prelude.{◌≡◌, ◌≢◌, ◌⊎◌, ℕ, false, List, [], ◌∷◌, ◌++◌, length, Option, is_none, Some, None, IsSome, IfOk, IfErr, OnOk, OnErr, ◌↔◌, IsTrue};
-ghost use Rattle.std.specs.Option.{ForSome};
-ghost use Rattle.iim_dataset.specs.Format.Datasets.{Dataset};
+ghost use Rattle.std.specs.Prelude.{◌≡◌, ◌≢◌, ◌⊎◌, ℕ, false, List, [], ◌∷◌, ◌++◌, length, Option, is_none, Some, None, IsSome, IsSomeAnd, IfOk, IfErr, OnOk, OnErr, ◌↔◌, IsTrue};
+ghost use Rattle.std.specs.Option.{ForSome, option_or};
+ghost use Rattle.iim_dataset.specs.Format.Octets.{Octets};
+ghost use Rattle.iim_dataset.specs.Format.Datasets.{Dataset, head_of};
 ghost use Rattle.iim_dataset.specs.declared.head.Head.{Head as HeadValue};
-ghost use Rattle.iim_fields.specs.Format.Faults.{head_fault, section_after, record_fault};
+ghost use Rattle.iim_fields.specs.Format.Faults.{head_fault, section_after, record_fault, value_fault};
 ghost use Rattle.iim_fields.specs.States.Orders.{has_seen};
-ghost use Rattle.iim_fields.specs.OrderChanges.{AddsHead};
+ghost use Rattle.iim_fields.specs.OrderChanges.{AddsHead, end_fault};
 ghost use Rattle.iim_fields.specs.Format.Values.{number_told, data_of};
 ghost use Rattle.iim_fields.specs.States.Admitting.{Spells};
 ghost use Rattle.iim_fields.specs.NumberTaking.{MayTake};
 ghost use Rattle.iim_fields.specs.States.Checks.{begun_head, section_at, TakesHead, TakesValue, AwaitsHead, IsIn, HasChecked, IsChecking, HasTaken, IsRecordFault, IsValueFault, HasEnded};
-ghost use Rattle.iim_fields.specs.Checking.{missing_at, place_fault, record_layer_fault, IsRecordPlace, TakesSubfile, TakesWhole, TookSubfile, TookWhole};
+ghost use Rattle.iim_fields.specs.Checking.{place_fault, IsRecordPlace};
 ghost use Rattle.iim_fields.specs.declared.check.RecordPlace.{RecordPlace as PlaceValue};
 
 use crate::fault::FieldFault;
@@ -58,7 +59,8 @@ impl RecordPlace {
     fn whole(&mut self, head: Head, octets: &[u8]) -> bool
         requires { head.count ≡ length octets.now }
         ensures exactly { result ≡ is_none (place_fault self.old head octets.now) }
-        ensures took { IsTrue result → TakesWhole self.old head octets.now self.new }
+        ensures took { IsTrue result → AddsHead self.old.order head self.new.order }
+        ensures begun { self.new.begun ≡ self.old.begun }
         ensures left { result ≡ false → self.new ≡ self.old }
     {
         let Some(row) = line(head.rec, head.set) else {
@@ -86,11 +88,11 @@ impl RecordPlace {
 
     /// Takes a whole subfile whose head may stand next; or changes nothing.
     #[inline(always)]
-    #[tactic(auto, using(crate::proofs::Subfiles::takes_subfile_by))]
     fn whole_subfile(&mut self, head: Head) -> bool
         requires subfile { head.rec ≡ 8 }
         ensures exactly { result ≡ is_none (head_fault self.old.order.rec (has_seen self.old.order) head) }
-        ensures took { IsTrue result → TakesSubfile self.old head self.new }
+        ensures took { IsTrue result → AddsHead self.old.order head self.new.order }
+        ensures begun { self.new.begun ≡ self.old.begun }
         ensures left { result ≡ false → self.new ≡ self.old }
     {
         if !self.order.admits_subfile(head) {
@@ -229,11 +231,11 @@ impl RecordCheck {
     #[inline(always)]
     pub(crate) fn whole(&mut self, head: Head, octets: &[u8]) -> bool
         requires between { AwaitsHead self.old }
-        requires value { head.rec ≢ 8 }
         requires count { head.count ≡ length octets.now }
         ensures exactly { (ds : List Dataset) → HasChecked self.old ds
-            → result ≡ is_none (record_layer_fault ds (data_of head octets.now)) }
-        ensures took { IsTrue result → TookWhole self.old self.new head octets.now }
+            → result ≡ is_none (option_or (record_fault ds head) (value_fault (data_of head octets.now))) }
+        ensures took { IsTrue result → (ds : List Dataset) → HasChecked self.old ds
+            → HasChecked self.new (ds ++ data_of head octets.now ∷ []) }
         ensures section { IsTrue result → section_at self.new ≡ head.rec }
         ensures between { AwaitsHead self.new }
         ensures left { result ≡ false → self.new ≡ self.old }
@@ -250,8 +252,8 @@ impl RecordCheck {
     pub(crate) fn admits_number(&self, head: Head, number: u64) -> bool
         requires between { AwaitsHead self.now }
         requires number { (head.rec ≡ 7) ⊎ (head.rec ≡ 9) }
-        ensures { (place : PlaceValue) (xs : List ℕ) → self.now ≡ Some place → Spells xs head number
-            → result ≡ is_none (place_fault place head xs) }
+        ensures { (ds : List Dataset) (xs : List ℕ) → HasChecked self.now ds → Spells xs head number
+            → result ≡ is_none (option_or (record_fault ds head) (value_fault (data_of head xs))) }
     {
         match &self.place {
             Some(place) => is_number(head, number) && place.order.admits_once(head),
@@ -263,9 +265,9 @@ impl RecordCheck {
     #[inline(always)]
     pub(crate) fn put(&mut self, head: Head)
         requires between { AwaitsHead self.old }
-        requires value { head.rec ≢ 8 }
         requires admitted { (xs : List ℕ) × MayTake self.old head xs }
-        ensures took { (xs : List ℕ) → MayTake self.old head xs → TookWhole self.old self.new head xs }
+        ensures took { (xs : List ℕ) → MayTake self.old head xs → (ds : List Dataset) → HasChecked self.old ds
+            → HasChecked self.new (ds ++ data_of head xs ∷ []) }
         ensures section { section_at self.new ≡ head.rec }
         ensures between { AwaitsHead self.new }
     {
@@ -282,7 +284,8 @@ impl RecordCheck {
         requires between { AwaitsHead self.old }
         requires subfile { head.rec ≡ 8 }
         ensures exactly { (ds : List Dataset) → HasChecked self.old ds → result ≡ is_none (record_fault ds head) }
-        ensures took { IsTrue result → TookSubfile self.old self.new head }
+        ensures took { IsTrue result → (ds : List Dataset) → HasChecked self.old ds → (d : Dataset) → head_of d ≡ head
+            → Octets d.octets → HasChecked self.new (ds ++ d ∷ []) }
         ensures section { IsTrue result → section_at self.new ≡ head.rec }
         ensures between { AwaitsHead self.new }
         ensures left { result ≡ false → self.new ≡ self.old }
@@ -350,7 +353,7 @@ impl RecordCheck {
     /// What is missing where records 1 and 2 end here.
     pub(crate) fn end_fault(&self) -> Option<FieldFault>
         requires { IsSome self.now }
-        ensures { result ≡ missing_at self.now }
+        ensures { IsSomeAnd self.now (λ place. result ≡ end_fault place.order.rec (has_seen place.order)) }
     {
         match &self.place {
             Some(place) => place.order.end_fault(),

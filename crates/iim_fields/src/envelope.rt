@@ -28,7 +28,8 @@ impl Model for Envelope {
 }
 
 impl Envelope {
-    ghost use Rattle.std.specs.Prelude.{◌≡◌, ◌≤◌, [], ◌∷◌, length, Some, ◌↔◌, IsTrue, IsSomeAnd, IfSome, pos};
+    ghost use Rattle.std.specs.Prelude.{◌≡◌, ◌≤◌, List, [], ◌∷◌, length, is_some, Some, ◌↔◌, IsTrue, IsSomeAnd, IfSome, pos};
+    ghost use Rattle.iim_dataset.specs.Format.Datasets.{Dataset};
     ghost use Rattle.std.specs.Option.{option_map};
     ghost use Rattle.iim_tables.specs.Format.Dates.{is_date};
     ghost use Rattle.iim_fields.specs.States.Walks.{rest_of, data_left};
@@ -36,7 +37,6 @@ impl Envelope {
     ghost use Rattle.iim_fields.specs.States.Builders.{AreFew};
     ghost use Rattle.iim_fields.specs.Format.Faults.{joined};
     ghost use Rattle.iim_fields.specs.Format.Views.{first_data, all_data};
-    ghost use Rattle.iim_fields.specs.Building.{IsInEach};
     ghost use Rattle.iim_tables.specs.Format.Rows.{Meets};
 
     /// The envelope where it lies.
@@ -85,7 +85,7 @@ impl Envelope {
 
     /// The data of the first dataset with these numbers, one that each envelope has.
     fn mandatory(&self, rec: u8, set: u8) -> &[u8]
-        requires { IsInEach rec set }
+        requires { (ds : List Dataset) → IsEnvelope ds → IsTrue (is_some (first_data rec set ds)) }
         ensures data { first_data rec set self.now ≡ Some result.now }
         ensures meets { Meets rec set result.now }
     {

@@ -28,14 +28,14 @@ impl<'a> Model for EnvelopeRef<'a> {
 }
 
 impl<'a> EnvelopeRef<'a> {
-    ghost use Rattle.std.specs.Prelude.{◌≡◌, ◌≤◌, [], ◌∷◌, length, Some, IsTrue, IfSome};
+    ghost use Rattle.std.specs.Prelude.{◌≡◌, ◌≤◌, List, [], ◌∷◌, length, is_some, Some, IsTrue, IfSome};
+    ghost use Rattle.iim_dataset.specs.Format.Datasets.{Dataset};
     ghost use Rattle.std.specs.Option.{option_map};
     ghost use Rattle.iim_tables.specs.Format.Dates.{is_date};
     ghost use Rattle.iim_fields.specs.States.Walks.{rest_of};
     ghost use Rattle.iim_fields.specs.Format.Envelopes.{IsEnvelope};
     ghost use Rattle.iim_fields.specs.States.Builders.{AreFew};
     ghost use Rattle.iim_fields.specs.Format.Views.{first_data};
-    ghost use Rattle.iim_fields.specs.Building.{IsInEach};
     ghost use Rattle.iim_tables.specs.Format.Rows.{Meets};
 
     /// All datasets, in order: record, number and data of each.
@@ -69,7 +69,7 @@ impl<'a> EnvelopeRef<'a> {
     /// The data of the first dataset with these numbers, one that each envelope has.
     #[tactic(auto, using(crate::proofs::RowsMet::found))]
     pub(crate) fn mandatory(&self, rec: u8, set: u8) -> &'a [u8]
-        requires { IsInEach rec set }
+        requires { (ds : List Dataset) → IsEnvelope ds → IsTrue (is_some (first_data rec set ds)) }
         ensures data { first_data rec set self.now ≡ Some result.now }
         ensures meets { Meets rec set result.now }
     {

@@ -3,7 +3,8 @@
 ghost use Rattle.std.specs.Prelude.{◌≡◌, ◌≤◌, ◌↔◌, length, take, IsTrue, refl};
 ghost use Rattle.std.specs.Ordering.{as_partial_cmp};
 ghost use Rattle.iim_fields.specs.Format.Ids.{id_eq, id_cmp};
-ghost use Rattle.iim_fields.specs.IdLaws.{id_equivalence, id_partial_equivalence, id_total, id_ties, id_order};
+ghost use Rattle.iim_fields.specs.IdLaws.{id_equivalence, id_total, id_ties};
+ghost use Rattle.std.specs.Cmp.{partial_equiv_from_equiv, po};
 
 use std::cmp::Ordering;
 use std::marker::Model;
@@ -90,7 +91,7 @@ impl EnvelopeId {
 impl PartialEq for EnvelopeId {
     ghost eq = { id_eq };
 
-    ghost laws = { id_partial_equivalence };
+    ghost laws = { partial_equiv_from_equiv id_equivalence };
 
     fn eq(&self, other: &EnvelopeId) -> bool
         ensures value { result ≡ id_eq self.now other.now }
@@ -109,7 +110,7 @@ impl Eq for EnvelopeId {
 impl PartialOrd for EnvelopeId {
     ghost partial_cmp = { as_partial_cmp id_cmp };
 
-    ghost laws = { id_order };
+    ghost laws = { po id_total id_ties };
 
     fn partial_cmp(&self, other: &EnvelopeId) -> Option<Ordering> {
         Some(self.cmp(other))

@@ -1,14 +1,13 @@
 //! Where a head may stand: the order of the records, and the rows of their datasets.
 
-ghost use Rattle.std.specs.Prelude.{◌≡◌, ◌≢◌, ◌&&◌, is_none, Some, None, IfOk, IfErr, OnOk, IsTrue};
+ghost use Rattle.std.specs.Prelude.{◌≡◌, ◌≢◌, false, ◌&&◌, ◌||◌, ◌==◌, nat_le, not, if◌then◌else◌, replicate, is_none, Some, None, IfOk, IfErr, OnOk, IsTrue};
 ghost use Rattle.std.specs.Int.{IsInRange};
-ghost use Rattle.iim_dataset.specs.Format.Octets.{within};
+ghost use Rattle.iim_dataset.specs.Format.Octets.{greatest_size, within};
 ghost use Rattle.iim_tables.specs.Format.Rows.{row_of};
 ghost use Rattle.iim_fields.specs.Format.Faults.{head_fault, row_fault, missing_of, missing_fault, is_in_order, is_first};
 ghost use Rattle.iim_fields.specs.Format.Records.{after};
 ghost use Rattle.iim_fields.specs.States.Orders.{has_seen};
-ghost use Rattle.iim_fields.specs.NumberTaking.{admits_once};
-ghost use Rattle.iim_fields.specs.OrderChanges.{AddsHead, end_fault, is_subfile_head, no_application, nothing, takes_subfile};
+ghost use Rattle.iim_fields.specs.OrderChanges.{AddsHead, end_fault};
 
 use crate::fault::{FieldCause, FieldFault};
 use crate::number_set::NumberSet;
@@ -49,7 +48,7 @@ fn missing_on(rec: u8, set: u8) -> FieldFault
 /// The fault of an envelope without record 2.
 #[tactic(auto, using(crate::proofs::Table::no_application_fault))]
 fn no_application() -> Option<FieldFault>
-    ensures { result ≡ no_application }
+    ensures { result ≡ missing_fault 2 (missing_of 2 (λ _. false)) }
 {
     Some(missing_on(APPLICATION, 0))
 }
@@ -80,7 +79,7 @@ fn is_counted(head: Head, row: &Row) -> bool
 /// Whether the number of a head is that of a subfile, and its count one that a size can be: what the row of 8:10 asks.
 #[inline(always)]
 fn is_subfile(head: Head) -> bool
-    ensures { result ≡ is_subfile_head head.set head.count }
+    ensures { result ≡ (head.set == 10 && nat_le head.count greatest_size) }
 {
     head.set == SUBFILE && head.count <= GREATEST_SIZE
 }
@@ -89,7 +88,7 @@ impl Order {
     /// At the beginning of an envelope.
     pub(crate) fn new() -> Order
         ensures rec { result.rec ≡ 0 }
-        ensures seen { result.seen ≡ nothing }
+        ensures seen { result.seen ≡ replicate 256 false }
     {
         Order {
             rec: 0,
@@ -236,7 +235,8 @@ impl Order {
     /// `admits_next` ask then.
     #[inline(always)]
     pub(crate) fn admits_once(&self, head: Head) -> bool
-        ensures { result ≡ admits_once self.now.rec (has_seen self.now) head.rec head.set }
+        ensures { result ≡ (if head.rec == self.now.rec then not (has_seen self.now head.set)
+            else is_first head.rec (after self.now.rec) && is_none (missing_of self.now.rec (has_seen self.now))) }
     {
         if head.rec == self.rec {
             return !self.seen.contains(head.set);
@@ -247,7 +247,7 @@ impl Order {
     /// Whether a subfile may come next.
     #[inline(always)]
     fn takes_subfile(&self) -> bool
-        ensures { result ≡ takes_subfile self.now.rec (has_seen self.now) }
+        ensures { result ≡ (self.now.rec == 8 || (self.now.rec == 7 && is_none (missing_of 7 (has_seen self.now)))) }
     {
         match self.rec {
             OBJECT => true,

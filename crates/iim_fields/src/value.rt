@@ -1,15 +1,14 @@
 //! What a complete value has to be.
 
-ghost use Rattle.std.specs.Prelude.{◌≡◌, is_none, Some, None, length, IfOk, IfErr, OnOk};
+ghost use Rattle.std.specs.Prelude.{◌≡◌, ◌==◌, ◌&&◌, ◌||◌, nat_le, if◌then◌else◌, IsTrue, is_none, Some, None, length, IfOk, IfErr, OnOk};
 ghost use Rattle.iim_tables.specs.Format.Rows.{row_of};
 ghost use Rattle.iim_fields.specs.Format.Faults.{value_fault};
 ghost use Rattle.std.specs.Int.{IsInRange};
+ghost use Rattle.iim_dataset.specs.Format.Octets.{greatest_size};
 ghost use Rattle.iim_tables.specs.Format.Numbers.{size_octets};
 ghost use Rattle.iim_tables.specs.Format.Kinds.{has_kind};
 ghost use Rattle.iim_tables.specs.Format.Records.{has_file_format};
-ghost use Rattle.iim_fields.specs.Format.Values.{data_of, number_told};
-ghost use Rattle.iim_fields.specs.Checking.{HasNumberValues};
-ghost use Rattle.iim_fields.specs.NumberTaking.{is_number};
+ghost use Rattle.iim_fields.specs.Format.Values.{data_of, number_told, tells_number};
 
 use crate::fault::{FieldCause, FieldFault};
 use crate::order::fault_on;
@@ -76,7 +75,10 @@ pub(crate) fn is_value(head: Head, row: &Row, octets: &[u8]) -> bool
 /// Whether a dataset of record 7 or 9 may have this number, spelled by as many octets as its head counts.
 #[inline(always)]
 pub(crate) fn is_number(head: Head, number: u64) -> bool
-    ensures { result ≡ is_number head number }
+    ensures { result ≡ (if head.rec == 9 then head.set == 10 && nat_le number greatest_size
+        else if head.set == 10 then head.count == 1 && nat_le number 1
+        else if head.set == 20 then nat_le 1 number && nat_le number greatest_size
+        else (head.set == 90 || head.set == 95) && nat_le number greatest_size) }
 {
     if head.rec == POST_OBJECT {
         return head.set == CONFIRMED_SIZE && number <= GREATEST_SIZE;
@@ -92,7 +94,7 @@ pub(crate) fn is_number(head: Head, number: u64) -> bool
 /// The number that a value of record 7 or 9 tells.
 #[inline(always)]
 fn number_told(head: Head, octets: &[u8]) -> Option<u64>
-    requires { HasNumberValues head.rec → IsInRange 1 size_octets (length octets.now) }
+    requires { IsTrue (tells_number head.rec) → IsInRange 1 size_octets (length octets.now) }
     ensures { result ≡ number_told (data_of head octets.now) }
 {
     match head.rec {

@@ -1,8 +1,20 @@
 -- How the end of an object is written.
 use Rattle.iim_pack.proofs.Words.{◌≡◌, ℕ, ◌+◌, ◌≤◌, false, None, List, [], ◌++◌, length, refl, sym, subst, append_assoc, append-nil, arith, length-append}
-use Rattle.iim_pack.proofs.Words.{le-leb, Device, TextsJoin, is_short, IsWritten, Writing, most_of, total_of, write_cause, Plan, Ends, EndsWithTail}
-use Rattle.iim_object.specs.States.Writing.{Lengthens, BreaksOff, ContinuesWith, IsTheWhole, Finishes, finish_cause}
+use Rattle.iim_pack.proofs.Words.{le-leb, Device, Wrote, WithinInterruptionLimit, TextsJoin, is_short, IsWritten, Writing, most_of, total_of, write_cause}
+use Rattle.iim_pack.proofs.Words.{Plan}
+use Rattle.iim_object.specs.States.Writing.{HasWritten, Lengthens, BreaksOff, ContinuesWith, IsTheWhole, Finishes, finish_cause}
 use Rattle.iim_object.proofs.Written.{breaks_on}
+
+-- what is written of the object with its last octets
+abbrev pub EndsWithTail : Plan → List ℕ → List ℕ → List ℕ → Type 0
+EndsWithTail plan tail object whole = IsTheWhole plan (object ++ tail) whole
+
+-- The object is out, with its last octets. A million interruptions at most came for each octet that was not out before.
+pub record Ends {W : Type 0} (state : W → Device) (old : Writing W) (tail : List ℕ) (writer : W) : Type 0 where
+  pub more : List ℕ
+  pub wrote : Wrote (state old.writer) (state writer) more
+  pub patience : WithinInterruptionLimit (length more) (state old.writer) (state writer)
+  pub whole : (object out : List ℕ) → HasWritten old object out → EndsWithTail old.plan tail object (out ++ more)
 
 pub ends : {W : Type 0} (state : W → Device) (old mid : Writing W) (tail : List ℕ) (writer : W) → TextsJoin → Lengthens state old mid tail → Finishes state mid writer → Ends state old tail writer
 ends state old mid tail writer join l f = record {

@@ -1,21 +1,18 @@
 -- How a packer finishes, by the writer of its object.
-use Rattle.iim_pack.proofs.Words.{◌≡◌, ℕ, ◌+◌, ◌≤◌, Bool, true, false, not, nat_le, cond, Option, Some, None, List, ◌++◌, length, refl, sym, ap, subst, ◌∙◌}
-use Rattle.iim_pack.proofs.Words.{arith, append_assoc, length-append, list_all, and_parts, leb-true, ltb-false, not-false, Device, canonical_stream, bound_of}
-use Rattle.iim_pack.proofs.Words.{is_short, IsWritten, joined_parts, Writing, most_of, total_of, passes_plan, Plan, Size, Known, Unknown, packed_text}
-use Rattle.iim_pack.proofs.Words.{StoryEvent, packed_events, lines_of, is_trailer_octet, Header, IsTrailer, packed_head, packed_tail, canonical, EndsIn}
-use Rattle.iim_pack.proofs.Words.{is_trailer, Ends, EndsWithTail}
+use Rattle.iim_pack.proofs.Words.{◌≡◌, ℕ, ◌+◌, ◌≤◌, false, None, List, ◌++◌, length, sym, ap, subst, ◌∙◌, arith, append_assoc, length-append, ltb-false}
+use Rattle.iim_pack.proofs.Words.{Device, canonical_stream, bound_of, is_short, IsWritten, Writing, most_of, total_of, Plan, Size, Known, Unknown}
+use Rattle.iim_pack.proofs.Words.{packed_text, StoryEvent, packed_events, lines_of, Header, IsTrailer, packed_head, packed_tail, canonical, EndsIn}
+use Rattle.std.proofs.lemmas.Bool.Decides.{nat_tests}
 use Rattle.iim_object.specs.Format.Packing.{IsAsKnown}
 use Rattle.iim_object.specs.States.Writing as object
 use Rattle.wire_story.specs.Laws.{EventsArePackedAsLines}
 use Rattle.wire_message.specs.Laws.{CanonicalObjectsAreMessages}
 use Rattle.iim_pack.specs.States.Packing.{BreaksOff, Finishes, ending_cause}
+use Rattle.iim_pack.proofs.Endings.{Ends, EndsWithTail}
 use Rattle.iim_pack.proofs.Goings.{breaks}
+use Rattle.iim_pack.proofs.Openings.{total_is}
 
 -- ---- causes
-
-pub first_none : {A : Type 0} (b : Bool) (a : A) (o : Option A) → cond b (Some a) o ≡ None → (b ≡ false) × (o ≡ None)
-first_none true a o e = absurd cc
-first_none false a o e = (refl, e)
 
 pub record MayEnd (plan : Plan) (total : ℕ) (trailer : List ℕ) : Type 0 where
   pub trailer_is : IsTrailer trailer
@@ -23,25 +20,17 @@ pub record MayEnd (plan : Plan) (total : ℕ) (trailer : List ℕ) : Type 0 wher
   pub whole : is_short plan.size (total + length (packed_tail trailer)) ≡ false
 
 pub may_end : (plan : Plan) (total : ℕ) (trailer : List ℕ) → ending_cause plan total trailer ≡ None → MayEnd plan total trailer
-may_end plan total trailer e =
-    let a = first_none (not (is_trailer trailer)) _ _ e in
-    let b = first_none (passes_plan plan (total + length (packed_tail trailer))) _ _ a.1 in
-    let d = first_none (is_short plan.size (total + length (packed_tail trailer))) _ _ b.1 in
-    let t = and_parts (list_all is_trailer_octet trailer) (nat_le (length trailer) 64) (not-false (is_trailer trailer) a.0) in
-    record {
-      trailer_is = (t.0, omega arith, leb-true (length trailer) 64 t.1);
-      fits = leb-true (total + length (packed_tail trailer)) (most_of plan) (not-false (nat_le (total + length (packed_tail trailer)) (most_of plan)) b.0);
-      whole = d.0;
-    }
+may_end plan total trailer e = record {
+  trailer_is = (grind (arith, nat_tests), omega arith, grind (arith, nat_tests));
+  fits = grind (arith, nat_tests);
+  whole = grind (arith, nat_tests);
+}
 
 -- ---- objects
 
 as_known : (subfile : ℕ) (size : Size) (object : List ℕ) → length object ≤ bound_of subfile size → is_short size (length object) ≡ false → IsAsKnown size object
 as_known subfile (Known n) object fits whole = let least : n ≤ length object = ltb-false (length object) n whole in omega (arith, fits, least)
 as_known subfile (Unknown m) object fits whole = tt
-
-pub total_is : {W : Type 0} (w : Writing W) (xs out : List ℕ) → object.HasWritten w xs out → length xs ≡ total_of w
-total_is w xs out s = omega (arith, ap length s.object_is, s.sent, length-append (joined_parts s.parts) w.held)
 
 -- the canonical object of the lines of a text is what has come of it, and its end
 pub canonical_is : (head : Header) (events : List StoryEvent) (trailer : List ℕ) → packed_text (lines_of events) ≡ packed_events events

@@ -16,6 +16,9 @@ pub begins_by : (text rest whole : List ℕ) (n : ℕ) → whole ≡ text ++ res
 begins_by text rest whole n e =
     (drop n text ++ rest, sym (append_assoc (take n text) (drop n text) rest) ∙ (ap (λ (t : List ℕ). t ++ rest) (take-append-drop n text) ∙ sym e))
 
+pub total_is : {W : Type 0} (w : Writing W) (xs out : List ℕ) → HasWritten w xs out → length xs ≡ total_of w
+total_is w xs out s = omega (arith, ap length s.object_is, s.sent, length-append (joined_parts s.parts) w.held)
+
 pub plan_small : (plan : Plan) → length (plan_octets plan) ≤ most_sizes
 plan_small plan = plan_length plan.subfile plan.size
 
@@ -45,8 +48,6 @@ opened state writer plan front first new join is_plan s wrote limit l = record {
   patience = omega (arith, limit, l.patience, length-append (plan_octets plan) l.more);
   is_plan = l.plan ∙ is_plan;
   stands = l.stands [] (plan_octets plan) s;
-  counted = omega (arith, l.counted, s.written, length-append (plan_octets plan) l.more);
-  total = omega (arith, l.total, s.sent, ap length s.object_is, length-append (joined_parts s.parts) first.held);
 }
 
 -- a write failed after a beginning

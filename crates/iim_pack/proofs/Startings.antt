@@ -8,7 +8,7 @@ use Rattle.iim_object.specs.States.Writing as object
 use Rattle.iim_object.specs.declared.writing.cause.PackCause.TheVariants as causes
 use Rattle.wire_message.specs.Format.Messages.{IsHeader}
 use Rattle.iim_pack.proofs.Goings.{begins_after}
-use Rattle.iim_pack.proofs.Openings.{begins_by, halts_after}
+use Rattle.iim_pack.proofs.Openings.{begins_by, halts_after, total_is}
 
 -- records 1 and 2 could not be written
 pub fields_broke : {W : Type 0} (state : W → Device) (writer : W) (fields : List Dataset) (head : Header) (plan : Plan) (fault : StartFault W) → fault.cause ≡ causes.Write
@@ -43,8 +43,8 @@ started state writer first fields head plan before new join envelope header wrot
   out = canonical_stream fields ++ o.out;
   wrote = join.more (state writer) (state first) (state new.writer) (canonical_stream fields) o.out wrote o.wrote;
   patience = omega (arith, limit, counted, o.patience, length-append (canonical_stream fields) o.out);
-  counted = omega (arith, counted, o.counted, length-append (canonical_stream fields) o.out);
-  total = o.total;
+  counted = omega (arith, counted, o.stands.written, length-append (canonical_stream fields) o.out);
+  total = sym (total_is new (packed_head head) o.out o.stands);
   stands = record {
     envelope = envelope;
     header = header;

@@ -1,9 +1,8 @@
 -- A whole envelope packed in one call.
-use Rattle.iim_pack.proofs.Words.{◌≡◌, ℕ, ◌+◌, ◌≤◌, true, false, not, nat_le, None, inr, List, [], ◌∷◌, ◌++◌, length, refl, sym, ap, subst, ◌∙◌, arith}
-use Rattle.iim_pack.proofs.Words.{append-nil, length-append, leb-true, le-leb, not-false, Device, TextsJoin, Dataset, is_short, most_of, total_of}
-use Rattle.iim_pack.proofs.Words.{passes_plan, Plan, StartFault, packed_text, StoryEvent, events_of_lines, LinesArePackedAsTheirEvents, packed_events}
-use Rattle.iim_pack.proofs.Words.{lines_of, Header, packed_head, packed_tail, canonical, Packing, EndsIn, is_trailer, pack_cause, start_cause, Starts}
-use Rattle.iim_pack.proofs.Words.{StartBreaksOff}
+use Rattle.iim_pack.proofs.Words.{◌≡◌, ℕ, ◌+◌, ◌≤◌, true, false, None, inr, List, [], ◌∷◌, ◌++◌, length, refl, sym, ap, subst, ◌∙◌, arith, append-nil}
+use Rattle.iim_pack.proofs.Words.{length-append, le-leb, Device, TextsJoin, Dataset, is_short, most_of, total_of, Plan, StartFault, packed_text, StoryEvent}
+use Rattle.iim_pack.proofs.Words.{events_of_lines, LinesArePackedAsTheirEvents, packed_events, lines_of, Header, packed_head, packed_tail, canonical}
+use Rattle.iim_pack.proofs.Words.{Packing, EndsIn, is_trailer, pack_cause, start_cause, Starts, StartBreaksOff}
 use Rattle.std.proofs.Common.{inl}
 use Rattle.iim_object.specs.declared.writing.cause.PackCause.TheVariants as causes
 use Rattle.wire_story.specs.Format.Texts.{MakeText}
@@ -13,7 +12,7 @@ use Rattle.iim_pack.specs.Format.Packed.{Packed}
 use Rattle.iim_pack.specs.States.Packing.{Lengthens, BreaksOff, ContinuesWith, Finishes, finish_cause, least_ending, written_of}
 use Rattle.iim_pack.specs.States.Starting.{IsStartFault}
 use Rattle.iim_pack.specs.States.Whole.{Packs, IsPackFault}
-use Rattle.iim_pack.proofs.Finishings.{first_none}
+use Rattle.std.proofs.lemmas.Bool.Decides.{nat_tests}
 use Rattle.iim_pack.proofs.Openings.{halts_after}
 
 -- the lines of the events of lines are these
@@ -73,14 +72,10 @@ pub record MayPack (head : Header) (lines : List (List ℕ)) (trailer : List ℕ
 
 pub may_pack : LinesArePackedAsTheirEvents → (head : Header) (lines : List (List ℕ)) (trailer : List ℕ) (plan : Plan) → pack_cause head lines trailer plan ≡ None → MayPack head lines trailer plan
 may_pack law head lines trailer plan e =
-    let size : ℕ = length (canonical head lines trailer) in
-    let a = first_none (not (is_trailer trailer)) _ _ e in
-    let b = first_none (passes_plan plan size) _ _ a.1 in
-    let d = first_none (is_short plan.size size) _ _ b.1 in
     record {
-      trailer_is = not-false (is_trailer trailer) a.0;
-      fits = leb-true size (most_of plan) (not-false (nat_le size (most_of plan)) b.0);
-      whole = d.0;
+      trailer_is = grind (arith, nat_tests);
+      fits = grind (arith, nat_tests);
+      whole = grind (arith, nat_tests);
       parts = omega (arith, length-append (packed_head head) (packed_text lines ++ packed_tail trailer), length-append (packed_text lines) (packed_tail trailer), ap length (law lines));
     }
 

@@ -19,7 +19,7 @@ pub use Rattle.iim_object.specs.declared.size.Size.TheVariants.{Known, Unknown}
 pub use Rattle.iim_object.specs.declared.writing.cause.StartFault.{StartFault}
 pub use Rattle.iim_pack.specs.States.Packing.{EndsIn, FormWith, Packing, is_trailer, line_end_cause, pack_cause, start_cause, text_cause}
 pub use Rattle.iim_pack.specs.States.Starting.{StartBreaksOff, Starts}
-pub use Rattle.iim_pack.specs.Steps.{Ends, EndsWithTail, Opens}
+pub use Rattle.iim_pack.specs.Steps.{Opens}
 pub use Rattle.iim_tables.specs.Format.Records.{IsGoodDataset}
 pub use Rattle.std.proofs.Common.{Bool, IsTrue, List, None, Option, Some, [], ap, append-nil, append_assoc, arith, cond, false, inr, length, length-append}
 pub use Rattle.std.proofs.Common.{map, nat_eq, nat_le, not, refl, subst, sym, take, true, ℕ, ◌&&◌, ◌*◌, ◌++◌, ◌+◌, ◌<◌, ◌^◌, ◌∙◌, ◌∷◌, ◌≡◌, ◌≤◌}
@@ -27,7 +27,6 @@ pub use Rattle.std.proofs.lemmas.Bool.{and_parts, le-leb, leb-true, ltb-false, n
 pub use Rattle.std.proofs.lemmas.Result.{on_err_weaker, on_ok_weaker}
 pub use Rattle.std.specs.List.{AllByRecursion, list_all}
 pub use Rattle.wire_message.specs.Format.Canonical.{canonical, packed_head, packed_tail}
-pub use Rattle.wire_message.specs.Format.Fields.{is_trailer_octet}
 pub use Rattle.wire_message.specs.Format.Messages.{Header, IsTrailer}
 pub use Rattle.wire_story.proofs.PackedEvents.{events_append, line_packed}
 pub use Rattle.wire_story.specs.Format.Delivery.{LineEnd, LineOctet, StoryEvent, events_of_lines}

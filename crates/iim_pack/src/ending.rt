@@ -1,10 +1,9 @@
 //! The end of an object.
 
-ghost use Rattle.std.specs.Prelude.{◌≡◌, ◌+◌, ◌≤◌, false, length, IfOk, IfErr};
+ghost use Rattle.std.specs.Prelude.{◌≡◌, ◌+◌, ◌++◌, ◌≤◌, false, length, IfOk, IfErr};
 ghost use Rattle.iim_object.specs.Format.Plans.{is_short};
-ghost use Rattle.iim_object.specs.States.Writing.{BreaksOff, most_of, total_of};
+ghost use Rattle.iim_object.specs.States.Writing.{BreaksOff, Finishes, IsTheWhole, Lengthens, Writing, most_of, total_of};
 ghost use Rattle.iim_object.specs.declared.writing.cause.PackCause.TheVariants as causes;
-ghost use Rattle.iim_pack.specs.Steps.{Ends, EndsWithTail};
 
 use iim_dataset::Target;
 use iim_dataset::device_laws::texts_join;
@@ -18,9 +17,11 @@ pub(crate) fn end_object<W: Target>(
     requires unfailed { object.failed ≡ false }
     requires fits { total_of object + length tail.now ≤ most_of object.plan }
     requires whole { is_short object.plan.size (total_of object + length tail.now) ≡ false }
-    ensures ok { IfOk result (λ writer. Ends W.state object tail.now writer) }
+    ensures ok { IfOk result (λ writer. (last : Writing W) × Lengthens W.state object last tail.now
+        × Finishes W.state last writer) }
     ensures cause { IfErr result (λ refused. refused.1 ≡ causes.Write) }
-    ensures broke { IfErr result (λ refused. BreaksOff W.state (EndsWithTail object.plan tail.now) object refused.0) }
+    ensures broke { IfErr result (λ refused. BreaksOff W.state
+        (λ front whole. IsTheWhole object.plan (front ++ tail.now) whole) object refused.0) }
     ensures room { IfErr result (λ refused. refused.0.room ≡ object.room) }
 {
     texts_join();

@@ -1,8 +1,7 @@
 -- Two digits and the number that they write, and from there the texts of dates and times.
 use Rattle.std.proofs.Common.{◌≡◌, ℕ, ◌+◌, ◌*◌, ◌-◌, ◌/◌, ◌%◌, ◌<◌, ◌≤◌, true, ◌==◌, List, [], ◌∷◌, ◌++◌, length, refl, arith, ◌∙◌, ap}
 use Rattle.std.specs.List.{list_all}
-use Rattle.std.specs.Prelude.{nat_le}
-use Rattle.std.proofs.lemmas.Bool.{and_parts, and_from, eqb-true, le-leb}
+use Rattle.std.proofs.lemmas.Bool.{and_parts, and_from, eqb-true}
 use Rattle.std.proofs.lemmas.Bool.Decides.{nat_tests}
 use Rattle.iim_dataset.specs.Format.Octets.{is_digit}
 use Rattle.iim_tables.specs.Format.Dates.{year_in, month_in, day_in, are_eight_digits, two_digits, date_text, ReadsDate}
@@ -17,14 +16,6 @@ pub record AreTwoDigits (a b : ℕ) : Type 0 where
   pub ones_low : 48 ≤ b
   pub ones_high : b ≤ 57
 
-digits : (a b : ℕ) → is_digit a ≡ true → is_digit b ≡ true → AreTwoDigits a b
-digits a b h k = record {
-  tens_low = grind (arith, nat_tests);
-  tens_high = grind (arith, nat_tests);
-  ones_low = grind (arith, nat_tests);
-  ones_high = grind (arith, nat_tests);
-}
-
 -- two digits are the text of their number
 pub two_digits-pair : (a b : ℕ) → AreTwoDigits a b → two_digits (pair a b) ≡ a ∷ b ∷ []
 two_digits-pair a b h =
@@ -36,17 +27,11 @@ two_digits-pair a b h =
 pub pair-two_digits : (n : ℕ) → pair (48 + n / 10) (48 + n % 10) ≡ n
 pair-two_digits n = omega arith
 
-tens_are_digit : (n : ℕ) → n < 100 → is_digit (48 + n / 10) ≡ true
-tens_are_digit n h = and_from (nat_le 48 (48 + n / 10)) (nat_le (48 + n / 10) 57) (le-leb 48 (48 + n / 10) (omega arith)) (le-leb (48 + n / 10) 57 (omega arith))
-
-ones_are_digit : (n : ℕ) → is_digit (48 + n % 10) ≡ true
-ones_are_digit n = and_from (nat_le 48 (48 + n % 10)) (nat_le (48 + n % 10) 57) (le-leb 48 (48 + n % 10) (omega arith)) (le-leb (48 + n % 10) 57 (omega arith))
-
 -- the text of a number goes before digits
 pub digits_before : (n : ℕ) (xs : List ℕ) → n < 100 → list_all is_digit xs ≡ true → list_all is_digit (two_digits n ++ xs) ≡ true
 digits_before n xs h k =
-    and_from (is_digit (48 + n / 10)) (list_all is_digit ((48 + n % 10) ∷ xs)) (tens_are_digit n h)
-    (and_from (is_digit (48 + n % 10)) (list_all is_digit xs) (ones_are_digit n) k)
+    and_from (is_digit (48 + n / 10)) (list_all is_digit ((48 + n % 10) ∷ xs)) (grind (arith, nat_tests))
+    (and_from (is_digit (48 + n % 10)) (list_all is_digit xs) (grind (arith, nat_tests)) k)
 
 -- the first two of a list of digits, and the rest
 pub record Front (a b : ℕ) (xs : List ℕ) : Type 0 where
@@ -54,10 +39,7 @@ pub record Front (a b : ℕ) (xs : List ℕ) : Type 0 where
   pub rest : list_all is_digit xs ≡ true
 
 pub front : (a b : ℕ) (xs : List ℕ) → list_all is_digit (a ∷ b ∷ xs) ≡ true → Front a b xs
-front a b xs h =
-    let one = and_parts (is_digit a) (list_all is_digit (b ∷ xs)) h in
-    let other = and_parts (is_digit b) (list_all is_digit xs) one.1 in
-    record { two = digits a b one.0 other.0; rest = other.1 }
+front a b xs h = record { two = grind (arith, nat_tests); rest = grind arith }
 
 written : (y m d : ℕ) (a b e f g h i j : ℕ) → two_digits (y / 100) ≡ a ∷ b ∷ [] → two_digits (y % 100) ≡ e ∷ f ∷ [] → two_digits m ≡ g ∷ h ∷ [] → two_digits d ≡ i ∷ j ∷ []
     → a ∷ b ∷ e ∷ f ∷ g ∷ h ∷ i ∷ j ∷ [] ≡ date_text y m d

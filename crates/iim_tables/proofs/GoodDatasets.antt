@@ -1,5 +1,5 @@
 -- What rows say of datasets, for the proofs of every crate: nothing here is to be believed.
-use Rattle.std.proofs.Common.{◌≡◌, ℕ, ◌+◌, ◌≤◌, Bool, true, false, ◌||◌, cond, nat_eq, nat_le, List, [], ◌∷◌, ◌++◌, length, Option, Some, None, refl, arith}
+use Rattle.std.proofs.Common.{◌≡◌, ℕ, ◌+◌, ◌≤◌, true, false, cond, nat_eq, nat_le, List, [], ◌∷◌, ◌++◌, length, Option, Some, None, refl, arith}
 use Rattle.std.proofs.lemmas.Bool.{le-leb, or_parts}
 use Rattle.std.proofs.lemmas.List.Sums.{sum_by-append, sum_by-cons}
 use Rattle.std.specs.List.{list_all}
@@ -38,15 +38,11 @@ none_counts n (x ∷ xs) h =
     let parts = or_parts (nat_eq x.set n) (occurs n xs) h in
     let later = none_counts n xs parts.1 in rw parts.0 later
 
-some_counts_by : (b : Bool) (rest : Bool) (count : ℕ) → (rest ≡ true → 1 ≤ count) → (b || rest) ≡ true → 1 ≤ cond b 1 0 + count
-some_counts_by true rest count more h = omega arith
-some_counts_by false rest count more h = let m = more h in omega arith
-
 pub some_counts : (n : ℕ) (xs : List Dataset) → occurs n xs ≡ true → 1 ≤ occurrences n xs
 some_counts n [] h = absurd cc
 some_counts n (x ∷ xs) h =
     let sum = occurrences_append n (x ∷ []) xs in
-    let more = some_counts_by (nat_eq x.set n) (occurs n xs) (occurrences n xs) (some_counts n xs) h in omega arith
+    let later = some_counts n xs in grind arith
 
 pub occurrences_cons : (n : ℕ) (d : Dataset) (ds : List Dataset) → occurrences n (d ∷ ds) ≡ cond (nat_eq d.set n) 1 0 + occurrences n ds
 occurrences_cons n d ds = sum_by-cons (λ (x : Dataset). cond (nat_eq x.set n) 1 0) d ds

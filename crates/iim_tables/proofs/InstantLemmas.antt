@@ -1,16 +1,19 @@
 -- An admitted time's parts are in range, and the instant that jiff gives is the one that the words say.
-use Rattle.std.proofs.Common.{Option, Some, None, Bool, ◌↔◌, refl, ap, false, if◌then◌else◌, ◌≡◌, ℕ, ◌*◌, ◌<◌, true, ◌&&◌, IsSome, IfSome, Result, Ok, Err, IsOk, IfOk, List, ℤ, pos, ◌-ℤ◌, arith}
+use Rattle.std.proofs.Common.{Option, Some, None, Bool, ◌↔◌, refl, ap, if◌then◌else◌, ◌≡◌, ℕ, ◌*◌, ◌<◌, true, ◌&&◌, ◌==◌, IsSome, IfSome, Result, Ok, Err, IsOk, IfOk, List, ℤ, pos, ◌-ℤ◌, arith}
 use Rattle.std.specs.Result.{result_ok}
 use Rattle.std.specs.Option.{option_map}
-use Rattle.std.proofs.lemmas.Bool.{and_parts, false≢true}
+use Rattle.std.proofs.lemmas.Bool.{and_parts}
 use Rattle.std.proofs.lemmas.Bool.Decides.{nat_tests}
 use Rattle.std.proofs.lemmas.Int.{ints}
 use Rattle.jiff.specs.Types.{DateTime, Timestamp}
 use Rattle.jiff.specs.Words.{IsYmd, IsTimestampNanos, nanos_of_seconds, time_nanos, civil_nanos, epoch_day}
+use Rattle.jiff_core.specs.Calendar.{days_from_civil}
+use Rattle.std.specs.Prelude.{slice_index}
+use Rattle.iim_dataset.specs.Format.Characters.{minus}
 use Rattle.jiff.proofs.Family.{civil_nanos-parts}
 use Rattle.jiff.proofs.SpanFacts.{signed_arith}
 use Rattle.iim_tables.specs.Format.Dates.{pair_at, year_in, month_in, day_in, is_date}
-use Rattle.iim_tables.specs.Format.Instants.{has_time_form, is_clock, is_time, clock_seconds, offset_in, day_number, instant_nanos, is_instant, instant_in, HasInstant}
+use Rattle.iim_tables.specs.Format.Instants.{has_time_form, is_clock, is_time, clock_seconds, offset_seconds, instant_nanos, is_instant, instant_in, HasInstant}
 
 in_range : (hour minute : ℕ) → is_clock hour minute 0 ≡ true → (hour < 24) × (minute < 60)
 in_range hour minute h = (grind (arith, nat_tests), grind (arith, nat_tests))
@@ -24,10 +27,11 @@ clocks xs h =
     (inner.1, range.0, range.1)
 
 pub same_instant : (dt : DateTime) (o : ℤ) (date time : List ℕ) → IsYmd (pos (year_in date)) (pos (month_in date)) (pos (day_in date)) dt.date
-    → time_nanos dt.time ≡ clock_seconds (pair_at time 0) (pair_at time 2) (pair_at time 4) * 1_000_000_000 → o ≡ offset_in time
+    → time_nanos dt.time ≡ clock_seconds (pair_at time 0) (pair_at time 2) (pair_at time 4) * 1_000_000_000
+    → o ≡ offset_seconds (slice_index time 6 == minus) (pair_at time 7) (pair_at time 9)
     → civil_nanos dt -ℤ nanos_of_seconds o ≡ instant_nanos date time
 same_instant dt o date time h k e =
-    let day : epoch_day dt.date ≡ day_number date = cc in
+    let day : epoch_day dt.date ≡ days_from_civil (pos (year_in date)) (month_in date) (day_in date) = cc in
     omega (arith, signed_arith, civil_nanos-parts dt, day, k, e)
 
 -- what `ok` keeps
@@ -51,10 +55,7 @@ pick : (o : Option Timestamp) (a b r : Bool) (n : ℤ) → (IsSome o → (a ≡ 
 pick (Some t) a b r n h k e =
     let all = h refl in
     rw (all.0, all.1, all.2) (ap (λ (z : ℤ). Some z) e)
-pick None false b r n h k e = refl
-pick None true false r n h k e = refl
-pick None true true false n h k e = refl
-pick None true true true n h k e = absurd (false≢true (k refl refl refl))
+pick None a b r n h k e = grind arith
 
 -- the two clauses as one function
 pub instant_is : (o : Option Timestamp) (date time : List ℕ) → (IsSome o ↔ HasInstant date time) → IfSome o (λ t. t.nanosecond ≡ instant_nanos date time)

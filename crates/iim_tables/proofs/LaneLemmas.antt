@@ -101,8 +101,7 @@ pub front_fails : (q : ℕ → Bool) (xs : List ℕ) (n : ℕ) → list_all q (t
 front_fails q xs n e = sym (rw e at (parted q xs n))
 
 and_fails : (a b : Bool) → b ≡ false → (a && b) ≡ false
-and_fails true b e = e
-and_fails false b e = refl
+and_fails a b e = grind arith
 
 -- all fail where n do from some on
 pub part_fails : (q : ℕ → Bool) (xs : List ℕ) (at n : ℕ) → list_all q (take n (take (length xs - at) (drop at xs))) ≡ false → list_all q xs ≡ false

@@ -2,13 +2,13 @@
 use Rattle.std.proofs.Common.{◌⊎◌, inl, inr, if◌then◌else◌, Option, Some, None, ◌≡◌, ℕ, zero, suc, ◌^◌, ◌<◌, ◌≤◌, Bool, true, false, ◌&&◌, ◌||◌, ◌==◌, nat_le, List, [], ◌∷◌, ◌++◌, length, replicate, codes, refl, sym, arith, length-append, zero-mul}
 use Rattle.std.specs.List.{list_all}
 use Rattle.std.proofs.lemmas.List.{length-replicate}
-use Rattle.std.proofs.lemmas.Bool.{and_from, and_parts, eqb-true, le-leb, leb-true}
+use Rattle.std.proofs.lemmas.Bool.{and_from, and_parts, eqb-true, leb-true}
 use Rattle.iim_dataset.specs.Format.Octets.{Octets as AreOctets, within, is_digit, is_letter, number, greatest_size}
 use Rattle.iim_dataset.proofs.OctetLists.{number-cons, octets_append, octets_same}
 use Rattle.iim_tables.specs.Format.Octets.{is_graphic, is_spaced, is_spaced_or_line_end}
 use Rattle.iim_tables.specs.Format.Numbers.{size_octets}
 use Rattle.iim_tables.specs.Format.Kinds.{has_kind, is_size_from}
-use Rattle.iim_tables.specs.Format.Rows.{Entry, table, row_of, row_in, row_of_others, is_for, kept_row, is_admitted}
+use Rattle.iim_tables.specs.Format.Rows.{Entry, table, row_of, row_in, row_of_others, kept_row, is_admitted}
 use Rattle.iim_tables.specs.Format.Records.{HasValue}
 use Rattle.iim_tables.specs.declared.shape.Row.{Row}
 use Rattle.std.specs.List.{find}
@@ -20,19 +20,13 @@ use Rattle.iim_tables.proofs.GoodDatasets.{table_bounded}
 
 -- the lengths that data of the kind has
 abbrev pub has_length : Kind → ℕ → Bool
-has_length kinds.Graphic n = true
-has_length kinds.Spaced n = true
-has_length kinds.SpacedLines n = true
-has_length kinds.Letters n = true
-has_length kinds.Digits n = true
 has_length kinds.Date n = n == 8
 has_length kinds.PartDate n = n == 8
 has_length kinds.Time n = n == 11
-has_length kinds.Binary n = true
-has_length kinds.Octets n = true
 has_length kinds.Mode n = n == 1
 has_length kinds.Size n = within 1 size_octets n
 has_length kinds.SizeFromOne n = within 1 size_octets n
+has_length other n = true
 
 all_same : (test : ℕ → Bool) (b n : ℕ) → test b ≡ true → list_all test (replicate n b) ≡ true
 all_same test b zero h = refl
@@ -47,9 +41,7 @@ number-zeros_one zero = refl
 number-zeros_one (suc n) = omega (arith, number-cons 0 (replicate n 0 ++ (1 ∷ [])), zero-mul (256 ^ length {A = ℕ} (replicate n 0 ++ (1 ∷ []))), number-zeros_one n)
 
 size_of : (least : ℕ) (xs : List ℕ) → within 1 size_octets (length xs) ≡ true → least ≤ number xs → number xs ≤ greatest_size → is_size_from least xs ≡ true
-size_of least xs h k g =
-    and_from (within 1 size_octets (length xs)) (within least greatest_size (number xs)) h
-    (and_from (nat_le least (number xs)) (nat_le (number xs) greatest_size) (le-leb least (number xs) k) (le-leb (number xs) greatest_size g))
+size_of least xs h k g = grind (arith, nat_tests)
 
 abbrev Value : Kind → ℕ → Type 0
 Value k n = (xs : List ℕ) × (length xs ≡ n) × (has_kind k xs ≡ true) × AreOctets xs
@@ -116,14 +108,13 @@ first_or_other (Some x) b r h = inl h
 first_or_other None b r h = inr h
 
 only_kept : (b : Bool) (r : Row) → (if b then Some kept_row else None) ≡ Some r → kept_row ≡ r
-only_kept true r h = cc
-only_kept false r h = absurd cc
+only_kept b r h = grind arith
 
 -- a test that each row of the table passes, and the kept row
 row_passes : (q : Row → Bool) (rec set : ℕ) (r : Row) → list_all (λ e. q e.row) table ≡ true → q kept_row ≡ true → row_of rec set ≡ Some r → q r ≡ true
 unfolding row_of
 row_passes q rec set r all kept found = elim (first_or_other (row_in table rec set) (row_of_others rec) r found) [
-  | inl first ↦ found_passes (is_for rec set) q table r all first
+  | inl first ↦ found_passes (λ e. e.rec == rec && e.set == set) q table r all first
   | inr other ↦ rw (only_kept (rec == 1 || rec == 2) r other) at kept
 ]
 

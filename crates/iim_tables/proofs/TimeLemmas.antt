@@ -1,34 +1,29 @@
 -- The text of a time and its parts.
-use Rattle.std.proofs.Common.{◌≡◌, ℕ, Bool, true, ◌&&◌, ◌==◌, List, [], ◌∷◌, length, take, drop, arith}
+use Rattle.std.proofs.Common.{◌≡◌, ℕ, Bool, true, ◌||◌, ◌==◌, if◌then◌else◌, List, [], ◌∷◌, length, take, drop, arith}
 use Rattle.std.specs.Prelude.{slice_index}
 use Rattle.std.specs.List.{list_all}
-use Rattle.std.proofs.lemmas.Bool.{and_parts, eqb-true}
 use Rattle.std.proofs.lemmas.Bool.Decides.{nat_tests}
-use Rattle.iim_dataset.specs.Format.Characters.{minus}
+use Rattle.iim_dataset.specs.Format.Characters.{plus, minus}
 use Rattle.iim_dataset.specs.Format.Octets.{is_digit}
 use Rattle.iim_tables.specs.Format.Dates.{pair_at, two_digits}
-use Rattle.iim_tables.specs.Format.Instants.{is_sign, has_time_form, sign_of, time_text}
+use Rattle.iim_tables.specs.Format.Instants.{has_time_form, time_text}
 use Rattle.iim_tables.proofs.DateLemmas.{pair, front, two_digits-pair}
 
 -- what a time is made of, whole
 record TimeForm (xs : List ℕ) : Type 0 where
   eleven : length xs ≡ 11
   clock : list_all is_digit (take 6 xs) ≡ true
-  sign : is_sign (slice_index xs 6) ≡ true
+  sign : (slice_index xs 6 == plus || slice_index xs 6 == minus) ≡ true
   offset : list_all is_digit (drop 7 xs) ≡ true
 
 time_form : (xs : List ℕ) → has_time_form xs ≡ true → TimeForm xs
-time_form xs t =
-    let last = and_parts ((length xs == 11) && list_all is_digit (take 6 xs) && is_sign (slice_index xs 6)) (list_all is_digit (drop 7 xs)) t in
-    let third = and_parts ((length xs == 11) && list_all is_digit (take 6 xs)) (is_sign (slice_index xs 6)) last.0 in
-    let second = and_parts (length xs == 11) (list_all is_digit (take 6 xs)) third.0 in
-    record { eleven = eqb-true (length xs) 11 second.0; clock = second.1; sign = third.1; offset = last.1 }
+time_form xs t = grind (arith, nat_tests)
 
-sign_back : (s : ℕ) → is_sign s ≡ true → sign_of (s == minus) ≡ s
+sign_back : (s : ℕ) → (s == plus || s == minus) ≡ true → (if s == minus then minus else plus) ≡ s
 sign_back s h = grind (arith, nat_tests)
 
 written : (hour minute second hours minutes : ℕ) (is_behind : Bool) (a b c d e f s g h i j : ℕ)
-    → two_digits hour ≡ a ∷ b ∷ [] → two_digits minute ≡ c ∷ d ∷ [] → two_digits second ≡ e ∷ f ∷ [] → sign_of is_behind ≡ s
+    → two_digits hour ≡ a ∷ b ∷ [] → two_digits minute ≡ c ∷ d ∷ [] → two_digits second ≡ e ∷ f ∷ [] → (if is_behind then minus else plus) ≡ s
     → two_digits hours ≡ g ∷ h ∷ [] → two_digits minutes ≡ i ∷ j ∷ []
     → a ∷ b ∷ c ∷ d ∷ e ∷ f ∷ s ∷ g ∷ h ∷ i ∷ j ∷ [] ≡ time_text hour minute second is_behind hours minutes
 written hour minute second hours minutes is_behind a b c d e f s g h i j p q r sign t u = cc

@@ -1,43 +1,22 @@
 -- Worked values of the definitions, computed.
-use Rattle.std.proofs.Common.{◌≡◌, true, false, Some, None, [], ◌∷◌, refl, codes, pos}
+use Rattle.std.proofs.Common.{◌≡◌, true, false, Some, None, [], ◌∷◌, map, refl, codes, pos}
 use Rattle.jiff_core.specs.Calendar.{days_from_civil, day_count, days_of_years, days_of_months}
 use Rattle.iim_dataset.specs.Format.Octets.{number}
 use Rattle.iim_tables.specs.Format.Dates.{is_date, is_part_date, date_text}
 use Rattle.iim_tables.specs.Format.Instants.{is_time, instant_in, time_text}
 use Rattle.iim_tables.specs.Format.Rows.{row_of, table, kept_row}
 
-leap_day : is_date (codes "20240229") ≡ true
-leap_day = refl
+-- a leap day, and none in 2023 and 1900
+leap_days : map is_date (codes "20240229" ∷ codes "20230229" ∷ codes "19000229" ∷ []) ≡ true ∷ false ∷ false ∷ []
+leap_days = refl
 
-no_leap_day : is_date (codes "20230229") ≡ false
-no_leap_day = refl
+-- a year alone, a day without its month, a month without its day, and a thirteenth month
+part_dates : map is_part_date (codes "20240000" ∷ codes "20240012" ∷ codes "20240300" ∷ codes "20241300" ∷ []) ≡ true ∷ true ∷ true ∷ false ∷ []
+part_dates = refl
 
-no_leap_day_in_1900 : is_date (codes "19000229") ≡ false
-no_leap_day_in_1900 = refl
-
-year_alone : is_part_date (codes "20240000") ≡ true
-year_alone = refl
-
-no_month : is_part_date (codes "20240012") ≡ true
-no_month = refl
-
-no_day : is_part_date (codes "20240300") ≡ true
-no_day = refl
-
-thirteenth_month : is_part_date (codes "20241300") ≡ false
-thirteenth_month = refl
-
-last_second : is_time (codes "235959+0000") ≡ true
-last_second = refl
-
-hour_24 : is_time (codes "240000+0000") ≡ false
-hour_24 = refl
-
-second_60 : is_time (codes "000060+0000") ≡ false
-second_60 = refl
-
-minute_60_of_the_offset : is_time (codes "120000+0060") ≡ false
-minute_60_of_the_offset = refl
+-- a last second, hour 24, second 60, and minute 60 of the offset
+times : map is_time (codes "235959+0000" ∷ codes "240000+0000" ∷ codes "000060+0000" ∷ codes "120000+0060" ∷ []) ≡ true ∷ false ∷ false ∷ false ∷ []
+times = refl
 
 written_date : date_text 2024 3 1 ≡ codes "20240301"
 written_date = refl
@@ -45,22 +24,16 @@ written_date = refl
 written_time : time_text 23 59 59 true 1 30 ≡ codes "235959-0130"
 written_time = refl
 
-kept_unread : row_of 2 250 ≡ Some kept_row
+-- a dataset that is kept unread, and one that has no row
+rows : row_of 2 250 ∷ row_of 7 30 ∷ [] ≡ Some kept_row ∷ None ∷ []
 unfolding row_of table
-kept_unread = refl
+rows = refl
 
-no_row : row_of 7 30 ≡ None
-unfolding row_of table
-no_row = refl
-
--- 2024-03-01T11:00:00Z
-eleven : instant_in (codes "20240301") (codes "120000+0100") ≡ Some (pos 1_709_290_800_000_000_000)
+-- 2024-03-01T11:00:00Z, and an instant past the last
+instants : instant_in (codes "20240301") (codes "120000+0100") ∷ instant_in (codes "99991231") (codes "235959-2359") ∷ []
+    ≡ Some (pos 1_709_290_800_000_000_000) ∷ None ∷ []
 unfolding days_from_civil day_count days_of_years days_of_months
-eleven = refl
-
-past_the_last_instant : instant_in (codes "99991231") (codes "235959-2359") ≡ None
-unfolding days_from_civil day_count days_of_years days_of_months
-past_the_last_instant = refl
+instants = refl
 
 four_octets : number (0 ∷ 0 ∷ 4 ∷ 0 ∷ []) ≡ 1024
 four_octets = refl

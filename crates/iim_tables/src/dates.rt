@@ -1,8 +1,9 @@
 //! Dates: full ones, and those whose month or day may be missing.
 
-ghost use Rattle.std.specs.Prelude.{◌≡◌, ◌↔◌, ◌+◌, ◌<◌, pos, length, IsTrue, IsSome, IfSome};
+ghost use Rattle.std.specs.Prelude.{◌≡◌, ◌↔◌, ◌+◌, ◌<◌, ◌&&◌, ◌||◌, ◌==◌, nat_le, pos, length, IsTrue, IsSome, IfSome};
+ghost use Rattle.iim_dataset.specs.Format.Octets.{within};
 ghost use Rattle.jiff.specs.Words.{IsYmd};
-ghost use Rattle.iim_tables.specs.Format.Dates.{pair_at, year_in, month_in, day_in, is_year, is_month, is_day, lacks_part, is_part_day, are_eight_digits, is_date, is_part_date};
+ghost use Rattle.iim_tables.specs.Format.Dates.{pair_at, year_in, month_in, day_in, is_day, is_part_day, are_eight_digits, is_date, is_part_date};
 
 use crate::kinds::are_digits;
 use crate::octets::DIGIT_ZERO;
@@ -27,13 +28,13 @@ fn year_in(octets: &[u8]) -> u32
 }
 
 fn is_year(year: u32) -> bool
-    ensures { result ≡ is_year year }
+    ensures { result ≡ within 1 9999 year }
 {
     (1..=9999).contains(&year)
 }
 
 fn is_month(month: u16) -> bool
-    ensures { result ≡ is_month month }
+    ensures { result ≡ within 1 12 month }
 {
     (1..=12).contains(&month)
 }
@@ -51,7 +52,7 @@ fn day_of(year: u32, month: u16, day: u16) -> Option<Date>
 
 /// Whether the month is missing, and the day is then 00 to 31, or the day is missing.
 fn lacks_part(month: u16, day: u16) -> bool
-    ensures { result ≡ lacks_part month day }
+    ensures { result ≡ (((month == 0) && nat_le day 31) || (within 1 12 month && (day == 0))) }
 {
     (month == 0 && day <= 31) || (is_month(month) && day == 0)
 }

@@ -1,8 +1,6 @@
 -- Counts that rise.
 use Rattle.std.specs.Prelude.{◌≡◌, ℕ, ◌+◌, ◌^◌, ◌≤◌, ◌⊎◌}
 
--- ---- counts of faults
-
 -- A count rose by one. Of a stored count that stands at the greatest number of 64 bits no rise is asked.
 -- twin that nothing finds: no test counts so many faults
 abbrev pub Rose : ℕ → ℕ → Type 0

@@ -40,8 +40,7 @@ abbrev pub number_or_dash : Option ℕ → List ℕ
 number_or_dash None = codes "-"
 number_or_dash (Some n) = decimal n
 
--- ---- How faults of devices are printed.
-
+-- how faults of devices are printed
 -- twin: `faults_are_printed`
 abbrev pub text_of_fault : IoFault → List ℕ
 text_of_fault Interrupted = codes "the device was interrupted"

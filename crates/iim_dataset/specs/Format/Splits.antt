@@ -35,10 +35,6 @@ pub record Reads (limit : ℕ) (xs : List ℕ) (whole : List Dataset) (begun : B
   pub is_rest : IsBegun limit begun rest
   pub parts : xs ≡ front ++ rest
 
--- ---- What one octet completes, as the octets themselves say it.
-
--- ---- what the octets themselves say
-
 -- The next octet completes the data of the head: it is the last of them, or the head has none and its tag ends there.
 abbrev pub CompletesData : List ℕ → ℕ → List Dataset → Head → List ℕ → Type 0
 CompletesData octets next whole head given =

@@ -19,19 +19,15 @@ pub data Token : Type 0 where
 
 -- ---- the conditions
 
--- the head's record is the present one, that of the last dataset
-abbrev pub IsInPresent : List Dataset → Head → Type 0
-IsInPresent ds h = (h.rec ≢ 0) × (h.rec ≡ section_after ds)
-
 -- the head begins the record that comes next, which is record 1 at the beginning
 abbrev pub BeginsNext : List Dataset → Head → Type 0
 BeginsNext ds h = (later : List ℕ) × (after (section_after ds) ≡ h.rec ∷ later)
 
--- The head's record is neither the present one nor the next.
+-- The head's record is neither the present one, that of the last dataset, nor the next.
 -- twins (with HasNoRow, IsRepeated, IsOutOfRange, EndsTooEarly): law `heads_tell_the_lowest_cause`; "A head out of order is told before all
 --   else", "Of several causes of a row the lowest is told"
 abbrev pub IsOutOfOrder : List Dataset → Head → Type 0
-IsOutOfOrder ds h = (IsInPresent ds h ⊎ BeginsNext ds h) → ⊥
+IsOutOfOrder ds h = (((h.rec ≢ 0) × (h.rec ≡ section_after ds)) ⊎ BeginsNext ds h) → ⊥
 
 -- No row has the head's numbers. Records 1 and 2 have rows for all numbers.
 abbrev pub HasNoRow : Head → Type 0

@@ -23,28 +23,15 @@ month_in xs = pair_at xs 4
 abbrev pub day_in : List ℕ → ℕ
 day_in xs = pair_at xs 6
 
--- 0001 to 9999
--- twins (with is_month, is_day): "Dates are days of the Gregorian calendar", "What is no date and no part date"; `reads_dates_and_instants`
-abbrev pub is_year : ℕ → Bool
-is_year y = within 1 9999 y
-
--- 01 to 12
-abbrev pub is_month : ℕ → Bool
-is_month m = within 1 12 m
-
--- the calendar has the day
+-- the calendar has the day: of the years 0001 to 9999, and the months 01 to 12
+-- twin: "Dates are days of the Gregorian calendar", "What is no date and no part date"; `reads_dates_and_instants`
 abbrev pub is_day : ℕ → ℕ → ℕ → Bool
-is_day y m d = is_year y && is_month m && within 1 (days_in_month (pos y) m) d
+is_day y m d = within 1 9999 y && within 1 12 m && within 1 (days_in_month (pos y) m) d
 
--- 00 as month, and then 00 to 31 as day; or 00 as day
--- twins (with is_part_day, is_part_date): "A part date may have 00 as month": 0100, 1200, 0031; "What is no date and no part date": 0032,
---   1300
-abbrev pub lacks_part : ℕ → ℕ → Bool
-lacks_part m d = ((m == 0) && nat_le d 31) || (is_month m && (d == 0))
-
--- the calendar has the day, or the month, the day or both are missing
+-- the calendar has the day; or the month is 00, and then the day 00 to 31; or the day is 00
+-- twins (with is_part_date): "A part date may have 00 as month": 0100, 1200, 0031; "What is no date and no part date": 0032, 1300
 abbrev pub is_part_day : ℕ → ℕ → ℕ → Bool
-is_part_day y m d = is_day y m d || (is_year y && lacks_part m d)
+is_part_day y m d = is_day y m d || (within 1 9999 y && (((m == 0) && nat_le d 31) || (within 1 12 m && (d == 0))))
 
 -- eight octets, each a digit
 abbrev pub are_eight_digits : List ℕ → Bool

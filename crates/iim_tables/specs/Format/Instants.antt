@@ -7,15 +7,11 @@ use Rattle.iim_dataset.specs.Format.Characters.{plus, minus}
 use Rattle.iim_dataset.specs.Format.Octets.{is_digit}
 use Rattle.iim_tables.specs.Format.Dates.{pair_at, year_in, month_in, day_in, is_date, two_digits}
 
--- + where the clock is ahead of universal time, - where it is behind
--- twins (with has_time_form): "Times have hours up to 23"
-abbrev pub is_sign : ℕ → Bool
-is_sign b = b == plus || b == minus
-
--- six digits, a sign, four digits
+-- six digits, a sign (+ where the clock is ahead of universal time, - where it is behind), four digits
+-- twin: "Times have hours up to 23"
 abbrev pub has_time_form : List ℕ → Bool
-has_time_form xs =
-    (length xs == 11) && list_all is_digit (take 6 xs) && is_sign (slice_index xs 6) && list_all is_digit (drop 7 xs)
+has_time_form xs = (length xs == 11) && list_all is_digit (take 6 xs)
+    && (slice_index xs 6 == plus || slice_index xs 6 == minus) && list_all is_digit (drop 7 xs)
 
 -- hours 00 to 23, minutes and seconds 00 to 59
 -- twins (with is_time): "Times have hours up to 23": 23, 24, 59 and 60 of each; `checks_release_and_expiration`
@@ -26,14 +22,11 @@ is_clock hour minute second = nat_lt hour 24 && nat_lt minute 60 && nat_lt secon
 abbrev pub is_time : List ℕ → Bool
 is_time xs = has_time_form xs && is_clock (pair_at xs 0) (pair_at xs 2) (pair_at xs 4) && is_clock (pair_at xs 7) (pair_at xs 9) 0
 
--- the octet before the hours and minutes
-abbrev pub sign_of : Bool → ℕ
-sign_of is_behind = if is_behind then minus else plus
-
 -- hour, minute and second, the sign, and hours and minutes, in two digits each
 abbrev pub time_text : ℕ → ℕ → ℕ → Bool → ℕ → ℕ → List ℕ
 time_text hour minute second is_behind hours minutes =
-    two_digits hour ++ two_digits minute ++ two_digits second ++ sign_of is_behind ∷ (two_digits hours ++ two_digits minutes)
+    two_digits hour ++ two_digits minute ++ two_digits second
+    ++ (if is_behind then minus else plus) ∷ (two_digits hours ++ two_digits minutes)
 
 -- the octets have the form of a time, with these parts
 -- no twin: only the laws `dates_are_written_in_one_way` and `times_are_written_in_one_way` have these words
@@ -48,8 +41,7 @@ abbrev pub nanoseconds_in_second : ℕ
 nanoseconds_in_second = 1_000_000_000
 
 -- seconds since midnight
--- twins (with offset_seconds, offset_in, day_number, instant_seconds): "An instant is a local time less its offset";
---   `reads_dates_and_instants`
+-- twins (with offset_seconds, instant_nanos): "An instant is a local time less its offset"; `reads_dates_and_instants`
 abbrev pub clock_seconds : ℕ → ℕ → ℕ → ℕ
 clock_seconds hour minute second = hour * 3600 + minute * 60 + second
 
@@ -58,22 +50,11 @@ abbrev pub offset_seconds : Bool → ℕ → ℕ → ℤ
 offset_seconds is_behind hour minute =
     if is_behind then neg_ℤ (pos (clock_seconds hour minute 0)) else pos (clock_seconds hour minute 0)
 
--- the same of a time: its sign, hours and minutes
-abbrev pub offset_in : List ℕ → ℤ
-offset_in xs = offset_seconds (slice_index xs 6 == minus) (pair_at xs 7) (pair_at xs 9)
-
--- the day number of a date: days since 1 January 1970
-abbrev pub day_number : List ℕ → ℤ
-day_number xs = days_from_civil (pos (year_in xs)) (month_in xs) (day_in xs)
-
--- local time less its offset, in seconds since 1970-01-01T00:00:00Z
-abbrev pub instant_seconds : List ℕ → List ℕ → ℤ
-instant_seconds date time =
-    (day_number date *ℤ pos 86_400) +ℤ pos (clock_seconds (pair_at time 0) (pair_at time 2) (pair_at time 4)) -ℤ offset_in time
-
--- the same in nanoseconds
+-- local time less its offset, in nanoseconds since 1970-01-01T00:00:00Z
 abbrev pub instant_nanos : List ℕ → List ℕ → ℤ
-instant_nanos date time = nanos_of_seconds (instant_seconds date time)
+instant_nanos date time = nanos_of_seconds ((days_from_civil (pos (year_in date)) (month_in date) (day_in date) *ℤ pos 86_400)
+    +ℤ pos (clock_seconds (pair_at time 0) (pair_at time 2) (pair_at time 4))
+    -ℤ offset_seconds (slice_index time 6 == minus) (pair_at time 7) (pair_at time 9))
 
 -- both texts are admitted, and the instant lies in the library's range
 abbrev pub HasInstant : List ℕ → List ℕ → Type 0

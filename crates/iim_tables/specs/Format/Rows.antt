@@ -73,14 +73,10 @@ table =
     ∷ entry 8 10 0 greatest_size Octets Mandatory true  -- Subfile
     ∷ entry 9 10 1 size_octets Size Mandatory false ∷ []  -- Confirmed ObjectData Size
 
--- the line is that of the record and number
-abbrev pub is_for : ℕ → ℕ → Entry → Bool
-is_for rec set e = (e.rec == rec) && (e.set == set)
-
 -- the row of the first line for that record and number
 -- twins (with row_of): "The other records have no rows"; `knows_each_row`
 abbrev pub row_in : List Entry → ℕ → ℕ → Option Row
-row_in entries rec set = option_map (λ e. e.row) (find (is_for rec set) entries)
+row_in entries rec set = option_map (λ e. e.row) (find (λ e. e.rec == rec && e.set == set) entries)
 
 -- a dataset that has no line and is kept unread: up to 8192 octets of any kind, as often as it comes
 -- twins (with row_of_others): "How many octets a row admits"; `knows_each_row`

@@ -1,6 +1,5 @@
-use Rattle.std.proofs.Common.{[], ◌∷◌, arith, Ok, Err}
+use Rattle.std.proofs.Common.{inr, arith, Ok, Err}
 use Rattle.std.specs.Prelude.{OnErr, Result}
-use Rattle.iim_dataset.specs.States.Events.{HeadRead, DatasetEnd}
 use Rattle.iim_dataset.proofs.Places.{no_data}
 use Rattle.iim_dataset.proofs.piece.begin.Goals as goal
 
@@ -10,13 +9,10 @@ on_err (Err e) P p = p
 
 pub returns-in_err-step-clause-stopped : goal.returns-in_err-step-clause-stopped
 returns-in_err-step-clause-stopped g c =
-    on_err c.from_residual-in_err-step.result _ (record {
-      taken = HeadRead c.args.head ∷ [];
-      event = DatasetEnd;
-      later = [];
-      parts = no_data c.args.head (omega arith);
-      stopped = g.met.D.DatasetSink.joined_stop c.args.sink.now c.head.new.self c.close.new.self _ _ _ c.in_ok-head.ensures.ok c.in_err-step.ensures.stopped;
-    })
+    on_err c.from_residual-in_err-step.result _ (inr (
+      omega arith,
+      g.met.D.DatasetSink.joined_stop c.args.sink.now c.head.new.self c.close.new.self _ _ _ c.in_ok-head.ensures.ok c.in_err-step.ensures.stopped,
+    ))
 
 pub returns-clause-told : goal.returns-clause-told
 returns-clause-told g c =

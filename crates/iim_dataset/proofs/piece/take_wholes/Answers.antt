@@ -1,6 +1,7 @@
 use Rattle.std.proofs.Common.{◌≡◌, ◌+◌, ◌-◌, [], refl, arith, ap, length, length-drop, None}
 use Rattle.std.proofs.lemmas.List.{take_rest}
 use Rattle.iim_dataset.specs.States.Places.{between}
+use Rattle.iim_dataset.proofs.Fronts.{begun_none}
 use Rattle.iim_dataset.proofs.Places.{stays}
 use Rattle.iim_dataset.proofs.Stopping.{tells_front, refuses_front, tells_whole, in_front, data_within, whole_stops}
 use Rattle.iim_dataset.proofs.piece.take_wholes.Goals as goal
@@ -34,12 +35,16 @@ returns-in-Ok-Some-Last-clause-wholes g c =
     let s = c.in-Ok-Some-Last in
     let told = tells_whole c.in-Some.ensures (rw s.field-0-is at s.ensures.taken) in
     let last = rw s.field-0-is at s.field-0-0-is in
-    record {
+    λ some. record {
+      is_place = begun_none;
+      some = some;
       within = omega (arith, c.in-Some.ensures.within, ap length (take_rest rest at), length-drop at rest);
       told = tells_front g.met.D.DatasetSink.joined rest at c.in-Some.used c.loop-head.invariant.told told;
       onward = (rw (s.field-0-is, last) at s.ensures.stands, refl);
-      none = λ z. absurd (omega (arith, z, c.in-Some.ensures.some));
     }
+
+pub returns-in-Ok-Some-Last-clause-none : goal.returns-in-Ok-Some-Last-clause-none
+returns-in-Ok-Some-Last-clause-none g c = λ z. absurd (omega (arith, z, c.in-Some.ensures.some))
 
 pub overflow_sub-result : goal.overflow_sub-result
 overflow_sub-result g c = omega (arith, data_within c.in-Some.ensures)

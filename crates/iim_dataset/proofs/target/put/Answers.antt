@@ -1,4 +1,4 @@
-use Rattle.std.proofs.Common.{take, drop, arith, length-take, length-drop}
+use Rattle.std.proofs.Common.{◌<◌, take, drop, arith, length-take, length-drop}
 use Rattle.std.proofs.lemmas.List.{take_rest}
 use Rattle.std.proofs.Math.Seq.{take-add}
 use Rattle.iim_dataset.proofs.target.put.Goals as goal
@@ -11,14 +11,15 @@ loop-at-preserved g c =
     let old = g.W.Target.state c.args.writer.now in
     let middle = g.W.Target.state c.loop-at.writer in
     let new = g.W.Target.state c.send.new.writer in
-    let sent = c.in-Ok.ensures.ok in
+    let some : 0 < c.in-Ok.taken = omega arith in
+    let sent = c.in-Ok.ensures.ok some in
     let out = c.loop-at.invariant.out in
     record {
-      within = omega (arith, simp (length-take, length-drop) at sent.0);
+      within = omega (arith, simp (length-take, length-drop) at c.in-Ok.ensures.within);
       out = (
         rw (take-add at c.in-Ok.taken piece) (appends_joined old.octets middle.octets new.octets (take at piece) (take c.in-Ok.taken (drop at piece)) out.0
-            (rw (take_rest piece at) at sent.1)),
-        (omega (arith, sent.3, out.1.0), omega (arith, sent.2, out.1.1)),
+            (rw (take_rest piece at) at sent.0)),
+        (omega (arith, sent.1.0, out.1.0), omega (arith, sent.1.1, out.1.1)),
       );
-      patience = omega (arith, sent.3, c.in-Ok.ensures.patience, c.loop-at.invariant.patience);
+      patience = omega (arith, some, c.in-Ok.ensures.patience, c.loop-at.invariant.patience);
     }

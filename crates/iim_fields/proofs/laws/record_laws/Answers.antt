@@ -25,5 +25,5 @@ returns c =
       envelopes_end_with_the_last_record = envelopes_end;
       no_sections_begin_others = no_sections_begin_others;
       datasets_lead_to_one_place = one_place;
-      datasets_of_envelopes_are_added = added heads values;
+      datasets_of_envelopes_are_added = added c.each_row_has_values.ensures heads values;
     }

@@ -2,12 +2,12 @@ use Rattle.std.proofs.Common.{length}
 use Rattle.std.proofs.lemmas.Result.{IfOk-weaker, IfErr-weaker}
 use Rattle.iim_object.specs.States.Writing.{write_cause, finish_cause}
 use Rattle.iim_pack.proofs.Goings.{of_none}
-use Rattle.iim_pack.proofs.Endings.{ends, tail_broke, end_broke, may_write, may_finish}
+use Rattle.iim_pack.proofs.Endings.{tail_broke, end_broke, may_write, may_finish}
 use Rattle.iim_pack.proofs.ending.end_object.Goals as goal
 
 pub returns-in-Ok-clause-ok : goal.returns-in-Ok-clause-ok
 returns-in-Ok-clause-ok g c =
-    IfOk-weaker c.finish.result _ _ (λ writer. ends g.W.Target.state c.args.object c.write.new.self c.args.tail.now writer c.texts_join.ensures c.in-Ok.ensures.ok) c.finish.ensures.ok
+    IfOk-weaker c.finish.result _ _ (λ writer finishes. (c.write.new.self, c.in-Ok.ensures.ok, finishes)) c.finish.ensures.ok
 
 pub returns-in-Ok-clause-broke : goal.returns-in-Ok-clause-broke
 returns-in-Ok-clause-broke g c =

@@ -1,6 +1,7 @@
-use Rattle.std.proofs.Common.{◌≡◌, ◌∷◌, ◌++◌, [], sym, ap, ◌∙◌, Some, None}
-use Rattle.iim_fields.proofs.Words.{handed_on, Dataset, head_of, fields_of, Building, add_fault}
-use Rattle.iim_fields.proofs.Build.{Stored, added_as, checking_of, taken_kept, fields_more, building_more}
+use Rattle.std.proofs.Common.{◌≡◌, ◌∷◌, ◌++◌, [], sym, ap, ◌∙◌, Some, None, arith}
+use Rattle.iim_fields.proofs.Words.{handed_on, Dataset, head_of, HasStored, fields_of, vec_capacity, Building, add_fault}
+use Rattle.iim_fields.proofs.Build.{added_as, checking_of, building_more}
+use Rattle.iim_fields.proofs.Stand.{fields_held, keeps_holds, takes_holds}
 use Rattle.iim_fields.proofs.Dies.{value_no_fault}
 use Rattle.iim_fields.proofs.builder.EnvelopeBuilder.add.Goals as goal
 
@@ -31,15 +32,18 @@ returns-clause-admitted c =
     ∙ value_no_fault (fields_of c.self.inside.store) d (c.in_ok-value.ensures.stands (fields_of c.self.inside.store) (head_of d) checking).0.alive
 
 -- the store has the dataset
-stored : (c : goal.After-keep) → Stored c.self.inside.store c.keep.new.self (record { rec = c.args.rec; set = c.args.set; octets = c.args.octets.now })
-stored c = taken_kept c.self.inside.store c.take.new.self c.keep.new.self c.args.rec c.args.set c.args.octets.now
-    c.take.ensures.octets c.take.ensures.entries c.take.ensures.capacity c.keep.ensures.octets c.keep.ensures.entries c.keep.ensures.capacity
+stored : (c : goal.After-keep) → HasStored c.keep.new.self
+    (fields_of c.self.inside.store ++ record { rec = c.args.rec; set = c.args.set; octets = c.args.octets.now } ∷ []) []
+stored c = keeps_holds c.args.rec c.args.set (takes_holds c.args.octets.now c.self.invariant.holds c.take.ensures.octets c.take.ensures.entries)
+    c.keep.ensures.octets c.keep.ensures.entries
 
 pub returns-clause-added : goal.returns-clause-added
 returns-clause-added c =
     let d : Dataset = record { rec = c.args.rec; set = c.args.set; octets = c.args.octets.now } in
-    let more = fields_more c.self.inside.store c.keep.new.self d (stored c) c.self.invariant.holds in
-    (λ i. record { limits = c.self.inside.limits; fields = more i; room = record { octets = (stored c).octets_room i; entries = (stored c).entries_room i } })
+    let more = fields_held c.keep.new.self (fields_of c.self.inside.store ++ d ∷ []) [] (stored c) in
+    let octets_room = ap (λ v. v.room) c.keep.ensures.octets ∙ c.take.ensures.capacity in
+    let entries_room = c.keep.ensures.capacity ∙ ap (λ v. vec_capacity v) c.take.ensures.entries in
+    (λ i. record { limits = c.self.inside.limits; fields = more i; room = record { octets = octets_room i; entries = entries_room i } })
     ∙ ap (λ (b : Building). record b { fields = b.fields ++ d ∷ [] }) c.self.view_is
 
 pub invariant_of-self : goal.invariant_of-self
@@ -48,4 +52,6 @@ invariant_of-self c =
     let keeps = sym c.is_kept.ensures ∙ c.if-not-is_kept.false in
     let checking = checking_of d c.self.invariant keeps c.copied-check.ensures c.in_ok-head.ensures.stands in
     building_more c.len-kept.result c.len.result d c.self.invariant keeps c.len-kept.ensures c.len.ensures (sym c.in_default.is ∙ c.room_fault.ensures)
-    (c.in_ok-value.ensures.stands (fields_of c.self.inside.store) (head_of d) checking).0 (stored c)
+    (c.in_ok-value.ensures.stands (fields_of c.self.inside.store) (head_of d) checking).0
+    (omega (arith, c.self.invariant.room, c.take.ensures.capacity, ap (λ v. vec_capacity v) c.take.ensures.entries, ap (λ v. v.room) c.keep.ensures.octets,
+    c.keep.ensures.capacity)) (stored c)

@@ -1,20 +1,21 @@
-use Rattle.std.proofs.Common.{Bool, ap, subst, ◌≡◌, ◌&&◌, sym, ◌∙◌}
-use Rattle.iim_fields.proofs.Words.{RecordPlace, is_none, admits_once, place_fault, has_seen, same_Some}
-use Rattle.iim_fields.proofs.Numbers.{number_exact}
+use Rattle.std.proofs.Common.{Bool, ap, ◌&&◌, sym, ◌∙◌}
+use Rattle.iim_fields.proofs.Words.{has_seen}
+use Rattle.iim_fields.proofs.Numbers.{admits_once, number_exact}
+use Rattle.iim_fields.proofs.Wholes.{exactly_by}
 use Rattle.iim_fields.proofs.check.RecordCheck.admits_number.Goals as goal
 
 pub returns-then-is_number : goal.returns-then-is_number
-returns-then-is_number c = λ place xs is spelled.
+returns-then-is_number c = λ ds xs s spelled.
     let p = c.in-Some.place in
     let once : Bool = admits_once p.order.rec (has_seen p.order) c.args.head.rec c.args.head.set in
     let number = ap (λ (b : Bool). b && once) (sym c.if-is_number.true ∙ c.is_number.ensures) in
-    subst (λ (q : RecordPlace). c.admits_once.result ≡ is_none (place_fault q c.args.head xs)) (same_Some p place (sym c.in-Some.is ∙ (c.self.view_is ∙ is)))
-    (c.admits_once.ensures ∙ (number ∙ number_exact p.order.rec (has_seen p.order) c.args.head c.args.number xs c.requires.number spelled))
+    let exact = number_exact p.order.rec (has_seen p.order) c.args.head c.args.number xs c.requires.number spelled in
+    exactly_by p c.args.head xs c.admits_once.result (c.admits_once.ensures ∙ (number ∙ exact)) ds (rw (← (sym c.in-Some.is ∙ c.self.view_is)) at s)
 
 pub returns-else-is_number : goal.returns-else-is_number
-returns-else-is_number c = λ place xs is spelled.
+returns-else-is_number c = λ ds xs s spelled.
     let p = c.in-Some.place in
     let once : Bool = admits_once p.order.rec (has_seen p.order) c.args.head.rec c.args.head.set in
     let number = ap (λ (b : Bool). b && once) (sym c.if-is_number.false ∙ c.is_number.ensures) in
-    subst (λ (q : RecordPlace). c.is_number.result ≡ is_none (place_fault q c.args.head xs)) (same_Some p place (sym c.in-Some.is ∙ (c.self.view_is ∙ is)))
-    (c.if-is_number.false ∙ (number ∙ number_exact p.order.rec (has_seen p.order) c.args.head c.args.number xs c.requires.number spelled))
+    let exact = number_exact p.order.rec (has_seen p.order) c.args.head c.args.number xs c.requires.number spelled in
+    exactly_by p c.args.head xs c.is_number.result (c.if-is_number.false ∙ (number ∙ exact)) ds (rw (← (sym c.in-Some.is ∙ c.self.view_is)) at s)

@@ -1,33 +1,33 @@
 use Rattle.std.proofs.Common.{◌≡◌, ◌++◌, sym, subst, refl, ap, ◌∙◌, arith, OnOk}
-use Rattle.iim_fields.proofs.Words.{vec_capacity, begun_octets}
-use Rattle.iim_fields.proofs.Stand.{holds_more, inside_more, reading_more, size_room, stands_more, store_is, taken_in_size, taken_in_store}
+use Rattle.iim_fields.proofs.Words.{vec_capacity, begun_octets, fields_of}
+use Rattle.iim_fields.proofs.Stand.{takes_holds, inside_more, reading_more, size_room, stands_more, store_is, taken_in_size, taken_in_store}
 use Rattle.iim_fields.proofs.fields.Fields.bytes.Goals as goal
+
+-- the begun octets are more by these, in the store
+taken : (c : goal.After-take) → (fields_of c.take.new.self ≡ fields_of c.self.inside.store)
+    × (begun_octets c.take.new.self ++ c.self.inside.size.items ≡ (begun_octets c.self.inside.store ++ c.self.inside.size.items) ++ c.args.octets.now)
+taken c =
+    let none = c.self.invariant.in_store c.in-Some.head (sym c.begun.ensures ∙ c.in-Some.is) (sym c.is_kept.ensures ∙ c.if-is_kept.true) in
+    taken_in_store c.self.inside.store c.take.new.self c.self.inside.size.items c.args.octets.now none c.take.ensures.octets c.take.ensures.entries
+    c.self.invariant.store_is
 
 pub invariant_of-self : goal.invariant_of-self
 invariant_of-self c =
     let keeps = sym c.is_kept.ensures ∙ c.if-is_kept.true in
     let begun = sym c.begun.ensures ∙ c.in-Some.is in
-    let none = c.self.invariant.in_store c.in-Some.head begun keeps in
-    let both = taken_in_store c.self.inside.store c.take.new.self c.self.inside.size.items c.args.octets.now none c.take.ensures.octets c.take.ensures.entries
-    c.self.invariant.store_is in
-    let holds = holds_more c.self.inside.store c.take.new.self c.args.octets.now c.take.ensures.octets c.take.ensures.entries c.self.invariant.store_is in
-    reading_more c.args.octets.now c.in-Some.head c.self.invariant both.0 both.1 (rw (← c.self.view_is) at c.requires) (λ i. omega (arith, c.type_inv.octets i))
+    let holds = takes_holds c.args.octets.now c.self.invariant.store_is c.take.ensures.octets c.take.ensures.entries in
+    reading_more c.args.octets.now c.in-Some.head c.self.invariant (taken c).0 (taken c).1 (rw (← c.self.view_is) at c.requires)
+    (λ i. omega (arith, c.type_inv.octets i))
     (omega (arith, c.self.invariant.room, c.take.ensures.capacity, ap (λ v. vec_capacity v) c.take.ensures.entries))
-    (store_is c.take.new.self _ _ holds) begun (λ _. none) (λ not_kept. let yes = keeps in cc)
+    (store_is c.take.new.self _ _ holds) begun (λ _. c.self.invariant.in_store c.in-Some.head begun keeps) (λ not_kept. let yes = keeps in cc)
 
 pub returns-then-is_kept-clause-inside : goal.returns-then-is_kept-clause-inside
 returns-then-is_kept-clause-inside c =
-    let none = c.self.invariant.in_store c.in-Some.head (sym c.begun.ensures ∙ c.in-Some.is) (sym c.is_kept.ensures ∙ c.if-is_kept.true) in
-    let both = taken_in_store c.self.inside.store c.take.new.self c.self.inside.size.items c.args.octets.now none c.take.ensures.octets c.take.ensures.entries
-    c.self.invariant.store_is in
-    inside_more c.take.new.self c.self.inside.size.items c.args.octets.now c.self.invariant c.self.view_is both.1 c.requires
+    inside_more c.take.new.self c.self.inside.size.items c.args.octets.now c.self.invariant c.self.view_is (taken c).1 c.requires
 
 pub returns-then-is_kept-clause-stands : goal.returns-then-is_kept-clause-stands
 returns-then-is_kept-clause-stands c =
-    let none = c.self.invariant.in_store c.in-Some.head (sym c.begun.ensures ∙ c.in-Some.is) (sym c.is_kept.ensures ∙ c.if-is_kept.true) in
-    let both = taken_in_store c.self.inside.store c.take.new.self c.self.inside.size.items c.args.octets.now none c.take.ensures.octets c.take.ensures.entries
-    c.self.invariant.store_is in
-    stands_more c.take.new.self c.self.inside.size.items c.args.octets.now c.self.invariant c.self.view_is both.0 both.1 c.requires
+    stands_more c.take.new.self c.self.inside.size.items c.args.octets.now c.self.invariant c.self.view_is (taken c).0 (taken c).1 c.requires
     (λ i. omega (arith, c.type_inv.octets i))
 
 pub unwrap-requires : goal.unwrap-requires
