@@ -1,11 +1,11 @@
 -- Where datasets end in records 7 to 9, and the places there.
-use Rattle.iim_object.proofs.Words.{◌≡◌, ℕ, ◌<◌, ◌≤◌, ◌⊎◌, Bool, ◌==◌, List, [], ◌∷◌, ◌++◌, length, refl, sym, ap, ◌∙◌, arith, inl, inr, append-nil}
+use Rattle.iim_object.proofs.Words.{◌≡◌, ℕ, ◌<◌, ◌≤◌, ◌⊎◌, Bool, ◌==◌, List, [], ◌∷◌, ◌++◌, length, refl, sym, ap, subst, ◌∙◌, arith, inl, inr, append-nil}
 use Rattle.iim_object.proofs.Words.{length-append, AllByRecursion, eq-eqb, nil_from_length, Dataset, of_record, all_front, all_back, all_map, nothing_of_two}
 use Rattle.iim_object.proofs.Words.{Place, AreObjectRecords, numbers_of, lengths_of, place_after_datasets}
 use Rattle.std.proofs.lemmas.Bool.{ne_eqb}
 use Rattle.std.proofs.lemmas.List.Elements.{filter-append}
 use Rattle.iim_object.specs.Format.Numbers.{ending_of}
-use Rattle.iim_object.specs.Laws.{RecordsAreByNumber}
+use Rattle.iim_object.specs.Laws.{AreByNumber, RecordsAreByNumber}
 use Rattle.iim_object.proofs.Members.{IsMember, one_confirmation}
 
 -- ---- the datasets of a record
@@ -43,25 +43,25 @@ of_parts rec b x y z =
     let p : Dataset → Bool = λ d. d.rec == rec in
     rw (filter-append p b (x ++ (y ++ z)), filter-append p x (y ++ z), filter-append p y z) refl
 
-sevens_in : (b x y z : List Dataset) → AreSorted b x y z → of_record 7 (b ++ (x ++ (y ++ z))) ≡ x
-sevens_in b x y z s =
-    rw (of_parts 7 b x y z, lower_record 7 b (omega arith) s.others, all_in 7 x s.sevens, other_record 8 7 y (λ e. omega arith) s.eights, other_record 9 7 z (λ e. omega arith) s.nines)
-    (append-nil x)
-
-eights_in : (b x y z : List Dataset) → AreSorted b x y z → of_record 8 (b ++ (x ++ (y ++ z))) ≡ y
-eights_in b x y z s =
-    rw (of_parts 8 b x y z, lower_record 8 b (omega arith) s.others, other_record 7 8 x (λ e. omega arith) s.sevens, all_in 8 y s.eights, other_record 9 8 z (λ e. omega arith) s.nines)
-    (append-nil y)
-
-nines_in : (b x y z : List Dataset) → AreSorted b x y z → of_record 9 (b ++ (x ++ (y ++ z))) ≡ z
-nines_in b x y z s =
-    rw (of_parts 9 b x y z, lower_record 9 b (omega arith) s.others, other_record 7 9 x (λ e. omega arith) s.sevens, other_record 8 9 y (λ e. omega arith) s.eights, all_in 9 z s.nines) refl
+-- so those of each record are the ones of its number
+by_record : (b x y z : List Dataset) → AreSorted b x y z → AreByNumber (b ++ (x ++ (y ++ z))) x y z
+by_record b x y z s = record {
+  sevens =
+      rw (of_parts 7 b x y z, lower_record 7 b (omega arith) s.others, all_in 7 x s.sevens, other_record 8 7 y (λ e. omega arith) s.eights)
+      (rw (other_record 9 7 z (λ e. omega arith) s.nines) (append-nil x));
+  eights =
+      rw (of_parts 8 b x y z, lower_record 8 b (omega arith) s.others, other_record 7 8 x (λ e. omega arith) s.sevens, all_in 8 y s.eights)
+      (rw (other_record 9 8 z (λ e. omega arith) s.nines) (append-nil y));
+  nines =
+      rw (of_parts 9 b x y z, lower_record 9 b (omega arith) s.others, other_record 7 9 x (λ e. omega arith) s.sevens)
+      (rw (other_record 8 9 y (λ e. omega arith) s.eights, all_in 9 z s.nines) refl);
+}
 
 abbrev pub place_with : List Dataset → List Dataset → List Dataset → Place
 place_with d7 d8 d9 = record { stated = numbers_of d7; lengths = lengths_of d8; ending = ending_of d9 }
 
 pub place_is : (b x y z : List Dataset) → AreSorted b x y z → place_after_datasets (b ++ (x ++ (y ++ z))) ≡ place_with x y z
-place_is b x y z s = rw (sevens_in b x y z s, eights_in b x y z s, nines_in b x y z s) refl
+place_is b x y z s = let n = by_record b x y z s in rw (n.sevens, n.eights, n.nines) refl
 
 of_rec : (rec : ℕ) (ds : List Dataset) → AllByRecursion (IsMember rec) ds → AllByRecursion (λ d. d.rec ≡ rec) ds
 of_rec rec ds h = all_map (IsMember rec) (λ (d : Dataset). d.rec ≡ rec) ds (λ d m. m.0) h
@@ -74,12 +74,7 @@ pub sorted : {ds : List Dataset} (r : AreObjectRecords ds) → AreSorted r.befor
 sorted r = sorted_members r.before r.r7 r.r8 r.r9 r.others r.descriptor.each r.object.each r.confirmation.each
 
 pub records_by_number : RecordsAreByNumber
-records_by_number ds r =
-    let s = sorted r in record {
-      sevens = ap (of_record 7) r.parts ∙ sevens_in r.before r.r7 r.r8 r.r9 s;
-      eights = ap (of_record 8) r.parts ∙ eights_in r.before r.r7 r.r8 r.r9 s;
-      nines = ap (of_record 9) r.parts ∙ nines_in r.before r.r7 r.r8 r.r9 s;
-    }
+records_by_number ds r = subst (λ (all : List Dataset). AreByNumber all r.r7 r.r8 r.r9) (sym r.parts) (by_record r.before r.r7 r.r8 r.r9 (sorted r))
 
 -- ---- where datasets end
 
@@ -159,10 +154,8 @@ parted ds more r =
           (all_back (IsMember 8) c.first c.left eights) (all_back (IsMember 9) c.second c.later nines);
     }
 
-pub by_number : {ds more r7 r8 r9 : List Dataset} (p : Parted ds more r7 r8 r9) → (of_record 7 ds ≡ p.d7) × (of_record 8 ds ≡ p.d8) × (of_record 9 ds ≡ p.d9)
-by_number p =
-    let s = sorted_members p.before p.d7 p.d8 p.d9 p.others p.members7 p.members8 p.members9 in
-    (rw p.seen (sevens_in p.before p.d7 p.d8 p.d9 s), rw p.seen (eights_in p.before p.d7 p.d8 p.d9 s), rw p.seen (nines_in p.before p.d7 p.d8 p.d9 s))
+pub by_number : {ds more r7 r8 r9 : List Dataset} (p : Parted ds more r7 r8 r9) → AreByNumber ds p.d7 p.d8 p.d9
+by_number p = rw p.seen (by_record p.before p.d7 p.d8 p.d9 (sorted_members p.before p.d7 p.d8 p.d9 p.others p.members7 p.members8 p.members9))
 
 -- the first dataset of sorted ones, from record 7 on
 pub first_of : (d : Dataset) (more b x y z : List Dataset) → d ∷ more ≡ b ++ (x ++ (y ++ z)) → AreSorted b x y z → 7 ≤ d.rec
@@ -183,17 +176,18 @@ next_number ds d more r is =
       | inr (inr f) ↦ absurd (omega (arith, f.0))
     ] in
     let both = nothing_of_two p.d8 p.d9 none in
-    let (sevens, eights, nines) = by_number p in
-    (eights ∙ both.0, nines ∙ both.1)
+    let n = by_number p in
+    (n.eights ∙ both.0, n.nines ∙ both.1)
 
 -- before a subfile all of record 7 has come, and no end
 pub next_subfile : (ds : List Dataset) (d : Dataset) (more : List Dataset) (r : AreObjectRecords (ds ++ d ∷ more)) → d.rec ≡ 8 → (of_record 7 ds ≡ r.r7) × (of_record 9 ds ≡ [])
 next_subfile ds d more r is =
     let p = parted ds (d ∷ more) r in
-    let (sevens, eights, nines) = by_number p in
+    let n = by_number p in
     elim (first_of d more p.between p.m7 p.m8 p.m9 p.unseen p.left (omega arith)) [
       | inl f ↦ absurd (omega (arith, f.0))
-      | inr (inl f) ↦ (sevens ∙ sym (rw (f.1, append-nil) at p.whole7), elim p.after8 [ inl e ↦ absurd (omega (arith, f.2, ap length e)) | inr e ↦ nines ∙ e ])
+      | inr (inl f) ↦
+          (n.sevens ∙ sym (rw (f.1, append-nil) at p.whole7), elim p.after8 [ inl e ↦ absurd (omega (arith, f.2, ap length e)) | inr e ↦ n.nines ∙ e ])
       | inr (inr f) ↦ absurd (omega (arith, f.0))
     ]
 
@@ -209,7 +203,7 @@ pub next_end : (ds : List Dataset) (d : Dataset) (more : List Dataset) (r : AreO
 next_end ds d more r is =
     let p = parted ds (d ∷ more) r in
     let (one, m, only) = one_confirmation r.r9 r.confirmation in
-    let (sevens, eights, nines) = by_number p in
+    let n = by_number p in
     elim (first_of d more p.between p.m7 p.m8 p.m9 p.unseen p.left (omega arith)) [
       | inl f ↦ absurd (omega (arith, f.0))
       | inr (inl f) ↦ absurd (omega (arith, f.0))
@@ -217,5 +211,5 @@ next_end ds d more r is =
           let none : p.d9 ≡ [] = nil_from_length p.d9 (omega (arith, f.3, ap length p.whole9, ap length only, length-append p.d9 p.m9)) in
           let seven : r.r7 ≡ p.d7 = (rw (f.1, append-nil) at p.whole7) in
           let eight : r.r8 ≡ p.d8 = (rw (f.2, append-nil) at p.whole8) in
-          record { before = p.before; others = p.others; seen = cc (p.seen, seven, eight, none, append-nil p.d8); eights = eights ∙ sym eight; nines = nines ∙ none }
+          record { before = p.before; others = p.others; seen = cc (p.seen, seven, eight, none, append-nil p.d8); eights = n.eights ∙ sym eight; nines = n.nines ∙ none }
     ]

@@ -32,7 +32,7 @@ tokens_whole ds r = rw r.parts (ap tokens_of (place_is r.before r.r7 r.r8 r.r9 (
 
 -- of those that have come
 tokens_seen : {ds more r7 r8 r9 : List Dataset} (p : Parted ds more r7 r8 r9) → object_tokens ds ≡ numbers p.d7 ++ (heads p.d8 ++ ending_tokens (ending_of p.d9))
-tokens_seen p = let (sevens, eights, nines) = by_number p in rw (sevens, eights, nines) refl
+tokens_seen p = let n = by_number p in rw (n.sevens, n.eights, n.nines) refl
 
 -- ---- whole records
 

@@ -4,7 +4,9 @@ use Rattle.iim_object.proofs.Words.{unwrap_or, refl, sym, ap, ◌∙◌, arith, 
 use Rattle.iim_object.proofs.Words.{sum_cons, max_subfiles, Stated, InRow, AreOnce, AreStated, number_at, SubfileBegun, ObjectLanguage, number_tokens}
 use Rattle.iim_object.proofs.Words.{NoClash, HasDuties, Fit, Place, NotEnded, HasBoth, ending_tokens, tokens_of, HasNumbers, IsState, IsStateAt, StandsAt}
 use Rattle.iim_object.proofs.Words.{State}
-use Rattle.std.proofs.Common.{min}
+use Rattle.std.proofs.Common.{min, IfSome}
+use Rattle.iim_dataset.specs.Format.Octets.{greatest_size}
+use Rattle.iim_object.specs.Format.Causes.{bound}
 use Rattle.std.proofs.Math.Nat.{suc-mul}
 use Rattle.iim_dataset.proofs.Lists.{sum_fits}
 use Rattle.iim_object.specs.Laws.{PlacesAreReached}
@@ -19,20 +21,23 @@ use Rattle.iim_object.proofs.Steps.{tells_of, both_of, not_ended_tokens, number_
 numbers_told : (s : State) (p : Place) → IsStateAt s p → AllByRecursion InRow p.stated → NoClash p.stated → HasNumbers s
 numbers_told s p t each clash = grind (arith, in_row_at)
 
+-- within the bound
+within_bound : (announced most : Option ℕ) (n : ℕ) → n ≤ greatest_size → IfSome announced (λ a. n ≤ a) → IfSome most (λ m. n ≤ m) → n ≤ bound announced most
+within_bound announced most n greatest least below = grind arith
+
+bound_keeps : (announced most : Option ℕ) (n : ℕ) → IfSome announced (λ a. a ≤ greatest_size) → IfSome most (λ m. m ≤ greatest_size) → n ≤ bound announced most → (n ≤ greatest_size) × IfSome announced (λ a. n ≤ a) × IfSome most (λ m. n ≤ m)
+bound_keeps announced most n least below within = grind arith
+
 subfiles_told : (s : State) (p : Place) (known : Bool) (subfile : ℕ) → IsStateAt s p → HasDuties known subfile p.stated → Fit known subfile p.stated p.lengths → length p.lengths ≤ max_subfiles → HasSubfiles s
 subfiles_told s p known subfile t d fit few =
     let held = sum_fits subfile p.lengths fit.each in
     record {
-      known = known;
       subfile = subfile;
-      mode = t.mode ∙ d.mode;
+      mode = rw (ap is_some t.announced ∙ fit.by_mode) (t.mode ∙ d.mode);
       largest = t.largest ∙ d.largest;
-      by_mode = ap is_some t.announced ∙ fit.by_mode;
       few = omega (arith, t.subfiles);
       held = rw (t.subfiles, t.total) held;
-      total = omega (arith, t.total, fit.total);
-      announced = rw (t.announced, t.total) fit.announced;
-      maximum = rw (t.maximum, t.total) fit.maximum;
+      total = rw (t.announced, t.maximum, t.total) (within_bound _ _ (sum p.lengths) fit.total fit.announced fit.maximum);
     }
 
 no_octets : (lengths : List ℕ) → length lengths ≡ 0 → sum lengths ≡ 0
@@ -139,22 +144,24 @@ tells_in s is = record {
   total = sym (total_in s is);
 }
 
-fits_in : (s : State) (is : IsState s) (h : HasSubfiles s) → Fit h.known h.subfile (numbers_in s) (lengths_in s)
-fits_in s is h = record {
-  clash = clash_in s is.numbers;
-  by_mode = ap is_some (announced_in s) ∙ h.by_mode;
-  each = rw h.largest (filled_each s.subfiles h.subfile s.total);
-  total = omega (arith, total_in s is, h.total);
-  announced = rw (announced_in s, total_in s is) h.announced;
-  maximum = rw (maximum_in s, total_in s is) h.maximum;
-}
+fits_in : (s : State) (is : IsState s) (h : HasSubfiles s) → Fit (is_some s.announced) h.subfile (numbers_in s) (lengths_in s)
+fits_in s is h =
+    let (total, announced, maximum) = bound_keeps s.announced s.maximum s.total is.numbers.announced is.numbers.maximum h.total in
+    record {
+      clash = clash_in s is.numbers;
+      by_mode = ap is_some (announced_in s);
+      each = rw h.largest (filled_each s.subfiles h.subfile s.total);
+      total = omega (arith, total_in s is, total);
+      announced = rw (announced_in s, total_in s is) announced;
+      maximum = rw (maximum_in s, total_in s is) maximum;
+    }
 
 alive_in : (s : State) → IsState s → IsAlive ObjectLanguage (tokens_of (place_in s))
 alive_in s is = elim (cases_lt 0 s.subfiles) [
   | inl some ↦
       let h = is.some_subfiles some in
-      let d : HasDuties h.known h.subfile (numbers_in s) = record { stated = are_stated s is.numbers; mode = mode_in s ∙ h.mode; largest = largest_in s ∙ h.largest } in
-      rw (not_ended_tokens (place_in s) refl) ((subfiles_law h.known h.subfile (numbers_in s) (lengths_in s) d (omega (arith, length_in s, some))).1 (fits_in s is h))
+      let d : HasDuties (is_some s.announced) h.subfile (numbers_in s) = record { stated = are_stated s is.numbers; mode = mode_in s ∙ h.mode; largest = largest_in s ∙ h.largest } in
+      rw (not_ended_tokens (place_in s) refl) ((subfiles_law (is_some s.announced) h.subfile (numbers_in s) (lengths_in s) d (omega (arith, length_in s, some))).1 (fits_in s is h))
   | inr none ↦
       let empty : lengths_in s ≡ [] = nil_from_length (lengths_in s) (omega (arith, length_in s, none)) in
       rw (number_before (place_in s) empty refl) ((numbers_law (numbers_in s) (are_stated s is.numbers)).1 (clash_in s is.numbers))

@@ -1,15 +1,14 @@
 -- Where numbers are those of a possible place, and the state that stands there.
-use Rattle.iim_object.proofs.Words.{◌≡◌, ℕ, ◌+◌, ◌-◌, ◌≤◌, [], ◌∷◌, length, sum, Option, Some, None, IfSome, refl, sym, ap, ◌∙◌, arith, same_Some}
+use Rattle.iim_object.proofs.Words.{◌≡◌, ℕ, ◌+◌, ◌-◌, ◌≤◌, [], ◌∷◌, length, sum, Option, Some, None, IfSome, refl, sym, ap, ◌∙◌, arith}
 use Rattle.iim_object.proofs.Words.{max_subfiles, ObjectToken, ObjectLanguage, SubfileBegun, Place, HasBoth, MayFollow, place_after, tokens_of, IsState}
 use Rattle.iim_object.proofs.Words.{TakesSubfile, IsStateAt, StandsAt, LeadsOn, Refuses, State, IsPossible}
-use Rattle.std.proofs.Common.{IsSome, Result, Ok, Err, IfOk, IfErr}
+use Rattle.std.proofs.Common.{◌↔◌, IsSome, Result, Ok, Err, IfOk, IfErr}
 use Rattle.std.proofs.lemmas.List.{length_push}
 use Rattle.std.specs.Result.{result_ok}
 use Rattle.iim_object.specs.States.KeptNumbers.{state_numbers}
 use Rattle.iim_object.specs.States.Reading.{SizeCause}
 use Rattle.iim_object.specs.States.Saved.{IsAt, LastIsBegun, stated_numbers}
 use Rattle.iim_object.specs.Laws.{PlacesHaveOneReader}
-use Rattle.iim_object.specs.Finding.{Finds}
 use Rattle.iim_object.proofs.Subfiles.{front_lives}
 use Rattle.iim_object.proofs.Steps.{sum_more, tokens_follow}
 use Rattle.iim_object.proofs.Reached.{place_in, tells_in, stands_in, few_in, state_of}
@@ -42,6 +41,10 @@ one_state a b p x y =
     } in
     cc (x.is_state, y.is_state)
 
+-- A state is found exactly where one of these places is possible, and then it stands at each of them that is.
+abbrev pub Finds : (Place → Type 0) → Option State → Type 0
+Finds IsOne found = (IsSome found ↔ ((p : Place) × IsOne p × IsPossible p)) × IfSome found (λ s. (p : Place) → IsOne p → IsPossible p → StandsAt (Some s) p)
+
 -- ---- between subfiles
 
 -- the state with `subfiles` subfiles, and `total` octets of them
@@ -53,9 +56,8 @@ pub finds_between : (n : State) (taken heads : ℕ) (found : Option State) → (
 finds_between n taken heads found there back value =
     let s : State = with_subfiles n heads taken in
     let at : (p : Place) → IsAt (state_numbers n) taken None heads p → IsPossible p → StandsAt (Some s) p =
-    λ p is possible. stands_by s p (tells_by s p is.numbers_are is.subfiles (sym is.octets)) possible in
-    record {
-      exactly = (
+    λ p is possible. stands_by s p (tells_by s p is.numbers_are is.subfiles (sym is.octets)) possible in (
+      (
         λ some.
             let is = there some in
             let t = tells_in s is in (
@@ -64,9 +66,15 @@ finds_between n taken heads found there back value =
               possible_of (Some s) (place_in s) (stands_in s is) (few_in s is),
             ),
         λ h. back (state_of s h.0 (at h.0 h.1 h.2) h.2.few),
-      );
-      stands = λ x e p is possible. rw (rw e at value) (at p is possible);
-    }
+      ),
+      is_one found value at,
+    )
+  where
+    is_one : (o : Option State) → IfSome o (λ x. x ≡ with_subfiles n heads taken)
+        → ((p : Place) → IsAt (state_numbers n) taken None heads p → IsPossible p → StandsAt (Some (with_subfiles n heads taken)) p)
+        → IfSome o (λ x. (p : Place) → IsAt (state_numbers n) taken None heads p → IsPossible p → StandsAt (Some x) p)
+    is_one None is at = tt
+    is_one (Some x) is at = rw is at
 
 -- ---- within a subfile
 
@@ -110,7 +118,7 @@ before n taken count left heads p is possible =
     }
 
 finds_none : (IsOne : Place → Type 0) → ((p : Place) → IsOne p → IsPossible p → ⊥) → Finds IsOne None
-finds_none IsOne out = record { exactly = (λ some. absurd cc, λ h. absurd (out h.0 h.1 h.2)); stands = λ s e p is possible. absurd cc }
+finds_none IsOne out = ((λ some. absurd cc, λ h. absurd (out h.0 h.1 h.2)), tt)
 
 pub no_state_before : (n : State) (taken count left heads : ℕ) → (IsState (state_before n taken count left heads) → ⊥) → Finds (IsAt (state_numbers n) taken (Some (count, left)) heads) None
 no_state_before n taken count left heads out = finds_none (IsAt (state_numbers n) taken (Some (count, left)) heads) (λ p is possible. out (before n taken count left heads p is possible).is_state)
@@ -134,9 +142,8 @@ finds_within n taken count left heads new (some, fits, long, room) is takes goes
     let follows = may_take s count is takes in
     let stands : StandsAt (Some new) q = goes p (stands_in s is) follows in
     let heads_are : heads ≡ length q.lengths = omega (arith, t.subfiles, long, length_push p.lengths count) in
-    let octets : sum q.lengths ≡ taken + left = omega (arith, t.total, sum_more p.lengths count, fits, room) in
-    record {
-      exactly = (
+    let octets : sum q.lengths ≡ taken + left = omega (arith, t.total, sum_more p.lengths count, fits, room) in (
+      (
         λ found. (
           q,
           record {
@@ -148,11 +155,9 @@ finds_within n taken count left heads new (some, fits, long, room) is takes goes
           possible_of (Some new) q stands (omega (arith, length_push p.lengths count, follows.2)),
         ),
         λ h. refl,
-      );
-      stands = λ x e r here possible.
-          let b = before n taken count left heads r here possible in
-          rw (← same_Some new x e, ← b.leads) (goes b.place b.stands b.follows);
-    }
+      ),
+      λ r here possible. let b = before n taken count left heads r here possible in rw (← b.leads) (goes b.place b.stands b.follows),
+    )
 
 pub finds_after : (n : State) (taken count left heads : ℕ) (answer : Result State SizeCause) → MayHaveBegun taken count left heads → IsState (state_before n taken count left heads)
     → TakesSubfile (state_before n taken count left heads) → IfOk answer (λ new. LeadsOn (Some (state_before n taken count left heads)) (SubfileBegun count) (Some new))

@@ -7,7 +7,7 @@ pub use Rattle.iim_dataset.specs.Format.Languages.{IsAlive}
 pub use Rattle.iim_dataset.specs.Format.Octets.{greatest_size, number}
 pub use Rattle.iim_dataset.specs.Laws.{TextsJoin}
 pub use Rattle.iim_dataset.specs.States.Devices.{Device}
-pub use Rattle.iim_object.specs.Cutting.{Flushes, Halts, HasRoom, writing_of}
+pub use Rattle.iim_object.specs.Cutting.{HasRoom, writing_of}
 pub use Rattle.iim_object.specs.Format.Causes.{cause_at, confirmed_cause, end_cause}
 pub use Rattle.iim_object.specs.Format.Cuts.{AreFull, IsCut, joined_parts}
 pub use Rattle.iim_object.specs.Format.Numbers.{place_after_datasets}

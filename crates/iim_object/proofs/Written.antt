@@ -1,15 +1,15 @@
 -- How a writer of subfiles continues, breaks off and finishes.
-use Rattle.iim_object.proofs.Words.{◌≡◌, ℕ, ◌<◌, ◌≤◌, Bool, true, false, Option, Some, None, List, [], ◌∷◌, ◌++◌, length, take, drop, refl, sym, ap, ◌∙◌}
+use Rattle.iim_object.proofs.Words.{◌≡◌, ℕ, ◌+◌, ◌<◌, ◌≤◌, Bool, true, false, Option, Some, None, List, [], ◌∷◌, ◌++◌, length, take, drop, refl, sym, ap, ◌∙◌}
 use Rattle.iim_object.proofs.Words.{arith, append_assoc, append-nil, length-append, length-take, map-append, all_append, Device, TextsJoin, Dataset}
 use Rattle.iim_object.proofs.Words.{canonical_dataset, canonical_stream, joined_parts, AreFull, IsCut, ObjectsAreCutOneWay, plan_datasets, subfile_dataset}
 use Rattle.iim_object.proofs.Words.{subfile_datasets, number_dataset, Puts, Cuts, total_of, octets_out, Lengthens, write_cause, finish_cause, writing_of}
-use Rattle.iim_object.proofs.Words.{HasRoom, Flushes, Halts, Plan, Output, Cutter}
+use Rattle.iim_object.proofs.Words.{HasRoom, Plan, Output, Cutter}
 use Rattle.std.proofs.Common.{cond}
 use Rattle.std.specs.Prelude.{IfNone}
 use Rattle.std.proofs.lemmas.List.{take-append-drop}
 use Rattle.iim_object.specs.Format.Packing.{confirmed_datasets, object_datasets}
 use Rattle.iim_object.specs.States.Writing.{Writing, HasWritten, Begins, BreaksOff, ContinuesWith, IsTheWhole, Finishes}
-use Rattle.iim_object.specs.Cutting.{Fills}
+use Rattle.iim_dataset.specs.States.Reserved.{Reserved}
 use Rattle.iim_object.proofs.PlanParts.{plan_parts}
 use Rattle.iim_object.proofs.Cutting.{same_first, some_octet, too_short}
 
@@ -88,55 +88,55 @@ no_less : (xs ys : List ℕ) → 1 ≤ length ys → xs ++ ys ≡ [] → ⊥
 no_less xs ys some e = omega (arith, some, length-append xs ys, ap length e)
 
 -- Octets are held.
-pub filled : {W : Type 0} (state : W → Device) (old new : Cutter W) (xs : List ℕ) → TextsJoin → old.failed ≡ false → 1 ≤ length xs → Fills old new xs → HasRoom new → Lengthens state (writing_of old) (writing_of new) xs
-filled state old new xs join unfailed some f room = record {
+pub filled : {W : Type 0} (state : W → Device) (old : Cutter W) (held : Reserved) (xs : List ℕ) → TextsJoin → old.failed ≡ false → 1 ≤ length xs
+    → held.items ≡ old.held.items ++ xs → HasRoom (record old { held = held }) → Lengthens state (writing_of old) (writing_of (record old { held = held })) xs
+filled state old held xs join unfailed some is room = record {
   more = [];
-  wrote = rw f.output (join.none (state old.output.writer));
-  patience = rw f.output (omega arith);
-  plan = f.plan;
-  unfailed = f.failed ∙ unfailed;
-  counted = rw f.output (omega arith);
-  total = omega (arith, f.sent, ap length f.held, length-append old.held.items xs);
+  wrote = join.none (state old.output.writer);
+  patience = omega arith;
+  plan = refl;
+  unfailed = unfailed;
+  counted = omega arith;
+  total = omega (arith, ap length is, length-append old.held.items xs);
   stands = λ object out s. record {
-    unfailed = f.failed ∙ unfailed;
+    unfailed = unfailed;
     parts = s.parts;
-    are_full = rw f.plan s.are_full;
-    object_is = rw (s.object_is, f.held) (simp append_assoc);
-    some = λ empty. absurd (no_less old.held.items xs some (sym f.held ∙ empty));
-    sent = f.sent ∙ s.sent;
+    are_full = s.are_full;
+    object_is = rw (s.object_is, is) (simp append_assoc);
+    some = λ empty. absurd (no_less old.held.items xs some (sym is ∙ empty));
+    sent = s.sent;
     within = omega (arith, room.within, room.bound);
-    out_is = rw (append-nil, f.plan) s.out_is;
-    written = rw (f.output, append-nil) s.written;
+    out_is = rw append-nil s.out_is;
+    written = rw append-nil s.written;
   };
 }
 
 -- A full subfile is written, and octets are held after it.
-pub flushed : {W : Type 0} (state : W → Device) (old mid new : Cutter W) (xs : List ℕ) → TextsJoin → old.failed ≡ false → length old.held.items ≡ old.plan.subfile → 1 ≤ length xs → Flushes state old mid
-    → Fills mid new xs → HasRoom new
-    → Lengthens state (writing_of old) (writing_of new) xs
-flushed state old mid new xs join unfailed full some f h room =
+pub flushed : {W : Type 0} (state : W → Device) (old : Cutter W) (held : Reserved) (output : Output W) (xs : List ℕ) → TextsJoin → old.failed ≡ false
+    → length old.held.items ≡ old.plan.subfile → 1 ≤ length xs
+    → Puts state old.output output (canonical_dataset (subfile_dataset old.held.items)) → held.items ≡ xs
+    → HasRoom (record old { held = held; sent = old.sent + length old.held.items; output = output })
+    → Lengthens state (writing_of old) (writing_of (record old { held = held; sent = old.sent + length old.held.items; output = output })) xs
+flushed state old held output xs join unfailed full some put is room =
     let text : List ℕ = canonical_dataset (subfile_dataset old.held.items) in
-    let plans : new.plan ≡ old.plan = h.plan ∙ f.plan in
-    let now : new.held.items ≡ xs = h.held ∙ ap (λ (t : List ℕ). t ++ xs) f.held in
-    let still : new.failed ≡ false = h.failed ∙ f.failed in
     record {
       more = text;
-      wrote = rw h.output f.put.wrote;
-      patience = rw h.output f.put.patience;
-      plan = plans;
-      unfailed = still;
-      counted = rw h.output f.put.counted;
-      total = omega (arith, h.sent, f.sent, ap length now);
+      wrote = put.wrote;
+      patience = put.patience;
+      plan = refl;
+      unfailed = unfailed;
+      counted = put.counted;
+      total = omega (arith, ap length is);
       stands = λ object out s. record {
-        unfailed = still;
+        unfailed = unfailed;
         parts = s.parts ++ old.held.items ∷ [];
-        are_full = rw plans (full_append old.plan.subfile s.parts old.held.items s.are_full full);
-        object_is = rw (s.object_is, now, joined_append s.parts old.held.items) refl;
-        some = λ empty. absurd (omega (arith, some, ap length (sym now ∙ empty)));
-        sent = omega (arith, h.sent, f.sent, s.sent, ap length (joined_append s.parts old.held.items), length-append (joined_parts s.parts) old.held.items);
+        are_full = full_append old.plan.subfile s.parts old.held.items s.are_full full;
+        object_is = rw (s.object_is, is, joined_append s.parts old.held.items) refl;
+        some = λ empty. absurd (omega (arith, some, ap length (sym is ∙ empty)));
+        sent = omega (arith, s.sent, ap length (joined_append s.parts old.held.items), length-append (joined_parts s.parts) old.held.items);
         within = omega (arith, room.within, room.bound);
-        out_is = rw (s.out_is, plans, begun_more old.plan s.parts (old.held.items ∷ [])) (simp append-nil);
-        written = rw h.output (omega (arith, f.put.counted, s.written, length-append out text));
+        out_is = rw (s.out_is, begun_more old.plan s.parts (old.held.items ∷ [])) (simp append-nil);
+        written = omega (arith, put.counted, s.written, length-append out text);
       };
     }
 
@@ -152,31 +152,40 @@ parted ds last ps others p =
     let all : ds ++ (subfile_datasets ((ps ++ p ∷ []) ++ others) ++ last) ≡ (ds ++ subfile_datasets ps) ++ (subfile_dataset p ∷ (subfile_datasets others ++ last)) = simp (map-append, append_assoc) in
     ap canonical_stream all ∙ stream_append (ds ++ subfile_datasets ps) (subfile_dataset p ∷ (subfile_datasets others ++ last))
 
+-- A write of this text failed, with which continues whatever may be written.
+breaks_off : {W : Type 0} (state : W → Device) (May : List ℕ → List ℕ → Type 0) (old : Cutter W) (output : Output W) (text : List ℕ)
+    → Cuts state old.output output text
+    → ((object out whole : List ℕ) → HasWritten (writing_of old) object out → May object whole → (rest : List ℕ) × (whole ≡ out ++ (text ++ rest)))
+    → BreaksOff state May (writing_of old) (writing_of (record old { output = output; failed = true }))
+breaks_off state May old output text cut continues = record {
+  more = take cut.out text;
+  appends = cut.stopped.1;
+  broke = cut.stopped.2;
+  patience = omega (arith, cut.patience, front_length cut.out text cut.stopped.0);
+  plan = refl;
+  failed = refl;
+  counted = omega (arith, cut.counted, front_length cut.out text cut.stopped.0);
+  begins = λ object out whole s may. let (rest, is) = continues object out whole s may in begins_by out text rest whole cut.out is;
+}
+
 -- A full subfile could not be written, and octets were to come after it.
-pub halted : {W : Type 0} (state : W → Device) (old new : Cutter W) (octets : List ℕ) → length old.held.items ≡ old.plan.subfile → 1 ≤ length octets → Halts state old new (canonical_dataset (subfile_dataset old.held.items))
-    → BreaksOff state (ContinuesWith old.plan octets) (writing_of old) (writing_of new)
-halted state old new octets full some h =
-    let text : List ℕ = canonical_dataset (subfile_dataset old.held.items) in
+pub halted : {W : Type 0} (state : W → Device) (old : Cutter W) (output : Output W) (octets : List ℕ)
+    → length old.held.items ≡ old.plan.subfile → 1 ≤ length octets
+    → Cuts state old.output output (canonical_dataset (subfile_dataset old.held.items))
+    → BreaksOff state (ContinuesWith old.plan octets) (writing_of old) (writing_of (record old { output = output; failed = true }))
+halted state old output octets full some cut =
     let plan = old.plan in
     let held : List ℕ = old.held.items in
-    record {
-      more = take h.cut.out text;
-      appends = h.cut.stopped.1;
-      broke = h.cut.stopped.2;
-      patience = omega (arith, h.cut.patience, front_length h.cut.out text h.cut.stopped.0);
-      plan = h.plan;
-      failed = h.failed;
-      counted = omega (arith, h.cut.counted, front_length h.cut.out text h.cut.stopped.0);
-      begins = λ object out whole s (rest, w).
-          let cut = w.cut in
-          let joins : joined_parts (s.parts ++ held ∷ []) ++ (octets ++ rest) ≡ joined_parts cut.full ++ cut.last =
-          rw (joined_append s.parts held, ← s.object_is) (simp append_assoc at cut.joined) in
-          let (others, first) = first_parts plan.subfile (s.parts ++ held ∷ []) cut.full cut.last (octets ++ rest) (plan_parts plan.subfile plan.size plan.valid).least
-          (full_append plan.subfile s.parts held s.are_full full) cut.are_full cut.fits (λ empty. sym cut.joined ∙ cut.some empty) (omega (arith, some, length-append octets rest)) joins in
-          let tail : List ℕ = canonical_stream (subfile_datasets others ++ confirmed_datasets ((object ++ octets) ++ rest)) in
-          let is : whole ≡ out ++ (text ++ tail) = rw (w.octets_are, cut.parts_are, first, s.out_is) (parted (plan_datasets plan.subfile plan.size) (confirmed_datasets ((object ++ octets) ++ rest)) s.parts others held) in
-          begins_by out text tail whole h.cut.out is;
-    }
+    breaks_off state (ContinuesWith plan octets) old output (canonical_dataset (subfile_dataset held)) cut (λ object out whole s (rest, w).
+    let cut = w.cut in
+    let joins : joined_parts (s.parts ++ held ∷ []) ++ (octets ++ rest) ≡ joined_parts cut.full ++ cut.last =
+    rw (joined_append s.parts held, ← s.object_is) (simp append_assoc at cut.joined) in
+    let (others, first) = first_parts plan.subfile (s.parts ++ held ∷ []) cut.full cut.last (octets ++ rest) (plan_parts plan.subfile plan.size plan.valid).least
+    (full_append plan.subfile s.parts held s.are_full full) cut.are_full cut.fits (λ empty. sym cut.joined ∙ cut.some empty) (omega (arith, some, length-append octets rest)) joins in
+    let last : List Dataset = confirmed_datasets ((object ++ octets) ++ rest) in (
+      canonical_stream (subfile_datasets others ++ last),
+      rw (w.octets_are, cut.parts_are, first, s.out_is) (parted (plan_datasets plan.subfile plan.size) last s.parts others held),
+    ))
 
 -- A break comes after octets that were taken before it, whatever may be written: what may be written of all of them may be of the rest.
 pub breaks_on : {W : Type 0} (state : W → Device) (Now May : List ℕ → List ℕ → Type 0) (a b c : Writing W) (xs : List ℕ) → TextsJoin → Lengthens state a b xs
@@ -226,23 +235,14 @@ finished state old last p = record {
   whole = λ object out s. record { parts = s.parts ++ old.held.items ∷ []; cut = cut_here (writing_of old) object out s; octets_are = sym (ended (writing_of old) object out s) };
 }
 
-pub unfinished : {W : Type 0} (state : W → Device) (old new : Cutter W) → ObjectsAreCutOneWay → new.plan ≡ old.plan → new.failed ≡ true → Cuts state old.output new.output (ending_of (writing_of old))
-    → BreaksOff state (IsTheWhole old.plan) (writing_of old) (writing_of new)
-unfinished state old new one plan failed q =
-    let text : List ℕ = ending_of (writing_of old) in
-    record {
-      more = take q.out text;
-      appends = q.stopped.1;
-      broke = q.stopped.2;
-      patience = omega (arith, q.patience, front_length q.out text q.stopped.0);
-      plan = plan;
-      failed = failed;
-      counted = omega (arith, q.counted, front_length q.out text q.stopped.0);
-      begins = λ object out whole s w.
-          let same : w.parts ≡ s.parts ++ old.held.items ∷ [] = one old.plan.subfile object w.parts (s.parts ++ old.held.items ∷ []) (plan_parts old.plan.subfile old.plan.size old.plan.valid).least w.cut (cut_here (writing_of old) object out s) in
-          let is : whole ≡ out ++ (text ++ []) = rw (w.octets_are, same, append-nil) (ended (writing_of old) object out s) in
-          begins_by out text [] whole q.out is;
-    }
+pub unfinished : {W : Type 0} (state : W → Device) (old : Cutter W) (output : Output W) → ObjectsAreCutOneWay
+    → Cuts state old.output output (ending_of (writing_of old))
+    → BreaksOff state (IsTheWhole old.plan) (writing_of old) (writing_of (record old { output = output; failed = true }))
+unfinished state old output one cut =
+    breaks_off state (IsTheWhole old.plan) old output (ending_of (writing_of old)) cut (λ object out whole s w.
+    let same : w.parts ≡ s.parts ++ old.held.items ∷ [] =
+    one old.plan.subfile object w.parts (s.parts ++ old.held.items ∷ []) (plan_parts old.plan.subfile old.plan.size old.plan.valid).least w.cut (cut_here (writing_of old) object out s) in
+    ([], rw (w.octets_are, same, append-nil) (ended (writing_of old) object out s)))
 
 -- ---- causes
 

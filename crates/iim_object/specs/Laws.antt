@@ -167,8 +167,6 @@ abbrev pub TokensLeadOnAlike : Type 0
 TokensLeadOnAlike = (old new : Option State) (p q r : Place) (tokens : List ObjectToken) → StandsAt old p → StandsAt old q → p.ending ≡ q.ending
     → TokensLead p tokens r → StandsAt new r → (t : Place) × TokensLead q tokens t × StandsAt new t × (r.ending ≡ t.ending)
 
--- ---- The object layer by smaller sizes.
-
 -- From a possible place the object layer can continue by each smaller greatest size that the place keeps to.
 abbrev pub PlacesLiveWithin : Type 0
 PlacesLiveWithin = (most : ℕ) (p : Place) → 1 ≤ most → IsPossible p → TokensWithin most (tokens_of p) → sum p.lengths ≤ most → IsAlive (LanguageWithin most) (tokens_of p)
@@ -190,16 +188,12 @@ abbrev pub ObjectsDieForCauses : Type 0
 ObjectsDieForCauses = (reader : Option State) (p : Place) (token : ObjectToken) → StandsAt reader p → MayFollow p token
     → DiesAt ObjectLanguage (tokens_of p) token ↔ ((cause : SizeCause) × HasCause cause p token)
 
--- ---- What a reader has to tell after whole records.
-
 -- A reader has sizes that are those of the records, wherever it stands after whole ones.
 abbrev pub ReadersTellSizes : Type 0
 ReadersTellSizes = (reader : Option State) → (sizes : Sizes)
     × ((ds : List Dataset) (r : AreObjectRecords ds) → StandsAt reader (place_after_datasets ds) → HaveSizes r.r7 r.r8 r.r9 sizes)
 
--- ---- An object cut into subfiles (IIM version 4, the chapter on the ObjectData record).
-
--- An object is cut in one way.
+-- An object is cut into subfiles in one way (IIM version 4, the chapter on the ObjectData record).
 abbrev pub ObjectsAreCutOneWay : Type 0
 ObjectsAreCutOneWay = (size : ℕ) (object : List ℕ) (parts others : List (List ℕ)) → 1 ≤ size → IsCut size object parts → IsCut size object others
     → parts ≡ others
@@ -246,8 +240,7 @@ abbrev pub SubfilesAreFew : Type 0
 SubfilesAreFew = (subfile : ℕ) (size : Size) (object : List ℕ) (parts : List (List ℕ)) → IsTrue (is_plan subfile size) → IsCut subfile object parts
     → (length object ≤ bound_of subfile size) ↔ KeepsToSizes size object parts
 
--- ---- The laws of objects, as one record: a field for each.
-
+-- The laws of objects: a field for each.
 pub record ObjectLaws : Type 0 where
   -- when the object layer can continue, by the numbers and lengths so far:
   pub numbers_live_without_clash : NumbersLiveWithoutClash

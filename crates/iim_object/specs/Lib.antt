@@ -6,5 +6,4 @@ pub mod States
 pub mod Laws
 -- What only proofs and private clauses cite.
 pub mod Outputs
-pub mod Finding
 pub mod Cutting

@@ -1,7 +1,7 @@
 -- What stands before the first of an octet, and after it.
 use Rattle.iim_script.proofs.Words.{◌≡◌, inl, inr, ℕ, zero, suc, ◌+◌, ◌-◌, ◌<◌, ◌==◌, Bool, true, false, not, cond, List, [], ◌∷◌, ◌++◌, append_assoc, length}
 use Rattle.iim_script.proofs.Words.{length-append, take, drop, get_or, refl, ap, sym, ◌∙◌, subst, arith, position_or_len, list_all, one-add, eq-eqb, eqb-true}
-use Rattle.iim_script.proofs.Words.{false≢true, and_parts, false_from_ne_true, take_rest, all_append, all_front, HasNo, EndsLine}
+use Rattle.iim_script.proofs.Words.{false≢true, and_parts, false_from_ne_true, take_rest, all_append, HasNo, NextLine}
 use Rattle.std.proofs.lemmas.List.Sums.{split_at_first, passes_at_first}
 use Rattle.std.proofs.Math.Seq.{take-length}
 
@@ -43,9 +43,6 @@ cut_once b (x ∷ xs) ys (u ∷ us) vs h k e = let rest = cut_once b xs ys us vs
 pub has_no_append : (b : ℕ) (xs ys : List ℕ) → HasNo b xs → HasNo b ys → HasNo b (xs ++ ys)
 has_no_append b xs ys h k = all_append (λ x. (x == b) ≡ false) xs ys h k
 
-pub has_no_front : (b : ℕ) (xs ys : List ℕ) → HasNo b (xs ++ ys) → HasNo b xs
-has_no_front b xs ys h = all_front (λ x. (x == b) ≡ false) xs ys h
-
 -- a test that an octet fails leaves none of it where it is passed
 pub lacks : (test : ℕ → Bool) (b : ℕ) (xs : List ℕ) → test b ≡ false → list_all test xs ≡ true → HasNo b xs
 lacks test b [] fails h = tt
@@ -69,23 +66,15 @@ last_one (x ∷ []) b zero len e = ap (λ (m : ℕ). m ∷ []) e
 last_one (x ∷ xs) b (suc n) len e = ap (λ (l : List ℕ). x ∷ l) (last_one xs b n (omega (arith, len)) e)
 last_one xs b n len e = absurd (omega (arith, len))
 
-pub at_last : (xs : List ℕ) (b : ℕ) → get_or (xs ++ b ∷ []) (length xs) 0 ≡ b
+at_last : (xs : List ℕ) (b : ℕ) → get_or (xs ++ b ∷ []) (length xs) 0 ≡ b
 at_last [] b = refl
 at_last (x ∷ xs) b = at_last xs b
 
--- the line that a CR and the LF end
-pub ends_in_return : (ended : List ℕ) (n : ℕ) → HasNo 10 ended → length ended ≡ suc n → get_or ended n 0 ≡ 13 → EndsLine (take n ended) (ended ++ 10 ∷ [])
-ends_in_return ended n h len e =
-    let parts = last_one ended 13 n len e in (
-      has_no_front 10 (take n ended) (13 ∷ []) (subst (λ (l : List ℕ). HasNo 10 l) parts h),
-      inl (ap (λ (l : List ℕ). l ++ 10 ∷ []) parts ∙ append_assoc (take n ended) (13 ∷ []) (10 ∷ [])),
-    )
-
--- the line that the LF alone ends
-pub ends_alone : (line : List ℕ) → HasNo 10 line → ((n : ℕ) → length line ≡ suc n → get_or line n 0 ≡ 13 → ⊥) → EndsLine line (line ++ 10 ∷ [])
-ends_alone line h n =
-    (h, inr (refl, λ r. n (length r.0) (omega (arith, ap length r.1, length-append r.0 (13 ∷ []))) (rw r.1 (at_last r.0 13))))
+-- where it ends in no such octet
+pub no_last : (b : ℕ) (xs : List ℕ) → ((n : ℕ) → length xs ≡ suc n → get_or xs n 0 ≡ b → ⊥) → (before : List ℕ) → xs ≡ before ++ b ∷ [] → ⊥
+no_last b xs not before e = not (length before) (omega (arith, ap length e, length-append before (b ∷ []))) (rw e (at_last before b))
 
 -- an LF ends a line that has none, and no CR
-pub ended : (line : List ℕ) → HasNo 10 line → HasNo 13 line → EndsLine line (line ++ 10 ∷ [])
-ended line h k = (h, inr (refl, λ returned. has_no_octet 13 returned.0 [] (rw returned.1 at k)))
+pub ended : (octets line after : List ℕ) → octets ≡ line ++ 10 ∷ after → HasNo 10 line → HasNo 13 line → NextLine octets line after
+ended octets line after e h k =
+    record { ended = line; no_feed = h; is_line = inr (refl, λ before f. has_no_octet 13 before [] (rw f at k)); parts = e }

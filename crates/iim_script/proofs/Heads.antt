@@ -1,10 +1,9 @@
 -- The words of a header's line.
 use Rattle.iim_script.proofs.Words.{◌≡◌, ℕ, ◌-◌, ◌==◌, List, [], ◌∷◌, ◌++◌, length, take, drop, get_or, refl, ap, sym, ◌∙◌, subst, Option, Some, None, IfSome}
 use Rattle.iim_script.proofs.Words.{IfNone, position_or_len, eqb-true, false≢true, take_rest, take-append-drop, is_alphanumeric, is_letter, is_digit, Header}
-use Rattle.iim_script.proofs.Words.{IsHeader, HasNo, TellsLast, TellsHead, words_of, message_word, after_source, after_number, after_priority, after_category}
+use Rattle.iim_script.proofs.Words.{IsHeader, HasNo, AreWords, TellsLast, TellsHead, message_word, head_words}
 use Rattle.std.proofs.Common.{append-nil, IsSome}
 use Rattle.wire_message.specs.Format.Messages.{header_of}
-use Rattle.iim_script.specs.Format.Forms.{HeadWords, AreWords}
 use Rattle.iim_script.proofs.Cuts.{cut_once, has_no_octet, has_no_before, lacks, first_passes}
 use Rattle.iim_script.proofs.Texts.{last_once}
 
@@ -19,6 +18,10 @@ word_once w [] v (y ∷ f) h k n m e = absurd (has_no_octet 32 v f (rw (← appe
 word_once w (x ∷ es) v [] h k n m e = absurd (has_no_octet 32 w es (rw (← append-nil v, ← e, n) at k))
 word_once w (x ∷ es) v (y ∷ f) h k n m e = let parts = cut_once 32 w es v f h k (rw (n, m) at e) in (parts.0, cc)
 
+-- what follows the first word
+pub next_word : {octets rest end : List ℕ} (word w : List ℕ) → HasNo 32 word × (octets ≡ word ++ 32 ∷ rest) → HasNo 32 w → octets ≡ w ++ (32 ∷ end) → rest ≡ end
+next_word {octets} {rest} {end} word w found none is = (cut_once 32 word rest w end found.0 none (sym found.1 ∙ is)).1
+
 -- where no SP is left
 pub no_more : (w rest : List ℕ) (found : List ℕ) → HasNo 32 found → found ≡ w ++ 32 ∷ rest → ⊥
 no_more w rest found h e = has_no_octet 32 w rest (rw e at h)
@@ -27,7 +30,7 @@ no_more w rest found h e = has_no_octet 32 w rest (rw e at h)
 pub words_found : (octets source r1 number r2 priority r3 category r4 : List ℕ) (n : ℕ)
     → HasNo 32 source → octets ≡ source ++ 32 ∷ r1 → HasNo 32 number → r1 ≡ number ++ 32 ∷ r2 → HasNo 32 priority → r2 ≡ priority ++ 32 ∷ r3
     → HasNo 32 category → r3 ≡ category ++ 32 ∷ r4 → n ≡ position_or_len (λ x. x == 32) r4
-    → AreWords octets (record { source = source; number = number; priority = priority; category = category; words = take n r4 }) (take (length r4 - n) (drop n r4))
+    → AreWords octets (header_of source number priority category (take n r4) []) (take (length r4 - n) (drop n r4))
 words_found octets source r1 number r2 priority r3 category r4 n h1 e1 h2 e2 h3 e3 h4 e4 at = record {
   source = h1;
   number = h2;
@@ -38,22 +41,23 @@ words_found octets source r1 number r2 priority r3 category r4 n h1 e1 h2 e2 h3 
   octets_are = rw (take_rest, take-append-drop, e1, e2, e3, e4);
 }
 
-same_words : (w v : HeadWords) → w.source ≡ v.source → w.number ≡ v.number → w.priority ≡ v.priority → w.category ≡ v.category → w.words ≡ v.words → w ≡ v
-same_words w v a b c d e = λ i. record { source = a i; number = b i; priority = c i; category = d i; words = e i }
+-- the header of these words and this info
+abbrev pub header_with : Header → List ℕ → Header
+header_with h info = header_of h.source h.number h.priority h.category h.words info
 
 -- the words of a line are found in one way
-pub words_once : (octets : List ℕ) (w v : HeadWords) (end other : List ℕ) → AreWords octets w end → AreWords octets v other → (w ≡ v) × (end ≡ other)
-words_once octets w v end other a b =
-    let one = cut_once 32 w.source (after_source w end) v.source (after_source v other) a.source b.source (sym a.octets_are ∙ b.octets_are) in
-    let two = cut_once 32 w.number (after_number w end) v.number (after_number v other) a.number b.number one.1 in
-    let three = cut_once 32 w.priority (after_priority w end) v.priority (after_priority v other) a.priority b.priority two.1 in
-    let four = cut_once 32 w.category (after_category w end) v.category (after_category v other) a.category b.category three.1 in
-    let five = word_once w.words end v.words other a.words b.words a.ends b.ends four.1 in
-    (same_words w v one.0 two.0 three.0 four.0 five.0, five.1)
+words_once : (octets info : List ℕ) (h k : Header) (end other : List ℕ) → AreWords octets h end → AreWords octets k other
+    → (header_with h info ≡ header_with k info) × (end ≡ other)
+words_once octets info h k end other a b =
+    let one = cut_once 32 h.source _ k.source _ a.source b.source (sym a.octets_are ∙ b.octets_are) in
+    let two = cut_once 32 h.number _ k.number _ a.number b.number one.1 in
+    let three = cut_once 32 h.priority _ k.priority _ a.priority b.priority two.1 in
+    let four = cut_once 32 h.category _ k.category _ a.category b.category three.1 in
+    let five = word_once h.words end k.words other a.words b.words a.ends b.ends four.1 in
+    (λ i. header_of (one.0 i) (two.0 i) (three.0 i) (four.0 i) (five.0 i) info, five.1)
 
 -- the words of a header are words
-pub words_of_header : (head : Header) (end : List ℕ) → IsHeader head → get_or end 0 32 ≡ 32
-    → AreWords (head.source ++ (32 ∷ after_source (words_of head) end)) (words_of head) end
+pub words_of_header : (head : Header) (end : List ℕ) → IsHeader head → get_or end 0 32 ≡ 32 → AreWords (head_words head end) head end
 words_of_header head end h ends = record {
   source = lacks is_letter 32 head.source refl h.source.0;
   number = lacks is_digit 32 head.number refl h.number.0;
@@ -70,34 +74,30 @@ last_ends end [] told = ap (λ (l : List ℕ). get_or l 0 32) told
 last_ends end (octet ∷ octets) told = ap (λ (l : List ℕ). get_or l 0 32) told.1
 
 -- the words of a line that tells a header
-pub words_told : (line rest : List ℕ) (head : Header) (t : TellsHead line head) → line ≡ message_word ++ rest → AreWords rest (words_of head) t.end
+pub words_told : (line rest : List ℕ) (head : Header) (t : TellsHead line head) → line ≡ message_word ++ rest → AreWords rest head t.end
 words_told line rest head t e =
-    subst (λ (l : List ℕ). AreWords l (words_of head) t.end) (ap (λ (l : List ℕ). drop 8 l) (sym t.line_is ∙ e))
+    subst (λ (l : List ℕ). AreWords l head t.end) (ap (λ (l : List ℕ). drop 8 l) (sym t.line_is ∙ e))
     (words_of_header head t.end t.is_header (last_ends t.end head.info t.is_end))
 
 -- The one header that a line can tell.
-pub head_told : (line rest end : List ℕ) (w : HeadWords) (head : Header) → line ≡ message_word ++ rest → AreWords rest w end → (t : TellsHead line head)
-    → (w ≡ words_of head) × (end ≡ t.end)
-head_told line rest end w head e words t = words_once rest w (words_of head) end t.end words (words_told line rest head t e)
+pub head_told : (line rest end : List ℕ) (w head : Header) → line ≡ message_word ++ rest → AreWords rest w end → (t : TellsHead line head)
+    → (header_with w head.info ≡ head) × (end ≡ t.end)
+head_told line rest end w head e words t = words_once rest head.info w head end t.end words (words_told line rest head t e)
 
--- the header of these words and this info
-abbrev pub header_with : HeadWords → List ℕ → Header
-header_with w info = header_of w.source w.number w.priority w.category w.words info
-
-pub is_told : (line rest end info : List ℕ) (w : HeadWords) (r : Option Header) → line ≡ message_word ++ rest → AreWords rest w end → TellsLast end info
+pub is_told : (line rest end info : List ℕ) (w : Header) (r : Option Header) → line ≡ message_word ++ rest → AreWords rest w end → TellsLast end info
     → (IsSome r → IsHeader (header_with w info)) → IfSome r (λ head. head ≡ header_with w info) → IfSome r (λ head. TellsHead line head)
 is_told line rest end info w None e words last admitted parts = tt
 is_told line rest end info w (Some head) e words last admitted parts =
     rw parts (record { end = end; is_header = admitted refl; is_end = last; line_is = rw (e, words.octets_are) refl })
 
-pub head_once : (line rest end info : List ℕ) (w : HeadWords) (head : Header) → line ≡ message_word ++ rest → AreWords rest w end → TellsLast end info
+pub head_once : (line rest end info : List ℕ) (w head : Header) → line ≡ message_word ++ rest → AreWords rest w end → TellsLast end info
     → TellsHead line head → head ≡ header_with w info
 head_once line rest end info w head e words last t =
     let same = head_told line rest end w head e words t in
     let same_info : head.info ≡ info = last_once end head.info info (rw same.1 t.is_end) last in
-    rw (same.0, ← same_info) refl
+    sym same.0 ∙ ap (header_with w) same_info
 
-pub is_not_told : (line rest end info : List ℕ) (w : HeadWords) (r : Option Header) → line ≡ message_word ++ rest → AreWords rest w end → TellsLast end info
+pub is_not_told : (line rest end info : List ℕ) (w : Header) (r : Option Header) → line ≡ message_word ++ rest → AreWords rest w end → TellsLast end info
     → (IsHeader (header_with w info) → IsSome r) → IfNone r ((head : Header) → TellsHead line head → ⊥)
 is_not_told line rest end info w None e words last admitted =
     λ head t. false≢true (admitted (subst (λ (h : Header). IsHeader h) (head_once line rest end info w head e words last t) t.is_header))

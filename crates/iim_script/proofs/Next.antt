@@ -1,61 +1,54 @@
 -- The next line of a script, and the first line of a text.
 use Rattle.std.proofs.Common.{◌≡◌, ◌⊎◌, inl, inr, ℕ, ◌+◌, List, [], ◌∷◌, ◌++◌, append_assoc, append-nil, length, length-append, refl, ap, sym, ◌∙◌, subst, arith, zero, suc, ◌≤◌, replicate}
-use Rattle.iim_script.specs.Format.Lines.{HasNo, EndsInReturn, EndsLine, NextLine, EndLines}
+use Rattle.iim_script.specs.Format.Lines.{HasNo, WithoutLast, NextLine, NextLines}
+use Rattle.std.proofs.lemmas.List.{append_cancel_right}
 use Rattle.iim_script.proofs.Cuts.{cut_once, has_no_octet, has_no_append, lacks}
 use Rattle.wire_story.specs.Format.Texts.{IsLine, IsText, is_line_octet}
-use Rattle.iim_script.specs.Plain.{IsWithoutReturn}
 
-pub snoc_once : (xs ys : List ℕ) (b : ℕ) → xs ++ b ∷ [] ≡ ys ++ b ∷ [] → xs ≡ ys
-snoc_once [] [] b e = refl
-snoc_once (x ∷ xs) (y ∷ ys) b e = let rest = snoc_once xs ys b (cc) in cc
-snoc_once xs ys b e = absurd (omega (arith, ap length e, length-append xs (b ∷ []), length-append ys (b ∷ [])))
-
--- what stands before the LF: the line, or the line and a CR
-record AtFeed (octets line after : List ℕ) : Type 0 where
-  before : List ℕ
-  none : HasNo 10 before
-  parts : octets ≡ before ++ 10 ∷ after
-  is_line : (before ≡ line ++ 13 ∷ []) ⊎ ((before ≡ line) × (EndsInReturn line → ⊥))
-
-at_feed : (octets line after : List ℕ) → NextLine octets line after → AtFeed octets line after
-at_feed octets line after n = elim n.ends.1 [
-  | inl e ↦
-      let none = has_no_append 10 line (13 ∷ []) n.ends.0 (refl, tt) in
-      record { before = line ++ 13 ∷ []; none = none; parts = rw (n.parts, e) (simp append_assoc); is_line = inl refl }
-  | inr e ↦ record { before = line; none = n.ends.0; parts = rw (n.parts, e.0) (simp append_assoc); is_line = inr (refl, e.1) }
-]
-
-line_once : (l m before other : List ℕ) → before ≡ other → (before ≡ l ++ 13 ∷ []) ⊎ ((before ≡ l) × (EndsInReturn l → ⊥))
-    → (other ≡ m ++ 13 ∷ []) ⊎ ((other ≡ m) × (EndsInReturn m → ⊥)) → l ≡ m
-line_once l m before other e (inl a) (inl b) = snoc_once l m 13 (sym a ∙ (e ∙ b))
-line_once l m before other e (inl a) (inr (b, n)) = absurd (n (l, sym b ∙ (sym e ∙ a)))
-line_once l m before other e (inr (a, n)) (inl b) = absurd (n (m, sym a ∙ (e ∙ b)))
-line_once l m before other e (inr (a, n)) (inr (b, k)) = sym a ∙ (e ∙ b)
+-- what is without the last is one thing
+without_once : (b : ℕ) (octets xs ys : List ℕ) → WithoutLast b octets xs → WithoutLast b octets ys → xs ≡ ys
+without_once b octets xs ys (inl e) (inl f) = append_cancel_right xs ys (b ∷ []) (sym e ∙ f)
+without_once b octets xs ys (inl e) (inr (f, none)) = absurd (none xs e)
+without_once b octets xs ys (inr (e, none)) (inl f) = absurd (none ys f)
+without_once b octets xs ys (inr (e, none)) (inr (f, other)) = sym e ∙ f
 
 -- the next line is one, and so is what follows it
 pub next_once : (octets l a m b : List ℕ) → NextLine octets l a → NextLine octets m b → (l ≡ m) × (a ≡ b)
 next_once octets l a m b x y =
-    let f = at_feed octets l a x in
-    let g = at_feed octets m b y in
-    let same = cut_once 10 f.before a g.before b f.none g.none (sym f.parts ∙ g.parts) in
-    (line_once l m f.before g.before same.0 f.is_line g.is_line, same.1)
+    let same = cut_once 10 x.ended a y.ended b x.no_feed y.no_feed (sym x.parts ∙ y.parts) in
+    (without_once 13 y.ended l m (rw same.0 at x.is_line) y.is_line, same.1)
 
 -- where no LF is left there is no next line
 pub no_next : (octets line after : List ℕ) → HasNo 10 octets → NextLine octets line after → ⊥
-no_next octets line after h x =
-    let f = at_feed octets line after x in
-    has_no_octet 10 f.before after (subst (λ (l : List ℕ). HasNo 10 l) f.parts h)
+no_next octets line after h x = has_no_octet 10 x.ended after (subst (λ (l : List ℕ). HasNo 10 l) x.parts h)
 
 -- lines after others
-pub lines_append : (lines others : List (List ℕ)) (front next : List ℕ) → EndLines lines front → EndLines others next
-    → EndLines (lines ++ others) (front ++ next)
-lines_append [] others front next h k = rw h k
-lines_append (x ∷ lines) others front next (first, rest, is, more, e) k =
-    (first, rest ++ next, is, lines_append lines others rest next more k, rw e (append_assoc first rest next))
+pub lines_append : (octets rest after : List ℕ) (lines others : List (List ℕ)) → NextLines octets lines rest → NextLines rest others after
+    → NextLines octets (lines ++ others) after
+lines_append octets rest after [] others h k = rw h k
+lines_append octets rest after (line ∷ lines) others (next, n, more) k = (next, n, lines_append next rest after lines others more k)
 
 -- one line more
-pub lines_more : (lines : List (List ℕ)) (front line ended : List ℕ) → EndLines lines front → EndsLine line ended → EndLines (lines ++ line ∷ []) (front ++ ended)
-lines_more lines front line ended h ends = lines_append lines (line ∷ []) front ended h (ended, [], ends, refl, sym (append-nil ended))
+pub lines_more : (octets : List ℕ) {rest line after : List ℕ} (lines : List (List ℕ)) → NextLines octets lines rest → NextLine rest line after
+    → NextLines octets (lines ++ line ∷ []) after
+lines_more octets {rest} {line} {after} lines h n = lines_append octets rest after lines (line ∷ []) h (after, n, refl)
+
+-- lines with other octets after them
+pub lines_before : (octets rest more : List ℕ) (lines : List (List ℕ)) → NextLines octets lines rest → NextLines (octets ++ more) lines (rest ++ more)
+lines_before octets rest more [] h = ap (λ (l : List ℕ). l ++ more) h
+lines_before octets rest more (line ∷ lines) (after, n, h) =
+    let parts : octets ++ more ≡ n.ended ++ 10 ∷ (after ++ more) = rw n.parts (append_assoc n.ended (10 ∷ after) more) in
+    (after ++ more, record { ended = n.ended; no_feed = n.no_feed; is_line = n.is_line; parts = parts }, lines_before after rest more lines h)
+
+-- the octets of lines, and what follows them
+pub lines_front : (octets rest : List ℕ) (lines : List (List ℕ)) → NextLines octets lines rest
+    → (front : List ℕ) × (octets ≡ front ++ rest) × NextLines front lines []
+lines_front octets rest [] h = ([], h, refl)
+lines_front octets rest (line ∷ lines) (after, n, h) =
+    let (front, parts, lined) = lines_front after rest lines h in
+    let next : NextLine (n.ended ++ 10 ∷ front) line front = record { ended = n.ended; no_feed = n.no_feed; is_line = n.is_line; parts = refl } in
+    let whole = n.parts ∙ (ap (λ (l : List ℕ). n.ended ++ 10 ∷ l) parts ∙ sym (append_assoc n.ended (10 ∷ front) rest)) in
+    (n.ended ++ 10 ∷ front, whole, (front, next, lined))
 
 pub count_more : (lines : List (List ℕ)) (line : List ℕ) → length (lines ++ line ∷ []) ≡ length lines + 1
 count_more lines line = length-append lines (line ∷ [])
@@ -67,20 +60,19 @@ no_feed line h = lacks is_line_octet 10 line refl h
 
 -- ---- the line without the CR of its end
 
-left_alone : (line octets front : List ℕ) → IsLine line → octets ≡ line → IsWithoutReturn octets front → front ≡ line
-left_alone line octets front is e (inl f) = absurd (has_no_octet 13 front [] (rw (sym e ∙ f) at (lacks is_line_octet 13 line refl is)))
-left_alone line octets front is e (inr f) = sym f.0 ∙ e
+alone : (line : List ℕ) → IsLine line → WithoutLast 13 line line
+alone line is = inr (refl, λ before e. has_no_octet 13 before [] (rw e at (lacks is_line_octet 13 line refl is)))
 
-left_of_one : (line octets front : List ℕ) → octets ≡ line ++ 13 ∷ [] → IsWithoutReturn octets front → front ≡ line
-left_of_one line octets front e (inl f) = snoc_once front line 13 (sym f ∙ e)
-left_of_one line octets front e (inr f) = absurd (f.1 line e)
-
-pub line_left : (line : List ℕ) (n : ℕ) (ended first second : List ℕ) → IsLine line → n ≤ 2 → ended ≡ line ++ replicate n 13 → IsWithoutReturn ended first → IsWithoutReturn first second
-    → second ≡ line
-line_left line zero ended first second is few e a b = left_alone line first second is (left_alone line ended first is (e ∙ append-nil line) a) b
-line_left line (suc zero) ended first second is few e a b = left_alone line first second is (left_of_one line ended first e a) b
+pub line_left : (line : List ℕ) (n : ℕ) (ended first second : List ℕ) → IsLine line → n ≤ 2 → ended ≡ line ++ replicate n 13 → WithoutLast 13 ended first
+    → WithoutLast 13 first second → second ≡ line
+line_left line zero ended first second is few e a b =
+    let same = without_once 13 line first line (rw (e ∙ append-nil line) at a) (alone line is) in
+    without_once 13 line second line (rw same at b) (alone line is)
+line_left line (suc zero) ended first second is few e a b =
+    let same = without_once 13 ended first line a (inl e) in without_once 13 line second line (rw same at b) (alone line is)
 line_left line (suc (suc zero)) ended first second is few e a b =
-    left_of_one line first second (left_of_one (line ++ 13 ∷ []) ended first (e ∙ sym (append_assoc line (13 ∷ []) (13 ∷ []))) a) b
+    let same = without_once 13 ended first (line ++ 13 ∷ []) a (inl (e ∙ sym (append_assoc line (13 ∷ []) (13 ∷ [])))) in
+    without_once 13 (line ++ 13 ∷ []) second line (rw same at b) (inl refl)
 line_left line (suc (suc (suc n))) ended first second is few e a b = absurd (omega (arith, few))
 
 -- ---- the first line

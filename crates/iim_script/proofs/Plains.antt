@@ -1,9 +1,9 @@
 -- Stories whose lines end in LF alone.
 use Rattle.iim_script.proofs.Words.{◌≡◌, inl, inr, ℕ, zero, suc, ◌+◌, ◌*◌, ◌<◌, ◌==◌, Bool, true, false, cond, List, [], ◌∷◌, ◌++◌, append_assoc, length}
 use Rattle.iim_script.proofs.Words.{take, drop, map, count_by, get_or, refl, ap, sym, ◌∙◌, subst, arith, IsTrue, list_all, AllByRecursion, and_parts}
-use Rattle.iim_script.proofs.Words.{and_from, nat_tests, take-append-drop, is_line_octet, IsLine, IsText, HasNo, EndsLine, EndLines, IsStory, all_last}
-use Rattle.iim_script.proofs.Words.{TellsText}
-use Rattle.std.proofs.Common.{append-nil, take-add}
+use Rattle.iim_script.proofs.Words.{and_from, nat_tests, take-append-drop, is_line_octet, IsLine, IsText, HasNo, NextLine, NextLines}
+use Rattle.iim_script.proofs.Words.{WithoutLast, IsStory, TellsText}
+use Rattle.std.proofs.Common.{take-add}
 use Rattle.std.specs.List.{onto_first, join_with_byte}
 use Rattle.std.specs.Simd.Lanes.{mask_l}
 use Rattle.std.proofs.lemmas.Bool.{cases_Bool}
@@ -15,8 +15,9 @@ use Rattle.wire_story.specs.Joining.{lines_in}
 use Rattle.wire_story.proofs.Collected.{some_line, packed_len}
 use Rattle.iim_script.specs.Format.Printed.{PrintsStory}
 use Rattle.iim_script.proofs.Cuts.{lacks, ended}
-use Rattle.iim_script.proofs.Next.{no_feed, lines_more}
-use Rattle.iim_script.specs.Plain.{is_plain, is_low, IsWithoutFeed}
+use Rattle.iim_script.proofs.Next.{no_feed}
+use Rattle.iim_script.specs.Plain.{is_plain}
+use Rattle.wire_story.specs.Marking.{is_low}
 
 -- ---- octets
 
@@ -67,69 +68,68 @@ joined_text (line ∷ next ∷ lines) some h =
 
 -- ---- their story
 
-ends_line : (line : List ℕ) → IsLine line → EndsLine line (line ++ 10 ∷ [])
-ends_line line is = ended line (no_feed line is) (lacks is_line_octet 13 line refl is)
+ends_line : (line after : List ℕ) → IsLine line → NextLine (line ++ 10 ∷ after) line after
+ends_line line after is = ended (line ++ 10 ∷ after) line after refl (no_feed line is) (lacks is_line_octet 13 line refl is)
 
 -- The last of the lines is not ended.
 record Open (lines : List (List ℕ)) (text : List ℕ) : Type 0 where
   before : List (List ℕ)
   last : List ℕ
-  ended : List ℕ
   lines_are : lines ≡ before ++ last ∷ []
-  lined : EndLines before ended
-  text_is : text ≡ ended ++ last
+  lined : NextLines text before last
   none : HasNo 10 last
 
 last_open : (lines : List (List ℕ)) → 0 < length lines → Each lines → Open lines (join_with_byte 10 lines)
 last_open [] some h = absurd (omega (arith, some))
-last_open (line ∷ []) some h = record { before = []; last = line; ended = []; lines_are = refl; lined = refl; text_is = refl; none = no_feed line h.0 }
+last_open (line ∷ []) some h = record { before = []; last = line; lines_are = refl; lined = refl; none = no_feed line h.0 }
 last_open (line ∷ next ∷ lines) some h =
     let o = last_open (next ∷ lines) (omega arith) h.1 in
-    record {
-      before = line ∷ o.before;
-      last = o.last;
-      ended = (line ++ 10 ∷ []) ++ o.ended;
-      lines_are = ap (λ (ls : List (List ℕ)). line ∷ ls) o.lines_are;
-      lined = (line ++ 10 ∷ [], o.ended, ends_line line h.0, o.lined, refl);
-      text_is = ap (λ (l : List ℕ). line ++ 10 ∷ l) o.text_is ∙ simp append_assoc;
-      none = o.none;
-    }
+    let rest : List ℕ = join_with_byte 10 (next ∷ lines) in
+    let lines_are = ap (λ (ls : List (List ℕ)). line ∷ ls) o.lines_are in
+    record { before = line ∷ o.before; last = o.last; lines_are = lines_are; lined = (rest, ends_line line rest h.0, o.lined); none = o.none }
+
+-- Each of them is.
+all_ended : (lines : List (List ℕ)) → 0 < length lines → Each lines → NextLines (join_with_byte 10 lines ++ 10 ∷ []) lines []
+all_ended [] some h = absurd (omega (arith, some))
+all_ended (line ∷ []) some h = ([], ends_line line [] h.0, refl)
+all_ended (line ∷ next ∷ lines) some h =
+    let rest : List ℕ = join_with_byte 10 (next ∷ lines) in
+    (rest ++ 10 ∷ [], rw (append_assoc line (10 ∷ rest) (10 ∷ [])) (ends_line line (rest ++ 10 ∷ []) h.0), all_ended (next ∷ lines) (omega arith) h.1)
 
 -- lines that are ended have an LF at their end
-feed_at_last : (line : List ℕ) (lines : List (List ℕ)) (octets : List ℕ) → EndLines (line ∷ lines) octets → (front : List ℕ) × (octets ≡ front ++ 10 ∷ [])
-feed_at_last line [] octets (first, rest, ends, none, e) =
-    elim ends.1 [ inl f ↦ (line ++ 13 ∷ [], rw (e, none, f) (simp append_assoc)) | inr f ↦ (line, rw (e, none, f.0) (simp append_assoc)) ]
-feed_at_last line (next ∷ lines) octets (first, rest, ends, more, e) =
-    let f = feed_at_last next lines rest more in (first ++ f.0, e ∙ (ap (λ (l : List ℕ). first ++ l) f.1 ∙ sym (append_assoc first f.0 (10 ∷ []))))
+feed_at_last : (line : List ℕ) (lines : List (List ℕ)) (octets rest : List ℕ) → NextLines octets (line ∷ lines) rest
+    → (front : List ℕ) × (octets ≡ front ++ 10 ∷ rest)
+feed_at_last line [] octets rest (after, n, e) = (n.ended, rw e at n.parts)
+feed_at_last line (next ∷ lines) octets rest (after, n, more) =
+    let (front, e) = feed_at_last next lines after rest more in
+    (n.ended ++ 10 ∷ front, n.parts ∙ (ap (λ (l : List ℕ). n.ended ++ 10 ∷ l) e ∙ sym (append_assoc n.ended (10 ∷ front) (10 ∷ rest))))
 
-stands_alone : (before : List (List ℕ)) (ended last text : List ℕ) → EndLines before ended → text ≡ ended ++ last → ((front : List ℕ) → text ≡ front ++ 10 ∷ [] → ⊥) → last ≡ [] → before ≡ []
-stands_alone [] ended last text lined is not empty = refl
-stands_alone (line ∷ lines) ended last text lined is not empty =
-    let f = feed_at_last line lines ended lined in
-    absurd (not f.0 (rw (is, empty, append-nil) f.1))
+stands_alone : (before : List (List ℕ)) (last text : List ℕ) → NextLines text before last
+    → ((front : List ℕ) → text ≡ front ++ 10 ∷ [] → ⊥) → last ≡ [] → before ≡ []
+stands_alone [] last text lined not empty = refl
+stands_alone (line ∷ lines) last text lined not empty = let (front, e) = feed_at_last line lines text last lined in
+    absurd (not front (e ∙ ap (λ (l : List ℕ). front ++ 10 ∷ l) empty))
 
 -- ---- the whole
 
 -- what is printed of a story is one
 pub story_printed : (story : List ℕ) (lines : List (List ℕ)) → 0 < length lines → Each lines → PrintsStory story lines → IsStory story lines
-story_printed story lines some each (inl is) =
-    let o = last_open lines some each in
-    let last = ends_line o.last (all_last IsLine o.before o.last (rw o.lines_are at each)) in
-    let lined = lines_more o.before o.ended o.last (o.last ++ 10 ∷ []) o.lined last in
-    (some, inl (rw is (rw (← append_assoc o.ended o.last (10 ∷ []), ← o.text_is, ← o.lines_are) at lined)))
+story_printed story lines some each (inl is) = (some, inl (rw is (all_ended lines some each)))
 story_printed story lines some each (inr (is, alone)) =
     let o = last_open lines some each in
     let alone_empty = λ (empty : o.last ≡ []). alone o.before (rw empty at o.lines_are) in
-    (some, inr (o.before, o.last, o.ended, o.lines_are, o.lined, is ∙ o.text_is, o.none, alone_empty))
+    (some, inr (o.before, o.last, o.lines_are, rw is o.lined, o.none, alone_empty))
 
-story_is : (story text : List ℕ) (lines : List (List ℕ)) → 0 < length lines → Each lines → text ≡ join_with_byte 10 lines → IsWithoutFeed story text → IsStory story lines
+story_is : (story text : List ℕ) (lines : List (List ℕ)) → 0 < length lines → Each lines → text ≡ join_with_byte 10 lines
+    → WithoutLast 10 story text → IsStory story lines
 story_is story text lines some each is (inl e) = story_printed story lines some each (inl (rw is at e))
 story_is story text lines some each is (inr (e, not)) =
     let o = last_open lines some each in
-    let parts : story ≡ o.ended ++ o.last = e ∙ (is ∙ o.text_is) in
-    (some, inr (o.before, o.last, o.ended, o.lines_are, o.lined, parts, o.none, stands_alone o.before o.ended o.last story o.lined parts not))
+    let lined : NextLines story o.before o.last = rw (e ∙ is) o.lined in
+    (some, inr (o.before, o.last, o.lines_are, lined, o.none, stands_alone o.before o.last story lined not))
 
-pub tells_plain : (story text : List ℕ) (feeds len : ℕ) → IsWithoutFeed story text → IsTrue (list_all is_plain text) → feeds ≡ count_by (λ b. b == 10) text → len ≡ length text + feeds
+pub tells_plain : (story text : List ℕ) (feeds len : ℕ) → WithoutLast 10 story text → IsTrue (list_all is_plain text)
+    → feeds ≡ count_by (λ b. b == 10) text → len ≡ length text + feeds
     → TellsText story text len
 tells_plain story text feeds len cut plain counted e =
     let lines = lines_in text in

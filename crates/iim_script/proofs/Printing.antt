@@ -1,10 +1,9 @@
 -- What is printed tells what it is printed of, and ends in lines.
 use Rattle.iim_script.proofs.Words.{◌≡◌, inl, inr, ℕ, ◌+◌, ◌/◌, ◌%◌, ◌<◌, ◌≤◌, ◌==◌, ◌&&◌, nat_le, nat_lt, Bool, true, false, cond, List, [], ◌∷◌, ◌++◌}
 use Rattle.iim_script.proofs.Words.{append_assoc, length, map, get_or, refl, sym, subst, arith, AllByRecursion, list_all, flat_map, false≢true, and_from}
-use Rattle.iim_script.proofs.Words.{and_parts, nat_tests, is_letter, is_digit, Dataset, is_alphanumeric, Header, IsHeader, HasNo, EndsLine, EndLines}
-use Rattle.iim_script.proofs.Words.{IsHexDigit, TellsOctets, TellsLast, TellsNumber, TellsField, TellsHead, TellsTrailer, message_word, words_of}
-use Rattle.iim_script.proofs.Words.{after_source, after_number, after_priority, after_category, shown_octet, shown, field_line, message_line, trailer_line}
-use Rattle.iim_script.proofs.Words.{TellFields}
+use Rattle.iim_script.proofs.Words.{and_parts, nat_tests, is_letter, is_digit, Dataset, is_alphanumeric, Header, IsHeader, HasNo, NextLine, NextLines}
+use Rattle.iim_script.proofs.Words.{IsHexDigit, TellsOctets, TellsLast, TellsNumber, TellsField, TellsHead, TellsTrailer, message_word, head_words}
+use Rattle.iim_script.proofs.Words.{shown_octet, shown, field_line, message_line, trailer_line}
 use Rattle.std.specs.Prelude.{decimal}
 use Rattle.std.proofs.lemmas.Bool.{leb-true, le-leb}
 use Rattle.std.proofs.lemmas.Fmt.{decimal_nonempty, digits_decimal, digits_value-decimal, length-decimal-le}
@@ -12,7 +11,7 @@ use Rattle.std.proofs.lemmas.Str.Parse.{IsDigitsTest, IsNumeralModel, numerals_b
 use Rattle.iim_dataset.specs.Format.Octets.{Octets}
 use Rattle.wire_message.specs.Format.Fields.{Are}
 use Rattle.wire_message.specs.Format.Fields as message
-use Rattle.iim_script.specs.Format.Shown.{TellsOctet}
+use Rattle.iim_script.specs.Format.Shown.{BeginsWith}
 use Rattle.iim_script.specs.Format.Forms.{decimal_from, trailer_word}
 use Rattle.iim_dataset.specs.Format.Shown.{hex_digit, escape, is_plain, padding, dataset_name}
 use Rattle.iim_script.specs.Format.Printed.{after_space}
@@ -23,9 +22,9 @@ use Rattle.iim_script.proofs.Cuts.{has_no_append, lacks, ended}
 hex : (n : ℕ) → n < 16 → IsHexDigit (hex_digit n) n
 hex n h = grind (arith, nat_tests)
 
-octet_by : (octet : ℕ) (b : Bool) → is_plain octet ≡ b → octet < 256 → TellsOctet (cond b (octet ∷ []) (escape octet)) octet
-octet_by octet true e h = inl (λ is. false≢true (subst (λ (n : ℕ). is_plain n ≡ true) is e), refl)
-octet_by octet false e h = inr (
+octet_by : (octet : ℕ) (rest : List ℕ) (b : Bool) → is_plain octet ≡ b → octet < 256 → BeginsWith (cond b (octet ∷ []) (escape octet) ++ rest) octet rest
+octet_by octet rest true e h = inl (λ is. false≢true (subst (λ (n : ℕ). is_plain n ≡ true) is e), refl)
+octet_by octet rest false e h = inr (
   hex_digit (octet / 16),
   hex_digit (octet % 16),
   refl,
@@ -35,7 +34,7 @@ octet_by octet false e h = inr (
 -- shown octets tell the octets
 pub shown_tells : (xs : List ℕ) → Octets xs → TellsOctets (shown xs) xs
 shown_tells [] h = refl
-shown_tells (x ∷ xs) h = (shown xs, (shown_octet x, octet_by x (is_plain x) refl h.0, refl), shown_tells xs h.1)
+shown_tells (x ∷ xs) h = (shown xs, octet_by x (shown xs) (is_plain x) refl h.0, shown_tells xs h.1)
 
 pub after_tells : (xs : List ℕ) → Octets xs → TellsLast (after_space xs) xs
 after_tells [] h = refl
@@ -138,22 +137,20 @@ field_lacks b d small fails h =
     (other 58 b (omega (arith, small)), lacks is_digit b (padding d.set ++ decimal d.set) fails (padded_digits d.set h.set).are_digits))
     (after_lacks b d.octets small)
 
-field_ends : (d : Dataset) → IsPrintable d → EndsLine (field_words d) (field_line d)
-field_ends d h =
-    subst (λ (l : List ℕ). EndsLine (field_words d) l) (append_assoc (dataset_name d.rec d.set) (after_space d.octets) (10 ∷ []))
-    (ended (field_words d) (field_lacks 10 d (omega arith) refl h) (field_lacks 13 d (omega arith) refl h))
+field_ended : (d : Dataset) (after : List ℕ) → field_line d ++ after ≡ field_words d ++ 10 ∷ after
+field_ended d after = simp append_assoc
+
+field_ends : (d : Dataset) (after : List ℕ) → IsPrintable d → NextLine (field_line d ++ after) (field_words d) after
+field_ends d after h =
+    ended (field_line d ++ after) (field_words d) after (field_ended d after) (field_lacks 10 d (omega arith) refl h) (field_lacks 13 d (omega arith) refl h)
 
 -- the lines of datasets, before others
-pub fields_end : (ds : List Dataset) (lines : List (List ℕ)) (octets : List ℕ) → AllByRecursion IsPrintable ds → EndLines lines octets
-    → EndLines (map field_words ds ++ lines) (flat_map field_line ds ++ octets)
-fields_end [] lines octets h ends = ends
-fields_end (d ∷ ds) lines octets h ends =
-    let rest = flat_map field_line ds ++ octets in
-    (field_line d, rest, field_ends d h.0, fields_end ds lines octets h.1 ends, append_assoc (field_line d) (flat_map field_line ds) octets)
-
-pub fields_told : (ds : List Dataset) → AllByRecursion IsPrintable ds → TellFields (map field_words ds) ds
-fields_told [] h = tt
-fields_told (d ∷ ds) h = (field_told d h.0, fields_told ds h.1)
+pub fields_end : (ds : List Dataset) (lines : List (List ℕ)) (octets after : List ℕ) → AllByRecursion IsPrintable ds → NextLines octets lines after
+    → NextLines (flat_map field_line ds ++ octets) (map field_words ds ++ lines) after
+fields_end [] lines octets after h ends = ends
+fields_end (d ∷ ds) lines octets after h ends =
+    let rest : List ℕ = flat_map field_line ds ++ octets in
+    (rest, rw (append_assoc (field_line d) (flat_map field_line ds) octets) (field_ends d rest h.0), fields_end ds lines octets after h.1 ends)
 
 -- ---- the header and the trailer
 
@@ -163,7 +160,7 @@ octets_by test (x ∷ xs) small h = let both = and_parts (test x) (list_all test
 
 -- the header's line, without its end
 abbrev pub message_words : Header → List ℕ
-message_words head = message_word ++ (head.source ++ (32 ∷ after_source (words_of head) (after_space head.info)))
+message_words head = message_word ++ head_words head (after_space head.info)
 
 pub head_told : (head : Header) → IsHeader head → TellsHead (message_words head) head
 head_told head h = record {
@@ -181,22 +178,21 @@ message_lacks : (b : ℕ) (head : Header) → b < 32 → is_letter b ≡ false �
     → HasNo b (message_words head)
 message_lacks b head small letter digit alphanumeric word h =
     let end = after_space head.info in
-    let w = words_of head in
-    has_no_append b message_word (head.source ++ (32 ∷ after_source w end)) word
-    (word_lacks is_letter b head.source (after_source w end) small letter h.source.0
-    (word_lacks is_digit b head.number (after_number w end) small digit h.number.0
-    (word_lacks is_digit b head.priority (after_priority w end) small digit h.priority.0
-    (word_lacks is_alphanumeric b head.category (after_category w end) small alphanumeric h.category.0
+    has_no_append b message_word (head_words head end) word
+    (word_lacks is_letter b head.source _ small letter h.source.0
+    (word_lacks is_digit b head.number _ small digit h.number.0
+    (word_lacks is_digit b head.priority _ small digit h.priority.0
+    (word_lacks is_alphanumeric b head.category _ small alphanumeric h.category.0
     (has_no_append b head.words end (lacks is_digit b head.words digit h.words.0) (after_lacks b head.info small))))))
 
-message_ended : (head : Header) → message_words head ++ 10 ∷ [] ≡ message_line head
-message_ended head = simp append_assoc
+message_ended : (head : Header) (after : List ℕ) → message_line head ++ after ≡ message_words head ++ 10 ∷ after
+message_ended head after = simp append_assoc
 
-pub message_ends : (head : Header) → IsHeader head → EndsLine (message_words head) (message_line head)
-message_ends head h =
-    subst (λ (l : List ℕ). EndsLine (message_words head) l) (message_ended head)
-    (ended (message_words head) (message_lacks 10 head (omega arith) refl refl refl (refl, (refl, (refl, (refl, (refl, (refl, (refl, (refl, tt)))))))) h)
-    (message_lacks 13 head (omega arith) refl refl refl (refl, (refl, (refl, (refl, (refl, (refl, (refl, (refl, tt)))))))) h))
+pub message_ends : (head : Header) (after : List ℕ) → IsHeader head → NextLine (message_line head ++ after) (message_words head) after
+message_ends head after h =
+    ended (message_line head ++ after) (message_words head) after (message_ended head after)
+    (message_lacks 10 head (omega arith) refl refl refl (refl, (refl, (refl, (refl, (refl, (refl, (refl, (refl, tt)))))))) h)
+    (message_lacks 13 head (omega arith) refl refl refl (refl, (refl, (refl, (refl, (refl, (refl, (refl, (refl, tt)))))))) h)
 
 -- the trailer's line, without its end
 abbrev pub trailer_words : List ℕ → List ℕ
@@ -209,8 +205,11 @@ trailer_told trailer h = record {
   line_is = refl;
 }
 
-pub trailer_ends : (trailer : List ℕ) → EndsLine (trailer_words trailer) (trailer_line trailer)
-trailer_ends trailer =
-    ended (trailer_words trailer)
+trailer_ended : (trailer after : List ℕ) → trailer_line trailer ++ after ≡ trailer_words trailer ++ 10 ∷ after
+trailer_ended trailer after = simp append_assoc
+
+pub trailer_ends : (trailer after : List ℕ) → NextLine (trailer_line trailer ++ after) (trailer_words trailer) after
+trailer_ends trailer after =
+    ended (trailer_line trailer ++ after) (trailer_words trailer) after (trailer_ended trailer after)
     (has_no_append 10 trailer_word (after_space trailer) (refl, (refl, (refl, (refl, (refl, (refl, (refl, tt))))))) (after_lacks 10 trailer (omega arith)))
     (has_no_append 13 trailer_word (after_space trailer) (refl, (refl, (refl, (refl, (refl, (refl, (refl, tt))))))) (after_lacks 13 trailer (omega arith)))

@@ -1,7 +1,7 @@
 -- Scripts line by line: what a line tells and leads to is one thing, and so is what lines lead to.
 use Rattle.iim_script.proofs.Words.{◌≡◌, ℕ, List, ◌∷◌, ◌++◌, get_or, drop, refl, ap, sym, ◌∙◌, subst, arith, ◌⊎◌, inl, inr, ◌+◌, [], append_assoc, length}
-use Rattle.iim_script.proofs.Words.{length-append, None, AllByRecursion, IsLine, Dataset, Header, TellsLast, TellsField, TellsHead, TellsTrailer, words_of}
-use Rattle.iim_script.proofs.Words.{after_source, text_word, add_fault, finish_fault, Limits, NextLine, EndLines, TellFields, AreTaken, AreTrailer, IsFront}
+use Rattle.iim_script.proofs.Words.{length-append, None, AllByRecursion, IsLine, Dataset, Header, TellsLast, TellsField, TellsHead, TellsTrailer, head_words}
+use Rattle.iim_script.proofs.Words.{text_word, add_fault, finish_fault, Limits, NextLine, NextLines, AreFieldLines, AreTrailer, IsFront}
 use Rattle.iim_script.proofs.Words.{Stage, InFields, AfterMessage, AfterTrailer, HaveCome, Stands, IsNextWrong, ScriptLine, Field, BadTrailer, ScriptCause}
 use Rattle.std.proofs.Common.{append-nil}
 use Rattle.iim_dataset.proofs.Spelled.{dataset_is}
@@ -11,8 +11,8 @@ use Rattle.iim_script.proofs.Names.{names_once}
 use Rattle.iim_script.proofs.Heads.{words_of_header, last_ends, head_once}
 use Rattle.iim_script.proofs.Fronts.{field_digit, tells_no_head}
 use Rattle.iim_fields.specs.declared.fault.FieldCause.{FieldCause}
-use Rattle.iim_script.specs.Format.Faults.{TellsBadField, EndsTooSoon, IsWrong}
-use Rattle.iim_script.proofs.Next.{next_once, no_next, lines_append}
+use Rattle.iim_script.specs.Format.Faults.{EndsTooSoon, IsWrong}
+use Rattle.iim_script.proofs.Next.{next_once, no_next, lines_append, lines_before}
 
 -- ---- what a line tells is one thing
 
@@ -23,7 +23,7 @@ field_once line d e t u =
 
 pub one_head : (line : List ℕ) (head other : Header) → TellsHead line head → TellsHead line other → head ≡ other
 one_head line head other t u =
-    head_once line (other.source ++ (32 ∷ after_source (words_of other) u.end)) u.end other.info (words_of other) head u.line_is
+    head_once line (head_words other u.end) u.end other.info other head u.line_is
     (words_of_header other u.end u.is_header (last_ends u.end other.info u.is_end)) u.is_end t
 
 pub trailer_once : (line octets other : List ℕ) → TellsTrailer line octets → TellsTrailer line other → octets ≡ other
@@ -82,36 +82,23 @@ path_on : (limits : Limits) (place : Place) (lines others : List (List ℕ)) (ne
 path_on limits place [] others next end p q = rw p q
 path_on limits place (line ∷ lines) others next end (there, leads, p) q = (there, leads, path_on limits there lines others next end p q)
 
--- The octets begin with these lines, which lead on to this place, and this is left.
-abbrev pub Walk : Limits → Place → List (List ℕ) → List ℕ → Place → List ℕ → Type 0
-Walk limits place [] octets end rest = (place ≡ end) × (octets ≡ rest)
-Walk limits place (line ∷ lines) octets end rest =
-    (after : List ℕ) × (next : Place) × NextLine octets line after × Leads limits place line next × Walk limits next lines after end rest
-
-walk_of : (limits : Limits) (place : Place) (lines : List (List ℕ)) (front rest : List ℕ) (end : Place) → EndLines lines front → Path limits place lines end
-    → Walk limits place lines (front ++ rest) end rest
-walk_of limits place [] front rest end h p = (p, rw h refl)
-walk_of limits place (line ∷ lines) front rest end (ended, more, ends, lined, e) (next, leads, p) =
-    let is : NextLine (front ++ rest) line (more ++ rest) = record { ended = ended; ends = ends; parts = rw e (append_assoc ended more rest) } in
-    (more ++ rest, next, is, leads, walk_of limits next lines more rest end lined p)
-
 -- The next line leads on.
 abbrev pub Onward : Limits → Place → List ℕ → Type 0
 Onward limits place rest = (line : List ℕ) × (after : List ℕ) × (next : Place) × NextLine rest line after × Leads limits place line next
 
 -- Octets from which no line leads on are reached in one way.
 walk_once : (limits : Limits) (place : Place) (lines others : List (List ℕ)) (octets : List ℕ) (end other : Place) (rest left : List ℕ)
-    → Walk limits place lines octets end rest → Walk limits place others octets other left → (Onward limits end rest → ⊥) → (Onward limits other left → ⊥)
-    → (lines ≡ others) × (end ≡ other) × (rest ≡ left)
-walk_once limits place [] [] octets end other rest left (p, e) (q, g) f h = (refl, sym p ∙ q, sym e ∙ g)
-walk_once limits place [] (m ∷ others) octets end other rest left (p, e) (after, next, n, leads, q) f h =
+    → NextLines octets lines rest → Path limits place lines end → NextLines octets others left → Path limits place others other
+    → (Onward limits end rest → ⊥) → (Onward limits other left → ⊥) → (lines ≡ others) × (end ≡ other) × (rest ≡ left)
+walk_once limits place [] [] octets end other rest left e p g q f h = (refl, sym p ∙ q, sym e ∙ g)
+walk_once limits place [] (m ∷ others) octets end other rest left e p (after, n, g) (next, leads, q) f h =
     let stuck = rw (← p, ← e) at f in absurd (stuck (m, after, next, n, leads))
-walk_once limits place (l ∷ lines) [] octets end other rest left (after, next, n, leads, p) (q, e) f h =
-    let stuck = rw (← q, ← e) at h in absurd (stuck (l, after, next, n, leads))
-walk_once limits place (l ∷ lines) (m ∷ others) octets end other rest left (after, next, n, leads, p) (more, there, k, so, q) f h =
+walk_once limits place (l ∷ lines) [] octets end other rest left (after, n, e) (next, leads, p) g q f h =
+    let stuck = rw (← q, ← g) at h in absurd (stuck (l, after, next, n, leads))
+walk_once limits place (l ∷ lines) (m ∷ others) octets end other rest left (after, n, e) (next, leads, p) (more, k, g) (there, so, q) f h =
     let same = next_once octets l after m more n k in
     let at = leads_once limits place m next there (rw same.0 at leads) so in
-    let one = walk_once limits there lines others more end other rest left (rw (at, same.1) at p) q f h in
+    let one = walk_once limits there lines others more end other rest left (rw same.1 at e) (rw at at p) g q f h in
     (rw (same.0, one.0) refl, one.1, one.2)
 
 -- ---- runs
@@ -122,46 +109,47 @@ start = At (InFields [])
 -- The octets begin with `count` lines, which lead to this place, and this is left.
 pub record Run (limits : Limits) (octets : List ℕ) (place : Place) (rest : List ℕ) (count : ℕ) : Type 0 where
   pub lines : List (List ℕ)
-  pub walk : Walk limits start lines octets place rest
+  pub lined : NextLines octets lines rest
+  pub path : Path limits start lines place
   pub count_is : count ≡ length lines
 
 -- Two runs that no line leads on from are one.
 pub runs_once : (limits : Limits) (octets : List ℕ) (place other : Place) (rest left : List ℕ) (n m : ℕ) → Run limits octets place rest n → Run limits octets other left m
     → (Onward limits place rest → ⊥) → (Onward limits other left → ⊥) → (place ≡ other) × (rest ≡ left) × (n ≡ m)
 runs_once limits octets place other rest left n m r k f g =
-    let one = walk_once limits start r.lines k.lines octets place other rest left r.walk k.walk f g in
+    let one = walk_once limits start r.lines k.lines octets place other rest left r.lined r.path k.lined k.path f g in
     (one.1, one.2, omega (arith, ap length one.0, r.count_is, k.count_is))
 
 -- ---- what has come is a run
 
-fields_path : (limits : Limits) (before : List Dataset) (lines : List (List ℕ)) (ds : List Dataset) → TellFields lines ds → AreTaken limits before ds
+fields_path : (limits : Limits) (before : List Dataset) (lines : List (List ℕ)) (ds : List Dataset) → AreFieldLines limits before lines ds
     → Path limits (At (InFields before)) lines (At (InFields (before ++ ds)))
-fields_path limits before [] [] told taken = rw append-nil refl
-fields_path limits before (line ∷ lines) (d ∷ ds) told taken = (
+fields_path limits before [] [] are = rw append-nil refl
+fields_path limits before (line ∷ lines) (d ∷ ds) (told, taken, are) = (
   At (InFields (before ++ d ∷ [])),
-  inl (d, told.0, taken.0, refl),
-  rw (← append_assoc before (d ∷ []) ds) (fields_path limits (before ++ d ∷ []) lines ds told.1 taken.1),
+  inl (d, told, taken, refl),
+  rw (← append_assoc before (d ∷ []) ds) (fields_path limits (before ++ d ∷ []) lines ds are),
 )
-fields_path limits before lines ds told taken = absurd told
+fields_path limits before lines ds are = absurd are
 
-head_path : (limits : Limits) (fields : List (List ℕ)) (message : List ℕ) (ds : List Dataset) (head : Header) → TellFields fields ds → AreTaken limits [] ds → TellsHead message head
+head_path : (limits : Limits) (fields : List (List ℕ)) (message : List ℕ) (ds : List Dataset) (head : Header) → AreFieldLines limits [] fields ds
+    → TellsHead message head
     → Path limits start (fields ++ message ∷ []) (At (AfterMessage ds head))
-head_path limits fields message ds head told taken t =
-    path_on limits start fields (message ∷ []) (At (InFields ds)) (At (AfterMessage ds head)) (fields_path limits [] fields ds told taken)
+head_path limits fields message ds head are t =
+    path_on limits start fields (message ∷ []) (At (InFields ds)) (At (AfterMessage ds head)) (fields_path limits [] fields ds are)
     (At (AfterMessage ds head), inr (head, t, refl), refl)
 
 come_path : (limits : Limits) (lines : List (List ℕ)) (stage : Stage) → HaveCome limits lines stage → Path limits start lines (At stage)
-come_path limits lines (InFields ds) come = fields_path limits [] lines ds come.told come.taken
-come_path limits lines (AfterMessage ds head) (fields, message, are, t, e) = rw e (head_path limits fields message ds head are.told are.taken t)
+come_path limits lines (InFields ds) come = fields_path limits [] lines ds come
+come_path limits lines (AfterMessage ds head) (fields, message, are, t, e) = rw e (head_path limits fields message ds head are t)
 come_path limits lines (AfterTrailer ds head trailer) (fields, message, line, are, t, u, is, e) =
     rw (e, ← append_assoc fields (message ∷ []) (line ∷ []))
     (path_on limits start (fields ++ message ∷ []) (line ∷ []) (At (AfterMessage ds head)) (At (AfterTrailer ds head trailer))
-    (head_path limits fields message ds head are.told are.taken t) (At (AfterTrailer ds head trailer), inl (trailer, u, is, refl), refl))
+    (head_path limits fields message ds head are t) (At (AfterTrailer ds head trailer), inl (trailer, u, is, refl), refl))
 
 pub stands_run : (limits : Limits) (octets : List ℕ) (stage : Stage) (rest : List ℕ) (count : ℕ) → Stands limits octets stage rest count → Run limits octets (At stage) rest count
 stands_run limits octets stage rest count s =
-    let walk = walk_of limits start s.lines s.front rest (At stage) s.lined (come_path limits s.lines stage s.come) in
-    record { lines = s.lines; walk = rw s.parts walk; count_is = s.count_is }
+    record { lines = s.lines; lined = s.lined; path = come_path limits s.lines stage s.come; count_is = s.count_is }
 
 text_path : (limits : Limits) (trailers : List (List ℕ)) (ds : List Dataset) (head : Header) (trailer : List ℕ) → AreTrailer trailers trailer → finish_fault ds ≡ None
     → Path limits (At (AfterMessage ds head)) (trailers ++ text_word ∷ []) (InStory ds head trailer [])
@@ -178,28 +166,23 @@ story_path limits ds head trailer done (line ∷ more) h =
     (next, (h.0, refl), rw (← append_assoc done (line ∷ []) more) (story_path limits ds head trailer (done ++ line ∷ []) more h.1))
 
 -- what stands before the story, and lines of the story after it, are a run
-pub story_run : (limits : Limits) (octets front story ended rest : List ℕ) (ds : List Dataset) (head : Header) (trailer : List ℕ)
+pub story_run : (limits : Limits) (octets front story rest : List ℕ) (ds : List Dataset) (head : Header) (trailer : List ℕ)
     → (done : List (List ℕ)) (text_line : ℕ) → octets ≡ front ++ story → IsFront limits front ds head trailer text_line
-    → story ≡ ended ++ rest → EndLines done ended → AllByRecursion IsLine done
-    → Run limits octets (InStory ds head trailer done) rest (text_line + length done)
-story_run limits octets front story ended rest ds head trailer done text_line e f parts lined each =
+    → NextLines story done rest → AllByRecursion IsLine done → Run limits octets (InStory ds head trailer done) rest (text_line + length done)
+story_run limits octets front story rest ds head trailer done text_line e f lined each =
     let body : List (List ℕ) = f.message ∷ f.trailers ++ text_word ∷ [] in
     let lines : List (List ℕ) = f.field_lines ++ body in
     let path = path_on limits start f.field_lines body (At (InFields ds)) (InStory ds head trailer [])
-    (fields_path limits [] f.field_lines ds f.are_fields.told f.are_fields.taken)
+    (fields_path limits [] f.field_lines ds f.are_fields)
     (At (AfterMessage ds head), inr (head, f.is_head, refl), text_path limits f.trailers ds head trailer f.is_trailer f.whole) in
     record {
       lines = lines ++ done;
-      walk = rw (e, parts, ← append_assoc front ended rest)
-          (walk_of limits start (lines ++ done) (front ++ ended) rest (InStory ds head trailer done) (lines_append lines done front ended f.lined lined)
-          (path_on limits start lines done (InStory ds head trailer []) (InStory ds head trailer done) path (story_path limits ds head trailer [] done each)));
+      lined = rw e (lines_append (front ++ story) story rest lines done (lines_before front [] story lines f.lined) lined);
+      path = path_on limits start lines done (InStory ds head trailer []) (InStory ds head trailer done) path (story_path limits ds head trailer [] done each);
       count_is = omega (arith, f.text_line_is, length-append lines done, length-append f.field_lines body, length-append f.trailers (text_word ∷ []));
     }
 
 -- ---- what is wrong leads nowhere, and is wrong for one cause
-
-bad_field_once : (limits : Limits) (ds : List Dataset) (line : List ℕ) (a b : FieldCause) → TellsBadField limits ds line a → TellsBadField limits ds line b → a ≡ b
-bad_field_once limits ds line a b (d, f, t, e, p) (c, g, u, h, q) = let refused = rw (field_once line d c t u) at e in cc
 
 too_soon_once : (ds : List Dataset) (line : List ℕ) (a b : FieldCause) → EndsTooSoon ds line a → EndsTooSoon ds line b → a ≡ b
 too_soon_once ds line a b (f, is, e, p) (g, js, h, q) = cc
@@ -207,7 +190,7 @@ too_soon_once ds line a b (f, is, e, p) (g, js, h, q) = cc
 wrong_once : (limits : Limits) (stage : Stage) (line : List ℕ) (a b : ScriptCause) → IsWrong limits stage line a → IsWrong limits stage line b → a ≡ b
 wrong_once limits (InFields ds) line ScriptLine (Field b) w v = absurd (w.0 v.0 v.2)
 wrong_once limits (InFields ds) line (Field a) ScriptLine w v = absurd (v.0 w.0 w.2)
-wrong_once limits (InFields ds) line (Field a) (Field b) w v = ap (λ (c : FieldCause). Field c) (bad_field_once limits ds line a b w v)
+wrong_once limits (InFields ds) line (Field a) (Field b) (d, f, t, e, p) (c, g, u, h, q) = let refused = rw (field_once line d c t u) at e in cc
 wrong_once limits (AfterMessage ds head) line ScriptLine (Field b) w v = absurd (w.1 v.1)
 wrong_once limits (AfterMessage ds head) line ScriptLine BadTrailer w v = absurd (w.0 v.0 v.1)
 wrong_once limits (AfterMessage ds head) line (Field a) ScriptLine w v = absurd (v.1 w.1)

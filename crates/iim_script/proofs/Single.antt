@@ -2,7 +2,6 @@
 use Rattle.iim_script.proofs.Words.{◌≡◌, ◌⊎◌, inl, inr, ℕ, ◌+◌, ◌<◌, ◌≤◌, List, [], ◌∷◌, ◌++◌, length, refl, ap, sym, ◌∙◌, arith, AllByRecursion, Dataset}
 use Rattle.iim_script.proofs.Words.{all_front, all_last, Limits, Header, IsLine, HasNo, NextLine, IsStory, IsScript, max_script, IsNextWrong, IsFrontFault}
 use Rattle.iim_script.proofs.Words.{IsScriptFault, OutOfMemory, ScriptCause}
-use Rattle.std.proofs.Common.{append-nil}
 use Rattle.iim_script.specs.Format.Faults.{IsStoryFault, ScriptTooLong, BadTextOctet}
 use Rattle.iim_script.specs.Laws.{IsOneScript}
 use Rattle.iim_script.proofs.Next.{next_once, no_next}
@@ -55,14 +54,12 @@ front_fails limits octets number cause f =
 story_fails : (limits : Limits) (octets : List ℕ) (number : ℕ) → IsStoryFault limits octets number → Fails limits octets number BadTextOctet
 story_fails limits octets number f =
     let bad = f.is_bad in
-    let line = bad.has_line in
     record {
       place = InStory f.fields f.head f.trailer bad.before;
-      rest = line.rest;
+      rest = bad.rest;
       count = f.text_line + length bad.before;
-      run = story_run limits octets f.front f.story line.front line.rest f.fields f.head f.trailer bad.before f.text_line
-          f.parts f.is_front line.parts line.lined bad.texts;
-      ends = (bad.line, line.is_next, bad.bad, refl);
+      run = story_run limits octets f.front f.story bad.rest f.fields f.head f.trailer bad.before f.text_line f.parts f.is_front bad.lined bad.texts;
+      ends = (bad.line, bad.is_there, bad.bad, refl);
       number_is = bad.number_is;
     }
 
@@ -102,15 +99,15 @@ whole : (limits : Limits) (octets : List ℕ) (ds : List Dataset) (head : Header
 whole limits octets ds head trailer lines text_line s (some, inl ended) = record {
   done = lines;
   rest = [];
-  run = story_run limits octets s.front s.story s.story [] ds head trailer lines text_line s.parts s.is_front (sym (append-nil s.story)) ended s.texts;
+  run = story_run limits octets s.front s.story [] ds head trailer lines text_line s.parts s.is_front ended s.texts;
   none = tt;
   lines_are = inl (refl, refl, some);
 }
-whole limits octets ds head trailer lines text_line s (some, inr (before, last, ended, is, lined, parts, none, alone)) = record {
+whole limits octets ds head trailer lines text_line s (some, inr (before, last, is, lined, none, alone)) = record {
   done = before;
   rest = last;
-  run = story_run limits octets s.front s.story ended last ds head trailer before text_line
-      s.parts s.is_front parts lined (all_front IsLine before (last ∷ []) (rw is at s.texts));
+  run = story_run limits octets s.front s.story last ds head trailer before text_line s.parts s.is_front lined
+      (all_front IsLine before (last ∷ []) (rw is at s.texts));
   none = none;
   lines_are = inr (is, alone);
 }

@@ -1,21 +1,24 @@
 -- The lines of a story, one after another.
 use Rattle.iim_script.proofs.Words.{◌≡◌, ◌⊎◌, inl, inr, ℕ, ◌+◌, ◌<◌, List, [], ◌∷◌, ◌++◌, append_assoc, length, length-append, take, refl, ap, sym, ◌∙◌}
-use Rattle.iim_script.proofs.Words.{subst, arith, Option, Some, None, IfSome, IfNone, Bor, AllByRecursion, all_append, IsLine, IsText, HasNo, EndsLine}
-use Rattle.iim_script.proofs.Words.{NextLine, EndLines, IsStory, TellsText}
+use Rattle.iim_script.proofs.Words.{subst, arith, Option, Some, None, IfSome, IfNone, Bor, AllByRecursion, all_append, IsLine, IsText, HasNo}
+use Rattle.iim_script.proofs.Words.{NextLine, NextLines, WithoutLast, IsStory, TellsText}
 use Rattle.std.proofs.Common.{append-nil}
 use Rattle.std.proofs.Math.Seq.{take-append_seam}
 use Rattle.iim_dataset.proofs.Lists.{some_none}
 use Rattle.wire_story.specs.Format.Texts.{packed_text}
-use Rattle.iim_script.specs.Steps.{IsLastLine, RefusesStory}
-use Rattle.iim_script.specs.declared.fault.ScriptCause.TheVariants.{BadTextOctet}
+use Rattle.iim_script.specs.Format.Faults.{IsBadStory}
 use Rattle.iim_script.proofs.Next.{lines_more, count_more}
+
+-- The line is the last of a story: with its end, or without one.
+abbrev pub IsLastLine : List ℕ → List ℕ → Type 0
+IsLastLine rest line = NextLine rest line [] ⊎ (HasNo 10 rest × (line ≡ rest))
 
 -- The lines of a story so far, and what is left of it: what makes a text of the rest makes one of all, and so many octets are added
 -- where it is packed.
 pub record StoryStands (story : List ℕ) (before : ℕ) (rest : List ℕ) (count len : ℕ) : Type 0 where
   pub done : List (List ℕ)
   pub front : List ℕ
-  pub lined : EndLines done front
+  pub lined : NextLines story done rest
   pub parts : story ≡ front ++ rest
   pub texts : AllByRecursion IsLine done
   pub count_is : count ≡ before + length done
@@ -23,13 +26,26 @@ pub record StoryStands (story : List ℕ) (before : ℕ) (rest : List ℕ) (coun
   pub text : (left : List ℕ) (lines : List (List ℕ)) → IsText left lines → IsText (front ++ left) (done ++ lines)
   pub len_is : (lines : List (List ℕ)) → 0 < length lines → length (packed_text (done ++ lines)) ≡ len + length (packed_text lines)
 
+pub story_begins : (story : List ℕ) (before : ℕ) → StoryStands story before story before 0
+story_begins story before = record {
+  done = [];
+  front = [];
+  lined = refl;
+  parts = refl;
+  texts = tt;
+  count_is = omega arith;
+  more = λ empty. refl;
+  text = λ left lines h. h;
+  len_is = λ lines some. omega arith;
+}
+
 -- a line with its end goes before a text
-text_more : (line ended left : List ℕ) (lines : List (List ℕ)) → IsLine line → EndsLine line ended → IsText left lines → IsText (ended ++ left) (line ∷ lines)
+text_more : (line ended left : List ℕ) (lines : List (List ℕ)) → IsLine line → WithoutLast 13 ended line → IsText left lines
+    → IsText (ended ++ 10 ∷ left) (line ∷ lines)
 text_more line ended left [] is ends h = absurd h
-text_more line ended left (next ∷ lines) is (none, inl e) h =
-    (is, 1, omega arith, left, ap (λ (l : List ℕ). l ++ left) e ∙ append_assoc line (13 ∷ 10 ∷ []) left, h)
-text_more line ended left (next ∷ lines) is (none, inr e) h =
-    (is, 0, omega arith, left, ap (λ (l : List ℕ). l ++ left) e.0 ∙ append_assoc line (10 ∷ []) left, h)
+text_more line ended left (next ∷ lines) is (inl e) h =
+    (is, 1, omega arith, left, ap (λ (l : List ℕ). l ++ 10 ∷ left) e ∙ append_assoc line (13 ∷ []) (10 ∷ left), h)
+text_more line ended left (next ∷ lines) is (inr e) h = (is, 0, omega arith, left, ap (λ (l : List ℕ). l ++ 10 ∷ left) e.0, h)
 
 len_more : (line : List ℕ) (lines : List (List ℕ)) → 0 < length lines → length (packed_text (line ∷ lines)) ≡ length line + 2 + length (packed_text lines)
 len_more line [] some = absurd (omega (arith, some))
@@ -38,30 +54,30 @@ len_more line (next ∷ lines) some = omega (arith, length-append line (13 ∷ 1
 pub story_step : {story rest line after : List ℕ} {before count next len longer : ℕ} → StoryStands story before rest count len → NextLine rest line after
     → 0 < length after → IsLine line → next ≡ count + 1 → longer ≡ len + (length line + 2)
     → StoryStands story before after next longer
-story_step {line = line} {after = after} s n some is e f = record {
+story_step {story = story} {line = line} {after = after} s n some is e f = record {
   done = s.done ++ line ∷ [];
-  front = s.front ++ n.ended;
-  lined = lines_more s.done s.front line n.ended s.lined n.ends;
-  parts = rw (s.parts, n.parts) (sym (append_assoc s.front n.ended after));
+  front = s.front ++ (n.ended ++ 10 ∷ []);
+  lined = lines_more story s.done s.lined n;
+  parts = rw (s.parts, n.parts) (simp append_assoc);
   texts = all_append IsLine s.done (line ∷ []) s.texts (is, tt);
   count_is = omega (arith, e, s.count_is, count_more s.done line);
   more = λ none. absurd (some_none after some none);
-  text = λ left lines h. rw (append_assoc s.done (line ∷ []) lines, append_assoc s.front n.ended left)
-      (s.text (n.ended ++ left) (line ∷ lines) (text_more line n.ended left lines is n.ends h));
+  text = λ left lines h. rw (append_assoc s.done (line ∷ []) lines, append_assoc s.front (n.ended ++ 10 ∷ []) left, append_assoc n.ended (10 ∷ []) left)
+      (s.text (n.ended ++ 10 ∷ left) (line ∷ lines) (text_more line n.ended left lines is n.is_line h));
   len_is = λ lines some. rw (append_assoc s.done (line ∷ []) lines) (omega (arith, f, s.len_is (line ∷ lines) (omega arith), len_more line lines some));
 }
 
 is_whole : (story rest line : List ℕ) (before count len : ℕ) (s : StoryStands story before rest count len) → IsLastLine rest line
     → IsStory story (s.done ++ line ∷ [])
 is_whole story rest line before count len s (inl n) =
-    (omega (arith, count_more s.done line), inl (rw (s.parts, n.parts, append-nil) (lines_more s.done s.front line n.ended s.lined n.ends)))
+    (omega (arith, count_more s.done line), inl (lines_more story s.done s.lined n))
 is_whole story rest line before count len s (inr (none, is)) =
-    (omega (arith, count_more s.done line), inr (s.done, line, s.front, refl, s.lined, rw is s.parts, rw is none, λ empty. s.more (sym is ∙ empty)))
+    (omega (arith, count_more s.done line), inr (s.done, line, refl, rw is s.lined, rw is none, λ empty. s.more (sym is ∙ empty)))
 
 -- the last line begins what is left
 last_begins : (rest line : List ℕ) → IsLastLine rest line → (end : List ℕ) × (rest ≡ line ++ end)
 last_begins rest line (inl n) =
-    elim n.ends.1 [ inl e ↦ (13 ∷ 10 ∷ [], rw (n.parts, e) (simp append_assoc)) | inr e ↦ (10 ∷ [], rw (n.parts, e.0) (simp append_assoc)) ]
+    elim n.is_line [ inl e ↦ (13 ∷ 10 ∷ [], rw (n.parts, e) (simp append_assoc)) | inr e ↦ (10 ∷ [], rw (n.parts, e.0) refl) ]
 last_begins rest line (inr (none, is)) = ([], rw is (sym (append-nil rest)))
 
 take_parts : (front line end : List ℕ) (n : ℕ) → n ≡ length front + length line → take n (front ++ (line ++ end)) ≡ front ++ line
@@ -90,11 +106,13 @@ next_or_last rest line None h (inr last) = inr last
 
 pub story_refused : {story rest : List ℕ} (line : List ℕ) (after : Option (Bor (List ℕ))) {before count number len : ℕ}
     → StoryStands story before rest count len → IfSome after (λ r. NextLine rest line r.now) → IfNone after (IsLastLine rest line) → (IsLine line → ⊥)
-    → number ≡ count + 1 → RefusesStory story before number BadTextOctet
+    → number ≡ count + 1 → IsBadStory story before number
 story_refused {rest = rest} line after s h k bad e = record {
   before = s.done;
+  rest = rest;
   line = line;
-  has_line = record { front = s.front; rest = rest; lined = s.lined; parts = s.parts; is_next = next_or_last rest line after h k };
+  lined = s.lined;
+  is_there = next_or_last rest line after h k;
   texts = s.texts;
   bad = bad;
   number_is = omega (arith, e, s.count_is);

@@ -1,5 +1,5 @@
 -- Octets as text.
-use Rattle.std.proofs.Common.{◌≡◌, ◌≢◌, ◌⊎◌, inl, inr, ℕ, ◌-◌, ◌<◌, ◌≤◌, List, [], ◌∷◌, ◌++◌, append_assoc, length, take, drop, get_or, refl, ap, sym, ◌∙◌, subst, arith}
+use Rattle.std.proofs.Common.{◌≡◌, inl, inr, ℕ, ◌-◌, ◌<◌, ◌≤◌, List, [], ◌∷◌, ◌++◌, append_assoc, length, take, drop, get_or, refl, ap, sym, ◌∙◌, subst, arith}
 use Rattle.std.proofs.lemmas.List.{take_rest, append-nil}
 use Rattle.iim_script.specs.Format.Shown.{IsHexDigit, IsOfDigits, BeginsWith, TellsOctets, TellsLast}
 
@@ -13,36 +13,28 @@ pub three_and_rest : (xs : List ℕ) → 3 ≤ length xs → xs ≡ get_or xs 0 
 three_and_rest (x ∷ y ∷ z ∷ xs) some = ap (λ (l : List ℕ). x ∷ y ∷ z ∷ l) (sym (take_rest (x ∷ y ∷ z ∷ xs) 3))
 three_and_rest xs some = absurd (omega (arith, some))
 
+-- the only three
+pub three_of : (xs : List ℕ) → 3 ≤ length xs → length xs < 4 → xs ≡ get_or xs 0 0 ∷ get_or xs 1 0 ∷ get_or xs 2 0 ∷ []
+three_of (x ∷ y ∷ z ∷ []) some few = refl
+three_of xs some few = absurd (omega (arith, some, few))
+
 -- an escape at the front
 pub escape_begins : (after : List ℕ) (octet : ℕ) → 3 ≤ length after → get_or after 0 0 ≡ 120 → IsOfDigits (get_or after 1 0) (get_or after 2 0) octet
     → BeginsWith (92 ∷ after) octet (take (length after - 3) (drop 3 after))
 escape_begins after octet some x digits =
     let high = get_or after 1 0 in
     let low = get_or after 2 0 in
-    let rest = take (length after - 3) (drop 3 after) in (
-      92 ∷ 120 ∷ high ∷ low ∷ [],
-      inr (high, low, refl, digits),
-      ap (λ (l : List ℕ). 92 ∷ l) (three_and_rest after some ∙ ap (λ (n : ℕ). n ∷ high ∷ low ∷ rest) x),
-    )
-
--- where a text begins: with the octet itself, which is no backslash; or with an escape
-abbrev Begun : List ℕ → ℕ → List ℕ → Type 0
-Begun text octet rest = ((octet ≢ 92) × (text ≡ octet ∷ rest)) ⊎ ((high : ℕ) × (low : ℕ) × (text ≡ 92 ∷ 120 ∷ high ∷ low ∷ rest) × IsOfDigits high low octet)
-
-begun : (text rest : List ℕ) (octet : ℕ) → BeginsWith text octet rest → Begun text octet rest
-begun text rest octet (piece, inl (other, is), e) = inl (other, rw is at e)
-begun text rest octet (piece, inr (high, low, is, digits), e) = inr (high, low, rw is at e, digits)
+    let rest = take (length after - 3) (drop 3 after) in
+    inr (high, low, ap (λ (l : List ℕ). 92 ∷ l) (three_and_rest after some ∙ ap (λ (n : ℕ). n ∷ high ∷ low ∷ rest) x), digits)
 
 -- what begins with a backslash and an octet begins with an escape
 pub escape_at : (after rest : List ℕ) (octet : ℕ) → BeginsWith (92 ∷ after) octet rest
     → (3 ≤ length after) × (get_or after 0 0 ≡ 120) × IsOfDigits (get_or after 1 0) (get_or after 2 0) octet
-escape_at after rest octet h = elim (begun (92 ∷ after) rest octet h) [
-  | inl (other, e) ↦ absurd (other (cc))
-  | inr (high, low, e, digits) ↦ let whole : after ≡ 120 ∷ high ∷ low ∷ rest = cc in rw whole (omega arith, refl, digits)
-]
+escape_at after rest octet (inl (other, e)) = absurd (other (cc))
+escape_at after rest octet (inr (high, low, e, digits)) = let whole : after ≡ 120 ∷ high ∷ low ∷ rest = cc in rw whole (omega arith, refl, digits)
 
 pub empty_begins : (rest : List ℕ) (octet : ℕ) → BeginsWith [] octet rest → ⊥
-empty_begins rest octet h = elim (begun [] rest octet h) [ inl b ↦ cc | inr b ↦ cc ]
+empty_begins rest octet h = elim h [ inl b ↦ cc | inr b ↦ cc ]
 
 -- a digit has one value
 pub digit_once : (d v w : ℕ) → IsHexDigit d v → IsHexDigit d w → v ≡ w
@@ -54,12 +46,9 @@ octet_once high low a b (h, l, is_h, is_l, e) (k, m, is_k, is_m, f) =
     let same_low = digit_once low l m is_l is_m in
     omega (arith, same_high, same_low, e, f)
 
-begun_once : (text rest more : List ℕ) (a b : ℕ) → Begun text a rest → Begun text b more → (a ≡ b) × (rest ≡ more)
-begun_once text rest more a b h k = let once = octet_once in grind arith
-
 -- a text begins in one way
 pub begins_once : (text rest more : List ℕ) (a b : ℕ) → BeginsWith text a rest → BeginsWith text b more → (a ≡ b) × (rest ≡ more)
-begins_once text rest more a b h k = begun_once text rest more a b (begun text rest a h) (begun text more b k)
+begins_once text rest more a b h k = let once = octet_once in grind arith
 
 -- What is told of a text so far, with what is left of it: it leads to what the whole text tells, and to nothing else.
 pub record Onto (text octets rest : List ℕ) : Type 0 where

@@ -1,7 +1,7 @@
 -- What is printed of an envelope is a script: a builder takes its datasets.
 use Rattle.iim_script.proofs.Words.{◌≡◌, ℕ, ◌<◌, true, List, [], ◌∷◌, ◌++◌, append_assoc, length, refl, ap, sym, ◌∙◌, subst, arith, Option, None, map}
-use Rattle.iim_script.proofs.Words.{AllByRecursion, flat_map, eq-eqb, Dataset, all_append, finish_fault, Limits, AreTaken, Header, IsHeader, text_word}
-use Rattle.iim_script.proofs.Words.{EndLines, field_line, message_line, trailer_line}
+use Rattle.iim_script.proofs.Words.{AllByRecursion, flat_map, eq-eqb, Dataset, all_append, finish_fault, Limits, AreFieldLines, Header, IsHeader, text_word}
+use Rattle.iim_script.proofs.Words.{NextLines, field_line, message_line, trailer_line}
 use Rattle.std.specs.Option.{option_or}
 use Rattle.std.proofs.lemmas.List.Elements.{filter-append}
 use Rattle.std.proofs.lemmas.List.Folds.{list_any-append}
@@ -17,7 +17,7 @@ use Rattle.iim_fields.specs.Laws.{DatasetsOfEnvelopesAreAdded}
 use Rattle.iim_tables.specs.Format.Records.{IsGoodDataset, mandatory, occurs}
 use Rattle.iim_fields.specs.Format.Bounds.{IsWithin}
 use Rattle.iim_fields.specs.declared.fault.FieldFault.{FieldFault}
-use Rattle.iim_script.proofs.Printing.{IsPrintable, field_words, fields_end, fields_told, message_words, message_ends, head_told, trailer_words, trailer_ends, trailer_told}
+use Rattle.iim_script.proofs.Printing.{IsPrintable, field_words, field_told, fields_end, message_words, message_ends, head_told, trailer_words, trailer_ends, trailer_told}
 use Rattle.std.specs.Prelude.{codes}
 use Rattle.iim_script.specs.Laws.{PrintedValuesAreScripts}
 use Rattle.iim_script.specs.Format.Printed.{script_of}
@@ -39,13 +39,14 @@ all_printable ds e =
 
 -- ---- no fault
 
--- the datasets of an envelope that are left, after those before them
-taken_from : DatasetsOfEnvelopesAreAdded → (limits : Limits) (before ds : List Dataset) → IsEnvelope (before ++ ds) → IsWithin limits (length (joined (before ++ ds))) (length (before ++ ds))
-    → AreTaken limits before ds
-taken_from added limits before [] e within = tt
-taken_from added limits before (d ∷ ds) e within =
+-- the lines of the datasets of an envelope that are left, after those before them
+fields_are : DatasetsOfEnvelopesAreAdded → (limits : Limits) (before ds : List Dataset) → IsEnvelope (before ++ ds)
+    → IsWithin limits (length (joined (before ++ ds))) (length (before ++ ds))
+    → AllByRecursion IsPrintable ds → AreFieldLines limits before (map field_words ds) ds
+fields_are added limits before [] e within all = tt
+fields_are added limits before (d ∷ ds) e within (printable, all) =
     let parts = sym (append_assoc before (d ∷ []) ds) in
-    (added limits before ds d e within, taken_from added limits (before ++ d ∷ []) ds (rw parts at e) (rw parts at within))
+    (field_told d printable, added limits before ds d e within, fields_are added limits (before ++ d ∷ []) ds (rw parts at e) (rw parts at within) all)
 
 -- ---- nothing is missing
 
@@ -74,14 +75,14 @@ whole ds e =
 -- ---- the lines
 
 -- the line `text`
-text_ends : EndLines (text_word ∷ []) (codes "text\n")
-text_ends = (codes "text\n", [], ended text_word (refl, (refl, (refl, (refl, tt)))) (refl, (refl, (refl, (refl, tt)))), refl, refl)
+text_ends : NextLines (codes "text\n") (text_word ∷ []) []
+text_ends = ([], ended (codes "text\n") text_word [] refl (refl, (refl, (refl, (refl, tt)))) (refl, (refl, (refl, (refl, tt)))), refl)
 
 -- the lines after those of the datasets
 last_lines : (head : Header) (trailer : List ℕ) → IsHeader head
-    → EndLines (message_words head ∷ trailer_words trailer ∷ text_word ∷ []) (message_line head ++ (trailer_line trailer ++ codes "text\n"))
+    → NextLines (message_line head ++ (trailer_line trailer ++ codes "text\n")) (message_words head ∷ trailer_words trailer ∷ text_word ∷ []) []
 last_lines head trailer h =
-    (message_line head, trailer_line trailer ++ codes "text\n", message_ends head h, (trailer_line trailer, codes "text\n", trailer_ends trailer, text_ends, refl), refl)
+    (trailer_line trailer ++ codes "text\n", message_ends head (trailer_line trailer ++ codes "text\n") h, (codes "text\n", trailer_ends trailer (codes "text\n"), text_ends))
 
 -- what stands before the story
 abbrev front_of : List Dataset → Header → List ℕ → List ℕ
@@ -100,8 +101,8 @@ is_script added limits fields head trailer lines story envelope within is_header
     field_lines = map field_words fields;
     message = message_words head;
     trailers = trailer_words trailer ∷ [];
-    lined = fields_end fields (message_words head ∷ trailer_words trailer ∷ text_word ∷ []) _ (all_printable fields envelope) (last_lines head trailer is_header);
-    are_fields = record { told = fields_told fields (all_printable fields envelope); taken = taken_from added limits [] fields envelope within };
+    lined = fields_end fields (message_words head ∷ trailer_words trailer ∷ text_word ∷ []) _ [] (all_printable fields envelope) (last_lines head trailer is_header);
+    are_fields = fields_are added limits [] fields envelope within (all_printable fields envelope);
     whole = whole fields envelope;
     is_head = head_told head is_header;
     is_trailer = (trailer_told trailer is_trailer.0, is_trailer);

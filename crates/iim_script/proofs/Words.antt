@@ -7,12 +7,11 @@ pub use Rattle.iim_fields.specs.States.Builders.{Building, add_fault, finish_fau
 pub use Rattle.iim_fields.specs.States.Walks.{rest_of}
 pub use Rattle.iim_fields.specs.declared.limits.Limits.{Limits}
 pub use Rattle.iim_script.specs.Format.Faults.{AfterMessage, AfterTrailer, BadTrailer, Field, HaveCome, InFields, IsFrontFault, IsNextWrong, IsScriptFault}
-pub use Rattle.iim_script.specs.Format.Faults.{OutOfMemory, ScriptCause, ScriptLine, Stage, Stands, TellsNoField, TellsNoTrailer}
-pub use Rattle.iim_script.specs.Format.Forms.{TellsField, TellsHead, TellsNumber, TellsTrailer, after_category, after_number, after_priority, after_source}
-pub use Rattle.iim_script.specs.Format.Forms.{message_word, text_word, words_of}
-pub use Rattle.iim_script.specs.Format.Lines.{EndLines, EndsLine, HasNo, NextLine}
+pub use Rattle.iim_script.specs.Format.Faults.{OutOfMemory, ScriptCause, ScriptLine, Stage, Stands, TellsNone}
+pub use Rattle.iim_script.specs.Format.Forms.{AreWords, TellsField, TellsHead, TellsNumber, TellsTrailer, head_words, message_word, text_word}
+pub use Rattle.iim_script.specs.Format.Lines.{HasNo, NextLine, NextLines, WithoutLast}
 pub use Rattle.iim_script.specs.Format.Printed.{field_line, message_line, trailer_line}
-pub use Rattle.iim_script.specs.Format.Scripts.{AreTaken, AreTrailer, IsFront, IsScript, IsStory, TellFields, max_script}
+pub use Rattle.iim_script.specs.Format.Scripts.{AreFieldLines, AreTrailer, IsFront, IsScript, IsStory, max_script}
 pub use Rattle.iim_script.specs.Format.Shown.{IsHexDigit, TellsLast, TellsOctets}
 pub use Rattle.iim_script.specs.Plain.{TellsText}
 pub use Rattle.std.proofs.Common.{Bool, Bor, IfNone, IfSome, IsTrue, List, None, Option, Some, [], ap, append_assoc, arith, cond, count_by, drop, false}

@@ -1,3 +1,4 @@
+-- What holds of all lines of scripts, and of all scripts.
 use Rattle.std.specs.Prelude.{◌≡◌, ◌⊎◌, ℕ, ◌+◌, ◌<◌, ◌≤◌, List, length}
 use Rattle.std.specs.List.{AllByRecursion}
 use Rattle.iim_dataset.specs.Format.Datasets.{Dataset}
@@ -12,8 +13,6 @@ use Rattle.iim_script.specs.Format.Forms.{TellsField, TellsHead, TellsTrailer, t
 use Rattle.iim_script.specs.Format.Printed.{PrintsStory, script_of}
 use Rattle.iim_script.specs.Format.Scripts.{IsScript, max_script}
 use Rattle.iim_script.specs.Format.Faults.{IsScriptFault, OutOfMemory, ScriptCause}
-
--- ---- What holds of all lines of scripts, and of all scripts.
 
 -- Octets have one next line, and one thing follows it.
 abbrev pub OctetsHaveOneNextLine : Type 0
@@ -65,8 +64,7 @@ PrintedValuesAreScripts = (limits : Limits) (fields : List Dataset) (head : Head
     → 0 < length lines → AllByRecursion IsLine lines → PrintsStory story lines → length (script_of fields head trailer story) ≤ max_script
     → IsScript limits (script_of fields head trailer story) fields head trailer lines (length fields + 3)
 
--- ---- The laws of scripts, as one record: a field for each.
-
+-- The laws of scripts: a field for each.
 pub record ScriptLaws : Type 0 where
   -- lines:
   pub octets_have_one_next_line : OctetsHaveOneNextLine

@@ -1,10 +1,12 @@
 //! Lines that tell a dataset.
 
-ghost use Rattle.std.specs.Prelude.{◌≡◌, not, ℕ, List, IfErr, OnOk, OnErr, IfSome, IfNone};
+ghost use Rattle.std.specs.Prelude.{◌≡◌, ◌⊎◌, not, ℕ, List, [], ◌∷◌, ◌++◌, None, IfErr, OnOk, OnErr, IfSome, IfNone};
 ghost use Rattle.std.specs.List.{position_or_len};
-ghost use Rattle.iim_script.specs.Format.Forms.{TellsNames};
+ghost use Rattle.iim_script.specs.Format.Forms.{TellsNames, TellsField, TellsHead};
+ghost use Rattle.iim_dataset.specs.Format.Datasets.{Dataset};
 ghost use Rattle.iim_dataset.specs.Format.Octets.{is_digit};
-ghost use Rattle.iim_script.specs.Steps.{AddsField, RefusesLine};
+ghost use Rattle.iim_fields.specs.States.Builders.{add_fault};
+ghost use Rattle.iim_script.specs.Format.Faults.{InFields, TellsNone, IsWrong};
 
 use crate::fault::ScriptCause;
 use crate::line::cut_at;
@@ -49,8 +51,12 @@ pub(crate) fn add_line(
     line: &[u8],
     builder: &mut EnvelopeBuilder,
 ) -> Result<(), ScriptCause>
-    ensures added { OnOk result (AddsField line.now builder.old builder.new) }
-    ensures refused { IfErr result (RefusesLine line.now builder.old) }
+    ensures added { OnOk result ((d : Dataset) × TellsField line.now d
+        × (add_fault builder.old.limits builder.old.fields d ≡ None)
+        × (builder.new.fields ≡ builder.old.fields ++ d ∷ [])) }
+    ensures limits { builder.new.limits ≡ builder.old.limits }
+    ensures refused { IfErr result (λ cause. TellsNone TellsHead line.now →
+        (cause ≡ ScriptCause.OutOfMemory) ⊎ IsWrong builder.old.limits (InFields builder.old.fields) line.now cause) }
     ensures unchanged { OnErr result (builder.new ≡ builder.old) }
 {
     let Some((rec, set, end)) = names(line) else {

@@ -3,14 +3,14 @@
 ghost use Rattle.std.specs.Prelude.{◌≡◌, ◌<◌, ◌≤◌, ◌++◌, ◌∷◌, [], ℕ, List, length, replicate, IfSome, IfNone};
 ghost use Rattle.iim_dataset.specs.Format.Characters.{cr};
 ghost use Rattle.wire_story.specs.Format.Texts.{IsLine, IsText, max_returns};
-ghost use Rattle.iim_script.specs.Plain.{IsWithoutReturn};
+ghost use Rattle.iim_script.specs.Format.Lines.{WithoutLast};
 
 use crate::line::cut_at;
 use iim_dataset::octets::LF;
 
 /// The octets without the CR at their end, where one stands there.
 fn without_return(octets: &[u8]) -> &[u8]
-    ensures { IsWithoutReturn octets.now result.now }
+    ensures { WithoutLast cr octets.now result.now }
 {
     match octets.strip_suffix(b"\r") {
         Some(front) => front,

@@ -1,8 +1,8 @@
 //! The lines that tell the message's header and its trailer.
 
-ghost use Rattle.std.specs.Prelude.{ℕ, List, IfOk, IfSome, IfNone};
-ghost use Rattle.wire_message.specs.Format.Messages.{Header};
-ghost use Rattle.iim_script.specs.Format.Forms.{HeadWords, AreWords, TellsHead, TellsTrailer};
+ghost use Rattle.std.specs.Prelude.{ℕ, List, [], IfOk, IfSome, IfNone};
+ghost use Rattle.wire_message.specs.Format.Messages.{Header, header_of};
+ghost use Rattle.iim_script.specs.Format.Forms.{AreWords, TellsHead, TellsTrailer};
 
 use crate::line::{after, before_first, cut_at};
 use crate::shown::read_last;
@@ -30,15 +30,9 @@ struct Words<'a> {
 #[tactic(auto, using(crate::proofs::Heads::no_more))]
 fn cut_words(octets: &[u8]) -> Option<Words<'_>>
     ensures some { IfSome result (λ w.
-        AreWords octets.now record {
-          source = w.source.now;
-          number = w.number.now;
-          priority = w.priority.now;
-          category = w.category.now;
-          words =
-              w.words.now;
-        } w.end.now) }
-    ensures none { IfNone result ((w : HeadWords) (end : List ℕ) → AreWords octets.now w end → ⊥) }
+        AreWords octets.now (header_of w.source.now w.number.now w.priority.now w.category.now w.words.now [])
+        w.end.now) }
+    ensures none { IfNone result ((head : Header) (end : List ℕ) → AreWords octets.now head end → ⊥) }
 {
     let Some((source, after_source)) = cut_at(octets, b' ') else {
         return None;

@@ -1,9 +1,8 @@
 //! Numbers of records and datasets.
 
-ghost use Rattle.std.specs.Prelude.{◌≡◌, ◌+◌, ◌≤◌, ◌<◌, ◌-◌, ◌*◌, ℕ, false, IsTrue, IfSome, IfNone};
+ghost use Rattle.std.specs.Prelude.{◌≡◌, ◌+◌, ◌≤◌, ℕ, [], ◌∷◌, false, IsTrue, IfSome, IfNone};
 ghost use Rattle.iim_dataset.specs.Format.Characters.{digit_zero};
 ghost use Rattle.iim_script.specs.Format.Forms.{TellsNumber};
-ghost use Rattle.iim_script.specs.Steps.{AreDigits, value_of};
 ghost use Rattle.iim_dataset.specs.Format.Octets.{is_digit};
 
 /// Whether the octet is a decimal digit.
@@ -26,8 +25,8 @@ fn digit_value(octet: u8) -> Option<u16>
 
 /// The number that three decimal digits spell, at most 255.
 fn of_digits(hundreds: u8, tens: u8, ones: u8) -> Option<u8>
-    ensures some { IfSome result (λ n. AreDigits hundreds tens ones × (n ≡ value_of hundreds tens ones)) }
-    ensures none { IfNone result (AreDigits hundreds tens ones → 255 < value_of hundreds tens ones) }
+    ensures some { IfSome result (λ n. TellsNumber (hundreds ∷ tens ∷ ones ∷ []) n) }
+    ensures none { IfNone result ((n : ℕ) → TellsNumber (hundreds ∷ tens ∷ ones ∷ []) n → ⊥) }
 {
     let value = digit_value(hundreds)? * 100 + digit_value(tens)? * 10 + digit_value(ones)?;
     if value > 255 {

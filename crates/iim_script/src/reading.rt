@@ -1,14 +1,18 @@
 //! Reads a script.
 
-ghost use Rattle.std.specs.Prelude.{◌≡◌, ◌≤◌, ◌+◌, ◌++◌, [], ℕ, List, length, slice_index, IfOk, IfErr, OnOk, None};
+ghost use Rattle.std.specs.Prelude.{◌≡◌, ◌≤◌, ◌+◌, ◌⊎◌, ◌++◌, [], ℕ, List, length, slice_index, IfOk, IfErr, OnOk, None};
 ghost use Rattle.iim_fields.specs.States.Builders.{finish_fault};
-ghost use Rattle.iim_script.specs.Format.Forms.{TellsHead, text_word};
+ghost use Rattle.iim_script.specs.Format.Forms.{TellsField, TellsHead, TellsTrailer, text_word};
+ghost use Rattle.wire_message.specs.Format.Messages.{Header, IsTrailer};
 ghost use Rattle.wire_story.specs.Format.Texts.{IsText, packed_text};
+ghost use Rattle.iim_dataset.specs.Format.Datasets.{Dataset};
+ghost use Rattle.iim_fields.specs.declared.limits.Limits.{Limits};
+ghost use Rattle.iim_fields.specs.declared.fault.FieldCause.{FieldCause};
 ghost use Rattle.iim_dataset.specs.Format.Octets.{is_digit};
 ghost use Rattle.iim_script.specs.Format.Lines.{NextLine};
 ghost use Rattle.iim_script.specs.Format.Scripts.{IsFront, IsScript, max_script, text_lines};
-ghost use Rattle.iim_script.specs.Format.Faults.{Stands, InFields, TellsNoField, IsScriptFault};
-ghost use Rattle.iim_script.specs.Steps.{NextIs, NextMustBe, RefusesFields, RefusesHeader, TakesTrailer, RefusesTrailer, RefusesText, RefusesEnvelope};
+ghost use Rattle.iim_script.specs.Format.Faults.{Stage, Stands, InFields, AfterMessage, TellsNone, EndsTooSoon, IsWrong, IsScriptFault};
+ghost use Rattle.iim_script.specs.Steps.{NextMustBe, Refuses};
 
 use crate::fault::{ScriptCause, ScriptFault, fault_after};
 use crate::field::add_line;
@@ -57,8 +61,8 @@ fn read_fields<'a>(
     requires short { length script.now ≤ max_script }
     ensures stands { IfOk result (λ rest.
         Stands builder.old.limits script.now (InFields builder.new.fields) rest.octets.now rest.lines) }
-    ensures all { IfOk result (λ rest. NextMustBe TellsNoField rest.octets.now) }
-    ensures fault { IfErr result (λ fault. RefusesFields builder.old.limits script.now fault.line fault.cause) }
+    ensures all { IfOk result (λ rest. NextMustBe (TellsNone TellsField) rest.octets.now) }
+    ensures fault { IfErr result (λ fault. IsScriptFault builder.old.limits script.now fault.line fault.cause) }
 {
     let mut rest = Rest {
         octets: script,
@@ -84,10 +88,11 @@ fn read_fields<'a>(
 /// The header that the next line tells, and what follows it.
 fn read_head<'a>(alloc: Global, rest: Rest<'a>) -> Result<(MessageHead, Rest<'a>), ScriptFault>
     ensures told { IfOk result (λ read.
-        NextIs (λ line. TellsHead line read.0) rest.entry.octets.now read.1.octets.now) }
+        (line : List ℕ) × NextLine rest.entry.octets.now line read.1.octets.now × TellsHead line read.0) }
     ensures counted { IfOk result (λ read. read.1.lines ≡ rest.entry.lines + 1) }
     ensures fault { IfErr result (λ fault.
-        RefusesHeader rest.entry.octets.now rest.entry.lines fault.line fault.cause) }
+        (limits : Limits) (ds : List Dataset) → NextMustBe (TellsNone TellsField) rest.entry.octets.now →
+        Refuses limits (InFields ds) rest.entry.octets.now rest.entry.lines fault) }
 {
     let Some((line, after)) = next_line(rest.octets) else {
         return Err(fault_after(rest.lines, ScriptCause::ScriptLine));
@@ -108,9 +113,12 @@ fn read_head<'a>(alloc: Global, rest: Rest<'a>) -> Result<(MessageHead, Rest<'a>
 /// The trailer that the next line tells, and what follows it; or no octets, where that line tells none.
 fn read_trailer<'a>(alloc: Global, rest: Rest<'a>) -> Result<(Vec<u8>, Rest<'a>), ScriptFault>
     ensures taken { IfOk result (λ read.
-        TakesTrailer rest.entry.octets.now rest.entry.lines read.0.items read.1.octets.now read.1.lines) }
-    ensures fault { IfErr result (λ fault.
-        RefusesTrailer rest.entry.octets.now rest.entry.lines fault.line fault.cause) }
+        ((line : List ℕ) × NextLine rest.entry.octets.now line read.1.octets.now
+        × TellsTrailer line read.0.items × IsTrailer read.0.items × (read.1.lines ≡ rest.entry.lines + 1))
+        ⊎ (NextMustBe (TellsNone TellsTrailer) rest.entry.octets.now × (read.0.items ≡ [])
+        × (read.1.octets.now ≡ rest.entry.octets.now) × (read.1.lines ≡ rest.entry.lines))) }
+    ensures fault { IfErr result (λ fault. (limits : Limits) (ds : List Dataset) (head : Header) →
+        Refuses limits (AfterMessage ds head) rest.entry.octets.now rest.entry.lines fault) }
 {
     let Some((line, after)) = next_line(rest.octets) else {
         return Ok((Vec::new(alloc), rest));
@@ -136,7 +144,9 @@ fn read_trailer<'a>(alloc: Global, rest: Rest<'a>) -> Result<(Vec<u8>, Rest<'a>)
 fn read_text<'a>(rest: Rest<'a>) -> Result<Rest<'a>, ScriptFault>
     ensures text { IfOk result (λ story. NextLine rest.entry.octets.now text_word story.octets.now) }
     ensures counted { IfOk result (λ story. story.lines ≡ rest.entry.lines + 1) }
-    ensures fault { IfErr result (λ fault. RefusesText rest.entry.octets.now rest.entry.lines fault.line fault.cause) }
+    ensures fault { IfErr result (λ fault. (limits : Limits) (stage : Stage)
+        → NextMustBe (λ line. (line ≡ text_word → ⊥) → IsWrong limits stage line ScriptCause.ScriptLine)
+        rest.entry.octets.now → Refuses limits stage rest.entry.octets.now rest.entry.lines fault) }
 {
     let Some((line, after)) = next_line(rest.octets) else {
         return Err(fault_after(rest.lines, ScriptCause::ScriptLine));
@@ -155,7 +165,9 @@ fn finish(builder: EnvelopeBuilder, lines: u64) -> Result<Envelope, ScriptFault>
     requires { lines ≤ max_script }
     ensures whole { OnOk result (finish_fault builder.fields ≡ None) }
     ensures envelope { IfOk result (λ envelope. envelope ≡ builder.fields) }
-    ensures fault { IfErr result (λ fault. RefusesEnvelope builder.fields lines fault.line fault.cause) }
+    ensures line { IfErr result (λ fault. fault.line ≡ lines + 1) }
+    ensures fault { IfErr result (λ fault. (cause : FieldCause) × (fault.cause ≡ ScriptCause.Field cause)
+        × EndsTooSoon builder.fields text_word cause) }
 {
     match builder.finish() {
         Ok(envelope) => Ok(envelope),

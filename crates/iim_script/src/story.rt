@@ -1,9 +1,10 @@
 //! The story of a script: all that follows the line `text`.
 
-ghost use Rattle.std.specs.Prelude.{◌≡◌, ◌+◌, ◌<◌, length, IfOk, IfErr, IfSome, IfNone};
-ghost use Rattle.iim_script.specs.Format.Lines.{NextLine};
+ghost use Rattle.std.specs.Prelude.{◌≡◌, ◌+◌, ◌<◌, ◌⊎◌, [], length, IfOk, IfErr, IfSome, IfNone};
+ghost use Rattle.iim_dataset.specs.Format.Characters.{lf};
+ghost use Rattle.iim_script.specs.Format.Lines.{HasNo, NextLine};
 ghost use Rattle.iim_script.specs.Plain.{TellsText};
-ghost use Rattle.iim_script.specs.Steps.{IsLastLine, RefusesStory};
+ghost use Rattle.iim_script.specs.Format.Faults.{IsBadStory};
 
 use crate::fault::{ScriptCause, ScriptFault, fault_after};
 use crate::line::next_line;
@@ -16,7 +17,8 @@ fn first_line(story: &[u8]) -> (&[u8], Option<&[u8]>)
     ensures more { IfSome result.1 (λ rest. NextLine story.now result.0.now rest.now) }
     ensures shorter { IfSome result.1 (λ rest. length result.0.now + length rest.now < length story.now) }
     ensures nonempty { IfSome result.1 (λ rest. 0 < length rest.now) }
-    ensures last { IfNone result.1 (IsLastLine story.now result.0.now) }
+    ensures last { IfNone result.1
+        (NextLine story.now result.0.now [] ⊎ (HasNo lf story.now × (result.0.now ≡ story.now))) }
 {
     match next_line(story) {
         Some((line, after)) => {
@@ -33,8 +35,8 @@ fn first_line(story: &[u8]) -> (&[u8], Option<&[u8]>)
 /// The text of a story, whose lines are looked at one after another; or its first fault by line.
 fn text_by_lines<'a>(story: Rest<'a>) -> Result<StoryText<'a>, ScriptFault>
     ensures text { IfOk result (λ text. TellsText story.entry.octets.now text.octets.now text.packed_len) }
-    ensures fault { IfErr result (λ fault.
-        RefusesStory story.entry.octets.now story.entry.lines fault.line fault.cause) }
+    ensures fault { IfErr result (λ fault. IsBadStory story.entry.octets.now story.entry.lines fault.line) }
+    ensures cause { IfErr result (λ fault. fault.cause ≡ ScriptCause.BadTextOctet) }
 {
     let mut rest = story;
     let mut packed_len = 0;
@@ -61,8 +63,8 @@ fn text_by_lines<'a>(story: Rest<'a>) -> Result<StoryText<'a>, ScriptFault>
 /// The text of a story; or its first fault by line, the lines before the story counted too.
 pub(crate) fn read_story<'a>(story: Rest<'a>) -> Result<StoryText<'a>, ScriptFault>
     ensures text { IfOk result (λ text. TellsText story.entry.octets.now text.octets.now text.packed_len) }
-    ensures fault { IfErr result (λ fault.
-        RefusesStory story.entry.octets.now story.entry.lines fault.line fault.cause) }
+    ensures fault { IfErr result (λ fault. IsBadStory story.entry.octets.now story.entry.lines fault.line) }
+    ensures cause { IfErr result (λ fault. fault.cause ≡ ScriptCause.BadTextOctet) }
 {
     match plain_text(story.octets) {
         Some(text) => Ok(text),

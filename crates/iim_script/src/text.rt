@@ -5,7 +5,9 @@ ghost use Rattle.std.specs.List.{list_all};
 ghost use Rattle.std.specs.Simd.Lanes.{mask_l};
 ghost use Rattle.iim_dataset.specs.Format.Characters.{lf};
 ghost use Rattle.iim_script.specs.Format.Scripts.{max_script};
-ghost use Rattle.iim_script.specs.Plain.{is_plain, is_low, TellsText, IsWithoutFeed};
+ghost use Rattle.wire_story.specs.Marking.{is_low};
+ghost use Rattle.iim_script.specs.Format.Lines.{WithoutLast};
+ghost use Rattle.iim_script.specs.Plain.{is_plain, TellsText};
 
 use iim_dataset::octets::{CR, EOT, ETX, LF, SOH, STX};
 use std::simd::prelude::*;
@@ -113,7 +115,7 @@ fn feeds_in(octets: &[u8]) -> Option<usize>
 
 /// A story without the LF at its end, where one stands there.
 fn without_feed(story: &[u8]) -> &[u8]
-    ensures { IsWithoutFeed story.now result.now }
+    ensures { WithoutLast lf story.now result.now }
 {
     match story.strip_suffix(b"\n") {
         Some(text) => text,

@@ -3,7 +3,7 @@ use Rattle.std.proofs.Common.{◌≡◌, ℕ, ◌+◌, ◌<◌, ◌≤◌, Bool,
 use Rattle.std.proofs.Common.{subst, arith, append_assoc, append-nil}
 use Rattle.wire_message.proofs.Names.{and_parts, or_right, eqb-true, take_more, same_Some, ArrayVec, TextReader, IsField, is_info_octet, is_trailer_octet}
 use Rattle.wire_message.proofs.Names.{is_filler_octet, is_text_octet, max_filler, max_info, max_trailer, Header, IsHeader, IsPlace, Spells, StoryStands}
-use Rattle.wire_message.proofs.Names.{TakesSome, EndsPart, TakesInPart, lengthens_gap, ends, begins, is_octet_of, most_of, text_of, HeaderPart, Source}
+use Rattle.wire_message.proofs.Names.{TakesSome, lengthens_gap, ends, begins, is_octet_of, most_of, text_of, HeaderPart, Source}
 use Rattle.wire_message.proofs.Names.{HeaderTexts, Place, Filler, InHeader, Info, Gap, Text, Trailer, AfterEnd}
 use Rattle.wire_story.specs.States.Reading as story
 use Rattle.wire_message.proofs.Machine.{of, no_texts, put, more_info, IsBare, Stands, stands, guarded, next, run, and_then_place, extended}
@@ -43,7 +43,7 @@ info_to_gap h rest some i fills =
     let b = slice_index rest 0 in
     takes_one (Info h) (Gap h 1 (b == 10)) rest some (i, omega arith, omega arith, or_right (b == 10) true refl) (λ before text l. info_gap before text h b fills l) (λ text l. l)
 
-gap_on : (h : Header) (k : ℕ) (feed now : Bool) (rest : List ℕ) → 0 < length rest → IsPlace (Gap h k feed) → lengthens_gap k feed (slice_index rest 0) ≡ true
+pub gap_on : (h : Header) (k : ℕ) (feed now : Bool) (rest : List ℕ) → 0 < length rest → IsPlace (Gap h k feed) → lengthens_gap k feed (slice_index rest 0) ≡ true
     → now ≡ (feed || slice_index rest 0 == 10) → TakesSome (Gap h k feed) rest (Gap h (k + 1) now) 1
 gap_on h k feed now rest some i on e =
     let b = slice_index rest 0 in
@@ -65,36 +65,13 @@ trailer_ends h t rest some i eot =
     takes_one (Trailer h t) (AfterEnd h t 0) rest some (i.0, i.1, omega arith)
     (λ before text l. rw eot (trailer_eot before text h t i.0 i.1 l)) (λ text l. l)
 
-end_on : (h : Header) (t : ArrayVec ℕ) (k : ℕ) (rest : List ℕ) → 0 < length rest → IsPlace (AfterEnd h t k)
+pub end_on : (h : Header) (t : ArrayVec ℕ) (k : ℕ) (rest : List ℕ) → 0 < length rest → IsPlace (AfterEnd h t k)
     → (is_filler_octet (slice_index rest 0) && nat_lt k max_filler) ≡ true → TakesSome (AfterEnd h t k) rest (AfterEnd h t (k + 1)) 1
 end_on h t k rest some i on =
     let fill = extended is_filler_octet (slice_index rest 0) k max_filler on in
     takes_one (AfterEnd h t k) (AfterEnd h t (k + 1)) rest some (i.0, i.1, omega (arith, fill.1))
     (λ before text l. end_more before text (slice_index rest 0 ∷ []) h t k (one_is is_filler_octet (slice_index rest 0) fill.0) (omega (arith, fill.1)) l)
     (λ text l. l)
-
--- ---- an octet of filler lengthens a part where the octets are counted, or it ends it
-
--- one octet or none
-one_longer : (old new : Place) (rest : List ℕ) (n : ℕ) → n ≤ 1 → (n ≡ 1 → TakesSome old rest new 1) → (n ≡ 0 → new ≡ old)
-    → (n ≡ 0 → EndsPart old (slice_index rest 0)) → TakesInPart old rest new n
-one_longer old new rest n one takes same ends =
-    record { takes = λ more. let e : n ≡ 1 = omega arith in rw e (takes e); same = same; ends = ends }
-
-pub end_longer : (h : Header) (t : ArrayVec ℕ) (k m : ℕ) (rest : List ℕ) (n : ℕ) → 0 < length rest → IsPlace (AfterEnd h t k) → n ≤ 1
-    → (n ≡ 1 → (is_filler_octet (slice_index rest 0) && nat_lt k max_filler) ≡ true)
-    → (n ≡ 0 → (is_filler_octet (slice_index rest 0) && nat_lt k max_filler) ≡ false) → m ≡ k + n
-    → TakesInPart (AfterEnd h t k) rest (AfterEnd h t m) n
-end_longer h t k m rest n some i one fills ends e =
-    one_longer (AfterEnd h t k) (AfterEnd h t m) rest n one (λ p. rw (e, p) (end_on h t k rest some i (fills p)))
-    (λ none. let same : m ≡ k = omega arith in cc) ends
-
-pub gap_longer : (h : Header) (k m : ℕ) (feed now : Bool) (rest : List ℕ) (n : ℕ) → 0 < length rest → IsPlace (Gap h k feed) → n ≤ 1
-    → (n ≡ 1 → lengthens_gap k feed (slice_index rest 0) ≡ true) → (n ≡ 0 → lengthens_gap k feed (slice_index rest 0) ≡ false) → m ≡ k + n
-    → (n ≡ 1 → now ≡ (feed || slice_index rest 0 == 10)) → (n ≡ 0 → now ≡ feed) → TakesInPart (Gap h k feed) rest (Gap h m now) n
-gap_longer h k m feed now rest n some i one on ends e fed same =
-    one_longer (Gap h k feed) (Gap h m now) rest n one (λ p. rw (e, p) (gap_on h k feed now rest some i (on p) (fed p)))
-    (λ none. let a : m ≡ k = omega arith in let b = same none in cc) ends
 
 -- ---- what octets lead on to, whatever the reader of the text
 

@@ -1,13 +1,13 @@
 -- A header is kept as the octets of its parts with one octet between two of them, whichever it is; and one that stands whole at
 -- the front leads from filler to the text.
-use Rattle.std.proofs.Common.{◌≡◌, ℕ, ◌+◌, ◌-◌, List, [], ◌∷◌, ◌++◌, length, take, refl, ap, ◌∙◌, arith, append_assoc, length-append, inl, inr}
+use Rattle.std.proofs.Common.{◌≡◌, ◌⊎◌, ℕ, ◌+◌, ◌-◌, List, [], ◌∷◌, ◌++◌, length, take, refl, ap, ◌∙◌, arith, append_assoc, length-append, inl, inr}
 use Rattle.wire_message.proofs.Names.{slice_range, take-append_seam, drop-append_seam, TextReader, Header, header_of, IsHeader, SpellsInfo, fixed_header}
-use Rattle.wire_message.proofs.Names.{TakesSome, Filler, Text}
+use Rattle.wire_message.proofs.Names.{TakesSome, Filler, Text, BeginsWithHeader, IsGap}
 use Rattle.wire_story.specs.States.Reading as story
 use Rattle.wire_message.specs.Kept.{parts_in, ends_of, IsKept}
-use Rattle.wire_message.specs.Whole.{FrontInfo, FrontGap, FrontHead}
 use Rattle.wire_message.specs.declared.ends.Ends.{Ends}
 use Rattle.wire_message.proofs.Alike.{stands_two}
+use Rattle.wire_message.proofs.TextSoFar.{head_begins}
 
 -- the parts, with these octets between them
 abbrev laid : (s n p c w i : List ℕ) (x y z v : ℕ) → List ℕ
@@ -62,9 +62,11 @@ kept_made s n p c w i o0 o1 o2 o3 o4 o5 ends e0 e1 e2 e3 e4 e5 =
 
 -- ---- whole at the front
 
--- an info with its SP
-pub front_info : (octets info rest : List ℕ) → octets ≡ 32 ∷ (info ++ rest) → FrontInfo octets info rest
-front_info octets info rest e = record { spelled = 32 ∷ info; is_info = inr refl; parts = e }
+-- an info with its SP, or none
+pub info_spelled : (info octets rest : List ℕ) → (octets ≡ 32 ∷ (info ++ rest)) ⊎ ((info ≡ []) × (octets ≡ rest))
+    → (spelled : List ℕ) × SpellsInfo info spelled × (octets ≡ spelled ++ rest)
+info_spelled info octets rest (inl some) = (32 ∷ info, inr refl, some)
+info_spelled info octets rest (inr (empty, same)) = ([], inl (empty, refl), same)
 
 -- the octet that stands after the words, and what follows the info
 after_words : (i spelled gap rest : List ℕ) → SpellsInfo i spelled → (b : ℕ) × (tail : List ℕ) × (spelled ++ (gap ++ (2 ∷ rest)) ≡ b ∷ (i ++ tail))
@@ -78,28 +80,29 @@ joined s n p c w xs = simp append_assoc
 
 -- The octets were cut into the parts of a header, each followed by the rest.
 pub front_kept : (o r1 s r2 n r3 r4 p r5 r6 c r7 r8 w r9 i r10 rest : List ℕ) (k : ℕ) (ends : Ends) → o ≡ 1 ∷ r1 → r1 ≡ s ++ r2 → r2 ≡ n ++ r3 → r3 ≡ 32 ∷ r4
-    → r4 ≡ p ++ r5 → r5 ≡ 32 ∷ r6 → r6 ≡ c ++ r7 → r7 ≡ 32 ∷ r8 → r8 ≡ w ++ r9 → FrontInfo r9 i r10 → FrontGap r10 rest → IsHeader (header_of s n p c w i)
+    → r4 ≡ p ++ r5 → r5 ≡ 32 ∷ r6 → r6 ≡ c ++ r7 → r7 ≡ 32 ∷ r8 → r8 ≡ w ++ r9
+    → (spelled : List ℕ) × SpellsInfo i spelled × (r9 ≡ spelled ++ r10) → (gap : List ℕ) × IsGap gap × (r10 ≡ gap ++ (2 ∷ rest)) → IsHeader (header_of s n p c w i)
     → ends ≡ ends_of s n c w → k ≡ length s + length n + 3 + length c + 1 + length w + 1 + length i
-    → FrontHead o (parts_in (take k r1) ends) rest × IsKept (take k r1) ends
-front_kept o r1 s r2 n r3 r4 p r5 r6 c r7 r8 w r9 i r10 rest k ends e1 e2 e3 e4 e5 e6 e7 e8 e9 f g is ended long =
-    let (v, tail, last) = after_words i f.spelled g.gap rest f.is_info in
+    → ((begins : BeginsWithHeader o (parts_in (take k r1) ends)) × (begins.before ≡ []) × (begins.rest ≡ rest)) × IsKept (take k r1) ends
+front_kept o r1 s r2 n r3 r4 p r5 r6 c r7 r8 w r9 i r10 rest k ends e1 e2 e3 e4 e5 e6 e7 e8 e9 (spelled, is_info, info_is) (gap, is_gap, gap_is) is ended long =
+    let (v, tail, last) = after_words i spelled gap rest is_info in
     let front : List ℕ = laid s n p c w i 32 32 32 v in
-    let cut : r1 ≡ s ++ (n ++ (32 ∷ (p ++ (32 ∷ (c ++ (32 ∷ (w ++ (f.spelled ++ (g.gap ++ (2 ∷ rest)))))))))) = rw
-    (e2, e3, e4, e5, e6, e7, e8, e9, f.parts, g.parts) refl in
+    let cut : r1 ≡ s ++ (n ++ (32 ∷ (p ++ (32 ∷ (c ++ (32 ∷ (w ++ (spelled ++ (gap ++ (2 ∷ rest)))))))))) = rw
+    (e2, e3, e4, e5, e6, e7, e8, e9, info_is, gap_is) refl in
     let whole : r1 ≡ front ++ tail = rw (cut, last) (simp append_assoc) in
     let all : k ≡ length front = simp length-append (omega (arith, long, is.priority)) in
     let kept = kept_laid (take k r1) s n p c w i 32 32 32 v ends (rw (all, whole) (take-append_seam front tail)) ended is in
-    let parts = e1 ∙ ap (λ (u : List ℕ). 1 ∷ u) (cut ∙ joined s n p c w (f.spelled ++ (g.gap ++ (2 ∷ rest)))) in
-    (rw kept.1 (record { info = f.spelled; gap = g.gap; is_header = is; is_info = f.is_info; is_gap = g.is_gap; parts = parts }), kept.0)
+    let parts = e1 ∙ ap (λ (u : List ℕ). 1 ∷ u) (cut ∙ joined s n p c w (spelled ++ (gap ++ (2 ∷ rest)))) in
+    (rw kept.1 (head_begins o (header_of s n p c w i) [] spelled gap rest (refl, omega arith, omega arith) is is_info is_gap parts, refl, refl), kept.0)
 
 front_is : (a i g rest : List ℕ) → 1 ∷ (a ++ (i ++ (g ++ (2 ∷ rest)))) ≡ (1 ∷ (a ++ (i ++ (g ++ (2 ∷ []))))) ++ rest
 front_is a i g rest = simp append_assoc
 
-pub text_from_head : (k : ℕ) (octets rest : List ℕ) (h : Header) (r : TextReader) → FrontHead octets h rest → story.StandsAt r []
-    → TakesSome (Filler k) octets (Text h r) (length octets - length rest)
-text_from_head k octets rest h r f stands =
+pub text_from_head : (k : ℕ) (octets rest : List ℕ) (h : Header) (r : TextReader) → (f : BeginsWithHeader octets h) → f.before ≡ [] → f.rest ≡ rest
+    → story.StandsAt r [] → TakesSome (Filler k) octets (Text h r) (length octets - length rest)
+text_from_head k octets rest h r f none left stands =
     let front : List ℕ = 1 ∷ (fixed_header h ++ (f.info ++ (f.gap ++ (2 ∷ [])))) in
-    let is : octets ≡ front ++ rest = f.parts ∙ front_is (fixed_header h) f.info f.gap rest in
+    let is : octets ≡ front ++ rest = rw (none, left) at f.parts ∙ front_is (fixed_header h) f.info f.gap rest in
     let long : length octets ≡ length front + length rest = ap length is ∙ length-append front rest in
     let used : length octets - length rest ≡ length front = omega (arith, long) in
     let cut : take (length octets - length rest) octets ≡ front = rw (used, is) (take-append_seam front rest) in

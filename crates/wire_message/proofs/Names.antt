@@ -22,7 +22,7 @@ pub use Rattle.wire_message.specs.Format.Fields.{Are, IsField, is_alphanumeric, 
 pub use Rattle.wire_message.specs.Format.Layers.{MessageDiesAt, MessageLivesWith, StoryLivesIn, after_stx, story_tokens_of, text_so_far, trailer_so_far}
 pub use Rattle.wire_message.specs.Format.Messages.{BeginsWithHeader, Header, IsFiller, IsGap, IsHeader, IsMessage, IsTrailer, SpellsInfo, fixed_header, has_feed, header_of}
 pub use Rattle.wire_message.specs.Laws.{HeadersAreToldFromStx, LivingOctetsLeadOn, MessagesEndAfterEot, MessagesKeepTheirHeader, OctetsAreRefusedAlike, OctetsLeadOnAlike, OctetsLeadToOnePlace, PlacesAreReached, PlacesAreSavedApart, ReadersStandAtLivingOctets, TellsHeaderOf, TextsStandBetweenStxAndEtx, TrailersAreToldFromEtx, TrailersStandBetweenEtxAndEot}
-pub use Rattle.wire_message.specs.Parts.{EndsPart, TakesInPart, begins, begun, ends, is_octet_of, lengthens_gap, most_of, text_of}
+pub use Rattle.wire_message.specs.Parts.{EndsPart, begins, begun, ends, is_octet_of, lengthens_gap, most_of, text_of}
 pub use Rattle.wire_message.specs.States.Reading.{CountsCause, GoesSomewhere, IsWhole, LeadsOn, Refuses, RefusesOne, StandsAt, TakesPiece, head_read, is_ended, trailer_read}
 pub use Rattle.wire_message.specs.States.SoFar.{IsPlace, LeadsTo, Spells, StoryStands, so_far}
 pub use Rattle.wire_message.specs.Steps.{DiesWith, RefusesInPart, TakesOctets, TakesSome, cause_of}

@@ -1,10 +1,26 @@
 -- A place is known by how it is saved.
-use Rattle.std.proofs.Common.{◌≡◌, ℕ, List, [], ◌∷◌, true, false, Some, None, refl, sym, ap, ◌∙◌}
-use Rattle.wire_message.proofs.Names.{PlacesAreSavedApart, IsPlace, HeaderPart, Priority, Place, InHeader, Gap, Text}
+use Rattle.std.proofs.Common.{◌≡◌, ◌==◌, ℕ, List, [], ◌∷◌, true, false, Some, None, refl, sym, ap, ◌∙◌}
+use Rattle.wire_message.proofs.Names.{PlacesAreSavedApart, IsPlace, HeaderPart, Source, Number, Priority, Category, Words, Place, Filler, InHeader, Info, Gap, Text, Trailer, AfterEnd}
 use Rattle.wire_message.specs.States.Saved.{saved, saved_part}
-use Rattle.wire_message.specs.Restoring.{texts_in, restored}
+use Rattle.wire_message.specs.Restoring.{head_in, texts_in}
+use Rattle.wire_message.specs.declared.saved.MessagePart.TheVariants as part
 use Rattle.wire_message.specs.declared.saved.MessagePart.{MessagePart}
 use Rattle.wire_message.specs.declared.saved.MessagePlace.{MessagePlace}
+
+-- the place of a part, by the octets that were saved
+abbrev pub restored : MessagePart → MessagePlace → Place
+restored part.Filler m = Filler m.counter
+restored part.Source m = InHeader Source (texts_in m)
+restored part.Number m = InHeader Number (texts_in m)
+restored part.Priority m = InHeader Priority (texts_in m)
+restored part.PriorityRead m = InHeader Priority (texts_in m)
+restored part.Category m = InHeader Category (texts_in m)
+restored part.Words m = InHeader Words (texts_in m)
+restored part.Info m = Info (head_in m)
+restored part.Gap m = Gap (head_in m) m.counter (m.flag == 1)
+restored part.Text m = Text (head_in m) (Some m.flag)
+restored part.Trailer m = Trailer (head_in m) m.trailer
+restored part.AfterEnd m = AfterEnd (head_in m) m.trailer m.counter
 
 restored_part : (at : HeaderPart) (xs : List ℕ) (m : MessagePlace) → restored (saved_part at xs) m ≡ InHeader at (texts_in m)
 restored_part Priority [] m = refl

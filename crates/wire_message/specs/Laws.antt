@@ -1,3 +1,4 @@
+-- What holds of all messages, and where a reader of messages stands.
 use Rattle.std.specs.Prelude.{◌≡◌, ◌↔◌, ℕ, ◌==◌, IsTrue, List, ◌++◌, Option, Some, IsSome}
 use Rattle.std.specs.List.{list_any}
 use Rattle.iim_dataset.specs.Format.Characters.{stx}
@@ -12,8 +13,6 @@ use Rattle.wire_message.specs.States.Reading.{StandsAt, head_read, trailer_read,
 use Rattle.wire_message.specs.Format.Causes.{HasCause}
 use Rattle.wire_message.specs.States.Saved.{saved}
 use Rattle.wire_message.specs.declared.fault.MessageCause.{MessageCause}
-
--- ---- What holds of all messages, and where a reader of messages stands.
 
 -- An object is a message in one way at most.
 abbrev pub MessagesHaveOneReading : Type 0
@@ -90,8 +89,7 @@ MessagesEndAfterEot = (octets text : List ℕ) (place : Place) → LeadsTo octet
 abbrev pub PlacesAreSavedApart : Type 0
 PlacesAreSavedApart = (p q : Place) → IsPlace p → IsPlace q → saved p ≡ saved q → p ≡ q
 
--- ---- The laws of messages, as one record: a field for each.
-
+-- The laws of messages: a field for each.
 pub record MessageLaws : Type 0 where
   -- what octets are as messages:
   pub messages_have_one_reading : MessagesHaveOneReading

@@ -9,5 +9,4 @@ pub mod Parts
 pub mod Classes
 pub mod Steps
 pub mod Restoring
-pub mod Whole
 pub mod Kept

@@ -1,16 +1,14 @@
 -- How the part that is being read gets longer, and what ends it.
-use Rattle.std.specs.Prelude.{◌≡◌, ℕ, ◌+◌, ◌<◌, ◌&&◌, ◌||◌, ◌==◌, nat_lt, if◌then◌else◌, Bool, false, List, [], ◌∷◌, length, slice_index}
+use Rattle.std.specs.Prelude.{◌≡◌, ℕ, ◌+◌, ◌<◌, ◌&&◌, ◌||◌, ◌==◌, nat_lt, if◌then◌else◌, Bool, false, List, [], ◌∷◌, length}
 use Rattle.iim_dataset.specs.Format.Characters.{lf, sp}
-use Rattle.wire_story.specs.declared.reader.TextReader.{TextReader}
 use Rattle.wire_message.specs.Format.Fields.{is_alphanumeric, is_info_octet, is_trailer_octet, is_filler_octet, max_filler, max_source, max_number, max_priority, max_category, max_words, max_info, max_trailer}
 use Rattle.iim_dataset.specs.Format.Octets.{is_digit, is_letter}
 use Rattle.wire_message.specs.Format.Messages.{Header, header_of}
-use Rattle.wire_message.specs.Steps.{TakesSome}
 use Rattle.wire_message.specs.declared.part.HeaderPart.{HeaderPart}
 use Rattle.wire_message.specs.declared.part.HeaderPart.TheVariants.{Source, Number, Priority, Category, Words}
 use Rattle.wire_message.specs.declared.part.HeaderTexts.{HeaderTexts}
 use Rattle.wire_message.specs.declared.place.Place.{Place}
-use Rattle.wire_message.specs.declared.place.Place.TheVariants.{Filler, InHeader, Info, Gap, Text, Trailer, AfterEnd}
+use Rattle.wire_message.specs.declared.place.Place.TheVariants.{Filler, InHeader, Info, Gap, Trailer, AfterEnd}
 
 -- ---- the parts of a header before its info
 
@@ -70,17 +68,3 @@ begins Number octet t = InHeader Priority t
 begins Priority octet t = InHeader Category t
 begins Category octet t = InHeader Words t
 begins Words octet t = if octet == sp then Info (begun t) else Gap (begun t) 1 (octet == lf)
-
--- The part that is being read took `used` octets: some, or none and then the first octet ends it.
-pub record TakesInPart (old : Place) (rest : List ℕ) (new : Place) (used : ℕ) : Type 0 where
-  pub takes : 0 < used → TakesSome old rest new used
-  pub same : used ≡ 0 → new ≡ old
-  pub ends : used ≡ 0 → EndsPart old (slice_index rest 0)
-
--- After the text of a header there is its trailer, of which no octet has come.
-abbrev pub BeginsTrailer : Place → Place → Type 0
-BeginsTrailer old new = (head : Header) (text : TextReader) → old ≡ Text head text → new ≡ Trailer head (record { items = [] })
-
--- After the text of a header there is its empty trailer, and EOT.
-abbrev pub EndsTrailer : Place → Place → Type 0
-EndsTrailer old new = (head : Header) (text : TextReader) → old ≡ Text head text → new ≡ AfterEnd head (record { items = [] }) 0

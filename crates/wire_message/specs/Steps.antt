@@ -5,7 +5,7 @@ use Rattle.wire_story.specs.Format.Tokens.{Octet}
 use Rattle.wire_story.specs.declared.fault.TextCause.{TextCause}
 use Rattle.wire_story.specs.declared.fault.TextCause.TheVariants as text_cause
 use Rattle.wire_message.specs.Format.Layers.{MessageDiesAt}
-use Rattle.wire_message.specs.States.SoFar.{IsPlace, Spells, StoryStands, Place, InHeader, Text}
+use Rattle.wire_message.specs.States.SoFar.{IsPlace, Spells, StoryStands, Place, Text}
 use Rattle.wire_message.specs.declared.fault.MessageCause.{MessageCause}
 use Rattle.wire_message.specs.declared.fault.MessageCause.TheVariants.{LoneReturn, ControlOctet, Sink}
 use Rattle.wire_message.specs.declared.fault.MessageFault.{MessageFault}
@@ -24,25 +24,16 @@ abbrev pub IsNoText : Place → Type 0
 IsNoText (Text h reader) = ⊥
 IsNoText _ = Unit {0}
 
--- Neither the text nor a part of the header before its info is being read.
-abbrev pub IsOther : Place → Type 0
-IsOther (InHeader part t) = ⊥
-IsOther place = IsNoText place
-
--- What octets add to a place, where they add nothing to the text.
-abbrev pub AddsNoText : Place → List ℕ → Place → Type 0
-AddsNoText old octets new = (before text : List ℕ) → Spells before text old → Spells (before ++ octets) text new
-
 -- With the octet no message can continue.
 abbrev pub DiesWith : Place → ℕ → Type 0
 DiesWith place octet = (octets text : List ℕ) → Spells octets text place → MessageDiesAt octets (Octet octet)
 
--- After some of the octets, one at least, there is this place.
+-- After some of the octets, one at least, there is this place. They add nothing to the text.
 pub record TakesSome (old : Place) (rest : List ℕ) (new : Place) (used : ℕ) : Type 0 where
   pub some : 0 < used
   pub within : used ≤ length rest
   pub is_place : IsPlace new
-  pub adds : AddsNoText old (take used rest) new
+  pub adds : (before text : List ℕ) → Spells before text old → Spells (before ++ take used rest) text new
   pub story : (text : List ℕ) → StoryStands text old → StoryStands text new
 
 -- Octets were taken: they led from one place to the next, the sink was told what they deliver, and it did not stop.

@@ -1,10 +1,11 @@
 //! How a part gets longer where it lies: by its longest run, or by one octet of filler.
 
-ghost use Rattle.std.specs.Prelude.{◌≡◌, ◌<◌, ◌≤◌, ◌+◌, ◌&&◌, ◌||◌, ◌==◌, nat_lt, true, false, length};
+ghost use Rattle.std.specs.Prelude.{◌≡◌, ◌<◌, ◌≤◌, ◌+◌, ◌&&◌, ◌||◌, ◌==◌, nat_lt, true, false, length, slice_index};
 ghost use Rattle.iim_dataset.specs.Format.Characters.{lf};
 ghost use Rattle.wire_message.specs.Format.Fields.{is_filler_octet, max_filler};
 ghost use Rattle.wire_message.specs.States.SoFar.{IsPlace};
-ghost use Rattle.wire_message.specs.Parts.{TakesInPart, lengthens_gap};
+ghost use Rattle.wire_message.specs.Parts.{EndsPart, lengthens_gap};
+ghost use Rattle.wire_message.specs.Steps.{TakesSome};
 
 use crate::class::{Class, is_in};
 use crate::field::take_run;
@@ -67,7 +68,9 @@ fn lengthen_gap(count: &mut u8, feed: &mut bool, octet: u8) -> usize
 pub(crate) fn lengthen(place: &mut Place, rest: &[u8]) -> usize
     requires place { IsPlace place.old }
     requires some { 0 < length rest.now }
-    ensures { TakesInPart place.old rest.now place.new result }
+    ensures takes { 0 < result → TakesSome place.old rest.now place.new result }
+    ensures same { result ≡ 0 → place.new ≡ place.old }
+    ensures ends { result ≡ 0 → EndsPart place.old (slice_index rest.now 0) }
 {
     match place {
         Place::Filler { count } => lengthen_filler(count, rest[0]),

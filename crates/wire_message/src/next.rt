@@ -1,10 +1,14 @@
 //! The step from one part of a message to the next.
 
-ghost use Rattle.std.specs.Prelude.{◌<◌, ◌≤◌, ◌≡◌, true, false, length, slice_index, IfSome, IfNone};
+ghost use Rattle.std.specs.Prelude.{◌<◌, ◌≤◌, ◌≡◌, true, false, [], length, slice_index, IfSome, IfNone};
 ghost use Rattle.iim_dataset.specs.Format.Characters.{eot};
+ghost use Rattle.wire_message.specs.Format.Messages.{Header};
 ghost use Rattle.wire_message.specs.States.SoFar.{IsPlace};
-ghost use Rattle.wire_message.specs.Parts.{EndsPart, BeginsTrailer, EndsTrailer};
-ghost use Rattle.wire_message.specs.Steps.{DiesWith, TakesSome, IsNoText, IsOther};
+ghost use Rattle.wire_message.specs.declared.part.HeaderPart.{HeaderPart};
+ghost use Rattle.wire_message.specs.declared.part.HeaderTexts.{HeaderTexts};
+ghost use Rattle.wire_story.specs.declared.reader.TextReader.{TextReader};
+ghost use Rattle.wire_message.specs.Parts.{EndsPart};
+ghost use Rattle.wire_message.specs.Steps.{DiesWith, TakesSome, IsNoText};
 
 use crate::place::Place;
 use crate::step::{after_filler, begin_part, ends_part};
@@ -18,7 +22,8 @@ use std::mem;
 /// header's before its info.
 fn next_part(place: Place, rest: &[u8]) -> Option<Place>
     requires place { IsPlace place }
-    requires outside { IsOther place }
+    requires outside { IsNoText place }
+    requires no_header { (part : HeaderPart) (texts : HeaderTexts) → place ≡ Place.InHeader part texts → ⊥ }
     requires some { 0 < length rest.now }
     requires ends { EndsPart place (slice_index rest.now 0) }
     ensures takes { IfSome result (λ next. TakesSome place rest.now next 1) }
@@ -74,9 +79,11 @@ pub(crate) fn begin_next(place: &mut Place, rest: &[u8]) -> bool
 pub(crate) fn end_text(place: &mut Place, rest: &[u8]) -> usize
     ensures few { result ≤ 1 }
     ensures within { result ≤ length rest.now }
-    ensures begins { result ≡ 0 → BeginsTrailer place.old place.new }
+    ensures begins { result ≡ 0 → (head : Header) (text : TextReader) → place.old ≡ Place.Text head text →
+        place.new ≡ Place.Trailer head (record { items = [] }) }
     ensures first { result ≡ 1 → slice_index rest.now 0 ≡ eot }
-    ensures ends { result ≡ 1 → EndsTrailer place.old place.new }
+    ensures ends { result ≡ 1 → (head : Header) (text : TextReader) → place.old ≡ Place.Text head text →
+        place.new ≡ Place.AfterEnd head (record { items = [] }) 0 }
 {
     let old = mem::replace(place, Place::Filler { count: 0 });
     if let Place::Text { head, .. } = old {

@@ -8,7 +8,7 @@ ghost use Rattle.wire_message.specs.Format.Fields.{IsField, max_filler};
 ghost use Rattle.wire_message.specs.Format.Messages.{IsHeader};
 ghost use Rattle.wire_message.specs.States.SoFar.{IsPlace};
 ghost use Rattle.wire_message.specs.States.Saved.{saved};
-ghost use Rattle.wire_message.specs.Restoring.{head_in, texts_in, restored, IsOnly};
+ghost use Rattle.wire_message.specs.Restoring.{head_in, texts_in, IsOnly};
 
 use crate::class::Class;
 use crate::field::{is_field, kept};
@@ -111,7 +111,7 @@ fn in_filler(place: &MessagePlace) -> Option<Place>
 
 /// A place in a part of the header.
 fn in_header(part: HeaderPart, place: &MessagePlace) -> Option<Place>
-    requires { restored place.now.part place.now ≡ Place.InHeader part (texts_in place.now) }
+    requires { (at : Place) → IsPlace at → saved at ≡ place.now → at ≡ Place.InHeader part (texts_in place.now) }
     ensures place { IfSome result IsPlace }
     ensures only { IsOnly result place.now }
 {
@@ -190,6 +190,7 @@ fn after_end(place: &MessagePlace) -> Option<Place>
 }
 
 /// The one place that may be saved so.
+#[tactic(auto, using(crate::proofs::Saving::back))]
 fn candidate(place: &MessagePlace) -> Option<Place>
     ensures place { IfSome result IsPlace }
     ensures only { IsOnly result place.now }

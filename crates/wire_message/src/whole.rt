@@ -1,13 +1,13 @@
 //! A header that stands whole in a piece, read at once.
 
-ghost use Rattle.std.specs.Prelude.{ℕ, ◌≡◌, ◌≤◌, ◌<◌, ◌∷◌, ◌++◌, length, take, IsTrue, IfSome, IfNone};
+ghost use Rattle.std.specs.Prelude.{ℕ, ◌≡◌, ◌≤◌, ◌<◌, ◌⊎◌, List, [], ◌∷◌, ◌++◌, length, take, IsTrue, IfSome, IfNone};
+ghost use Rattle.iim_dataset.specs.Format.Characters.{stx, sp};
 ghost use Rattle.wire_message.specs.Classes.{is_in_class};
 ghost use Rattle.wire_message.specs.Format.Fields.{Are, IsField, is_info_octet, max_info};
-ghost use Rattle.wire_message.specs.Format.Messages.{has_feed};
+ghost use Rattle.wire_message.specs.Format.Messages.{IsGap, BeginsWithHeader, has_feed};
 ghost use Rattle.wire_message.specs.declared.place.Place.TheVariants.{Filler};
 ghost use Rattle.wire_message.specs.Steps.{TakesSome};
 ghost use Rattle.wire_message.specs.Kept.{parts_in, IsKept};
-ghost use Rattle.wire_message.specs.Whole.{FrontInfo, FrontGap, FrontHead};
 
 use crate::class::Class;
 use crate::ends::Ends;
@@ -42,10 +42,10 @@ pub(crate) fn after(octet: u8, octets: &[u8]) -> Option<&[u8]>
 }
 
 /// The info of a header, which may be left out with its SP, and what follows.
-#[tactic(auto, using(crate::proofs::Kept::front_info))]
 #[inline(always)]
 fn info_part(octets: &[u8]) -> (&[u8], &[u8])
-    ensures front { FrontInfo octets.now result.0.now result.1.now }
+    ensures front { (octets.now ≡ sp ∷ result.0.now ++ result.1.now)
+        ⊎ ((result.0.now ≡ []) × (octets.now ≡ result.1.now)) }
     ensures info { IsField is_info_octet 0 max_info result.0.now }
 {
     match after(SP, octets) {
@@ -65,7 +65,7 @@ fn has_feed(octets: &[u8]) -> bool
 /// What follows a gap and STX.
 #[inline(always)]
 fn after_gap(octets: &[u8]) -> Option<&[u8]>
-    ensures { IfSome result (λ rest. FrontGap octets.now rest.now) }
+    ensures { IfSome result (λ rest. (gap : List ℕ) × IsGap gap × (octets.now ≡ gap ++ stx ∷ rest.now)) }
 {
     let (gap, rest) = part(Class::Filler, MAX_FILLER as usize, octets);
     if !has_feed(gap) {
@@ -94,7 +94,8 @@ fn are_some(source: &[u8], number: &[u8], priority: &[u8], category: &[u8], word
 /// follows STX.
 #[inline(always)]
 fn front_head(octets: &[u8]) -> Option<(&[u8], Ends, &[u8])>
-    ensures head { IfSome result (λ front. FrontHead octets.now (parts_in front.0.now front.1) front.2.now) }
+    ensures head { IfSome result (λ front. (begins : BeginsWithHeader octets.now (parts_in front.0.now front.1))
+        × (begins.before ≡ []) × (begins.rest ≡ front.2.now)) }
     ensures kept { IfSome result (λ front. IsKept front.0.now front.1) }
 {
     let header = after(SOH, octets)?;

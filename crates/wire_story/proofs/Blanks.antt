@@ -12,11 +12,11 @@ use Rattle.std.proofs.lemmas.Simd.{zip2_of_maps, zip2_splat, map-map, mask_l-mod
 use Rattle.std.proofs.lemmas.Bool.Decides.{nat_tests}
 use Rattle.std.proofs.lemmas.List.{drop_more, drop_all, drop-drop, take_rest, take-append-drop, length-map, length-append, length-replicate, take_all, length-take-le, map-append}
 use Rattle.wire_story.specs.Format.Delivery.{LineOctet}
-use Rattle.wire_story.specs.Format.Words.{WordsSoFar, CountsWords, capped, is_word_octet, words_begun, begun_with, inside_after}
+use Rattle.wire_story.specs.Format.Words.{WordsSoFar, CountsWords, capped, is_word_octet, is_blank, words_begun, begun_with, inside_after}
 use Rattle.wire_story.proofs.Words.{told_last}
 use Rattle.wire_story.proofs.Marked.{mask_drop, mask_join}
-use Rattle.wire_story.specs.SinkLaws.{inside-append}
-use Rattle.wire_story.specs.Marking.{is_blank, outside_after}
+use Rattle.wire_story.specs.SinkLaws.{told-append}
+use Rattle.wire_story.specs.Marking.{outside_after}
 
 -- which octets begin a word
 abbrev begins : Bool → List ℕ → List Bool
@@ -79,7 +79,8 @@ begun_joined : (inside : Bool) (xs ys : List ℕ) → (words_begun inside (xs ++
     × (outside_after inside (xs ++ ys) ≡ outside_after (outside_after inside xs == 0) ys)
 begun_joined inside xs ys =
     let same : (outside_after inside xs == 0) ≡ inside_after inside (map LineOctet xs) = of_outside (inside_after inside (map LineOctet xs)) (outside_after inside xs) refl in
-    rw same (begun_append inside xs ys, ap (λ t. cond t 0 1) (ap (inside_after inside) (map-append LineOctet xs ys) ∙ inside-append inside (map LineOctet xs) (map LineOctet ys)))
+    let ends = (told-append inside (map LineOctet xs) (map LineOctet ys)).1 in
+    rw same (begun_append inside xs ys, ap (λ t. cond t 0 1) (ap (inside_after inside) (map-append LineOctet xs ys) ∙ ends))
 
 -- the octets so far and the next block
 pub next_begun : (inside : Bool) (run : List ℕ) (at : ℕ)

@@ -3,11 +3,10 @@ use Rattle.std.proofs.Common.{◌≡◌, ℕ, ◌+◌, cond, Bool, true, false, 
 use Rattle.std.proofs.lemmas.Bool.{cases_Bool, both_ways}
 use Rattle.std.proofs.lemmas.List.Sums.{sum_by-cons}
 use Rattle.wire_story.specs.Format.Delivery.{LineOctet, LineEnd, delivered, events_of_lines}
-use Rattle.wire_story.specs.Format.Words.{is_word_octet, words_begun, words_in, words, EndsWord, HasWords, capped, words_told}
+use Rattle.wire_story.specs.Format.Words.{is_word_octet, is_blank, words_begun, words_in, words, EndsWord, HasWords, capped, words_told}
 use Rattle.wire_story.specs.Laws.{WordsAreLongestRuns, TextsAreCountedAsLines}
 use Rattle.wire_story.proofs.Spans.{Are, Are-head, Are-tail, Are-cons, span, no_stop}
 use Rattle.wire_story.specs.SinkLaws.{told-append}
-use Rattle.wire_story.specs.Marking.{is_blank}
 use Rattle.std.proofs.lemmas.Bool.Decides.{nat_tests}
 use Rattle.wire_story.proofs.Told.{delivered_lines}
 
@@ -135,7 +134,7 @@ told_lines : (lines : List (List ℕ)) → words_told false (events_of_lines lin
 told_lines [] = refl
 told_lines (line ∷ []) = omega (arith, told_last false line)
 told_lines (line ∷ next ∷ lines) =
-    let parts = told-append false (map LineOctet line) (LineEnd ∷ events_of_lines (next ∷ lines)) in
+    let parts = (told-append false (map LineOctet line) (LineEnd ∷ events_of_lines (next ∷ lines))).0 in
     omega (arith, parts, told_last false line, told_lines (next ∷ lines), sum_by-cons words_in line (next ∷ lines))
 
 pub texts_counted : TextsAreCountedAsLines

@@ -103,8 +103,7 @@ abbrev pub TextsAreCountedAsLines : Type 0
 TextsAreCountedAsLines = (x : List ℕ) (lines : List (List ℕ)) (old new : WordsSoFar) → IsText x lines
     → old.words ≡ 0 → old.inside ≡ false → CountsWords old (delivered x) new → new.words ≡ capped (words lines)
 
--- ---- The laws of stories, as one record: a field for each.
-
+-- The laws of stories: a field for each.
 pub record StoryLaws : Type 0 where
   -- what octets are as texts:
   pub texts_have_one_reading : TextsHaveOneReading

@@ -1,18 +1,14 @@
 -- Masks of octets: which of those that come next may be marks.
-use Rattle.std.specs.Prelude.{if◌then◌else◌, ◌≡◌, ℕ, ◌+◌, ◌-◌, ◌^◌, ◌<◌, ◌≤◌, Bool, not, nat_lt, List, length, take, drop, map}
+use Rattle.std.specs.Prelude.{if◌then◌else◌, ◌≡◌, ℕ, ◌+◌, ◌-◌, ◌^◌, ◌<◌, ◌≤◌, Bool, nat_lt, List, length, take, drop, map}
 use Rattle.std.specs.Simd.Lanes.{mask_l}
 use Rattle.wire_story.specs.declared.marks.Marks.{Marks}
 use Rattle.wire_story.specs.Format.Texts.{max_returns, line_end}
 use Rattle.wire_story.specs.Format.Delivery.{LineOctet}
-use Rattle.wire_story.specs.Format.Words.{is_word_octet, inside_after}
+use Rattle.wire_story.specs.Format.Words.{inside_after}
 
 -- It is below the octets that are surely no marks.
 abbrev pub is_low : ℕ → Bool
 is_low b = nat_lt b 14
-
--- SP or TAB
-abbrev pub is_blank : ℕ → Bool
-is_blank b = not (is_word_octet b)
 
 -- 0 where octets of a line end inside a word, after others that do or don't, else 1
 abbrev pub outside_after : Bool → List ℕ → ℕ

@@ -1,11 +1,11 @@
 //! The lines of a text one after the other, where they lie joined by LF.
 
-ghost use Rattle.std.specs.Prelude.{◌≡◌, ◌==◌, ℕ, List};
+ghost use Rattle.std.specs.Prelude.{◌≡◌, ◌==◌, ℕ, List, []};
 ghost use Rattle.std.specs.Iterator.{YieldsFirstRef, item_count};
 ghost use Rattle.std.specs.List.{position_or_len};
-ghost use Rattle.std.specs.Option.{option_copied};
+ghost use Rattle.std.specs.Option.{option_copied, option_map, unwrap_or};
 ghost use Rattle.iim_dataset.specs.Format.Characters.{lf};
-ghost use Rattle.wire_story.specs.Joining.{lines_in, lines_left};
+ghost use Rattle.wire_story.specs.Joining.{lines_in};
 
 use crate::marks::Marks;
 use iim_dataset::octets::LF;
@@ -21,7 +21,7 @@ pub struct LineIter<'a> {
 impl<'a> Model for LineIter<'a> {
     ghost Value = { List (List ℕ) };
 
-    ghost view = { λ lines. lines_left (option_copied lines.rest) };
+    ghost view = { λ lines. unwrap_or (option_map lines_in (option_copied lines.rest)) [] };
 }
 
 impl<'a> LineIter<'a> {

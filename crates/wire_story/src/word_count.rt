@@ -3,8 +3,8 @@
 ghost use Rattle.std.specs.Prelude.{List, ℕ, ◌≡◌, ◌==◌, ◌<◌, ◌≤◌, ◌∷◌, [], false, drop, length, map, take, IsOk};
 ghost use Rattle.std.specs.Simd.Lanes.{mask_l};
 ghost use Rattle.wire_story.specs.Format.Delivery.{LineOctet, LineEnd};
-ghost use Rattle.wire_story.specs.Format.Words.{WordsSoFar, is_word_octet, words_begun, inside_after, CountsWords};
-ghost use Rattle.wire_story.specs.Marking.{is_blank, outside_after};
+ghost use Rattle.wire_story.specs.Format.Words.{WordsSoFar, is_word_octet, is_blank, words_begun, inside_after, CountsWords};
+ghost use Rattle.wire_story.specs.Marking.{outside_after};
 
 use crate::marks::BLOCK;
 use crate::sink::StorySink;

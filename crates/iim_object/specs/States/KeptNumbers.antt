@@ -1,6 +1,7 @@
 -- The numbers that a reader of objects keeps.
-use Rattle.std.specs.Prelude.{◌≡◌, ℕ, ◌*◌, ◌<◌, ◌≤◌, Bool, List, [], ◌∷◌, is_some, Option, Some, None, IfSome}
+use Rattle.std.specs.Prelude.{◌≡◌, ℕ, ◌*◌, ◌<◌, ◌≤◌, List, [], ◌∷◌, is_some, Option, Some, None, IfSome}
 use Rattle.iim_dataset.specs.Format.Octets.{greatest_size}
+use Rattle.iim_object.specs.Format.Causes.{bound}
 use Rattle.iim_object.specs.Format.Plans.{max_subfiles}
 use Rattle.iim_object.specs.Format.Sizes.{mode_number}
 use Rattle.iim_object.specs.declared.reading.state.State.{State}
@@ -22,18 +23,14 @@ pub record HasNumbers (s : State) : Type 0 where
   pub sizes : (a m : ℕ) → s.announced ≡ Some a → s.maximum ≡ Some m → a ≤ m
 
 -- Subfiles have come, not too many. Mode and largest subfile are given, and the size is announced exactly where it is known. The
--- total is no more than these subfiles hold, and passes neither the greatest size nor what is announced nor the maximum.
+-- total is no more than these subfiles hold, and does not pass the bound.
 pub record HasSubfiles (s : State) : Type 0 where
-  pub known : Bool
   pub subfile : ℕ
-  pub mode : s.mode ≡ Some (mode_number known)
+  pub mode : s.mode ≡ Some (mode_number (is_some s.announced))
   pub largest : s.subfile ≡ Some subfile
-  pub by_mode : is_some s.announced ≡ known
   pub few : s.subfiles ≤ max_subfiles
   pub held : s.total ≤ s.subfiles * subfile
-  pub total : s.total ≤ greatest_size
-  pub announced : IfSome s.announced (λ a. s.total ≤ a)
-  pub maximum : IfSome s.maximum (λ m. s.total ≤ m)
+  pub total : s.total ≤ bound s.announced s.maximum
 
 -- The state is one to which tokens lead: numbers of record 7, and then subfiles.
 pub record IsState (s : State) : Type 0 where

@@ -2,8 +2,9 @@
 
 ghost use Rattle.std.specs.Prelude.{◌≡◌, ◌↔◌, ◌≤◌, ◌+◌, IsTrue, IsSome, IfSome, Some, None};
 ghost use Rattle.iim_object.specs.States.KeptNumbers.{IsState, state_numbers};
-ghost use Rattle.iim_object.specs.States.Saved.{IsAt};
-ghost use Rattle.iim_object.specs.Finding.{Finds};
+ghost use Rattle.iim_object.specs.Format.Places.{Place};
+ghost use Rattle.iim_object.specs.States.Reading.{StandsAt};
+ghost use Rattle.iim_object.specs.States.Saved.{IsAt, IsPossible};
 
 use crate::reading::state::State;
 use crate::reading::step::take_subfile;
@@ -34,7 +35,10 @@ fn may_have_begun(taken: u64, count: u64, left: u64, heads: u64) -> bool
 /// its head. None where no tokens lead there.
 fn within(numbers: State, taken: u64, count: u64, left: u64, heads: u64) -> Option<State>
     ensures is_state { IfSome result IsState }
-    ensures finds { Finds (IsAt (state_numbers numbers) taken (Some (count, left)) heads) result }
+    ensures exactly { IsSome result ↔
+        ((p : Place) × IsAt (state_numbers numbers) taken (Some (count, left)) heads p × IsPossible p) }
+    ensures stands { IfSome result (λ state. (p : Place)
+        → IsAt (state_numbers numbers) taken (Some (count, left)) heads p → IsPossible p → StandsAt (Some state) p) }
 {
     if !may_have_begun(taken, count, left, heads) {
         return None;
@@ -55,7 +59,9 @@ pub(crate) fn state_at(
     heads: u64,
 ) -> Option<State>
     ensures is_state { IfSome result IsState }
-    ensures finds { Finds (IsAt numbers taken begun heads) result }
+    ensures exactly { IsSome result ↔ ((p : Place) × IsAt numbers taken begun heads p × IsPossible p) }
+    ensures stands { IfSome result (λ state. (p : Place) → IsAt numbers taken begun heads p → IsPossible p
+        → StandsAt (Some state) p) }
 {
     let numbers = State::of_numbers(numbers);
     match begun {

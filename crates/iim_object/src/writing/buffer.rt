@@ -17,13 +17,15 @@ pub struct SubfileBuffer {
 
 impl Model for SubfileBuffer {
     ghost use Rattle.iim_object.specs.declared.plan.Plan.{Plan};
-    ghost use Rattle.iim_object.specs.Cutting.{IsReserved};
+    ghost use Rattle.std.specs.Prelude.{◌≡◌, []};
+    ghost use Rattle.iim_object.specs.States.Writing.{room_of};
 
     ghost Value = { Plan };
 
     ghost view = { λ b. b.plan };
 
-    ghost invariant = { λ b. IsReserved b.plan b.octets };
+    // Nothing is in it, and it has just the room that the plan asks.
+    ghost invariant = { λ b. (b.octets.items ≡ []) × (b.octets.room ≡ room_of b.plan) };
 }
 
 impl SubfileBuffer {

@@ -1,10 +1,11 @@
 //! An object, cut into subfiles as it comes.
 
-ghost use Rattle.std.specs.Prelude.{◌≡◌, ◌+◌, ◌-◌, ◌^◌, ◌<◌, ◌≤◌, length, take, false, IfOk, IfErr, OnOk, OnErr, IfSome, IfNone, Err};
+ghost use Rattle.std.specs.Prelude.{◌≡◌, ◌+◌, ◌-◌, ◌^◌, ◌<◌, ◌≤◌, [], ◌++◌, length, take, true, false, IfOk, IfErr, OnOk, OnErr, IfSome, IfNone, Err};
 ghost use Rattle.iim_dataset.specs.Format.Datasets.{canonical_dataset};
 ghost use Rattle.iim_object.specs.Format.Packing.{subfile_dataset};
 ghost use Rattle.iim_object.specs.States.Writing.{most_of, total_of, Lengthens, BreaksOff, ContinuesWith, IsTheWhole, Finishes, write_cause, finish_cause};
-ghost use Rattle.iim_object.specs.Cutting.{writing_of, HasRoom, MayTake, Fills, Flushes, Halts};
+ghost use Rattle.iim_object.specs.Cutting.{writing_of, HasRoom};
+ghost use Rattle.iim_object.specs.Outputs.{Puts, Cuts};
 ghost use Rattle.iim_object.specs.declared.writing.cause.PackCause.TheVariants as causes;
 
 use crate::laws::objects_are_cut_one_way;
@@ -44,11 +45,19 @@ impl<W: Target> Cutter<W> {
         requires room { HasRoom self.old }
         requires unfailed { self.old.failed ≡ false }
         requires full { length self.old.held.items ≡ self.old.plan.subfile }
-        ensures ok { OnOk result (Flushes W.state self.old self.new) }
+        ensures ok { OnOk result (Puts W.state self.old.output self.new.output
+            (canonical_dataset (subfile_dataset self.old.held.items))) }
+        ensures flushed { OnOk result (self.new ≡ record self.old {
+          held = self.new.held;
+          sent = self.old.sent + length self.old.held.items;
+          output = self.new.output;
+        }) }
+        ensures empty { OnOk result (self.new.held.items ≡ []) }
         ensures room { HasRoom self.new }
         ensures same_room { self.new.held.room ≡ self.old.held.room }
-        ensures err { OnErr result (Halts W.state self.old self.new
+        ensures err { OnErr result (Cuts W.state self.old.output self.new.output
             (canonical_dataset (subfile_dataset self.old.held.items))) }
+        ensures halted { OnErr result (self.new ≡ record self.old { output = self.new.output; failed = true }) }
         ensures cause { IfErr result (λ cause. cause ≡ causes.Write) }
     {
         match self
@@ -74,7 +83,9 @@ impl<W: Target> Cutter<W> {
         requires short { length self.old.held.items < self.old.plan.subfile }
         ensures within { result ≤ length rest.now }
         ensures some { 0 < length rest.now → 0 < result }
-        ensures fills { Fills self.old self.new (take result rest.now) }
+        ensures held { self.new.held.items ≡ self.old.held.items ++ take result rest.now }
+        ensures same { self.new ≡ record self.old { held = self.new.held } }
+        ensures same_room { self.new.held.room ≡ self.old.held.room }
         ensures room { HasRoom self.new }
     {
         let room = (self.plan.subfile - self.held.len() as u64) as usize;
@@ -85,7 +96,10 @@ impl<W: Target> Cutter<W> {
 
     /// Takes octets from the front, one at least, and answers how many.
     fn take_front(&mut self, rest: &[u8]) -> Result<usize, PackCause>
-        requires { MayTake self.old rest.now }
+        requires room { HasRoom self.old }
+        requires unfailed { self.old.failed ≡ false }
+        requires some { 0 < length rest.now }
+        requires within { total_of (writing_of self.old) + length rest.now ≤ most_of self.old.plan }
         ensures room { HasRoom self.new }
         ensures same_room { self.new.held.room ≡ self.old.held.room }
         ensures within { IfOk result (λ taken. taken ≤ length rest.now) }

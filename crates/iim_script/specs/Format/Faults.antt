@@ -9,7 +9,7 @@ use Rattle.iim_fields.specs.declared.fault.FieldCause.{FieldCause}
 use Rattle.iim_fields.specs.declared.fault.FieldFault.{FieldFault}
 use Rattle.wire_message.specs.Format.Messages.{Header, IsTrailer}
 use Rattle.wire_story.specs.Format.Texts.{IsLine}
-use Rattle.iim_script.specs.Format.Lines.{HasNo, NextLine, EndLines}
+use Rattle.iim_script.specs.Format.Lines.{HasNo, NextLine, NextLines}
 use Rattle.iim_script.specs.Format.Forms.{TellsField, TellsHead, TellsTrailer, text_word}
 use Rattle.iim_script.specs.Format.Scripts.{AreFieldLines, IsFront, max_script}
 pub use Rattle.iim_script.specs.declared.fault.ScriptCause.{ScriptCause}
@@ -23,61 +23,41 @@ pub data Stage : Type 0 where
 
 -- The lines are the beginning of a script, which has come this far.
 abbrev pub HaveCome : Limits → List (List ℕ) → Stage → Type 0
-HaveCome limits lines (InFields ds) = AreFieldLines limits lines ds
+HaveCome limits lines (InFields ds) = AreFieldLines limits [] lines ds
 HaveCome limits lines (AfterMessage ds head) =
-    (fields : List (List ℕ)) × (message : List ℕ) × AreFieldLines limits fields ds × TellsHead message head × (lines ≡ fields ++ message ∷ [])
+    (fields : List (List ℕ)) × (message : List ℕ) × AreFieldLines limits [] fields ds × TellsHead message head × (lines ≡ fields ++ message ∷ [])
 HaveCome limits lines (AfterTrailer ds head trailer) =
-    (fields : List (List ℕ)) × (message : List ℕ) × (line : List ℕ) × AreFieldLines limits fields ds × TellsHead message head
+    (fields : List (List ℕ)) × (message : List ℕ) × (line : List ℕ) × AreFieldLines limits [] fields ds × TellsHead message head
     × TellsTrailer line trailer × IsTrailer trailer × (lines ≡ fields ++ (message ∷ line ∷ []))
 
 -- The octets begin with `count` lines, each with its end, after which a script has come this far, and this is left.
 pub record Stands (limits : Limits) (octets : List ℕ) (stage : Stage) (rest : List ℕ) (count : ℕ) : Type 0 where
   pub lines : List (List ℕ)
-  pub front : List ℕ
-  pub lined : EndLines lines front
-  pub parts : octets ≡ front ++ rest
+  pub lined : NextLines octets lines rest
   pub count_is : count ≡ length lines
   pub come : HaveCome limits lines stage
 
--- The line tells no dataset.
-abbrev pub TellsNoField : List ℕ → Type 0
-TellsNoField line = (d : Dataset) → TellsField line d → ⊥
-
--- The line tells no header.
-abbrev pub TellsNoHead : List ℕ → Type 0
-TellsNoHead line = (head : Header) → TellsHead line head → ⊥
-
--- The line tells no octets of a trailer.
-abbrev pub TellsNoTrailer : List ℕ → Type 0
-TellsNoTrailer line = (octets : List ℕ) → TellsTrailer line octets → ⊥
-
--- The line has no form of those that may stand at this stage.
-abbrev pub HasNoForm : Stage → List ℕ → Type 0
-HasNoForm (InFields ds) line = TellsNoField line × TellsNoHead line
-HasNoForm (AfterMessage ds head) line = TellsNoTrailer line × (line ≡ text_word → ⊥)
-HasNoForm (AfterTrailer ds head trailer) line = line ≡ text_word → ⊥
-
--- The line tells a dataset that the builder takes not, for this cause.
-abbrev pub TellsBadField : Limits → List Dataset → List ℕ → FieldCause → Type 0
-TellsBadField limits ds line cause = (d : Dataset) × (fault : FieldFault) × TellsField line d × (add_fault limits ds d ≡ Some fault) × (cause ≡ fault.cause)
+-- The line tells nothing of this form.
+abbrev pub TellsNone : {A : Type 0} → (List ℕ → A → Type 0) → List ℕ → Type 0
+TellsNone {A} tells line = (told : A) → tells line told → ⊥
 
 -- The line is `text`, and the datasets make no envelope, for this cause.
 abbrev pub EndsTooSoon : List Dataset → List ℕ → FieldCause → Type 0
 EndsTooSoon ds line cause = (fault : FieldFault) × (line ≡ text_word) × (finish_fault ds ≡ Some fault) × (cause ≡ fault.cause)
 
--- The line tells octets that may be no trailer.
-abbrev pub TellsBadTrailer : List ℕ → Type 0
-TellsBadTrailer line = (octets : List ℕ) × TellsTrailer line octets × (IsTrailer octets → ⊥)
-
--- What is wrong with the line at this stage: 91 ScriptLine, the cause of its dataset or of what is missing, 83 BadTrailer.
+-- What is wrong with the line at this stage. 91 ScriptLine: it has no form of those that may stand there. Else it tells a dataset that the
+-- builder takes not, for this cause; or it is `text`, and something is missing; or its octets may be no trailer, 83 BadTrailer.
 -- twins (with IsNextWrong): laws `octets_have_one_fault`, `scripts_have_no_fault`; "The first wrong line is told";
 --   `tells_the_first_wrong_line`
 abbrev pub IsWrong : Limits → Stage → List ℕ → ScriptCause → Type 0
-IsWrong limits stage line ScriptLine = HasNoForm stage line
-IsWrong limits (InFields ds) line (Field cause) = TellsBadField limits ds line cause
+IsWrong limits (InFields ds) line ScriptLine = TellsNone TellsField line × TellsNone TellsHead line
+IsWrong limits (InFields ds) line (Field cause) =
+    (d : Dataset) × (fault : FieldFault) × TellsField line d × (add_fault limits ds d ≡ Some fault) × (cause ≡ fault.cause)
+IsWrong limits (AfterMessage ds head) line ScriptLine = TellsNone TellsTrailer line × (line ≡ text_word → ⊥)
 IsWrong limits (AfterMessage ds head) line (Field cause) = EndsTooSoon ds line cause
+IsWrong limits (AfterMessage ds head) line BadTrailer = (octets : List ℕ) × TellsTrailer line octets × (IsTrailer octets → ⊥)
+IsWrong limits (AfterTrailer ds head trailer) line ScriptLine = line ≡ text_word → ⊥
 IsWrong limits (AfterTrailer ds head trailer) line (Field cause) = EndsTooSoon ds line cause
-IsWrong limits (AfterMessage ds head) line BadTrailer = TellsBadTrailer line
 IsWrong limits stage line cause = ⊥
 
 -- The next line before the story is wrong; or no LF ends it, as where the octets end, for 91 ScriptLine.
@@ -94,20 +74,15 @@ pub record IsFrontFault (limits : Limits) (octets : List ℕ) (number : ℕ) (ca
   pub number_is : number ≡ count + 1
   pub wrong : IsNextWrong limits stage rest cause
 
--- After these lines of a story stands this line: with its end, or at the end of the story.
--- twins (with IsBadStory): "Stories: an end at the end begins no further line", "Octets that may not stand in a line"
-pub record HasLine (story : List ℕ) (before : List (List ℕ)) (line : List ℕ) : Type 0 where
-  pub front : List ℕ
-  pub rest : List ℕ
-  pub lined : EndLines before front
-  pub parts : story ≡ front ++ rest
-  pub is_next : ((after : List ℕ) × NextLine rest line after) ⊎ (HasNo lf rest × (line ≡ rest))
-
--- A line of the story has an octet that may stand in no line, and none before it has. The line `text` has that number.
+-- A line of the story has an octet that may stand in no line, and none before it has: with its end, or at the end of the story. The
+-- line `text` has that number.
+-- twin: "Stories: an end at the end begins no further line", "Octets that may not stand in a line"
 pub record IsBadStory (story : List ℕ) (text_line number : ℕ) : Type 0 where
   pub before : List (List ℕ)
+  pub rest : List ℕ
   pub line : List ℕ
-  pub has_line : HasLine story before line
+  pub lined : NextLines story before rest
+  pub is_there : ((after : List ℕ) × NextLine rest line after) ⊎ (HasNo lf rest × (line ≡ rest))
   pub texts : AllByRecursion IsLine before
   pub bad : IsLine line → ⊥
   pub number_is : number ≡ text_line + length before + 1

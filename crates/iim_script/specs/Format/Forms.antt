@@ -51,48 +51,27 @@ trailer_word = codes "trailer"
 abbrev pub text_word : List ℕ
 text_word = codes "text"
 
--- the words of a header's line after `message`
-pub record HeadWords : Type 0 where
-  pub source : List ℕ
-  pub number : List ℕ
-  pub priority : List ℕ
-  pub category : List ℕ
-  pub words : List ℕ
+-- the parts of a header before its info, with one SP between each two, and what ends the line
+-- twins (with AreWords, TellsHead): "Lines after the fields"; "The script of an envelope with by-lines"
+abbrev pub head_words : Header → List ℕ → List ℕ
+head_words head end = head.source ++ (sp ∷ (head.number ++ (sp ∷ (head.priority ++ (sp ∷ (head.category ++ (sp ∷ (head.words ++ end))))))))
 
--- what follows the source, the number, the priority and the category
-abbrev pub after_category : HeadWords → List ℕ → List ℕ
-after_category w end = w.words ++ end
-
--- twins (with after_number, after_source, AreWords, TellsHead): "Lines after the fields"; "The script of an envelope with by-lines"
-abbrev pub after_priority : HeadWords → List ℕ → List ℕ
-after_priority w end = w.category ++ (sp ∷ after_category w end)
-
-abbrev pub after_number : HeadWords → List ℕ → List ℕ
-after_number w end = w.priority ++ (sp ∷ after_priority w end)
-
-abbrev pub after_source : HeadWords → List ℕ → List ℕ
-after_source w end = w.number ++ (sp ∷ after_number w end)
-
--- The octets are these words, with one SP between each two, and what ends the line: nothing, or SP and more.
-pub record AreWords (octets : List ℕ) (w : HeadWords) (end : List ℕ) : Type 0 where
-  pub source : HasNo sp w.source
-  pub number : HasNo sp w.number
-  pub priority : HasNo sp w.priority
-  pub category : HasNo sp w.category
-  pub words : HasNo sp w.words
+-- The octets are these parts, none with an SP in it, and what ends the line: nothing, or SP and more.
+pub record AreWords (octets : List ℕ) (head : Header) (end : List ℕ) : Type 0 where
+  pub source : HasNo sp head.source
+  pub number : HasNo sp head.number
+  pub priority : HasNo sp head.priority
+  pub category : HasNo sp head.category
+  pub words : HasNo sp head.words
   pub ends : get_or end 0 sp ≡ sp
-  pub octets_are : octets ≡ w.source ++ (sp ∷ after_source w end)
-
--- the words of a header
-abbrev pub words_of : Header → HeadWords
-words_of head = record { source = head.source; number = head.number; priority = head.priority; category = head.category; words = head.words }
+  pub octets_are : octets ≡ head_words head end
 
 -- A line `message SOURCE NUMBER PRIORITY CATEGORY WORDS`, and SP and the info as text where there is one.
 pub record TellsHead (line : List ℕ) (head : Header) : Type 0 where
   pub end : List ℕ
   pub is_header : IsHeader head
   pub is_end : TellsLast end head.info
-  pub line_is : line ≡ message_word ++ (head.source ++ (sp ∷ after_source (words_of head) end))
+  pub line_is : line ≡ message_word ++ head_words head end
 
 -- A line `trailer`, and SP and the octets as text where there are some.
 -- twin: "A line in the place of line 4", "Lines after the fields"

@@ -1,28 +1,25 @@
 -- The lines of a script.
 use Rattle.std.specs.Prelude.{◌≡◌, ℕ, ◌==◌, false, ◌⊎◌, List, [], ◌∷◌, ◌++◌}
+use Rattle.std.specs.List.{AllByRecursion}
 use Rattle.iim_dataset.specs.Format.Characters.{lf, cr}
 
 -- None of the octets is this one.
 abbrev pub HasNo : ℕ → List ℕ → Type 0
-HasNo b [] = Unit {0}
-HasNo b (x ∷ xs) = ((x == b) ≡ false) × HasNo b xs
+HasNo b xs = AllByRecursion (λ x. (x == b) ≡ false) xs
 
--- The last octet is CR.
--- twins (with EndsLine): "One CR before the end of a line is dropped", "Escapes are decoded in fields, info and trailer"
-abbrev pub EndsInReturn : List ℕ → Type 0
-EndsInReturn line = (front : List ℕ) × (line ≡ front ++ cr ∷ [])
+-- They are the octets but for this one at their end; or all of them, and it is not their last.
+abbrev pub WithoutLast : ℕ → List ℕ → List ℕ → Type 0
+WithoutLast b octets front = (octets ≡ front ++ b ∷ []) ⊎ ((octets ≡ front) × ((before : List ℕ) → octets ≡ before ++ b ∷ [] → ⊥))
 
--- The octets are the line with its end: LF, and the one CR right before it that there may be.
-abbrev pub EndsLine : List ℕ → List ℕ → Type 0
-EndsLine line octets = HasNo lf line × ((octets ≡ line ++ cr ∷ lf ∷ []) ⊎ ((octets ≡ line ++ lf ∷ []) × (EndsInReturn line → ⊥)))
-
--- The octets begin with the line and its end, and this follows.
+-- The octets begin with the line and its end, and this follows: LF ends the line, and the one CR right before it is none of the line.
+-- twins (with NextLines): "One CR before the end of a line is dropped", "Escapes are decoded in fields, info and trailer"
 pub record NextLine (octets line after : List ℕ) : Type 0 where
   pub ended : List ℕ
-  pub ends : EndsLine line ended
-  pub parts : octets ≡ ended ++ after
+  pub no_feed : HasNo lf ended
+  pub is_line : WithoutLast cr ended line
+  pub parts : octets ≡ ended ++ lf ∷ after
 
--- The octets are the lines, each with its end.
-abbrev pub EndLines : List (List ℕ) → List ℕ → Type 0
-EndLines [] octets = octets ≡ []
-EndLines (line ∷ lines) octets = (ended : List ℕ) × (rest : List ℕ) × EndsLine line ended × EndLines lines rest × (octets ≡ ended ++ rest)
+-- The octets begin with the lines, each with its end, and this follows.
+abbrev pub NextLines : List ℕ → List (List ℕ) → List ℕ → Type 0
+NextLines octets [] after = octets ≡ after
+NextLines octets (line ∷ lines) after = (rest : List ℕ) × NextLine octets line rest × NextLines rest lines after

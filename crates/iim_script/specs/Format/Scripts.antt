@@ -9,7 +9,7 @@ use Rattle.wire_message.specs.Format.Messages.{Header, IsTrailer}
 use Rattle.wire_story.specs.Format.Texts.{IsLine}
 use Rattle.wire_story.specs.Format.Delivery.{delivered}
 use Rattle.wire_story.specs.Format.Packing.{lines_of}
-use Rattle.iim_script.specs.Format.Lines.{HasNo, EndLines}
+use Rattle.iim_script.specs.Format.Lines.{HasNo, NextLines}
 use Rattle.iim_script.specs.Format.Forms.{TellsField, TellsHead, TellsTrailer, text_word}
 
 -- the most octets of a script
@@ -17,22 +17,12 @@ use Rattle.iim_script.specs.Format.Forms.{TellsField, TellsHead, TellsTrailer, t
 abbrev pub max_script : ℕ
 max_script = 16777216
 
--- Each line tells the dataset in its place.
-abbrev pub TellFields : List (List ℕ) → List Dataset → Type 0
-TellFields [] [] = Unit {0}
-TellFields [] (d ∷ ds) = ⊥
-TellFields (line ∷ lines) [] = ⊥
-TellFields (line ∷ lines) (d ∷ ds) = TellsField line d × TellFields lines ds
-
--- A builder takes the datasets, one after another, after those before them.
-abbrev pub AreTaken : Limits → List Dataset → List Dataset → Type 0
-AreTaken limits before [] = Unit {0}
-AreTaken limits before (d ∷ ds) = (add_fault limits before d ≡ None) × AreTaken limits (before ++ d ∷ []) ds
-
--- The lines tell datasets that a builder takes.
-pub record AreFieldLines (limits : Limits) (lines : List (List ℕ)) (ds : List Dataset) : Type 0 where
-  pub told : TellFields lines ds
-  pub taken : AreTaken limits [] ds
+-- Each line tells the dataset in its place, and a builder takes these, one after another, after those before them.
+abbrev pub AreFieldLines : Limits → List Dataset → List (List ℕ) → List Dataset → Type 0
+AreFieldLines limits before [] [] = Unit {0}
+AreFieldLines limits before (line ∷ lines) (d ∷ ds) =
+    TellsField line d × (add_fault limits before d ≡ None) × AreFieldLines limits (before ++ d ∷ []) lines ds
+AreFieldLines limits before lines ds = ⊥
 
 -- No line, for a trailer of no octets; or the one line that tells it.
 abbrev pub AreTrailer : List (List ℕ) → List ℕ → Type 0
@@ -47,8 +37,8 @@ pub record IsFront (limits : Limits) (octets : List ℕ) (fields : List Dataset)
   pub field_lines : List (List ℕ)
   pub message : List ℕ
   pub trailers : List (List ℕ)
-  pub lined : EndLines (field_lines ++ (message ∷ trailers ++ text_word ∷ [])) octets
-  pub are_fields : AreFieldLines limits field_lines fields
+  pub lined : NextLines octets (field_lines ++ (message ∷ trailers ++ text_word ∷ [])) []
+  pub are_fields : AreFieldLines limits [] field_lines fields
   pub whole : finish_fault fields ≡ None
   pub is_head : TellsHead message head
   pub is_trailer : AreTrailer trailers trailer
@@ -58,9 +48,9 @@ pub record IsFront (limits : Limits) (octets : List ℕ) (fields : List Dataset)
 -- empty where others stand before it.
 -- twin: "Stories: an end at the end begins no further line", "Octets that may not stand in a line"
 abbrev pub IsStory : List ℕ → List (List ℕ) → Type 0
-IsStory octets lines = (0 < length lines) × (EndLines lines octets
-    ⊎ ((before : List (List ℕ)) × (last : List ℕ) × (ended : List ℕ) × (lines ≡ before ++ last ∷ []) × EndLines before ended
-    × (octets ≡ ended ++ last) × HasNo lf last × (last ≡ [] → before ≡ [])))
+IsStory octets lines = (0 < length lines) × (NextLines octets lines []
+    ⊎ ((before : List (List ℕ)) × (last : List ℕ) × (lines ≡ before ++ last ∷ []) × NextLines octets before last
+    × HasNo lf last × (last ≡ [] → before ≡ [])))
 
 -- the lines of a text, as its octets deliver them
 abbrev pub text_lines : List ℕ → List (List ℕ)

@@ -1,5 +1,5 @@
 -- Octets as text: printable ones as they are, and the others by escapes.
-use Rattle.std.specs.Prelude.{◌≡◌, ◌≢◌, ℕ, ◌+◌, ◌*◌, ◌<◌, ◌≤◌, ◌⊎◌, List, [], ◌∷◌, ◌++◌}
+use Rattle.std.specs.Prelude.{◌≡◌, ◌≢◌, ℕ, ◌+◌, ◌*◌, ◌<◌, ◌≤◌, ◌⊎◌, List, [], ◌∷◌}
 use Rattle.iim_dataset.specs.Format.Characters.{sp, digit_zero, capital_a, small_a, backslash, small_x}
 
 -- The digit is one of so many from `first` on, of which the first has the value `least`, and the digit this value.
@@ -16,18 +16,11 @@ IsHexDigit digit value = IsDigitFrom digit_zero 0 10 digit value ⊎ (IsDigitFro
 abbrev pub IsOfDigits : ℕ → ℕ → ℕ → Type 0
 IsOfDigits high low octet = (h : ℕ) × (l : ℕ) × IsHexDigit high h × IsHexDigit low l × (octet ≡ h * 16 + l)
 
--- `\x` and two hexadecimal digits
--- twins (with TellsOctet): "Escapes are decoded in fields, info and trailer", "A line in the place of line 4"; `shows_each_octet`
-abbrev pub IsEscape : List ℕ → ℕ → Type 0
-IsEscape piece octet = (high : ℕ) × (low : ℕ) × (piece ≡ backslash ∷ small_x ∷ high ∷ low ∷ []) × IsOfDigits high low octet
-
--- The piece tells the octet: it is an escape, or the octet itself, which is no backslash.
-abbrev pub TellsOctet : List ℕ → ℕ → Type 0
-TellsOctet piece octet = ((octet ≢ backslash) × (piece ≡ octet ∷ [])) ⊎ IsEscape piece octet
-
--- The text begins with a piece that tells the octet, and continues with the rest.
+-- The text begins with the octet itself, which is no backslash, or with its escape: `\x` and two hexadecimal digits. The rest follows.
+-- twin: "Escapes are decoded in fields, info and trailer", "A line in the place of line 4"; `shows_each_octet`
 abbrev pub BeginsWith : List ℕ → ℕ → List ℕ → Type 0
-BeginsWith text octet rest = (piece : List ℕ) × TellsOctet piece octet × (text ≡ piece ++ rest)
+BeginsWith text octet rest = ((octet ≢ backslash) × (text ≡ octet ∷ rest))
+    ⊎ ((high : ℕ) × (low : ℕ) × (text ≡ backslash ∷ small_x ∷ high ∷ low ∷ rest) × IsOfDigits high low octet)
 
 -- The text tells the octets, one after another.
 abbrev pub TellsOctets : List ℕ → List ℕ → Type 0

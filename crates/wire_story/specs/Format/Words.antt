@@ -10,6 +10,10 @@ use Rattle.wire_story.specs.Format.Delivery.{StoryEvent, LineOctet, LineEnd}
 abbrev pub is_word_octet : ℕ → Bool
 is_word_octet b = not (b == sp || b == tab)
 
+-- SP or TAB
+abbrev pub is_blank : ℕ → Bool
+is_blank b = not (is_word_octet b)
+
 -- One where a word begins with the octet: it is of a word, and the one before it in its line is not.
 abbrev pub begun_with : Bool → ℕ → ℕ
 begun_with inside b = if is_word_octet b && not inside then 1 else 0
@@ -31,23 +35,15 @@ words lines = sum_by words_in lines
 
 -- ---- what a word is
 
--- SP and TAB only
-abbrev pub IsBlank : List ℕ → Type 0
-IsBlank xs = IsTrue (list_all (λ b. not (is_word_octet b)) xs)
-
--- octets other than SP and TAB, one at least
-abbrev pub IsWord : List ℕ → Type 0
-IsWord xs = (0 < length xs) × IsTrue (list_all is_word_octet xs)
-
 -- Nothing comes next, or SP, or TAB: a word before it is as long as it can be.
 abbrev pub EndsWord : List ℕ → Type 0
 EndsWord [] = Unit {0}
 EndsWord (b ∷ xs) = is_word_octet b ≡ false
 
--- The line is these words, in order, each as long as it can be, and blanks before, between and after them.
+-- The line is these words, in order, each of one octet at least and as long as it can be, and blanks before, between and after them.
 abbrev pub HasWords : List ℕ → List (List ℕ) → Type 0
-HasWords line [] = IsBlank line
-HasWords line (word ∷ others) = (blank : List ℕ) × IsBlank blank × IsWord word
+HasWords line [] = IsTrue (list_all is_blank line)
+HasWords line (word ∷ others) = (blank : List ℕ) × IsTrue (list_all is_blank blank) × ((0 < length word) × IsTrue (list_all is_word_octet word))
     × (rest : List ℕ) × (line ≡ blank ++ (word ++ rest)) × EndsWord rest × HasWords rest others
 
 -- ---- words as they are told

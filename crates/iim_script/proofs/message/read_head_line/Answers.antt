@@ -1,10 +1,10 @@
-use Rattle.iim_script.proofs.Words.{TellsLast, words_of}
+use Rattle.iim_script.proofs.Words.{TellsLast}
 use Rattle.iim_script.proofs.Heads.{words_told, head_told, is_told, is_not_told}
 use Rattle.iim_script.proofs.message.read_head_line.Goals as goal
 
 pub returns-in_default-cut_words-clause-none : goal.returns-in_default-cut_words-clause-none
 returns-in_default-cut_words-clause-none c = λ head t.
-    c.in_default-cut_words.ensures.none (words_of head) t.end (words_told c.args.line.now c.in-Some.rest.now head t c.in-Some.ensures.found)
+    c.in_default-cut_words.ensures.none head t.end (words_told c.args.line.now c.in-Some.rest.now head t c.in-Some.ensures.found)
 
 pub returns-in-Ok-None-clause-none : goal.returns-in-Ok-None-clause-none
 returns-in-Ok-None-clause-none c = λ head t.

@@ -1,4 +1,4 @@
-use Rattle.std.proofs.Common.{◌≡◌, ◌-◌, ◌<◌, ℕ, List, [], ◌∷◌, length, take, drop, get_or, ◌∙◌, ap, inl, refl, rules}
+use Rattle.std.proofs.Common.{◌≡◌, ◌-◌, ◌<◌, ℕ, List, ◌∷◌, length, take, drop, get_or, ◌∙◌, ap, inl, rules}
 use Rattle.iim_dataset.proofs.Lists.{some_there}
 use Rattle.iim_script.proofs.Texts.{first_and_rest}
 use Rattle.iim_script.proofs.shown.first_octet.Goals as goal
@@ -19,4 +19,4 @@ returns-then-shown-eq-BACKSLASH-clause-none c =
 pub returns-clause-some : goal.returns-clause-some
 returns-clause-some c =
     let xs = c.args.shown.now in
-    (get_or xs 0 0 ∷ [], inl (c.if-shown-eq-BACKSLASH.false, refl), first_and_rest xs (some_there xs (λ none. absurd (search rules))))
+    inl (c.if-shown-eq-BACKSLASH.false, first_and_rest xs (some_there xs (λ none. absurd (search rules))))

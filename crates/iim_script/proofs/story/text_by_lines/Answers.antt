@@ -1,12 +1,12 @@
 use Rattle.std.proofs.Common.{◌+◌, ◌-◌, length, refl, arith}
-use Rattle.iim_script.proofs.Stories.{story_step, story_ends, story_refused}
+use Rattle.iim_script.proofs.Stories.{story_begins, story_step, story_ends, story_refused}
 use Rattle.iim_script.proofs.story.text_by_lines.Goals as goal
 
 pub returns-then-not-is_text-clause-fault : goal.returns-then-not-is_text-clause-fault
 returns-then-not-is_text-clause-fault c =
     let first = c.first_line.ensures in
-    rw c.fault_after.ensures.cause (story_refused c.first_line.result.0.now c.first_line.result.1 c.loop-line.invariant.stands first.more first.last
-    (λ is. let yes = c.is_text.ensures.1 is in let no = c.if-not-is_text.true in absurd cc) c.fault_after.ensures.line)
+    story_refused c.first_line.result.0.now c.first_line.result.1 c.loop-line.invariant.stands first.more first.last
+    (λ is. let yes = c.is_text.ensures.1 is in let no = c.if-not-is_text.true in absurd cc) c.fault_after.ensures.line
 
 pub returns-in_default-clause-text : goal.returns-in_default-clause-text
 returns-in_default-clause-text c =
@@ -27,3 +27,6 @@ loop-line-preserved c =
       within = omega (arith, i.within, shorter);
       small = omega (arith, i.small, shorter);
     }
+
+pub loop-line-init : goal.loop-line-init
+loop-line-init c = record { stands = story_begins _ _; short = omega arith; within = omega arith; small = omega arith }

@@ -1,7 +1,7 @@
 use Rattle.std.proofs.Common.{ℕ, List, ◌+◌, ◌≡◌, length, ap, arith}
 use Rattle.wire_message.specs.Format.Messages.{IsHeader, header_of}
 use Rattle.wire_message.specs.declared.ends.Ends.{Ends}
-use Rattle.wire_message.proofs.Kept.{front_kept}
+use Rattle.wire_message.proofs.Kept.{front_kept, info_spelled}
 use Rattle.wire_message.proofs.whole.front_head.Goals as goal
 
 pub returns : goal.returns
@@ -26,6 +26,6 @@ returns c =
     let words : ends.words ≡ length s + length n + 3 + length d + 1 + length w = ap (λ (e : Ends). e.words) c.of-ends.ensures in
     let front = front_kept _ _ s _ n _ _ p _ _ d _ _ w _ i _ c.in_ok-rest-4.rest.now (c.from.result + 1 + length i) ends c.in_ok-header.ensures
     c.part.ensures.parts c.part-2.ensures.parts c.in_ok-rest.ensures c.part-3.ensures.parts c.in_ok-rest-2.ensures c.part-4.ensures.parts
-    c.in_ok-rest-3.ensures c.part-5.ensures.parts c.info_part.ensures.front c.in_ok-rest-4.ensures is_header c.of-ends.ensures
+    c.in_ok-rest-3.ensures c.part-5.ensures.parts (info_spelled _ _ _ c.info_part.ensures.front) c.in_ok-rest-4.ensures is_header c.of-ends.ensures
     (omega (arith, words, c.from.ensures)) in
     record { head = front.0; kept = front.1 }

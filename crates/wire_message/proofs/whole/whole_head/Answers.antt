@@ -3,5 +3,5 @@ use Rattle.wire_message.proofs.whole.whole_head.Goals as goal
 
 pub returns-clause-takes : goal.returns-clause-takes
 returns-clause-takes c = λ count.
-    text_from_head count c.args.octets.now c.in_ok-header.rest.now c.of_octets-head.result c.new-text.result
-    (rw c.of_octets-head.ensures c.in_ok-header.ensures.head) c.new-text.ensures.stands
+    let (begins, none, left) = c.in_ok-header.ensures.head in
+    rw c.of_octets-head.ensures (text_from_head count c.args.octets.now c.in_ok-header.rest.now _ c.new-text.result begins none left c.new-text.ensures.stands)

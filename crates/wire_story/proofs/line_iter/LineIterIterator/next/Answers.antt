@@ -1,11 +1,11 @@
 use Rattle.std.proofs.lemmas.List.{take_rest}
 use Rattle.std.proofs.Common.{◌≡◌, ℕ, ◌+◌, ◌<◌, ◌≤◌, ◌==◌, false, List, [], ◌∷◌, length, take, drop, Option, Some, Bor, sym, ap, ◌∙◌, arith}
 use Rattle.std.specs.List.{position_or_len, slice_range}
-use Rattle.std.specs.Option.{option_copied}
+use Rattle.std.specs.Option.{option_copied, option_map, unwrap_or}
 use Rattle.std.proofs.lemmas.List.Splits.{slice_split_first, slice_split_none}
 use Rattle.std.proofs.lemmas.List.Sums.{fails_before_first}
 use Rattle.std.proofs.lemmas.List.Elements.{All-from_get_or}
-use Rattle.wire_story.specs.Joining.{lines_in, lines_left}
+use Rattle.wire_story.specs.Joining.{lines_in}
 use Rattle.wire_story.proofs.line_iter.LineIterIterator.next.Goals as goal
 
 -- the first line, and those that are left after its LF
@@ -22,8 +22,9 @@ last_line octets end e l =
     slice_split_none (λ b. b == 10) octets (All-from_get_or (λ b. (b == 10) ≡ false) octets 0 (λ k within. fails_before_first (λ b. b == 10) octets k 0 (omega (arith, e, l, within))))
 
 -- what is seen of an iterator with octets left
-seen : (left : Option (Bor (List ℕ))) (rest : Bor (List ℕ)) (lines : List (List ℕ)) → lines_left (option_copied left) ≡ lines → left ≡ Some rest → lines ≡ lines_in rest.now
-seen left rest lines view is = sym view ∙ ap (λ (o : Option (Bor (List ℕ))). lines_left (option_copied o)) is
+seen : (left : Option (Bor (List ℕ))) (rest : Bor (List ℕ)) (lines : List (List ℕ))
+    → unwrap_or (option_map lines_in (option_copied left)) [] ≡ lines → left ≡ Some rest → lines ≡ lines_in rest.now
+seen left rest lines view is = sym view ∙ ap (λ (o : Option (Bor (List ℕ))). unwrap_or (option_map lines_in (option_copied o)) []) is
 
 pub returns-then-end-rest-clause-steps : goal.returns-then-end-rest-clause-steps
 returns-then-end-rest-clause-steps c =

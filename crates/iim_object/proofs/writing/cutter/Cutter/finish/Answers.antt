@@ -13,7 +13,7 @@ returns-in-Err-clause-broke g c =
     let last = canonical_dataset (number_dataset 9 10 (total_of (writing_of old))) in
     let first = (rw c.as_slice.ensures at c.in-Err.ensures.err) in
     if_none (finish_cause (writing_of old)) _
-    (unfinished g.W.Target.state old (record old { output = c.put_dataset.new.self; failed = true }) c.objects_are_cut_one_way.ensures refl refl (cuts_more g.W.Target.state old.output c.put_dataset.new.self text last first))
+    (unfinished g.W.Target.state old c.put_dataset.new.self c.objects_are_cut_one_way.ensures (cuts_more g.W.Target.state old.output c.put_dataset.new.self text last first))
 
 pub returns-in-Ok-put_number-clause-ok : goal.returns-in-Ok-put_number-clause-ok
 returns-in-Ok-put_number-clause-ok g c =
@@ -32,14 +32,14 @@ returns-in-Err-put_number-clause-broke g c =
     let first = (rw c.as_slice.ensures at c.in-Ok.ensures.ok) in
     let second = (rw c.total-total.ensures at c.in-Err-put_number.ensures.err) in
     if_none (finish_cause (writing_of old)) _
-    (unfinished g.W.Target.state old (record old { output = c.put_number.new.self; failed = true }) c.objects_are_cut_one_way.ensures refl refl (cuts_later g.W.Target.state old.output c.put_dataset.new.self c.put_number.new.self text last c.texts_join.ensures first second))
+    (unfinished g.W.Target.state old c.put_number.new.self c.objects_are_cut_one_way.ensures (cuts_later g.W.Target.state old.output c.put_dataset.new.self c.put_number.new.self text last c.texts_join.ensures first second))
 
 pub returns-in-Err-clause-room : goal.returns-in-Err-clause-room
 returns-in-Err-clause-room g c =
     let old = c.args.self.now in
     let cut = (rw c.as_slice.ensures at c.in-Err.ensures.err) in
-    room_halted g.W.Target.state old (record old { output = c.put_dataset.new.self; failed = true }) (canonical_dataset (subfile_dataset old.held.items)) c.requires
-    (may_finish (writing_of old) (sym c.finish_cause.ensures ∙ c.in_default.is)) (record { cut = cut; plan = refl; held = refl; sent = refl; failed = refl })
+    room_halted g.W.Target.state old c.put_dataset.new.self (canonical_dataset (subfile_dataset old.held.items)) c.requires
+    (may_finish (writing_of old) (sym c.finish_cause.ensures ∙ c.in_default.is)) cut
     (omega (arith, dataset_length (subfile_dataset old.held.items)))
 
 pub returns-in-Err-put_number-clause-room : goal.returns-in-Err-put_number-clause-room
@@ -49,7 +49,7 @@ returns-in-Err-put_number-clause-room g c =
     let last = canonical_dataset (number_dataset 9 10 (total_of (writing_of old))) in
     let first = (rw c.as_slice.ensures at c.in-Ok.ensures.ok) in
     let second = (rw c.total-total.ensures at c.in-Err-put_number.ensures.err) in
-    room_halted g.W.Target.state old (record old { output = c.put_number.new.self; failed = true }) (text ++ last) c.requires
+    room_halted g.W.Target.state old c.put_number.new.self (text ++ last) c.requires
     (may_finish (writing_of old) (sym c.finish_cause.ensures ∙ c.in_default.is))
-    (record { cut = cuts_later g.W.Target.state old.output c.put_dataset.new.self c.put_number.new.self text last c.texts_join.ensures first second; plan = refl; held = refl; sent = refl; failed = refl })
+    (cuts_later g.W.Target.state old.output c.put_dataset.new.self c.put_number.new.self text last c.texts_join.ensures first second)
     (omega (arith, dataset_length (subfile_dataset old.held.items), number_length 9 10 (total_of (writing_of old)), length-append text last))

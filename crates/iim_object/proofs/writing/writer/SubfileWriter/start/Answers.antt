@@ -12,9 +12,9 @@ invariant_of-result g c =
     let plan = c.buffer.inside.plan in
     let puts = c.in-Ok.ensures.ok in
     let long = plan_length plan.subfile plan.size in
-    let none : length c.buffer.inside.octets.items ≡ 0 = ap length c.buffer.invariant.empty in
+    let none : length c.buffer.inside.octets.items ≡ 0 = ap length c.buffer.invariant.0 in
     record {
-      capacity = omega (arith, c.buffer.invariant.room);
+      capacity = omega (arith, c.buffer.invariant.1);
       within = omega (arith, none);
       bound = omega (arith, none);
       parts = 0;
@@ -32,10 +32,10 @@ returns-in-Ok-clause-stands g c =
       unfailed = refl;
       parts = [];
       are_full = tt;
-      object_is = sym c.buffer.invariant.empty;
+      object_is = sym c.buffer.invariant.0;
       some = λ empty. refl;
       sent = refl;
-      within = omega (arith, ap length c.buffer.invariant.empty);
+      within = omega (arith, ap length c.buffer.invariant.0);
       out_is = ap plan_octets (sym c.buffer.view_is) ∙ only_plan plan;
       written = count ∙ ap (λ (p : Plan). length (plan_octets p)) c.buffer.view_is;
     }
