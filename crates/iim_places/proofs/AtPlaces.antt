@@ -1,24 +1,20 @@
 -- Readers at a place: the message that a ticket tells, and what the record layer can continue with.
-use Rattle.std.proofs.Common.{◌≡◌, ℕ, ◌↔◌, Bool, true, false, cond, IsTrue, IsSome, IfNone, OnOk, Option, Some, None, Result, Ok, Err, is_ok}
-use Rattle.std.proofs.Common.{List, [], ◌∷◌, length, map, get_or, refl, sym, subst, ◌∙◌, arith, Bor}
-use Rattle.iim_places.proofs.Words.{same_Some, AllByRecursion, Dataset, Head, DatasetPlace, nothing_fits, SectionsLive, SectionsLiveAt, HasChecked, HasTaken}
-use Rattle.iim_places.proofs.Words.{kept, kept_octets, IsWithin, RecordPlace, FieldFault, head_alive, taken_alive, LeadsToSaved, MessagePlace, AreNumbers}
-use Rattle.iim_places.proofs.Words.{IsSize, RecordsLive, head_of_numbers, number_list, widest, AreKept, CanContinueWithin, IsMessageOf, numbers_told}
-use Rattle.iim_places.proofs.Words.{told_datasets, Phase, DataBegun}
+use Rattle.std.proofs.Common.{◌≡◌, ℕ, ◌↔◌, Bool, true, false, cond, IsTrue, IsSome, IfNone, OnOk, Option, Result, Ok, Err, is_ok, List, [], ◌∷◌, length, map}
+use Rattle.std.proofs.Common.{get_or, refl, sym, subst, ◌∙◌, arith, Bor}
+use Rattle.iim_places.proofs.Words.{same_Some, Dataset, Head, DatasetPlace, SectionsLive, SectionsLiveAt, HasChecked, HasTaken, kept, kept_octets, IsWithin}
+use Rattle.iim_places.proofs.Words.{RecordPlace, FieldFault, head_alive, taken_alive, LeadsToSaved, MessagePlace, AreNumbers, RecordsLive, head_of_numbers}
+use Rattle.iim_places.proofs.Words.{number_list, widest, AreKept, CanContinueWithin, IsMessageOf, numbers_told, told_datasets, Phase, DataBegun}
 use Rattle.iim_dataset.specs.States.Places.{IsPlace}
 use Rattle.wire_message.specs.States.Reading.{StandsAt}
 use Rattle.wire_message.specs.States.SoFar.{LeadsTo as LeadTo}
 use Rattle.wire_message.specs.States.Saved.{IsAt}
 use Rattle.wire_message.specs.declared.place.Place.{Place as Message}
 use Rattle.iim_places.proofs.Fitting.{message_told}
-use Rattle.iim_places.proofs.Plain.{kept_fields, plain_told}
-
--- ---- tags
+use Rattle.iim_places.proofs.Plain.{kept_fields, plain_kept}
 
 pub no_place : {X A : Type 0} (result : Option X) (place : DatasetPlace) → IsSome result ↔ A → IsPlace place ↔ A → (P : Type 0) → (P → IsPlace place)
     → IfNone result (P → ⊥)
-no_place (Some r) place exactly law P by = tt
-no_place None place exactly law P by = λ p. let bad : false ≡ true = exactly.1 (law.0 (by p)) in cc
+no_place result place exactly law P by = grind arith
 
 -- ---- records
 
@@ -32,23 +28,17 @@ live_alive section (DataBegun set count left taken) ds lives = head_alive ds (he
 live_alive section other ds lives = lives.1
 
 pub four_back : (numbers : List (Option ℕ)) → length numbers ≡ 4 → numbers ≡ number_list (numbers_told numbers)
-four_back (a ∷ b ∷ c ∷ d ∷ []) is = refl
-four_back numbers is = absurd (omega (arith, is))
+four_back numbers is = grind arith
 
 -- the told datasets keep the fields
 pub kept_told : (fields : List Dataset) (numbers : List (Option ℕ)) (some ended : Bool) → AreNumbers numbers → AreKept fields
     → kept (told_datasets fields numbers some ended) ≡ fields
-kept_told fields numbers some ended fit each =
-    let fits = subst (AllByRecursion IsSize) (four_back numbers fit.four) fit.each in
-    (plain_told fields (numbers_told numbers) (cond some 1 0) [] ended (record { kept = each; fit = fits; room = nothing_fits _ })).kept_are
+kept_told fields numbers some ended fit each = plain_kept fields (numbers_told numbers) (cond some 1 0) [] ended each
 
 pub leads_on_told : (section : ℕ) (phase : Phase) (fields : List Dataset) (numbers : List (Option ℕ)) (some ended : Bool) → AreNumbers numbers → AreKept fields
     → IsWithin widest (kept_octets fields) (length fields) → RecordsLive section phase (told_datasets fields numbers some ended)
     → CanContinueWithin widest (told_datasets fields numbers some ended)
-leads_on_told section phase fields numbers some ended fit each within lives = record {
-  alive = live_alive section phase (told_datasets fields numbers some ended) lives;
-  within = rw (kept_told fields numbers some ended fit each) (rw (kept_fields fields each) at within);
-}
+leads_on_told section phase fields numbers some ended fit each within lives = grind (arith, live_alive, kept_told, kept_fields)
 
 -- ---- the message
 
@@ -59,8 +49,7 @@ texts_seven texts z is = absurd (omega (arith, is))
 
 -- What a ticket tells of a message is one place.
 pub same_message : (part counter flag : ℕ) (texts : List (List ℕ)) (m n : MessagePlace) → IsMessageOf part counter flag texts m → IsMessageOf part counter flag texts n → m ≡ n
-same_message part counter flag texts m n is are =
-    message_told m n (is.part_is ∙ sym are.part_is) (is.counter_is ∙ sym are.counter_is) (is.flag_is ∙ sym are.flag_is) (is.texts_are ∙ sym are.texts_are)
+same_message part counter flag texts m n is are = grind (arith, message_told)
 
 -- Octets that lead to where the reader stands lead to its place as it is saved.
 pub leads_saved : (reader : Option Message) (octets text : List ℕ) (m : MessagePlace) → IsAt reader m → StandsAt reader octets text → LeadsToSaved octets text m

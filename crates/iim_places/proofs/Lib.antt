@@ -24,7 +24,6 @@ pub mod Splitting
 pub mod Fitting
 pub mod Plain
 pub mod PlainSizes
-pub mod PlainContinues
 pub mod ByLayers
 pub mod Taking
 pub mod AtPlaces
@@ -33,7 +32,6 @@ pub mod Twins
 pub mod Onward
 pub mod Saved
 pub mod SmallTags
-pub mod SmallSections
 pub mod Scales
 pub mod Listings
 pub mod PlacesTold

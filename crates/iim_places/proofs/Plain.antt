@@ -1,12 +1,11 @@
--- Plain datasets tell their place.
-use Rattle.std.proofs.Common.{◌≡◌, ℕ, zero, suc, ◌+◌, ◌*◌, ◌<◌, ◌≤◌, nat_eq, cond, Bool, true, false, List, [], ◌∷◌, ◌++◌, length, take, drop, Option, Some}
-use Rattle.std.proofs.Common.{None, refl, ap, sym, ◌∙◌, arith, append-nil, length-drop, subst, IfSome}
-use Rattle.iim_places.proofs.Words.{place_of, option_or, AllByRecursion, filter, unwrap_or, ne_eqb, take-append-drop, length-take, filter-append, few_octets}
-use Rattle.iim_places.proofs.Words.{number_back, IsOctet, Octets, number, Dataset, canonical_stream, of_record, all_append, all_map, front_are, Begun, InTag}
-use Rattle.iim_places.proofs.Words.{InData, HasSpellings, CanonicalStreamsAreSpelled, kept, is_kept, last_record, section_after, numbers_of, number_dataset}
-use Rattle.iim_places.proofs.Words.{subfile_datasets, stated_numbers, Stated, number_at, LeadsToSaved, object_of, IsSize, object_so_far, heads_of}
-use Rattle.iim_places.proofs.Words.{AreSpellable, begun_object, begun_heads, PlainOctetsLeadToTheirPlace, Numbers, number_list, mode_dataset, one_dataset}
-use Rattle.iim_places.proofs.Words.{plain_numbers, filled, plain_end, plain, last_of_joined, map-append}
+-- Plain datasets tell what they are made of, and can be spelled.
+use Rattle.std.proofs.Common.{◌≡◌, ℕ, zero, suc, ◌*◌, ◌<◌, ◌≤◌, nat_eq, cond, Bool, true, false, List, [], ◌∷◌, ◌++◌, length, take, drop, Option, Some, ◌-◌}
+use Rattle.std.proofs.Common.{subst, None, refl, ap, ◌∙◌, arith, append-nil, length-drop, IfSome, inl, inr}
+use Rattle.iim_places.proofs.Words.{option_or, AllByRecursion, filter, unwrap_or, ne_eqb, eqb_tells, take-append-drop, length-take, filter-append, few_octets}
+use Rattle.iim_places.proofs.Words.{AreKept, IsOctet, Octets, number, greatest_size, Dataset, of_record, all_append, all_map, front_are, HasSpellings, kept}
+use Rattle.iim_places.proofs.Words.{is_kept, last_record, section_after, numbers_of, number_dataset, subfile_datasets, stated_numbers, Stated, number_at}
+use Rattle.iim_places.proofs.Words.{object_of, IsSize, Numbers, number_list, mode_dataset, one_dataset, plain_numbers, filled, plain_end, plain, last_of_joined}
+use Rattle.iim_places.proofs.Words.{map-append}
 use Rattle.iim_dataset.proofs.WrittenNumbers.{number_octets}
 use Rattle.iim_fields.specs.Format.Faults.{joined}
 use Rattle.iim_object.specs.Format.Packing.{subfile_dataset}
@@ -28,17 +27,14 @@ AreOf r ds = AllByRecursion (λ (d : Dataset). d.rec ≡ r) ds
 
 filter_all : (p : Dataset → Bool) (ds : List Dataset) → AllByRecursion (λ (d : Dataset). p d ≡ true) ds → filter p ds ≡ ds
 filter_all p [] all = refl
-filter_all p (d ∷ ds) all = ap (λ (b : Bool). cond b (d ∷ filter p ds) (filter p ds)) all.0 ∙ ap (λ (xs : List Dataset). d ∷ xs) (filter_all p ds all.1)
+filter_all p (d ∷ ds) all = rw (all.0, filter_all p ds all.1) refl
 
 filter_none : (p : Dataset → Bool) (ds : List Dataset) → AllByRecursion (λ (d : Dataset). p d ≡ false) ds → filter p ds ≡ []
 filter_none p [] all = refl
-filter_none p (d ∷ ds) all = ap (λ (b : Bool). cond b (d ∷ filter p ds) (filter p ds)) all.0 ∙ filter_none p ds all.1
+filter_none p (d ∷ ds) all = rw all.0 (filter_none p ds all.1)
 
-pub kept_fields : (ds : List Dataset) → AllByRecursion (λ (d : Dataset). is_kept d.rec ≡ true) ds → kept ds ≡ ds
+pub kept_fields : (ds : List Dataset) → AreKept ds → kept ds ≡ ds
 kept_fields ds all = filter_all (λ (d : Dataset). is_kept d.rec) ds all
-
-pub kept_of : (r : ℕ) (ds : List Dataset) → is_kept r ≡ true → AreOf r ds → kept ds ≡ ds
-kept_of r ds is all = kept_fields ds (all_map _ _ ds (λ d e. ap is_kept e ∙ is) all)
 
 pub all_of : (r : ℕ) (ds : List Dataset) → nat_eq r r ≡ true → AreOf r ds → of_record r ds ≡ ds
 all_of r ds same all = filter_all (λ (d : Dataset). nat_eq d.rec r) ds (all_map _ _ ds (λ d e. ap (λ (n : ℕ). nat_eq n r) e ∙ same) all)
@@ -49,10 +45,12 @@ none_by p s ds none all = filter_none (λ (d : Dataset). p d.rec) ds (all_map _ 
 pub none_of : (r s : ℕ) (ds : List Dataset) → nat_eq s r ≡ false → AreOf s ds → of_record r ds ≡ []
 none_of r s ds apart all = none_by (λ k. nat_eq k r) s ds apart all
 
-none_in_fields : (r : ℕ) (ds : List Dataset) → is_kept r ≡ false → AllByRecursion (λ (d : Dataset). is_kept d.rec ≡ true) ds → of_record r ds ≡ []
-none_in_fields r ds is all =
-    filter_none (λ (d : Dataset). nat_eq d.rec r) ds
-    (all_map _ _ ds (λ d keeps. ne_eqb d.rec r (λ same. let bad : true ≡ false = sym keeps ∙ ap is_kept same ∙ is in absurd cc)) all)
+-- all datasets of a record, or none
+run_by : (p : ℕ → Bool) (s : ℕ) (ds : List Dataset) → AreOf s ds → filter (λ (d : Dataset). p d.rec) ds ≡ cond (p s) ds []
+run_by p s ds all = grind (arith, filter_all, all_map, none_by)
+
+pub none_in_fields : (r : ℕ) (ds : List Dataset) → is_kept r ≡ false → AreKept ds → of_record r ds ≡ []
+none_in_fields r ds is all = grind (arith, filter_none, all_map, ne_eqb)
 
 -- ---- what holds of each
 
@@ -62,8 +60,7 @@ back_octets (suc k) [] all = tt
 back_octets (suc k) (x ∷ xs) all = back_octets k xs all.1
 
 one_each : (P : Dataset → Type 0) (made : ℕ → Dataset) (o : Option ℕ) → ((n : ℕ) → o ≡ Some n → P (made n)) → AllByRecursion P (one_dataset made o)
-one_each P made None each = tt
-one_each P made (Some n) each = (each n refl, tt)
+one_each P made o each = grind arith
 
 pub numbers_each : (P : Dataset → Type 0) (n : Numbers) → ((k : ℕ) → n.mode ≡ Some k → P (mode_dataset k))
     → ((k : ℕ) → n.largest ≡ Some k → P (number_dataset 7 20 k)) → ((k : ℕ) → n.announced ≡ Some k → P (number_dataset 7 90 k))
@@ -85,25 +82,19 @@ parts_each P size (suc count) xs each =
     )
 
 pub end_each : (P : Dataset → Type 0) (ended : Bool) (object : List ℕ) → P (number_dataset 9 10 (length object)) → AllByRecursion P (plain_end ended object)
-end_each P true object is = (is, tt)
-end_each P false object is = tt
+end_each P ended object is = grind arith
 
--- ---- record 7
-
-pub are_sevens : (n : Numbers) → AreOf 7 (plain_numbers n)
-are_sevens n = numbers_each (λ d. d.rec ≡ 7) n (λ k is. refl) (λ k is. refl) (λ k is. refl) (λ k is. refl)
+-- ---- the numbers of record 7
 
 abbrev pub one_stated : ℕ → Option ℕ → List Stated
 one_stated set None = []
 one_stated set (Some n) = record { set = set; number = n } ∷ []
 
 mode_told : (o : Option ℕ) → numbers_of (one_dataset mode_dataset o) ≡ one_stated 10 o
-mode_told None = refl
-mode_told (Some n) = ap (λ (k : ℕ). record { set = 10; number = k } ∷ []) (let same : n * 1 + 0 ≡ n = omega arith in same)
+mode_told o = grind arith
 
 one_told : (set : ℕ) (o : Option ℕ) → IsSize o → numbers_of (one_dataset (number_dataset 7 set) o) ≡ one_stated set o
-one_told set None h = refl
-one_told set (Some n) h = ap (λ (k : ℕ). record { set = set; number = k } ∷ []) (number_back n (omega (arith, h)))
+one_told set o fit = grind arith
 
 abbrev pub all_stated : Numbers → List Stated
 all_stated n = one_stated 10 n.mode ++ (one_stated 20 n.largest ++ (one_stated 90 n.announced ++ one_stated 95 n.maximum))
@@ -118,17 +109,10 @@ pub at_both : (set : ℕ) (ps qs : List Stated) → number_at set (ps ++ qs) ≡
 at_both set [] qs = refl
 at_both set (p ∷ ps) qs = grind (arith, at_both set ps qs)
 
-four_by : (a b c d : Option ℕ) → stated_numbers (one_stated 10 a ++ (one_stated 20 b ++ (one_stated 90 c ++ one_stated 95 d))) ≡ a ∷ b ∷ c ∷ d ∷ []
-four_by a b c d = grind arith
-
 pub four_told : (n : Numbers) → stated_numbers (all_stated n) ≡ number_list n
-four_told n = four_by n.mode n.largest n.announced n.maximum
+four_told n = grind arith
 
--- ---- record 8
-
-pub are_eights : (parts : List (List ℕ)) → AreOf 8 (subfile_datasets parts)
-are_eights [] = tt
-are_eights (p ∷ parts) = (refl, are_eights parts)
+-- ---- the subfiles
 
 pub filled_count : (size count : ℕ) (xs : List ℕ) → length (subfile_datasets (filled size count xs)) ≡ count
 filled_count size zero xs = refl
@@ -143,111 +127,66 @@ filled_all size (suc count) xs fits =
 
 -- ---- all of it
 
--- what plain datasets have: their fields are of records 1 and 2, each number fits its octets, and the subfiles have room for the object
-pub record Fits (fields : List Dataset) (numbers : Numbers) (heads : ℕ) (object : List ℕ) : Type 0 where
-  pub kept : AllByRecursion (λ (d : Dataset). is_kept d.rec ≡ true) fields
-  pub fit : AllByRecursion IsSize (number_list numbers)
-  pub room : length object ≤ heads * unwrap_or numbers.largest 0
-
 told_by : (test : Dataset → Bool) (a b c d : List Dataset) {w x y z : List Dataset} → filter test a ≡ w → filter test b ≡ x → filter test c ≡ y
     → filter test d ≡ z → filter test (a ++ (b ++ (c ++ d))) ≡ w ++ (x ++ (y ++ z))
 told_by test a b c d e f g h = simp (filter-append, e, f, g, h)
 
--- The plain datasets tell what they are made of.
-pub plain_told : (fields : List Dataset) (numbers : Numbers) (heads : ℕ) (object : List ℕ) (ended : Bool) → Fits fields numbers heads object
-    → Tell (plain fields numbers heads object ended) fields numbers heads object ended
-plain_told fields numbers heads object ended fits =
-    let each = fits.kept in
-    let size = unwrap_or numbers.largest 0 in
-    let sevens = plain_numbers numbers in
-    let eights = subfile_datasets (filled size heads object) in
-    let nines = plain_end ended object in
-    let are7 = are_sevens numbers in
-    let are8 = are_eights (filled size heads object) in
-    let are9 : AreOf 9 nines = end_each _ ended object refl in
-    let seven : of_record 7 (plain fields numbers heads object ended) ≡ sevens =
-    told_by (λ (d : Dataset). nat_eq d.rec 7) fields sevens eights nines (none_in_fields 7 fields refl each) (all_of 7 sevens refl are7)
-    (none_of 7 8 eights refl are8) (none_of 7 9 nines refl are9) ∙ append-nil sevens in
-    let eight : of_record 8 (plain fields numbers heads object ended) ≡ eights =
-    told_by (λ (d : Dataset). nat_eq d.rec 8) fields sevens eights nines (none_in_fields 8 fields refl each) (none_of 8 7 sevens refl are7)
-    (all_of 8 eights refl are8) (none_of 8 9 nines refl are9) ∙ append-nil eights in
-    record {
-      kept_are = told_by (λ (d : Dataset). is_kept d.rec) fields sevens eights nines (kept_fields fields each) (none_by is_kept 7 sevens refl are7)
-          (none_by is_kept 8 eights refl are8) (none_by is_kept 9 nines refl are9) ∙ append-nil fields;
-      numbers_are = ap (λ (xs : List Dataset). stated_numbers (numbers_of xs)) seven ∙ ap stated_numbers (are_told numbers fits.fit) ∙ four_told numbers;
-      object_is = ap joined eight ∙ filled_all size heads object fits.room;
-      heads_are = ap length eight ∙ filled_count size heads object;
-      sevens_are = seven;
-      eights_are = eight;
-      nines_are = told_by (λ (d : Dataset). nat_eq d.rec 9) fields sevens eights nines (none_in_fields 9 fields refl each) (none_of 9 7 sevens refl are7)
-          (none_of 9 8 eights refl are8) (all_of 9 nines refl are9);
-    }
+-- without datasets of a record the last is of another
+last_none : (r k : ℕ) (ds : List Dataset) → nat_eq k r ≡ false → of_record r ds ≡ [] → nat_eq (last_record k ds) r ≡ false
+last_none r k [] other none = other
+last_none r k (d ∷ ds) other none = elim (eqb_tells d.rec r) [
+  | inl same ↦ absurd (let bad = rw same.0 at none in cc)
+  | inr apart ↦ last_none r d.rec ds apart.0 (rw apart.0 at none)
+]
 
--- ---- whether they have ended
+module _ (fields : List Dataset) (numbers : Numbers) (heads : ℕ) (object : List ℕ) (ended : Bool) where
+  abbrev made : List Dataset
+  made = plain fields numbers heads object ended
 
-last_low : (r : ℕ) (ds : List Dataset) → r ≤ 8 → AllByRecursion (λ (d : Dataset). d.rec ≤ 8) ds → last_record r ds ≤ 8
-last_low r [] low all = low
-last_low r (d ∷ ds) low all = last_low d.rec ds all.0 all.1
+  abbrev eights : List Dataset
+  eights = subfile_datasets (filled (unwrap_or numbers.largest 0) heads object)
 
-pub two_at_most : (r : ℕ) → is_kept r ≡ true → r ≤ 2
-two_at_most r is = grind arith
+  -- the datasets of the records that a test tells
+  of_each : (p : ℕ → Bool) (w : List Dataset) → filter (λ (d : Dataset). p d.rec) fields ≡ w
+      → filter (λ (d : Dataset). p d.rec) made
+      ≡ w ++ (cond (p 7) (plain_numbers numbers) [] ++ (cond (p 8) eights [] ++ cond (p 9) (plain_end ended object) []))
+  of_each p w e =
+      told_by (λ (d : Dataset). p d.rec) fields (plain_numbers numbers) eights (plain_end ended object) e
+      (run_by p 7 (plain_numbers numbers) (numbers_each (λ d. d.rec ≡ 7) numbers (λ k is. refl) (λ k is. refl) (λ k is. refl) (λ k is. refl)))
+      (run_by p 8 eights (parts_each (λ d. d.rec ≡ 8) (unwrap_or numbers.largest 0) heads object (λ ys short few good. refl)))
+      (run_by p 9 (plain_end ended object) (end_each (λ d. d.rec ≡ 9) ended object refl))
+
+  no_field : (r : ℕ) → is_kept r ≡ false → AreKept fields
+      → of_record r made ≡ cond (nat_eq 7 r) (plain_numbers numbers) [] ++ (cond (nat_eq 8 r) eights [] ++ cond (nat_eq 9 r) (plain_end ended object) [])
+  no_field r is keeps = of_each (λ k. nat_eq k r) [] (none_in_fields r fields is keeps)
+
+  pub plain_kept : AreKept fields → kept made ≡ fields
+  plain_kept keeps = of_each is_kept fields (kept_fields fields keeps) ∙ append-nil fields
+
+  -- The plain datasets tell what they are made of, where each number fits its octets, and the subfiles have room for the object.
+  pub plain_told : AreKept fields → AllByRecursion IsSize (number_list numbers) → length object ≤ heads * unwrap_or numbers.largest 0
+      → Tell made fields numbers heads object ended
+  plain_told keeps fit room = grind (arith, no_field, append-nil, plain_kept, are_told, four_told, filled_all, filled_count)
+
+  -- ---- spellings
+
+  one_spelled : (rec set n : ℕ) → rec < 256 → set < 256 → HasSpellings (number_dataset rec set n)
+  one_spelled rec set n r s = record { rec = r; set = s; octets = number_octets n; few = let few = few_octets n in omega (arith, few) }
+
+  pub plain_spelled : AllByRecursion HasSpellings fields → IfSome numbers.mode IsOctet → Octets object → length object ≤ greatest_size
+      → AllByRecursion HasSpellings made
+  plain_spelled spelled mode octets few =
+      all_append HasSpellings fields _ spelled
+      (all_append HasSpellings (plain_numbers numbers) _
+      (numbers_each HasSpellings numbers
+      (λ k is. record { rec = omega arith; set = omega arith; octets = (subst (λ (o : Option ℕ). IfSome o IsOctet) is mode, tt); few = omega arith })
+      (λ k is. one_spelled 7 20 k (omega arith) (omega arith)) (λ k is. one_spelled 7 90 k (omega arith) (omega arith))
+      (λ k is. one_spelled 7 95 k (omega arith) (omega arith)))
+      (all_append HasSpellings eights _
+      (parts_each HasSpellings (unwrap_or numbers.largest 0) heads object
+      (λ ys short less good. record { rec = omega arith; set = omega arith; octets = good octets; few = omega (arith, few, less) }))
+      (end_each HasSpellings ended object (one_spelled 9 10 (length object) (omega arith) (omega arith)))))
 
 pub present_ended : (fields : List Dataset) (numbers : Numbers) (heads : ℕ) (object : List ℕ) (ended : Bool)
-    → AllByRecursion (λ (d : Dataset). is_kept d.rec ≡ true) fields → nat_eq (section_after (plain fields numbers heads object ended)) 9 ≡ ended
-present_ended fields numbers heads object true keeps = simp last_of_joined
-present_ended fields numbers heads object false keeps =
-    let parts = filled (unwrap_or numbers.largest 0) heads object in
-    let low : AllByRecursion (λ (d : Dataset). d.rec ≤ 8) (plain fields numbers heads object false) =
-    all_append _ fields _ (all_map _ _ fields (λ d is. let few = two_at_most d.rec is in omega (arith, few)) keeps)
-    (all_append _ (plain_numbers numbers) _ (all_map _ _ (plain_numbers numbers) (λ d is. omega (arith, is)) (are_sevens numbers))
-    (all_append _ (subfile_datasets parts) [] (all_map _ _ (subfile_datasets parts) (λ d is. omega (arith, is)) (are_eights parts)) tt)) in
-    let last = last_low 0 (plain fields numbers heads object false) (omega arith) low in
-    ne_eqb (section_after (plain fields numbers heads object false)) 9 (λ nine. omega (arith, nine, last))
-
--- ---- spellings
-
-one_spelled : (rec set n : ℕ) → rec < 256 → set < 256 → HasSpellings (number_dataset rec set n)
-one_spelled rec set n r s = record { rec = r; set = s; octets = number_octets n; few = let few = few_octets n in omega (arith, few) }
-
-numbers_spelled : (n : Numbers) → IfSome n.mode IsOctet → AllByRecursion HasSpellings (plain_numbers n)
-numbers_spelled n mode =
-    numbers_each HasSpellings n
-    (λ k is. record { rec = omega arith; set = omega arith; octets = (subst (λ (o : Option ℕ). IfSome o IsOctet) is mode, tt); few = omega arith })
-    (λ k is. one_spelled 7 20 k (omega arith) (omega arith)) (λ k is. one_spelled 7 90 k (omega arith) (omega arith))
-    (λ k is. one_spelled 7 95 k (omega arith) (omega arith))
-
-pub plain_spelled : (fields : List Dataset) (numbers : Numbers) (heads : ℕ) (object : List ℕ) (ended : Bool) → AreSpellable fields numbers heads object → AllByRecursion HasSpellings (plain fields numbers heads object ended)
-plain_spelled fields numbers heads object ended are =
-    all_append HasSpellings fields _ are.spelled
-    (all_append HasSpellings _ _ (numbers_spelled numbers are.mode)
-    (all_append HasSpellings _ _
-    (parts_each HasSpellings (unwrap_or numbers.largest 0) heads object
-    (λ ys short few good. record { rec = omega arith; set = omega arith; octets = good are.octets; few = let low = are.few in omega (arith, few, low) }))
-    (end_each HasSpellings ended object (one_spelled 9 10 (length object) (omega arith) (omega arith)))))
-
--- ---- the place
-
-pub taken_told : (ds : List Dataset) (object : List ℕ) (begun : Begun) → object_of ds ≡ object → object_so_far ds begun ≡ object ++ begun_object begun
-taken_told ds object (InTag held) is = is ∙ sym (append-nil object)
-taken_told ds object (InData h taken) is = ap (λ (xs : List ℕ). xs ++ begun_object (InData h taken)) is
-
-pub heads_told : (ds : List Dataset) (heads : ℕ) (begun : Begun) → length (of_record 8 ds) ≡ heads → heads_of ds begun ≡ heads + begun_heads begun
-heads_told ds heads (InTag held) is = omega (arith, is)
-heads_told ds heads (InData h taken) is = ap (λ (n : ℕ). n + begun_heads (InData h taken)) is
-
--- Plain datasets and what is begun after them lead to the place that they tell.
-pub plain_led : CanonicalStreamsAreSpelled → PlainOctetsLeadToTheirPlace
-plain_led law fields numbers heads object ended begun rest text message are is leads =
-    let ds = plain fields numbers heads object ended in
-    let tell = plain_told fields numbers heads object ended (record { kept = are.kept; fit = are.fit; room = are.room }) in
-    let taken : object_so_far ds begun ≡ object ++ begun_object begun = taken_told ds object begun tell.object_is in
-    let count : heads_of ds begun ≡ heads + begun_heads begun = heads_told ds heads begun tell.heads_are in
-    record {
-      whole = ds;
-      begun = begun;
-      reads = record { front = canonical_stream ds; rest = rest; is_front = law ds (plain_spelled fields numbers heads object ended are); is_rest = is; parts = refl };
-      text = text;
-      message = message;
-      leads = subst (λ (xs : List ℕ). LeadsToSaved xs text message) (sym taken) leads;
-      is_place = λ i. record (place_of ds begun message) { fields = sym tell.kept_are i; numbers = sym tell.numbers_are i; taken = length (sym taken i); heads = sym count i };
-    }
+    → AreKept fields → nat_eq (section_after (plain fields numbers heads object ended)) 9 ≡ ended
+present_ended fields numbers heads object ended keeps = grind (arith, last_of_joined, last_none, no_field)

@@ -1,10 +1,12 @@
 -- What an object's numbers and lengths tell: the object layer lives alike with others that tell the same.
-use Rattle.std.proofs.lemmas.Option.{IfSome_then}
-use Rattle.std.proofs.Common.{◌≡◌, ℕ, ◌<◌, ◌≤◌, nat_eq, cond, Bool, true, false, List, [], ◌∷◌, ◌++◌, length, map, sum, Option, Some, None, IfSome, refl, ap, sym, subst, ◌∙◌, arith, append_assoc, is_some, append-nil, if◌then◌else◌}
-use Rattle.iim_places.proofs.Words.{AllByRecursion, eqb-true, IsOctet, Dataset, of_record, some_of, kept, is_kept, ObjectToken, SubfileBegun, ObjectLanguage, number_tokens, ending_tokens, place_after_datasets, lengths_of, numbers_of, Stated, InRow, number_at, object_of, ObjectLives, Numbers, plain_end, ending_of, SectionsLive, section_after, number, mode_known, IsAlive, greatest_size, Ending, NotEnded, Ended, ConfirmedAs, HasBoth, AreStated, mode_number, ObjectsArePossibleAlike, LowerLaws, max_subfiles, IsPossible, HaveSizes, Sizes, nil_from_length, all_map}
+use Rattle.std.proofs.Common.{◌≡◌, ℕ, ◌<◌, ◌≤◌, ◌↔◌, nat_eq, cond, Bool, true, false, List, [], ◌∷◌, ◌++◌, length, map, sum, Some, IfSome, refl, ap, sym, subst, ◌∙◌, arith, append_assoc, append-nil, if◌then◌else◌, ◌-◌, Option}
+use Rattle.iim_places.proofs.Words.{AllByRecursion, unwrap_or, IsOctet, Dataset, of_record, some_of, kept, is_kept, ObjectToken, SubfileBegun, ObjectLanguage, number_tokens, ending_tokens, place_after_datasets, numbers_of, Stated, InRow, number_at, object_of, ObjectLives, Numbers, plain_end, ending_of, SectionsLive, section_after, number, mode_known, IsAlive, Ending, NotEnded, Ended, ConfirmedAs, HasBoth, AreStated, LowerLaws, max_subfiles, IsPossible, HaveSizes, Sizes, nil_from_length, Head, SectionsLiveAt, place_at, lengths_of}
+use Rattle.iim_dataset.proofs.Lists.{some_there}
+use Rattle.iim_object.specs.Format.Sizes.{Agree, sizes_at}
 use Rattle.iim_object.specs.Laws.{NoClash, HasDuties, Fit, MeetsAnnounced}
-use Rattle.iim_places.proofs.SameRecords.{IsStated, SameNumbers, same_numbers, nines, stated_after_all}
-use Rattle.iim_places.proofs.Tickets.{total_of}
+use Rattle.iim_places.proofs.SamePlace.{SameObject}
+use Rattle.iim_places.proofs.SameRecords.{IsStated, SameNumbers, nines, stated_after_all, stated_at}
+use Rattle.iim_places.proofs.Tickets.{total_of, count_of, heads_by}
 use Rattle.iim_object.specs.Format.Places as objects
 
 -- ---- the numbers
@@ -12,180 +14,155 @@ use Rattle.iim_object.specs.Format.Places as objects
 abbrev pub numbers_in : List Stated → Numbers
 numbers_in ps = record { mode = number_at 10 ps; largest = number_at 20 ps; announced = number_at 90 ps; maximum = number_at 95 ps }
 
--- what holds of each number that is stated holds of the one that stands at a place, where it holds of none
-pub at_each : (P : ℕ → Option ℕ → Type 0) → ((set : ℕ) → P set None) → (set : ℕ) (ps : List Stated) → AllByRecursion (λ p. P p.set (Some p.number)) ps
-    → P set (number_at set ps)
-at_each P none set [] all = none set
-at_each P none set (p ∷ ps) all = by (nat_eq p.set set) refl (at_each P none set ps all.1)
-  where
-    by : (b : Bool) → nat_eq p.set set ≡ b → P set (number_at set ps) → P set (cond b (Some p.number) (number_at set ps))
-    by true is more = subst (λ (k : ℕ). P k (Some p.number)) (eqb-true p.set set is) all.0
-    by false is more = more
+-- a number that is stated is as its row says
+pub row_at : (set : ℕ) (ps : List Stated) (n : ℕ) → AllByRecursion InRow ps → number_at set ps ≡ Some n → InRow (record { set = set; number = n })
+row_at set [] n all is = absurd cc
+row_at set (p ∷ ps) n all is = let more = row_at set ps n all.1 in grind arith
 
-pub low_mode : (ps : List Stated) → AllByRecursion InRow ps → IfSome (number_at 10 ps) (λ n. n ≤ 1)
-low_mode ps all = at_each (λ set o. set ≡ 10 → IfSome o (λ n. n ≤ 1)) (λ set ten. tt) 10 ps (all_map _ _ ps (λ p row ten. omega (arith, row, ten)) all) refl
-
-pub mode_octet : (o : Option ℕ) → IfSome o (λ n. n ≤ 1) → IfSome o IsOctet
-mode_octet None h = tt
-mode_octet (Some n) h = omega (arith, h)
+pub mode_octet : (ps : List Stated) → AllByRecursion InRow ps → IfSome (number_at 10 ps) IsOctet
+mode_octet ps all = grind (arith, row_at)
 
 pub alive_front : (xs ys : List ObjectToken) → IsAlive ObjectLanguage (xs ++ ys) → IsAlive ObjectLanguage xs
 alive_front xs ys (rest, is) = (ys ++ rest, subst ObjectLanguage (append_assoc xs ys rest) is)
 
--- ---- the fields
-
 pub all_kept : (ds : List Dataset) → AllByRecursion (λ (d : Dataset). is_kept d.rec ≡ true) (kept ds)
 all_kept [] = tt
-all_kept (d ∷ ds) = by (is_kept d.rec) refl (all_kept ds)
-  where
-    by : (b : Bool) → is_kept d.rec ≡ b → AllByRecursion (λ (e : Dataset). is_kept e.rec ≡ true) (kept ds) → AllByRecursion (λ (e : Dataset). is_kept e.rec ≡ true) (cond b (d ∷ kept ds) (kept ds))
-    by true is more = (is, more)
-    by false is more = more
+all_kept (d ∷ ds) = let more = all_kept ds in grind arith
 
--- ---- all of it
+-- ---- when the object layer lives
 
 pub end_length : (ended : Bool) (object : List ℕ) → length (plain_end ended object) ≡ cond ended 1 0
 end_length ended object = grind arith
-
-clash_like : (ps qs : List Stated) → SameNumbers ps qs → NoClash ps → NoClash qs
-clash_like ps qs same none = record {
-  mode = λ e. sym same.announced ∙ none.mode (same.mode ∙ e);
-  sizes = λ a m ea em. none.sizes a m (same.announced ∙ ea) (same.maximum ∙ em);
-}
-
-fit_like : (known : Bool) (size : ℕ) (ps qs : List Stated) (ls ks : List ℕ) → SameNumbers ps qs → AllByRecursion (λ n. n ≤ size) ks → sum ls ≡ sum ks → Fit known size ps ls → Fit known size qs ks
-fit_like known size ps qs ls ks same each total fit = record {
-  clash = clash_like ps qs same fit.clash;
-  by_mode = ap is_some (sym same.announced) ∙ fit.by_mode;
-  each = each;
-  total = subst (λ (n : ℕ). n ≤ greatest_size) total fit.total;
-  announced = subst (λ (o : Option ℕ). IfSome o (λ a. sum ks ≤ a)) same.announced (subst (λ (n : ℕ). IfSome (number_at 90 ps) (λ a. n ≤ a)) total fit.announced);
-  maximum = subst (λ (o : Option ℕ). IfSome o (λ m. sum ks ≤ m)) same.maximum (subst (λ (n : ℕ). IfSome (number_at 95 ps) (λ m. n ≤ m)) total fit.maximum);
-}
-
-whole_like : (ps qs : List Stated) (ls ks : List ℕ) → SameNumbers ps qs → sum ls ≡ sum ks → MeetsAnnounced ps ls → MeetsAnnounced qs ks
-whole_like ps qs ls ks same total is =
-    subst (λ (o : Option ℕ). IfSome o (λ a. sum ks ≡ a)) same.announced (subst (λ (n : ℕ). IfSome (number_at 90 ps) (λ a. n ≡ a)) total is)
 
 -- mode and largest subfile, where both are stated
 pub record Duties (ps : List Stated) : Type 0 where
   pub known : Bool
   pub size : ℕ
-  pub mode : number_at 10 ps ≡ Some (mode_number known)
-  pub largest : number_at 20 ps ≡ Some size
+  pub has : HasDuties known size ps
 
 pub duties_of : (ps : List Stated) → AreStated ps → HasBoth ps → Duties ps
 duties_of ps stated both =
     let (n, mode) = some_of (number_at 10 ps) both.0 in
     let (size, largest) = some_of (number_at 20 ps) both.1 in
-    let (known, same) = mode_known n (subst (λ (o : Option ℕ). IfSome o (λ k. k ≤ 1)) mode (low_mode ps stated.each)) in
-    record { known = known; size = size; mode = mode ∙ ap Some same; largest = largest }
+    let (known, same) = mode_known n (let row = row_at 10 ps n stated.each mode in omega (arith, row)) in
+    record { known = known; size = size; has = record { stated = stated; mode = mode ∙ ap Some same; largest = largest } }
 
 abbrev pub Lives : List Stated → List ℕ → Ending → Type 0
 Lives ps ls e = IsAlive ObjectLanguage (number_tokens ps ++ (map SubfileBegun ls ++ ending_tokens e))
 
-some_like : LowerLaws → (ps qs : List Stated) (ls ks : List ℕ) (e : Ending) → AreStated ps → AreStated qs → SameNumbers ps qs → HasBoth ps → 0 < length ls
-    → 0 < length ks → sum ls ≡ sum ks → ((size : ℕ) → number_at 20 qs ≡ Some size → AllByRecursion (λ n. n ≤ size) ks) → Lives ps ls e → Lives qs ks e
-some_like laws ps qs ls ks e are goes same both some more total each =
-    let d = duties_of ps are both in
-    let left : HasDuties d.known d.size ps = record { stated = are; mode = d.mode; largest = d.largest } in
-    let right : HasDuties d.known d.size qs = record { stated = goes; mode = sym same.mode ∙ d.mode; largest = sym same.largest ∙ d.largest } in
-    by d.known d.size left right (fit_like d.known d.size ps qs ls ks same (each d.size right.largest) total) e
+-- the subfiles are as whole as the ending says
+abbrev Ends : Ending → List Stated → List ℕ → Type 0
+Ends NotEnded ps ls = Unit {0}
+Ends Ended ps ls = MeetsAnnounced ps ls
+Ends (ConfirmedAs n) ps ls = MeetsAnnounced ps ls × (n ≡ sum ls)
+
+lives_fit : LowerLaws → (e : Ending) (known : Bool) (size : ℕ) (ps : List Stated) (ls : List ℕ) → HasDuties known size ps → 0 < length ls
+    → Lives ps ls e ↔ (Fit known size ps ls × Ends e ps ls)
+lives_fit laws NotEnded known size ps ls d some =
+    let law = laws.fit known size ps ls d some in (λ lives. (law.0 (rw append-nil at lives), tt), λ fit. rw append-nil (law.1 fit.0))
+lives_fit laws Ended known size ps ls d some = laws.whole_ends known size ps ls d some
+lives_fit laws (ConfirmedAs n) known size ps ls d some =
+    let law = laws.confirmed known size ps ls n d some in (λ lives. let e = law.0 lives in (e.0, (e.1, e.2)), λ fit. law.1 (fit.0, fit.1.0, fit.1.1))
+
+-- ---- subfiles are no longer than 7:20
+
+-- no subfile is longer than 7:20, or has octets where that is not stated
+abbrev pub AreBounded : List Stated → List ℕ → Type 0
+AreBounded ps ls = AllByRecursion (λ n. n ≤ unwrap_or (number_at 20 ps) 0) ls
+
+pub bounded_at : LowerLaws → (p : objects.Place) → IsPossible p → AreBounded p.stated p.lengths
+bounded_at laws p is = by p.lengths refl
   where
-    by : (known : Bool) (size : ℕ) → HasDuties known size ps → HasDuties known size qs → (Fit known size ps ls → Fit known size qs ks) → (e : Ending)
-        → Lives ps ls e → Lives qs ks e
-    by known size left right fits NotEnded lives =
-        rw append-nil ((laws.fit known size qs ks right more).1 (fits ((laws.fit known size ps ls left some).0 (rw append-nil at lives))))
-    by known size left right fits Ended lives =
-        let fit = (laws.whole_ends known size ps ls left some).0 lives in
-        (laws.whole_ends known size qs ks right more).1 (fits fit.0, whole_like ps qs ls ks same total fit.1)
-    by known size left right fits (ConfirmedAs n) lives =
-        let fit = (laws.confirmed known size ps ls n left some).0 lives in
-        (laws.confirmed known size qs ks n right more).1 (fits fit.0, whole_like ps qs ls ks same total fit.1, fit.2 ∙ total)
+    by : (ls : List ℕ) → p.lengths ≡ ls → AreBounded p.stated ls
+    by [] none = tt
+    by (l ∷ ls) parts =
+        let some : 0 < length p.lengths = omega (arith, ap length parts) in
+        let d = duties_of p.stated is.stated (is.duties some) in
+        subst (AreBounded p.stated) parts (rw d.has.largest ((lives_fit laws p.ending d.known d.size p.stated p.lengths d.has some).0 is.alive).0.each)
+
+-- ---- objects that tell the same
+
+clash_like : (ps qs : List Stated) → SameNumbers ps qs → NoClash ps → NoClash qs
+clash_like ps qs same none = grind arith
+
+whole_like : (e : Ending) (ps qs : List Stated) (ls ks : List ℕ) → SameNumbers ps qs → sum ls ≡ sum ks → Ends e ps ls → Ends e qs ks
+whole_like e ps qs ls ks same total whole = grind arith
+
+fit_like : (known : Bool) (size : ℕ) (ps qs : List Stated) (ls ks : List ℕ) → SameNumbers ps qs → sum ls ≡ sum ks → AllByRecursion (λ n. n ≤ size) ks
+    → Fit known size ps ls → Fit known size qs ks
+fit_like known size ps qs ls ks same total each fit = grind (arith, clash_like)
 
 lives_like : LowerLaws → (ps qs : List Stated) (ls ks : List ℕ) (e : Ending) → AreStated ps → AreStated qs → SameNumbers ps qs → (0 < length ls → HasBoth ps)
-    → (ls ≡ [] → e ≡ NotEnded) → length ls ≡ length ks → sum ls ≡ sum ks → ((size : ℕ) → number_at 20 qs ≡ Some size → AllByRecursion (λ n. n ≤ size) ks)
-    → Lives ps ls e → Lives qs ks e
+    → (ls ≡ [] → e ≡ NotEnded) → length ls ≡ length ks → sum ls ≡ sum ks → AreBounded qs ks → Lives ps ls e → Lives qs ks e
 lives_like laws ps qs [] [] e are goes same both none many total each lives =
     let alive : IsAlive ObjectLanguage (number_tokens ps) = rw (none refl, append-nil) at lives in
     rw (none refl, append-nil) ((laws.no_clash qs goes).1 (clash_like ps qs same ((laws.no_clash ps are).0 alive)))
 lives_like laws ps qs (l ∷ ls) (k ∷ ks) e are goes same both none many total each lives =
-    some_like laws ps qs (l ∷ ls) (k ∷ ks) e are goes same (both (omega arith)) (omega arith) (omega arith) total each lives
+    let d = duties_of ps are (both (omega arith)) in
+    let largest = sym same.largest ∙ d.has.largest in
+    let (fit, whole) = (lives_fit laws e d.known d.size ps (l ∷ ls) d.has (omega arith)).0 lives in
+    let each' = subst (λ (o : Option ℕ). AllByRecursion (λ n. n ≤ unwrap_or o 0) (k ∷ ks)) largest each in
+    (lives_fit laws e d.known d.size qs (k ∷ ks) (record { stated = goes; mode = sym same.mode ∙ d.has.mode; largest = largest }) (omega arith)).1
+    (fit_like d.known d.size ps qs (l ∷ ls) (k ∷ ks) same total each' fit, whole_like e ps qs (l ∷ ls) (k ∷ ks) same total whole)
 lives_like laws ps qs ls ks e are goes same both none many total each lives = absurd (omega (arith, many))
 
--- Places that tell the same are possible alike.
-pub possible_like : LowerLaws → ObjectsArePossibleAlike
-possible_like laws p q is goes same many total each end =
-    let nums = same_numbers p.stated q.stated same in
-    record {
-      stated = goes;
-      subfiles = λ none. sym end ∙ is.subfiles (nil_from_length p.lengths (many ∙ ap length none));
-      duties = λ some. let both = is.duties (omega (arith, some, many)) in (ap is_some (sym nums.mode) ∙ both.0, ap is_some (sym nums.largest) ∙ both.1);
-      few = let few = is.few in omega (arith, few, many);
-      alive = subst (Lives q.stated q.lengths) end (lives_like laws p.stated q.stated p.lengths q.lengths p.ending is.stated goes nums is.duties is.subfiles many total each is.alive);
-    }
+-- Places of an object whose numbers, whose ends and whose subfiles in number and in octets are the same are possible alike, where no
+-- subfile is longer than 7:20.
+pub possible_like : LowerLaws → (p q : objects.Place) → IsPossible p → AreStated q.stated → SameObject p q → AreBounded q.stated q.lengths → p.ending ≡ q.ending
+    → IsPossible q
+possible_like laws p q is goes same each end =
+    let lives = lives_like laws p.stated q.stated p.lengths q.lengths p.ending is.stated goes same.numbers is.duties is.subfiles same.heads same.octets
+    each is.alive in
+    let alive : ObjectLives q = subst (Lives q.stated q.lengths) end lives in grind (arith, nil_from_length)
 
 pub possible_of : (p : objects.Place) → IsStated p → length p.lengths ≤ max_subfiles → ObjectLives p → IsPossible p
 possible_of p is few lives = record { stated = is.stated; subfiles = is.subfiles; duties = is.duties; few = few; alive = lives }
 
--- subfiles of a possible place are no longer than 7:20
-pub each_small : LowerLaws → (p : objects.Place) → IsPossible p → (size : ℕ) → number_at 20 p.stated ≡ Some size → 0 < length p.lengths
-    → AllByRecursion (λ n. n ≤ size) p.lengths
-each_small laws p is size largest some =
-    let d = duties_of p.stated is.stated (is.duties some) in
-    let begun = number_tokens p.stated ++ map SubfileBegun p.lengths in
-    let alive = alive_front begun (ending_tokens p.ending) (rw append_assoc is.alive) in
-    ((laws.fit d.known size p.stated p.lengths (record { stated = is.stated; mode = d.mode; largest = largest }) some).0 alive).each
+-- where every layer can continue, the place of the object is possible
+pub possible_after : LowerLaws → (ds : List Dataset) → SectionsLive ds → length (of_record 8 ds) ≤ max_subfiles → ObjectLives (place_after_datasets ds)
+    → IsPossible (place_after_datasets ds)
+possible_after laws ds alive few lives =
+    possible_of (place_after_datasets ds) (stated_after_all laws ds alive few) (omega (arith, few, count_of (of_record 8 ds))) lives
+
+pub possible_at : LowerLaws → (ds : List Dataset) (h : Head) → SectionsLiveAt ds h → length (of_record 8 ds) ≤ max_subfiles
+    → (h.rec ≡ 8 → length (of_record 8 ds) < max_subfiles) → ObjectLives (place_at ds h) → IsPossible (place_at ds h)
+possible_at laws ds h alive few room lives = grind (arith, heads_by, possible_of, stated_at)
+
+-- ---- the end
+
+-- an object that has ended has subfiles
+some_subfile : (p : objects.Place) (n : ℕ) → (p.lengths ≡ [] → p.ending ≡ NotEnded) → p.ending ≡ ConfirmedAs n → 0 < length p.lengths
+some_subfile p n none ends = some_there p.lengths (λ zero. let bad : ConfirmedAs n ≡ NotEnded = sym ends ∙ none (nil_from_length p.lengths zero) in cc)
 
 -- where record 9 has come, the end is confirmed as what the subfiles have
-pub ending_by : LowerLaws → (ps : List Stated) (ls : List ℕ) (rs : List Dataset) (ended : Bool) → AreStated ps → (0 < length ls → HasBoth ps)
-    → (ls ≡ [] → ending_of rs ≡ NotEnded) → Lives ps ls (ending_of rs) → length rs ≡ cond ended 1 0
-    → ending_of rs ≡ (if ended then ConfirmedAs (sum ls) else NotEnded)
-ending_by laws ps ls [] false are both none lives many = refl
-ending_by laws ps [] (r ∷ rs) true are both none lives many = absurd (let bad : ConfirmedAs (number r.octets) ≡ NotEnded = none refl in cc)
-ending_by laws ps (l ∷ ls) (r ∷ rs) true are both none lives many =
-    let d = duties_of ps are (both (omega arith)) in
-    let left : HasDuties d.known d.size ps = record { stated = are; mode = d.mode; largest = d.largest } in
-    ap ConfirmedAs ((laws.confirmed d.known d.size ps (l ∷ ls) (number r.octets) left (omega arith)).0 lives).2
-ending_by laws ps ls rs ended are both none lives many = absurd (omega (arith, many))
+ending_by : LowerLaws → (p : objects.Place) (rs : List Dataset) (ended : Bool) → IsStated p → p.ending ≡ ending_of rs → ObjectLives p
+    → length rs ≡ cond ended 1 0 → ending_of rs ≡ (if ended then ConfirmedAs (sum p.lengths) else NotEnded)
+ending_by laws p [] false is same lives many = refl
+ending_by laws p (r ∷ rs) true is same lives many =
+    let some = some_subfile p (number r.octets) is.subfiles same in
+    let d = duties_of p.stated is.stated (is.duties some) in
+    ap ConfirmedAs ((laws.confirmed d.known d.size p.stated p.lengths (number r.octets) d.has some).0 (rw same at lives)).2
+ending_by laws p rs ended is same lives many = absurd (omega (arith, many))
 
 pub ending_after : LowerLaws → (ds : List Dataset) → SectionsLive ds → length (of_record 8 ds) ≤ max_subfiles → ObjectLives (place_after_datasets ds)
     → ending_of (of_record 9 ds) ≡ (if nat_eq (section_after ds) 9 then ConfirmedAs (length (object_of ds)) else NotEnded)
 ending_after laws ds alive few lives =
-    let is = stated_after_all laws ds alive few in
-    let p = place_after_datasets ds in
-    let ends = ending_by laws p.stated p.lengths (of_record 9 ds) (nat_eq (section_after ds) 9) is.stated is.duties is.subfiles lives (nines laws ds alive) in
-    rw (← total_of (of_record 8 ds)) ends
+    rw (← total_of (of_record 8 ds))
+    (ending_by laws (place_after_datasets ds) (of_record 9 ds) (nat_eq (section_after ds) 9) (stated_after_all laws ds alive few) refl lives
+    (nines laws ds alive))
+
+agrees : (known : Bool) (size : ℕ) (ps : List Stated) (ls : List ℕ) (n : ℕ) → Fit known size ps ls → MeetsAnnounced ps ls → n ≡ sum ls
+    → Agree (sizes_at known size ps ls) ls n
+agrees known size ps ls n fit whole same = grind arith
 
 -- the sizes of an object that has ended
-pub sizes_of : LowerLaws → (r7 r8 r9 : List Dataset) (n : ℕ) → AreStated (numbers_of r7) → (0 < length (lengths_of r8) → HasBoth (numbers_of r7))
-    → (lengths_of r8 ≡ [] → ConfirmedAs n ≡ NotEnded) → Lives (numbers_of r7) (lengths_of r8) (ConfirmedAs n) → number_at 10 (numbers_of r9) ≡ Some n
-    → (s : Sizes) × HaveSizes r7 r8 r9 s
-sizes_of laws r7 [] r9 n are both none lives last = absurd (let bad : ConfirmedAs n ≡ NotEnded = none refl in cc)
-sizes_of laws r7 (r ∷ r8) r9 n are both none lives last =
-    let ps = numbers_of r7 in
-    let ls = lengths_of (r ∷ r8) in
-    let some : 0 < length ls = omega arith in
-    let d = duties_of ps are (both some) in
-    let (fit, whole, same) = (laws.confirmed d.known d.size ps ls n (record { stated = are; mode = d.mode; largest = d.largest }) some).0 lives in (
-      record { known = d.known; subfile = d.size; announced = number_at 90 ps; maximum = number_at 95 ps; subfiles = length (r ∷ r8); total = sum ls },
-      record {
-        mode = d.mode;
-        largest = d.largest;
-        announced = refl;
-        maximum = refl;
-        subfiles = refl;
-        total = refl;
-        confirmed = n;
-        is_confirmed = last;
-        agree = record {
-          by_mode = fit.by_mode;
-          announced_fits = IfSome_then (number_at 90 ps) whole (λ a is. IfSome_then (number_at 95 ps) fit.maximum (λ m le. omega (arith, is, le)));
-          each_subfile = fit.each;
-          total_fits = fit.total;
-          within_maximum = fit.maximum;
-          as_announced = whole;
-          as_confirmed = same;
-        };
-      },
-    )
+pub sizes_of : LowerLaws → (ds : List Dataset) (n : ℕ) → IsPossible (place_after_datasets ds) → ending_of (of_record 9 ds) ≡ ConfirmedAs n
+    → number_at 10 (numbers_of (of_record 9 ds)) ≡ Some n → (s : Sizes) × HaveSizes (of_record 7 ds) (of_record 8 ds) (of_record 9 ds) s
+sizes_of laws ds n is ends last =
+    let ps = numbers_of (of_record 7 ds) in
+    let ls = lengths_of (of_record 8 ds) in
+    let some = some_subfile (place_after_datasets ds) n is.subfiles ends in
+    let d = duties_of ps is.stated (is.duties some) in
+    let (fit, whole, same) = (laws.confirmed d.known d.size ps ls n d.has some).0 (rw ends at is.alive) in
+    let agree = agrees d.known d.size ps ls n fit whole same in
+    let many = count_of (of_record 8 ds) in (sizes_at d.known d.size ps ls, grind arith)

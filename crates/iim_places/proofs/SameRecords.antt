@@ -1,20 +1,19 @@
 -- Datasets of one place have the same numbers in each record.
-use Rattle.std.proofs.Common.{◌≡◌, ℕ, ◌<◌, ◌≤◌, ◌||◌, Bool, true, false, cond, nat_eq, List, [], ◌∷◌, ◌++◌, length, is_some, None, refl, ap, sym, subst, ◌∙◌}
-use Rattle.std.proofs.Common.{inl, inr, arith, append-nil, append_assoc, length-append}
-use Rattle.iim_places.proofs.Words.{front_alive, filter, AllByRecursion, eqb-true, eqb-false, ne_eqb, filter-append, list_any-append, number, Dataset}
-use Rattle.iim_places.proofs.Words.{head_of, of_record, Head, all_front, Meets, AreSections, AreRecords, records, IsGoodDataset, occurs, SectionsLive}
-use Rattle.iim_places.proofs.Words.{SectionsLiveAt, section_after, kept, is_kept, last_more, by_record, max_subfiles, Stated, InRow, AreStated, number_at}
-use Rattle.iim_places.proofs.Words.{numbers_of, ObjectToken, NumberRead, SubfileBegun, ObjectEnded, Confirmed, NotEnded, Ended, HasBoth, MayFollow}
-use Rattle.iim_places.proofs.Words.{place_after, head_token, place_after_datasets, place_ended, RecordsAreByNumber, stated_numbers, one_of_some, place_at}
-use Rattle.iim_places.proofs.Words.{LowerLaws, all_map}
+use Rattle.std.proofs.Common.{◌≡◌, ℕ, ◌<◌, ◌≤◌, Bool, true, false, cond, nat_eq, List, [], ◌∷◌, ◌++◌, length, is_some, None, refl, ap, sym, subst, ◌∙◌, inl}
+use Rattle.std.proofs.Common.{◌&&◌, inr, arith, append-nil, append_assoc, length-append}
+use Rattle.iim_places.proofs.Words.{front_alive, filter, AllByRecursion, eqb-true, ne_eqb, filter-append, list_any-append, number, Dataset, eqb_tells}
+use Rattle.iim_places.proofs.Words.{head_alive, tells_number, value_token, head_of, of_record, Head, all_front, AreSections, AreRecords, records, IsGoodDataset}
+use Rattle.iim_places.proofs.Words.{occurs, SectionsLive, SectionsLiveAt, section_after, kept, is_kept, last_more, by_record, max_subfiles, Stated, InRow}
+use Rattle.iim_places.proofs.Words.{AreStated, number_at, numbers_of, ObjectToken, NotEnded, HasBoth, MayFollow, place_after, head_token, place_after_datasets}
+use Rattle.iim_places.proofs.Words.{stated_numbers, one_of_some, place_at, LowerLaws, all_map}
 use Rattle.iim_object.specs.Format.Places.{Place}
 use Rattle.iim_places.proofs.Fronts.{empty_front}
 use Rattle.iim_places.proofs.Lasts.{SplitLast, split_last}
-use Rattle.iim_places.proofs.Objects.{records_alive}
 use Rattle.iim_places.proofs.SizeRows.{HasTen, Unstated, by_number, by_ten, eight_has, nine_has}
-use Rattle.iim_places.proofs.Places.{is_one, at_other, at_number, subfile_leads, end_leads}
+use Rattle.iim_places.proofs.Places.{is_one, at_other, at_number, subfile_leads, end_leads, HeadLeads, number_leads, silent_leads}
 use Rattle.iim_places.proofs.Bounds.{none_nine}
 use Rattle.iim_places.proofs.Plain.{none_by}
+use Rattle.iim_places.proofs.Taking.{each_good}
 
 -- The datasets have the same numbers in each record.
 pub record SameRecords (ds es : List Dataset) : Type 0 where
@@ -26,17 +25,10 @@ seen_one : (d e : Dataset) → head_of d ≡ head_of e → SameRecords (d ∷ []
 seen_one d e is = record { seen = λ r n. grind (arith, is) }
 
 pub seen_on : {ds es xs ys : List Dataset} → SameRecords ds es → SameRecords xs ys → SameRecords (ds ++ xs) (es ++ ys)
-seen_on {ds} {es} {xs} {ys} same more = record { seen = λ r n. both r n ds xs ∙ (λ i. same.seen r n i || more.seen r n i) ∙ sym (both r n es ys) }
-  where
-    both : (r n : ℕ) (xs ys : List Dataset) → occurs n (of_record r (xs ++ ys)) ≡ (occurs n (of_record r xs) || occurs n (of_record r ys))
-    both r n xs ys =
-        ap (occurs n) (filter-append (λ (x : Dataset). nat_eq x.rec r) xs ys)
-        ∙ list_any-append (λ (x : Dataset). nat_eq x.set n) (of_record r xs) (of_record r ys)
+seen_on {ds} {es} {xs} {ys} same more = grind (arith, filter-append, list_any-append)
 
 pub same_more : (ds es : List Dataset) (d e : Dataset) → head_of d ≡ head_of e → SameRecords ds es → SameRecords (ds ++ d ∷ []) (es ++ e ∷ [])
 same_more ds es d e is same = seen_on same (seen_one d e is)
-
--- ---- records 1 and 2, which are kept
 
 pub of_kept : (r : ℕ) → is_kept r ≡ true → (ds : List Dataset) → of_record r (kept ds) ≡ of_record r ds
 of_kept r is [] = refl
@@ -51,27 +43,35 @@ pub record IsStated (p : Place) : Type 0 where
   pub duties : 0 < length p.lengths → HasBoth p.stated
 
 stated_after : (p : Place) (token : ObjectToken) → MayFollow p token → IsStated p → IsStated (place_after p token)
-stated_after p (NumberRead set n) (open', none, stated) is =
-    record { stated = stated; subfiles = λ e. open'; duties = λ some. absurd (omega (arith, some, ap length none)) }
-stated_after p (SubfileBegun count) (open', both, few) is = record { stated = is.stated; subfiles = λ e. open'; duties = λ some. both }
-stated_after p ObjectEnded (open', some) is = record { stated = is.stated; subfiles = λ none. absurd (omega (arith, some, ap length none)); duties = is.duties }
-stated_after p (Confirmed n) ended is = record { stated = is.stated; subfiles = λ none. absurd (let bad : Ended ≡ NotEnded = sym ended ∙ is.subfiles none in cc); duties = is.duties }
+stated_after p token may is = grind arith
 
 -- how many subfiles come before a dataset
 few_front : (xs : List Dataset) (d : Dataset) (ys : List Dataset) → length (of_record 8 (xs ++ d ∷ ys)) ≤ max_subfiles → d.rec ≡ 8 → length (of_record 8 xs) < max_subfiles
 few_front xs d ys few eight =
     grind (arith, few, eight, ap length (filter-append (λ (x : Dataset). nat_eq x.rec 8) xs (d ∷ ys)), length-append (of_record 8 xs) (of_record 8 (d ∷ ys)))
 
-stated_step : LowerLaws → (xs : List Dataset) (d : Dataset) → SectionsLive (xs ++ d ∷ []) → (d.rec ≡ 8 → length (of_record 8 xs) < max_subfiles) → IsStated (place_after_datasets xs) → IsStated (place_after_datasets (xs ++ d ∷ []))
-stated_step laws xs d alive few is = elim (is_one xs d alive) [
-  | inl less ↦ subst IsStated (sym (laws.others xs d less)) is
-  | inr (inl seven) ↦ (let leads = laws.numbers_lead xs d (records_alive (xs ++ d ∷ []) alive) seven in subst IsStated leads.1 (stated_after (place_after_datasets xs) (NumberRead d.set (number d.octets)) leads.0 is))
-  | inr (inr (inl eight)) ↦ (let leads = laws.subfiles_lead xs d (records_alive (xs ++ d ∷ []) alive) eight (few eight) in subst IsStated leads.1 (stated_after (place_after_datasets xs) (SubfileBegun (length d.octets)) leads.0 is))
-  | inr (inr (inr nine)) ↦
-      (let leads = laws.ends_lead xs d (records_alive (xs ++ d ∷ []) alive) nine in
-      let ended = subst IsStated leads.0.1 (stated_after (place_after_datasets xs) ObjectEnded leads.0.0 is) in
-      subst IsStated leads.1.1 (stated_after (place_ended xs) (Confirmed (number d.octets)) leads.1.0 ended))
-]
+stated_head : LowerLaws → (ds : List Dataset) (h : Head) → SectionsLiveAt ds h → (h.rec ≡ 8 → length (of_record 8 ds) < max_subfiles)
+    → IsStated (place_after_datasets ds) → IsStated (place_at ds h)
+stated_head laws ds h at room is =
+    let rec : at.0.rec ≡ h.rec = ap (λ (k : Head). k.rec) at.1 in
+    let after = λ (leads : HeadLeads ds h). subst IsStated leads.1 (stated_after (place_after_datasets ds) (head_token h.rec h.count) leads.0 is) in
+    elim (is_one ds at.0 at.2) [
+      | inl low ↦ subst IsStated (sym (at_other ds h (omega (arith, low, rec)))) is
+      | inr (inl seven) ↦ subst IsStated (sym (at_number ds h (sym rec ∙ seven))) is
+      | inr (inr (inl eight)) ↦ after (subfile_leads laws ds h at (sym rec ∙ eight) (room (sym rec ∙ eight)))
+      | inr (inr (inr nine)) ↦ after (end_leads laws ds h at (sym rec ∙ nine))
+    ]
+
+stated_step : LowerLaws → (xs : List Dataset) (d : Dataset) → SectionsLive (xs ++ d ∷ []) → (d.rec ≡ 8 → length (of_record 8 xs) < max_subfiles)
+    → IsStated (place_after_datasets xs) → IsStated (place_after_datasets (xs ++ d ∷ []))
+stated_step laws xs d alive few is =
+    let head = stated_head laws xs (head_of d) (d, refl, alive) few is in
+    elim (tells_number d.rec) as (λ b. tells_number d.rec ≡ b → IsStated (place_after_datasets (xs ++ d ∷ []))) [
+      | true ↦ λ told.
+          let leads = number_leads laws xs d alive told in
+          subst IsStated leads.1 (stated_after (place_at xs (head_of d)) (value_token d.rec d.set (number d.octets)) leads.0 head)
+      | false ↦ λ none. subst IsStated (silent_leads laws xs d alive none few) head
+    ] refl
 
 stated_on : LowerLaws → (xs ys : List Dataset) → SectionsLive (xs ++ ys) → length (of_record 8 (xs ++ ys)) ≤ max_subfiles → IsStated (place_after_datasets xs) → IsStated (place_after_datasets (xs ++ ys))
 stated_on laws xs [] alive few is = rw append-nil is
@@ -85,17 +85,7 @@ pub stated_after_all : LowerLaws → (ds : List Dataset) → SectionsLive ds →
 stated_after_all laws ds alive few = stated_on laws [] ds alive few (record { stated = record { each = tt; once = tt }; subfiles = λ e. refl; duties = λ some. absurd (omega (arith, some)) })
 
 pub stated_at : LowerLaws → (ds : List Dataset) (h : Head) → SectionsLiveAt ds h → length (of_record 8 ds) ≤ max_subfiles → (h.rec ≡ 8 → length (of_record 8 ds) < max_subfiles) → IsStated (place_at ds h)
-stated_at laws ds h at few room =
-    let (d, is, alive) = at in
-    let rec : d.rec ≡ h.rec = ap (λ (k : Head). k.rec) is in
-    let less : SectionsLive ds = ((d ∷ []) ++ alive.0, subst AreSections (append_assoc ds (d ∷ []) alive.0) alive.1) in
-    let before = stated_after_all laws ds less few in
-    elim (is_one ds d alive) [
-      | inl low ↦ subst IsStated (sym (at_other ds h (omega (arith, low, rec)))) before
-      | inr (inl seven) ↦ subst IsStated (sym (at_number ds h (sym rec ∙ seven))) before
-      | inr (inr (inl eight)) ↦ (let leads = subfile_leads laws ds h at (sym rec ∙ eight) (room (sym rec ∙ eight)) in subst IsStated leads.1 (stated_after (place_after_datasets ds) (head_token h.rec h.count) leads.0 before))
-      | inr (inr (inr nine)) ↦ (let leads = end_leads laws ds h at (sym rec ∙ nine) in subst IsStated leads.1 (stated_after (place_after_datasets ds) (head_token h.rec h.count) leads.0 before))
-    ]
+stated_at laws ds h at few room = stated_head laws ds h at room (stated_after_all laws ds (head_alive ds h at) few)
 
 -- a number occurs where it is stated
 pub occurs_stated : (n : ℕ) (ds : List Dataset) → occurs n ds ≡ is_some (number_at n (numbers_of ds))
@@ -117,40 +107,30 @@ pub same_numbers : (ps qs : List Stated) → stated_numbers ps ≡ stated_number
 same_numbers ps qs e = record { mode = cc e; largest = cc e; announced = cc e; maximum = cc e }
 
 pub same_stated : (n : ℕ) (ps qs : List Stated) → SameNumbers ps qs → AllByRecursion InRow ps → AllByRecursion InRow qs → number_at n ps ≡ number_at n qs
-same_stated n ps qs same a b =
-    by_number (λ (k : ℕ). number_at k ps ≡ number_at k qs) same.mode same.largest same.announced same.maximum (λ k other. not_stated k ps other a ∙ sym (not_stated k qs other b)) n
+same_stated n ps qs same a b = grind (arith, by_number, not_stated)
 
 -- ---- records 8 and 9, whose one number is 10
 
 abbrev pub AreTens : List Dataset → Type 0
 AreTens ds = AllByRecursion (λ d. d.set ≡ 10) ds
 
-tens_of : (r : ℕ) → HasTen r → (ds : List Dataset) → AllByRecursion (λ d. (d.rec ≡ r) × IsGoodDataset d) ds → AreTens ds
-tens_of r none ds all =
-    all_map (λ (d : Dataset). (d.rec ≡ r) × IsGoodDataset d) (λ d. d.set ≡ 10) ds (λ d h. by_ten r none d.octets (λ n. n ≡ 10) (λ m. refl) d.set (subst (λ (k : ℕ). Meets k d.set d.octets) h.0 h.1.meets)) all
+tens_in : (r : ℕ) → HasTen r → (ds : List Dataset) → AllByRecursion IsGoodDataset ds → AreTens (of_record r ds)
+tens_in r has [] all = tt
+tens_in r has (d ∷ ds) all = elim (eqb_tells d.rec r) [
+  | inl same ↦ rw same.0 (by_ten r has d.octets (λ n. n ≡ 10) (λ m. refl) d.set (rw same.1 at all.0.meets), tens_in r has ds all.1)
+  | inr other ↦ rw other.0 (tens_in r has ds all.1)
+]
 
-tens_front : (r : ℕ) (xs ys zs : List Dataset) → of_record r (xs ++ ys) ≡ zs → AreTens zs → AreTens (of_record r xs)
-tens_front r xs ys zs is tens =
-    all_front (λ d. d.set ≡ 10) (of_record r xs) (of_record r ys) (subst AreTens (sym is ∙ filter-append (λ (x : Dataset). nat_eq x.rec r) xs ys) tens)
+pub tens_after : (ds : List Dataset) → SectionsLive ds → AreTens (of_record 8 ds) × AreTens (of_record 9 ds)
+tens_after ds alive = grind (arith, all_front, each_good, tens_in, eight_has, nine_has)
 
-pub tens_after : RecordsAreByNumber → (ds : List Dataset) → SectionsLive ds → AreTens (of_record 8 ds) × AreTens (of_record 9 ds)
-tens_after numbers ds alive =
-    let r = records_alive ds alive in
-    let is = numbers (ds ++ r.0) r.1 in (
-      tens_front 8 ds r.0 r.1.r8 is.eights (tens_of 8 eight_has r.1.r8 r.1.object.each),
-      tens_front 9 ds r.0 r.1.r9 is.nines (tens_of 9 nine_has r.1.r9 r.1.confirmation.each),
-    )
+ten_seen : (n : ℕ) (xs : List Dataset) → AreTens xs → occurs n xs ≡ (nat_eq (one_of_some (length xs)) 1 && nat_eq 10 n)
+ten_seen n [] all = refl
+ten_seen n (x ∷ xs) all = grind (arith, ten_seen n xs all.1, all.0)
 
 -- Datasets of the number 10 have the same numbers as others, where there are some of both or none.
 pub tens_seen : (n : ℕ) (xs ys : List Dataset) → AreTens xs → AreTens ys → one_of_some (length xs) ≡ one_of_some (length ys) → occurs n xs ≡ occurs n ys
-tens_seen n [] [] a b e = refl
-tens_seen n [] (y ∷ ys) a b e = absurd (let bad : 0 ≡ 1 = e in omega (arith, bad))
-tens_seen n (x ∷ xs) [] a b e = absurd (let bad : 1 ≡ 0 = e in omega (arith, bad))
-tens_seen n (x ∷ xs) (y ∷ ys) a b e = first x xs a ∙ sym (first y ys b)
-  where
-    first : (z : Dataset) (zs : List Dataset) → AreTens (z ∷ zs) → occurs n (z ∷ zs) ≡ nat_eq 10 n
-    first z [] all = grind arith
-    first z (w ∷ zs) all = grind (arith, first w zs all.1)
+tens_seen n xs ys a b e = ten_seen n xs a ∙ ap (λ (k : ℕ). nat_eq k 1 && nat_eq 10 n) e ∙ sym (ten_seen n ys b)
 
 -- ---- record 9 is the last
 
@@ -183,9 +163,7 @@ none_in_records p (k ∷ rs) ds (run, rest, parts, good, later) apart =
 -- nor in front of others
 pub none_in_front : (p : ℕ → Bool) (rs : List ℕ) (ds more : List Dataset) → AreRecords rs (ds ++ more) → AllByRecursion (λ k. p k ≡ false) rs
     → filter (λ (d : Dataset). p d.rec) ds ≡ []
-none_in_front p rs ds more are apart =
-    let test = λ (d : Dataset). p d.rec in
-    empty_front (filter test ds) (filter test more) (sym (filter-append test ds more) ∙ none_in_records p rs (ds ++ more) are apart)
+none_in_front p rs ds more are apart = grind (arith, empty_front, filter-append, none_in_records)
 
 pub none_other : (r : ℕ) → AllByRecursion (λ k. nat_eq k r ≡ false) records → (ds : List Dataset) → SectionsLive ds → of_record r ds ≡ []
 none_other r apart ds alive = none_in_front (λ k. nat_eq k r) records ds alive.0 alive.1 apart
@@ -199,44 +177,37 @@ pub record SameFields (ds es : List Dataset) : Type 0 where
   pub numbers : stated_numbers (numbers_of (of_record 7 ds)) ≡ stated_numbers (numbers_of (of_record 7 es))
   pub heads : length (of_record 8 ds) ≡ length (of_record 8 es)
 
--- the same, but that of the subfiles it says no more than whether some have ended
-pub record SameShape (ds es : List Dataset) : Type 0 where
-  pub ended : nat_eq (section_after ds) 9 ≡ nat_eq (section_after es) 9
-  pub fields : kept ds ≡ kept es
-  pub numbers : stated_numbers (numbers_of (of_record 7 ds)) ≡ stated_numbers (numbers_of (of_record 7 es))
-  pub some : one_of_some (length (of_record 8 ds)) ≡ one_of_some (length (of_record 8 es))
-
 abbrev SameIn : List Dataset → List Dataset → ℕ → Type 0
 SameIn ds es r = (n : ℕ) → occurs n (of_record r ds) ≡ occurs n (of_record r es)
 
 same_kept : (ds es : List Dataset) (r : ℕ) → is_kept r ≡ true → kept ds ≡ kept es → SameIn ds es r
-same_kept ds es r is same n =
-    ap (occurs n) (sym (of_kept r is ds)) ∙ ap (λ (xs : List Dataset). occurs n (of_record r xs)) same ∙ ap (occurs n) (of_kept r is es)
+same_kept ds es r is same n = grind (arith, of_kept)
 
-pub same_shape : LowerLaws → (ds es : List Dataset) → SectionsLive ds → SectionsLive es → length (of_record 8 ds) ≤ max_subfiles → length (of_record 8 es) ≤ max_subfiles → SameShape ds es
-    → SameRecords ds es
-same_shape laws ds es a b few less same =
-    let tens = tens_after laws.by_number ds a in
-    let others = tens_after laws.by_number es b in
+-- Of the subfiles it need say no more than whether some have ended.
+pub same_shape : LowerLaws → (ds es : List Dataset) → SectionsLive ds → SectionsLive es → length (of_record 8 ds) ≤ max_subfiles
+    → length (of_record 8 es) ≤ max_subfiles → nat_eq (section_after ds) 9 ≡ nat_eq (section_after es) 9 → kept ds ≡ kept es
+    → stated_numbers (numbers_of (of_record 7 ds)) ≡ stated_numbers (numbers_of (of_record 7 es))
+    → one_of_some (length (of_record 8 ds)) ≡ one_of_some (length (of_record 8 es)) → SameRecords ds es
+same_shape laws ds es a b few less ended fields numbers some =
+    let tens = tens_after ds a in
+    let others = tens_after es b in
     let seven : SameIn ds es 7 = λ n.
     let stated = (stated_after_all laws ds a few).stated.each in
     let more = (stated_after_all laws es b less).stated.each in
     occurs_stated n (of_record 7 ds)
-    ∙ ap is_some (same_stated n (numbers_of (of_record 7 ds)) (numbers_of (of_record 7 es)) (same_numbers _ _ same.numbers) stated more)
+    ∙ ap is_some (same_stated n (numbers_of (of_record 7 ds)) (numbers_of (of_record 7 es)) (same_numbers _ _ numbers) stated more)
     ∙ sym (occurs_stated n (of_record 7 es)) in
-    let eight : SameIn ds es 8 = λ n. tens_seen n (of_record 8 ds) (of_record 8 es) tens.0 others.0 same.some in
-    let ended = nines laws ds a ∙ ap (λ (b : Bool). cond b 1 0) same.ended ∙ sym (nines laws es b) in
-    let nine : SameIn ds es 9 = λ n. tens_seen n (of_record 9 ds) (of_record 9 es) tens.1 others.1 (ap one_of_some ended) in
-    let other : (r : ℕ) → AllByRecursion (λ k. nat_eq k r ≡ false) records → SameIn ds es r =
-    λ r apart n. ap (occurs n) (none_other r apart ds a ∙ sym (none_other r apart es b)) in
+    let eight : SameIn ds es 8 = λ n. tens_seen n (of_record 8 ds) (of_record 8 es) tens.0 others.0 some in
+    let count = nines laws ds a ∙ ap (λ (b : Bool). cond b 1 0) ended ∙ sym (nines laws es b) in
+    let nine : SameIn ds es 9 = λ n. tens_seen n (of_record 9 ds) (of_record 9 es) tens.1 others.1 (ap one_of_some count) in
     record {
       seen = λ r.
-          let apart : (k : ℕ) → nat_eq r k ≡ false → nat_eq k r ≡ false = λ k not. ne_eqb k r (λ same. eqb-false r k not (sym same)) in
-          by_record (SameIn ds es) r (same_kept ds es 1 refl same.fields) (same_kept ds es 2 refl same.fields) seven eight nine
-          (λ not1 not2 not7 not8 not9. other r (apart 1 not1, (apart 2 not2, (apart 7 not7, (apart 8 not8, (apart 9 not9, tt))))));
+          by_record (SameIn ds es) r (same_kept ds es 1 refl fields) (same_kept ds es 2 refl fields) seven eight nine
+          (λ not1 not2 not7 not8 not9 n.
+          let apart : AllByRecursion (λ k. nat_eq k r ≡ false) records = grind (arith, ne_eqb) in
+          ap (occurs n) (none_other r apart ds a ∙ sym (none_other r apart es b)));
     }
 
 pub same_records : LowerLaws → (ds es : List Dataset) → SectionsLive ds → SectionsLive es → length (of_record 8 ds) ≤ max_subfiles → length (of_record 8 es) ≤ max_subfiles → SameFields ds es
     → SameRecords ds es
-same_records laws ds es a b few less same =
-    same_shape laws ds es a b few less (record { ended = same.ended; fields = same.fields; numbers = same.numbers; some = ap one_of_some same.heads })
+same_records laws ds es a b few less same = same_shape laws ds es a b few less same.ended same.fields same.numbers (ap one_of_some same.heads)

@@ -1,24 +1,25 @@
 -- Places that were possible by smaller sizes, and by the sizes that there are.
-use Rattle.std.proofs.Common.{◌≡◌, ℕ, ◌-◌, ◌≤◌, nat_eq, cond, if◌then◌else◌, Bool, true, false, List, [], ◌∷◌, ◌++◌, length, map, sum, Some, refl, ap, sym, subst, ◌∙◌, inl, inr, arith, ◌^◌, ◌<◌, Option, None, append-nil, length-append}
-use Rattle.iim_places.proofs.Words.{AllByRecursion, eqb-true, eq-eqb, Dataset, SpellsDataset, SpellsStream, count_octets, head_of, of_record, IsAlive, Begun, InTag, InData, IsBegun, Reads, Head, all_front, all_back, section_after, tells_number, SubfileBegun, ObjectEnded, Confirmed, number_tokens, numbers_of, Stated, TokensWithin, LanguageWithin, LowerLaws, object_of, AreWithin, object_so_far, section, Possible, IsSmall, IsSmallPhase, IsSmallPlace, greatest_size_before, widest, Scale, FitsRow, SectionsLiveIn, HaveRoomIn, IsOpenIn, PossibleAt, place_in, first_scale, IsPlaceOf, TagBegun, AllEnded, phase_of, MayContinue, unwrap_or, cases_lt, lt-ltb, le-ltb, eqb_tells, IsOctet, SpellsCount, SpellsTag, canonical_count, canonical_tag, canonical_dataset, canonical_stream, written_number, all_append, all_map, HasSpellings, is_kept, AreSections, place_after_datasets, place_ended, ending_of, number_dataset, ending_tokens, within_append, begun_within, AreOpenOrWhole, AreHeadsWithin, SmallPlacesWerePossible, plain_octets, IsPlain, begun_object, Numbers, number_list, plain_numbers, plain, within, greatest_size, within_most_and, Meets, IsGoodDataset, SectionsIn, PresentScaleSaysNothingMore, present_scale, or_cases, AllCanContinue}
+use Rattle.std.proofs.Common.{◌≡◌, ℕ, ◌-◌, ◌≤◌, nat_eq, cond, if◌then◌else◌, Bool, true, false, List, [], ◌∷◌, ◌++◌, length, map, sum, refl, ap, sym, subst, ◌∙◌, inl, inr, arith, ◌^◌, ◌<◌, Option, append-nil, length-append, ◌+◌, ◌⊎◌, ◌||◌, nat_le}
+use Rattle.iim_places.proofs.Words.{AllByRecursion, eqb-true, eq-eqb, Dataset, SpellsDataset, SpellsStream, count_octets, head_of, of_record, IsAlive, Begun, InTag, InData, IsBegun, Reads, Head, all_front, all_back, section_after, tells_number, SubfileBegun, ObjectEnded, Confirmed, number_tokens, numbers_of, Stated, TokensWithin, LanguageWithin, LowerLaws, object_of, AreWithin, object_so_far, section, Possible, IsSmall, IsSmallPhase, IsSmallPlace, greatest_size_before, widest, Scale, FitsRow, SectionsLiveIn, HaveRoomIn, IsOpenIn, PossibleAt, place_in, first_scale, IsPlaceOf, TagBegun, AllEnded, phase_of, MayContinue, unwrap_or, lt-ltb, IsOctet, SpellsCount, SpellsTag, canonical_count, canonical_tag, canonical_dataset, canonical_stream, written_number, all_append, all_map, HasSpellings, is_kept, AreSections, place_after_datasets, ending_of, number_dataset, ending_tokens, within_append, begun_within, SmallPlacesWerePossible, Numbers, number_list, plain_numbers, plain, within, greatest_size, within_most_and, Meets, IsGoodDataset, SectionsIn, PresentScaleSaysNothingMore, present_scale, or_cases, AreKept, LeadsByLayers, are_ended, leb-true, le-leb, nat_tests, map-append, IsGoodRecord, occurs, occurrences, occurrences_cons, mandatory, AreRecords, records, good_elsewhere, place_at, BeginsTag, IsWholeIn, LeadsToSaved, MessagePlace, CanContinue, AllCanContinue}
 use Rattle.iim_places.specs.Format.Tickets.{Place}
-use Rattle.iim_places.proofs.Answering.{one_reading, reads_envelope, open_at, coming}
-use Rattle.iim_places.proofs.Bounds.{part_of_whole, object_fits, sized_seven, sized_nine}
+use Rattle.iim_places.proofs.Answering.{reads_envelope, coming}
+use Rattle.iim_places.proofs.Bounds.{part_of_whole, object_fits, sized_seven, sized_nine, low}
 use Rattle.iim_places.proofs.Fitting.{at_head, reads_of, begins_tag, so_far_fits, lives_in, tag_or_end, four_at, low_count}
 use Rattle.iim_places.proofs.SmallTags.{wider_tag, small_tag}
-use Rattle.iim_places.proofs.ByLayers.{layers_open, plain_leads, possible_in, leads_by_layers}
-use Rattle.iim_places.proofs.SmallSections.{short_by, Short, told_in, sections_live_small, sections_small}
-use Rattle.iim_places.proofs.Tickets.{so_far_by, total_of}
-use Rattle.byteorder.specs.Numbers.{big_number-reads_back}
+use Rattle.iim_places.proofs.ByLayers.{layers_open, possible_in, leads_by_layers, Opens, ended_heads, plain_of}
+use Rattle.iim_places.proofs.Tickets.{so_far_by, total_of, stated_by}
 use Rattle.iim_fields.specs.Format.Faults.{joined}
 use Rattle.iim_object.specs.Laws.{PlacesLiveWithin}
-use Rattle.iim_places.proofs.Following.{within_of}
-use Rattle.iim_places.proofs.Lasts.{last_sections}
-use Rattle.iim_places.proofs.Plain.{plain_spelled, plain_told, taken_told, numbers_each, parts_each, end_each}
+use Rattle.iim_places.proofs.Following.{within_of, alive_of}
+use Rattle.iim_places.proofs.Plain.{numbers_each, parts_each, end_each, present_ended}
 use Rattle.iim_tables.specs.Format.Rows.{table, row_of}
-use Rattle.iim_places.proofs.SizeRows.{by_ten, eight_has}
+use Rattle.iim_places.proofs.SizeRows.{by_ten, eight_has, nine_has}
 use Rattle.iim_places.proofs.Taking.{each_good}
 use Rattle.iim_object.specs.Format.Places as objects
+use Rattle.iim_places.proofs.AfterEnd.{WholeMessage, ended_after, ended_at}
+use Rattle.iim_places.proofs.Twins.{enveloped, value_of}
+use Rattle.iim_places.proofs.ObjectOctets.{lives_whole}
+use Rattle.iim_places.proofs.Lasts.{sections_last}
 
 -- ---- spellings with shorter counts
 
@@ -30,26 +31,19 @@ wider_stream limit le (d ∷ ds) xs (first, rest, one, more, parts) =
     (first, rest, wider, wider_stream limit le ds rest more, parts)
 
 wider_rest : (limit : ℕ) → limit ≤ count_octets → (b : Begun) (xs : List ℕ) → IsBegun limit b xs → IsBegun count_octets b xs
-wider_rest limit le (InTag held) xs (same, h, tag, spelled, part) = (same, h, tag, wider_tag limit count_octets h tag le spelled, part)
-wider_rest limit le (InData h taken) xs (tag, spelled, less, all, parts) = (tag, wider_tag limit count_octets h tag le spelled, less, all, parts)
+wider_rest limit le b xs begun = grind arith
 
 wider_reads : (limit : ℕ) → limit ≤ count_octets → (xs : List ℕ) (ds : List Dataset) (b : Begun) → Reads limit xs ds b → Reads count_octets xs ds b
-wider_reads limit le xs ds b r =
-    let rest = wider_rest limit le b r.rest r.is_rest in
-    record { front = r.front; rest = r.rest; is_front = wider_stream limit le ds r.front r.is_front; is_rest = rest; parts = r.parts }
-
--- ---- what fits
+wider_reads limit le xs ds b r = grind (arith, wider_rest, wider_stream)
 
 rows_of : (s : Scale) (ds : List Dataset) (b : Begun) → SectionsLiveIn s ds b → AllByRecursion (FitsRow s) ds
-rows_of s ds (InTag held) alive = all_front (FitsRow s) ds alive.0 alive.1.1
-rows_of s ds (InData h taken) (d, head, alive) = all_front (FitsRow s) ds (d ∷ []) (all_front (FitsRow s) (ds ++ d ∷ []) alive.0 alive.1.1)
+rows_of s ds b alive = grind (arith, all_front)
 
 -- ---- open octets
 
 may_continue : (s : Scale) (ds : List Dataset) (b : Begun) → SectionsLiveIn s ds b → AreWithin widest ds → HaveRoomIn widest ds b
     → IsAlive (LanguageWithin s.greatest) (objects.tokens_of (place_in ds b)) → MayContinue widest ds b
-may_continue s ds (InTag held) alive within room object = record { records = (alive.0, alive.1.0); within = within; object = (object.0, object.1.0) }
-may_continue s ds (InData h taken) (d, head, alive) within room object = record { records = (d, head, (alive.0, alive.1.0)); within = within; room = room; object = (object.0, object.1.0) }
+may_continue s ds b alive within room object = grind arith
 
 -- what was possible by a smaller scale is possible
 still : (s : Scale) → s.octets ≤ count_octets → (place : Place) → PossibleAt s place → Possible place
@@ -57,13 +51,12 @@ still s le place p = record {
   octets = p.octets;
   leads = p.leads;
   comes = elim p.comes [
-    | inl is ↦ inl (record {
-      whole = is.whole;
-      begun = is.begun;
-      reads = wider_reads s.octets le p.octets is.whole is.begun is.reads;
-      leads_on = record { sizes = may_continue s is.whole is.begun is.records is.within is.room is.object; message = is.message; story = is.story };
-      unfinished = λ sections. is.unfinished (sections, rows_of s is.whole is.begun is.records);
-    })
+    | inl is ↦
+        let reads = wider_reads s.octets le p.octets is.whole is.begun is.reads in
+        let sizes = may_continue s is.whole is.begun is.records is.within is.room is.object in
+        let goes : AllCanContinue widest is.whole is.begun = record { sizes = sizes; message = is.message; story = is.story } in
+        let none = λ (sections : AreSections is.whole). is.unfinished (sections, rows_of s is.whole is.begun is.records) in
+        inl (record { whole = is.whole; begun = is.begun; reads = reads; leads_on = goes; unfinished = none })
     | inr is ↦ inr (is.value, record { admits = is.admits; within = is.within })
   ];
 }
@@ -103,10 +96,7 @@ small_phase octets ds (InData h taken) reads (d, head, alive) low =
     let rec : d.rec ≡ h.rec = ap (λ (k : Head). k.rec) head in
     let count : length d.octets ≡ h.count = ap (λ (k : Head). k.count) head in
     let all = so_far_by (nat_eq h.rec 8) (nat_eq h.rec 9) ds taken h.count (h.count - length taken) (let less = reads.is_rest.2 in omega (arith, less)) in
-    let left = λ (eight : h.rec ≡ 8). ap (λ (b : Bool). if b then h.count - length taken else 0) (eq-eqb h.rec 8 eight) in (
-      (λ told. omega (arith, (fits.size (ap tells_number rec ∙ told)).0, count)),
-      (λ eight. (omega (arith, fits.subfile (rec ∙ eight), count), omega (arith, all, left eight, low))),
-    )
+    grind arith
 
 -- ---- places
 
@@ -137,64 +127,154 @@ still_possible laws place p = (
   ],
 )
 
+-- ---- data that are too long, replaced by short ones
+
+abbrev short_number : List ℕ
+short_number = 0 ∷ 0 ∷ 0 ∷ 1 ∷ []
+
+-- The data are no longer than the first scale allows, and four octets tell their length.
+abbrev Low : Dataset → Type 0
+Low d = (length d.octets < 2 ^ 32) × (tells_number d.rec ≡ true → length d.octets ≤ 4)
+
+abbrev shrunk : (tells subfile : Bool) → List ℕ → List ℕ
+shrunk true subfile xs = if nat_le (length xs) 4 then xs else short_number
+shrunk false true xs = if nat_le (length xs) greatest_size_before then xs else []
+shrunk false false xs = xs
+
+abbrev shrink : Dataset → Dataset
+shrink d = record d { octets = shrunk (tells_number d.rec) (nat_eq d.rec 8) d.octets }
+
+-- records 7 and 9 tell numbers
+told_in : (r : ℕ) → tells_number r ≡ true → (r ≡ 7) ⊎ (r ≡ 9)
+told_in r is = elim (or_cases (nat_eq r 7) (nat_eq r 9) is) [ inl seven ↦ inl (eqb-true r 7 seven) | inr nine ↦ inr (eqb-true r 9 nine) ]
+
+-- the row of a number that is too long takes a short one
+seven_takes : (set : ℕ) (xs : List ℕ) → Meets 7 set xs → 4 < length xs → Meets 7 set short_number
+unfolding row_of table
+seven_takes set xs = grind arith
+
+nine_takes : (set : ℕ) (xs : List ℕ) → Meets 9 set xs → Meets 9 set short_number
+unfolding row_of table
+nine_takes set xs = by_ten 9 nine_has xs (λ k. Meets 9 k short_number) (λ h. refl) set
+
+eight_takes : (set : ℕ) (xs : List ℕ) → Meets 8 set xs → Meets 8 set []
+unfolding row_of table
+eight_takes set xs = by_ten 8 eight_has xs (λ k. Meets 8 k []) (λ h. refl) set
+
+-- a number's data, or short ones
+short_told : (d : Dataset) → IsGoodDataset d → tells_number d.rec ≡ true → (b : Bool) → nat_le (length d.octets) 4 ≡ b
+    → IsGoodDataset (record d { octets = if b then d.octets else short_number }) × (length (if b then d.octets else short_number) ≤ 4)
+short_told d good told b few = grind (arith, leb-true, nat_tests, told_in, seven_takes, nine_takes, good_elsewhere)
+
+-- a subfile, or an empty one
+short_subfile : (d : Dataset) → IsGoodDataset d → d.rec ≡ 8 → (b : Bool) → nat_le (length d.octets) greatest_size_before ≡ b
+    → IsGoodDataset (record d { octets = if b then d.octets else [] }) × (length (if b then d.octets else []) ≤ greatest_size_before)
+short_subfile d good eight b few = grind (arith, leb-true, good_elsewhere, eight_takes)
+
+-- The data of a good dataset may be replaced so that it fits its row by the first scale.
+shrink_fits : (d : Dataset) → IsGoodDataset d → IsGoodDataset (shrink d) × FitsRow first_scale (shrink d)
+shrink_fits d good = by (tells_number d.rec) (nat_eq d.rec 8) refl refl
+  where
+    by : (tells subfile : Bool) → tells_number d.rec ≡ tells → nat_eq d.rec 8 ≡ subfile
+        → IsGoodDataset (record d { octets = shrunk tells subfile d.octets }) × FitsRow first_scale (record d { octets = shrunk tells subfile d.octets })
+    by true subfile told eight =
+        let (fine, few) = short_told d good told (nat_le (length d.octets) 4) refl in
+        (fine, record { size = λ _. (few, omega (arith, low 4 _ fine.octets few)); subfile = λ _. omega (arith, few) })
+    by false true none eight =
+        let (fine, few) = short_subfile d good (eqb-true d.rec 8 eight) (nat_le (length d.octets) greatest_size_before) refl in
+        (fine, record { size = λ told. let bad : false ≡ true = sym none ∙ told in absurd cc; subfile = λ _. few })
+    by false false none other = (good, record {
+      size = λ told. let bad : false ≡ true = sym none ∙ told in absurd cc;
+      subfile = λ eight. let bad : false ≡ true = sym other ∙ eq-eqb d.rec 8 eight in absurd cc;
+    })
+
+-- ---- records
+
+-- what is short stays
+all_same : (ds : List Dataset) → AllByRecursion Low ds → map shrink ds ≡ ds
+all_same [] all = refl
+all_same (d ∷ ds) all = rw (same (tells_number d.rec) (nat_eq d.rec 8) d.octets all.0.0 all.0.1, all_same ds all.1) refl
+  where
+    same : (tells subfile : Bool) (xs : List ℕ) → length xs < 2 ^ 32 → (tells ≡ true → length xs ≤ 4) → shrunk tells subfile xs ≡ xs
+    same true subfile xs few less = rw (le-leb (length xs) 4 (less refl)) refl
+    same false true xs few less = rw (le-leb (length xs) greatest_size_before (omega (arith, few))) refl
+    same false false xs few less = refl
+
+occurs_same : (n : ℕ) (ds : List Dataset) → occurs n (map shrink ds) ≡ occurs n ds
+occurs_same n [] = refl
+occurs_same n (d ∷ ds) = ap (λ (b : Bool). nat_eq d.set n || b) (occurs_same n ds)
+
+count_same : (n : ℕ) (ds : List Dataset) → occurrences n (map shrink ds) ≡ occurrences n ds
+count_same n [] = refl
+count_same n (d ∷ ds) = omega (arith, occurrences_cons n (shrink d) (map shrink ds), occurrences_cons n d ds, count_same n ds)
+
+all_mapped : (P Q : Dataset → Type 0) (ds : List Dataset) → ((d : Dataset) → P d → Q (shrink d)) → AllByRecursion P ds → AllByRecursion Q (map shrink ds)
+all_mapped P Q [] f all = tt
+all_mapped P Q (d ∷ ds) f all = (f d all.0, all_mapped P Q ds f all.1)
+
+good_records : (rs : List ℕ) (ds : List Dataset) → AreRecords rs ds → AreRecords rs (map shrink ds)
+good_records [] ds none = ap (map shrink) none
+good_records (r ∷ rs) ds (run, rest, parts, good, more) =
+    let is : IsGoodRecord r (map shrink run) = record {
+      each = all_mapped (λ d. (d.rec ≡ r) × IsGoodDataset d) (λ d. (d.rec ≡ r) × IsGoodDataset d) run (λ d h. (h.0, (shrink_fits d h.1).0)) good.each;
+      mandatory = all_map _ _ (mandatory r) (λ n h. occurs_same n run ∙ h) good.mandatory;
+      once = λ n no'. let most' = good.once n no' in omega (arith, most', count_same n run);
+    } in
+    (map shrink run, map shrink rest, ap (map shrink) parts ∙ map-append shrink run rest, is, good_records rs rest more)
+
+good_sections : (ds : List Dataset) → AreSections ds → SectionsIn first_scale (map shrink ds)
+good_sections ds are =
+    (good_records records ds are, all_mapped IsGoodDataset (FitsRow first_scale) ds (λ d good. (shrink_fits d good).1) (each_good ds are))
+
+-- Datasets that are short, and from which the record layer can continue, fit, and can continue to ones that fit.
+sections_live_small : (ds : List Dataset) → IsAlive AreSections ds → AllByRecursion Low ds → IsAlive (SectionsIn first_scale) ds
+sections_live_small ds (more, are) short = (map shrink more, rw (map-append shrink ds more, all_same ds short) at (good_sections (ds ++ more) are))
+
 -- ---- spellings with few count octets
 
 few_count : (n : ℕ) → n < 2 ^ 32 → SpellsCount 4 n (canonical_count n)
-few_count n few = elim (cases_lt n 32768) [
-  | inl lt ↦ rw (lt-ltb n 32768 lt) (inl (omega (arith, lt), omega arith, refl, big_number-reads_back 2 n [] (omega (arith, lt))))
-  | inr ge ↦ rw (le-ltb n 32768 ge, lt-ltb n (2 ^ 32) few) (inr (refl, refl, omega arith, omega arith, (omega arith, (omega arith, (omega arith, (omega arith, tt)))), big_number-reads_back 4 n [] few))
-]
+few_count n few = grind arith
 
 few_tag : (h : Head) → IsOctet h.rec → IsOctet h.set → h.count < 2 ^ 32 → SpellsTag 4 h (canonical_tag h)
-few_tag h r s few = record { rec = r; set = s; count = canonical_count h.count; is_count = few_count h.count few; parts = refl }
+few_tag h r s few = grind (arith, few_count)
 
-abbrev Few : Dataset → Type 0
-Few d = length d.octets < 2 ^ 32
-
-few_stream : (ds : List Dataset) → AllByRecursion HasSpellings ds → AllByRecursion Few ds → SpellsStream 4 ds (canonical_stream ds)
+few_stream : (ds : List Dataset) → AllByRecursion HasSpellings ds → AllByRecursion Low ds → SpellsStream 4 ds (canonical_stream ds)
 few_stream [] all few = refl
 few_stream (d ∷ ds) all few =
-    let tag = few_tag (head_of d) all.0.rec all.0.set few.0 in
+    let tag = few_tag (head_of d) all.0.rec all.0.set few.0.0 in
     let first : SpellsDataset 4 d (canonical_dataset d) = record { tag = canonical_tag (head_of d); is_tag = tag; data_octets = all.0.octets; parts = refl } in
     (canonical_dataset d, canonical_stream ds, first, few_stream ds all.1 few.1, refl)
 
 -- ---- plain datasets are short
 
-abbrev Low : Dataset → Type 0
-Low d = Short d × Few d
+no_number : (r : ℕ) → is_kept r ≡ true → tells_number r ≡ true → ⊥
+no_number r keeps told = grind arith
 
-low_fields : (ds : List Dataset) → AllByRecursion (λ (d : Dataset). is_kept d.rec ≡ true) ds → length (joined ds) < 2 ^ 32 → AllByRecursion Low ds
+low_fields : (ds : List Dataset) → AreKept ds → length (joined ds) < 2 ^ 32 → AllByRecursion Low ds
 low_fields [] all few = tt
 low_fields (d ∷ ds) all few =
     let both = length-append d.octets (joined ds) in
-    let short : Short d = elim (or_cases (nat_eq d.rec 1) (nat_eq d.rec 2) all.0) [
-      | inl one ↦ rw (eqb-true d.rec 1 one) (omega arith)
-      | inr two ↦ rw (eqb-true d.rec 2 two) (omega arith)
-    ] in
-    ((short, omega (arith, both, few)), low_fields ds all.1 (omega (arith, both, few)))
+    ((omega (arith, both, few), λ told. absurd (no_number d.rec all.0 told)), low_fields ds all.1 (omega (arith, both, few)))
 
-low_one : (rec set n : ℕ) → tells_number rec ≡ true → n ≤ greatest_size_before → Low (number_dataset rec set n)
-low_one rec set n told low =
-    let four : length (written_number n) ≡ 4 = rw (lt-ltb n (2 ^ 32) (omega (arith, low))) refl in
-    (rw told (omega (arith, four)), omega (arith, four))
+low_one : (rec set n : ℕ) → n ≤ greatest_size_before → Low (number_dataset rec set n)
+low_one rec set n low =
+    let four : length (written_number n) ≡ 4 = rw (lt-ltb n (2 ^ 32) (omega (arith, low))) refl in (omega (arith, four), λ told. omega (arith, four))
 
 size_low : (o : Option ℕ) → IsSmall o → unwrap_or o 0 ≤ greatest_size_before
-size_low None low = omega arith
-size_low (Some n) low = low
+size_low o low = grind arith
 
-low_plain : (fields : List Dataset) (numbers : Numbers) (heads : ℕ) (object : List ℕ) (ended : Bool)
-    → AllByRecursion (λ (d : Dataset). is_kept d.rec ≡ true) fields
+low_plain : (fields : List Dataset) (numbers : Numbers) (heads : ℕ) (object : List ℕ) (ended : Bool) → AreKept fields
     → length (joined fields) < 2 ^ 32 → AllByRecursion IsSmall (number_list numbers) → length object ≤ greatest_size_before
     → AllByRecursion Low (plain fields numbers heads object ended)
 low_plain fields numbers heads object ended kept few small low =
     all_append Low fields _ (low_fields fields kept few)
     (all_append Low (plain_numbers numbers) _
-    (numbers_each Low numbers (λ n is. (omega arith, omega arith)) (λ n is. low_one 7 20 n refl (subst IsSmall is small.1.0))
-    (λ n is. low_one 7 90 n refl (subst IsSmall is small.1.1.0)) (λ n is. low_one 7 95 n refl (subst IsSmall is small.1.1.1.0)))
+    (numbers_each Low numbers (λ n is. (omega arith, λ told. omega arith)) (λ n is. low_one 7 20 n (subst IsSmall is small.1.0))
+    (λ n is. low_one 7 90 n (subst IsSmall is small.1.1.0)) (λ n is. low_one 7 95 n (subst IsSmall is small.1.1.1.0)))
     (all_append Low _ _
     (parts_each Low (unwrap_or numbers.largest 0) heads object
-    (λ ys short few good. let most = size_low numbers.largest small.1.0 in (omega (arith, short, most), omega (arith, short, most))))
-    (end_each Low ended object (low_one 9 10 (length object) refl low))))
+    (λ ys short few good. let most = size_low numbers.largest small.1.0 in (omega (arith, short, most), λ told. absurd cc)))
+    (end_each Low ended object (low_one 9 10 (length object) low))))
 
 -- ---- the object's tokens
 
@@ -204,8 +284,7 @@ numbers_within most (p ∷ ps) low = (low.0, numbers_within most ps low.1)
 
 -- and so is the size that is confirmed
 end_within : (most : ℕ) (rs : List Dataset) → AreLow most rs → TokensWithin most (ending_tokens (ending_of rs))
-end_within most [] low = tt
-end_within most (r ∷ rs) low = (low.0, tt)
+end_within most rs low = grind arith
 
 tokens_within : (s : Scale) (ds : List Dataset) → AllByRecursion (FitsRow s) ds → (p : objects.Place) → p.stated ≡ numbers_of (of_record 7 ds)
     → TokensWithin s.greatest (ending_tokens p.ending) → TokensWithin s.greatest (objects.tokens_of p)
@@ -217,113 +296,151 @@ within_in : (s : Scale) (ds : List Dataset) (b : Begun) → AllByRecursion (Fits
 within_in s ds (InTag held) rows = tokens_within s ds rows (place_after_datasets ds) refl (end_within s.greatest (of_record 9 ds) (stated_low s 9 refl ds rows))
 within_in s ds (InData h taken) rows =
     let last = end_within s.greatest (of_record 9 ds) (stated_low s 9 refl ds rows) in
-    let eight = tokens_within s ds rows (objects.place_after (place_after_datasets ds) (SubfileBegun h.count)) refl last in
-    at_head (λ (p : objects.Place). TokensWithin s.greatest (objects.tokens_of p)) ds h eight (tokens_within s ds rows (place_ended ds) refl tt)
-    (tokens_within s ds rows (place_after_datasets ds) refl last)
+    tokens_within s ds rows (place_at ds h) (stated_by (nat_eq h.rec 8) (nat_eq h.rec 9) ds h.count)
+    (at_head (λ (p : objects.Place). TokensWithin s.greatest (ending_tokens p.ending)) ds h last tt last)
 
--- Where every layer can continue now, and the record layer by the scale, octets that are spelled by it are open by it.
-opens_in : LowerLaws → PlacesLiveWithin → (s : Scale) → 1 ≤ s.greatest → (octets : List ℕ) (ds : List Dataset) (b : Begun) → Reads s.octets octets ds b
-    → AllCanContinue widest ds b → (AreSections ds → ⊥) → SectionsLiveIn s ds b → sum (place_in ds b).lengths ≤ s.greatest → IsOpenIn s widest octets
-opens_in laws law s one octets ds b reads goes unfinished records low = record {
-  whole = ds;
-  begun = b;
-  reads = reads;
-  records = records;
-  within = within_of widest ds b goes.sizes;
-  room = elim b as (λ b. MayContinue widest ds b → HaveRoomIn widest ds b) [ InTag held ↦ λ sizes. tt | InData h taken ↦ λ sizes. sizes.room ] goes.sizes;
-  object = law s.greatest (place_in ds b) one (possible_in laws ds b goes.sizes) (within_in s ds b (rows_of s ds b records)) low;
-  message = goes.message;
-  story = goes.story;
-  unfinished = λ sections. unfinished sections.0;
-}
+-- What the scale asks of plain datasets and what is begun after them: octets that spell them by it, rows, and the size of the object.
+record KeepTo (s : Scale) (place : Place) (l : LeadsByLayers place) (p : Opens place l) : Type 0 where
+  few : s.octets ≤ count_octets
+  one : 1 ≤ s.greatest
+  rest : List ℕ
+  is_begun : IsBegun s.octets p.begun rest
+  spelled : SpellsStream s.octets (plain_of place l p.object) (canonical_stream (plain_of place l p.object))
+  records : SectionsLiveIn s (plain_of place l p.object) p.begun
+  low : sum (place_in (plain_of place l p.object) p.begun).lengths ≤ s.greatest
+
+-- Where the last dataset has ended and nothing is begun, they are an envelope by the scale.
+whole_by : LowerLaws → (s : Scale) (octets : List ℕ) (ds : List Dataset) → s.octets ≤ count_octets → SpellsStream s.octets ds octets → CanContinue widest ds
+    → AllByRecursion (FitsRow s) ds → section_after ds ≡ 9 → WholeMessage (object_of ds) → sum (place_after_datasets ds).lengths ≤ s.greatest
+    → IsWholeIn s widest octets
+whole_by laws s octets ds few spelled goes rows nine m low =
+    let e = enveloped laws widest octets ds m.head m.text m.trailer m.lined.0 (wider_stream s.octets few ds octets spelled) goes nine m.message m.lined.1 in
+    record {
+      value = value_of ds m.head m.lined.0 m.trailer e.sizes;
+      admits = e.within.admits;
+      spelled = rw e.datasets_are spelled;
+      rows = rw e.datasets_are rows;
+      total = rw e.datasets_are (omega (arith, total_of (of_record 8 ds), low));
+      within = e.within.within;
+    }
+
+-- A place where each layer can be is possible by each scale to which its plain datasets keep.
+possible_by : LowerLaws → PlacesLiveWithin → (s : Scale) (place : Place) (l : LeadsByLayers place) (p : Opens place l) → KeepTo s place l p → PossibleAt s place
+possible_by laws law s place l p k =
+    let ds = plain_of place l p.object in
+    let b = p.begun in
+    let o = object_so_far ds b in
+    let octets = canonical_stream ds ++ k.rest in
+    let reads = reads_of s.octets ds b k.rest k.spelled k.is_begun in
+    let spells = wider_reads s.octets k.few octets ds b reads in
+    let there = subst (λ (o : List ℕ). LeadsToSaved o l.message.1 place.message) (sym p.octets) l.message.2 in
+    let lives = laws.living o l.message.1 there.0 there.1 in
+    let message : section ds b ≡ 9 → WholeMessage o = λ nine.
+    let last = l.message.4 (ap (λ (q : Place). q.section) p.is_place ∙ nine) in
+    ended_at o l.message.1 there.0 there.1 (ended_after there.0 (ap (λ (m : MessagePlace). m.part) there.2 ∙ last)) in
+    let present = present_ended place.fields l.numbers (ended_heads place) p.object (are_ended place.phase) l.kept in
+    record {
+      octets = octets;
+      leads = record { whole = ds; begun = b; reads = spells; text = l.message.1; message = place.message; leads = there; is_place = p.is_place };
+      comes = elim (are_ended place.phase) as (λ e. are_ended place.phase ≡ e → IsOpenIn s widest octets ⊎ IsWholeIn s widest octets) [
+        | true ↦ λ ended.
+            let none = p.last ended in
+            let rest : k.rest ≡ [] = (subst (λ (c : Begun). IsBegun s.octets c k.rest) none k.is_begun).0 in
+            let nine = eqb-true (section_after ds) 9 (present ∙ ended) in
+            let m = subst (λ (c : Begun). section ds c ≡ 9 → WholeMessage (object_so_far ds c)) none message nine in
+            let low = subst (λ (c : Begun). sum (place_in ds c).lengths ≤ s.greatest) none k.low in
+            inr (whole_by laws s octets ds k.few (rw (rest, append-nil) k.spelled) (subst (MayContinue widest ds) none p.goes)
+            (rows_of s ds b k.records) nine m low)
+        | false ↦ λ open'. inl (record {
+          whole = ds;
+          begun = b;
+          reads = reads;
+          records = k.records;
+          within = within_of widest ds b p.goes;
+          room = elim b as (λ c. MayContinue widest ds c → HaveRoomIn widest ds c) [ InTag held ↦ λ goes. tt | InData h taken ↦ λ goes. goes.room ] p.goes;
+          object = law s.greatest (place_in ds b) k.one (possible_in laws ds b p.goes) (within_in s ds b (rows_of s ds b k.records)) k.low;
+          message = lives_whole o (nat_eq (section ds b) 9) lives.0 (λ nine.
+              let m = message (eqb-true (section ds b) 9 nine) in
+              record { object = o; head = m.head; text = m.text; trailer = m.trailer; message = m.message; tokens_are = refl });
+          story = lives.1;
+          unfinished = λ sections.
+              let nine = sections_last laws.last_record ds (alive_of widest ds b p.goes) sections.0 in
+              let bad : true ≡ false = sym (ap (λ (n : ℕ). nat_eq n 9) nine) ∙ present ∙ open' in absurd cc;
+        })
+      ] refl;
+    }
 
 -- how many octets the subfiles have with a begun one
 sum_in : (ds : List Dataset) (b : Begun) (rest : List ℕ) → IsBegun count_octets b rest → length (object_so_far ds b) ≤ greatest_size_before → IsSmallPhase (section ds b) (length (object_so_far ds b)) (phase_of ds b) → sum (place_in ds b).lengths ≤ greatest_size_before
 sum_in ds (InTag held) rest is low small = let total = total_of (of_record 8 ds) in omega (arith, total, low)
 sum_in ds (InData h got) rest is low small =
-    let less = is.2 in
-    let all = so_far_by (nat_eq h.rec 8) (nat_eq h.rec 9) ds got h.count (h.count - length got) (omega (arith, less)) in
-    elim (eqb_tells h.rec 8) [
-      | inl eight ↦ (let left = ap (λ (b : Bool). if b then h.count - length got else 0) eight.0 in let fits = (small.1 eight.1).1 in omega (arith, all, left, fits))
-      | inr other ↦ (let left = ap (λ (b : Bool). if b then h.count - length got else 0) other.0 in omega (arith, all, left, low))
-    ]
+    let left = h.count - length got in
+    let all = so_far_by (nat_eq h.rec 8) (nat_eq h.rec 9) ds got h.count left (omega (arith, is.2)) in
+    let fits : length (object_so_far ds (InData h got)) + (if nat_eq h.rec 8 then left else 0) ≤ greatest_size_before = grind arith in
+    omega (arith, all, fits)
 
 -- ---- what is begun
 
 -- some octets that spell it with few count octets
-small_begun : LowerLaws → (ds : List Dataset) (b : Begun) (rest : List ℕ) → IsBegun count_octets b rest → MayContinue widest ds b → (AreSections ds → ⊥) → IsSmallPhase (section ds b) (length (object_so_far ds b)) (phase_of ds b) → (r : List ℕ) × IsBegun 4 b r
-small_begun laws ds (InTag held) rest is goes unfinished small = by (nat_eq (section_after ds) 9) refl small
+small_begun : (octets : List ℕ) (ds : List Dataset) (b : Begun) → Reads count_octets octets ds b → MayContinue widest ds b
+    → (nat_eq (section_after ds) 9 ≡ true → b ≡ InTag []) → IsSmallPhase (section ds b) (length (object_so_far ds b)) (phase_of ds b)
+    → (r : List ℕ) × IsBegun 4 b r
+small_begun octets ds (InTag held) reads goes last small =
+    let tag = by (nat_eq (section_after ds) 9) refl small in (held, (refl, tag.head, held ++ tag.more, tag.whole, (tag.more, tag.some_more, refl)))
   where
-    by : (c : Bool) → nat_eq (section_after ds) 9 ≡ c → IsSmallPhase (section_after ds) (length (object_of ds)) (if c then AllEnded else TagBegun held) → (r : List ℕ) × IsBegun 4 (InTag held) r
-    by true nine s = absurd (unfinished (last_sections laws.last_record ds goes.records (eqb-true (section_after ds) 9 nine)))
-    by false other s = (held, (refl, s.head, held ++ s.more, s.whole, (s.more, s.some_more, refl)))
-small_begun laws ds (InData h got) rest (tag, spelled, less, octets, parts) goes unfinished small =
-    let few = low_count ds h goes (λ eight. (small.1 eight).0) in
-    (canonical_tag h ++ got, (canonical_tag h, few_tag h spelled.rec spelled.set few, less, octets, refl))
+    by : (c : Bool) → nat_eq (section_after ds) 9 ≡ c → IsSmallPhase (section_after ds) (length (object_of ds)) (if c then AllEnded else TagBegun held)
+        → BeginsTag 4 held
+    by true nine s =
+        let none : held ≡ [] = cc (last nine) in
+        small_tag held (begins_tag count_octets octets ds held reads) (λ long. absurd (omega (arith, long, ap length none)))
+    by false other s = s
+small_begun octets ds (InData h got) reads goes last small =
+    let (tag, spelled, less, given, parts) = reads.is_rest in
+    (canonical_tag h ++ got, (canonical_tag h, few_tag h spelled.rec spelled.set (low_count ds h goes (λ eight. (small.1 eight).0)), less, given, refl))
 
-records_in : (ds : List Dataset) (b : Begun) → AllByRecursion Short ds → MayContinue widest ds b → IsSmallPhase (section ds b) (length (object_so_far ds b)) (phase_of ds b) → SectionsLiveIn first_scale ds b
+records_in : (ds : List Dataset) (b : Begun) → AllByRecursion Low ds → MayContinue widest ds b
+    → IsSmallPhase (section ds b) (length (object_so_far ds b)) (phase_of ds b) → SectionsLiveIn first_scale ds b
 records_in ds (InTag held) short goes small = sections_live_small ds goes.records short
 records_in ds (InData h got) short goes small =
     let (d, head, alive) = goes.records in
-    let rec : d.rec ≡ h.rec = ap (λ (k : Head). k.rec) head in
     let count : length d.octets ≡ h.count = ap (λ (k : Head). k.count) head in
-    let last : Short d = short_by (tells_number d.rec) (nat_eq d.rec 8) d.octets
-    (λ told. let few = small.0 (sym (ap tells_number rec) ∙ told) in omega (arith, few, count))
-    (λ eight. let low = (small.1 (sym rec ∙ eqb-true d.rec 8 eight)).0 in omega (arith, low, count)) in
-    (d, head, sections_live_small (ds ++ d ∷ []) alive (all_append Short ds (d ∷ []) short (last, tt)))
+    let few = low_count ds h goes (λ eight. (small.1 eight).0) in
+    let four = λ (told : tells_number d.rec ≡ true). small.0 (ap (λ (k : Head). tells_number k.rec) (sym head) ∙ told) in
+    let last : Low d = (omega (arith, few, count), λ told. omega (arith, four told, count)) in
+    (d, head, sections_live_small (ds ++ d ∷ []) alive (all_append Low ds (d ∷ []) short (last, tt)))
 
 -- ---- both
 
-was_by : LowerLaws → PlacesLiveWithin → (place : Place) → AreHeadsWithin widest place → IsSmallPlace place → (p : IsPlain place)
-    → AreOpenOrWhole widest (plain_octets place p) → PossibleAt first_scale place
-was_by laws law place within small p comes =
-    let ds = plain place.fields p.numbers p.heads p.object p.ended in
-    let are = p.spellable in
-    let tell = plain_told place.fields p.numbers p.heads p.object p.ended (record { kept = are.kept; fit = are.fit; room = are.room }) in
+-- what has come of the object with what is begun is no less
+so_far_more : (ds : List Dataset) (b : Begun) → length (object_of ds) ≤ length (object_so_far ds b)
+so_far_more ds b = grind (arith, length-append)
+
+small_keeps : LowerLaws → (place : Place) (l : LeadsByLayers place) → IsSmallPlace place → (p : Opens place l) → KeepTo first_scale place l p
+small_keeps laws place l small p =
+    let ds = plain_of place l p.object in
     let there = subst IsSmallPlace p.is_place small in
-    let object_low : length p.object ≤ greatest_size_before = omega (arith, length-append p.object (begun_object p.begun), there.taken) in
-    let so_far = taken_told ds p.object p.begun tell.object_is in
-    let taken : length (object_so_far ds p.begun) ≤ greatest_size_before = omega (arith, there.taken, ap length so_far) in
-    let phase = subst (λ (xs : List ℕ). IsSmallPhase (section ds p.begun) (length xs) (phase_of ds p.begun)) (sym so_far) there.begun in
-    let low = low_plain place.fields p.numbers p.heads p.object p.ended are.kept (omega (arith, within.octets_in)) there.numbers object_low in
-    let shorts = all_map Low Short ds (λ d h. h.0) low in
-    let few = all_map Low Few ds (λ d h. h.1) low in
-    let front = few_stream ds (plain_spelled place.fields p.numbers p.heads p.object p.ended are) few in
-    let reads = reads_of count_octets ds p.begun p.rest (wider_stream 4 (omega arith) ds (canonical_stream ds) front) p.is_begun in
-    elim comes [
-      | inl open' ↦
-          let (goes, unfinished) = open_at laws widest (plain_octets place p) ds p.begun reads open' in
-          let begun = small_begun laws ds p.begun p.rest p.is_begun goes.sizes unfinished phase in
-          record {
-            octets = canonical_stream ds ++ begun.0;
-            leads = plain_leads laws place p begun.0 (wider_rest 4 (omega arith) p.begun begun.0 begun.1);
-            comes = inl (opens_in laws law first_scale (omega arith) (canonical_stream ds ++ begun.0) ds p.begun
-                (reads_of 4 ds p.begun begun.0 front begun.1) goes unfinished
-                (records_in ds p.begun shorts goes.sizes phase) (sum_in ds p.begun p.rest p.is_begun taken phase));
-          }
-      | inr (v, is) ↦
-          let same = one_reading laws (plain_octets place p) is.admits.datasets ds (InTag []) p.begun (reads_envelope (plain_octets place p) v is.admits) reads in
-          let none : p.rest ≡ [] = (subst (λ (b : Begun). IsBegun count_octets b p.rest) (sym same.begun_is) p.is_begun).0 in
-          record {
-            octets = plain_octets place p;
-            leads = plain_leads laws place p p.rest p.is_begun;
-            comes = inr (record {
-              value = v;
-              admits = is.admits;
-              spelled = rw (same.whole_is, none, append-nil (canonical_stream ds)) front;
-              rows = rw same.whole_is (sections_small ds (rw same.whole_is at is.admits.sections) shorts).1;
-              total = rw (same.whole_is, tell.object_is) object_low;
-              within = is.within;
-            });
-          }
-    ]
+    let more = so_far_more ds p.begun in
+    let low = low_plain place.fields l.numbers (ended_heads place) p.object (are_ended place.phase) l.kept (omega (arith, l.within.octets_in))
+    (rw l.numbers_are at small.numbers) (omega (arith, more, ap length p.tell.object_is, there.taken)) in
+    let present = present_ended place.fields l.numbers (ended_heads place) p.object (are_ended place.phase) l.kept in
+    let reads = reads_of count_octets ds p.begun p.rest (laws.spelled ds p.spelled) p.is_begun in
+    let begun = small_begun (canonical_stream ds ++ p.rest) ds p.begun reads p.goes (λ nine. p.last (sym present ∙ nine)) there.begun in
+    record {
+      few = omega arith;
+      one = omega arith;
+      rest = begun.0;
+      is_begun = begun.1;
+      spelled = few_stream ds p.spelled low;
+      records = records_in ds p.begun low p.goes there.begun;
+      low = sum_in ds p.begun p.rest p.is_begun there.taken there.begun;
+    }
 
 pub small_places : LowerLaws → PlacesLiveWithin → SmallPlacesWerePossible
 small_places laws law place = (
   still_possible laws place,
   (λ both.
       let l = leads_by_layers laws place both.0 in
-      let (p, comes) = layers_open laws place l in was_by laws law place l.within both.1 p comes),
+      let p = layers_open laws place l in possible_by laws law first_scale place l p (small_keeps laws place l both.1 p)),
 )
 
 -- ---- rows
@@ -333,43 +450,33 @@ unfolding row_of table
 eight_fits set xs = by_ten 8 eight_has xs (λ _. length xs ≤ greatest_size) (λ h. within_most_and 0 greatest_size (length xs) true h) set
 
 good_fits : (d : Dataset) → IsGoodDataset d → FitsRow present_scale d
-good_fits d good = record {
-  size = λ told. elim (told_in d.rec told) [
-    | inl seven ↦ sized_seven d.set d.octets good.octets (rw seven at good.meets)
-    | inr nine ↦ sized_nine d.set d.octets (rw nine at good.meets)
-  ];
-  subfile = λ eight. eight_fits d.set d.octets (rw eight at good.meets);
-}
+good_fits d good = grind (arith, told_in, sized_seven, sized_nine, eight_fits)
 
 all_fit : (ds : List Dataset) → AreSections ds → AllByRecursion (FitsRow present_scale) ds
 all_fit ds are = all_map IsGoodDataset (FitsRow present_scale) ds good_fits (each_good ds are)
 
-sections_in : (ds : List Dataset) → IsAlive AreSections ds → IsAlive (SectionsIn present_scale) ds
-sections_in ds (more, are) = (more, (are, all_fit (ds ++ more) are))
-
 -- ---- the present scale
 
 records_at : (ds : List Dataset) (b : Begun) → MayContinue widest ds b → SectionsLiveIn present_scale ds b
-records_at ds (InTag held) goes = sections_in ds goes.records
-records_at ds (InData h taken) goes = let (d, head, alive) = goes.records in (d, head, sections_in (ds ++ d ∷ []) alive)
+records_at ds b goes = grind (arith, all_fit)
+
+present_possible : LowerLaws → PlacesLiveWithin → (place : Place) → LeadsByLayers place → PossibleAt present_scale place
+present_possible laws law place l =
+    let p = layers_open laws place l in
+    let ds = plain_of place l p.object in
+    possible_by laws law present_scale place l p (record {
+      few = omega arith;
+      one = omega arith;
+      rest = p.rest;
+      is_begun = p.is_begun;
+      spelled = laws.spelled ds p.spelled;
+      records = records_at ds p.begun p.goes;
+      low = object_fits (place_in ds p.begun) (lives_in ds p.begun p.goes);
+    })
+
+-- A place where each layer can be is possible.
+pub layers_lead : LowerLaws → PlacesLiveWithin → (place : Place) → LeadsByLayers place → Possible place
+layers_lead laws law place l = still present_scale (omega arith) place (present_possible laws law place l)
 
 pub present_scale_says : LowerLaws → PlacesLiveWithin → PresentScaleSaysNothingMore
-present_scale_says laws law place = (
-  still present_scale (omega arith) place,
-  (λ p. record {
-    octets = p.octets;
-    leads = p.leads;
-    comes = elim p.comes [
-      | inl is ↦ inl (opens_in laws law present_scale (omega arith) p.octets is.whole is.begun is.reads is.leads_on is.unfinished
-          (records_at is.whole is.begun is.leads_on.sizes) (object_fits (place_in is.whole is.begun) (lives_in is.whole is.begun is.leads_on.sizes)))
-      | inr (v, is) ↦ inr (record {
-        value = v;
-        admits = is.admits;
-        spelled = is.admits.spelled;
-        rows = all_fit is.admits.datasets is.admits.sections;
-        total = omega (arith, total_of (of_record 8 is.admits.datasets), is.admits.sizes.total, is.admits.sizes.agree.total_fits);
-        within = is.within;
-      })
-    ];
-  }),
-)
+present_scale_says laws law place = (still present_scale (omega arith) place, λ p. present_possible laws law place (leads_by_layers laws place p))

@@ -1,13 +1,11 @@
 -- Tags whose counts have fewer octets.
-use Rattle.std.proofs.Common.{◌≡◌, ℕ, ◌<◌, ◌≤◌, List, [], ◌∷◌, ◌++◌, length, take, drop, get_or, refl, ap, sym, ◌∙◌, inl, inr, arith}
+use Rattle.std.proofs.Common.{◌≡◌, ℕ, ◌<◌, ◌≤◌, List, [], ◌∷◌, ◌++◌, length, take, drop, get_or, refl, ap, sym, ◌∙◌, inr, arith}
 use Rattle.iim_places.proofs.Words.{cases_lt, take-append-drop, length-drop, take-append_seam, take-append-le, SpellsCount, SpellsTag, count_octets, BeginsTag}
 use Rattle.iim_places.proofs.Words.{Head}
 
 -- a count of fewer octets is one of more
 wider_count : (limit most n : ℕ) (xs : List ℕ) → limit ≤ most → SpellsCount limit n xs → SpellsCount most n xs
-wider_count limit most n (high ∷ low ∷ more) le (inl is) = inl is
-wider_count limit most n (high ∷ low ∷ more) le (inr (h, l, some, few, octets, tells)) = inr (h, l, some, omega (arith, few, le), octets, tells)
-wider_count limit most n short le is = absurd is
+wider_count limit most n xs le spelled = grind arith
 
 pub wider_tag : (limit most : ℕ) (h : Head) (tag : List ℕ) → limit ≤ most → SpellsTag limit h tag → SpellsTag most h tag
 wider_tag limit most h tag le s = record { rec = s.rec; set = s.set; count = s.count; is_count = wider_count limit most h.count s.count le s.is_count; parts = s.parts }
@@ -42,31 +40,8 @@ short_begins limit r s low held more rest one small less short e = record {
 
 -- Held octets of a tag begin one of at most four count octets where the fifth does not say more.
 pub small_tag : (held : List ℕ) → BeginsTag count_octets held → (4 < length held → get_or held 3 0 ≡ 128 → get_or held 4 0 ≤ 4) → BeginsTag 4 held
-small_tag held b few = by b.whole.count b.whole.is_count b.whole.parts (λ is. record {
-  head = b.head;
-  more = b.more;
-  some_more = b.some_more;
-  whole = record { rec = b.whole.rec; set = b.whole.set; count = b.whole.count; is_count = is; parts = b.whole.parts };
-})
-  where
-    by : (count : List ℕ) → SpellsCount count_octets b.head.count count → held ++ b.more ≡ 28 ∷ b.head.rec ∷ b.head.set ∷ count
-        → (SpellsCount 4 b.head.count count → BeginsTag 4 held) → BeginsTag 4 held
-    by (high ∷ low ∷ more) (inl is) parts begins = begins (inl is)
-    by (high ∷ low ∷ more) (inr (h, l, some, fits, octets, tells)) parts begins = elim (cases_lt 4 (length held)) [
-      | inl long ↦
-          let at = fourth held b.more (high ∷ low ∷ more) b.head.rec b.head.set long parts in
-          let fifth = few long (at.0 ∙ h) in
-          begins (inr (h, l, some, omega (arith, fifth, at.1), octets, tells))
-      | inr short ↦
-          short_begins 4 b.head.rec b.head.set low held b.more more (omega arith) b.whole.rec b.whole.set (omega (arith, short)) (rw h at parts)
-    ]
-    by short is parts begins = absurd is
+small_tag held b few = grind (arith, cases_lt, fourth, short_begins)
 
 -- and where it says more they don't
 pub no_small_tag : (held : List ℕ) → 4 < length held → get_or held 3 0 ≡ 128 → 4 < get_or held 4 0 → BeginsTag 4 held → ⊥
-no_small_tag held long form many b = by b.whole.count b.whole.is_count b.whole.parts
-  where
-    by : (count : List ℕ) → SpellsCount 4 b.head.count count → held ++ b.more ≡ 28 ∷ b.head.rec ∷ b.head.set ∷ count → ⊥
-    by (high ∷ low ∷ more) (inl is) parts = let at = fourth held b.more (high ∷ low ∷ more) b.head.rec b.head.set long parts in omega (arith, at.0, form, is.0)
-    by (high ∷ low ∷ more) (inr (h, l, some, fits, octets, tells)) parts = let at = fourth held b.more (high ∷ low ∷ more) b.head.rec b.head.set long parts in omega (arith, at.1, many, fits)
-    by short is parts = absurd is
+no_small_tag held long form many b = grind (arith, fourth)

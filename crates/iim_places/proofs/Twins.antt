@@ -1,22 +1,279 @@
--- Datasets that tell the same, and what follows them.
-use Rattle.std.proofs.Common.{◌≡◌, ℕ, ◌<◌, ◌≤◌, Bool, true, false, cond, nat_eq, if◌then◌else◌, List, [], ◌∷◌, ◌++◌, length, Option, Some, refl, ap, sym}
-use Rattle.std.proofs.Common.{subst, ◌∙◌, arith, append-nil, length-append, None, append_assoc, ◌*◌}
-use Rattle.iim_places.proofs.Words.{unwrap_or, all_map, AllByRecursion, option_or, filter-append, eqb-true, Dataset, of_record, SpellsStream, count_octets}
-use Rattle.iim_places.proofs.Words.{all_append, all_front, all_back, Head, sum_append, SectionsLive, SectionsLiveAt, kept, section_after, AreSections}
-use Rattle.iim_places.proofs.Words.{occurrences_append, Limits, ending_of, place_after_datasets, place_ended, SubfileBegun, max_subfiles, lengths_of}
-use Rattle.iim_places.proofs.Words.{numbers_of, HaveSizes, IsPossible, stated_numbers, Stated, number_at, AreWithin, LowerLaws, place_at, ObjectLives}
-use Rattle.iim_places.proofs.Words.{HaveRoom, CanContinue, MayContinue, last_of_joined, ConfirmedAs, number, Begun, InTag, InData, Sizes, Header, IsMessage}
-use Rattle.iim_places.proofs.Words.{IsEnvelopeWithin, IsText, object_of, map-append, Value, sum_fits}
-use Rattle.iim_object.specs.Format.Places as objects
+-- Datasets that tell the same, and what follows them. Plain datasets continue as those do for which they stand.
+use Rattle.std.proofs.Common.{◌≡◌, ℕ, ◌≤◌, ◌||◌, nat_eq, cond, Bool, true, false, List, [], ◌∷◌, ◌++◌, length, Option, Some, None, is_some, refl, ap, sym, subst, ◌∙◌, inl, inr, arith, append-nil, append_assoc, ◌⊎◌, ◌*◌, ◌-◌, ◌<◌, length-append}
+use Rattle.iim_places.proofs.Words.{AllByRecursion, flat_map, unwrap_or, eq-eqb, filter-append, list_any-append, Octets, greatest_size, Dataset, of_record, all_append, all_back, all_front, Meets, SectionsLive, kept, is_kept, section_after, last_record, AreRecords, IsGoodDataset, IsGoodRecord, occurs, occurrences, repeats, mandatory, subfile_datasets, numbers_of, Stated, InRow, number_at, stated_numbers, IsSize, AreKept, numbers_told, LowerLaws, Numbers, number_list, plain_numbers, filled, plain_end, plain, good_elsewhere, part_meets, none_counts, occurrences_append, some_counts, last_of_joined, max_subfiles, one_of_some, all_map, AreSections, option_or, SpellsStream, count_octets, Head, sum_append, SectionsLiveAt, Limits, ending_of, place_after_datasets, lengths_of, HaveSizes, AreWithin, place_at, ObjectLives, HaveRoom, CanContinue, MayContinue, ConfirmedAs, number, Begun, InTag, InData, Sizes, Header, IsMessage, IsEnvelopeWithin, IsText, object_of, map-append, Value}
+use Rattle.iim_tables.specs.Format.Rows.{table, row_of}
+use Rattle.iim_object.specs.Laws.{NumberDatasetsAreGood}
+use Rattle.iim_places.proofs.SameRecords.{occurs_stated, same_stated, same_numbers, stated_after_all, tens_after, SameRecords, same_shape, tens_seen}
+use Rattle.iim_places.proofs.SameRecords.{none_in_front, SameNumbers, stated_at, AreTens, nines, seen_on}
+use Rattle.iim_places.proofs.PlainSizes.{row_at, all_kept, numbers_in, end_length, bounded_at, possible_after, possible_at, possible_like, sizes_of}
+use Rattle.iim_places.proofs.Plain.{numbers_each, AreOf, one_stated, are_told, four_told, filled_count, all_of, none_of, none_in_fields, kept_fields}
+use Rattle.iim_places.proofs.Plain.{plain_told, parts_each, end_each, at_both, numbers_join}
+use Rattle.iim_places.proofs.Fitting.{four_at}
+use Rattle.iim_places.proofs.Fronts.{empty_front}
 use Rattle.iim_places.proofs.Limits.{kept_append}
-use Rattle.iim_places.proofs.Plain.{at_both, numbers_join}
-use Rattle.iim_places.proofs.PlainContinues.{MayReplace, fewer_by, good_with}
-use Rattle.iim_places.proofs.SamePlace.{SameObject, object_at}
-use Rattle.iim_places.proofs.PlainSizes.{duties_of, possible_like, sizes_of, possible_of, Lives, each_small}
-use Rattle.iim_places.proofs.SameRecords.{IsStated, SameNumbers, SameRecords, stated_at, stated_after_all, tens_after, AreTens, nines, same_numbers, seen_on}
-use Rattle.iim_places.proofs.Tickets.{count_of, total_of}
+use Rattle.iim_places.proofs.SamePlace.{SameObject, object_at, at_tests}
+pub use Rattle.iim_places.proofs.PlainSizes.{AreBounded}
+use Rattle.iim_places.proofs.Tickets.{count_of}
 use Rattle.iim_places.proofs.Lasts.{last_sections}
 use Rattle.iim_fields.proofs.Follows.{alive_follows}
+
+-- what occurs once at most occurs no oftener than in other datasets where it is seen as well
+pub fewer_by : (n : ℕ) (xs ys : List Dataset) → occurs n xs ≡ occurs n ys → occurrences n ys ≤ 1 → occurrences n ys ≤ occurrences n xs
+fewer_by n xs ys same one = grind (arith, some_counts, none_counts)
+
+-- ---- one run for another
+
+abbrev pub AreGood : ℕ → List Dataset → Type 0
+AreGood r ds = AllByRecursion (λ d. (d.rec ≡ r) × IsGoodDataset d) ds
+
+-- The datasets of the record may be replaced by others.
+pub record MayReplace (r : ℕ) (xs ys : List Dataset) : Type 0 where
+  pub each : AreGood r ys
+  pub seen : (n : ℕ) → occurs n xs ≡ occurs n ys
+  pub fewer : (n : ℕ) → repeats r n ≡ false → occurrences n ys ≤ occurrences n xs
+
+pub good_with : (r : ℕ) (xs ys more : List Dataset) → MayReplace r xs ys → IsGoodRecord r (xs ++ more) → IsGoodRecord r (ys ++ more)
+good_with r xs ys more may good = record {
+  each = all_append _ ys more may.each (all_back _ xs more good.each);
+  mandatory = all_map _ _ (mandatory r) (λ n is. grind (arith, list_any-append, may.seen n)) good.mandatory;
+  once = λ n no'. omega (arith, good.once n no', occurrences_append n xs more, occurrences_append n ys more, may.fewer n no');
+}
+
+are_of : (r : ℕ) (ds : List Dataset) → AreGood r ds → AreOf r ds
+are_of r ds all = all_map _ _ ds (λ d h. h.0) all
+
+none_seen : (xs : List Dataset) → ((n : ℕ) → false ≡ occurs n xs) → xs ≡ []
+none_seen [] none = refl
+none_seen (x ∷ xs) none = absurd (let bad : false ≡ true = none x.set ∙ ap (λ (b : Bool). b || occurs x.set xs) (eq-eqb x.set x.set refl) in cc)
+
+last_run : (k r : ℕ) (x : Dataset) (xs : List Dataset) → AreOf r (x ∷ xs) → last_record k (x ∷ xs) ≡ r
+last_run k r x [] all = all.0
+last_run k r x (y ∷ ys) all = last_run x.rec r y ys all.1
+
+last_alike : (k r : ℕ) (xs ys : List Dataset) → AreOf r xs → AreOf r ys → ((n : ℕ) → occurs n xs ≡ occurs n ys) → last_record k xs ≡ last_record k ys
+last_alike k r [] ys a b seen = ap (last_record k) (sym (none_seen ys seen))
+last_alike k r (x ∷ xs) [] a b seen = ap (last_record k) (none_seen (x ∷ xs) (λ n. sym (seen n)))
+last_alike k r (x ∷ xs) (y ∷ ys) a b seen = last_run k r x xs a ∙ sym (last_run k r y ys b)
+
+-- ---- each run for another
+
+abbrev AreApart : List ℕ → Type 0
+AreApart [] = Unit {0}
+AreApart (r ∷ rs) = AllByRecursion (λ k. nat_eq k r ≡ false) rs × AllByRecursion (λ k. nat_eq r k ≡ false) rs × AreApart rs
+
+-- each run may be replaced by one of these
+abbrev MayAll : (ℕ → List Dataset) → List ℕ → List Dataset → Type 0
+MayAll own rs ds = AllByRecursion (λ r. MayReplace r (of_record r ds) (own r)) rs
+
+-- datasets of none of the records, which stand in front or alone
+abbrev HasNone : List ℕ → List Dataset → Type 0
+HasNone rs ds = AllByRecursion (λ k. of_record k ds ≡ []) rs
+
+later_all : (own : ℕ → List Dataset) (rs : List ℕ) (run ds : List Dataset) → HasNone rs run → MayAll own rs (run ++ ds) → MayAll own rs ds
+later_all own [] run ds none may = tt
+later_all own (k ∷ rs) run ds none may =
+    let later : of_record k (run ++ ds) ≡ of_record k ds =
+    filter-append (λ (x : Dataset). nat_eq x.rec k) run ds ∙ ap (λ (xs : List Dataset). xs ++ of_record k ds) none.0 in
+    (rw later at may.0, later_all own rs run ds none.1 may.1)
+
+none_later : (own : ℕ → List Dataset) (rs : List ℕ) (ds : List Dataset) → HasNone rs ds → MayAll own rs ds → flat_map own rs ≡ []
+none_later own [] ds none may = refl
+none_later own (k ∷ rs) ds none may =
+    rw (none_seen (own k) (λ n. ap (occurs n) (sym none.0) ∙ may.0.seen n)) (none_later own rs ds none.1 may.1)
+
+-- where one list is parted in two ways
+parted : (a b c d : List Dataset) → a ++ b ≡ c ++ d → ((x : List Dataset) × (c ≡ a ++ x) × (b ≡ x ++ d)) ⊎ ((y : List Dataset) × (a ≡ c ++ y) × (d ≡ y ++ b))
+parted [] b c d e = inl (c, refl, e)
+parted (x ∷ a) b [] d e = inr (x ∷ a, refl, sym e)
+parted (x ∷ a) b (y ∷ c) d e =
+    let first : x ≡ y = cc in
+    elim (parted a b c d cc) [
+      | inl (z, left, right) ↦ inl (z, (λ i. sym first i ∷ left i), right)
+      | inr (z, left, right) ↦ inr (z, (λ i. first i ∷ left i), right)
+    ]
+
+-- Datasets with others for each run continue alike, and their last record is the same.
+swapped : (own : ℕ → List Dataset) (rs : List ℕ) (ds more : List Dataset) → AreApart rs → MayAll own rs ds → AreRecords rs (ds ++ more)
+    → AreRecords rs (flat_map own rs ++ more) × ((k : ℕ) → last_record k ds ≡ last_record k (flat_map own rs))
+swapped own [] ds more apart may none =
+    let nil = empty_front ds more none in (ap (λ (xs : List Dataset). xs ++ more) (sym nil) ∙ none, (λ k. ap (last_record k) nil))
+swapped own (r ∷ rs) ds more apart may (run, rest, parts, good, later) = elim (parted ds more run rest parts) [
+  | inl (x, run_is, more_is) ↦
+      (let are = are_of r ds (all_front _ ds x (rw run_is at good.each)) in
+      let here : MayReplace r ds (own r) = rw (all_of r ds (eq-eqb r r refl) are) at may.0 in
+      let none : HasNone rs ds = all_map _ _ rs (λ k other. none_of k r ds other are) apart.1 in
+      let is : own r ++ flat_map own rs ≡ own r = rw (none_later own rs ds none may.1) (append-nil (own r)) in (
+        (own r ++ x, rest, rw (is, more_is) (sym (append_assoc (own r) x rest)), good_with r ds (own r) x here (rw run_is at good), later),
+        (λ k. last_alike k r ds (own r) are (are_of r (own r) here.each) here.seen ∙ ap (last_record k) (sym is)),
+      ))
+  | inr (y, ds_is, rest_is) ↦
+      (let are = are_of r run good.each in
+      let all : MayAll own (r ∷ rs) (run ++ y) = subst (MayAll own (r ∷ rs)) ds_is may in
+      let none = none_in_front (λ k. nat_eq k r) rs y more (rw rest_is at later) apart.0 in
+      let whole : of_record r (run ++ y) ≡ run =
+      filter-append (λ (x : Dataset). nat_eq x.rec r) run y ∙ (λ i. all_of r run (eq-eqb r r refl) are i ++ none i) ∙ append-nil run in
+      let here : MayReplace r run (own r) = rw whole at all.0 in
+      let rest_may = later_all own rs run y (all_map _ _ rs (λ k other. none_of k r run other are) apart.1) all.1 in
+      let (sections, last) = swapped own rs y more apart.2 rest_may (rw rest_is at later) in (
+        (
+          own r,
+          flat_map own rs ++ more,
+          append_assoc (own r) (flat_map own rs) more,
+          rw append-nil at (good_with r run (own r) [] here (rw append-nil good)),
+          sections,
+        ),
+        (λ k.
+            rw (ds_is, last_of_joined k run y, last_of_joined k (own r) (flat_map own rs), last_alike k r run (own r) are (are_of r (own r) here.each) here.seen)
+            (last (last_record k (own r)))),
+      ))
+]
+
+-- the records of the object
+abbrev object_records : List ℕ
+object_records = 7 ∷ 8 ∷ 9 ∷ []
+
+no_fields : (ds : List Dataset) → AreKept ds → HasNone object_records ds
+no_fields ds all = (none_in_fields 7 ds refl all, (none_in_fields 8 ds refl all, (none_in_fields 9 ds refl all, tt)))
+
+-- Datasets with others for the records of the object continue alike, and their last record is the same.
+with_others : (own : ℕ → List Dataset) (ds more : List Dataset) → MayAll own object_records ds → AreSections (ds ++ more)
+    → AreSections ((kept ds ++ flat_map own object_records) ++ more) × (section_after ds ≡ section_after (kept ds ++ flat_map own object_records))
+with_others own ds more may (one, from2, parts, good, (two, from7, parts2, fine, later)) =
+    let keeps : AreKept (one ++ two) =
+    all_append _ one two (all_map _ _ one (λ d h. ap is_kept h.0) good.each) (all_map _ _ two (λ d h. ap is_kept h.0) fine.each) in
+    let whole : ds ++ more ≡ (one ++ two) ++ from7 = parts ∙ ap (λ (xs : List Dataset). one ++ xs) parts2 ∙ sym (append_assoc one two from7) in
+    elim (parted ds more (one ++ two) from7 whole) [
+      | inl (x, is, more_is) ↦
+          (let all = all_front _ ds x (rw is at keeps) in
+          let none = none_later own object_records ds (no_fields ds all) may in
+          let same : kept ds ++ flat_map own object_records ≡ ds = (λ i. kept_fields ds all i ++ none i) ∙ append-nil ds in
+          (rw same (one, from2, parts, good, (two, from7, parts2, fine, later)), ap section_after (sym same)))
+      | inr (y, ds_is, from7_is) ↦
+          (let there = rw from7_is at later in
+          let none = none_in_front is_kept object_records y more there (refl, (refl, (refl, tt))) in
+          let is : kept ds ≡ one ++ two =
+          rw (ds_is, filter-append (λ (x : Dataset). is_kept x.rec) (one ++ two) y, none, kept_fields (one ++ two) keeps) (append-nil (one ++ two)) in
+          let rest_may = later_all own object_records (one ++ two) y (no_fields (one ++ two) keeps) (subst (MayAll own object_records) ds_is may) in
+          let (sections, last) = swapped own object_records y more (assumption) rest_may there in
+          let others = flat_map own object_records in (
+            rw is (one, two ++ (others ++ more), simp append_assoc, good, (two, others ++ more, refl, fine, sections)),
+            ap section_after ds_is ∙ last_of_joined 0 (one ++ two) y ∙ last (last_record 0 (one ++ two)) ∙ sym (last_of_joined 0 (one ++ two) others)
+            ∙ ap (λ (xs : List Dataset). section_after (xs ++ others)) (sym is),
+          ))
+    ]
+
+mode_meets : (n : ℕ) → n ≤ 1 → Meets 7 10 (n ∷ [])
+unfolding row_of table
+mode_meets n low = grind arith
+
+-- ---- how often
+
+sevens_once : (n : ℕ) (numbers : Numbers) → occurrences n (plain_numbers numbers) ≤ 1
+sevens_once n numbers = grind arith
+
+-- ---- records 8 and 9, whose one number is 10
+
+end_once : (n : ℕ) (ended : Bool) (object : List ℕ) → occurrences n (plain_end ended object) ≤ 1
+end_once n ended object = grind arith
+
+pub fit_in_rows : (ps : List Stated) → AllByRecursion InRow ps → AllByRecursion IsSize (number_list (numbers_in ps))
+fit_in_rows ps all = four_at IsSize ps tt (all_map _ _ ps (λ p row. omega (arith, row)) all)
+
+replace_sevens : NumberDatasetsAreGood → (es : List Dataset) → AllByRecursion InRow (numbers_of es) → MayReplace 7 es (plain_numbers (numbers_in (numbers_of es)))
+replace_sevens rows es all = record { each = good; seen = seen; fewer = λ n no'. fewer_by n es numbered (seen n) (sevens_once n (numbers_in ps)) }
+  where
+    ps : List Stated
+    ps = numbers_of es
+
+    numbered : List Dataset
+    numbered = plain_numbers (numbers_in ps)
+
+    good : AreGood 7 numbered
+    good =
+        numbers_each (λ d. (d.rec ≡ 7) × IsGoodDataset d) (numbers_in ps)
+        (λ n is. let row = row_at 10 ps n all is in (refl, good_elsewhere refl (omega arith) (omega (arith, row), tt) (mode_meets n (omega (arith, row)))))
+        (λ n is. let row = row_at 20 ps n all is in (refl, rows.largest n (omega (arith, row)) (omega (arith, row))))
+        (λ n is. let row = row_at 90 ps n all is in (refl, rows.announced n (omega (arith, row))))
+        (λ n is. let row = row_at 95 ps n all is in (refl, rows.maximum n (omega (arith, row))))
+
+    one : (set : ℕ) (o : Option ℕ) → number_at set ps ≡ o → AllByRecursion InRow (one_stated set o)
+    one set o is = grind (arith, row_at)
+
+    seen : (n : ℕ) → occurs n es ≡ occurs n numbered
+    seen n =
+        let told = are_told (numbers_in ps) (fit_in_rows ps all) in
+        let stated : AllByRecursion InRow (numbers_of numbered) =
+        rw told (all_append InRow _ _ (one 10 _ refl) (all_append InRow _ _ (one 20 _ refl) (all_append InRow _ _ (one 90 _ refl) (one 95 _ refl)))) in
+        let same = same_numbers ps (numbers_of numbered) (sym (ap stated_numbers told ∙ four_told (numbers_in ps))) in
+        occurs_stated n es ∙ ap is_some (same_stated n ps (numbers_of numbered) same all stated) ∙ sym (occurs_stated n numbered)
+
+-- subfiles may repeat, and there are no others than 8:10 that could not
+eights_repeat : (n : ℕ) → repeats 8 n ≡ true
+unfolding row_of table
+eights_repeat n = grind arith
+
+-- ---- the plain datasets
+
+-- The plain datasets with these fields, numbers and subfiles stand for others.
+pub record StandsFor (ds fields : List Dataset) (numbers : Numbers) (heads : ℕ) (object : List ℕ) (ended : Bool) : Type 0 where
+  pub alive : SectionsLive ds
+  pub few : length (of_record 8 ds) ≤ max_subfiles
+  pub fields_are : kept ds ≡ fields
+  pub numbers_are : stated_numbers (numbers_of (of_record 7 ds)) ≡ number_list numbers
+  pub some : one_of_some (length (of_record 8 ds)) ≡ one_of_some heads
+  pub ends : length (of_record 9 ds) ≡ cond ended 1 0
+  pub many : heads ≤ max_subfiles
+  pub octets : Octets object
+  pub fits : length object ≤ greatest_size
+  pub room : length object ≤ heads * unwrap_or numbers.largest 0
+
+-- The others continue as the one do.
+pub record Continues (ds es : List Dataset) : Type 0 where
+  pub alive : SectionsLive es
+  pub present : section_after ds ≡ section_after es
+  pub fields : kept ds ≡ kept es
+  pub seen : SameRecords ds es
+
+pub plain_like : LowerLaws → (ds fields : List Dataset) (numbers : Numbers) (heads : ℕ) (object : List ℕ) (ended : Bool)
+    → StandsFor ds fields numbers heads object ended → Continues ds (plain fields numbers heads object ended)
+plain_like laws ds fields numbers heads object ended s =
+    let ps = numbers_of (of_record 7 ds) in
+    let size = unwrap_or numbers.largest 0 in
+    let subfiles = subfile_datasets (filled size heads object) in
+    let last = plain_end ended object in
+    let es = plain fields numbers heads object ended in
+    let stated = (stated_after_all laws ds s.alive s.few).stated.each in
+    let are : numbers ≡ numbers_in ps = ap numbers_told (sym s.numbers_are) in
+    let tens = tens_after ds s.alive in
+    let seven : MayReplace 7 (of_record 7 ds) (plain_numbers numbers) = rw are (replace_sevens laws.rows (of_record 7 ds) stated) in
+    let some = s.some ∙ sym (ap one_of_some (filled_count size heads object)) in
+    let eight : MayReplace 8 (of_record 8 ds) subfiles = record {
+      each = parts_each (λ d. (d.rec ≡ 8) × IsGoodDataset d) size heads object
+          (λ xs short few octets. (refl, good_elsewhere refl (omega arith) (octets s.octets) (part_meets xs (omega (arith, few, s.fits)))));
+      seen = λ n. tens_seen n (of_record 8 ds) subfiles tens.0 (parts_each (λ d. d.set ≡ 10) size heads object (λ xs short few octets. refl)) some;
+      fewer = λ n no'. grind (arith, eights_repeat);
+    } in
+    let nine_seen : (n : ℕ) → occurs n (of_record 9 ds) ≡ occurs n last =
+    λ n. tens_seen n (of_record 9 ds) last tens.1 (end_each (λ d. d.set ≡ 10) ended object refl) (ap one_of_some (s.ends ∙ sym (end_length ended object))) in
+    let nine : MayReplace 9 (of_record 9 ds) last = record {
+      each = end_each (λ d. (d.rec ≡ 9) × IsGoodDataset d) ended object (refl, laws.rows.confirmed (length object) s.fits);
+      seen = nine_seen;
+      fewer = λ n no'. fewer_by n (of_record 9 ds) last (nine_seen n) (end_once n ended object);
+    } in
+    let own : ℕ → List Dataset = λ r. cond (nat_eq r 7) (plain_numbers numbers) (cond (nat_eq r 8) subfiles last) in
+    let (sections, ends) = with_others own ds s.alive.0 (seven, (eight, (nine, tt))) s.alive.1 in
+    let is : kept ds ++ flat_map own object_records ≡ es = λ i. s.fields_are i ++ (plain_numbers numbers ++ (subfiles ++ append-nil last i)) in
+    let alive : SectionsLive es = (s.alive.0, rw is at sections) in
+    let present : section_after ds ≡ section_after es = ends ∙ ap section_after is in
+    let tell = plain_told fields numbers heads object ended (rw s.fields_are at (all_kept ds)) (rw are (fit_in_rows ps stated)) s.room in
+    let same = s.fields_are ∙ sym tell.kept_are in
+    record {
+      alive = alive;
+      present = present;
+      fields = same;
+      seen = same_shape laws ds es s.alive alive s.few (rw (tell.heads_are) s.many) (ap (λ (r : ℕ). nat_eq r 9) present) same
+          (s.numbers_are ∙ sym tell.numbers_are) (s.some ∙ sym (ap one_of_some tell.heads_are));
+    }
 
 -- ---- what follows datasets to the sections of an envelope
 
@@ -55,10 +312,7 @@ sevens_both : (xs ys : List Dataset) → sevens (xs ++ ys) ≡ sevens xs ++ seve
 sevens_both xs ys = ap numbers_of (of_both 7 xs ys) ∙ numbers_join (of_record 7 xs) (of_record 7 ys)
 
 pub numbers_on : {ps qs : List Stated} (rs : List Stated) → SameNumbers ps qs → SameNumbers (ps ++ rs) (qs ++ rs)
-numbers_on {ps} {qs} rs same = record { mode = on 10 same.mode; largest = on 20 same.largest; announced = on 90 same.announced; maximum = on 95 same.maximum }
-  where
-    on : (set : ℕ) → number_at set ps ≡ number_at set qs → number_at set (ps ++ rs) ≡ number_at set (qs ++ rs)
-    on set e = simp (at_both, e)
+numbers_on rs same = grind (arith, at_both)
 
 -- the lengths of the subfiles
 abbrev pub eights : List Dataset → List ℕ
@@ -69,29 +323,13 @@ eights_both xs ys = ap lengths_of (of_both 8 xs ys) ∙ map-append (λ (d : Data
 
 -- ---- no subfile is longer than 7:20
 
--- no subfile is longer than 7:20, or has octets where that is not stated
-abbrev pub AreBounded : List Stated → List ℕ → Type 0
-AreBounded ps ls = AllByRecursion (λ n. n ≤ unwrap_or (number_at 20 ps) 0) ls
-
-pub bounded_at : LowerLaws → (p : objects.Place) → IsPossible p → AreBounded p.stated p.lengths
-bounded_at laws p is = by p.lengths refl
-  where
-    by : (ls : List ℕ) → p.lengths ≡ ls → AreBounded p.stated ls
-    by [] none = tt
-    by (l ∷ ls) some =
-        let many : 0 < length p.lengths = (let e = ap length some in omega (arith, e)) in
-        let d = duties_of p.stated is.stated (is.duties many) in
-        subst (AreBounded p.stated) some (rw (d.largest) (each_small laws p is d.size d.largest many))
-
 no_less : (o p : Option ℕ) (n : ℕ) → n ≤ unwrap_or o 0 → n ≤ unwrap_or (option_or o p) 0
 no_less o p n le = grind arith
 
 -- Bounds of two joined lists, of which the second stands after another first.
 bounded_on : (ps qs rs : List Stated) (ls ks ms : List ℕ) → SameNumbers ps qs → AreBounded qs ks → AreBounded (ps ++ rs) (ls ++ ms)
     → AreBounded (qs ++ rs) (ks ++ ms)
-bounded_on ps qs rs ls ks ms same own all =
-    all_append _ ks ms (all_map _ _ ks (λ n le. rw (at_both 20 qs rs) (no_less (number_at 20 qs) (number_at 20 rs) n le)) own)
-    (subst (λ (o : Option ℕ). AllByRecursion (λ n. n ≤ unwrap_or o 0) ms) (numbers_on rs same).largest (all_back _ ls ms all))
+bounded_on ps qs rs ls ks ms same own all = grind (arith, all_append, all_map, at_both, no_less, numbers_on, all_back)
 
 -- ---- datasets that tell the same
 
@@ -106,18 +344,8 @@ pub record Twins (ds es : List Dataset) : Type 0 where
 pub heads_same : {ds es : List Dataset} → Twins ds es → length (of_record 8 ds) ≡ length (of_record 8 es)
 heads_same {ds} {es} t = sym (count_of (of_record 8 ds)) ∙ t.object.heads ∙ count_of (of_record 8 es)
 
-stated_as : {ps qs : List Stated} → SameNumbers ps qs → stated_numbers ps ≡ stated_numbers qs
-stated_as same = λ i. same.mode i ∷ same.largest i ∷ same.announced i ∷ same.maximum i ∷ []
-
 pub flip : {ds es : List Dataset} → Twins ds es → Twins es ds
-flip {ds} {es} t = record {
-  fields = sym t.fields;
-  object = record { numbers = same_numbers _ _ (sym (stated_as t.object.numbers)); heads = sym t.object.heads; octets = sym t.object.octets };
-  ending = sym t.ending;
-  seen = record { seen = λ r n. sym (t.seen.seen r n) };
-  here = t.bounded;
-  bounded = t.here;
-}
+flip {ds} {es} t = grind arith
 
 -- the same, which may follow them
 pub record SameTail (xs ys : List Dataset) : Type 0 where
@@ -156,62 +384,40 @@ present_on ds es xs same = rw (last_of_joined 0 ds xs, last_of_joined 0 es xs, s
 
 -- ---- the object, after them
 
--- one place of the object for another
-pub place_as : LowerLaws → (p q : objects.Place) → IsStated p → length p.lengths ≤ max_subfiles → IsStated q → SameObject p q → AreBounded q.stated q.lengths
-    → p.ending ≡ q.ending → ObjectLives p → ObjectLives q
-place_as laws p q was few is same bounded ending lives =
-    (possible_like laws p q (possible_of p was few lives) is.stated (stated_as same.numbers) same.heads same.octets
-    (λ size at. subst (λ (o : Option ℕ). AllByRecursion (λ n. n ≤ unwrap_or o 0) q.lengths) at bounded) ending).alive
-
 pub bounded_after : LowerLaws → (ds : List Dataset) → SectionsLive ds → length (of_record 8 ds) ≤ max_subfiles → ObjectLives (place_after_datasets ds)
     → AreBounded (sevens ds) (eights ds)
-bounded_after laws ds alive few lives =
-    let count = count_of (of_record 8 ds) in
-    bounded_at laws (place_after_datasets ds) (possible_of (place_after_datasets ds) (stated_after_all laws ds alive few) (omega (arith, few, count)) lives)
-
--- the subfiles have room
-pub room_for : (ds : List Dataset) → AreBounded (sevens ds) (eights ds)
-    → length (object_of ds) ≤ length (of_record 8 ds) * unwrap_or (number_at 20 (sevens ds)) 0
-room_for ds bounded = rw (← total_of (of_record 8 ds), ← count_of (of_record 8 ds)) (sum_fits (unwrap_or (number_at 20 (sevens ds)) 0) (eights ds) bounded)
+bounded_after laws ds alive few lives = bounded_at laws (place_after_datasets ds) (possible_after laws ds alive few lives)
 
 pub after_as : LowerLaws → (ds es : List Dataset) → SectionsLive ds → SectionsLive es → length (of_record 8 ds) ≤ max_subfiles → Twins ds es
     → ObjectLives (place_after_datasets ds) → ObjectLives (place_after_datasets es)
 after_as laws ds es alive there few t lives =
-    let count = count_of (of_record 8 ds) in
-    place_as laws (place_after_datasets ds) (place_after_datasets es) (stated_after_all laws ds alive few) (omega (arith, count, few))
-    (stated_after_all laws es there (rw (← heads_same t) few)) t.object t.bounded t.ending lives
+    let stated = stated_after_all laws es there (rw (← heads_same t) few) in
+    (possible_like laws (place_after_datasets ds) (place_after_datasets es) (possible_after laws ds alive few lives) stated.stated t.object t.bounded
+    t.ending).alive
 
 pub at_as : LowerLaws → (ds es : List Dataset) (h : Head) → SectionsLiveAt ds h → SectionsLiveAt es h → length (of_record 8 ds) ≤ max_subfiles
     → (h.rec ≡ 8 → length (of_record 8 ds) < max_subfiles) → Twins ds es → ObjectLives (place_at ds h) → ObjectLives (place_at es h)
-at_as laws ds es h alive there few room t =
-    by (nat_eq h.rec 8) (nat_eq h.rec 9) refl (stated_at laws ds h alive few room)
-    (stated_at laws es h there (rw (← heads_same t) few) (λ eight. rw (← heads_same t) (room eight))) (object_at ds es h t.object)
+at_as laws ds es h alive there few room t lives =
+    let p = possible_at laws ds h alive few room lives in
+    let stated = stated_at laws es h there (rw (← heads_same t) few) (λ eight. rw (← heads_same t) (room eight)) in
+    let (bounded, ending) = by (nat_eq h.rec 8) (nat_eq h.rec 9) (bounded_at laws (place_at ds h) p) in
+    (possible_like laws (place_at ds h) (place_at es h) p stated.stated (object_at ds es h t.object) bounded ending).alive
   where
-    at : Bool → Bool → List Dataset → objects.Place
-    at b c xs = if b then objects.place_after (place_after_datasets xs) (SubfileBegun h.count) else if c then place_ended xs else place_after_datasets xs
-
-    count : length (eights ds) ≡ length (of_record 8 ds)
-    count = count_of (of_record 8 ds)
-
-    by : (b c : Bool) → nat_eq h.rec 8 ≡ b → IsStated (at b c ds) → IsStated (at b c es) → SameObject (at b c ds) (at b c es) → ObjectLives (at b c ds)
-        → ObjectLives (at b c es)
-    by true c eight was is same lives =
-        let less = room (eqb-true h.rec 8 eight) in
-        let fits : length (eights ds ++ h.count ∷ []) ≤ max_subfiles = omega (arith, less, count, length-append (eights ds) (h.count ∷ [])) in
-        let here = bounded_at laws (at true c ds) (possible_of (at true c ds) was fits lives) in
+    by : (b c : Bool) → AreBounded (at_tests b c ds h.count).stated (at_tests b c ds h.count).lengths
+        → AreBounded (at_tests b c es h.count).stated (at_tests b c es h.count).lengths × ((at_tests b c ds h.count).ending ≡ (at_tests b c es h.count).ending)
+    by true c here =
         let bounded = bounded_on (sevens ds) (sevens es) [] (eights ds) (eights es) (h.count ∷ []) t.object.numbers t.bounded (rw append-nil here) in
-        place_as laws (at true c ds) (at true c es) was fits is same (rw append-nil at bounded) t.ending lives
-    by false true eight was is same lives = place_as laws (place_ended ds) (place_ended es) was (omega (arith, few, count)) is same t.bounded refl lives
-    by false false eight was is same lives =
-        place_as laws (place_after_datasets ds) (place_after_datasets es) was (omega (arith, few, count)) is same t.bounded t.ending lives
+        (rw append-nil at bounded, t.ending)
+    by false true here = (t.bounded, refl)
+    by false false here = (t.bounded, t.ending)
 
 -- ---- every layer but the message
 
 within_as : {limits : Limits} {ds es : List Dataset} → Twins ds es → AreWithin limits ds → AreWithin limits es
-within_as t within = record { kept = rw t.fields at within.kept; subfiles = rw (← heads_same t) within.subfiles }
+within_as t within = grind (arith, heads_same)
 
 pub room_as : {limits : Limits} {ds es : List Dataset} {h : Head} → Twins ds es → HaveRoom limits ds h → HaveRoom limits es h
-room_as t room = record { kept = λ is. rw t.fields at (room.kept is); subfiles = λ eight. rw (← heads_same t) (room.subfiles eight) }
+room_as t room = grind (arith, heads_same)
 
 pub may_as : LowerLaws → (limits : Limits) (ds es : List Dataset) (b : Begun) → SectionsLive es → section_after ds ≡ section_after es → Twins ds es
     → MayContinue limits ds b → MayContinue limits es b
@@ -236,6 +442,7 @@ pub record Enveloped (limits : Limits) (octets : List ℕ) (ds : List Dataset) (
   pub sizes : Sizes
   pub have : HaveSizes (of_record 7 ds) (of_record 8 ds) (of_record 9 ds) sizes
   pub within : IsEnvelopeWithin limits octets (value_of ds head lines trailer sizes)
+  pub datasets_are : within.admits.datasets ≡ ds
 
 one_nine : (xs : List Dataset) → length xs ≡ 1 → AreTens xs → (n : ℕ) × (ending_of xs ≡ ConfirmedAs n) × (number_at 10 (numbers_of xs) ≡ Some n)
 one_nine (d ∷ []) one tens = (number d.octets, refl, ap (λ (set : ℕ). cond (nat_eq set 10) (Some (number d.octets)) None) tens.0)
@@ -246,11 +453,9 @@ pub enveloped : LowerLaws → (limits : Limits) (octets : List ℕ) (ds : List D
     → SpellsStream count_octets ds octets → CanContinue limits ds → section_after ds ≡ 9 → IsMessage (object_of ds) head text trailer → IsText text lines
     → Enveloped limits octets ds head lines trailer
 enveloped laws limits octets ds head text trailer lines spelled goes nine message lined =
-    let stated = stated_after_all laws ds goes.records goes.within.subfiles in
     let one : length (of_record 9 ds) ≡ 1 = nines laws ds goes.records ∙ ap (λ (n : ℕ). cond (nat_eq n 9) 1 0) nine in
-    let (n, ending, confirmed) = one_nine (of_record 9 ds) one (tens_after laws.by_number ds goes.records).1 in
-    let (s, have) = sizes_of laws (of_record 7 ds) (of_record 8 ds) (of_record 9 ds) n stated.stated stated.duties
-    (λ none. sym ending ∙ stated.subfiles none) (subst (Lives (sevens ds) (eights ds)) ending goes.object) confirmed in
+    let (n, ending, confirmed) = one_nine (of_record 9 ds) one (tens_after ds goes.records).1 in
+    let (s, have) = sizes_of laws ds n (possible_after laws ds goes.records goes.within.subfiles goes.object) ending confirmed in
     record {
       sizes = s;
       have = have;
@@ -267,4 +472,5 @@ enveloped laws limits octets ds head text trailer lines spelled goes nine messag
         };
         within = goes.within;
       };
+      datasets_are = refl;
     }

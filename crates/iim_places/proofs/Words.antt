@@ -72,7 +72,6 @@ pub use Rattle.iim_places.specs.Format.TicketForm.{HasForm, HasOtherVersion, IsF
 pub use Rattle.iim_places.specs.Format.Tickets.{AllEnded, DataBegun, IsPlaceOf, Phase, TagBegun, field_octets, fields_octets, four, heads_of, layout, part_number, phase_octets, phase_of, place_of, present_version, text_octets, texts_octets, ticket_in, ticket_name, ticket_of, wide}
 pub use Rattle.iim_places.specs.Format.Tokens.{CanContinue, CanContinueAt, DiesAtHead, DiesAtValue, HaveRoom, IsRefusedHead, IsRefusedValue, MayContinue, ObjectLives, fault_at_head, fault_at_value, number_fault, object_fault, place_at, subfile_fault}
 pub use Rattle.iim_places.specs.Laws.{AdmittedOctetsAreFramed, AdmittedOctetsHaveOneValue, NoAdmittedOctetsBeginOthers, NoEnvelopeIsEmpty, LowerLaws, AreAlike, ContinueAlike, LimitsAreToldByPlace, OctetsHaveOnePlace, PlacesContinueAlike, PlacesRefuseAlike, PossiblePlacesAreTaken, PresentScaleSaysNothingMore, SmallPlacesWerePossible, TicketsTellOnePlace, present_scale, EnvelopesAreBounded, LivingOctetsAreOpen, NothingContinuesFromRefusedOctets, OpenOctetsAreBounded, OpenOctetsBeginWithNoEnvelope, RefusalsAreDetermined, RefusedOctetsWereOpen, StreamsHaveOneAnswer, OctetsHaveOneTicket, TicketsHaveOneSplit, TicketsOfPlacesAreSplit, split_of, texts_of}
-pub use Rattle.iim_places.specs.Plain.{AreSpellable, IsPlain, ObjectsArePossibleAlike, PlainOctetsLeadToTheirPlace, begun_heads, begun_object, plain_octets, plain_place}
 pub use Rattle.iim_places.specs.States.Begins.{AreFields, AreNumbersIn, AreTexts, IsLongField, IsShort, IsSizeIn, IsWide}
 pub use Rattle.iim_places.specs.States.ByLayers.{LeadsByLayers, MessageLeads, ObjectLeads, PlacesArePossibleByLayers, RecordsLive, TagsLead, are_ended, begun_of_object, begun_subfiles, head_of_numbers, object_after, one_of_some, record_datasets}
 pub use Rattle.iim_places.specs.States.Counts.{are_some, raised}

@@ -7,7 +7,6 @@ pub mod Laws
 -- What only proofs and private clauses cite.
 pub mod FieldLaws
 pub mod TicketParts
-pub mod Plain
 pub mod Taking
 pub mod Restoring
 pub mod Nowhere

@@ -84,8 +84,6 @@ abbrev pub ObjectLeads : Place → Type 0
 ObjectLeads place = (p : objects.Place) × IsAt place.numbers place.taken (begun_of_object place.section place.phase) place.heads p
     × IsPossible (object_after place.section place.phase place.taken p)
 
--- ---- message and story
-
 -- Some octets, `place.taken` of them, lead to the message's place, and where the object has ended, so has the message.
 abbrev pub MessageLeads : Place → Type 0
 MessageLeads place = (octets : List ℕ) × (text : List ℕ) × LeadsToSaved octets text place.message × (length octets ≡ place.taken)

@@ -9,7 +9,6 @@ use Rattle.iim_dataset.specs.Format.Splits.{Begun, InTag, InData, Reads}
 use Rattle.iim_fields.specs.Format.Records.{AreSections}
 use Rattle.iim_fields.specs.Format.Values.{tells_number}
 use Rattle.iim_fields.specs.declared.limits.Limits.{Limits}
-use Rattle.iim_object.specs.Format.Objects.{ObjectToken}
 use Rattle.iim_object.specs.Format.Within.{LanguageWithin}
 use Rattle.iim_object.specs.Format.Places as objects
 use Rattle.iim_object.specs.Format.Numbers.{place_after_datasets}
@@ -42,11 +41,6 @@ pub record FitsRow (s : Scale) (d : Dataset) : Type 0 where
 abbrev pub SectionsIn : Scale → List Dataset → Type 0
 SectionsIn s ds = AreSections ds × AllByRecursion (FitsRow s) ds
 
--- ---- the object layer
-
-abbrev pub ObjectLanguageIn : Scale → List ObjectToken → Type 0
-ObjectLanguageIn s tokens = LanguageWithin s.greatest tokens
-
 -- ---- open octets, and envelopes
 
 abbrev pub SectionsLiveIn : Scale → List Dataset → Begun → Type 0
@@ -69,7 +63,7 @@ pub record IsOpenIn (s : Scale) (limits : Limits) (octets : List ℕ) : Type 0 w
   pub records : SectionsLiveIn s whole begun
   pub within : AreWithin limits whole
   pub room : HaveRoomIn limits whole begun
-  pub object : IsAlive (ObjectLanguageIn s) (objects.tokens_of (place_in whole begun))
+  pub object : IsAlive (LanguageWithin s.greatest) (objects.tokens_of (place_in whole begun))
   pub message : IsAlive MessageLanguage (message_tokens whole begun)
   pub story : StoryLivesIn (object_so_far whole begun)
   pub unfinished : SectionsIn s whole → ⊥
@@ -88,8 +82,6 @@ pub record PossibleAt (s : Scale) (place : Place) : Type 0 where
   pub octets : List ℕ
   pub leads : IsPlaceOf octets place
   pub comes : IsOpenIn s widest octets ⊎ IsWholeIn s widest octets
-
--- ---- the versions of tickets
 
 -- The place is possible in tickets of the version: in version 1 by the first scale.
 abbrev pub IsPossibleIn : ℕ → Place → Type 0

@@ -9,9 +9,9 @@ use Rattle.iim_places.proofs.Lowest.{found_by_tests, told_by_table}
 use Rattle.iim_places.proofs.Answering.{envelope_bounded, nothing_continues, one_refusal, one_answer}
 use Rattle.iim_places.proofs.Listings.{ListingLaws, one_listing, longest}
 use Rattle.iim_places.proofs.Saved.{one_place}
-use Rattle.iim_places.proofs.ByLayers.{leads_by_layers, layers_lead, limits_told}
+use Rattle.iim_places.proofs.ByLayers.{leads_by_layers, limits_told}
 use Rattle.iim_places.proofs.Onward.{no_front, open_where_none, continue_alike, refuse_alike}
-use Rattle.iim_places.proofs.Scales.{small_places, present_scale_says}
+use Rattle.iim_places.proofs.Scales.{layers_lead, small_places, present_scale_says}
 use Rattle.iim_places.proofs.Tickets.{one_ticket}
 use Rattle.iim_places.proofs.Splitting.{one_split}
 use Rattle.iim_places.proofs.Fitting.{tickets_split, one_told}
@@ -27,7 +27,7 @@ returns c =
       (λ r. (r.is_octet, found_by_tests lower limits octets next fault r)),
       (λ both. told_by_table lower limits octets next fault both.0 both.1),
     ) in
-    let by_layers : PlacesArePossibleByLayers = λ place. (leads_by_layers lower place, layers_lead lower place) in
+    let by_layers : PlacesArePossibleByLayers = λ place. (leads_by_layers lower place, layers_lead lower c.object_laws.ensures.places_live_within place) in
     let value = one_value lower.one_dataset lower.sections c.object_laws.ensures.sizes_are_determined c.message_laws.ensures.messages_have_one_reading
     c.story_laws.ensures.texts_have_one_reading in
     let others = no_others lower.one_dataset lower.sections in
