@@ -1,24 +1,24 @@
 -- A stream has one answer: what is refused, what is open and what is an envelope exclude one another.
-use Rattle.std.proofs.Common.{◌≡◌, ◌≢◌, ℕ, zero, suc, ◌-◌, ◌^◌, ◌<◌, ◌≤◌, ◌⊎◌, false, nat_eq, List, [], ◌∷◌, ◌++◌, length, take, drop, slice_index, refl, ap, sym, subst, ◌∙◌, inl, inr, arith, append-nil, append_assoc, length-append}
-use Rattle.iim_places.proofs.Words.{cases_lt, ne_eqb, same_Some, eqb_tells, map-append, take-append-drop, take-length, take-take, Dataset, SpellsTag, head_of, SpellsDataset, SpellsStream, count_octets, Begun, InTag, InData, IsBegun, Reads, BeginsNoTag, Head, AreSections, data_of, SectionsLive, section_after, Limits, AreSized, Holds, Octet, MessageLanguage, MessageLivesWith, MessageDiesAt, StoryLivesIn, text_so_far, HasCause, MessageCause, Value, Admits, object_of, begun_record, begun_number, tag_cause, refusal_at, IsTextOf, message_on, AdmittedOctetsHaveOneValue, NoAdmittedOctetsBeginOthers, object_so_far, AllCanContinue, IsUnfinished, Answer, RefusesByTests, RefusesNext, truncated_in, IsRefusedHead, IsRefusedValue, OpenOctetsBeginWithNoEnvelope, IsEnvelopeWithin, EnvelopesAreBounded, NothingContinuesFromRefusedOctets, RefusalsAreDetermined, StreamsHaveOneAnswer, Answers, Finished, Refused, Truncated, IsFinished, IsRefused, IsTruncated, TokenFault, LowerLaws, IsPlaceOf, place_of, LeadsToSaved, IsOpen, MessagePlace}
-use Rattle.iim_dataset.specs.Format.Splits.{CompletesData}
+use Rattle.std.proofs.Common.{◌≡◌, ◌≢◌, ℕ, zero, suc, ◌<◌, ◌≤◌, ◌⊎◌, false, nat_eq, List, [], ◌∷◌, ◌++◌, length, take, drop, slice_index, refl, ap, sym, subst, ◌∙◌, inl, inr, arith, append-nil, append_assoc, length-append}
+use Rattle.iim_places.proofs.Words.{cases_lt, ne_eqb, same_Some, map-append, take-append-drop, take-length, take-take, Dataset, SpellsTag, count_octets, Begun, InTag, InData, IsBegun, Reads, BeginsNoTag, Head, AreSections, data_of, SectionsLive, section_after, Limits, AreSized, Holds, Octet, MessageLanguage, MessageLivesWith, MessageDiesAt, StoryLivesIn, text_so_far, HasCause, MessageCause, Value, Admits, object_of, begun_record, begun_number, tag_cause, refusal_at, IsTextOf, message_on, Kills, AdmittedOctetsHaveOneValue, NoTagBeginsAnother, NoDatasetBeginsAnother, NoSectionsBeginOthers, compare, object_so_far, AllCanContinue, IsUnfinished, Answer, RefusesByTests, RefusesNext, truncated_in, IsRefusedHead, IsRefusedValue, OpenOctetsBeginWithNoEnvelope, IsEnvelopeWithin, CanContinue, NothingContinuesFromRefusedOctets, RefusalsAreDetermined, StreamsHaveOneAnswer, Answers, Finished, Refused, Truncated, IsFinished, IsTruncated, TokenFault, LowerLaws, IsPlaceOf, place_of, LeadsToSaved, IsOpen, MessagePlace, AreOpenOrWhole, DiesAtValue, Layer}
 use Rattle.iim_dataset.specs.Format.Languages as languages
-use Rattle.iim_dataset.proofs.Spelled.{tag_length}
+use Rattle.iim_dataset.proofs.Fronts.{begun_none as nothing_begun}
+use Rattle.iim_dataset.proofs.Spelled.{held_of, whole_read}
 use Rattle.wire_message.specs.States.SoFar.{LeadsTo}
 use Rattle.wire_message.specs.declared.place.Place.TheVariants.{AfterEnd}
 use Rattle.wire_message.specs.declared.fault.MessageCause.TheVariants as messages
+use Rattle.iim_places.specs.Format.Open.{IsBadOctetAt}
 use Rattle.iim_places.specs.Laws.{RefusalsTellTheLowestCause}
 use Rattle.iim_places.specs.declared.refusal.Refusal.{Refusal}
 use Rattle.iim_places.specs.declared.refusal.Layer.TheVariants as layers
 use Rattle.iim_places.specs.declared.refusal.Cause.TheVariants.{Message}
 use Rattle.wire_message.specs.declared.fault.MessageCause.TheVariants.{Sink}
 use Rattle.iim_places.proofs.ObjectOctets.{lives_whole}
-use Rattle.iim_places.proofs.Following.{Follows, in_front, follows, alive_of, head_lives, value_lives, object_lives_after, object_on, message_of, story_of, message_ends, ends_tokens}
-use Rattle.iim_places.proofs.Bounds.{head_fits}
-use Rattle.iim_places.proofs.Frames.{no_sections}
-use Rattle.iim_places.proofs.Lasts.{SplitLast, split_last, last_sections}
-use Rattle.iim_places.proofs.Places.{lives_after, no_dead_head, no_dead_value}
-use Rattle.iim_places.proofs.Admitted.{sized_by}
+use Rattle.iim_places.proofs.Following.{Follows, follows, alive_of, object_lives_after, message_of, story_of, ends_tokens, with_data, led_in, value_goes}
+use Rattle.iim_places.proofs.Fronts.{begun_none}
+use Rattle.iim_places.proofs.Lasts.{last_sections, all_of}
+use Rattle.iim_places.proofs.Places.{lives_after, no_dead_head}
+use Rattle.iim_places.proofs.Frames.{sized_by, no_others}
 use Rattle.iim_places.specs.Format.Tickets.{Place}
 
 -- Every layer can continue from the octets, within the limits.
@@ -40,13 +40,7 @@ leads_to octets v a =
     let m = a.message in record { is_place = (m.is_header, m.is_trailer, m.is_after.2); spelled = (m, refl); story = (v.lines, a.lines) }
 
 pub nothing_held : IsBegun count_octets (InTag []) []
-nothing_held = (
-  refl,
-  record { rec = 0; set = 0; count = 0 },
-  28 ∷ 0 ∷ 0 ∷ 0 ∷ 0 ∷ [],
-  record { rec = omega arith; set = omega arith; count = 0 ∷ 0 ∷ []; is_count = inl (omega arith, omega arith, refl, refl); parts = refl },
-  (28 ∷ 0 ∷ 0 ∷ 0 ∷ 0 ∷ [], omega arith, refl),
-)
+nothing_held = held_of nothing_begun refl
 
 -- every layer can continue from whole datasets of an envelope
 pub goes_envelope : LowerLaws → (limits : Limits) (octets : List ℕ) (v : Value) → (is : IsEnvelopeWithin limits octets v)
@@ -67,15 +61,19 @@ goes_envelope laws limits octets v is =
 
 -- no octets have no text
 pub no_text : IsTextOf [] []
-no_text = ([], InTag [], record { front = []; rest = []; is_front = refl; is_rest = nothing_held; parts = refl }, refl)
+no_text = ([], InTag [], whole_read [] [] refl, refl)
 
 -- what an envelope's octets read
 pub reads_envelope : (octets : List ℕ) (v : Value) → (a : Admits octets v) → Reads count_octets octets a.datasets (InTag [])
-reads_envelope octets v a = record { front = octets; rest = []; is_front = a.spelled; is_rest = nothing_held; parts = sym (append-nil octets) }
+reads_envelope octets v a = whole_read octets a.datasets a.spelled
 
 pub lives_envelope : LowerLaws → (limits : Limits) (octets : List ℕ) (v : Value) → IsEnvelopeWithin limits octets v → Lives limits octets
 lives_envelope laws limits octets v is =
     record { whole = is.admits.datasets; begun = InTag []; reads = reads_envelope octets v is.admits; leads_on = goes_envelope laws limits octets v is }
+
+pub lives_as : LowerLaws → (limits : Limits) (octets : List ℕ) → AreOpenOrWhole limits octets → Lives limits octets
+lives_as laws limits octets (inl opens) = lives_open limits octets opens
+lives_as laws limits octets (inr (v, whole)) = lives_envelope laws limits octets v whole
 
 -- ---- a next octet
 
@@ -84,33 +82,7 @@ message_dead o next lives dies = dies.1 (subst (languages.IsAlive MessageLanguag
 
 octet_dead : (cause : MessageCause) (o : List ℕ) (next : ℕ) → cause ≢ messages.Sink → HasCause cause o next → MessageLivesWith (o ++ next ∷ [])
     → StoryLivesIn (o ++ next ∷ []) → ⊥
-octet_dead messages.BadOctet o next other has message story = message_dead o next message has
-octet_dead messages.Unfinished o next other has message story = has
-octet_dead messages.LoneReturn o next other has message story = has.1.1 story
-octet_dead messages.ControlOctet o next other has message story = has.1.1 story
-octet_dead messages.Sink o next other has message story = other refl
-
--- ---- an envelope is bounded
-
--- the last of some datasets, and what it is spelled by
-last_one : (ds : List Dataset) (d : Dataset) (octets : List ℕ) → SpellsStream count_octets (ds ++ d ∷ []) octets
-    → (front : List ℕ) × (last : List ℕ) × SpellsStream count_octets ds front × SpellsDataset count_octets d last × (octets ≡ front ++ last)
-last_one [] d octets (first, rest, one, more, parts) = ([], first, refl, one, rw (parts, more, append-nil) refl)
-last_one (c ∷ ds) d octets (first, rest, one, more, parts) =
-    let (front, last, is_front, is_last, is) = last_one ds d rest more in
-    (first ++ front, last, (first, front, one, is_front, refl), is_last, parts ∙ (ap (λ (l : List ℕ). first ++ l) is ∙ sym (append_assoc first front last)))
-
-pub envelope_bounded : LowerLaws → EnvelopesAreBounded
-envelope_bounded laws limits octets v low few is = by (split_last is.admits.datasets)
-  where
-    by : SplitLast is.admits.datasets → length octets < 2 ^ 64 - 1
-    by (inl none) = absurd (no_sections (rw none at is.admits.sections))
-    by (inr (ds, d, parts)) =
-        let (front, last, is_front, s, is_octets) = last_one ds d octets (rw parts at is.admits.spelled) in
-        let goes = (in_front laws limits is.admits.datasets (InTag []) (goes_envelope laws limits octets v is).sizes ds [] d parts).goes_at in
-        let unfinished : AreSections ds → ⊥ = λ sections. let bad : d ∷ [] ≡ [] = laws.sections ds (d ∷ []) sections (rw parts at is.admits.sections) in cc in
-        let fits = head_fits laws.sections laws.last_record limits low few ds (head_of d) front is_front goes unfinished in
-        omega (arith, fits, ap length is_octets, ap length s.parts, length-append {A = ℕ}, tag_length (head_of d) s.tag s.is_tag)
+octet_dead cause o next other has message story = grind (arith, message_dead o next message)
 
 -- ---- before a head or a value that is refused
 
@@ -127,8 +99,7 @@ pub before_it : LowerLaws → (limits : Limits) (ds : List Dataset) (h : Head) (
 before_it laws limits ds h held other unfinished all =
     let alive = alive_of limits ds (InData h []) all.sizes in
     let object : object_so_far ds (InData h []) ≡ object_of ds ++ [] = rw (ne_eqb h.rec 8 other) refl in
-    let not_nine : nat_eq (section_after ds) 9 ≡ false =
-    elim (eqb_tells (section_after ds) 9) [ inl same ↦ absurd (unfinished (last_sections laws.last_record ds alive same.1)) | inr apart ↦ apart.0 ] in
+    let not_nine : nat_eq (section_after ds) 9 ≡ false = ne_eqb (section_after ds) 9 (λ nine. unfinished (last_sections laws.last_record ds alive nine)) in
     record {
       sizes = record { records = alive; within = all.sizes.within; object = object_lives_after laws limits ds (InData h []) all.sizes };
       message = rw (not_nine, append-nil) (message_of limits ds (InData h []) all (object_of ds) [] object);
@@ -159,12 +130,8 @@ pub coming : LowerLaws → (place : Place) (octets : List ℕ) → IsPlaceOf oct
     → Reads count_octets octets whole begun → Coming place whole begun
 coming laws place octets is whole begun reads =
     let same = one_reading laws octets is.whole whole is.begun begun is.reads reads in
-    record {
-      text = is.text;
-      message = is.message;
-      leads = rw (same.whole_is, same.begun_is) at is.leads;
-      is_place = is.is_place ∙ (λ i. place_of (same.whole_is i) (same.begun_is i) is.message);
-    }
+    let told = is.is_place ∙ (λ i. place_of (same.whole_is i) (same.begun_is i) is.message) in
+    record { text = is.text; message = is.message; leads = rw (same.whole_is, same.begun_is) at is.leads; is_place = told }
 
 -- with what open octets read every layer can continue, and it is no envelope
 pub open_at : LowerLaws → (limits : Limits) (octets : List ℕ) (ds : List Dataset) (b : Begun) → Reads count_octets octets ds b → IsOpen limits octets
@@ -180,13 +147,6 @@ not_both laws limits whole h given fault all (inl refused) = absurd (no_dead_hea
 not_both laws limits whole h given fault all (inr unfinished) =
     absurd (unfinished.dies.1 (rw (ends_tokens whole h given unfinished.last) at all.message))
 
-one_head_fault : (limits : Limits) (whole : List Dataset) (h : Head) (f g : TokenFault) → IsRefusedHead limits whole h f ⊎ IsUnfinished limits whole h f
-    → IsRefusedHead limits whole h g ⊎ IsUnfinished limits whole h g → f ≡ g
-one_head_fault limits whole h f g (inl a) (inl b) = same_Some _ _ (sym a.first ∙ b.first)
-one_head_fault limits whole h f g (inl a) (inr b) = absurd (no_dead_head f.layer limits whole h b.leads_on a.dead)
-one_head_fault limits whole h f g (inr a) (inl b) = absurd (no_dead_head g.layer limits whole h a.leads_on b.dead)
-one_head_fault limits whole h f g (inr a) (inr b) = a.is_fault ∙ sym b.is_fault
-
 -- ---- one cause of an octet
 
 pub not_held : LowerLaws → {A : Type 0} → (text : List ℕ) (held : ℕ) → 0 < held → Holds text held → Holds text 0 → A
@@ -194,18 +154,7 @@ not_held laws text held some (lines, line, so_far) (others, other, none) =
     absurd (let same = (laws.one_text text lines others line other held 0 so_far none).2 in omega (arith, some, same))
 
 one_cause : LowerLaws → (a b : MessageCause) (o : List ℕ) (next : ℕ) → HasCause a o next → HasCause b o next → a ≡ b
-one_cause laws messages.BadOctet messages.BadOctet o next h k = refl
-one_cause laws messages.LoneReturn messages.LoneReturn o next h k = refl
-one_cause laws messages.ControlOctet messages.ControlOctet o next h k = refl
-one_cause laws messages.Sink messages.Sink o next h k = refl
-one_cause laws messages.Unfinished b o next h k = absurd h
-one_cause laws a messages.Unfinished o next h k = absurd k
-one_cause laws messages.BadOctet b o next h k = absurd (message_dead o next k.0 h)
-one_cause laws a messages.BadOctet o next h k = absurd (message_dead o next h.0 k)
-one_cause laws messages.LoneReturn messages.ControlOctet o next h k = not_held laws (text_so_far o) h.2.0 h.2.1 h.2.2 k.2
-one_cause laws messages.ControlOctet messages.LoneReturn o next h k = not_held laws (text_so_far o) k.2.0 k.2.1 k.2.2 h.2
-one_cause laws a messages.Sink o next h k = absurd (h.1.1 k.1)
-one_cause laws messages.Sink b o next h k = absurd (k.1.1 h.1)
+one_cause laws a b o next h k = grind (arith, h, k, message_dead o next, laws.one_text (text_so_far o))
 
 -- ---- one step
 
@@ -240,25 +189,15 @@ refuses_by laws limits octets next fault (inr (inl bad)) =
     (bad.whole, InTag bad.held, bad.reads, bad.leads_on, bad.unfinished, inr (bad.head, bad.tag, inl bad.refuses))
 refuses_by laws limits octets next fault (inr (inr (inl bad))) =
     (bad.whole, InData bad.head bad.taken, bad.reads, bad.leads_on, bad.unfinished, inl (bad.subfile, bad.cause, bad.has_cause, bad.is_fault))
-refuses_by laws limits octets next fault (inr (inr (inr bad))) = by bad.completes
-  where
-    ds : List Dataset
-    ds = bad.whole
-
-    h : Head
-    h = bad.head
-
-    to : {xs : List ℕ} → bad.given ≡ xs → IsRefusedValue ds (data_of h xs) fault
-    to is = rw is at bad.refuses
-
-    by : CompletesData octets next ds h bad.given → Refuses limits octets next fault
-    by (inl (taken, reads, parts, many)) =
-        let all = fewer_data limits ds h bad.given taken bad.is_value bad.leads_on in
-        (ds, InData h taken, reads, all, bad.unfinished, inr (bad.is_value, sym (ap length parts) ∙ many, to parts))
-    by (inr (held, reads, tag, none, is)) =
-        let all = fewer_data limits ds h bad.given [] bad.is_value bad.leads_on in
-        let before = before_it laws limits ds h held bad.is_value bad.unfinished all in
-        (ds, InTag held, reads, before, bad.unfinished, inr (h, tag, inr (bad.is_value, none, all, to is)))
+refuses_by laws limits octets next fault (inr (inr (inr bad))) = elim bad.completes [
+  | inl (taken, reads, parts, many) ↦
+      let all = fewer_data limits bad.whole bad.head bad.given taken bad.is_value bad.leads_on in
+      (bad.whole, InData bad.head taken, reads, all, bad.unfinished, inr (bad.is_value, sym (ap length parts) ∙ many, rw parts at bad.refuses))
+  | inr (held, reads, tag, none, is) ↦
+      let all = fewer_data limits bad.whole bad.head bad.given [] bad.is_value bad.leads_on in
+      let before = before_it laws limits bad.whole bad.head held bad.is_value bad.unfinished all in
+      (bad.whole, InTag held, reads, before, bad.unfinished, inr (bad.head, tag, inr (bad.is_value, none, all, rw is at bad.refuses)))
+]
 
 pub tests_of : (limits : Limits) (octets : List ℕ) (next : ℕ) (fault : TokenFault) → Refuses limits octets next fault → RefusesByTests limits octets next fault
 tests_of limits octets next fault (ds, InTag held, reads, all, open', inl (dead, is)) =
@@ -269,18 +208,9 @@ tests_of limits octets next fault (ds, InTag held, reads, all, open', inr (h, ta
     let done = inr (held, reads, tag, none, refl) in
     inr (inr (inr (record { whole = ds; head = h; given = []; is_value = other; completes = done; leads_on = more; unfinished = open'; refuses = bad })))
 tests_of limits octets next fault (ds, InData h xs, reads, all, open', inl (eight, c, has, is)) =
-    inr (inr (inl (record {
-      whole = ds;
-      head = h;
-      taken = xs;
-      reads = reads;
-      leads_on = all;
-      unfinished = open';
-      subfile = eight;
-      cause = c;
-      has_cause = has;
-      is_fault = is;
-    })))
+    let found : IsBadOctetAt limits octets next fault =
+    record { whole = ds; head = h; taken = xs; reads = reads; leads_on = all; unfinished = open'; subfile = eight; cause = c; has_cause = has; is_fault = is }
+    in inr (inr (inl found))
 tests_of limits octets next fault (ds, InData h xs, reads, all, open', inr (other, many, bad)) =
     let ys = xs ++ next ∷ [] in
     let more = fewer_data limits ds h xs ys other all in
@@ -288,7 +218,7 @@ tests_of limits octets next fault (ds, InData h xs, reads, all, open', inr (othe
     inr (inr (inr (record { whole = ds; head = h; given = ys; is_value = other; completes = done; leads_on = more; unfinished = open'; refuses = bad })))
 
 one_with : LowerLaws → (limits : Limits) (ds : List Dataset) (h : Head) (f g : TokenFault) → IsRefusedWith limits ds h f → IsRefusedWith limits ds h g → f ≡ g
-one_with laws limits ds h f g (inl a) (inl b) = one_head_fault limits ds h f g a b
+one_with laws limits ds h f g (inl a) (inl b) = grind (arith, a, b, no_dead_head f.layer limits ds h, no_dead_head g.layer limits ds h)
 one_with laws limits ds h f g (inl a) (inr b) = not_both laws limits ds h [] f b.2 a
 one_with laws limits ds h f g (inr a) (inl b) = not_both laws limits ds h [] g a.2 b
 one_with laws limits ds h f g (inr a) (inr b) = same_Some _ _ (sym a.3.first ∙ b.3.first)
@@ -316,6 +246,10 @@ one_refusal laws tests limits octets next f g a b =
 
 -- ---- with a refused octet nothing lives
 
+-- a value that is refused, and with which all continues
+no_dead_value : (layer : Layer) (limits : Limits) (ds : List Dataset) (d : Dataset) → CanContinue limits (ds ++ d ∷ []) → DiesAtValue layer ds d → ⊥
+no_dead_value layer limits ds d goes dead = grind (arith, goes.records, goes.object, dead)
+
 module _ (laws : LowerLaws) (limits : Limits) (octets more : List ℕ) (next : ℕ) (lives : Lives limits (octets ++ next ∷ more)) where
   -- what the octet is followed by, in a tag or in data
   tag_follows : (ds : List Dataset) (held : List ℕ) (h : Head) → Reads count_octets octets ds (InTag held) → SpellsTag count_octets h (held ++ next ∷ [])
@@ -325,44 +259,47 @@ module _ (laws : LowerLaws) (limits : Limits) (octets more : List ℕ) (next : �
       (ap (λ (l : List ℕ). l ++ next ∷ more) reads.parts ∙ simp (append_assoc, reads.is_rest.0))
 
   data_follows : (ds : List Dataset) (h : Head) (taken : List ℕ) → Reads count_octets octets ds (InData h taken)
-      → Follows ds h (taken ++ next ∷ more) lives.whole lives.begun
+      → Follows ds h ((taken ++ next ∷ []) ++ more) lives.whole lives.begun
   data_follows ds h taken reads =
-      follows laws _ lives.whole lives.begun lives.reads ds reads.front reads.is_rest.0 (taken ++ next ∷ more) h reads.is_front reads.is_rest.1
+      follows laws _ lives.whole lives.begun lives.reads ds reads.front reads.is_rest.0 ((taken ++ next ∷ []) ++ more) h reads.is_front reads.is_rest.1
       (ap (λ (l : List ℕ). l ++ next ∷ more) reads.parts ∙ simp (append_assoc, reads.is_rest.4))
 
-  no_value : (ds : List Dataset) (h : Head) (z given y : List ℕ) (fault : TokenFault) → Follows ds h z lives.whole lives.begun → z ≡ given ++ y
+  no_value : (ds : List Dataset) (h : Head) (given : List ℕ) (fault : TokenFault) → Follows ds h (given ++ more) lives.whole lives.begun
       → length given ≡ h.count → IsRefusedValue ds (data_of h given) fault → ⊥
-  no_value ds h z given y fault f parts many refused =
-      let both = value_lives laws limits lives.whole lives.begun lives.leads_on ds h z given y f parts many in
-      no_dead_value laws.live fault.layer ds (data_of h given) both.0 both.1 refused.dead
+  no_value ds h given fault f many refused =
+      no_dead_value fault.layer limits ds (data_of h given) (value_goes laws limits lives.whole lives.begun lives.leads_on ds h given more many f) refused.dead
 
   none_lives : (fault : TokenFault) (ds : List Dataset) (b : Begun) → Reads count_octets octets ds b → IsRefusedAt limits ds b next fault
       → fault.cause ≢ Message Sink → ⊥
   none_lives fault ds (InTag held) reads (inl (dead, is)) other = laws.stuck octets more next ds held lives.whole lives.begun reads dead lives.reads
-  none_lives fault ds (InTag held) reads (inr (h, tag, inl (inl refused))) other =
-      let goes = head_lives laws limits lives.whole lives.begun lives.leads_on ds h more (tag_follows ds held h reads tag) in
-      no_dead_head fault.layer limits ds h goes refused.dead
-  none_lives fault ds (InTag held) reads (inr (h, tag, inl (inr unfinished))) other =
-      unfinished.dies.1 (message_ends laws limits lives.whole lives.begun lives.leads_on ds h more (tag_follows ds held h reads tag) unfinished.last)
+  none_lives fault ds (InTag held) reads (inr (h, tag, inl bad)) other =
+      let goes = led_in laws limits lives.whole lives.begun lives.leads_on ds h [] more (omega arith) (tag_follows ds held h reads tag) in
+      not_both laws limits ds h [] fault goes bad
   none_lives fault ds (InTag held) reads (inr (h, tag, inr (value, none, all, bad))) other =
-      no_value ds h more [] more fault (tag_follows ds held h reads tag) refl (sym none) bad
+      no_value ds h [] fault (tag_follows ds held h reads tag) (sym none) bad
   none_lives fault ds (InData h taken) reads (inl (eight, cause, has, is)) other =
       let o : List ℕ = object_of ds ++ taken in
-      let (tail, same) = object_on lives.whole lives.begun ds h taken more next eight reads.is_rest.2 (data_follows ds h taken reads) in
-      let no_sink = λ (sink : cause ≡ messages.Sink). other (ap (λ (x : TokenFault). x.cause) is ∙ ap Message sink) in
-      octet_dead cause o next no_sink has (message_of limits lives.whole lives.begun lives.leads_on (o ++ next ∷ []) tail same)
-      (story_of limits lives.whole lives.begun lives.leads_on (o ++ next ∷ []) tail same)
+      let given = taken ++ next ∷ [] in
+      let fits : length given ≤ h.count = omega (arith, reads.is_rest.2, length-append taken (next ∷ [])) in
+      let goes = led_in laws limits lives.whole lives.begun lives.leads_on ds h given more fits (data_follows ds h taken reads) in
+      let same : object_so_far ds (InData h given) ≡ (o ++ next ∷ []) ++ [] = with_data ds h given eight ∙ simp (append_assoc, append-nil) in
+      octet_dead cause o next (λ sink. other (ap (λ (x : TokenFault). x.cause) is ∙ ap Message sink)) has
+      (message_of limits ds (InData h given) goes (o ++ next ∷ []) [] same) (story_of limits ds (InData h given) goes (o ++ next ∷ []) [] same)
   none_lives fault ds (InData h taken) reads (inr (value, many, bad)) other =
-      no_value ds h (taken ++ next ∷ more) (taken ++ next ∷ []) more fault (data_follows ds h taken reads) (sym (append_assoc taken (next ∷ []) more)) many bad
+      no_value ds h (taken ++ next ∷ []) fault (data_follows ds h taken reads) many bad
+
+-- no octets live that begin with a refused one
+no_life : LowerLaws → RefusalsTellTheLowestCause → {limits : Limits} {octets : List ℕ} (more : List ℕ) {next : ℕ} {fault : TokenFault}
+    → Kills limits octets next fault → Lives limits (octets ++ next ∷ more) → ⊥
+no_life laws tests {limits} {octets} more {next} {fault} kills lives =
+    let (ds, b, reads, all, open', bad) = refuses_by laws limits octets next fault ((tests limits octets next fault).0 kills.refuses).1 in
+    none_lives laws limits octets more next lives fault ds b reads bad kills.by_octets
 
 pub nothing_continues : LowerLaws → RefusalsTellTheLowestCause → NothingContinuesFromRefusedOctets
-nothing_continues laws tests limits octets more next fault kills =
-    (λ is. none (lives_open limits (octets ++ next ∷ more) is), λ v is. none (lives_envelope laws limits (octets ++ next ∷ more) v is))
-  where
-    none : Lives limits (octets ++ next ∷ more) → ⊥
-    none lives =
-        let (ds, b, reads, all, open', bad) = refuses_by laws limits octets next fault ((tests limits octets next fault).0 kills.refuses).1 in
-        none_lives laws limits octets more next lives fault ds b reads bad kills.by_octets
+nothing_continues laws tests limits octets more next fault kills = (
+  (λ is. no_life laws tests more kills (lives_open limits (octets ++ next ∷ more) is)),
+  (λ v is. no_life laws tests more kills (lives_envelope laws limits (octets ++ next ∷ more) v is)),
+)
 
 -- ---- one answer
 
@@ -373,92 +310,90 @@ front_at (b ∷ stream) k zero less fits = absurd (omega (arith, less))
 front_at (b ∷ stream) zero (suc n) less fits = (take n stream, refl)
 front_at (b ∷ stream) (suc k) (suc n) less fits = let (more, is) = front_at stream k n (omega (arith, less)) (omega (arith, fits)) in (more, λ i. b ∷ is i)
 
--- what the laws say of one stream
-pub record StreamLaws : Type 0 where
-  pub lower : LowerLaws
-  pub tests : RefusalsTellTheLowestCause
-  pub value : AdmittedOctetsHaveOneValue
-  pub others : NoAdmittedOctetsBeginOthers
-  pub none : OpenOctetsBeginWithNoEnvelope
+-- Open octets begin with no admitted ones.
+pub no_front : NoTagBeginsAnother → NoDatasetBeginsAnother → NoSectionsBeginOthers → OpenOctetsBeginWithNoEnvelope
+no_front tags one law limits octets front rest v open' parts admits =
+    let r = open'.reads in
+    let ds = admits.datasets in
+    elim (compare one open'.whole ds r.front front r.rest rest r.is_front admits.spelled (sym r.parts ∙ parts)) [
+      | inl (more, q, is, stream, tail) ↦
+          (let none = all_of law ds more admits.sections (subst SectionsLive (sym is) (alive_of limits open'.whole open'.begun open'.leads_on.sizes)) in
+          open'.unfinished (subst AreSections (sym (append-nil ds) ∙ ap (λ (xs : List Dataset). ds ++ xs) (sym none) ∙ is) admits.sections))
+      | inr n ↦ begun_none tags open'.begun r.rest r.is_rest n.dataset n.p (n.q ++ rest) n.spelled n.agree
+    ]
 
--- an octet that is refused, and no sink
-abbrev IsDead : Limits → List ℕ → Refusal → Type 0
-IsDead limits stream e = IsRefused limits stream e × (e.cause ≢ Message Sink)
-
-module _ (laws : StreamLaws) (limits : Limits) (stream : List ℕ) where
-  same_length : (n m : ℕ) (v w : Value) → IsFinished limits stream n v → IsFinished limits stream m w → n < m → ⊥
-  same_length n m v w a b less =
-      let (more, is) = front_at stream n m less b.fits in
-      let longer = subst (λ (o : List ℕ). Admits o w) is b.envelope.admits in
-      let bad : slice_index stream n ∷ more ≡ [] = laws.others (take n stream) _ v w a.envelope.admits longer in cc
-
-  -- no octets continue from it
-  none_after : (e : Refusal) → IsDead limits stream e → (more : List ℕ) → (IsOpen limits (take e.octet stream ++ slice_index stream e.octet ∷ more) → ⊥)
-      × ((v : Value) → IsEnvelopeWithin limits (take e.octet stream ++ slice_index stream e.octet ∷ more) v → ⊥)
-  none_after e (is, calm) more =
-      nothing_continues laws.lower laws.tests limits (take e.octet stream) more (slice_index stream e.octet) is.fault
-      (record { refuses = is.refuses; by_octets = λ sink. calm (ap (λ (x : Refusal). x.cause) is.refusal ∙ sink) })
-
-  -- an envelope, and a refusal
-  ends_or_dies : (used : ℕ) (v : Value) (e : Refusal) → IsFinished limits stream used v → IsDead limits stream e → ⊥
-  ends_or_dies used v e a b = elim (cases_lt e.octet used) [
-    | inl later ↦
-        let (more, is) = front_at stream e.octet used later a.fits in
-        (none_after e b more).1 v (subst (λ (o : List ℕ). IsEnvelopeWithin limits o v) is a.envelope)
-    | inr earlier ↦
-        laws.none limits (take e.octet stream) (take used stream) (drop used (take e.octet stream)) v b.0.refuses.before
-        (rw (← take-take used e.octet stream (omega (arith, earlier))) (sym (take-append-drop used (take e.octet stream)))) a.envelope.admits
+module _ (laws : LowerLaws) (tests : RefusalsTellTheLowestCause) (value : AdmittedOctetsHaveOneValue) (limits : Limits) (stream : List ℕ) where
+  -- no octets live that are more than the refused one
+  lives_before : (e : Refusal) (n : ℕ) → Answers limits stream (Refused e) → n ≤ length stream → Lives limits (take n stream) → n ≤ e.octet
+  lives_before e n (is, calm) fits lives = elim (cases_lt e.octet n) [
+    | inr le ↦ le
+    | inl less ↦
+        let (more, parts) = front_at stream e.octet n less fits in
+        let by_octets = λ (sink : is.fault.cause ≡ Message Sink). calm (ap (λ (x : Refusal). x.cause) is.refusal ∙ sink) in
+        absurd (no_life laws tests more (record { refuses = is.refuses; by_octets = by_octets }) (subst (Lives limits) parts lives))
   ]
 
+  -- no envelope begins open octets
+  ends_before : (used n : ℕ) (v : Value) → IsFinished limits stream used v → used ≤ n → IsOpen limits (take n stream) → ⊥
+  ends_before used n v a le open' =
+      no_front laws.one_tag laws.one_dataset laws.sections limits (take n stream) (take used stream) (drop used (take n stream)) v open'
+      (rw (← take-take used n stream le) (sym (take-append-drop used (take n stream)))) a.envelope.admits
+
+  -- an envelope, and a refusal or an end of octets
+  ends_or_dies : (used : ℕ) (v : Value) (e : Refusal) → IsFinished limits stream used v → Answers limits stream (Refused e) → ⊥
+  ends_or_dies used v e a b =
+      let lives = lives_envelope laws limits (take used stream) v a.envelope in
+      ends_before used e.octet v a (lives_before e used b a.fits lives) b.0.refuses.before
+
   ends_or_breaks : (used : ℕ) (v : Value) (e : Refusal) → IsFinished limits stream used v → IsTruncated limits stream e → ⊥
-  ends_or_breaks used v e a b = laws.none limits stream (take used stream) (drop used stream) v b.is_open (sym (take-append-drop used stream)) a.envelope.admits
+  ends_or_breaks used v e a b = ends_before used (length stream) v a a.fits (rw take-length b.is_open)
 
-  dies_or_breaks : (e f : Refusal) → IsDead limits stream e → IsTruncated limits stream f → ⊥
+  dies_or_breaks : (e f : Refusal) → Answers limits stream (Refused e) → IsTruncated limits stream f → ⊥
   dies_or_breaks e f a b =
-      let (more, is) = front_at stream e.octet (length stream) a.0.fits (omega arith) in
-      (none_after e a more).0 (subst (IsOpen limits) (sym (take-length stream) ∙ is) b.is_open)
+      let late = lives_before e (length stream) a (omega arith) (rw take-length (lives_open limits stream b.is_open)) in omega (arith, late, a.0.fits)
 
-  dies_before : (e f : Refusal) → IsDead limits stream e → IsRefused limits stream f → e.octet < f.octet → ⊥
-  dies_before e f a b less =
-      let (more, is) = front_at stream e.octet f.octet less (omega (arith, b.fits)) in (none_after e a more).0 (subst (IsOpen limits) is b.refuses.before)
+  -- of two envelopes none is longer
+  no_longer : (n m : ℕ) (v w : Value) → IsFinished limits stream n v → IsFinished limits stream m w → m ≤ n
+  no_longer n m v w a b = elim (cases_lt n m) [
+    | inr le ↦ le
+    | inl less ↦
+        let (more, is) = front_at stream n m less b.fits in
+        let bad : slice_index stream n ∷ more ≡ [] =
+        no_others laws.one_dataset laws.sections (take n stream) _ v w a.envelope.admits (rw is at b.envelope.admits) in cc
+  ]
 
-  same_death : (e f : Refusal) → IsRefused limits stream e → IsRefused limits stream f → e.octet ≡ f.octet → e ≡ f
-  same_death e f a b same =
-      let refuses = subst (λ (k : ℕ). RefusesNext limits (take k stream) (slice_index stream k) a.fault) same a.refuses in
-      let fault = one_refusal laws.lower laws.tests limits (take f.octet stream) (slice_index stream f.octet) a.fault b.fault refuses b.refuses in
-      a.refusal ∙ (λ i. refusal_at (same i) (fault i)) ∙ sym b.refusal
+  one_end : (n m : ℕ) (v w : Value) → IsFinished limits stream n v → IsFinished limits stream m w → Finished n v ≡ Finished m w
+  one_end n m v w a b =
+      let same : n ≡ m = omega (arith, no_longer n m v w a b, no_longer m n w v b a) in
+      let same_value = value (take m stream) v w (rw same at a.envelope.admits) b.envelope.admits in
+      λ i. Finished (same i) (same_value i)
 
-  one_end : (n m : ℕ) (v w : Value) → IsFinished limits stream n v → IsFinished limits stream m w → n ≡ m → Finished n v ≡ Finished m w
-  one_end n m v w a b same =
-      let value = laws.value (take m stream) v w (subst (λ (k : ℕ). Admits (take k stream) v) same a.envelope.admits) b.envelope.admits in
-      λ i. Finished (same i) (value i)
+  one_death : (e f : Refusal) → Answers limits stream (Refused e) → Answers limits stream (Refused f) → e ≡ f
+  one_death e f a b =
+      let late = lives_before e f.octet a (omega (arith, b.0.fits)) (lives_open limits (take f.octet stream) b.0.refuses.before) in
+      let early = lives_before f e.octet b (omega (arith, a.0.fits)) (lives_open limits (take e.octet stream) a.0.refuses.before) in
+      let same : e.octet ≡ f.octet = omega (arith, late, early) in
+      let refuses = subst (λ (k : ℕ). RefusesNext limits (take k stream) (slice_index stream k) a.0.fault) same a.0.refuses in
+      let fault = one_refusal laws tests limits (take f.octet stream) (slice_index stream f.octet) a.0.fault b.0.fault refuses b.0.refuses in
+      a.0.refusal ∙ (λ i. refusal_at (same i) (fault i)) ∙ sym b.0.refusal
 
   one_break : (e f : Refusal) → IsTruncated limits stream e → IsTruncated limits stream f → e ≡ f
   one_break e f a b =
       let s = a.refusal in
       let t = b.refusal in
-      let same = (one_reading laws.lower stream s.whole t.whole s.begun t.begun s.reads t.reads).begun_is in
+      let same = (one_reading laws stream s.whole t.whole s.begun t.begun s.reads t.reads).begun_is in
       s.refusal ∙ (λ i. truncated_in (length stream) (begun_record (same i), begun_number (same i))) ∙ sym t.refusal
 
   answer_once : (x y : Answer) → Answers limits stream x → Answers limits stream y → x ≡ y
-  answer_once (Finished n v) (Finished m w) a b = elim (cases_lt n m) [
-    | inl less ↦ absurd (same_length n m v w a b less)
-    | inr ge ↦ elim (cases_lt m n) [ inl less ↦ absurd (same_length m n w v b a less) | inr le ↦ one_end n m v w a b (omega (arith, ge, le)) ]
-  ]
+  answer_once (Finished n v) (Finished m w) a b = one_end n m v w a b
   answer_once (Finished n v) (Refused e) a b = absurd (ends_or_dies n v e a b)
   answer_once (Finished n v) (Truncated e) a b = absurd (ends_or_breaks n v e a b)
   answer_once (Refused e) (Finished n v) a b = absurd (ends_or_dies n v e b a)
-  answer_once (Refused e) (Refused f) a b = elim (cases_lt e.octet f.octet) [
-    | inl less ↦ absurd (dies_before e f a b.0 less)
-    | inr ge ↦ elim (cases_lt f.octet e.octet) [
-      | inl less ↦ absurd (dies_before f e b a.0 less)
-      | inr le ↦ ap Refused (same_death e f a.0 b.0 (omega (arith, ge, le)))
-    ]
-  ]
+  answer_once (Refused e) (Refused f) a b = ap Refused (one_death e f a b)
   answer_once (Refused e) (Truncated f) a b = absurd (dies_or_breaks e f a b)
   answer_once (Truncated e) (Finished n v) a b = absurd (ends_or_breaks n v e b a)
   answer_once (Truncated e) (Refused f) a b = absurd (dies_or_breaks f e b a)
   answer_once (Truncated e) (Truncated f) a b = ap Truncated (one_break e f a b)
 
-pub one_answer : StreamLaws → StreamsHaveOneAnswer
-one_answer laws limits stream x y a b = answer_once laws limits stream x y a b
+pub one_answer : LowerLaws → RefusalsTellTheLowestCause → AdmittedOctetsHaveOneValue → StreamsHaveOneAnswer
+one_answer laws tests value limits stream = answer_once laws tests value limits stream

@@ -1,24 +1,23 @@
--- How many octets are open at most.
-use Rattle.std.proofs.Common.{◌≡◌, ℕ, ◌+◌, ◌*◌, ◌<◌, ◌≤◌, ◌⊎◌, ◌^◌, ◌-◌, nat_eq, cond, if◌then◌else◌, Bool, true, false, List, [], ◌∷◌, ◌++◌, length, map, sum}
-use Rattle.std.proofs.Common.{Option, Some, None, refl, ap, sym, subst, ◌∙◌, inl, inr, arith, append_assoc, length-append, ◌&&◌, nat_le}
+-- How many octets are open, or an envelope, at most.
+use Rattle.std.proofs.Common.{◌≡◌, ℕ, ◌+◌, ◌*◌, ◌<◌, ◌≤◌, ◌⊎◌, ◌^◌, ◌-◌, true, List, [], ◌∷◌, ◌++◌, length, map, sum}
+use Rattle.std.proofs.Common.{Option, Some, None, refl, ap, sym, subst, inl, inr, arith, append_assoc, length-append, ◌&&◌}
 use Rattle.std.proofs.Math.Nat.{pow-le-pow_right}
-use Rattle.iim_places.proofs.Words.{AllByRecursion, eq-eqb, Octets, number, greatest_size, all_append, all_front, all_back, all_map, Meets, Dataset}
-use Rattle.iim_places.proofs.Words.{SpellsStream, count_octets, of_record, tag_octets, Begun, InTag, InData, IsBegun, Head, within_most_and, sum_cons}
+use Rattle.iim_places.proofs.Words.{AllByRecursion, Octets, number, greatest_size, all_append, all_front, all_back, all_map, Meets, Dataset, LowerLaws}
+use Rattle.iim_places.proofs.Words.{SpellsStream, count_octets, of_record, tag_octets, Begun, InTag, InData, Reads, Head, within_most_and, sum_cons, sum_append}
 use Rattle.iim_places.proofs.Words.{number-lt, AreRecords, AreSections, records, IsGoodDataset, SectionsLive, SectionsLiveAt, kept, is_kept}
 use Rattle.iim_places.proofs.Words.{NoSectionsBeginOthers, EnvelopesEndWithTheLastRecord, Limits, ObjectToken, NumberRead, SubfileBegun, ObjectEnded, Confirmed}
-use Rattle.iim_places.proofs.Words.{number_tokens, ending_tokens, place_after, place_after_datasets, place_ended, lengths_of, numbers_of, Stated, AreOnce}
-use Rattle.iim_places.proofs.Words.{InRow, number_at, MayContinue, CanContinueAt, ObjectLives, OpenOctetsAreBounded, AreWithin, eqb_tells, kept_octets}
-use Rattle.iim_places.proofs.Words.{head_alive, length-map, and_parts, leb-true, within}
-use Rattle.std.proofs.lemmas.List.Sums.{sum_by-append}
+use Rattle.iim_places.proofs.Words.{number_tokens, ending_tokens, place_after, place_after_datasets, lengths_of, Stated, AreOnce, InRow, number_at, MayContinue}
+use Rattle.iim_places.proofs.Words.{ObjectLives, OpenOctetsAreBounded, EnvelopesAreBounded, eqb_tells, kept_octets, length-map, within, nat_tests}
 use Rattle.iim_tables.specs.Format.Kinds.{is_mode, is_size_from}
 use Rattle.iim_tables.specs.Format.Numbers.{size_octets}
 use Rattle.iim_tables.specs.Format.Rows.{table, row_of}
 use Rattle.iim_dataset.proofs.Spelled.{tag_length}
 use Rattle.iim_fields.specs.Format.Faults.{joined}
 use Rattle.iim_object.specs.Format.Places.{Place}
-use Rattle.iim_places.proofs.Fronts.{empty_front}
+use Rattle.iim_places.proofs.Answering.{lives_envelope}
+use Rattle.iim_places.proofs.Following.{alive_of, within_of, object_lives_after}
+use Rattle.iim_places.proofs.Lasts.{nine_ends}
 use Rattle.iim_places.proofs.SizeRows.{by_seven, by_ten, nine_has}
-use Rattle.iim_fields.proofs.Sections.{front_alive}
 
 -- how many octets datasets take at most: thirteen for each tag, and the data
 abbrev weight : List Dataset → ℕ
@@ -31,11 +30,6 @@ stream_fits : (ds : List Dataset) (xs : List ℕ) → SpellsStream count_octets 
 stream_fits [] xs none = omega (arith, ap length none)
 stream_fits (d ∷ ds) xs (first, rest, one, more, parts) =
     omega (arith, ap length parts, length-append first rest, ap length one.parts, length-append one.tag d.octets, tag_length _ one.tag one.is_tag, stream_fits ds rest more)
-
--- ---- the records apart
-
-abbrev IsFive : ℕ → Type 0
-IsFive r = (r ≡ 1) ⊎ ((r ≡ 2) ⊎ ((r ≡ 7) ⊎ ((r ≡ 8) ⊎ (r ≡ 9))))
 
 -- what the good datasets of each record have, all of them have
 pub each_in : (P : Dataset → Type 0) (rs : List ℕ) (ds : List Dataset) → AllByRecursion (λ r. (d : Dataset) → d.rec ≡ r → IsGoodDataset d → P d) rs → AreRecords rs ds → AllByRecursion P ds
@@ -55,40 +49,37 @@ tally (t ∷ ts) = tally ts
 tally_of : (ps : List Stated) (ls : List ℕ) (ts : List ObjectToken) → ((tally (number_tokens ps ++ (map SubfileBegun ls ++ ts))).0 ≡ length ps + (tally ts).0)
     × ((tally (number_tokens ps ++ (map SubfileBegun ls ++ ts))).1 ≡ sum ls + (tally ts).1)
 tally_of [] [] ts = (omega arith, omega arith)
-tally_of [] (l ∷ ls) ts = let more = tally_of [] ls ts in (omega (arith, more.0), omega (arith, more.1, sum_cons l ls))
-tally_of (p ∷ ps) ls ts = let more = tally_of ps ls ts in (omega (arith, more.0), omega (arith, more.1))
+tally_of [] (l ∷ ls) ts = grind (arith, tally_of [] ls ts, sum_cons l ls)
+tally_of (p ∷ ps) ls ts = grind (arith, tally_of ps ls ts)
 
 -- What the object has so far is no more than what it has as a whole.
 pub part_of_whole : (p : Place) → (lives : ObjectLives p) → (length p.stated ≤ length lives.1.stated) × (sum p.lengths ≤ sum lives.1.lengths)
 part_of_whole p (rest, is) =
     let same = ap tally (simp append_assoc at is.tokens_are) in
     let part = tally_of p.stated p.lengths (ending_tokens p.ending ++ rest) in
-    let all = tally_of is.stated is.lengths (ObjectEnded ∷ Confirmed is.confirmed ∷ []) in
-    (omega (arith, ap (λ (t : ℕ × ℕ). t.0) same, part.0, all.0), omega (arith, ap (λ (t : ℕ × ℕ). t.1) same, part.1, all.1))
+    grind (arith, same, part, tally_of is.stated is.lengths (ObjectEnded ∷ Confirmed is.confirmed ∷ []))
 
 -- The subfiles have at most the greatest size together.
 pub object_fits : (p : Place) → ObjectLives p → sum p.lengths ≤ greatest_size
 object_fits p (rest, is) = omega (arith, (part_of_whole p (rest, is)).1, is.agree.total_fits)
 
--- ---- no dataset of record 9
+-- ---- record 9
+
+-- Datasets that can continue have one of record 9 at most, with which an envelope ends.
+nines : NoSectionsBeginOthers → EnvelopesEndWithTheLastRecord → (xs ys : List Dataset) → SectionsLive (xs ++ ys)
+    → (of_record 9 ys ≡ []) ⊎ ((length (of_record 9 ys) ≡ 1) × AreSections (xs ++ ys))
+nines law ends xs [] alive = inl refl
+nines law ends xs (d ∷ ys) alive = elim (eqb_tells d.rec 9) [
+  | inl nine ↦ let (sections, none) = nine_ends law ends xs d ys alive nine.1 in rw (none, nine.0) (inr (refl, sections))
+  | inr other ↦
+      let parts = append_assoc xs (d ∷ []) ys in
+      rw other.0 (subst (λ (ds : List Dataset). (of_record 9 ys ≡ []) ⊎ ((length (of_record 9 ys) ≡ 1) × AreSections ds)) parts
+      (nines law ends (xs ++ d ∷ []) ys (subst SectionsLive (sym parts) alive)))
+]
 
 pub none_nine : NoSectionsBeginOthers → EnvelopesEndWithTheLastRecord → (xs ys : List Dataset) → SectionsLive (xs ++ ys) → (AreSections (xs ++ ys) → ⊥)
     → of_record 9 ys ≡ []
-none_nine law ends xs [] alive open' = refl
-none_nine law ends xs (d ∷ ys) alive open' = elim (eqb_tells d.rec 9) [
-  | inl nine ↦
-      (let front : SectionsLive (xs ++ d ∷ []) = front_alive (xs ++ d ∷ []) ys (subst SectionsLive (sym parts) alive) in
-      let sections : AreSections (xs ++ d ∷ []) = (ends xs d front).0 nine.1 in
-      let later : ys ++ alive.0 ≡ [] = law (xs ++ d ∷ []) (ys ++ alive.0) sections
-      (subst AreSections (append_assoc xs (d ∷ ys) alive.0 ∙ sym (append_assoc xs (d ∷ []) (ys ++ alive.0))) alive.1) in
-      absurd (open' (subst (λ (zs : List Dataset). AreSections (xs ++ d ∷ zs)) (sym (empty_front ys alive.0 later)) sections)))
-  | inr apart ↦
-      ap (λ (b : Bool). cond b (d ∷ of_record 9 ys) (of_record 9 ys)) apart.0
-      ∙ none_nine law ends (xs ++ d ∷ []) ys (subst SectionsLive (sym parts) alive) (λ s. open' (subst AreSections parts s))
-]
-  where
-    parts : (xs ++ d ∷ []) ++ ys ≡ xs ++ (d ∷ ys)
-    parts = append_assoc xs (d ∷ []) ys
+none_nine law ends xs ys alive open' = elim (nines law ends xs ys alive) [ inl none ↦ none | inr some ↦ absurd (open' some.1) ]
 
 -- ---- record 7
 
@@ -98,30 +89,16 @@ slot (Some n) = 1
 
 slots : (ps : List Stated) → AllByRecursion InRow ps → AreOnce ps → length ps ≤ slot (number_at 10 ps) + slot (number_at 20 ps) + slot (number_at 90 ps) + slot (number_at 95 ps)
 slots [] each once = omega arith
-slots (p ∷ ps) each once =
-    let le = slots ps each.1 once.1 in
-    let none = once.0 in
-    elim each.0 [
-      | inl row ↦ rw row.0 (omega (arith, le, ap slot (rw row.0 at none)))
-      | inr (inl row) ↦ rw row.0 (omega (arith, le, ap slot (rw row.0 at none)))
-      | inr (inr (inl is, low)) ↦ rw is (omega (arith, le, ap slot (rw is at none)))
-      | inr (inr (inr is, low)) ↦ rw is (omega (arith, le, ap slot (rw is at none)))
-    ]
+slots (p ∷ ps) each once = grind (arith, slots ps each.1 once.1, each.0, once.0)
 
 -- Record 7 has four datasets at most.
 few_numbers : (p : Place) → ObjectLives p → length p.stated ≤ 4
-few_numbers p (rest, is) =
-    let few = slots is.stated is.are_stated.each is.are_stated.once in
-    let most = λ (set : ℕ). elim (number_at set is.stated) as (λ o. slot o ≤ 1) [ None ↦ omega arith | Some n ↦ omega arith ] in
-    omega (arith, (part_of_whole p (rest, is)).0, few, most 10, most 20, most 90, most 95)
+few_numbers p (rest, is) = grind (arith, slots is.stated is.are_stated.each is.are_stated.once, (part_of_whole p (rest, is)).0)
 
 -- ---- counts
 
 pub low : (n : ℕ) (xs : List ℕ) → Octets xs → length xs ≤ n → number xs < 256 ^ n
-low n xs all fits =
-    let less = number-lt xs all in
-    let most' : 256 ^ length xs ≤ 256 ^ n = pow-le-pow_right (omega arith) fits in
-    omega (arith, less, most')
+low n xs all fits = let most' : 256 ^ length xs ≤ 256 ^ n = pow-le-pow_right (omega arith) fits in omega (arith, number-lt xs all, most')
 
 -- ---- how long data are
 
@@ -134,11 +111,7 @@ abbrev pub IsSized : List ℕ → Type 0
 IsSized xs = (length xs ≤ size_octets) × (number xs ≤ greatest_size)
 
 row_size : (least : ℕ) (xs : List ℕ) → (within 1 size_octets (length xs) && is_size_from least xs) ≡ true → IsSized xs
-row_size least xs h =
-    let size = (and_parts (within 1 size_octets (length xs)) (is_size_from least xs) h).1 in
-    let inner = (and_parts (within 1 size_octets (length xs)) (within least greatest_size (number xs)) size).1 in
-    let most' = (and_parts (nat_le least (number xs)) (nat_le (number xs) greatest_size) inner).1 in
-    (within_most_and 1 size_octets (length xs) (is_size_from least xs) h, leb-true (number xs) greatest_size most')
+row_size least xs h = grind (arith, nat_tests, h)
 
 pub sized_seven : (set : ℕ) (xs : List ℕ) → Octets xs → Meets 7 set xs → IsSized xs
 unfolding row_of table
@@ -150,104 +123,72 @@ pub sized_nine : (set : ℕ) (xs : List ℕ) → Meets 9 set xs → IsSized xs
 unfolding row_of table
 sized_nine set xs = by_ten 9 nine_has xs (λ _. IsSized xs) (λ h. row_size 0 xs h) set
 
--- the records, and how long their data are
+-- A dataset is kept, or a subfile, or a short one of record 7 or 9.
 abbrev Counted : Dataset → Type 0
-Counted d = IsFive d.rec × IsOne d
+Counted d = (is_kept d.rec ≡ true) ⊎ ((d.rec ≡ 8) ⊎ (((d.rec ≡ 7) ⊎ (d.rec ≡ 9)) × (length d.octets ≤ size_octets)))
 
 alive_counted : (ds : List Dataset) → SectionsLive ds → AllByRecursion Counted ds
 alive_counted ds (more, are) =
-    all_front Counted ds more (each_in Counted records (ds ++ more)
-    (kept' 1 (inl refl) refl, (kept' 2 (inr (inl refl)) refl, (sevens, (eights, (nines, tt))))) are)
-  where
-    kept' : (r : ℕ) → IsFive r → is_kept r ≡ true → (d : Dataset) → d.rec ≡ r → IsGoodDataset d → Counted d
-    kept' r five keeps d is good = (subst IsFive (sym is) five, inl (ap is_kept is ∙ keeps))
-
-    sevens : (d : Dataset) → d.rec ≡ 7 → IsGoodDataset d → Counted d
-    sevens d is good = (inr (inr (inl is)), inr (inr (sized_seven d.set d.octets good.octets (rw is at good.meets)).0))
-
-    eights : (d : Dataset) → d.rec ≡ 8 → IsGoodDataset d → Counted d
-    eights d is good = (inr (inr (inr (inl is))), inr (inl is))
-
-    nines : (d : Dataset) → d.rec ≡ 9 → IsGoodDataset d → Counted d
-    nines d is good = (inr (inr (inr (inr is))), inr (inr (sized_nine d.set d.octets (rw is at good.meets)).0))
+    all_front Counted ds more (each_in Counted records (ds ++ more) ((λ d is good. inl (ap is_kept is)), ((λ d is good. inl (ap is_kept is)),
+    ((λ d is good. inr (inr (inl is, (sized_seven d.set d.octets good.octets (rw is at good.meets)).0))), ((λ d is good. inr (inl is)),
+    ((λ d is good. inr (inr (inr is, (sized_nine d.set d.octets (rw is at good.meets)).0))), tt))))) are)
 
 pub alive_ones : (ds : List Dataset) → SectionsLive ds → AllByRecursion IsOne ds
-alive_ones ds alive = all_map Counted IsOne ds (λ d is. is.1) (alive_counted ds alive)
+alive_ones ds alive = all_map Counted IsOne ds (λ d is. grind (arith, is)) (alive_counted ds alive)
 
 pub is_one : (ds : List Dataset) (h : Head) → SectionsLiveAt ds h → (is_kept h.rec ≡ true) ⊎ ((h.rec ≡ 8) ⊎ (h.count ≤ size_octets))
 is_one ds h (d, is, alive) =
     subst (λ (k : Head). (is_kept k.rec ≡ true) ⊎ ((k.rec ≡ 8) ⊎ (k.count ≤ size_octets))) is (all_back IsOne ds (d ∷ []) (alive_ones (ds ++ d ∷ []) alive)).0
 
 pub few_in_seven : (d : Dataset) → d.rec ≡ 7 → IsOne d → length d.octets ≤ size_octets
-few_in_seven d seven (inl keeps) = absurd (let bad : false ≡ true = ap is_kept (sym seven) ∙ keeps in cc)
-few_in_seven d seven (inr (inl eight)) = absurd (omega (arith, seven, eight))
-few_in_seven d seven (inr (inr few)) = few
+few_in_seven d seven one = grind arith
 
--- the datasets of each record apart: those of record 7 have few octets
+-- the datasets of each record apart: those of records 7 and 9 have few octets
 apart : (ds : List Dataset) → AllByRecursion Counted ds
-    → weight ds ≤ (tag_octets * length (kept ds) + kept_octets ds) + (tag_octets + size_octets) * length (of_record 7 ds)
-    + (tag_octets * length (of_record 8 ds) + sum (lengths_of (of_record 8 ds))) + weight (of_record 9 ds)
+    → weight ds ≤ (tag_octets * length (kept ds) + kept_octets ds) + (tag_octets + size_octets) * (length (of_record 7 ds) + length (of_record 9 ds))
+    + (tag_octets * length (of_record 8 ds) + sum (lengths_of (of_record 8 ds)))
 apart [] all = omega arith
-apart (d ∷ ds) all =
-    let le = apart ds all.1 in
-    elim all.0.0 [
-      | inl is ↦ rw is (omega (arith, le, length-append d.octets (joined (kept ds))))
-      | inr (inl is) ↦ rw is (omega (arith, le, length-append d.octets (joined (kept ds))))
-      | inr (inr (inl is)) ↦ rw is (omega (arith, le, few_in_seven d is all.0.1))
-      | inr (inr (inr (inl is))) ↦ rw is (omega (arith, le, sum_cons (length d.octets) (lengths_of (of_record 8 ds))))
-      | inr (inr (inr (inr is))) ↦ rw is (omega (arith, le))
-    ]
+apart (d ∷ ds) all = grind (arith, apart ds all.1, all.0, length-append d.octets (joined (kept ds)), sum_cons (length d.octets) (lengths_of (of_record 8 ds)))
 
 -- ---- all of it
 
--- where every layer can continue from datasets that are no envelope
-module _ (law : NoSectionsBeginOthers) (e : EnvelopesEndWithTheLastRecord) (limits : Limits) (low : limits.octets < 2 ^ 32) (few : limits.fields < 2 ^ 32) where
-  -- the whole datasets
-  whole_fits : (ds : List Dataset) (xs : List ℕ) → SpellsStream count_octets ds xs → SectionsLive ds → AreWithin limits ds
-      → length (numbers_of (of_record 7 ds)) ≤ 4
-      → (more : ℕ) → sum (lengths_of (of_record 8 ds)) + more ≤ greatest_size → (AreSections ds → ⊥) → length xs + more < 2 ^ 63 + 2 ^ 40
-  whole_fits ds xs spelled alive inside some more size unfinished =
-      let weighs = apart ds (alive_counted ds alive) in
-      let count : length (numbers_of (of_record 7 ds)) ≡ length (of_record 7 ds) =
-      length-map (of_record 7 ds) (λ d. record { set = d.set; number = number d.octets }) in
-      let none = ap weight (none_nine law e [] ds alive unfinished) in
-      omega (arith, low, few, stream_fits ds xs spelled, weighs, inside.kept.octets_in, inside.kept.fields_in, count, some, inside.subfiles, size, none)
+-- where every layer can continue from datasets: how many octets they have but for their subfiles
+whole_fits : LowerLaws → (limits : Limits) → limits.octets < 2 ^ 32 → limits.fields < 2 ^ 32 → (ds : List Dataset) (c : Begun) (xs : List ℕ)
+    → SpellsStream count_octets ds xs → MayContinue limits ds c → length xs < 2 ^ 38 + sum (lengths_of (of_record 8 ds))
+whole_fits laws limits less few ds c xs spelled goes =
+    let alive = alive_of limits ds c goes in
+    let within = within_of limits ds c goes in
+    let numbers = few_numbers (place_after_datasets ds) (object_lives_after laws limits ds c goes) in
+    let count = length-map {B = Stated} (of_record 7 ds) (λ (d : Dataset). record { set = d.set; number = number d.octets }) in
+    let nine : length (of_record 9 ds) ≤ 1 = grind (arith, nines laws.sections laws.last_record [] ds alive) in
+    omega (arith, stream_fits ds xs spelled, apart ds (alive_counted ds alive), within.kept.octets_in, within.kept.fields_in, within.subfiles, numbers, count)
 
-  -- what the place at a head says of the datasets before it
-  sizes_at : (ds : List Dataset) (n : ℕ) (b c : Bool)
-      → ObjectLives (if b then place_after (place_after_datasets ds) (SubfileBegun n) else if c then place_ended ds else place_after_datasets ds)
-      → (length (numbers_of (of_record 7 ds)) ≤ 4) × (sum (lengths_of (of_record 8 ds)) + (if b then n else 0) ≤ greatest_size)
-  sizes_at ds n true c is =
-      let p = place_after (place_after_datasets ds) (SubfileBegun n) in
-      (few_numbers p is, omega (arith, object_fits p is, sum_by-append (λ k. k) (lengths_of (of_record 8 ds)) (n ∷ []), sum_cons n []))
-  sizes_at ds n false true is = (few_numbers (place_ended ds) is, omega (arith, object_fits (place_ended ds) is))
-  sizes_at ds n false false is = (few_numbers (place_after_datasets ds) is, omega (arith, object_fits (place_after_datasets ds) is))
+-- and with a begun one
+read_fits : LowerLaws → (limits : Limits) → limits.octets < 2 ^ 32 → limits.fields < 2 ^ 32 → (octets : List ℕ) (ds : List Dataset) (c : Begun)
+    → Reads count_octets octets ds c → MayContinue limits ds c → length octets < 2 ^ 64 - 1
+read_fits laws limits less few octets ds (InTag held) r goes =
+    let (same, h, tag, spelled, (rest, some, joined)) = r.is_rest in
+    let whole = whole_fits laws limits less few ds (InTag held) r.front r.is_front goes in
+    let size = object_fits (place_after_datasets ds) goes.object in
+    let parts = ap length r.parts in
+    omega (arith, whole, size, parts, length-append r.front r.rest, ap length same, ap length joined, length-append held rest, tag_length h tag spelled)
+read_fits laws limits less few octets ds (InData h taken) r goes =
+    let (tag, spelled, fits, given, same) = r.is_rest in
+    let whole = whole_fits laws limits less few ds (InData h taken) r.front r.is_front goes in
+    let size = object_fits (place_after_datasets ds) (object_lives_after laws limits ds (InData h taken) goes) in
+    let most' : length octets ≤ length r.front + tag_octets + h.count =
+    omega (arith, ap length r.parts, length-append r.front r.rest, ap length same, length-append tag taken, tag_length h tag spelled, fits) in
+    elim (is_one ds h goes.records) [
+      | inl keeps ↦ omega (arith, most', whole, size, less, (goes.room.kept keeps).octets_in)
+      | inr (inl eight) ↦
+          let all = object_fits (place_after (place_after_datasets ds) (SubfileBegun h.count)) (rw eight at goes.object) in
+          omega (arith, most', whole, all, sum_append (lengths_of (of_record 8 ds)) (h.count ∷ []), sum_cons h.count [])
+      | inr (inr short) ↦ omega (arith, most', whole, size, short)
+    ]
 
-  -- the datasets before a head, and the data that it counts: a subfile's, or few
-  pub head_fits : (ds : List Dataset) (h : Head) (xs : List ℕ) → SpellsStream count_octets ds xs → CanContinueAt limits ds h → (AreSections ds → ⊥)
-      → length xs + h.count < 2 ^ 63 + 2 ^ 41
-  head_fits ds h xs spelled goes unfinished =
-      let sizes = sizes_at ds h.count (nat_eq h.rec 8) (nat_eq h.rec 9) goes.object in
-      let whole = whole_fits ds xs spelled (head_alive ds h goes.records) goes.within sizes.0 (if nat_eq h.rec 8 then h.count else 0) sizes.1 unfinished in
-      elim (is_one ds h goes.records) [
-        | inl keeps ↦ omega (arith, whole, low, (goes.room.kept keeps).octets_in)
-        | inr (inl eight) ↦ (let all = rw (eq-eqb h.rec 8 eight) at whole in omega (arith, all))
-        | inr (inr short) ↦ omega (arith, whole, short)
-      ]
+pub bounded_octets : LowerLaws → OpenOctetsAreBounded
+bounded_octets laws limits octets less few is = read_fits laws limits less few octets is.whole is.begun is.reads is.leads_on.sizes
 
-pub bounded_octets : NoSectionsBeginOthers → EnvelopesEndWithTheLastRecord → OpenOctetsAreBounded
-bounded_octets law e limits octets low few is = by is.begun is.reads.is_rest is.leads_on.sizes
-  where
-    parts : length octets ≡ length is.reads.front + length is.reads.rest
-    parts = omega (arith, ap length is.reads.parts, length-append is.reads.front is.reads.rest)
-
-    by : (begun : Begun) → IsBegun count_octets begun is.reads.rest → MayContinue limits is.whole begun → length octets < 2 ^ 64 - 1
-    by (InTag held) (same, h, tag, spelled, (rest, some, joined)) goes =
-        let p = place_after_datasets is.whole in
-        let size : sum p.lengths + 0 ≤ greatest_size = omega (arith, object_fits p goes.object) in
-        let whole = whole_fits law e limits low few is.whole is.reads.front is.reads.is_front goes.records goes.within
-        (few_numbers p goes.object) 0 size is.unfinished in
-        omega (arith, parts, whole, ap length same, ap length joined, length-append held rest, tag_length h tag spelled)
-    by (InData h taken) (tag, spelled, fits, all, same) goes =
-        let whole = head_fits law e limits low few is.whole h is.reads.front is.reads.is_front goes is.unfinished in
-        omega (arith, parts, whole, ap length same, length-append tag taken, tag_length h tag spelled, fits)
+pub envelope_bounded : LowerLaws → EnvelopesAreBounded
+envelope_bounded laws limits octets v less few is =
+    let lives = lives_envelope laws limits octets v is in read_fits laws limits less few octets lives.whole lives.begun lives.reads lives.leads_on.sizes

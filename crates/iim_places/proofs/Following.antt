@@ -1,15 +1,15 @@
 -- What octets that every layer can continue from say of each token among them.
 use Rattle.std.proofs.Common.{◌≡◌, ℕ, ◌<◌, ◌≤◌, ◌⊎◌, nat_eq, if◌then◌else◌, List, [], ◌∷◌, ◌++◌, length, map, refl, ap, sym, subst, ◌∙◌, inl, inr, arith, append-nil, append_assoc, length-append}
-use Rattle.iim_places.proofs.Words.{flat_map-append, filter-append, Dataset, SpellsTag, SpellsStream, head_of, count_octets, of_record, Begun, InTag, InData, IsBegun, Reads, NoTagBeginsAnother, Head, AreSections, SectionsLive, data_of, Limits, last_more, ObjectLanguage, place_after, head_token, tokens_of, AreSized, place_after_datasets, Octet, End, MessageLanguage, MessageLivesWith, StoryLivesIn, object_of, MayContinue, CanContinueAt, ObjectLives, place_at, AreWithin, object_so_far, message_tokens, AllCanContinue, compare, LowerLaws}
-use Rattle.iim_dataset.specs.Format.Languages as languages
+use Rattle.iim_places.proofs.Words.{flat_map-append, filter-append, eqb_tells, IsAlive, Dataset, SpellsTag, SpellsStream, head_of, count_octets, of_record, Begun, InTag, InData, IsBegun, Reads, Head, AreSections, SectionsLive, data_of, Limits, last_more, front_alive, head_alive, ObjectLanguage, place_after, head_token, tokens_of, AreSized, place_after_datasets, Octet, End, MessageLivesWith, StoryLivesIn, object_of, MayContinue, CanContinue, CanContinueAt, ObjectLives, place_at, AreWithin, object_so_far, section, message_tokens, AllCanContinue, compare, LowerLaws}
 use Rattle.iim_dataset.specs.HandedIn.{same_front}
 use Rattle.iim_fields.specs.Format.Faults.{joined}
-use Rattle.iim_places.proofs.Fronts.{begun_none, empty_front, no_longer}
-use Rattle.iim_places.proofs.Lasts.{not_all}
+use Rattle.iim_places.proofs.Fronts.{begun_none, no_longer}
+use Rattle.iim_places.proofs.Lasts.{not_all, nine_ends}
 use Rattle.iim_places.proofs.Limits.{leaves_room, within_front}
 use Rattle.iim_places.proofs.Living.{alive_front, message_front, story_front}
+use Rattle.iim_places.proofs.ObjectOctets.{object_of_more}
 use Rattle.iim_places.proofs.Objects.{records_alive}
-use Rattle.iim_places.proofs.Places.{HeadLeads, subfile_leads, end_leads, lives_at, is_one, at_number, at_other}
+use Rattle.iim_places.proofs.Places.{HeadLeads, subfile_leads, end_leads, lives_after, lives_at, is_one, at_number, at_other}
 
 -- ---- lists
 
@@ -17,17 +17,7 @@ use Rattle.iim_places.proofs.Places.{HeadLeads, subfile_leads, end_leads, lives_
 pub longer_front : (x y u v : List ℕ) → x ++ y ≡ u ++ v → length x ≤ length u → (m : List ℕ) × (u ≡ x ++ m)
 longer_front [] y u v e le = (u, refl)
 longer_front (a ∷ x) y [] v e le = absurd (omega (arith, le))
-longer_front (a ∷ x) y (b ∷ u) v e le =
-    let first : b ≡ a = cc in
-    let rest : x ++ y ≡ u ++ v = cc in
-    let more = longer_front x y u v rest (omega (arith, le)) in (more.0, λ i. first i ∷ more.1 i)
-
--- no stream begins what is less than a dataset
-no_longer_stream : NoTagBeginsAnother → (c : Begun) (y z r : List ℕ) (more : List Dataset) → IsBegun count_octets c y → SpellsStream count_octets more r
-    → r ++ z ≡ y → more ≡ []
-no_longer_stream one c y z r [] bc stream e = refl
-no_longer_stream one c y z r (m ∷ more) bc (first, rest, s, later, parts) e =
-    absurd (begun_none one c y bc m first (rest ++ z) s (sym e ∙ ap (λ l. l ++ z) parts ∙ append_assoc first rest z))
+longer_front (a ∷ x) y (b ∷ u) v e le = let (m, is) = longer_front x y u v (cc) (omega (arith, le)) in (m, cc)
 
 -- ---- which token follows
 
@@ -43,46 +33,42 @@ begun_as laws head tag z rest st (InTag held) b e =
     absurd (no_longer laws.one_tag head b.1 tag z b.4.0 st b.4.1 (subst (SpellsTag count_octets b.1) (sym b.4.2 ∙ ap (λ l. l ++ b.4.0) (sym b.0 ∙ sym e)) b.3))
 begun_as laws head tag z rest st (InData h taken) b e =
     let one = laws.one_tag count_octets head h tag b.0 z taken st b.1 (e ∙ b.4) in
-    let count : head.count ≡ h.count = ap (λ (k : Head). k.count) one.0 in
-    let many : length z ≡ length taken = ap length one.2 in
-    let less = b.2 in
-    (λ i. InData (sym one.0 i) (sym one.2 i), omega (arith, less, count, many))
+    (λ i. InData (sym one.0 i) (sym one.2 i), omega (arith, b.2, ap (λ (k : Head). k.count) one.0, ap length one.2))
 
 pub follows : LowerLaws → (octets : List ℕ) (W : List Dataset) (c : Begun) → Reads count_octets octets W c
     → (whole : List Dataset) (F tag z : List ℕ) (head : Head) → SpellsStream count_octets whole F
     → SpellsTag count_octets head tag → octets ≡ F ++ (tag ++ z) → Follows whole head z W c
 follows laws octets W c r whole F tag z head sw st parts =
-    elim (compare laws.one_dataset whole W F r.front (tag ++ z) r.rest sw r.is_front (sym parts ∙ r.parts)) [
-      | inl (more, q, is, stream, tail) ↦
-          let none : more ≡ [] = no_longer_stream laws.one_tag c r.rest (tag ++ z) q more r.is_rest stream tail in
-          let empty : q ≡ [] = rw none at stream in
-          let same : W ≡ whole = rw (← is, none, append-nil) refl in
-          let begun = begun_as laws head tag z r.rest st c r.is_rest (rw empty at tail) in
-          inr (same, begun.0, begun.1)
-      | inr n ↦
-          let s = n.spelled in
-          let d = n.dataset in
-          let agree : tag ++ z ≡ s.tag ++ (d.octets ++ (n.q ++ r.rest)) = n.agree ∙ ap (λ l. l ++ (n.q ++ r.rest)) s.parts ∙ append_assoc s.tag d.octets (n.q ++ r.rest) in
-          let one = laws.one_tag count_octets head (head_of d) tag s.tag z (d.octets ++ (n.q ++ r.rest)) st s.is_tag agree in
-          inl (d, n.more, n.q ++ r.rest, n.parts, sym one.0, one.2)
+    elim (compare laws.one_dataset W whole r.front F r.rest (tag ++ z) r.is_front sw (sym r.parts ∙ parts)) [
+      | inl (more, q, is, stream, tail) ↦ by more q is stream tail
+      | inr n ↦ absurd (begun_none laws.one_tag c r.rest r.is_rest n.dataset n.p (n.q ++ (tag ++ z)) n.spelled n.agree)
     ]
+  where
+    by : (more : List Dataset) (q : List ℕ) → whole ++ more ≡ W → SpellsStream count_octets more q → q ++ r.rest ≡ tag ++ z → Follows whole head z W c
+    by [] q is stream tail =
+        let begun = begun_as laws head tag z r.rest st c r.is_rest (sym (rw stream at tail)) in inr (sym is ∙ append-nil whole, begun.0, begun.1)
+    by (d ∷ ws) q is (first, later, s, stream, joined) tail =
+        let agree : tag ++ z ≡ s.tag ++ (d.octets ++ (later ++ r.rest)) =
+        sym tail ∙ (ap (λ l. l ++ r.rest) (joined ∙ ap (λ l. l ++ later) s.parts) ∙ simp append_assoc) in
+        let one = laws.one_tag count_octets head (head_of d) tag s.tag z (d.octets ++ (later ++ r.rest)) st s.is_tag agree in
+        inl (d, ws, later ++ r.rest, sym is, sym one.0, one.2)
 
 -- ---- records, limits and sizes
 
 pub alive_of : (limits : Limits) (W : List Dataset) (c : Begun) → MayContinue limits W c → SectionsLive W
 alive_of limits W (InTag held) goes = goes.records
-alive_of limits W (InData h taken) goes = let (d, head, (later, are)) = goes.records in ((d ∷ []) ++ later, subst AreSections (append_assoc W (d ∷ []) later) are)
+alive_of limits W (InData h taken) goes = head_alive W h goes.records
 
 pub within_of : (limits : Limits) (W : List Dataset) (c : Begun) → MayContinue limits W c → AreWithin limits W
-within_of limits W (InTag held) goes = goes.within
-within_of limits W (InData h taken) goes = goes.within
+within_of limits W c goes = grind (arith, goes)
 
 -- where a token of a head has led, the layer can continue from before it
 before_head : LowerLaws → (W : List Dataset) (h : Head) → HeadLeads W h → ObjectLives (place_at W h) → ObjectLives (place_after_datasets W)
 before_head laws W h leads lives =
     let token = head_token h.rec h.count in
     let there : ObjectLives (place_after (place_after_datasets W) token) = subst ObjectLives (sym leads.1) lives in
-    alive_front ObjectLanguage (tokens_of (place_after_datasets W)) (token ∷ []) (subst (languages.IsAlive ObjectLanguage) (laws.tokens (place_after_datasets W) token leads.0) there)
+    let alive = subst (IsAlive ObjectLanguage) (laws.tokens (place_after_datasets W) token leads.0) there in
+    alive_front ObjectLanguage (tokens_of (place_after_datasets W)) (token ∷ []) alive
 
 pub object_lives_after : LowerLaws → (limits : Limits) (W : List Dataset) (c : Begun) → MayContinue limits W c → ObjectLives (place_after_datasets W)
 object_lives_after laws limits W (InTag held) goes = goes.object
@@ -96,94 +82,29 @@ object_lives_after laws limits W (InData h taken) goes =
       | inr (inr (inr nine)) ↦ before_head laws W h (end_leads laws W h goes.records (sym rec ∙ nine)) goes.object
     ]
 
--- whole datasets that are followed continue to some that have sizes
-pub sized_of : LowerLaws → (limits : Limits) (W : List Dataset) (c : Begun) → MayContinue limits W c → languages.IsAlive AreSized W
-sized_of laws limits W c goes = (laws.live W (records_alive W (alive_of limits W c goes))).1 (object_lives_after laws limits W c goes)
-
--- what stands in front of further datasets
-pub record InFront (limits : Limits) (whole : List Dataset) (d : Dataset) : Type 0 where
-  pub alive : SectionsLive (whole ++ d ∷ [])
-  pub sized : languages.IsAlive AreSized (whole ++ d ∷ [])
-  pub goes_at : CanContinueAt limits whole (head_of d)
-
-pub in_front : LowerLaws → (limits : Limits) (W : List Dataset) (c : Begun) → MayContinue limits W c → (whole ws : List Dataset) (d : Dataset)
-    → W ≡ whole ++ d ∷ ws → InFront limits whole d
-in_front laws limits W c goes whole ws d is =
-    let alive = alive_of limits W c goes in
-    let sized = sized_of laws limits W c goes in
-    let within = rw is at (within_of limits W c goes) in
-    let regroup : (ms : List Dataset) → W ++ ms ≡ (whole ++ d ∷ []) ++ (ws ++ ms) = λ ms. rw is (simp append_assoc) in
-    let front : SectionsLive (whole ++ d ∷ []) = (ws ++ alive.0, rw regroup at alive.1) in
-    let sizes : languages.IsAlive AreSized (whole ++ d ∷ []) = (ws ++ sized.0, rw regroup at sized.1) in
-    let room = leaves_room limits whole d ws within in
-    record {
-      alive = front;
-      sized = sizes;
-      goes_at = record {
-        records = (d, refl, front);
-        within = within_front limits whole (d ∷ ws) within;
-        room = room;
-        object = lives_at laws whole d front sizes room.subfiles;
-      };
-    }
-
--- Every layer that is asked before the message can continue with a head that has come.
-pub head_lives : LowerLaws → (limits : Limits) (W : List Dataset) (c : Begun) → AllCanContinue limits W c → (whole : List Dataset) (head : Head) (z : List ℕ)
-    → Follows whole head z W c → CanContinueAt limits whole head
-head_lives laws limits W c all whole head z (inl (d, ws, tail, is, h, rest)) = rw h at (in_front laws limits W c all.sizes whole ws d is).goes_at
-head_lives laws limits W c all whole head z (inr (same, begun, less)) =
-    let here : AllCanContinue limits whole (InData head z) = rw (same, begun) at all in here.sizes
-
--- ---- values
-
-pub same_data : (d : Dataset) (head : Head) (given : List ℕ) → head_of d ≡ head → d.octets ≡ given → d ≡ data_of head given
-same_data d head given h o = λ i. record { rec = (h i).rec; set = (h i).set; octets = o i }
-
--- The records and the sizes can continue with a value that has come.
-pub value_lives : LowerLaws → (limits : Limits) (W : List Dataset) (c : Begun) → AllCanContinue limits W c
-    → (whole : List Dataset) (head : Head) (z given y : List ℕ) → Follows whole head z W c → z ≡ given ++ y
-    → length given ≡ head.count → SectionsLive (whole ++ data_of head given ∷ []) × languages.IsAlive AreSized (whole ++ data_of head given ∷ [])
-value_lives laws limits W c all whole head z given y (inl (d, ws, tail, is, h, rest)) parts many =
-    let front = in_front laws limits W c all.sizes whole ws d is in
-    let count : length d.octets ≡ head.count = ap (λ (k : Head). k.count) h in
-    let octets = (same_front d.octets given tail y (count ∙ sym many) (sym rest ∙ parts)).0 in
-    let same = same_data d head given h octets in
-    (rw same at front.alive, rw same at front.sized)
-value_lives laws limits W c all whole head z given y (inr (same, begun, less)) parts many = absurd (omega (arith, less, many, ap length parts, length-append given y))
-
--- ---- the message
+-- ---- the object so far
 
 pub objects_append : (ds es : List Dataset) → object_of (ds ++ es) ≡ object_of ds ++ object_of es
 objects_append ds es =
     ap joined (filter-append (λ (x : Dataset). nat_eq x.rec 8) ds es) ∙ flat_map-append (λ (x : Dataset). x.octets) (of_record 8 ds) (of_record 8 es)
 
--- the octets of the object so far are those of the whole subfiles, and some
-object_more : (ds : List Dataset) (c : Begun) → (e : List ℕ) × (object_so_far ds c ≡ object_of ds ++ e)
-object_more ds (InTag held) = ([], sym (append-nil (object_of ds)))
-object_more ds (InData h taken) = (if nat_eq h.rec 8 then taken else [], refl)
+pub so_far_both : (ds xs : List Dataset) (c : Begun) → object_so_far (ds ++ xs) c ≡ object_of ds ++ object_so_far xs c
+so_far_both ds xs c = grind (arith, objects_append ds xs, append_assoc)
 
 pub with_data : (ds : List Dataset) (h : Head) (taken : List ℕ) → h.rec ≡ 8 → object_so_far ds (InData h taken) ≡ object_of ds ++ taken
 with_data ds h taken eight = ap (λ (r : ℕ). object_of ds ++ (if nat_eq r 8 then taken else [])) eight
 
--- the octets of a subfile stand among those of all
-grown : (whole ws : List Dataset) (d : Dataset) (taken m : List ℕ) (next : ℕ) (e : List ℕ) → d.rec ≡ 8 → d.octets ≡ (taken ++ next ∷ []) ++ m
-    → object_of (whole ++ d ∷ ws) ++ e ≡ ((object_of whole ++ taken) ++ next ∷ []) ++ (m ++ (object_of ws ++ e))
-grown whole ws d taken m next e eight is = rw (objects_append whole (d ∷ ws), eight, is) (simp append_assoc)
+-- the octets of the object that data bring
+abbrev pub brought : Head → List ℕ → List ℕ
+brought h z = if nat_eq h.rec 8 then z else []
 
--- The octets of a begun subfile, and one more, are octets of the object so far.
-pub object_on : (W : List Dataset) (c : Begun) (whole : List Dataset) (head : Head) (taken more : List ℕ) (next : ℕ) → head.rec ≡ 8
-    → length taken < head.count → Follows whole head (taken ++ next ∷ more) W c
-    → (tail : List ℕ) × (object_so_far W c ≡ ((object_of whole ++ taken) ++ next ∷ []) ++ tail)
-object_on W c whole head taken more next eight less (inr (same, begun, short)) = (more, rw (begun, same, eight) (simp append_assoc))
-object_on W c whole head taken more next eight less (inl (d, ws, tail, is, h, rest)) =
-    let count : length d.octets ≡ head.count = ap (λ (k : Head). k.count) h in
-    let long : length (taken ++ next ∷ []) ≤ length d.octets = omega (arith, less, count, length-append taken (next ∷ [])) in
-    let (m, octets) = longer_front (taken ++ next ∷ []) more d.octets tail (append_assoc taken (next ∷ []) more ∙ rest) long in
-    let rec : d.rec ≡ 8 = ap (λ (k : Head). k.rec) h ∙ eight in
-    let (e, more_is) = object_more W c in
-    (m ++ (object_of ws ++ e), more_is ∙ (ap (λ (ds : List Dataset). object_of ds ++ e) is ∙ grown whole ws d taken m next e rec octets))
+pub more_object : (ds : List Dataset) (h : Head) (t z : List ℕ) → object_so_far ds (InData h (t ++ z)) ≡ object_so_far ds (InData h t) ++ brought h z
+more_object ds h t z = grind (arith, append_assoc (object_of ds) t z, append-nil (object_of ds ++ []))
 
--- A message can continue from the octets of the object so far.
+pub closed_object : (ds : List Dataset) (h : Head) (t z : List ℕ) → object_of (ds ++ data_of h (t ++ z) ∷ []) ≡ object_so_far ds (InData h t) ++ brought h z
+closed_object ds h t z = object_of_more ds (data_of h (t ++ z)) ∙ more_object ds h t z
+
+-- A message can continue from the octets of the object so far, and so can its story.
 pub message_of : (limits : Limits) (W : List Dataset) (c : Begun) → AllCanContinue limits W c → (x tail : List ℕ) → object_so_far W c ≡ x ++ tail
     → MessageLivesWith x
 message_of limits W c all x tail is = message_front x tail _ (rw is at all.message)
@@ -191,31 +112,80 @@ message_of limits W c all x tail is = message_front x tail _ (rw is at all.messa
 pub story_of : (limits : Limits) (W : List Dataset) (c : Begun) → AllCanContinue limits W c → (x tail : List ℕ) → object_so_far W c ≡ x ++ tail → StoryLivesIn x
 story_of limits W c all x tail is = story_front x tail (rw is at all.story)
 
--- ---- the end of the message
-
 -- after the head of 9:10 the message has ended
 pub ends_tokens : (ds : List Dataset) (h : Head) (taken : List ℕ) → h.rec ≡ 9 → message_tokens ds (InData h taken) ≡ map Octet (object_of ds) ++ End ∷ []
 ends_tokens ds h taken nine = rw (nine, append-nil) refl
 
-after_last : (ds : List Dataset) (d : Dataset) → d.rec ≡ 9 → message_tokens (ds ++ d ∷ []) (InTag []) ≡ map Octet (object_of ds) ++ End ∷ []
-after_last ds d nine = rw (objects_append ds (d ∷ []), last_more 0 ds d, nine, append-nil) refl
+-- ---- every layer can continue from fewer
 
--- Where the head of 9:10 has come, a message can end with the octets of the object.
-pub message_ends : LowerLaws → (limits : Limits) (W : List Dataset) (c : Begun) → AllCanContinue limits W c
-    → (whole : List Dataset) (head : Head) (z : List ℕ) → Follows whole head z W c → head.rec ≡ 9
-    → languages.IsAlive MessageLanguage (map Octet (object_of whole) ++ End ∷ [])
-message_ends laws limits W c all whole head z (inr (same, begun, less)) nine =
-    let here : AllCanContinue limits whole (InData head z) = rw (same, begun) at all in rw (ends_tokens whole head z nine) at here.message
-message_ends laws limits W c all whole head z (inl (d, ws, tail, is, h, rest)) nine =
-    let rec : d.rec ≡ 9 = ap (λ (k : Head). k.rec) h ∙ nine in
-    let sections = (laws.last_record whole d (in_front laws limits W c all.sizes whole ws d is).alive).0 rec in
-    let alive = alive_of limits W c all.sizes in
-    let regroup : (ms : List Dataset) → W ++ ms ≡ (whole ++ d ∷ []) ++ (ws ++ ms) = λ ms. rw is (simp append_assoc) in
-    let later : ws ++ alive.0 ≡ [] = laws.sections (whole ++ d ∷ []) (ws ++ alive.0) sections (rw regroup at alive.1) in
-    let none = empty_front ws alive.0 later in
-    at_last c (rw (is, none) at all) sections rec
-  where
-    at_last : (b : Begun) → AllCanContinue limits (whole ++ d ∷ []) b → AreSections (whole ++ d ∷ []) → d.rec ≡ 9
-        → languages.IsAlive MessageLanguage (map Octet (object_of whole) ++ End ∷ [])
-    at_last (InTag held) all' sections rec = rw (after_last whole d rec) at all'.message
-    at_last (InData k taken) all' sections rec = absurd (not_all laws.sections (whole ++ d ∷ []) k all'.sizes.records sections)
+pub same_data : (d : Dataset) (head : Head) (given : List ℕ) → head_of d ≡ head → d.octets ≡ given → d ≡ data_of head given
+same_data d head given h o = λ i. record { rec = (h i).rec; set = (h i).set; octets = o i }
+
+-- from fewer of the data
+fewer : (limits : Limits) {V : List Dataset} {b : Begun} (ds : List Dataset) (h : Head) (taken z : List ℕ) → AllCanContinue limits V b
+    → CanContinueAt limits ds h → object_so_far V b ≡ object_so_far ds (InData h taken) ++ brought h z → section V b ≡ h.rec
+    → AllCanContinue limits ds (InData h taken)
+fewer limits {V} {b} ds h taken z all goes object rec =
+    let o = object_so_far ds (InData h taken) in
+    record {
+      sizes = goes;
+      message = elim (eqb_tells h.rec 9) [
+        | inl nine ↦ rw (rec, object ∙ ap (λ (r : ℕ). o ++ (if nat_eq r 8 then z else [])) nine.1 ∙ append-nil o) at all.message
+        | inr other ↦ rw (other.0, append-nil) (message_of limits V b all o (brought h z) object)
+      ];
+      story = story_of limits V b all o (brought h z) object;
+    }
+
+module _ (laws : LowerLaws) (limits : Limits) (W : List Dataset) (c : Begun) (all : AllCanContinue limits W c) where
+  -- from the first of the datasets
+  pub front_goes : (ds ws : List Dataset) (d : Dataset) → W ≡ ds ++ d ∷ ws → AllCanContinue limits (ds ++ d ∷ []) (InTag [])
+  front_goes ds ws d is = elim (eqb_tells d.rec 9) [
+    | inl nine ↦
+        let (sections, none) = nine_ends laws.sections laws.last_record ds d ws (rw is at (alive_of limits W c all.sizes)) nine.1 in
+        at_last c (rw (is, none) at all) sections
+    | inr other ↦
+        let parts : W ≡ (ds ++ d ∷ []) ++ ws = is ∙ sym (append_assoc ds (d ∷ []) ws) in
+        let alive : SectionsLive (ds ++ d ∷ []) = front_alive (ds ++ d ∷ []) ws (rw parts at (alive_of limits W c all.sizes)) in
+        let sized = (laws.live W (records_alive W (alive_of limits W c all.sizes))).1 (object_lives_after laws limits W c all.sizes) in
+        let object : object_so_far W c ≡ object_of (ds ++ d ∷ []) ++ object_so_far ws c = rw parts (so_far_both (ds ++ d ∷ []) ws c) in
+        let within = within_front limits (ds ++ d ∷ []) ws (rw parts at (within_of limits W c all.sizes)) in
+        let lives = lives_after laws.live (ds ++ d ∷ []) alive (alive_front AreSized (ds ++ d ∷ []) ws (rw parts at sized)) in
+        record {
+          sizes = record { records = alive; within = within; object = lives };
+          message = rw (last_more 0 ds d, other.0, append-nil) (message_of limits W c all (object_of (ds ++ d ∷ [])) (object_so_far ws c) object);
+          story = story_of limits W c all (object_of (ds ++ d ∷ [])) (object_so_far ws c) object;
+        }
+  ]
+    where
+      at_last : (b : Begun) → AllCanContinue limits (ds ++ d ∷ []) b → AreSections (ds ++ d ∷ []) → AllCanContinue limits (ds ++ d ∷ []) (InTag [])
+      at_last (InTag held) goes sections = record { sizes = goes.sizes; message = goes.message; story = goes.story }
+      at_last (InData k taken) goes sections = absurd (not_all laws.sections (ds ++ d ∷ []) k goes.sizes.records sections)
+
+  -- with the head of the next one
+  goes_at : (ds ws : List Dataset) (d : Dataset) → W ≡ ds ++ d ∷ ws → CanContinueAt limits ds (head_of d)
+  goes_at ds ws d is =
+      let front = (front_goes ds ws d is).sizes in
+      let within = rw is at (within_of limits W c all.sizes) in
+      let room = leaves_room limits ds d ws within in
+      let lives = lives_at laws ds d front.records ((laws.live (ds ++ d ∷ []) (records_alive (ds ++ d ∷ []) front.records)).1 front.object) room.subfiles in
+      record { records = (d, refl, front.records); within = within_front limits ds (d ∷ ws) within; room = room; object = lives }
+
+  -- with a head that has come, and some of its data
+  pub led_in : (ds : List Dataset) (h : Head) (taken more : List ℕ) → length taken ≤ h.count → Follows ds h (taken ++ more) W c
+      → AllCanContinue limits ds (InData h taken)
+  led_in ds h taken more fits (inr (same, begun, less)) =
+      let here : AllCanContinue limits ds (InData h (taken ++ more)) = rw (same, begun) at all in
+      fewer limits ds h taken more here here.sizes (more_object ds h taken more) refl
+  led_in ds h taken more fits (inl (d, ws, tail, is, head, rest)) =
+      let (z, octets) = longer_front taken more d.octets tail rest (omega (arith, fits, ap (λ (k : Head). k.count) head)) in
+      let closed = rw (same_data d h (taken ++ z) head octets) at (front_goes ds ws d is) in
+      fewer limits ds h taken z closed (rw head at (goes_at ds ws d is)) (closed_object ds h taken z) (last_more 0 ds (data_of h (taken ++ z)))
+
+  -- with a value that has come
+  pub value_goes : (ds : List Dataset) (h : Head) (given more : List ℕ) → length given ≡ h.count → Follows ds h (given ++ more) W c
+      → CanContinue limits (ds ++ data_of h given ∷ [])
+  value_goes ds h given more many (inl (d, ws, tail, is, head, rest)) =
+      let count : length d.octets ≡ length given = ap (λ (k : Head). k.count) head ∙ sym many in
+      let same = same_data d h given head (same_front d.octets given tail more count (sym rest)).0 in
+      (rw same at (front_goes ds ws d is)).sizes
+  value_goes ds h given more many (inr (same, begun, less)) = absurd (omega (arith, less, many, length-append given more))

@@ -1,7 +1,10 @@
--- Framed octets.
+-- Framed and admitted octets: none are empty, none begin others, and they have one value.
 use Rattle.std.proofs.Common.{◌≡◌, ℕ, true, false, List, [], ◌∷◌, ◌++◌, ap, sym, subst, ◌∙◌, inl, inr}
 use Rattle.iim_places.proofs.Words.{append-nil, Dataset, SpellsStream, count_octets, NoDatasetBeginsAnother, compare, AreSections, NoSectionsBeginOthers}
-use Rattle.iim_places.proofs.Words.{NoEnvelopeIsEmpty}
+use Rattle.iim_places.proofs.Words.{NoEnvelopeIsEmpty, of_record, kept, RecordsAreByNumber, AreSized, SizesAreDetermined, MessagesHaveOneReading, Value, Admits}
+use Rattle.iim_places.proofs.Words.{object_of, AdmittedOctetsHaveOneValue, NoAdmittedOctetsBeginOthers, AdmittedOctetsAreFramed}
+use Rattle.iim_places.proofs.Objects.{are_records}
+use Rattle.wire_story.specs.Laws.{TextsHaveOneReading}
 use Rattle.iim_tables.specs.Format.Rows.{table}
 
 -- ---- no envelope is empty
@@ -17,15 +20,9 @@ no_envelope_is_empty limits framed = none framed.datasets framed.spelled framed.
     none : (ds : List Dataset) → SpellsStream count_octets ds [] → AreSections ds → ⊥
     none [] spelled sections = no_sections sections
     none (d ∷ ds) (first, rest, spelled, later, parts) sections =
-        let tag : first ++ rest ≡ 28 ∷ d.rec ∷ d.set ∷ ((spelled.is_tag.count ++ d.octets) ++ rest) =
-        ap (λ l. l ++ rest) (spelled.parts ∙ ap (λ l. l ++ d.octets) spelled.is_tag.parts) in
-        let bad : [] ≡ 28 ∷ d.rec ∷ d.set ∷ ((spelled.is_tag.count ++ d.octets) ++ rest) = parts ∙ tag in cc
+        let bad = parts ∙ ap (λ l. l ++ rest) (spelled.parts ∙ ap (λ l. l ++ d.octets) spelled.is_tag.parts) in cc
 
 -- ---- no envelope begins another
-
-no_stream : (ds : List Dataset) (x : List ℕ) → ds ≡ [] → SpellsStream count_octets ds x → x ≡ []
-no_stream [] x none s = s
-no_stream (d ∷ ds) x none s = cc
 
 -- datasets of an envelope that begin those of another are all of it
 pub envelope_alone : NoDatasetBeginsAnother → NoSectionsBeginOthers → (ds es : List Dataset) (f z : List ℕ) → SpellsStream count_octets ds f → AreSections ds
@@ -34,7 +31,35 @@ envelope_alone one ends ds es f z s a t b =
     elim (compare one ds es f (f ++ z) z [] s t (sym (append-nil (f ++ z)))) [
       | inl (more, r, is, stream, rest) ↦
           let none : more ≡ [] = ends es more b (subst AreSections (sym is) a) in
-          (sym is ∙ (ap (λ (xs : List Dataset). es ++ xs) none ∙ append-nil es), ap (λ l. l ++ z) (sym (no_stream more r none stream)) ∙ rest)
+          let empty : r ≡ [] = rw none at stream in
+          (sym is ∙ rw none (append-nil es), rw empty at rest)
       | inr next ↦
           let bad : next.dataset ∷ next.more ≡ [] = ends ds (next.dataset ∷ next.more) a (subst AreSections next.parts b) in absurd cc
     ]
+
+-- ---- one value
+
+pub one_value : NoDatasetBeginsAnother → NoSectionsBeginOthers → SizesAreDetermined → MessagesHaveOneReading → TextsHaveOneReading → AdmittedOctetsHaveOneValue
+one_value one ends determined messages texts octets v w a b =
+    let same = (envelope_alone one ends a.datasets b.datasets octets [] a.spelled a.sections (rw append-nil b.spelled) b.sections).0 in
+    let read = messages (object_of a.datasets) v.head w.head a.text b.text v.trailer w.trailer a.message (rw (← same) at b.message) in
+    let lines = texts a.text v.lines w.lines a.lines (rw (← read.1) at b.lines) in
+    let fields : v.fields ≡ w.fields = sym a.fields ∙ (ap kept same ∙ b.fields) in
+    let sizes = determined (of_record 7 a.datasets) (of_record 8 a.datasets) (of_record 9 a.datasets) v.sizes w.sizes a.sizes (rw (← same) at b.sizes) in
+    λ i. record { fields = fields i; head = read.0 i; lines = lines i; trailer = read.2 i; sizes = sizes i }
+
+pub no_others : NoDatasetBeginsAnother → NoSectionsBeginOthers → NoAdmittedOctetsBeginOthers
+no_others one ends octets rest v w a b = (envelope_alone one ends a.datasets b.datasets octets rest a.spelled a.sections b.spelled b.sections).1
+
+-- ---- framed octets
+
+-- the sizes of an envelope's object agree
+pub sized_by : RecordsAreByNumber → (octets : List ℕ) (v : Value) → (a : Admits octets v) → AreSized a.datasets
+sized_by by_number octets v a =
+    let records = are_records a.datasets a.sections in
+    let is = by_number a.datasets records in
+    record { records = records; sizes = v.sizes; have = rw (is.sevens, is.eights, is.nines) at a.sizes }
+
+pub framed_of : AdmittedOctetsAreFramed
+framed_of limits octets v a within =
+    record { datasets = a.datasets; spelled = a.spelled; sections = a.sections; sizes = v.sizes; agree = a.sizes; within = within }

@@ -1,37 +1,44 @@
 -- The last record of whole datasets.
-use Rattle.std.proofs.Common.{◌≡◌, ◌⊎◌, List, [], ◌∷◌, ◌++◌, refl, ap, sym, subst, ◌∙◌, inl, inr, arith, append_assoc}
+use Rattle.std.proofs.Common.{◌≡◌, ◌⊎◌, List, [], ◌∷◌, ◌++◌, refl, sym, subst, inl, inr, arith, append_assoc}
 use Rattle.iim_places.proofs.Words.{Dataset, Head, AreSections, SectionsLive, SectionsLiveAt, section_after, EnvelopesEndWithTheLastRecord}
-use Rattle.iim_places.proofs.Words.{NoSectionsBeginOthers, last_more}
+use Rattle.iim_places.proofs.Words.{NoSectionsBeginOthers, last_more, front_alive}
 use Rattle.iim_places.proofs.Frames.{no_sections}
+use Rattle.iim_places.proofs.Fronts.{empty_front}
 
 abbrev pub SplitLast : List Dataset → Type 0
 SplitLast ds = (ds ≡ []) ⊎ ((front : List Dataset) × (d : Dataset) × (ds ≡ front ++ d ∷ []))
 
 pub split_last : (ds : List Dataset) → SplitLast ds
 split_last [] = inl refl
-split_last (d ∷ ds) = by (split_last ds)
-  where
-    by : SplitLast ds → SplitLast (d ∷ ds)
-    by (inl none) = inr ([], d, λ i. d ∷ none i)
-    by (inr (front, e, is)) = inr (d ∷ front, e, λ i. d ∷ is i)
+split_last (d ∷ ds) = elim (split_last ds) [
+  | inl none ↦ inr ([], d, λ i. d ∷ none i)
+  | inr (front, e, is) ↦ inr (d ∷ front, e, λ i. d ∷ is i)
+]
 
 pub sections_last : EnvelopesEndWithTheLastRecord → (ds : List Dataset) → SectionsLive ds → AreSections ds → section_after ds ≡ 9
-sections_last ends ds alive sections = by (split_last ds)
-  where
-    by : SplitLast ds → section_after ds ≡ 9
-    by (inl none) = absurd (no_sections (subst AreSections none sections))
-    by (inr (front, d, is)) =
-        ap section_after is ∙ last_more 0 front d ∙ (ends front d (subst SectionsLive is alive)).1 (subst AreSections is sections)
+sections_last ends ds alive sections = elim (split_last ds) [
+  | inl none ↦ absurd (no_sections (rw none at sections))
+  | inr (front, d, is) ↦ rw (is, last_more 0 front d) ((ends front d (rw is at alive)).1 (rw is at sections))
+]
 
 pub last_sections : EnvelopesEndWithTheLastRecord → (ds : List Dataset) → SectionsLive ds → section_after ds ≡ 9 → AreSections ds
-last_sections ends ds alive nine = by (split_last ds)
-  where
-    by : SplitLast ds → AreSections ds
-    by (inl none) = absurd (let bad : 0 ≡ 9 = sym (ap section_after none) ∙ nine in omega (arith, bad))
-    by (inr (front, d, is)) =
-        subst AreSections (sym is) ((ends front d (subst SectionsLive is alive)).0 (sym (last_more 0 front d) ∙ sym (ap section_after is) ∙ nine))
+last_sections ends ds alive nine = elim (split_last ds) [
+  | inl none ↦ absurd (let bad : 0 ≡ 9 = rw none at nine in omega (arith, bad))
+  | inr (front, d, is) ↦ rw is ((ends front d (rw is at alive)).0 (rw (is, last_more 0 front d) at nine))
+]
+
+-- Datasets of an envelope that can continue with others are followed by none.
+pub all_of : NoSectionsBeginOthers → (ds more : List Dataset) → AreSections ds → SectionsLive (ds ++ more) → more ≡ []
+all_of law ds more sections (later, are) = empty_front more later (law ds (more ++ later) sections (rw append_assoc at are))
 
 -- datasets after which a head may stand are no envelope
 pub not_all : NoSectionsBeginOthers → (ds : List Dataset) (h : Head) → SectionsLiveAt ds h → AreSections ds → ⊥
-not_all law ds h (d, head, (later, are)) sections =
-    let bad : d ∷ later ≡ [] = law ds (d ∷ later) sections (subst AreSections (append_assoc ds (d ∷ []) later) are) in absurd cc
+not_all law ds h (d, head, alive) sections = let bad : d ∷ [] ≡ [] = all_of law ds (d ∷ []) sections alive in cc
+
+-- A dataset of record 9 is the last of an envelope.
+pub nine_ends : NoSectionsBeginOthers → EnvelopesEndWithTheLastRecord → (xs : List Dataset) (d : Dataset) (ys : List Dataset) → SectionsLive (xs ++ d ∷ ys)
+    → d.rec ≡ 9 → AreSections (xs ++ d ∷ []) × (ys ≡ [])
+nine_ends law ends xs d ys alive nine =
+    let longer = subst SectionsLive (sym (append_assoc xs (d ∷ []) ys)) alive in
+    let sections = (ends xs d (front_alive (xs ++ d ∷ []) ys longer)).0 nine in
+    (sections, all_of law (xs ++ d ∷ []) ys sections longer)

@@ -14,7 +14,6 @@ pub mod Results
 pub mod Lasts
 pub mod Following
 pub mod Answering
-pub mod Admitted
 pub mod Tickets
 pub mod TicketLengths
 pub mod SameRecords

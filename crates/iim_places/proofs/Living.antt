@@ -13,19 +13,13 @@ alive_front L xs ys alive = (ys ++ alive.0, subst L (append_assoc xs ys alive.0)
 -- where octets have one of the kind, it stands first among more of them too
 first_found : (p : ℕ → Bool) (x y : List ℕ) → list_any p x ≡ true → (position_or_len p (x ++ y) ≡ position_or_len p x) × (position_or_len p x < length x)
 first_found p [] y found = absurd (let bad : false ≡ true = found in cc)
-first_found p (b ∷ x) y found = elim (cases_Bool (p b)) [
-  | inl is ↦ rw is (refl, omega arith)
-  | inr not' ↦ let more = first_found p x y (rw not' at found) in rw not' (omega (arith, more), omega (arith, more))
-]
+first_found p (b ∷ x) y found = grind (arith, first_found p x y, cases_Bool (p b))
 
 -- where they have none, it stands first among those that follow
 first_none : (p : ℕ → Bool) (x y : List ℕ) → list_any p x ≡ false
     → (position_or_len p (x ++ y) ≡ length x + position_or_len p y) × (position_or_len p x ≡ length x)
 first_none p [] y none = (omega arith, refl)
-first_none p (b ∷ x) y none = elim (cases_Bool (p b)) [
-  | inl is ↦ absurd (let bad : true ≡ false = rw is at none in cc)
-  | inr not' ↦ let more = first_none p x y (rw not' at none) in rw not' (omega (arith, more), omega (arith, more))
-]
+first_none p (b ∷ x) y none = grind (arith, first_none p x y, cases_Bool (p b))
 
 pub place_later : (p : ℕ → Bool) (x y : List ℕ) → list_any p x ≡ false → position_or_len p (x ++ y) ≡ length x + position_or_len p y
 place_later p x y none = (first_none p x y none).0
@@ -61,23 +55,22 @@ is_stx b = b == 2
 abbrev pub tokens_after_stx : List ℕ → List OctetOrEnd
 tokens_after_stx x = map Octet (before_first is_etx x) ++ (if list_any is_etx x then End ∷ [] else [])
 
-after_front : (x y : List ℕ) (b : Bool) → list_any is_etx x ≡ b → IsAlive StoryLanguage (tokens_after_stx (x ++ y)) → IsAlive StoryLanguage (tokens_after_stx x)
-after_front x y true found alive = rw found (rw (before_found is_etx x y found, list_any-append is_etx x y, found) at alive)
-after_front x y false none alive =
-    let later = map Octet (before_first is_etx y) ++ (if list_any is_etx (x ++ y) then End ∷ [] else []) in
-    let whole : IsAlive StoryLanguage (map Octet x ++ later) =
-    rw (before_later is_etx x y none, map-append Octet x (before_first is_etx y), append_assoc) at alive in
-    rw (before_all is_etx x none, none, append-nil) (alive_front StoryLanguage (map Octet x) later whole)
-
-story_by : (x y : List ℕ) (b : Bool) → list_any is_stx x ≡ b → StoryLivesIn (x ++ y) → StoryLivesIn x
-story_by x y true found alive =
-    after_front (after_stx x) y (list_any is_etx (after_stx x)) refl (subst (λ (t : List ℕ). IsAlive StoryLanguage (tokens_after_stx t)) (after_found is_stx x y found) alive)
-story_by x y false none alive =
-    subst (λ (t : List ℕ). IsAlive StoryLanguage (tokens_after_stx t)) (sym (after_none is_stx x none)) (alive_front StoryLanguage [] (tokens_after_stx (after_stx (x ++ y))) alive)
+after_front : (x y : List ℕ) → IsAlive StoryLanguage (tokens_after_stx (x ++ y)) → IsAlive StoryLanguage (tokens_after_stx x)
+after_front x y alive = elim (cases_Bool (list_any is_etx x)) [
+  | inl found ↦ rw found (rw (before_found is_etx x y found, list_any-append is_etx x y, found) at alive)
+  | inr none ↦
+      let later = map Octet (before_first is_etx y) ++ (if list_any is_etx (x ++ y) then End ∷ [] else []) in
+      let whole : IsAlive StoryLanguage (map Octet x ++ later) =
+      rw (before_later is_etx x y none, map-append Octet x (before_first is_etx y), append_assoc) at alive in
+      rw (before_all is_etx x none, none, append-nil) (alive_front StoryLanguage (map Octet x) later whole)
+]
 
 -- The story of fewer octets can continue.
 pub story_front : (x y : List ℕ) → StoryLivesIn (x ++ y) → StoryLivesIn x
-story_front x y alive = story_by x y (list_any is_stx x) refl alive
+story_front x y alive = elim (cases_Bool (list_any is_stx x)) [
+  | inl found ↦ after_front (after_stx x) y (rw (after_found is_stx x y found) at alive)
+  | inr none ↦ rw (after_none is_stx x none) (alive_front StoryLanguage [] (tokens_after_stx (after_stx (x ++ y))) alive)
+]
 
 -- A message can continue from fewer octets.
 pub message_front : (x y : List ℕ) (ts : List OctetOrEnd) → IsAlive MessageLanguage (map Octet (x ++ y) ++ ts) → MessageLivesWith x

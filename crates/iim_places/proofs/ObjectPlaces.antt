@@ -1,6 +1,6 @@
 -- Places of the object at its end, and before it.
-use Rattle.std.proofs.Common.{◌≡◌, ℕ, ◌<◌, [], ◌∷◌, ◌++◌, length, Option, refl, subst, arith}
-use Rattle.iim_places.proofs.Words.{IsAlive, TokensFollow, ObjectToken, ObjectEnded, Confirmed, ObjectLanguage, NotEnded, Ended, ConfirmedAs, MayFollow}
+use Rattle.std.proofs.Common.{◌≡◌, ℕ, [], ◌∷◌, ◌++◌, Option, refl, subst, arith}
+use Rattle.iim_places.proofs.Words.{nil_from_length, IsAlive, TokensFollow, ObjectToken, ObjectEnded, Confirmed, ObjectLanguage, NotEnded, Ended, ConfirmedAs, MayFollow}
 use Rattle.iim_places.proofs.Words.{place_after, tokens_of, IsPossible, State}
 use Rattle.iim_object.specs.Format.Places.{Place}
 use Rattle.iim_object.specs.States.Reading.{RefusesHead, RefusesValue, StandsAt}
@@ -12,13 +12,7 @@ use Rattle.iim_places.proofs.PlainSizes.{alive_front}
 
 -- the end may follow at a place after which it is possible
 pub may_end : (p : Place) → p.ending ≡ NotEnded → IsPossible (place_after p ObjectEnded) → MayFollow p ObjectEnded
-may_end p open' is = (
-  open',
-  elim p.lengths as (λ ls. (ls ≡ [] → Ended ≡ NotEnded) → 0 < length ls) [
-    | [] ↦ λ none. absurd (let bad : Ended ≡ NotEnded = none refl in cc)
-    | l ∷ ls ↦ λ none. omega arith
-  ] is.subfiles,
-)
+may_end p open' is = (open', grind (arith, nil_from_length p.lengths, is.subfiles))
 
 before : TokensFollow → (p : Place) (token : ObjectToken) → MayFollow p token → IsAlive ObjectLanguage (tokens_of (place_after p token)) → IsAlive ObjectLanguage (tokens_of p)
 before law p token may alive = alive_front (tokens_of p) (token ∷ []) (subst (IsAlive ObjectLanguage) (law p token may) alive)
@@ -28,13 +22,10 @@ before_end law p open' is =
     record { stated = is.stated; subfiles = λ none. open'; duties = is.duties; few = is.few; alive = before law p ObjectEnded (may_end p open' is) is.alive }
 
 pub before_size : TokensFollow → (p : Place) (n : ℕ) → IsPossible (place_after (place_after p ObjectEnded) (Confirmed n)) → IsPossible (place_after p ObjectEnded)
-before_size law p n is = record {
-  stated = is.stated;
-  subfiles = λ none. absurd (let bad : ConfirmedAs n ≡ NotEnded = is.subfiles none in cc);
-  duties = is.duties;
-  few = is.few;
-  alive = before law (place_after p ObjectEnded) (Confirmed n) refl is.alive;
-}
+before_size law p n is =
+    let alive = before law (place_after p ObjectEnded) (Confirmed n) refl is.alive in
+    let some : p.lengths ≡ [] → Ended ≡ NotEnded = λ none. absurd (let bad : ConfirmedAs n ≡ NotEnded = is.subfiles none in cc) in
+    record { stated = is.stated; subfiles = some; duties = is.duties; few = is.few; alive = alive }
 
 -- what dies with a token is not possible with it
 pub not_possible : TokensFollow → (p : Place) (token : ObjectToken) → MayFollow p token → (IsAlive ObjectLanguage (tokens_of p ++ token ∷ []) → ⊥) → IsPossible (place_after p token) → ⊥

@@ -124,9 +124,3 @@ no_dead_head layers.Record limits ds h goes dead = dead goes.records
 no_dead_head layers.Limits limits ds h goes dead = dead.1 goes.room
 no_dead_head layers.Object limits ds h goes dead = dead.2 goes.object
 no_dead_head rest limits ds h goes dead = dead
-
-pub no_dead_value : DatasetsLiveWithTheirTokens → (layer : Layer) (ds : List Dataset) (d : Dataset) → SectionsLive (ds ++ d ∷ [])
-    → IsAlive AreSized (ds ++ d ∷ []) → DiesAtValue layer ds d → ⊥
-no_dead_value live layers.Record ds d alive sized dead = dead alive
-no_dead_value live layers.Object ds d alive sized dead = dead.1 (lives_after live (ds ++ d ∷ []) alive sized)
-no_dead_value live rest ds d alive sized dead = dead

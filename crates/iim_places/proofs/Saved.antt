@@ -1,20 +1,16 @@
 -- What a ticket is restored to stands where the saved unpacker stood; and octets have a place.
-use Rattle.std.proofs.Common.{◌≡◌, ℕ, ◌<◌, ◌^◌, List, [], get_or, ap, refl, sym, subst, ◌∙◌, inl, inr, arith, append-nil}
-use Rattle.iim_places.proofs.Words.{Dataset, Begun, InTag, InData, IsWithin, Limits, saved, Value, OctetsHaveOnePlace, TicketsTellOnePlace, AreWithin}
+use Rattle.std.proofs.Common.{◌≡◌, ℕ, ◌<◌, ◌^◌, List, [], get_or, ap, refl, sym, subst, ◌∙◌, inr, arith, append-nil}
+use Rattle.iim_places.proofs.Words.{Dataset, Begun, InTag, InData, Head, Limits, saved, Value, OctetsHaveOnePlace, TicketsTellOnePlace, AreWithin}
 use Rattle.iim_places.proofs.Words.{LowerLaws, object_so_far, IsOpen, AreOpenOrWhole, widest, IsPossibleIn, IsTicketAt, IsEnvelopeWithin, IsPlaceOf}
-use Rattle.iim_places.proofs.Words.{present_version, place_of, ticket_in, ticket_of, MayContinue}
+use Rattle.iim_places.proofs.Words.{present_version, place_of, ticket_in, ticket_of, MayContinue, HaveRoom, AllCanContinue}
 use Rattle.wire_message.specs.States.SoFar.{LeadsTo}
 use Rattle.wire_message.specs.declared.place.Place.{Place as Message}
 use Rattle.iim_places.specs.Format.Tickets.{Place}
-use Rattle.iim_places.proofs.Answering.{Lives, lives_envelope, lives_open, one_reading}
+use Rattle.iim_places.proofs.Answering.{lives_as, one_reading}
 use Rattle.iim_places.proofs.Following.{message_of, story_of}
 use Rattle.iim_places.proofs.Tickets.{same_place}
 
 -- ---- the place of octets
-
-lives_as : LowerLaws → (limits : Limits) (octets : List ℕ) → AreOpenOrWhole limits octets → Lives limits octets
-lives_as laws limits octets (inl opens) = lives_open limits octets opens
-lives_as laws limits octets (inr (v, whole)) = lives_envelope laws limits octets v whole
 
 pub one_place : LowerLaws → (start : Message) → LeadsTo [] [] start → OctetsHaveOnePlace
 one_place laws start begins limits octets comes =
@@ -35,29 +31,21 @@ one_place laws start begins limits octets comes =
 
 -- ---- under wider limits
 
-within_wider : (limits : Limits) (octets fields : ℕ) → limits.octets < 2 ^ 32 → limits.fields < 2 ^ 32 → IsWithin limits octets fields → IsWithin widest octets fields
-within_wider limits octets fields less few within = record { octets_in = let low = within.octets_in in omega (arith, less, low); fields_in = let low = within.fields_in in omega (arith, few, low) }
-
 are_wider : (limits : Limits) (ds : List Dataset) → limits.octets < 2 ^ 32 → limits.fields < 2 ^ 32 → AreWithin limits ds → AreWithin widest ds
-are_wider limits ds less few within = record { kept = within_wider limits _ _ less few within.kept; subfiles = within.subfiles }
+are_wider limits ds less few within = grind (arith, less, few, within)
+
+room_wider : (limits : Limits) (ds : List Dataset) (h : Head) → limits.octets < 2 ^ 32 → limits.fields < 2 ^ 32 → HaveRoom limits ds h → HaveRoom widest ds h
+room_wider limits ds h less few room = grind (arith, less, few, room)
 
 goes_wider : (limits : Limits) (ds : List Dataset) (b : Begun) → limits.octets < 2 ^ 32 → limits.fields < 2 ^ 32 → MayContinue limits ds b → MayContinue widest ds b
 goes_wider limits ds (InTag held) less few goes = record { records = goes.records; within = are_wider limits ds less few goes.within; object = goes.object }
-goes_wider limits ds (InData h taken) less few goes = record {
-  records = goes.records;
-  within = are_wider limits ds less few goes.within;
-  room = record { kept = λ is. within_wider limits _ _ less few (goes.room.kept is); subfiles = goes.room.subfiles };
-  object = goes.object;
-}
+goes_wider limits ds (InData h taken) less few goes = assumption (are_wider limits ds less few goes.within, room_wider limits ds h less few goes.room)
 
 pub open_wider : (limits : Limits) (octets : List ℕ) → limits.octets < 2 ^ 32 → limits.fields < 2 ^ 32 → IsOpen limits octets → IsOpen widest octets
-open_wider limits octets less few opens = record {
-  whole = opens.whole;
-  begun = opens.begun;
-  reads = opens.reads;
-  leads_on = record { sizes = goes_wider limits opens.whole opens.begun less few opens.leads_on.sizes; message = opens.leads_on.message; story = opens.leads_on.story };
-  unfinished = opens.unfinished;
-}
+open_wider limits octets less few opens =
+    let sizes = goes_wider limits opens.whole opens.begun less few opens.leads_on.sizes in
+    let goes : AllCanContinue widest opens.whole opens.begun = assumption sizes in
+    record { whole = opens.whole; begun = opens.begun; reads = opens.reads; leads_on = goes; unfinished = opens.unfinished }
 
 pub whole_wider : (limits : Limits) (octets : List ℕ) (v : Value) → limits.octets < 2 ^ 32 → limits.fields < 2 ^ 32 → IsEnvelopeWithin limits octets v → IsEnvelopeWithin widest octets v
 whole_wider limits octets v less few whole = record { admits = whole.admits; within = are_wider limits whole.admits.datasets less few whole.within }

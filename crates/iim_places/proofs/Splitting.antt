@@ -1,6 +1,6 @@
 -- What octets begin with is determined: their layout has one reading.
-use Rattle.std.proofs.Common.{◌≡◌, ℕ, ◌+◌, ◌-◌, ◌<◌, ◌≤◌, ◌^◌, ◌==◌, nat_eq, if◌then◌else◌, Bool, true, false, List, [], ◌∷◌, ◌++◌, length, take, drop, Option, Some, None, refl, ap, sym, ◌∙◌, arith, append_assoc, append-nil, length-append}
-use Rattle.iim_places.proofs.Words.{nil_from_length, flat_map-append, take-append-drop, length-take, AllByRecursion, flat_map, Dataset, all_append, Phase, four, TagBegun, DataBegun, AllEnded, ticket_name, wide, phase_octets, field_octets, fields_octets, text_octets, IsLongField, came, AreFields, AreNumbersIn, AreTexts, IsSizeIn, IsShort, IsWide, IsPhase, HasForm, Split, split_octets, TicketsHaveOneSplit, AreNoMessage, AreNoBody, BeginsWithNoData, body_octets, message_parts}
+use Rattle.std.proofs.Common.{◌≡◌, ℕ, ◌+◌, ◌-◌, ◌<◌, ◌≤◌, ◌^◌, ◌==◌, nat_eq, Bool, true, false, List, [], ◌∷◌, ◌++◌, length, take, drop, Option, Some, None, refl, ap, sym, ◌∙◌, inl, inr, arith, append_assoc, append-nil, length-append}
+use Rattle.iim_places.proofs.Words.{cases_Bool, nil_from_length, flat_map-append, take-append-drop, length-take, AllByRecursion, flat_map, Dataset, all_append, Phase, four, TagBegun, DataBegun, AllEnded, ticket_name, wide, phase_octets, field_octets, fields_octets, text_octets, IsLongField, came, AreFields, AreNumbersIn, AreTexts, IsSizeIn, IsShort, IsWide, IsPhase, HasForm, Split, split_octets, TicketsHaveOneSplit, AreNoMessage, AreNoBody, BeginsWithNoData, body_octets, message_parts}
 use Rattle.std.specs.Int.{w64, from_be_bytes, to_be_bytes}
 use Rattle.std.proofs.lemmas.Nat.{from_be_bytes-to_be_bytes_8}
 use Rattle.iim_dataset.specs.HandedIn.{same_front}
@@ -22,12 +22,10 @@ one_eight m n a b hm hn e =
 
 -- a number as wide as the version has it
 one_wide : (version : ℕ) → HasOne (IsWide version) (wide version)
-one_wide version m n a b = by (nat_eq version 1)
-  where
-    by : (is : Bool) → m < 256 ^ (if is then 4 else 8) → n < 256 ^ (if is then 4 else 8)
-        → (if is then four m else to_be_bytes w64 m) ++ a ≡ (if is then four n else to_be_bytes w64 n) ++ b → (m ≡ n) × (a ≡ b)
-    by true hm hn e = one_four m n a b (omega (arith, hm)) (omega (arith, hn)) e
-    by false hm hn e = one_eight m n a b (omega (arith, hm)) (omega (arith, hn)) e
+one_wide version m n a b hm hn e = elim (cases_Bool (nat_eq version 1)) [
+  | inl first ↦ one_four m n a b (rw first at hm) (rw first at hn) (rw first at e)
+  | inr later ↦ one_eight m n a b (rw later at hm) (rw later at hn) (rw later at e)
+]
 
 pub one_text : (x y a b : List ℕ) → text_octets x ++ a ≡ text_octets y ++ b → (x ≡ y) × (a ≡ b)
 one_text x y a b e = same_front x y a b (first_same e) (rest_same e)
@@ -44,8 +42,7 @@ one_number version x y a b hx hy e = absurd (let bad = first_same e in omega (ar
 
 -- After some, what is left is spelled by the others.
 pub others : {X : Type 0} (Is : X → Type 0) (spelled : X → List ℕ) → HasOne Is spelled → (done xs : List X) (rest more : List ℕ) → AllByRecursion Is done
-    → AllByRecursion Is xs
-    → length done ≤ length xs → flat_map spelled done ++ rest ≡ flat_map spelled xs ++ more
+    → AllByRecursion Is xs → length done ≤ length xs → flat_map spelled done ++ rest ≡ flat_map spelled xs ++ more
     → (left : List X) × (xs ≡ done ++ left) × AllByRecursion Is left × (rest ≡ flat_map spelled left ++ more)
 others Is spelled one [] xs rest more h k few e = (xs, refl, k, e)
 others Is spelled one (d ∷ done) [] rest more h k few e = absurd (omega (arith, few))
@@ -56,8 +53,7 @@ others Is spelled one (d ∷ done) (x ∷ xs) rest more h k few e =
 
 -- Lists of as many have one reading.
 pub one_list : {X : Type 0} (Is : X → Type 0) (spelled : X → List ℕ) → HasOne Is spelled → (xs ys : List X) (a b : List ℕ) → AllByRecursion Is xs
-    → AllByRecursion Is ys
-    → length xs ≡ length ys → flat_map spelled xs ++ a ≡ flat_map spelled ys ++ b → (xs ≡ ys) × (a ≡ b)
+    → AllByRecursion Is ys → length xs ≡ length ys → flat_map spelled xs ++ a ≡ flat_map spelled ys ++ b → (xs ≡ ys) × (a ≡ b)
 one_list Is spelled one xs ys a b h k n e =
     let (left, parts, each, rests) = others Is spelled one xs ys a b h k (omega (arith, n)) e in
     let none : left ≡ [] = nil_from_length left (omega (arith, n, ap length parts, length-append xs left)) in
@@ -76,8 +72,7 @@ no_first Is spelled count octets none (x ∷ xs) rest each many e = none x (flat
 
 -- where one stands, and others are missing
 pub fewer_after : {X : Type 0} (Is : X → Type 0) (spelled : X → List ℕ) → HasOne Is spelled → (count : ℕ) (x : X) (octets rest : List ℕ) → Is x
-    → octets ≡ spelled x ++ rest
-    → BeginsWithFewer Is spelled count rest → BeginsWithFewer Is spelled (count + 1) octets
+    → octets ≡ spelled x ++ rest → BeginsWithFewer Is spelled count rest → BeginsWithFewer Is spelled (count + 1) octets
 fewer_after Is spelled one count x octets rest is parts fewer [] more each many e = omega (arith, many)
 fewer_after Is spelled one count x octets rest is parts fewer (y ∷ ys) more each many e =
     let both = one x y rest (flat_map spelled ys ++ more) is each.0 (sym parts ∙ (simp append_assoc at e)) in
@@ -124,27 +119,19 @@ no_more done count octets rest before fewer none ds more each many e =
     bad [] parts these follow = omega (arith, ap length (parts ∙ append-nil before.datasets), before.many, many, fewer)
     bad (x ∷ xs) parts these follow = none x (flat_map field_octets xs ++ more) these.0 (follow ∙ append_assoc (field_octets x) (flat_map field_octets xs) more)
 
--- The datasets before a rest are cut off.
-cut_fields : (count : ℕ) (octets rest front back : List ℕ) → FieldsBefore count octets rest → front ≡ take (length octets - length rest) octets
-    → back ≡ drop (length octets - length rest) octets
-    → (before : FieldsBefore count octets rest) × (front ≡ flat_map field_octets before.datasets) × (back ≡ rest)
-cut_fields count octets rest front back before is_front is_back =
-    let all : front ++ back ≡ octets = rw (is_front, is_back, take-append-drop) refl in
-    let ds : List ℕ = flat_map field_octets before.datasets in
-    let long : length front ≡ length ds = omega (arith, ap length is_front, length-take {A = ℕ}, length-append {A = ℕ}, ap length before.spelled) in
-    let both = same_front front ds back rest long (all ∙ before.spelled) in
-    (before, both.0, both.1)
-
--- These datasets are those that are held, and they stand there after their number.
+-- The datasets before a rest are those that are held, and they stand there after their number.
 pub cut_told : (all : List ℕ) (count : ℕ) (octets rest front back : List ℕ) → count < 2 ^ 32 → all ≡ four count ++ octets → FieldsBefore count octets rest
     → front ≡ take (length octets - length rest) octets
     → back ≡ drop (length octets - length rest) octets → (ds : List Dataset) → AllByRecursion IsLongField ds → front ≡ flat_map field_octets ds
     → (all ≡ fields_octets ds ++ back) × AreFields ds
 cut_told all count octets rest front back fits parts before is_front is_back ds each is =
-    let (b, was, same) = cut_fields count octets rest front back before is_front is_back in
-    let one = same_fields ds b.datasets each b.each (sym is ∙ was) in
-    let many : length ds ≡ count = ap length one ∙ b.many in
-    (parts ∙ rw (b.spelled, ← one, ← same, ← many) (simp append_assoc), record { each = each; few = rw many fits })
+    let cut : front ++ back ≡ octets = rw (is_front, is_back, take-append-drop) refl in
+    let held : List ℕ = flat_map field_octets before.datasets in
+    let long : length front ≡ length held = omega (arith, ap length is_front, length-take {A = ℕ}, length-append {A = ℕ}, ap length before.spelled) in
+    let (was, same) = same_front front held back rest long (cut ∙ before.spelled) in
+    let one = same_fields ds before.datasets each before.each (sym is ∙ was) in
+    let many : length ds ≡ count = ap length one ∙ before.many in
+    (parts ∙ rw (before.spelled, ← one, ← same, ← many) (simp append_assoc), record { each = each; few = rw many fits })
 
 -- ---- parts
 
@@ -166,10 +153,8 @@ one_phase version section (DataBegun s m l t) (DataBegun u n k v) a b hx hy e =
     let moved = simp append_assoc at (rest_same (rest_same e)) in
     let count = one_wide version m n (wide version l ++ (t ++ a)) (wide version k ++ (v ++ b)) hx.0 hy.0 moved in
     let left = one_wide version l k (t ++ a) (v ++ b) (omega (arith, hx.1, hx.0)) (omega (arith, hy.1, hy.0)) count.1 in
-    let c = count.0 in
-    let d = left.0 in
-    let taken = same_front t v a b (hx.2 ∙ (let same : came section m l ≡ came section n k = cc in same) ∙ sym hy.2) left.1 in
-    ((λ i. DataBegun (set i) (c i) (d i) (taken.0 i)), taken.1)
+    let taken = same_front t v a b (hx.2 ∙ (λ i. came section (count.0 i) (left.0 i)) ∙ sym hy.2) left.1 in
+    ((λ i. DataBegun (set i) (count.0 i) (left.0 i) (taken.0 i)), taken.1)
 one_phase version section AllEnded AllEnded a b hx hy e = (refl, rest_same e)
 one_phase version section p q a b hx hy e = absurd (let bad = first_same e in omega (arith, bad))
 
@@ -178,8 +163,7 @@ pub texts_after : (count : ℕ) (x octets rest : List ℕ) → IsShort x → oct
 texts_after = fewer_after IsShort text_octets one_short
 
 pub numbers_after : (version count : ℕ) (x : Option ℕ) (octets rest : List ℕ) → IsSizeIn version x → octets ≡ number_octets version x ++ rest
-    → BeginsWithFewer (IsSizeIn version) (number_octets version) count rest
-    → BeginsWithFewer (IsSizeIn version) (number_octets version) (count + 1) octets
+    → BeginsWithFewer (IsSizeIn version) (number_octets version) count rest → BeginsWithFewer (IsSizeIn version) (number_octets version) (count + 1) octets
 numbers_after version = fewer_after (IsSizeIn version) (number_octets version) (one_number version)
 
 pub no_text : (count : ℕ) (octets : List ℕ) → BeginsWithNone IsShort text_octets octets → BeginsWithFewer IsShort text_octets (count + 1) octets
@@ -287,8 +271,7 @@ some_left xs b is not e = let bad : true ≡ false = sym (ap (λ (l : List ℕ).
 
 -- that other octets follow
 pub no_message_end : (octets r1 r2 r3 more : List ℕ) (p c f : ℕ) (texts : List (List ℕ)) → octets ≡ p ∷ r1 → r1 ≡ c ∷ r2 → r2 ≡ f ∷ r3 → AreTexts texts
-    → r3 ≡ flat_map text_octets texts ++ more
-    → (more ≡ [] → ⊥) → AreNoMessage octets
+    → r3 ≡ flat_map text_octets texts ++ more → (more ≡ [] → ⊥) → AreNoMessage octets
 no_message_end octets r1 r2 r3 more p c f texts e1 e2 e3 are parts some q d g others these e =
     some (one_texts texts others more [] are these (cc (append-nil (flat_map text_octets others)))).1
 

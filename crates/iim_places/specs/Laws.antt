@@ -24,8 +24,6 @@ use Rattle.wire_story.specs.Laws.{StoriesEndAsTexts, StoriesLiveAsTextsSoFar, Te
 use Rattle.wire_message.specs.Laws.{LivingOctetsLeadOn, MessagesEndAfterEot, OctetsAreRefusedAlike, OctetsLeadOnAlike, OctetsLeadToOnePlace, PlacesAreSavedApart, ReadersStandAtLivingOctets, TextsStandBetweenStxAndEtx}
 use Rattle.iim_places.specs.States.ByLayers.{PlacesArePossibleByLayers}
 
--- ---- What the table of the causes tells, and what tests find.
-
 -- An octet is refused for the cause of the lowest number in its layer whose condition holds at the token that it completes exactly where tests,
 -- made one after the other, find that fault first.
 abbrev pub RefusalsTellTheLowestCause : Type 0
@@ -33,8 +31,6 @@ RefusalsTellTheLowestCause = (limits : Limits) (octets : List ℕ) (next : ℕ) 
     → RefusesNext limits octets next fault ↔ (IsOctet next × RefusesByTests limits octets next fault)
 
 -- ---- The envelopes that an input begins with, and what stands after them.
-
--- ---- laws
 
 -- An input has one listing, its envelopes and what stands after them.
 -- no twin (with ListingsAreLongest): no code has these words
@@ -48,8 +44,6 @@ ListingsAreLongest = (limits : Limits) (input : List ℕ) (es others : List List
     → IsListing limits input es x → Divides limits input others rest → length others ≤ length es
 
 -- ---- What a whole stream is answered: one answer, whatever the cut.
-
--- ---- laws
 
 -- Octets of which the next one is refused are open.
 abbrev pub RefusedOctetsWereOpen : Type 0
@@ -172,8 +166,6 @@ OctetsHaveOneTicket = (octets ticket other : List ℕ) → IsTicketOf octets tic
 abbrev pub TicketsHaveOneSplit : Type 0
 TicketsHaveOneSplit = (ticket : List ℕ) (s t : Split) → SplitsTicket ticket s → SplitsTicket ticket t → s ≡ t
 
--- ---- the tickets of places
-
 -- source, number, priority, category, words, info and trailer so far
 -- twin: "With two CR held in the text; and with a whole header", "Part, counter and flag of the message"; `judges_each_part_of_a_message`
 abbrev pub texts_of : MessagePlace → List (List ℕ)
@@ -199,8 +191,7 @@ split_of version p = record {
 abbrev pub TicketsOfPlacesAreSplit : Type 0
 TicketsOfPlacesAreSplit = (version : ℕ) (place : Place) → IsVersion version → IsPossibleIn version place → SplitsTicket (ticket_in version place) (split_of version place)
 
--- ---- The laws of the lower crates, as one record: what rests on any of them takes it whole.
-
+-- The laws of the lower crates, as one record: what rests on any of them takes it whole.
 pub record LowerLaws : Type 0 where
   -- of datasets
   pub one_tag : NoTagBeginsAnother
@@ -247,8 +238,7 @@ pub record LowerLaws : Type 0 where
   pub apart : PlacesAreSavedApart
   pub message_ends : MessagesEndAfterEot
 
--- ---- The laws of envelopes, streams, places and tickets, as one record: a field for each.
-
+-- The laws of envelopes, streams, places and tickets, as one record: a field for each.
 pub record PlaceLaws : Type 0 where
   -- admitted octets:
   pub no_envelope_is_empty : NoEnvelopeIsEmpty

@@ -1,16 +1,13 @@
-use Rattle.std.proofs.Common.{◌<◌, ◌^◌}
-use Rattle.iim_fields.specs.declared.limits.Limits.{Limits}
 use Rattle.iim_places.specs.Laws.{RefusalsTellTheLowestCause, RefusedOctetsWereOpen}
 use Rattle.iim_places.specs.States.ByLayers.{PlacesArePossibleByLayers}
-use Rattle.iim_places.proofs.Frames.{no_envelope_is_empty}
-use Rattle.iim_places.proofs.Admitted.{one_value, no_others, framed_of}
-use Rattle.iim_places.proofs.Bounds.{bounded_octets}
+use Rattle.iim_places.proofs.Frames.{no_envelope_is_empty, one_value, no_others, framed_of}
+use Rattle.iim_places.proofs.Bounds.{bounded_octets, envelope_bounded}
 use Rattle.iim_places.proofs.Lowest.{found_by_tests, told_by_table}
-use Rattle.iim_places.proofs.Answering.{envelope_bounded, nothing_continues, one_refusal, one_answer}
-use Rattle.iim_places.proofs.Listings.{ListingLaws, one_listing, longest}
+use Rattle.iim_places.proofs.Answering.{no_front, nothing_continues, one_refusal, one_answer}
+use Rattle.iim_places.proofs.Listings.{one_listing, longest}
 use Rattle.iim_places.proofs.Saved.{one_place}
 use Rattle.iim_places.proofs.ByLayers.{leads_by_layers, limits_told}
-use Rattle.iim_places.proofs.Onward.{no_front, open_where_none, continue_alike, refuse_alike}
+use Rattle.iim_places.proofs.Onward.{open_where_none, continue_alike, refuse_alike}
 use Rattle.iim_places.proofs.Scales.{layers_lead, small_places, present_scale_says}
 use Rattle.iim_places.proofs.Tickets.{one_ticket}
 use Rattle.iim_places.proofs.Splitting.{one_split}
@@ -32,10 +29,8 @@ returns c =
     c.story_laws.ensures.texts_have_one_reading in
     let others = no_others lower.one_dataset lower.sections in
     let none = no_front lower.one_tag lower.one_dataset lower.sections in
-    let bounded = bounded_octets lower.sections lower.last_record in
-    let answer = one_answer (record { lower = lower; tests = tests; value = value; others = others; none = none }) in
-    let listing : (limits : Limits) → limits.octets < 2 ^ 32 → limits.fields < 2 ^ 32 → ListingLaws limits =
-    λ limits octets fields. assumption (framed_of, no_envelope_is_empty) in
+    let bounded = bounded_octets lower in
+    let answer = one_answer lower tests value in
     let small = small_places lower c.object_laws.ensures.places_live_within in
     let split = tickets_split lower small in
     let told = one_told lower small in
@@ -46,12 +41,12 @@ returns c =
       open_where_none lower start.0 start.2,
       nothing_continues lower tests,
       one_refusal lower tests,
-      one_listing listing,
-      longest listing,
+      one_listing value others answer bounded,
+      longest value others answer bounded,
       one_place lower start.0 start.2,
       limits_told lower,
-      continue_alike lower none others,
-      refuse_alike lower tests none were_open,
+      continue_alike lower,
+      refuse_alike lower tests,
       present_scale_says lower c.object_laws.ensures.places_live_within,
       one_ticket lower.one_way lower.events_tell lower.one_place,
       one_split,
