@@ -1,14 +1,14 @@
 -- The ticket of a possible place has the form of a ticket: each number fits its octets.
-use Rattle.std.proofs.Common.{◌≡◌, ℕ, ◌+◌, ◌-◌, ◌<◌, ◌≤◌, ◌^◌, nat_eq, cond, if◌then◌else◌, Bool, true, false, List, [], ◌∷◌, ◌++◌, length, sum, get_or, Option}
-use Rattle.std.proofs.Common.{Some, None, refl, ap, sym, subst, ◌∙◌, inl, inr, arith, append_assoc, append-nil, length-append}
-use Rattle.iim_places.proofs.Words.{place_after, AllByRecursion, flat_map, eqb-true, Octets, greatest_size, Dataset, SpellsStream, SpellsTag, count_octets}
+use Rattle.std.proofs.Common.{◌≡◌, ℕ, ◌-◌, ◌<◌, ◌≤◌, ◌^◌, nat_eq, cond, if◌then◌else◌, Bool, true, false, List, [], ◌∷◌, ◌++◌, length, sum, get_or, Option}
+use Rattle.std.proofs.Common.{◌↔◌, rules, Some, None, refl, ap, sym, subst, ◌∙◌, inl, inr, arith, append_assoc, append-nil, length-append}
+use Rattle.iim_places.proofs.Words.{place_after, AllByRecursion, all_map, eqb_tells, nat_tests, Octets, Dataset, SpellsStream, SpellsTag, count_octets}
 use Rattle.iim_places.proofs.Words.{of_record, Begun, InTag, InData, Reads, kept, section_after, Head, BeginsTag, place_after_datasets, numbers_of}
 use Rattle.iim_places.proofs.Words.{stated_numbers, Stated, number_at, LeadsToSaved, MessagePlace, LowerLaws, object_so_far, section, AllCanContinue}
-use Rattle.iim_places.proofs.Words.{ObjectLives, MayContinue, Phase, TagBegun, AllEnded, present_version, phase_of, heads_of, place_of, ticket_in, layout}
-use Rattle.iim_places.proofs.Words.{text_octets, texts_octets, part_number, IsLongField, IsSizeIn, AreTexts, IsSize, AreNumbers, IsVersion, IsPhase, HasForm}
-use Rattle.iim_places.proofs.Words.{Split, SplitsTicket, split_octets, place_in, Possible, IsSmall, IsSmallPhase, IsSmallPlace, widest, SmallPlacesWerePossible}
-use Rattle.iim_places.proofs.Words.{TicketsTellOnePlace, TicketsOfPlacesAreSplit, texts_of, split_of, Limits, max_subfiles, greatest_size_before, CanContinueAt}
-use Rattle.iim_places.proofs.Words.{IsBegun, canonical_stream, place_at, place_ended, SubfileBegun}
+use Rattle.iim_places.proofs.Words.{ObjectLives, MayContinue, Phase, TagBegun, AllEnded, present_version, phase_of, heads_of, place_of, ticket_in, part_number}
+use Rattle.iim_places.proofs.Words.{IsLongField, IsSizeIn, AreTexts, IsSize, IsVersion, IsPhase, HasForm, Split, SplitsTicket, split_octets, place_in, Possible}
+use Rattle.iim_places.proofs.Words.{IsSmall, IsSmallPhase, IsSmallPlace, widest, SmallPlacesWerePossible, TicketsTellOnePlace, TicketsOfPlacesAreSplit}
+use Rattle.iim_places.proofs.Words.{texts_of, split_of, Limits, max_subfiles, greatest_size_before, CanContinueAt, IsBegun, canonical_stream, place_at}
+use Rattle.iim_places.proofs.Words.{place_ended, SubfileBegun}
 use Rattle.iim_fields.specs.Format.Faults.{joined}
 use Rattle.wire_message.specs.declared.saved.MessagePart.{MessagePart}
 use Rattle.wire_message.specs.declared.saved.MessagePart.TheVariants as part
@@ -70,11 +70,10 @@ IsLow p = p.number < 2 ^ 64
 
 pub each_low : (ds : List Dataset) → AllByRecursion IsOne ds → AllByRecursion (λ (d : Dataset). Octets d.octets) ds → AllByRecursion IsLow (numbers_of (of_record 7 ds))
 each_low [] ones octets = tt
-each_low (d ∷ ds) ones octets =
-    elim (nat_eq d.rec 7) as (λ b. nat_eq d.rec 7 ≡ b → AllByRecursion IsLow (numbers_of (cond b (d ∷ of_record 7 ds) (of_record 7 ds)))) [
-      | true ↦ λ is. (low 8 d.octets octets.0 (few_in_seven d (eqb-true d.rec 7 is) ones.0), each_low ds ones.1 octets.1)
-      | false ↦ λ is. each_low ds ones.1 octets.1
-    ] refl
+each_low (d ∷ ds) ones octets = elim (eqb_tells d.rec 7) [
+  | inl is ↦ rw is.0 (low 8 d.octets octets.0 (few_in_seven d is.1 ones.0), each_low ds ones.1 octets.1)
+  | inr other ↦ rw other.0 (each_low ds ones.1 octets.1)
+]
 
 -- what holds of each number that is stated, and where none is, holds of those that are told
 pub told_at : (Q : Option ℕ → Type 0) (set : ℕ) (ps : List Stated) → Q None → AllByRecursion (λ p. Q (Some p.number)) ps → Q (number_at set ps)
@@ -84,12 +83,6 @@ told_at Q set (p ∷ ps) none all =
 
 pub four_at : (Q : Option ℕ → Type 0) (ps : List Stated) → Q None → AllByRecursion (λ p. Q (Some p.number)) ps → AllByRecursion Q (stated_numbers ps)
 four_at Q ps none all = (told_at Q 10 ps none all, (told_at Q 20 ps none all, (told_at Q 90 ps none all, (told_at Q 95 ps none all, tt))))
-
-pub numbers_fit : (ps : List Stated) → AllByRecursion IsLow ps → AreNumbers (stated_numbers ps)
-numbers_fit ps all = record { each = four_at IsSize ps tt all; four = refl }
-
-pub ones_in : (ds : List Dataset) (b : Begun) → MayContinue widest ds b → AllByRecursion IsOne ds
-ones_in ds b goes = alive_ones ds (alive_of widest ds b goes)
 
 -- ---- the object
 
@@ -105,16 +98,9 @@ pub lives_in : (ds : List Dataset) (b : Begun) → MayContinue widest ds b → O
 lives_in ds (InTag held) goes = goes.object
 lives_in ds (InData h taken) goes = goes.object
 
-pub taken_fits : (octets : List ℕ) (ds : List Dataset) (b : Begun) → Reads count_octets octets ds b → MayContinue widest ds b → length (object_so_far ds b) ≤ greatest_size
-taken_fits octets ds b reads goes = let less = so_far_fits count_octets octets ds b reads in let fits = object_fits (place_in ds b) (lives_in ds b goes) in omega (arith, less, fits)
-
 heads_few : (limits : Limits) (ds : List Dataset) (b : Begun) → MayContinue limits ds b → heads_of ds b ≤ max_subfiles
 heads_few limits ds (InTag held) goes = goes.within.subfiles
-heads_few limits ds (InData h taken) goes =
-    elim (nat_eq h.rec 8) as (λ b. nat_eq h.rec 8 ≡ b → length (of_record 8 ds) + (if b then 1 else 0) ≤ max_subfiles) [
-      | true ↦ λ is. omega (arith, goes.room.subfiles (eqb-true h.rec 8 is))
-      | false ↦ λ is. omega (arith, goes.within.subfiles)
-    ] refl
+heads_few limits ds (InData h taken) goes = let room = goes.room.subfiles in let few = goes.within.subfiles in grind (arith, nat_tests)
 
 -- what holds of the place at a head of each record
 pub at_head : (P : objects.Place → Type 0) (ds : List Dataset) (h : Head) → P (place_after (place_after_datasets ds) (SubfileBegun h.count))
@@ -154,16 +140,8 @@ phase_fits octets ds (InTag held) reads =
 phase_fits octets ds (InData h taken) reads =
     (omega (arith, tag-lt h reads.is_rest.0 reads.is_rest.1), omega arith, given_fits (nat_eq h.rec 8) h.count taken reads.is_rest.2)
 
--- ---- the message
-
 texts_fit : (m : MessagePlace) → AreShortIn m → AreTexts (texts_of m)
-texts_fit m short = record {
-  each = (
-    omega (arith, short.source),
-    (omega (arith, short.number), (omega (arith, short.priority), (omega (arith, short.category), (omega (arith, short.words), (omega (arith, short.info), (omega (arith, short.trailer), tt)))))),
-  );
-  seven = refl;
-}
+texts_fit m short = record { each = search (rules, arith); seven = refl }
 
 -- ---- version 1
 
@@ -171,15 +149,13 @@ texts_fit m short = record {
 pub low_count : (ds : List Dataset) (h : Head) → CanContinueAt widest ds h → (h.rec ≡ 8 → h.count ≤ greatest_size_before) → h.count < 2 ^ 32
 low_count ds h goes small = elim (is_one ds h goes.records) [
   | inl keeps ↦ let room = (goes.room.kept keeps).octets_in in omega (arith, room)
-  | inr (inl eight) ↦ let low = small eight in omega (arith, low)
-  | inr (inr few) ↦ omega (arith, few)
+  | inr few ↦ grind arith
 ]
 
--- what a place has by the sizes of version 1 has the form of that version
-small_sizes : (numbers : List (Option ℕ)) → AllByRecursion IsSmall numbers → AllByRecursion (IsSizeIn 1) numbers
-small_sizes [] all = tt
-small_sizes (None ∷ numbers) all = (tt, small_sizes numbers all.1)
-small_sizes (Some n ∷ numbers) all = (omega (arith, all.0), small_sizes numbers all.1)
+-- the sizes of version 1 are those that its octets tell
+pub small_size : (o : Option ℕ) → IsSmall o ↔ IsSizeIn 1 o
+small_size None = (λ is. is, λ is. is)
+small_size (Some n) = (λ is. omega (arith, is), λ is. omega (arith, is))
 
 small_phase : (taken : ℕ) (ds : List Dataset) (b : Begun) → MayContinue widest ds b → IsPhase present_version (section ds b) (phase_of ds b)
     → IsSmallPhase (section ds b) taken (phase_of ds b) → IsPhase 1 (section ds b) (phase_of ds b)
@@ -191,10 +167,7 @@ small_phase taken ds (InData h xs) goes form small = (low_count ds h goes (λ ei
 -- ---- a ticket
 
 pub spelled : (version : ℕ) (p : Place) → ticket_in version p ≡ split_octets (split_of version p)
-spelled version p =
-    let texts : texts_octets p.message ≡ flat_map text_octets (texts_of p.message) = simp (append_assoc, append-nil) in
-    let message = part_number p.message.part ∷ p.message.counter ∷ p.message.flag ∷ [] in
-    ap (λ (xs : List ℕ). layout version p.section p.phase p.fields p.numbers p.taken p.heads (message ++ xs)) texts
+spelled version p = simp (append_assoc, append-nil)
 
 form_of : (version : ℕ) (place : Place) (l : Lived place) → IsVersion version → (version ≡ 1 → IsSmallPlace (place_of l.whole l.begun l.message))
     → HasForm (split_of version (place_of l.whole l.begun l.message))
@@ -202,12 +175,13 @@ form_of version place l is small =
     let ds = l.whole in
     let goes = l.leads_on.sizes in
     let room = (within_of widest ds l.begun goes).kept in
+    let low = each_low ds (alive_ones ds (alive_of widest ds l.begun goes)) (each_octets ds l.reads.front l.reads.is_front) in
     let present : HasForm (split_of present_version (place_of ds l.begun l.message)) = record {
       version = inr refl;
       phase = phase_fits l.octets ds l.begun l.reads;
       fields = record { each = each_fits (kept ds) (omega (arith, room.octets_in)); few = omega (arith, room.fields_in) };
-      numbers = numbers_fit (numbers_of (of_record 7 ds)) (each_low ds (ones_in ds l.begun goes) (each_octets ds l.reads.front l.reads.is_front));
-      taken = omega (arith, taken_fits l.octets ds l.begun l.reads goes);
+      numbers = record { each = four_at IsSize (numbers_of (of_record 7 ds)) tt low; four = refl };
+      taken = omega (arith, so_far_fits count_octets l.octets ds l.begun l.reads, object_fits (place_in ds l.begun) (lives_in ds l.begun goes));
       heads = omega (arith, heads_few widest ds l.begun goes);
       texts = texts_fit l.message (texts_led (object_so_far ds l.begun) l.text l.message l.leads);
     } in
@@ -216,7 +190,7 @@ form_of version place l is small =
         version = inl refl;
         phase = small_phase (length (object_so_far ds l.begun)) ds l.begun goes present.phase s.begun;
         fields = present.fields;
-        numbers = record { each = small_sizes (stated_numbers (numbers_of (of_record 7 ds))) s.numbers; four = refl };
+        numbers = record { each = all_map IsSmall (IsSizeIn 1) (stated_numbers (numbers_of (of_record 7 ds))) (λ o. (small_size o).0) s.numbers; four = refl };
         taken = omega (arith, s.taken);
         heads = present.heads;
         texts = present.texts;

@@ -1,8 +1,8 @@
 -- A refusal tells the lowest cause of its layer exactly where tests find it first.
-use Rattle.std.proofs.Common.{◌≡◌, ◌≢◌, ℕ, zero, suc, ◌<◌, ◌≤◌, ◌⊎◌, ◌↔◌, Bool, true, false, not, ◌&&◌, ◌||◌, nat_eq, nat_lt, if◌then◌else◌, List, [], ◌∷◌, map, ◌++◌, length, replicate, Option, Some, None, refl, ap, sym, ◌∙◌, inl, inr, arith, length-append, append-nil}
+use Rattle.std.proofs.Common.{rules, ◌≡◌, ◌≢◌, ℕ, zero, suc, ◌<◌, ◌≤◌, ◌⊎◌, ◌↔◌, Bool, true, false, not, ◌&&◌, ◌||◌, nat_eq, nat_lt, if◌then◌else◌, List, [], ◌∷◌, map, ◌++◌, length, replicate, Option, Some, None, refl, ap, sym, ◌∙◌, inl, inr, arith, length-append, append-nil}
 use Rattle.std.specs.Prelude.{⊤}
 use Rattle.std.proofs.lemmas.Bool.{ltb-false}
-use Rattle.iim_places.proofs.Words.{option_or, option_map, cases_lt, eqb-true, lt-ltb, le-ltb, or_cases, same_Some, length-replicate, map-append, IsAlive, Head, IsOctet, Octets, IsProperPrefix, number, zeros_are, Dataset, SpellsTag, SpellsCount, head_of, of_record, count_octets, Dies, InTag, InData, Begun, IsBegun, Reads, BeginsNoTag, SectionsLive, SectionsLiveAt, first_fault, value_fault, data_of, Limits, tells_number, FieldFault, cause_at, max_subfiles, SizeCause, Holds, Octet, MessageLanguage, text_so_far, HasCause, Token, MessageCause, object_of, AtOctet, AtHead, AtValue, IsNoCount, Names, TellsTheLowest, rule_of, AreWithin, AllCanContinue, IsUnfinished, RefusesByTests, RefusesNext, Completes, layer_of, layer_of_message, of_field, size_on, too_many_on, LowerLaws, message_on, DiesAtHead, DiesAtValue, IsRefusedValue, subfile_fault, TokenFault, Layer, eq-eqb, eqb_tells, limits_fault, fault_on, is_kept, StoryLanguage, MessageLivesWith, StoryLivesIn, tag_cause, begun_record, begun_number, HaveRoom, IsInText, octets_append}
+use Rattle.iim_places.proofs.Words.{option_or, option_map, eqb-true, lt-ltb, le-ltb, same_Some, length-replicate, map-append, Head, IsOctet, Octets, IsProperPrefix, number, zeros_are, Dataset, SpellsTag, SpellsCount, head_of, of_record, count_octets, Dies, InTag, InData, Begun, IsBegun, Reads, BeginsNoTag, SectionsLive, SectionsLiveAt, first_fault, value_fault, data_of, Limits, tells_number, FieldFault, cause_at, max_subfiles, SizeCause, Octet, MessageLanguage, text_so_far, HasCause, Token, MessageCause, object_of, AtOctet, AtHead, AtValue, IsNoCount, Names, TellsTheLowest, rule_of, AreWithin, AllCanContinue, IsUnfinished, RefusesByTests, RefusesNext, Completes, layer_of, layer_of_message, of_field, size_on, too_many_on, LowerLaws, message_on, DiesAtHead, DiesAtValue, IsRefusedHead, IsRefusedValue, subfile_fault, TokenFault, Layer, eq-eqb, eqb_tells, limits_fault, fault_on, is_kept, nat_tests, StoryLanguage, MessageLivesWith, StoryLivesIn, tag_cause, begun_record, begun_number, HaveRoom, octets_append}
 use Rattle.iim_places.specs.Format.Conditions.{begun_in}
 use Rattle.iim_fields.specs.Format.Causes.{number_of_cause}
 use Rattle.iim_fields.specs.Laws.{IsFaultIfAny}
@@ -47,25 +47,20 @@ in_layer (causes.Field other) = (other, refl)
 in_layer (causes.Size sizes.ModeClash) = (sizes.ModeClash, refl)
 in_layer (causes.Size other) = (other, refl)
 in_layer (causes.Message messages.BadOctet) = inl refl
-in_layer (causes.Message messages.Unfinished) = inr refl
 in_layer (causes.Message messages.LoneReturn) = inl refl
-in_layer (causes.Message messages.ControlOctet) = inr refl
 in_layer (causes.Message messages.Sink) = inl refl
-in_layer causes.TooManySubfiles = inr refl
-in_layer causes.Failed = inr refl
+in_layer other = inr refl
 
 one_of : (l : Layer) (c : Cause) → (rule_of c).layer ≡ l → InLayer l c
 one_of l c same = rw same at (in_layer c)
 
--- the lowest number of a layer's causes
+-- the lowest number of the causes of a layer that has few
 abbrev least : Layer → ℕ
 least layers.Dataset = 1
-least layers.Record = 10
-least layers.Object = 20
 least layers.Message = 30
 least layers.Story = 40
-least layers.Limits = 50
 least layers.Outside = 60
+least other = 0
 
 at_least : (c : Cause) → least (rule_of c).layer ≤ (rule_of c).number
 at_least (causes.Field fields.RecordOrder) = omega arith
@@ -73,8 +68,9 @@ at_least (causes.Size sizes.ModeClash) = omega arith
 at_least (causes.Message messages.BadOctet) = omega arith
 at_least other = omega arith
 
-none_below : (c : Cause) (l : Layer) → (rule_of c).layer ≡ l → (rule_of c).number < least l → ⊥
-none_below c l same less = let low : least l ≤ (rule_of c).number = rw same at (at_least c) in omega (arith, low, less)
+-- no condition of a cause stands below it
+none_below : (P : Cause → Type 0) (l : Layer) (c : Cause) → (rule_of c).layer ≡ l → (rule_of c).number < least l → P c → ⊥
+none_below P l c same less has = let low : least l ≤ (rule_of c).number = rw same at (at_least c) in omega (arith, low, less)
 
 numbered : {c d : Cause} → c ≡ d → (rule_of c).number ≡ (rule_of d).number
 numbered is = ap (λ (x : Cause). (rule_of x).number) is
@@ -87,6 +83,12 @@ Holds' limits ds token c = (rule_of c).holds limits ds token
 record IsTold (limits : Limits) (ds : List Dataset) (token : Token) (fault : TokenFault) : Type 0 where
   pub tells : TellsTheLowest limits ds token fault
   pub names : Names fault.cause ds token fault.rec fault.set
+
+told_so : (limits : Limits) (ds : List Dataset) (token : Token) {fault : TokenFault} → (rule_of fault.cause).layer ≡ fault.layer
+    → Holds' limits ds token fault.cause
+    → ((c : Cause) → (rule_of c).layer ≡ fault.layer → (rule_of c).number < (rule_of fault.cause).number → Holds' limits ds token c → ⊥)
+    → Names fault.cause ds token fault.rec fault.set → IsTold limits ds token fault
+told_so limits ds token layer holds lowest names = record { tells = record { layer = layer; holds = holds; lowest = lowest }; names = names }
 
 -- ---- causes of fields and sizes, as their layers have them
 
@@ -127,11 +129,13 @@ message_number messages.BadOctet = refl
 message_number other = refl
 
 -- of the limits a lower number than 52 is a cause of fields
+limits_field : (c : Cause) → InLayer layers.Limits c → (rule_of c).number < 52 → (g : FieldCause) × (c ≡ causes.Field g)
+limits_field c (inl field) less = field
+limits_field c (inr last) less = absurd (let n = numbered last in omega (arith, less, n))
+
 lower_field : (f : FieldCause) (c : Cause) → InLayer (layer_of f) c → (rule_of c).number < number_of_cause f → (g : FieldCause) × (c ≡ causes.Field g)
-lower_field fields.HeaderFull c (inl field) less = field
-lower_field fields.HeaderFull c (inr last) less = absurd (let n = numbered last in omega (arith, less, n))
-lower_field fields.TooManyFields c (inl field) less = field
-lower_field fields.TooManyFields c (inr last) less = absurd (let n = numbered last in omega (arith, less, n))
+lower_field fields.HeaderFull c own less = limits_field c own (omega (arith, less))
+lower_field fields.TooManyFields c own less = limits_field c own (omega (arith, less))
 lower_field other c field less = field
 
 -- ---- heads and values
@@ -168,52 +172,39 @@ abbrev HasOctets : records.Token → Type 0
 HasOctets (HeadToken h) = ⊤
 HasOctets (ValueToken d) = Octets d.octets
 
-either : (r a b : ℕ) → (nat_eq r a || nat_eq r b) ≡ true → (r ≡ a) ⊎ (r ≡ b)
-either r a b is = elim (or_cases (nat_eq r a) (nat_eq r b) is) [ inl same ↦ inl (eqb-true r a same) | inr same ↦ inr (eqb-true r b same) ]
-
 asked : (t : records.Token) → is_asked t ≡ true → IsAsked t
-asked (HeadToken h) is = either h.rec 8 9 is
-asked (ValueToken d) is = either d.rec 7 9 is
+asked (HeadToken h) is = grind (arith, nat_tests)
+asked (ValueToken d) is = grind (arith, nat_tests)
 
 asks : (t : records.Token) → IsAsked t → is_asked t ≡ true
-asks (HeadToken h) (inl is) = rw is
-asks (HeadToken h) (inr is) = rw is
-asks (ValueToken d) (inl is) = rw is
-asks (ValueToken d) (inr is) = rw is
+asks (HeadToken h) is = grind (arith, nat_tests)
+asks (ValueToken d) is = grind (arith, nat_tests)
 
 -- a fault that a test lets through
 many_told : (b c : Bool) (x : TokenFault) {s : TokenFault} → (if b && not c then Some x else None) ≡ Some s → (x ≡ s) × (b ≡ true) × (c ≡ false)
 many_told true false x e = (cc, refl, refl)
-many_told true true x e = cc
-many_told false c x e = cc
+many_told b c x e = cc
 
 size_found : {A B : Type 0} (b : Bool) (o : Option A) (f : A → B) {s : B} → (if b then option_map f o else None) ≡ Some s
     → (b ≡ true) × (x : A) × (o ≡ Some x) × (f x ≡ s)
 size_found true (Some x) f e = (refl, x, refl, cc)
-size_found true None f e = cc
-size_found false o f e = cc
+size_found b o f e = cc
 
 -- the limits' faults have high numbers
 high_number : (a b c : Bool) (h : Head) {f : FieldFault}
     → (if not a then None else if not b then Some (fault_on h fields.HeaderFull) else if not c then Some (fault_on h fields.TooManyFields) else None) ≡ Some f
     → 50 ≤ number_of_cause f.cause
-high_number true false c h e = rw (← same_Some _ _ e) (omega arith)
-high_number true true false h e = rw (← same_Some _ _ e) (omega arith)
-high_number true true true h e = cc
-high_number false b c h e = cc
+high_number a b c h e = grind arith
 
 same_fault : {f g : TokenFault} → f.layer ≡ g.layer → f.rec ≡ g.rec → f.set ≡ g.set → f.cause ≡ g.cause → f ≡ g
 same_fault layer rec set cause = λ i. record { layer = layer i; rec = rec i; set = set i; cause = cause i }
 
 -- A cause of fields is of the record layer, with a low number, or of the limits.
-side : (g : FieldCause) → ((layer_of g ≡ layers.Record) × (number_of_cause g < 50)) ⊎ ((layer_of g ≡ layers.Limits) × (50 ≤ number_of_cause g))
-side fields.HeaderFull = inr (refl, omega arith)
-side fields.TooManyFields = inr (refl, omega arith)
+side : (g : FieldCause)
+    → ((layer_of g ≡ layers.Record) × (number_of_cause g < 50)) ⊎ ((layer_of g ≡ layers.Limits) × (50 ≤ number_of_cause g) × (number_of_cause g < 52))
+side fields.HeaderFull = inr (refl, omega arith, omega arith)
+side fields.TooManyFields = inr (refl, omega arith, omega arith)
 side other = inl (refl, omega arith)
-
-last_number : (g : FieldCause) → number_of_cause g < 52
-last_number fields.HeaderFull = omega arith
-last_number other = omega arith
 
 module _ (laws : LowerLaws) (limits : Limits) (ds : List Dataset) (alive : SectionsLive ds) (within : AreWithin limits ds) where
   tells_of : (t : records.Token) → IsFaultIfAny (first_of limits ds t) limits ds t
@@ -228,57 +219,37 @@ module _ (laws : LowerLaws) (limits : Limits) (ds : List Dataset) (alive : Secti
   first_cause (HeadToken h) s dead (inr nine) =
       laws.first_cause _ _ s (stated_after_all laws ds alive within.subfiles).stated (end_leads laws ds h dead.0 nine).0
   first_cause (ValueToken d) s dead is =
-      laws.first_cause _ _ s (stated_at laws ds (head_of d) (d, refl, dead.0) within.subfiles (λ eight. absurd (no_value is eight))).stated
+      laws.first_cause _ _ s (stated_at laws ds (head_of d) (d, refl, dead.0) within.subfiles (λ eight. absurd (grind arith))).stated
       (number_leads laws ds d dead.0 (asks (ValueToken d) is)).0
-    where
-      no_value : (d.rec ≡ 7) ⊎ (d.rec ≡ 9) → d.rec ≡ 8 → ⊥
-      no_value (inl seven) eight = omega (arith, seven, eight)
-      no_value (inr nine) eight = omega (arith, nine, eight)
 
   -- ---- what tests find first is the lowest
 
   field_told : (t : records.Token) (f : FieldFault) → records.IsFault limits ds t f → IsTold limits ds (here t) (of_field f)
-  field_told t f is = record {
-    tells = record {
-      layer = field_layer f.cause;
-      holds = (field_holds f.cause limits ds t).1 is.holds;
-      lowest = λ other same less has.
-          let (g, at) = lower_field f.cause other (one_of _ other same) (omega (arith, less, field_number f.cause)) in
-          is.lowest g (omega (arith, less, field_number f.cause, numbered at, field_number g)) ((field_holds g limits ds t).0 (rw at at has));
-    };
-    names = (field_names f.cause ds t f.rec f.set).0 is.names;
-  }
+  field_told t f is =
+      told_so limits ds (here t) (field_layer f.cause) ((field_holds f.cause limits ds t).1 is.holds)
+      (λ other same less has.
+      let (g, at) = lower_field f.cause other (one_of _ other same) (omega (arith, less, field_number f.cause)) in
+      is.lowest g (omega (arith, less, field_number f.cause, numbered at, field_number g)) ((field_holds g limits ds t).0 (rw at at has)))
+      ((field_names f.cause ds t f.rec f.set).0 is.names)
 
   many_is_told : (t : records.Token) (s : TokenFault) → many_of ds t ≡ Some s → records.HasNoFault limits ds t → IsTold limits ds (here t) s
   many_is_told (ValueToken d) s e none = cc
   many_is_told (HeadToken h) s e none =
       let (is, eight, full) = many_told (nat_eq h.rec 8) (nat_lt (length (of_record 8 ds)) max_subfiles) (too_many_on h) e in
-      rw (← is) (record {
-        tells = record {
-          layer = refl;
-          holds = (eqb-true h.rec 8 eight, ltb-false _ _ full);
-          lowest = λ other same less has. lower other (one_of layers.Limits other same) less has;
-        };
-        names = (refl, refl);
-      })
-    where
-      lower : (other : Cause) → InLayer layers.Limits other → (rule_of other).number < 52 → Holds' limits ds (AtHead h) other → ⊥
-      lower other (inl (g, at)) less has = none g ((field_holds g limits ds (HeadToken h)).0 (rw at at has))
-      lower other (inr last) less has = let n = numbered last in omega (arith, n, less)
+      rw (← is) (told_so limits ds (AtHead h) refl (eqb-true h.rec 8 eight, ltb-false _ _ full)
+      (λ other same less has.
+      let (g, at) = limits_field other (one_of layers.Limits other same) less in none g ((field_holds g limits ds (HeadToken h)).0 (rw at at has)))
+      (refl, refl))
 
   size_told : (t : records.Token) (s : SizeCause) → objects.IsFirstCause (place_asked ds t) (token_asked t) s → IsAsked t
       → IsTold limits ds (here t) (size_on (records.head_at t) s)
-  size_told t s first is = record {
-    tells = record {
-      layer = size_layer s;
-      holds = (size_holds s limits ds t).1 (is, first.holds);
-      lowest = λ other same less has.
-          let (r, at) = one_of layers.Object other same in
-          let low = first.lowest r ((size_holds r limits ds t).0 (rw at at has)).1 in
-          omega (arith, less, low, size_number s, numbered at, size_number r);
-    };
-    names = own_names t;
-  }
+  size_told t s first is =
+      told_so limits ds (here t) (size_layer s) ((size_holds s limits ds t).1 (is, first.holds))
+      (λ other same less has.
+      let (r, at) = one_of layers.Object other same in
+      let low = first.lowest r ((size_holds r limits ds t).0 (rw at at has)).1 in
+      omega (arith, less, low, size_number s, numbered at, size_number r))
+      (own_names t)
 
   token_told : (t : records.Token) (fault : TokenFault) → fault_of limits ds t ≡ Some fault → DiesBy fault.layer limits ds t → IsTold limits ds (here t) fault
   token_told t fault e dead = by (first_of limits ds t) (many_of ds t) refl refl e
@@ -335,13 +306,12 @@ module _ (laws : LowerLaws) (limits : Limits) (ds : List Dataset) (alive : Secti
       let at : layer_of f ≡ fault.layer = sym (field_layer f) ∙ ap (λ (c : Cause). (rule_of c).layer) (sym is) ∙ told.tells.layer in
       let first = ((tells_of t).0 (record { rec = fault.rec; set = fault.set; cause = f })).1 (record {
         holds = (field_holds f limits ds t).0 (rw is at told.tells.holds);
-        lowest = λ g less has. quiet fault.layer t octets dead g (lower_not t told g (omega (arith, less, n)) has) (λ low. lower f g (at ∙ low) less) has;
+        lowest = λ g less has.
+            quiet fault.layer t octets dead g (lower_not t told g (omega (arith, less, n)) has)
+            (λ low. elim (side f) [ inl s ↦ omega (arith, s.1, less) | inr s ↦ (let bad : layers.Limits ≡ layers.Record = sym s.0 ∙ at ∙ low in cc) ]) has;
         names = (field_names f ds t fault.rec fault.set).1 (rw is at told.names);
       }) in
       rw first (ap Some (same_fault at refl refl (sym is)))
-    where
-      lower : (f g : FieldCause) → layer_of f ≡ layers.Record → number_of_cause g < number_of_cause f → number_of_cause g < 50
-      lower f g low less = elim (side f) [ inl s ↦ omega (arith, s.1, less) | inr s ↦ (let bad : layers.Limits ≡ layers.Record = sym s.0 ∙ low in cc) ]
 
   many_back : (h : Head) (fault : TokenFault) → fault.layer ≡ layers.Limits → SectionsLiveAt ds h × (HaveRoom limits ds h → ⊥)
       → IsTold limits ds (AtHead h) fault
@@ -350,7 +320,8 @@ module _ (laws : LowerLaws) (limits : Limits) (ds : List Dataset) (alive : Secti
       let (eight, many) = rw is at told.tells.holds in
       let named = rw is at told.names in
       let none : first_fault limits ds h ≡ None = (tells_of (HeadToken h)).1.1 (λ g has. quiet layers.Limits (HeadToken h) tt dead g
-      (λ at. lower_not (HeadToken h) told g (omega (arith, last_number g, numbered is)) has (at ∙ sym same)) (λ bad. cc) has) in
+      (λ at. lower_not (HeadToken h) told g (rw (numbered is) (elim (side g) [ inl s ↦ omega (arith, s.1) | inr s ↦ s.2 ])) has (at ∙ sym same))
+      (λ bad. cc) has) in
       rw (none, eq-eqb h.rec 8 eight, le-ltb _ _ many) (ap Some (same_fault (sym same) (sym named.0) (sym named.1) (sym is)))
 
   no_many : (t : records.Token) → DiesBy layers.Object limits ds t → many_of ds t ≡ None
@@ -369,11 +340,10 @@ module _ (laws : LowerLaws) (limits : Limits) (ds : List Dataset) (alive : Secti
       (λ bad. cc) holds) in
       let found = (first_cause t s dead on).1 (record {
         holds = has;
-        lowest = λ r holds. elim (cases_lt (objects_format.number_of r) (objects_format.number_of s)) [
-          | inr more ↦ more
-          | inl less ↦ absurd (told.tells.lowest (causes.Size r) (size_layer r ∙ sym same) (omega (arith, less, numbered is, size_number s, size_number r))
-              ((size_holds r limits ds t).1 (on, holds)))
-        ];
+        lowest = λ r holds.
+            let low = λ (less : objects_format.number_of r < objects_format.number_of s). told.tells.lowest (causes.Size r) (size_layer r ∙ sym same)
+            (omega (arith, less, numbered is, size_number s, size_number r)) ((size_holds r limits ds t).1 (on, holds)) in
+            omega (arith, low);
       }) in
       rw (none, no_many t dead, asks t on, found) (ap Some (same_fault (sym same) (own.0 ∙ sym named.0) (own.1 ∙ sym named.1) (sym is)))
 
@@ -390,58 +360,52 @@ module _ (laws : LowerLaws) (limits : Limits) (ds : List Dataset) (alive : Secti
 
 end_told : (limits : Limits) (ds : List Dataset) (h : Head) (fault : TokenFault) → IsUnfinished limits ds h fault → IsTold limits ds (AtHead h) fault
 end_told limits ds h fault is =
-    rw is.is_fault (record {
-      tells = record { layer = refl; holds = (is.last, is.dies.1); lowest = λ other same less has. by other (one_of layers.Message other same) less has };
-      names = (refl, refl);
-    })
-  where
-    by : (other : Cause) → InLayer layers.Message other → (rule_of other).number < 32 → Holds' limits ds (AtHead h) other → ⊥
-    by other (inl bad) less has = rw bad at has
-    by other (inr same) less has = let n = numbered same in omega (arith, less, n)
+    rw is.is_fault (told_so limits ds (AtHead h) refl (is.last, is.dies.1)
+    (λ other same less has. elim (one_of layers.Message other same) [
+      | inl bad ↦ rw bad at has
+      | inr own ↦ (let n = numbered own in omega (arith, less, n))
+    ])
+    (refl, refl))
 
 -- SOH, STX and EOT are neither LF nor CR
 no_line_end : (b : ℕ) → (b ≡ 1) ⊎ ((b ≡ 2) ⊎ (b ≡ 4)) → (b ≢ 10) × (b ≢ 13)
-no_line_end b (inl is) = (λ e. omega (arith, is, e), λ e. omega (arith, is, e))
-no_line_end b (inr (inl is)) = (λ e. omega (arith, is, e), λ e. omega (arith, is, e))
-no_line_end b (inr (inr is)) = (λ e. omega (arith, is, e), λ e. omega (arith, is, e))
+no_line_end b is = (λ feed. grind arith, λ return'. grind arith)
+
+-- a cause that stands at an octet of data is one of the message
+of_message : (limits : Limits) (ds : List Dataset) (h : Head) (taken : List ℕ) (b : ℕ) (c : Cause) → Holds' limits ds (AtOctet (InData h taken) b) c
+    → (m : MessageCause) × (c ≡ causes.Message m)
+of_message limits ds h taken b (causes.Message m) has = (m, refl)
+of_message limits ds h taken b (causes.Field fields.RecordOrder) has = absurd has
+of_message limits ds h taken b (causes.Size sizes.ModeClash) has = absurd has
+of_message limits ds h taken b other has = absurd has
+
+message_layer : (c : MessageCause) → (rule_of (causes.Message c)).layer ≡ layer_of_message c
+message_layer messages.BadOctet = refl
+message_layer other = refl
 
 module _ (laws : LowerLaws) (limits : Limits) (ds : List Dataset) (h : Head) (taken : List ℕ) (b : ℕ) where
-  -- where no CR is held, the octet is no lone return
-  no_return : Holds (text_so_far (object_of ds ++ taken)) 0 → (other : Cause) → InLayer layers.Story other → (rule_of other).number < 41
-      → Holds' limits ds (AtOctet (InData h taken) b) other → ⊥
-  no_return none other (inl is) less it =
-      let (eight, (text, (held, holds, some, feed, second))) = rw is at it in not_held laws (text_so_far (object_of ds ++ taken)) held some holds none
-  no_return none other (inr is) less it = let n = numbered is in omega (arith, n, less)
-
   octet_tells : h.rec ≡ 8 → IsOctet b → (c : MessageCause) → HasCause c (object_of ds ++ taken) b
-      → TellsTheLowest limits ds (AtOctet (InData h taken) b) (message_on h c)
-  octet_tells eight low messages.BadOctet has = record {
-    layer = refl;
-    holds = (eight, λ lives. message_dead (object_of ds ++ taken) b lives has);
-    lowest = λ other same less it. none_below other layers.Message same less;
-  }
+      → IsTold limits ds (AtOctet (InData h taken) b) (message_on h c)
+  octet_tells eight low messages.BadOctet has =
+      told_so limits ds _ refl (eight, λ lives. message_dead (object_of ds ++ taken) b lives has) (none_below _ layers.Message) (refl, refl)
   octet_tells eight low messages.Unfinished has = absurd has
-  octet_tells eight low messages.LoneReturn (lives, dies, (held, some, holds)) = record {
-    layer = refl;
-    holds =
-        let lone = lone_return laws (object_of ds ++ taken) b dies held some holds in
-        (eight, (in_text (object_of ds ++ taken) b dies, (held, holds, lone.0, lone.1, lone.2)));
-    lowest = λ other same less it. none_below other layers.Story same less;
-  }
-  octet_tells eight low messages.ControlOctet (lives, dies, none) = record {
-    layer = refl;
-    holds = (eight, (in_text (object_of ds ++ taken) b dies, control laws (object_of ds ++ taken) b dies low none));
-    lowest = λ other same less it. no_return none other (one_of layers.Story other same) less it;
-  }
-  octet_tells eight low messages.Sink (lives, story, told, apart) =
-      record { layer = refl; holds = (eight, (told, apart)); lowest = λ other same less it. none_below other layers.Outside same less }
+  octet_tells eight low messages.LoneReturn (lives, dies, (held, some, holds)) =
+      let lone = lone_return laws (object_of ds ++ taken) b dies held some holds in
+      told_so limits ds _ refl (eight, (in_text (object_of ds ++ taken) b dies, (held, holds, lone.0, lone.1, lone.2))) (none_below _ layers.Story) (refl, refl)
+  octet_tells eight low messages.ControlOctet (lives, dies, none) =
+      told_so limits ds (AtOctet (InData h taken) b) refl
+      (eight, (in_text (object_of ds ++ taken) b dies, control laws (object_of ds ++ taken) b dies low none))
+      (λ other same less it. elim (one_of layers.Story other same) [
+        | inl is ↦
+            let (at, (text, (held, holds, some, feed, second))) = rw is at it in not_held laws (text_so_far (object_of ds ++ taken)) held some holds none
+        | inr is ↦ (let n = numbered is in omega (arith, n, less))
+      ])
+      (refl, refl)
+  octet_tells eight low messages.Sink (lives, story, told, apart) = told_so limits ds _ refl (eight, (told, apart)) (none_below _ layers.Outside) (refl, refl)
 
   octet_dies : (c : MessageCause) → HasCause c (object_of ds ++ taken) b → Dies (layer_of_message c) limits ds (AtOctet (InData h taken) b)
   octet_dies messages.BadOctet has = λ lives. message_dead (object_of ds ++ taken) b lives has
-  octet_dies messages.Unfinished has = absurd has
-  octet_dies messages.LoneReturn (lives, dies, held) = (lives, dies.1)
-  octet_dies messages.ControlOctet (lives, dies, held) = (lives, dies.1)
-  octet_dies messages.Sink (lives, story, told, apart) = (lives, story)
+  octet_dies c has = search (rules, arith)
 
   -- message and story can continue from the octets before
   octets_live : AllCanContinue limits ds (InData h taken) → h.rec ≡ 8 → MessageLivesWith (object_of ds ++ taken) × StoryLivesIn (object_of ds ++ taken)
@@ -449,55 +413,42 @@ module _ (laws : LowerLaws) (limits : Limits) (ds : List Dataset) (h : Head) (ta
       let is = with_data ds h taken eight ∙ sym (append-nil (object_of ds ++ taken)) in
       (message_of limits ds (InData h taken) all _ [] is, story_of limits ds (InData h taken) all _ [] is)
 
-  octet_back : AllCanContinue limits ds (InData h taken) → (l : Layer) (fault : TokenFault) → fault.layer ≡ l → Dies l limits ds (AtOctet (InData h taken) b)
-      → IsTold limits ds (AtOctet (InData h taken) b) fault → InLayer l fault.cause
-      → (h.rec ≡ 8) × (c : MessageCause) × HasCause c (object_of ds ++ taken) b × (fault ≡ message_on h c)
-  octet_back all layers.Message fault same dead told (inl is) =
-      let has = rw is at told.tells.holds in
+  octet_back : AllCanContinue limits ds (InData h taken) → (fault : TokenFault) → Dies fault.layer limits ds (AtOctet (InData h taken) b)
+      → IsTold limits ds (AtOctet (InData h taken) b) fault → (h.rec ≡ 8) × (c : MessageCause) × HasCause c (object_of ds ++ taken) b × (fault ≡ message_on h c)
+  octet_back all fault dead told =
+      let (c, is) = of_message limits ds h taken b fault.cause told.tells.holds in
       let named = rw is at told.names in
-      (has.0, messages.BadOctet, ((octets_live all has.0).0, λ lives. dead (rw map-append lives)), same_fault same named.0 named.1 is)
-  octet_back all layers.Message fault same dead told (inr is) = absurd (rw is at told.tells.holds)
-  octet_back all layers.Story fault same dead told (inl is) =
-      let (eight, (text, (held, holds, some, feed, second))) = rw is at told.tells.holds in
-      let named = rw is at told.names in
-      (eight, messages.LoneReturn, (dead.0, ((octets_live all eight).1, dead.1), (held, some, holds)), same_fault same named.0 named.1 is)
-  octet_back all layers.Story fault same dead told (inr is) =
-      let (eight, (text, which)) = rw is at told.tells.holds in
-      let named = rw is at told.names in
-      let (held, holds) = (laws.stories_live (text_so_far (object_of ds ++ taken))).0 (alive_front StoryLanguage _ _ (octets_live all eight).1) in
-      (eight, messages.ControlOctet, (dead.0, ((octets_live all eight).1, dead.1), none_held eight text which held holds), same_fault same named.0 named.1 is)
+      let layer : fault.layer ≡ layer_of_message c = sym told.tells.layer ∙ ap (λ (x : Cause). (rule_of x).layer) is ∙ message_layer c in
+      let same : fault ≡ message_on h c = same_fault layer named.0 named.1 is in
+      let has = by c (rw same at dead) (rw same at told.tells) in
+      (has.0, c, has.1, same)
     where
-      -- a held CR would be told first
-      none_held : h.rec ≡ 8 → IsInText (object_of ds ++ taken) → (b ≡ 1) ⊎ ((b ≡ 2) ⊎ (b ≡ 4)) → (held : ℕ) → Holds (text_so_far (object_of ds ++ taken)) held
-          → Holds (text_so_far (object_of ds ++ taken)) 0
-      none_held eight text which zero holds = holds
-      none_held eight text which (suc n) holds =
+      by : (c : MessageCause) → Dies (layer_of_message c) limits ds (AtOctet (InData h taken) b)
+          → TellsTheLowest limits ds (AtOctet (InData h taken) b) (message_on h c) → (h.rec ≡ 8) × HasCause c (object_of ds ++ taken) b
+      by messages.BadOctet dead tells = (tells.holds.0, ((octets_live all tells.holds.0).0, λ lives. dead (rw map-append lives)))
+      by messages.Unfinished dead tells = absurd tells.holds
+      by messages.LoneReturn dead tells =
+          let (eight, (text, (held, holds, some, feed, second))) = tells.holds in
+          (eight, (dead.0, ((octets_live all eight).1, dead.1), (held, some, holds)))
+      by messages.ControlOctet dead tells =
+          let (eight, (text, which)) = tells.holds in
+          let story = (octets_live all eight).1 in
+          let (held, holds) = (laws.stories_live (text_so_far (object_of ds ++ taken))).0 (alive_front StoryLanguage _ _ story) in
           let apart = no_line_end b which in
-          absurd (told.tells.lowest (causes.Message messages.LoneReturn) (sym same) (omega (arith, numbered is))
-          (eight, (text, (suc n, holds, omega arith, apart.0, λ return'. absurd (apart.1 return')))))
-  octet_back all layers.Outside fault same lives told (inl is) =
-      let (eight, (text, apart)) = rw is at told.tells.holds in
-      let named = rw is at told.names in
-      (eight, messages.Sink, (lives.0, lives.1, text, apart), same_fault same named.0 named.1 is)
-  octet_back all layers.Outside fault same lives told (inr is) = absurd (rw is at told.tells.holds)
-  octet_back all other fault same dead told which = absurd dead
+          -- a held CR would be told first
+          let lone = λ (some : 0 < held). tells.lowest (causes.Message messages.LoneReturn) refl (omega arith)
+          (eight, (text, (held, holds, some, apart.0, λ return'. absurd (apart.1 return')))) in
+          let none : held ≡ 0 = omega (arith, lone) in
+          (eight, (dead.0, (story, dead.1), rw none at holds))
+      by messages.Sink lives tells = let (eight, (text, apart)) = tells.holds in (eight, (lives.0, lives.1, text, apart))
 
 -- ---- tags
 
--- no tag with a count in two octets has these in front
-no_standard : (front more : List ℕ) (r s high low : ℕ) → BeginsNoTag count_octets front → IsOctet r → IsOctet s → high < 128 → IsOctet low
-    → front ++ more ≡ 28 ∷ r ∷ s ∷ high ∷ low ∷ [] → ⊥
-no_standard front more r s high low dead hr hs small fits is =
-    dead (record { rec = r; set = s; count = number (high ∷ low ∷ []) }) more
-    (record { rec = hr; set = hs; count = high ∷ low ∷ []; is_count = inl (small, fits, refl, refl); parts = is })
-
--- nor has one with a longer count
-no_extended : (front more : List ℕ) (r s len : ℕ) (count : List ℕ) → BeginsNoTag count_octets front → IsOctet r → IsOctet s → len ≡ length count → 0 < len
-    → len ≤ count_octets → Octets count
-    → front ++ more ≡ 28 ∷ r ∷ s ∷ 128 ∷ len ∷ count → ⊥
-no_extended front more r s len count dead hr hs long some few octets is =
-    dead (record { rec = r; set = s; count = number count }) more
-    (record { rec = hr; set = hs; count = 128 ∷ len ∷ count; is_count = inr (refl, long, some, few, octets, refl); parts = is })
+-- no tag that has this count has these in front
+no_tag : (front more : List ℕ) (r s n : ℕ) (count : List ℕ) → BeginsNoTag count_octets front → IsOctet r → IsOctet s → SpellsCount count_octets n count
+    → front ++ more ≡ 28 ∷ r ∷ s ∷ count → ⊥
+no_tag front more r s n count dead hr hs is_count is =
+    dead (record { rec = r; set = s; count = n }) more (record { rec = hr; set = hs; count = count; is_count = is_count; parts = is })
 
 other_octet : (xs ys : List ℕ) (a b : ℕ) → IsOctet b → Octets (xs ++ a ∷ ys) → Octets ((xs ++ b ∷ []) ++ ys)
 other_octet [] ys a b low h = (low, h.1)
@@ -509,19 +460,13 @@ count_dies : (a b c d next r s n : ℕ) (held rest count : List ℕ) → IsOctet
     → BeginsNoTag count_octets ((a ∷ b ∷ c ∷ d ∷ held) ++ next ∷ []) → IsNoCount (a ∷ b ∷ c ∷ d ∷ held) next
 count_dies a b c d next r s n [] rest (high ∷ second ∷ more) hr hs low (inl standard) is some dead =
     let same : d ≡ high = cc in
-    absurd (no_standard (a ∷ b ∷ c ∷ d ∷ next ∷ []) [] r s d next dead hr hs (omega (arith, same, standard.0)) low (cc))
+    absurd (no_tag (a ∷ b ∷ c ∷ d ∷ next ∷ []) [] r s _ (d ∷ next ∷ []) dead hr hs (inl (omega (arith, same, standard.0), low, refl, refl)) cc)
 count_dies a b c d zero r s n [] rest (high ∷ second ∷ more) hr hs low (inr extended) is some dead = inr (omega arith, cc (extended.0), inl refl)
-count_dies a b c d (suc n) r s m [] rest (high ∷ second ∷ more) hr hs low (inr extended) is some dead = inr (
-  omega arith,
-  cc (extended.0),
-  elim (cases_lt count_octets (suc n)) [
-    | inl more ↦ inr more
-    | inr few ↦
-        let zs : List ℕ = replicate (suc n) 0 in
-        absurd (no_extended (a ∷ b ∷ c ∷ d ∷ suc n ∷ []) zs r s (suc n) zs dead hr hs (sym (length-replicate (suc n) 0)) (omega arith) few
-        (zeros_are (suc n)) (cc (extended.0)))
-  ],
-)
+count_dies a b c d (suc n) r s m [] rest (high ∷ second ∷ more) hr hs low (inr extended) is some dead =
+    let zs : List ℕ = replicate (suc n) 0 in
+    let few = λ (few : suc n ≤ count_octets). no_tag (a ∷ b ∷ c ∷ d ∷ suc n ∷ []) zs r s _ (128 ∷ suc n ∷ zs) dead hr hs
+    (inr (refl, sym (length-replicate (suc n) 0), omega arith, few, zeros_are (suc n), refl)) (cc (extended.0)) in
+    inr (omega arith, cc (extended.0), inr (omega (arith, few)))
 count_dies a b c d next r s n (e ∷ held) [] count hr hs low spelled is some dead = absurd (omega (arith, some))
 count_dies a b c d next r s n (e ∷ held) (x ∷ rest) (high ∷ second ∷ more) hr hs low (inl standard) is some dead =
     let tail : held ++ x ∷ rest ≡ more = cc in
@@ -531,64 +476,49 @@ count_dies a b c d next r s n (e ∷ held) (x ∷ rest) (high ∷ second ∷ mor
     let tail : more ≡ held ++ x ∷ rest = cc in
     let all : List ℕ = (held ++ next ∷ []) ++ rest in
     let long : e ≡ length all = omega (arith, five, extended.1, ap length tail, length-append {A = ℕ}) in
-    absurd (no_extended (a ∷ b ∷ c ∷ d ∷ e ∷ (held ++ next ∷ [])) rest r s e all dead hr hs long (omega (arith, five, extended.2))
-    (omega (arith, five, extended.3))
-    (other_octet held rest x next low (rw tail at extended.4)) (cc (extended.0)))
+    let octets = other_octet held rest x next low (rw tail at extended.4) in
+    absurd (no_tag (a ∷ b ∷ c ∷ d ∷ e ∷ (held ++ next ∷ [])) rest r s _ (128 ∷ e ∷ all) dead hr hs
+    (inr (refl, long, omega (arith, five, extended.2), omega (arith, five, extended.3), octets, refl)) (cc (extended.0)))
 count_dies a b c d next r s n held rest count hr hs low bad is some dead = absurd bad
+
+-- the count of a dataset without octets
+no_data : SpellsCount count_octets (number (0 ∷ 0 ∷ [])) (0 ∷ 0 ∷ [])
+no_data = inl (omega arith, omega arith, refl, refl)
 
 no_count : (a next : ℕ) (held rest : List ℕ) → IsOctet next → (h : Head) (tag : List ℕ) (s : SpellsTag count_octets h tag) → 0 < length rest
     → (a ∷ held) ++ rest ≡ 28 ∷ h.rec ∷ h.set ∷ s.count
     → BeginsNoTag count_octets ((a ∷ held) ++ next ∷ []) → IsNoCount (a ∷ held) next
 no_count a next [] rest low h tag s some is dead =
-    absurd (no_standard (a ∷ next ∷ []) (0 ∷ 0 ∷ 0 ∷ []) next 0 0 0 dead low (omega arith) (omega arith) (omega arith) (cc))
+    absurd (no_tag (a ∷ next ∷ []) (0 ∷ 0 ∷ 0 ∷ []) next 0 _ (0 ∷ 0 ∷ []) dead low (omega arith) no_data cc)
 no_count a next (b ∷ []) rest low h tag s some is dead =
-    absurd (no_standard (a ∷ b ∷ next ∷ []) (0 ∷ 0 ∷ []) h.rec next 0 0 dead s.rec low (omega arith) (omega arith) (cc))
-no_count a next (b ∷ c ∷ []) rest low h tag s some is dead = inl (
-  omega arith,
-  elim (cases_lt 128 next) [
-    | inl more ↦ more
-    | inr few ↦ elim (cases_lt next 128) [
-      | inl less ↦ absurd (no_standard (a ∷ b ∷ c ∷ next ∷ []) (0 ∷ []) h.rec h.set next 0 dead s.rec s.set less (omega arith) (cc))
-      | inr full ↦
-          let eighty : next ≡ 128 = omega (arith, few, full) in
-          absurd (no_extended (a ∷ b ∷ c ∷ next ∷ []) (1 ∷ 0 ∷ []) h.rec h.set 1 (0 ∷ []) dead s.rec s.set refl (omega arith) (omega arith)
-          (omega arith, tt) (cc))
-    ]
-  ],
-)
+    absurd (no_tag (a ∷ b ∷ next ∷ []) (0 ∷ 0 ∷ []) h.rec next _ (0 ∷ 0 ∷ []) dead s.rec low no_data cc)
+no_count a next (b ∷ c ∷ []) rest low h tag s some is dead =
+    let less = λ (less : next < 128). no_tag (a ∷ b ∷ c ∷ next ∷ []) (0 ∷ []) h.rec h.set _ (next ∷ 0 ∷ []) dead s.rec s.set
+    (inl (less, omega arith, refl, refl)) cc in
+    let full = λ (full : next ≡ 128). no_tag (a ∷ b ∷ c ∷ next ∷ []) (1 ∷ 0 ∷ []) h.rec h.set _ (128 ∷ 1 ∷ 0 ∷ []) dead s.rec s.set
+    (inr (refl, refl, omega arith, omega arith, (omega arith, tt), refl)) cc in
+    inl (omega arith, omega (arith, less, full))
 no_count a next (b ∷ c ∷ d ∷ held) rest low h tag s some is dead =
     count_dies a b c d next h.rec h.set h.count held rest s.count s.rec s.set low s.is_count is some dead
-
-below_count : (limits : Limits) (ds : List Dataset) (a : ℕ) (held : List ℕ) (next : ℕ) (other : Cause) → InLayer layers.Dataset other
-    → (rule_of other).number < 2
-    → Holds' limits ds (AtOctet (InTag (a ∷ held)) next) other → ⊥
-below_count limits ds a held next other (inl is) less has = let both = rw is at has in let none = ap length both.0 in omega (arith, none)
-below_count limits ds a held next other (inr (inl is)) less has = let n = numbered is in omega (arith, n, less)
-below_count limits ds a held next other (inr (inr is)) less has = let n = numbered is in omega (arith, n, less)
 
 tag_told : (limits : Limits) (ds : List Dataset) (held : List ℕ) (next : ℕ) → IsOctet next → (h : Head) (tag : List ℕ) → SpellsTag count_octets h tag
     → IsProperPrefix held tag
     → BeginsNoTag count_octets (held ++ next ∷ []) → IsTold limits ds (AtOctet (InTag held) next) (tag_fault held)
-tag_told limits ds [] next low h tag s part dead = record {
-  tells = record {
-    layer = refl;
-    holds = (refl, λ is. no_standard (next ∷ []) (0 ∷ 0 ∷ 0 ∷ 0 ∷ []) 0 0 0 0 dead (omega arith) (omega arith) (omega arith) (omega arith) (cc));
-    lowest = λ other same less has. none_below other layers.Dataset same less;
-  };
-  names = (refl, refl);
-}
-tag_told limits ds (a ∷ held) next low h tag s (rest, some, is) dead = record {
-  tells = record {
-    layer = refl;
-    holds = no_count a next held rest low h tag s some (is ∙ s.parts) dead;
-    lowest = λ other same less has. below_count limits ds a held next other (one_of layers.Dataset other same) less has;
-  };
-  names = (refl, refl);
-}
+tag_told limits ds [] next low h tag s part dead =
+    told_so limits ds _ refl (refl, λ is. no_tag (next ∷ []) (0 ∷ 0 ∷ 0 ∷ 0 ∷ []) 0 0 _ (0 ∷ 0 ∷ []) dead (omega arith) (omega arith) no_data cc)
+    (none_below _ layers.Dataset) (refl, refl)
+tag_told limits ds (a ∷ held) next low h tag s (rest, some, is) dead =
+    told_so limits ds (AtOctet (InTag (a ∷ held)) next) {fault = tag_fault (a ∷ held)} refl
+    (no_count a next held rest low h tag s some (is ∙ s.parts) dead)
+    (λ other same less has. elim (one_of layers.Dataset other same) [
+      | inl is ↦ (let marker = rw is at has in let none = ap length marker.0 in omega (arith, none))
+      | inr (inl is) ↦ (let n = numbered is in omega (arith, n, less))
+      | inr (inr is) ↦ (let n = numbered is in omega (arith, n, less))
+    ])
+    (refl, refl)
 
 count_form : (held : List ℕ) (b : ℕ) → IsNoCount held b → causes.CountForm ≡ tag_cause held
-count_form [] b (inl h) = absurd (omega (arith, h.0))
-count_form [] b (inr h) = absurd (omega (arith, h.0))
+count_form [] b h = absurd (grind arith)
 count_form (a ∷ held) b h = refl
 
 tag_back : (limits : Limits) (ds : List Dataset) (held : List ℕ) (b : ℕ) (l : Layer) (fault : TokenFault) → fault.layer ≡ l
@@ -637,7 +567,7 @@ told_at laws limits octets next fault low ds (InData h xs) reads all (inl (eight
   AtOctet (InData h xs) next,
   (refl, refl),
   rw is (octet_dies laws limits ds h xs next c has),
-  rw is (record { tells = octet_tells laws limits ds h xs next eight low c has; names = (refl, refl) }),
+  rw is (octet_tells laws limits ds h xs next eight low c has),
 )
 told_at laws limits octets next fault low ds (InData h xs) reads all (inr (other, many, bad)) =
     let d = data_of h (xs ++ next ∷ []) in (
@@ -664,19 +594,6 @@ told_by_table laws limits octets next fault low tests =
 
 -- ---- what is told is what tests find
 
--- a head at which no message ends
-unfinished : (limits : Limits) (ds : List Dataset) (h : Head) (fault : TokenFault) → IsAlive MessageLanguage (map Octet (object_of ds))
-    → fault.layer ≡ layers.Message → Dies layers.Message limits ds (AtHead h)
-    → IsTold limits ds (AtHead h) fault → InLayer layers.Message fault.cause → IsUnfinished limits ds h fault
-unfinished limits ds h fault lives same dead told (inl is) = absurd (rw is at told.tells.holds)
-unfinished limits ds h fault lives same dead told (inr is) =
-    let named = rw is at told.names in
-    record { last = dead.1.0; leads_on = dead.0; dies = (lives, dead.1.1); is_fault = same_fault same named.0 named.1 is }
-
-head_dies : (l : Layer) (limits : Limits) (ds : List Dataset) (h : Head) → Dies l limits ds (AtHead h) → (l ≡ layers.Message) ⊎ DiesAtHead l limits ds h
-head_dies layers.Message limits ds h dead = inl refl
-head_dies l limits ds h dead = inr dead
-
 value_dies : (l : Layer) (limits : Limits) (ds : List Dataset) (d : Dataset) → Dies l limits ds (AtValue d) → DiesAtValue l ds d
 value_dies layers.Record limits ds d dead = dead
 value_dies l limits ds d dead = dead
@@ -689,22 +606,23 @@ module _ (laws : LowerLaws) (limits : Limits) (ds : List Dataset) (next : ℕ) (
       let which = one_of fault.layer fault.cause told.tells.layer in
       record { first = token_back laws limits ds alive within fault.layer (ValueToken d) fault refl octets dead told which; dead = dead }
 
+  -- The layers up to the object's refuse the head, or no message ends there.
+  head_back : (l : Layer) (held : List ℕ) (h : Head) → fault.layer ≡ l → AllCanContinue limits ds (InTag held) → Dies l limits ds (AtHead h)
+      → IsTold limits ds (AtHead h) fault → InLayer l fault.cause → IsRefusedHead limits ds h fault ⊎ IsUnfinished limits ds h fault
+  head_back layers.Message held h same all dead told (inl is) = absurd (rw is at told.tells.holds)
+  head_back layers.Message held h same all dead told (inr is) =
+      let named = rw is at told.names in
+      let lives = alive_front MessageLanguage (map Octet (object_of ds)) _ all.message in
+      inr (record { last = dead.1.0; leads_on = dead.0; dies = (lives, dead.1.1); is_fault = same_fault same named.0 named.1 is })
+  head_back l held h same all dead told which =
+      let first = token_back laws limits ds all.sizes.records all.sizes.within l (HeadToken h) fault same tt dead told which in
+      inl (record { first = first; dead = rw same dead })
+
   found_at : (b : Begun) (token : Token) (rest : List ℕ) → IsBegun count_octets b rest → IsOctet next → AllCanContinue limits ds b
       → Completes limits ds b next token
       → Dies fault.layer limits ds token → IsTold limits ds token fault → IsRefusedAt limits ds b next fault
   found_at (InTag held) (AtHead h) rest begun low all tag dies told =
-      let which = one_of fault.layer fault.cause told.tells.layer in
-      let lives = alive_front MessageLanguage (map Octet (object_of ds)) _ all.message in
-      inr (
-        h,
-        tag,
-        inl (elim (head_dies fault.layer limits ds h dies) [
-          | inl same ↦ inr (unfinished limits ds h fault lives same (rw same at dies) told (rw same at which))
-          | inr dead ↦
-              let first = token_back laws limits ds all.sizes.records all.sizes.within fault.layer (HeadToken h) fault refl tt dead told which in
-              inl (record { first = first; dead = dead })
-        ]),
-      )
+      inr (h, tag, inl (head_back fault.layer held h refl all dies told (one_of fault.layer fault.cause told.tells.layer)))
   found_at (InTag held) (AtValue d) rest begun low all (other, tag, none, on) dies told =
       let is : d ≡ data_of (head_of d) [] = λ i. record { rec = d.rec; set = d.set; octets = none i } in
       let back = value_back all.sizes.records all.sizes.within d (rw none tt) dies told in
@@ -719,7 +637,7 @@ module _ (laws : LowerLaws) (limits : Limits) (ds : List Dataset) (next : ℕ) (
       inl (tag_back limits ds held next fault.layer fault refl (rw (is, same) at dies) here (one_of fault.layer fault.cause here.tells.layer))
   found_at (InData h taken) (AtOctet b octet) rest begun low all (is, same) dies told =
       let here = rw (is, same) at told in
-      inl (octet_back laws limits ds h taken next all fault.layer fault refl (rw (is, same) at dies) here (one_of fault.layer fault.cause here.tells.layer))
+      inl (octet_back laws limits ds h taken next all fault (rw (is, same) at dies) here)
 
 pub found_by_tests : LowerLaws → (limits : Limits) (octets : List ℕ) (next : ℕ) (fault : TokenFault) → RefusesNext limits octets next fault
     → RefusesByTests limits octets next fault

@@ -1,11 +1,10 @@
 -- Where heads and values lead the object.
 use Rattle.std.proofs.Common.{◌≡◌, ℕ, ◌+◌, ◌<◌, ◌⊎◌, true, false, if◌then◌else◌, nat_eq, List, [], ◌∷◌, ◌++◌, length, refl, ap, sym, subst, ◌∙◌, inl, inr}
-use Rattle.std.proofs.Common.{arith, length-append}
-use Rattle.iim_places.proofs.Words.{AllByRecursion, filter-append, or_cases, eqb-true, ne_eqb, number, Dataset, head_of, of_record, Head, all_append}
-use Rattle.iim_places.proofs.Words.{all_front, all_back, all_map, SectionsLive, SectionsLiveAt, tells_number, max_subfiles, SubfileBegun, ObjectEnded}
-use Rattle.iim_places.proofs.Words.{MayFollow, place_after, head_token, value_token, AreObjectRecords, AreSized, place_after_datasets, place_ended}
-use Rattle.iim_places.proofs.Words.{DatasetsLiveWithTheirTokens, place_at, ObjectLives, LowerLaws, IsAlive, Limits, CanContinueAt, DiesAtHead, DiesAtValue}
-use Rattle.iim_places.proofs.Words.{Layer}
+use Rattle.std.proofs.Common.{rules, arith, length-append}
+use Rattle.iim_places.proofs.Words.{AllByRecursion, filter-append, or_cases, eqb-true, ne_eqb, number, Dataset, head_of, of_record, Head, all_append, all_front}
+use Rattle.iim_places.proofs.Words.{all_back, all_map, SectionsLive, SectionsLiveAt, tells_number, max_subfiles, MayFollow, place_after, head_token}
+use Rattle.iim_places.proofs.Words.{value_token, AreObjectRecords, AreSized, place_after_datasets, DatasetsLiveWithTheirTokens, place_at, ObjectLives}
+use Rattle.iim_places.proofs.Words.{LowerLaws, IsAlive, Limits, CanContinueAt, DiesAtHead, DiesAtValue, Layer}
 use Rattle.iim_places.specs.declared.refusal.Layer.TheVariants as layers
 use Rattle.iim_places.proofs.Objects.{records_alive}
 use Rattle.iim_places.proofs.Living.{alive_front}
@@ -28,14 +27,12 @@ is_one ds d alive = let r = records_alive (ds ++ d ∷ []) alive in (all_back (�
 
 -- ---- the place at a head
 
-pub at_subfile : (ds : List Dataset) (h : Head) → h.rec ≡ 8 → place_at ds h ≡ place_after (place_after_datasets ds) (SubfileBegun h.count)
-at_subfile ds h is = ap (λ (r : ℕ). if nat_eq r 8 then place_after (place_after_datasets ds) (SubfileBegun h.count) else if nat_eq r 9 then place_ended ds else place_after_datasets ds) is
-
-pub at_end : (ds : List Dataset) (h : Head) → h.rec ≡ 9 → place_at ds h ≡ place_ended ds
-at_end ds h is = ap (λ (r : ℕ). if nat_eq r 8 then place_after (place_after_datasets ds) (SubfileBegun h.count) else if nat_eq r 9 then place_ended ds else place_after_datasets ds) is
+-- It is told by the head's record and its count.
+at_record : (r : ℕ) (ds : List Dataset) (h : Head) → h.rec ≡ r → place_at ds h ≡ place_at ds (record h { rec = r })
+at_record r ds h is = ap (λ (k : ℕ). place_at ds (record h { rec = k })) is
 
 pub at_number : (ds : List Dataset) (h : Head) → h.rec ≡ 7 → place_at ds h ≡ place_after_datasets ds
-at_number ds h is = ap (λ (r : ℕ). if nat_eq r 8 then place_after (place_after_datasets ds) (SubfileBegun h.count) else if nat_eq r 9 then place_ended ds else place_after_datasets ds) is
+at_number = at_record 7
 
 pub at_other : (ds : List Dataset) (h : Head) → h.rec < 7 → place_at ds h ≡ place_after_datasets ds
 at_other ds h less = rw (ne_eqb h.rec 8 (λ e. omega (arith, e, less)), ne_eqb h.rec 9 (λ e. omega (arith, e, less))) refl
@@ -48,17 +45,10 @@ HeadLeads ds h = MayFollow (place_after_datasets ds) (head_token h.rec h.count) 
 
 pub subfile_leads : LowerLaws → (ds : List Dataset) (h : Head) → SectionsLiveAt ds h → h.rec ≡ 8 → length (of_record 8 ds) < max_subfiles → HeadLeads ds h
 subfile_leads laws ds h (d, is, alive) eight few =
-    let rec : d.rec ≡ 8 = ap (λ (k : Head). k.rec) is ∙ eight in
-    let leads = laws.subfiles_lead ds d (records_alive (ds ++ d ∷ []) alive) rec few in
-    let token : head_token h.rec h.count ≡ SubfileBegun h.count = ap (λ (r : ℕ). head_token r h.count) eight in
-    (rw token leads.0, rw token (sym (at_subfile ds h eight)))
+    rw eight ((laws.subfiles_lead ds d (records_alive (ds ++ d ∷ []) alive) (ap (λ (k : Head). k.rec) is ∙ eight) few).0, refl)
 
 pub end_leads : LowerLaws → (ds : List Dataset) (h : Head) → SectionsLiveAt ds h → h.rec ≡ 9 → HeadLeads ds h
-end_leads laws ds h (d, is, alive) nine =
-    let rec : d.rec ≡ 9 = ap (λ (k : Head). k.rec) is ∙ nine in
-    let leads = (laws.ends_lead ds d (records_alive (ds ++ d ∷ []) alive) rec).0 in
-    let token : head_token h.rec h.count ≡ ObjectEnded = ap (λ (r : ℕ). head_token r h.count) nine in
-    (rw token leads.0, rw (token, at_end ds h nine) leads.1)
+end_leads laws ds h (d, is, alive) nine = rw nine (laws.ends_lead ds d (records_alive (ds ++ d ∷ []) alive) (ap (λ (k : Head). k.rec) is ∙ nine)).0
 
 -- ---- values
 
@@ -73,25 +63,19 @@ number_leads laws ds d alive tells =
     λ r is. ap (λ (k : ℕ). value_token k d.set (number d.octets)) is in
     let whole = records_alive (ds ++ d ∷ []) alive in
     elim (or_cases (nat_eq d.rec 7) (nat_eq d.rec 9) tells) [
-      | inl seven ↦ let is = eqb-true d.rec 7 seven in rw (at_number ds (head_of d) is, token 7 is) (laws.numbers_lead ds d whole is)
-      | inr nine ↦ let is = eqb-true d.rec 9 nine in rw (at_end ds (head_of d) is, token 9 is) (laws.ends_lead ds d whole is).1
+      | inl seven ↦ let is = eqb-true d.rec 7 seven in rw (at_record 7 ds (head_of d) is, token 7 is) (laws.numbers_lead ds d whole is)
+      | inr nine ↦ let is = eqb-true d.rec 9 nine in rw (at_record 9 ds (head_of d) is, token 9 is) (laws.ends_lead ds d whole is).1
     ]
-
-not_told : (r : ℕ) → r ≡ 7 ⊎ r ≡ 9 → tells_number r ≡ false → ⊥
-not_told r (inl seven) none = let bad : true ≡ false = sym (ap tells_number seven) ∙ none in cc
-not_told r (inr nine) none = let bad : true ≡ false = sym (ap tells_number nine) ∙ none in cc
 
 -- a value that tells no number leads nowhere else than its head
 pub silent_leads : LowerLaws → (ds : List Dataset) (d : Dataset) → SectionsLive (ds ++ d ∷ []) → tells_number d.rec ≡ false → (d.rec ≡ 8 → length (of_record 8 ds) < max_subfiles)
     → place_at ds (head_of d) ≡ place_after_datasets (ds ++ d ∷ [])
 silent_leads laws ds d alive none few = elim (is_one ds d alive) [
   | inl less ↦ at_other ds (head_of d) less ∙ sym (laws.others ds d less)
-  | inr (inl seven) ↦ absurd (not_told d.rec (inl seven) none)
-  | inr (inr (inl eight)) ↦ at_subfile ds (head_of d) eight ∙ (laws.subfiles_lead ds d (records_alive (ds ++ d ∷ []) alive) eight (few eight)).1
-  | inr (inr (inr nine)) ↦ absurd (not_told d.rec (inr nine) none)
+  | inr (inl seven) ↦ absurd (let bad : true ≡ false = rw seven at none in cc)
+  | inr (inr (inl eight)) ↦ at_record 8 ds (head_of d) eight ∙ (laws.subfiles_lead ds d (records_alive (ds ++ d ∷ []) alive) eight (few eight)).1
+  | inr (inr (inr nine)) ↦ absurd (let bad : true ≡ false = rw nine at none in cc)
 ]
-
--- ---- how many subfiles
 
 pub one_more : (ds : List Dataset) (d : Dataset) → length (of_record 8 (ds ++ d ∷ [])) ≡ length (of_record 8 ds) + (if nat_eq d.rec 8 then 1 else 0)
 one_more ds d =
@@ -106,21 +90,20 @@ lives_after live ds alive sized = (live ds (records_alive ds alive)).0 sized
 pub lives_at : LowerLaws → (ds : List Dataset) (d : Dataset) → SectionsLive (ds ++ d ∷ [])
     → IsAlive AreSized (ds ++ d ∷ []) → (d.rec ≡ 8 → length (of_record 8 ds) < max_subfiles) → ObjectLives (place_at ds (head_of d))
 lives_at laws ds d alive sized few =
+    let whole = records_alive (ds ++ d ∷ []) alive in
     let before : ObjectLives (place_after_datasets ds) =
-    (laws.live ds (alive_front AreObjectRecords ds (d ∷ []) (records_alive (ds ++ d ∷ []) alive))).0 (alive_front AreSized ds (d ∷ []) sized) in
+    (laws.live ds (alive_front AreObjectRecords ds (d ∷ []) whole)).0 (alive_front AreSized ds (d ∷ []) sized) in
     elim (is_one ds d alive) [
       | inl less ↦ subst ObjectLives (sym (at_other ds (head_of d) less)) before
       | inr (inl seven) ↦ subst ObjectLives (sym (at_number ds (head_of d) seven)) before
       | inr (inr (inl eight)) ↦
-          subst ObjectLives (sym (at_subfile ds (head_of d) eight ∙ (laws.subfiles_lead ds d (records_alive (ds ++ d ∷ []) alive) eight (few eight)).1)) (lives_after laws.live (ds ++ d ∷ []) alive sized)
-      | inr (inr (inr nine)) ↦
-          subst ObjectLives (sym (at_end ds (head_of d) nine)) ((laws.ended ds d (records_alive (ds ++ d ∷ []) alive) nine).0 (d, nine, sized))
+          subst ObjectLives (sym (at_record 8 ds (head_of d) eight ∙ (laws.subfiles_lead ds d whole eight (few eight)).1))
+          (lives_after laws.live (ds ++ d ∷ []) alive sized)
+      | inr (inr (inr nine)) ↦ subst ObjectLives (sym (at_record 9 ds (head_of d) nine)) ((laws.ended ds d whole nine).0 (d, nine, sized))
     ]
 
 -- ---- no layer dies with what all can continue with
 
 pub no_dead_head : (layer : Layer) (limits : Limits) (ds : List Dataset) (h : Head) → CanContinueAt limits ds h → DiesAtHead layer limits ds h → ⊥
-no_dead_head layers.Record limits ds h goes dead = dead goes.records
-no_dead_head layers.Limits limits ds h goes dead = dead.1 goes.room
-no_dead_head layers.Object limits ds h goes dead = dead.2 goes.object
-no_dead_head rest limits ds h goes dead = dead
+no_dead_head layers.Record limits ds h goes dead = search rules
+no_dead_head layer limits ds h goes dead = search rules

@@ -1,13 +1,14 @@
 -- The conditions on sizes, as the table of the causes has them, and as the object layer has them at a place and a token.
-use Rattle.std.proofs.Common.{◌≡◌, ◌≢◌, ℕ, ◌<◌, ◌⊎◌, nat_eq, if◌then◌else◌, ◌↔◌, List, [], ◌∷◌, ◌++◌, Option, Some, None, IsSomeAnd, refl, ap, ◌∙◌, inl, inr}
-use Rattle.std.proofs.Common.{arith}
-use Rattle.iim_places.proofs.Words.{map-append, filter-append, Dataset, head_of, of_record, number, Limits, place_after_datasets, ObjectToken, head_token}
+use Rattle.std.proofs.Common.{◌≡◌, ◌≢◌, ℕ, ◌+◌, ◌<◌, ◌⊎◌, nat_eq, if◌then◌else◌, ◌↔◌, List, [], ◌∷◌, ◌++◌, Option, Some, None, IsSomeAnd, refl, ap}
+use Rattle.std.proofs.Common.{◌∙◌, inl, inr, arith}
+use Rattle.iim_places.proofs.Words.{map-append, filter-append, Dataset, head_of, Head, of_record, number, Limits, place_after_datasets, ObjectToken, head_token}
 use Rattle.iim_places.proofs.Words.{value_token, numbers_of, Stated, number_at, SizeCause, Token, AtHead, AtValue, rule_of, stated, total, place_at}
 use Rattle.iim_fields.specs.Format.Causes as records
 use Rattle.iim_fields.specs.Format.Causes.Token.{AtHead as HeadToken, AtValue as ValueToken}
 use Rattle.iim_object.specs.Format.Conditions as objects
 use Rattle.iim_object.specs.Format.Places.{Place}
 use Rattle.iim_object.specs.declared.reading.fault.SizeCause.TheVariants as sizes
+use Rattle.iim_places.specs.Format.Conditions.{IsPast}
 use Rattle.iim_places.specs.declared.refusal.Cause.TheVariants as causes
 
 -- a token of the record layer, as one of all layers
@@ -59,19 +60,15 @@ more_stated ds d set n seven is same =
 -- ---- both are the same
 
 -- the total is past what is stated
-abbrev IsPastStated : List Dataset → ℕ → Type 0
-IsPastStated ds n =
-    (9_223_372_036_854_775_807 < n) ⊎ (IsSomeAnd (stated 90 ds) (λ a. a < n) ⊎ IsSomeAnd (stated 95 ds) (λ m. m < n))
+past_stated : (ds : List Dataset) (h : Head) → h.rec ≡ 8 → objects.PassesBound (numbers_of (of_record 7 ds)) (total ds + h.count) → IsPast ds h
+past_stated ds h eight (inl more) = (eight, inl more)
+past_stated ds h eight (inr (inl (a, at, above))) = (eight, inr (inl (rw at above)))
+past_stated ds h eight (inr (inr (m, at, above))) = (eight, inr (inr (rw at above)))
 
-past_stated : (ds : List Dataset) (n : ℕ) → objects.PassesBound (numbers_of (of_record 7 ds)) n → IsPastStated ds n
-past_stated ds n (inl more) = inl more
-past_stated ds n (inr (inl (a, at, above))) = inr (inl (rw at above))
-past_stated ds n (inr (inr (m, at, above))) = inr (inr (rw at above))
-
-passes_bound : (ds : List Dataset) (n : ℕ) → IsPastStated ds n → objects.PassesBound (numbers_of (of_record 7 ds)) n
-passes_bound ds n (inl more) = inl more
-passes_bound ds n (inr (inl above)) = inr (inl (there (stated 90 ds) (λ a. a < n) above))
-passes_bound ds n (inr (inr above)) = inr (inr (there (stated 95 ds) (λ m. m < n) above))
+passes_bound : (ds : List Dataset) (h : Head) → IsPast ds h → objects.PassesBound (numbers_of (of_record 7 ds)) (total ds + h.count)
+passes_bound ds h (eight, inl more) = inl more
+passes_bound ds h (eight, inr (inl above)) = inr (inl (there (stated 90 ds) (λ a. a < total ds + h.count) above))
+passes_bound ds h (eight, inr (inr above)) = inr (inr (there (stated 95 ds) (λ m. m < total ds + h.count) above))
 
 to_table : (s : SizeCause) (limits : Limits) (ds : List Dataset) (t : records.Token) → OfSize s ds t → InTable s limits ds (here t)
 to_table sizes.ModeClash limits ds (HeadToken h) (inl eight, has) =
@@ -79,12 +76,10 @@ to_table sizes.ModeClash limits ds (HeadToken h) (inl eight, has) =
 to_table sizes.SubfileTooLong limits ds (HeadToken h) (inl eight, has) =
     let (count, token, (largest, at, less)) = rw eight at has in let same : count ≡ h.count = cc in (eight, rw at (omega (arith, same, less)))
 to_table sizes.PastSize limits ds (HeadToken h) (inl eight, has) =
-    let (count, token, passes) = rw eight at has in let same : count ≡ h.count = cc in (eight, past_stated ds _ (rw same at passes))
+    let (count, token, passes) = rw eight at has in let same : count ≡ h.count = cc in past_stated ds h eight (rw same at passes)
 to_table s limits ds (HeadToken h) (inl eight, has) = let bad = rw eight at has in cc
-to_table sizes.ModeClash limits ds (HeadToken h) (inr nine, has) =
-    elim (rw nine at has) [ inl bad ↦ (let token = bad.2 in cc) | inr bad ↦ (let token = bad.1 in cc) ]
 to_table sizes.Short limits ds (HeadToken h) (inr nine, has) = let (announced, token, at, less) = rw nine at has in (nine, rw at less)
-to_table s limits ds (HeadToken h) (inr nine, has) = let bad = rw nine at has in cc
+to_table s limits ds (HeadToken h) (inr nine, has) = let bad = rw nine at has in absurd (grind arith)
 to_table sizes.ModeClash limits ds (ValueToken d) (inl seven, has) = elim (rw seven at has) [
   | inl (set, n, token, mode, (announced, at)) ↦
       let all = more_stated ds d set n seven (cc) (cc) in (seven, rw all mode, rw all (λ none. let bad : Some announced ≡ None = cc in cc))
@@ -94,17 +89,15 @@ to_table sizes.SizeClash limits ds (ValueToken d) (inl seven, has) =
     let (set, n, token, (announced, most, at, is, less)) = rw seven at has in
     let all = more_stated ds d set n seven (cc) (cc) in (seven, rw (all, at, is) less)
 to_table s limits ds (ValueToken d) (inl seven, has) = let bad = rw seven at has in cc
-to_table sizes.ModeClash limits ds (ValueToken d) (inr nine, has) =
-    elim (rw nine at has) [ inl bad ↦ (let token = bad.2 in cc) | inr bad ↦ (let token = bad.1 in cc) ]
 to_table sizes.ConfirmedWrong limits ds (ValueToken d) (inr nine, has) =
     let (n, token, other) = rw nine at has in let same : n ≡ number d.octets = cc in (nine, λ is. other (same ∙ is))
-to_table s limits ds (ValueToken d) (inr nine, has) = let bad = rw nine at has in cc
+to_table s limits ds (ValueToken d) (inr nine, has) = let bad = rw nine at has in absurd (grind arith)
 
 of_table : (s : SizeCause) (limits : Limits) (ds : List Dataset) (t : records.Token) → InTable s limits ds (here t) → OfSize s ds t
 of_table sizes.ModeClash limits ds (HeadToken h) (eight, mode, none) = (inl eight, rw eight (inr (h.count, refl, mode, none)))
 of_table sizes.SubfileTooLong limits ds (HeadToken h) (eight, less) =
     (inl eight, rw eight (h.count, refl, there (stated 20 ds) (λ l. l < h.count) less))
-of_table sizes.PastSize limits ds (HeadToken h) (eight, passes) = (inl eight, rw eight (h.count, refl, passes_bound ds _ passes))
+of_table sizes.PastSize limits ds (HeadToken h) (eight, past) = (inl eight, rw eight (h.count, refl, passes_bound ds h (eight, past)))
 of_table sizes.Short limits ds (HeadToken h) (nine, less) =
     let (announced, at, low) = there (stated 90 ds) (λ a. total ds < a) less in (inr nine, rw nine (announced, refl, at, low))
 of_table s limits ds (HeadToken h) is = absurd is

@@ -10,20 +10,14 @@ pub record Unstated (n : ℕ) : Type 0 where
   pub announced : nat_eq 90 n ≡ false
   pub maximum : nat_eq 95 n ≡ false
 
+-- what holds at this number holds at one, or that is another
+at_or : (P : ℕ → Type 0) (k n : ℕ) → P k → (nat_eq k n ≡ false → P n) → P n
+at_or P k n at other = elim (eqb_tells k n) [ inl is ↦ subst P is.1 at | inr apart ↦ other apart.0 ]
+
 pub by_number : (P : ℕ → Type 0) → P 10 → P 20 → P 90 → P 95 → ((n : ℕ) → Unstated n → P n) → (n : ℕ) → P n
-by_number P mode largest announced maximum other n = elim (eqb_tells 10 n) [
-  | inl is ↦ subst P is.1 mode
-  | inr not10 ↦ elim (eqb_tells 20 n) [
-    | inl is ↦ subst P is.1 largest
-    | inr not20 ↦ elim (eqb_tells 90 n) [
-      | inl is ↦ subst P is.1 announced
-      | inr not90 ↦ elim (eqb_tells 95 n) [
-        | inl is ↦ subst P is.1 maximum
-        | inr not95 ↦ other n (record { mode = not10.0; largest = not20.0; announced = not90.0; maximum = not95.0 })
-      ]
-    ]
-  ]
-]
+by_number P mode largest announced maximum other n =
+    at_or P 10 n mode (λ not10. at_or P 20 n largest (λ not20. at_or P 90 n announced (λ not90. at_or P 95 n maximum (λ not95.
+    other n (record { mode = not10; largest = not20; announced = not90; maximum = not95 })))))
 
 no_seven : (n : ℕ) → Unstated n → row_of 7 n ≡ None
 unfolding row_of table
@@ -46,7 +40,4 @@ unfolding row_of table
 nine_has n e = rw e refl
 
 pub by_ten : (r : ℕ) → HasTen r → (xs : List ℕ) (P : ℕ → Type 0) → (Meets r 10 xs → P 10) → (n : ℕ) → Meets r n xs → P n
-by_ten r none xs P ten n h = elim (eqb_tells 10 n) [
-  | inl is ↦ subst (λ (k : ℕ). Meets r k xs → P k) is.1 ten h
-  | inr other ↦ absurd (none_meets r n xs (none n other.0) h)
-]
+by_ten r none xs P ten n = at_or (λ (k : ℕ). Meets r k xs → P k) 10 n ten (λ other h. absurd (none_meets r n xs (none n other) h))

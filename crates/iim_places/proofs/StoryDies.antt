@@ -1,13 +1,11 @@
 -- With which octets the story of an object dies.
-use Rattle.std.proofs.Common.{◌≡◌, ℕ, zero, suc, ◌+◌, ◌<◌, ◌⊎◌, Bool, true, false, not, nat_eq, cond, List, [], ◌∷◌, ◌++◌}
-use Rattle.std.proofs.Common.{length, drop, map, replicate, refl, ap, ◌∙◌, inl, inr, arith, append-nil, append_assoc}
-use Rattle.iim_places.proofs.Words.{list_any, position_or_len, after_first, cases_Bool, cases_lt, lt-ltb, ne_eqb, eqb_tells, list_any-append}
-use Rattle.iim_places.proofs.Words.{list_all-append, drop-append-add, IsOctet, IsTextSoFar, Holds, is_line_octet, OctetOrEnd, Octet, End}
-use Rattle.iim_places.proofs.Words.{LowerLaws, StoryLanguage, StoryLivesIn, after_stx, text_so_far, StoryDiesWith, IsInText}
-use Rattle.iim_dataset.specs.Format.Languages as languages
+use Rattle.std.proofs.Common.{◌≡◌, ℕ, zero, suc, ◌+◌, ◌<◌, ◌⊎◌, Bool, true, false, List, [], ◌∷◌, ◌++◌, length, replicate, refl, ap, ◌∙◌, inl, inr, arith}
+use Rattle.std.proofs.Common.{append-nil, append_assoc}
+use Rattle.iim_places.proofs.Words.{list_any, position_or_len, after_first, cases_Bool, ne_eqb, nat_tests, list_any-append, list_all-append}
+use Rattle.iim_places.proofs.Words.{drop-append-add, IsOctet, IsTextSoFar, Holds, is_line_octet, LowerLaws, after_stx, text_so_far, StoryDiesWith, IsInText}
 use Rattle.wire_story.specs.States.Reading.{IsLoneReturn}
 use Rattle.wire_story.proofs.SoFar.{so_far_two}
-use Rattle.iim_places.proofs.Living.{after_found, after_none, before_found, before_later, before_all, place_later, is_etx, is_stx, tokens_after_stx}
+use Rattle.iim_places.proofs.Living.{after_found, after_none, before_found, before_later, before_all, place_later, is_etx, is_stx}
 
 -- ---- the text has begun, and has not ended
 
@@ -15,15 +13,7 @@ use Rattle.iim_places.proofs.Living.{after_found, after_none, before_found, befo
 after_last : (p : ℕ → Bool) (x : List ℕ) (b : ℕ) → list_any p x ≡ false → after_first p (x ++ b ∷ []) ≡ []
 after_last p x b none =
     let sum : position_or_len p (x ++ b ∷ []) + 1 ≡ length x + (position_or_len p (b ∷ []) + 1) = omega (arith, place_later p x (b ∷ []) none) in
-    rw (sum, drop-append-add x (b ∷ [])) (one_left (p b))
-  where
-    one_left : (t : Bool) → drop (cond (not t) (1 + 0) 0 + 1) (b ∷ []) ≡ []
-    one_left true = refl
-    one_left false = refl
-
--- after ETX no octet is one of the text
-ended_alike : (s : List ℕ) (b : ℕ) → list_any is_etx s ≡ true → tokens_after_stx (s ++ b ∷ []) ≡ tokens_after_stx s
-ended_alike s b found = rw (before_found is_etx s (b ∷ []) found, list_any-append, found) refl
+    rw (sum, drop-append-add x (b ∷ [])) (elim (cases_Bool (p b)) [ inl is ↦ rw is | inr not' ↦ rw not' ])
 
 pub in_text : (o : List ℕ) (b : ℕ) → StoryDiesWith o b → IsInText o
 in_text o b (lives, dies) = elim (cases_Bool (list_any is_stx o)) [
@@ -32,62 +22,38 @@ in_text o b (lives, dies) = elim (cases_Bool (list_any is_stx o)) [
     found,
     elim (cases_Bool (list_any is_etx (after_stx o))) [
       | inr none ↦ none
-      | inl ended ↦ absurd (dies (rw (after_found is_stx o (b ∷ []) found, ended_alike (after_stx o) b ended) lives))
+      | inl ended ↦ absurd (dies (rw (after_found is_stx o (b ∷ []) found, before_found is_etx (after_stx o) (b ∷ []) ended, list_any-append, ended)
+          (rw ended at lives)))
     ],
   )
 ]
-
--- ---- the tokens with one octet more
-
--- of what stands after STX, no ETX among it
-pub text_is : (o : List ℕ) → IsInText o → text_so_far o ≡ after_stx o
-text_is o is = before_all is_etx (after_stx o) is.1
-
-with_octet : (s : List ℕ) (b : ℕ) → list_any is_etx s ≡ false → nat_eq b 3 ≡ false → tokens_after_stx (s ++ b ∷ []) ≡ map Octet (s ++ b ∷ [])
-with_octet s b none other =
-    let all : list_any is_etx (s ++ b ∷ []) ≡ false = rw (list_any-append is_etx s (b ∷ []), none, other) refl in
-    rw (before_all is_etx (s ++ b ∷ []) all, all, append-nil) refl
-
-with_etx : (s : List ℕ) → list_any is_etx s ≡ false → tokens_after_stx (s ++ 3 ∷ []) ≡ map Octet s ++ End ∷ []
-with_etx s none = rw (before_later is_etx s (3 ∷ []) none, list_any-append is_etx s (3 ∷ []), none, append-nil) refl
-
--- the story lives where its tokens do
-lives_by : (o : List ℕ) (b : ℕ) (tokens : List OctetOrEnd) → IsInText o → tokens_after_stx (after_stx o ++ b ∷ []) ≡ tokens
-    → languages.IsAlive StoryLanguage tokens
-    → StoryLivesIn (o ++ b ∷ [])
-lives_by o b tokens is same alive = rw (after_found is_stx o (b ∷ []) is.0, same) alive
 
 -- an octet of the text that leads to a text so far
 no_death : LowerLaws → (o : List ℕ) (b held : ℕ) → StoryDiesWith o b → (b ≡ 3 → ⊥) → Holds (text_so_far o ++ b ∷ []) held → ⊥
 no_death laws o b held dies other holds =
     let is = in_text o b dies in
     let s = after_stx o in
-    let alive = (laws.stories_live (s ++ b ∷ [])).1 (held, rw (text_is o is) at holds) in
-    dies.1 (lives_by o b (map Octet (s ++ b ∷ [])) is (with_octet s b is.1 (ne_eqb b 3 other)) alive)
+    let alive = (laws.stories_live (s ++ b ∷ [])).1 (held, rw (before_all is_etx s is.1) at holds) in
+    let all : list_any is_etx (s ++ b ∷ []) ≡ false = rw (list_any-append is_etx s (b ∷ []), is.1, ne_eqb b 3 other) refl in
+    dies.1 (rw (after_found is_stx o (b ∷ []) is.0, before_all is_etx (s ++ b ∷ []) all, all, append-nil) alive)
 
 -- ---- texts so far with one octet more
 
-feed_after : (x : List ℕ) (lines : List (List ℕ)) (line : List ℕ) (held : ℕ) → IsTextSoFar x lines line held
-    → IsTextSoFar (x ++ 10 ∷ []) (lines ++ line ∷ []) [] 0
-feed_after x [] line held (good, few, parts) = (good, held, few, [], rw parts (simp (append_assoc, append-nil)), (refl, omega arith, refl))
-feed_after x (first ∷ lines) line held (good, returns, few, rest, parts, more) =
-    (good, returns, few, rest ++ 10 ∷ [], rw parts (simp append_assoc), feed_after rest lines line held more)
+-- a text so far goes on as its last line does
+goes_on : (x y : List ℕ) (lines new : List (List ℕ)) (line last : List ℕ) (held returns : ℕ)
+    → ((z : List ℕ) → IsTextSoFar z [] line held → IsTextSoFar (z ++ y) new last returns) → IsTextSoFar x lines line held
+    → IsTextSoFar (x ++ y) (lines ++ new) last returns
+goes_on x y [] new line last held returns step is = step x is
+goes_on x y (first ∷ lines) new line last held returns step (good, some, few, rest, parts, more) =
+    (good, some, few, rest ++ y, rw parts (simp append_assoc), goes_on rest y lines new line last held returns step more)
 
 one_more : (b n : ℕ) → replicate n b ++ b ∷ [] ≡ replicate (n + 1) b
 one_more b zero = refl
 one_more b (suc n) = (λ i. b ∷ one_more b n i) ∙ ap (λ (k : ℕ). replicate k b) (let same : suc (n + 1) ≡ suc n + 1 = omega arith in same)
 
-return_after : (x : List ℕ) (lines : List (List ℕ)) (line : List ℕ) (held : ℕ) → held < 2 → IsTextSoFar x lines line held
-    → IsTextSoFar (x ++ 13 ∷ []) lines line (held + 1)
-return_after x [] line held less (good, few, parts) = (good, omega (arith, less), rw (parts, append_assoc, one_more 13 held) refl)
-return_after x (first ∷ lines) line held less (good, returns, few, rest, parts, more) =
-    (good, returns, few, rest ++ 13 ∷ [], rw parts (simp append_assoc), return_after rest lines line held less more)
-
-octet_after : (x : List ℕ) (lines : List (List ℕ)) (line : List ℕ) (b : ℕ) → is_line_octet b ≡ true → IsTextSoFar x lines line 0
-    → IsTextSoFar (x ++ b ∷ []) lines (line ++ b ∷ []) 0
-octet_after x [] line b may (good, few, parts) = (rw (list_all-append is_line_octet line (b ∷ []), good, may) refl, few, rw parts (simp append-nil))
-octet_after x (first ∷ lines) line b may (good, returns, few, rest, parts, more) =
-    (good, returns, few, rest ++ b ∷ [], rw parts (simp append_assoc), octet_after rest lines line b may more)
+-- an octet that stands in no line, and is no part of its end
+control_octet : (b : ℕ) → b < 256 → is_line_octet b ≡ false → (b ≡ 3 → ⊥) → (b ≡ 10 → ⊥) → (b ≡ 13 → ⊥) → (b ≡ 1) ⊎ ((b ≡ 2) ⊎ (b ≡ 4))
+control_octet b low other not3 not10 not13 = grind (arith, nat_tests)
 
 -- ---- why it dies
 
@@ -95,49 +61,39 @@ module _ (laws : LowerLaws) (o : List ℕ) (b : ℕ) (dies : StoryDiesWith o b) 
   -- an LF never kills
   no_feed : (held : ℕ) → Holds (text_so_far o) held → b ≡ 10 → ⊥
   no_feed held (lines, line, so_far) feed =
-      no_death laws o b 0 dies (λ three. omega (arith, three, feed)) (rw feed (lines ++ line ∷ [], [], feed_after (text_so_far o) lines line held so_far))
+      no_death laws o b 0 dies (λ three. omega (arith, three, feed)) (rw feed (lines ++ line ∷ [], [],
+      goes_on (text_so_far o) (10 ∷ []) lines (line ∷ []) line [] held 0
+      (λ z is. (is.0, held, is.1, [], rw is.2 (simp (append_assoc, append-nil)), (refl, omega arith, refl))) so_far))
 
   -- nor does a CR where it is the first or the second
   no_return : (held : ℕ) → held < 2 → Holds (text_so_far o) held → b ≡ 13 → ⊥
   no_return held less (lines, line, so_far) return' =
-      no_death laws o b (held + 1) dies (λ three. omega (arith, three, return'))
-      (rw return' (lines, line, return_after (text_so_far o) lines line held less so_far))
+      no_death laws o b (held + 1) dies (λ three. omega (arith, three, return')) (rw return' (lines ++ [], line,
+      goes_on (text_so_far o) (13 ∷ []) lines [] line line held (held + 1)
+      (λ z is. (is.0, omega (arith, less), rw (is.2, append_assoc, one_more 13 held) refl)) so_far))
 
   -- where CR are held: an octet that is neither LF nor the second CR
   pub lone_return : (held : ℕ) → 0 < held → Holds (text_so_far o) held → IsLoneReturn held b
   lone_return held some (lines, line, so_far) = (
     some,
     no_feed held (lines, line, so_far),
-    λ return'. elim (cases_lt held 2) [
-      | inr full ↦ omega (arith, so_far_two (text_so_far o) lines line held so_far, full)
-      | inl less ↦ absurd (no_return held less (lines, line, so_far) return')
-    ],
+    λ return'. let full = λ (less : held < 2). no_return held less (lines, line, so_far) return' in
+        omega (arith, so_far_two (text_so_far o) lines line held so_far, full),
   )
 
-  -- where none are held: SOH, STX or EOT, since each other octet may stand in a line
+  -- where none are held: SOH, STX or EOT, since each other octet may stand in a line, or ends the text or a line
   pub control : IsOctet b → Holds (text_so_far o) 0 → (b ≡ 1) ⊎ ((b ≡ 2) ⊎ (b ≡ 4))
-  control low holds = elim (eqb_tells b 1) [
-    | inl is ↦ inl is.1
-    | inr not1 ↦ elim (eqb_tells b 2) [
-      | inl is ↦ inr (inl is.1)
-      | inr not2 ↦ elim (eqb_tells b 4) [
-        | inl is ↦ inr (inr is.1)
-        | inr not4 ↦ elim (eqb_tells b 3) [
-          | inl is ↦ absurd (no_end is.1)
-          | inr not3 ↦
-              let not10 = ne_eqb b 10 (no_feed 0 holds) in
-              let not13 = ne_eqb b 13 (no_return 0 (omega arith) holds) in
-              let may : is_line_octet b ≡ true = rw (lt-ltb b 256 low, not1.0, not2.0, not3.0, not4.0, not10, not13) refl in
-              let (lines, line, so_far) = holds in
-              absurd (no_death laws o b 0 dies not3.1 (lines, line ++ b ∷ [], octet_after (text_so_far o) lines line b may so_far))
-        ]
-      ]
-    ]
+  control low holds = let (lines, line, so_far) = holds in elim (cases_Bool (is_line_octet b)) [
+    | inr other ↦ control_octet b low other no_end (no_feed 0 holds) (no_return 0 (omega arith) holds)
+    | inl may ↦ absurd (no_death laws o b 0 dies (λ three. let bad : is_line_octet 3 ≡ true = rw three at may in cc) (lines ++ [], line ++ b ∷ [],
+        goes_on (text_so_far o) (b ∷ []) lines [] line (line ++ b ∷ []) 0 0
+        (λ z is. (rw (list_all-append is_line_octet line (b ∷ []), is.0, may) refl, is.1, rw is.2 (simp append-nil))) so_far))
   ]
     where
       no_end : b ≡ 3 → ⊥
       no_end three =
           let is = in_text o b dies in
           let s = after_stx o in
-          let ends = (laws.stories_end s).1 ((laws.no_return s).1 (rw (text_is o is) at holds)) in
-          dies.1 (lives_by o b (map Octet s ++ End ∷ []) is (rw three (with_etx s is.1)) ends)
+          let ends = (laws.stories_end s).1 ((laws.no_return s).1 (rw (before_all is_etx s is.1) at holds)) in
+          let none = list_any-append is_etx s (3 ∷ []) in
+          dies.1 (rw (three, after_found is_stx o (3 ∷ []) is.0, before_later is_etx s (3 ∷ []) is.1, none, is.1, append-nil) ends)

@@ -1,6 +1,6 @@
 -- What takes whole datasets one after another: takes joined, and datasets that can continue.
-use Rattle.std.proofs.Common.{◌≡◌, ℕ, ◌≤◌, ◌≢◌, Bool, true, false, Option, Result, Ok, Err, OnOk, IfOk, IfErr, is_ok, List, [], ◌∷◌, ◌++◌, refl, sym, subst}
-use Rattle.std.proofs.Common.{◌∙◌, arith, append_assoc}
+use Rattle.std.proofs.Common.{◌≡◌, ℕ, ◌≤◌, ◌≢◌, Bool, true, false, Option, Result, Ok, Err, OnOk, IfOk, IfErr, is_ok, List, [], ◌∷◌, ◌++◌, refl, subst, ◌∙◌}
+use Rattle.std.proofs.Common.{rules, arith, append_assoc}
 use Rattle.iim_places.proofs.Words.{AllByRecursion, Dataset, head_of, Head, all_front, all_back, TakesHead, HasChecked, HasTaken, IsChecking, IsValueFault}
 use Rattle.iim_places.proofs.Words.{SectionsLive, AreSections, records, IsGoodDataset, data_of, number_told, RecordPlace, FieldFault, Limits, front_alive}
 use Rattle.iim_places.proofs.Words.{mode_dataset, widest, CanContinueWithin, TookDatasets}
@@ -8,42 +8,19 @@ use Rattle.iim_fields.specs.States.Standing.{FieldsPlace, IsBetween, IsOf, Stand
 use Rattle.iim_places.proofs.Bounds.{each_in}
 use Rattle.iim_places.proofs.Limits.{kept_octets_append, kept_length_append}
 
--- ---- datasets that can continue
-
-pub front_leads_on : (limits : Limits) (xs ys : List Dataset) → CanContinueWithin limits (xs ++ ys) → CanContinueWithin limits xs
-front_leads_on limits xs ys goes = record {
-  alive = front_alive xs ys goes.alive;
-  within = record {
-    octets_in = omega (arith, kept_octets_append xs ys, goes.within.octets_in);
-    fields_in = omega (arith, kept_length_append xs ys, goes.within.fields_in);
-  };
-}
-
--- ---- takes
-
-pub took_more : {T : Type 0} (ready : T → Type 0) (stands : T → List Dataset → Type 0) (limits : T → Limits) (a b c : T) (es fs : List Dataset) (all : Bool)
-    → TookDatasets ready stands limits a es b true → TookDatasets ready stands limits b fs c all → TookDatasets ready stands limits a (es ++ fs) c all
-took_more ready stands limits a b c es fs true h k = (k.0, k.1 ∙ h.1, λ ds s. subst (stands c) (append_assoc ds es fs) (k.2 (ds ++ es) (h.2 ds s)))
-took_more ready stands limits a b c es fs false h k = λ ds s goes.
-    k (ds ++ es) (h.2 ds s) (rw h.1 (subst (CanContinueWithin (limits a)) (sym (append_assoc ds es fs)) goes))
-
--- where some are not taken, they are not taken with others after them
-pub took_none : {T : Type 0} (ready : T → Type 0) (stands : T → List Dataset → Type 0) (limits : T → Limits) (a b c : T) (es fs : List Dataset)
-    → TookDatasets ready stands limits a es b false → TookDatasets ready stands limits a (es ++ fs) c false
-took_none ready stands limits a b c es fs h =
-    λ ds s goes. h ds s (front_leads_on (limits a) (ds ++ es) fs (subst (CanContinueWithin (limits a)) (sym (append_assoc ds es fs)) goes))
+-- What no datasets can continue with, none can continue with where others follow.
+pub no_more : (limits : Limits) (ds es fs : List Dataset) → (CanContinueWithin limits (ds ++ es) → ⊥) → CanContinueWithin limits (ds ++ (es ++ fs)) → ⊥
+no_more limits ds es fs none goes =
+    let all = rw (← append_assoc ds es fs) at goes in
+    let octets = kept_octets_append (ds ++ es) fs in
+    let fields = kept_length_append (ds ++ es) fs in
+    none (record { alive = front_alive (ds ++ es) fs all.alive; within = search (rules, arith) })
 
 -- a take after another, and their value
-pub took_then : {T : Type 0} (ready : T → Type 0) (stands : T → List Dataset → Type 0) (limits : T → Limits) (a b c d : T) (es fs : List Dataset) (first last all : Bool)
-    → TookDatasets ready stands limits a es b first → first ≡ true → TookDatasets ready stands limits b fs c last → d ≡ c → all ≡ last
-    → TookDatasets ready stands limits a (es ++ fs) d all
-took_then ready stands limits a b c d es fs first last all h one k same is = rw (same, is) (took_more ready stands limits a b c es fs last (rw one at h) k)
-
-pub took_else : {T : Type 0} (ready : T → Type 0) (stands : T → List Dataset → Type 0) (limits : T → Limits) (a b c : T) (es fs : List Dataset) (first all : Bool)
-    → TookDatasets ready stands limits a es b first → first ≡ false → all ≡ false → TookDatasets ready stands limits a (es ++ fs) c all
-took_else ready stands limits a b c es fs first all h none is = rw is (took_none ready stands limits a b c es fs (rw none at h))
-
--- ---- what no datasets can continue with
+pub took_more : {T : Type 0} (ready : T → Type 0) (stands : T → List Dataset → Type 0) (limits : T → Limits) (a b c : T) (es fs : List Dataset) (all : Bool)
+    → TookDatasets ready stands limits a es b true → TookDatasets ready stands limits b fs c all → TookDatasets ready stands limits a (es ++ fs) c all
+took_more ready stands limits a b c es fs true h k = (k.0, k.1 ∙ h.1, λ ds s. rw (← append_assoc ds es fs) (k.2 (ds ++ es) (h.2 ds s)))
+took_more ready stands limits a b c es fs false h k = λ ds s goes. k (ds ++ es) (h.2 ds s) (rw (h.1, append_assoc ds es fs) goes)
 
 good_only : (r : ℕ) (d : Dataset) → d.rec ≡ r → IsGoodDataset d → IsGoodDataset d
 good_only r d is good = good
@@ -59,9 +36,7 @@ pub no_wide_mode : (limits : Limits) (ds : List Dataset) (n : ℕ) → 256 ≤ n
 no_wide_mode limits ds n wide goes =
     let good = good_at ds (mode_dataset n) goes.alive in omega (arith, wide, good.octets.0)
 
--- ---- a check of records
-
--- a value that was taken after its head, or not
+-- in a check of records: a value that was taken after its head, or not
 pub value_took : (a b c : Option RecordPlace) (d : Dataset) (r : Result (Option ℕ) FieldFault)
     → ((ds : List Dataset) → HasChecked a ds → HasTaken b ds (head_of d)) → d.rec ≢ 8
     → OnOk r (TakesHead c) → IfOk r (λ number. (ds : List Dataset) (h : Head) → IsChecking b ds h → HasChecked c (ds ++ data_of h d.octets ∷ []) × (number ≡ number_told (data_of h d.octets)))
@@ -70,9 +45,7 @@ pub value_took : (a b c : Option RecordPlace) (d : Dataset) (r : Result (Option 
 value_took a b c d (Ok number) taken other takes stands fault = (takes, refl, λ ds s. (stands ds (head_of d) ((taken ds s).checking other)).0)
 value_took a b c d (Err e) taken other takes stands fault = λ ds s goes. (fault ds (head_of d) ((taken ds s).checking other)).dead goes.alive
 
--- ---- a reader of records
-
--- a dataset that was taken after its head and its data, or not
+-- in a reader of records: a dataset that was taken after its head and its data, or not
 pub closed_took : (a b c : FieldsPlace) (d : Dataset) (taken : List ℕ) (r : Result (Option ℕ) FieldFault)
     → ((ds : List Dataset) → StandsAfter a ds → StandsIn b ds (head_of d) taken) → IsOf (head_of d) taken d
     → OnOk r (IsBetween c) → limits_of c ≡ limits_of a

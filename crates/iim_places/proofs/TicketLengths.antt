@@ -1,14 +1,11 @@
 -- How long a ticket is at most.
-use Rattle.std.proofs.Common.{◌≡◌, ℕ, ◌+◌, ◌*◌, ◌≤◌, nat_eq, Bool, true, false, if◌then◌else◌, List, [], ◌∷◌, ◌++◌, length, Option, Some, None, refl, ap, inl}
-use Rattle.std.proofs.Common.{inr, arith, length-append}
-use Rattle.iim_places.proofs.Words.{flat_map, Dataset, SpellsTag, SpellsCount, count_octets, InTag, Reads, Head, Header, nothing_fits, saved, LeadsToSaved}
-use Rattle.iim_places.proofs.Words.{MessagePlace, TagBegun, DataBegun, AllEnded, present_version, phase_octets, field_octets, text_octets, texts_octets}
-use Rattle.iim_places.proofs.Words.{ticket_of}
+use Rattle.std.proofs.Common.{◌≡◌, ℕ, ◌+◌, ◌*◌, ◌≤◌, nat_eq, Bool, true, false, if◌then◌else◌, List, [], ◌∷◌, length, Option, Some, None, refl, ap, inl, inr}
+use Rattle.std.proofs.Common.{rules, arith, length-append}
+use Rattle.iim_places.proofs.Words.{flat_map, Dataset, SpellsTag, SpellsCount, count_octets, InTag, Reads, Head, saved, LeadsToSaved, MessagePlace, TagBegun}
+use Rattle.iim_places.proofs.Words.{DataBegun, AllEnded, present_version, phase_octets, field_octets, texts_octets, ticket_of}
 use Rattle.iim_fields.specs.Format.Faults.{joined}
-use Rattle.wire_message.specs.Format.Messages.{IsHeader}
 use Rattle.wire_message.specs.States.SoFar.{IsPlace}
 use Rattle.wire_message.specs.declared.part.HeaderPart.TheVariants as part
-use Rattle.wire_message.specs.declared.part.HeaderTexts.{HeaderTexts}
 use Rattle.wire_message.specs.declared.place.Place.{Place as Message}
 use Rattle.wire_message.specs.declared.place.Place.TheVariants as at
 use Rattle.iim_places.specs.Format.Tickets.{Place, number_octets}
@@ -38,34 +35,14 @@ pub record AreShort (a b c d e f g : List ℕ) : Type 0 where
   pub info : length f ≤ 64
   pub trailer : length g ≤ 64
 
-seven_length : (a b c d e f g : List ℕ) → AreShort a b c d e f g
-    → length (text_octets a ++ text_octets b ++ text_octets c ++ text_octets d ++ text_octets e ++ text_octets f ++ text_octets g) ≤ 166
-seven_length a b c d e f g short = simp length-append (omega (arith, short))
-
 -- The texts of a saved place are short.
 abbrev pub AreShortIn : MessagePlace → Type 0
 AreShortIn m = AreShort m.source.items m.number.items m.priority.items m.category.items m.words.items m.info.items m.trailer.items
 
--- the texts of a header so far
-in_header : (t : HeaderTexts) → length t.source.items ≤ 8 → length t.number.items ≤ 8 → length t.priority.items ≤ 1 → length t.category.items ≤ 8
-    → length t.words.items ≤ 6 → AreShort t.source.items t.number.items t.priority.items t.category.items t.words.items [] []
-in_header t s n p c w = record { source = s; number = n; priority = p; category = c; words = w; info = omega arith; trailer = omega arith }
-
--- the texts of a whole header, and a trailer
-of_header : (h : Header) (t : List ℕ) → IsHeader h → length t ≤ 64 → AreShort h.source h.number h.priority h.category h.words h.info t
-of_header h t k few =
-    record { source = k.source.2; number = k.number.2; priority = k.priority.2; category = k.category.2; words = k.words.2; info = k.info.2; trailer = few }
-
 pub texts_at : (place : Message) → IsPlace place → AreShortIn (saved place)
-texts_at (at.Filler count) h = in_header _ (nothing_fits 8) (nothing_fits 8) (nothing_fits 1) (nothing_fits 8) (nothing_fits 6)
-texts_at (at.InHeader part.Words t) (hs, hn, hp, hc, hw) = in_header t hs.2 hn.2 hp.2 hc.2 hw.2
-texts_at (at.InHeader p t) (hs, hn, hp, hc, hw) = in_header t hs.2 (omega (arith, hn.2)) (omega (arith, hp.2)) (omega (arith, hc.2)) (omega (arith, hw.2))
-texts_at (at.Info h) k = of_header h [] k (nothing_fits 64)
-texts_at (at.Gap h count feed) (k, some, few, feeds) = of_header h [] k (nothing_fits 64)
-texts_at (at.Text h (Some held)) (k, more) = of_header h [] k (nothing_fits 64)
-texts_at (at.Text h None) (k, more) = of_header h [] k (nothing_fits 64)
-texts_at (at.Trailer h t) (k, more) = of_header h t.items k more.2
-texts_at (at.AfterEnd h t count) (k, more, few) = of_header h t.items k more.2
+texts_at (at.InHeader part.Words t) is = search (rules, arith)
+texts_at (at.Text h (Some held)) is = search (rules, arith)
+texts_at other is = search (rules, arith)
 
 -- ---- what is begun
 
@@ -108,5 +85,4 @@ pub texts_led : (octets text : List ℕ) (m : MessagePlace) → LeadsToSaved oct
 texts_led octets text m (place, leads, is) = rw is at (texts_at place leads.is_place)
 
 pub texts_short : (octets text : List ℕ) (m : MessagePlace) → LeadsToSaved octets text m → length (texts_octets m) ≤ 166
-texts_short octets text m leads =
-    seven_length m.source.items m.number.items m.priority.items m.category.items m.words.items m.info.items m.trailer.items (texts_led octets text m leads)
+texts_short octets text m leads = let short = texts_led octets text m leads in simp length-append (omega (arith, short))

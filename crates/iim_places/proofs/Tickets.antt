@@ -1,7 +1,7 @@
 -- The ticket that an unpacker spells is that of the octets on which it stands.
 use Rattle.std.proofs.Common.{◌≡◌, ℕ, ◌+◌, ◌-◌, Bool, true, false, if◌then◌else◌, List, [], ◌∷◌, ◌++◌, length, sum, Option, refl, ap, sym, ◌∙◌, arith}
 use Rattle.std.proofs.Common.{append-nil, length-append}
-use Rattle.iim_places.proofs.Words.{same_Some, length-map, Dataset, of_record, Begun, OctetsAreHandedOnOneWay, EventsTellTheDatasets, sum_cons, sum_append}
+use Rattle.iim_places.proofs.Words.{same_Some, length-map, Dataset, of_record, Begun, LowerLaws, sum_cons, sum_append}
 use Rattle.iim_places.proofs.Words.{SubfileBegun, lengths_of, numbers_of, place_after_datasets, place_ended, OctetsLeadToOnePlace, saved, LeadsToSaved}
 use Rattle.iim_places.proofs.Words.{MessagePlace, object_of, object_so_far, place_of, ticket_of, OctetsHaveOneTicket}
 use Rattle.iim_fields.specs.Format.Faults.{joined}
@@ -9,6 +9,7 @@ use Rattle.iim_object.specs.Format.Places as objects
 use Rattle.wire_message.specs.States.Reading as wire
 use Rattle.wire_message.specs.States.Saved.{IsAt}
 use Rattle.wire_message.specs.declared.place.Place.{Place as Message}
+use Rattle.iim_places.proofs.Answering.{one_reading}
 
 -- ---- lengths
 
@@ -50,8 +51,6 @@ pub taken_by : (b c : Bool) (ds : List Dataset) (taken : List ℕ) (count left :
     → sum (at_by b c ds count).lengths - (if b then left else 0) ≡ length (object_of ds ++ (if b then taken else []))
 taken_by b c ds taken count left e = omega (arith, so_far_by b c ds taken count left e)
 
--- ---- the message
-
 pub message_at : (reader : Option Message) (octets text : List ℕ) (m : MessagePlace) → wire.StandsAt reader octets text → IsAt reader m
     → LeadsToSaved octets text m
 message_at reader octets text m (at, is, leads) (place, has, same) = let one : at ≡ place = same_Some _ _ (sym is ∙ has) in (at, leads, ap saved one ∙ same)
@@ -65,12 +64,10 @@ same_place one whole es b c m n t v is same (at, leads, saves) (other, goes, kee
     let met = (one (object_so_far whole b) t v at other leads (rw octets at goes)).1 in
     λ i. place_of (is i) (same i) ((sym saves ∙ ap saved met ∙ keeps) i)
 
-pub one_ticket : OctetsAreHandedOnOneWay → EventsTellTheDatasets → OctetsLeadToOnePlace → OctetsHaveOneTicket
-one_ticket way tell one octets ticket other x y =
+pub one_ticket : LowerLaws → OctetsHaveOneTicket
+one_ticket laws octets ticket other x y =
     let a = x.is_place in
     let b = y.is_place in
-    let told = way octets _ _ a.begun b.begun (record { whole = a.whole; reads = a.reads; handed = refl })
-    (record { whole = b.whole; reads = b.reads; handed = refl }) in
-    let whole = (tell a.whole b.whole a.begun b.begun told.0).0 in
-    let same = same_place one a.whole b.whole a.begun b.begun a.message b.message a.text b.text whole told.1 a.leads b.leads in
+    let is = one_reading laws octets a.whole b.whole a.begun b.begun a.reads b.reads in
+    let same = same_place laws.one_place a.whole b.whole a.begun b.begun a.message b.message a.text b.text is.whole_is is.begun_is a.leads b.leads in
     x.spelled ∙ ap ticket_of (a.is_place ∙ same ∙ sym b.is_place) ∙ sym y.spelled

@@ -1,5 +1,5 @@
 -- Octets hold one list of datasets.
-use Rattle.std.proofs.Common.{◌≡◌, ℕ, ◌<◌, ◌^◌, List, [], ◌∷◌, ◌++◌, length, refl, ap, sym, ◌∙◌, arith, append_assoc}
+use Rattle.std.proofs.Common.{◌≡◌, ℕ, ◌<◌, ◌^◌, List, [], ◌∷◌, ◌++◌, length, refl, ap, sym, ◌∙◌, arith}
 use Rattle.std.proofs.Props.{props}
 use Rattle.std.specs.Int.{w32, from_be_bytes}
 use Rattle.std.specs.List.{AllByRecursion, flat_map}
@@ -19,8 +19,6 @@ first_same e = cc
 pub rest_same : {x y : ℕ} {a b : List ℕ} → x ∷ a ≡ y ∷ b → a ≡ b
 rest_same e = cc
 
--- ---- numbers
-
 pub one_four : (m n : ℕ) (a b : List ℕ) → m < 2 ^ 32 → n < 2 ^ 32 → four m ++ a ≡ four n ++ b → (m ≡ n) × (a ≡ b)
 one_four m n a b hm hn e =
     let both = same_front (four m) (four n) a b refl e in
@@ -28,23 +26,18 @@ one_four m n a b hm hn e =
 
 -- ---- datasets
 
--- a dataset's octets, part by part
-pub field_parts : (d : Dataset) (a : List ℕ) → field_octets d ++ a ≡ d.rec ∷ d.set ∷ (four (length d.octets) ++ (d.octets ++ a))
-field_parts d a = ap (λ (xs : List ℕ). d.rec ∷ d.set ∷ xs) (append_assoc (four (length d.octets)) d.octets a)
-
 pub one_field : (d e : Dataset) (a b : List ℕ) → IsLongField d → IsLongField e → field_octets d ++ a ≡ field_octets e ++ b → (d ≡ e) × (a ≡ b)
 one_field d e a b hd he same =
-    let is : d.rec ∷ d.set ∷ (four (length d.octets) ++ (d.octets ++ a)) ≡ e.rec ∷ e.set ∷ (four (length e.octets) ++ (e.octets ++ b)) = sym (field_parts d a) ∙ same ∙ field_parts e b in
-    let rec : d.rec ≡ e.rec = first_same is in
-    let set : d.set ≡ e.set = first_same (rest_same is) in
-    let count = one_four (length d.octets) (length e.octets) (d.octets ++ a) (e.octets ++ b) hd he (rest_same (rest_same is)) in
+    let rec : d.rec ≡ e.rec = first_same same in
+    let set : d.set ≡ e.set = first_same (rest_same same) in
+    let count = one_four (length d.octets) (length e.octets) (d.octets ++ a) (e.octets ++ b) hd he (rest_same (rest_same same)) in
     let octets = same_front d.octets e.octets a b count.0 count.1 in
     ((λ i. record { rec = rec i; set = set i; octets = octets.0 i }), octets.1)
 
 -- ---- datasets to the end
 
 pub some_octets : (d : Dataset) (a : List ℕ) → field_octets d ++ a ≡ [] → ⊥
-some_octets d a e = let is = sym (field_parts d a) ∙ e in let bad = ap length is in omega (arith, bad)
+some_octets d a e = let bad = ap length e in omega (arith, bad)
 
 pub same_fields : (xs ys : List Dataset) → AllByRecursion IsLongField xs → AllByRecursion IsLongField ys → flat_map field_octets xs ≡ flat_map field_octets ys → xs ≡ ys
 same_fields [] [] h k e = refl

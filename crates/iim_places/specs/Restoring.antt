@@ -1,21 +1,16 @@
 -- Where no envelope can be by a ticket's parts, and what the reader of records takes of them.
-use Rattle.std.specs.Prelude.{◌≡◌, ℕ, ◌^◌, ◌<◌, List, ◌++◌, length, ◌+◌, ◌≤◌, [], IsTrue}
+use Rattle.std.specs.Prelude.{◌≡◌, ℕ, ◌^◌, ◌<◌, List, ◌++◌, length, ◌+◌}
 use Rattle.std.specs.List.{AllByRecursion, flat_map}
 use Rattle.iim_dataset.specs.Format.Datasets.{Dataset}
 use Rattle.iim_places.specs.Format.Tickets.{field_octets, Place, Phase}
 use Rattle.iim_places.specs.States.Begins.{IsLongField}
-use Rattle.iim_dataset.specs.Format.Octets.{Octets}
-use Rattle.iim_dataset.specs.declared.head.Head.{Head}
-use Rattle.iim_fields.specs.Format.Alive.{SectionsLiveAt}
-use Rattle.iim_fields.specs.Format.Faults.{is_kept, kept, kept_octets}
+use Rattle.iim_fields.specs.Format.Faults.{kept, kept_octets}
 use Rattle.iim_fields.specs.Format.Bounds.{IsWithin}
 use Rattle.iim_fields.specs.declared.limits.Limits.{Limits}
 use Rattle.iim_places.specs.States.ByLayers.{LeadsByLayers}
 use Rattle.iim_places.specs.States.Possible.{begun_count, begun_fields}
 use Rattle.iim_places.specs.Laws.{split_of}
 use Rattle.iim_places.specs.Format.TicketForm.{Split}
-
--- ---- Octets that begin with none of what is read, or with less.
 
 -- a number that four octets tell
 abbrev pub IsFour : ℕ → Type 0
@@ -40,14 +35,6 @@ pub record FieldsBefore (count : ℕ) (octets rest : List ℕ) : Type 0 where
 abbrev pub LeadsNowhere : Split → Type 0
 LeadsNowhere s = (place : Place) → split_of s.version place ≡ s → LeadsByLayers place → ⊥
 
--- The head may stand after the datasets, within the limits.
-abbrev pub MayBegin : Limits → List Dataset → Head → Type 0
-MayBegin limits ds h = SectionsLiveAt ds h × (IsTrue (is_kept h.rec) → IsWithin limits (kept_octets ds + h.count) (length (kept ds) + 1))
-
 -- With what is begun the kept datasets are within the limits.
 abbrev pub AreWithinWith : Limits → ℕ → Phase → List Dataset → Type 0
 AreWithinWith limits section phase ds = IsWithin limits (kept_octets ds + begun_count section phase) (length (kept ds) + begun_fields section phase)
-
--- No more data have come than the head counts, and none of a subfile.
-abbrev pub HasFew : Head → List ℕ → Type 0
-HasFew h taken = (length taken ≤ h.count) × Octets taken × (h.rec ≡ 8 → taken ≡ [])

@@ -5,7 +5,6 @@ use Rattle.iim_dataset.specs.Format.Datasets.{Dataset}
 use Rattle.iim_fields.specs.Format.Alive.{SectionsLive}
 use Rattle.iim_fields.specs.Format.Faults.{is_kept, kept, kept_octets}
 use Rattle.iim_fields.specs.Format.Bounds.{IsWithin}
-use Rattle.iim_fields.specs.States.Stores.{Room}
 use Rattle.iim_fields.specs.declared.limits.Limits.{Limits}
 use Rattle.wire_message.specs.declared.saved.MessagePlace.{MessagePlace}
 use Rattle.iim_places.specs.States.PlainDatasets.{Numbers, plain}
@@ -26,10 +25,6 @@ pub record CanContinueWithin (limits : Limits) (ds : List Dataset) : Type 0 wher
 abbrev pub TookDatasets : {T : Type 0} → (T → Type 0) → (T → List Dataset → Type 0) → (T → Limits) → T → List Dataset → T → Bool → Type 0
 TookDatasets ready stands limits old es new true = ready new × (limits new ≡ limits old) × ((ds : List Dataset) → stands old ds → stands new (ds ++ es))
 TookDatasets ready stands limits old es new false = (ds : List Dataset) → stands old ds → CanContinueWithin (limits old) (ds ++ es) → ⊥
-
--- the room of what keeps nothing
-abbrev pub no_room : Room
-no_room = record { octets = 0; entries = 0 }
 
 -- the numbers of 7:10, 7:20, 7:90 and 7:95
 abbrev pub numbers_told : List (Option ℕ) → Numbers

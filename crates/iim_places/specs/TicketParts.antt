@@ -1,19 +1,14 @@
 -- The parts of a ticket, one by one.
-use Rattle.std.specs.Prelude.{◌≡◌, ℕ, List, ◌+◌, ◌<◌, ◌∷◌, ◌++◌, length, codes, Option}
+use Rattle.std.specs.Prelude.{◌≡◌, ℕ, List, ◌∷◌, ◌++◌, Option}
 use Rattle.std.specs.List.{AllByRecursion, flat_map}
 use Rattle.iim_dataset.specs.Format.Datasets.{Dataset}
-use Rattle.iim_places.specs.Format.Tickets.{field_octets, DataBegun, four, wide, width, phase_octets, fields_octets, number_octets, text_octets, present_version}
+use Rattle.iim_places.specs.Format.Tickets.{field_octets, DataBegun, four, wide, phase_octets, fields_octets, number_octets, text_octets, present_version}
 use Rattle.iim_places.specs.States.Begins.{IsLongField, AreTexts, IsSizeIn, AreNumbersIn}
-use Rattle.iim_places.specs.declared.ticket.fault.TicketFault.{TicketFault}
-use Rattle.iim_places.specs.Format.TicketForm.{Split, IsPhase, HasForm, HasOtherVersion, Form, Version}
-
--- ---- The datasets that stand in a ticket.
+use Rattle.iim_places.specs.Format.TicketForm.{Split, IsPhase, HasForm}
 
 -- Octets hold some datasets, and nothing else.
 abbrev pub HoldsFields : List ℕ → Type 0
 HoldsFields octets = (datasets : List Dataset) × (AllByRecursion IsLongField datasets × (octets ≡ flat_map field_octets datasets))
-
--- ---- part by part
 
 -- the octets of the message
 abbrev pub message_parts : (part counter flag : ℕ) → List (List ℕ) → List ℕ
@@ -37,16 +32,6 @@ AreNoBody version octets = (s : Split) → s.version ≡ version → HasForm s �
 abbrev pub BeginsWithNoData : ℕ → ℕ → List ℕ → Type 0
 BeginsWithNoData version section octets = (set count left : ℕ) (taken rest : List ℕ) → IsPhase version section (DataBegun set count left taken)
     → 1 ∷ octets ≡ phase_octets version (DataBegun set count left taken) ++ rest → ⊥
-
--- octets of a tag that are held
-abbrev pub IsHeld : ℕ → List ℕ → Type 0
-IsHeld version held = length held < 5 + width version
-
--- Why what follows a name has no version that is taken.
-abbrev pub IsNameFault : List ℕ → TicketFault → Type 0
-IsNameFault ticket Version = HasOtherVersion ticket
-IsNameFault ticket Form = (version : ℕ) (rest : List ℕ) → ticket ≡ codes "IIMT" ++ version ∷ rest → ⊥
-IsNameFault ticket _ = ⊥
 
 -- one that the octets of the present version tell
 abbrev pub IsSize : Option ℕ → Type 0

@@ -7,8 +7,6 @@ use Rattle.iim_places.specs.States.Begins.{IsWide, AreFields, AreNumbersIn, AreT
 use Rattle.iim_places.specs.declared.ticket.fault.TicketFault.{TicketFault}
 pub use Rattle.iim_places.specs.declared.ticket.fault.TicketFault.TheVariants.{Form, Version, HeaderFull, Impossible, OutOfMemory, TooManyFields}
 
--- ---- parts
-
 -- The version; the section; what is begun; the datasets; the numbers of record 7; how many octets of the object, and how many heads of 8:10, have
 -- come; of the message the part, the counter, the flag and the texts.
 pub record Split : Type 0 where

@@ -6,7 +6,7 @@ ghost use Rattle.iim_object.specs.Format.Places.{Place, MayFollow, place_after};
 ghost use Rattle.iim_object.specs.States.Reading.{StandsAt};
 ghost use Rattle.iim_object.specs.States.Saved.{IsAt, IsPossible};
 ghost use Rattle.iim_places.specs.States.ByLayers.{begun_of_object, object_after};
-ghost use Rattle.iim_places.specs.Nowhere.{goes_nowhere, stops_nowhere, joins_nowhere, joins_stop_nowhere};
+ghost use Rattle.iim_places.specs.Nowhere.{goes_nowhere, stops_nowhere};
 ghost use Rattle.iim_places.specs.States.TicketsTold.{phase_told};
 
 use crate::laws::lower_laws;
@@ -28,9 +28,9 @@ impl ObjectSink for Nowhere {
 
     ghost nothing = { λ _. tt };
 
-    ghost joined = { joins_nowhere };
+    ghost joined = { λ a b c xs ys first then. tt };
 
-    ghost joined_stop = { joins_stop_nowhere };
+    ghost joined_stop = { λ a b c xs ys refused first then. then };
 
     fn run(&mut self, _run: &[u8]) -> Result<(), Stop> {
         Ok(())

@@ -4,12 +4,12 @@ ghost use Rattle.std.specs.Prelude.{◌≡◌, ◌+◌, List, length, IfOk};
 ghost use Rattle.iim_dataset.specs.Format.Datasets.{Dataset};
 ghost use Rattle.iim_fields.specs.Format.Faults.{joined};
 ghost use Rattle.iim_fields.specs.Format.Bounds.{IsWithin};
-ghost use Rattle.iim_fields.specs.States.Standing.{StandsAfter, StandsIn, limits_of, room_for, room_of};
+ghost use Rattle.iim_fields.specs.States.Standing.{StandsAfter, limits_of, room_for, room_of};
 ghost use Rattle.iim_places.specs.TicketParts.{AreNumbers};
 ghost use Rattle.iim_places.specs.States.ByLayers.{TagsLead, RecordsLive, are_ended};
 ghost use Rattle.iim_places.specs.States.Possible.{begun_count, begun_fields};
 ghost use Rattle.iim_places.specs.States.Readers.{RecordsStand, LeadsWithin, FieldsStand};
-ghost use Rattle.iim_places.specs.Restoring.{MayBegin, AreWithinWith, HasFew};
+ghost use Rattle.iim_places.specs.Restoring.{AreWithinWith};
 ghost use Rattle.iim_places.specs.Taking.{AreKept, told_datasets};
 ghost use Rattle.iim_places.specs.Format.TicketForm.{HasForm};
 ghost use Rattle.iim_places.specs.States.TicketsTold.{phase_told, split_told};
@@ -24,23 +24,7 @@ use iim_fields::{Fields, Limits};
 use iim_tables::records::OBJECT;
 use std::alloc::{AllocError, Global};
 
-/// Takes the head and the data so far of a begun dataset. It has none of a subfile.
-fn take_begun(records: &mut Fields, head: Head, taken: &[u8])
-    requires stands { (ds : List Dataset) × StandsAfter records.old ds × MayBegin (limits_of records.old) ds head }
-    requires few { HasFew head taken.now }
-    ensures stands { (ds : List Dataset) → StandsAfter records.old ds → MayBegin (limits_of records.old) ds head
-        → StandsIn records.new ds head taken.now }
-    ensures limits { limits_of records.new ≡ limits_of records.old }
-    ensures room { room_of records.new ≡ room_of records.old }
-{
-    match records.begin(head) {
-        Ok(()) if head.rec == OBJECT => {}
-        Ok(()) => records.bytes(taken),
-        Err(_) => unreachable!(),
-    }
-}
-
-/// Takes what is begun after a head of the section.
+/// Takes what is begun after a head of the section: of data the head, and those that have come. It has none of a subfile.
 fn take_phase(records: &mut Fields, section: u8, phase: &TicketPhase<'_>)
     requires stands { (ds : List Dataset) × StandsAfter records.old ds × RecordsLive section (phase_told phase.now) ds
         × AreWithinWith (limits_of records.old) section (phase_told phase.now) ds }
@@ -63,7 +47,11 @@ fn take_phase(records: &mut Fields, section: u8, phase: &TicketPhase<'_>)
             set: *set,
             count: *count,
         };
-        take_begun(records, head, taken);
+        match records.begin(head) {
+            Ok(()) if section == OBJECT => {}
+            Ok(()) => records.bytes(taken),
+            Err(_) => unreachable!(),
+        }
     }
 }
 

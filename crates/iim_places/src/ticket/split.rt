@@ -1,11 +1,11 @@
 //! The parts of a ticket, as they stand in it.
 
-ghost use Rattle.std.specs.Prelude.{◌≡◌, ◌+◌, ◌++◌, ◌∷◌, map, IfSome, IfNone, IfOk, IfErr};
+ghost use Rattle.std.specs.Prelude.{◌≡◌, ◌<◌, ◌+◌, ◌++◌, ◌∷◌, length, map, IfSome, IfNone, IfOk, IfErr};
 ghost use Rattle.std.specs.List.{flat_map};
 ghost use Rattle.iim_places.specs.Format.Tickets.{ticket_name, width, phase_octets, field_octets, fields_octets, number_octets, text_octets};
 ghost use Rattle.iim_places.specs.States.Begins.{IsLongField, AreFields, AreNumbersIn, AreTexts};
 ghost use Rattle.iim_places.specs.Restoring.{BeginsWithNone, BeginsWithFewer, FieldsBefore};
-ghost use Rattle.iim_places.specs.TicketParts.{IsHeld, IsNameFault, BeginsWithNoData, AreNoMessage, AreNoBody, message_parts, body_octets};
+ghost use Rattle.iim_places.specs.TicketParts.{BeginsWithNoData, AreNoMessage, AreNoBody, message_parts, body_octets};
 ghost use Rattle.iim_places.specs.States.TicketsTold.{phase_told, split_told};
 ghost use Rattle.iim_places.specs.Format.TicketForm.{IsVersion, IsPhase, IsFaultOf, HasForm, SplitsTicket};
 
@@ -80,7 +80,7 @@ struct MessageParts<'a> {
 fn after_name(ticket: &[u8]) -> Result<(u8, &[u8]), TicketFault>
     ensures named { IfOk result (λ r. ticket.now ≡ ticket_name r.0 ++ r.1.now) }
     ensures version { IfOk result (λ r. IsVersion r.0) }
-    ensures fault { IfErr result (λ fault. IsNameFault ticket.now fault) }
+    ensures fault { IfErr result (λ fault. IsFaultOf ticket.now fault) }
 {
     let Some(rest) = ticket.strip_prefix(NAME) else {
         return Err(TicketFault::Form);
@@ -104,8 +104,8 @@ fn most_held(version: u8) -> usize
 /// The octets of a tag that are held, and what follows them.
 fn take_held(version: u8, octets: &[u8]) -> Option<(&[u8], &[u8])>
     ensures parts { IfSome result (λ r. octets.now ≡ text_octets r.0.now ++ r.1.now) }
-    ensures fits { IfSome result (λ r. IsHeld version r.0.now) }
-    ensures none { IfNone result (BeginsWithNone (IsHeld version) text_octets octets.now) }
+    ensures fits { IfSome result (λ r. length r.0.now < 5 + width version) }
+    ensures none { IfNone result (BeginsWithNone (λ held. length held < 5 + width version) text_octets octets.now) }
 {
     let (held, rest) = take_text(octets)?;
     if held.len() > most_held(version) {

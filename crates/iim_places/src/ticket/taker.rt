@@ -11,7 +11,7 @@ ghost use Rattle.iim_object.specs.Format.Packing.{number_dataset};
 ghost use Rattle.iim_places.specs.TicketParts.{dataset, AreNumbers, IsSize};
 ghost use Rattle.iim_places.specs.States.PlainDatasets.{mode_dataset, one_dataset, plain_end, plain_numbers};
 ghost use Rattle.iim_places.specs.States.Possible.{widest};
-ghost use Rattle.iim_places.specs.Taking.{AreKept, TookDatasets, no_room, numbers_told, told_datasets};
+ghost use Rattle.iim_places.specs.Taking.{AreKept, TookDatasets, numbers_told, told_datasets};
 
 use crate::ticket::fields::TicketFields;
 use iim_dataset::{Head, number_bytes};
@@ -51,7 +51,7 @@ impl DatasetTaker for RecordCheck {
     ghost limits = { λ _. widest };
 
     // It keeps nothing.
-    ghost room = { λ _. no_room };
+    ghost room = { λ _. record { octets = 0; entries = 0 } };
 
     fn take(&mut self, rec: u8, set: u8, octets: &[u8]) -> bool {
         let head = Head {

@@ -48,7 +48,7 @@ returns c =
       continue_alike lower,
       refuse_alike lower tests,
       present_scale_says lower c.object_laws.ensures.places_live_within,
-      one_ticket lower.one_way lower.events_tell lower.one_place,
+      one_ticket lower,
       one_split,
       taken split told,
     )

@@ -1,5 +1,5 @@
 use Rattle.std.proofs.Common.{[], ◌∙◌}
-use Rattle.iim_places.proofs.Words.{are_ended, told_datasets}
+use Rattle.iim_places.proofs.Words.{are_ended}
 use Rattle.iim_places.specs.States.TicketsTold.{phase_told}
 use Rattle.iim_places.proofs.PlacesTold.{with_told, goes_told}
 use Rattle.iim_places.proofs.ticket.records.records_at.Goals as goal
@@ -18,7 +18,7 @@ take_phase-requires-clause-stands c =
     let phase = phase_told a.phase.now in
     let took = rw (c.has_ended.ensures, c.if-not-take_told.false) at (c.take_told.ensures.all c.requires.kept) in
     let within = with_told a.limits a.section phase a.fields a.numbers a.some (are_ended phase) c.requires.fits c.requires.kept c.requires.within in
-    (told_datasets a.fields a.numbers a.some (are_ended phase), took.2 [] c.in_ok-records.ensures.stands, c.requires.lives, rw (took.1 ∙ c.in_ok-records.ensures.limits) within)
+    (_, took.2 [] c.in_ok-records.ensures.stands, c.requires.lives, rw (took.1 ∙ c.in_ok-records.ensures.limits) within)
 
 pub returns-clause-stands : goal.returns-clause-stands
 returns-clause-stands c =
@@ -26,5 +26,4 @@ returns-clause-stands c =
     let phase = phase_told a.phase.now in
     let took = rw (c.has_ended.ensures, c.if-not-take_told.false) at (c.take_told.ensures.all c.requires.kept) in
     let within = with_told a.limits a.section phase a.fields a.numbers a.some (are_ended phase) c.requires.fits c.requires.kept c.requires.within in
-    c.take_phase.ensures.stands (told_datasets a.fields a.numbers a.some (are_ended phase)) (took.2 [] c.in_ok-records.ensures.stands) c.requires.lives
-    (rw (took.1 ∙ c.in_ok-records.ensures.limits) within)
+    c.take_phase.ensures.stands _ (took.2 [] c.in_ok-records.ensures.stands) c.requires.lives (rw (took.1 ∙ c.in_ok-records.ensures.limits) within)

@@ -1,7 +1,7 @@
 use Rattle.std.proofs.Common.{◌≡◌, true, false, List, [], ◌∷◌, ◌++◌, sym, ◌∙◌, append_assoc}
 use Rattle.iim_places.proofs.Words.{Dataset, is_kept, AreKept, all_append}
 use Rattle.iim_places.specs.TicketParts.{dataset}
-use Rattle.iim_places.proofs.Taking.{took_more, took_none}
+use Rattle.iim_places.proofs.Taking.{took_more, no_more}
 use Rattle.iim_places.proofs.ticket.taker.take_fields.Goals as goal
 
 -- one of these is not kept
@@ -22,7 +22,7 @@ returns-then-not-take-clause-all g c all ds s goes =
     let d : Dataset = dataset c.in-Some.rec c.in-Some.set c.in-Some.octets.now in
     let one = rw c.if-not-take.true at c.take.ensures.took in
     let some = took_more taker.ready taker.stands taker.limits c.args.taker.now c.loop-rec.taker c.take.new.self inv.done (d ∷ []) false inv.took one in
-    took_none taker.ready taker.stands taker.limits c.args.taker.now c.take.new.self c.take.new.self (inv.done ++ d ∷ []) c.next.new.self some ds s
+    no_more _ ds (inv.done ++ d ∷ []) c.next.new.self (some ds s)
     (rw (inv.parts, c.in-Some.ensures.steps, ← append_assoc inv.done (d ∷ []) c.next.new.self) at goes)
 
 pub loop-rec-preserved : goal.loop-rec-preserved

@@ -1,6 +1,6 @@
-use Rattle.std.proofs.Common.{◌≡◌, ℕ, false, List, [], ◌∷◌, ◌++◌, length, get_or, Option, None, subst, ◌∙◌, arith, append_assoc}
+use Rattle.std.proofs.Common.{◌≡◌, ℕ, List, [], ◌∷◌, ◌++◌, length, get_or, Option, None, ◌∙◌, arith, append_assoc}
 use Rattle.iim_places.proofs.Words.{Dataset, number_dataset, mode_dataset, one_dataset, plain_numbers, TookDatasets, numbers_told}
-use Rattle.iim_places.proofs.Taking.{took_then, took_else}
+use Rattle.iim_places.proofs.Taking.{no_more, took_more}
 use Rattle.iim_places.proofs.ticket.taker.take_numbers.Goals.{then-take_size, else-take_size, then-take_mode, else-take_mode}
 use Rattle.iim_places.proofs.ticket.taker.take_numbers.Goals as goal
 
@@ -29,19 +29,19 @@ returns-else-take_size-2-clause-took g c =
     let two : TookDatasets ready stands limits old (mode_in ns ++ size_in 20 1 ns) c.if-take_mode.taker c.if-take_mode.value =
     elim c.if-take_mode.branch [
       | then-take_mode w ↦
-          took_then ready stands limits old c.take_mode.new.taker w.take_size.new.taker c.if-take_mode.taker (mode_in ns) (size_in 20 1 ns) c.take_mode.result w.take_size.result c.if-take_mode.value
-          c.take_mode.ensures.took w.if-take_mode.true w.take_size.ensures.took w.taker-is w.value-is
+          rw (w.taker-is, w.value-is) (took_more ready stands limits old c.take_mode.new.taker w.take_size.new.taker (mode_in ns) (size_in 20 1 ns)
+          w.take_size.result (rw w.if-take_mode.true at c.take_mode.ensures.took) w.take_size.ensures.took)
       | else-take_mode w ↦
-          let none : c.if-take_mode.value ≡ false = cc (w.value-is, w.if-take_mode.false) in
-          took_else ready stands limits old c.take_mode.new.taker c.if-take_mode.taker (mode_in ns) (size_in 20 1 ns) c.take_mode.result c.if-take_mode.value c.take_mode.ensures.took w.if-take_mode.false none
+          let none = rw w.if-take_mode.false at c.take_mode.ensures.took in
+          rw (w.value-is, w.if-take_mode.false) (λ ds s. no_more _ ds _ _ (none ds s))
     ] in
     let three : TookDatasets ready stands limits old ((mode_in ns ++ size_in 20 1 ns) ++ size_in 90 2 ns) c.if-take_size.taker c.if-take_size.value =
     elim c.if-take_size.branch [
       | then-take_size w ↦
-          took_then ready stands limits old c.if-take_mode.taker w.take_size-then-take_size.new.taker c.if-take_size.taker (mode_in ns ++ size_in 20 1 ns) (size_in 90 2 ns) c.if-take_mode.value w.take_size-then-take_size.result c.if-take_size.value
-          two w.if-take_size.true w.take_size-then-take_size.ensures.took w.taker-is w.value-is
-      | else-take_size w ↦
-          took_else ready stands limits old c.if-take_mode.taker c.if-take_size.taker (mode_in ns ++ size_in 20 1 ns) (size_in 90 2 ns) c.if-take_mode.value c.if-take_size.value two w.if-take_size.false c.if-take_size-2.false
+          rw (w.taker-is, w.value-is) (took_more ready stands limits old c.if-take_mode.taker w.take_size-then-take_size.new.taker
+          (mode_in ns ++ size_in 20 1 ns) (size_in 90 2 ns) w.take_size-then-take_size.result (rw w.if-take_size.true at two)
+          w.take_size-then-take_size.ensures.took)
+      | else-take_size w ↦ let none = rw w.if-take_size.false at two in rw c.if-take_size-2.false (λ ds s. no_more _ ds _ _ (none ds s))
     ] in
-    subst (λ (es : List Dataset). TookDatasets ready stands limits old es c.if-take_size.taker c.if-take_size.value) (four ns c.requires.fits.four)
-    (took_else ready stands limits old c.if-take_size.taker c.if-take_size.taker ((mode_in ns ++ size_in 20 1 ns) ++ size_in 90 2 ns) (size_in 95 3 ns) c.if-take_size.value c.if-take_size.value three c.if-take_size-2.false c.if-take_size-2.false)
+    let none = rw c.if-take_size-2.false at three in
+    rw (← four ns c.requires.fits.four, c.if-take_size-2.false) (λ ds s. no_more _ ds _ _ (none ds s))

@@ -3,7 +3,7 @@ use Rattle.std.proofs.Math.Seq.{take-nil}
 use Rattle.iim_places.proofs.Words.{unwrap_or, Dataset, subfile_datasets, Numbers, filled, plain, plain_end, plain_numbers, numbers_told}
 use Rattle.iim_object.specs.Format.Packing.{subfile_dataset}
 use Rattle.iim_places.specs.TicketParts.{dataset}
-use Rattle.iim_places.proofs.Taking.{took_else, took_then}
+use Rattle.iim_places.proofs.Taking.{no_more, took_more}
 use Rattle.iim_places.proofs.ticket.taker.take_told.Goals as goal
 
 -- one subfile without octets, or none
@@ -26,16 +26,12 @@ returns-then-take_records-clause-all g c all =
     let t = g.T.DatasetTaker in
     let numbers : Numbers = numbers_told c.args.numbers in
     rw (← joined c.args.fields numbers c.args.some c.args.ended)
-    (took_then t.ready t.stands t.limits c.args.taker.now c.take_records.new.taker c.take_object.new.taker c.take_object.new.taker
-    (c.args.fields ++ plain_numbers numbers) (subfile c.args.some ++ plain_end c.args.ended []) c.take_records.result c.take_object.result c.take_object.result
-    (c.take_records.ensures.all all) c.if-take_records.true c.take_object.ensures.took refl refl)
+    (took_more t.ready t.stands t.limits c.args.taker.now c.take_records.new.taker c.take_object.new.taker (c.args.fields ++ plain_numbers numbers)
+    (subfile c.args.some ++ plain_end c.args.ended []) c.take_object.result (rw c.if-take_records.true at (c.take_records.ensures.all all))
+    c.take_object.ensures.took)
 
 pub returns-else-take_records-clause-all : goal.returns-else-take_records-clause-all
 unfolding subfile
 returns-else-take_records-clause-all g c all =
-    let t = g.T.DatasetTaker in
-    let numbers : Numbers = numbers_told c.args.numbers in
-    rw (← joined c.args.fields numbers c.args.some c.args.ended)
-    (took_else t.ready t.stands t.limits c.args.taker.now c.take_records.new.taker c.take_records.new.taker (c.args.fields ++ plain_numbers numbers)
-    (subfile c.args.some ++ plain_end c.args.ended []) c.take_records.result c.take_records.result (c.take_records.ensures.all all)
-    c.if-take_records.false c.if-take_records.false)
+    let none = rw c.if-take_records.false at (c.take_records.ensures.all all) in
+    rw (← joined c.args.fields (numbers_told c.args.numbers) c.args.some c.args.ended, c.if-take_records.false) (λ ds s. no_more _ ds _ _ (none ds s))

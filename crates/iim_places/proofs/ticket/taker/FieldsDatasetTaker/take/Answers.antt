@@ -1,18 +1,15 @@
-use Rattle.std.proofs.Common.{◌≡◌, ℕ, ◌-◌, [], length, refl, ◌∙◌, inr, arith}
+use Rattle.std.proofs.Common.{◌-◌, [], length, refl, ◌∙◌, inr, arith}
 use Rattle.iim_places.proofs.Words.{Head}
 use Rattle.iim_places.specs.TicketParts.{dataset}
 use Rattle.iim_dataset.proofs.OctetLists.{are_octets}
 use Rattle.iim_places.proofs.Taking.{closed_took}
 use Rattle.iim_places.proofs.ticket.taker.FieldsDatasetTaker.take.Goals as goal
 
-nothing_left : (n : ℕ) → n - n ≡ 0
-nothing_left n = omega arith
-
 pub close-requires-in-Ok-2 : goal.close-requires-in-Ok-2
 close-requires-in-Ok-2 c =
     let n = length c.args.octets.now in
     let head : Head = record { rec = c.args.rec; set = c.args.set; count = n } in
-    (head, n - n, c.bytes.ensures.inside head n c.in-Ok.ensures.inside, inr (nothing_left n))
+    (head, n - n, c.bytes.ensures.inside head n c.in-Ok.ensures.inside, inr (omega arith))
 
 pub returns-in-Ok-clause-took : goal.returns-in-Ok-clause-took
 returns-in-Ok-clause-took c =
