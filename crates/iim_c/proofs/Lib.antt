@@ -1,17 +1,6 @@
 pub mod Words
-pub mod Audited
 pub mod BegunThere
-pub mod Bits
-pub mod Checked
-pub mod Fed
-pub mod Headers
-pub mod Packs
 pub mod Places
-pub mod RefusedTokens
-pub mod Rows
 pub mod TextLengths
-pub mod TextOuts
 pub mod TicketFields
-pub mod TicketNumbers
-pub mod TicketTexts
 pub mod Tried

@@ -1,17 +1,15 @@
 -- The names that several proofs bring in, passed on from one place.
 pub use Rattle.iim_audit.specs.Format.Pieces.{StandsOn}
 pub use Rattle.iim_audit.specs.declared.pieces.PieceAudit.{PieceAudit}
-pub use Rattle.iim_c.specs.Format.Answers.{refusal_answer, status_answer, ticket_answer}
-pub use Rattle.iim_c.specs.Format.Auditing.{InHand, StandFirst, with_more}
+pub use Rattle.iim_c.specs.Format.Answers.{refusal_answer, status_answer}
+pub use Rattle.iim_c.specs.Format.Auditing.{InHand, with_more}
 pub use Rattle.iim_c.specs.Format.Begun.{TellsOctets}
-pub use Rattle.iim_c.specs.Format.Next.{bit_of, no_octets}
 pub use Rattle.iim_c.specs.Format.TicketAnswers.{StandAt}
-pub use Rattle.iim_c.specs.Format.Writing.{HasTaken}
-pub use Rattle.iim_c.specs.Steps.{HasFedText, HasFound, HasRefusedText, IsNotBegun, IsSet, TellsFirst, saved_with, short_with}
+pub use Rattle.iim_c.specs.Steps.{HasFedText, HasFound, HasRefusedText, IsSet}
 pub use Rattle.iim_c.specs.declared.begun.IimBegun.{IimBegun}
 pub use Rattle.iim_c.specs.declared.finding.Found.{Found}
 pub use Rattle.iim_c.specs.declared.row.IimAuditRow.{IimAuditRow}
-pub use Rattle.iim_dataset.specs.Format.Datasets.{Dataset, SpellsTag, count_octets, head_of}
+pub use Rattle.iim_dataset.specs.Format.Datasets.{Dataset, count_octets}
 pub use Rattle.iim_dataset.specs.Format.Splits.{InData, InTag, Reads}
 pub use Rattle.iim_dataset.specs.Laws.{DatasetLaws}
 pub use Rattle.iim_dataset.specs.declared.head.Head.{Head}
@@ -31,10 +29,10 @@ pub use Rattle.iim_places.specs.declared.ticket.fault.TicketFault.{TicketFault}
 pub use Rattle.iim_unpack.specs.States.Parts.{CountsFor}
 pub use Rattle.iim_unpack.specs.States.Unpacking.{Goes, IsDone, IsDoneWith, IsRefusedIn, Stands, Unpacking, limits_in}
 pub use Rattle.iim_unpack.specs.declared.unpacker.Progress.{Progress}
-pub use Rattle.std.proofs.Common.{Bool, List, None, Option, Some, [], ap, append-nil, append_assoc, arith, drop, false, get_or, if◌then◌else◌, inl, inr}
-pub use Rattle.std.proofs.Common.{length, length-append, length-drop, map, nat_lt, refl, set, subst, sym, take, true, ℕ, ℤ, ◌++◌, ◌+◌, ◌-◌, ◌<◌, ◌==◌, ◌^◌}
+pub use Rattle.std.proofs.Common.{Bool, List, None, Some, [], ap, append-nil, append_assoc, arith, drop, false, get_or, if◌then◌else◌, inl, inr}
+pub use Rattle.std.proofs.Common.{length, length-append, length-drop, map, refl, set, subst, sym, take, true, ℕ, ℤ, ◌++◌, ◌+◌, ◌-◌, ◌<◌, ◌==◌, ◌^◌}
 pub use Rattle.std.proofs.Common.{◌∙◌, ◌∷◌, ◌≡◌, ◌≢◌, ◌≤◌, ◌⊎◌}
-pub use Rattle.std.proofs.lemmas.Bool.{cases_eq, eqb-true, ltb-false, ltb-true}
+pub use Rattle.std.proofs.lemmas.Bool.{cases_eq, eqb-true}
 pub use Rattle.std.proofs.lemmas.List.{drop-drop, drop_at, length-map, length-take, length-take-le}
 pub use Rattle.std.specs.List.{flat_map}
 pub use Rattle.wire_message.specs.Format.Layers.{text_so_far}

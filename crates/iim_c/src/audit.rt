@@ -3,7 +3,9 @@
 ghost use Rattle.std.specs.Prelude.{◌≡◌, None};
 ghost use Rattle.iim_c.specs.Format.Checking.{limits_for};
 ghost use Rattle.iim_c.specs.Format.Auditing.{IsAudited, IsAuditedAt};
-ghost use Rattle.iim_c.specs.Steps.{IsKept, refused_for};
+ghost use Rattle.iim_c.specs.Format.Answers.{refusal_answer};
+ghost use Rattle.iim_c.specs.Format.Statuses as status;
+ghost use Rattle.iim_c.specs.Steps.{IsKept};
 
 use crate::answer::{IimAnswer, refusal_answer, status_answer, ticket_answer};
 use crate::begin::begin;
@@ -51,7 +53,7 @@ fn kept(
 
 /// The answer for a refusal, after rows.
 fn refused(found: Found, refusal: Refusal) -> IimAnswer
-    ensures { result ≡ refused_for found refusal }
+    ensures { result ≡ record (refusal_answer status.refused refusal) { used = found.used; written = found.rows } }
 {
     IimAnswer {
         used: found.used,

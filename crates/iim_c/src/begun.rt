@@ -1,12 +1,12 @@
 //! What is begun at the place of a ticket.
 
-ghost use Rattle.std.specs.Prelude.{◌≡◌, ℕ, List, [], length, get_or};
+ghost use Rattle.std.specs.Prelude.{◌≡◌, ℕ, ◌+◌, ◌*◌, List, [], length, get_or};
 ghost use Rattle.iim_places.specs.Format.TicketForm.{SplitsTicket};
-ghost use Rattle.iim_places.specs.Format.Tickets.{DataBegun, IsPlaceOf, Place, TagBegun};
+ghost use Rattle.iim_places.specs.Format.Tickets.{DataBegun, IsPlaceOf, Place, TagBegun, width};
 ghost use Rattle.iim_places.specs.States.Restored.{IsTicketAt};
 ghost use Rattle.iim_places.specs.States.TicketsTold.{phase_told, split_told};
 ghost use Rattle.iim_c.specs.Format.Begun.{IsBegunOf, IsBegunTold, TellsOctets, TellsToken, begun_by};
-ghost use Rattle.iim_c.specs.Steps.{span_of, taken_offset};
+ghost use Rattle.iim_c.specs.Steps.{span_of};
 
 use crate::answer::{IimAnswer, status_answer, ticket_answer};
 use crate::span::IimSpan;
@@ -136,7 +136,7 @@ fn data_begun(at: u64, section: u8, set: u8, count: u64, left: u64, octets: IimS
 /// How many octets of a ticket stand before the data that have come: as of a tag, and then the dataset's number, which stands where
 /// the number of held octets does, its count, and how many octets are to come.
 fn taken_offset(version: u8) -> usize
-    ensures { result ≡ taken_offset version }
+    ensures { result ≡ 8 + 2 * width version }
 {
     BEFORE_HELD + if version == FIRST_VERSION { 8 } else { 16 }
 }

@@ -1,7 +1,9 @@
 //! An envelope that lies in memory.
 
 ghost use Rattle.std.specs.Prelude.{◌≡◌};
-ghost use Rattle.iim_c.specs.Format.Checking.{IsChecked, IsOnly, limits_for, finished};
+ghost use Rattle.iim_c.specs.Format.Answers.{status_answer};
+ghost use Rattle.iim_c.specs.Format.Checking.{IsChecked, IsOnly, limits_for};
+ghost use Rattle.iim_c.specs.Format.Statuses as status;
 
 use crate::answer::{IimAnswer, refusal_answer, status_answer};
 use crate::limits::IimLimits;
@@ -14,7 +16,7 @@ use wire_story::Discard;
 
 /// The answer for an envelope of so many octets.
 fn finished(used: usize) -> IimAnswer
-    ensures { result ≡ finished used }
+    ensures { result ≡ record (status_answer status.done) { octet = used; used = used } }
 {
     IimAnswer {
         octet: used as u64,

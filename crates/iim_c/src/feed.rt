@@ -1,10 +1,12 @@
 //! A piece of an envelope, from the place of a ticket on.
 
 ghost use Rattle.std.specs.Prelude.{◌≡◌, None, Ok, IfOk, IfErr, OnOk};
+ghost use Rattle.iim_c.specs.Format.Answers.{refusal_answer, short_answer};
 ghost use Rattle.iim_unpack.specs.States.Unpacking.{IsDone, limits_in};
 ghost use Rattle.iim_c.specs.Format.Checking.{limits_for};
 ghost use Rattle.iim_c.specs.Format.Feeding.{IsFed};
-ghost use Rattle.iim_c.specs.Steps.{IsSaved, short_with, HasFedText, HasRefusedText, refused_with, used_in};
+ghost use Rattle.iim_c.specs.Format.Statuses as status;
+ghost use Rattle.iim_c.specs.Steps.{IsSaved, HasFedText, HasRefusedText, TellsRoom, used_in};
 
 use crate::answer::{IimAnswer, refusal_answer, status_answer, ticket_answer};
 use crate::begin::begin;
@@ -60,7 +62,7 @@ fn feed_text(
 
 /// The answer where a buffer is too short.
 fn short_answer(written: usize, ticket: usize) -> IimAnswer
-    ensures { result ≡ short_with written ticket }
+    ensures { result ≡ short_answer written ticket }
 {
     IimAnswer {
         written,
@@ -71,7 +73,7 @@ fn short_answer(written: usize, ticket: usize) -> IimAnswer
 
 /// The answer for a refusal, of whose piece so many octets of text are delivered.
 fn refused(refusal: Refusal, written: usize, room: usize) -> IimAnswer
-    ensures { result ≡ refused_with refusal written room }
+    ensures { TellsRoom written room 0 0 (record (refusal_answer status.refused refusal) { written = written }) result }
 {
     if written > room {
         return short_answer(written, 0);

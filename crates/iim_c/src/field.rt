@@ -1,10 +1,10 @@
 //! The datasets that a ticket tells.
 
-ghost use Rattle.std.specs.Prelude.{◌≡◌, ◌+◌, ◌^◌, ◌<◌, IfSome, IfNone};
+ghost use Rattle.std.specs.Prelude.{◌≡◌, ◌+◌, ◌^◌, ◌<◌, ◌≤◌, length, IfSome, IfNone};
 ghost use Rattle.iim_places.specs.Format.TicketForm.{SplitsTicket};
+ghost use Rattle.iim_places.specs.Format.Tickets.{phase_octets};
 ghost use Rattle.iim_places.specs.States.TicketsTold.{phase_told, split_told};
 ghost use Rattle.iim_c.specs.Format.TicketAnswers.{IsField, IsFieldAt};
-ghost use Rattle.iim_c.specs.Steps.{HasFewer, begun_octets, fields_start};
 
 use crate::answer::{IimAnswer, status_answer, ticket_answer};
 use crate::span::{IimSpan, NO_SPAN};
@@ -35,7 +35,7 @@ const HEAD_OCTETS: usize = 6;
 
 /// How many octets tell what is begun.
 fn begun_octets(version: u8, phase: &TicketPhase<'_>) -> usize
-    ensures count { result ≡ begun_octets version (phase_told phase.now) }
+    ensures count { result ≡ length (phase_octets version (phase_told phase.now)) }
     ensures few { result < 2 ^ 63 + 32 }
 {
     let wide = if version == 1 { 4 } else { 8 };
@@ -48,7 +48,7 @@ fn begun_octets(version: u8, phase: &TicketPhase<'_>) -> usize
 
 /// How many octets stand before the first dataset: name and version, the section, what is begun, and how many datasets there are.
 fn fields_start(parts: &TicketParts<'_>) -> usize
-    ensures { result ≡ fields_start (split_told parts.now) }
+    ensures { result ≡ 10 + length (phase_octets parts.now.version (phase_told parts.now.phase)) }
 {
     5 + 1 + begun_octets(parts.version, &parts.phase) + 4
 }
@@ -57,7 +57,7 @@ fn fields_start(parts: &TicketParts<'_>) -> usize
 fn field_in(ticket: &[u8], parts: TicketParts<'_>, n: usize) -> Option<IimDataset>
     requires { SplitsTicket ticket.now (split_told parts) }
     ensures some { IfSome result (IsFieldAt ticket.now (split_told parts.entry) n) }
-    ensures none { IfNone result (HasFewer (split_told parts.entry) n) }
+    ensures none { IfNone result (length (split_told parts.entry).fields ≤ n) }
 {
     let mut offset = fields_start(&parts);
     let mut left = n;

@@ -3,7 +3,7 @@
 ghost use Rattle.std.specs.Prelude.{◌≡◌, ◌≤◌, ◌<◌, ℕ, List, length, drop, None, OnErr};
 ghost use Rattle.iim_audit.specs.Format.Pieces.{StandsOn};
 ghost use Rattle.iim_unpack.specs.States.Unpacking.{limits_in};
-ghost use Rattle.iim_c.specs.Steps.{HasFound, IsWithin, LivesOn};
+ghost use Rattle.iim_c.specs.Steps.{HasFound, IsWithin, StopsBy};
 
 use crate::row::{IimAuditRow, row_for};
 use iim_audit::PieceAudit;
@@ -45,8 +45,8 @@ pub(crate) fn find_rows(
     ensures found { (p : List ℕ) (a : ℕ) → StandsOn audit.old p a
         → HasFound (limits_in audit.old.unpacker) now.nanosecond (record { at = at; octets = p; count = a })
         piece.now rows.new audit.new result.0 result.1 }
-    ensures within { IsWithin piece.now rows.old rows.new result.0 result.1 }
-    ensures lives { LivesOn audit.old audit.new result.1 }
+    ensures within { IsWithin piece.now rows.old rows.new result.0 }
+    ensures lives { StopsBy audit.old audit.new result.0.rows (length rows.old) result.1 }
 {
     let mut found = Found {
         rows: 0,

@@ -1,10 +1,9 @@
 //! The header and the trailer that a ticket tells.
 
-ghost use Rattle.std.specs.Prelude.{◌≡◌, ◌-◌};
+ghost use Rattle.std.specs.Prelude.{◌≡◌, ◌-◌, length};
 ghost use Rattle.iim_places.specs.Format.TicketForm.{SplitsTicket};
 ghost use Rattle.iim_places.specs.States.TicketsTold.{split_told};
 ghost use Rattle.iim_c.specs.Format.TicketAnswers.{IsHeader, IsMessageOf};
-ghost use Rattle.iim_c.specs.Steps.{span_before};
 
 use crate::answer::{IimAnswer, status_answer, ticket_answer};
 use crate::span::{IimSpan, NO_SPAN};
@@ -47,7 +46,7 @@ const NO_MESSAGE: IimMessage = IimMessage {
 
 /// Where a text stands that ends before the octet at `end`; from octet 0 on where there are too few before that.
 fn span_before(end: usize, text: &[u8]) -> IimSpan
-    ensures { result ≡ span_before end text.now }
+    ensures { result ≡ record { offset = end - length text.now; count = length text.now } }
 {
     IimSpan {
         offset: end.saturating_sub(text.len()),
@@ -57,7 +56,7 @@ fn span_before(end: usize, text: &[u8]) -> IimSpan
 
 /// Where a text stands that the length of the next one follows, in one octet.
 fn text_before(next: IimSpan, text: &[u8]) -> IimSpan
-    ensures { result ≡ span_before (next.offset - 1) text.now }
+    ensures { result ≡ record { offset = next.offset - 1 - length text.now; count = length text.now } }
 {
     span_before(next.offset.saturating_sub(1), text)
 }

@@ -1,8 +1,9 @@
 //! Instants.
 
-ghost use Rattle.std.specs.Prelude.{◌≡◌, IfSome, IfNone};
+ghost use Rattle.std.specs.Prelude.{◌≡◌, ◌<◌, IfSome, IfNone};
 ghost use Rattle.std.specs.Option.{option_map};
-ghost use Rattle.iim_c.specs.Format.Instants.{IsInstant, IsInstantOf, IsToldAs, TellsInstant};
+ghost use Rattle.iim_tables.specs.Format.Instants.{nanoseconds_in_second};
+ghost use Rattle.iim_c.specs.Format.Instants.{IsInstant, IsToldAs, TellsInstant, nanoseconds_to};
 
 use jiff::Timestamp;
 
@@ -27,7 +28,7 @@ const NO_INSTANT: IimInstant = IimInstant {
 
 /// The instant for C.
 fn instant_of(instant: Timestamp) -> IimInstant
-    ensures { IsInstantOf instant.nanosecond result }
+    ensures { (result.nanosecond < nanoseconds_in_second) × (nanoseconds_to result ≡ instant.nanosecond) }
 {
     let nanosecond = instant.as_nanosecond();
     IimInstant {

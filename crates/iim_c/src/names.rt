@@ -1,7 +1,8 @@
 //! The names of layers, and names as they are written.
 
 ghost use Rattle.std.specs.Prelude.{◌≡◌, ◌+◌, Some, None, MatchOption};
-ghost use Rattle.iim_c.specs.Format.Names.{IsNamed, layer_named, name_or_none, name_told};
+ghost use Rattle.std.specs.Option.{option_map};
+ghost use Rattle.iim_c.specs.Format.Names.{IsNamed, layer_named, name_or_none};
 
 use crate::bytes::put_text;
 
@@ -24,7 +25,7 @@ fn layer_named(number: u8) -> Option<&'static str>
 
 /// Writes a name with a NUL after it, where there is room for both, and answers how many octets it has: 0 where there is none.
 pub(crate) fn put_name(name: Option<&str>, out: &mut [u8]) -> usize
-    ensures { IsNamed (name_told name.entry) out.old out.new result }
+    ensures { IsNamed (name_or_none (option_map (λ n. n.now) name.entry)) out.old out.new result }
 {
     let name = name.unwrap_or("").as_bytes();
     if name.len() < out.len() {

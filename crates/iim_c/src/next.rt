@@ -1,9 +1,11 @@
 //! The octets that can come next.
 
-ghost use Rattle.std.specs.Prelude.{◌≡◌, true, false, IfOk, IfErr};
-ghost use Rattle.iim_c.specs.Steps.{IsNotBegun, AreTried, IsSet, IsTried};
+ghost use Rattle.std.specs.Prelude.{◌≡◌, true, false, if◌then◌else◌, IfOk, IfErr, MatchOption};
+ghost use Rattle.iim_c.specs.Format.Answers.{ticket_answer};
+ghost use Rattle.iim_c.specs.Steps.{IsSet};
 ghost use Rattle.iim_c.specs.Format.Checking.{limits_for};
-ghost use Rattle.iim_c.specs.Format.Next.{IsNext};
+ghost use Rattle.iim_c.specs.Format.Feeding.{IsNowhere, IsSaid};
+ghost use Rattle.iim_c.specs.Format.Next.{GoesOnBy, HasEndedThere, IsNext, TellsNext};
 
 use crate::answer::{IimAnswer, status_answer, ticket_answer};
 use crate::begin::begin;
@@ -28,14 +30,14 @@ const NO_OCTETS: [u8; 32] = [0; 32];
 
 /// Sets the bit of an octet.
 fn set_bit(bits: &mut [u8; 32], octet: u8)
-    ensures { IsSet bits.old bits.new octet }
+    ensures { IsSet bits.old bits.new octet 1 }
 {
     bits[usize::from(octet / 8)] |= 1 << (octet % 8);
 }
 
 /// Sets the bit of an octet that is taken.
 fn put_bit(bits: &mut [u8; 32], octet: u8, taken: bool)
-    ensures set { taken ≡ true → IsSet bits.old bits.new octet }
+    ensures set { taken ≡ true → IsSet bits.old bits.new octet 1 }
     ensures same { taken ≡ false → bits.new ≡ bits.old }
 {
     if taken {
@@ -50,8 +52,9 @@ fn takes(
     ticket: &[u8],
     octet: u8,
 ) -> Result<Option<bool>, TicketFault>
-    ensures tried { IfOk result (IsTried limits ticket.now octet) }
-    ensures fault { IfErr result (IsNotBegun limits ticket.now) }
+    ensures tried { IfOk result (λ tried. MatchOption tried (HasEndedThere limits ticket.now)
+        (λ taken. IsSaid limits ticket.now 0 (λ p a. TellsNext limits p octet (if taken then 1 else 0)) (λ p a. ⊥))) }
+    ensures fault { IfErr result (λ fault. IsNowhere limits ticket.now (ticket_answer fault)) }
 {
     place_laws();
     let mut unpacker = begin(alloc, limits, ticket, 0)?;
@@ -66,8 +69,9 @@ fn takes(
 
 /// The bits of all octets that every layer takes next, each tried from the place. None where an envelope has ended there.
 fn try_all(alloc: Global, limits: Limits, ticket: &[u8]) -> Result<Option<[u8; 32]>, TicketFault>
-    ensures tried { IfOk result (AreTried limits ticket.now) }
-    ensures fault { IfErr result (IsNotBegun limits ticket.now) }
+    ensures tried { IfOk result (λ tried. MatchOption tried (HasEndedThere limits ticket.now)
+        (GoesOnBy limits ticket.now)) }
+    ensures fault { IfErr result (λ fault. IsNowhere limits ticket.now (ticket_answer fault)) }
 {
     let mut bits = NO_OCTETS;
     for next in 0..256u16 {
@@ -81,7 +85,7 @@ fn try_all(alloc: Global, limits: Limits, ticket: &[u8]) -> Result<Option<[u8; 3
 }
 
 /// The octets that come next, and the answer.
-#[tactic(auto, using(crate::proofs::Tried::not_begun))]
+#[tactic(auto, using(crate::proofs::Tried::nowhere))]
 fn next_of(alloc: Global, limits: Limits, ticket: &[u8]) -> ([u8; 32], IimAnswer)
     ensures { IsNext limits ticket.now result.0 result.1 }
 {

@@ -1,8 +1,10 @@
 //! Scripts, packed.
 
-ghost use Rattle.std.specs.Prelude.{◌≡◌, IfOk, IfErr};
-ghost use Rattle.iim_c.specs.Format.Packing.{IsPacked, IsPackOutcome, IsSized, Packed};
-ghost use Rattle.iim_c.specs.PackSteps.{IsPut, IsUnpacked, IsUnpackedFault, sized};
+ghost use Rattle.std.specs.Prelude.{◌≡◌, ◌<◌, ◌≤◌, ◌++◌, ◌⊎◌, [], length, drop, IfOk, IfErr};
+ghost use Rattle.iim_c.specs.Format.Answers.{status_answer};
+ghost use Rattle.iim_c.specs.Format.Packing.{IsPacked, IsPackOutcome, IsSized, PackOutcome, Packed, form_of, pack_answer};
+ghost use Rattle.iim_c.specs.Format.Statuses as status;
+ghost use Rattle.iim_c.specs.Steps.{outcome_of};
 
 use crate::answer::{IimAnswer, status_answer};
 use crate::bytes::put_front;
@@ -14,7 +16,7 @@ use std::alloc::Global;
 
 /// The answer for what keeps an envelope from being packed. A write into memory fails for want of memory alone.
 fn fault_answer(fault: PackFault) -> IimAnswer
-    ensures { IsUnpackedFault fault result }
+    ensures { result ≡ pack_answer (outcome_of fault) }
 {
     match fault {
         PackFault::Refused { line, number, .. } => IimAnswer {
@@ -29,7 +31,8 @@ fn fault_answer(fault: PackFault) -> IimAnswer
 /// The packed form of what a script tells; or the answer why there is none.
 fn packed(alloc: Global, packing: IimPacking, script: &[u8]) -> Result<Vec<u8>, IimAnswer>
     ensures packed { IfOk result (λ form. IsPackOutcome packing script.now (Packed form.items)) }
-    ensures unpacked { IfErr result (IsUnpacked packing script.now) }
+    ensures unpacked { IfErr result (λ told. (o : PackOutcome) × IsPackOutcome packing script.now o × (form_of o ≡ [])
+        × (told ≡ pack_answer o)) }
 {
     let Some(request) = request_for(packing) else {
         return Err(status_answer(BAD_PACKING));
@@ -43,7 +46,7 @@ fn packed(alloc: Global, packing: IimPacking, script: &[u8]) -> Result<Vec<u8>, 
 
 /// The answer for a packed form of so many octets.
 fn sized(status: u8, written: usize) -> IimAnswer
-    ensures { result ≡ sized status written }
+    ensures { result ≡ record (status_answer status) { written = written } }
 {
     IimAnswer {
         written,
@@ -53,7 +56,10 @@ fn sized(status: u8, written: usize) -> IimAnswer
 
 /// Writes a packed form into a buffer, where it has room for it.
 fn put_form(form: &[u8], out: &mut [u8]) -> IimAnswer
-    ensures { IsPut form.now out.old out.new result }
+    ensures { ((length form.now ≤ length out.old) × (out.new ≡ form.now ++ drop (length form.now) out.old)
+        × (result ≡ pack_answer (Packed form.now)))
+        ⊎ ((length out.old < length form.now) × (out.new ≡ out.old)
+        × (result ≡ record (status_answer status.short) { written = length form.now })) }
 {
     if form.len() > out.len() {
         return sized(SHORT, form.len());

@@ -1,8 +1,8 @@
 //! How an envelope is packed.
 
-ghost use Rattle.std.specs.Prelude.{IfSome, IfNone};
-ghost use Rattle.iim_c.specs.Format.Packing.{AsksNothing};
-ghost use Rattle.iim_c.specs.PackSteps.{Asks};
+ghost use Rattle.std.specs.Prelude.{◌≡◌, IfSome, IfNone};
+ghost use Rattle.iim_pack_script.specs.Format.{asked};
+ghost use Rattle.iim_c.specs.Format.Packing.{AsksNothing, AsksSomething, asked_for};
 
 use iim_object::{Plan, Size};
 use iim_pack_script::packing::PackRequest;
@@ -24,7 +24,8 @@ pub struct IimPacking {
 
 /// The request for these. None where a maximum is told of a known size, or where a number is above the greatest size.
 pub(crate) fn request_for(packing: IimPacking) -> Option<PackRequest>
-    ensures request { IfSome result (Asks packing) }
+    ensures request { IfSome result (λ request. (asked request.subfile request.unknown request.max ≡ asked_for packing)
+        × AsksSomething packing) }
     ensures none { IfNone result (AsksNothing packing) }
 {
     if packing.has_max && !packing.unknown {

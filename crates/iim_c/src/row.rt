@@ -2,8 +2,8 @@
 
 ghost use Rattle.std.specs.Prelude.{◌≡◌, ◌≤◌, length};
 ghost use Rattle.iim_audit.specs.Lines.{IsShort};
-ghost use Rattle.iim_c.specs.Format.Rows.{copy_number, padded};
-ghost use Rattle.iim_c.specs.Steps.{TellsFound};
+ghost use Rattle.std.specs.Option.{option_map};
+ghost use Rattle.iim_c.specs.Format.Rows.{TellsRow, copy_number, padded};
 
 use crate::instant::{IimInstant, told};
 use iim_audit::{CopyState, PieceRow};
@@ -83,7 +83,8 @@ fn copy_number(copy: CopyState) -> u8
 /// The row for C of an envelope that begins at an offset of the input.
 pub(crate) fn row_for(at: u64, found: &PieceRow) -> IimAuditRow
     requires { IsShort found.now.row.id }
-    ensures { TellsFound at found.now result }
+    ensures { TellsRow at found.now.octets found.now.row (option_map (λ t. t.nanosecond) found.now.release)
+        (option_map (λ t. t.nanosecond) found.now.expires) result }
 {
     let row = &found.row;
     let (has_release, release) = told(found.release);

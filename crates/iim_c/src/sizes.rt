@@ -1,6 +1,5 @@
 //! The sizes of an object that a ticket tells.
 
-ghost use Rattle.iim_places.specs.Format.TicketForm.{HasForm};
 ghost use Rattle.iim_places.specs.States.TicketsTold.{split_told};
 ghost use Rattle.iim_c.specs.Format.TicketAnswers.{IsObjectOf, AreSizes};
 
@@ -50,7 +49,6 @@ const NO_OBJECT: IimObject = IimObject {
 
 /// The sizes in a ticket of these parts.
 fn object_in(parts: &TicketParts<'_>) -> IimObject
-    requires { HasForm (split_told parts.now) }
     ensures { IsObjectOf (split_told parts.now) result }
 {
     let [mode, subfile, announced, maximum] = parts.numbers;

@@ -23,6 +23,10 @@ status_answer status = record {
   ticket = 0;
 }
 
+-- the answer where a buffer is too short: how many octets of text, or how many rows, there are, and how many octets the ticket has
+abbrev pub short_answer : ℕ → ℕ → IimAnswer
+short_answer written ticket = record (status_answer status.short) { written = written; ticket = ticket }
+
 -- the layers by their numbers
 -- twins (with ticket_number): `tells_each_value_as_it_is_written`, `checks_each_changed_octet_of_the_smallest_envelope`; 70 is never told,
 --   since refused memory has a status of its own

@@ -17,13 +17,10 @@ use Rattle.iim_c.specs.declared.begun.IimBegun.{IimBegun}
 
 -- ---- what is begun, by its number
 
--- nothing, between datasets
-abbrev pub nothing : ℕ
-nothing = 0
-
--- a tag, of which some octets have come
-abbrev pub tag : ℕ
-tag = 1
+-- nothing, between datasets; or a tag, of which some octets have come
+abbrev pub kind_of_tag : List ℕ → ℕ
+kind_of_tag [] = 0
+kind_of_tag (x ∷ held) = 1
 
 -- the data of a dataset
 -- twins (with ended): `names_the_kinds_and_duties_as_the_header_does`, `tells_the_place_after_each_front_of_both_worked_envelopes`
@@ -33,10 +30,6 @@ in_data = 2
 -- nothing any more: the last dataset has ended
 abbrev pub ended : ℕ
 ended = 3
-
-abbrev pub kind_of_tag : List ℕ → ℕ
-kind_of_tag [] = nothing
-kind_of_tag (x ∷ held) = tag
 
 -- ---- what a ticket tells of it
 
@@ -66,7 +59,7 @@ no_begun = record {
 -- What is begun in the record `section` after `at` octets, where those that the ticket keeps of it stand in this span. The first
 -- octet of a tag or of data lies as many octets back as have come of it. What the next octet belongs to begins there, too, but in a
 -- subfile, where each octet is looked at alone.
--- twins (with token_of): `tells_the_place_after_each_front_of_both_worked_envelopes`
+-- twins (with TellsBegun): `tells_the_place_after_each_front_of_both_worked_envelopes`
 abbrev pub begun_by : (at section : ℕ) → Phase → IimSpan → IimBegun
 begun_by at section (TagBegun held) span =
     record no_begun {
@@ -107,28 +100,15 @@ IsBegunTold ticket at found told =
 
 -- ---- what octets have begun that have led there
 
--- how many octets have come of it, and how many are to come: of a tag this isn't known
-abbrev pub came_of : Begun → ℕ
-came_of (InTag held) = length held
-came_of (InData h taken) = length taken
-
-abbrev pub left_of : Begun → ℕ
-left_of (InTag held) = 0
-left_of (InData h taken) = h.count - length taken
-
--- the first octet of the token that the next octet belongs to, after `at` octets: of a tag, of a value, and of the object each octet
--- by itself
-abbrev pub token_of : ℕ → Begun → ℕ
-token_of at (InTag held) = at - length held
-token_of at (InData h taken) = if h.rec == 8 then at else at - length taken
-
-pub record TellsBegun (at : ℕ) (begun : Begun) (found : IimBegun) : Type 0 where
-  pub rec : found.rec ≡ begun_record begun
-  pub set : found.set ≡ begun_number begun
-  pub came : found.came ≡ came_of begun
-  pub left : found.left ≡ left_of begun
-  pub first : found.first ≡ at - came_of begun
-  pub token : found.token ≡ token_of at begun
+-- What has come of it, what is to come, and where it began, after `at` octets: of a tag it isn't known what is to come. The token that
+-- the next octet belongs to is a tag, a value, or of the object each octet by itself.
+abbrev pub TellsBegun : ℕ → Begun → IimBegun → Type 0
+TellsBegun at (InTag held) found =
+    (found.rec ≡ begun_record (InTag held)) × (found.set ≡ begun_number (InTag held)) × (found.came ≡ length held) × (found.left ≡ 0)
+    × (found.first ≡ at - length held) × (found.token ≡ at - length held)
+TellsBegun at (InData h taken) found =
+    (found.rec ≡ h.rec) × (found.set ≡ h.set) × (found.came ≡ length taken) × (found.left ≡ h.count - length taken)
+    × (found.first ≡ at - length taken) × (found.token ≡ (if h.rec == 8 then at else at - length taken))
 
 -- The last dataset has ended: it is of record 9, and no other is begun.
 -- no twin: no body has these words

@@ -16,14 +16,10 @@ given_or given other = if given == 0 then other else given
 abbrev pub limits_for : IimLimits → Limits
 limits_for limits = record { octets = given_or limits.octets wire_limits.octets; fields = given_or limits.fields wire_limits.fields }
 
--- the answer for an envelope of so many octets
--- twin: `tells_each_value_as_it_is_written`
-abbrev pub finished : ℕ → IimAnswer
-finished used = record (status_answer status.done) { octet = used; used = used }
-
 -- the answer for the one of a stream
+-- twin: `tells_each_value_as_it_is_written`
 abbrev pub answer_for : Answer → IimAnswer
-answer_for (Finished used value) = finished used
+answer_for (Finished used value) = record (status_answer status.done) { octet = used; used = used }
 answer_for (Refused e) = refusal_answer status.refused e
 answer_for (Truncated e) = refusal_answer status.truncated e
 

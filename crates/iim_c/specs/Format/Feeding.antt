@@ -13,9 +13,9 @@ use Rattle.iim_places.specs.declared.refusal.Refusal.{Refusal}
 use Rattle.iim_places.specs.declared.refusal.Cause.TheVariants.{Message}
 use Rattle.wire_message.specs.declared.fault.MessageCause.TheVariants.{Sink}
 use Rattle.iim_places.specs.declared.ticket.fault.TicketFault.{TicketFault}
-use Rattle.iim_c.specs.Format.Answers.{status_answer, refusal_answer, ticket_answer, IimAnswer}
+use Rattle.iim_c.specs.Format.Answers.{status_answer, short_answer, refusal_answer, ticket_answer, IimAnswer}
 use Rattle.iim_c.specs.Format.Statuses as status
-use Rattle.iim_c.specs.Format.Writing.{counted}
+use Rattle.iim_c.specs.Format.Writing.{counted, HoldsFirst}
 
 -- ---- the place of a ticket
 
@@ -35,25 +35,17 @@ pub record EndsAt (limits : Limits) (ticket : List ℕ) (at : ℕ) (p : List ℕ
   pub value : Value
   pub envelope : IsEnvelopeWithin limits p value
 
--- Some octets have led there.
-abbrev pub IsPlace : Limits → List ℕ → ℕ → Type 0
-IsPlace limits ticket at = (p : List ℕ) × (a : ℕ) × (StandsAt limits ticket at p a ⊎ EndsAt limits ticket at p a)
-
 -- Some octets have led there, and this is said of all of them that are no envelope, and of those that are one.
 pub record IsSaid (limits : Limits) (ticket : List ℕ) (at : ℕ) (stands ends : List ℕ → ℕ → Type 0) : Type 0 where
-  pub some : IsPlace limits ticket at
+  pub some : (p : List ℕ) × (a : ℕ) × (StandsAt limits ticket at p a ⊎ EndsAt limits ticket at p a)
   pub open_octets : (p : List ℕ) (a : ℕ) → StandsAt limits ticket at p a → stands p a
   pub envelopes : (p : List ℕ) (a : ℕ) → EndsAt limits ticket at p a → ends p a
 
 -- ---- what a piece comes to
 
--- the text of events, its lines joined by LF
-abbrev pub text_for : List StoryEvent → List ℕ
-text_for more = map octet_for more
-
--- Of these octets, after those, this text is delivered.
+-- Of these octets, after those, this text is delivered, its lines joined by LF.
 abbrev pub DeliversText : List ℕ → List ℕ → List ℕ → Type 0
-DeliversText p octets text = (more : List StoryEvent) × Delivers p octets more × (text ≡ text_for more)
+DeliversText p octets text = (more : List StoryEvent) × Delivers p octets more × (text ≡ map octet_for more)
 
 -- Every layer can continue after the piece; the text is what is delivered of it, and the ticket that of all octets.
 pub record GoesOn (limits : Limits) (piece : List ℕ) (octet : ℕ) (text next : List ℕ) (p : List ℕ) (a : ℕ) : Type 0 where
@@ -82,44 +74,35 @@ pub record HasEnded (octet used : ℕ) (text next : List ℕ) (p : List ℕ) (a 
 pub record Refuses (limits : Limits) (piece : List ℕ) (e : Refusal) (text : List ℕ) (p : List ℕ) (a : ℕ) : Type 0 where
   pub more : List StoryEvent
   pub refused : IsRefusedIn limits p a piece more e
-  pub text_is : text ≡ text_for more
+  pub text_is : text ≡ map octet_for more
   pub by_octets : e.cause ≢ Message Sink
 
--- what a piece comes to: it was used, or up to the end of an envelope, or one of its octets is refused; or the ticket is refused, or
--- memory
-pub data Outcome : Type 0 where
-  More : (octet used : ℕ) → (text next : List ℕ) → Outcome
-  Done : (octet used : ℕ) → (text next : List ℕ) → Outcome
-  Refused : (refusal : Refusal) → (text : List ℕ) → Outcome
-  BadTicket : (fault : TicketFault) → Outcome
-  NoMemory : Outcome
+-- There is no place to go on from, and the answer tells why: the ticket is refused, or memory.
+abbrev pub IsNowhere : Limits → List ℕ → IimAnswer → Type 0
+IsNowhere limits ticket told =
+    ((fault : TicketFault) × (ticket ≢ []) × IsRestoreFault limits ticket fault × (told ≡ ticket_answer fault)) ⊎ (told ≡ status_answer status.no_memory)
 
--- It comes to this of the piece, from the place of the ticket on.
+-- what is told of a piece: the text that is delivered of it, the ticket after it, and the answer where both have room
+pub record Outcome : Type 0 where
+  pub text : List ℕ
+  pub next : List ℕ
+  pub answer : IimAnswer
+
+-- the answer for so many octets of an envelope, and for so many that were used of the piece
+-- twins (with IsAnswered): `tells_each_value_as_it_is_written`
+abbrev pub answer_with : (state octet used : ℕ) → Outcome → IimAnswer
+answer_with state octet used o = record (status_answer state) { octet = octet; used = used; written = length o.text; ticket = length o.next }
+
+-- It comes to this of the piece, from the place of the ticket on: it was used, or up to the end of an envelope, or one of its octets is
+-- refused; or there is no such place.
 abbrev pub IsOutcome : Limits → List ℕ → ℕ → List ℕ → Outcome → Type 0
-IsOutcome limits ticket at piece (More octet used text next) =
-    IsSaid limits ticket at (GoesOn limits piece octet text next) (λ p a. ⊥) × (used ≡ length piece)
-IsOutcome limits ticket at piece (Done octet used text next) =
-    IsSaid limits ticket at (Finishes limits piece octet used text next) (HasEnded octet used text next)
-IsOutcome limits ticket at piece (Refused e text) = IsSaid limits ticket at (Refuses limits piece e text) (λ p a. ⊥)
-IsOutcome limits ticket at piece (BadTicket fault) = (ticket ≢ []) × IsRestoreFault limits ticket fault
-IsOutcome limits ticket at piece NoMemory = Unit {0}
-
--- ---- the answer
-
--- the octets for the two buffers
-abbrev pub text_of : Outcome → List ℕ
-text_of (More octet used text next) = text
-text_of (Done octet used text next) = text
-text_of (Refused e text) = text
-text_of (BadTicket fault) = []
-text_of NoMemory = []
-
-abbrev pub next_of : Outcome → List ℕ
-next_of (More octet used text next) = next
-next_of (Done octet used text next) = next
-next_of (Refused e text) = []
-next_of (BadTicket fault) = []
-next_of NoMemory = []
+IsOutcome limits ticket at piece o =
+    ((octet : ℕ) × IsSaid limits ticket at (GoesOn limits piece octet o.text o.next) (λ p a. ⊥) × (o.answer ≡ answer_with status.more octet (length piece) o))
+    ⊎ ((octet : ℕ) × (used : ℕ) × IsSaid limits ticket at (Finishes limits piece octet used o.text o.next) (HasEnded octet used o.text o.next)
+    × (o.answer ≡ answer_with status.done octet used o))
+    ⊎ ((e : Refusal) × IsSaid limits ticket at (Refuses limits piece e o.text) (λ p a. ⊥) × (o.next ≡ [])
+    × (o.answer ≡ record (refusal_answer status.refused e) { written = length o.text }))
+    ⊎ ((o.text ≡ []) × (o.next ≡ []) × IsNowhere limits ticket o.answer)
 
 -- the most octets of a ticket, by the limits
 -- no twin (with AreFew): bounds that are proved of the body, which has no such words
@@ -127,38 +110,14 @@ abbrev pub most_of_ticket : Limits → ℕ
 most_of_ticket limits = limits.octets + 6 * limits.fields + 256
 
 -- No more octets than the header tells are for the buffers: of the text as many as the piece has, of the ticket what the limits allow.
-pub record AreFew (limits : Limits) (piece : List ℕ) (o : Outcome) : Type 0 where
-  pub text : length (text_of o) ≤ length piece
-  pub ticket : length (next_of o) ≤ most_of_ticket limits
+abbrev pub AreFew : Limits → List ℕ → Outcome → Type 0
+AreFew limits piece o = (length o.text ≤ length piece) × (length o.next ≤ most_of_ticket limits)
 
--- the answer that tells it
--- twins (with short_answer): `tells_each_value_as_it_is_written`
-abbrev pub answer_of : Outcome → IimAnswer
-answer_of (More octet used text next) = record (status_answer status.more) { octet = octet; used = used; written = length text; ticket = length next }
-answer_of (Done octet used text next) = record (status_answer status.done) { octet = octet; used = used; written = length text; ticket = length next }
-answer_of (Refused e text) = record (refusal_answer status.refused e) { written = length text }
-answer_of (BadTicket fault) = ticket_answer fault
-answer_of NoMemory = status_answer status.no_memory
-
--- the answer where a buffer is too short
-abbrev pub short_answer : List ℕ → List ℕ → IimAnswer
-short_answer text next = record (status_answer status.short) { written = counted text; ticket = length next }
-
--- Both buffers have room, the octets stand in them, and the answer tells the outcome.
-pub record IsTold (o : Outcome) (text_out ticket_out : List ℕ) (told : IimAnswer) : Type 0 where
-  pub text_fits : length (text_of o) ≤ length text_out
-  pub ticket_fits : length (next_of o) ≤ length ticket_out
-  pub answer : told ≡ answer_of o
-  pub text : take (length (text_of o)) text_out ≡ text_of o
-  pub ticket : take (length (next_of o)) ticket_out ≡ next_of o
-
--- One of them has not.
-pub record IsShort (o : Outcome) (text_out ticket_out : List ℕ) (told : IimAnswer) : Type 0 where
-  pub lacks : (length text_out < length (text_of o)) ⊎ (length ticket_out < length (next_of o))
-  pub answer : told ≡ short_answer (text_of o) (next_of o)
-
+-- Both buffers have room, the octets stand in them, and the answer is this; or one of them is too short.
 abbrev pub IsAnswered : Outcome → List ℕ → List ℕ → IimAnswer → Type 0
-IsAnswered o text_out ticket_out told = IsTold o text_out ticket_out told ⊎ IsShort o text_out ticket_out told
+IsAnswered o text_out ticket_out told =
+    (HoldsFirst text_out o.text × HoldsFirst ticket_out o.next × (told ≡ o.answer))
+    ⊎ (((length text_out < length o.text) ⊎ (length ticket_out < length o.next)) × (told ≡ short_answer (counted o.text) (length o.next)))
 
 -- The piece is fed from the place of the ticket on, and what it comes to is answered. So buffers of these lengths are never too short.
 abbrev pub IsFed : Limits → List ℕ → ℕ → List ℕ → List ℕ → List ℕ → IimAnswer → Type 0

@@ -16,14 +16,7 @@ IsInstant instant = (instant.nanosecond < nanoseconds_in_second) × IsTimestampN
 abbrev pub IsToldAs : IimInstant → ℤ → Type 0
 IsToldAs instant nanosecond = IsInstant instant × (nanosecond ≡ nanoseconds_to instant)
 
--- This is the instant, its seconds rounded down.
-abbrev pub IsInstantOf : ℤ → IimInstant → Type 0
-IsInstantOf nanosecond instant = (instant.nanosecond < nanoseconds_in_second) × (nanoseconds_to instant ≡ nanosecond)
-
-abbrev pub no_instant : IimInstant
-no_instant = record { second = pos 0; nanosecond = 0 }
-
--- The instant is this; or there is none, and its numbers are 0.
+-- The instant is this, its seconds rounded down; or there is none, and its numbers are 0.
 abbrev pub TellsInstant : Option ℤ → Bool → IimInstant → Type 0
-TellsInstant (Some nanosecond) has instant = (has ≡ true) × IsInstantOf nanosecond instant
-TellsInstant None has instant = (has ≡ false) × (instant ≡ no_instant)
+TellsInstant (Some nanosecond) has instant = (has ≡ true) × (instant.nanosecond < nanoseconds_in_second) × (nanoseconds_to instant ≡ nanosecond)
+TellsInstant None has instant = (has ≡ false) × (instant ≡ record { second = pos 0; nanosecond = 0 })

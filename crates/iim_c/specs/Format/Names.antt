@@ -1,6 +1,5 @@
 -- The names that are told by numbers: of layers and of datasets.
 use Rattle.std.specs.Prelude.{◌≡◌, ℕ, ◌+◌, ◌<◌, ◌≤◌, ◌==◌, ◌&&◌, ◌⊎◌, Bool, List, [], ◌∷◌, ◌++◌, length, drop, codes, Option, Some, None}
-use Rattle.std.specs.Borrow.{Bor}
 use Rattle.std.specs.List.{find}
 use Rattle.std.specs.Option.{option_map}
 use Rattle.iim_places.specs.Format.Names.{layer_name}
@@ -8,29 +7,14 @@ use Rattle.iim_places.specs.declared.refusal.Layer.TheVariants as layers
 use Rattle.iim_places.specs.declared.refusal.Layer.{Layer}
 use Rattle.iim_c.specs.Format.Answers.{layer_number}
 
--- ---- tables
-
--- a name and its number
-pub record Named : Type 0 where
-  pub number : ℕ
-  pub name : List ℕ
-
-abbrev pub named : ℕ → List ℕ → Named
-named number name = record { number = number; name = name }
-
--- the name of the first entry with that number
-abbrev pub name_in : List Named → ℕ → Option (List ℕ)
-name_in names number = option_map (λ e. e.name) (find (λ e. e.number == number) names)
-
-abbrev pub of_layer : Layer → Named
-of_layer layer = named (layer_number layer) (layer_name layer)
+-- the name of the first layer with that number
+abbrev pub name_in : List Layer → ℕ → Option (List ℕ)
+name_in names number = option_map layer_name (find (λ layer. layer_number layer == number) names)
 
 -- the layers
 -- twins (with dataset_names): `tells_the_tables`
-unfoldable pub layer_names : List Named
-layer_names =
-    of_layer layers.Dataset ∷ of_layer layers.Record ∷ of_layer layers.Limits ∷ of_layer layers.Object ∷ of_layer layers.Message
-    ∷ of_layer layers.Story ∷ of_layer layers.Outside ∷ []
+unfoldable pub layer_names : List Layer
+layer_names = layers.Dataset ∷ layers.Record ∷ layers.Limits ∷ layers.Object ∷ layers.Message ∷ layers.Story ∷ layers.Outside ∷ []
 
 unfoldable pub layer_named : ℕ → Option (List ℕ)
 layer_named number = name_in layer_names number
@@ -101,13 +85,6 @@ dataset_names =
 
 unfoldable pub dataset_named : ℕ → ℕ → Option (List ℕ)
 dataset_named rec set = option_map (λ e. e.name) (find (is_for rec set) dataset_names)
-
--- ---- what is written
-
--- the name that is told, or no octets
-abbrev pub name_told : Option (Bor (List ℕ)) → List ℕ
-name_told (Some name) = name.now
-name_told None = []
 
 -- the name, or no octets
 abbrev pub name_or_none : Option (List ℕ) → List ℕ

@@ -12,8 +12,6 @@ use Rattle.iim_c.specs.Format.Answers.{status_answer, ticket_answer, IimAnswer}
 use Rattle.iim_c.specs.Format.Feeding.{IsSaid}
 use Rattle.iim_c.specs.Format.Statuses as status
 
--- ---- sets of octets
-
 -- the bit of an octet in the 32 octets of a set: eight octets have their bits in each, the first of them the lowest
 -- twins (with no_octets): `tells_the_octets_that_can_come_next`
 abbrev pub bit_of : List ℕ → ℕ → ℕ
@@ -23,29 +21,19 @@ bit_of bits octet = bit_at (get_or bits (octet / 8) 0) (octet % 8)
 abbrev pub no_octets : List ℕ
 no_octets = replicate 32 0
 
--- ---- what comes next
-
 -- With the octet after those every layer can continue, or they are an envelope.
 abbrev pub IsTaken : Limits → List ℕ → ℕ → Type 0
 IsTaken limits p next = IsOpen limits (p ++ next ∷ []) ⊎ ((value : Value) × IsEnvelopeWithin limits (p ++ next ∷ []) value)
 
--- With it a layer is dead.
-abbrev pub IsRefusedNext : Limits → List ℕ → ℕ → Type 0
-IsRefusedNext limits p next = (fault : TokenFault) × Kills limits p next fault
-
--- Its bit is set exactly where it is taken, and is not set exactly where it is refused.
+-- Its bit is set exactly where it is taken, and is not set exactly where a layer is dead with it.
 pub record TellsNext (limits : Limits) (p : List ℕ) (next bit : ℕ) : Type 0 where
   pub taken : (bit ≡ 1) ↔ IsTaken limits p next
-  pub refused : (bit ≡ 0) ↔ IsRefusedNext limits p next
-
--- So it is with each octet.
--- twin: `tells_the_octets_that_can_come_next`
-abbrev pub TellsAllNext : Limits → List ℕ → List ℕ → Type 0
-TellsAllNext limits bits p = (next : ℕ) → next < 256 → TellsNext limits p next (bit_of bits next)
+  pub refused : (bit ≡ 0) ↔ ((fault : TokenFault) × Kills limits p next fault)
 
 -- Of all octets that have led to the ticket every layer can continue, and the bits tell by which next octet.
+-- twin: `tells_the_octets_that_can_come_next`
 abbrev pub GoesOnBy : Limits → List ℕ → List ℕ → Type 0
-GoesOnBy limits ticket bits = IsSaid limits ticket 0 (λ p a. TellsAllNext limits bits p) (λ p a. ⊥)
+GoesOnBy limits ticket bits = IsSaid limits ticket 0 (λ p a. (next : ℕ) → next < 256 → TellsNext limits p next (bit_of bits next)) (λ p a. ⊥)
 
 -- All of them are an envelope.
 abbrev pub HasEndedThere : Limits → List ℕ → Type 0

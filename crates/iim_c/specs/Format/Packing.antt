@@ -1,46 +1,26 @@
 -- What a script and the way of packing are answered.
-use Rattle.std.specs.Prelude.{◌≡◌, ℕ, ◌<◌, ◌≤◌, ◌==◌, ◌⊎◌, Bool, true, false, IsTrue, if◌then◌else◌, List, [], ◌++◌, length, drop, Option, Some, None}
+use Rattle.std.specs.Prelude.{◌≡◌, ℕ, ◌<◌, ◌≤◌, ◌⊎◌, true, false, IsTrue, if◌then◌else◌, List, [], ◌++◌, length, drop, Some, None}
 use Rattle.iim_object.specs.Format.Plans.{is_plan}
 use Rattle.iim_object.specs.declared.size.Size.TheVariants.{Unknown}
 use Rattle.iim_pack_script.specs.Format.{Asked, asked, IsFormOf, IsScriptRefusal, IsScriptOf, ScriptContent, refusal_line}
 use Rattle.iim_request.specs.Format.{default_subfile}
 use Rattle.iim_c.specs.declared.packing.IimPacking.{IimPacking}
 use Rattle.iim_c.specs.Format.Answers.{status_answer, IimAnswer}
+use Rattle.iim_c.specs.Format.Checking.{given_or}
 use Rattle.iim_c.specs.Format.Statuses as status
 
--- ---- the way of packing
-
--- the octets of a full subfile: 1,024 stands for 0
+-- what is asked for, as the command has it: 1,024 octets of a full subfile stand for 0
 -- twin: `packs_as_the_command_does`
-abbrev pub subfile_for : ℕ → ℕ
-subfile_for given = if given == 0 then default_subfile else given
-
--- the maximum of the size, where one is told
-abbrev pub max_for : Bool → ℕ → Option ℕ
-max_for true max = Some max
-max_for false max = None
-
--- what is asked for, as the command has it
 abbrev pub asked_for : IimPacking → Asked
-asked_for p = asked (subfile_for p.subfile) p.unknown (max_for p.has_max p.max)
+asked_for p = asked (given_or p.subfile default_subfile) p.unknown (if p.has_max then Some p.max else None)
 
--- A maximum is told of a known size.
-abbrev pub TellsMaxOfKnown : IimPacking → Type 0
-TellsMaxOfKnown p = (p.has_max ≡ true) × (p.unknown ≡ false)
-
--- No plan can have these numbers.
-abbrev pub HasNoPlan : IimPacking → Type 0
-HasNoPlan p = IsTrue (is_plan (subfile_for p.subfile) (Unknown (max_for p.has_max p.max))) → ⊥
-
--- Nothing that can be is asked for.
+-- Nothing that can be is asked for: a maximum is told of a known size, or no plan can have these numbers.
 abbrev pub AsksNothing : IimPacking → Type 0
-AsksNothing p = TellsMaxOfKnown p ⊎ HasNoPlan p
+AsksNothing p = ((p.has_max ≡ true) × (p.unknown ≡ false)) ⊎ (IsTrue (is_plan (asked_for p).subfile (Unknown (asked_for p).max)) → ⊥)
 
 -- Something that can be is.
 abbrev pub AsksSomething : IimPacking → Type 0
 AsksSomething p = AsksNothing p → ⊥
-
--- ---- what packing comes to
 
 -- the packed form; or a line that is wrong, and the cause; or nothing was asked for, or memory was refused
 pub data PackOutcome : Type 0 where
@@ -49,18 +29,11 @@ pub data PackOutcome : Type 0 where
   BadPacking : PackOutcome
   NoMemory : PackOutcome
 
--- The octets are a script, and this is the form that is asked for of what it tells.
-abbrev pub IsFormFor : Asked → List ℕ → List ℕ → Type 0
-IsFormFor a octets form = (t : ScriptContent) × IsScriptOf octets t × IsFormOf a t form
-
--- The command refuses the octets by this line and this cause, which it prints with a name.
-abbrev pub IsRefusedFor : Asked → List ℕ → ℕ → ℕ → Type 0
-IsRefusedFor a octets line cause = (name : List ℕ) × IsScriptRefusal a octets (refusal_line line cause name)
-
--- Where nothing that can be is asked for, it comes to that alone, whatever the script is.
+-- The octets are a script, and this is the form that is asked for of what it tells; or the command refuses them by this line and this
+-- cause, which it prints with a name. Where nothing that can be is asked for, it comes to that alone, whatever the script is.
 abbrev pub IsPackOutcome : IimPacking → List ℕ → PackOutcome → Type 0
-IsPackOutcome p octets (Packed form) = AsksSomething p × IsFormFor (asked_for p) octets form
-IsPackOutcome p octets (Refused line cause) = AsksSomething p × IsRefusedFor (asked_for p) octets line cause
+IsPackOutcome p octets (Packed form) = AsksSomething p × ((t : ScriptContent) × IsScriptOf octets t × IsFormOf (asked_for p) t form)
+IsPackOutcome p octets (Refused line cause) = AsksSomething p × ((name : List ℕ) × IsScriptRefusal (asked_for p) octets (refusal_line line cause name))
 IsPackOutcome p octets BadPacking = AsksNothing p
 IsPackOutcome p octets NoMemory = AsksSomething p
 
@@ -75,8 +48,6 @@ pack_answer NoMemory = status_answer status.no_memory
 abbrev pub form_of : PackOutcome → List ℕ
 form_of (Packed form) = form
 form_of _ = []
-
--- ---- the answers
 
 -- The answer tells how many octets the form has, or why there is none.
 abbrev pub IsSized : IimPacking → List ℕ → IimAnswer → Type 0

@@ -1,5 +1,5 @@
 -- The rows of an audit, as C sees them.
-use Rattle.std.specs.Prelude.{◌≡◌, ℕ, ◌-◌, ℤ, pos, Bool, true, false, List, ◌++◌, length, replicate, Option, Some, None}
+use Rattle.std.specs.Prelude.{◌≡◌, ℕ, ◌-◌, ℤ, pos, List, ◌++◌, length, replicate, Option, is_some}
 use Rattle.std.specs.Option.{unwrap_or}
 use Rattle.iim_audit.specs.declared.copy.CopyState.{CopyState}
 use Rattle.iim_audit.specs.declared.copy.CopyState.TheVariants.{Held, Expired, Free}
@@ -18,11 +18,6 @@ copy_number Free = 0
 copy_number Held = 1
 copy_number Expired = 2
 
--- The age is this; or there is none, and it is 0.
-abbrev pub TellsAge : Option ℤ → Bool → ℤ → Type 0
-TellsAge (Some seconds) has age = (has ≡ true) × (age ≡ seconds)
-TellsAge None has age = (has ≡ false) × (age ≡ pos 0)
-
 -- The row of an envelope of so many octets, which begins at this offset of the input: what an audit's row tells of it but which earlier
 -- one it repeats, and the instants of its copy.
 -- twin: `declares_each_struct_with_its_members`, `tells_the_rows_of_the_samples_whatever_the_pieces`
@@ -38,7 +33,8 @@ pub record TellsRow (at octets : ℕ) (told : AuditRow) (release expires : Optio
   pub subfiles : row.subfiles ≡ told.subfiles
   pub announced : row.announced ≡ told.announced
   pub counted : row.counted ≡ told.counted
-  pub age : TellsAge told.age row.has_age row.age
+  pub has_age : row.has_age ≡ is_some told.age
+  pub age : row.age ≡ unwrap_or told.age (pos 0)
   pub copy : row.copy ≡ copy_number told.copy
   pub release_is : TellsInstant release row.has_release row.release
   pub expires_is : TellsInstant expires row.has_expires row.expires

@@ -1,5 +1,6 @@
 -- What a ticket tells, and where in it.
-use Rattle.std.specs.Prelude.{◌≡◌, ℕ, ◌+◌, ◌≤◌, ◌⊎◌, Bool, true, false, List, [], ◌∷◌, length, take, drop, Option, Some, None}
+use Rattle.std.specs.Prelude.{◌≡◌, ℕ, ◌+◌, ◌≤◌, ◌⊎◌, Bool, false, List, [], ◌∷◌, length, get_or, take, drop, None, is_some}
+use Rattle.std.specs.Option.{unwrap_or}
 use Rattle.iim_dataset.specs.Format.Datasets.{Dataset}
 use Rattle.iim_places.specs.Format.TicketForm.{Split, SplitsTicket, IsFaultOf}
 use Rattle.iim_places.specs.declared.ticket.fault.TicketFault.{TicketFault}
@@ -47,15 +48,16 @@ IsField ticket n found told =
 
 -- ---- header and trailer
 
--- The texts stand where the message says.
-abbrev pub TextsStand : List ℕ → List (List ℕ) → IimMessage → Type 0
-TextsStand ticket (source ∷ number ∷ priority ∷ category ∷ words ∷ info ∷ trailer ∷ []) m =
-    StandAt ticket m.source source × StandAt ticket m.number number × StandAt ticket m.priority priority × StandAt ticket m.category category
-    × StandAt ticket m.words words × StandAt ticket m.info info × StandAt ticket m.trailer trailer
-TextsStand ticket _ m = ⊥
+-- The text with this index stands there.
+abbrev pub TextStands : List ℕ → Split → ℕ → IimSpan → Type 0
+TextStands ticket s n span = StandAt ticket span (get_or s.texts n [])
 
+-- The part is this, and the texts stand where the message says.
+-- twins (with IsObjectOf): `shows_the_samples_as_the_command_does`
 abbrev pub IsMessageOf : List ℕ → Split → IimMessage → Type 0
-IsMessageOf ticket s m = (m.part ≡ s.part) × TextsStand ticket s.texts m
+IsMessageOf ticket s m =
+    (m.part ≡ s.part) × TextStands ticket s 0 m.source × TextStands ticket s 1 m.number × TextStands ticket s 2 m.priority
+    × TextStands ticket s 3 m.category × TextStands ticket s 4 m.words × TextStands ticket s 5 m.info × TextStands ticket s 6 m.trailer
 
 abbrev pub no_message : IimMessage
 no_message = record {
@@ -76,19 +78,14 @@ IsHeader ticket m told =
 
 -- ---- sizes
 
--- The number is this, or has not come and is 0.
-abbrev pub IsNumber : Option ℕ → Bool → ℕ → Type 0
-IsNumber (Some n) has number = (has ≡ true) × (number ≡ n)
-IsNumber None has number = (has ≡ false) × (number ≡ 0)
-
-abbrev pub AreNumbers : List (Option ℕ) → IimObject → Type 0
-AreNumbers (mode ∷ subfile ∷ announced ∷ maximum ∷ []) o =
-    IsNumber mode o.has_mode o.mode × IsNumber subfile o.has_subfile o.subfile × IsNumber announced o.has_announced o.announced
-    × IsNumber maximum o.has_maximum o.maximum
-AreNumbers _ o = ⊥
+-- The number with this index is this, or has not come and is 0.
+abbrev pub IsNumber : Split → ℕ → Bool → ℕ → Type 0
+IsNumber s n has number = (has ≡ is_some (get_or s.numbers n None)) × (number ≡ unwrap_or (get_or s.numbers n None) 0)
 
 abbrev pub IsObjectOf : Split → IimObject → Type 0
-IsObjectOf s o = AreNumbers s.numbers o × (o.subfiles ≡ s.heads) × (o.octets ≡ s.taken)
+IsObjectOf s o =
+    IsNumber s 0 o.has_mode o.mode × IsNumber s 1 o.has_subfile o.subfile × IsNumber s 2 o.has_announced o.announced
+    × IsNumber s 3 o.has_maximum o.maximum × (o.subfiles ≡ s.heads) × (o.octets ≡ s.taken)
 
 abbrev pub no_object : IimObject
 no_object = record {

@@ -8,13 +8,13 @@ use Rattle.iim_c.specs.declared.text_out.TextOut.{TextOut}
 abbrev pub counted : List ℕ → ℕ
 counted octets = raised 0 (length octets)
 
--- The octets stand at the front of the buffer, where it has room for them.
-abbrev pub StandIn : List ℕ → List ℕ → Type 0
-StandIn out octets = length octets ≤ length out → take (length octets) out ≡ octets
+-- The buffer has room for the octets, and they stand at its front.
+abbrev pub HoldsFirst : List ℕ → List ℕ → Type 0
+HoldsFirst out octets = (length octets ≤ length out) × (take (length octets) out ≡ octets)
 
--- So many octets came, and stand in the buffer.
+-- So many octets came, and stand at the front of the buffer, where it has room for them.
 abbrev pub HasTaken : List ℕ → ℕ → List ℕ → Type 0
-HasTaken out count octets = (count ≡ counted octets) × StandIn out octets
+HasTaken out count octets = (count ≡ counted octets) × (length octets ≤ length out → take (length octets) out ≡ octets)
 
 -- From one value to another these octets came after those before, into one buffer.
 pub record WritesOctets (old : TextOut) (octets : List ℕ) (new : TextOut) : Type 0 where

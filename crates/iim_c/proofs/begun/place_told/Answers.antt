@@ -1,6 +1,5 @@
 use Rattle.iim_places.specs.States.TicketsTold.{split_told}
-use Rattle.iim_c.proofs.BegunThere.{octets_tell, no_octets_tell}
-use Rattle.iim_c.proofs.RefusedTokens.{token_told}
+use Rattle.iim_c.proofs.BegunThere.{no_split, octets_tell, split_at, token_told}
 use Rattle.iim_c.proofs.begun.place_told.Goals as goal
 
 pub returns-in-Ok-clause-octets : goal.returns-in-Ok-clause-octets
@@ -9,12 +8,14 @@ returns-in-Ok-clause-octets c =
     c.in-Ok.ensures.parts c.begun_in.ensures
 
 pub returns-in-Err-clause-octets : goal.returns-in-Err-clause-octets
-returns-in-Err-clause-octets c = no_octets_tell c.place_laws.ensures.tickets_of_places_are_split c.args.ticket.now c.args.at _ c.in-Err.fault c.in-Err.ensures.fault
+returns-in-Err-clause-octets c p place t led =
+    absurd (no_split c.args.ticket.now c.in-Err.fault _ c.in-Err.ensures.fault
+    (split_at c.place_laws.ensures.tickets_of_places_are_split c.args.ticket.now place t))
 
 pub returns-in-Ok-clause-token : goal.returns-in-Ok-clause-token
 returns-in-Ok-clause-token c p place t led =
-    token_told c.dataset_laws.ensures.octets_are_handed_on_one_way c.dataset_laws.ensures.events_tell_the_datasets c.record_laws.ensures.envelopes_end_with_the_last_record p c.args.at _ (returns-in-Ok-clause-octets c p place t led)
+    token_told c.dataset_laws.ensures c.record_laws.ensures.envelopes_end_with_the_last_record p c.args.at _ (returns-in-Ok-clause-octets c p place t led)
 
 pub returns-in-Err-clause-token : goal.returns-in-Err-clause-token
 returns-in-Err-clause-token c p place t led =
-    token_told c.dataset_laws.ensures.octets_are_handed_on_one_way c.dataset_laws.ensures.events_tell_the_datasets c.record_laws.ensures.envelopes_end_with_the_last_record p c.args.at _ (returns-in-Err-clause-octets c p place t led)
+    token_told c.dataset_laws.ensures c.record_laws.ensures.envelopes_end_with_the_last_record p c.args.at _ (returns-in-Err-clause-octets c p place t led)

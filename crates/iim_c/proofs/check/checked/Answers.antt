@@ -1,35 +1,64 @@
-use Rattle.iim_c.proofs.Words.{[], length, ◌∙◌, arith, raised}
-use Rattle.iim_c.proofs.Checked.{finished_for, truncated_for, refused_for}
-use Rattle.iim_c.proofs.TextOuts.{not_sink}
+-- What octets in memory are answered.
+use Rattle.iim_c.proofs.Words.{[], length, ◌∙◌, arith, raised, ◌≡◌, ℕ, ◌<◌, List, inl, sym, ap, subst, Limits, IsTruncatedAt, Refusal, refusal_answer}
+use Rattle.iim_places.specs.Format.Refusals.{refusal_at}
+use Rattle.iim_places.specs.Format.Streams.{Answer, Answers, Finished, Refused, Truncated}
+use Rattle.iim_places.specs.Laws.{StreamsHaveOneAnswer}
+use Rattle.iim_c.specs.Format.Answers.{IimAnswer}
+use Rattle.iim_c.specs.Format.Checking.{IsChecked, IsOnly, answer_for}
+use Rattle.iim_c.proofs.Places.{not_sink}
 use Rattle.iim_c.proofs.check.checked.Goals as goal
+
+-- both clauses follow from an answer of the stream
+record Answered (limits : Limits) (octets : List ℕ) (told : IimAnswer) : Type 0 where
+  answer : IsChecked limits octets told
+  only : IsOnly limits octets told
+
+answered : StreamsHaveOneAnswer → (limits : Limits) (octets : List ℕ) (told : IimAnswer) (a : Answer) → Answers limits octets a → told ≡ answer_for a → Answered limits octets told
+answered law limits octets told a holds is = record {
+  answer = inl (a, holds, is);
+  only = λ b other. inl (is ∙ ap answer_for (law limits octets a b holds other));
+}
 
 pub returns-in-Ok-Done : goal.returns-in-Ok-Done
 returns-in-Ok-Done c =
-    let step = c.in-Ok-Done.ensures.goes.1 in
-    let a = finished_for c.place_laws.ensures.streams_have_one_answer c.args.limits c.args.octets.now c.feed.new.self step.0 c.in-Ok-Done.used c.finished.result
-    (c.in-Ok-Done.ensures.limits c.in-Ok.ensures.stands.taking ∙ c.in-Ok.ensures.limits) (rw c.in-Ok-Done.field-0-is at (step.2 [] 0 c.in-Ok.ensures.stands))
-    c.finished.ensures in
+    let goes = rw c.in-Ok-Done.field-0-is at (c.in-Ok-Done.ensures.goes.1.2 [] 0 c.in-Ok.ensures.stands) in
+    let same = c.in-Ok-Done.ensures.limits c.in-Ok.ensures.stands.taking ∙ c.in-Ok.ensures.limits in
+    let a = answered c.place_laws.ensures.streams_have_one_answer c.args.limits c.args.octets.now c.finished.result (Finished c.in-Ok-Done.used goes.1.value)
+    (record { fits = goes.0; envelope = record { admits = goes.1.admits; within = rw same at goes.1.within } }) c.finished.ensures in
     record { answer = a.answer; only = a.only }
 
 pub returns-in-Some : goal.returns-in-Some
 returns-in-Some c =
-    let step = c.in-Ok-More.ensures.goes.1 in
-    let a = truncated_for c.place_laws.ensures.streams_have_one_answer c.args.limits c.args.octets.now c.feed.new.self step.0 c.in-Some.refusal
-    c.refusal_answer.result (omega arith) (c.in-Ok-More.ensures.limits c.in-Ok.ensures.stands.taking ∙ c.in-Ok.ensures.limits)
-    (rw c.in-Ok-More.field-0-is at (step.2 [] 0 c.in-Ok.ensures.stands)) c.in-Some.ensures.truncated c.refusal_answer.ensures in
+    let octets = c.args.octets.now in
+    let goes = rw c.in-Ok-More.field-0-is at (c.in-Ok-More.ensures.goes.1.2 [] 0 c.in-Ok.ensures.stands) in
+    let same = c.in-Ok-More.ensures.limits c.in-Ok.ensures.stands.taking ∙ c.in-Ok.ensures.limits in
+    let t = c.in-Some.ensures.truncated octets (raised 0 (length octets)) goes.0 in
+    let is_e : t.0 ≡ c.in-Some.refusal = (let h = t.1 in cc) in
+    let at : IsTruncatedAt octets (length octets) t.0 = subst (λ (n : ℕ). IsTruncatedAt octets n t.0) (omega arith) t.2 in
+    let a = answered c.place_laws.ensures.streams_have_one_answer c.args.limits octets c.refusal_answer.result (Truncated c.in-Some.refusal)
+    (record { is_open = rw same at goes.0.is_open; refusal = subst (IsTruncatedAt octets (length octets)) is_e at }) c.refusal_answer.ensures in
     record { answer = a.answer; only = a.only }
 
 pub unreachable-requires : goal.unreachable-requires
 unreachable-requires c =
-    let step = c.in-Ok-More.ensures.goes.1 in
-    let goes = rw c.in-Ok-More.field-0-is at (step.2 [] 0 c.in-Ok.ensures.stands) in
-    let t = c.in-None.ensures.truncated c.args.octets.now (raised 0 (length c.args.octets.now)) goes.0 in
-    let bad = t.1 in cc
+    let goes = rw c.in-Ok-More.field-0-is at (c.in-Ok-More.ensures.goes.1.2 [] 0 c.in-Ok.ensures.stands) in
+    let bad = (c.in-None.ensures.truncated c.args.octets.now (raised 0 (length c.args.octets.now)) goes.0).1 in
+    cc
 
 pub returns : goal.returns
 returns c =
-    let step = c.in-Err.ensures.refused in
-    let a = refused_for c.place_laws.ensures.streams_have_one_answer c.args.limits c.args.octets.now step.0 c.in-Err.refusal c.refusal_answer-in-Err.result
-    (omega arith) (rw c.in-Ok.ensures.limits at (step.2 [] 0 c.in-Ok.ensures.stands)) (not_sink c.in-Err.refusal.cause c.in-Err.ensures.counted)
+    let r = rw c.in-Ok.ensures.limits at (c.in-Err.ensures.refused.2 [] 0 c.in-Ok.ensures.stands) in
+    let within : r.k < length c.args.octets.now = r.within in
+    let at : raised 0 r.k ≡ r.k = omega arith in
+    let octet : c.in-Err.refusal.octet ≡ r.k = ap (λ (f : Refusal). f.octet) r.refusal ∙ at in
+    let a = answered c.place_laws.ensures.streams_have_one_answer c.args.limits c.args.octets.now c.refusal_answer-in-Err.result (Refused c.in-Err.refusal) (
+      record {
+        fits = omega (arith, octet, within);
+        fault = r.fault;
+        refusal = r.refusal ∙ ap (λ (n : ℕ). refusal_at n r.fault) (at ∙ sym octet);
+        refuses = rw octet r.refuses;
+      },
+      not_sink c.in-Err.refusal.cause c.in-Err.ensures.counted,
+    )
     c.refusal_answer-in-Err.ensures in
     record { answer = a.answer; only = a.only }

@@ -1,16 +1,22 @@
-use Rattle.std.proofs.Common.{Bool, Option, arith, subst}
-use Rattle.iim_c.specs.Steps.{IsTried}
-use Rattle.iim_c.proofs.Tried.{one_put, tells_none, all_told}
+use Rattle.iim_c.proofs.Words.{arith, ◌≤◌}
+use Rattle.iim_c.proofs.Tried.{no_bit, one_put}
 use Rattle.iim_c.proofs.next.try_all.Goals as goal
 
 pub loop-next-init : goal.loop-next-init
-loop-next-init c = tells_none c.args.limits c.args.ticket.now
+loop-next-init c = record { told = λ next below. absurd (omega (arith, below)); rest = λ next above. no_bit next }
 
 pub loop-next-preserved : goal.loop-next-preserved
 loop-next-preserved c =
     one_put c.args.limits c.args.ticket.now c.loop-next.next c.loop-next.bits c.put_bit.new.bits c.in-Some.taken c.loop-next.invariant c.put_bit.ensures.set
-    c.put_bit.ensures.same (subst (λ (x : Option Bool). IsTried c.args.limits c.args.ticket.now c.loop-next.next x) c.in-Some.is c.in_ok-taken.ensures.tried)
+    c.put_bit.ensures.same (rw c.in-Some.is at c.in_ok-taken.ensures.tried)
 
 pub returns-clause-tried : goal.returns-clause-tried
 returns-clause-tried c =
-    all_told c.args.limits c.args.ticket.now c.loop-next.next c.loop-next.bits (omega (arith, c.loop-next-test.false)) c.loop-next.invariant
+    let tells = c.loop-next.invariant in
+    let all : 256 ≤ c.loop-next.next = omega (arith, c.loop-next-test.false) in
+    let first = tells.told 0 (omega (arith, all)) in
+    record {
+      some = first.some;
+      open_octets = λ p a stands next below. (tells.told next (omega (arith, all, below))).open_octets p a stands;
+      envelopes = first.envelopes;
+    }

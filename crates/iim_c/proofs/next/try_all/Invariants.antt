@@ -1,4 +1,4 @@
-use Rattle.iim_c.specs.Steps.{TellsFirst}
+use Rattle.iim_c.proofs.Tried.{TellsFirst}
 use Rattle.iim_c.proofs.next.try_all.Given as goal
 
 abbrev pub invariant-loop-next : goal.invariant-loop-next

@@ -1,0 +1,4 @@
+use Rattle.iim_c.proofs.feed.iim_feed.Goals as goal
+
+pub returns : goal.returns
+returns c = rw c.told.ensures at c.fed.ensures
