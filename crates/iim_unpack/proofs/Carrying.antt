@@ -1,28 +1,95 @@
+-- What a run of octets, or the end, tells a message, and what the object's refusal of a head says of it.
 -- Where heads, data and ends of datasets lead the parts of an unpacker.
-use Rattle.iim_unpack.proofs.Words.{◌≡◌, ℕ, Bool, true, false, cond, if◌then◌else◌, nat_eq, List, [], ◌∷◌, ◌++◌, map, Option, Some, None, refl, ap, sym}
-use Rattle.iim_unpack.proofs.Words.{subst, ◌∙◌, arith, append_assoc, eqb-true, ne_eqb, same_Some, Octets, Dataset, Begun, InTag, InData, DatasetEvent}
-use Rattle.iim_unpack.proofs.Words.{DataOctet, Head, begun_head, IsBetween, begun_head_of, limits_of, FieldsPlace, StandsIn, Limits, End, text_so_far}
-use Rattle.iim_unpack.proofs.Words.{TextsStandBetweenStxAndEtx, ReadersStandAtLivingOctets, MessageCause, object_of, MayContinue, CanContinue, CanContinueAt}
-use Rattle.iim_unpack.proofs.Words.{TellsMessage, MessageRefuses, message_on, object_so_far, section, AllCanContinue, CountsFor, AreAfter, Within, StandsFor}
-use Rattle.iim_unpack.proofs.Words.{AreLed, TellsParts, PartsRefuse, LowerLaws, not_all}
-use Rattle.std.proofs.Common.{append-nil}
-use Rattle.iim_dataset.specs.States.Events.{handed_on}
+use Rattle.iim_unpack.proofs.Words.{AllCanContinue, AreLed, Begun, Bool, CanContinueAt, CountsFor, DataOctet, Dataset, DatasetEvent, FieldsPlace, Head, InData}
+use Rattle.iim_unpack.proofs.Words.{InTag, IsBetween, IsSome, Limits, List, LowerLaws, MayContinue, MessageCause, MessageRefuses, None, ObjectToken, Octets}
+use Rattle.iim_unpack.proofs.Words.{Option, Parts, PartsRefuse, Some, StandsFor, StandsIn, State, TellsMessage, TellsParts, TextsStandBetweenStxAndEtx, Within}
+use Rattle.iim_unpack.proofs.Words.{[], ap, append-nil, append_assoc, arith, begun_head, begun_head_of, cond, eqb-true, false, flat_map, handed_on}
+use Rattle.iim_unpack.proofs.Words.{if◌then◌else◌, length, limits_of, map, message_on, nat_eq, ne_eqb, not_all, object_of, object_so_far, octets_of, refl}
+use Rattle.iim_unpack.proofs.Words.{same_Some, section, subst, sym, tells_message_nothing, text_so_far, true, ℕ, ◌++◌, ◌==◌, ◌∙◌, ◌∷◌, ◌≡◌}
+use Rattle.wire_message.specs.Laws.{ReadersStandAtLivingOctets}
+use Rattle.wire_message.specs.Format.Layers.{MessageDiesAt, MessageLanguage, MessageLivesWith, StoryLivesIn}
+use Rattle.wire_story.specs.Format.Tokens.{End, Octet, with_end}
+use Rattle.iim_unpack.specs.Passed.{HaltsAt, PassesTo, end_is_last}
+use Rattle.std.proofs.lemmas.List.{nil_from_length}
+use Rattle.iim_object.specs.Format.Events.{ObjectEnd, ObjectOctet}
+use Rattle.wire_message.specs.States.Reading.{CountsCause, GoesSomewhere, IsWhole, LeadsOn, StandsAt, TakesPiece}
+use Rattle.wire_message.specs.Format.Causes.{HasCause}
+use Rattle.wire_message.specs.declared.place.Place.{Place}
+use Rattle.wire_message.specs.declared.fault.MessageCause.TheVariants.{Unfinished}
+use Rattle.iim_unpack.specs.Passing.{goes_nowhere}
+use Rattle.wire_story.specs.Format.Delivery as story
+use Rattle.iim_object.specs.States.Reading.{RefusesHead}
+use Rattle.iim_object.specs.declared.reading.fault.ObjectFault.{ObjectFault}
+use Rattle.iim_object.specs.declared.reading.fault.ObjectFault.TheVariants.{Size, Stopped}
+use Rattle.iim_unpack.specs.declared.parts.message.ToMessage.{ToMessage}
 use Rattle.iim_dataset.specs.Format.Languages as languages
 use Rattle.iim_dataset.proofs.OctetLists.{octets_append}
 use Rattle.iim_object.specs.Format.Events as object_events
-use Rattle.wire_story.specs.Format.Delivery as story
-use Rattle.wire_story.specs.Format.Tokens.{Octet, with_end}
-use Rattle.wire_message.specs.Format.Layers.{MessageLanguage, MessageLivesWith, StoryLivesIn}
 use Rattle.wire_message.specs.States.Reading as wire
 use Rattle.wire_message.specs.Format.Causes as wire_format
 use Rattle.wire_message.specs.States.SoFar.{LeadsTo}
-use Rattle.wire_message.specs.declared.place.Place.{Place}
 use Rattle.wire_message.specs.declared.fault.MessageCause.TheVariants as messages
-use Rattle.iim_unpack.proofs.ToldMessage.{octets_in-octets}
 use Rattle.iim_places.specs.declared.refusal.Cause.TheVariants as causes
-use Rattle.iim_unpack.specs.States.Parts.{Parts}
 use Rattle.iim_unpack.proofs.Sequences.{data_more}
 use Rattle.iim_places.proofs.ObjectOctets.{lives_whole}
+
+pub octets_told : (xs : List ℕ) → flat_map octets_of (map ObjectOctet xs) ≡ xs
+octets_told [] = refl
+octets_told (x ∷ xs) = ap (λ zs. x ∷ zs) (octets_told xs)
+
+not_ended : (xs : List ℕ) → end_is_last false (map ObjectOctet xs) ≡ false
+not_ended [] = refl
+not_ended (x ∷ xs) = not_ended xs
+
+module _ {S : Type 0} (goes : S → List story.StoryEvent → S → Type 0) (failures : S → ℕ) where
+  -- one run of octets, at least one
+  pub tells_message_octets : (old new : Option Place) (a b : S) (run : List ℕ) → false ≡ (length run == 0) → IsSome new
+      → TakesPiece goes failures old run new a b → TellsMessage goes failures (old, a) (map ObjectOctet run) (new, b)
+  tells_message_octets old new a b [] some takes t = absurd cc
+  tells_message_octets old new a b (x ∷ xs) some takes t = record {
+    takes_calls = takes;
+    told = (t.told.0, t.told.1, subst (λ (o : List ℕ). LeadsOn old o t.told.0 new) (sym (octets_told (x ∷ xs))) t.told.2);
+    calm = t.calm;
+    whole = λ before w e. let bad : true ≡ false = sym e ∙ not_ended xs in cc;
+  }
+
+  pub tells_message_end : (old : Option Place) (a : S) → IsSome old → goes a [] a → IsWhole old → TellsMessage goes failures (old, a) (ObjectEnd ∷ []) (old, a)
+  tells_message_end old a some g whole = record { takes_calls = some; told = ([], g, goes_nowhere old); calm = refl; whole = λ before w e. whole }
+
+  pub message_refuses_octet : (old new : Option Place) (a b : S) (front : List ℕ) (octet : ℕ) (why : MessageCause) (more : List ℕ)
+      → goes a (story.delivered more) b → CountsCause (failures a) (failures b) why → GoesSomewhere old front more
+      → ((octets text : List ℕ) → StandsAt old octets text → HasCause why (octets ++ front) octet)
+      → MessageRefuses goes failures (Some why) (old, a) (map ObjectOctet front) (ObjectOctet octet) (new, b)
+  message_refuses_octet old new a b front octet why more told counts leads has = record {
+    why = why;
+    is_cause = refl;
+    told = (more, told, subst (λ (o : List ℕ). GoesSomewhere old o more) (sym (octets_told front)) leads);
+    counts = counts;
+    has_cause = rw (octets_told front) has;
+  }
+
+  -- the end, with which no message ends
+  pub message_refuses_end : (old new : Option Place) (a : S) (why : MessageCause) → IsSome old → why ≡ Unfinished → goes a [] a
+      → ((octets text : List ℕ) → StandsAt old octets text → MessageDiesAt octets End) → MessageRefuses goes failures (Some why) (old, a) [] ObjectEnd (new, a)
+  message_refuses_end old new a why some is g dies = record {
+    why = why;
+    is_cause = refl;
+    told = ([], g, λ octets text at. let next = goes_nowhere old octets text at in (next.0, next.2));
+    counts = subst (λ (c : MessageCause). CountsCause (failures a) (failures a) c) (sym is) refl;
+    has_cause = λ octets text at. (is, rw (append-nil octets) (dies octets text at));
+  }
+
+  -- an empty run
+  pub tells_message_empty : (old : Option Place) (a : S) (run : List ℕ) → true ≡ (length run == 0) → IsSome old → goes a [] a
+      → TellsMessage goes failures (old, a) (map ObjectOctet run) (old, a)
+  tells_message_empty old a run none some g = rw (nil_from_length run (eqb-true (length run) 0 (sym none))) (tells_message_nothing some g)
+
+  pub by_fault : (object : Option State) (token : ObjectToken) (a b : ToMessage S) → IsSome a.message.now
+      → (fault : ObjectFault) → RefusesHead (PassesTo goes failures) (HaltsAt goes failures) object token a b fault
+      → RefusesHead (TellsMessage goes failures) (MessageRefuses goes failures b.cause) object token (a.message.now, a.sink.now)
+      (b.message.now, b.sink.now) fault
+  by_fault object token a b some (Size why) h = (h.0, h.1.2 some)
+  by_fault object token a b some (Stopped stop) h = (h.0, h.1, h.2, h.3.2 some)
 
 -- ---- the reader of the message
 
@@ -35,20 +102,12 @@ passes_on texts old new o piece more goes at =
 
 -- ---- where the parts stand
 
-pub record InOne (p : Parts) (events : List DatasetEvent) (text : List ℕ) : Type 0 where
+-- The events have led them to datasets and this begun one, with this text.
+pub record LedTo (p : Parts) (begun : Begun) (events : List DatasetEvent) (text : List ℕ) : Type 0 where
   pub ds : List Dataset
-  pub h : Head
-  pub taken : List ℕ
-  pub within : Within p ds h taken
-  pub told : events ≡ handed_on ds (InData h taken)
-  pub is_text : text ≡ text_so_far (object_so_far ds (InData h taken))
-
-pub record AreAfterAll (p : Parts) (events : List DatasetEvent) (text : List ℕ) : Type 0 where
-  pub ds : List Dataset
-  pub held : List ℕ
-  pub after : AreAfter p ds
-  pub told : events ≡ handed_on ds (InTag held)
-  pub is_text : text ≡ text_so_far (object_of ds)
+  pub stands : StandsFor p ds begun
+  pub told : events ≡ handed_on ds begun
+  pub is_text : text ≡ text_so_far (object_so_far ds begun)
 
 -- This head is begun.
 abbrev pub HasBegun : Parts → Head → Type 0
@@ -57,29 +116,29 @@ HasBegun p h = begun_head_of p.fields ≡ Some h
 not_both : (p : Parts) (h : Head) → IsBetween p.fields → HasBegun p h → ⊥
 not_both p h between begun = let bad : None ≡ Some h = sym (ap begun_head between.between) ∙ begun in cc
 
-pub in_one : (p : Parts) (h : Head) (events : List DatasetEvent) (text : List ℕ) → HasBegun p h → AreLed p events text → InOne p events text
-in_one p k events text begun led = by_begun led.begun led.stands led.told led.is_text
+pub in_one : {p : Parts} {k : Head} {events : List DatasetEvent} {text : List ℕ} → HasBegun p k → AreLed p events text
+    → (taken : List ℕ) × LedTo p (InData k taken) events text
+in_one {p} {k} {events} {text} begun led = by led.begun led.stands led.told led.is_text
   where
-    by_begun : (b : Begun) → StandsFor p led.whole b → events ≡ handed_on led.whole b → text ≡ text_so_far (object_so_far led.whole b) → InOne p events text
-    by_begun (InTag held) stands told is = absurd (not_both p k stands.fields.between begun)
-    by_begun (InData h taken) stands told is = record { ds = led.whole; h = h; taken = taken; within = stands; told = told; is_text = is }
+    by : (b : Begun) → StandsFor p led.whole b → events ≡ handed_on led.whole b → text ≡ text_so_far (object_so_far led.whole b)
+        → (taken : List ℕ) × LedTo p (InData k taken) events text
+    by (InTag held) stands told is = absurd (not_both p k stands.fields.between begun)
+    by (InData h taken) stands told is =
+        let same : h ≡ k = same_Some _ _ (sym (ap begun_head stands.fields.inside.1.head.inside) ∙ begun) in
+        (taken, subst (λ (x : Head). LedTo p (InData x taken) events text) same (record { ds = led.whole; stands = stands; told = told; is_text = is }))
 
-pub after_all : (p : Parts) (events : List DatasetEvent) (text : List ℕ) → IsBetween p.fields → AreLed p events text → AreAfterAll p events text
-after_all p events text between led = by_begun led.begun led.stands led.told led.is_text
+pub after_all : {p : Parts} {events : List DatasetEvent} {text : List ℕ} → IsBetween p.fields → AreLed p events text
+    → (held : List ℕ) × LedTo p (InTag held) events text
+after_all {p} {events} {text} between led = by led.begun led.stands led.told led.is_text
   where
-    by_begun : (b : Begun) → StandsFor p led.whole b → events ≡ handed_on led.whole b → text ≡ text_so_far (object_so_far led.whole b) → AreAfterAll p events text
-    by_begun (InTag held) stands told is = record { ds = led.whole; held = held; after = stands; told = told; is_text = is }
-    by_begun (InData h taken) stands told is = absurd (not_both p h between (ap begun_head stands.fields.inside.1.head.inside))
-
-pub same_head : (p : Parts) (k : Head) (ds : List Dataset) (h : Head) (taken : List ℕ) → HasBegun p k → Within p ds h taken → k ≡ h
-same_head p k ds h taken begun at = same_Some _ _ (sym begun ∙ ap begun_head at.fields.inside.1.head.inside)
+    by : (b : Begun) → StandsFor p led.whole b → events ≡ handed_on led.whole b → text ≡ text_so_far (object_so_far led.whole b)
+        → (held : List ℕ) × LedTo p (InTag held) events text
+    by (InTag held) stands told is = (held, record { ds = led.whole; stands = stands; told = told; is_text = is })
+    by (InData h taken) stands told is = absurd (not_both p h between (ap begun_head stands.fields.inside.1.head.inside))
 
 -- ---- every layer can continue
 
-pub goes_after : (p : Parts) (ds : List Dataset) → AreAfter p ds → CanContinue (limits_of p.fields) ds
-goes_after p ds at = record { records = at.fields.alive; within = record { kept = at.fields.within; subfiles = at.few }; object = at.object.alive }
-
-pub goes_within : (p : Parts) (ds : List Dataset) (h : Head) (taken : List ℕ) → Within p ds h taken → CanContinueAt (limits_of p.fields) ds h
+goes_within : (p : Parts) (ds : List Dataset) (h : Head) (taken : List ℕ) → Within p ds h taken → CanContinueAt (limits_of p.fields) ds h
 goes_within p ds h taken at = record {
   records = at.fields.alive;
   within = record { kept = at.fields.others; subfiles = at.few };
@@ -106,136 +165,137 @@ all_by living limits ds begun reader text at whole sizes =
       story = both.1;
     }
 
-pub all_after : ReadersStandAtLivingOctets → (p : Parts) (ds : List Dataset) (held : List ℕ) → AreAfter p ds → AllCanContinue (limits_of p.fields) ds (InTag held)
-all_after living p ds held at = all_by living (limits_of p.fields) ds (InTag held) p.message (text_so_far (object_of ds)) at.message at.ended (goes_after p ds at)
-
-pub all_within : ReadersStandAtLivingOctets → (p : Parts) (ds : List Dataset) (h : Head) (taken : List ℕ) → Within p ds h taken → AllCanContinue (limits_of p.fields) ds (InData h taken)
-all_within living p ds h taken at =
+pub all_for : ReadersStandAtLivingOctets → (p : Parts) (ds : List Dataset) (b : Begun) → StandsFor p ds b → AllCanContinue (limits_of p.fields) ds b
+all_for living p ds (InTag held) at =
+    all_by living (limits_of p.fields) ds (InTag held) p.message (text_so_far (object_of ds)) at.message at.ended
+    (record { records = at.fields.alive; within = record { kept = at.fields.within; subfiles = at.few }; object = at.object.alive })
+all_for living p ds (InData h taken) at =
     all_by living (limits_of p.fields) ds (InData h taken) p.message (text_so_far (object_so_far ds (InData h taken))) at.message at.ended (goes_within p ds h taken at)
-
--- ---- data that is no subfile's
-
-pub tells_parts_other : {S : Type 0} (goes : S → List story.StoryEvent → S → Type 0) (failures : S → ℕ) (p : Parts) (a : S) (run : List ℕ) (checker : FieldsPlace) (k : Head) → HasBegun p k → (k.rec ≡ 8 → ⊥)
-    → Octets run → goes a [] a → limits_of checker ≡ limits_of p.fields
-    → ((ds : List Dataset) (h : Head) (taken : List ℕ) → StandsIn p.fields ds h taken → StandsIn checker ds h (taken ++ run))
-    → TellsParts goes failures p a (map DataOctet run) (record p { fields = checker }) a
-tells_parts_other goes failures p a run checker k begun other octets g same stands = record {
-  limits = same;
-  more = [];
-  told = g;
-  calm = refl;
-  leads = λ before text order led.
-      let one = in_one p k before text begun led in
-      let apart : one.h.rec ≡ 8 → ⊥ = λ eight. other (ap (λ (k : Head). k.rec) (same_head p k one.ds one.h one.taken begun one.within) ∙ eight) in
-      let no : nat_eq one.h.rec 8 ≡ false = ne_eqb one.h.rec 8 apart in
-      let same_given : (xs : List ℕ) → (if nat_eq one.h.rec 8 then [] else xs) ≡ xs = λ xs. rw no refl in
-      let given = subst (StandsIn p.fields one.ds one.h) (same_given one.taken) one.within.fields in
-      let same_object : object_so_far one.ds (InData one.h one.taken) ≡ object_so_far one.ds (InData one.h (one.taken ++ run)) = rw no refl in
-      record {
-        whole = one.ds;
-        begun = InData one.h (one.taken ++ run);
-        told = ap (λ (es : List DatasetEvent). es ++ map DataOctet run) one.told ∙ data_more one.ds one.h one.taken run;
-        stands = record {
-          octets = octets_append one.taken run one.within.octets octets;
-          fields = subst (StandsIn checker one.ds one.h) (sym (same_given (one.taken ++ run))) (stands one.ds one.h one.taken given);
-          object = one.within.object;
-          few = one.within.few;
-          room = one.within.room;
-          message = subst (λ (o : List ℕ). wire.StandsAt p.message o (text_so_far o)) same_object one.within.message;
-          ended = one.within.ended;
-        };
-        is_text = append-nil text ∙ one.is_text ∙ ap text_so_far same_object;
-      };
-}
-
--- ---- data of subfiles
-
--- the object, with octets more of a subfile
-object_more : (ds : List Dataset) (h : Head) (taken run : List ℕ) → h.rec ≡ 8 → object_so_far ds (InData h taken) ++ run ≡ object_so_far ds (InData h (taken ++ run))
-object_more ds h taken run eight = rw eight (append_assoc (object_of ds) taken run)
-
-pub tells_parts_object : {S : Type 0} (goes : S → List story.StoryEvent → S → Type 0) (failures : S → ℕ) (p : Parts) (a b : S) (run : List ℕ) (message : Option Place) → LowerLaws → (k : Head) → HasBegun p k → k.rec ≡ 8
-    → Octets run → TellsMessage goes failures p.message a (map object_events.ObjectOctet run) message b
-    → TellsParts goes failures p a (map DataOctet run) (record p { message = message }) b
-tells_parts_object goes failures p a b run message laws k begun eight octets passed = record {
-  limits = refl;
-  more = passed.more;
-  told = passed.told;
-  calm = passed.calm;
-  leads = λ before text order led.
-      let one = in_one p k before text begun led in
-      let at = one.within in
-      let is : one.h.rec ≡ 8 = sym (ap (λ (k : Head). k.rec) (same_head p k one.ds one.h one.taken begun at)) ∙ eight in
-      let yes : nat_eq one.h.rec 8 ≡ true = rw is refl in
-      let o : List ℕ = object_so_far one.ds (InData one.h one.taken) in
-      let leads_on : wire.LeadsOn p.message run passed.more message = subst (λ (xs : List ℕ). wire.LeadsOn p.message xs passed.more message) (octets_in-octets run) passed.stands in
-      let next = passes_on laws.texts p.message message o run passed.more leads_on at.message in
-      let longer = object_more one.ds one.h one.taken run is in
-      record {
-        whole = one.ds;
-        begun = InData one.h (one.taken ++ run);
-        told = ap (λ (es : List DatasetEvent). es ++ map DataOctet run) one.told ∙ data_more one.ds one.h one.taken run;
-        stands = record {
-          octets = octets_append one.taken run at.octets octets;
-          fields = subst (StandsIn p.fields one.ds one.h) (ap (λ (b : Bool). cond b [] one.taken) yes ∙ sym (ap (λ (b : Bool). cond b [] (one.taken ++ run)) yes)) at.fields;
-          object = at.object;
-          few = at.few;
-          room = at.room;
-          message = subst (λ (x : List ℕ). wire.StandsAt message x (text_so_far x)) longer next.0;
-          ended = λ nine. absurd (let bad : 8 ≡ 9 = sym is ∙ nine in omega (arith, bad));
-        };
-        is_text = ap (λ (t : List ℕ). t ++ passed.more) one.is_text ∙ next.1 ∙ ap text_so_far longer;
-      };
-}
 
 pub counts_for : (cause : MessageCause) (m n : ℕ) → wire.CountsCause m n cause → CountsFor (causes.Message cause) m n
 counts_for messages.BadOctet m n h = h
 counts_for other m n h = h
 
-pub stopped_object : {S : Type 0} (goes : S → List story.StoryEvent → S → Type 0) (failures : S → ℕ) (p : Parts) (a b : S) (front : List ℕ) (octet : ℕ) (cause : MessageCause) → LowerLaws → (k : Head) → HasBegun p k → k.rec ≡ 8
-    → MessageRefuses goes failures (p.message, a) (map object_events.ObjectOctet front) (object_events.ObjectOctet octet) (Some cause, b)
-    → PartsRefuse goes failures (p, a) (map DataOctet front) (DataOctet octet) (Some (message_on k cause), b)
-stopped_object goes failures p a b front octet cause laws k begun eight halted =
-    let same : halted.why ≡ cause = sym (same_Some _ _ halted.is_cause) in
-    record {
-      fault = message_on k cause;
-      is_fault = refl;
-      more = halted.more;
-      told = halted.told;
-      counts = counts_for cause (failures a) (failures b) (subst (wire.CountsCause (failures a) (failures b)) same halted.counts);
-      why = λ before text order led.
-          let one = in_one p k before text begun led in
-          let at = one.within in
-          let same_begun : k ≡ one.h = same_head p k one.ds one.h one.taken begun at in
-          let is : one.h.rec ≡ 8 = sym (ap (λ (x : Head). x.rec) same_begun) ∙ eight in
-          let o : List ℕ = object_so_far one.ds (InData one.h one.taken) in
-          let longer = object_more one.ds one.h one.taken front is in
-          let t : List ℕ = text_so_far o in
-          let next = halted.leads o t at.message in
-          let led_to : LeadsTo (o ++ front) (t ++ halted.more) next.0 = subst (λ (xs : List ℕ). LeadsTo (o ++ xs) (t ++ halted.more) next.0) (octets_in-octets front) next.1 in
-          let both = laws.living (o ++ front) (t ++ halted.more) next.0 led_to in
-          let has : wire_format.HasCause halted.why (o ++ front) octet = subst (λ (xs : List ℕ). wire_format.HasCause halted.why (o ++ xs) octet) (octets_in-octets front) (halted.has_cause o t at.message) in
-          let yes : nat_eq one.h.rec 8 ≡ true = rw is refl in
-          let in_full : object_so_far one.ds (InData one.h (one.taken ++ front)) ≡ object_of one.ds ++ (one.taken ++ front) = ap (λ (b : Bool). object_of one.ds ++ cond b (one.taken ++ front) []) yes in
-          let not_nine : nat_eq one.h.rec 9 ≡ false = ap (λ n. nat_eq n 9) is in
+-- the object, with octets more of a subfile
+object_more : (ds : List Dataset) (h : Head) (taken run : List ℕ) → h.rec ≡ 8 → object_so_far ds (InData h taken) ++ run ≡ object_so_far ds (InData h (taken ++ run))
+object_more ds h taken run eight = rw eight (append_assoc (object_of ds) taken run)
+
+module _ {S : Type 0} {goes : S → List story.StoryEvent → S → Type 0} {failures : S → ℕ} (p : Parts) (k : Head) (begun : HasBegun p k) where
+  -- ---- data that is no subfile's
+
+  pub tells_parts_other : {a : S} (run : List ℕ) (checker : FieldsPlace) → (k.rec ≡ 8 → ⊥) → Octets run → goes a [] a → limits_of checker ≡ limits_of p.fields
+      → ((ds : List Dataset) (h : Head) (taken : List ℕ) → StandsIn p.fields ds h taken → StandsIn checker ds h (taken ++ run))
+      → TellsParts goes failures (p, a) (map DataOctet run) (record p { fields = checker }, a)
+  tells_parts_other run checker other octets g same stands = record {
+    more = [];
+    told = g;
+    calm = refl;
+    leads = record {
+      limits = same;
+      leads = λ before text order led.
+          let (taken, one) = in_one begun led in
+          let no : nat_eq k.rec 8 ≡ false = ne_eqb k.rec 8 other in
+          let same_given : (xs : List ℕ) → (if nat_eq k.rec 8 then [] else xs) ≡ xs = λ xs. rw no refl in
+          let given = subst (StandsIn p.fields one.ds k) (same_given taken) one.stands.fields in
+          let same_object : object_so_far one.ds (InData k taken) ≡ object_so_far one.ds (InData k (taken ++ run)) = rw no refl in
           record {
             whole = one.ds;
-            begun = InData one.h (one.taken ++ front);
-            told = ap (λ (es : List DatasetEvent). es ++ map DataOctet front) one.told ∙ data_more one.ds one.h one.taken front;
-            is_text = ap (λ (x : List ℕ). x ++ halted.more) one.is_text ∙ laws.texts (o ++ front) (t ++ halted.more) next.0 led_to ∙ ap text_so_far longer;
-            leads_on = record {
-              sizes = goes_within p one.ds one.h one.taken at;
-              message = lives_on (object_so_far one.ds (InData one.h (one.taken ++ front))) (nat_eq one.h.rec 9) not_nine (subst MessageLivesWith longer both.0);
-              story = subst StoryLivesIn longer both.1;
+            begun = InData k (taken ++ run);
+            told = ap (λ (es : List DatasetEvent). es ++ map DataOctet run) one.told ∙ data_more one.ds k taken run;
+            stands = record {
+              octets = octets_append taken run one.stands.octets octets;
+              fields = subst (StandsIn checker one.ds k) (sym (same_given (taken ++ run))) (stands one.ds k taken given);
+              object = one.stands.object;
+              few = one.stands.few;
+              room = one.stands.room;
+              message = subst (λ (o : List ℕ). wire.StandsAt p.message o (text_so_far o)) same_object one.stands.message;
+              ended = one.stands.ended;
             };
-            unfinished = not_all laws.sections one.ds one.h at.fields.alive;
-            refuses = (
-              is,
-              (
-                cause,
-                subst (λ (c : MessageCause). wire_format.HasCause c (object_of one.ds ++ (one.taken ++ front)) octet) same (subst (λ (x : List ℕ). wire_format.HasCause halted.why x octet) (longer ∙ in_full) has),
-                ap (λ (x : Head). message_on x cause) same_begun,
-              ),
-            );
+            is_text = append-nil text ∙ one.is_text ∙ ap text_so_far same_object;
           };
-    }
+    };
+  }
+
+  -- ---- data of subfiles
+
+  pub tells_parts_object : {a b : S} (run : List ℕ) {message : Option Place} → LowerLaws → k.rec ≡ 8 → Octets run
+      → TellsMessage goes failures (p.message, a) (map object_events.ObjectOctet run) (message, b)
+      → TellsParts goes failures (p, a) (map DataOctet run) (record p { message = message }, b)
+  tells_parts_object run {message} laws eight octets passed = record {
+    more = passed.told.0;
+    told = passed.told.1;
+    calm = passed.calm;
+    leads = record {
+      limits = refl;
+      leads = λ before text order led.
+          let (taken, one) = in_one begun led in
+          let at = one.stands in
+          let o : List ℕ = object_so_far one.ds (InData k taken) in
+          let next = passes_on laws.texts p.message message o run passed.told.0 (rw (octets_told run) at passed.told.2) at.message in
+          let longer = object_more one.ds k taken run eight in
+          let nothing : (xs : List ℕ) → (if nat_eq k.rec 8 then [] else xs) ≡ [] = λ xs. rw eight refl in
+          record {
+            whole = one.ds;
+            begun = InData k (taken ++ run);
+            told = ap (λ (es : List DatasetEvent). es ++ map DataOctet run) one.told ∙ data_more one.ds k taken run;
+            stands = record {
+              octets = octets_append taken run at.octets octets;
+              fields = subst (StandsIn p.fields one.ds k) (nothing taken ∙ sym (nothing (taken ++ run))) at.fields;
+              object = at.object;
+              few = at.few;
+              room = at.room;
+              message = subst (λ (x : List ℕ). wire.StandsAt message x (text_so_far x)) longer next.0;
+              ended = λ nine. absurd (omega (arith, eight, nine));
+            };
+            is_text = ap (λ (t : List ℕ). t ++ passed.told.0) one.is_text ∙ next.1 ∙ ap text_so_far longer;
+          };
+    };
+  }
+
+  pub stopped_object : {a b : S} (front : List ℕ) (octet : ℕ) (cause : MessageCause) {message : Option Place} {new : Parts} → LowerLaws → k.rec ≡ 8
+      → MessageRefuses goes failures (Some cause) (p.message, a) (map object_events.ObjectOctet front) (object_events.ObjectOctet octet) (message, b)
+      → PartsRefuse goes failures (Some (message_on k cause)) (p, a) (map DataOctet front) (DataOctet octet) (new, b)
+  stopped_object {a} {b} front octet cause laws eight halted =
+      let same : halted.why ≡ cause = sym (same_Some _ _ halted.is_cause) in
+      record {
+        fault = message_on k cause;
+        is_fault = refl;
+        more = halted.told.0;
+        told = halted.told.1;
+        counts = counts_for cause (failures a) (failures b) (subst (wire.CountsCause (failures a) (failures b)) same halted.counts);
+        why = λ before text order led.
+            let (taken, one) = in_one begun led in
+            let at = one.stands in
+            let o : List ℕ = object_so_far one.ds (InData k taken) in
+            let t : List ℕ = text_so_far o in
+            let longer = object_more one.ds k taken front eight in
+            let next = halted.told.2 o t at.message in
+            let led_to : LeadsTo (o ++ front) (t ++ halted.told.0) next.0 = rw (octets_told front) at next.1 in
+            let both = laws.living (o ++ front) (t ++ halted.told.0) next.0 led_to in
+            let has : wire_format.HasCause halted.why (o ++ front) octet = rw (octets_told front) at (halted.has_cause o t at.message) in
+            let yes : nat_eq k.rec 8 ≡ true = rw eight refl in
+            let in_full = ap (λ (b : Bool). object_of one.ds ++ cond b (taken ++ front) []) yes in
+            let not_nine : nat_eq k.rec 9 ≡ false = rw eight refl in
+            record {
+              whole = one.ds;
+              begun = InData k (taken ++ front);
+              told = ap (λ (es : List DatasetEvent). es ++ map DataOctet front) one.told ∙ data_more one.ds k taken front;
+              is_text = ap (λ (x : List ℕ). x ++ halted.told.0) one.is_text ∙ laws.texts (o ++ front) (t ++ halted.told.0) next.0 led_to ∙ ap text_so_far
+                  longer;
+              leads_on = record {
+                sizes = goes_within p one.ds k taken at;
+                message = lives_on (object_so_far one.ds (InData k (taken ++ front))) (nat_eq k.rec 9) not_nine (subst MessageLivesWith longer both.0);
+                story = subst StoryLivesIn longer both.1;
+              };
+              unfinished = not_all laws.sections one.ds k at.fields.alive;
+              refuses = (
+                eight,
+                (
+                  cause,
+                  subst (λ (c : MessageCause). wire_format.HasCause c (object_of one.ds ++ (taken ++ front)) octet) same
+                      (subst (λ (x : List ℕ). wire_format.HasCause halted.why x octet) (longer ∙ in_full) has),
+                  refl,
+                ),
+              );
+            };
+      }

@@ -1,22 +1,42 @@
 -- Where the end of a dataset leads the parts of an unpacker, and why it is refused.
-use Rattle.iim_unpack.proofs.Words.{◌≡◌, ℕ, Bool, true, false, cond, if◌then◌else◌, nat_eq, List, [], ◌∷◌, ◌++◌, length, Option, Some, None, refl, ap, sym}
-use Rattle.iim_unpack.proofs.Words.{subst, ◌∙◌, map, arith, ne_eqb, true≢false, number, Dataset, head_of, InTag, InData, DatasetEvent, DatasetEnd, HeadRead}
-use Rattle.iim_unpack.proofs.Words.{DataOctet, Head, SectionsLiveAt, IsValueFault, limits_of, FieldsPlace, StandsAfter, StandsIn, data_of, tells_number}
-use Rattle.iim_unpack.proofs.Words.{FieldFault, last_more, value_token, place_after_datasets, text_so_far, ReadersStandAtLivingOctets, place_at}
-use Rattle.iim_unpack.proofs.Words.{IsRefusedValue, of_field, IsObjectFault, TellsParts, TellsWhole, PartsRefuse, AreAfter, Within, CountsFor, TokenFault}
-use Rattle.iim_unpack.proofs.Words.{silent_leads, not_all, LowerLaws, object_of_more, few_more, AreInOrder}
-use Rattle.std.proofs.Common.{append-nil}
-use Rattle.iim_fields.specs.States.Standing.{IsOf}
+-- A whole dataset leads the parts of an unpacker on; or a subfile is refused at an octet.
+use Rattle.iim_unpack.proofs.Words.{Admits, AreAfter, AreBetween, Bool, CountsFor, DataOctet, Dataset, DatasetEnd, DatasetEvent, FieldFault, FieldsPlace}
+use Rattle.iim_unpack.proofs.Words.{HasFewSubfiles, Head, HeadRead, InData, InTag, IsBetween, IsObjectFault, IsRefusedValue, IsValueFault, List, LowerLaws}
+use Rattle.iim_unpack.proofs.Words.{MessageCause, MessageRefuses, None, NumberRead, Octets, Option, Parts, PartsRefuse, SectionsLive, SectionsLiveAt, Some}
+use Rattle.iim_unpack.proofs.Words.{Spells, StandsAfter, StandsIn, State, SubfileBegun, Takes, TellsMessage, TellsParts, TellsWhole, TokenFault, Within, []}
+use Rattle.iim_unpack.proofs.Words.{ap, append-nil, append_assoc, are_octets, arith, begun_head, begun_head_of, cond, data_of, eqb-true, events_at, events_of}
+use Rattle.iim_unpack.proofs.Words.{false, first_fault, flat_map, get_or, handed_on, head_of, if◌then◌else◌, inl, inr, is_kept, length, limits_of, map}
+use Rattle.iim_unpack.proofs.Words.{message_on, nat_eq, ne_eqb, not_all, number, object_of, of_field, option_or, place_after_datasets, place_at, refl}
+use Rattle.iim_unpack.proofs.Words.{section_of, subst, sym, tells_message_nothing, tells_number, text_so_far, true, true≢false, value_fault, value_token, ℕ}
+use Rattle.iim_unpack.proofs.Words.{◌++◌, ◌<◌, ◌∙◌, ◌∷◌, ◌≡◌}
+use Rattle.iim_unpack.specs.PartSteps.{LeadsParts, NotClosed}
+use Rattle.iim_fields.proofs.Sections.{last_more}
+use Rattle.iim_places.proofs.Places.{number_leads, silent_leads}
+use Rattle.iim_places.proofs.ObjectOctets.{few_more, object_of_more}
+use Rattle.iim_fields.specs.States.Standing.{IsOf, PassesSubfile}
 use Rattle.iim_fields.specs.Format.Values.{number_told}
-use Rattle.iim_fields.specs.Laws.{NoSectionsBeginOthers}
 use Rattle.iim_object.specs.States.Reading as objects
-use Rattle.iim_unpack.specs.PartSteps.{Closed, NotClosed}
-use Rattle.iim_unpack.specs.States.Parts.{Parts}
 use Rattle.iim_unpack.proofs.Faults.{field_value, object_value}
-use Rattle.iim_places.proofs.Places.{number_leads}
-use Rattle.iim_unpack.proofs.Carrying.{HasBegun, in_one, same_head, all_within}
-use Rattle.iim_unpack.proofs.Sequences.{end_told, all_came}
+use Rattle.iim_unpack.proofs.Carrying.{HasBegun, after_all, all_for, in_one, stopped_object, tells_parts_object}
+use Rattle.iim_unpack.proofs.Sequences.{all_came, end_told}
 use Rattle.wire_story.specs.Format.Delivery as story
+use Rattle.std.specs.Prelude.{IsSome, is_none, is_some}
+use Rattle.std.proofs.lemmas.Bool.{eqb-false, or_cases}
+use Rattle.std.specs.Bool.{then_some}
+use Rattle.std.specs.Int.{IsInRange}
+use Rattle.iim_dataset.specs.States.Reading.{AfterStep}
+use Rattle.iim_dataset.specs.declared.sink.Step.{Step}
+use Rattle.iim_tables.specs.Format.Numbers.{size_octets}
+use Rattle.iim_object.specs.Format.Events as object_events
+use Rattle.iim_object.specs.Format.Numbers.{place_ended}
+use Rattle.wire_message.specs.States.Reading as wire
+use Rattle.wire_message.specs.declared.place.Place.{Place}
+use Rattle.iim_unpack.specs.States.Parts.{has_ended}
+use Rattle.iim_unpack.specs.Routing.{TookWhole}
+use Rattle.iim_unpack.specs.Going.{stopped_joined, tells_parts_joined}
+use Rattle.iim_places.proofs.Objects.{records_alive}
+use Rattle.iim_unpack.proofs.Heading.{begins_object, tells_parts_head}
+use Rattle.iim_unpack.proofs.Intakes.{Joined}
 
 -- ---- numbers
 
@@ -31,155 +51,301 @@ tells_none d told = grind arith
 -- ---- where the end leads
 
 -- The end of the dataset was taken by the records and by the object.
-pub record Ends (new : Parts) (ds : List Dataset) (d : Dataset) : Type 0 where
-  pub fields : StandsAfter new.fields (ds ++ d ∷ [])
-  pub object : objects.StandsAt new.object (place_after_datasets (ds ++ d ∷ []))
+abbrev Ends : Parts → List Dataset → Dataset → Type 0
+Ends new ds d = StandsAfter new.fields (ds ++ d ∷ []) × objects.StandsAt new.object (place_after_datasets (ds ++ d ∷ []))
 
-after_data : (p new : Parts) (ds : List Dataset) (h : Head) (taken : List ℕ) → Within p ds h taken → length taken ≡ h.count → Ends new ds (data_of h taken) → new.message ≡ p.message → AreAfter new (ds ++ data_of h taken ∷ [])
-after_data p new ds h taken at whole ends message =
-    let d : Dataset = data_of h taken in
-    record {
-      fields = ends.fields;
-      object = ends.object;
-      few = few_more ds d at.few at.room;
-      message = rw (message, object_of_more ds d) at.message;
-      ended = λ nine. rw message (at.ended (sym (last_more 0 ds d) ∙ nine));
-    }
-
-closed_by : (p new : Parts) (k : Head) → HasBegun p k → limits_of new.fields ≡ limits_of p.fields → new.message ≡ p.message
-    → ((ds : List Dataset) (h : Head) (taken : List ℕ) → Within p ds h taken → length taken ≡ h.count → Ends new ds (data_of h taken)) → Closed p new
-closed_by p new k begun same message ends = record {
-  limits = same;
-  leads = λ before text order led.
-      let one = in_one p k before text begun led in
-      let at = one.within in
-      let whole : length one.taken ≡ one.h.count = all_came before one.ds one.h one.taken one.told order in
-      record {
-        whole = one.ds ++ data_of one.h one.taken ∷ [];
-        begun = InTag [];
-        told = ap (λ (es : List DatasetEvent). es ++ DatasetEnd ∷ []) one.told ∙ end_told one.ds one.h one.taken whole;
-        stands = after_data p new one.ds one.h one.taken at whole (ends one.ds one.h one.taken at whole) message;
-        is_text = one.is_text ∙ ap text_so_far (sym (object_of_more one.ds (data_of one.h one.taken)));
-      };
-}
+-- the end of the dataset leads from one to the other
+abbrev pub ClosesFields : FieldsPlace → FieldsPlace → Option ℕ → Type 0
+ClosesFields old new told = (ds : List Dataset) (h : Head) (taken : List ℕ) → StandsIn old ds h taken → (d : Dataset) → IsOf h taken d
+    → StandsAfter new (ds ++ d ∷ []) × (told ≡ number_told d)
 
 -- the dataset is that of the head
 is_of : (ds : List Dataset) (p : Parts) (h : Head) (taken : List ℕ) → Within p ds h taken → length taken ≡ h.count → IsOf h (if nat_eq h.rec 8 then [] else taken) (data_of h taken)
 is_of ds p h taken at whole =
     record { head = λ i. record { rec = h.rec; set = h.set; count = whole i }; octets = at.octets; given = λ other. rw (ne_eqb h.rec 8 other) refl }
 
-abbrev pub ClosesFields : FieldsPlace → FieldsPlace → Option ℕ → Type 0
-ClosesFields old new told = (ds : List Dataset) (h : Head) (taken : List ℕ) → StandsIn old ds h taken → (d : Dataset) → IsOf h taken d
-    → StandsAfter new (ds ++ d ∷ []) × (told ≡ number_told d)
-
-pub closed_number : LowerLaws → (p new : Parts) (n : ℕ) (k : Head) → HasBegun p k → limits_of new.fields ≡ limits_of p.fields → ClosesFields p.fields new.fields (Some n)
-    → objects.LeadsOn p.object (value_token k.rec k.set n) new.object → new.message ≡ p.message → Closed p new
-closed_number laws p new n k begun same closes goes message =
-    closed_by p new k begun same message
-    (λ ds h taken at whole.
-    let d : Dataset = data_of h taken in
-    let both = closes ds h (if nat_eq h.rec 8 then [] else taken) at.fields d (is_of ds p h taken at whole) in
-    let tells = number_tells d n both.1 in
-    let leads = number_leads laws ds d both.0.alive tells.0 in
-    let head : head_of d ≡ h = λ i. record { rec = h.rec; set = h.set; count = whole i } in
-    let goes_d : objects.LeadsOn p.object (value_token d.rec d.set (number d.octets)) new.object = rw (same_head p k ds h taken begun at, tells.1) at goes in
-    record {
-      fields = both.0;
-      object = subst (objects.StandsAt new.object) leads.1 (goes_d (place_at ds (head_of d)) (subst (λ (k : Head). objects.StandsAt p.object (place_at ds k)) (sym head) at.object) leads.0);
-    })
-
-pub closed_silent : LowerLaws → (p : Parts) (checker : FieldsPlace) (k : Head) → HasBegun p k → limits_of checker ≡ limits_of p.fields → ClosesFields p.fields checker None → Closed p (record p { fields = checker })
-closed_silent laws p checker k begun same closes =
-    closed_by p (record p { fields = checker }) k begun same refl
-    (λ ds h taken at whole.
-    let d : Dataset = data_of h taken in
-    let both = closes ds h (if nat_eq h.rec 8 then [] else taken) at.fields d (is_of ds p h taken at whole) in
-    let silent = tells_none d both.1 in
-    let head : head_of d ≡ h = λ i. record { rec = h.rec; set = h.set; count = whole i } in
-    let leads = silent_leads laws ds d both.0.alive silent at.room in
-    record {
-      fields = both.0;
-      object = subst (objects.StandsAt p.object) leads (subst (λ (k : Head). objects.StandsAt p.object (place_at ds k)) (sym head) at.object);
-    })
-
--- ---- refusals
-
-not_closed_by : (p : Parts) (fault : TokenFault) → ReadersStandAtLivingOctets → NoSectionsBeginOthers → (k : Head) → HasBegun p k → ((n : ℕ) → CountsFor fault.cause n n)
-    → ((ds : List Dataset) (h : Head) (taken : List ℕ) → Within p ds h taken → length taken ≡ h.count → (h.rec ≡ 8 → ⊥) × IsRefusedValue ds (data_of h taken) fault) → NotClosed p fault
-not_closed_by p fault living sections k begun quiet refuses = record {
-  quiet = quiet;
-  why = λ before text order led.
-      let one = in_one p k before text begun led in
-      let at = one.within in
-      record {
-        whole = one.ds;
-        begun = InData one.h one.taken;
-        told = one.told;
-        is_text = one.is_text;
-        leads_on = all_within living p one.ds one.h one.taken at;
-        unfinished = not_all sections one.ds one.h at.fields.alive;
-        refuses = refuses one.ds one.h one.taken at (all_came before one.ds one.h one.taken one.told order);
-      };
-}
-
 not_subfile : (r : ℕ) → tells_number r ≡ true → r ≡ 8 → ⊥
 not_subfile r tells eight = true≢false (sym tells ∙ ap tells_number eight)
 
-pub not_closed_field : ReadersStandAtLivingOctets → NoSectionsBeginOthers → (p : Parts) (f : FieldFault) (k : Head) → HasBegun p k
-    → ((ds : List Dataset) (h : Head) (taken : List ℕ) → StandsIn p.fields ds h taken → IsValueFault ds (data_of h taken) f) → NotClosed p (of_field f)
-not_closed_field living sections p f k begun is =
-    not_closed_by p (of_field f) living sections k begun (λ m. refl)
-    (λ ds h taken at whole.
-    let given = is ds h (if nat_eq h.rec 8 then [] else taken) at.fields in
-    let apart = ne_eqb h.rec 8 given.value in
-    (given.value, field_value ds (data_of h taken) f (subst (λ (xs : List ℕ). IsValueFault ds (data_of h xs) f) (ap (λ (b : Bool). cond b [] taken) apart) given)))
+module _ (laws : LowerLaws) (p : Parts) (k : Head) (begun : HasBegun p k) where
+  closed_by : (new : Parts) → limits_of new.fields ≡ limits_of p.fields → new.message ≡ p.message
+      → ((ds : List Dataset) (taken : List ℕ) → Within p ds k taken → length taken ≡ k.count → Ends new ds (data_of k taken))
+      → LeadsParts p (DatasetEnd ∷ []) [] new
+  closed_by new same message ends = record {
+    limits = same;
+    leads = λ before text order led.
+        let (taken, one) = in_one begun led in
+        let at = one.stands in
+        let d : Dataset = data_of k taken in
+        let whole : length taken ≡ k.count = all_came before one.ds k taken one.told order in
+        let end = ends one.ds taken at whole in
+        record {
+          whole = one.ds ++ d ∷ [];
+          begun = InTag [];
+          told = ap (λ (es : List DatasetEvent). es ++ DatasetEnd ∷ []) one.told ∙ end_told one.ds k taken whole;
+          stands = record {
+            fields = end.0;
+            object = end.1;
+            few = few_more one.ds d at.few at.room;
+            message = rw (message, object_of_more one.ds d) at.message;
+            ended = λ nine. rw message (at.ended (sym (last_more 0 one.ds d) ∙ nine));
+          };
+          is_text = append-nil text ∙ one.is_text ∙ ap text_so_far (sym (object_of_more one.ds d));
+        };
+  }
 
-pub not_closed_number : LowerLaws → (p : Parts) (checker : FieldsPlace) (n : ℕ) (fault : TokenFault) (k : Head) → HasBegun p k → ClosesFields p.fields checker (Some n)
-    → IsObjectFault p.object (value_token k.rec k.set n) k fault → NotClosed p fault
-not_closed_number laws p checker n fault k begun closes bad =
-    not_closed_by p fault laws.living laws.sections k begun
-    (λ m. subst (λ (f : TokenFault). CountsFor f.cause m m) (sym bad.2) refl)
-    (λ ds h taken at whole.
-    let d : Dataset = data_of h taken in
-    let both = closes ds h (if nat_eq h.rec 8 then [] else taken) at.fields d (is_of ds p h taken at whole) in
-    let tells = number_tells d n both.1 in
-    let head : head_of d ≡ h = λ i. record { rec = h.rec; set = h.set; count = whole i } in (
-      not_subfile h.rec tells.0,
-      object_value laws.values_die laws.tokens ds d fault p.object at.octets (subst (SectionsLiveAt ds) (sym head) at.fields.alive) both.0.alive tells.0 (number_leads laws ds d both.0.alive tells.0)
-          (subst (λ (k : Head). objects.StandsAt p.object (place_at ds k)) (sym head) at.object) (rw (same_head p k ds h taken begun at ∙ sym head, tells.1) at bad),
-    ))
+  pub closed_number : (new : Parts) (n : ℕ) → limits_of new.fields ≡ limits_of p.fields → ClosesFields p.fields new.fields (Some n)
+      → objects.LeadsOn p.object (value_token k.rec k.set n) new.object → new.message ≡ p.message → LeadsParts p (DatasetEnd ∷ []) [] new
+  closed_number new n same closes goes message =
+      closed_by new same message
+      (λ ds taken at whole.
+      let d : Dataset = data_of k taken in
+      let both = closes ds k (if nat_eq k.rec 8 then [] else taken) at.fields d (is_of ds p k taken at whole) in
+      let tells = number_tells d n both.1 in
+      let leads = number_leads laws ds d both.0.alive tells.0 in
+      let head : head_of d ≡ k = λ i. record { rec = k.rec; set = k.set; count = whole i } in
+      let goes_d : objects.LeadsOn p.object (value_token d.rec d.set (number d.octets)) new.object = rw tells.1 at goes in
+      let stands = goes_d (place_at ds (head_of d)) (subst (λ (h : Head). objects.StandsAt p.object (place_at ds h)) (sym head) at.object) leads.0 in
+      (both.0, subst (objects.StandsAt new.object) leads.1 stands))
 
--- the end of a dataset, with which nothing is delivered
-pub tells_parts_closed : {S : Type 0} (goes : S → List story.StoryEvent → S → Type 0) (failures : S → ℕ) (old new : Parts) (a : S) → goes a [] a → Closed old new → TellsParts goes failures old a (DatasetEnd ∷ []) new a
-tells_parts_closed goes failures old new a nothing closed = record {
-  limits = closed.limits;
-  more = [];
-  told = nothing;
-  calm = refl;
-  leads = λ before text order led. rw (append-nil text) (closed.leads before text order led);
-}
+  pub closed_silent : (checker : FieldsPlace) → limits_of checker ≡ limits_of p.fields → ClosesFields p.fields checker None
+      → LeadsParts p (DatasetEnd ∷ []) [] (record p { fields = checker })
+  closed_silent checker same closes =
+      closed_by (record p { fields = checker }) same refl
+      (λ ds taken at whole.
+      let d : Dataset = data_of k taken in
+      let both = closes ds k (if nat_eq k.rec 8 then [] else taken) at.fields d (is_of ds p k taken at whole) in
+      let head : head_of d ≡ k = λ i. record { rec = k.rec; set = k.set; count = whole i } in
+      let leads = silent_leads laws ds d both.0.alive (tells_none d both.1) at.room in
+      (both.0, subst (objects.StandsAt p.object) leads (subst (λ (h : Head). objects.StandsAt p.object (place_at ds h)) (sym head) at.object)))
 
--- a whole dataset, with which nothing is delivered
-pub tells_parts_whole : {S : Type 0} (goes : S → List story.StoryEvent → S → Type 0) (failures : S → ℕ) (old new : Parts) (h : Head) (xs : List ℕ) (a : S) → goes a [] a → TellsWhole old h xs new
-    → TellsParts goes failures old a (HeadRead h ∷ (map DataOctet xs ++ DatasetEnd ∷ [])) new a
-tells_parts_whole goes failures old new h xs a nothing whole = record {
-  limits = whole.limits;
-  more = [];
-  told = nothing;
-  calm = refl;
-  leads = λ before text order led. rw (append-nil text) (whole.leads before text led);
-}
+  -- ---- refusals
 
--- the end of a dataset, of which no sink is told
-pub stopped_closed : {S : Type 0} (goes : S → List story.StoryEvent → S → Type 0) (failures : S → ℕ) (p : Parts) (a : S) (fault : TokenFault) → goes a [] a → NotClosed p fault
-    → PartsRefuse goes failures (p, a) [] DatasetEnd (Some fault, a)
-stopped_closed goes failures p a fault g bad = record {
-  fault = fault;
-  is_fault = refl;
-  more = [];
-  told = g;
-  counts = bad.quiet (failures a);
-  why = λ before text order led.
-      let in_order : AreInOrder (before ++ DatasetEnd ∷ []) = subst (λ (es : List DatasetEvent). AreInOrder (es ++ DatasetEnd ∷ [])) (append-nil before) order in
-      rw (append-nil text, append-nil before) (bad.why before text in_order led);
-}
+  not_closed_by : (fault : TokenFault) → ((n : ℕ) → CountsFor fault.cause n n)
+      → ((ds : List Dataset) (taken : List ℕ) → Within p ds k taken → length taken ≡ k.count → (k.rec ≡ 8 → ⊥) × IsRefusedValue ds (data_of k taken) fault)
+      → NotClosed p fault
+  not_closed_by fault quiet refuses = (
+    quiet,
+    λ before text order led.
+        let (taken, one) = in_one begun led in
+        let at = one.stands in
+        record {
+          whole = one.ds;
+          begun = InData k taken;
+          told = append-nil before ∙ one.told;
+          is_text = append-nil text ∙ one.is_text;
+          leads_on = all_for laws.living p one.ds (InData k taken) at;
+          unfinished = not_all laws.sections one.ds k at.fields.alive;
+          refuses = refuses one.ds taken at (all_came before one.ds k taken one.told (rw (append-nil before) at order));
+        },
+  )
+
+  pub not_closed_field : (f : FieldFault)
+      → ((ds : List Dataset) (h : Head) (taken : List ℕ) → StandsIn p.fields ds h taken → IsValueFault ds (data_of h taken) f) → NotClosed p (of_field f)
+  not_closed_field f is =
+      not_closed_by (of_field f) (λ m. refl)
+      (λ ds taken at whole.
+      let given = is ds k (if nat_eq k.rec 8 then [] else taken) at.fields in
+      let apart = ne_eqb k.rec 8 given.value in
+      (given.value, field_value ds (data_of k taken) f (subst (λ (xs : List ℕ). IsValueFault ds (data_of k xs) f) (ap (λ (b : Bool). cond b [] taken) apart)
+      given)))
+
+  pub not_closed_number : (checker : FieldsPlace) (n : ℕ) (fault : TokenFault) → ClosesFields p.fields checker (Some n)
+      → IsObjectFault p.object (value_token k.rec k.set n) k fault → NotClosed p fault
+  not_closed_number checker n fault closes bad =
+      not_closed_by fault (λ m. subst (λ (f : TokenFault). CountsFor f.cause m m) (sym bad.2) refl)
+      (λ ds taken at whole.
+      let d : Dataset = data_of k taken in
+      let both = closes ds k (if nat_eq k.rec 8 then [] else taken) at.fields d (is_of ds p k taken at whole) in
+      let tells = number_tells d n both.1 in
+      let head : head_of d ≡ k = λ i. record { rec = k.rec; set = k.set; count = whole i } in (
+        not_subfile k.rec tells.0,
+        object_value laws.values_die laws.tokens ds d fault p.object at.octets (subst (SectionsLiveAt ds) (sym head) at.fields.alive) both.0.alive tells.0
+            (number_leads laws ds d both.0.alive tells.0) (subst (λ (h : Head). objects.StandsAt p.object (place_at ds h)) (sym head) at.object)
+            (subst (λ (h : Head). IsObjectFault p.object (value_token d.rec d.set (number d.octets)) h fault) (sym head) (rw tells.1 at bad)),
+      ))
+
+-- ---- the sink
+
+module _ {S : Type 0} (goes : S → List story.StoryEvent → S → Type 0) (failures : S → ℕ) where
+  -- events with which nothing is delivered
+  pub tells_quietly : (old new : Parts) (events : List DatasetEvent) (a : S) → goes a [] a → LeadsParts old events [] new
+      → TellsParts goes failures (old, a) events (new, a)
+  tells_quietly old new events a nothing leads = record { more = []; leads = leads; told = nothing; calm = refl }
+
+  -- the end of a dataset, of which no sink is told
+  pub stopped_closed : (p new : Parts) (a : S) (fault : TokenFault) → goes a [] a → NotClosed p fault
+      → PartsRefuse goes failures (Some fault) (p, a) [] DatasetEnd (new, a)
+  stopped_closed p new a fault nothing bad = record { fault = fault; is_fault = refl; more = []; told = nothing; counts = bad.0 (failures a); why = bad.1 }
+
+-- ---- a number
+
+-- octets that were read as a number spell it
+pub spells_number : {h : Head} {xs : List ℕ} {o : Option ℕ} {n : ℕ} → h.count ≡ length xs → (IsSome o → IsInRange 1 size_octets (length xs)) → o ≡ Some n
+    → n ≡ number xs → ((i : ℕ) → get_or xs i 0 < 256) → Spells xs h n
+spells_number {xs = xs} count some is value fits = record { count = count; few = some (ap is_some is); fit = are_octets xs fits; is = value }
+
+none_where : {X : Type 0} (o : Option X) → is_none o ≡ true → o ≡ None
+none_where o e = grind arith
+
+-- they may come
+pub admits_where : {f : FieldsPlace} {h : Head} {n : ℕ} {xs : List ℕ} {b : Bool} → Spells xs h n
+    → ((ds : List Dataset) (ys : List ℕ) → StandsAfter f ds → Spells ys h n
+        → b ≡ is_none (option_or (first_fault (limits_of f) ds h) (value_fault (data_of h ys))))
+    → b ≡ true → Admits f h xs
+admits_where {xs = xs} s exactly is = record { count = s.count; octets = s.fit; no_fault = λ ds t. none_where _ (sym (exactly ds xs t s) ∙ is) }
+
+-- ---- the kept records
+
+-- a record that is kept is not the object's, and tells no number
+keeps : (r : ℕ) → is_kept r ≡ true → (nat_eq r 8 ≡ false) × (nat_eq r 9 ≡ false) × (tells_number r ≡ false)
+keeps r kept = elim (or_cases (nat_eq r 1) (nat_eq r 2) kept) [ inl one ↦ rw (eqb-true r 1 one) (refl, refl, refl) | inr two ↦ rw (eqb-true r 2 two) (refl, refl, refl) ]
+
+-- ---- the dataset
+
+told_one : (ds : List Dataset) (h : Head) (xs : List ℕ) → h.count ≡ length xs
+    → flat_map events_of ds ++ (HeadRead h ∷ (map DataOctet xs ++ DatasetEnd ∷ [])) ≡ handed_on (ds ++ data_of h xs ∷ []) (InTag [])
+told_one ds h xs count = sym (append_assoc (flat_map events_of ds) (HeadRead h ∷ map DataOctet xs) (DatasetEnd ∷ [])) ∙ end_told ds h xs (sym count)
+
+-- it adds nothing to the object
+same_object : (ds : List Dataset) (h : Head) (xs : List ℕ) → nat_eq h.rec 8 ≡ false → object_of (ds ++ data_of h xs ∷ []) ≡ object_of ds
+same_object ds h xs eight = rw (object_of_more ds (data_of h xs), eight) (append-nil (object_of ds))
+
+-- The records took a whole dataset of this head and these data.
+pub record TookField (p new : Parts) (h : Head) (xs : List ℕ) : Type 0 where
+  pub between : IsBetween p.fields
+  pub count : h.count ≡ length xs
+  pub limits : limits_of new.fields ≡ limits_of p.fields
+  pub stands : (ds : List Dataset) → StandsAfter p.fields ds → StandsAfter new.fields (ds ++ data_of h xs ∷ [])
+  pub message : new.message ≡ p.message
+
+module _ (laws : LowerLaws) {p new : Parts} {h : Head} {xs : List ℕ} (t : TookField p new h xs) where
+  -- the dataset is of no subfile, and leads the object to its place
+  tells_one : nat_eq h.rec 8 ≡ false → (h.rec ≡ 9 → wire.IsWhole p.message)
+      → ((ds : List Dataset) → AreAfter p ds → SectionsLive (ds ++ data_of h xs ∷ [])
+          → objects.StandsAt new.object (place_after_datasets (ds ++ data_of h xs ∷ [])))
+      → TellsWhole p h xs new
+  tells_one eight whole object = record {
+    limits = t.limits;
+    leads = λ before text order led.
+        let (held, at) = after_all t.between led in
+        let d : Dataset = data_of h xs in
+        let fields = t.stands at.ds at.stands.fields in
+        let same = same_object at.ds h xs eight in
+        record {
+          whole = at.ds ++ d ∷ [];
+          begun = InTag [];
+          told = ap (λ (es : List DatasetEvent). es ++ (HeadRead h ∷ (map DataOctet xs ++ DatasetEnd ∷ []))) (at.told ∙ append-nil (flat_map events_of at.ds))
+              ∙ told_one at.ds h xs t.count;
+          stands = record {
+            fields = fields;
+            object = object at.ds at.stands fields.alive;
+            few = few_more at.ds d at.stands.few (λ is. absurd (eqb-false h.rec 8 eight is));
+            message = rw (t.message, same) at.stands.message;
+            ended = λ is. rw t.message (whole (sym (last_more 0 at.ds d) ∙ is));
+          };
+          is_text = append-nil text ∙ at.is_text ∙ ap text_so_far (sym same);
+        };
+  }
+
+  pub whole_went : is_kept h.rec ≡ true → new.object ≡ p.object → TellsWhole p h xs new
+  whole_went kept object =
+      let (eight, nine, silent) = keeps h.rec kept in
+      tells_one eight (λ is. absurd (eqb-false h.rec 9 nine is))
+      (λ ds at alive.
+      let d : Dataset = data_of h xs in
+      let elsewhere : place_at ds (head_of d) ≡ place_after_datasets ds = rw (eight, nine) refl in
+      let leads = silent_leads laws ds d alive silent (λ is. absurd (eqb-false h.rec 8 eight is)) in
+      rw object (subst (objects.StandsAt p.object) (sym elsewhere ∙ leads) at.object))
+
+  pub number_went : h.rec ≡ 7 → objects.LeadsOn p.object (NumberRead h.set (number xs)) new.object → TellsWhole p h xs new
+  number_went seven leads =
+      tells_one (rw seven refl) (λ is. absurd (omega (arith, seven, is)))
+      (λ ds at alive.
+      let d : Dataset = data_of h xs in
+      let next = laws.numbers_lead ds d (records_alive (ds ++ d ∷ []) alive) seven in
+      subst (objects.StandsAt new.object) next.1 (leads (place_after_datasets ds) at.object next.0))
+
+  -- the object ends, and its size is confirmed
+  pub end_went : h.rec ≡ 9 → objects.EndsAs p.object (number xs) new.object → wire.IsWhole p.message → TellsWhole p h xs new
+  end_went nine leads whole =
+      tells_one (rw nine refl) (λ _. whole)
+      (λ ds at alive.
+      let d : Dataset = data_of h xs in
+      let next = laws.ends_lead ds d (records_alive (ds ++ d ∷ []) alive) nine in
+      let ended = subst (objects.StandsAt leads.ended) next.0.1 (leads.at_end (place_after_datasets ds) at.object next.0.0) in
+      subst (objects.StandsAt new.object) next.1.1 (leads.at_number (place_ended ds) ended next.1.0))
+
+-- ---- what it takes next
+
+-- the envelope has ended
+pub end_ends : {p new : Parts} → AreBetween false p → IsBetween new.fields → section_of new.fields ≡ 9 → IsSome new.object → new.message ≡ p.message
+    → AreBetween true new
+unfolding has_ended
+end_ends {new = new} t between section object message =
+    let none : begun_head_of new.fields ≡ None = ap begun_head between.between in
+    record { is_over = rw (section, none) refl; fields = between; object = object; message = rw message t.message }
+
+-- after a dataset before record 9 the parts take a head
+pub takes_next : {new : Parts} (r : ℕ) → nat_eq r 9 ≡ false → IsBetween new.fields → section_of new.fields ≡ r → IsSome new.object → IsSome new.message
+    → AreBetween false new
+unfolding has_ended
+takes_next r nine between section object message = record { fields = between; object = object; message = message; is_over = rw (section, nine) refl }
+
+pub takes_either : {p new : Parts} (r : ℕ) (b : Bool) → AreBetween false p → (b ≡ true → is_kept r ≡ true) → IsBetween new.fields
+    → (b ≡ true → section_of new.fields ≡ r) → (b ≡ false → new.fields ≡ p.fields) → new.object ≡ p.object → new.message ≡ p.message → AreBetween false new
+unfolding has_ended
+takes_either r true t kept between section left object message =
+    takes_next r (keeps r (kept refl)).1 between (section refl) (rw object t.object) (rw message t.message)
+takes_either r false t kept between section left object message =
+    record { fields = between; object = rw object t.object; message = rw message t.message; is_over = rw (left refl) t.is_over }
+
+-- The head of a subfile was taken by the records, as by a reader that stands in it, and by the object.
+pub record Entered (p : Parts) (h : Head) (fields : FieldsPlace) (object : Option State) : Type 0 where
+  pub eight : h.rec ≡ 8
+  pub takes : AreBetween false p
+  pub passes : PassesSubfile p.fields h fields
+  pub leads : objects.LeadsOn p.object (SubfileBegun h.count) object
+  pub few : HasFewSubfiles p.object
+
+-- ---- subfiles
+
+module _ {S : Type 0} {goes : S → List story.StoryEvent → S → Type 0} {failures : S → ℕ} (nothing : (a : S) → goes a [] a) (joined : Joined goes)
+    (laws : LowerLaws) (p : Parts) (h : Head) (fields : FieldsPlace) (object : Option State) (e : Entered p h fields object) where
+  tells_parts_in : (a : S) → TellsParts goes failures (p, a) (HeadRead h ∷ []) (record { fields = e.passes.inside; object = object; message = p.message }, a)
+  tells_parts_in a =
+      let passed : TellsMessage goes failures (p.message, a) (events_at h.rec) (p.message, a) = rw e.eight
+      (tells_message_nothing e.takes.message (nothing a)) in
+      tells_parts_head p h passed.told.0 e.takes e.passes.limits passed.told.1 passed.calm
+      (λ ds at. begins_object p h laws ds e.passes.inside (inl e.eight) (λ _. e.few) at (e.passes.begins ds at.fields) (rw e.eight e.leads) passed)
+
+  pub subfile_went : {a b : S} (xs : List ℕ) {message : Option Place} → Octets xs → limits_of fields ≡ limits_of p.fields
+      → TellsMessage goes failures (p.message, a) (map object_events.ObjectOctet xs) (message, b)
+      → TellsParts goes failures (p, a) (HeadRead h ∷ (map DataOctet xs ++ DatasetEnd ∷ [])) (record { fields = fields; object = object; message = message }, b)
+  subfile_went {a} {b} xs {message} octets limits passed =
+      let p1 : Parts = record { fields = e.passes.inside; object = object; message = p.message } in
+      let p2 : Parts = record { fields = e.passes.inside; object = object; message = message } in
+      let p3 : Parts = record { fields = fields; object = object; message = message } in
+      let run : TellsParts goes failures (p1, a) (map DataOctet xs) (p2, b) = tells_parts_object p1 h e.passes.head xs laws e.eight octets passed in
+      let end : TellsParts goes failures (p2, b) (DatasetEnd ∷ []) (p3, b) =
+      tells_quietly goes failures p2 p3 (DatasetEnd ∷ []) b (nothing b)
+      (closed_silent laws p2 h e.passes.head fields (limits ∙ sym e.passes.limits) e.passes.closes) in
+      tells_parts_joined joined (tells_parts_in a) (tells_parts_joined joined run end)
+
+  pub subfile_stopped : {a b : S} (front : List ℕ) (octet : ℕ) (cause : MessageCause) {message : Option Place} {new : Parts}
+      → MessageRefuses goes failures (Some cause) (p.message, a) (map object_events.ObjectOctet front) (object_events.ObjectOctet octet) (message, b)
+      → PartsRefuse goes failures (Some (message_on h cause)) (p, a) (HeadRead h ∷ map DataOctet front) (DataOctet octet) (new, b)
+  subfile_stopped {a} front octet cause halted =
+      let p1 : Parts = record { fields = e.passes.inside; object = object; message = p.message } in
+      stopped_joined joined (tells_parts_in a) (stopped_object p1 h e.passes.head front octet cause laws e.eight halted)
+
+-- ---- the answer
+
+-- a dataset that was taken, or left
+pub answered : {S : Type 0} (goes : S → List story.StoryEvent → S → Type 0) (failures : S → ℕ) → ((a : S) → goes a [] a)
+    → (old new : Parts) (a : S) (h : Head) (xs : List ℕ)
+    (b : Bool) (step : Step) (o : Option Step) → o ≡ then_some b step → (b ≡ true → TellsWhole old h xs new) → (b ≡ false → new ≡ old)
+    → (b ≡ true → AfterStep Takes (AreBetween true) new step) → TookWhole goes failures (old, a) h xs (new, a) o
+answered goes failures nothing old new a h xs true step o is went left after =
+    rw is (tells_quietly goes failures old new (HeadRead h ∷ (map DataOctet xs ++ DatasetEnd ∷ [])) a (nothing a) (went refl), after refl)
+answered goes failures nothing old new a h xs false step o is went left after = rw is (left refl, refl)

@@ -1,27 +1,28 @@
 -- Which fault of a token is the first, and which layer dies with it.
-use Rattle.iim_unpack.proofs.Words.{◌≡◌, ℕ, ◌<◌, ◌≤◌, ◌⊎◌, Bool, true, false, not, ◌&&◌, if◌then◌else◌, nat_eq, List, [], ◌∷◌, ◌++◌, length, Option, Some}
-use Rattle.iim_unpack.proofs.Words.{None, refl, ap, sym, subst, ◌∙◌, inl, arith, option_or, option_map, IsOctet, Octets, number, Dataset, head_of, of_record}
-use Rattle.iim_unpack.proofs.Words.{Head, SectionsLiveAt, tells_number, kept, is_kept, first_fault, value_fault, section_after, IsValueFault, IsHeadFault}
-use Rattle.iim_unpack.proofs.Words.{Limits, FieldFault, max_subfiles, ObjectToken, ObjectLanguage, head_token, value_token, place_after_datasets, State}
-use Rattle.iim_unpack.proofs.Words.{of_field, too_many_on, IsObjectFault, ObjectLives, place_at, IsRefusedHead, IsRefusedValue, TokenFault, HeadLeads}
-use Rattle.std.proofs.Common.{◌||◌, nat_lt}
+use Rattle.iim_unpack.proofs.Words.{Bool, Dataset, FieldFault, Head, HeadLeads, IsHeadFault, IsObjectFault, IsOctet, IsRefusedHead, IsRefusedValue}
+use Rattle.iim_unpack.proofs.Words.{IsValueFault, Limits, List, None, ObjectLanguage, ObjectLives, ObjectToken, Octets, Option, SectionsLive, SectionsLiveAt}
+use Rattle.iim_unpack.proofs.Words.{Some, State, TokenFault, [], ap, arith, false, first_fault, head_of, head_token, if◌then◌else◌, inl, is_kept, kept, length}
+use Rattle.iim_unpack.proofs.Words.{max_subfiles, nat_eq, not, number, of_field, of_record, option_map, option_or, place_after_datasets, place_at, refl}
+use Rattle.iim_unpack.proofs.Words.{section_after, subst, sym, tells_number, too_many_on, true, value_fault, value_token, ℕ, ◌++◌, ◌<◌, ◌||◌, ◌∙◌, ◌∷◌, ◌≡◌}
+use Rattle.iim_unpack.proofs.Words.{◌≤◌, ◌⊎◌}
+use Rattle.std.proofs.Common.{nat_lt, ◌&&◌}
 use Rattle.std.proofs.lemmas.Bool.{le-ltb}
 use Rattle.iim_dataset.specs.Format.Languages as languages
 use Rattle.iim_tables.specs.Format.Rows.{row_of}
 use Rattle.iim_tables.specs.declared.shape.Row.{Row}
 use Rattle.iim_fields.specs.Format.Records.{after}
 use Rattle.iim_tables.specs.Format.Records.{occurs}
-use Rattle.iim_fields.specs.Format.Alive.{SectionsLive}
-use Rattle.iim_fields.specs.Format.Faults.{kept_octets, is_first, is_in_order, fault_on, row_fault, missing_fault, missing_of, head_fault, record_fault, room_fault, limits_fault, fault_by_row, section_run}
+use Rattle.iim_fields.specs.Format.Faults.{fault_by_row, fault_on, head_fault, is_first, is_in_order, kept_octets, limits_fault, missing_fault, missing_of}
+use Rattle.iim_fields.specs.Format.Faults.{record_fault, room_fault, row_fault, section_run}
 use Rattle.iim_fields.specs.Laws.{HeadsDieWithTheirFault, ValuesDieWithTheirFault}
 use Rattle.iim_fields.specs.declared.fault.FieldCause.TheVariants.{RecordOrder}
-use Rattle.iim_object.specs.Format.Places.{Place, MayFollow, place_after}
+use Rattle.iim_object.specs.Format.Places.{MayFollow, Place, place_after}
 use Rattle.iim_object.specs.Format.Causes.{cause_at}
-use Rattle.iim_object.specs.States.Reading.{StandsAt, Refuses}
+use Rattle.iim_object.specs.States.Reading.{Refuses, StandsAt}
 use Rattle.iim_object.specs.Laws.{TokensFollow}
 use Rattle.iim_object.specs.declared.reading.fault.SizeCause.{SizeCause}
 use Rattle.iim_places.specs.Format.Refusals.{layer_of, size_on}
-use Rattle.iim_places.specs.Format.Tokens.{HaveRoom, DiesAtHead, DiesAtValue, subfile_fault, object_fault, number_fault}
+use Rattle.iim_places.specs.Format.Tokens.{DiesAtHead, DiesAtValue, HaveRoom, number_fault, object_fault, subfile_fault}
 use Rattle.iim_places.specs.declared.refusal.Layer.{Layer}
 use Rattle.iim_places.specs.declared.refusal.Layer.TheVariants as layers
 use Rattle.iim_places.proofs.Places.{ValueLeads}
@@ -37,13 +38,6 @@ abbrev IsLimits : Option FieldFault → Type 0
 IsLimits None = Unit {0}
 IsLimits (Some fault) = layer_of fault.cause ≡ layers.Limits
 
-either : (P : Option FieldFault → Type 0) (b : Bool) (x y : Option FieldFault) → P x → P y → P (if b then x else y)
-either P true x y h k = h
-either P false x y h k = k
-
-records_or : (x y : Option FieldFault) → IsRecords x → IsRecords y → IsRecords (option_or x y)
-records_or x y h k = grind arith
-
 row_records : (again : Bool) (row : Option Row) (h : Head) → IsRecords (row_fault again row h)
 row_records again row h = grind arith
 
@@ -52,10 +46,13 @@ missing_records present o = grind arith
 
 head_records : (present : ℕ) (has : ℕ → Bool) (h : Head) → IsRecords (head_fault present has h)
 head_records present has h =
-    either IsRecords (not (is_in_order present h.rec)) (Some (fault_on h RecordOrder)) _ refl
-    (records_or (row_fault (nat_eq h.rec present && has h.set) (row_of h.rec h.set) h) _ (row_records (nat_eq h.rec present && has h.set) (row_of h.rec h.set) h)
-    (either IsRecords (is_first h.rec (after present)) (missing_fault present (missing_of present has)) None
-    (missing_records present (missing_of present has)) tt))
+    by (not (is_in_order present h.rec)) (is_first h.rec (after present)) (row_fault (nat_eq h.rec present && has h.set) (row_of h.rec h.set) h)
+    (missing_fault present (missing_of present has)) (row_records (nat_eq h.rec present && has h.set) (row_of h.rec h.set) h)
+    (missing_records present (missing_of present has))
+  where
+    by : (b c : Bool) (x y : Option FieldFault) → IsRecords x → IsRecords y
+        → IsRecords (if b then Some (fault_on h RecordOrder) else option_or x (if c then y else None))
+    by b c x y h k = grind arith
 
 room_limits : (limits : Limits) (octets fields : ℕ) (h : Head) → IsLimits (room_fault limits octets fields h)
 room_limits limits octets fields h = grind arith
@@ -163,7 +160,4 @@ object_value dies follow ds d fault old octets at alive tells leads stands (caus
     let none : value_fault d ≡ None = (dies ds d at octets).1 alive in
     let dead = dead_after follow old (place_at ds (head_of d)) (place_after_datasets (ds ++ d ∷ [])) (value_token d.rec d.set (number d.octets)) cause refuses stands leads.0 leads.1 in
     let second : number_fault ds d ≡ Some (size_on (head_of d) cause) = rw (tells, dead.1) refl in
-    subst (IsRefusedValue ds d) (sym same) (record {
-      first = λ i. option_or (option_map of_field (none i)) (second i);
-      dead = (alive, dead.0);
-    })
+    subst (IsRefusedValue ds d) (sym same) (record { first = λ i. option_or (option_map of_field (none i)) (second i); dead = (alive, dead.0) })

@@ -1,18 +1,26 @@
 -- An unpacker holds few octets and entries.
-use Rattle.iim_unpack.proofs.Words.{◌≡◌, ℕ, ◌+◌, ◌<◌, ◌≤◌, if◌then◌else◌, nat_eq, List, [], length, Option, Some, ap, sym, subst, ◌∙◌, inl, inr, arith}
-use Rattle.iim_unpack.proofs.Words.{cases_Bool, Dataset, count_octets, EventsTellTheDatasets, IsKeptAs, Begun, InTag, InData, Reads, Head, DatasetPlace}
-use Rattle.iim_unpack.proofs.Words.{begun_head, is_kept, joined, kept, begun_head_of, StandsAfter, StandsIn, HoldsFew, StandsFor, Unpacking, IsLed, Stood}
-use Rattle.iim_unpack.proofs.Words.{is_one, held_length, some_taken, none_taken}
+-- The ticket that is spelled of an unpacker is that of its place, and how long it is.
+use Rattle.iim_unpack.proofs.Words.{Begun, Dataset, DatasetPlace, EventsTellTheDatasets, Head, HoldsFew, InData, InTag, Inside, IsDoneWith, IsKeptAs, IsLed}
+use Rattle.iim_unpack.proofs.Words.{IsTicketOf, LeadsToSaved, List, MessagePlace, Option, Parts, Place, Reads, Some, Stands, StandsAfter, StandsFor, StandsIn}
+use Rattle.iim_unpack.proofs.Words.{Stood, Tag, Unpacking, [], ap, arith, begun_head, begun_head_of, cases_Bool, count_octets, count_of, false, has_ended}
+use Rattle.iim_unpack.proofs.Words.{if◌then◌else◌, inl, inr, is_kept, kept, length, limits_in, nat_eq, numbers_of, object_of, object_so_far, of_record}
+use Rattle.iim_unpack.proofs.Words.{place_after_datasets, place_at, place_of, present_version, refl, section, section_after, stated_numbers, subst, sym, ℕ}
+use Rattle.iim_unpack.proofs.Words.{◌*◌, ◌+◌, ◌-◌, ◌<◌, ◌∙◌, ◌≡◌, ◌≤◌, ◌⊎◌}
+use Rattle.iim_fields.specs.Format.Faults.{joined}
+use Rattle.iim_places.proofs.Bounds.{is_one}
+use Rattle.iim_places.proofs.TicketLengths.{AreShortIn, data_length, held_length, none_taken, numbers_length, rest_length, some_taken, tag_begun_length}
+use Rattle.iim_places.proofs.TicketLengths.{texts_at, texts_short}
 use Rattle.iim_dataset.specs.declared.place.DatasetPlace.TheVariants as tags
 use Rattle.wire_message.specs.States.Reading as wire
 use Rattle.wire_message.specs.States.Saved.{saved}
 use Rattle.wire_message.specs.States.SoFar.{IsPlace}
 use Rattle.wire_message.specs.declared.place.Place.{Place as Message}
 use Rattle.wire_message.specs.declared.place.Place.TheVariants as at
-use Rattle.iim_unpack.specs.States.Held.{tag_held, texts_held, returns_held, message_held, begun_entries}
-use Rattle.iim_unpack.specs.States.Parts.{Parts}
-use Rattle.iim_places.proofs.TicketLengths.{AreShortIn, texts_at}
-use Rattle.iim_unpack.proofs.SamePlace.{told_by, led_of}
+use Rattle.iim_unpack.specs.States.Held.{begun_entries, message_held, returns_held, tag_held}
+use Rattle.iim_unpack.proofs.Sequences.{ended_by_record, led_of, reached, unended_inside}
+use Rattle.iim_places.specs.Format.Tickets.{heads_of, phase_octets, phase_of, ticket_of}
+use Rattle.iim_unpack.specs.TicketReading.{IsSpelled, phase_in}
+use Rattle.iim_places.proofs.Tickets.{heads_by, message_at, stated_by, taken_by, total_of}
 
 -- ---- the message
 
@@ -20,16 +28,13 @@ few_returns : (place : Message) → IsPlace place → returns_held place ≤ 2
 few_returns (at.Text h' (Some held)) (k, (m, is, few)) = let same : held ≡ m = cc in omega (arith, same, few)
 few_returns other h = omega arith
 
-few_texts : (place : Message) → IsPlace place → texts_held (saved place) ≤ 159
-few_texts place is =
-    let short : AreShortIn (saved place) = texts_at place is in
-    omega (arith, short.source, short.number, short.priority, short.category, short.words, short.info, short.trailer)
-
 few_of_message : (reader : Option Message) (octets text : List ℕ) → wire.StandsAt reader octets text → message_held reader ≤ 161
 few_of_message reader octets text (place, is, leads) =
-    let texts = few_texts place leads.is_place in
+    let short : AreShortIn (saved place) = texts_at place leads.is_place in
     let returns = few_returns place leads.is_place in
-    let all : message_held (Some place) ≤ 161 = omega (arith, texts, returns) in subst (λ (o : Option Message). message_held o ≤ 161) (sym is) all
+    let all : message_held (Some place) ≤ 161 =
+    omega (arith, short.source, short.number, short.priority, short.category, short.words, short.info, short.trailer, returns) in
+    subst (λ (o : Option Message). message_held o ≤ 161) (sym is) all
 
 -- ---- the tag
 
@@ -77,19 +82,139 @@ few_in parts ds h taken at' less =
 
 -- ---- all of it
 
-few_led : EventsTellTheDatasets → (u : Unpacking) (p : List ℕ) → IsLed u p → HoldsFew u
-few_led tell u p led =
-    let hands = led.leads.hands in
-    let told = tell led.led.whole hands.whole led.led.begun led.leads.begun (sym led.led.told ∙ hands.handed) in
-    let stands : StandsFor u.parts hands.whole led.leads.begun = told_by u.parts led.led.whole hands.whole led.led.begun led.leads.begun told.0 told.1 led.led.stands in
-    by led.leads.begun hands.reads stands (few_of_tag u.reader.place led.leads.begun p hands.whole led.leads.keeps hands.reads)
+pub holds_few : EventsTellTheDatasets → (u : Unpacking) → Stood u → HoldsFew u
+holds_few tell u (p, a, stood) =
+    let led = led_of stood in
+    let r = reached tell led.leads led.led in
+    by r.whole r.begun r.reads r.stands (few_of_tag u.reader.place r.begun p r.whole r.keeps r.reads)
   where
     sum : FewFields u.parts → tag_held u.reader.place ≤ 12 → message_held u.parts.message ≤ 161 → HoldsFew u
     sum few tag message = record { octets = (let octets = few.octets in omega (arith, octets, tag, message)); entries = few.entries }
 
-    by : (begun : Begun) → Reads count_octets p led.leads.hands.whole begun → StandsFor u.parts led.leads.hands.whole begun → tag_held u.reader.place ≤ 12 → HoldsFew u
-    by (InTag held) reads stands tag = sum (few_after u.parts led.leads.hands.whole stands.fields) tag (few_of_message u.parts.message _ _ stands.message)
-    by (InData h taken) reads stands tag = sum (few_in u.parts led.leads.hands.whole h taken stands.fields reads.is_rest.2) tag (few_of_message u.parts.message _ _ stands.message)
+    by : (ds : List Dataset) (begun : Begun) → Reads count_octets p ds begun → StandsFor u.parts ds begun → tag_held u.reader.place ≤ 12 → HoldsFew u
+    by ds (InTag held) reads stands tag = sum (few_after u.parts ds stands.fields) tag (few_of_message u.parts.message _ _ stands.message)
+    by ds (InData h taken) reads stands tag =
+        sum (few_in u.parts ds h taken stands.fields reads.is_rest.2) tag (few_of_message u.parts.message _ _ stands.message)
 
-pub holds_few : EventsTellTheDatasets → (u : Unpacking) → Stood u → HoldsFew u
-holds_few tell u (p, a, stood) = few_led tell u p (led_of stood)
+-- ---- the place
+
+-- what the readers tell, part by part, of whole datasets and a begun one
+record Parted (place : DatasetPlace) (parts : Parts) (ticket : List ℕ) (s : IsSpelled place parts ticket) (whole : List Dataset) (begun : Begun) : Type 0 where
+  pub section : s.section ≡ section whole begun
+  pub phase : phase_in place parts ≡ phase_of whole begun
+  pub fields : parts.fields.kept ≡ kept whole
+  pub numbers : s.numbers ≡ stated_numbers (numbers_of (of_record 7 whole))
+  pub taken : s.taken ≡ length (object_so_far whole begun)
+  pub heads : s.heads ≡ heads_of whole begun
+  pub text : List ℕ
+  pub leads : LeadsToSaved (object_so_far whole begun) text s.message
+
+parted : (parts : Parts) (ticket : List ℕ) (whole : List Dataset) (begun : Begun) (place : DatasetPlace) (s : IsSpelled place parts ticket) → IsKeptAs place begun → StandsFor parts whole begun
+    → Parted place parts ticket s whole begun
+parted parts ticket ds (InTag held) (Tag octets) s keeps at = record {
+  section = s.after ds at.fields;
+  phase = rw (ended_by_record parts ds at.fields, keeps) refl;
+  fields = at.fields.kept_are;
+  numbers = s.numbers_are (place_after_datasets ds) at.object;
+  taken = let is = s.taken_is (place_after_datasets ds) at.object in let total = total_of (of_record 8 ds) in omega (arith, is, total);
+  heads = s.heads_are (place_after_datasets ds) at.object ∙ count_of (of_record 8 ds);
+  text = _;
+  leads = message_at parts.message (object_of ds) _ s.message at.message s.message_is;
+}
+parted parts ticket ds (InData h given) (Inside g left) s (is, many) at =
+    let ended : has_ended parts ≡ false = unended_inside parts h at.fields.inside.0 at.fields.inside.1 in
+    let rest : left ≡ h.count - length given = omega (arith, many) in
+    record {
+      section = s.inside ds h _ at.fields;
+      phase = rw (ended, is, rest, at.fields.taken_are) refl;
+      fields = at.fields.kept_are;
+      numbers = s.numbers_are (place_at ds h) at.object ∙ ap stated_numbers (stated_by (nat_eq h.rec 8) (nat_eq h.rec 9) ds h.count);
+      taken = s.taken_is (place_at ds h) at.object ∙ rw is (taken_by (nat_eq h.rec 8) (nat_eq h.rec 9) ds given h.count left many);
+      heads = s.heads_are (place_at ds h) at.object ∙ heads_by (nat_eq h.rec 8) (nat_eq h.rec 9) ds h.count;
+      text = _;
+      leads = message_at parts.message (object_so_far ds (InData h given)) _ s.message at.message s.message_is;
+    }
+parted parts ticket ds begun place s keeps at = absurd keeps
+
+-- the place that is spelled
+abbrev told_place : (place : DatasetPlace) (parts : Parts) (ticket : List ℕ) → IsSpelled place parts ticket → Place
+told_place place parts ticket s = record {
+  section = s.section;
+  phase = phase_in place parts;
+  fields = parts.fields.kept;
+  numbers = s.numbers;
+  taken = s.taken;
+  heads = s.heads;
+  message = s.message;
+}
+
+-- The ticket is that of octets that led here.
+pub record Placed (u : Unpacking) (p ticket : List ℕ) : Type 0 where
+  pub whole : List Dataset
+  pub begun : Begun
+  pub reads : Reads count_octets p whole begun
+  pub stands : StandsFor u.parts whole begun
+  pub text : List ℕ
+  pub message : MessagePlace
+  pub leads : LeadsToSaved (object_so_far whole begun) text message
+  pub spelled : ticket ≡ ticket_of (place_of whole begun message)
+
+pub placed : EventsTellTheDatasets → (u : Unpacking) (p ticket : List ℕ) → IsSpelled u.reader.place u.parts ticket → IsLed u p → Placed u p ticket
+placed tell u p ticket s led =
+    let r = reached tell led.leads led.led in
+    let by = parted u.parts ticket r.whole r.begun u.reader.place s r.keeps r.stands in
+    let same : told_place u.reader.place u.parts ticket s ≡ place_of r.whole r.begun s.message = λ i. record {
+      section = by.section i;
+      phase = by.phase i;
+      fields = by.fields i;
+      numbers = by.numbers i;
+      taken = by.taken i;
+      heads = by.heads i;
+      message = s.message;
+    } in
+    record {
+      whole = r.whole;
+      begun = r.begun;
+      reads = r.reads;
+      stands = r.stands;
+      text = by.text;
+      message = s.message;
+      leads = by.leads;
+      spelled = s.spelled ∙ ap ticket_of same;
+    }
+
+pub ticket_by : EventsTellTheDatasets → (u : Unpacking) (p ticket : List ℕ) (a : ℕ) → IsSpelled u.reader.place u.parts ticket → Stands u p a ⊎ IsDoneWith u p a → IsTicketOf p ticket
+ticket_by tell u p ticket a s stood =
+    let by = placed tell u p ticket s (led_of stood) in
+    record {
+      place = place_of by.whole by.begun by.message;
+      is_place = record { whole = by.whole; begun = by.begun; reads = by.reads; text = by.text; message = by.message; leads = by.leads; is_place = refl };
+      spelled = by.spelled;
+    }
+
+-- ---- a ticket
+
+-- with the kept datasets, what is begun is within the limits and some octets
+begun_length : (parts : Parts) (p : List ℕ) (ds : List Dataset) (b : Begun) → Reads count_octets p ds b → StandsFor parts ds b
+    → length (phase_octets present_version (phase_of ds b)) + (6 * length (kept ds) + length (joined (kept ds))) ≤ 26 + (parts.fields.limits.octets + 6 * parts.fields.limits.fields)
+begun_length parts p ds (InTag held) reads stands =
+    let phase = tag_begun_length (nat_eq (section_after ds) 9) held (held_length p ds held reads) in
+    omega (arith, phase, stands.fields.within.octets_in, stands.fields.within.fields_in)
+begun_length parts p ds (InData h taken) reads stands =
+    let phase = data_length h.set h.count (h.count - length taken) (if nat_eq h.rec 8 then [] else taken) in
+    let some = some_taken (nat_eq h.rec 8) taken in
+    let less = reads.is_rest.2 in
+    elim (is_one ds h stands.fields.alive) [
+      | inl keeps ↦ let room = stands.fields.within keeps in omega (arith, phase, some, less, room.octets_in, room.fields_in)
+      | inr (inl eight) ↦ let zero = none_taken h.rec taken eight in omega (arith, phase, zero, stands.fields.others.octets_in, stands.fields.others.fields_in)
+      | inr (inr few) ↦ omega (arith, phase, some, less, few, stands.fields.others.octets_in, stands.fields.others.fields_in)
+    ]
+
+-- Wherever the unpacker stands, its ticket is short.
+pub short_ticket : EventsTellTheDatasets → (u : Unpacking) (ticket : List ℕ) → IsSpelled u.reader.place u.parts ticket → Stood u → length ticket ≤ (limits_in u).octets + 6 * (limits_in u).fields + 256
+short_ticket tell u ticket s (p, a, stood) =
+    let by = placed tell u p ticket s (led_of stood) in
+    let rest = rest_length (place_of by.whole by.begun by.message) (numbers_length _ _ _ _) (texts_short _ by.text by.message by.leads) in
+    let begun = begun_length u.parts p by.whole by.begun by.reads by.stands in
+    let is = ap length by.spelled in
+    omega (arith, is, rest, begun)

@@ -1,13 +1,17 @@
+-- Blocks, and the line of an intake.
 -- What an intake feeds, piece after piece.
-use Rattle.iim_unpack.proofs.Words.{◌≡◌, ℕ, ◌+◌, ◌-◌, ◌^◌, ◌<◌, ◌≤◌, Bool, false, List, [], ◌++◌, length, take, Option, Some, None, refl, ap, sym, subst, ◌∙◌}
-use Rattle.iim_unpack.proofs.Words.{inl, inr, arith, append_assoc, length-append, get_or-append-add, length-take-le, true≢false, same_Some, take-append-add}
-use Rattle.iim_unpack.proofs.Words.{Device, HasGiven, Limits, DeliveryMayBeCut, CountsFor, refusal_at, Unpacking, Stands, IsDoneWith, Goes, IsRefusedIn}
-use Rattle.iim_unpack.proofs.Words.{LeftAs, limits_in, Done, Progress, raised, Stood, IsOpen, Delivers, IsTruncatedAt, HasFed, IsReady, in_line, Refusal}
-use Rattle.iim_unpack.proofs.Words.{Value, AreWithin, HasParts, Unpacked}
-use Rattle.std.proofs.Common.{append-nil}
-use Rattle.std.specs.Prelude.{IsTrue, ◌↔◌, IfNone, IfSome}
-use Rattle.std.specs.Io.KnownBytes.{IsAtEnd}
-use Rattle.iim_dataset.specs.States.Devices.{MissedAfter, WithinInterruptionLimit}
+use Rattle.iim_unpack.proofs.Words.{AreWithin, Bool, CountsFor, Delivers, DeliveryMayBeCut, Done, Goes, HasFed, HasParts, IsDoneWith, IsOpen, IsReady}
+use Rattle.iim_unpack.proofs.Words.{IsRefusedIn, IsTruncatedAt, LeftAs, Limits, List, More, None, Option, Refusal, Some, Stands, Stood, Unpacked, Unpacking}
+use Rattle.iim_unpack.proofs.Words.{Value, [], ap, append-nil, append_assoc, arith, drop, false, get_or-append-add, in_line, inl, inr, length, length-append}
+use Rattle.iim_unpack.proofs.Words.{length-take-le, limits_in, raised, refl, refusal_at, same_Some, subst, sym, take, take-append-add, take-append-drop}
+use Rattle.iim_unpack.proofs.Words.{take_all, true≢false, with_held, ℕ, ◌++◌, ◌+◌, ◌-◌, ◌<◌, ◌^◌, ◌∙◌, ◌≡◌, ◌≤◌}
+use Rattle.std.proofs.Common.{length-take}
+use Rattle.std.proofs.lemmas.List.{drop-drop, drop-take}
+use Rattle.std.specs.Io.KnownBytes.{Consumes, IsAtEnd}
+use Rattle.iim_dataset.specs.States.Devices.{Device, HasGiven, MissedAfter, WithinInterruptionLimit}
+use Rattle.std.specs.List.{slice_range}
+use Rattle.iim_unpack.specs.States.Blocks.{put_before}
+use Rattle.std.specs.Prelude.{IfNone, IfSome, IsTrue, ◌↔◌}
 use Rattle.iim_dataset.specs.Laws.{GiftsJoin}
 use Rattle.iim_dataset.specs.declared.device.IoFault.{IoFault}
 use Rattle.iim_dataset.specs.declared.device.IoFault.TheVariants as io
@@ -15,17 +19,48 @@ use Rattle.iim_dataset.proofs.Lists.{nothing_of_two}
 use Rattle.iim_dataset.proofs.DeviceLaws.{broke_for_later}
 use Rattle.iim_dataset.specs.HandedIn.{consumes_consumes}
 use Rattle.wire_story.specs.Format.Delivery as story
-use Rattle.iim_unpack.specs.States.Unpacking.{More}
-use Rattle.iim_unpack.specs.IntakeSteps.{IsRefusedPiece, read_fault}
-use Rattle.iim_unpack.specs.States.Intakes.{FedPiece, StandsOn, WasDone, WasEnded, IsRefusedOf, IsTruncatedIn, WasRefused, WasTruncated, WasMissed, WasGiven, Came, Faults, GivesNothing}
+use Rattle.iim_unpack.specs.IntakeSteps.{read_fault}
+use Rattle.iim_unpack.specs.States.Intakes.{Came, Faults, FedPiece, GivesNothing, IsRefusedOf, IsTruncatedIn, StandsOn, WasDone, WasEnded, WasGiven, WasMissed}
+use Rattle.iim_unpack.specs.States.Intakes.{WasRefused, WasTruncated}
 use Rattle.iim_places.specs.Laws.{OpenOctetsAreBounded}
 use Rattle.iim_unpack.specs.declared.intake.Fed.{Fed}
 use Rattle.iim_unpack.specs.declared.intake.Fed.TheVariants as piece
 use Rattle.iim_unpack.specs.declared.intake.Intake.{Intake}
 use Rattle.iim_unpack.specs.declared.intake.IntakeFault.{IntakeFault}
-use Rattle.iim_unpack.specs.declared.intake.IntakeFault.TheVariants.{Refused, Read, Interrupted}
+use Rattle.iim_unpack.specs.declared.intake.IntakeFault.TheVariants.{Interrupted, Read, Refused}
 use Rattle.iim_unpack.proofs.Feeding.{stood_stands}
 use Rattle.iim_places.specs.Format.Admitted.{Admits}
+
+-- after some of the octets of a block
+pub passes : (octets : List ℕ) (from to used : ℕ) (held : List ℕ) → slice_range octets from to ≡ held → from + used ≤ to
+    → slice_range octets (from + used) to ≡ drop used held
+passes octets from to used held is fits =
+    ap (take (to - (from + used))) (sym (drop-drop used from octets)) ∙ sym (drop-take used (to - (from + used)) (drop from octets))
+    ∙ ap (λ n. drop used (take n (drop from octets))) (omega (arith, fits)) ∙ ap (drop used) is
+
+used_up : (n : ℕ) (xs : List ℕ) (o : Option (List ℕ)) → Consumes (put_before xs o) (put_before (drop n xs) o) (take n xs)
+used_up n xs None = tt
+used_up n xs (Some rest) = ap (λ w. w ++ rest) (sym (take-append-drop n xs)) ∙ append_assoc (take n xs) (drop n xs) rest
+
+-- Octets of the block were used.
+pub line_passed : (n : ℕ) (held new : List ℕ) (d : Device) → new ≡ drop n held → HasGiven (with_held held d) (with_held new d) (take n held)
+line_passed n held new d is =
+    (subst (λ (ys : List ℕ). Consumes (put_before held d.octets) (put_before ys d.octets) (take n held)) (sym is) (used_up n held d.octets), (omega arith, omega arith))
+
+-- where `used` octets at least are held, they can be passed
+pub fits : (octets : List ℕ) (from to used : ℕ) (held : List ℕ) → slice_range octets from to ≡ held → from ≤ to → used ≤ length held → from + used ≤ to
+fits octets from to used held is order le =
+    let few : length (take (to - from) (drop from octets)) ≤ to - from = omega (arith, length-take (to - from) (drop from octets)) in
+    omega (arith, order, le, rw is at few)
+
+-- The whole block was used.
+pub line_used : (n : ℕ) (held new piece : List ℕ) (d : Device) → n ≡ length held → piece ≡ held → new ≡ drop n held → HasGiven (with_held held d) (with_held new d) piece
+line_used n held new piece d all same is =
+    subst (λ (ys : List ℕ). HasGiven (with_held held d) (with_held new d) ys) (take_all n held (omega (arith, all)) ∙ sym same) (line_passed n held new d is)
+
+-- Some of it was.
+pub line_front : (n : ℕ) (held new piece : List ℕ) (d : Device) → piece ≡ held → new ≡ drop n held → HasGiven (with_held held d) (with_held new d) (take n piece)
+line_front n held new piece d same is = subst (λ (ys : List ℕ). HasGiven (with_held held d) (with_held new d) (take n ys)) (sym same) (line_passed n held new d is)
 
 abbrev pub Joined : {S : Type 0} → (S → List story.StoryEvent → S → Type 0) → Type 0
 Joined {S} goes = (a b c : S) (xs ys : List story.StoryEvent) → goes a xs b → goes b ys c → goes a (xs ++ ys) c
@@ -53,8 +88,7 @@ adds_more cut p x y m n one two text is =
 
 -- what is so of the unpacker now, on all octets, from what is so on the piece
 on_all : (used more : List ℕ) (p : List ℕ) (n : ℕ) (P : List ℕ → ℕ → Type 0) → P ((p ++ used) ++ more) (raised (raised n (length used)) (length more)) → P (p ++ (used ++ more)) (raised n (length (used ++ more)))
-on_all used more p n P is =
-    rw (length-append used more, ← raised_twice n (length used) (length more), ← append_assoc p used more) is
+on_all used more p n P is = rw (length-append used more, ← raised_twice n (length used) (length more), ← append_assoc p used more) is
 
 -- no octets more
 stands_still : (u : Unpacking) → u.octets < 2 ^ 64 → StandsOn u u [] []
@@ -64,45 +98,55 @@ stands_still u low p n at =
 
 -- ---- one piece
 
-pub piece_more : {S : Type 0} (goes : S → List story.StoryEvent → S → Type 0) (old new : Device) (u v : Unpacking) (a b : S) (used : ℕ) (piece : List ℕ) → HasGiven old new piece → new.interruptions ≡ old.interruptions → used ≡ raised 0 (length piece) → limits_in v ≡ limits_in u
-    → (progress : Progress) → progress ≡ More → ((more : List story.StoryEvent) × goes a more b × ((p : List ℕ) (n : ℕ) → Stands u p n → Goes v p n piece more progress)) → HasFed goes old new u v a b used
-piece_more goes old new u v a b used piece given still count same progress is (more, told, onward) = record {
-  octets = piece;
-  more = more;
-  came = record { given = given; told = told; patience = omega (arith, still) };
-  patience = omega (arith, still);
-  counts = count;
-  limits = same;
-  stands = λ p n at. subst (λ (x : Progress). Goes v p n piece more x) is (onward p n at);
-}
+module _ {S : Type 0} (goes : S → List story.StoryEvent → S → Type 0) (d : Device) (held rest piece : List ℕ) (same : piece ≡ held) {a b : S} where
+  -- all of the block came
+  came_whole : {more : List story.StoryEvent} (n : ℕ) → n ≡ length held → rest ≡ drop n held → goes a more b
+      → Came goes (with_held held d) (with_held rest d) a b piece more
+  came_whole n all drops told = record { given = line_used n held rest piece d all same drops; told = told; patience = omega arith }
 
-pub piece_done : {S : Type 0} (goes : S → List story.StoryEvent → S → Type 0) (old new : Device) (u v : Unpacking) (a b : S) (used last : ℕ) (piece : List ℕ) → HasGiven old new (take last piece) → new.interruptions ≡ old.interruptions → last ≤ length piece → used ≡ raised 0 last
-    → limits_in v ≡ limits_in u → (progress : Progress) → progress ≡ Done last → ((more : List story.StoryEvent) × goes a more b × ((p : List ℕ) (n : ℕ) → Stands u p n → Goes v p n piece more progress)) → WasDone goes old new u v a b used
-piece_done goes old new u v a b used last piece given still fit count same progress is (more, told, onward) =
-    let len : length (take last piece) ≡ last = length-take-le last piece fit in
-    record {
-      octets = take last piece;
-      more = more;
-      came = record { given = given; told = told; patience = omega (arith, still) };
-      limits = same;
-      counts = count ∙ ap (raised 0) (sym len);
-      done = λ p n at.
-          let (fits, then_, adds) = subst (λ (x : Progress). Goes v p n piece more x) is (onward p n at) in
-          (subst (λ k. IsDoneWith v (p ++ take last piece) (raised n k)) (sym len) then_, adds);
-    }
+  pub piece_more : {u v : Unpacking} {used : ℕ} (n : ℕ) → n ≡ length held → rest ≡ drop n held → used ≡ raised 0 n → limits_in v ≡ limits_in u
+      → ((more : List story.StoryEvent) × goes a more b × ((p : List ℕ) (n : ℕ) → Stands u p n → Goes v p n piece more More))
+      → HasFed goes (with_held held d) (with_held rest d) u v a b used
+  piece_more n all drops count limits (more, told, onward) = record {
+    octets = piece;
+    more = more;
+    came = came_whole n all drops told;
+    patience = omega arith;
+    counts = count ∙ ap (raised 0) (all ∙ ap length (sym same));
+    limits = limits;
+    stands = onward;
+  }
 
-pub piece_refused : {S : Type 0} (goes : S → List story.StoryEvent → S → Type 0) (failures : S → ℕ) (old new : Device) (u v : Unpacking) (a b : S) (piece : List ℕ) (e : Refusal) → HasGiven old new piece → new.interruptions ≡ old.interruptions → CountsFor e.cause (failures a) (failures b)
-    → v.refused ≡ Some e.octet → ((more : List story.StoryEvent) × goes a more b × ((p : List ℕ) (n : ℕ) → Stands u p n → IsRefusedIn (limits_in u) p n piece more e)) → WasRefused goes failures old new u v a b e
-piece_refused goes failures old new u v a b piece e given still counts refused (more, told, refuses) = record {
-  octets = piece;
-  more = more;
-  came = record { given = given; told = told; patience = omega (arith, still) };
-  counts = counts;
-  refused = refused;
-  refuses = λ p n at.
-      let is = refuses p n at in
-      record { k = is.k; within = is.within; fault = is.fault; refusal = is.refusal; adds = λ text t. (is.added, is.adds text t, is.delivers); refuses = is.refuses };
-}
+  pub piece_done : {u v : Unpacking} {used : ℕ} (last : ℕ) → rest ≡ drop last held → last ≤ length piece → used ≡ raised 0 last → limits_in v ≡ limits_in u
+      → ((more : List story.StoryEvent) × goes a more b × ((p : List ℕ) (n : ℕ) → Stands u p n → Goes v p n piece more (Done last)))
+      → WasDone goes (with_held held d) (with_held rest d) u v a b used
+  piece_done {v = v} last drops fit count limits (more, told, onward) =
+      let len : length (take last piece) ≡ last = length-take-le last piece fit in
+      record {
+        octets = take last piece;
+        more = more;
+        came = record { given = line_front last held rest piece d same drops; told = told; patience = omega arith };
+        limits = limits;
+        counts = count ∙ ap (raised 0) (sym len);
+        done = λ p n at.
+            let (fits, then_, adds) = onward p n at in
+            (subst (λ k. IsDoneWith v (p ++ take last piece) (raised n k)) (sym len) then_, adds);
+      }
+
+  pub piece_refused : {u v : Unpacking} (failures : S → ℕ) (n : ℕ) (e : Refusal) → n ≡ length held → rest ≡ drop n held
+      → CountsFor e.cause (failures a) (failures b) → v.refused ≡ Some e.octet
+      → ((more : List story.StoryEvent) × goes a more b × ((p : List ℕ) (n : ℕ) → Stands u p n → IsRefusedIn (limits_in u) p n piece more e))
+      → WasRefused goes failures (with_held held d) (with_held rest d) u v a b e
+  piece_refused failures n e all drops counts refused (more, told, refuses) = record {
+    octets = piece;
+    more = more;
+    came = came_whole n all drops told;
+    counts = counts;
+    refused = refused;
+    refuses = λ p n at.
+        let is = refuses p n at in
+        record { k = is.k; within = is.within; fault = is.fault; refusal = is.refusal; adds = λ text t. (is.added, is.adds text t, is.delivers); refuses = is.refuses };
+  }
 
 -- ---- one piece, after a read
 
@@ -113,8 +157,10 @@ came_read : {S : Type 0} {goes : S → List story.StoryEvent → S → Type 0} {
 came_read {old = old} {mid = mid} {new = new} {octets = octets} joins none limit still came =
     record { given = joins.more old mid new [] octets none came.given; told = came.told; patience = omega (arith, came.patience, limit, still) }
 
-pub read_and_fed : {S : Type 0} (goes : S → List story.StoryEvent → S → Type 0) (old mid new : Device) (u v : Unpacking) (a b : S) → GiftsJoin → HasGiven old mid [] → WithinInterruptionLimit 1 old mid → new.interruptions ≡ mid.interruptions → (fed : Fed)
-    → FedPiece goes (mid, u, a) (new, v, b) fed → FedPiece goes (old, u, a) (new, v, b) fed
+pub read_and_fed : {S : Type 0} (goes : S → List story.StoryEvent → S → Type 0) (old mid new : Device) (u v : Unpacking) (a b : S) → GiftsJoin
+    → HasGiven old mid []
+    → WithinInterruptionLimit 1 old mid → new.interruptions ≡ mid.interruptions → (fed : Fed) → FedPiece goes (mid, u, a) (new, v, b) fed
+    → FedPiece goes (old, u, a) (new, v, b) fed
 read_and_fed goes old mid new u v a b joins none limit still (piece.More used) (some, ready, h) =
     let patience : WithinInterruptionLimit (length h.octets) old new = omega (arith, limit, still, some, h.counts) in
     let came = came_read joins none limit still h.came in
@@ -126,44 +172,50 @@ read_and_fed goes old mid new u v a b joins none limit still piece.End (same, h)
   record { given = joins.more old mid new [] [] none h.given; at_end = h.at_end; patience = omega (arith, limit, still); still = h.still; none = h.none },
 )
 
-pub read_and_refused : {R S : Type 0} (goes : S → List story.StoryEvent → S → Type 0) (failures : S → ℕ) (state : R → Device) (old mid new : Intake R) (u v : Unpacking) (a b : S) → GiftsJoin → HasGiven (in_line state old) (in_line state mid) []
-    → WithinInterruptionLimit 1 (in_line state old) (in_line state mid) → (state new.reader).interruptions ≡ (state mid.reader).interruptions → (fault : IntakeFault) → IsRefusedPiece goes failures state (mid, u, a) (new, v, b) fault
+pub read_and_refused : {R S : Type 0} (goes : S → List story.StoryEvent → S → Type 0) (failures : S → ℕ) (state : R → Device) (old mid new : Intake R)
+    {u v : Unpacking} {a b : S}
+    → GiftsJoin → HasGiven (in_line state old) (in_line state mid) [] → WithinInterruptionLimit 1 (in_line state old) (in_line state mid)
+    → (state new.reader).interruptions ≡ (state mid.reader).interruptions → (fault : IntakeFault)
+    → ((e : Refusal) × (fault ≡ Refused e) × (new.failed ≡ Some e.octet) × WasRefused goes failures (in_line state mid) (in_line state new) u v a b e)
     → GivesNothing goes failures state (old, u, a) (new, v, b) fault
-read_and_refused goes failures state old mid new u v a b joins none limit still fault (e, is, failed, h) =
+read_and_refused goes failures state old mid new {u} {v} {a} {b} joins none limit still fault (e, is, failed, h) =
     let came = came_read joins none limit still h.came in
     let was : WasRefused goes failures (in_line state old) (in_line state new) u v a b e =
     record { octets = h.octets; more = h.more; came = came; counts = h.counts; refused = h.refused; refuses = h.refuses } in
-    (e.octet, failed, subst (λ (f : IntakeFault). Faults goes failures (in_line state old) (in_line state new) u v a b e.octet f) (sym is) (refl, inl was))
+    (e.octet, failed, rw is (refl, inl was))
 
 -- ---- nothing came
 
-pub none_truncated : {S : Type 0} (goes : S → List story.StoryEvent → S → Type 0) (failures : S → ℕ) (old new : Device) (u : Unpacking) (a : S) (e : Refusal) → u.octets < 2 ^ 64 → goes a [] a → HasGiven old new [] → WithinInterruptionLimit 1 old new → IsAtEnd new.octets
-    → ((p : List ℕ) (n : ℕ) → Stands u p n → (p ≡ [] → ⊥) × IsTruncatedAt p n e) → WasTruncated goes failures old new u u a a e
-none_truncated goes failures old new u a e low nothing given limit end is = record {
-  octets = [];
-  more = [];
-  came = record { given = given; told = nothing; patience = limit };
-  at_end = end;
-  calm = refl;
-  limits = refl;
-  stands = stands_still u low;
-  truncated = λ p n at.
-      let here = (stands_still u low p n at).0 in
-      let (some, truncated) = is (p ++ []) (raised n 0) here in
-      record { is_open = here.is_open; some = some; adds = adds_none p; truncated = truncated };
-}
+module _ {S : Type 0} (goes : S → List story.StoryEvent → S → Type 0) (failures : S → ℕ) (old new : Device) (u : Unpacking) (a : S) (low : u.octets < 2 ^ 64)
+    (nothing : goes a [] a) (limit : WithinInterruptionLimit 1 old new) where
+  pub none_truncated : (e : Refusal) → HasGiven old new [] → IsAtEnd new.octets → ((p : List ℕ) (n : ℕ) → Stands u p n → (p ≡ [] → ⊥) × IsTruncatedAt p n e)
+      → WasTruncated goes failures old new u u a a e
+  none_truncated e given end is = record {
+    octets = [];
+    more = [];
+    came = record { given = given; told = nothing; patience = limit };
+    at_end = end;
+    calm = refl;
+    limits = refl;
+    stands = stands_still u low;
+    truncated = λ p n at.
+        let here = (stands_still u low p n at).0 in
+        let (some, truncated) = is (p ++ []) (raised n 0) here in
+        record { is_open = here.is_open; some = some; adds = adds_none p; truncated = truncated };
+  }
 
-pub none_missed : {S : Type 0} (goes : S → List story.StoryEvent → S → Type 0) (failures : S → ℕ) (old new : Device) (u : Unpacking) (a : S) (kept : ℕ) (fault : IoFault) (answer : IntakeFault) → u.octets < 2 ^ 64 → goes a [] a
-    → MissedAfter old new [] fault → WithinInterruptionLimit 1 old new → kept ≡ u.octets → answer ≡ read_fault fault → Faults goes failures old new u u a a kept answer
-none_missed goes failures old new u a kept fault answer low nothing missed limit counts is =
-    let still = stands_still u low in
-    let was : WasMissed goes failures old new u u a a kept fault =
-    record { octets = []; more = []; missed = missed; patience = limit; told = nothing; calm = refl; counts = counts; limits = refl; stands = still } in
-    subst (λ (x : IntakeFault). Faults goes failures old new u u a a kept x) (sym is) (by fault was)
-  where
-    by : (f : IoFault) → WasMissed goes failures old new u u a a kept f → Faults goes failures old new u u a a kept (read_fault f)
-    by io.Failed was = was
-    by io.Interrupted was = was
+  pub none_missed : (fault : IoFault) (kept : ℕ) (answer : IntakeFault) → MissedAfter old new [] fault → kept ≡ u.octets → answer ≡ read_fault fault
+      → Faults goes failures old new u u a a kept answer
+  none_missed fault kept answer missed counts is = rw is (by fault missed)
+    where
+      was : (f : IoFault) → MissedAfter old new [] f → WasMissed goes failures old new u u a a kept f
+      was f missed =
+          let still = stands_still u low in
+          record { octets = []; more = []; missed = missed; patience = limit; told = nothing; calm = refl; counts = counts; limits = refl; stands = still }
+
+      by : (f : IoFault) → MissedAfter old new [] f → Faults goes failures old new u u a a kept (read_fault f)
+      by io.Failed missed = was io.Failed missed
+      by io.Interrupted missed = was io.Interrupted missed
 
 -- ---- the end of feeding
 
@@ -209,77 +261,87 @@ given_by done' parts = record {
 
 -- ---- pieces, one after another
 
-pub fed_none : {S : Type 0} (goes : S → List story.StoryEvent → S → Type 0) → GiftsJoin → (d : Device) (u : Unpacking) (a : S) → u.octets < 2 ^ 64 → goes a [] a → HasFed goes d d u u a a 0
-fed_none goes joins d u a low nothing = record { octets = []; more = []; came = record { given = joins.none d; told = nothing; patience = omega arith }; patience = omega arith; counts = refl; limits = refl; stands = stands_still u low }
+pub fed_none : {S : Type 0} (goes : S → List story.StoryEvent → S → Type 0) → GiftsJoin → (d : Device) (u : Unpacking) (a : S) → u.octets < 2 ^ 64 → goes a [] a
+    → HasFed goes d d u u a a 0
+fed_none goes joins d u a low nothing =
+    let came : Came goes d d a a [] [] = record { given = joins.none d; told = nothing; patience = omega arith } in
+    record { octets = []; more = []; came = came; patience = omega arith; counts = refl; limits = refl; stands = stands_still u low }
 
--- the sink was told nothing in between
-pub fed_on : {S : Type 0} {goes : S → List story.StoryEvent → S → Type 0} {old new : Device} {u v : Unpacking} {a b c : S} {used : ℕ} → Joined goes → HasFed goes old new u v a b used → goes b [] c → HasFed goes old new u v a c used
-fed_on {goes = goes} {a = a} {b = b} {c = c} joined fed still = record {
-  octets = fed.octets;
-  more = fed.more;
-  came = record { given = fed.came.given; told = subst (λ (es : List story.StoryEvent). goes a es c) (append-nil fed.more) (joined a b c fed.more [] fed.came.told still); patience = fed.came.patience };
-  patience = fed.patience;
-  counts = fed.counts;
-  limits = fed.limits;
-  stands = fed.stands;
-}
-
-counts_then : (used k now : ℕ) (xs ys : List ℕ) → used ≡ raised 0 (length xs) → k ≡ raised 0 (length ys) → now ≡ raised used k → now ≡ raised 0 (length (xs ++ ys))
-counts_then used k now xs ys was more is = omega (arith, was, more, is, length-append xs ys)
-
-stands_then : DeliveryMayBeCut → (u v w : Unpacking) (xs ys : List ℕ) (first more : List story.StoryEvent) → StandsOn u v xs first → StandsOn v w ys more → StandsOn u w (xs ++ ys) (first ++ more)
-stands_then cut u v w xs ys first more one two p n at =
+stands_then : DeliveryMayBeCut → {u v w : Unpacking} (xs ys : List ℕ) (first more : List story.StoryEvent) → StandsOn u v xs first → StandsOn v w ys more
+    → StandsOn u w (xs ++ ys) (first ++ more)
+stands_then cut {w = w} xs ys first more one two p n at =
     let (there, adds) = one p n at in
     let (then_, adds') = two (p ++ xs) (raised n (length xs)) there in
-    (on_all xs ys p n (λ q k. Stands w q k) then_, adds_more cut p xs ys first more adds adds')
+    (on_all xs ys p n (Stands w) then_, adds_more cut p xs ys first more adds adds')
 
-pub fed_then : {S : Type 0} {goes : S → List story.StoryEvent → S → Type 0} {old mid new : Device} {u v w : Unpacking} {a b c : S} {used k now : ℕ} → Joined goes → GiftsJoin → DeliveryMayBeCut
-    → HasFed goes old mid u v a b used → HasFed goes mid new v w b c k → now ≡ raised used k → HasFed goes old new u w a c now
-fed_then {old = old} {mid = mid} {new = new} {u = u} {v = v} {w = w} {a = a} {b = b} {c = c} {used = used} {k = k} {now = now} joined joins cut one two is = record {
-  octets = one.octets ++ two.octets;
-  more = one.more ++ two.more;
-  came = record { given = joins.more old mid new one.octets two.octets one.came.given two.came.given; told = joined a b c one.more two.more one.came.told two.came.told; patience = omega (arith, one.patience, two.patience, length-append one.octets two.octets) };
-  patience = omega (arith, one.patience, two.patience, length-append one.octets two.octets);
-  counts = counts_then used k now one.octets two.octets one.counts two.counts is;
-  limits = two.limits ∙ one.limits;
-  stands = stands_then cut u v w one.octets two.octets one.more two.more one.stands two.stands;
-}
+module _ {S : Type 0} {goes : S → List story.StoryEvent → S → Type 0} where
+  -- the sink was told nothing in between
+  pub fed_on : {old new : Device} {u v : Unpacking} {a b c : S} {used : ℕ} → Joined goes → HasFed goes old new u v a b used → goes b [] c
+      → HasFed goes old new u v a c used
+  fed_on {a = a} {b = b} {c = c} joined fed still = record {
+    octets = fed.octets;
+    more = fed.more;
+    came = record { given = fed.came.given; told = rw append-nil at (joined a b c fed.more [] fed.came.told still); patience = fed.came.patience };
+    patience = fed.patience;
+    counts = fed.counts;
+    limits = fed.limits;
+    stands = fed.stands;
+  }
 
-pub fed_and_done : {S : Type 0} {goes : S → List story.StoryEvent → S → Type 0} {old mid new : Device} {u v w : Unpacking} {a b c : S} {used k now : ℕ} → Joined goes → GiftsJoin → DeliveryMayBeCut
-    → HasFed goes old mid u v a b used → WasDone goes mid new v w b c k → now ≡ raised used k → WasDone goes old new u w a c now
-fed_and_done {old = old} {mid = mid} {new = new} {u = u} {v = v} {w = w} {a = a} {b = b} {c = c} {used = used} {k = k} {now = now} joined joins cut one two is = record {
-  octets = one.octets ++ two.octets;
-  more = one.more ++ two.more;
-  came = record { given = joins.more old mid new one.octets two.octets one.came.given two.came.given; told = joined a b c one.more two.more one.came.told two.came.told; patience = omega (arith, one.patience, two.came.patience, length-append one.octets two.octets) };
-  limits = two.limits ∙ one.limits;
-  counts = counts_then used k now one.octets two.octets one.counts two.counts is;
-  done = λ p n at.
-      let (there, adds) = one.stands p n at in
-      let (then_, adds') = two.done (p ++ one.octets) (raised n (length one.octets)) there in
-      (on_all one.octets two.octets p n (λ q k. IsDoneWith w q k) then_, adds_more cut p one.octets two.octets one.more two.more adds adds');
-}
+  -- octets came after those that were fed
+  came_then : {old mid new : Device} {u v : Unpacking} {a b c : S} {used : ℕ} {octets : List ℕ} {more : List story.StoryEvent} → Joined goes → GiftsJoin
+      → (one : HasFed goes old mid u v a b used) → Came goes mid new b c octets more → Came goes old new a c (one.octets ++ octets) (one.more ++ more)
+  came_then {old} {mid} {new} {a = a} {b = b} {c = c} {octets = octets} {more = more} joined joins one two = record {
+    given = joins.more old mid new one.octets octets one.came.given two.given;
+    told = joined a b c one.more more one.came.told two.told;
+    patience = omega (arith, one.patience, two.patience, length-append one.octets octets);
+  }
 
--- the unpacker stands on no octets, so none came
-pub fed_nothing : {S : Type 0} {goes : S → List story.StoryEvent → S → Type 0} {old mid new : Device} {u v : Unpacking} {a b c : S} {used : ℕ} (fed : HasFed goes old mid u v a b used) (p : List ℕ) (n : ℕ) → Stands u p n
-    → WasEnded mid new v b c → fed.octets ≡ []
-fed_nothing fed p n at ended =
-    (nothing_of_two p fed.octets (ended.none (p ++ fed.octets) (raised n (length fed.octets)) (fed.stands p n at).0)).1
+  pub fed_then : {old mid new : Device} {u v w : Unpacking} {a b c : S} {used k now : ℕ} → Joined goes → GiftsJoin → DeliveryMayBeCut
+      → HasFed goes old mid u v a b used → HasFed goes mid new v w b c k → now ≡ raised used k → HasFed goes old new u w a c now
+  fed_then joined joins cut one two is = record {
+    octets = one.octets ++ two.octets;
+    more = one.more ++ two.more;
+    came = came_then joined joins one two.came;
+    patience = omega (arith, one.patience, two.patience, length-append one.octets two.octets);
+    counts = omega (arith, one.counts, two.counts, is, length-append one.octets two.octets);
+    limits = two.limits ∙ one.limits;
+    stands = stands_then cut one.octets two.octets one.more two.more one.stands two.stands;
+  }
 
-pub fed_and_ended : {S : Type 0} {goes : S → List story.StoryEvent → S → Type 0} {old mid new : Device} {u v : Unpacking} (w : Unpacking) {a b c : S} {used : ℕ} → GiftsJoin → (one : HasFed goes old mid u v a b used)
-    → (one.octets ≡ [] → LeftAs u a v b) → (w ≡ v) × WasEnded mid new v b c → (p : List ℕ) (n : ℕ) → Stands u p n → (w ≡ u) × WasEnded old new u a c
-fed_and_ended {old = old} {mid = mid} {new = new} w joins one left (as_then, ended) p n at =
-    let empty : one.octets ≡ [] = fed_nothing one p n at ended in
-    let same = left empty in (
-      as_then ∙ same.0,
-      record {
-        given = subst (λ (ys : List ℕ). HasGiven old new ys) empty
-            (subst (λ (ys : List ℕ). HasGiven old new ys) (append-nil one.octets) (joins.more old mid new one.octets [] one.came.given ended.given));
-        at_end = ended.at_end;
-        patience = omega (arith, one.patience, ended.patience, ap length empty);
-        still = ended.still ∙ same.1;
-        none = λ q k is. (nothing_of_two q one.octets (ended.none (q ++ one.octets) (raised k (length one.octets)) (one.stands q k is).0)).0;
-      },
-    )
+  pub fed_and_done : {old mid new : Device} {u v w : Unpacking} {a b c : S} {used k now : ℕ} → Joined goes → GiftsJoin → DeliveryMayBeCut
+      → HasFed goes old mid u v a b used → WasDone goes mid new v w b c k → now ≡ raised used k → WasDone goes old new u w a c now
+  fed_and_done {w = w} joined joins cut one two is = record {
+    octets = one.octets ++ two.octets;
+    more = one.more ++ two.more;
+    came = came_then joined joins one two.came;
+    limits = two.limits ∙ one.limits;
+    counts = omega (arith, one.counts, two.counts, is, length-append one.octets two.octets);
+    done = λ p n at.
+        let (there, adds) = one.stands p n at in
+        let (then_, adds') = two.done (p ++ one.octets) (raised n (length one.octets)) there in
+        (on_all one.octets two.octets p n (IsDoneWith w) then_, adds_more cut p one.octets two.octets one.more two.more adds adds');
+  }
+
+  -- the unpacker stands on no octets, so none came
+  pub fed_nothing : {old mid new : Device} {u v : Unpacking} {a b c : S} {used : ℕ} (fed : HasFed goes old mid u v a b used) (p : List ℕ) (n : ℕ) → Stands u p n
+      → WasEnded mid new v b c → fed.octets ≡ []
+  fed_nothing fed p n at ended = (nothing_of_two p fed.octets (ended.none (p ++ fed.octets) (raised n (length fed.octets)) (fed.stands p n at).0)).1
+
+  pub fed_and_ended : {old mid new : Device} {u v : Unpacking} (w : Unpacking) {a b c : S} {used : ℕ} → GiftsJoin → (one : HasFed goes old mid u v a b used)
+      → (one.octets ≡ [] → LeftAs u a v b) → (w ≡ v) × WasEnded mid new v b c → (p : List ℕ) (n : ℕ) → Stands u p n → (w ≡ u) × WasEnded old new u a c
+  fed_and_ended {old} {mid} {new} w joins one left (as_then, ended) p n at =
+      let empty : one.octets ≡ [] = fed_nothing one p n at ended in
+      let same = left empty in (
+        as_then ∙ same.0,
+        record {
+          given = subst (HasGiven old new) (append-nil one.octets ∙ empty) (joins.more old mid new one.octets [] one.came.given ended.given);
+          at_end = ended.at_end;
+          patience = omega (arith, one.patience, ended.patience, ap length empty);
+          still = ended.still ∙ same.1;
+          none = λ q k is. (nothing_of_two q one.octets (ended.none (q ++ one.octets) (raised k (length one.octets)) (one.stands q k is).0)).0;
+        },
+      )
 
 refused_then : DeliveryMayBeCut → (limits : Limits) (p : List ℕ) (n : ℕ) (xs ys : List ℕ) (first more : List story.StoryEvent) (e : Refusal) → Delivers p xs first
     → IsRefusedOf limits (p ++ xs) (raised n (length xs)) ys more e → IsRefusedOf limits p n (xs ++ ys) (first ++ more) e
@@ -303,86 +365,90 @@ truncated_then cut limits p n xs ys first more e adds is = record {
   truncated = on_all xs ys p n (λ q k. IsTruncatedAt q k e) is.truncated;
 }
 
-missed_then : {S : Type 0} {goes : S → List story.StoryEvent → S → Type 0} {failures : S → ℕ} {old mid new : Device} {u v w : Unpacking} {a b c : S} {used kept : ℕ} → Joined goes → DeliveryMayBeCut → (fault : IoFault)
-    → HasFed goes old mid u v a b used → failures b ≡ failures a → WasMissed goes failures mid new v w b c kept fault → WasMissed goes failures old new u w a c kept fault
-missed_then {old = old} {mid = mid} {new = new} {u = u} {v = v} {w = w} {a = a} {b = b} {c = c} joined cut fault one calm was = record {
-  octets = one.octets ++ was.octets;
-  more = one.more ++ was.more;
-  missed = (
-    consumes_consumes old.octets mid.octets new.octets one.octets was.octets one.came.given.0 was.missed.0,
-    broke_for_later old mid new fault one.came.given.1 was.missed.1,
-  );
-  patience = omega (arith, one.patience, was.patience, length-append one.octets was.octets);
-  told = joined a b c one.more was.more one.came.told was.told;
-  calm = was.calm ∙ calm;
-  counts = was.counts;
-  limits = was.limits ∙ one.limits;
-  stands = stands_then cut u v w one.octets was.octets one.more was.more one.stands was.stands;
-}
+module _ {S : Type 0} {goes : S → List story.StoryEvent → S → Type 0} {old mid : Device} {u v : Unpacking} {a b : S} {used : ℕ} (failures : S → ℕ)
+    (joined : Joined goes)
+    (joins : GiftsJoin) (cut : DeliveryMayBeCut) (new : Device) (w : Unpacking) (c : S) (kept : ℕ) where
+  missed_then : (fault : IoFault) → HasFed goes old mid u v a b used → failures b ≡ failures a → WasMissed goes failures mid new v w b c kept fault
+      → WasMissed goes failures old new u w a c kept fault
+  missed_then fault one calm was = record {
+    octets = one.octets ++ was.octets;
+    more = one.more ++ was.more;
+    missed = (
+      consumes_consumes old.octets mid.octets new.octets one.octets was.octets one.came.given.0 was.missed.0,
+      broke_for_later old mid new fault one.came.given.1 was.missed.1,
+    );
+    patience = omega (arith, one.patience, was.patience, length-append one.octets was.octets);
+    told = joined a b c one.more was.more one.came.told was.told;
+    calm = was.calm ∙ calm;
+    counts = was.counts;
+    limits = was.limits ∙ one.limits;
+    stands = stands_then cut one.octets was.octets one.more was.more one.stands was.stands;
+  }
+
+  pub fed_and_faults : (fault : IntakeFault) → HasFed goes old mid u v a b used → failures b ≡ failures a → Faults goes failures mid new v w b c kept fault
+      → Faults goes failures old new u w a c kept fault
+  fed_and_faults (Refused e) one calm (is, inl was) = (
+    is,
+    inl (record {
+      octets = one.octets ++ was.octets;
+      more = one.more ++ was.more;
+      came = came_then joined joins one was.came;
+      counts = subst (λ k. CountsFor e.cause k (failures c)) calm was.counts;
+      refused = was.refused;
+      refuses = λ p n at.
+          let (there, adds) = one.stands p n at in
+          subst (λ (l : Limits). IsRefusedOf l p n (one.octets ++ was.octets) (one.more ++ was.more) e) one.limits
+          (refused_then cut (limits_in v) p n one.octets was.octets one.more was.more e adds (was.refuses (p ++ one.octets) (raised n (length one.octets)) there));
+    }),
+  )
+  fed_and_faults (Refused e) one calm (is, inr was) = (
+    is,
+    inr (record {
+      octets = one.octets ++ was.octets;
+      more = one.more ++ was.more;
+      came = came_then joined joins one was.came;
+      at_end = was.at_end;
+      calm = was.calm ∙ calm;
+      limits = was.limits ∙ one.limits;
+      stands = stands_then cut one.octets was.octets one.more was.more one.stands was.stands;
+      truncated = λ p n at.
+          let (there, adds) = one.stands p n at in
+          subst (λ (l : Limits). IsTruncatedIn l p n (one.octets ++ was.octets) (one.more ++ was.more) e) one.limits
+          (truncated_then cut (limits_in v) p n one.octets was.octets one.more was.more e adds (was.truncated (p ++ one.octets) (raised n (length one.octets)) there));
+    }),
+  )
+  fed_and_faults Read one calm was = missed_then io.Failed one calm was
+  fed_and_faults Interrupted one calm was = missed_then io.Interrupted one calm was
 
 -- octets on which the unpacker stood are open, and it counts them
-pub missed_open : {S : Type 0} (goes : S → List story.StoryEvent → S → Type 0) (failures : S → ℕ) (old new : Device) (u v : Unpacking) (a b : S) (kept : ℕ) (fault : IoFault) → (was : WasMissed goes failures old new u v a b kept fault)
-    → (p : List ℕ) (n : ℕ) → Stands u p n → IsOpen (limits_in u) (p ++ was.octets) × Delivers p was.octets was.more × (kept ≡ raised n (length was.octets))
+pub missed_open : {S : Type 0} (goes : S → List story.StoryEvent → S → Type 0) (failures : S → ℕ) (old new : Device) (u v : Unpacking) (a b : S) (kept : ℕ)
+    (fault : IoFault)
+    → (was : WasMissed goes failures old new u v a b kept fault) → (p : List ℕ) (n : ℕ) → Stands u p n
+    → IsOpen (limits_in u) (p ++ was.octets) × Delivers p was.octets was.more × (kept ≡ raised n (length was.octets))
 missed_open goes failures old new u v a b kept fault was p n at =
     let (there, adds) = was.stands p n at in
     (subst (λ (l : Limits). IsOpen l (p ++ was.octets)) was.limits there.is_open, adds, was.counts ∙ there.counts)
 
-pub fed_and_faults : {S : Type 0} {goes : S → List story.StoryEvent → S → Type 0} {old mid : Device} {u v : Unpacking} {a b : S} {used : ℕ} (failures : S → ℕ) → Joined goes → GiftsJoin → DeliveryMayBeCut → (new : Device) (w : Unpacking) (c : S) (kept : ℕ) (fault : IntakeFault)
-    → HasFed goes old mid u v a b used → failures b ≡ failures a → Faults goes failures mid new v w b c kept fault → Faults goes failures old new u w a c kept fault
-fed_and_faults {old = old} {mid = mid} {u = u} {v = v} {a = a} {b = b} failures joined joins cut new w c kept (Refused e) one calm (is, inl was) = (
-  is,
-  inl (record {
-    octets = one.octets ++ was.octets;
-    more = one.more ++ was.more;
-    came = record { given = joins.more old mid new one.octets was.octets one.came.given was.came.given; told = joined a b c one.more was.more one.came.told was.came.told; patience = omega (arith, one.patience, was.came.patience, length-append one.octets was.octets) };
-    counts = subst (λ k. CountsFor e.cause k (failures c)) calm was.counts;
-    refused = was.refused;
-    refuses = λ p n at.
-        let (there, adds) = one.stands p n at in
-        subst (λ (l : Limits). IsRefusedOf l p n (one.octets ++ was.octets) (one.more ++ was.more) e) one.limits
-        (refused_then cut (limits_in v) p n one.octets was.octets one.more was.more e adds (was.refuses (p ++ one.octets) (raised n (length one.octets)) there));
-  }),
-)
-fed_and_faults {old = old} {mid = mid} {u = u} {v = v} {a = a} {b = b} failures joined joins cut new w c kept (Refused e) one calm (is, inr was) = (
-  is,
-  inr (record {
-    octets = one.octets ++ was.octets;
-    more = one.more ++ was.more;
-    came = record { given = joins.more old mid new one.octets was.octets one.came.given was.came.given; told = joined a b c one.more was.more one.came.told was.came.told; patience = omega (arith, one.patience, was.came.patience, length-append one.octets was.octets) };
-    at_end = was.at_end;
-    calm = was.calm ∙ calm;
-    limits = was.limits ∙ one.limits;
-    stands = stands_then cut u v w one.octets was.octets one.more was.more one.stands was.stands;
-    truncated = λ p n at.
-        let (there, adds) = one.stands p n at in
-        subst (λ (l : Limits). IsTruncatedIn l p n (one.octets ++ was.octets) (one.more ++ was.more) e) one.limits
-        (truncated_then cut (limits_in v) p n one.octets was.octets one.more was.more e adds (was.truncated (p ++ one.octets) (raised n (length one.octets)) there));
-  }),
-)
-fed_and_faults failures joined joins cut new w c kept Read one calm was =
-    missed_then joined cut io.Failed one calm was
-fed_and_faults failures joined joins cut new w c kept Interrupted one calm was =
-    missed_then joined cut io.Interrupted one calm was
+module _ {S : Type 0} {goes : S → List story.StoryEvent → S → Type 0} {old new : Device} {u v : Unpacking} {a b : S} {used : ℕ} where
+  -- some octets came
+  pub some_came : 0 < used → (fed : HasFed goes old new u v a b used) → fed.octets ≡ [] → ⊥
+  some_came some fed none = absurd (omega (arith, some, fed.counts, ap length none))
 
--- some octets came
-pub some_came : {S : Type 0} {goes : S → List story.StoryEvent → S → Type 0} {old new : Device} {u v : Unpacking} {a b : S} {used : ℕ} → 0 < used → (fed : HasFed goes old new u v a b used) → fed.octets ≡ [] → ⊥
-some_came some fed none = absurd (omega (arith, some, fed.counts, ap length none))
+  pub fed_few : OpenOctetsAreBounded → HasFed goes old new u v a b used → (limits_in v).octets < 2 ^ 32 → (limits_in v).fields < 2 ^ 32
+      → (p : List ℕ) (n : ℕ) → Stands u p n → used < 2 ^ 64 - 1
+  fed_few law fed low few p n at =
+      omega (arith, fed.counts, length-append p fed.octets, law (limits_in v) (p ++ fed.octets) low few (fed.stands p n at).0.is_open)
 
-pub fed_few : {S : Type 0} {goes : S → List story.StoryEvent → S → Type 0} {old mid : Device} {u v : Unpacking} {a b : S} {used : ℕ} → OpenOctetsAreBounded → HasFed goes old mid u v a b used
-    → (limits_in v).octets < 2 ^ 32 → (limits_in v).fields < 2 ^ 32 → (p : List ℕ) (n : ℕ) → Stands u p n → used < 2 ^ 64 - 1
-fed_few {v = v} law fed low few p n at =
-    omega (arith, fed.counts, length-append p fed.octets, law (limits_in v) (p ++ fed.octets) low few (fed.stands p n at).0.is_open)
+  -- what the answer of a piece says
+  pub more_of : {fed : Fed} → fed ≡ piece.More used → FedPiece goes (old, u, a) (new, v, b) fed → (0 < used) × IsReady v × HasFed goes old new u v a b used
+  more_of is f = subst (λ (x : Fed). FedPiece goes (old, u, a) (new, v, b) x) is f
 
--- what the answer of a piece says
-pub more_of : {S : Type 0} {goes : S → List story.StoryEvent → S → Type 0} {old new : Device} {u v : Unpacking} {a b : S} {used : ℕ} {fed : Fed} → fed ≡ piece.More used → FedPiece goes (old, u, a) (new, v, b) fed
-    → (0 < used) × IsReady v × HasFed goes old new u v a b used
-more_of {goes = goes} {old = old} {new = new} {u = u} {v = v} {a = a} {b = b} is f = subst (λ (x : Fed). FedPiece goes (old, u, a) (new, v, b) x) is f
+  pub done_of : {fed : Fed} → fed ≡ piece.Done used → FedPiece goes (old, u, a) (new, v, b) fed → WasDone goes old new u v a b used
+  done_of is f = subst (λ (x : Fed). FedPiece goes (old, u, a) (new, v, b) x) is f
 
-pub done_of : {S : Type 0} {goes : S → List story.StoryEvent → S → Type 0} {old new : Device} {u v : Unpacking} {a b : S} {used : ℕ} {fed : Fed} → fed ≡ piece.Done used → FedPiece goes (old, u, a) (new, v, b) fed → WasDone goes old new u v a b used
-done_of {goes = goes} {old = old} {new = new} {u = u} {v = v} {a = a} {b = b} is f = subst (λ (x : Fed). FedPiece goes (old, u, a) (new, v, b) x) is f
-
-pub end_of : {S : Type 0} (goes : S → List story.StoryEvent → S → Type 0) {old new : Device} {u : Unpacking} (v : Unpacking) {a b : S} {fed : Fed} → fed ≡ piece.End → FedPiece goes (old, u, a) (new, v, b) fed → (v ≡ u) × WasEnded old new u a b
-end_of goes {old = old} {new = new} {u = u} v {a = a} {b = b} is f = subst (λ (x : Fed). FedPiece goes (old, u, a) (new, v, b) x) is f
+pub end_of : {S : Type 0} (goes : S → List story.StoryEvent → S → Type 0) {old new : Device} {u : Unpacking} (v : Unpacking) {a b : S} {fed : Fed}
+    → fed ≡ piece.End → FedPiece goes (old, u, a) (new, v, b) fed → (v ≡ u) × WasEnded old new u a b
+end_of goes {old} {new} {u} v {a} {b} is f = subst (λ (x : Fed). FedPiece goes (old, u, a) (new, v, b) x) is f
 
 pub raised_on : (used k now : ℕ) → 0 < k → now ≡ raised used k → 0 < now
 raised_on used k now some is = omega (arith, some, is)

@@ -1,27 +1,25 @@
 -- What an unpacker says of a stream that comes in pieces.
-use Rattle.iim_unpack.proofs.Words.{◌≡◌, ℕ, ◌+◌, ◌-◌, ◌^◌, ◌<◌, ◌≤◌, ◌⊎◌, List, [], ◌∷◌, ◌++◌, length, take, drop, get_or, slice_index, Option, Some, None}
-use Rattle.iim_unpack.proofs.Words.{Ok, Err, Bor, refl, ap, sym, subst, ◌∙◌, inl, inr, arith, append_assoc, length-append, get_or-append-add, length-take-le}
-use Rattle.iim_unpack.proofs.Words.{take-append-drop, flat_map-append, take-append-add, InTag, Limits, DeliveryMayBeCut, text_so_far, Value, object_of}
-use Rattle.iim_unpack.proofs.Words.{StreamsHaveOneAnswer, LowerLaws, IsTurnedDown, HasFedPieces, refusal_at, Answer, Answers, Finished, Truncated}
-use Rattle.iim_unpack.proofs.Words.{IsEnvelopeWithin, IsFinished, Unpacking, Stands, IsDone, IsDoneWith, Goes, IsRefusedIn, limits_in, Done, Progress, raised}
-use Rattle.iim_unpack.proofs.Words.{IsOpen, Delivers, IsTruncatedAt, HasParts, Unpacked, Refusal, CountsFor, Cause, reads_envelope}
-use Rattle.std.proofs.Common.{Result, IfErr, append-nil}
+use Rattle.iim_unpack.proofs.Words.{Answer, Answers, Bor, Cause, CountsFor, Delivers, DeliveryMayBeCut, Done, Err, Finished, Goes, HasFedPieces, HasParts}
+use Rattle.iim_unpack.proofs.Words.{InTag, IsDone, IsDoneWith, IsEnvelopeWithin, IsFinished, IsOpen, IsRefusedIn, IsTruncatedAt, IsTurnedDown, Limits, List}
+use Rattle.iim_unpack.proofs.Words.{LowerLaws, More, None, Ok, Option, PlaceLaws, Progress, Refusal, Refused, Result, Some, Stands, StreamsHaveOneAnswer}
+use Rattle.iim_unpack.proofs.Words.{Truncated, Unpacked, Unpacking, Value, [], ap, append-nil, append_assoc, arith, drop, flat_map-append, get_or}
+use Rattle.iim_unpack.proofs.Words.{get_or-append-add, inl, inr, length, length-append, length-take-le, limits_in, object_of, raised, reads_envelope, refl}
+use Rattle.iim_unpack.proofs.Words.{refusal_at, slice_index, stream_of, subst, sym, take, take-append-add, take-append-drop, text_so_far, ℕ, ◌++◌, ◌+◌, ◌-◌}
+use Rattle.iim_unpack.proofs.Words.{◌<◌, ◌^◌, ◌∙◌, ◌∷◌, ◌≡◌, ◌≤◌, ◌⊎◌}
+use Rattle.std.proofs.Common.{IfErr}
 use Rattle.std.proofs.lemmas.List.{get_or_append_left, take-append-le, take_more}
 use Rattle.std.specs.Result.{IsErrAnd}
 use Rattle.wire_story.specs.Format.Delivery as story
 use Rattle.wire_story.specs.Laws.{TextsAreDeliveredAsLines}
 use Rattle.wire_message.specs.declared.place.Place.TheVariants.{AfterEnd}
 use Rattle.iim_places.specs.Format.Admitted.{Admits}
-use Rattle.iim_places.specs.Laws.{PlaceLaws}
-use Rattle.iim_unpack.specs.Format.Pieces.{stream_of, IsUnpacked, IsAnswer}
+use Rattle.iim_unpack.specs.Format.Pieces.{IsAnswer, IsUnpacked}
 use Rattle.iim_unpack.specs.IntakeSteps.{DoneIn}
-use Rattle.iim_places.specs.Format.Streams.{Refused}
-use Rattle.iim_unpack.specs.States.Unpacking.{More}
 use Rattle.iim_places.specs.declared.refusal.Cause.TheVariants.{Message}
 use Rattle.wire_message.specs.declared.fault.MessageCause.TheVariants.{Sink}
 use Rattle.iim_places.proofs.Answering.{leads_to, no_text}
 use Rattle.iim_unpack.proofs.Feeding.{one_text}
-use Rattle.iim_unpack.proofs.Intakes.{Joined, adds_more, told_truncated, not_told}
+use Rattle.iim_unpack.proofs.Intakes.{Joined, adds_more, not_told, told_truncated}
 
 -- The limits are numbers of 32 bits.
 pub record AreLow (limits : Limits) : Type 0 where
@@ -31,92 +29,107 @@ pub record AreLow (limits : Limits) : Type 0 where
 exact : (n k : ℕ) → n + k < 2 ^ 64 - 1 → raised n k ≡ n + k
 exact n k less = omega (arith, less)
 
--- ---- a piece that was taken
+module _ {S : Type 0} {goes : S → List story.StoryEvent → S → Type 0} (joined : Joined goes) (cut : DeliveryMayBeCut) (laws : PlaceLaws) {limits : Limits}
+    (low : AreLow limits) (o piece : List ℕ) where
+  -- ---- a piece that was taken
 
--- the unpacker stood, and stands on the piece too
-on_more : (laws : PlaceLaws) (limits : Limits) → AreLow limits → (v : Unpacking) (o piece : List ℕ) → limits_in v ≡ limits → Stands v (o ++ piece) (raised (length o) (length piece)) → Stands v (o ++ piece) (length (o ++ piece))
-on_more laws limits low v o piece same at =
-    let is_open : IsOpen limits (o ++ piece) = subst (λ (l : Limits). IsOpen l (o ++ piece)) same at.is_open in
-    let less = laws.open_octets_are_bounded limits (o ++ piece) low.octets low.fields is_open in
-    let sum = length-append o piece in
-    subst (Stands v (o ++ piece)) (exact (length o) (length piece) (omega (arith, less, sum)) ∙ sym sum) at
+  -- the unpacker stood, and stands on the piece too
+  on_more : {v : Unpacking} → limits_in v ≡ limits → Stands v (o ++ piece) (raised (length o) (length piece)) → Stands v (o ++ piece) (length (o ++ piece))
+  on_more {v} same at =
+      let less = laws.open_octets_are_bounded limits (o ++ piece) low.octets low.fields (subst (λ (l : Limits). IsOpen l (o ++ piece)) same at.is_open) in
+      let sum = length-append o piece in
+      subst (Stands v (o ++ piece)) (exact (length o) (length piece) (omega (arith, less, sum)) ∙ sym sum) at
 
--- or it is done with a front of it
-on_done : DeliveryMayBeCut → (laws : PlaceLaws) (limits : Limits) → AreLow limits → (v : Unpacking) (o piece : List ℕ) (more next : List story.StoryEvent) (used : ℕ) → limits_in v ≡ limits → used ≤ length piece
-    → IsDoneWith v (o ++ take used piece) (raised (length o) used) → Delivers [] o more → Delivers o (take used piece) next → DoneIn v (o ++ piece) (more ++ next)
-on_done cut laws limits low v o piece more next used same fits done before adds =
-    let within : IsEnvelopeWithin limits (o ++ take used piece) done.value =
-    subst (λ (l : Limits). IsEnvelopeWithin l (o ++ take used piece) done.value) same (record { admits = done.admits; within = done.within }) in
-    let less = laws.envelopes_are_bounded limits (o ++ take used piece) done.value low.octets low.fields within in
-    let front : take (length o + used) (o ++ piece) ≡ o ++ take used piece = take-append-add o piece used in
-    let sum : length (o ++ take used piece) ≡ length o + used = length-append o (take used piece) ∙ ap (λ (n : ℕ). length o + n) (length-take-le used piece fits) in
-    record {
-      used = length o + used;
-      fits = omega (arith, fits, length-append o piece);
-      done = subst (λ (x : List ℕ). IsDoneWith v x (length o + used)) (sym front) (subst (IsDoneWith v (o ++ take used piece)) (exact (length o) used (omega (arith, less, sum))) done);
-      adds = subst (λ (x : List ℕ). Delivers [] x (more ++ next)) (sym front) (adds_more cut [] o (take used piece) more next before adds);
-    }
-
-pub tells_parts_on : {S : Type 0} (goes : S → List story.StoryEvent → S → Type 0) → Joined goes → DeliveryMayBeCut → PlaceLaws → (limits : Limits) → AreLow limits → (u v : Unpacking) (a b c : S) (o piece : List ℕ) (progress : Progress) → HasFedPieces goes limits u a b o
-    → limits_in v ≡ limits → ((more : List story.StoryEvent) × goes b more c × ((p : List ℕ) (n : ℕ) → Stands u p n → Goes v p n piece more progress))
-    → (DoneIn' : (used : ℕ) → used ≤ length o → IsDoneWith u (take used o) used → (v ≡ u) × (c ≡ b)) → HasFedPieces goes limits v a c (o ++ piece)
-tells_parts_on {S = S} goes joined cut laws limits low u v a b c o piece progress fed same step done' = by fed.stood
-  where
-    by_progress : (q : Progress) → Stands u o (length o) → Delivers [] o fed.more → Goes v o (length o) piece step.0 q
-        → (Stands v (o ++ piece) (length (o ++ piece)) × Delivers [] (o ++ piece) (fed.more ++ step.0)) ⊎ DoneIn v (o ++ piece) (fed.more ++ step.0)
-    by_progress More at adds there = inl (on_more laws limits low v o piece same there.0, adds_more cut [] o piece fed.more step.0 adds there.1)
-    by_progress (Done used) at adds there = inr (on_done cut laws limits low v o piece fed.more step.0 used same there.0 there.1 adds there.2)
-
-    by : (Stands u o (length o) × Delivers [] o fed.more) ⊎ DoneIn u o fed.more → HasFedPieces goes limits v a c (o ++ piece)
-    by (inl (at, adds)) =
-        let stood = by_progress progress at adds (step.2 o (length o) at) in
-        record { limits_are = same; more = fed.more ++ step.0; told = joined a b c fed.more step.0 fed.told step.1; stood = stood }
-    by (inr d) =
-        let still = done' d.used d.fits d.done in
-        let front : take d.used (o ++ piece) ≡ take d.used o = take-append-le d.used o piece d.fits in
-        record {
-          limits_are = same;
-          more = fed.more;
-          told = subst (λ (s : S). goes a fed.more s) (sym still.1) fed.told;
-          stood = inr (record {
-            used = d.used;
-            fits = let fits = d.fits in omega (arith, fits, length-append o piece);
-            done = subst (λ (w : Unpacking). IsDoneWith w (take d.used (o ++ piece)) d.used) (sym still.0) (subst (λ (x : List ℕ). IsDoneWith u x d.used) (sym front) d.done);
-            adds = subst (λ (x : List ℕ). Delivers [] x fed.more) (sym front) d.adds;
-          });
-        }
-
--- ---- a piece of which an octet is refused
-
-refused_there : (laws : PlaceLaws) (limits : Limits) → AreLow limits → (o piece rest : List ℕ) (next : List story.StoryEvent) (e : Refusal) → (r : IsRefusedIn limits o (length o) piece next e)
-    → e.octet ≡ length o + r.k
-refused_there laws limits low o piece rest next e r =
-    let within = r.within in
-    let is_open = laws.refused_octets_were_open limits (o ++ take r.k piece) (slice_index piece r.k) r.fault r.refuses in
-    let less = laws.open_octets_are_bounded limits (o ++ take r.k piece) low.octets low.fields is_open in
-    let sum : length (o ++ take r.k piece) ≡ length o + r.k = length-append o (take r.k piece) ∙ ap (λ (n : ℕ). length o + n) (length-take-le r.k piece (omega (arith, within))) in
-    ap (λ (x : Refusal). x.octet) r.refusal ∙ exact (length o) r.k (omega (arith, less, sum))
-
-pub was_refused : {S : Type 0} (goes : S → List story.StoryEvent → S → Type 0) → Joined goes → DeliveryMayBeCut → PlaceLaws → (limits : Limits) → AreLow limits → (a b c : S) (o piece rest : List ℕ) (more next : List story.StoryEvent) (e : Refusal)
-    → goes a more b → goes b next c → Delivers [] o more → IsRefusedIn limits o (length o) piece next e → IsTurnedDown goes limits (o ++ (piece ++ rest)) a c e
-was_refused goes joined cut laws limits low a b c o piece rest more next e told then' adds r =
-    let within = r.within in
-    let stream : List ℕ = o ++ (piece ++ rest) in
-    let at = refused_there laws limits low o piece rest next e r in
-    let front : take e.octet stream ≡ o ++ take r.k piece =
-    ap (λ (n : ℕ). take n stream) at ∙ take-append-add o (piece ++ rest) r.k ∙ ap (λ (x : List ℕ). o ++ x) (take-append-le r.k piece rest (omega (arith, within))) in
-    let octet : slice_index stream e.octet ≡ slice_index piece r.k =
-    ap (slice_index stream) at ∙ get_or-append-add o (piece ++ rest) r.k 0 ∙ get_or_append_left piece rest 0 r.k within in
-    let delivered : Delivers o (take r.k piece) next = λ text is. (r.added, r.adds text is, r.delivers) in
-    inl (
+  -- or it is done with a front of it
+  on_done : {v : Unpacking} (more next : List story.StoryEvent) (used : ℕ) → limits_in v ≡ limits → used ≤ length piece
+      → IsDoneWith v (o ++ take used piece) (raised (length o) used) → Delivers [] o more → Delivers o (take used piece) next → DoneIn v (o ++ piece) (more ++ next)
+  on_done {v} more next used same fits done before adds =
+      let within : IsEnvelopeWithin limits (o ++ take used piece) done.value =
+      subst (λ (l : Limits). IsEnvelopeWithin l (o ++ take used piece) done.value) same (record { admits = done.admits; within = done.within }) in
+      let less = laws.envelopes_are_bounded limits (o ++ take used piece) done.value low.octets low.fields within in
+      let sum = length-append o (take used piece) ∙ ap (λ (n : ℕ). length o + n) (length-take-le used piece fits) in
+      let there = subst (IsDoneWith v (o ++ take used piece)) (exact (length o) used (omega (arith, less, sum))) done in
       record {
-        fits = omega (arith, within, at, length-append o (piece ++ rest), length-append piece rest);
-        fault = r.fault;
-        refusal = r.refusal ∙ ap (λ (n : ℕ). refusal_at n r.fault) (sym (ap (λ (x : Refusal). x.octet) r.refusal));
-        refuses = rw (front, octet) r.refuses;
-      },
-      (more ++ next, joined a b c more next told then', subst (λ (x : List ℕ). Delivers [] x (more ++ next)) (sym front) (adds_more cut [] o (take r.k piece) more next adds delivered)),
-    )
+        used = length o + used;
+        fits = omega (arith, fits, length-append o piece);
+        done = rw (take-append-add o piece used) there;
+        adds = rw (take-append-add o piece used) (adds_more cut [] o (take used piece) more next before adds);
+      }
+
+  pub feeds_on : {u v : Unpacking} {a b c : S} (progress : Progress) → HasFedPieces goes limits u a b o → limits_in v ≡ limits
+      → ((more : List story.StoryEvent) × goes b more c × ((p : List ℕ) (n : ℕ) → Stands u p n → Goes v p n piece more progress))
+      → ((used : ℕ) → used ≤ length o → IsDoneWith u (take used o) used → (v ≡ u) × (c ≡ b)) → HasFedPieces goes limits v a c (o ++ piece)
+  feeds_on {u} {v} {a} {b} {c} progress fed same step done' = by fed.stood
+    where
+      answered : (q : Progress) → Stands u o (length o) → Delivers [] o fed.more → Goes v o (length o) piece step.0 q
+          → (Stands v (o ++ piece) (length (o ++ piece)) × Delivers [] (o ++ piece) (fed.more ++ step.0)) ⊎ DoneIn v (o ++ piece) (fed.more ++ step.0)
+      answered More at adds there = inl (on_more same there.0, adds_more cut [] o piece fed.more step.0 adds there.1)
+      answered (Done used) at adds there = inr (on_done fed.more step.0 used same there.0 there.1 adds there.2)
+
+      by : (Stands u o (length o) × Delivers [] o fed.more) ⊎ DoneIn u o fed.more → HasFedPieces goes limits v a c (o ++ piece)
+      by (inl (at, adds)) = record {
+        limits_are = same;
+        more = fed.more ++ step.0;
+        told = joined a b c fed.more step.0 fed.told step.1;
+        stood = answered progress at adds (step.2 o (length o) at);
+      }
+      by (inr d) =
+          let still = done' d.used d.fits d.done in
+          let front : take d.used (o ++ piece) ≡ take d.used o = take-append-le d.used o piece d.fits in
+          record {
+            limits_are = same;
+            more = fed.more;
+            told = rw still.1 fed.told;
+            stood = inr (record {
+              used = d.used;
+              fits = let fits = d.fits in omega (arith, fits, length-append o piece);
+              done = rw (still.0, front) d.done;
+              adds = rw front d.adds;
+            });
+          }
+
+  -- ---- a piece of which an octet is refused
+
+  refused_there : {next : List story.StoryEvent} {e : Refusal} → (r : IsRefusedIn limits o (length o) piece next e) → e.octet ≡ length o + r.k
+  refused_there r =
+      let front : List ℕ = o ++ take r.k piece in
+      let within = r.within in
+      let is_open = laws.refused_octets_were_open limits front (slice_index piece r.k) r.fault r.refuses in
+      let less = laws.open_octets_are_bounded limits front low.octets low.fields is_open in
+      let sum = length-append o (take r.k piece) ∙ ap (λ (n : ℕ). length o + n) (length-take-le r.k piece (omega (arith, within))) in
+      ap (λ (x : Refusal). x.octet) r.refusal ∙ exact (length o) r.k (omega (arith, less, sum))
+
+  was_refused : {a b c : S} (rest : List ℕ) (more next : List story.StoryEvent) {e : Refusal} → goes a more b → goes b next c → Delivers [] o more
+      → IsRefusedIn limits o (length o) piece next e → IsTurnedDown goes limits (o ++ (piece ++ rest)) a c e
+  was_refused {a} {b} {c} rest more next {e} told then' adds r =
+      let within = r.within in
+      let stream : List ℕ = o ++ (piece ++ rest) in
+      let at = refused_there r in
+      let front : take e.octet stream ≡ o ++ take r.k piece =
+      ap (λ (n : ℕ). take n stream) at ∙ take-append-add o (piece ++ rest) r.k ∙ ap (λ (x : List ℕ). o ++ x) (take-append-le r.k piece rest (omega (arith, within))) in
+      let octet : slice_index stream e.octet ≡ slice_index piece r.k =
+      ap (slice_index stream) at ∙ get_or-append-add o (piece ++ rest) r.k 0 ∙ get_or_append_left piece rest 0 r.k within in
+      let delivered : Delivers o (take r.k piece) next = λ text is. (r.added, r.adds text is, r.delivers) in
+      inl (
+        record {
+          fits = omega (arith, within, at, length-append o (piece ++ rest), length-append piece rest);
+          fault = r.fault;
+          refusal = r.refusal ∙ ap (λ (n : ℕ). refusal_at n r.fault) (sym (ap (λ (x : Refusal). x.octet) r.refusal));
+          refuses = rw (front, octet) r.refuses;
+        },
+        (more ++ next, joined a b c more next told then', rw front (adds_more cut [] o (take r.k piece) more next adds delivered)),
+      )
+
+  -- the answer of feeding it
+  pub turned_down : {u : Unpacking} {a b c : S} (rest : List ℕ) {answer : Result Progress Refusal} {e : Refusal} → HasFedPieces goes limits u a b o
+      → answer ≡ Err e → ((more : List story.StoryEvent) × goes b more c × ((p : List ℕ) (n : ℕ) → Stands u p n → IsRefusedIn (limits_in u) p n piece more e))
+      → (IsDone u → answer ≡ Ok (Done 0)) → IsTurnedDown goes limits (o ++ (piece ++ rest)) a c e
+  turned_down rest {answer} {e} fed is step done' = elim fed.stood [
+    | inl (at, adds) ↦
+        was_refused rest fed.more step.0 fed.told step.1 adds
+        (subst (λ (l : Limits). IsRefusedIn l o (length o) piece step.0 e) fed.limits_are (step.2 o (length o) at))
+    | inr d ↦ absurd (let bad : Err e ≡ Ok (Done 0) = sym is ∙ done' (d.done.taking, d.done.ended) in cc)
+  ]
 
 -- ---- the end
 
@@ -128,24 +141,28 @@ lines_of laws delivered octets v more a adds =
     let same : added ≡ text_so_far (object_of a.datasets) = one_text laws octets added (text_so_far (object_of a.datasets)) is (a.datasets, InTag [], reads_envelope octets v a, refl) in
     told ∙ ap story.delivered (same ∙ sym text) ∙ delivered a.text v.lines a.lines
 
--- an unpacker that is done with a front of the stream
-pub is_unpacked : {S : Type 0} (goes : S → List story.StoryEvent → S → Type 0) → LowerLaws → TextsAreDeliveredAsLines → (limits : Limits) (v : Unpacking) (a b : S) (stream : List ℕ) (more : List story.StoryEvent) (got : Unpacked) (used : ℕ)
-    → limits_in v ≡ limits → goes a more b → (d : DoneIn v stream more) → ((p : List ℕ) (n : ℕ) → IsDoneWith v p n → (w : Value) → Admits p w → HasParts got w) → used ≡ v.octets → IsUnpacked goes limits stream a b got used
-is_unpacked goes laws delivered limits v a b stream more got used same told d value counts =
+-- what is known of an unpacker that is done with a front of the stream
+pub record Finishes {S : Type 0} (goes : S → List story.StoryEvent → S → Type 0) (v : Unpacking) (a b : S) (stream : List ℕ) : Type 0 where
+  pub more : List story.StoryEvent
+  pub told : goes a more b
+  pub done : DoneIn v stream more
+
+pub is_unpacked : {S : Type 0} (goes : S → List story.StoryEvent → S → Type 0) → LowerLaws → TextsAreDeliveredAsLines
+    → {limits : Limits} {v : Unpacking} (a b : S)
+    {stream : List ℕ} {got : Unpacked} {used : ℕ} → limits_in v ≡ limits → (f : Finishes goes v a b stream)
+    → ((p : List ℕ) (n : ℕ) → IsDoneWith v p n → (w : Value) → Admits p w → HasParts got w) → used ≡ v.octets → IsUnpacked goes limits stream a b got used
+is_unpacked goes laws delivered {limits} {v} a b {stream} {got} {used} same f value counts =
+    let d = f.done in
+    let front : List ℕ = take d.used stream in
     let is : used ≡ d.used = counts ∙ d.done.counts in
-    let within : IsEnvelopeWithin limits (take d.used stream) d.done.value =
-    subst (λ (l : Limits). IsEnvelopeWithin l (take d.used stream) d.done.value) same (record { admits = d.done.admits; within = d.done.within }) in
+    let within : IsEnvelopeWithin limits front d.done.value =
+    subst (λ (l : Limits). IsEnvelopeWithin l front d.done.value) same (record { admits = d.done.admits; within = d.done.within }) in
     record {
       value = d.done.value;
       finished = subst (λ (n : ℕ). IsFinished limits stream n d.done.value) (sym is) (record { fits = d.fits; envelope = within });
-      parts = value (take d.used stream) d.used d.done d.done.value d.done.admits;
-      told = subst (λ (es : List story.StoryEvent). goes a es b) (lines_of laws delivered (take d.used stream) d.done.value more d.done.admits d.adds) told;
+      parts = value front d.used d.done d.done.value d.done.admits;
+      told = subst (λ (es : List story.StoryEvent). goes a es b) (lines_of laws delivered front d.done.value f.more d.done.admits d.adds) f.told;
     }
-
-pub cut_short : {S : Type 0} (goes : S → List story.StoryEvent → S → Type 0) → (limits : Limits) (v : Unpacking) (a b : S) (stream : List ℕ) (more : List story.StoryEvent) (e : Refusal) → limits_in v ≡ limits → goes a more b
-    → Stands v stream (length stream) → Delivers [] stream more → IsTruncatedAt stream (length stream) e → IsTurnedDown goes limits stream a b e
-cut_short goes limits v a b stream more e same told at adds truncated =
-    inr (record { is_open = subst (λ (l : Limits). IsOpen l stream) same at.is_open; refusal = truncated }, (more, told, adds))
 
 -- ---- pieces, one after another
 
@@ -158,64 +175,56 @@ stream_rest ps k d less =
     ap stream_of (sym (take-append-drop (k + 1) ps)) ∙ flat_map-append (λ (p : Bor (List ℕ)). p.now) (take (k + 1) ps) (drop (k + 1) ps)
     ∙ ap (λ (x : List ℕ). x ++ stream_of (drop (k + 1) ps)) (stream_step ps k d less) ∙ append_assoc (stream_of (take k ps)) (get_or ps k d).now (stream_of (drop (k + 1) ps))
 
-pub still_taking : {S : Type 0} (goes : S → List story.StoryEvent → S → Type 0) (limits : Limits) (u : Unpacking) (a b : S) (o : List ℕ) → HasFedPieces goes limits u a b o → u.refused ≡ None
-still_taking goes limits u a b o fed = elim fed.stood [ inl at ↦ at.0.taking | inr d ↦ d.done.taking ]
-
--- the answer of feeding a piece of which an octet is refused
-pub turned_down : {S : Type 0} (goes : S → List story.StoryEvent → S → Type 0) → Joined goes → DeliveryMayBeCut → PlaceLaws → (limits : Limits) → AreLow limits → (u : Unpacking) (a b c : S) (o piece rest : List ℕ) (answer : Result Progress Refusal) (e : Refusal)
-    → HasFedPieces goes limits u a b o → answer ≡ Err e → ((more : List story.StoryEvent) × goes b more c × ((p : List ℕ) (n : ℕ) → Stands u p n → IsRefusedIn (limits_in u) p n piece more e))
-    → (IsDone u → answer ≡ Ok (Done 0)) → IsTurnedDown goes limits (o ++ (piece ++ rest)) a c e
-turned_down goes joined cut laws limits low u a b c o piece rest answer e fed is step done' =
-    elim fed.stood [
-      | inl (at, adds) ↦
-          was_refused goes joined cut laws limits low a b c o piece rest fed.more step.0 e fed.told step.1 adds
-          (subst (λ (l : Limits). IsRefusedIn l o (length o) piece step.0 e) fed.limits_are (step.2 o (length o) at))
-      | inr d ↦ absurd (let bad : Err e ≡ Ok (Done 0) = sym is ∙ done' (d.done.taking, d.done.ended) in cc)
-    ]
+pub still_taking : {S : Type 0} {goes : S → List story.StoryEvent → S → Type 0} {limits : Limits} {u : Unpacking} {a b : S} {o : List ℕ}
+    → HasFedPieces goes limits u a b o → u.refused ≡ None
+still_taking fed = elim fed.stood [ inl at ↦ at.0.taking | inr d ↦ d.done.taking ]
 
 -- ---- the answer of a stream
 
-pub only_down : {S : Type 0} (goes : S → List story.StoryEvent → S → Type 0) → StreamsHaveOneAnswer → (limits : Limits) (stream : List ℕ) (a b : S) (e : Refusal) → IsTurnedDown goes limits stream a b e → (answer : Answer) → Answers limits stream answer
-    → (e.cause ≡ Message Sink → ⊥) → IsAnswer (Err e) answer
-only_down goes one limits stream a b e (inl (refused, told)) answer is other = subst (λ (x : Answer). IsAnswer (Err e) x) (one limits stream (Refused e) answer (refused, other) is) refl
-only_down goes one limits stream a b e (inr (short, told)) answer is other = subst (λ (x : Answer). IsAnswer (Err e) x) (one limits stream (Truncated e) answer short is) refl
+module _ {S : Type 0} (goes : S → List story.StoryEvent → S → Type 0) (one : StreamsHaveOneAnswer) {limits : Limits} {stream : List ℕ} {a b : S} where
+  pub only_down : {e : Refusal} → IsTurnedDown goes limits stream a b e → (answer : Answer) → Answers limits stream answer → (e.cause ≡ Message Sink → ⊥)
+      → IsAnswer (Err e) answer
+  only_down {e} (inl (refused, told)) answer is other = rw (← one limits stream (Refused e) answer (refused, other) is) refl
+  only_down {e} (inr (short, told)) answer is other = rw (← one limits stream (Truncated e) answer short is) refl
 
-pub only_up : {S : Type 0} (goes : S → List story.StoryEvent → S → Type 0) → StreamsHaveOneAnswer → (limits : Limits) (stream : List ℕ) (a b : S) (got : Unpacked) (used : ℕ) → IsUnpacked goes limits stream a b got used → (answer : Answer) → Answers limits stream answer
-    → IsAnswer (Ok (got, used)) answer
-only_up goes one limits stream a b got used up answer is = subst (λ (x : Answer). IsAnswer (Ok (got, used)) x) (one limits stream (Finished used up.value) answer up.finished is) (up.parts, refl)
+  pub only_up : {got : Unpacked} {used : ℕ} → IsUnpacked goes limits stream a b got used → (answer : Answer) → Answers limits stream answer
+      → IsAnswer (Ok (got, used)) answer
+  only_up {got} {used} up answer is =
+      subst (λ (x : Answer). IsAnswer (Ok (got, used)) x) (one limits stream (Finished used up.value) answer up.finished is) (up.parts, refl)
 
-pub only_on : (limits : Limits) (stream : List ℕ) (r : Result (Unpacked × ℕ) Refusal) (e : Refusal) → IsErrAnd r (λ x. x ≡ e) → ((answer : Answer) → Answers limits stream answer → (e.cause ≡ Message Sink → ⊥) → IsAnswer (Err e) answer)
+pub only_on : (limits : Limits) (stream : List ℕ) (r : Result (Unpacked × ℕ) Refusal) (e : Refusal) → IsErrAnd r (λ x. x ≡ e)
+    → ((answer : Answer) → Answers limits stream answer → (e.cause ≡ Message Sink → ⊥) → IsAnswer (Err e) answer)
     → (answer : Answer) → Answers limits stream answer → IfErr r (λ x. x.cause ≡ Message Sink → ⊥) → IsAnswer r answer
 only_on limits stream (Ok got) e is only answer answers other = absurd is
 only_on limits stream (Err f) e is only answer answers other =
     subst (λ (x : Refusal). IsAnswer (Err x) answer) (sym is) (only answer answers (subst (λ (x : Refusal). x.cause ≡ Message Sink → ⊥) is other))
 
-pub ends_short : {S : Type 0} (goes : S → List story.StoryEvent → S → Type 0) → (limits : Limits) (v : Unpacking) (a b : S) (stream : List ℕ) (answer : Option Refusal) (e : Refusal) → HasFedPieces goes limits v a b stream → answer ≡ Some e
-    → ((p : List ℕ) (n : ℕ) → Stands v p n → (f : Refusal) × (answer ≡ Some f) × IsTruncatedAt p n f) → (IsDone v → answer ≡ None) → IsTurnedDown goes limits stream a b e
-ends_short goes limits v a b stream answer e fed is truncated done' = elim fed.stood [
-  | inl (at, adds) ↦
-      cut_short goes limits v a b stream fed.more e fed.limits_are fed.told at adds (told_truncated stream (length stream) answer e is (truncated stream (length stream) at))
-  | inr d ↦ absurd (let bad : Some e ≡ None = sym is ∙ done' (d.done.taking, d.done.ended) in cc)
-]
+-- what is missing at the end, after all pieces
+module _ {S : Type 0} {goes : S → List story.StoryEvent → S → Type 0} {limits : Limits} {v : Unpacking} {a b : S} {stream : List ℕ} {answer : Option Refusal}
+    (fed : HasFedPieces goes limits v a b stream) (truncated : (p : List ℕ) (n : ℕ) → Stands v p n → (f : Refusal) × (answer ≡ Some f) × IsTruncatedAt p n f)
+    where
+  -- where the envelope has ended, nothing is
+  not_done : {e : Refusal} → answer ≡ Some e → (IsDone v → answer ≡ None) → DoneIn v stream fed.more → ⊥
+  not_done {e} is done' d = let bad : Some e ≡ None = sym is ∙ done' (d.done.taking, d.done.ended) in cc
 
--- what is known of an unpacker that is done with a front of the stream
-pub record Finishes {S : Type 0} (goes : S → List story.StoryEvent → S → Type 0) (v : Unpacking) (a b : S) (stream : List ℕ) : Type 0 where
-  pub more : List story.StoryEvent
-  pub told : goes a more b
-  pub done : DoneIn v stream more
+  pub ends_short : {e : Refusal} → answer ≡ Some e → (IsDone v → answer ≡ None) → IsTurnedDown goes limits stream a b e
+  ends_short {e} is done' = elim fed.stood [
+    | inl (at, adds) ↦
+        let t = told_truncated stream (length stream) answer e is (truncated stream (length stream) at) in
+        inr (record { is_open = subst (λ (l : Limits). IsOpen l stream) fed.limits_are at.is_open; refusal = t }, (fed.more, fed.told, adds))
+    | inr d ↦ absurd (not_done is done' d)
+  ]
 
-pub ends_done : {S : Type 0} (goes : S → List story.StoryEvent → S → Type 0) → (limits : Limits) (v : Unpacking) (a b : S) (stream : List ℕ) (answer : Option Refusal) → HasFedPieces goes limits v a b stream → answer ≡ None
-    → ((p : List ℕ) (n : ℕ) → Stands v p n → (f : Refusal) × (answer ≡ Some f) × IsTruncatedAt p n f) → Finishes goes v a b stream
-ends_done goes limits v a b stream answer fed is truncated = elim fed.stood [
-  | inl (at, adds) ↦ absurd (not_told answer stream (length stream) is (truncated stream (length stream) at))
-  | inr d ↦ record { more = fed.more; told = fed.told; done = d }
-]
+  pub short_counts : {e : Refusal} {old new : ℕ} → answer ≡ Some e → (IsDone v → answer ≡ None) → new ≡ old → CountsFor e.cause old new
+  short_counts {e} {old} {new} is done' calm = elim fed.stood [
+    | inl (at, adds) ↦
+        let t = told_truncated stream (length stream) answer e is (truncated stream (length stream) at) in
+        subst (λ (x : Cause). CountsFor x old new) (sym (ap (λ (x : Refusal). x.cause) t.refusal)) calm
+    | inr d ↦ absurd (not_done is done' d)
+  ]
 
-pub short_counts : {S : Type 0} (goes : S → List story.StoryEvent → S → Type 0) → (limits : Limits) (v : Unpacking) (a b : S) (stream : List ℕ) (answer : Option Refusal) (e : Refusal) (old new : ℕ) → HasFedPieces goes limits v a b stream → answer ≡ Some e
-    → ((p : List ℕ) (n : ℕ) → Stands v p n → (f : Refusal) × (answer ≡ Some f) × IsTruncatedAt p n f) → (IsDone v → answer ≡ None) → new ≡ old → CountsFor e.cause old new
-short_counts goes limits v a b stream answer e old new fed is truncated done' calm = elim fed.stood [
-  | inl (at, adds) ↦
-      let t = told_truncated stream (length stream) answer e is (truncated stream (length stream) at) in
-      subst (λ (x : Cause). CountsFor x old new) (sym (ap (λ (x : Refusal). x.cause) t.refusal)) calm
-  | inr d ↦ absurd (let bad : Some e ≡ None = sym is ∙ done' (d.done.taking, d.done.ended) in cc)
-]
+  pub ends_done : answer ≡ None → Finishes goes v a b stream
+  ends_done is = elim fed.stood [
+    | inl (at, adds) ↦ absurd (not_told answer stream (length stream) is (truncated stream (length stream) at))
+    | inr d ↦ record { more = fed.more; told = fed.told; done = d }
+  ]

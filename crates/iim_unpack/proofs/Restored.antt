@@ -1,34 +1,47 @@
 -- Readers that were made for a possible place stand at all octets that lead there, and an unpacker that is made of them is sound.
-use Rattle.iim_unpack.proofs.Words.{◌+◌, ◌≡◌, ℕ, ◌<◌, nat_eq, if◌then◌else◌, true, false, List, [], length, refl, ap, sym, subst, ◌∙◌, arith, ◌⊎◌, inl, inr}
-use Rattle.iim_unpack.proofs.Words.{None, Octets, Dataset, of_record, count_octets, Begun, InTag, InData, Reads, IsKeptAs, between, to_come, Head}
-use Rattle.iim_unpack.proofs.Words.{DatasetPlace, SectionsLiveAt, kept, section_after, Limits, head_alive, place_after_datasets, numbers_of, stated_numbers}
-use Rattle.iim_unpack.proofs.Words.{Sizes, text_so_far, LeadsToSaved, MessagePlace, Value, object_of, object_so_far, IsOpen, AreAfter, Within, StandsFor}
-use Rattle.iim_unpack.proofs.Words.{IsMadeFor, IsEnvelopeWithin, place_of, CanContinue, CanContinueAt, MayContinue, Unpacking, Stands, IsDoneWith, limits_in}
-use Rattle.iim_unpack.proofs.Words.{reads_envelope, alive_of, sections_last, opened, fields_after, fields_in, some_read, stated_after_all, count_of}
-use Rattle.iim_unpack.proofs.Words.{LowerLaws, ne_eqb, true≢false, Tag, Inside, Takes, HasEnded, Split}
-use Rattle.std.proofs.Common.{IsSome}
-use Rattle.iim_dataset.specs.States.Events.{handed_on}
+use Rattle.iim_unpack.proofs.Words.{AreAfter, AreBetween, Begun, CanContinue, CanContinueAt, Dataset, DatasetPlace, FieldsPlace, Head, InData, InTag, Inside}
+use Rattle.iim_unpack.proofs.Words.{IsDoneWith, IsEnvelopeWithin, IsKeptAs, IsOpen, IsRestored, IsSome, IsUnpacking, LeadsToSaved, Limits, List, LowerLaws}
+use Rattle.iim_unpack.proofs.Words.{MayContinue, MessagePlace, None, Octets, Parts, Place, PlaceLaws, Reads, SectionsLiveAt, Sizes, Split, Stands, StandsFor}
+use Rattle.iim_unpack.proofs.Words.{Tag, Takes, TakesCalls, Unpacking, Value, Within, [], alive_of, ap, arith, between, count_octets, count_of, false}
+use Rattle.iim_unpack.proofs.Words.{fields_after, fields_in, handed_on, has_ended, head_alive, heads_within, if◌then◌else◌, inl, inr, kept, length, limits_in}
+use Rattle.iim_unpack.proofs.Words.{limits_of, nat_eq, ne_eqb, numbers_of, object_of, object_so_far, of_record, one_reading, opened, place_after_datasets}
+use Rattle.iim_unpack.proofs.Words.{place_of, reads_envelope, refl, section_after, sections_last, some_read, stated_after_all, stated_numbers, subst, sym}
+use Rattle.iim_unpack.proofs.Words.{text_so_far, ticket_at, to_come, true, true≢false, ℕ, ◌+◌, ◌<◌, ◌∙◌, ◌≡◌, ◌⊎◌}
 use Rattle.iim_fields.specs.States.Standing as records
 use Rattle.iim_object.specs.Format.Places.{NotEnded}
-use Rattle.iim_places.specs.States.ByLayers.{LeadsByLayers, RecordsLive, record_datasets, one_of_some}
-use Rattle.iim_unpack.specs.States.Parts.{has_ended, Parts}
-use Rattle.iim_places.specs.States.PlainDatasets.{plain}
-use Rattle.iim_unpack.specs.Restoring.{ReadersMakeUnpackers}
-use Rattle.iim_places.specs.States.Readers.{RecordsStand, AreAt, FieldsStand}
-use Rattle.iim_places.specs.Format.Tickets.{Place, IsPlaceOf}
-use Rattle.iim_places.proofs.Answering.{one_reading, goes_envelope}
-use Rattle.iim_unpack.proofs.Ended.{ended_by_record, unended_inside}
+use Rattle.iim_places.specs.States.ByLayers.{LeadsByLayers, RecordsLive, one_of_some, record_datasets}
+use Rattle.iim_places.specs.States.PlainDatasets.{Numbers, plain}
+use Rattle.iim_places.specs.States.Readers.{AreAtIn, FieldsStand, MessageStands, ObjectStands, RecordsStand, has_come, tag_place}
+use Rattle.iim_places.specs.Format.Tickets.{IsPlaceOf}
+use Rattle.iim_places.proofs.Answering.{goes_envelope}
+use Rattle.iim_unpack.proofs.Sequences.{ended_by_record, reached, unended_inside}
 use Rattle.iim_unpack.proofs.Feeding.{TellsSizes, done_by}
 use Rattle.iim_places.proofs.Plain.{present_ended}
-use Rattle.iim_places.proofs.ByLayers.{whole_at, begun_same}
+use Rattle.iim_places.proofs.ByLayers.{begun_same, whole_at}
 use Rattle.iim_places.proofs.PlainSizes.{possible_of}
 use Rattle.iim_places.specs.Laws.{LimitsAreToldByPlace}
-use Rattle.iim_places.proofs.ReadersAt.{like, ended_reader, text_led, TagPhase, base_tag, live_tag, stand_tag, present_tag, object_tag, ending_tag, object_data, keeps, come, between_tag}
+use Rattle.iim_places.specs.Format.TicketForm.{SplitsTicket}
+use Rattle.iim_fields.specs.Format.Bounds.{IsWithin}
+use Rattle.iim_places.proofs.ReadersAt.{TagPhase, base_tag, between_tag, come, ended_reader, ending_tag, keeps, like, live_tag, object_data, object_tag}
+use Rattle.iim_places.proofs.ReadersAt.{present_tag, stand_tag, text_led}
 use Rattle.iim_object.specs.Laws.{ReadersTellSizes}
-use Rattle.iim_places.specs.States.Possible.{AreOpenOrWhole}
+use Rattle.iim_places.specs.States.Possible.{AreHeadsWithin, AreOpenOrWhole}
+use Rattle.iim_places.specs.States.Restored.{IsTicketAt}
 use Rattle.iim_places.specs.declared.ticket.possible.Readers.{Readers}
 
 -- ---- between datasets, or in a tag, or at the end
+
+-- The unpacker was made of the readers of the place, and counts `at` octets.
+pub record IsMadeFor (place : Place) (numbers : Numbers) (limits : Limits) (at : ℕ) (u : Unpacking) : Type 0 where
+  pub taking : u.refused ≡ None
+  pub counts : u.octets ≡ at
+  pub begun : u.begun ≡ has_come place.section place.phase
+  pub calls : TakesCalls u.reader
+  pub tags : u.reader.place ≡ tag_place place.section place.phase
+  pub records : RecordsStand u.parts.fields place.section place.phase (record_datasets place numbers)
+  pub limits_are : limits_in u ≡ limits
+  pub object : ObjectStands u.parts.object place
+  pub message : MessageStands u.parts.message place
 
 -- what readers that were made for a place stand on
 abbrev pub AreMadeFor : Limits → ℕ → Unpacking → Place → Type 0
@@ -62,8 +75,9 @@ after_datasets laws limits at u ds held m text (l, made) goes leads =
 -- ---- in data
 
 -- Readers that were made for the place of whole datasets and a begun one stand in it.
-within_data : LowerLaws → (limits : Limits) (at : ℕ) (u : Unpacking) (ds : List Dataset) (h : Head) (xs : List ℕ) (m : MessagePlace) (text : List ℕ) → AreMadeFor limits at u (place_of ds (InData h xs) m) → CanContinueAt limits ds h
-    → nat_eq (section_after ds) 9 ≡ false → Octets xs → length xs < h.count → LeadsToSaved (object_so_far ds (InData h xs)) text m → Within u.parts ds h xs
+within_data : LowerLaws → (limits : Limits) (at : ℕ) (u : Unpacking) (ds : List Dataset) (h : Head) (xs : List ℕ) (m : MessagePlace) (text : List ℕ)
+    → AreMadeFor limits at u (place_of ds (InData h xs) m) → CanContinueAt limits ds h → nat_eq (section_after ds) 9 ≡ false → Octets xs
+    → length xs < h.count → LeadsToSaved (object_so_far ds (InData h xs)) text m → Within u.parts ds h xs
 within_data laws limits at u ds h xs m text (l, made) goes open' octets less leads =
     let heads = length (of_record 8 ds) in
     let base = plain (kept ds) l.numbers (one_of_some heads) [] false in
@@ -93,73 +107,66 @@ ended_for : (parts : Parts) (ds : List Dataset) (b : Begun) → nat_eq (section_
 ended_for parts ds (InTag held) open' stand = ended_by_record parts ds stand.fields ∙ open'
 ended_for parts ds (InData h xs) open' stand = unended_inside parts h stand.fields.inside.0 stand.fields.inside.1
 
--- What holds of the readers where open octets have led.
-pub record AreOpenAt (u : Unpacking) (ds : List Dataset) (b : Begun) : Type 0 where
-  pub stands : StandsFor u.parts ds b
-  pub keeps : IsKeptAs u.reader.place b
-  pub unended : has_ended u.parts ≡ false
+module _ (laws : LowerLaws) (place : Place) (limits : Limits) (at : ℕ) (u : Unpacking) (made : AreMadeFor limits at u place) where
+  -- An unpacker that was made for a place stands on all octets that lead there and are open.
+  pub made_stands : (p : List ℕ) → IsPlaceOf p place → IsOpen limits p → Stands u p at
+  made_stands p is opens =
+      let ds = is.whole in
+      let b = is.begun in
+      let here : AreMadeFor limits at u (place_of ds b is.message) = subst (AreMadeFor limits at u) is.is_place made in
+      let was = opened laws limits p ds b is.reads opens in
+      let stand = stands_for laws limits at u p ds b is.message is.text here is.reads was.goes.sizes was.ended is.leads in
+      record {
+        taking = here.1.taking;
+        unended = ended_for u.parts ds b was.ended stand;
+        counts = here.1.counts;
+        begun = here.1.begun ∙ come p ds b is.reads was.ended (alive_of limits ds b was.goes.sizes) ∙ sym (some_read p ds b is.reads);
+        is_led = record {
+          events = handed_on ds b;
+          text = text_so_far (object_so_far ds b);
+          leads = record {
+            begun = b;
+            hands = record { whole = ds; reads = is.reads; handed = refl };
+            keeps = keeps u.reader.place p ds b is.reads was.ended here.1.tags;
+          };
+          led = record { whole = ds; begun = b; told = refl; stands = stand; is_text = refl };
+        };
+        is_open = subst (λ (l : Limits). IsOpen l p) (sym here.1.limits_are) opens;
+      }
 
-pub made_open : LowerLaws → (place : Place) (limits : Limits) (at : ℕ) (u : Unpacking) → AreMadeFor limits at u place → (p : List ℕ) (is : IsPlaceOf p place) → IsOpen limits p → AreOpenAt u is.whole is.begun
-made_open laws place limits at u made p is opens =
-    let ds = is.whole in
-    let b = is.begun in
-    let here : AreMadeFor limits at u (place_of ds b is.message) = subst (AreMadeFor limits at u) is.is_place made in
-    let was = opened laws limits p ds b is.reads opens in
-    let stand = stands_for laws limits at u p ds b is.message is.text here is.reads was.goes.sizes was.ended is.leads in
-    record { stands = stand; keeps = keeps u.reader.place p ds b is.reads was.ended here.1.tags; unended = ended_for u.parts ds b was.ended stand }
-
--- An unpacker that was made for a place stands on all octets that lead there and are open.
-pub made_stands : LowerLaws → (place : Place) (limits : Limits) (at : ℕ) (u : Unpacking) → AreMadeFor limits at u place → (p : List ℕ) → IsPlaceOf p place → IsOpen limits p → Stands u p at
-made_stands laws place limits at u made p is opens =
-    let ds = is.whole in
-    let b = is.begun in
-    let here : AreMadeFor limits at u (place_of ds b is.message) = subst (AreMadeFor limits at u) is.is_place made in
-    let was = opened laws limits p ds b is.reads opens in
-    let alive = alive_of limits ds b was.goes.sizes in
-    let are = made_open laws place limits at u made p is opens in
-    record {
-      taking = here.1.taking;
-      unended = are.unended;
-      counts = here.1.counts;
-      begun = here.1.begun ∙ come p ds b is.reads was.ended alive ∙ sym (some_read p ds b is.reads);
-      is_led = record {
-        events = handed_on ds b;
-        text = text_so_far (object_so_far ds b);
-        leads = record { begun = b; hands = record { whole = ds; reads = is.reads; handed = refl }; keeps = are.keeps };
-        led = record { whole = ds; begun = b; told = refl; stands = are.stands; is_text = refl };
-      };
-      is_open = subst (λ (l : Limits). IsOpen l p) (sym here.1.limits_are) opens;
-    }
-
--- ---- envelopes
-
--- An unpacker that was made for a place is done with all octets that lead there and are an envelope.
-pub made_done : LowerLaws → (place : Place) (limits : Limits) (at : ℕ) (u : Unpacking) (s : Sizes) → AreMadeFor limits at u place → TellsSizes u s → IsSome u.parts.object → IsSome u.parts.message
-    → (p : List ℕ) (v : Value) → IsPlaceOf p place → IsEnvelopeWithin limits p v → IsDoneWith u p at
-made_done laws place limits at u s made sizes object message p v is whole =
-    let ds = whole.admits.datasets in
-    let reads = reads_envelope p v whole.admits in
-    let same = one_reading laws p is.whole ds is.begun (InTag []) is.reads reads in
-    let is_place : place ≡ place_of ds (InTag []) is.message = is.is_place ∙ ap (λ (es : List Dataset). place_of es is.begun is.message) same.whole_is ∙ ap (λ (b : Begun). place_of ds b is.message) same.begun_is in
-    let leads : LeadsToSaved (object_of ds) is.text is.message = rw (same.whole_is, same.begun_is) at is.leads in
-    let here : AreMadeFor limits at u (place_of ds (InTag []) is.message) = subst (AreMadeFor limits at u) is_place made in
-    let goes = (goes_envelope laws limits p v whole).sizes in
-    let stand = after_datasets laws limits at u ds [] is.message is.text here goes leads in
-    let nine : section_after ds ≡ 9 = sections_last laws.last_record ds goes.records whole.admits.sections in
-    let ended : nat_eq (section_after ds) 9 ≡ true = ap (λ (n : ℕ). nat_eq n 9) nine in
-    let tags : u.reader.place ≡ between = between_tag (nat_eq (section_after ds) 9) u.reader.place (section_after ds) ended here.1.tags in
-    done_by laws u p at s here.1.taking (record { last = ended_by_record u.parts ds stand.fields ∙ ended; between = stand.fields.between; object = object; message = message }) tags here.1.counts
-    (record {
-      events = handed_on ds (InTag []);
-      text = text_so_far (object_of ds);
-      leads = record { begun = InTag []; hands = record { whole = ds; reads = reads; handed = refl }; keeps = subst (λ (x : DatasetPlace). IsKeptAs x (InTag [])) (sym tags) refl };
-      led = record { whole = ds; begun = InTag []; told = refl; stands = stand; is_text = refl };
-    })
-    sizes
+  -- It is done with all octets that lead there and are an envelope.
+  pub made_done : (s : Sizes) → TellsSizes u s → IsSome u.parts.object → IsSome u.parts.message → (p : List ℕ) (v : Value) → IsPlaceOf p place
+      → IsEnvelopeWithin limits p v → IsDoneWith u p at
+  made_done s sizes object message p v is whole =
+      let ds = whole.admits.datasets in
+      let reads = reads_envelope p v whole.admits in
+      let same = one_reading laws p is.whole ds is.begun (InTag []) is.reads reads in
+      let is_place : place ≡ place_of ds (InTag []) is.message = is.is_place ∙ (λ i. place_of (same.whole_is i) (same.begun_is i) is.message) in
+      let leads : LeadsToSaved (object_of ds) is.text is.message = rw (same.whole_is, same.begun_is) at is.leads in
+      let here : AreMadeFor limits at u (place_of ds (InTag []) is.message) = subst (AreMadeFor limits at u) is_place made in
+      let goes = (goes_envelope laws limits p v whole).sizes in
+      let stand = after_datasets laws limits at u ds [] is.message is.text here goes leads in
+      let ended : nat_eq (section_after ds) 9 ≡ true = ap (λ (n : ℕ). nat_eq n 9) (sections_last laws.last_record ds goes.records whole.admits.sections) in
+      let tags : u.reader.place ≡ between = between_tag (nat_eq (section_after ds) 9) u.reader.place (section_after ds) ended here.1.tags in
+      done_by laws u p at s here.1.taking
+      (record { is_over = ended_by_record u.parts ds stand.fields ∙ ended; fields = stand.fields.between; object = object; message = message }) tags
+      here.1.counts
+      (record {
+        events = handed_on ds (InTag []);
+        text = text_so_far (object_so_far ds (InTag []));
+        leads = record {
+          begun = InTag [];
+          hands = record { whole = ds; reads = reads; handed = refl };
+          keeps = subst (λ (x : DatasetPlace). IsKeptAs x (InTag [])) (sym tags) refl;
+        };
+        led = record { whole = ds; begun = InTag []; told = refl; stands = stand; is_text = refl };
+      })
+      sizes
 
 -- What comes next is taken where the readers stand at open octets.
 takes_at : (parts : Parts) (place : DatasetPlace) (ds : List Dataset) (b : Begun) → StandsFor parts ds b → IsKeptAs place b → has_ended parts ≡ false → IsSome parts.object → IsSome parts.message → Takes parts (to_come place)
-takes_at parts (Tag held) ds (InTag octets) stand keeps more object message = record { fields = stand.fields.between; object = object; message = message; more = more }
+takes_at parts (Tag held) ds (InTag octets) stand keeps more object message =
+    record { fields = stand.fields.between; object = object; message = message; is_over = more }
 takes_at parts (Inside k left) ds (InData h xs) stand keeps more object message =
     let given : (h.rec ≡ 8 → ⊥) → parts.fields.taken ≡ xs = λ other. stand.fields.taken_are ∙ rw (ne_eqb h.rec 8 other) refl in
     let to_come : (h.rec ≡ 8 → ⊥) → length parts.fields.taken + left ≡ h.count = λ other. omega (arith, ap length (given other), keeps.1) in
@@ -167,26 +174,30 @@ takes_at parts (Inside k left) ds (InData h xs) stand keeps more object message 
 takes_at parts place ds b stand keeps more object message = absurd keeps
 
 -- The last dataset has ended where the readers say so.
-ended_at : (parts : Parts) (ds : List Dataset) (b : Begun) → StandsFor parts ds b → has_ended parts ≡ true → IsSome parts.object → IsSome parts.message → HasEnded parts
-ended_at parts ds (InTag held) stand last object message = record { last = last; between = stand.fields.between; object = object; message = message }
+ended_at : (parts : Parts) (ds : List Dataset) (b : Begun) → StandsFor parts ds b → has_ended parts ≡ true → IsSome parts.object → IsSome parts.message
+    → AreBetween true parts
+ended_at parts ds (InTag held) stand last object message = record { is_over = last; fields = stand.fields.between; object = object; message = message }
 ended_at parts ds (InData h xs) stand last object message =
     absurd (true≢false (sym last ∙ unended_inside parts h stand.fields.inside.0 stand.fields.inside.1))
 
-pub readers_make : LowerLaws → LimitsAreToldByPlace → ReadersTellSizes → ReadersMakeUnpackers
+-- An unpacker that was made of the readers of a possible place, within the limits, is sound, and restored from the place's ticket.
+readers_make : LowerLaws → LimitsAreToldByPlace → ReadersTellSizes → (place : Place) (limits : Limits) (at : ℕ) (u : Unpacking) (ticket : List ℕ)
+    → IsTicketAt ticket place
+    → AreHeadsWithin limits place → (l : LeadsByLayers place) → IsMadeFor place l.numbers limits at u → IsSome u.parts.object → IsSome u.parts.message
+    → IsUnpacking u × IsRestored limits ticket at u
 readers_make laws told sizes place limits at u ticket is within leads made object message =
-    let both : AreMadeFor limits at u place = (leads, made) in
     let octets = is.possible.0.octets in
     let led = is.possible.0.leads in
-    let stands = made_stands laws place limits at u both in
-    let done = made_done laws place limits at u (sizes u.parts.object).0 both (sizes u.parts.object).1 object message in
+    let stands = made_stands laws place limits at u (leads, made) in
+    let done = made_done laws place limits at u (leads, made) (sizes u.parts.object).0 (sizes u.parts.object).1 object message in
     let comes : AreOpenOrWhole limits octets = (told limits octets place led is.possible.0.comes).1 within in
-    let (takes, here) : (((has_ended u.parts ≡ false) × Takes u.parts (to_come u.reader.place)) ⊎ HasEnded u.parts)
+    let (takes, here) : (((has_ended u.parts ≡ false) × Takes u.parts (to_come u.reader.place)) ⊎ AreBetween true u.parts)
     × (Stands u octets at ⊎ IsDoneWith u octets at) =
     elim comes [
       | inl open' ↦
-          let are = made_open laws place limits at u both octets led open' in
-          let next = takes_at u.parts u.reader.place led.whole led.begun are.stands are.keeps are.unended object message in
-          (inl (are.unended, next), inl (stands octets led open'))
+          let s = stands octets led open' in
+          let r = reached laws.events_tell s.is_led.leads s.is_led.led in
+          (inl (s.unended, takes_at u.parts u.reader.place r.whole r.begun r.stands r.keeps s.unended object message), inl s)
       | inr (v, whole) ↦
           let ends = done octets v led whole in
           let by = ends.is_led.led in
@@ -196,16 +207,28 @@ readers_make laws told sizes place limits at u ticket is within leads made objec
       record { place = place; is_ticket = is; within = within; limits_are = made.limits_are; stands = stands; done = done; some = (octets, led, here) },
     )
 
-pub made_for : (s : Split) (r : Readers) (at : AreAt s r) (limits : Limits) (count : ℕ) (u : Unpacking) → u.refused ≡ None → u.octets ≡ count → u.begun ≡ r.begun
-    → u.reader ≡ r.tags → u.parts.object ≡ r.object → u.parts.message ≡ r.message → FieldsStand s u.parts.fields → limits_in u ≡ limits → IsMadeFor at.place at.leads.numbers limits count u
-made_for s r at limits count u taking counts begun tags object message records limits_are = record {
-  taking = taking;
-  counts = counts;
-  begun = begun ∙ at.begun_is;
-  calls = rw tags at.calls;
-  tags = rw tags at.tags_are;
-  records = records at.place at.parts at.leads;
-  limits_are = limits_are;
-  object = rw object at.object_is;
-  message = rw message at.message_is;
-}
+-- the unpacker that is made of these
+abbrev pub made_of : Readers → FieldsPlace → ℕ → Unpacking
+made_of r fields count =
+    record { reader = r.tags; parts = record { fields = fields; object = r.object; message = r.message }; octets = count; begun = r.begun; refused = None }
+
+pub restored_at : LowerLaws → PlaceLaws → ReadersTellSizes → (s : Split) (r : Readers) → AreAtIn s r → (limits : Limits) → IsWithin limits r.octets r.fields
+    → (fields : FieldsPlace) → FieldsStand s fields → limits_of fields ≡ limits → (count : ℕ) (ticket : List ℕ) → SplitsTicket ticket s
+    → IsUnpacking (made_of r fields count) × IsRestored limits ticket count (made_of r fields count)
+restored_at laws places sizes s r readers limits within fields stands limits_are count ticket splits =
+    let at = readers.at in
+    readers_make laws places.limits_are_told_by_place sizes at.place limits count (made_of r fields count) ticket
+    (ticket_at places.places_are_possible_by_layers places.small_places_were_possible ticket s at.place splits at.parts at.leads readers.small)
+    (heads_within limits s r at within) at.leads
+    (record {
+      taking = refl;
+      counts = refl;
+      begun = at.begun_is;
+      calls = at.calls;
+      tags = at.tags_are;
+      records = stands at.place at.parts at.leads;
+      limits_are = limits_are;
+      object = at.object_is;
+      message = at.message_is;
+    })
+    at.some_object at.some_message

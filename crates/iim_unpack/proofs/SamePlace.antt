@@ -1,86 +1,84 @@
 -- What is read of octets of one place leaves the parts of an unpacker alike.
-use Rattle.iim_unpack.proofs.Words.{◌≡◌, ℕ, if◌then◌else◌, ◌==◌, nat_eq, List, [], length, refl, ap, sym, subst, ◌∙◌, ◌⊎◌, inl, inr, Octets, Dataset}
-use Rattle.iim_unpack.proofs.Words.{count_octets, Begun, InTag, InData, Reads, begun_data, IsKeptAs, Head, section_after, Limits, head_alive}
-use Rattle.iim_unpack.proofs.Words.{place_after_datasets, text_so_far, object_of, LowerLaws, place_at, CanContinue, CanContinueAt, object_so_far}
-use Rattle.iim_unpack.proofs.Words.{AllCanContinue, AreAfter, Within, StandsFor, Unpacking, IsLed, Stands, IsDoneWith, limits_in, are_some, place_of}
-use Rattle.iim_unpack.proofs.Words.{alive_of, stated_after_all, fields_after, fields_in, some_read, opened}
-use Rattle.iim_dataset.specs.States.Events.{handed_on}
+-- What unpackers that stand alike answer, and that a restored one stands as the saved one.
+use Rattle.iim_unpack.proofs.Words.{AllCanContinue, Answer, Answers, AreAfter, AreWithin, Begun, CanContinue, CanContinueAt, Dataset, Done, Err, Finished}
+use Rattle.iim_unpack.proofs.Words.{Head, InData, InTag, IsDoneWith, IsEnvelopeWithin, IsFinished, IsKeptAs, IsOpen, IsRefusedIn, Limits, List, LowerLaws}
+use Rattle.iim_unpack.proofs.Words.{More, Octets, Ok, Parts, Place, Progress, Reads, Refusal, Refused, Result, Stands, StandsFor, StreamsHaveOneAnswer}
+use Rattle.iim_unpack.proofs.Words.{TokenFault, Truncated, Unpacking, Within, [], alive_of, ap, are_some, arith, begun_number, begun_record, count_octets}
+use Rattle.iim_unpack.proofs.Words.{fields_after, fields_in, get_or-append-add, handed_on, head_alive, if◌then◌else◌, inl, inr, length, length-append}
+use Rattle.iim_unpack.proofs.Words.{limits_in, nat_eq, object_of, object_so_far, one_reading, opened, place_after_datasets, place_at, place_of, raised, refl}
+use Rattle.iim_unpack.proofs.Words.{refusal_at, section_after, slice_index, some_read, stated_after_all, subst, sym, take, take-append-add, text_so_far, ℕ}
+use Rattle.iim_unpack.proofs.Words.{◌++◌, ◌+◌, ◌==◌, ◌∙◌, ◌∷◌, ◌≡◌, ◌≤◌, ◌⊎◌}
 use Rattle.iim_fields.specs.States.Standing as records
-use Rattle.iim_unpack.specs.States.Parts.{Parts}
-use Rattle.iim_places.specs.Format.Tickets.{Place}
-use Rattle.iim_unpack.specs.Laws.{UnpackersStandByPlace}
-use Rattle.iim_unpack.proofs.Sequences.{by_data}
+use Rattle.iim_unpack.specs.Laws.{AnswersPiece, IsOfNoSink, PieceIsAnsweredAlike, PiecesAreAnsweredAlike, RestoredStandAlike, RestoredStandAsSaved, StandAlike}
+use Rattle.iim_unpack.specs.Laws.{StandOnSame, UnpackersStandByPlace}
+use Rattle.iim_unpack.proofs.Sequences.{reached}
 use Rattle.iim_places.proofs.SameRecords.{same_records, stated_at}
-use Rattle.iim_places.proofs.SamePlace.{object_as, SameWhole, object_lives_after_as, message_as, SameMessage, object_at_as, SameAll, total_as, count_as, SameData, SameBegun, octets_of, same_message, keeps_as, held_open, has_as, same_begun}
+use Rattle.iim_places.proofs.SamePlace.{SameAll, SameBegun, SameWhole, count_as, has_as, held_open, keeps_as, message_as, object_as, object_at_as}
+use Rattle.iim_places.proofs.SamePlace.{object_lives_after_as, octets_of, same_begun, same_message, total_as}
+use Rattle.std.proofs.Common.{rules}
+use Rattle.iim_places.specs.Format.Open.{RefusesNext}
+use Rattle.iim_places.specs.Format.Open as opens
+use Rattle.iim_places.specs.Format.Streams.{IsRefused, IsTruncated}
+use Rattle.iim_places.specs.Laws.{TicketsTellOnePlace}
+use Rattle.iim_places.proofs.Saved.{at_restored, open_wider, whole_wider}
 
 -- ---- the parts
 
-after_as : LowerLaws → (limits : Limits) (parts : Parts) (ds es : List Dataset) → AreAfter parts ds → CanContinue limits es → section_after ds ≡ section_after es → SameWhole ds es → SameMessage (object_of ds) (object_of es)
-    → AreAfter parts es
-after_as laws limits parts ds es at goes present same m =
-    let recs = same_records laws ds es at.fields.alive goes.records at.few goes.within.subfiles same.fields in record {
-      fields = fields_after parts.fields ds es at.fields goes.records present same.fields.fields recs;
-      object = object_as parts.object (place_after_datasets ds) (place_after_datasets es) at.object (object_lives_after_as ds es same)
-          (stated_after_all laws es goes.records goes.within.subfiles) goes.object;
-      few = goes.within.subfiles;
-      message = message_as laws parts.message (object_of ds) (object_of es) m.text m.other m.at at.message m.here m.there;
-      ended = λ nine. at.ended (present ∙ nine);
-    }
+module _ (laws : LowerLaws) (limits : Limits) (parts : Parts) (ds es : List Dataset) (ended : nat_eq (section_after ds) 9 ≡ nat_eq (section_after es) 9) where
+  after_as : {x y : List ℕ} → AreAfter parts ds → SameAll ds es (InTag x) (InTag y) → CanContinue limits es → AreAfter parts es
+  after_as at all goes =
+      let m = all.message in
+      let same : SameWhole ds es = record {
+        fields = record { ended = ended; fields = all.fields; numbers = all.numbers; heads = all.heads };
+        octets = all.taken;
+      } in
+      let recs = same_records laws ds es at.fields.alive goes.records at.few goes.within.subfiles same.fields in record {
+        fields = fields_after parts.fields ds es at.fields goes.records all.section same.fields.fields recs;
+        object = object_as parts.object (place_after_datasets ds) (place_after_datasets es) at.object (object_lives_after_as ds es same)
+            (stated_after_all laws es goes.records goes.within.subfiles) goes.object;
+        few = goes.within.subfiles;
+        message = message_as laws parts.message (object_of ds) (object_of es) m.text m.other m.at at.message m.here m.there;
+        ended = λ nine. at.ended (all.section ∙ nine);
+      }
 
-within_as : LowerLaws → (limits : Limits) (parts : Parts) (ds es : List Dataset) (h : Head) (xs ys : List ℕ) → Within parts ds h xs → CanContinueAt limits es h → Octets ys
-    → (if h.rec == 8 then [] else xs) ≡ (if h.rec == 8 then [] else ys) → SameWhole ds es → SameMessage (object_so_far ds (InData h xs)) (object_so_far es (InData h ys)) → Within parts es h ys
-within_as laws limits parts ds es h xs ys at goes octets given same m =
-    let recs = same_records laws ds es (head_alive ds h at.fields.alive) (head_alive es h goes.records) at.few goes.within.subfiles same.fields in record {
-      octets = octets;
-      fields = subst (records.StandsIn parts.fields es h) given (fields_in laws.values_die parts.fields ds es h (if h.rec == 8 then [] else xs) at.fields goes.records same.fields.fields recs);
-      object = object_as parts.object (place_at ds h) (place_at es h) at.object (object_at_as ds es h same)
-          (stated_at laws es h goes.records goes.within.subfiles goes.room.subfiles) goes.object;
-      few = goes.within.subfiles;
-      room = goes.room.subfiles;
-      message = message_as laws parts.message (object_so_far ds (InData h xs)) (object_so_far es (InData h ys)) m.text m.other m.at at.message m.here m.there;
-      ended = at.ended;
-    }
+  within_as : (h : Head) (xs ys : List ℕ) → length xs ≡ length ys → Octets ys → Within parts ds h xs
+      → (if h.rec == 8 then [] else xs) ≡ (if h.rec == 8 then [] else ys) → SameAll ds es (InData h xs) (InData h ys) → CanContinueAt limits es h
+      → Within parts es h ys
+  within_as h xs ys many octets at given all goes =
+      let m = all.message in
+      let same : SameWhole ds es = record {
+        fields = record { ended = ended; fields = all.fields; numbers = all.numbers; heads = count_as _ _ (if h.rec == 8 then 1 else 0) all.heads };
+        octets = total_as (h.rec == 8) (object_of ds) (object_of es) xs ys many all.taken;
+      } in
+      let recs =
+      same_records laws ds es (head_alive ds h at.fields.alive) (head_alive es h goes.records) at.few goes.within.subfiles same.fields in record {
+        octets = octets;
+        fields = subst (records.StandsIn parts.fields es h) given
+            (fields_in laws.values_die parts.fields ds es h (if h.rec == 8 then [] else xs) at.fields goes.records same.fields.fields recs);
+        object = object_as parts.object (place_at ds h) (place_at es h) at.object (object_at_as ds es h same)
+            (stated_at laws es h goes.records goes.within.subfiles goes.room.subfiles) goes.object;
+        few = goes.within.subfiles;
+        room = goes.room.subfiles;
+        message = message_as laws parts.message (object_so_far ds (InData h xs)) (object_so_far es (InData h ys)) m.text m.other m.at at.message m.here m.there;
+        ended = at.ended;
+      }
+
+  parts_as : (c d : Begun) (q : List ℕ) → SameBegun c d → Reads count_octets q es d → StandsFor parts ds c → SameAll ds es c d → AllCanContinue limits es d
+      → StandsFor parts es d
+  parts_as (InTag x) (InTag y) q same reads at all goes = after_as at all goes.sizes
+  parts_as (InData h xs) (InData k ys) q same reads at all goes =
+      subst (λ (g : Head). (if h.rec == 8 then [] else xs) ≡ (if g.rec == 8 then [] else ys) → SameAll ds es (InData h xs) (InData g ys)
+      → CanContinueAt limits es g → Within parts es g ys) same.head (within_as h xs ys same.many (octets_of q es k ys reads) at) same.given all goes.sizes
+  parts_as c d q same reads at all goes = absurd same
 
 -- ---- the whole unpacker
-
-data_by : LowerLaws → (limits : Limits) (parts : Parts) (ds es : List Dataset) (h : Head) (xs ys : List ℕ) → length xs ≡ length ys → nat_eq (section_after ds) 9 ≡ nat_eq (section_after es) 9 → Octets ys
-    → Within parts ds h xs → (if h.rec == 8 then [] else xs) ≡ (if h.rec == 8 then [] else ys) → SameAll ds es (InData h xs) (InData h ys) → AllCanContinue limits es (InData h ys) → Within parts es h ys
-data_by laws limits parts ds es h xs ys many ended octets at given all goes =
-    within_as laws limits parts ds es h xs ys at goes.sizes octets given
-    (record {
-      fields = record { ended = ended; fields = all.fields; numbers = all.numbers; heads = count_as _ _ (if h.rec == 8 then 1 else 0) all.heads };
-      octets = total_as (h.rec == 8) (object_of ds) (object_of es) xs ys many all.taken;
-    }) all.message
-
-data_as : LowerLaws → (limits : Limits) (parts : Parts) (ds es : List Dataset) (h k : Head) (xs ys : List ℕ) → SameData h xs k ys → nat_eq (section_after ds) 9 ≡ nat_eq (section_after es) 9 → Octets ys
-    → Within parts ds h xs → SameAll ds es (InData h xs) (InData k ys) → AllCanContinue limits es (InData k ys) → Within parts es k ys
-data_as laws limits parts ds es h k xs ys same ended octets at all goes =
-    subst (λ (g : Head). (if h.rec == 8 then [] else xs) ≡ (if g.rec == 8 then [] else ys) → SameAll ds es (InData h xs) (InData g ys) → AllCanContinue limits es (InData g ys) → Within parts es g ys) same.head
-    (λ given all goes. data_by laws limits parts ds es h xs ys same.many ended octets at given all goes) same.given all goes
-
-parts_as : LowerLaws → (limits : Limits) (parts : Parts) (q : List ℕ) (ds es : List Dataset) (c d : Begun) → SameBegun c d → nat_eq (section_after ds) 9 ≡ nat_eq (section_after es) 9 → Reads count_octets q es d
-    → StandsFor parts ds c → SameAll ds es c d → AllCanContinue limits es d → StandsFor parts es d
-parts_as laws limits parts q ds es (InTag x) (InTag y) same ended reads at all goes =
-    after_as laws limits parts ds es at goes.sizes all.section
-    (record { fields = record { ended = ended; fields = all.fields; numbers = all.numbers; heads = all.heads }; octets = all.taken }) all.message
-parts_as laws limits parts q ds es (InTag x) (InData k ys) same ended reads at all goes = absurd same
-parts_as laws limits parts q ds es (InData h xs) (InTag y) same ended reads at all goes = absurd same
-parts_as laws limits parts q ds es (InData h xs) (InData k ys) same ended reads at all goes = data_as laws limits parts ds es h k xs ys same ended (octets_of q es k ys reads) at all goes
-
-pub told_by : (parts : Parts) (ds es : List Dataset) (b c : Begun) → ds ≡ es → begun_data b ≡ begun_data c → StandsFor parts ds b → StandsFor parts es c
-told_by parts ds es b c e same at = by_data (StandsFor parts es) (λ x y stands. stands) b c same (subst (λ (x : List Dataset). StandsFor parts x b) e at)
-
--- where it stands, or is done
-pub led_of : {u : Unpacking} {p : List ℕ} {a : ℕ} → Stands u p a ⊎ IsDoneWith u p a → IsLed u p
-led_of (inl at) = at.is_led
-led_of (inr at) = at.is_led
 
 pub same_stands : LowerLaws → UnpackersStandByPlace
 same_stands laws u p q a place at there stands opens =
     let led = stands.is_led in
-    let begun = laws.one_way p led.events (handed_on at.whole at.begun) led.leads.begun at.begun led.leads.hands (record { whole = at.whole; reads = at.reads; handed = refl }) in
-    let told = laws.events_tell led.led.whole at.whole led.led.begun at.begun (sym led.led.told ∙ begun.0) in
-    let mine : StandsFor u.parts at.whole at.begun = told_by u.parts led.led.whole at.whole led.led.begun at.begun told.0 told.1 led.led.stands in
+    let r = reached laws.events_tell led.leads led.led in
+    let one = one_reading laws p r.whole at.whole r.begun at.begun r.reads at.reads in
+    let mine : StandsFor u.parts at.whole at.begun = rw (one.whole_is, one.begun_is) at r.stands in
     let was = opened laws (limits_in u) p at.whole at.begun at.reads stands.is_open in
     let now = opened laws (limits_in u) q there.whole there.begun there.reads opens in
     let e : place_of at.whole at.begun at.message ≡ place_of there.whole there.begun there.message = sym at.is_place ∙ there.is_place in
@@ -90,11 +88,15 @@ same_stands laws u p q a place at there stands opens =
       numbers = ap (λ (x : Place). x.numbers) e;
       taken = ap (λ (x : Place). x.taken) e;
       heads = ap (λ (x : Place). x.heads) e;
-      message = same_message laws (object_so_far at.whole at.begun) (object_so_far there.whole there.begun) at.text there.text at.message there.message (ap (λ (x : Place). x.message) e) at.leads there.leads;
+      message = same_message laws (object_so_far at.whole at.begun) (object_so_far there.whole there.begun) at.text there.text at.message there.message
+          (ap (λ (x : Place). x.message) e) at.leads there.leads;
     } in
-    let same = same_begun p q at.whole there.whole at.begun there.begun at.reads there.reads all.section (ap (λ (x : Place). x.phase) e) (held_open at.whole at.begun there.begun was.ended) in
+    let same =
+    same_begun p q at.whole there.whole at.begun there.begun at.reads there.reads all.section (ap (λ (x : Place). x.phase) e)
+    (held_open at.whole at.begun there.begun was.ended) in
     let some : are_some p ≡ are_some q = some_read p at.whole at.begun at.reads
-    ∙ has_as at.whole there.whole at.begun there.begun same (alive_of (limits_in u) at.whole at.begun was.goes.sizes) (alive_of (limits_in u) there.whole there.begun now.goes.sizes) all.section
+    ∙ has_as at.whole there.whole at.begun there.begun same (alive_of (limits_in u) at.whole at.begun was.goes.sizes)
+    (alive_of (limits_in u) there.whole there.begun now.goes.sizes) all.section
     ∙ sym (some_read q there.whole there.begun there.reads) in
     record {
       taking = stands.taking;
@@ -107,15 +109,146 @@ same_stands laws u p q a place at there stands opens =
         leads = record {
           begun = there.begun;
           hands = record { whole = there.whole; reads = there.reads; handed = refl };
-          keeps = keeps_as u.reader.place at.begun there.begun same (subst (IsKeptAs u.reader.place) begun.1 led.leads.keeps);
+          keeps = keeps_as u.reader.place at.begun there.begun same (subst (IsKeptAs u.reader.place) one.begun_is r.keeps);
         };
         led = record {
           whole = there.whole;
           begun = there.begun;
           told = refl;
-          stands = parts_as laws (limits_in u) u.parts q at.whole there.whole at.begun there.begun same (was.ended ∙ sym now.ended) there.reads mine all now.goes;
+          stands = parts_as laws (limits_in u) u.parts at.whole there.whole (was.ended ∙ sym now.ended) at.begun there.begun q same there.reads mine all
+              now.goes;
           is_text = refl;
         };
       };
       is_open = opens;
     }
+
+-- ---- an answer to a piece as the answer to all octets
+
+-- The answer of octets, of which n came before, tells the same as that of the piece, before which `a` were counted.
+abbrev Matches : ℕ → ℕ → Result Progress Refusal → Answer → Type 0
+Matches n a (Ok More) (Truncated e) = Unit {0}
+Matches n a (Ok (Done used)) (Finished all value) = all ≡ n + used
+Matches n a (Err e) (Refused f) = (k : ℕ) × (fault : TokenFault) × (f ≡ refusal_at (n + k) fault) × (e ≡ refusal_at (raised a k) fault)
+Matches n a _ _ = ⊥
+
+same_refusal : (n a : ℕ) (e e' f : Refusal) → Matches n a (Err e) (Refused f) → Matches n a (Err e') (Refused f) → e ≡ e'
+same_refusal n a e e' f (k, fault, all, is) (k', fault', all', is') = grind arith
+
+-- one answer to all octets is told by one answer to the piece
+one_answer : (n a : ℕ) (one other : Result Progress Refusal) (all : Answer) → Matches n a one all → Matches n a other all → one ≡ other
+one_answer n a (Ok More) (Ok More) (Truncated e) h k = refl
+one_answer n a (Ok (Done used)) (Ok (Done used')) (Finished all value) h k = let same : used ≡ used' = omega (arith, h, k) in ap (λ (m : ℕ). Ok (Done m)) same
+one_answer n a (Err e) (Err e') (Refused f) h k = ap Err (same_refusal n a e e' f h k)
+one_answer n a one other all h k = absurd (search rules)
+
+-- what all octets are answered
+abbrev AnswersAll : Limits → List ℕ → ℕ → ℕ → Result Progress Refusal → Type 0
+AnswersAll limits stream n a answer = (all : Answer) × Answers limits stream all × Matches n a answer all
+
+answers_all : (u u' : Unpacking) (p piece : List ℕ) (a : ℕ) (answer : Result Progress Refusal) → Stands u p a → AnswersPiece u u' piece answer → IsOfNoSink answer → AnswersAll (limits_in u) (p ++ piece) (length p) a answer
+answers_all u u' p piece a (Ok More) at w calm =
+    let stands : Stands u' (p ++ piece) (raised a (length piece)) = (w.goes.1 p a at).0 in
+    let is : IsOpen (limits_in u) (p ++ piece) = subst (λ (l : Limits). IsOpen l (p ++ piece)) (w.limits at.taking) stands.is_open in
+    let e : Refusal = opens.truncated_in (length (p ++ piece)) (begun_record is.begun, begun_number is.begun) in
+    let short : IsTruncated (limits_in u) (p ++ piece) e = record { is_open = is; refusal = record { whole = is.whole; begun = is.begun; reads = is.reads; refusal = refl } } in
+    (Truncated e, short, tt)
+answers_all u u' p piece a (Ok (Done used)) at w calm =
+    let goes = w.goes.1 p a at in
+    let fits : used ≤ length piece = goes.0 in
+    let done : IsDoneWith u' (p ++ take used piece) (raised a used) = goes.1 in
+    let within : IsEnvelopeWithin (limits_in u) (p ++ take used piece) done.value =
+    record { admits = done.admits; within = subst (λ (l : Limits). AreWithin l done.admits.datasets) (w.limits at.taking) done.within } in
+    let whole : IsFinished (limits_in u) (p ++ piece) (length p + used) done.value = record {
+      fits = omega (arith, fits, length-append p piece);
+      envelope = subst (λ (octets : List ℕ). IsEnvelopeWithin (limits_in u) octets done.value) (sym (take-append-add p piece used)) within;
+    } in
+    (Finished (length p + used) done.value, whole, refl)
+answers_all u u' p piece a (Err e) at w calm =
+    let r : IsRefusedIn (limits_in u) p a piece w.refused.0 e = w.refused.1 p a at in
+    let stream : List ℕ = p ++ piece in
+    let refuses : RefusesNext (limits_in u) (take (length p + r.k) stream) (slice_index stream (length p + r.k)) r.fault =
+    rw (take-append-add p piece r.k, get_or-append-add p piece r.k 0) r.refuses in
+    let was : IsRefused (limits_in u) stream (refusal_at (length p + r.k) r.fault) = record {
+      fits = omega (arith, r.within, length-append p piece);
+      fault = r.fault;
+      refusal = refl;
+      refuses = refuses;
+    } in
+    (Refused (refusal_at (length p + r.k) r.fault), (was, λ is. calm (ap (λ (x : Refusal). x.cause) r.refusal ∙ is)), (r.k, r.fault, refl, r.refusal))
+
+-- ---- after a piece
+
+-- two answers of the same octets are one
+same_answers : StreamsHaveOneAnswer → (limits : Limits) (stream : List ℕ) (n a : ℕ) (one other : Result Progress Refusal) → AnswersAll limits stream n a one → AnswersAll limits stream n a other → one ≡ other
+same_answers law limits stream n a one other (all, is, h) (all', is', k) =
+    one_answer n a one other all' (subst (λ (x : Answer). Matches n a one x) (law limits stream all all' is is') h) k
+
+then_alike : (u v u' v' : Unpacking) (p piece : List ℕ) (a : ℕ) (answer : Result Progress Refusal) → limits_in v ≡ limits_in u → Stands u p a → Stands v p a → AnswersPiece u u' piece answer → AnswersPiece v v' piece answer → StandAlike u' v'
+then_alike u v u' v' p piece a (Ok More) same at at' w w' = inl (record {
+  limits = w'.limits at'.taking ∙ (same ∙ sym (w.limits at.taking));
+  octets = p ++ piece;
+  count = raised a (length piece);
+  both = inl ((w.goes.1 p a at).0, (w'.goes.1 p a at').0);
+})
+then_alike u v u' v' p piece a (Ok (Done used)) same at at' w w' = inl (record {
+  limits = w'.limits at'.taking ∙ (same ∙ sym (w.limits at.taking));
+  octets = p ++ take used piece;
+  count = raised a used;
+  both = inr ((w.goes.1 p a at).1, (w'.goes.1 p a at').1);
+})
+then_alike u v u' v' p piece a (Err e) same at at' w w' = inr (e.octet, w.failed, w'.failed)
+
+pub piece_alike : StreamsHaveOneAnswer → PieceIsAnsweredAlike
+piece_alike law u v u' v' piece one other alike w w' calm calm' = by alike
+  where
+    on_same : (s : StandOnSame u v) → (Stands u s.octets s.count × Stands v s.octets s.count) ⊎ (IsDoneWith u s.octets s.count × IsDoneWith v s.octets s.count) → (one ≡ other) × StandAlike u' v'
+    on_same s (inl (at, at')) =
+        let stream : List ℕ = s.octets ++ piece in
+        let n : ℕ = length s.octets in
+        let its : AnswersAll (limits_in u) stream n s.count other =
+        subst (λ (l : Limits). AnswersAll l stream n s.count other) s.limits (answers_all v v' s.octets piece s.count other at' w' calm') in
+        let is = same_answers law (limits_in u) stream n s.count one other (answers_all u u' s.octets piece s.count one at w calm) its in
+        (is, then_alike u v u' v' s.octets piece s.count one s.limits at at' w (subst (λ (x : Result Progress Refusal). AnswersPiece v v' piece x) (sym is) w'))
+    -- nothing changes after an envelope, and after a refusal
+    on_same s (inr (d, d')) =
+        let mine = w.done (d.taking, d.ended) in
+        let its = w'.done (d'.taking, d'.ended) in
+        (mine.0 ∙ sym its.0, rw (mine.1, its.1) (inl s))
+
+    by : StandAlike u v → (one ≡ other) × StandAlike u' v'
+    by (inl s) = on_same s s.both
+    by (inr r) =
+        let mine = w.again r.0 r.1 in
+        let its = w'.again r.0 r.2 in
+        (mine.0 ∙ sym its.0, rw (mine.1, its.1) (inr r))
+
+-- ---- piece after piece
+
+pub pieces_alike : StreamsHaveOneAnswer → PiecesAreAnsweredAlike
+pieces_alike law u v [] [] [] alike w w' = refl
+pieces_alike law u v (piece ∷ pieces) (one ∷ ones) (other ∷ others) alike (u', w, calm, rest) (v', w', calm', rest') =
+    let (same, then_) = piece_alike law u v u' v' piece one other alike w w' calm calm' in
+    let more = pieces_alike law u' v' pieces ones others then_ rest rest' in
+    λ i. same i ∷ more i
+pieces_alike law u v pieces ones others alike w w' = absurd (search rules)
+
+-- ---- a restored unpacker
+
+pub restored_alike : RestoredStandAsSaved → RestoredStandAlike
+restored_alike law u v p ticket a octets fields stood is restored =
+    let stands = law u v p ticket a octets fields is restored in
+    inl (record { limits = restored.limits_are; octets = p; count = a; both = elim stood [ inl at ↦ inl (at, stands.0 at) | inr d ↦ inr (d, stands.1 d) ] })
+
+-- ---- a restored unpacker stands where the saved one stands
+
+pub restored_stand : TicketsTellOnePlace → RestoredStandAsSaved
+restored_stand one u v p ticket a less few is restored = (
+  (λ stands.
+      let place = at_restored one p ticket is.place restored.place is.is_place (inl (open_wider _ p less few stands.is_open)) is.spelled restored.is_ticket in
+      restored.stands p place stands.is_open),
+  (λ done.
+      let whole : IsEnvelopeWithin (limits_in u) p done.value = record { admits = done.admits; within = done.within } in
+      let place = at_restored one p ticket is.place restored.place is.is_place (inr (done.value, whole_wider _ p done.value less few whole)) is.spelled restored.is_ticket in
+      restored.done p done.value place whole),
+)

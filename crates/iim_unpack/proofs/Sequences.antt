@@ -1,11 +1,39 @@
--- Events in order: what is handed on of octets is in order, and a dataset ends where its head says.
-use Rattle.iim_unpack.proofs.Words.{◌≡◌, ℕ, ◌-◌, ◌<◌, List, [], ◌∷◌, ◌++◌, length, map, ap, sym, subst, ◌∙◌, arith, append_assoc, length-append}
-use Rattle.iim_unpack.proofs.Words.{flat_map-append, Dataset, head_of, count_octets, Begun, InTag, InData, DatasetEvent, HeadRead, DataOctet, DatasetEnd}
-use Rattle.iim_unpack.proofs.Words.{events_of, begun_data, HandsOn, Head, data_of, AreInOrder}
-use Rattle.std.proofs.Common.{flat_map, replicate, append-nil}
+-- Whether the last dataset has ended.
+-- Where octets lead reader and parts; events in order: what is handed on of octets is in order, and a dataset ends where its head says.
+use Rattle.iim_unpack.proofs.Words.{AreInOrder, AreLed, Begun, DataOctet, Dataset, DatasetEnd, DatasetEvent, DatasetPlace, EventsTellTheDatasets, HandsOn}
+use Rattle.iim_unpack.proofs.Words.{Head, HeadRead, InData, InTag, IsDoneWith, IsKeptAs, IsLed, IsTextOf, LeadsTo, List, None, Parts, Reads, Some, Stands}
+use Rattle.iim_unpack.proofs.Words.{StandsAfter, StandsFor, Unpacking, [], ap, append-nil, append_assoc, arith, begun_head, begun_head_of, count_octets}
+use Rattle.iim_unpack.proofs.Words.{data_of, events_of, false, flat_map, flat_map-append, handed_on, head_of, inl, inr, length, length-append, map, nat_eq}
+use Rattle.iim_unpack.proofs.Words.{ne_eqb, not, object_so_far, refl, section_after, section_of, subst, sym, text_so_far, ℕ, ◌++◌, ◌-◌, ◌<◌, ◌∙◌, ◌∷◌, ◌≡◌}
+use Rattle.iim_unpack.proofs.Words.{◌⊎◌}
+use Rattle.std.proofs.Common.{is_some, replicate}
+use Rattle.iim_fields.specs.States.Checks.{section_at}
+use Rattle.iim_fields.specs.States.Standing.{IsInside}
+use Rattle.iim_unpack.specs.States.Parts.{has_ended}
+use Rattle.iim_dataset.specs.States.Events.{begun_data}
 use Rattle.std.proofs.lemmas.List.{length-replicate, map-append}
-use Rattle.iim_dataset.specs.States.Events.{handed_on}
 use Rattle.iim_dataset.proofs.Telling.{same_data}
+
+pub ended_by_record : (p : Parts) (ds : List Dataset) → StandsAfter p.fields ds → has_ended p ≡ nat_eq (section_after ds) 9
+unfolding has_ended
+ended_by_record p ds at =
+    let none : begun_head_of p.fields ≡ None = ap begun_head at.between.between in
+    let present : section_of p.fields ≡ section_after ds = ap section_at at.checked.at ∙ at.checked.tells.present in
+    rw (none, present) (grind arith)
+
+pub unended_inside : (p : Parts) (h : Head) (n : ℕ) → IsInside p.fields h n → has_ended p ≡ false
+unfolding has_ended
+unended_inside p h n at =
+    let some : begun_head_of p.fields ≡ Some h = ap begun_head at.head.inside in
+    rw some (grind arith)
+
+pub ended_by : (p : Parts) → section_of p.fields ≡ 9 → has_ended p ≡ not (is_some (begun_head_of p.fields))
+unfolding has_ended
+ended_by p nine = rw nine refl
+
+pub unended_by : (p : Parts) (section : ℕ) → section ≡ section_of p.fields → (section ≡ 9 → ⊥) → nat_eq section 9 ≡ has_ended p
+unfolding has_ended
+unended_by p section is other = let apart = ne_eqb section 9 other in rw (← is, apart) refl
 
 -- ---- the events of a begun dataset
 
@@ -15,21 +43,44 @@ by_data P tags (InTag x) (InTag y) same p = tags x y p
 by_data P tags (InData h xs) (InData k ys) same p = let pair : (h, xs) ≡ (k, ys) = cc in subst (λ (x : Head × List ℕ). P (InData x.0 x.1)) pair p
 by_data P tags b c same p = absurd cc
 
+-- Octets are read as whole datasets and a begun one, and the reader of tags and the parts stand there, with this text.
+pub record Reached (place : DatasetPlace) (parts : Parts) (p text : List ℕ) : Type 0 where
+  pub whole : List Dataset
+  pub begun : Begun
+  pub reads : Reads count_octets p whole begun
+  pub keeps : IsKeptAs place begun
+  pub stands : StandsFor parts whole begun
+  pub is_text : text ≡ text_so_far (object_so_far whole begun)
+
+abbrev There : Parts → List ℕ → List Dataset → Begun → Type 0
+There parts text ds begun = StandsFor parts ds begun × (text ≡ text_so_far (object_so_far ds begun))
+
+pub reached : EventsTellTheDatasets → {place : DatasetPlace} {parts : Parts} {p text : List ℕ} {events : List DatasetEvent}
+    → LeadsTo count_octets p events place → AreLed parts events text → Reached place parts p text
+reached tell {parts = parts} {text = text} leads led =
+    let told = tell led.whole leads.hands.whole led.begun leads.begun (sym led.told ∙ leads.hands.handed) in
+    let there = by_data (There parts text leads.hands.whole) (λ x y h. h) led.begun leads.begun told.1
+    (subst (λ (ds : List Dataset). There parts text ds led.begun) told.0 (led.stands, led.is_text)) in
+    record { whole = leads.hands.whole; begun = leads.begun; reads = leads.hands.reads; keeps = leads.keeps; stands = there.0; is_text = there.1 }
+
+pub text_of : {place : DatasetPlace} {parts : Parts} {p text : List ℕ} → Reached place parts p text → IsTextOf p text
+text_of r = (r.whole, r.begun, r.reads, r.is_text)
+
+-- where it stands, or is done
+pub led_of : {u : Unpacking} {p : List ℕ} {a : ℕ} → Stands u p a ⊎ IsDoneWith u p a → IsLed u p
+led_of (inl at) = at.is_led
+led_of (inr at) = at.is_led
+
 -- some octets more
 pub data_more : (ds : List Dataset) (h : Head) (taken run : List ℕ) → handed_on ds (InData h taken) ++ map DataOctet run ≡ handed_on ds (InData h (taken ++ run))
-data_more ds h taken run =
-    append_assoc (flat_map events_of ds) (HeadRead h ∷ map DataOctet taken) (map DataOctet run)
-    ∙ ap (λ (es : List DatasetEvent). flat_map events_of ds ++ (HeadRead h ∷ es)) (sym (map-append DataOctet taken run))
+data_more ds h taken run = simp (append_assoc, map-append)
 
 -- its end
 pub end_told : (ds : List Dataset) (h : Head) (taken : List ℕ) → length taken ≡ h.count → handed_on ds (InData h taken) ++ DatasetEnd ∷ [] ≡ handed_on (ds ++ data_of h taken ∷ []) (InTag [])
 end_told ds h taken whole =
     let same : h ≡ head_of (data_of h taken) = λ i. record { rec = h.rec; set = h.set; count = sym whole i } in
-    append_assoc (flat_map events_of ds) (HeadRead h ∷ map DataOctet taken) (DatasetEnd ∷ [])
-    ∙ ap (λ (k : Head). flat_map events_of ds ++ (HeadRead k ∷ (map DataOctet taken ++ DatasetEnd ∷ []))) same
-    ∙ ap (λ (es : List DatasetEvent). flat_map events_of ds ++ es) (sym (append-nil (events_of (data_of h taken))))
-    ∙ sym (flat_map-append events_of ds (data_of h taken ∷ []))
-    ∙ sym (append-nil (flat_map events_of (ds ++ data_of h taken ∷ [])))
+    simp (append_assoc, append-nil, flat_map-append)
+    (ap (λ (k : Head). flat_map events_of ds ++ (HeadRead k ∷ (map DataOctet taken ++ DatasetEnd ∷ []))) same)
 
 -- ---- what is handed on is in order
 
@@ -41,10 +92,8 @@ filled : (ds : List Dataset) (h : Head) (taken : List ℕ) → length taken < h.
     → handed_on ds (InData h taken) ++ (map DataOctet (lacking h taken) ++ DatasetEnd ∷ []) ≡ flat_map events_of (ds ++ data_of h (taken ++ lacking h taken) ∷ [])
 filled ds h taken less =
     let all : length (taken ++ lacking h taken) ≡ h.count = omega (arith, less, length-append taken (lacking h taken), length-replicate {A = ℕ} (h.count - length taken) 0) in
-    sym (append_assoc (handed_on ds (InData h taken)) (map DataOctet (lacking h taken)) (DatasetEnd ∷ []))
-    ∙ ap (λ (es : List DatasetEvent). es ++ DatasetEnd ∷ []) (data_more ds h taken (lacking h taken))
-    ∙ end_told ds h (taken ++ lacking h taken) all
-    ∙ append-nil (flat_map events_of (ds ++ data_of h (taken ++ lacking h taken) ∷ []))
+    rw (← append_assoc (handed_on ds (InData h taken)) (map DataOctet (lacking h taken)) (DatasetEnd ∷ []), data_more ds h taken (lacking h taken))
+    (end_told ds h (taken ++ lacking h taken) all ∙ append-nil _)
 
 pub handed_in_order : (octets : List ℕ) (events : List DatasetEvent) (begun : Begun) → HandsOn count_octets octets events begun → AreInOrder events
 handed_in_order octets events (InTag held) hands =

@@ -8,8 +8,6 @@ use Rattle.iim_places.specs.declared.refusal.Cause.TheVariants.{Message}
 use Rattle.wire_message.specs.declared.fault.MessageCause.TheVariants.{Sink}
 use Rattle.iim_places.specs.declared.refusal.Refusal.{Refusal}
 
--- ---- Unpackers that are restored from a ticket.
-
 -- An unpacker that is restored from another's ticket, under its limits and with its count of octets, stands where the other
 -- stands, and is done with what the other is done with: each call on the one answers as on the other.
 -- no twin: no code has these words
@@ -17,15 +15,9 @@ abbrev pub RestoredStandAsSaved : Type 0
 RestoredStandAsSaved = (u v : Unpacking) (p ticket : List ℕ) (a : ℕ) → (limits_in u).octets < 2 ^ 32 → (limits_in u).fields < 2 ^ 32 → IsTicketOf p ticket → IsRestored (limits_in u) ticket a v
     → (Stands u p a → Stands v p a) × (IsDoneWith u p a → IsDoneWith v p a)
 
--- ---- Where unpackers stand is told by the place.
-
 -- Where an unpacker stands is told by the place alone: it stands on all open octets that lead there, if on some.
 abbrev pub UnpackersStandByPlace : Type 0
 UnpackersStandByPlace = (u : Unpacking) (p q : List ℕ) (a : ℕ) (place : Place) → IsPlaceOf p place → IsPlaceOf q place → Stands u p a → IsOpen (limits_in u) q → Stands u q a
-
--- ---- Unpackers that stand alike answer alike, whatever their sinks.
-
--- ---- what is answered
 
 -- A piece led an unpacker from u to v, and this was answered. It is what the clauses of `feed` say, but for the sink.
 pub record AnswersPiece (u v : Unpacking) (piece : List ℕ) (answer : Result Progress Refusal) : Type 0 where
@@ -43,11 +35,8 @@ IsOfNoSink answer = IfErr answer (λ e. e.cause ≢ Message Sink)
 -- The pieces were answered so, one after another, and the sink did not stop.
 abbrev pub AnswersPieces : Unpacking → List (List ℕ) → List (Result Progress Refusal) → Type 0
 AnswersPieces u [] [] = Unit {0}
-AnswersPieces u [] (answer ∷ answers) = ⊥
-AnswersPieces u (piece ∷ pieces) [] = ⊥
 AnswersPieces u (piece ∷ pieces) (answer ∷ answers) = (v : Unpacking) × AnswersPiece u v piece answer × IsOfNoSink answer × AnswersPieces v pieces answers
-
--- ---- unpackers that stand alike
+AnswersPieces u pieces answers = ⊥
 
 -- They read under the same limits, and stand on the same octets, or are done with the same ones, and count them alike.
 pub record StandOnSame (u v : Unpacking) : Type 0 where
@@ -56,16 +45,9 @@ pub record StandOnSame (u v : Unpacking) : Type 0 where
   pub count : ℕ
   pub both : (Stands u octets count × Stands v octets count) ⊎ (IsDoneWith u octets count × IsDoneWith v octets count)
 
--- They have refused the same octet.
-pub record RefusedSame (u v : Unpacking) : Type 0 where
-  pub octet : ℕ
-  pub one : u.refused ≡ Some octet
-  pub other : v.refused ≡ Some octet
-
+-- They stand so, or have refused the same octet.
 abbrev pub StandAlike : Unpacking → Unpacking → Type 0
-StandAlike u v = StandOnSame u v ⊎ RefusedSame u v
-
--- ---- the laws
+StandAlike u v = StandOnSame u v ⊎ ((octet : ℕ) × (u.refused ≡ Some octet) × (v.refused ≡ Some octet))
 
 -- A piece is answered alike by unpackers that stand alike, where no sink stops; and then they stand alike.
 abbrev pub PieceIsAnsweredAlike : Type 0
@@ -84,12 +66,9 @@ abbrev pub RestoredStandAlike : Type 0
 RestoredStandAlike = (u v : Unpacking) (p ticket : List ℕ) (a : ℕ) → (limits_in u).octets < 2 ^ 32 → (limits_in u).fields < 2 ^ 32 → Stands u p a ⊎ IsDoneWith u p a → IsTicketOf p ticket
     → IsRestored (limits_in u) ticket a v → StandAlike u v
 
--- ---- The laws of unpackers, as one record: a field for each.
-
+-- The laws of unpackers: a field for each.
 pub record UnpackerLaws : Type 0 where
-  -- unpackers at one place:
   pub unpackers_stand_by_place : UnpackersStandByPlace
-  -- unpackers that are saved and restored:
   pub restored_unpackers_stand_as_saved : RestoredStandAsSaved
   pub unpackers_answer_alike : PieceIsAnsweredAlike
   pub saved_places_continue : PiecesAreAnsweredAlike

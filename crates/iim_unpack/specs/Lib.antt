@@ -6,13 +6,10 @@ pub mod States
 pub mod Laws
 -- What only proofs and private clauses cite.
 pub mod UnpackerInside
-pub mod HeldOctets
 pub mod IntakeSteps
 pub mod Passed
 pub mod Passing
-pub mod Sequence
 pub mod PartSteps
 pub mod Going
 pub mod Routing
 pub mod TicketReading
-pub mod Restoring

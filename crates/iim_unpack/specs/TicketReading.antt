@@ -14,15 +14,10 @@ use Rattle.wire_message.specs.declared.saved.MessagePlace.{MessagePlace}
 use Rattle.iim_unpack.specs.States.Parts.{has_ended, Parts}
 use Rattle.iim_places.specs.Format.Tickets.{Phase, TagBegun, DataBegun, AllEnded, ticket_of}
 
--- ---- what the readers tell
-
-abbrev pub phase_at : DatasetPlace → List ℕ → Phase
-phase_at (Tag held) taken = TagBegun held.items
-phase_at (Inside h left) taken = DataBegun h.set h.count left taken
-
 -- what is begun, by the reader of tags and the parts
 abbrev pub phase_in : DatasetPlace → Parts → Phase
-phase_in place parts = if has_ended parts then AllEnded else phase_at place parts.fields.taken
+phase_in place parts = if has_ended parts then AllEnded
+    else elim place [ Tag held ↦ TagBegun held.items | Inside h left ↦ DataBegun h.set h.count left parts.fields.taken ]
 
 -- how many octets of a begun subfile are to come
 abbrev pub left_in : DatasetPlace → ℕ

@@ -3,11 +3,9 @@
 ghost use Rattle.std.specs.Prelude.{◌≡◌, ℕ, List, None};
 ghost use Rattle.iim_unpack.specs.States.Held.{HoldsFew};
 ghost use Rattle.iim_unpack.specs.States.Unpacking.{IsDone, IsDoneWith, Stands};
-ghost use Rattle.iim_unpack.specs.Restoring.{ReadersMakeUnpackers};
 ghost use Rattle.iim_unpack.specs.Laws.{UnpackerLaws};
 
 use crate::unpacker::Unpacker;
-use iim_object::laws::readers_tell_sizes;
 use iim_places::laws::lower_laws;
 pub use iim_places::laws::place_laws;
 
@@ -22,15 +20,6 @@ pub fn unpackers_stand_somewhere(unpacker: &Unpacker)
 {
     lower_laws();
     unpacker.stands_somewhere();
-}
-
-/// An unpacker that is made of the readers of a possible place is sound, and restored from its ticket.
-pub(crate) fn readers_make_unpackers()
-    ensures { ReadersMakeUnpackers }
-{
-    lower_laws();
-    place_laws();
-    readers_tell_sizes();
 }
 
 /// What holds of unpackers that stand at one place, or are saved and restored: a field for each law.

@@ -1,18 +1,17 @@
 //! The readers of an unpacker after that of the tags, as one.
 
 ghost use Rattle.std.specs.Prelude.{◌≡◌, true, false, IsTrue, ◌<◌, ◌≤◌, ◌-◌, ℕ, nat_lt, [], ◌∷◌, length, map, take, slice_index, Some, None, IsSome, IfSome, IfOk, IfErr, OnOk};
-ghost use Rattle.iim_dataset.specs.States.Events.{HeadRead, DataOctet};
+ghost use Rattle.iim_dataset.specs.States.Events.{HeadRead, DataOctet, DatasetEnd};
 ghost use Rattle.iim_fields.specs.States.Standing.{room_of, IsBetween};
 ghost use Rattle.iim_object.specs.Format.Places.{head_token, value_token};
 ghost use Rattle.iim_object.specs.Format.Plans.{max_subfiles};
 ghost use Rattle.iim_object.specs.States.Reading.{EndsAs, LeadsOn, events_at};
 ghost use Rattle.wire_message.specs.States.Reading.{IsWhole};
-ghost use Rattle.iim_unpack.specs.PartSteps.{IsObjectFault};
 ghost use Rattle.iim_places.specs.Format.Refusals.{message_on, too_many_on};
-ghost use Rattle.iim_unpack.specs.Passed.{TellsMessage, HasFewSubfiles, RefusesSubfile};
-ghost use Rattle.iim_unpack.specs.PartSteps.{TakesHead, TakesData, TellsParts, TellsWhole, PartsRefuse, Closed, NotClosed};
+ghost use Rattle.iim_unpack.specs.Passed.{TellsMessage, IsObjectFault, HasFewSubfiles, RefusesSubfile};
+ghost use Rattle.iim_unpack.specs.PartSteps.{AreBetween, TakesData, LeadsParts, TellsParts, TellsWhole, PartsRefuse, NotClosed};
 ghost use Rattle.iim_unpack.specs.States.Parts.{has_ended};
-ghost use Rattle.iim_unpack.specs.Routing.{HasEnded, TookWhole};
+ghost use Rattle.iim_unpack.specs.Routing.{TookWhole};
 
 pub(crate) mod message;
 pub(crate) mod router;
@@ -79,10 +78,11 @@ fn subfile<S: StorySink>(
     requires message { IsSome message.old }
     ensures takes_calls { OnOk result (IsSome object.new) }
     ensures leads_on { OnOk result (LeadsOn object.old (head_token head.rec head.count) object.new) }
-    ensures told { OnOk result (TellsMessage S.goes S.failures message.old sink.old (events_at head.rec) message.new
-        sink.new) }
+    ensures told { OnOk result (TellsMessage S.goes S.failures (message.old, sink.old) (events_at head.rec)
+        (message.new, sink.new)) }
     ensures few { OnOk result (HasFewSubfiles object.old) }
-    ensures refused { IfErr result (RefusesSubfile S.goes S.failures object.old message.old head sink.old sink.new) }
+    ensures refused { IfErr result (RefusesSubfile S.goes S.failures object.old head (message.old, sink.old)
+        (message.new, sink.new)) }
 {
     if !may_begin(object.subfiles()) {
         return Err(too_many_on(head));
@@ -118,7 +118,7 @@ fn may_end(object: &ObjectReader, message: &MessageReader, number: u64) -> bool
 impl Parts {
     /// Whether the last dataset has ended.
     #[inline(always)]
-    #[tactic(auto, using(crate::proofs::Ended::ended_by, crate::proofs::Ended::unended_by))]
+    #[tactic(auto, using(crate::proofs::Sequences::ended_by, crate::proofs::Sequences::unended_by))]
     pub(crate) fn has_ended(&self) -> bool
         ensures { result ≡ has_ended self.now }
     {
@@ -127,12 +127,12 @@ impl Parts {
 
     /// Takes the next head, or tells the first fault of it.
     pub(crate) fn head<S: StorySink>(&mut self, head: Head, sink: &mut S) -> Result<(), TokenFault>
-        requires { TakesHead self.old }
+        requires { AreBetween false self.old }
         ensures takes { OnOk result (TakesData self.new head.count) }
-        ensures went { OnOk result (TellsParts S.goes S.failures self.old sink.old (HeadRead head ∷ []) self.new
-            sink.new) }
+        ensures went { OnOk result (TellsParts S.goes S.failures (self.old, sink.old) (HeadRead head ∷ [])
+            (self.new, sink.new)) }
         ensures stopped { IfErr result (λ fault.
-            PartsRefuse S.goes S.failures (self.old, sink.old) [] (HeadRead head) (Some fault, sink.new)) }
+            PartsRefuse S.goes S.failures (Some fault) (self.old, sink.old) [] (HeadRead head) (self.new, sink.new)) }
         ensures room { room_of self.new.fields ≡ room_of self.old.fields }
     {
         lower_laws();
@@ -151,9 +151,9 @@ impl Parts {
     /// Takes a whole dataset of record 7; or changes nothing.
     #[inline(never)]
     fn whole_number(&mut self, set: u8, count: u64, octets: &[u8]) -> bool
-        requires takes { TakesHead self.old }
+        requires takes { AreBetween false self.old }
         requires count { count ≡ length octets.now }
-        ensures takes { TakesHead self.new }
+        ensures takes { AreBetween false self.new }
         ensures whole { IsTrue result
             → TellsWhole self.old (record { rec = 7; set = set; count = count }) octets.now self.new }
         ensures left { result ≡ false → self.new ≡ self.old }
@@ -179,9 +179,9 @@ impl Parts {
     /// Takes a whole 9:10, with which the envelope ends; or changes nothing.
     #[inline(never)]
     fn whole_end(&mut self, set: u8, count: u64, octets: &[u8]) -> bool
-        requires takes { TakesHead self.old }
+        requires takes { AreBetween false self.old }
         requires count { count ≡ length octets.now }
-        ensures ended { IsTrue result → HasEnded self.new }
+        ensures ended { IsTrue result → AreBetween true self.new }
         ensures whole { IsTrue result
             → TellsWhole self.old (record { rec = 9; set = set; count = count }) octets.now self.new }
         ensures left { result ≡ false → self.new ≡ self.old }
@@ -206,9 +206,9 @@ impl Parts {
     /// Takes a whole dataset of record 1 or 2; or changes nothing.
     #[inline(always)]
     fn whole_field(&mut self, head: Head, octets: &[u8]) -> bool
-        requires takes { TakesHead self.old }
+        requires takes { AreBetween false self.old }
         requires count { head.count ≡ length octets.now }
-        ensures takes { TakesHead self.new }
+        ensures takes { AreBetween false self.new }
         ensures whole { IsTrue result → TellsWhole self.old head octets.now self.new }
         ensures left { result ≡ false → self.new ≡ self.old }
         ensures room { room_of self.new.fields ≡ room_of self.old.fields }
@@ -225,15 +225,15 @@ impl Parts {
         octets: &[u8],
         sink: &mut S,
     ) -> Result<Option<Step>, Halt>
-        requires takes { TakesHead self.old }
+        requires takes { AreBetween false self.old }
         requires subfile { head.rec ≡ 8 }
         ensures taken { IfOk result (TookWhole S.goes S.failures (self.old, sink.old) head octets.now
             (self.new, sink.new)) }
         ensures before { IfErr result (λ halt. halt.taken < length octets.now) }
         ensures stopped { IfErr result (λ halt.
-            PartsRefuse S.goes S.failures (self.old, sink.old)
+            PartsRefuse S.goes S.failures (Some halt.fault) (self.old, sink.old)
             (HeadRead head ∷ map DataOctet (take halt.taken octets.now))
-            (DataOctet (slice_index octets.now halt.taken)) (Some halt.fault, sink.new)) }
+            (DataOctet (slice_index octets.now halt.taken)) (self.new, sink.new)) }
         ensures room { room_of self.new.fields ≡ room_of self.old.fields }
     {
         lower_laws();
@@ -259,15 +259,15 @@ impl Parts {
         octets: &[u8],
         sink: &mut S,
     ) -> Result<Option<Step>, Halt>
-        requires takes { TakesHead self.old }
+        requires takes { AreBetween false self.old }
         requires count { head.count ≡ length octets.now }
         ensures taken { IfOk result (TookWhole S.goes S.failures (self.old, sink.old) head octets.now
             (self.new, sink.new)) }
         ensures before { IfErr result (λ halt. halt.taken < length octets.now) }
         ensures stopped { IfErr result (λ halt.
-            PartsRefuse S.goes S.failures (self.old, sink.old)
+            PartsRefuse S.goes S.failures (Some halt.fault) (self.old, sink.old)
             (HeadRead head ∷ map DataOctet (take halt.taken octets.now))
-            (DataOctet (slice_index octets.now halt.taken)) (Some halt.fault, sink.new)) }
+            (DataOctet (slice_index octets.now halt.taken)) (self.new, sink.new)) }
         ensures room { room_of self.new.fields ≡ room_of self.old.fields }
     {
         match head.rec {
@@ -289,12 +289,13 @@ impl Parts {
         requires { (left : ℕ) × TakesData self.old left × (length run.now ≤ left) }
         ensures takes { OnOk result ((left : ℕ) → TakesData self.old left
             → TakesData self.new (left - length run.now)) }
-        ensures went { OnOk result (TellsParts S.goes S.failures self.old sink.old (map DataOctet run.now) self.new
-            sink.new) }
+        ensures went { OnOk result (TellsParts S.goes S.failures (self.old, sink.old) (map DataOctet run.now)
+            (self.new, sink.new)) }
         ensures before { IfErr result (λ halt. halt.taken < length run.now) }
         ensures stopped { IfErr result (λ halt.
-            PartsRefuse S.goes S.failures (self.old, sink.old) (map DataOctet (take halt.taken run.now))
-            (DataOctet (slice_index run.now halt.taken)) (Some halt.fault, sink.new)) }
+            PartsRefuse S.goes S.failures (Some halt.fault) (self.old, sink.old)
+            (map DataOctet (take halt.taken run.now)) (DataOctet (slice_index run.now halt.taken))
+            (self.new, sink.new)) }
         ensures room { room_of self.new.fields ≡ room_of self.old.fields }
     {
         lower_laws();
@@ -317,7 +318,7 @@ impl Parts {
         ensures object { OnOk result (IsSome self.new.object) }
         ensures message { OnOk result (IsSome self.new.message) }
         ensures between { OnOk result (IsBetween self.new.fields) }
-        ensures closed { OnOk result (Closed self.old self.new) }
+        ensures closed { OnOk result (LeadsParts self.old (DatasetEnd ∷ []) [] self.new) }
         ensures refused { IfErr result (NotClosed self.old) }
         ensures room { room_of self.new.fields ≡ room_of self.old.fields }
     {

@@ -1,6 +1,6 @@
 //! The streaming unpacker.
 
-ghost use Rattle.std.specs.Prelude.{◌≡◌, ◌+◌, ◌*◌, ◌^◌, [], is_some, ◌<◌, ◌≤◌, ◌⊎◌, ℕ, List, Option, Some, None, Ok, Err, false, length, take, IsTrue, ◌↔◌, IsSome, IfSome, IfOk, IfErr, OnOk, OnErr};
+ghost use Rattle.std.specs.Prelude.{◌≡◌, ◌+◌, ◌*◌, ◌^◌, [], is_some, ◌<◌, ◌≤◌, ◌⊎◌, ◌||◌, ℕ, List, Option, Some, None, Ok, Err, false, length, take, IsTrue, ◌↔◌, IsSome, IfSome, IfOk, IfErr, OnOk, OnErr};
 ghost use Rattle.iim_dataset.specs.States.Places.{to_come};
 ghost use Rattle.iim_dataset.specs.States.Reading.{TakesCalls, tag_cause_of};
 ghost use Rattle.iim_fields.specs.States.Standing.{StandsAfter, limits_of, room_of, room_for};
@@ -8,8 +8,8 @@ ghost use Rattle.wire_story.specs.Format.Delivery as story;
 ghost use Rattle.iim_unpack.specs.States.Parts.{CountsFor};
 ghost use Rattle.iim_places.specs.Format.Refusals.{refusal_at};
 ghost use Rattle.iim_unpack.specs.Routing.{Takes};
-ghost use Rattle.iim_unpack.specs.UnpackerInside.{HasAdvanced, FailsFor, FailsAs, tag_fault, begins, IsUnpacking, Stood};
-ghost use Rattle.iim_places.specs.States.Counts.{raised};
+ghost use Rattle.iim_unpack.specs.UnpackerInside.{HasAdvanced, FailsFor, FailsAs, tag_fault, IsUnpacking, Stood};
+ghost use Rattle.iim_places.specs.States.Counts.{are_some, raised};
 ghost use Rattle.iim_unpack.specs.States.Unpacking.{failed_at, Stands, IsDoneWith, IsDone, IsRefusedIn, Goes, limits_in, room_in, LeftAs};
 ghost use Rattle.iim_unpack.specs.States.Held.{HoldsFew};
 ghost use Rattle.iim_unpack.specs.States.Restored.{HasTicketIn};
@@ -45,7 +45,7 @@ pub enum Progress {
 }
 
 /// `feed` of the tags at a router, whose references stay what they are.
-#[tactic(auto, using(crate::proofs::Routed::fails_for, crate::proofs::Routed::has_advanced, crate::proofs::Routed::same_room))]
+#[tactic(auto, using(crate::proofs::Feeding::fails_for, crate::proofs::Feeding::has_advanced, crate::proofs::Feeding::same_room))]
 fn feed_router<'p, 's, S: StorySink>(
     reader: &mut HeadReader,
     piece: &[u8],
@@ -60,9 +60,9 @@ fn feed_router<'p, 's, S: StorySink>(
         (reader.new, router.new.parts.now, router.new.sink.now)) }
     ensures before { IfErr result (λ fault. fault.taken < length piece.now) }
     ensures fails { IfErr result (λ fault.
-        FailsFor S.goes S.failures (tag_cause_of fault.cause)
+        FailsFor S.goes S.failures (tag_cause_of fault.cause) router.new.refused
         (reader.old.place, router.old.parts.now, router.old.sink.now) piece.now fault.taken
-        (reader.new.place, router.new.refused, router.new.sink.now)) }
+        (reader.new.place, router.new.parts.now, router.new.sink.now)) }
     ensures room { room_of router.new.parts.now.fields ≡ room_of router.old.parts.now.fields }
 {
     reader.feed(piece, router)
@@ -92,7 +92,8 @@ fn advance<S: StorySink>(
         (reader.new, parts.new, sink.new)) }
     ensures before { IfErr result (λ halt. halt.taken < length piece.now) }
     ensures fails { IfErr result (λ halt.
-        FailsAs S.goes S.failures (reader.old.place, parts.old, sink.old) piece.now halt.taken halt.fault sink.new) }
+        FailsAs S.goes S.failures (reader.old.place, parts.old, sink.old) piece.now halt.taken halt.fault
+        (reader.new.place, parts.new, sink.new)) }
     ensures room { room_of parts.new.fields ≡ room_of parts.old.fields }
 {
     let mut router = Router {
@@ -168,14 +169,15 @@ pub struct Unpacker {
 
 impl Model for Unpacker {
     ghost use Rattle.iim_unpack.specs.States.Unpacking.{Unpacking};
-    ghost use Rattle.iim_unpack.specs.UnpackerInside.{IsSound};
+    ghost use Rattle.std.specs.Prelude.{◌≡◌, None};
+    ghost use Rattle.iim_unpack.specs.UnpackerInside.{IsUnpacking};
 
     ghost Value = { Unpacking };
 
     ghost view = { λ u. record
         { reader = u.reader; parts = u.parts; octets = u.octets; begun = u.begun; refused = u.refused } };
 
-    ghost invariant = { λ u. IsSound
+    ghost invariant = { λ u. u.refused ≡ None → IsUnpacking
         (record { reader = u.reader; parts = u.parts; octets = u.octets; begun = u.begun; refused = u.refused }) };
 }
 
@@ -223,7 +225,7 @@ fn put_where_room(octets: &[u8], out: &mut [u8])
 
 /// Whether an octet has come, after a piece.
 fn begins(begun: bool, piece: &[u8]) -> bool
-    ensures { result ≡ begins begun piece.now }
+    ensures { result ≡ (begun || are_some piece.now) }
 {
     begun || !piece.is_empty()
 }

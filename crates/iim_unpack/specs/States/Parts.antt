@@ -21,8 +21,6 @@ use Rattle.iim_places.specs.declared.refusal.Cause.TheVariants.{Message}
 use Rattle.wire_message.specs.declared.fault.MessageCause.TheVariants.{Sink}
 use Rattle.iim_places.specs.Format.Open.{object_so_far}
 
--- ---- where the parts stand
-
 -- after these datasets
 -- twins (with Within): "Before the first octet, and an envelope in one piece", "Empty subfiles among others"; `reads_random_envelopes`
 pub record AreAfter (parts : Parts) (ds : List Dataset) : Type 0 where
@@ -58,8 +56,6 @@ pub record AreLed (parts : Parts) (events : List DatasetEvent) (text : List ℕ)
 -- twin: "After the end of an envelope no octet is used"
 unfoldable pub has_ended : Parts → Bool
 has_ended parts = (records.section_of parts.fields == 9) && is_none (records.begun_head_of parts.fields)
-
--- ---- what events do
 
 -- the sink's count of failures rose where the sink refused, and nowhere else
 -- twin: `sinks_that_stop`

@@ -21,8 +21,6 @@ pub record IsRestored (limits : Limits) (ticket : List ℕ) (at : ℕ) (u : Unpa
   pub done : (p : List ℕ) (v : Value) → IsPlaceOf p place → IsEnvelopeWithin limits p v → IsDoneWith u p at
   pub some : (p : List ℕ) × IsPlaceOf p place × (Stands u p at ⊎ IsDoneWith u p at)
 
--- ---- A ticket that is written at the front of a buffer.
-
 -- The ticket of the unpacker has so many octets, and stands at the front of the buffer, where that has room for it.
 -- no twin: a bound that is proved of it; no code has the number
 pub record HasTicketIn (u : Unpacking) (out : List ℕ) (count : ℕ) : Type 0 where

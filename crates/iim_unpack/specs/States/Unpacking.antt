@@ -21,8 +21,6 @@ use Rattle.iim_places.specs.declared.refusal.Refusal.{Refusal}
 use Rattle.iim_places.specs.declared.refusal.Layer.TheVariants as layers
 use Rattle.iim_places.specs.States.Counts.{are_some, raised}
 
--- ---- the unpacker
-
 pub record Unpacking : Type 0 where
   pub reader : Reader
   pub parts : Parts

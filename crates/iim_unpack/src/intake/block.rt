@@ -16,12 +16,11 @@ pub(crate) struct Block {
 }
 
 impl Model for Block {
-    ghost use Rattle.std.specs.Prelude.{ℕ, List, ◌≤◌};
-    ghost use Rattle.iim_unpack.specs.HeldOctets.{held_in};
+    ghost use Rattle.std.specs.Prelude.{ℕ, List, ◌≤◌, slice_range};
 
     ghost Value = { List ℕ };
 
-    ghost view = { λ b. held_in b.octets b.from b.to };
+    ghost view = { λ b. slice_range b.octets b.from b.to };
 
     ghost invariant = { λ b. (b.from ≤ b.to) × (b.to ≤ 4096) };
 }
@@ -46,7 +45,7 @@ impl Block {
     }
 
     /// Continues after the first `used` of the octets.
-    #[tactic(auto, using(crate::proofs::Blocks::passes, crate::proofs::Blocks::fits))]
+    #[tactic(auto, using(crate::proofs::Intakes::passes, crate::proofs::Intakes::fits))]
     pub(crate) fn pass(&mut self, used: usize)
         requires { used ≤ length self.old }
         ensures { self.new ≡ drop used self.old }

@@ -4,8 +4,8 @@ ghost use Rattle.std.specs.Prelude.{◌≡◌, ◌<◌, length, map, take, slice
 ghost use Rattle.std.proofs.Common.{◌∙◌};
 ghost use Rattle.iim_object.specs.Format.Events.{ObjectOctet};
 ghost use Rattle.iim_object.specs.Format.Places.{head_token};
-ghost use Rattle.iim_object.specs.States.Reading.{LeadsOn, events_at};
-ghost use Rattle.iim_unpack.specs.Passed.{TellsMessage, MessageRefuses, PassesTo, HaltsAt, RefusesOctet, RefusesEnd, RefusesObject};
+ghost use Rattle.iim_object.specs.States.Reading.{LeadsOn, RefusesHead, RefusesRun, events_at};
+ghost use Rattle.iim_unpack.specs.Passed.{TellsMessage, MessageRefuses, PassesTo, HaltsAt, RefusesObject};
 ghost use Rattle.iim_unpack.specs.Passing.{tells_message_nothing, tells_message_joined, message_refuses_joined};
 
 use iim_dataset::{Head, Stop};
@@ -31,27 +31,22 @@ impl<'m, 's, S: StorySink> ObjectSink for ToMessage<'m, 's, S> {
     ghost nothing = { λ a. (
       refl,
       refl,
-      λ some.
-          tells_message_nothing S.goes S.failures a.message.now a.sink.now some (S.nothing a.sink.now),
+      λ some. tells_message_nothing some (S.nothing a.sink.now),
     ) };
 
     ghost joined = { λ a b c xs ys h k. (
       h.0 ∙ k.0,
       h.1 ∙ k.1,
-      λ some. let p = h.2 some in
-          tells_message_joined S.goes S.failures S.joined a.message.now b.message.now c.message.now a.sink.now
-          b.sink.now c.sink.now xs ys p (k.2 p.takes_calls),
+      λ some. let p = h.2 some in tells_message_joined S.joined p (k.2 p.takes_calls),
     ) };
 
     ghost joined_stop = { λ a b c xs ys refused h k. (
       h.0 ∙ k.0,
       h.1 ∙ k.1,
-      λ some. let p = h.2 some in
-          message_refuses_joined S.goes S.failures S.joined a.message.now b.message.now a.sink.now b.sink.now c.sink.now
-          xs ys refused c.cause p (k.2 p.takes_calls),
+      λ some. let p = h.2 some in message_refuses_joined S.joined p (k.2 p.takes_calls),
     ) };
 
-    #[tactic(auto, using(crate::proofs::ToldMessage::tells_message_octets, crate::proofs::ToldMessage::message_refuses_octet))]
+    #[tactic(auto, using(crate::proofs::Carrying::message_refuses_octet))]
     fn run(&mut self, run: &[u8]) -> Result<(), Stop> {
         if run.is_empty() {
             return Ok(());
@@ -65,7 +60,6 @@ impl<'m, 's, S: StorySink> ObjectSink for ToMessage<'m, 's, S> {
         }
     }
 
-    #[tactic(auto, using(crate::proofs::ToldMessage::message_refuses_end))]
     fn close(&mut self) -> Result<(), Stop> {
         match self.message.close() {
             Ok(()) => Ok(()),
@@ -93,16 +87,16 @@ fn run_object<'m, 's, S: StorySink>(
     ensures same { OnOk result (object.new ≡ object.old) }
     ensures message { to.new.message.ghost_name ≡ to.old.message.ghost_name }
     ensures sink { to.new.sink.ghost_name ≡ to.old.sink.ghost_name }
-    ensures told { OnOk result (TellsMessage S.goes S.failures to.old.message.now to.old.sink.now
-        (map ObjectOctet run.now) to.new.message.now to.new.sink.now) }
-    ensures refused { IfErr result (RefusesOctet S.goes S.failures to.old.message.now to.old.sink.now run.now
-        to.new.cause to.new.sink.now) }
+    ensures told { OnOk result (TellsMessage S.goes S.failures (to.old.message.now, to.old.sink.now)
+        (map ObjectOctet run.now) (to.new.message.now, to.new.sink.now)) }
+    ensures refused { IfErr result (RefusesRun (MessageRefuses S.goes S.failures to.new.cause) run.now
+        (to.old.message.now, to.old.sink.now) (to.new.message.now, to.new.sink.now)) }
 {
     object.run(run, to)
 }
 
 /// Hands the end of the object to the object reader.
-#[tactic(auto, using(crate::proofs::ToldMessage::by_fault))]
+#[tactic(auto, using(crate::proofs::Carrying::by_fault))]
 fn end_object<'m, 's, S: StorySink>(
     object: &mut ObjectReader,
     head: Head,
@@ -114,10 +108,11 @@ fn end_object<'m, 's, S: StorySink>(
     ensures sink { to.new.sink.ghost_name ≡ to.old.sink.ghost_name }
     ensures takes_calls { OnOk result (IsSome object.new) }
     ensures leads_on { OnOk result (LeadsOn object.old (head_token head.rec head.count) object.new) }
-    ensures told { OnOk result (TellsMessage S.goes S.failures to.old.message.now to.old.sink.now (events_at head.rec)
-        to.new.message.now to.new.sink.now) }
-    ensures refused { IfErr result (RefusesEnd S.goes S.failures object.old (head_token head.rec head.count)
-        (to.old.message.now, to.old.sink.now) (to.new.cause, to.new.sink.now)) }
+    ensures told { OnOk result (TellsMessage S.goes S.failures (to.old.message.now, to.old.sink.now)
+        (events_at head.rec) (to.new.message.now, to.new.sink.now)) }
+    ensures refused { IfErr result (RefusesHead (TellsMessage S.goes S.failures)
+        (MessageRefuses S.goes S.failures to.new.cause) object.old (head_token head.rec head.count)
+        (to.old.message.now, to.old.sink.now) (to.new.message.now, to.new.sink.now)) }
 {
     object.head(head.rec, head.set, head.count, to)
 }
@@ -132,12 +127,13 @@ pub(crate) fn pass_octets<S: StorySink>(
     requires object { IsSome object.old }
     requires message { IsSome message.old }
     ensures same { OnOk result (object.new ≡ object.old) }
-    ensures told { OnOk result (TellsMessage S.goes S.failures message.old sink.old (map ObjectOctet run.now)
-        message.new sink.new) }
+    ensures told { OnOk result (TellsMessage S.goes S.failures (message.old, sink.old) (map ObjectOctet run.now)
+        (message.new, sink.new)) }
     ensures before { IfErr result (λ fault. fault.taken < length run.now) }
     ensures refused { IfErr result (λ fault.
-        MessageRefuses S.goes S.failures (message.old, sink.old) (map ObjectOctet (take fault.taken run.now))
-        (ObjectOctet (slice_index run.now fault.taken)) (Some fault.cause, sink.new)) }
+        MessageRefuses S.goes S.failures (Some fault.cause) (message.old, sink.old)
+        (map ObjectOctet (take fault.taken run.now)) (ObjectOctet (slice_index run.now fault.taken))
+        (message.new, sink.new)) }
 {
     let mut to = ToMessage {
         message,
@@ -175,9 +171,10 @@ pub(crate) fn pass_head<S: StorySink>(
     requires message { IsSome message.old }
     ensures takes_calls { OnOk result (IsSome object.new) }
     ensures leads_on { OnOk result (LeadsOn object.old (head_token head.rec head.count) object.new) }
-    ensures told { OnOk result (TellsMessage S.goes S.failures message.old sink.old (events_at head.rec) message.new
-        sink.new) }
-    ensures refused { IfErr result (RefusesObject S.goes S.failures object.old message.old head sink.old sink.new) }
+    ensures told { OnOk result (TellsMessage S.goes S.failures (message.old, sink.old) (events_at head.rec)
+        (message.new, sink.new)) }
+    ensures refused { IfErr result (RefusesObject S.goes S.failures object.old head (message.old, sink.old)
+        (message.new, sink.new)) }
 {
     let mut to = ToMessage {
         message,

@@ -33,16 +33,14 @@ impl<'p, 's, S: StorySink> DatasetSink for Router<'p, 's, S> {
     ghost nothing = { λ a. (
       refl,
       refl,
-      tells_parts_nothing S.goes S.failures a.parts.now a.sink.now
-          (S.nothing a.sink.now),
+      tells_parts_nothing (S.nothing a.sink.now),
       refl,
     ) };
 
     ghost joined = { λ a b c xs ys h k. (
       h.0 ∙ k.0,
       h.1 ∙ k.1,
-      tells_parts_joined S.goes S.failures S.joined a.parts.now b.parts.now c.parts.now
-          a.sink.now b.sink.now c.sink.now xs ys h.2 k.2,
+      tells_parts_joined S.joined h.2 k.2,
       k.3 ∙ h.3,
     ) };
 
@@ -51,8 +49,7 @@ impl<'p, 's, S: StorySink> DatasetSink for Router<'p, 's, S> {
     ghost joined_stop = { λ a b c xs ys event h k. (
       h.0 ∙ k.0,
       h.1 ∙ k.1,
-      stopped_joined S.goes S.failures S.joined a.parts.now b.parts.now a.sink.now b.sink.now
-          c.sink.now xs ys event c.refused h.2 k.2,
+      stopped_joined S.joined h.2 k.2,
       k.3 ∙ h.3,
     ) };
 
@@ -92,7 +89,7 @@ impl<'p, 's, S: StorySink> DatasetSink for Router<'p, 's, S> {
         }
     }
 
-    #[tactic(auto, using(crate::proofs::Closing::tells_parts_closed, crate::proofs::Closing::stopped_closed))]
+    #[tactic(auto, using(crate::proofs::Closing::tells_quietly, crate::proofs::Closing::stopped_closed))]
     fn close(&mut self) -> Result<Step, Stop> {
         match self.parts.close() {
             Ok(()) => {

@@ -10,11 +10,11 @@ ghost use Rattle.iim_places.specs.Format.TicketForm.{HasForm, SplitsTicket};
 ghost use Rattle.iim_places.specs.States.TicketsTold.{split_told};
 ghost use Rattle.iim_unpack.specs.States.Unpacking.{room_in};
 
-use crate::laws::readers_make_unpackers;
 use crate::parts::Parts;
 use crate::unpacker::Unpacker;
 use iim_fields::Limits;
-use iim_places::laws::place_laws;
+use iim_object::laws::readers_tell_sizes;
+use iim_places::laws::{lower_laws, place_laws};
 use iim_places::{Readers, TicketFault, TicketParts, fields_at, readers_at, split_ticket};
 use std::alloc::{AllocError, Global};
 
@@ -34,8 +34,9 @@ fn unpacker_at(
         → IsRestored limits ticket at u) }
     ensures room { IfOk result (λ u. room_in u ≡ room_for limits) }
 {
-    readers_make_unpackers();
+    lower_laws();
     place_laws();
+    readers_tell_sizes();
     let fields = fields_at(alloc, limits, parts)?;
     let Readers {
         tags,

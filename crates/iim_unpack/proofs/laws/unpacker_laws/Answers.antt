@@ -1,5 +1,4 @@
-use Rattle.iim_unpack.proofs.SamePlace.{same_stands}
-use Rattle.iim_unpack.proofs.Alike.{piece_alike, pieces_alike, restored_alike, restored_stand}
+use Rattle.iim_unpack.proofs.SamePlace.{piece_alike, pieces_alike, restored_alike, restored_stand, same_stands}
 use Rattle.iim_unpack.proofs.laws.unpacker_laws.Goals as goal
 
 pub returns : goal.returns

@@ -1,4 +1,4 @@
-use Rattle.iim_unpack.proofs.Words.{ℕ, List, inl, inr, Unpacking, IsDone, Stands, Stood}
+use Rattle.iim_unpack.proofs.Words.{IsDone, List, Stands, Stood, Unpacking, inl, inr, ℕ}
 use Rattle.iim_unpack.proofs.Held.{holds_few}
 use Rattle.iim_unpack.proofs.laws.unpackers_stand_somewhere.Goals as goal
 

@@ -1,5 +1,4 @@
-use Rattle.iim_unpack.proofs.Words.{◌≡◌, take, HasFedPieces, limits_in}
-use Rattle.iim_unpack.specs.Format.Pieces.{stream_of}
+use Rattle.iim_unpack.proofs.Words.{HasFedPieces, limits_in, stream_of, take, ◌≡◌}
 use Rattle.iim_unpack.proofs.pieces.feed_pieces.Given as goal
 
 abbrev pub invariant-loop-piece : goal.invariant-loop-piece

@@ -1,4 +1,4 @@
-use Rattle.iim_unpack.proofs.Words.{◌≡◌, ◌-◌, ◌^◌, [], None, HasFed, IsReady, in_line, LeftAs}
+use Rattle.iim_unpack.proofs.Words.{HasFed, IsReady, LeftAs, None, [], in_line, ◌-◌, ◌^◌, ◌≡◌}
 use Rattle.iim_unpack.proofs.intake.Intake.feed_envelope.Given as goal
 
 abbrev pub invariant-feeding : goal.invariant-feeding

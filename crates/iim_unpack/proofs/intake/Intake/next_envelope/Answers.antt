@@ -1,4 +1,4 @@
-use Rattle.iim_unpack.proofs.Intakes.{somewhere, given_by}
+use Rattle.iim_unpack.proofs.Intakes.{given_by, somewhere}
 use Rattle.iim_unpack.proofs.intake.Intake.next_envelope.Goals as goal
 
 pub unreachable-requires : goal.unreachable-requires

@@ -1,4 +1,4 @@
-use Rattle.iim_unpack.proofs.Words.{refl, inr, ap, IfErr-weaker, with_held, in_line}
+use Rattle.iim_unpack.proofs.Words.{IfErr-weaker, ap, in_line, inr, refl, with_held}
 use Rattle.std.proofs.lemmas.Result.{IfOk-weaker}
 use Rattle.iim_unpack.proofs.Intakes.{none_missed, none_truncated, read_and_fed, read_and_refused}
 use Rattle.iim_unpack.proofs.intake.Intake.next_piece.Goals as goal
@@ -8,16 +8,19 @@ returns-in-Ok-true-clause-fed g c =
     let st = g.R.Source.state in
     let still = ap (λ r. (st r).interruptions) c.feed_held.ensures.keeps.0 in
     λ none. IfOk-weaker c.feed_held.result _ _
-    (read_and_fed g.S.StorySink.goes (in_line st c.args.self.now) (with_held c.next_piece.new.block (st c.next_piece.new.reader)) (in_line st c.feed_held.new.self) c.args.unpacker.now c.feed_held.new.unpacker c.args.sink.now
-    c.feed_held.new.sink c.gifts_join.ensures c.in-Ok-true.ensures.given c.in-Ok-true.ensures.patience still) c.feed_held.ensures.fed
+    (read_and_fed g.S.StorySink.goes (in_line st c.args.self.now) (with_held c.next_piece.new.block (st c.next_piece.new.reader))
+    (in_line st c.feed_held.new.self)
+    c.args.unpacker.now c.feed_held.new.unpacker c.args.sink.now c.feed_held.new.sink c.gifts_join.ensures c.in-Ok-true.ensures.given
+    c.in-Ok-true.ensures.patience still) c.feed_held.ensures.fed
 
 pub returns-in-Ok-true-clause-faults : goal.returns-in-Ok-true-clause-faults
 returns-in-Ok-true-clause-faults g c =
-    let st = g.R.Source.state in
-    let still = ap (λ r. (st r).interruptions) c.feed_held.ensures.keeps.0 in
+    let i = c.args.self.now in
+    let still = ap (λ r. (g.R.Source.state r).interruptions) c.feed_held.ensures.keeps.0 in
     λ none. IfErr-weaker c.feed_held.result _ _
-    (read_and_refused g.S.StorySink.goes g.S.StorySink.failures st c.args.self.now (record (c.args.self.now) { reader = c.next_piece.new.reader; block = c.next_piece.new.block }) c.feed_held.new.self c.args.unpacker.now
-    c.feed_held.new.unpacker c.args.sink.now c.feed_held.new.sink c.gifts_join.ensures c.in-Ok-true.ensures.given c.in-Ok-true.ensures.patience still) c.feed_held.ensures.refused
+    (read_and_refused g.S.StorySink.goes g.S.StorySink.failures g.R.Source.state i
+    (record i { reader = c.next_piece.new.reader; block = c.next_piece.new.block })
+    c.feed_held.new.self c.gifts_join.ensures c.in-Ok-true.ensures.given c.in-Ok-true.ensures.patience still) c.feed_held.ensures.refused
 
 pub returns-in-Some-missing_at_end-clause-faults : goal.returns-in-Some-missing_at_end-clause-faults
 returns-in-Some-missing_at_end-clause-faults g c =
@@ -29,8 +32,9 @@ returns-in-Some-missing_at_end-clause-faults g c =
       refl,
       (
         refl,
-        inr (none_truncated g.S.StorySink.goes g.S.StorySink.failures (in_line st c.args.self.now) new c.args.unpacker.now _ e c.stands_somewhere.ensures.counts (g.met.S.StorySink.nothing _)
-            c.in-Ok-false.ensures.given c.in-Ok-false.ensures.patience (c.in-Ok-false.ensures.end c.in-Ok-false.field-0-test) c.in-Some-missing_at_end.ensures.truncated),
+        inr (none_truncated g.S.StorySink.goes g.S.StorySink.failures (in_line st c.args.self.now) new c.args.unpacker.now _ c.stands_somewhere.ensures.counts
+            (g.met.S.StorySink.nothing _) c.in-Ok-false.ensures.patience e c.in-Ok-false.ensures.given (c.in-Ok-false.ensures.end c.in-Ok-false.field-0-test)
+            c.in-Some-missing_at_end.ensures.truncated),
       ),
     )
 
@@ -41,6 +45,7 @@ returns-in-Err-clause-faults g c =
     λ none. (
       c.octets.result,
       refl,
-      none_missed g.S.StorySink.goes g.S.StorySink.failures (in_line st c.args.self.now) new c.args.unpacker.now _ c.octets.result c.in-Err.fault c.read_fault.result
-          c.stands_somewhere.ensures.counts (g.met.S.StorySink.nothing _) c.in-Err.ensures.missed c.in-Err.ensures.patience c.octets.ensures c.read_fault.ensures,
+      none_missed g.S.StorySink.goes g.S.StorySink.failures (in_line st c.args.self.now) new c.args.unpacker.now _ c.stands_somewhere.ensures.counts
+          (g.met.S.StorySink.nothing _) c.in-Err.ensures.patience c.in-Err.fault c.octets.result c.read_fault.result c.in-Err.ensures.missed c.octets.ensures
+          c.read_fault.ensures,
     )

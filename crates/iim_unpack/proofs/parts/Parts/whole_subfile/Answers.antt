@@ -1,6 +1,6 @@
-use Rattle.iim_unpack.proofs.Words.{refl, ◌∙◌, Option, take, slice_index, sym, subst, arith, State, are_octets}
+use Rattle.iim_unpack.proofs.Words.{Option, State, are_octets, arith, refl, slice_index, subst, sym, take, ◌∙◌}
 use Rattle.std.specs.Prelude.{IsSome}
-use Rattle.iim_unpack.proofs.Wholes.{subfile_went, subfile_stopped, takes_next}
+use Rattle.iim_unpack.proofs.Closing.{subfile_stopped, subfile_went, takes_next}
 use Rattle.iim_unpack.proofs.parts.Parts.whole_subfile.Goals as goal
 
 pub put_subfile-requires-clause-accepts : goal.put_subfile-requires-clause-accepts
@@ -9,28 +9,28 @@ put_subfile-requires-clause-accepts g c = c.accepts_subfile.ensures.exactly.0 c.
 pub returns-in-Ok-clause-taken : goal.returns-in-Ok-clause-taken
 returns-in-Ok-clause-taken g c =
     let run = c.args.octets.now in
-    let p = c.args.self.now in
     let some : IsSome c.pass_octets.new.object = subst (λ (o : Option State). IsSome o) (sym c.in-Ok.ensures.same) c.put_subfile.ensures.takes_calls in (
-      rw c.in-Ok.ensures.same (subfile_went g.S.StorySink.goes g.S.StorySink.failures g.met.S.StorySink.nothing g.met.S.StorySink.joined c.lower_laws.ensures p c.args.sink.now c.pass_octets.new.sink
-          c.args.head run c.whole_subfile.new.self c.put_subfile.new.self c.pass_octets.new.message (record {
+      rw c.in-Ok.ensures.same (subfile_went g.met.S.StorySink.nothing g.met.S.StorySink.joined c.lower_laws.ensures c.args.self.now c.args.head
+          c.whole_subfile.new.self c.put_subfile.new.self (record {
             eight = c.requires.subfile;
             takes = c.requires.takes;
             passes = c.whole_subfile.ensures.passes c.if-not-whole_subfile.false;
             leads = c.put_subfile.ensures.leads_on;
             few = c.accepts_subfile.ensures.few c.if-not-accepts_subfile.false;
-          }) (are_octets run (λ i. omega (arith, c.type_inv.octets i))) c.whole_subfile.ensures.bounds.limits c.in-Ok.ensures.told),
-      takes_next _ 8 refl c.whole_subfile.ensures.between (c.whole_subfile.ensures.section c.if-not-whole_subfile.false ∙ c.requires.subfile) some c.in-Ok.ensures.told.takes_calls,
+          }) run (are_octets run (λ i. omega (arith, c.type_inv.octets i))) c.whole_subfile.ensures.bounds.limits c.in-Ok.ensures.told),
+      takes_next 8 refl c.whole_subfile.ensures.between (c.whole_subfile.ensures.section c.if-not-whole_subfile.false ∙ c.requires.subfile) some
+      c.in-Ok.ensures.told.takes_calls,
     )
 
 pub returns-in-Err-clause-stopped : goal.returns-in-Err-clause-stopped
 returns-in-Err-clause-stopped g c =
     let run = c.args.octets.now in
     let f = c.in-Err.fault in
-    rw c.halt_on.ensures (subfile_stopped g.S.StorySink.goes g.S.StorySink.failures g.met.S.StorySink.nothing g.met.S.StorySink.joined c.lower_laws.ensures c.args.self.now c.args.sink.now c.pass_octets.new.sink
-    c.args.head (take f.taken run) (slice_index run f.taken) f.cause c.whole_subfile.new.self c.put_subfile.new.self (record {
+    rw c.halt_on.ensures (subfile_stopped g.met.S.StorySink.nothing g.met.S.StorySink.joined c.lower_laws.ensures c.args.self.now c.args.head
+    c.whole_subfile.new.self c.put_subfile.new.self (record {
       eight = c.requires.subfile;
       takes = c.requires.takes;
       passes = c.whole_subfile.ensures.passes c.if-not-whole_subfile.false;
       leads = c.put_subfile.ensures.leads_on;
       few = c.accepts_subfile.ensures.few c.if-not-accepts_subfile.false;
-    }) c.in-Err.ensures.refused)
+    }) (take f.taken run) (slice_index run f.taken) f.cause c.in-Err.ensures.refused)

@@ -1,4 +1,4 @@
-use Rattle.iim_unpack.proofs.Words.{◌≡◌, List, ◌++◌, length, Dataset, rest_of, four, field_octets}
+use Rattle.iim_unpack.proofs.Words.{Dataset, List, field_octets, four, length, rest_of, ◌++◌, ◌≡◌}
 use Rattle.std.specs.List.{flat_map}
 use Rattle.iim_unpack.proofs.ticket.spelling.push_fields.Given as goal
 

@@ -1,6 +1,6 @@
-use Rattle.std.proofs.Common.{◌≡◌, ◌++◌, take}
+use Rattle.iim_unpack.proofs.Words.{present_version, take, ◌++◌, ◌≡◌}
 use Rattle.std.specs.List.{flat_map}
-use Rattle.iim_places.specs.Format.Tickets.{number_octets, present_version}
+use Rattle.iim_places.specs.Format.Tickets.{number_octets}
 use Rattle.iim_unpack.proofs.ticket.spelling.push_options.Given as goal
 
 abbrev pub invariant-loop-number : goal.invariant-loop-number

@@ -1,4 +1,4 @@
-use Rattle.iim_unpack.proofs.Words.{ℕ, Some, ap, sym, subst, named_by, Unpacking, Stands, truncated_in}
+use Rattle.iim_unpack.proofs.Words.{Some, Stands, Unpacking, ap, named_by, subst, sym, truncated_in, ℕ}
 use Rattle.iim_unpack.proofs.Feeding.{truncated_by}
 use Rattle.iim_unpack.proofs.unpacker.Unpacker.end_of_input.Goals as goal
 

@@ -1,12 +1,11 @@
-use Rattle.iim_unpack.proofs.Words.{◌≡◌, ℕ, [], true, false, None, slice_index, refl, ap, sym, subst, ◌∙◌, arith, IsOctet, refusal_at, Unpacking, Stands}
-use Rattle.iim_unpack.proofs.Words.{IsRefusedIn, limits_in, HoldsFew, IsUnpacking}
+use Rattle.iim_unpack.proofs.Words.{HoldsFew, IsOctet, IsRefusedIn, IsUnpacking, None, Stands, Unpacking, [], ap, arith, false, has_ended, limits_in, refl}
+use Rattle.iim_unpack.proofs.Words.{refusal_at, slice_index, subst, sym, true, ℕ, ◌∙◌, ◌≡◌}
 use Rattle.iim_unpack.specs.States.Unpacking.{room_in}
-use Rattle.iim_unpack.specs.States.Parts.{has_ended}
 use Rattle.wire_story.specs.Format.Delivery as story
 use Rattle.iim_unpack.proofs.Held.{holds_few}
-use Rattle.iim_unpack.proofs.Feeding.{goes_more, goes_done, refused_in, sound_more, sound_done}
+use Rattle.iim_unpack.proofs.Feeding.{goes_done, goes_more, refused_in, sound_done, sound_more}
 use Rattle.iim_unpack.proofs.unpacker.Unpacker.feed.Given.{Over}
-use Rattle.iim_unpack.proofs.unpacker.Unpacker.feed.Goals.{Then-has_ended-2, Else-has_ended-2}
+use Rattle.iim_unpack.proofs.unpacker.Unpacker.feed.Goals.{Else-has_ended-2, Then-has_ended-2}
 use Rattle.iim_unpack.proofs.unpacker.Unpacker.feed.Goals as goal
 
 pub returns-then-has_ended-clause-goes : goal.returns-then-has_ended-clause-goes
@@ -22,12 +21,13 @@ returns-then-has_ended-clause-goes g c = (
 
 pub returns-then-has_ended-2-clause-goes : goal.returns-then-has_ended-2-clause-goes
 returns-then-has_ended-2-clause-goes g c =
-    let h = c.in-Ok.ensures.taken in (
-      h.advanced.went.calm,
+    let h = c.in-Ok.ensures.taken in
+    let s = c.readers_tell_sizes.ensures c.advance.new.parts.object in (
+      h.told.told.calm,
       (
-        story.delivered h.advanced.went.more,
-        h.advanced.went.told,
-        λ p a at. goes_done g.S.StorySink.goes g.S.StorySink.failures c.lower_laws.ensures _ _ c.args.piece.now c.in-Ok.used c.args.sink.now c.advance.new.sink (c.readers_tell_sizes.ensures c.advance.new.parts.object).0 h.advanced h.onward refl (sym c.if-has_ended-2.ensures) c.raised-self-inside.ensures h.within (c.readers_tell_sizes.ensures c.advance.new.parts.object).1 p a
+        story.delivered h.told.told.more,
+        h.told.told.told,
+        λ p a at. goes_done c.lower_laws.ensures _ _ h refl c.raised-self-inside.ensures c.begins-self-inside.ensures s.0 (sym c.if-has_ended-2.ensures) s.1 p a
             (subst (λ (w : Unpacking). Stands w p a) (sym c.self.view_is) at),
       ),
     )
@@ -35,11 +35,11 @@ returns-then-has_ended-2-clause-goes g c =
 pub returns-else-has_ended-2-clause-goes : goal.returns-else-has_ended-2-clause-goes
 returns-else-has_ended-2-clause-goes g c =
     let h = c.in-Ok.ensures.taken in (
-      h.advanced.went.calm,
+      h.told.told.calm,
       (
-        story.delivered h.advanced.went.more,
-        h.advanced.went.told,
-        λ p a at. goes_more g.S.StorySink.goes g.S.StorySink.failures c.lower_laws.ensures _ _ c.args.piece.now c.in-Ok.used c.args.sink.now c.advance.new.sink h.advanced h.onward refl (sym c.if-has_ended-2.ensures) c.raised-self-inside.ensures c.begins-self-inside.ensures p a
+        story.delivered h.told.told.more,
+        h.told.told.told,
+        λ p a at. goes_more c.lower_laws.ensures _ _ h refl c.raised-self-inside.ensures c.begins-self-inside.ensures (sym c.if-has_ended-2.ensures) p a
             (subst (λ (w : Unpacking). Stands w p a) (sym c.self.view_is) at),
       ),
     )
@@ -51,23 +51,38 @@ returns-in-Err-clause-refused g c =
     let h = c.in-Err.ensures in
     let halt = c.in-Err.halt in
     let octet : IsOctet (slice_index c.args.piece.now halt.taken) = omega (arith, c.type_inv.piece halt.taken) in
-    let r = refused_in g.S.StorySink.goes g.S.StorySink.failures c.lower_laws.ensures c.place_laws.ensures.refusals_tell_the_lowest_cause u c.args.piece.now halt.taken halt.fault c.args.sink.now c.advance.new.sink c.refusal_at.result h.before octet
-    (c.refusal_at.ensures ∙ ap (λ (n : ℕ). refusal_at n halt.fault) c.raised-octet.ensures) h.fails in
-    (r.0, r.1, λ p a at. subst (λ (w : Unpacking). IsRefusedIn (limits_in w) p a c.args.piece.now r.0 c.refusal_at.result) c.self.view_is (r.2 p a (subst (λ (w : Unpacking). Stands w p a) (sym c.self.view_is) at)))
+    let r = refused_in g.S.StorySink.goes g.S.StorySink.failures c.lower_laws.ensures c.place_laws.ensures.refusals_tell_the_lowest_cause u c.args.piece.now
+    halt.taken halt.fault c.args.sink.now c.advance.new.reader.place c.advance.new.parts c.advance.new.sink c.refusal_at.result h.before octet
+    (c.refusal_at.ensures ∙ ap (λ (n : ℕ). refusal_at n halt.fault) c.raised-octet.ensures) h.fails in (
+      r.0,
+      r.1,
+      λ p a at. subst (λ (w : Unpacking). IsRefusedIn (limits_in w) p a c.args.piece.now r.0 c.refusal_at.result) c.self.view_is
+          (r.2 p a (subst (λ (w : Unpacking). Stands w p a) (sym c.self.view_is) at)),
+    )
 
 -- after the end of an envelope, and within one
-sound_ended : (g : Over) (c : Then-has_ended-2 g) → c.self.inside.refused ≡ None
-    → IsUnpacking (record { reader = c.advance.new.reader; parts = c.advance.new.parts; octets = c.raised-self-inside.result; begun = c.begins-self-inside.result; refused = c.self.inside.refused })
+sound_ended : (g : Over) (c : Then-has_ended-2 g) → c.self.inside.refused ≡ None → IsUnpacking (record {
+      reader = c.advance.new.reader;
+      parts = c.advance.new.parts;
+      octets = c.raised-self-inside.result;
+      begun = c.begins-self-inside.result;
+      refused = c.self.inside.refused;
+    })
 sound_ended g c none =
-    let h = c.in-Ok.ensures.taken in
-    sound_done g.S.StorySink.goes g.S.StorySink.failures c.lower_laws.ensures _ _ c.args.piece.now c.in-Ok.used c.args.sink.now c.advance.new.sink (c.readers_tell_sizes.ensures c.advance.new.parts.object).0 h.advanced h.onward h.takes_calls refl (sym c.if-has_ended-2.ensures) c.raised-self-inside.ensures h.within (c.readers_tell_sizes.ensures c.advance.new.parts.object).1
+    let s = c.readers_tell_sizes.ensures c.advance.new.parts.object in
+    sound_done c.lower_laws.ensures _ _ c.in-Ok.ensures.taken refl c.raised-self-inside.ensures c.begins-self-inside.ensures s.0
+    (sym c.if-has_ended-2.ensures) s.1
     (c.self.invariant none) (sym c.if-has_ended.ensures)
 
-sound_within : (g : Over) (c : Else-has_ended-2 g) → c.self.inside.refused ≡ None
-    → IsUnpacking (record { reader = c.advance.new.reader; parts = c.advance.new.parts; octets = c.raised-self-inside.result; begun = c.begins-self-inside.result; refused = c.self.inside.refused })
+sound_within : (g : Over) (c : Else-has_ended-2 g) → c.self.inside.refused ≡ None → IsUnpacking (record {
+      reader = c.advance.new.reader;
+      parts = c.advance.new.parts;
+      octets = c.raised-self-inside.result;
+      begun = c.begins-self-inside.result;
+      refused = c.self.inside.refused;
+    })
 sound_within g c none =
-    let h = c.in-Ok.ensures.taken in
-    sound_more g.S.StorySink.goes g.S.StorySink.failures c.lower_laws.ensures _ _ c.args.piece.now c.in-Ok.used c.args.sink.now c.advance.new.sink h.advanced h.onward h.takes_calls refl (sym c.if-has_ended-2.ensures) c.raised-self-inside.ensures c.begins-self-inside.ensures
+    sound_more c.lower_laws.ensures _ _ c.in-Ok.ensures.taken refl c.raised-self-inside.ensures c.begins-self-inside.ensures (sym c.if-has_ended-2.ensures)
     (c.self.invariant none) (sym c.if-has_ended.ensures)
 
 pub invariant_of-self : goal.invariant_of-self
@@ -77,8 +92,11 @@ pub invariant_of-self-in-Ok : goal.invariant_of-self-in-Ok
 invariant_of-self-in-Ok g c = sound_within g (goal.at.invariant_of-self-in-Ok g c).Else-has_ended-2
 
 pub returns-then-has_ended-clause-memory : goal.returns-then-has_ended-clause-memory
-returns-then-has_ended-clause-memory g c =
-    (refl, λ none. subst HoldsFew c.self.view_is (holds_few c.lower_laws.ensures.events_tell _ (c.self.invariant (ap (λ (w : Unpacking). w.refused) c.self.view_is ∙ none)).stood))
+returns-then-has_ended-clause-memory g c = (
+  refl,
+  λ none. subst HoldsFew c.self.view_is
+      (holds_few c.lower_laws.ensures.events_tell _ (c.self.invariant (ap (λ (w : Unpacking). w.refused) c.self.view_is ∙ none)).stood),
+)
 
 pub returns-then-has_ended-2-clause-memory : goal.returns-then-has_ended-2-clause-memory
 returns-then-has_ended-2-clause-memory g c = (

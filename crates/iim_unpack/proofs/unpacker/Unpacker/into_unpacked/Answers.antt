@@ -1,24 +1,20 @@
-use Rattle.iim_unpack.proofs.Words.{◌≡◌, true, false, None, Some, List, ℕ, ◌++◌, length, ap, sym, subst, ◌∙◌, arith, option_map, Unpacking, IsDone}
-use Rattle.iim_unpack.proofs.Words.{IsDoneWith}
+use Rattle.iim_unpack.proofs.Words.{IsDoneWith, List, None, Some, Unpacking, ap, arith, false, length, option_map, subst, sym, true, ℕ, ◌++◌, ◌∙◌, ◌≡◌}
 use Rattle.iim_unpack.proofs.Feeding.{tells_value, whole_of}
 use Rattle.iim_unpack.proofs.unpacker.Unpacker.into_unpacked.Goals as goal
 
 pub unreachable-requires : goal.unreachable-requires
 unreachable-requires c =
-    let done = subst IsDone (sym c.self.view_is) (c.is_done.ensures.0 c.if-not-is_done.false) in
-    let (p, w) = whole_of c.lower_laws.ensures _ done.1 (c.self.invariant done.0).stood in
+    let (p, w) = whole_of c.lower_laws.ensures _ _ c.self.view_is (c.is_done.ensures.0 c.if-not-is_done.false) c.self.invariant in
     let bad : None ≡ Some w.head = sym (sym c.head.ensures ∙ ap (option_map (λ h. h.now)) c.in_default.is) ∙ w.head_is in cc
 
 pub unreachable-requires-in_default-into_envelope : goal.unreachable-requires-in_default-into_envelope
 unreachable-requires-in_default-into_envelope c =
-    let done = subst IsDone (sym c.self.view_is) (c.is_done.ensures.0 c.if-not-is_done.false) in
-    let (p, w) = whole_of c.lower_laws.ensures _ done.1 (c.self.invariant done.0).stood in
+    let (p, w) = whole_of c.lower_laws.ensures _ _ c.self.view_is (c.is_done.ensures.0 c.if-not-is_done.false) c.self.invariant in
     c.in_default-into_envelope.ensures.refused w.ds w.after.fields w.sections
 
 pub unreachable-requires-in_default-try_extend_from_slice : goal.unreachable-requires-in_default-try_extend_from_slice
 unreachable-requires-in_default-try_extend_from_slice c =
-    let done = subst IsDone (sym c.self.view_is) (c.is_done.ensures.0 c.if-not-is_done.false) in
-    let (p, w) = whole_of c.lower_laws.ensures _ done.1 (c.self.invariant done.0).stood in
+    let (p, w) = whole_of c.lower_laws.ensures _ _ c.self.view_is (c.is_done.ensures.0 c.if-not-is_done.false) c.self.invariant in
     let short = w.message.is_trailer.2 in
     let bad : false ≡ true = c.in_default-try_extend_from_slice.ensures.variant.1 (omega (arith, short, ap length c.trailer.ensures, ap length c.new-trailer.ensures)) in cc
 

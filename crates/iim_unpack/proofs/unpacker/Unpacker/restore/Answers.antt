@@ -1,4 +1,4 @@
-use Rattle.iim_unpack.proofs.Words.{Split, split_told, heads_within, ticket_at}
+use Rattle.iim_unpack.proofs.Words.{Split, heads_within, split_told, ticket_at}
 use Rattle.iim_places.proofs.PlacesTold.{limit_told, no_ticket}
 use Rattle.iim_unpack.proofs.unpacker.Unpacker.restore.Goals as goal
 

@@ -1,5 +1,5 @@
-use Rattle.iim_unpack.proofs.Words.{◌+◌, ◌*◌, ◌≤◌, length, ◌⊎◌, sym, subst, ◌∙◌, no_some, Unpacking, Stands, IsDoneWith, limits_in}
-use Rattle.iim_unpack.proofs.Tickets.{ticket_by, short_ticket}
+use Rattle.iim_unpack.proofs.Words.{IsDoneWith, Stands, Unpacking, length, limits_in, no_some, subst, sym, ◌*◌, ◌+◌, ◌∙◌, ◌≤◌, ◌⊎◌}
+use Rattle.iim_unpack.proofs.Held.{short_ticket, ticket_by}
 use Rattle.iim_unpack.proofs.unpacker.Unpacker.save.Goals as goal
 
 pub returns-in-Ok-clause-ticket : goal.returns-in-Ok-clause-ticket

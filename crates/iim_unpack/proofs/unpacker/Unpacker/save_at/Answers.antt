@@ -1,7 +1,7 @@
-use Rattle.iim_unpack.proofs.Words.{◌≡◌, ◌⊎◌, arith, ℕ, List, not, ap, ◌+◌, ◌*◌, ◌≤◌, take, length, refl, sym, subst, ◌∙◌, length-take-le, no_some}
-use Rattle.iim_unpack.proofs.Words.{IsTicketOf, Unpacking, Stands, IsDoneWith, limits_in}
+use Rattle.iim_unpack.proofs.Words.{IsDoneWith, IsTicketOf, List, Stands, Unpacking, ap, arith, length, length-take-le, limits_in, no_some, not, refl, subst}
+use Rattle.iim_unpack.proofs.Words.{sym, take, ℕ, ◌*◌, ◌+◌, ◌∙◌, ◌≡◌, ◌≤◌, ◌⊎◌}
 use Rattle.iim_unpack.specs.States.Restored.{HasTicketIn}
-use Rattle.iim_unpack.proofs.Tickets.{ticket_by, short_ticket}
+use Rattle.iim_unpack.proofs.Held.{short_ticket, ticket_by}
 use Rattle.iim_unpack.proofs.unpacker.Unpacker.save_at.Goals as goal
 
 -- a ticket that was put where there is room

@@ -1,18 +1,16 @@
-use Rattle.iim_unpack.proofs.Words.{◌≡◌, None, Some, sym, ap, subst, ◌∙◌, option_map, Unpacking, IsDone, IsDoneWith}
+use Rattle.iim_unpack.proofs.Words.{IsDoneWith, None, Some, Unpacking, ap, option_map, subst, sym, ◌∙◌, ◌≡◌}
 use Rattle.iim_dataset.proofs.Lists.{none_is_none}
 use Rattle.iim_unpack.proofs.Feeding.{tells_value, whole_of}
 use Rattle.iim_unpack.proofs.unpacker.Unpacker.unpacked.Goals as goal
 
 pub unreachable-requires : goal.unreachable-requires
 unreachable-requires c =
-    let done = subst IsDone (sym c.self.view_is) (c.is_done.ensures.0 c.if-not-is_done.false) in
-    let (p, w) = whole_of c.lower_laws.ensures _ done.1 (c.self.invariant done.0).stood in
+    let (p, w) = whole_of c.lower_laws.ensures _ _ c.self.view_is (c.is_done.ensures.0 c.if-not-is_done.false) c.self.invariant in
     let bad : None ≡ Some w.head = sym (sym c.head.ensures ∙ ap (option_map (λ h. h.now)) c.in_default.is) ∙ w.head_is in cc
 
 pub unreachable-requires-in_default-envelope : goal.unreachable-requires-in_default-envelope
 unreachable-requires-in_default-envelope c =
-    let done = subst IsDone (sym c.self.view_is) (c.is_done.ensures.0 c.if-not-is_done.false) in
-    let (p, w) = whole_of c.lower_laws.ensures _ done.1 (c.self.invariant done.0).stood in
+    let (p, w) = whole_of c.lower_laws.ensures _ _ c.self.view_is (c.is_done.ensures.0 c.if-not-is_done.false) c.self.invariant in
     none_is_none c.envelope.result c.in_default-envelope.is ((c.envelope.ensures.whole w.ds w.after.fields).1 w.sections)
 
 pub returns-clause-value : goal.returns-clause-value
