@@ -1,23 +1,20 @@
 -- The order of the ids, the first row with each of them in it, and rows that are told their first one.
-use Rattle.std.proofs.Common.{◌≡◌, ℕ, zero, suc, ◌+◌, ◌^◌, ◌<◌, ◌≤◌, List, [], ◌∷◌, ◌++◌, length, map, get_or, Some, ap, sym, ◌∙◌, refl, arith, ◌-◌, ◌⊎◌, Option, inl, inr, ⊎_elim, Bool, true, false, None, take, ◌≢◌, set}
-use Rattle.std.specs.List.{All, Contains, slice_get}
+use Rattle.iim_audit.proofs.Words.{◌≡◌, ℕ, zero, suc, ◌+◌, ◌^◌, ◌<◌, ◌≤◌, List, [], ◌∷◌, ◌++◌, length, map, get_or, Some, ap, sym, ◌∙◌, refl, arith, ◌-◌, ◌⊎◌}
+use Rattle.iim_audit.proofs.Words.{Option, inl, inr, ⊎_elim, Bool, true, false, None, take, ◌≢◌, set, All, Contains, slice_get, is_lt, nat_cmp, ordering_then}
+use Rattle.iim_audit.proofs.Words.{ordering_reverse, option_cmp, get_or-map, length-map, get_or_default, get_or-set_same, get_or-set_other, All-permutation}
+use Rattle.iim_audit.proofs.Words.{Contains-permutation, IsPermutation-map, ranks_by, sorted_far, Identity, id_cmp, id_eq, text_eq, IsOrder, IsPlace}
+use Rattle.iim_audit.proofs.Words.{by_index, index_at, index_cmp, key_at, key_of, keyed_cmp, place_cmp, place_of, places_of, AreFilled, AreFresh, filled}
+use Rattle.iim_audit.proofs.Words.{ids_of, leb_tells, nat_tests, first_same}
 use Rattle.std.specs.List.Sorted.{IsPermutation, IsSortedBy}
-use Rattle.std.specs.Ordering.{is_lt, nat_cmp, ordering_then, ordering_reverse}
-use Rattle.std.specs.Option.{option_cmp}
 use Rattle.std.specs.Cmp.{IsTotalOrder, IsStrictWeakOrder, then_total, on_total, nat_cmp_total}
 use Rattle.std.specs.Cmp.Lexicographic.{options_total}
 use Rattle.std.specs.declared.cmp.Ordering.{Ordering}
 use Rattle.std.specs.declared.cmp.Ordering.TheVariants.{Equal}
-use Rattle.std.proofs.lemmas.List.{get_or-map, length-map, get_or_default, get_or-set_same, get_or-set_other}
-use Rattle.std.proofs.lemmas.List.Sorted.{All-permutation, Contains-permutation, IsPermutation-map, ranks_by, sorted_far}
-use Rattle.iim_fields.specs.Format.Ids.{Identity, id_cmp, id_eq, text_eq}
 use Rattle.iim_fields.specs.IdLaws.{id_total, id_ties}
-use Rattle.iim_audit.specs.Repeats.{IsOrder, IsPlace, by_keyed, index_at, key_at, key_of, keyed_cmp, keyed_index_cmp, place_cmp, place_of, places_of, AreFilled, AreFresh, filled, ids_of}
 use Rattle.std.proofs.lemmas.Option.{slice_get-get_or}
 use Rattle.std.proofs.lemmas.Bool.{cases_eq}
-use Rattle.std.proofs.lemmas.Bool.Decides.{leb_tells, nat_tests}
 use Rattle.std.proofs.lemmas.Cmp.{tied_itself, tied_back}
-use Rattle.iim_audit.specs.Format.Rows.{first_same, AuditRow}
+use Rattle.iim_audit.specs.Format.Rows.{AuditRow}
 use Rattle.iim_audit.proofs.Lines.{id_at, length_ids}
 
 -- ---- the order of places
@@ -36,7 +33,7 @@ nobody : Identity
 nobody = record { service = []; number = []; date_sent = [] }
 
 -- places stand to each other as the indices of their rows
-same_cmp : (ids : List Identity) (a b : ℕ) → IsPlace ids a → IsPlace ids b → place_cmp ids a b ≡ keyed_index_cmp ids (index_at a) (index_at b)
+same_cmp : (ids : List Identity) (a b : ℕ) → IsPlace ids a → IsPlace ids b → place_cmp ids a b ≡ index_cmp keyed_cmp ids (index_at a) (index_at b)
 same_cmp ids a b is_a is_b =
     let x = get_or ids (index_at a) nobody in
     let y = get_or ids (index_at b) nobody in
@@ -103,15 +100,15 @@ below_or_not a b = ⊎_elim (λ from. inr from.1) (λ less. inl less.1) (leb_tel
 ids_total : IsTotalOrder (option_cmp keyed_cmp)
 ids_total = options_total (then_total (on_total key_of nat_cmp_total) id_total)
 
-order_total : (ids : List Identity) → IsTotalOrder (keyed_index_cmp ids)
+order_total : (ids : List Identity) → IsTotalOrder (index_cmp keyed_cmp ids)
 order_total ids = then_total (on_total (slice_get ids) ids_total) nat_cmp_total
 
-order_rank : (ids : List Identity) → IsStrictWeakOrder (λ a b. is_lt (keyed_index_cmp ids a b))
+order_rank : (ids : List Identity) → IsStrictWeakOrder (λ a b. is_lt (index_cmp keyed_cmp ids a b))
 order_rank ids = ranks_by (order_total ids) (λ (i : ℕ). i)
 
 -- the ids at two indices are the same
 abbrev pub AreSame : List Identity → ℕ → ℕ → Type 0
-AreSame ids a b = by_keyed ids a b ≡ Equal
+AreSame ids a b = by_index keyed_cmp ids a b ≡ Equal
 
 same_itself : (ids : List Identity) (a : ℕ) → AreSame ids a a
 same_itself ids a = tied_itself ids_total (slice_get ids a)
@@ -151,7 +148,7 @@ begins_least ids order k i is within apart there same =
     let group = get_or order k 0 in
     let (p, p_within, p_is) = is.each i there in
     let at : get_or order p 0 ≡ i = get_or_default order p 0 i p_within ∙ p_is in
-    let lt : ℕ → ℕ → Bool = λ a b. is_lt (keyed_index_cmp ids a b) in
+    let lt : ℕ → ℕ → Bool = λ a b. is_lt (index_cmp keyed_cmp ids a b) in
     let P : ℕ → ℕ → Type 0 = λ a b. lt a b ≡ false in
     ⊎_elim
     (λ before.
@@ -166,7 +163,7 @@ begins_least ids order k i is within apart there same =
     absurd (apart q one (same_on ids x i group tied same)))
     (λ after.
     let here : P i group = rw at at (sorted_far lt (order_rank ids) order is.sorted k p 0 after p_within) in
-    less_second (by_keyed ids i group) i group same here)
+    less_second (by_index keyed_cmp ids i group) i group same here)
     (below_or_not p k)
 
 -- one place more: it has the same least index, or is the least one itself
@@ -184,7 +181,7 @@ run_more ids order k group now is there run keeps begins =
     λ j next same. differs (same_on ids at (get_or order j 0) group (same_back ids (get_or order j 0) at same) (run.last j next)) in
     let least : (i : ℕ) → i < length ids → AreSame ids i at → at ≤ i = λ i. begins_least ids order k i is there apart in
     rw (begins differs) (record { within = is.below k 0 there; least = least; last = last at (same_itself ids at) }, same_itself ids at))
-    (same_or_not (by_keyed ids at group))
+    (same_or_not (by_index keyed_cmp ids at group))
 
 -- ---- the first one with an id
 
@@ -266,7 +263,7 @@ id_there rows i d there =
 
 -- the ids at two indices of rows, as the order compares them
 same_ids : (rows : List AuditRow) (a b : ℕ) (d : AuditRow) → a < length rows → b < length rows
-    → by_keyed (ids_of rows) a b ≡ keyed_cmp (get_or rows a d).id (get_or rows b d).id
+    → by_index keyed_cmp (ids_of rows) a b ≡ keyed_cmp (get_or rows a d).id (get_or rows b d).id
 same_ids rows a b d a_there b_there = rw (id_there rows a d a_there, id_there rows b d b_there)
 
 -- a row that is told its first one, or not where it has none; and this may have been told before

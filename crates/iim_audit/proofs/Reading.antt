@@ -1,26 +1,17 @@
 -- Envelopes that come one after another.
-use Rattle.std.proofs.Common.{◌≡◌, ℕ, ◌+◌, ◌≤◌, ◌<◌, ℤ, List, [], ◌∷◌, ◌++◌, length, append-nil, Option, None, Some, ap, sym, ◌∙◌, refl, arith, inl, inr, length-append}
+use Rattle.iim_audit.proofs.Words.{◌≡◌, ℕ, ◌+◌, ◌≤◌, ◌<◌, ℤ, List, [], ◌∷◌, ◌++◌, length, append-nil, Option, None, Some, ap, sym, ◌∙◌, refl, arith, inl, inr}
+use Rattle.iim_audit.proofs.Words.{AllByRecursion, length-map, map-append, Device, HasGiven, GiftsJoin, IoFault, Limits, Value, Admits, Listed, Divides}
+use Rattle.iim_audit.proofs.Words.{IsListed, IsListing, Whole, RefusedBy, TooMany, joined, values_of, max_envelopes, Unpacking, IsDoneWith, raised}
+use Rattle.iim_audit.proofs.Words.{ShowsParts, UnpackedRef, Keeps, IsCutOff, IsTaken, TookOne, TookNone, report_of, row_with}
+use Rattle.std.proofs.Common.{length-append}
 use Rattle.std.specs.Io.KnownBytes.{IsAtEnd}
-use Rattle.std.specs.List.{AllByRecursion}
-use Rattle.std.proofs.lemmas.List.{length-map, map-append}
-use Rattle.iim_dataset.specs.States.Devices.{Device, HasGiven}
-use Rattle.iim_dataset.specs.Laws.{GiftsJoin}
-use Rattle.iim_dataset.specs.declared.device.IoFault.{IoFault}
 use Rattle.iim_dataset.proofs.DeviceLaws.{missed_later}
-use Rattle.iim_fields.specs.declared.limits.Limits.{Limits}
-use Rattle.iim_places.specs.Format.Admitted.{Value, Admits}
-use Rattle.iim_places.specs.Format.Listing.{Listed, Divides, IsListed, IsListing, Whole, RefusedBy, TooMany, joined, values_of, max_envelopes}
-use Rattle.iim_unpack.specs.States.Unpacking.{Unpacking, IsDoneWith}
-use Rattle.iim_places.specs.States.Counts.{raised}
-use Rattle.iim_unpack.specs.Format.Value.{ShowsParts}
-use Rattle.iim_unpack.specs.declared.unpacker.UnpackedRef.{UnpackedRef}
 use Rattle.iim_places.proofs.Listings.{admitted_more, joined_more}
 use Rattle.iim_audit.specs.Format.Auditing.{IsAudited, IsMissedAt, FailsLeaving, told_after}
-use Rattle.iim_audit.specs.Taking.{Keeps, IsCutOff, IsTaken, TookOne, TookNone}
 use Rattle.iim_audit.specs.declared.fault.AuditCause.{AuditCause}
 use Rattle.iim_audit.specs.declared.fault.AuditCause.TheVariants as causes
 use Rattle.iim_audit.specs.declared.ledger.Ledger.{Ledger}
-use Rattle.iim_audit.specs.Format.Rows.{report_of, row_with, AuditRow}
+use Rattle.iim_audit.specs.Format.Rows.{AuditRow}
 
 -- how many octets are told of the last envelope
 told_more : (before : ℕ) (es : List Listed) (e : Listed) → told_after before (es ++ e ∷ []) ≡ raised 0 (length e.octets)

@@ -1,47 +1,35 @@
 -- From what an intake and an unpacker answer to what an audit takes of it.
-use Rattle.std.proofs.Common.{◌≡◌, ℕ, List, [], length, refl, sym, ap, subst, ◌∙◌, false, ◌≢◌, ◌⊎◌, Option, Some, None, Bool, true, inl, inr, ⊎_elim, arith, ℤ, ◌≤◌, ◌++◌, take, Result, Ok, Err, IfOk, IfErr}
-use Rattle.iim_dataset.specs.Format.Datasets.{Dataset, count_octets}
+use Rattle.iim_audit.proofs.Words.{◌≡◌, ℕ, List, [], length, refl, sym, ap, subst, ◌∙◌, false, ◌≢◌, ◌⊎◌, Option, Some, None, Bool, true, inl, inr, ⊎_elim}
+use Rattle.iim_audit.proofs.Words.{arith, ℤ, ◌≤◌, ◌++◌, take, Result, Ok, Err, IfOk, IfErr, OctetsAreHandedOnOneWay, EventsTellTheDatasets, WordsSoFar}
+use Rattle.iim_audit.proofs.Words.{CountsWords, capped, words, Value, Admits, object_of, Device, IoFault, Limits, FedEnvelope, Faults, WasMissed, WasRefused}
+use Rattle.iim_audit.proofs.Words.{WasTruncated, Unpacking, IsDoneWith, Stands, limits_in, Goes, IsDone, IsRefusedIn, failed_at, cause_of, IsCutOff}
+use Rattle.iim_audit.proofs.Words.{IsRefusal, TookEnvelope, TookOne, TookNone, IsTaken, option_map, raised, ShowsParts, UnpackedRef, row_with, counted_words}
+use Rattle.iim_audit.proofs.Words.{PieceAudit}
+use Rattle.iim_dataset.specs.Format.Datasets.{count_octets}
 use Rattle.iim_dataset.specs.Format.Splits.{InTag}
 use Rattle.iim_dataset.specs.States.Events.{handed_on}
 use Rattle.iim_dataset.specs.States.Places.{HandsOn}
-use Rattle.iim_dataset.specs.Laws.{OctetsAreHandedOnOneWay, EventsTellTheDatasets}
-use Rattle.iim_dataset.proofs.Spelled.{whole_read}
 use Rattle.wire_story.specs.Format.Delivery.{StoryEvent}
 use Rattle.wire_story.specs.Format.Texts.{IsText}
 use Rattle.wire_story.specs.Laws.{TextsAreCountedAsLines, DeliveryMayBeCut}
-use Rattle.wire_story.specs.Format.Words.{WordsSoFar, CountsWords, capped, words}
 use Rattle.wire_message.specs.Laws.{TextsStandBetweenStxAndEtx}
 use Rattle.wire_message.specs.Format.Layers.{text_so_far}
-use Rattle.wire_message.specs.Format.Messages.{Header, IsMessage}
 use Rattle.wire_message.specs.declared.place.Place.TheVariants.{AfterEnd}
-use Rattle.iim_places.specs.Format.Admitted.{Value, Admits, object_of}
 use Rattle.iim_places.specs.Format.Open.{object_so_far, IsTextOf, Delivers}
-use Rattle.iim_places.proofs.Answering.{no_text}
-use Rattle.iim_dataset.specs.States.Devices.{Device}
-use Rattle.iim_dataset.specs.declared.device.IoFault.{IoFault}
-use Rattle.iim_fields.specs.declared.limits.Limits.{Limits}
+use Rattle.iim_places.proofs.Answering.{leads_to, no_text, reads_envelope}
 use Rattle.iim_unpack.proofs.Intakes.{missed_open, adds_none, adds_more}
-use Rattle.iim_unpack.specs.States.Intakes.{FedEnvelope, Faults, WasMissed, WasRefused, WasTruncated}
 use Rattle.iim_unpack.specs.States.Parts.{CountsFor, has_ended}
-use Rattle.iim_unpack.specs.States.Unpacking.{Unpacking, IsDoneWith, Stands, limits_in, Goes, IsDone, IsRefusedIn, failed_at}
 use Rattle.iim_unpack.specs.declared.intake.IntakeFault.{IntakeFault}
 use Rattle.iim_places.specs.declared.refusal.Cause.{Cause}
 use Rattle.iim_places.specs.declared.refusal.Cause.TheVariants.{Message}
 use Rattle.wire_message.specs.declared.fault.MessageCause.TheVariants.{Sink}
 use Rattle.iim_places.specs.declared.refusal.Refusal.{Refusal}
-use Rattle.iim_audit.specs.Taking.{cause_of, IsCutOff, IsRefusal, TookEnvelope, TookOne, TookNone, IsTaken}
-use Rattle.std.specs.Option.{option_map}
 use Rattle.iim_fields.specs.Format.Views.{instant_of_release, instant_of_expiration}
 use Rattle.wire_story.specs.SinkLaws.{counts_joined}
-use Rattle.iim_places.specs.States.Counts.{raised}
-use Rattle.iim_unpack.specs.Format.Value.{ShowsParts}
 use Rattle.iim_unpack.specs.declared.unpacker.Progress.{Progress}
 use Rattle.iim_unpack.specs.declared.unpacker.Progress.TheVariants.{More, Done}
-use Rattle.iim_unpack.specs.declared.unpacker.UnpackedRef.{UnpackedRef}
-use Rattle.iim_audit.specs.Counting.{HasFed, IsRefusedFor, IsSound}
+use Rattle.iim_audit.specs.Counting.{HasFed, IsRefusedFor}
 use Rattle.iim_audit.specs.Format.Pieces.{Finds, HaveWords, IsRowOf, Refuses, StandsOn, no_words}
-use Rattle.iim_audit.specs.Format.Rows.{row_with, counted_words}
-use Rattle.iim_audit.specs.declared.pieces.PieceAudit.{PieceAudit}
 use Rattle.iim_audit.specs.declared.pieces.PieceRow.{PieceRow}
 use Rattle.iim_dataset.specs.declared.device.IoFault.TheVariants as io
 use Rattle.iim_unpack.specs.declared.intake.IntakeFault.TheVariants as intakes
@@ -52,25 +40,19 @@ pub record TextLaws : Type 0 where
   pub texts : TextsStandBetweenStxAndEtx
   pub counts : TextsAreCountedAsLines
 
-text_of_message : TextsStandBetweenStxAndEtx → (object text trailer : List ℕ) (head : Header) (lines : List (List ℕ)) → IsMessage object head text trailer → IsText text lines
-    → text ≡ text_so_far object
-text_of_message law object text trailer head lines m are =
-    let place = AfterEnd head (record { items = trailer }) (length m.after) in
-    law object text place (record { is_place = (m.is_header, m.is_trailer, m.is_after.2); spelled = (m, refl); story = (lines, are) })
-
 -- The text in an envelope has the lines of its value.
 text_of_value : TextLaws → (octets text : List ℕ) (v : Value) → Admits octets v → IsTextOf octets text → IsText text v.lines
 text_of_value laws octets text v admits (whole, begun, reads, is) =
     let hands : HandsOn count_octets octets (handed_on whole begun) begun = record { whole = whole; reads = reads; handed = refl } in
     let gives : HandsOn count_octets octets (handed_on admits.datasets (InTag [])) (InTag []) =
-    record { whole = admits.datasets; reads = whole_read octets admits.datasets admits.spelled; handed = refl } in
+    record { whole = admits.datasets; reads = reads_envelope octets v admits; handed = refl } in
     let way = laws.way octets (handed_on whole begun) (handed_on admits.datasets (InTag [])) begun (InTag []) hands gives in
     let told = laws.tell whole admits.datasets begun (InTag []) way.0 in
-    let object : object_so_far whole begun ≡ object_of admits.datasets =
-    ap (λ (ds : List Dataset). object_so_far ds begun) told.0 ∙ ap (object_so_far admits.datasets) way.1 in
-    let same : admits.text ≡ text =
-    text_of_message laws.texts (object_of admits.datasets) admits.text v.trailer v.head v.lines admits.message admits.lines
-    ∙ sym (is ∙ ap text_so_far object) in
+    let object : object_so_far whole begun ≡ object_of admits.datasets = rw (told.0, way.1) refl in
+    let found : admits.text ≡ text_so_far (object_of admits.datasets) =
+    laws.texts (object_of admits.datasets) admits.text (AfterEnd v.head (record { items = v.trailer }) (length admits.message.after))
+    (leads_to octets v admits) in
+    let same : admits.text ≡ text = found ∙ sym (is ∙ ap text_so_far object) in
     subst (λ (t : List ℕ). IsText t v.lines) same admits.lines
 
 -- The words of an envelope are counted, from a count of none on.
@@ -166,18 +148,21 @@ all_words laws p v count have admits = words_of_value laws p have.more v no_word
 -- ---- a piece that is fed
 
 module _ (u v : Unpacking) (piece : List ℕ) where
+  abbrev IsSound : Progress → Type 0
+  IsSound progress = (v.refused ≡ None) × ((used : ℕ) → progress ≡ Done used → IsDone v × (used ≤ length piece))
+
   -- what is told of an unpacker is so: of one that was inside an envelope, and of one that was at the end of one
-  sound_on : (progress : Progress) (p : List ℕ) (a : ℕ) (more : List StoryEvent) → Goes v p a piece more progress → IsSound v piece progress
-  sound_on More p a more goes = record { alive = goes.0.taking; ends = tt }
-  sound_on (Done used) p a more goes = record { alive = goes.1.taking; ends = ((goes.1.taking, goes.1.ended), goes.0) }
+  sound_on : (progress : Progress) (p : List ℕ) (a : ℕ) (more : List StoryEvent) → Goes v p a piece more progress → IsSound progress
+  sound_on More p a more goes = (goes.0.taking, λ used is. absurd cc)
+  sound_on (Done used) p a more goes = (goes.1.taking, λ now is. ((goes.1.taking, goes.1.ended), (let same : used ≡ now = cc in rw same at goes.0)))
 
   sound : (progress : Progress) (more : List StoryEvent) (b : Bool) → b ≡ has_ended u.parts → u.refused ≡ None
       → ((IsDone u → ⊥) → (p : List ℕ) × (a : ℕ) × Stands u p a) → ((p : List ℕ) (a : ℕ) → Stands u p a → Goes v p a piece more progress)
-      → (IsDone u → (progress ≡ Done 0) × (v ≡ u)) → IsSound v piece progress
+      → (IsDone u → (progress ≡ Done 0) × (v ≡ u)) → IsSound progress
   sound progress more true is alive stood goes again =
       let done : IsDone u = (alive, sym is) in
       let (is_done, same) = again done in
-      rw (is_done, same) (record { alive = alive; ends = (done, omega arith) })
+      rw (is_done, same) (alive, λ used is_used. (done, (let none : used ≡ 0 = cc in omega (arith, none))))
   sound progress more false is alive stood goes again =
       let there = stood (λ done. let bad = is ∙ done.1 in cc) in
       sound_on progress there.0 there.1 more (goes there.0 there.1 there.2)
@@ -195,7 +180,7 @@ module _ (u v : Unpacking) (piece : List ℕ) where
       by None alive =
           let same : IsDone u → (progress ≡ Done 0) × (v ≡ u) = λ is. let h = done is in ((let e = h.0 in cc), h.1.0) in
           let is_sound = sound progress fed.1.0 (has_ended u.parts) refl alive (stood alive) fed.1.2 same in
-          record { more = fed.1.0; counts = fed.1.1; goes = fed.1.2; sound = is_sound }
+          record { more = fed.1.0; counts = fed.1.1; goes = fed.1.2; alive = is_sound.0; ends = is_sound.1 }
       by (Some octet) failed = let bad = (again octet failed).0 in absurd (let e = bad in cc)
 
 pub refused_as : (r : Result Progress Refusal) (u : Unpacking) (old new : WordsSoFar) (piece : List ℕ)

@@ -7,24 +7,16 @@ use Rattle.wire_message.specs.declared.fault.MessageCause.TheVariants.{Sink}
 use Rattle.iim_places.specs.declared.refusal.Refusal.{Refusal}
 use Rattle.iim_unpack.specs.States.Unpacking.{Unpacking, Stands, Goes, IsDone, IsRefusedIn, limits_in}
 use Rattle.iim_unpack.specs.declared.unpacker.Progress.{Progress}
-use Rattle.iim_unpack.specs.declared.unpacker.Progress.TheVariants.{More, Done}
+use Rattle.iim_unpack.specs.declared.unpacker.Progress.TheVariants.{Done}
 
--- An envelope has ended, where that is told, and no more octets were used than the piece has.
-abbrev pub EndsWhereTold : Unpacking → List ℕ → Progress → Type 0
-EndsWhereTold v piece More = Unit {0}
-EndsWhereTold v piece (Done used) = IsDone v × (used ≤ length piece)
-
--- The unpacker takes more, or is done, as is told.
-pub record IsSound (v : Unpacking) (piece : List ℕ) (progress : Progress) : Type 0 where
-  pub alive : v.refused ≡ None
-  pub ends : EndsWhereTold v piece progress
-
--- The unpacker went on by a piece, and the words that it delivers were counted.
+-- The unpacker went on by a piece, and the words that it delivers were counted. Where that is told an envelope has ended, and no more
+-- octets were used than the piece has.
 pub record HasFed (u : Unpacking) (old : WordsSoFar) (piece : List ℕ) (v : Unpacking) (new : WordsSoFar) (progress : Progress) : Type 0 where
   pub more : List StoryEvent
   pub counts : CountsWords old more new
   pub goes : (p : List ℕ) (a : ℕ) → Stands u p a → Goes v p a piece more progress
-  pub sound : IsSound v piece progress
+  pub alive : v.refused ≡ None
+  pub ends : (used : ℕ) → progress ≡ Done used → IsDone v × (used ≤ length piece)
 
 -- An octet of it was refused.
 pub record IsRefusedFor (u : Unpacking) (piece : List ℕ) (e : Refusal) : Type 0 where

@@ -13,12 +13,12 @@ abbrev pub ids_of : List AuditRow → List Identity
 ids_of rows = map (λ row. row.id) rows
 
 -- two of these ids, by their indices; one that is not there comes first
-abbrev pub by_id : List Identity → ℕ → ℕ → Ordering
-by_id ids = on (slice_get ids) (option_cmp id_cmp)
+abbrev pub by_index : (Identity → Identity → Ordering) → List Identity → ℕ → ℕ → Ordering
+by_index cmp ids = on (slice_get ids) (option_cmp cmp)
 
--- by the ids, and by the indices themselves where the ids are the same
-abbrev pub index_cmp : List Identity → ℕ → ℕ → Ordering
-index_cmp ids = then_cmp (by_id ids) nat_cmp
+-- and by the indices themselves where the ids are the same
+abbrev pub index_cmp : (Identity → Identity → Ordering) → List Identity → ℕ → ℕ → Ordering
+index_cmp cmp ids = then_cmp (by_index cmp ids) nat_cmp
 
 -- four bits of each octet, after others
 abbrev pub key_after : ℕ → List ℕ → ℕ
@@ -46,7 +46,7 @@ places_of index (id ∷ ids) = place_of id index ∷ places_of (index + 1) ids
 
 -- by the keys, and by the rows where these are the same
 abbrev pub place_cmp : List Identity → ℕ → ℕ → Ordering
-place_cmp ids = then_cmp (on key_at nat_cmp) (on index_at (index_cmp ids))
+place_cmp ids = then_cmp (on key_at nat_cmp) (on index_at (index_cmp id_cmp ids))
 
 -- It is the place of a row, one of those with these ids.
 pub record IsPlace (ids : List Identity) (place : ℕ) : Type 0 where
@@ -57,19 +57,11 @@ pub record IsPlace (ids : List Identity) (place : ℕ) : Type 0 where
 abbrev pub keyed_cmp : Identity → Identity → Ordering
 keyed_cmp = then_cmp (on key_of nat_cmp) id_cmp
 
--- two of these ids so, by their indices
-abbrev pub by_keyed : List Identity → ℕ → ℕ → Ordering
-by_keyed ids = on (slice_get ids) (option_cmp keyed_cmp)
-
--- by the keys and ids, and by the indices themselves where the ids are the same
-abbrev pub keyed_index_cmp : List Identity → ℕ → ℕ → Ordering
-keyed_index_cmp ids = then_cmp (by_keyed ids) nat_cmp
-
 -- The indices are those of all ids, in the order of these.
 pub record IsOrder (ids : List Identity) (order : List ℕ) : Type 0 where
   pub below : All (λ i. i < length ids) order
   pub each : (i : ℕ) → i < length ids → Contains order i
-  pub sorted : IsSortedBy (λ a b. is_lt (keyed_index_cmp ids a b)) order
+  pub sorted : IsSortedBy (λ a b. is_lt (index_cmp keyed_cmp ids a b)) order
 
 -- No row tells a first one.
 abbrev pub AreFresh : List AuditRow → Type 0

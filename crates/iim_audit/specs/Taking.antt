@@ -1,7 +1,6 @@
 -- What one envelope of an intake's line comes to.
 use Rattle.iim_unpack.specs.declared.intake.IntakeFault.{IntakeFault}
 use Rattle.iim_unpack.specs.declared.intake.IntakeFault.TheVariants as intakes
-use Rattle.iim_audit.specs.declared.fault.AuditCause.{AuditCause}
 use Rattle.iim_audit.specs.declared.fault.AuditCause.TheVariants as causes
 use Rattle.std.specs.Prelude.{◌≡◌, ℤ, List, None, map, ℕ, [], length, Option, Some}
 use Rattle.iim_places.specs.Format.Admitted.{Value}
@@ -9,26 +8,20 @@ use Rattle.iim_audit.specs.Format.Rows.{row_with, counted_words}
 use Rattle.iim_audit.specs.declared.ledger.Ledger.{Ledger}
 use Rattle.std.specs.Io.KnownBytes.{IsAtEnd}
 use Rattle.iim_dataset.specs.States.Devices.{Device, HasGiven, MissedAfter}
-use Rattle.iim_dataset.specs.declared.device.IoFault.{IoFault}
 use Rattle.iim_dataset.specs.declared.device.IoFault.TheVariants as io
-use Rattle.iim_fields.specs.declared.limits.Limits.{Limits}
 use Rattle.iim_places.specs.Format.Listing.{Listed, IsListed, IsRefusedAfter}
 use Rattle.iim_places.specs.Format.Open.{IsOpen}
 use Rattle.iim_unpack.specs.States.Unpacking.{Unpacking, IsDoneWith, limits_in}
 use Rattle.iim_places.specs.States.Counts.{raised}
 use Rattle.iim_unpack.specs.Format.Value.{ShowsParts}
-use Rattle.iim_places.specs.declared.refusal.Refusal.{Refusal}
 use Rattle.iim_audit.specs.declared.row.Taken.{Taken}
-
--- ---- How the faults of an intake are told.
+use Rattle.iim_audit.specs.Format.Auditing.{IoFault, Limits, Refusal, AuditCause}
 
 -- the cause for a fault of an intake
 abbrev pub cause_of : IntakeFault → AuditCause
 cause_of (intakes.Refused e) = causes.Refused e
 cause_of intakes.Read = causes.Read
 cause_of intakes.Interrupted = causes.Interrupted
-
--- ---- What an audit keeps while it reads.
 
 -- The rows are those of the envelopes so far, none with its first one yet.
 pub record Keeps (now : ℤ) (ledger : Ledger) (values : List Value) : Type 0 where
@@ -74,5 +67,4 @@ abbrev pub TookNone : Limits → Device → Device → ℕ → Option ℕ → �
 TookNone limits old new before kept told (causes.Refused e) = IsRefusal limits old new e × (kept ≡ Some e.octet) × (told ≡ 0)
 TookNone limits old new before kept told causes.Read = IsCutOff limits old new kept io.Failed × (told ≡ 0)
 TookNone limits old new before kept told causes.Interrupted = IsCutOff limits old new kept io.Interrupted × (told ≡ 0)
-TookNone limits old new before kept told causes.OutOfMemory = ⊥
-TookNone limits old new before kept told causes.TooManyEnvelopes = ⊥
+TookNone limits old new before kept told _ = ⊥

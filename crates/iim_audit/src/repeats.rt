@@ -4,8 +4,8 @@ ghost use Rattle.std.specs.Prelude.{◌≡◌, ℕ, ◌<◌, ◌≤◌, ◌^◌,
 ghost use Rattle.std.specs.List.{All};
 ghost use Rattle.std.specs.List.Sorted.{IsPermutation, IsSortedBy};
 ghost use Rattle.std.specs.Ordering.{is_lt};
-ghost use Rattle.iim_fields.specs.Format.Ids.{id_eq};
-ghost use Rattle.iim_audit.specs.Repeats.{AreFilled, AreFresh, IsOrder, IsPlace, by_id, ids_of, index_at, index_cmp, key_at, key_of, place_cmp, place_of, places_of};
+ghost use Rattle.iim_fields.specs.Format.Ids.{id_cmp, id_eq};
+ghost use Rattle.iim_audit.specs.Repeats.{AreFilled, AreFresh, IsOrder, IsPlace, by_index, ids_of, index_at, index_cmp, key_at, key_of, place_cmp, place_of, places_of};
 ghost use Rattle.iim_audit.specs.declared.row.AuditRow.{AuditRow as Row};
 
 use crate::row::AuditRow;
@@ -51,7 +51,7 @@ fn index_at(place: u64) -> usize
 
 /// How two rows stand to each other by their ids; one that is not there comes first.
 fn compare_ids(rows: &[AuditRow], a: usize, b: usize) -> Ordering
-    ensures { result ≡ by_id (ids_of rows.now) a b }
+    ensures { result ≡ by_index id_cmp (ids_of rows.now) a b }
 {
     match (rows.get(a), rows.get(b)) {
         (None, None) => Ordering::Equal,
@@ -63,7 +63,7 @@ fn compare_ids(rows: &[AuditRow], a: usize, b: usize) -> Ordering
 
 /// How the indices of two rows stand to each other: by their ids, and by themselves where these are the same.
 fn compare_indices(rows: &[AuditRow], a: usize, b: usize) -> Ordering
-    ensures { result ≡ index_cmp (ids_of rows.now) a b }
+    ensures { result ≡ index_cmp id_cmp (ids_of rows.now) a b }
 {
     compare_ids(rows, a, b).then(a.cmp(&b))
 }

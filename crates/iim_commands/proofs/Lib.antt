@@ -1,2 +1,4 @@
+pub mod Words
 pub mod Audits
+pub mod Runs
 pub mod Scripts

@@ -1,22 +1,19 @@
 -- What is shown of an envelope, and its story, are a script of its values.
-use Rattle.std.proofs.Common.{◌≡◌, inl, ℕ, ◌<◌, ◌≤◌, Bool, true, false, cond, List, [], ◌∷◌, ◌++◌, append_assoc, append-nil, length, refl, ap, sym, ◌∙◌, subst, arith}
+use Rattle.iim_commands.proofs.Words.{◌≡◌, inl, ℕ, ◌<◌, ◌≤◌, true, false, List, [], ◌∷◌, ◌++◌, append_assoc, append-nil, length, refl, ap, arith, limits}
+use Rattle.iim_commands.proofs.Words.{story_of, ScriptContent, IsScriptOf}
 use Rattle.std.specs.Prelude.{codes}
-use Rattle.std.specs.List.{AllByRecursion, flat_map}
+use Rattle.std.specs.List.{AllByRecursion}
 use Rattle.std.proofs.lemmas.List.Elements.{filter-append}
 use Rattle.iim_dataset.specs.Format.Datasets.{Dataset}
 use Rattle.iim_fields.specs.Format.Envelopes as builders
-use Rattle.iim_fields.specs.Format.Faults.{is_kept, joined, kept}
+use Rattle.iim_fields.specs.Format.Faults.{is_kept, kept}
 use Rattle.iim_fields.specs.Format.Records.{AreRecords, AreSections}
 use Rattle.iim_tables.specs.Format.Records.{IsGoodDataset}
-use Rattle.iim_fields.specs.Format.Bounds.{IsWithin}
 use Rattle.wire_story.specs.Format.Texts.{IsLine, IsText}
 use Rattle.iim_script.specs.Laws.{PrintedValuesAreScripts, ScriptsTellOneThing, ScriptsHaveNoFault, IsOneScript}
-use Rattle.iim_script.specs.Format.Printed.{field_line, message_line, trailer_line, value_lines}
+use Rattle.iim_script.specs.Format.Printed.{value_lines}
 use Rattle.iim_script.specs.Format.Scripts.{max_script}
-use Rattle.iim_output.specs.Format.Limits.{limits}
 use Rattle.iim_places.specs.Format.Listing.{Listed, IsListed}
-use Rattle.iim_listing.specs.Format.Narration.{story_of}
-use Rattle.iim_pack_script.specs.Format.{ScriptContent, IsScriptOf}
 use Rattle.iim_commands.specs.Laws.{told_of, TellsJust, ShownEnvelopesAreScripts}
 use Rattle.iim_listing.specs.Format.Texts.{number_line, sizes_line, shown_of}
 
@@ -24,24 +21,24 @@ use Rattle.iim_listing.specs.Format.Texts.{number_line, sizes_line, shown_of}
 
 run_lacks : (r : ℕ) (run : List Dataset) → AllByRecursion (λ d. (d.rec ≡ r) × IsGoodDataset d) run → is_kept r ≡ false → kept run ≡ []
 run_lacks r [] h none = refl
-run_lacks r (d ∷ run) h none = ap (λ (b : Bool). cond b (d ∷ kept run) (kept run)) (ap is_kept h.0.0 ∙ none) ∙ run_lacks r run h.1 none
+run_lacks r (d ∷ run) h none = rw (h.0.0, none) (run_lacks r run h.1 none)
 
 run_has : (r : ℕ) (run : List Dataset) → AllByRecursion (λ d. (d.rec ≡ r) × IsGoodDataset d) run → is_kept r ≡ true → kept run ≡ run
 run_has r [] h some = refl
-run_has r (d ∷ run) h some = ap (λ (b : Bool). cond b (d ∷ kept run) (kept run)) (ap is_kept h.0.0 ∙ some) ∙ ap (λ (l : List Dataset). d ∷ l) (run_has r run h.1 some)
+run_has r (d ∷ run) h some = rw (h.0.0, some, run_has r run h.1 some) refl
 
 records_lack : (rs : List ℕ) (ds : List Dataset) → AreRecords rs ds → AllByRecursion (λ r. is_kept r ≡ false) rs → kept ds ≡ []
 records_lack [] ds none h = ap kept none
 records_lack (r ∷ rs) ds (run, rest, parts, good, later) h =
-    ap kept parts ∙ (filter-append (λ (d : Dataset). is_kept d.rec) run rest ∙ (λ i. run_lacks r run good.each h.0 i ++ records_lack rs rest later h.1 i))
+    rw (parts, filter-append (λ (d : Dataset). is_kept d.rec) run rest, run_lacks r run good.each h.0) (records_lack rs rest later h.1)
 
 -- good records 1 and 2 are what is kept of whole sections
 kept_of_sections : (ds : List Dataset) → AreSections ds → builders.IsEnvelope (kept ds)
 kept_of_sections ds (r1, rest1, parts1, good1, (r2, rest2, parts2, good2, later2)) =
-    let tail : kept rest1 ≡ r2 = ap kept parts2 ∙ (filter-append (λ (d : Dataset). is_kept d.rec) r2 rest2
-    ∙ ((λ i. run_has 2 r2 good2.each refl i ++ records_lack (7 ∷ 8 ∷ 9 ∷ []) rest2 later2 (refl, (refl, (refl, tt))) i) ∙ append-nil r2)) in
-    let both : kept (r1 ++ rest1) ≡ r1 ++ r2 = filter-append (λ (d : Dataset). is_kept d.rec) r1 rest1 ∙ (λ i. run_has 1 r1 good1.each refl i ++ tail i) in
-    record { r1 = r1; r2 = r2; parts = ap kept parts1 ∙ both; envelope = good1; application = good2 }
+    let none : kept rest2 ≡ [] = records_lack (7 ∷ 8 ∷ 9 ∷ []) rest2 later2 (refl, (refl, (refl, tt))) in
+    let tail : kept rest1 ≡ r2 = rw (parts2, filter-append (λ (d : Dataset). is_kept d.rec) r2 rest2, run_has 2 r2 good2.each refl, none) (append-nil r2) in
+    let all : kept ds ≡ r1 ++ r2 = rw (parts1, filter-append (λ (d : Dataset). is_kept d.rec) r1 rest1, run_has 1 r1 good1.each refl, tail) refl in
+    record { r1 = r1; r2 = r2; parts = all; envelope = good1; application = good2 }
 
 -- ---- the lines
 
@@ -53,14 +50,14 @@ text_lines text (line ∷ next ∷ lines) (is, returns, few, rest, parts, later)
 -- ---- the script
 
 -- the values of an envelope are those of a script, which is printed with this story
-printed : PrintedValuesAreScripts → (e : Listed) → IsListed limits e → (number : ℕ) → length (value_lines e.value.fields e.value.head e.value.trailer ++ (codes "text\n" ++ story_of number e)) ≤ max_script
+printed : PrintedValuesAreScripts → (e : Listed) → IsListed limits e → (number : ℕ)
+    → length (value_lines e.value.fields e.value.head e.value.trailer ++ (codes "text\n" ++ story_of number e)) ≤ max_script
     → IsScriptOf (value_lines e.value.fields e.value.head e.value.trailer ++ (codes "text\n" ++ story_of number e)) (told_of e.value)
 printed law e is number short =
     let a = is.admits in
-    let fields = subst builders.IsEnvelope a.fields (kept_of_sections a.datasets a.sections) in
-    let within = subst (λ (ds : List Dataset). IsWithin limits (length (joined ds)) (length ds)) a.fields is.within.kept in
     let lines = text_lines a.text e.value.lines a.lines in
-    law limits e.value.fields e.value.head e.value.trailer e.value.lines (story_of number e) fields within a.message.is_header a.message.is_trailer lines.0 lines.1 (inl refl) short
+    law limits e.value.fields e.value.head e.value.trailer e.value.lines (story_of number e) (rw a.fields at (kept_of_sections a.datasets a.sections))
+    (rw a.fields at is.within.kept) a.message.is_header a.message.is_trailer lines.0 lines.1 (inl refl) short
 
 same_told : (t other : ScriptContent) → IsOneScript t.fields other.fields t.head other.head t.trailer other.trailer t.lines other.lines t.text_line other.text_line → t ≡ other
 same_told t other one = λ i. record {
@@ -80,11 +77,7 @@ tells_just once sound script t told = record {
 
 shown_parts : (number : ℕ) (e : Listed)
     → shown_of number e ≡ number_line number ++ (value_lines e.value.fields e.value.head e.value.trailer ++ sizes_line e.value.sizes)
-shown_parts number e =
-    let v = e.value in
-    ap (λ (l : List ℕ). number_line number ++ l)
-    (ap (λ (l : List ℕ). flat_map field_line v.fields ++ l) (sym (append_assoc (message_line v.head) (trailer_line v.trailer) (sizes_line v.sizes)))
-    ∙ sym (append_assoc (flat_map field_line v.fields) (message_line v.head ++ trailer_line v.trailer) (sizes_line v.sizes)))
+shown_parts number e = simp append_assoc
 
 pub shown_as_scripts : PrintedValuesAreScripts → ScriptsTellOneThing → ScriptsHaveNoFault → ShownEnvelopesAreScripts
 shown_as_scripts law once sound number e is = (

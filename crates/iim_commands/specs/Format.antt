@@ -2,13 +2,13 @@ use Rattle.std.specs.Prelude.{◌≡◌, ℕ, ℤ, ◌⊎◌, List}
 use Rattle.iim_dataset.specs.States.Devices.{Device, Wrote, Stopped, HasGiven}
 use Rattle.iim_audit.specs.Format.Auditing.{IsAudited, FailsAt}
 use Rattle.iim_audit.specs.Format.Texts.{printed_report}
-use Rattle.iim_audit.specs.declared.fault.AuditCause.{AuditCause}
+pub use Rattle.iim_audit.specs.declared.fault.AuditCause.{AuditCause}
 use Rattle.iim_audit.specs.declared.fault.AuditCause.TheVariants as causes
 use Rattle.iim_audit.specs.declared.row.AuditRow.{AuditRow}
 use Rattle.iim_output.specs.Format.Lines.{refused_line, too_many_line, fault_line}
 use Rattle.iim_output.specs.Format.Limits.{limits}
-use Rattle.iim_output.specs.declared.fault.CommandFault.{CommandFault}
-use Rattle.iim_output.specs.declared.fault.CommandFault.TheVariants.{CannotRead, CannotWrite, OutOfMemory}
+pub use Rattle.iim_output.specs.declared.fault.CommandFault.{CommandFault}
+pub use Rattle.iim_output.specs.declared.fault.CommandFault.TheVariants.{CannotRead, CannotWrite, OutOfMemory}
 use Rattle.iim_output.specs.Format.Statuses.{status_accepted, status_refused, status_failed}
 use Rattle.iim_request.specs.declared.request.Job.{Job}
 use Rattle.iim_request.specs.declared.request.Job.TheVariants.{Check, Show, Story, Pack, Audit}
@@ -26,9 +26,7 @@ use Rattle.iim_listing.specs.Format.Texts.{shown_of}
 abbrev pub TellsWhy : ℕ → AuditCause → List ℕ → Type 0
 TellsWhy number (causes.Refused e) words = words ≡ refused_line number e
 TellsWhy number causes.TooManyEnvelopes words = words ≡ too_many_line
-TellsWhy number causes.Read words = ⊥
-TellsWhy number causes.Interrupted words = ⊥
-TellsWhy number causes.OutOfMemory words = ⊥
+TellsWhy number _ words = ⊥
 
 -- The report of the input, at this instant; or the line that tells why it has none.
 abbrev pub IsAuditAnswer : ℤ → Device → Device → List ℕ → ℕ → Type 0

@@ -1,9 +1,9 @@
 -- What `show` and `story` print of an envelope makes a script of it.
 use Rattle.std.specs.Prelude.{◌≡◌, ℕ, ◌+◌, ◌≤◌, List, ◌++◌, length, codes}
 use Rattle.iim_script.specs.Format.Faults.{IsScriptFault}
-use Rattle.iim_script.specs.Format.Scripts.{max_script}
 use Rattle.iim_script.specs.declared.fault.ScriptCause.{ScriptCause}
 use Rattle.iim_script.specs.declared.fault.ScriptCause.TheVariants.{OutOfMemory}
+use Rattle.iim_script.specs.Format.Scripts.{max_script}
 use Rattle.iim_places.specs.Format.Admitted.{Value}
 use Rattle.iim_output.specs.Format.Limits.{limits}
 use Rattle.iim_places.specs.Format.Listing.{Listed, IsListed}

@@ -1,5 +1,4 @@
 pub mod Words
-pub mod Feeding
 pub mod Listings
 pub mod Narration
 pub mod Narrators

@@ -1,19 +1,14 @@
 -- What a narrator loses.
-use Rattle.iim_listing.proofs.Words.{◌≡◌, ℕ, ◌+◌, ◌<◌, inl, inr, sym, ap, subst, ◌∙◌, arith, List, [], ◌++◌, length, take, length-append, Result, Ok, Err}
-use Rattle.iim_listing.proofs.Words.{IfErr, take-append-le, MutBor, Appends, Device, TextsJoin, CommandFault, IsLost, IsUntold, LetsOut, errors_of, output_of}
-use Rattle.iim_listing.proofs.Words.{Narrator}
-use Rattle.std.proofs.Common.{append-nil}
+use Rattle.iim_listing.proofs.Words.{◌≡◌, ℕ, ◌+◌, inl, inr, ◌∙◌, arith, List, [], ◌++◌, length, append-nil, length-append, Result, Ok, Err}
+use Rattle.iim_listing.proofs.Words.{IfErr, take-append-le, MutBor, Device, TextsJoin, CommandFault, IsLost, IsUntold, LetsOut, errors_of, output_of, Narrator}
 use Rattle.iim_dataset.specs.States.Devices.{Stopped}
 use Rattle.iim_output.specs.Format.Statuses.{IsUnsaid}
 use Rattle.iim_listing.specs.Narrating.{TextIsOut}
 
 stopped_before : (old new : Device) (xs ys : List ℕ) (n : ℕ) → Stopped old new (xs ++ []) n → Stopped old new (xs ++ ys) n
-stopped_before old new xs ys n s =
-    let within : n < length xs = omega (arith, s.0, ap length (append-nil xs)) in (
-      omega (arith, within, length-append xs ys),
-      subst (Appends old.octets new.octets) (ap (take n) (append-nil xs) ∙ sym (take-append-le n xs ys (omega (arith, within)))) s.1,
-      s.2,
-    )
+stopped_before old new xs ys n stopped =
+    let s = rw append-nil at stopped in
+    (omega (arith, s.0, length-append xs ys), rw (take-append-le n xs ys (omega (arith, s.0))) s.1, s.2)
 
 -- a line more is lost
 pub lost_more : {W E : Type 0} (ws : W → Device) (es : E → Device) (a b : Narrator W E) (line : List ℕ) → IsLost ws es a b [] → IsLost ws es a b line
@@ -26,29 +21,18 @@ lost_more ws es a b line l = record {
 }
 
 -- all that was held is out, and a line after it is not
-pub unsaid : {W E T : Type 0} (ws : W → Device) (es : E → Device) → TextsJoin → (a b d : Narrator W E) (said line : List ℕ) (r : Result T CommandFault) → said ≡ line → LetsOut ws es a b [] → TextIsOut ws a d → d.errors.ghost_name ≡ b.errors.ghost_name
+pub unsaid : {W E T : Type 0} (ws : W → Device) (es : E → Device) → TextsJoin → (a b d : Narrator W E) (said line : List ℕ) (r : Result T CommandFault)
+    → said ≡ line → LetsOut ws es a b [] → TextIsOut ws a d → d.errors.ghost_name ≡ b.errors.ghost_name
     → IfErr r (IsUnsaid (errors_of es b) (errors_of es d) said) → IfErr r (IsUntold ws es a d line)
 unsaid ws es texts a b d said line (Ok x) whole l text same u = tt
 unsaid ws es texts a b d said line (Err fault) whole l text same (is, n, stopped) =
     let lines = a.lines.items ++ [] in
-    rw is (record {
-      keeps = (text.0.same, same ∙ l.keeps);
-      broke =
-          inr (
-            text,
-            length lines + n,
-            subst (λ (t : List ℕ). Stopped (errors_of es a) (errors_of es d) t (length lines + n)) (ap (λ (t : List ℕ). t ++ said) (append-nil a.lines.items) ∙ ap (λ (t : List ℕ). a.lines.items ++ t) whole)
-                (texts.stopped (errors_of es a) (errors_of es b) (errors_of es d) lines said n l.told stopped),
-          );
-    })
+    let cut = rw (append-nil a.lines.items, whole) at (texts.stopped (errors_of es a) (errors_of es b) (errors_of es d) lines said n l.told stopped) in
+    rw is (record { keeps = (text.0.same, same ∙ l.keeps); broke = inr (text, length a.lines.items + n, cut) })
 
 -- what is so of the devices of a narrator is so of the targets that it was lent, before and after
-pub between : {W E : Type 0} {output errors : Device} (ws : W → Device) (es : E → Device) (P : Device → Device → Device → Device → Type 0) (a b : Narrator W E) (first last : MutBor W) (told then : MutBor E)
-    → a.output.writer ≡ first → last ≡ b.output.writer → a.errors ≡ told → then ≡ b.errors → output ≡ ws last.now → errors ≡ es then.now → P (output_of ws a) (output_of ws b) (errors_of es a) (errors_of es b)
+pub between : {W E : Type 0} {output errors : Device} (ws : W → Device) (es : E → Device) (P : Device → Device → Device → Device → Type 0)
+    (a b : Narrator W E) (first last : MutBor W) (told then : MutBor E) → a.output.writer ≡ first → last ≡ b.output.writer → a.errors ≡ told
+    → then ≡ b.errors → output ≡ ws last.now → errors ≡ es then.now → P (output_of ws a) (output_of ws b) (errors_of es a) (errors_of es b)
     → P (ws first.now) output (es told.now) errors
-between ws es P a b first last told then begun ended lent back out said p =
-    let lasts = subst (λ (r : MutBor _). P (output_of ws a) (ws r.now) (errors_of es a) (errors_of es b)) (sym ended) p in
-    let thens = subst (λ (r : MutBor _). P (output_of ws a) (ws last.now) (errors_of es a) (es r.now)) (sym back) lasts in
-    let firsts = subst (λ (r : MutBor _). P (ws r.now) (ws last.now) (errors_of es a) (es then.now)) begun thens in
-    let all = subst (λ (r : MutBor _). P (ws first.now) (ws last.now) (es r.now) (es then.now)) lent firsts in
-    rw out (rw said all)
+between ws es P a b first last told then begun ended lent back out said p = rw (out, said, ← begun, ended, ← lent, back) p

@@ -6,12 +6,12 @@ pub use Rattle.iim_dataset.specs.States.Devices.{Device, HasGiven, Wrote}
 pub use Rattle.iim_listing.specs.Format.Listings.{IsDelivered, ending_line, status_of, texts_from}
 pub use Rattle.iim_listing.specs.Format.Narration.{IsUnnarrated, text_of}
 pub use Rattle.iim_listing.specs.Format.WrittenListings.{FailsListing}
-pub use Rattle.iim_listing.specs.Narrating.{EndsStory, IsLost, IsUntold, KeepsTargets, LetsOut, TellsOn, errors_of, output_of, stops_of}
+pub use Rattle.iim_listing.specs.Narrating.{IsLost, IsUntold, KeepsTargets, LetsOut, TellsOn, errors_of, output_of, stops_of}
 pub use Rattle.iim_listing.specs.States.{EnvelopeHasCome, IsCalm, IsNext, IsRefusal}
 pub use Rattle.iim_listing.specs.Turns.{AreListed, AreTaken, IsTelling}
 pub use Rattle.iim_listing.specs.declared.narrator.Narrator.{Narrator}
 pub use Rattle.iim_output.specs.Format.Limits.{limits}
-pub use Rattle.iim_output.specs.Format.Lines.{refused_line}
+pub use Rattle.iim_output.specs.Format.Lines.{accepted_line, refused_line}
 pub use Rattle.iim_output.specs.HoldingLaws.{put_nothing, puts_nothing}
 pub use Rattle.iim_output.specs.States.Devices.{HasOctets}
 pub use Rattle.iim_output.specs.States.Holding.{HoldsNothing, KeepsWriter}
@@ -27,8 +27,8 @@ pub use Rattle.iim_places.specs.declared.refusal.Refusal.{Refusal}
 pub use Rattle.iim_unpack.proofs.Intakes.{Joined}
 pub use Rattle.iim_unpack.specs.States.Intakes.{in_line}
 pub use Rattle.iim_unpack.specs.States.Unpacking.{Unpacking, limits_in}
-pub use Rattle.std.proofs.Common.{Err, IfErr, List, None, Ok, Option, Result, Some, [], ap, append_assoc, arith, inl, inr, length, length-append, map, refl}
-pub use Rattle.std.proofs.Common.{rules, subst, sym, take, ℕ, ◌++◌, ◌+◌, ◌-◌, ◌<◌, ◌^◌, ◌∙◌, ◌∷◌, ◌≡◌, ◌⊎◌}
+pub use Rattle.std.proofs.Common.{Err, IfErr, List, None, Ok, Option, Result, Some, [], ap, append-nil, append_assoc, arith, inl, inr, length, length-append}
+pub use Rattle.std.proofs.Common.{map, refl, rules, subst, suc, sym, take, ℕ, ◌++◌, ◌+◌, ◌-◌, ◌<◌, ◌^◌, ◌∙◌, ◌∷◌, ◌≡◌, ◌⊎◌}
 pub use Rattle.std.proofs.Math.Seq.{take-length}
 pub use Rattle.std.proofs.lemmas.List.{take-append-le}
 pub use Rattle.std.specs.Borrow.{MutBor}

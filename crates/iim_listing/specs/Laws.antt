@@ -4,8 +4,6 @@ use Rattle.wire_story.specs.Format.Delivery.{StoryEvent, events_of_lines}
 use Rattle.iim_places.specs.Format.Admitted.{Value, Admits}
 use Rattle.iim_listing.specs.Format.Listings.{IsDelivered}
 
--- ---- a law
-
 -- What is delivered of the text in an envelope is its lines.
 abbrev pub EnvelopesAreDeliveredAsLines : Type 0
 EnvelopesAreDeliveredAsLines = (octets : List ℕ) (v : Value) (more : List StoryEvent) → Admits octets v → IsDelivered octets more → more ≡ events_of_lines v.lines

@@ -1,32 +1,19 @@
 -- The laws of narrators, handed in by their impl.
-use Rattle.std.proofs.Common.{◌≡◌, ℕ, List, [], ◌++◌, ◌⊎◌, inl, inr, refl, sym, ap, subst, ◌∙◌, append-nil, append_assoc, arith}
-use Rattle.std.specs.Borrow.{MutBor}
+use Rattle.std.proofs.Common.{List, [], ◌++◌, ◌⊎◌, inl, inr, refl, sym, subst, ◌∙◌, append-nil, append_assoc, arith}
 use Rattle.iim_dataset.specs.States.Devices.{Device, Wrote}
 use Rattle.iim_dataset.specs.HandedIn.{appends_joined}
 use Rattle.wire_story.specs.Format.Delivery.{StoryEvent}
 use Rattle.iim_output.specs.HoldingLaws.{puts_nothing, puts_joined}
 use Rattle.iim_output.specs.States.Holding.{PutsLines}
-use Rattle.iim_listing.specs.Narrating.{HoldsLines, TellsOn, ToldLines, errors_of}
-use Rattle.iim_listing.specs.declared.narrator.Narrator.{Narrator}
+use Rattle.iim_listing.specs.Narrating.{HoldsLines, TellsOn, ToldLines, errors_of, Narrator}
 
 pub tells_nothing : {W E : Type 0} (ws : W → Device) (es : E → Device) (n : Narrator W E) → TellsOn ws es n [] n
 tells_nothing ws es n = record { put = puts_nothing ws n.output; keeps = refl; lines = inl (sym (append-nil n.lines.items), refl) }
 
--- lines that are held as before went out
-told_held : {W E : Type 0} (es : E → Device) (a b c : Narrator W E) → HoldsLines a b [] → Wrote (errors_of es b) (errors_of es c) b.lines.items → Wrote (errors_of es a) (errors_of es c) a.lines.items
-told_held es a b c h told =
-    subst (Wrote (errors_of es a) (errors_of es c)) (h.0 ∙ append-nil a.lines.items) (subst (λ (r : MutBor _). Wrote (es r.now) (errors_of es c) b.lines.items) h.1 told)
-
--- and then nothing more
-told_more : {W E : Type 0} (es : E → Device) (a b c : Narrator W E) → Wrote (errors_of es a) (errors_of es b) a.lines.items → b.lines.items ≡ []
-    → Wrote (errors_of es b) (errors_of es c) b.lines.items → Wrote (errors_of es a) (errors_of es c) a.lines.items
-told_more es a b c first none then = subst (Wrote (errors_of es a) (errors_of es c)) (ap (λ (l : List ℕ). a.lines.items ++ l) none ∙ append-nil a.lines.items) (
-  appends_joined (errors_of es a).octets (errors_of es b).octets (errors_of es c).octets a.lines.items b.lines.items first.0 then.0,
-  (then.1.0 ∙ first.1.0, omega (arith, first.1.1, then.1.1)),
-)
-
-lines_joined : {W E : Type 0} (ws : W → Device) (es : E → Device) (a b c : Narrator W E) (xs ys : List StoryEvent) → TellsOn ws es a xs b → PutsLines ws b.output ys c.output
-    → HoldsLines a b [] ⊎ ToldLines ws es a xs b → HoldsLines b c [] ⊎ ToldLines ws es b ys c → HoldsLines a c [] ⊎ ToldLines ws es a (xs ++ ys) c
+-- Lines that are held as before went out; or those went out, and then nothing more.
+lines_joined : {W E : Type 0} (ws : W → Device) (es : E → Device) (a b c : Narrator W E) (xs ys : List StoryEvent) → TellsOn ws es a xs b
+    → PutsLines ws b.output ys c.output → HoldsLines a b [] ⊎ ToldLines ws es a xs b → HoldsLines b c [] ⊎ ToldLines ws es b ys c
+    → HoldsLines a c [] ⊎ ToldLines ws es a (xs ++ ys) c
 lines_joined ws es a b c xs ys first put (inl h) (inl k) = inl (k.0 ∙ append-nil b.lines.items ∙ h.0, k.1 ∙ h.1)
 lines_joined ws es a b c xs ys first put (inr t) (inl k) = inr (record {
   mark = t.mark;
@@ -35,9 +22,9 @@ lines_joined ws es a b c xs ys first put (inr t) (inl k) = inr (record {
   before = t.before;
   settled = t.settled;
   after = puts_joined ws t.mark b.output c.output t.then ys t.after put;
-  all = sym (append_assoc t.first t.then ys) ∙ ap (λ (l : List StoryEvent). l ++ ys) t.all;
+  all = rw (← append_assoc t.first t.then ys, t.all) refl;
   none = k.0 ∙ append-nil b.lines.items ∙ t.none;
-  told = subst (λ (r : MutBor _). Wrote (errors_of es a) (es r.now) a.lines.items) (sym k.1) t.told;
+  told = rw k.1 t.told;
 })
 lines_joined ws es a b c xs ys first put one (inr u) = inr (record {
   mark = u.mark;
@@ -46,11 +33,14 @@ lines_joined ws es a b c xs ys first put one (inr u) = inr (record {
   before = puts_joined ws a.output b.output u.mark xs u.first first.put u.before;
   settled = u.settled;
   after = u.after;
-  all = append_assoc xs u.first u.then ∙ ap (λ (l : List StoryEvent). xs ++ l) u.all;
+  all = rw (append_assoc xs u.first u.then, u.all) refl;
   none = u.none;
   told = elim one [
-    | inl h ↦ told_held es a b c h u.told
-    | inr t ↦ told_more es a b c t.told t.none u.told
+    | inl h ↦ subst (Wrote (errors_of es a) (errors_of es c)) (h.0 ∙ append-nil a.lines.items) (rw h.1 at u.told)
+    | inr t ↦ (let then = subst (Wrote (errors_of es b) (errors_of es c)) t.none u.told in (
+      rw append-nil at (appends_joined (errors_of es a).octets (errors_of es b).octets (errors_of es c).octets a.lines.items [] t.told.0 then.0),
+      (then.1.0 ∙ t.told.1.0, omega (arith, t.told.1.1, then.1.1)),
+    ))
   ];
 })
 

@@ -12,10 +12,9 @@ use Rattle.iim_places.specs.declared.refusal.Refusal.{Refusal}
 use Rattle.iim_output.specs.Format.Limits.{limits}
 use Rattle.iim_listing.specs.Format.Listings.{told, IsDelivered}
 use Rattle.iim_places.specs.Format.Listing.{Listed, IsListed, IsRefusedAfter}
-use Rattle.iim_output.specs.declared.fault.CommandFault.{CommandFault}
+use Rattle.iim_listing.specs.Format.WrittenListings.{CommandFault, CannotRead, CannotWrite, OutOfMemory}
 use Rattle.iim_listing.specs.declared.coming.Next.{Next}
 use Rattle.iim_listing.specs.declared.coming.Next.TheVariants as next
-use Rattle.iim_output.specs.declared.fault.CommandFault.TheVariants.{CannotRead, CannotWrite, OutOfMemory}
 
 -- An envelope came, the unpacker is done with it, and the sink was told its text.
 pub record EnvelopeHasCome {S : Type 0} (goes : S → List StoryEvent → S → Type 0) (old new : Device) (u : Unpacking) (a b : S) (octets : ℕ) : Type 0 where

@@ -4,7 +4,8 @@ ghost use Rattle.std.specs.Prelude.{◌≡◌, [], None, OnOk, OnErr};
 ghost use Rattle.iim_unpack.specs.States.Intakes.{in_line};
 ghost use Rattle.iim_listing.specs.States.{IsNext, IsCalm, CanAskForMore};
 ghost use Rattle.iim_unpack.specs.States.Unpacking.{limits_in};
-ghost use Rattle.iim_listing.specs.Turns.{IsOfFault, IsOfRefusal};
+ghost use Rattle.iim_unpack.specs.declared.intake.IntakeFault.TheVariants.{Refused};
+ghost use Rattle.iim_listing.specs.Turns.{IsOfFault};
 ghost use Rattle.iim_output.specs.Format.Limits.{limits};
 
 use iim_dataset::device_laws::gifts_join;
@@ -42,7 +43,7 @@ fn let_out_before_read<R: Source, S: Outlet>(intake: &Intake<R>, sink: &mut S) -
 
 /// What octets that are refused come to, which may be a fault of the sink.
 fn next_of_refusal(refusal: Refusal) -> Result<Next, CommandFault>
-    ensures { IsOfRefusal refusal result }
+    ensures { IsOfFault (Refused refusal) result }
 {
     if refusal.cause == Cause::SINK {
         return Err(CommandFault::CannotWrite);

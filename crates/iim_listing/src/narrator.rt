@@ -1,6 +1,6 @@
 //! What `story` writes with: the text in blocks, and the lines that are told beside it.
 
-ghost use Rattle.std.specs.Prelude.{◌≡◌, [], IfErr, OnOk, OnErr};
+ghost use Rattle.std.specs.Prelude.{◌≡◌, [], ◌∷◌, IfErr, OnOk, OnErr};
 ghost use Rattle.iim_output.specs.Format.Lines.{accepted_line, refused_line};
 
 use iim_dataset::device_laws::texts_join;
@@ -29,7 +29,9 @@ pub(crate) struct Narrator<'o, 'e, W, E> {
 }
 
 impl<'o, 'e, W: Target, E: Target> Narrator<'o, 'e, W, E> {
-    ghost use Rattle.iim_listing.specs.Narrating.{EndsStory, HoldsLine, IsUnended, IsUntold, LetsOut};
+    ghost use Rattle.iim_dataset.specs.Format.Characters.{lf};
+    ghost use Rattle.iim_output.specs.States.Holding.{PutsOn};
+    ghost use Rattle.iim_listing.specs.Narrating.{HoldsLines, IsUnended, IsUntold, LetsOut, stops_of};
 
     /// A narrator that holds no line.
     pub(crate) fn new(
@@ -75,8 +77,9 @@ impl<'o, 'e, W: Target, E: Target> Narrator<'o, 'e, W, E> {
 
     /// Holds the line of an accepted envelope, or nothing more where memory is refused.
     fn hold_line(&mut self, number: u64, octets: u64) -> Result<(), AllocError>
-        ensures ok { OnOk result (HoldsLine self.old self.new (accepted_line number octets)) }
-        ensures err { OnErr result (HoldsLine self.old self.new []) }
+        ensures ok { OnOk result (HoldsLines self.old self.new (accepted_line number octets)) }
+        ensures err { OnErr result (HoldsLines self.old self.new []) }
+        ensures text { self.new.output ≡ self.old.output }
     {
         self.line.clear();
         push_accepted(&mut self.line, number, octets)?;
@@ -86,7 +89,8 @@ impl<'o, 'e, W: Target, E: Target> Narrator<'o, 'e, W, E> {
     /// Ends the story of an envelope: takes an LF after its text, and holds its line. Where memory is refused for the line, all that was
     /// held is let out, and no LF is taken.
     pub(crate) fn end_story(&mut self, number: u64, octets: u64) -> Result<(), CommandFault>
-        ensures ok { OnOk result (EndsStory W.state self.old self.new (accepted_line number octets)) }
+        ensures ok { OnOk result (PutsOn W.state self.old.output self.new.output (lf ∷ [])
+            × (stops_of self.new ≡ stops_of self.old) × HoldsLines self.old self.new (accepted_line number octets)) }
         ensures err { IfErr result (IsUnended W.state E.state self.old self.new) }
     {
         if self.hold_line(number, octets).is_err() {

@@ -1,13 +1,13 @@
 //! `story`: the text of each envelope, as it comes.
 
-ghost use Rattle.std.specs.Prelude.{◌≡◌, ◌≤◌, None, IfOk, IfErr};
+ghost use Rattle.std.specs.Prelude.{◌≡◌, ◌<◌, ◌≤◌, None, Ok, Err, IfOk, IfErr};
 ghost use Rattle.iim_unpack.specs.States.Intakes.{in_line};
 ghost use Rattle.iim_listing.specs.Narrating.{IsSettled, KeepsTargets, errors_of, output_of};
 ghost use Rattle.iim_listing.specs.Narrating as narrators;
 ghost use Rattle.wire_story.specs.States.Writing.{device_of, stops_of};
 ghost use Rattle.iim_listing.specs.Format.Narration.{IsUnnarrated, Narrated};
 ghost use Rattle.iim_places.specs.Format.Listing.{max_envelopes};
-ghost use Rattle.iim_listing.specs.Turns.{GoesOn, TellsNext, TellsNoMore};
+ghost use Rattle.iim_listing.specs.Turns.{TellsNext};
 ghost use Rattle.iim_unpack.specs.States.Unpacking.{limits_in};
 ghost use Rattle.iim_output.specs.Format.Limits.{limits};
 
@@ -36,11 +36,12 @@ fn tell_next<R: Source, W: Target, E: Target>(
     requires alive { intake.old.failed ≡ None }
     requires limits { limits_in unpacker.old ≡ limits }
     requires few { count ≤ max_envelopes }
-    ensures ok { IfOk result (λ next. GoesOn intake.new.failed (limits_in unpacker.new) count next
+    ensures ok { IfOk result (λ next.
+        (next ≡ None → (intake.new.failed ≡ None) × (limits_in unpacker.new ≡ limits) × (count < max_envelopes))
         × TellsNext W.state E.state (in_line R.state intake.old) (in_line R.state intake.new) narrator.old narrator.new
-        count next) }
-    ensures err { IfErr result (TellsNoMore W.state E.state (in_line R.state intake.old) (in_line R.state intake.new)
-        narrator.old narrator.new count) }
+        count (Ok next)) }
+    ensures err { IfErr result (λ fault. TellsNext W.state E.state (in_line R.state intake.old) (in_line R.state intake.new)
+        narrator.old narrator.new count (Err fault)) }
     ensures leads { R.leads intake.old.reader intake.new.reader }
 {
     gifts_join();

@@ -1,24 +1,22 @@
 -- The laws of writers of blocks, handed in by their impls.
-use Rattle.std.proofs.Common.{◌≡◌, ℕ, List, [], ◌++◌, map, refl, sym, ap, subst, ◌∙◌, append-nil, append_assoc, length-append, arith}
+use Rattle.std.proofs.Common.{◌≡◌, ℕ, List, [], ◌++◌, map, refl, sym, ◌∙◌, append-nil, append_assoc, length-append, arith}
 use Rattle.std.proofs.lemmas.List.{map-append}
 use Rattle.iim_dataset.specs.States.Devices.{Device}
 use Rattle.iim_dataset.specs.HandedIn.{appends_nothing, appends_joined}
 use Rattle.wire_story.specs.Format.Delivery.{StoryEvent, octet_for, LineOctet}
 use Rattle.wire_story.specs.States.Writing.{WritesOn}
 use Rattle.wire_story.specs.SinkLaws.{writes_nothing, writes_joined, octets_of_line}
-use Rattle.iim_output.specs.States.Holding.{HasPut, PutsOn, PutsLines, device_of, held_of, stops_of}
-use Rattle.iim_output.specs.declared.block_writer.BlockWriter.{BlockWriter}
+use Rattle.iim_output.specs.States.Holding.{HasPut, PutsOn, PutsLines, device_of, held_of, stops_of, BlockWriter}
 
 writes_on : (a b c : Device) (i j k : ℕ) (xs ys : List ℕ) → WritesOn a b i j xs → WritesOn b c j k ys → WritesOn a c i k (xs ++ ys)
 writes_on a b c i j k xs ys h l =
-    subst (λ (t : List ℕ). WritesOn a c i k t) (map-append octet_for (map LineOctet xs) (map LineOctet ys) ∙ ap (λ (t : List ℕ). t ++ map octet_for (map LineOctet ys)) (octets_of_line xs) ∙ ap (λ (t : List ℕ). xs ++ t) (octets_of_line ys))
-    (writes_joined a b c i j k (map LineOctet xs) (map LineOctet ys) (subst (λ (t : List ℕ). WritesOn a b i j t) (sym (octets_of_line xs)) h)
-    (subst (λ (t : List ℕ). WritesOn b c j k t) (sym (octets_of_line ys)) l))
+    rw (map-append octet_for (map LineOctet xs) (map LineOctet ys), octets_of_line xs, octets_of_line ys)
+    at (writes_joined a b c i j k (map LineOctet xs) (map LineOctet ys) (rw (octets_of_line xs) h) (rw (octets_of_line ys) l))
 
 -- of two texts, one after the other
 pub parts_on : (held mid rest first second out more : List ℕ) → held ++ first ≡ out ++ mid → mid ++ second ≡ more ++ rest → held ++ (first ++ second) ≡ (out ++ more) ++ rest
 parts_on held mid rest first second out more one two =
-    sym (append_assoc held first second) ∙ ap (λ (t : List ℕ). t ++ second) one ∙ append_assoc out mid second ∙ ap (λ (t : List ℕ). out ++ t) two ∙ sym (append_assoc out more rest)
+    rw (← append_assoc held first second, one, append_assoc out mid second, two) (sym (append_assoc out more rest))
 
 pub puts_nothing : {W : Type 0} (state : W → Device) (b : BlockWriter W) → PutsLines state b [] b
 puts_nothing state b = record { out = []; same = refl; parts = append-nil (held_of b); writes = writes_nothing (device_of state b) (stops_of b) }
@@ -33,7 +31,7 @@ puts_on state a b c xs ys first then = record {
 
 pub puts_joined : {W : Type 0} (state : W → Device) (a b c : BlockWriter W) (xs ys : List StoryEvent) → PutsLines state a xs b → PutsLines state b ys c → PutsLines state a (xs ++ ys) c
 puts_joined state a b c xs ys first then =
-    subst (λ (t : List ℕ). PutsOn state a c t) (sym (map-append octet_for xs ys)) (puts_on state a b c (map octet_for xs) (map octet_for ys) first then)
+    rw (map-append octet_for xs ys) (puts_on state a b c (map octet_for xs) (map octet_for ys) first then)
 
 -- ---- where no write failed
 

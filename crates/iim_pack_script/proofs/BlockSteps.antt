@@ -1,16 +1,15 @@
 -- A target that is written to in blocks: its steps, and what they come to.
-use Rattle.std.proofs.Common.{◌≡◌, ℕ, ◌+◌, ◌-◌, ◌<◌, ◌≤◌, ◌⊎◌, inl, inr, take, take-append-drop, length-drop, nat_le, Bool, true, false, cond, List, [], ◌∷◌, ◌++◌, length, drop, get_or, Option, Some, None, refl, sym, ap, subst, ◌∙◌, arith, append_assoc, append-nil, length-append}
+use Rattle.iim_pack_script.proofs.Words.{◌≡◌, ℕ, ◌+◌, ◌-◌, ◌<◌, ◌≤◌, ◌⊎◌, inl, inr, take, take-append-drop, length-drop, nat_le, Bool, true, false, cond}
+use Rattle.iim_pack_script.proofs.Words.{List, [], ◌∷◌, ◌++◌, length, drop, Option, Some, None, refl, sym, ap, ◌∙◌, arith, append_assoc, append-nil}
+use Rattle.iim_pack_script.proofs.Words.{length-append, Accepted, Calm, CountedFailure, Device, Faulted, Begins, octets_behind}
 use Rattle.std.proofs.lemmas.Bool.{leb-true, le-leb, true≢false}
 use Rattle.std.proofs.lemmas.List.{drop-take}
 use Rattle.std.proofs.lemmas.List.Edits.{take-paste}
 use lib.Seq.{paste}
-use Rattle.iim_dataset.specs.States.Devices.{Accepted, Calm, CountedFailure, Device, Faulted}
 use Rattle.iim_dataset.specs.declared.device.IoFault.{IoFault}
 use Rattle.iim_dataset.specs.declared.device.IoFault.TheVariants.{Interrupted, Failed}
 use Rattle.std.specs.List.{copy_within}
 use Rattle.std.specs.Io.KnownBytes.{Appends, Keeps}
-use Rattle.iim_object.specs.States.Writing.{Begins}
-use Rattle.iim_pack_script.specs.Blocks.{octets_behind}
 
 pub keeps_nothing : (a b : Option (List ℕ)) → Keeps a b → Appends a b []
 keeps_nothing None b h = tt
@@ -18,17 +17,6 @@ keeps_nothing (Some x) None h = absurd h
 keeps_nothing (Some x) (Some y) h = h ∙ sym (append-nil x)
 
 -- ---- steps
-
-holds_by : (test : Bool) (n : ℕ) (now held more whole : List ℕ) → whole ≡ held ++ more
-    → Appends (cond test (Some (n ∷ (now ++ held))) None) (cond test (Some (n ∷ (now ++ whole))) None) more
-holds_by true n now held more whole e = ap (λ (t : List ℕ). n ∷ (now ++ t)) e ∙ ap (λ (t : List ℕ). n ∷ t) (sym (append_assoc now held more))
-holds_by false n now held more whole e = tt
-
--- more is held
-pub holds : (first now : Option (List ℕ)) (held more whole : List ℕ) → whole ≡ held ++ more → Appends (octets_behind first held now) (octets_behind first whole now) more
-holds None now held more whole e = tt
-holds (Some first) None held more whole e = tt
-holds (Some first) (Some now) held more whole e = holds_by (nat_le (length first) (length now)) (length first) now held more whole e
 
 passes_by : (test later : Bool) (n : ℕ) (now held after rest : List ℕ) → (test ≡ true → later ≡ true) → after ++ rest ≡ now ++ held
     → Keeps (cond test (Some (n ∷ (now ++ held))) None) (cond later (Some (n ∷ (after ++ rest))) None)
@@ -45,8 +33,8 @@ passes (Some first) (Some now) (Some after) held out rest e h =
     let long = ap length h in
     let sum = length-append now out in
     passes_by (nat_le (length first) (length now)) (nat_le (length first) (length after)) (length first) now held after rest
-    (λ yes. (let le = leb-true (length first) (length now) yes in le-leb (length first) (length after) (omega (arith, le, long, sum))))
-    (ap (λ (t : List ℕ). t ++ rest) h ∙ append_assoc now out rest ∙ ap (λ (t : List ℕ). now ++ t) (sym e))
+    (λ yes. let le = leb-true (length first) (length now) yes in le-leb (length first) (length after) (omega (arith, le, long, sum)))
+    (rw (h, e) (append_assoc now out rest))
 
 -- octets of a block that are moved to its front
 pub moved : (block new : List ℕ) (used count left : ℕ) → count + left ≡ used → used ≤ length block → new ≡ copy_within block count used 0 → take left new ≡ drop count (take used block)
@@ -89,16 +77,16 @@ went : (first now held out : List ℕ) → now ++ held ≡ first ++ out → leng
 went [] now held out e le = record { gone = now; wrote = refl; parts = sym e }
 went (x ∷ first) [] held out e le = absurd (omega (arith, le))
 went (x ∷ first) (y ∷ now) held out e le =
-    let w = went first now held out (ap (drop 1) e) (omega (arith, le)) in
-    record { gone = w.gone; wrote = (λ i. ap (λ (l : List ℕ). get_or l 0 0) e i ∷ w.wrote i); parts = w.parts }
+    let w = went first now held out (let tail : now ++ held ≡ first ++ out = cc in tail) (omega (arith, le)) in
+    record { gone = w.gone; wrote = (let head : y ≡ x = cc in λ i. head i ∷ w.wrote i); parts = w.parts }
 
 went_by : (test : Bool) (n : ℕ) (first now held out : List ℕ) → (test ≡ true → n ≤ length now)
     → Appends (Some (length first ∷ (first ++ []))) (cond test (Some (n ∷ (now ++ held))) None) out → Went first now held out
 went_by false n first now held out le h = absurd h
 went_by true n first now held out le h =
-    let same : n ≡ length first = ap (λ (l : List ℕ). get_or l 0 0) h in
-    let few : n ≤ length now = le refl in
-    went first now held out (ap (drop 1) h ∙ ap (λ (t : List ℕ). t ++ out) (append-nil first)) (omega (arith, same, few))
+    let same : n ≡ length first = cc in
+    let parts : now ++ held ≡ (first ++ []) ++ out = cc in
+    went first now held out (rw append-nil at parts) (omega (arith, same, le refl))
 
 went_behind : (first : List ℕ) (begun now : Option (List ℕ)) (held out : List ℕ) → Appends (Some (length first ∷ (first ++ []))) (octets_behind begun held now) out
     → (octets : List ℕ) × (now ≡ Some octets) × Went first octets held out
@@ -108,33 +96,29 @@ went_behind first (Some begun) (Some now) held out h =
     (now, refl, went_by (nat_le (length begun) (length now)) (length begun) first now held out (leb-true (length begun) (length now)) h)
 
 fresh_octets : (first : List ℕ) → octets_behind (Some first) [] (Some first) ≡ Some (length first ∷ (first ++ []))
-fresh_octets first = ap (λ (test : Bool). cond test (Some (length first ∷ (first ++ []))) None) (le-leb (length first) (length first) (omega arith))
+fresh_octets first = rw (le-leb (length first) (length first) (omega arith)) refl
 
 -- all that was taken is out, where what was held went out at last
 pub finished : (old begun mid last : Option (List ℕ)) (held out : List ℕ) → Appends (octets_behind old [] old) (octets_behind begun held mid) out → Appends mid last held → Appends old last out
 finished None begun mid last held out h k = tt
 finished (Some first) begun mid last held out h k =
-    let w = went_behind first begun mid held out (subst (λ (o : Option (List ℕ)). Appends o (octets_behind begun held mid) out) (fresh_octets first) h) in
-    finished_by first w.0 last held out w.2 (subst (λ (o : Option (List ℕ)). Appends o last held) w.1 k)
+    let (now, is, through) = went_behind first begun mid held out (rw (fresh_octets first) at h) in
+    finished_by first now last held out through (rw is at k)
   where
     finished_by : (first now : List ℕ) (last : Option (List ℕ)) (held out : List ℕ) → Went first now held out → Appends (Some now) last held → Appends (Some first) last out
     finished_by first now None held out w k = absurd k
-    finished_by first now (Some last) held out w k =
-        k ∙ ap (λ (t : List ℕ). t ++ held) w.wrote ∙ append_assoc first w.gone held ∙ ap (λ (t : List ℕ). first ++ t) (sym w.parts)
+    finished_by first now (Some last) held out w k = rw (k, w.wrote, w.parts) (append_assoc first w.gone held)
 
 -- only a front of what was taken is out, where what was held did not go out whole
 pub broken_off : (old begun mid last : Option (List ℕ)) (held front rest out : List ℕ) → Appends (octets_behind old [] old) (octets_behind begun held mid) out
     → held ≡ front ++ rest → Appends mid last front → (gone : List ℕ) × Appends old last gone × Begins gone out
 broken_off None begun mid last held front rest out h e k = ([], tt, (out, refl))
 broken_off (Some first) begun mid last held front rest out h e k =
-    let w = went_behind first begun mid held out (subst (λ (o : Option (List ℕ)). Appends o (octets_behind begun held mid) out) (fresh_octets first) h) in
-    broken_by first w.0 last held front rest out w.2 e (subst (λ (o : Option (List ℕ)). Appends o last front) w.1 k)
+    let (now, is, through) = went_behind first begun mid held out (rw (fresh_octets first) at h) in
+    broken_by first now last held front rest out through e (rw is at k)
   where
     broken_by : (first now : List ℕ) (last : Option (List ℕ)) (held front rest out : List ℕ) → Went first now held out → held ≡ front ++ rest → Appends (Some now) last front
         → (gone : List ℕ) × Appends (Some first) last gone × Begins gone out
     broken_by first now None held front rest out w e k = absurd k
-    broken_by first now (Some last) held front rest out w e k = (
-      w.gone ++ front,
-      k ∙ ap (λ (t : List ℕ). t ++ front) w.wrote ∙ append_assoc first w.gone front,
-      (rest, append_assoc w.gone front rest ∙ ap (λ (t : List ℕ). w.gone ++ t) (sym e) ∙ sym w.parts),
-    )
+    broken_by first now (Some last) held front rest out w e k =
+        (w.gone ++ front, rw (k, w.wrote) (append_assoc first w.gone front), (rest, rw (w.parts, e) (append_assoc w.gone front rest)))

@@ -1,3 +1,4 @@
+pub mod Words
 pub mod BlockSteps
 pub mod Lines
 pub mod Packings

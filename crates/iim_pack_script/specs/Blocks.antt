@@ -1,7 +1,6 @@
 -- A target that is written to in blocks.
-use Rattle.std.specs.Prelude.{◌≡◌, ℕ, ◌-◌, ◌<◌, ◌⊎◌, cond, nat_le, List, ◌∷◌, ◌++◌, length, take, Option, Some, None}
-use Rattle.std.specs.Io.KnownBytes.{Keeps}
-use Rattle.iim_dataset.specs.States.Devices.{Device, Calm, CountedFailure}
+use Rattle.std.specs.Prelude.{◌≡◌, ℕ, ◌-◌, cond, nat_le, List, ◌∷◌, ◌++◌, length, take, Option, Some, None}
+use Rattle.iim_dataset.specs.States.Devices.{Device}
 use Rattle.iim_pack_script.specs.declared.blocks.BlockTarget.{BlockTarget}
 
 -- what it took and did not pass on
@@ -31,9 +30,3 @@ block_device state b = record {
 pub record IsFresh {W : Type 0} (b : BlockTarget W) : Type 0 where
   pub first_is : b.first.value ≡ b.writer
   pub empty : b.used ≡ 0
-
--- One write of what is held: some went out, and there is room; or none did, which is a failure.
-abbrev pub PassedOn : {W : Type 0} → (W → Device) → BlockTarget W → BlockTarget W → ℕ → Type 0
-PassedOn state old new count = Keeps (block_device state old).octets (block_device state new).octets
-    × (((0 < count) × (0 < room_in new) × Calm (block_device state old) (block_device state new))
-    ⊎ ((count ≡ 0) × CountedFailure (block_device state old) (block_device state new)))

@@ -4,26 +4,26 @@ use Rattle.std.specs.Io.KnownBytes.{IsAtEnd}
 use Rattle.iim_dataset.specs.Format.Octets.{greatest_size}
 use Rattle.iim_dataset.specs.Format.Datasets.{Dataset}
 use Rattle.iim_dataset.specs.States.Devices.{Device, Wrote, BrokeAfter, HasGiven, MissedAfter}
-use Rattle.iim_dataset.specs.declared.device.IoFault.{IoFault}
+pub use Rattle.iim_dataset.specs.declared.device.IoFault.{IoFault}
 use Rattle.iim_object.specs.Format.Plans.{most_in}
+use Rattle.iim_object.specs.declared.size.Size.{Size}
+use Rattle.iim_object.specs.declared.size.Size.TheVariants.{Known, Unknown}
 use Rattle.iim_object.specs.Format.PackCauses.{pack_number}
 use Rattle.iim_object.specs.States.Writing.{Begins}
 use Rattle.iim_object.specs.declared.writing.cause.PackCause.TheVariants as causes
 use Rattle.iim_object.specs.declared.plan.Plan.{Plan}
-use Rattle.iim_object.specs.declared.size.Size.{Size}
-use Rattle.iim_object.specs.declared.size.Size.TheVariants.{Known, Unknown}
 use Rattle.wire_message.specs.Format.Messages.{Header}
 use Rattle.wire_message.specs.Format.Canonical.{canonical}
 use Rattle.iim_pack.specs.Format.Packed.{Packed}
 use Rattle.iim_script.specs.Format.Causes.{cause_name, cause_number}
 use Rattle.iim_script.specs.Format.Faults.{IsScriptFault}
-use Rattle.iim_script.specs.Format.Scripts.{IsScript, max_script}
 use Rattle.iim_script.specs.declared.fault.ScriptCause.{ScriptCause}
+use Rattle.iim_script.specs.Format.Scripts.{IsScript, max_script}
 use Rattle.iim_script.specs.declared.fault.ScriptCause.TheVariants as script
-use Rattle.iim_output.specs.declared.fault.CommandFault.{CommandFault}
-use Rattle.iim_output.specs.declared.fault.CommandFault.TheVariants.{CannotRead, CannotWrite, OutOfMemory}
-use Rattle.iim_pack_script.specs.declared.packing.PackFault.{PackFault}
-use Rattle.iim_pack_script.specs.declared.packing.PackFault.TheVariants.{Refused, Around}
+pub use Rattle.iim_output.specs.declared.fault.CommandFault.{CommandFault}
+pub use Rattle.iim_output.specs.declared.fault.CommandFault.TheVariants.{CannotRead, CannotWrite, OutOfMemory}
+pub use Rattle.iim_pack_script.specs.declared.packing.PackFault.{PackFault}
+pub use Rattle.iim_pack_script.specs.declared.packing.PackFault.TheVariants.{Refused, Around}
 use Rattle.iim_output.specs.States.Devices.{Devices}
 use Rattle.iim_output.specs.Format.Limits.{limits}
 use Rattle.iim_output.specs.Format.Statuses.{IsSaid, status_accepted, status_refused}
@@ -72,11 +72,7 @@ pub record ScriptContent : Type 0 where
 abbrev pub object_of : ScriptContent → List ℕ
 object_of t = canonical t.head t.lines t.trailer
 
--- The object has no more octets than are asked for.
-abbrev pub FitsAsked : Asked → ScriptContent → Type 0
-FitsAsked a t = length (object_of t) ≤ most_for a
-
--- It has more.
+-- The object has more octets than are asked for.
 -- twins (with IsPastLine): `tells_what_is_wrong_with_a_script`, `takes_numbers_with_a_plus_and_zeros`
 abbrev pub IsPast : Asked → ScriptContent → Type 0
 IsPast a t = most_for a < length (object_of t)
@@ -133,10 +129,8 @@ IsPacked a octets old new = (t : ScriptContent) × (form : List ℕ) × IsScript
 -- The octets are a script whose object has room, and a write failed after octets with which the form begins that is packed of what
 -- the script tells by the plan that is asked for.
 abbrev pub IsBrokenOff : Asked → List ℕ → Device → Device → Type 0
-IsBrokenOff a octets old new = (t : ScriptContent) × (plan : Plan) × (out : List ℕ) × IsScriptOf octets t × FitsAsked a t × IsPlanOf a (object_of t) plan × BrokeAfter old new out
-    × ((form : List ℕ) → Packed t.fields t.head t.lines t.trailer plan form → Begins out form)
-
--- ---- octets
+IsBrokenOff a octets old new = (t : ScriptContent) × (plan : Plan) × (out : List ℕ) × IsScriptOf octets t × (IsPast a t → ⊥)
+    × IsPlanOf a (object_of t) plan × BrokeAfter old new out × ((form : List ℕ) → Packed t.fields t.head t.lines t.trailer plan form → Begins out form)
 
 -- Why the octets are not packed: they are refused, by the line that tells it; or the output broke; or memory was short. Only where the
 -- output broke anything is written.

@@ -1,6 +1,6 @@
 //! A target that is written to in blocks.
 
-ghost use Rattle.std.specs.Prelude.{◌≡◌, ℕ, ◌<◌, ◌≤◌, ◌+◌, ◌-◌, [], ◌++◌, length, min, take, drop, IfOk, IfErr, OnErr};
+ghost use Rattle.std.specs.Prelude.{◌≡◌, ℕ, ◌<◌, ◌≤◌, ◌+◌, ◌-◌, ◌⊎◌, [], ◌++◌, length, min, take, drop, IfOk, IfErr, OnErr};
 ghost use Rattle.iim_dataset.specs.States.Devices.{Accepted, Faulted};
 
 use iim_dataset::{IoFault, Target, put};
@@ -40,7 +40,7 @@ pub(crate) struct BlockTarget<'b, W> {
 impl<'b, W: Target> BlockTarget<'b, W> {
     ghost use Rattle.iim_dataset.specs.States.Devices.{Calm, CountedFailure, Stopped, Wrote};
     ghost use Rattle.std.specs.Io.KnownBytes.{Appends, Keeps};
-    ghost use Rattle.iim_pack_script.specs.Blocks.{IsFresh, PassedOn, block_device, held_in, room_in};
+    ghost use Rattle.iim_pack_script.specs.Blocks.{IsFresh, block_device, held_in, room_in};
 
     /// A target that holds nothing yet, over this one.
     pub(crate) fn new(block: &'b mut [u8], writer: W) -> BlockTarget<'b, W>
@@ -101,10 +101,13 @@ impl<'b, W: Target> BlockTarget<'b, W> {
         count
     }
 
-    /// Writes once what is held, and answers how much of it is out.
+    /// Writes once what is held, and answers how much of it is out: some, and there is room; or none, which is a failure.
     fn pass_on(&mut self) -> Result<usize, IoFault>
         requires { 0 < self.old.used }
-        ensures ok { IfOk result (PassedOn W.state self.old self.new) }
+        ensures ok { IfOk result (λ count.
+            Keeps (block_device W.state self.old).octets (block_device W.state self.new).octets
+            × (((0 < count) × (0 < room_in self.new) × Calm (block_device W.state self.old) (block_device W.state self.new))
+            ⊎ ((count ≡ 0) × CountedFailure (block_device W.state self.old) (block_device W.state self.new)))) }
         ensures err { IfErr result (Faulted (block_device W.state self.old) (block_device W.state self.new)) }
     {
         match write_front(&mut self.writer, &mut *self.block, self.used) {

@@ -1,13 +1,14 @@
 //! `pack`: the envelope that a script tells.
 
-ghost use Rattle.std.specs.Prelude.{◌≡◌, ◌<◌, ◌≤◌, None, length, IfOk, IfErr, IfSome, IfNone, OnErr};
+ghost use Rattle.std.specs.Prelude.{◌≡◌, ℕ, ◌<◌, ◌≤◌, ◌⊎◌, List, None, length, IfOk, IfErr, IfSome, IfNone, OnErr};
 ghost use Rattle.wire_message.specs.Format.Messages.{IsTrailer};
 ghost use Rattle.wire_story.specs.Format.Texts.{IsText, packed_text};
+ghost use Rattle.iim_object.specs.declared.writing.cause.PackCause.TheVariants as causes;
 ghost use Rattle.iim_pack.specs.States.Packing.{pack_cause};
 ghost use Rattle.iim_script.specs.Format.Scripts.{text_lines};
 ghost use Rattle.iim_output.specs.States.Devices.{devices};
-ghost use Rattle.iim_pack_script.specs.Format.{Answered, IsNotPacked, IsPacked, IsPast, IsPlanOf, IsRead, IsUnanswered, IsUnread, asked, object_of, refusal_line};
-ghost use Rattle.iim_pack_script.specs.PackSteps.{ComesTo, GotSome, IsFailedRead, MayComeOf, PacksTold, TellsFault, UnpacksTold, told_by};
+ghost use Rattle.iim_pack_script.specs.Format.{Answered, IsNotPacked, IsPacked, IsPast, IsPlanOf, IsRead, IsScriptOf, IsUnanswered, IsUnread, asked, object_of, refusal_line};
+ghost use Rattle.iim_pack_script.specs.PackSteps.{ComesTo, GotSome, IsFailedRead, TellsFault, told_by};
 ghost use Rattle.iim_output.specs.Format.Statuses.{IsSaid, status_refused};
 ghost use Rattle.iim_output.specs.declared.fault.CommandFault.TheVariants.{OutOfMemory};
 
@@ -110,9 +111,10 @@ fn plan_of(request: PackRequest, told: &Script<'_>) -> Option<Plan>
     Some(plan)
 }
 
-/// What a packer's cause comes to, of a script whose line `text` has this number.
+/// What a packer's cause comes to, of a script whose line `text` has this number. No other cause comes where the trailer is good and a
+/// known size is the object's.
 fn fault_for(cause: PackCause, text_line: u64) -> PackFault
-    requires { MayComeOf cause }
+    requires { (cause ≡ causes.PastAnnounced) ⊎ (cause ≡ causes.OutOfMemory) ⊎ (cause ≡ causes.Write) }
     ensures { ComesTo cause text_line result }
 {
     match cause {
@@ -137,12 +139,11 @@ fn pack_told<W: Target>(
     requires trailer { IsTrailer told.now.trailer.items }
     requires text { IsText told.now.text.now (text_lines told.now.text.now) }
     requires len { told.now.text_len ≡ length (packed_text (text_lines told.now.text.now)) }
-    ensures packed { IfOk result (λ last.
-        PacksTold (asked request.subfile request.unknown request.max) (told_by told.now) (W.state output)
-        (W.state last)) }
-    ensures unpacked { IfErr result (λ left.
-        UnpacksTold (asked request.subfile request.unknown request.max) (told_by told.now) (W.state output)
-        (W.state left.1) left.0) }
+    ensures packed { IfOk result (λ last. (octets : List ℕ) → IsScriptOf octets (told_by told.now)
+        → IsPacked (asked request.subfile request.unknown request.max) octets (W.state output) (W.state last)) }
+    ensures unpacked { IfErr result (λ left. (octets : List ℕ) → IsScriptOf octets (told_by told.now)
+        → IsNotPacked (asked request.subfile request.unknown request.max) octets (W.state output) (W.state left.1)
+        left.0) }
 {
     let Some(plan) = plan_of(request, told) else {
         return Err((fault_for(PackCause::PastAnnounced, told.text_line), output));

@@ -1,5 +1,5 @@
 -- What the program's command line comes to, by the rules of clap.
-use Rattle.std.proofs.Common.{◌≡◌, ◌⊎◌, inl, inr, Bool, true, false, not, ◌&&◌, List, [], ◌∷◌, Option, Some, None, refl, ap, sym, ◌∙◌, codes, option_map, is_some, subst, ℕ, ℤ, Ok, Err}
+use Rattle.std.proofs.Common.{◌≡◌, ◌⊎◌, inl, inr, Bool, true, false, not, ◌&&◌, List, [], ◌∷◌, Option, Some, None, refl, ap, sym, ◌∙◌, codes, option_map, is_some, ℕ, ℤ, Ok, Err}
 use Rattle.std.specs.Prelude.{find, option_and_then, cond}
 use Rattle.std.specs.Box.{box_value}
 use Rattle.std.specs.List.{list_any}
@@ -109,9 +109,7 @@ FoundVerb found = (verb : Verb) × (rows : List Row) × (found ≡ Some (verb_na
 
 met : (words : List Text) (found : Option (Text × List Row)) → subcommand_of program words ≡ found → is_some found ≡ true → FoundVerb found
 met words None e some = cc
-met words (Some p) e some =
-    let named = named_verb words p e in
-    (named.0, p.1, ap (λ (name : Text). let q : Text × List Row = (name, p.1) in Some q) named.1)
+met words (Some p) e some = let (verb, named) = named_verb words p e in (verb, p.1, rw (← named) refl)
 
 -- ---- what a parse found
 
@@ -150,44 +148,34 @@ names words m f name none same rows named =
     let same_name : verb_name found.0 ≡ name = cc in
     record {
       faultless = none;
-      named = found.2
-          ∙ ap (λ (r : List Row). let q : Text × List Row = (verb_name found.0, r) in Some q) same_rows
-          ∙ ap (λ (n : Text). let q : Text × List Row = (n, rows_of f) in Some q) same_name;
+      named = rw (← same_name, ← same_rows) found.2;
     }
 
 -- what clap made of the words by a command that is the program is what they name
 pub were_found : (words : List Text) (a : App) (m : ArgMatches) → a ≡ program → (is_simple_and_free a ≡ true → fault_of a words ≡ [])
     → (is_simple a ≡ true → subcommand_rows_of m ≡ subcommand_of a words) → IsFoundOf words m
-were_found words a m is none rows = record {
-  faultless = ap (λ (b : App). fault_of b words) (sym is) ∙ none (ap is_simple_and_free is ∙ program_free);
-  command = rows (ap is_simple is ∙ program_simple) ∙ ap (λ (b : App). subcommand_of b words) is;
-}
+were_found words a m is none rows =
+    record { faultless = rw is at (none (rw is program_free)); command = rw is at (rows (rw is program_simple)) }
 
 -- ---- what a command's options tell
 
--- the text that a getter reads
-reads : (f : Found) (id : Text) (given : Option (Bor Text)) → option_map (λ s. s.now) given ≡ first_value f id → text_given given ≡ first_of id (rows_of f)
-reads f id given is = is ∙ first_value-rows f id
-
 pub none_of : (f : Found) (given : Option (Bor Text)) → given ≡ None → option_map (λ s. s.now) given ≡ first_value f (codes "now")
     → IsNoInstant (first_of (codes "now") (rows_of f))
-none_of f given none is = subst IsNoInstant (ap text_given (sym none) ∙ reads f (codes "now") given is) tt
+none_of f given none is = rw (← first_value-rows f (codes "now"), ← is, none) tt
 
 pub instant_of : (f : Found) (given : Option (Bor Text)) (text : Bor Text) (now same : ℤ) → given ≡ Some text
     → option_map (λ s. s.now) given ≡ first_value f (codes "now") → Ok now ≡ parse_timestamp text.now → same ≡ now
     → IsInstant (first_of (codes "now") (rows_of f)) same
-instant_of f given text now same some is parsed e =
-    subst (λ (t : Option Text). IsInstant t same) (ap text_given (sym some) ∙ reads f (codes "now") given is) (sym parsed ∙ ap (λ (n : ℤ). Ok n) (sym e))
+instant_of f given text now same some is parsed e = rw (← first_value-rows f (codes "now"), ← is, some, e) (sym parsed)
 
 pub no_instant_of : (f : Found) (given : Option (Bor Text)) (text : Bor Text) (error : InstantError) → given ≡ Some text
     → option_map (λ s. s.now) given ≡ first_value f (codes "now") → Err error ≡ parse_timestamp text.now
     → IsNoInstant (first_of (codes "now") (rows_of f))
-no_instant_of f given text error some is parsed =
-    subst IsNoInstant (ap text_given (sym some) ∙ reads f (codes "now") given is) (error, sym parsed)
+no_instant_of f given text error some is parsed = rw (← first_value-rows f (codes "now"), ← is, some) (error, sym parsed)
 
 flag : (o : Option Text) (u : Bool) → (o ≡ None → u ≡ false) → (o ≡ Some (codes "true") → u ≡ true) → (o ≡ Some (codes "false") → u ≡ false) → IsFlag o u
 flag None u none value other = none refl
-flag (Some t) u none value other = (λ e. value (ap (λ (x : Text). Some x) e), λ e. other (ap (λ (x : Text). Some x) e))
+flag (Some t) u none value other = (λ e. value (rw e refl), λ e. other (rw e refl))
 
 pub tells_packing : (f : Found) (a b : Option (Bor Text)) (subfile : ℕ) (unknown : Bool) (max : Option ℕ)
     → option_map (λ s. s.now) a ≡ first_value f (codes "subfile") → option_map (λ s. s.now) b ≡ first_value f (codes "max")
@@ -195,9 +183,9 @@ pub tells_packing : (f : Found) (a b : Option (Bor Text)) (subfile : ℕ) (unkno
     → (one_text f (codes "unknown") ≡ Some (codes "true") → unknown ≡ true) → (one_text f (codes "unknown") ≡ Some (codes "false") → unknown ≡ false)
     → GivesNumber 0 (text_given b) max → TellsPacking (rows_of f) subfile unknown max
 tells_packing f a b subfile unknown max of_a of_b subfile_is none value other max_is = record {
-  subfile_is = subst (λ (o : Option Text). IsSubfile o subfile) (reads f (codes "subfile") a of_a) subfile_is;
-  unknown_is = subst (λ (o : Option Text). IsFlag o unknown) (one_text-rows f (codes "unknown")) (flag (one_text f (codes "unknown")) unknown none value other);
-  max_is = subst (λ (o : Option Text). GivesNumber 0 o max) (reads f (codes "max") b of_b) max_is;
+  subfile_is = rw (of_a, first_value-rows f (codes "subfile")) at subfile_is;
+  unknown_is = rw (one_text-rows f (codes "unknown")) at (flag (one_text f (codes "unknown")) unknown none value other);
+  max_is = rw (of_b, first_value-rows f (codes "max")) at max_is;
 }
 
 -- the fault of a command's values is one of the words

@@ -1,4 +1,5 @@
-use Rattle.std.specs.Prelude.{◌≡◌, ℕ, ℤ, ⊤, List, [], Option, None, Some, IsSome, Bool, true, false, Ok, Err, codes, option_map, ◌==◌, ◌&&◌, ◌||◌, nat_le, if◌then◌else◌, ◌∷◌, ◌++◌}
+-- What the words of a command line ask for, by the rules of clap.
+use Rattle.std.specs.Prelude.{◌≡◌, ℕ, ℤ, ⊤, List, [], Option, None, Some, IsSome, Bool, true, false, Ok, Err, codes, option_map, ◌==◌, ◌&&◌, ◌||◌, nat_le, if◌then◌else◌, slice_index, ◌∷◌, ◌++◌}
 use Rattle.std.specs.Borrow.{Bor}
 use Rattle.std.specs.Option.{unwrap_or}
 use Rattle.std.specs.Str.Parse.{digits_value, without_leading_plus}
@@ -11,13 +12,11 @@ use Rattle.jiff.specs.Words.{parse_timestamp, Error as InstantError}
 use Rattle.iim_request.specs.declared.request.Job.{Job}
 use Rattle.iim_request.specs.declared.request.Job.TheVariants.{Check, Show, Story, Pack, Audit}
 use Rattle.iim_request.specs.declared.request.Request.{Request}
-use Rattle.iim_request.specs.declared.request.UsageFault.{UsageFault}
-use Rattle.iim_request.specs.declared.request.UsageFault.TheVariants.{Words, MaxNeedsUnknown, BadNow, OutOfMemory}
+pub use Rattle.iim_request.specs.declared.request.UsageFault.{UsageFault}
+pub use Rattle.iim_request.specs.declared.request.UsageFault.TheVariants.{Words, MaxNeedsUnknown, BadNow, OutOfMemory}
 use Rattle.std.specs.Char.{is_ascii_control}
 use Rattle.iim_dataset.specs.Format.Characters.{backslash}
 use Rattle.iim_dataset.specs.Format.Shown.{escape}
-
--- ---- What the words of a command line ask for, by the rules of clap.
 
 -- ---- the program's commands, as clap is told of them
 
@@ -63,15 +62,11 @@ program = with_subcommand (with_subcommand (with_subcommand (with_subcommand (wi
 abbrev pub text_given : Option (Bor Text) → Option Text
 text_given given = option_map (λ text. text.now) given
 
--- The text is a number from the least one to the greatest size, and this is it.
+-- The option was given this number, from the least one to the greatest size. (Of any other text clap tells a fault.)
 -- twin: `takes_numbers_with_a_plus_and_zeros`
-abbrev pub IsNumber : ℕ → Text → ℕ → Type 0
-IsNumber least text n = IsUnsignedIn least greatest_size text × (n ≡ digits_value 10 (without_leading_plus text))
-
--- The option was given such a number. (Of any other text clap tells a fault.)
 abbrev pub GivesNumber : ℕ → Option Text → Option ℕ → Type 0
 GivesNumber least None number = number ≡ None
-GivesNumber least (Some text) (Some n) = IsNumber least text n
+GivesNumber least (Some text) (Some n) = IsUnsignedIn least greatest_size text × (n ≡ digits_value 10 (without_leading_plus text))
 GivesNumber least (Some text) None = IsUnsignedIn least greatest_size text → ⊥
 
 -- The option was given. (What clap notes of one that takes no value.)
@@ -145,19 +140,14 @@ IsFaultOf words OutOfMemory = ⊤
 abbrev pub spell_control : ℕ → ℕ → Bool
 spell_control first second = first == 0xc2 && (nat_le 0x80 second && nat_le second 0x9f)
 
--- the first of some octets, or 0
-abbrev pub next_of : List ℕ → ℕ
-next_of [] = 0
-next_of (octet ∷ octets) = octet
-
 -- An octet between others that is not printed as it is: a control character, an octet of one, or a backslash.
 abbrev pub is_hidden : ℕ → ℕ → ℕ → Bool
 is_hidden before octet next = is_ascii_control octet || (octet == backslash || (spell_control before octet || spell_control octet next))
 
--- octets after this one: those that are hidden as \x and two digits, any other one as it is
+-- octets after this one: those that are hidden as \x and two digits, any other one as it is. After the last one stands 0.
 abbrev pub shown_after : ℕ → List ℕ → List ℕ
 shown_after before [] = []
-shown_after before (octet ∷ octets) = (if is_hidden before octet (next_of octets) then escape octet else octet ∷ []) ++ shown_after octet octets
+shown_after before (octet ∷ octets) = (if is_hidden before octet (slice_index octets 0) then escape octet else octet ∷ []) ++ shown_after octet octets
 
 -- a name without its control characters and backslashes
 abbrev pub shown_name : List ℕ → List ℕ

@@ -3,26 +3,18 @@ use Rattle.std.specs.Prelude.{◌≡◌, IfOk, Result, false, List, [], codes}
 use Rattle.clap.specs.Words.{kind_of, App, app_of, Row, Text, fault_of, first_of, subcommand_of, subcommand_rows_of}
 use Rattle.clap.specs.declared.error.Error.{Error}
 use Rattle.clap.specs.declared.error.kind.ErrorKind.TheVariants as kind
-use Rattle.iim_request.specs.declared.request.UsageFault.{UsageFault}
-use Rattle.iim_request.specs.declared.request.UsageFault.TheVariants.{Words, MaxNeedsUnknown, BadNow, OutOfMemory}
-use Rattle.iim_request.specs.declared.request.UsageFault.TheVariants as usage
 use Rattle.clap.specs.declared.builder.command.Command.{Command}
 use Rattle.clap.specs.declared.builder.command.Command.TheViews.{out-Command as fields_of}
 use Rattle.clap.specs.declared.parser.matches.ArgMatches.{ArgMatches}
-use Rattle.iim_request.specs.Format.{IsMaxAlone, IsNoInstant, program}
+use Rattle.iim_request.specs.Format.{IsMaxAlone, IsNoInstant, program, UsageFault, Words, MaxNeedsUnknown, BadNow, OutOfMemory}
 use Rattle.iim_request.specs.declared.request.Verb.{Verb}
 use Rattle.iim_request.specs.declared.request.Verb.TheVariants as verbs
-
--- ---- What an error of clap comes to.
 
 -- An error of refused memory is that, and any other is a fault of the words.
 abbrev pub IsUsageOf : Error → UsageFault → Type 0
 IsUsageOf error (Words same) = (same ≡ error) × (kind_of error ≡ kind.OutOfMemory → ⊥)
-IsUsageOf error MaxNeedsUnknown = ⊥
-IsUsageOf error BadNow = ⊥
 IsUsageOf error OutOfMemory = kind_of error ≡ kind.OutOfMemory
-
--- ---- Commands that are being made.
+IsUsageOf error _ = ⊥
 
 -- Where there was memory for it, the command is this one, and no argument of it is global.
 abbrev pub IsCommand : {E : Type 0} → App → Result Command E → Type 0
@@ -37,10 +29,9 @@ verb_name verbs.Audit = codes "audit"
 
 -- The fault that the values of a command's arguments have.
 abbrev pub IsJobFault : Text → List Row → UsageFault → Type 0
-IsJobFault name rows (usage.Words error) = ⊥
-IsJobFault name rows usage.MaxNeedsUnknown = IsMaxAlone name rows
-IsJobFault name rows usage.BadNow = (name ≡ codes "audit") × IsNoInstant (first_of (codes "now") rows)
-IsJobFault name rows usage.OutOfMemory = ⊥
+IsJobFault name rows MaxNeedsUnknown = IsMaxAlone name rows
+IsJobFault name rows BadNow = (name ≡ codes "audit") × IsNoInstant (first_of (codes "now") rows)
+IsJobFault name rows _ = ⊥
 
 -- The words have no fault, and clap found their command.
 pub record IsFoundOf (words : List Text) (matches : ArgMatches) : Type 0 where

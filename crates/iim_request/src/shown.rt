@@ -1,8 +1,8 @@
 //! Octets as text that can be printed.
 
-ghost use Rattle.std.specs.Prelude.{◌≡◌, ◌++◌, [], ◌∷◌, if◌then◌else◌, OnOk};
+ghost use Rattle.std.specs.Prelude.{◌≡◌, ◌++◌, [], ◌∷◌, if◌then◌else◌, slice_index, OnOk};
 ghost use Rattle.iim_dataset.specs.Format.Shown.{escape};
-ghost use Rattle.iim_request.specs.Format.{is_hidden, next_of, shown_name, spell_control};
+ghost use Rattle.iim_request.specs.Format.{is_hidden, shown_name, spell_control};
 
 use iim_dataset::push_escape;
 use std::alloc::AllocError;
@@ -24,7 +24,7 @@ fn is_hidden(before: u8, octet: u8, next: u8) -> bool
 
 /// The first of some octets, or 0.
 fn next_of(octets: &[u8]) -> u8
-    ensures { result ≡ next_of octets.now }
+    ensures { result ≡ slice_index octets.now 0 }
 {
     match octets {
         [octet, ..] => *octet,

@@ -1,21 +1,30 @@
 -- What a stream gives back, or why it gives nothing.
-use Rattle.std.proofs.Common.{◌≡◌, ◌≢◌, ℕ, ◌⊎◌, inl, inr, List, length, refl, sym, subst}
+use Rattle.std.proofs.Common.{◌≡◌, ◌≢◌, ℕ, ◌⊎◌, inl, inr, List, length, refl, subst, [], ◌∷◌}
 use Rattle.std.specs.Prelude.{Ok, Err}
 use Rattle.iim_fields.specs.declared.limits.Limits.{Limits}
-use Rattle.wire_story.specs.Format.Delivery as story
 use Rattle.iim_places.specs.Format.Admitted.{Value}
 use Rattle.iim_unpack.specs.States.Parts as parts
 use Rattle.iim_unpack.specs.Format.Pieces as pieces
-use Rattle.iim_places.specs.Format.Streams.{Answer, Answers, Finished}
+use Rattle.iim_places.specs.Format.Streams.{Answer, Answers, Finished, Truncated}
 use Rattle.iim_places.specs.declared.refusal.Cause.{Cause}
 use Rattle.iim_places.specs.declared.refusal.Cause.TheVariants as causes
 use Rattle.wire_message.specs.declared.fault.MessageCause.TheVariants as messages
 use Rattle.iim_places.specs.declared.refusal.Refusal.{Refusal}
 use Rattle.iim_unpack.specs.declared.unpacker.Unpacked.{Unpacked}
 use Rattle.iim_round_trip.specs.Format.RoundTrip.{packed_value, GivesBack, FailsOutside}
-use Rattle.iim_round_trip.specs.Format.Results.{CountsCause}
+use Rattle.iim_round_trip.specs.Format.Results.{CountsCause, IsAnswer, IsTurnedDown}
 use Rattle.iim_round_trip.specs.Laws.{packed_answer, PackedStreamsHaveTheirAnswer}
-use Rattle.iim_round_trip.specs.declared.unpacking.UnpackFault.TheVariants.{Refused}
+use Rattle.iim_round_trip.specs.declared.unpacking.UnpackFault.TheVariants.{Refused, OutOfMemory}
+use Rattle.wire_story.specs.States.Collecting.{Collected, collect}
+use Rattle.wire_story.specs.Format.Delivery.{StoryEvent, events_of_lines}
+use Rattle.wire_story.specs.Format.Texts.{IsText}
+use Rattle.wire_story.specs.Laws.{TextsAreDeliveredAsLines, TextsAreCollectedAsLines}
+use Rattle.iim_unpack.specs.Format.Pieces.{IsUnpacked}
+use Rattle.iim_places.specs.Laws.{StreamsHaveOneAnswer}
+use Rattle.iim_places.specs.Format.Streams as answers
+use Rattle.iim_round_trip.specs.Format.Stories.{ComesBack, IsStoryIn, IsStoryAnswer, HasNoStory}
+use Rattle.iim_round_trip.specs.declared.unpacking.Story.{Story}
+use Rattle.iim_round_trip.specs.declared.unpacking.UnpackFault.{UnpackFault}
 
 -- whether a cause is the sink's
 sink_or_not : (c : Cause) → (c ≡ causes.Message messages.Sink) ⊎ (c ≢ causes.Message messages.Sink)
@@ -28,31 +37,73 @@ counts (causes.Message messages.Sink) old new h = record { stopped = λ e. h; ot
 counts _ old new h = record { stopped = λ e. absurd cc; others = λ other. h }
 
 -- What is said of the limits of an unpacker is said of those that it was made with.
-pub given : {S : Type 0} (goes : S → List story.StoryEvent → S → Type 0) (found limits : Limits) (stream : List ℕ) (a b : S) (got : Unpacked) (used : ℕ) → found ≡ limits
+pub given : {S : Type 0} (goes : S → List StoryEvent → S → Type 0) (found limits : Limits) (stream : List ℕ) (a b : S) (got : Unpacked) (used : ℕ) → found ≡ limits
     → PackedStreamsHaveTheirAnswer → ((answer : Answer) → Answers found stream answer → pieces.IsAnswer (Ok (got, used)) answer)
-    → pieces.IsUnpacked goes found stream a b got used → GivesBack goes limits stream a b got used
+    → IsUnpacked goes found stream a b got used → GivesBack goes limits stream a b got used
 given goes found limits stream a b got used same law only unpacked fields head lines trailer plan p =
     let value = packed_value fields head lines trailer plan p.packed.written.parts in
     let one = law limits stream fields head lines trailer plan p in
-    let here = subst (λ (l : Limits). (answer : Answer) → Answers l stream answer → pieces.IsAnswer (Ok (got, used)) answer) same only in
-    let u = subst (λ (l : Limits). pieces.IsUnpacked goes l stream a b got used) same unpacked in
-    let answer = here (packed_answer p) one.answers in
+    let u = rw same at unpacked in
+    let answer = only (packed_answer p) (rw same one.answers) in
     let same_value : Finished used u.value ≡ Finished (length p.octets) value = one.only (Finished used u.value) u.finished in
     let is : u.value ≡ value = cc in
-    record {
-      used_is = answer.1;
-      parts = answer.0;
-      told = subst (λ (v : Value). goes a (story.events_of_lines v.lines) b) is u.told;
-    }
-
--- the answer of a stream, of the limits that were handed in
-answered : (found limits : Limits) (stream : List ℕ) (answer : Answer) → found ≡ limits → Answers limits stream answer → Answers found stream answer
-answered found limits stream answer same h = subst (λ (l : Limits). Answers l stream answer) (sym same) h
+    record { used_is = answer.1; parts = answer.0; told = subst (λ (v : Value). goes a (events_of_lines v.lines) b) is u.told }
 
 pub fails : (found limits : Limits) (stream : List ℕ) (e : Refusal) → found ≡ limits → PackedStreamsHaveTheirAnswer
     → ((answer : Answer) → Answers found stream answer → e.cause ≢ causes.Message messages.Sink → pieces.IsAnswer (Err e) answer)
     → FailsOutside limits stream (Refused e)
 fails found limits stream e same law only fields head lines trailer plan p = elim (sink_or_not e.cause) [
   | inl is ↦ is
-  | inr other ↦ absurd (only (packed_answer p) (answered found limits stream (packed_answer p) same (law limits stream fields head lines trailer plan p).answers) other)
+  | inr other ↦ absurd (only (packed_answer p) (rw same (law limits stream fields head lines trailer plan p).answers) other)
 ]
+
+-- ---- a story that is collected
+
+-- lines that are told are collected
+abbrev pub gathers : Collected → List StoryEvent → Collected → Type 0
+gathers a events b = b.lines ≡ collect a.lines events
+
+-- what the lines of a text are told collects to them, from one empty line on
+collected : TextsAreDeliveredAsLines → TextsAreCollectedAsLines → (text : List ℕ) (lines before after : List (List ℕ)) → IsText text lines → before ≡ [] ∷ []
+    → after ≡ collect before (events_of_lines lines) → after ≡ lines
+collected deliver gather text lines before after is empty told = rw (told, empty, ← deliver text lines is) (gather text lines is)
+
+pub comes : TextsAreDeliveredAsLines → TextsAreCollectedAsLines → (limits : Limits) (stream : List ℕ) (old : Collected) (got : Story) → old.lines ≡ [] ∷ []
+    → GivesBack gathers limits stream old got.lines got.unpacked got.used → ComesBack limits stream got
+comes deliver gather limits stream old got empty given fields head lines trailer plan p =
+    let g = given fields head lines trailer plan p in
+    record {
+      used_is = g.used_is;
+      parts = g.parts;
+      lines_are = collected deliver gather p.packed.may.text lines old.lines got.lines.lines p.packed.may.lined empty g.told;
+    }
+
+pub story_in : TextsAreDeliveredAsLines → TextsAreCollectedAsLines → (limits : Limits) (stream : List ℕ) (old : Collected) (got : Story) → old.lines ≡ [] ∷ []
+    → IsUnpacked gathers limits stream old got.lines got.unpacked got.used → IsStoryIn limits stream got
+story_in deliver gather limits stream old got empty u =
+    let admits = u.finished.envelope.admits in
+    record {
+      value = u.value;
+      finished = u.finished;
+      story = record {
+        used_is = refl;
+        parts = u.parts;
+        lines_are = collected deliver gather admits.text u.value.lines old.lines got.lines.lines admits.lines empty u.told;
+      };
+    }
+
+pub one_story : StreamsHaveOneAnswer → (limits : Limits) (stream : List ℕ) (got : Story) → IsStoryIn limits stream got
+    → (answer : Answer) → Answers limits stream answer → IsStoryAnswer (Ok got) answer
+one_story one limits stream got is answer h =
+    rw (← one limits stream (Finished got.used is.value) answer is.finished h) is.story
+
+pub no_story : (limits : Limits) (stream : List ℕ) (old new : Collected) (fault : UnpackFault) → IsTurnedDown gathers limits stream old new fault → HasNoStory limits stream fault
+no_story limits stream old new OutOfMemory h = tt
+no_story limits stream old new (Refused e) (inl (refused, told)) = inl (refused, (told.0, tt, told.2))
+no_story limits stream old new (Refused e) (inr (short, told)) = inr (short, (told.0, tt, told.2))
+
+pub same_fault : (fault : UnpackFault) (answer : Answer) → IsAnswer (Err fault) answer → IsStoryAnswer (Err fault) answer
+same_fault OutOfMemory answer h = absurd h
+same_fault (Refused e) (Finished used value) h = absurd h
+same_fault (Refused e) (answers.Refused f) h = h
+same_fault (Refused e) (Truncated f) h = h

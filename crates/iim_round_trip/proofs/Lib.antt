@@ -1,4 +1,2 @@
 pub mod Packed
-pub mod RoundTrip
 pub mod Given
-pub mod Stories

@@ -1,11 +1,12 @@
--- What is packed is admitted, and found.
-use Rattle.std.proofs.Common.{◌≡◌, ℕ, ◌⊎◌, inl, inr, List, [], ◌∷◌, ◌++◌, refl, sym, ap, subst, ◌∙◌, append-nil}
-use Rattle.wire_message.specs.Format.Messages.{IsMessage}
-use Rattle.iim_pack.specs.Laws.{datasets_of, PackedOctetsCarryTheValue}
+-- What is packed is admitted, and found, and unpacked.
+use Rattle.std.proofs.Common.{◌≡◌, ℕ, ◌⊎◌, inl, inr, List, [], ◌∷◌, ◌++◌, refl, sym, append-nil, length, take, arith, ap, length-append}
+use Rattle.iim_pack.specs.Laws.{datasets_of, PackedOctetsCarryTheValue, PackedSubfilesAreFew}
 use Rattle.iim_places.specs.Format.Admitted.{Value, Admits}
-use Rattle.iim_places.specs.Laws.{AdmittedOctetsHaveOneValue, NoAdmittedOctetsBeginOthers}
+use Rattle.iim_places.specs.Laws.{AdmittedOctetsHaveOneValue, NoAdmittedOctetsBeginOthers, StreamsHaveOneAnswer}
 use Rattle.iim_round_trip.specs.Format.RoundTrip.{packed_value}
-use Rattle.iim_round_trip.specs.Laws.{PackedOctetsAreAdmitted, PackedEnvelopesAreFound}
+use Rattle.iim_round_trip.specs.Laws.{PackedOctetsAreAdmitted, PackedEnvelopesAreFound, PackedOctetsAreWithin, PackedStreamsHaveTheirAnswer, packed_answer}
+use Rattle.std.proofs.Math.Seq.{take-append_seam}
+use Rattle.iim_places.specs.Format.Streams.{Answers}
 
 pub admitted : PackedOctetsCarryTheValue → PackedOctetsAreAdmitted
 admitted carry fields head lines trailer plan octets p =
@@ -16,7 +17,7 @@ admitted carry fields head lines trailer plan octets p =
       sections = c.sections;
       fields = c.fields_are;
       text = p.may.text;
-      message = subst (λ (object : List ℕ). IsMessage object head p.may.text trailer) (sym c.object_is) p.may.message;
+      message = rw c.object_is p.may.message;
       lines = p.may.lined;
       sizes = c.sizes_are;
     }
@@ -35,8 +36,8 @@ fronts (x ∷ xs) ys (u ∷ us) vs e =
 
 same_end : NoAdmittedOctetsBeginOthers → (xs us m : List ℕ) (v w : Value) → us ≡ xs ++ m → Admits xs v → Admits us w → xs ≡ us
 same_end ends xs us m v w e a b =
-    let none = ends xs m v w a (subst (λ (o : List ℕ). Admits o w) e b) in
-    sym (e ∙ (ap (λ (t : List ℕ). xs ++ t) none ∙ append-nil xs))
+    let none = ends xs m v w a (rw e at b) in
+    rw (e, none, append-nil) refl
 
 same : NoAdmittedOctetsBeginOthers → (xs ys us vs : List ℕ) (v w : Value) → xs ++ ys ≡ us ++ vs → Admits xs v → Admits us w → xs ≡ us
 same ends xs ys us vs v w e a b = elim (fronts xs ys us vs e) [
@@ -49,4 +50,20 @@ found admits one ends fields head lines trailer plan octets p front rest more v 
     let packed = admits fields head lines trailer plan octets p in
     let value = packed_value fields head lines trailer plan p.written.parts in
     let is = same ends front rest octets more v value e a packed in
-    (is, one octets v value (subst (λ (o : List ℕ). Admits o v) is a) packed)
+    (is, one octets v value (rw is at a) packed)
+
+-- ---- what was packed, unpacked
+
+pub within : PackedOctetsAreAdmitted → PackedSubfilesAreFew → PackedOctetsAreWithin
+within admits few limits fields head lines trailer plan octets p fits =
+    let a = admits fields head lines trailer plan octets p in
+    record { admits = a; within = record { kept = rw a.fields fits; subfiles = rw a.sizes.subfiles (few fields head lines trailer plan octets p) } }
+
+pub answered : PackedOctetsAreWithin → StreamsHaveOneAnswer → PackedStreamsHaveTheirAnswer
+answered envelopes one limits stream fields head lines trailer plan b =
+    let front : take (length b.octets) stream ≡ b.octets = rw b.parts (take-append_seam b.octets b.rest) in
+    let answers : Answers limits stream (packed_answer b) = record {
+      fits = omega (arith, ap length b.parts, length-append b.octets b.rest);
+      envelope = rw front (envelopes limits fields head lines trailer plan b.octets b.packed b.within);
+    } in
+    record { answers = answers; only = λ other h. one limits stream other (packed_answer b) h answers }

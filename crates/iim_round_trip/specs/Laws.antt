@@ -1,12 +1,7 @@
 -- What is packed is admitted.
 use Rattle.std.specs.Prelude.{◌≡◌, ℕ, List, ◌++◌, length}
-use Rattle.iim_dataset.specs.Format.Datasets.{Dataset}
-use Rattle.iim_object.specs.declared.plan.Plan.{Plan}
-use Rattle.wire_message.specs.Format.Messages.{Header}
-use Rattle.iim_pack.specs.Format.Packed.{Packed}
 use Rattle.iim_places.specs.Format.Admitted.{Value, Admits}
-use Rattle.iim_round_trip.specs.Format.RoundTrip.{packed_value, FieldsAreWithin, BeginsPacked}
-use Rattle.iim_fields.specs.declared.limits.Limits.{Limits}
+use Rattle.iim_round_trip.specs.Format.RoundTrip.{packed_value, FieldsAreWithin, BeginsPacked, Dataset, Plan, Header, Packed, Limits}
 use Rattle.iim_places.specs.Format.Streams.{IsEnvelopeWithin, Answer, Answers, Finished}
 
 -- Packed octets are admitted, with the value that was packed and the sizes of the plan.

@@ -1,4 +1,4 @@
-use Rattle.std.specs.Prelude.{◌≡◌, ℕ, ◌+◌, ◌<◌, ◌≤◌, ◌⊎◌, ◌↔◌, List, length, drop, None, Some, Option, ◌-◌, min}
+use Rattle.std.specs.Prelude.{◌≡◌, ℕ, ◌+◌, ◌<◌, ◌≤◌, ◌⊎◌, ◌↔◌, Bool, true, false, List, length, drop, None, Some, Option, ◌-◌, min}
 use Rattle.iim_dataset.specs.States.Devices.{Device, Calm, LaterThan}
 use Rattle.iim_dataset.specs.declared.device.IoFault.{IoFault}
 use Rattle.iim_dataset.specs.declared.device.IoFault.TheVariants.{Interrupted, Failed}
@@ -27,16 +27,10 @@ abbrev pub trial_to_come : Trouble → ℕ
 trial_to_come Failure = 0
 trial_to_come (Interruptions left) = left
 
--- Where interruptions are planned, no call fails.
-abbrev pub KeepsFailures : Trouble → ℕ → ℕ → Type 0
-KeepsFailures Failure old new = old ≤ new
-KeepsFailures (Interruptions left) old new = new ≡ old
-
-abbrev pub SameTrouble : Trouble → Trouble → Type 0
-SameTrouble Failure Failure = Unit {0}
-SameTrouble Failure (Interruptions left) = ⊥
-SameTrouble (Interruptions left) Failure = ⊥
-SameTrouble (Interruptions left) (Interruptions less) = Unit {0}
+-- whether failures are planned, and not interruptions
+abbrev pub has_failures : Trouble → Bool
+has_failures Failure = true
+has_failures (Interruptions left) = false
 
 -- A call went well: it was one of the good ones, or they were used up and no interruption was to come.
 abbrev pub WentWell : Plan → Plan → Type 0
@@ -54,8 +48,8 @@ MetTrouble old new Interrupted = (old.good ≡ 0) × (new.good ≡ 0)
 pub record GoesByPlan (old new : Plan) : Type 0 where
   pub good : new.good ≤ old.good
   pub calm : 0 < new.good → Calm (planned None old) (planned None new)
-  pub trouble : SameTrouble old.trouble new.trouble
-  pub failures : KeepsFailures old.trouble old.failures new.failures
+  pub trouble : has_failures new.trouble ≡ has_failures old.trouble
+  pub failures : (old.failures ≤ new.failures) × (has_failures old.trouble ≡ false → new.failures ≡ old.failures)
   pub interruptions : new.interruptions + trial_to_come new.trouble ≤ old.interruptions + trial_to_come old.trouble
   pub later : old.interruptions ≤ new.interruptions
 

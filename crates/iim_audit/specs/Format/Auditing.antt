@@ -2,16 +2,16 @@
 use Rattle.std.specs.Prelude.{◌≡◌, ℕ, ◌+◌, ◌<◌, ◌⊎◌, ℤ, List, [], ◌∷◌, length, Option, Some, None}
 use Rattle.std.specs.Io.KnownBytes.{IsAtEnd}
 use Rattle.iim_dataset.specs.States.Devices.{Device, HasGiven, MissedAfter}
-use Rattle.iim_dataset.specs.declared.device.IoFault.{IoFault}
+pub use Rattle.iim_dataset.specs.declared.device.IoFault.{IoFault}
 use Rattle.iim_dataset.specs.declared.device.IoFault.TheVariants as io
-use Rattle.iim_fields.specs.declared.limits.Limits.{Limits}
+pub use Rattle.iim_fields.specs.declared.limits.Limits.{Limits}
 use Rattle.iim_places.specs.Format.Listing.{Listed, Divides, IsListing, Whole, RefusedBy, TooMany, values_of}
 use Rattle.iim_places.specs.Format.Open.{IsOpen}
 use Rattle.iim_unpack.specs.States.Unpacking.{failed_at}
 use Rattle.iim_places.specs.States.Counts.{raised}
-use Rattle.iim_places.specs.declared.refusal.Refusal.{Refusal}
+pub use Rattle.iim_places.specs.declared.refusal.Refusal.{Refusal}
 use Rattle.iim_audit.specs.Format.Rows.{report_of, AuditRow}
-use Rattle.iim_audit.specs.declared.fault.AuditCause.{AuditCause}
+pub use Rattle.iim_audit.specs.declared.fault.AuditCause.{AuditCause}
 use Rattle.iim_audit.specs.declared.fault.AuditCause.TheVariants as causes
 
 -- The whole input is envelopes, not too many, and the rows are their report.

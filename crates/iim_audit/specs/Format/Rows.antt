@@ -1,5 +1,5 @@
 -- The rows of a report, by the values of the envelopes.
-use Rattle.std.specs.Prelude.{ℕ, ◌+◌, ℤ, if◌then◌else◌, List, [], ◌∷◌, ◌++◌, map, Option, Some, None}
+use Rattle.std.specs.Prelude.{ℕ, ◌+◌, ℤ, if◌then◌else◌, List, [], ◌∷◌, ◌++◌, map, slice_get, Option, Some, None}
 use Rattle.std.specs.Option.{option_and_then, unwrap_or}
 use Rattle.std.specs.Str.Parse.{digits_value}
 use Rattle.iim_fields.specs.Format.Ids.{Identity, id_eq}
@@ -19,15 +19,10 @@ id_of v = record {
   date_sent = unwrap_or (first_data 1 70 v.fields) [];
 }
 
--- the first octet
-abbrev pub first_octet : List ℕ → Option ℕ
-first_octet [] = None
-first_octet (b ∷ bs) = Some b
-
--- the digit of 1:60 Envelope Priority
+-- the digit of 1:60 Envelope Priority, its first octet
 -- twin: "The worked stream, and an empty one"; `audits_a_stream`
 abbrev pub priority_of : Value → Option ℕ
-priority_of v = option_and_then first_octet (first_data 1 60 v.fields)
+priority_of v = option_and_then (λ digit. slice_get digit 0) (first_data 1 60 v.fields)
 
 -- the words of the lines, counted up to the greatest number of 64 bits
 -- twins (with row_with): "Words: a tab ends one, and so does a line; two spaces are no word"; `audits_streams`

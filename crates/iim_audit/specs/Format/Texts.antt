@@ -55,8 +55,7 @@ repeated_rows rows = count_by (λ row. is_some row.first) rows
 
 abbrev pub is_held : CopyState → Bool
 is_held Held = true
-is_held Expired = false
-is_held Free = false
+is_held _ = false
 
 -- how many rows are of copy that is held
 abbrev pub held_rows : List AuditRow → ℕ

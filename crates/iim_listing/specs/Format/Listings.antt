@@ -38,5 +38,4 @@ listing text envelopes ending = texts_from text 1 envelopes ++ ending_line (leng
 -- twin: `tells_a_refusal_after_envelopes`, `lists_a_million_envelopes_and_no_more`
 abbrev pub status_of : InputEnding → ℕ
 status_of Whole = status_accepted
-status_of (RefusedBy refusal) = status_refused
-status_of TooMany = status_refused
+status_of _ = status_refused

@@ -8,12 +8,10 @@ use Rattle.iim_dataset.specs.declared.device.IoFault.{IoFault}
 use Rattle.wire_story.specs.Format.Delivery.{StoryEvent, octet_for}
 use Rattle.wire_story.specs.States.Writing.{HasBroken}
 use Rattle.iim_places.specs.Format.Open.{IsOpen}
-use Rattle.iim_output.specs.declared.fault.CommandFault.{CommandFault}
-use Rattle.iim_output.specs.declared.fault.CommandFault.TheVariants.{CannotRead, CannotWrite, OutOfMemory}
+use Rattle.iim_listing.specs.Format.WrittenListings.{CommandFault, CannotRead, CannotWrite, OutOfMemory}
 use Rattle.iim_output.specs.States.Devices.{HasOctets}
-use Rattle.iim_listing.specs.Format.Listings.{line_of, listing, status_of, texts_from}
+use Rattle.iim_listing.specs.Format.Listings.{IsDelivered, line_of, listing, status_of, texts_from}
 use Rattle.iim_output.specs.Format.Limits.{limits}
-use Rattle.iim_listing.specs.Format.Listings.{IsDelivered}
 use Rattle.iim_places.specs.Format.Listing.{Divides, InputEnding, Whole, RefusedBy, TooMany, EndsBy, Listed, IsListed, IsListing, IsRefusedAfter}
 
 -- the text of an envelope: its lines, joined by LF
@@ -55,14 +53,11 @@ Narrated source rest old new errors_old errors_new status =
 
 -- ---- where a fault comes
 
--- The octets are an envelope.
-abbrev pub AreEnvelope : List ℕ → Type 0
-AreEnvelope octets = (e : Listed) × IsListed limits e × (e.octets ≡ octets)
-
 -- The output broke after these stories, and inside the text of the octets: the words are out, with which the text in the first k
 -- begins. If that is all of them, and all of their text is out, then they are an envelope, and the LF after its text was refused.
 abbrev pub BreaksInText : Device → Device → List Listed → List ℕ → Type 0
-BreaksInText old new envelopes octets = (k : ℕ) × (words : List ℕ) × (rest : List ℕ) × (k ≤ length octets) × (k ≡ length octets → rest ≡ [] → AreEnvelope octets)
+BreaksInText old new envelopes octets = (k : ℕ) × (words : List ℕ) × (rest : List ℕ) × (k ≤ length octets)
+    × (k ≡ length octets → rest ≡ [] → (e : Listed) × IsListed limits e × (e.octets ≡ octets))
     × IsTextIn (take k octets) (words ++ rest) × Appends old.octets new.octets (stories envelopes ++ words) × HasBroken old new
 
 -- Of the envelopes whose stories are out some, from the first on, are told on the errors, each with its whole line.

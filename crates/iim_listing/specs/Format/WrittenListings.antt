@@ -3,8 +3,8 @@ use Rattle.std.specs.Prelude.{◌≡◌, ℕ, ◌⊎◌, List, length}
 use Rattle.iim_dataset.specs.States.Devices.{Device, Wrote, Stopped, Unfailed, HasGiven, MissedAfter}
 use Rattle.iim_dataset.specs.declared.device.IoFault.{IoFault}
 use Rattle.iim_places.specs.Format.Open.{IsOpen}
-use Rattle.iim_output.specs.declared.fault.CommandFault.{CommandFault}
-use Rattle.iim_output.specs.declared.fault.CommandFault.TheVariants.{CannotRead, CannotWrite, OutOfMemory}
+pub use Rattle.iim_output.specs.declared.fault.CommandFault.{CommandFault}
+pub use Rattle.iim_output.specs.declared.fault.CommandFault.TheVariants.{CannotRead, CannotWrite, OutOfMemory}
 use Rattle.iim_output.specs.States.Devices.{HasOctets}
 use Rattle.iim_output.specs.Format.Limits.{limits}
 use Rattle.iim_places.specs.Format.Listing.{Divides, InputEnding, EndsBy, Listed, IsListing}

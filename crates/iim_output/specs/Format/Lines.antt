@@ -2,8 +2,8 @@
 use Rattle.std.specs.Prelude.{ℕ, List, ◌++◌, codes, decimal}
 use Rattle.iim_places.specs.Format.Names.{refusal_text}
 use Rattle.iim_places.specs.declared.refusal.Refusal.{Refusal}
-use Rattle.iim_output.specs.declared.fault.CommandFault.{CommandFault}
-use Rattle.iim_output.specs.declared.fault.CommandFault.TheVariants.{CannotRead, CannotWrite, OutOfMemory}
+pub use Rattle.iim_output.specs.declared.fault.CommandFault.{CommandFault}
+pub use Rattle.iim_output.specs.declared.fault.CommandFault.TheVariants.{CannotRead, CannotWrite, OutOfMemory}
 
 -- the line of an accepted envelope: its number, and how many octets it has
 -- twins (with refused_line): `checks_the_samples`, `tells_a_refusal_after_envelopes`

@@ -1,8 +1,7 @@
 -- The statuses that the program ends with.
 use Rattle.std.specs.Prelude.{ℕ, ◌≡◌, ◌⊎◌, List}
 use Rattle.iim_dataset.specs.States.Devices.{Device, Wrote, Stopped}
-use Rattle.iim_output.specs.declared.fault.CommandFault.{CommandFault}
-use Rattle.iim_output.specs.declared.fault.CommandFault.TheVariants.{CannotWrite}
+use Rattle.iim_output.specs.Format.Lines.{CommandFault, CannotWrite}
 
 -- the whole input is accepted
 abbrev pub status_accepted : ℕ

@@ -4,9 +4,8 @@ use Rattle.iim_dataset.specs.States.Devices.{Device, Wrote, BrokeAfter, WithinIn
 use Rattle.iim_dataset.specs.Format.Counts.{Rose}
 use Rattle.wire_story.specs.Format.Delivery.{StoryEvent, octet_for}
 use Rattle.wire_story.specs.States.Writing.{WritesOn}
-use Rattle.iim_output.specs.declared.block_writer.BlockWriter.{BlockWriter}
-use Rattle.iim_output.specs.declared.fault.CommandFault.{CommandFault}
-use Rattle.iim_output.specs.declared.fault.CommandFault.TheVariants.{CannotWrite}
+pub use Rattle.iim_output.specs.declared.block_writer.BlockWriter.{BlockWriter}
+use Rattle.iim_output.specs.Format.Lines.{CommandFault, CannotWrite}
 
 -- what it has taken and not let out
 abbrev pub held_of : {W : Type 0} → BlockWriter W → List ℕ

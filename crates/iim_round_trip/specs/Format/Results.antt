@@ -1,16 +1,13 @@
 -- What any stream is answered, of limits and pieces alone.
 use Rattle.std.specs.Prelude.{◌≡◌, ◌≢◌, ℕ, List, Result, Ok, Err}
 use Rattle.iim_dataset.specs.Format.Counts.{Rose}
-use Rattle.iim_fields.specs.declared.limits.Limits.{Limits}
 use Rattle.wire_story.specs.Format.Delivery as story
 use Rattle.iim_unpack.specs.Format.Pieces as pieces
 use Rattle.iim_places.specs.Format.Streams.{Answer}
 use Rattle.iim_places.specs.declared.refusal.Cause.{Cause}
 use Rattle.iim_places.specs.declared.refusal.Cause.TheVariants.{Message}
 use Rattle.wire_message.specs.declared.fault.MessageCause.TheVariants.{Sink}
-use Rattle.iim_unpack.specs.declared.unpacker.Unpacked.{Unpacked}
-use Rattle.iim_round_trip.specs.declared.unpacking.UnpackFault.{UnpackFault}
-use Rattle.iim_round_trip.specs.declared.unpacking.UnpackFault.TheVariants.{OutOfMemory, Refused}
+use Rattle.iim_round_trip.specs.Format.RoundTrip.{UnpackFault, OutOfMemory, Refused, Limits, Unpacked}
 
 -- Why there is no envelope. Where memory was refused for the unpacker, the sink was told nothing. Else the stream has none at its
 -- front: a layer is dead, or the stream is truncated, or the sink stopped.

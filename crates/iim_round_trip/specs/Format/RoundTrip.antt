@@ -1,22 +1,22 @@
 -- What was packed, unpacked.
 use Rattle.std.specs.Prelude.{ℕ, List, ◌≡◌, ◌++◌, length}
-use Rattle.iim_dataset.specs.Format.Datasets.{Dataset}
+pub use Rattle.iim_dataset.specs.Format.Datasets.{Dataset}
 use Rattle.iim_object.specs.Format.Packing.{packed_sizes}
-use Rattle.iim_object.specs.declared.plan.Plan.{Plan}
-use Rattle.wire_message.specs.Format.Messages.{Header}
+pub use Rattle.iim_object.specs.declared.plan.Plan.{Plan}
+pub use Rattle.wire_message.specs.Format.Messages.{Header}
 use Rattle.wire_message.specs.Format.Canonical.{canonical}
-use Rattle.iim_places.specs.Format.Admitted.{Value}
+pub use Rattle.iim_places.specs.Format.Admitted.{Value}
 use Rattle.iim_fields.specs.Format.Faults.{joined}
+pub use Rattle.iim_fields.specs.declared.limits.Limits.{Limits}
 use Rattle.iim_fields.specs.Format.Bounds.{IsWithin}
-use Rattle.iim_fields.specs.declared.limits.Limits.{Limits}
 use Rattle.wire_story.specs.Format.Delivery as story
-use Rattle.iim_pack.specs.Format.Packed.{Packed}
+pub use Rattle.iim_pack.specs.Format.Packed.{Packed}
 use Rattle.iim_unpack.specs.Format.Value.{HasParts}
+pub use Rattle.iim_unpack.specs.declared.unpacker.Unpacked.{Unpacked}
 use Rattle.iim_places.specs.declared.refusal.Cause.TheVariants.{Message}
 use Rattle.wire_message.specs.declared.fault.MessageCause.TheVariants.{Sink}
-use Rattle.iim_unpack.specs.declared.unpacker.Unpacked.{Unpacked}
-use Rattle.iim_round_trip.specs.declared.unpacking.UnpackFault.{UnpackFault}
-use Rattle.iim_round_trip.specs.declared.unpacking.UnpackFault.TheVariants.{OutOfMemory, Refused}
+pub use Rattle.iim_round_trip.specs.declared.unpacking.UnpackFault.{UnpackFault}
+pub use Rattle.iim_round_trip.specs.declared.unpacking.UnpackFault.TheVariants.{OutOfMemory, Refused}
 
 -- The fields have no more octets than the limits allow, and are no more.
 abbrev pub FieldsAreWithin : Limits → List Dataset → Type 0

@@ -1,19 +1,12 @@
 -- A story that is collected.
 use Rattle.std.specs.Prelude.{◌≡◌, ℕ, List, length, Result, Ok, Err}
-use Rattle.iim_dataset.specs.Format.Datasets.{Dataset}
-use Rattle.iim_fields.specs.declared.limits.Limits.{Limits}
-use Rattle.iim_object.specs.declared.plan.Plan.{Plan}
-use Rattle.wire_message.specs.Format.Messages.{Header}
 use Rattle.wire_story.specs.Format.Delivery.{StoryEvent}
-use Rattle.iim_places.specs.Format.Admitted.{Value}
 use Rattle.iim_unpack.specs.Format.Pieces.{IsTurnedDown}
 use Rattle.iim_places.specs.Format.Streams.{Answer, Finished, Truncated, IsFinished}
 use Rattle.iim_places.specs.Format.Streams as answers
 use Rattle.iim_unpack.specs.Format.Value.{HasParts}
-use Rattle.iim_round_trip.specs.Format.RoundTrip.{packed_value, BeginsPacked}
+use Rattle.iim_round_trip.specs.Format.RoundTrip.{packed_value, BeginsPacked, UnpackFault, OutOfMemory, Refused, Dataset, Limits, Plan, Header, Value}
 use Rattle.iim_round_trip.specs.declared.unpacking.Story.{Story}
-use Rattle.iim_round_trip.specs.declared.unpacking.UnpackFault.{UnpackFault}
-use Rattle.iim_round_trip.specs.declared.unpacking.UnpackFault.TheVariants.{OutOfMemory, Refused}
 
 -- The story has all parts of the value, the lines and the sizes too, and so many octets.
 pub record IsStory (value : Value) (used : ℕ) (got : Story) : Type 0 where

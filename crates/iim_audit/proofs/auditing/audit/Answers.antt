@@ -1,7 +1,5 @@
-use Rattle.std.proofs.Common.{◌≡◌, ◌∙◌, ℕ, List, [], Some, length, ap, arith, refl, ◌+◌, sym, rules}
+use Rattle.iim_audit.proofs.Words.{◌≡◌, ◌∙◌, ℕ, List, [], Some, length, ap, arith, refl, ◌+◌, sym, rules, in_line, ids_of, places_of}
 use Rattle.iim_dataset.proofs.Lists.{none_is_none}
-use Rattle.iim_unpack.specs.States.Intakes.{in_line}
-use Rattle.iim_audit.specs.Repeats.{ids_of, places_of}
 use Rattle.iim_audit.specs.declared.row.AuditRow.{AuditRow}
 use Rattle.iim_audit.proofs.Reading.{audited, fails, one_too_many, short_after, read_one, short_first}
 use Rattle.iim_audit.proofs.auditing.audit.Goals as goal

@@ -1,9 +1,4 @@
-use Rattle.std.proofs.Common.{◌≡◌, ◌≤◌, ◌^◌, ◌+◌, ◌-◌, ℕ, length, None, Some}
-use Rattle.iim_audit.specs.Repeats.{ids_of, places_of}
-use Rattle.iim_unpack.specs.States.Intakes.{in_line}
-use Rattle.iim_places.specs.Format.Listing.{max_envelopes}
-use Rattle.iim_audit.specs.Lines.{HaveShortIds}
-use Rattle.iim_unpack.specs.States.Unpacking.{limits_in}
+use Rattle.iim_audit.proofs.Words.{◌≡◌, ◌≤◌, ◌^◌, ◌+◌, ◌-◌, ℕ, length, None, Some, ids_of, places_of, in_line, max_envelopes, HaveShortIds, limits_in}
 use Rattle.iim_audit.proofs.Reading.{HasRead}
 use Rattle.iim_audit.proofs.auditing.audit.Given as goal
 

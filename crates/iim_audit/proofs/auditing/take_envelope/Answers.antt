@@ -1,7 +1,4 @@
-use Rattle.std.proofs.Common.{refl, rules}
-use Rattle.wire_story.specs.Format.Words.{WordsSoFar, CountsWords}
-use Rattle.iim_unpack.specs.States.Intakes.{in_line}
-use Rattle.iim_unpack.specs.States.Unpacking.{limits_in}
+use Rattle.iim_audit.proofs.Words.{refl, rules, WordsSoFar, CountsWords, in_line, limits_in}
 use Rattle.iim_audit.proofs.Taking.{none_fresh, took_end, took_one, TextLaws}
 use Rattle.iim_audit.proofs.auditing.take_envelope.Goals as goal
 

@@ -1,5 +1,4 @@
-use Rattle.std.proofs.Common.{◌≡◌, length, map}
-use Rattle.iim_audit.specs.Repeats.{AreFresh, IsOrder, IsPlace, ids_of, index_at}
+use Rattle.iim_audit.proofs.Words.{◌≡◌, length, map, AreFresh, IsOrder, IsPlace, ids_of, index_at}
 use Rattle.iim_audit.proofs.Firsts.{SoFar}
 use Rattle.iim_audit.proofs.repeats.fill_firsts.Given as goal
 

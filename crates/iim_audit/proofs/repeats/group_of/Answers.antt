@@ -1,6 +1,5 @@
-use Rattle.std.proofs.Common.{◌≡◌, ℕ, List, get_or, ap, sym, ◌∙◌, arith}
+use Rattle.iim_audit.proofs.Words.{◌≡◌, ℕ, List, get_or, ap, sym, ◌∙◌, arith, IsPlace, ids_of, index_at, key_at, key_of}
 use Rattle.iim_audit.specs.declared.row.AuditRow.{AuditRow}
-use Rattle.iim_audit.specs.Repeats.{IsPlace, ids_of, index_at, key_at, key_of}
 use Rattle.iim_audit.proofs.Firsts.{key_same}
 use Rattle.iim_audit.proofs.Lines.{id_at, length_ids}
 use Rattle.iim_audit.proofs.repeats.group_of.Goals as goal

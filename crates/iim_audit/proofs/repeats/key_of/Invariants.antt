@@ -1,5 +1,4 @@
-use Rattle.std.proofs.Common.{◌≡◌, drop}
-use Rattle.iim_audit.specs.Repeats.{key_after}
+use Rattle.iim_audit.proofs.Words.{◌≡◌, drop, key_after}
 use Rattle.iim_audit.proofs.repeats.key_of.Given as goal
 
 -- the octets that are left lead to the same key

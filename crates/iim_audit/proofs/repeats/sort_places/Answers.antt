@@ -1,7 +1,5 @@
-use Rattle.std.specs.Ordering.{is_lt}
-use Rattle.std.proofs.Common.{rules}
+use Rattle.iim_audit.proofs.Words.{is_lt, rules, ids_of, place_cmp}
 use Rattle.std.proofs.lemmas.Fn.{always_returns_same}
-use Rattle.iim_audit.specs.Repeats.{ids_of, place_cmp}
 use Rattle.iim_audit.proofs.Firsts.{places_rank}
 use Rattle.iim_audit.proofs.repeats.sort_places.Goals as goal
 

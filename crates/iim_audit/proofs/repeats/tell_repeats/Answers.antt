@@ -1,5 +1,4 @@
-use Rattle.std.proofs.lemmas.List.Sorted.{All-permutation}
-use Rattle.iim_audit.specs.Repeats.{IsPlace, ids_of, places_of}
+use Rattle.iim_audit.proofs.Words.{All-permutation, IsPlace, ids_of, places_of}
 use Rattle.iim_audit.proofs.Firsts.{are_places, order_of}
 use Rattle.iim_audit.proofs.repeats.tell_repeats.Goals as goal
 

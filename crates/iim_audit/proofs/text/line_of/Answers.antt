@@ -1,5 +1,4 @@
-use Rattle.std.proofs.Common.{append-nil}
-use Rattle.iim_audit.specs.Format.Texts.{ages_of}
+use Rattle.iim_audit.proofs.Words.{append-nil, ages_of}
 use Rattle.iim_audit.proofs.text.line_of.Goals as goal
 
 pub returns : goal.returns

@@ -1,4 +1,4 @@
-use Rattle.std.proofs.Common.{◌<◌, List, length, ap, arith}
+use Rattle.iim_audit.proofs.Words.{◌<◌, List, length, ap, arith}
 use Rattle.iim_audit.specs.declared.row.AuditRow.{AuditRow}
 use Rattle.iim_audit.proofs.Lines.{lines_more}
 use Rattle.iim_audit.proofs.text.report_text.Goals as goal

@@ -1,5 +1,4 @@
-use Rattle.std.proofs.Common.{◌≡◌, take}
-use Rattle.iim_audit.specs.Format.Texts.{lines_from}
+use Rattle.iim_audit.proofs.Words.{◌≡◌, take, lines_from}
 use Rattle.iim_audit.proofs.text.report_text.Given as goal
 
 abbrev pub invariant-rows : goal.invariant-rows

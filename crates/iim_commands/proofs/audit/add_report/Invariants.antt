@@ -1,6 +1,4 @@
-use Rattle.std.proofs.Common.{take}
-use Rattle.iim_audit.specs.Format.Texts.{lines_from}
-use Rattle.iim_output.specs.States.Holding.{HasPut}
+use Rattle.iim_commands.proofs.Words.{take, lines_from, HasPut}
 use Rattle.iim_commands.proofs.audit.add_report.Given as goal
 
 abbrev pub invariant-rows : goal.invariant-rows

@@ -1,34 +1,22 @@
-use Rattle.std.proofs.Common.{◌≡◌, ℕ, ℤ, Result, Ok, Err, IfOk, IfErr, ap, sym, ◌∙◌, inl, inr, subst}
-use Rattle.iim_dataset.specs.States.Devices.{Device}
-use Rattle.iim_unpack.specs.States.Intakes.{in_line}
-use Rattle.iim_commands.specs.Format.{Audited, IsUnaudited, Reviewed}
-use Rattle.iim_output.specs.States.Devices.{devices}
-use Rattle.iim_commands.specs.Endings.{EndsRun}
-use Rattle.iim_output.specs.declared.fault.CommandFault.{CommandFault}
-use Rattle.iim_commands.proofs.Audits.{with_none_held}
+use Rattle.iim_commands.proofs.Words.{IfOk, IfErr, subst, Device, in_line, Audited, IsUnaudited}
+use Rattle.iim_commands.proofs.Runs.{begun, ends}
 use Rattle.iim_commands.proofs.run.review.Goals as goal
-
-reviewed : (now : ℤ) (source rest old new errors_old errors_new : Device) (answer : Result ℕ CommandFault) (status : ℕ)
-    → IfOk answer (Audited now source rest old new) → IfErr answer (IsUnaudited now source rest old new) → EndsRun errors_old errors_new answer status
-    → Reviewed now (devices source old errors_old) (devices rest new errors_new) status
-reviewed now source rest old new errors_old errors_new (Ok want) status ok err f =
-    inl (subst (λ (n : ℕ). Audited now source rest old new n) (sym f.0) ok, f.1)
-reviewed now source rest old new errors_old errors_new (Err fault) status ok err f = inr (fault, err, f.1, f.0)
 
 pub returns : goal.returns
 returns g c =
+    let now = c.args.now.nanosecond in
+    let source = g.R.Source.state c.args.reader in
     let intake = c.write_audit-answer.new.intake in
     let rest = in_line g.R.Source.state intake in
     let old = g.W.Target.state c.args.output in
     let new = g.W.Target.state c.write_audit-answer.new.output in
-    let now = c.args.now.nanosecond in
-    let start : in_line g.R.Source.state c.new-intake.result ≡ g.R.Source.state c.args.reader =
-    with_none_held c.new-intake.result.block (g.R.Source.state c.new-intake.result.reader) c.new-intake.ensures.block ∙ ap g.R.Source.state c.new-intake.ensures.reader in (
+    let start = begun g.R.Source.state c.new-intake.result c.args.reader c.new-intake.ensures.block c.new-intake.ensures.reader in (
       intake.reader,
       intake.block,
       subst (λ (r : g.row.R.Denot). g.R.Source.leads r intake.reader) c.new-intake.ensures.reader c.write_audit-answer.ensures.leads,
-      reviewed now (g.R.Source.state c.args.reader) rest old new (g.E.Target.state c.args.errors) (g.E.Target.state c.finish-status.new.errors) c.write_audit-answer.result c.finish-status.result
+      ends (Audited now source rest old new) (IsUnaudited now source rest old new) (g.E.Target.state c.args.errors)
+          (g.E.Target.state c.finish-status.new.errors) c.write_audit-answer.result c.finish-status.result
           (subst (λ (d : Device). IfOk c.write_audit-answer.result (Audited now d rest old new)) start c.write_audit-answer.ensures.ok)
           (subst (λ (d : Device). IfErr c.write_audit-answer.result (IsUnaudited now d rest old new)) start c.write_audit-answer.ensures.err)
-          c.finish-status.ensures,
+          c.finish-status.ensures.ok c.finish-status.ensures.fault,
     )

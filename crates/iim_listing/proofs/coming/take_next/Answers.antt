@@ -1,7 +1,6 @@
 use Rattle.iim_listing.proofs.Words.{◌∙◌, refl, inr, in_line}
 use Rattle.iim_unpack.proofs.Intakes.{more_of, done_of, end_of}
-use Rattle.iim_listing.proofs.Feeding.{take_none, take_out, take_more, take_ended, is_ready, fewer_left}
-use Rattle.iim_listing.proofs.Taken.{taken_whole, taken_faults, held_up, fault_next}
+use Rattle.iim_listing.proofs.Taken.{take_none, take_out, take_more, take_ended, is_ready, fewer_left, taken_whole, taken_fault, held_up}
 use Rattle.iim_listing.proofs.coming.take_next.Goals as goal
 
 pub feeding-init : goal.feeding-init
@@ -17,13 +16,13 @@ feeding-init g c =
     }
 
 pub next_piece-requires : goal.next_piece-requires
-next_piece-requires g c = record { ready = is_ready c.feeding.invariant.taken }
+next_piece-requires g c = record { ready = is_ready g.met.S.StorySink.joined c.feeding.invariant.taken }
 
 pub feeding-smaller : goal.feeding-smaller
 feeding-smaller g c =
     let out = take_out g.met.S.StorySink.joined c.feeding.invariant.taken c.in-Ok.ensures.told in
     let more = more_of c.in-Ok-More.field-0-is (c.in-Ok-More.ensures.fed c.feeding.invariant.alive) in
-    fewer_left c.place_laws.ensures.open_octets_are_bounded g.met.S.StorySink.joined c.gifts_join.ensures c.delivery_may_be_cut.ensures out more
+    fewer_left g.met.S.StorySink.joined out c.place_laws.ensures.open_octets_are_bounded c.gifts_join.ensures c.delivery_may_be_cut.ensures more
 
 pub feeding-preserved : goal.feeding-preserved
 feeding-preserved g c =
@@ -31,7 +30,7 @@ feeding-preserved g c =
     let more = more_of c.in-Ok-More.field-0-is (c.in-Ok-More.ensures.fed c.feeding.invariant.alive) in
     record {
       alive = c.in-Ok-More.ensures.calm.0;
-      taken = take_more g.met.S.StorySink.joined c.gifts_join.ensures c.delivery_may_be_cut.ensures out more;
+      taken = take_more g.met.S.StorySink.joined out c.gifts_join.ensures c.delivery_may_be_cut.ensures more;
       calm = c.in-Ok-More.ensures.calm.1 ∙ c.in-Ok.ensures.calm ∙ c.feeding.invariant.calm;
       leads =
           g.met.R.Source.leads_on c.args.intake.now.reader c.feeding.intake.reader c.next_piece.new.self.reader c.feeding.invariant.leads c.next_piece.ensures.leads;
@@ -47,7 +46,8 @@ pub returns-in-Ok-End-clause-next : goal.returns-in-Ok-End-clause-next
 returns-in-Ok-End-clause-next g c =
     let out = take_out g.met.S.StorySink.joined c.feeding.invariant.taken c.in-Ok.ensures.told in
     let end = end_of g.S.StorySink.goes c.next_piece.new.unpacker c.in-Ok-End.field-0-is (c.in-Ok-End.ensures.fed c.feeding.invariant.alive) in
-    take_ended g.S.Outlet.settled c.gifts_join.ensures out end.1 (c.in-Ok.ensures.settled (c.in-Ok-End.ensures.reads.ended c.in-Ok-End.field-0-is))
+    take_ended g.met.S.StorySink.joined out g.S.Outlet.settled c.gifts_join.ensures end.1
+    (c.in-Ok.ensures.settled (c.in-Ok-End.ensures.reads.ended c.in-Ok-End.field-0-is))
 
 pub returns-in-Err-clause-next : goal.returns-in-Err-clause-next
 returns-in-Err-clause-next g c =
@@ -62,21 +62,15 @@ returns-in-Ok-End-clause-leads g c = g.met.R.Source.leads_on c.args.intake.now.r
 -- why the intake gave nothing
 pub returns-in-Err-next_piece : goal.returns-in-Err-next_piece
 returns-in-Err-next_piece g c =
-    let failures = g.S.StorySink.failures in
-    let settled = g.S.Outlet.settled in
-    let new = in_line g.R.Source.state c.next_piece.new.self in
-    let w = c.next_piece.new.unpacker in
-    let e = c.next_piece.new.sink in
-    let fault = c.in-Err-next_piece.fault in
     let out = take_out g.met.S.StorySink.joined c.feeding.invariant.taken c.in-Ok.ensures.told in
-    let faults = taken_faults failures settled g.met.S.StorySink.joined c.gifts_join.ensures c.delivery_may_be_cut.ensures new w e c.feeding.intake.block c.next_piece.new.self.failed fault
-    out (c.in-Ok.ensures.calm ∙ c.feeding.invariant.calm) c.in-Ok.ensures.settled (c.in-Err-next_piece.ensures.faults c.feeding.invariant.alive) c.in-Err-next_piece.ensures.reads.unread in
-    let next = fault_next g.S.StorySink.goes failures settled g.S.Outlet.stuck (in_line g.R.Source.state c.args.intake.now) new out.first w c.args.sink.now e
-    c.next_piece.new.self.failed fault c.next_of_fault.result out.within out.stood faults c.next_of_fault.ensures in
+    let (next, calm, lives) = taken_fault g.S.StorySink.failures g.S.Outlet.settled g.S.Outlet.stuck g.met.S.StorySink.joined c.gifts_join.ensures
+    c.delivery_may_be_cut.ensures (in_line g.R.Source.state c.next_piece.new.self) c.next_piece.new.unpacker c.next_piece.new.sink
+    c.feeding.intake.block c.next_piece.new.self.failed c.in-Err-next_piece.fault c.next_of_fault.result out (c.in-Ok.ensures.calm ∙ c.feeding.invariant.calm)
+    c.in-Ok.ensures.settled (c.in-Err-next_piece.ensures.faults c.feeding.invariant.alive) c.in-Err-next_piece.ensures.reads.unread c.next_of_fault.ensures in
     record {
-      next = next.0;
-      calm = next.1;
-      lives = next.2;
+      next = next;
+      calm = calm;
+      lives = lives;
       leads =
           g.met.R.Source.leads_on c.args.intake.now.reader c.feeding.intake.reader c.next_piece.new.self.reader c.feeding.invariant.leads c.next_piece.ensures.leads;
     }

@@ -1,5 +1,5 @@
 use Rattle.iim_listing.proofs.Words.{◌≡◌, ◌-◌, ◌^◌, None, in_line}
-use Rattle.iim_listing.proofs.Feeding.{HasTaken}
+use Rattle.iim_listing.proofs.Taken.{HasTaken}
 use Rattle.iim_listing.proofs.coming.take_next.Given as goal
 
 abbrev pub invariant-feeding : goal.invariant-feeding

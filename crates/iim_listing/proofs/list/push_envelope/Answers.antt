@@ -5,4 +5,4 @@ pub unreachable-requires : goal.unreachable-requires
 unreachable-requires g c = none_is_none c.unpacked.result c.in_default.is (c.unpacked.ensures.done.1 c.requires)
 
 pub returns : goal.returns
-returns g c = λ e is. c.push_text.ensures e is.2 (c.in-Some.ensures.value e.octets c.args.octets is.0 e.value is.1)
+returns g c = λ e done admits counts. c.push_text.ensures e counts (c.in-Some.ensures.value e.octets c.args.octets done e.value admits)

@@ -7,12 +7,8 @@ pub telling-init : goal.telling-init
 telling-init g c = record {
   alive = c.requires.alive;
   same = c.in_ok-unpacker.ensures.limits;
-  told = record {
-    narrated =
-        none_narrated g.W.Target.state g.E.Target.state c.gifts_join.ensures c.texts_join.ensures (in_line g.R.Source.state c.args.intake.now) c.args.narrator.now c.requires.settled c.requires.unbroken;
-    keeps = (refl, refl);
-    unbroken = c.requires.unbroken;
-  };
+  told = none_narrated g.W.Target.state g.E.Target.state c.gifts_join.ensures c.texts_join.ensures (in_line g.R.Source.state c.args.intake.now)
+      c.args.narrator.now c.requires.settled c.requires.unbroken;
   leads = λ last h. h;
 }
 
@@ -27,8 +23,8 @@ pub telling-preserved : goal.telling-preserved
 telling-preserved g c =
     let next = rw c.in-Ok-None.field-0-is at c.in-Ok-None.ensures.ok in
     record {
-      alive = next.0.0;
-      same = next.0.1;
+      alive = (next.0 refl).0;
+      same = (next.0 refl).1;
       told = next.1 (in_line g.R.Source.state c.args.intake.now) c.args.narrator.now c.telling.invariant.told;
       leads = λ last h. c.telling.invariant.leads last (g.met.R.Source.leads_on c.telling.intake.reader c.tell_next.new.intake.reader last c.tell_next.ensures.leads h);
     }
@@ -36,7 +32,7 @@ telling-preserved g c =
 pub telling-smaller : goal.telling-smaller
 telling-smaller g c =
     let next = rw c.in-Ok-None.field-0-is at c.in-Ok-None.ensures.ok in
-    omega (arith, next.0.2)
+    omega (arith, (next.0 refl).2)
 
 pub returns-in-Ok-Some : goal.returns-in-Ok-Some
 returns-in-Ok-Some g c =

@@ -1,4 +1,4 @@
-use Rattle.std.proofs.Common.{◌-◌, ◌≤◌, arith, length-take}
+use Rattle.iim_pack_script.proofs.Words.{◌-◌, ◌≤◌, arith, length-take}
 use Rattle.iim_pack_script.proofs.BlockSteps.{moved}
 use Rattle.iim_pack_script.proofs.blocks.write_front.Goals as goal
 

@@ -1,5 +1,4 @@
-use Rattle.std.proofs.Common.{inl, refl, sym, subst, arith}
-use Rattle.iim_pack_script.specs.Format.{IsRead, asked, refusal_line}
+use Rattle.iim_pack_script.proofs.Words.{inl, refl, arith, asked, refusal_line}
 use Rattle.iim_pack_script.proofs.Packings.{starved_as, told_refused, unanswered_as, unread_as}
 use Rattle.iim_pack_script.proofs.packing.pack_script.Goals as goal
 
@@ -10,10 +9,7 @@ returns-in-Err-clause-unanswered g c =
 
 pub returns-in-Ok-pack_octets-clause-answered : goal.returns-in-Ok-pack_octets-clause-answered
 returns-in-Ok-pack_octets-clause-answered g c =
-    let first = g.R.Source.state c.args.reader.now in
-    let rest = g.R.Source.state c.read_input.new.reader in
-    let read = subst (IsRead first rest) (sym c.as_slice.ensures.value) c.in-Ok.ensures.read in
-    (c.as_slice.result.now, read, inl (c.in-Ok-pack_octets.ensures.packed, refl, omega arith))
+    (c.in-Ok.octets.items, c.in-Ok.ensures.read, inl (rw c.as_slice.ensures.value at c.in-Ok-pack_octets.ensures.packed, refl, omega arith))
 
 pub returns-in-Err-Refused-default-clause-answered : goal.returns-in-Err-Refused-default-clause-answered
 returns-in-Err-Refused-default-clause-answered g c =
@@ -24,7 +20,7 @@ returns-in-Err-Refused-default-clause-answered g c =
     told_refused (asked c.args.request.subfile c.args.request.unknown c.args.request.max) c.as_slice.result.now
     (refusal_line left.line left.number left.name.now) first rest (g.W.Target.state c.args.output) (g.W.Target.state left.output)
     (g.E.Target.state c.args.errors.now) (g.E.Target.state c.tell_refusal.new.errors) c.tell_refusal.result
-    (subst (IsRead first rest) (sym c.as_slice.ensures.value) c.in-Ok.ensures.read) why.0 why.1 c.tell_refusal.ensures.told
+    (rw c.as_slice.ensures.value c.in-Ok.ensures.read) why.0 why.1 c.tell_refusal.ensures.told
 
 pub returns-in-Err-Refused-default-clause-unanswered : goal.returns-in-Err-Refused-default-clause-unanswered
 returns-in-Err-Refused-default-clause-unanswered g c =
@@ -41,5 +37,5 @@ returns-clause-unanswered g c =
     let left = c.in-Err-Around-default in
     let errors = g.E.Target.state c.args.errors.now in
     unanswered_as (asked c.args.request.subfile c.args.request.unknown c.args.request.max) c.as_slice.result.now first rest (g.W.Target.state c.args.output)
-    (g.W.Target.state left.output) errors errors left.fault (subst (IsRead first rest) (sym c.as_slice.ensures.value) c.in-Ok.ensures.read)
+    (g.W.Target.state left.output) errors errors left.fault (rw c.as_slice.ensures.value c.in-Ok.ensures.read)
     (rw left.field-0-0-is at left.ensures.unpacked)

@@ -1,4 +1,4 @@
-use Rattle.std.proofs.Common.{rules, length, take}
+use Rattle.iim_pack_script.proofs.Words.{rules, length, take}
 use Rattle.iim_pack_script.proofs.Packings.{unread}
 use Rattle.iim_pack_script.proofs.packing.read_input.Goals as goal
 

@@ -1,6 +1,4 @@
-use Rattle.std.proofs.Common.{◌≤◌, ◌+◌, ◌-◌, length}
-use Rattle.iim_dataset.specs.States.Devices.{HasGiven}
-use Rattle.iim_script.specs.Format.Scripts.{max_script}
+use Rattle.iim_pack_script.proofs.Words.{◌≤◌, ◌+◌, ◌-◌, length, HasGiven, max_script}
 use Rattle.iim_pack_script.proofs.packing.read_input.Given as goal
 
 abbrev pub invariant-loop-block : goal.invariant-loop-block

@@ -1,7 +1,4 @@
-use Rattle.std.proofs.Common.{inr, ◌∙◌}
-use Rattle.iim_script.specs.Format.Scripts.{text_lines}
-use Rattle.iim_pack.specs.States.Packing.{start_cause, finish_cause}
-use Rattle.iim_pack.proofs.Goings.{of_none}
+use Rattle.iim_pack_script.proofs.Words.{inr, ◌∙◌, text_lines, start_cause, finish_cause, of_none}
 use Rattle.iim_pack.proofs.Wholes.{packs, lines_broke, finish_broke, not_started, may_pack, may_start, lines_fit, may_finish}
 use Rattle.iim_pack_script.proofs.Lines.{again}
 use Rattle.iim_pack_script.proofs.text.pack_text.Goals as goal

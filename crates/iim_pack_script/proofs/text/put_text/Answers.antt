@@ -1,14 +1,9 @@
-use Rattle.std.proofs.Common.{ℕ, ◌+◌, ◌≤◌, List, [], ◌∷◌, ◌++◌, length, map, refl, sym, subst, ◌∙◌, append_assoc}
-use Rattle.std.proofs.lemmas.Result.{on_ok_weaker, on_err_weaker}
-use Rattle.iim_object.specs.States.Writing.{most_of, total_of}
-use Rattle.iim_object.specs.declared.plan.Plan.{Plan}
-use Rattle.wire_story.specs.Format.Texts.{IsText}
-use Rattle.wire_story.specs.Format.Delivery.{StoryEvent, LineOctet, LineEnd, events_of_lines}
-use Rattle.iim_script.specs.Format.Scripts.{text_lines}
-use Rattle.iim_pack.specs.States.Packing.{Lengthens, BreaksOff, ContinuesWith, text_cause}
-use Rattle.iim_pack.proofs.Goings.{of_none}
-use Rattle.iim_pack.proofs.LinesOut.{goes_nowhere, leads_on, breaks_later, breaks_before, may_text}
+use Rattle.iim_pack_script.proofs.Words.{◌≡◌, ℕ, ◌+◌, ◌≤◌, List, [], ◌∷◌, ◌++◌, None, length, map, refl, sym, ◌∙◌, append_assoc, on_ok_weaker, on_err_weaker}
+use Rattle.iim_pack_script.proofs.Words.{most_of, total_of, StoryEvent, LineOctet, LineEnd, events_of_lines, text_lines, Lengthens, BreaksOff, ContinuesWith}
+use Rattle.iim_pack_script.proofs.Words.{text_cause, of_none, goes_nowhere, leads_on, breaks_later, breaks_before, may_text}
 use Rattle.iim_pack_script.proofs.Lines.{first_is, last_is, parts_more, parts_last, fits_line, fits_last}
+use Rattle.iim_pack_script.proofs.text.put_text.Given.{Over}
+use Rattle.iim_pack_script.proofs.text.put_text.Goals.{In_default}
 use Rattle.iim_pack_script.proofs.text.put_text.Goals as goal
 
 pub loop-line-init : goal.loop-line-init
@@ -24,7 +19,7 @@ pub put_line-requires-clause-line : goal.put_line-requires-clause-line
 put_line-requires-clause-line g c =
     let inv = c.loop-line.invariant in
     let m = c.in-Some.ensures.more inv.left inv.text in
-    first_is c.loop-line.rest.now c.in-Some.line.now m.0 c.in-Some.after.now (subst (λ (ls : List (List ℕ)). IsText c.loop-line.rest.now ls) m.1 inv.text) m.2
+    first_is c.loop-line.rest.now c.in-Some.line.now m.0 c.in-Some.after.now (rw m.1 at inv.text) m.2
 
 pub put_line-requires-clause-unfailed : goal.put_line-requires-clause-unfailed
 put_line-requires-clause-unfailed g c = c.loop-line.invariant.lengthened.unfailed
@@ -35,10 +30,9 @@ put_line-requires-clause-fits g c =
     let m = c.in-Some.ensures.more inv.left inv.text in
     let line : List ℕ = c.in-Some.line.now in
     let k = c.args.packer.now in
-    let n = c.loop-line.packer in
     let parts = parts_more _ inv.done inv.left m.0 line c.in-Some.after.now inv.parts m.1 m.2 in
-    subst (λ (p : Plan). total_of n.object + (length line + 2 + 2) ≤ most_of p) (sym inv.lengthened.plan)
-    (fits_line _ inv.done (events_of_lines m.0) line (total_of k.object) (total_of n.object) (most_of k.object.plan) parts c.requires.fits inv.lengthened.total)
+    rw inv.lengthened.plan (fits_line _ inv.done (events_of_lines m.0) line (total_of k.object) (total_of c.loop-line.packer.object)
+    (most_of k.object.plan) parts c.requires.fits inv.lengthened.total)
 
 pub loop-line-preserved : goal.loop-line-preserved
 loop-line-preserved g c =
@@ -65,49 +59,51 @@ returns-in-Err-clause-broke g c =
     let line : List ℕ = c.in-Some.line.now in
     let more : List StoryEvent = map LineOctet line ++ LineEnd ∷ [] in
     let now = breaks_later state c.args.packer.now c.loop-line.packer c.put_line.new.packer inv.done more c.texts_join.ensures inv.lengthened c.in-Err.ensures.broke in
-    let all = breaks_before state c.args.packer.now c.put_line.new.packer (inv.done ++ more) (events_of_lines m.0) now in
-    let parts = parts_more _ inv.done inv.left m.0 line c.in-Some.after.now inv.parts m.1 m.2 ∙ sym (append_assoc inv.done more (events_of_lines m.0)) in
-    subst (λ (events : List StoryEvent). BreaksOff state (ContinuesWith events) c.args.packer.now c.put_line.new.packer) (sym parts) all
+    rw (parts_more _ inv.done inv.left m.0 line c.in-Some.after.now inv.parts m.1 m.2, ← append_assoc inv.done more (events_of_lines m.0))
+    (breaks_before state c.args.packer.now c.put_line.new.packer (inv.done ++ more) (events_of_lines m.0) now)
 
 pub known_text-requires : goal.known_text-requires
 known_text-requires g c =
     let inv = c.loop-line.invariant in
     last_is c.loop-line.rest.now inv.left inv.text (c.in_default.ensures.one inv.left inv.text)
 
-pub returns-clause-ok : goal.returns-clause-ok
-returns-clause-ok g c =
-    let state = g.W.Target.state in
+-- what is done, and the last line
+parts : (g : Over) (c : In_default g) → events_of_lines (text_lines c.args.text.now) ≡ c.loop-line.invariant.done ++ map LineOctet c.loop-line.rest.now
+parts g c =
+    let inv = c.loop-line.invariant in
+    parts_last _ inv.done inv.left c.loop-line.rest.now inv.parts (c.in_default.ensures.one inv.left inv.text)
+
+-- the last line has no cause
+none : (g : Over) (c : In_default g) → text_cause c.loop-line.packer c.loop-line.rest.now ≡ None
+none g c =
     let inv = c.loop-line.invariant in
     let rest : List ℕ = c.loop-line.rest.now in
-    let parts = parts_last _ inv.done inv.left rest inv.parts (c.in_default.ensures.one inv.left inv.text) in
-    on_ok_weaker c.known_text.result (λ (l : Lengthens state c.loop-line.packer c.known_text.new.self (map LineOctet rest)).
-    subst (λ (events : List StoryEvent). Lengthens state c.args.packer.now c.known_text.new.self events) (sym parts)
-    (leads_on state c.args.packer.now c.loop-line.packer c.known_text.new.self inv.done (map LineOctet rest) c.texts_join.ensures inv.lengthened l)) c.known_text.ensures.ok
+    let k = c.args.packer.now in
+    let n = c.loop-line.packer in
+    let room : total_of n.object + (length rest + 2) ≤ most_of n.object.plan =
+    rw inv.lengthened.plan (fits_last _ inv.done rest (total_of k.object) (total_of n.object) (most_of k.object.plan) (parts g c) c.requires.fits
+    inv.lengthened.total) in
+    may_text n rest (last_is rest inv.left inv.text (c.in_default.ensures.one inv.left inv.text)) inv.lengthened.unfailed room
+
+pub returns-clause-ok : goal.returns-clause-ok
+returns-clause-ok g c =
+    let inv = c.loop-line.invariant in
+    let rest : List ℕ = c.loop-line.rest.now in
+    rw (parts g (goal.at.returns-clause-ok g c).In_default)
+    (on_ok_weaker c.known_text.result (λ (l : Lengthens g.W.Target.state c.loop-line.packer c.known_text.new.self (map LineOctet rest)).
+    leads_on g.W.Target.state c.args.packer.now c.loop-line.packer c.known_text.new.self inv.done (map LineOctet rest) c.texts_join.ensures inv.lengthened l)
+    c.known_text.ensures.ok)
 
 pub returns-clause-cause : goal.returns-clause-cause
 returns-clause-cause g c =
-    let inv = c.loop-line.invariant in
-    let rest : List ℕ = c.loop-line.rest.now in
-    let k = c.args.packer.now in
-    let n = c.loop-line.packer in
-    let one = c.in_default.ensures.one inv.left inv.text in
-    let parts = parts_last _ inv.done inv.left rest inv.parts one in
-    let room = subst (λ (p : Plan). total_of n.object + (length rest + 2) ≤ most_of p) (sym inv.lengthened.plan)
-    (fits_last _ inv.done rest (total_of k.object) (total_of n.object) (most_of k.object.plan) parts c.requires.fits inv.lengthened.total) in
-    of_none (text_cause n rest) _ (may_text n rest (last_is rest inv.left inv.text one) inv.lengthened.unfailed room) c.known_text.ensures.cause
+    of_none (text_cause c.loop-line.packer c.loop-line.rest.now) _ (none g (goal.at.returns-clause-cause g c).In_default) c.known_text.ensures.cause
 
 pub returns-clause-broke : goal.returns-clause-broke
 returns-clause-broke g c =
-    let state = g.W.Target.state in
     let inv = c.loop-line.invariant in
     let rest : List ℕ = c.loop-line.rest.now in
-    let k = c.args.packer.now in
     let n = c.loop-line.packer in
-    let one = c.in_default.ensures.one inv.left inv.text in
-    let parts = parts_last _ inv.done inv.left rest inv.parts one in
-    let room = subst (λ (p : Plan). total_of n.object + (length rest + 2) ≤ most_of p) (sym inv.lengthened.plan)
-    (fits_last _ inv.done rest (total_of k.object) (total_of n.object) (most_of k.object.plan) parts c.requires.fits inv.lengthened.total) in
-    on_err_weaker c.known_text.result (λ (b : BreaksOff state (ContinuesWith (map LineOctet rest)) n c.known_text.new.self).
-    subst (λ (events : List StoryEvent). BreaksOff state (ContinuesWith events) k c.known_text.new.self) (sym parts)
-    (breaks_later state k n c.known_text.new.self inv.done (map LineOctet rest) c.texts_join.ensures inv.lengthened b))
-    (of_none (text_cause n rest) _ (may_text n rest (last_is rest inv.left inv.text one) inv.lengthened.unfailed room) c.known_text.ensures.broke)
+    let at = (goal.at.returns-clause-broke g c).In_default in
+    rw (parts g at) (on_err_weaker c.known_text.result (λ (b : BreaksOff g.W.Target.state (ContinuesWith (map LineOctet rest)) n c.known_text.new.self).
+    breaks_later g.W.Target.state c.args.packer.now n c.known_text.new.self inv.done (map LineOctet rest) c.texts_join.ensures inv.lengthened b)
+    (of_none (text_cause n rest) _ (none g at) c.known_text.ensures.broke))

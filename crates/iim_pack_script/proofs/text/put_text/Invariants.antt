@@ -1,8 +1,4 @@
-use Rattle.std.proofs.Common.{◌≡◌, List, ℕ, ◌++◌, length}
-use Rattle.wire_story.specs.Format.Texts.{IsText}
-use Rattle.wire_story.specs.Format.Delivery.{StoryEvent, events_of_lines}
-use Rattle.iim_script.specs.Format.Scripts.{text_lines}
-use Rattle.iim_pack.specs.States.Packing.{Lengthens}
+use Rattle.iim_pack_script.proofs.Words.{◌≡◌, List, ℕ, ◌++◌, length, IsText, StoryEvent, events_of_lines, text_lines, Lengthens}
 use Rattle.iim_pack_script.proofs.text.put_text.Given as goal
 
 abbrev pub invariant-loop-line : goal.invariant-loop-line

@@ -1,7 +1,5 @@
-use Rattle.std.proofs.Common.{Bool, refl, subst}
+use Rattle.std.proofs.Common.{refl}
 use Rattle.clap.specs.Matches.{found_of}
-use Rattle.clap.specs.Walk.{rows_of}
-use Rattle.iim_request.specs.Format.{TellsPacking}
 use Rattle.iim_request.proofs.Requests.{tells_packing}
 use Rattle.iim_request.proofs.request.pack_job.Goals as goal
 
@@ -16,7 +14,7 @@ returns-then-is_max_alone-clause-err c =
       (
         c.subfile_given-subfile.result,
         c.number_given-max.result,
-        subst (λ (u : Bool). TellsPacking (rows_of f) c.subfile_given-subfile.result u c.number_given-max.result) alone.1 told,
+        rw alone.1 at told,
         alone.0,
       ),
     )

@@ -1,9 +1,9 @@
-use Rattle.std.proofs.Common.{◌≡◌, Some, refl, sym, ◌∙◌, subst, codes}
+use Rattle.std.proofs.Common.{◌≡◌, Some, refl, sym, ◌∙◌, codes}
 use Rattle.iim_dataset.proofs.Lists.{handed_on}
 use Rattle.clap.specs.Matches.{found_of}
-use Rattle.clap.specs.Walk.{Text, rows_of}
+use Rattle.clap.specs.Walk.{rows_of}
 use Rattle.clap.proofs.WalkLemmas.{first_value-rows}
-use Rattle.iim_request.specs.Format.{AsksJob, IsFaultOf}
+use Rattle.iim_request.specs.Format.{IsFaultOf}
 use Rattle.iim_request.specs.Verbs.{verb_name}
 use Rattle.iim_request.proofs.Requests.{fault_of_job, names, names_one, names_verb}
 use Rattle.iim_request.proofs.request.request_of.Goals as goal
@@ -33,6 +33,6 @@ returns-clause-ok c words found =
       name,
       rows_of f,
       names words c.args.matches.now f name found.faultless found.command (sym c.in-Some.ensures.rows) (sym c.in-Some.ensures.name),
-      subst (λ (n : Text). AsksJob n (rows_of f) c.in_ok-job_of.field-0) (sym c.in-Some-verb_named.ensures.named) c.in_ok-job_of.ensures.ok,
+      rw c.in-Some-verb_named.ensures.named c.in_ok-job_of.ensures.ok,
       c.get_str.ensures ∙ first_value-rows f (codes "FILE"),
     )

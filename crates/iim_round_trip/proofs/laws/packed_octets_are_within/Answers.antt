@@ -1,4 +1,4 @@
-use Rattle.iim_round_trip.proofs.RoundTrip.{within}
+use Rattle.iim_round_trip.proofs.Packed.{within}
 use Rattle.iim_round_trip.proofs.laws.packed_octets_are_within.Goals as goal
 
 pub returns : goal.returns

@@ -1,4 +1,4 @@
-use Rattle.iim_round_trip.proofs.RoundTrip.{answered}
+use Rattle.iim_round_trip.proofs.Packed.{answered}
 use Rattle.iim_round_trip.proofs.laws.packed_streams_have_their_answer.Goals as goal
 
 pub returns : goal.returns

@@ -1,6 +1,4 @@
-use Rattle.std.proofs.Common.{subst}
-use Rattle.iim_fields.specs.declared.limits.Limits.{Limits}
-use Rattle.iim_unpack.specs.Format.Pieces.{IsTurnedDown, stream_of}
+use Rattle.iim_unpack.specs.Format.Pieces.{stream_of}
 use Rattle.iim_unpack.specs.States.Unpacking.{limits_in}
 use Rattle.iim_round_trip.proofs.Given.{given, fails, counts}
 use Rattle.iim_round_trip.proofs.unpacking.unpack_packed.Goals as goal
@@ -17,7 +15,7 @@ returns-in-Err-clause-refused g c =
 
 pub returns-in-Err-clause-turned_down : goal.returns-in-Err-clause-turned_down
 returns-in-Err-clause-turned_down g c =
-    subst (λ (l : Limits). IsTurnedDown g.S.StorySink.goes l (stream_of c.args.pieces.now) c.args.sink.now c.unpack_pieces.new.sink c.in-Err.refusal) c.in-Ok.ensures.limits c.in-Err.ensures.refused
+    rw c.in-Ok.ensures.limits at c.in-Err.ensures.refused
 
 pub returns-in-Err-clause-counted : goal.returns-in-Err-clause-counted
 returns-in-Err-clause-counted g c = counts c.in-Err.refusal.cause _ _ c.in-Err.ensures.counted

@@ -1,5 +1,5 @@
 use Rattle.iim_unpack.specs.Format.Pieces.{stream_of}
-use Rattle.iim_round_trip.proofs.Stories.{comes, story_in, one_story, no_story, same_fault}
+use Rattle.iim_round_trip.proofs.Given.{comes, story_in, one_story, no_story, same_fault}
 use Rattle.iim_round_trip.specs.declared.unpacking.Story.{Story}
 use Rattle.iim_round_trip.proofs.unpacking.unpack_story.Goals as goal
 
@@ -15,9 +15,7 @@ returns-in-Ok-clause-finished c =
 
 pub returns-in-Ok-clause-only : goal.returns-in-Ok-clause-only
 returns-in-Ok-clause-only c = λ answer is other.
-    let got : Story = record { unpacked = c.in-Ok.unpacked; lines = c.unpack_packed.new.sink; used = c.in-Ok.used } in
-    let story = story_in c.texts_are_delivered_as_lines.ensures c.story_laws.ensures.texts_are_collected_as_lines c.args.limits (stream_of c.args.pieces.now) c.new-lines.result got c.new-lines.ensures.lines c.in-Ok.ensures.finished in
-    one_story c.place_laws.ensures.streams_have_one_answer c.args.limits (stream_of c.args.pieces.now) got story answer is
+    one_story c.place_laws.ensures.streams_have_one_answer c.args.limits (stream_of c.args.pieces.now) _ (returns-in-Ok-clause-finished c) answer is
 
 pub returns-in-Err-clause-turned_down : goal.returns-in-Err-clause-turned_down
 returns-in-Err-clause-turned_down c = no_story c.args.limits (stream_of c.args.pieces.now) c.new-lines.result c.unpack_packed.new.sink c.in-Err.fault c.in-Err.ensures.turned_down

@@ -1,10 +1,7 @@
-use Rattle.std.proofs.Common.{◌≡◌, ◌+◌, ◌++◌, ◌∷◌, [], length, None, ap, sym, subst, arith, rules}
-use Rattle.std.proofs.lemmas.List.{length_push, map_push}
-use Rattle.iim_audit.specs.Format.Rows.{row_with, AuditRow}
-use Rattle.iim_audit.specs.Lines.{HaveShortIds}
-use Rattle.iim_audit.specs.Repeats.{ids_of, place_of}
+use Rattle.iim_audit.proofs.Words.{◌≡◌, ◌+◌, ◌++◌, ◌∷◌, [], length, None, ap, sym, subst, arith, rules, length_push, map_push, row_with, HaveShortIds, ids_of}
+use Rattle.iim_audit.proofs.Words.{place_of, Value}
+use Rattle.iim_audit.specs.Format.Rows.{AuditRow}
 use Rattle.iim_audit.proofs.Firsts.{places_push}
-use Rattle.iim_places.specs.Format.Admitted.{Value}
 use Rattle.iim_audit.proofs.Lines.{length_ids, short_push}
 use Rattle.iim_audit.proofs.ledger.Ledger.enter.Goals as goal
 

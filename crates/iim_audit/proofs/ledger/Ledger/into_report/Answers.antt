@@ -1,6 +1,4 @@
-use Rattle.std.proofs.Common.{◌≡◌, ◌∙◌}
-use Rattle.std.proofs.lemmas.List.{with_items_is}
-use Rattle.iim_audit.specs.Repeats.{AreFilled, AreFresh}
+use Rattle.iim_audit.proofs.Words.{◌≡◌, ◌∙◌, with_items_is, AreFilled, AreFresh}
 use Rattle.iim_audit.proofs.Lines.{bare_rows, fresh_bare, report_told}
 use Rattle.iim_audit.proofs.ledger.Ledger.into_report.Goals as goal
 

@@ -1,4 +1,4 @@
-use Rattle.std.proofs.Common.{length, length-drop, decimal, drop, ap, arith}
+use Rattle.iim_audit.proofs.Words.{length, length-drop, decimal, drop, ap, arith}
 use Rattle.std.proofs.lemmas.List.{length-append}
 use Rattle.std.proofs.lemmas.Fmt.{length-decimal-le}
 use Rattle.iim_audit.proofs.line.ReportLine.prepend_number.Goals as goal

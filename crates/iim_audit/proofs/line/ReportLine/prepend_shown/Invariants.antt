@@ -1,4 +1,4 @@
-use Rattle.std.proofs.Common.{◌≡◌, ◌+◌, ◌*◌, ◌≤◌, ◌++◌, length, drop}
+use Rattle.iim_audit.proofs.Words.{◌≡◌, ◌+◌, ◌*◌, ◌≤◌, ◌++◌, length, drop}
 use Rattle.iim_dataset.specs.Format.Shown.{shown}
 use Rattle.iim_audit.proofs.line.ReportLine.prepend_shown.Given as goal
 

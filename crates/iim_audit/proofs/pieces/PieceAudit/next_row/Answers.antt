@@ -1,5 +1,4 @@
-use Rattle.iim_unpack.specs.States.Unpacking.{limits_in}
-use Rattle.iim_audit.specs.declared.pieces.PieceAudit.{PieceAudit}
+use Rattle.iim_audit.proofs.Words.{limits_in, PieceAudit}
 use Rattle.iim_audit.proofs.Taking.{found_none, found_row, refused_by}
 use Rattle.iim_audit.proofs.pieces.PieceAudit.next_row.Goals as goal
 

@@ -1,4 +1,4 @@
-use Rattle.std.proofs.Common.{rules}
+use Rattle.iim_audit.proofs.Words.{rules}
 use Rattle.iim_audit.proofs.Taking.{row_of_done, TextLaws}
 use Rattle.iim_audit.proofs.pieces.PieceAudit.row_told.Goals as goal
 

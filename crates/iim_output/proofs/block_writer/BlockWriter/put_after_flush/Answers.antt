@@ -1,7 +1,6 @@
-use Rattle.std.proofs.Common.{[], take, sym, subst}
+use Rattle.std.proofs.Common.{[], take}
 use Rattle.std.proofs.lemmas.Result.{IfErr-weaker}
 use Rattle.iim_object.proofs.Outputs.{on_ok}
-use Rattle.iim_output.specs.States.Holding.{HasStuck, PutsOn}
 use Rattle.iim_output.specs.HoldingLaws.{put_on, puts_on}
 use Rattle.iim_output.proofs.Holding.{stuck_on}
 use Rattle.iim_output.proofs.block_writer.BlockWriter.put_after_flush.Goals as goal
@@ -23,9 +22,7 @@ returns-in-Ok-clause-front g c =
     (λ stop puts. puts_on g.W.Target.state c.args.self.now c.flush.new.self c.put_first.new.self [] (take stop.taken c.args.text.now) c.in-Ok.ensures.puts puts) c.put_first.ensures.front
 
 pub returns-in-Err-clause-stuck : goal.returns-in-Err-clause-stuck
-returns-in-Err-clause-stuck g c =
-    subst (λ n. HasStuck g.W.Target.state c.args.self.now c.flush.new.self (take n c.args.text.now)) (sym c.in-Err.ensures.none) c.in-Err.ensures.stuck.0
+returns-in-Err-clause-stuck g c = rw c.in-Err.ensures.none c.in-Err.ensures.stuck.0
 
 pub returns-in-Err-clause-front : goal.returns-in-Err-clause-front
-returns-in-Err-clause-front g c =
-    subst (λ n. PutsOn g.W.Target.state c.args.self.now c.flush.new.self (take n c.args.text.now)) (sym c.in-Err.ensures.none) c.in-Err.ensures.front
+returns-in-Err-clause-front g c = rw c.in-Err.ensures.none c.in-Err.ensures.front

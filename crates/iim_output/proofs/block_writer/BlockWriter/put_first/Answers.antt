@@ -7,7 +7,7 @@ pub returns-in-Ok-clause-put : goal.returns-in-Ok-clause-put
 returns-in-Ok-clause-put g c = passes_through g.W.Target.state _ _ c.args.text.now refl c.requires refl c.in-Ok.ensures.ok c.in-Ok.ensures.patience
 
 pub returns-in-Ok-clause-puts : goal.returns-in-Ok-clause-puts
-returns-in-Ok-clause-puts g c = puts_of_put g.W.Target.state _ _ c.args.text.now (passes_through g.W.Target.state _ _ c.args.text.now refl c.requires refl c.in-Ok.ensures.ok c.in-Ok.ensures.patience) refl
+returns-in-Ok-clause-puts g c = puts_of_put g.W.Target.state _ _ c.args.text.now (returns-in-Ok-clause-put g c) refl
 
 pub returns-in-Err-clause-stuck : goal.returns-in-Err-clause-stuck
 returns-in-Err-clause-stuck g c = breaks_through g.W.Target.state _ _ c.args.text.now c.in-Err.taken refl c.requires refl c.in-Err.ensures.err c.in-Err.ensures.given_up
@@ -15,4 +15,4 @@ returns-in-Err-clause-stuck g c = breaks_through g.W.Target.state _ _ c.args.tex
 pub returns-in-Err-clause-front : goal.returns-in-Err-clause-front
 returns-in-Err-clause-front g c =
     let rose : Rose c.args.self.now.stops c.saturating_add-self.result = search rules in
-    puts_of_stuck g.W.Target.state _ _ (take c.in-Err.taken c.args.text.now) (breaks_through g.W.Target.state _ _ c.args.text.now c.in-Err.taken refl c.requires refl c.in-Err.ensures.err c.in-Err.ensures.given_up) rose
+    puts_of_stuck g.W.Target.state _ _ (take c.in-Err.taken c.args.text.now) (returns-in-Err-clause-stuck g c) rose

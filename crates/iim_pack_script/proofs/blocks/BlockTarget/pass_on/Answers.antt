@@ -1,5 +1,4 @@
-use Rattle.std.proofs.Common.{◌<◌, ◌≤◌, length, take, ap, sym, arith, length-take}
-use Rattle.iim_pack_script.specs.Blocks.{held_in}
+use Rattle.iim_pack_script.proofs.Words.{◌<◌, ◌≤◌, length, take, ap, sym, arith, length-take, held_in}
 use Rattle.iim_pack_script.proofs.BlockSteps.{faulted_behind, passed_on}
 use Rattle.iim_pack_script.proofs.blocks.BlockTarget.pass_on.Goals as goal
 
