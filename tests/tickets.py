@@ -153,7 +153,7 @@ def is_place(place, greatest, wide):
 
 
 def is_begun_tag(tag, wide):
-    """Whether a tag begins with the octets, and goes on."""
+    """Whether a tag begins with the octets, and continues."""
     if tag[:1] not in (b"", b"\x1c") or tag[3:4] > b"\x80":
         return False
     if len(tag) < 5:

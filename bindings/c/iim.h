@@ -63,7 +63,7 @@ enum {
     IIM_NONE = 4,       /* there is none: no dataset of that number */
     IIM_SHORT = 5,      /* a buffer is too short: the answer tells what is needed */
     IIM_NO_MEMORY = 6,  /* malloc refused */
-    IIM_BAD_TICKET = 7, /* the octets are no ticket from which the call can go on: the cause tells why */
+    IIM_BAD_TICKET = 7, /* the octets are no ticket from which the call can continue: the cause tells why */
     IIM_BAD_PACKING = 8, /* the members of an iim_packing ask for nothing that can be */
     IIM_BAD_INSTANT = 9 /* the members of an iim_instant tell none */
 };
@@ -418,7 +418,7 @@ typedef struct iim_audit_row {
  * and the input may end there; else iim_end tells how it is truncated.
  * IIM_DONE: the same, but that rows is full: answer->written is rows_len. Only
  * the octets of these envelopes were used, answer->used of them, so that no
- * envelope is begun. The call goes on with the others, and the next ticket. With
+ * envelope is begun. The call continues with the others, and the next ticket. With
  * rows_len 0 no octet is used.
  * IIM_REFUSED: octet tells the offset of the refused one, counted from the first
  * octet of its envelope, with layer, cause, rec and set. The rows of the

@@ -1,8 +1,7 @@
 //! A caller of `iim_audit`.
 
 ghost use Rattle.std.specs.Prelude.{◌≡◌, List, None, IfOk};
-ghost use Rattle.iim_audit.specs.Format.Auditing.{IsAudited};
-ghost use Rattle.iim_audit.specs.Format.Texts.{printed_report};
+ghost use Rattle.iim_audit.specs.Format.{IsAudited, printed_report};
 ghost use Rattle.iim_audit.specs.declared.row.AuditRow.{AuditRow};
 ghost use Rattle.iim_unpack.specs.States.Intakes.{in_line};
 

@@ -1,8 +1,7 @@
 //! A caller of `wire_message`.
 
 ghost use Rattle.std.specs.Prelude.{◌≡◌, ◌↔◌, IsSome, IfSome};
-ghost use Rattle.wire_message.specs.Format.Canonical.{packed_head};
-ghost use Rattle.wire_message.specs.Format.Messages.{Header, IsHeader};
+ghost use Rattle.wire_message.specs.Format.Messages.{packed_head, Header, IsHeader};
 
 use arrayvec::ArrayVec;
 use wire_message::{MessageHead, head_text};

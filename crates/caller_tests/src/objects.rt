@@ -1,7 +1,7 @@
 //! A caller of `iim_object`.
 
 ghost use Rattle.std.specs.Prelude.{◌≡◌, ◌↔◌, IsTrue, IsSome, IfSome};
-ghost use Rattle.iim_object.specs.Format.Plans.{is_plan};
+ghost use Rattle.iim_object.specs.Format.Objects.{is_plan};
 ghost use Rattle.iim_object.specs.declared.size.Size.TheVariants.{Known};
 
 use iim_object::{Plan, Size};

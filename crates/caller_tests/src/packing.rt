@@ -3,7 +3,7 @@
 ghost use Rattle.std.specs.Prelude.{ℕ, List, [], map, IfOk};
 ghost use Rattle.iim_dataset.specs.States.Devices.{Wrote};
 ghost use Rattle.iim_pack.specs.Format.Packed.{Packed};
-ghost use Rattle.wire_story.specs.Format.Delivery.{LineOctet};
+ghost use Rattle.wire_story.specs.Format.Texts.{LineOctet};
 ghost use Rattle.wire_story.specs.Format.Packing.{lines_of};
 
 use iim_dataset::Target;

@@ -1,8 +1,7 @@
 //! A caller of `wire_story`.
 
 ghost use Rattle.std.specs.Prelude.{◌≡◌, ℕ, List, IfSome};
-ghost use Rattle.wire_story.specs.Format.Texts.{IsText};
-ghost use Rattle.wire_story.specs.Format.Words.{words, capped};
+ghost use Rattle.wire_story.specs.Format.Texts.{IsText, words, capped};
 
 use wire_story::laws::story_laws;
 use wire_story::{TextReader, WordCount};

@@ -1,7 +1,7 @@
 //! What the commands leave where devices are interrupted, and where an output takes nothing more.
 
 ghost use Rattle.std.specs.Prelude.{◌≡◌};
-ghost use Rattle.wire_story.specs.States.Writing.{stops_of};
+ghost use Rattle.wire_story.specs.States.Reading.{stops_of};
 
 use crate::outcome::{Trouble, right, right_at};
 use crate::told::Told;

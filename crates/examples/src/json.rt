@@ -2,7 +2,7 @@
 
 ghost use Rattle.std.specs.Prelude.{◌≡◌, None, IfOk, string_bytes};
 ghost use Rattle.std.specs.Io.KnownBytes.{IsAtEnd};
-ghost use Rattle.iim_dataset.specs.Format.Shown.{shown};
+ghost use Rattle.iim_dataset.specs.Format.Datasets.{shown};
 ghost use Rattle.iim_unpack.specs.States.Intakes.{in_line};
 
 use anyhow::{Result, bail};

@@ -1,20 +1,15 @@
 -- The order of the ids, the first row with each of them in it, and rows that are told their first one.
-use Rattle.iim_audit.proofs.Words.{◌≡◌, ℕ, zero, suc, ◌+◌, ◌^◌, ◌<◌, ◌≤◌, List, [], ◌∷◌, ◌++◌, length, map, get_or, Some, ap, sym, ◌∙◌, refl, arith, ◌-◌, ◌⊎◌}
-use Rattle.iim_audit.proofs.Words.{Option, inl, inr, ⊎_elim, Bool, true, false, None, take, ◌≢◌, set, All, Contains, slice_get, is_lt, nat_cmp, ordering_then}
-use Rattle.iim_audit.proofs.Words.{ordering_reverse, option_cmp, get_or-map, length-map, get_or_default, get_or-set_same, get_or-set_other, All-permutation}
-use Rattle.iim_audit.proofs.Words.{Contains-permutation, IsPermutation-map, ranks_by, sorted_far, Identity, id_cmp, id_eq, text_eq, IsOrder, IsPlace}
-use Rattle.iim_audit.proofs.Words.{by_index, index_at, index_cmp, key_at, key_of, keyed_cmp, place_cmp, place_of, places_of, AreFilled, AreFresh, filled}
-use Rattle.iim_audit.proofs.Words.{ids_of, leb_tells, nat_tests, first_same}
+use Rattle.iim_audit.proofs.Words.{◌≡◌, ℕ, zero, suc, ◌+◌, ◌^◌, ◌<◌, ◌≤◌, List, [], ◌∷◌, ◌++◌, length, map, get_or, Some, ap, sym, ◌∙◌, refl, arith, ◌-◌, ◌⊎◌, Option, inl, inr, ⊎_elim, Bool, true, false, None, take, ◌≢◌, set, All, Contains, slice_get, is_lt, nat_cmp, ordering_then, ordering_reverse, option_cmp, get_or-map, length-map, get_or_default, get_or-set_same, get_or-set_other, All-permutation, Contains-permutation, IsPermutation-map, ranks_by, sorted_far, Identity, id_cmp, id_eq, text_eq, IsOrder, IsPlace, by_index, index_at, index_cmp, key_at, key_of, keyed_cmp, place_cmp, place_of, places_of, AreFilled, AreFresh, filled, ids_of, leb_tells, nat_tests, first_same}
 use Rattle.std.specs.List.Sorted.{IsPermutation, IsSortedBy}
 use Rattle.std.specs.Cmp.{IsTotalOrder, IsStrictWeakOrder, then_total, on_total, nat_cmp_total}
 use Rattle.std.specs.Cmp.Lexicographic.{options_total}
 use Rattle.std.specs.declared.cmp.Ordering.{Ordering}
 use Rattle.std.specs.declared.cmp.Ordering.TheVariants.{Equal}
-use Rattle.iim_fields.specs.IdLaws.{id_total, id_ties}
+use Rattle.iim_fields.specs.Steps.{id_total, id_ties}
 use Rattle.std.proofs.lemmas.Option.{slice_get-get_or}
 use Rattle.std.proofs.lemmas.Bool.{cases_eq}
 use Rattle.std.proofs.lemmas.Cmp.{tied_itself, tied_back}
-use Rattle.iim_audit.specs.Format.Rows.{AuditRow}
+use Rattle.iim_audit.specs.Format.{AuditRow}
 use Rattle.iim_audit.proofs.Lines.{id_at, length_ids}
 
 -- ---- the order of places

@@ -1,10 +1,7 @@
 -- The rows of envelopes, without and with their first ones, and the lines of rows.
-use Rattle.iim_audit.proofs.Words.{◌≡◌, ℕ, zero, suc, ◌<◌, ℤ, List, [], ◌∷◌, ◌++◌, length, append_assoc, append-nil, None, map, take, get_or, ap, sym, ◌∙◌}
-use Rattle.iim_audit.proofs.Words.{refl, arith, subst, ◌+◌, add-zero, get_or-map, length-map, map-append, map_push, same_lists, length-take-le, take_more}
-use Rattle.iim_audit.proofs.Words.{Identity, Value, id_of, first_same, row_with, rows_after, report_of, HaveShortIds, IsShort, AreFilled, AreFresh, ids_of}
-use Rattle.iim_audit.proofs.Words.{le_of_lt, row_line, lines_from}
+use Rattle.iim_audit.proofs.Words.{◌≡◌, ℕ, zero, suc, ◌<◌, ℤ, List, [], ◌∷◌, ◌++◌, length, append_assoc, append-nil, None, map, take, get_or, ap, sym, ◌∙◌, refl, arith, subst, ◌+◌, add-zero, get_or-map, length-map, map-append, map_push, same_lists, length-take-le, take_more, Identity, Value, id_of, first_same, row_with, rows_after, report_of, HaveShortIds, IsShort, AreFilled, AreFresh, ids_of, le_of_lt, row_line, lines_from}
 use Rattle.std.proofs.lemmas.List.Elements.{All-push}
-use Rattle.iim_audit.specs.Format.Rows.{AuditRow}
+use Rattle.iim_audit.specs.Format.{AuditRow}
 
 -- ---- the ids of rows
 

@@ -1,17 +1,13 @@
 -- Envelopes that come one after another.
-use Rattle.iim_audit.proofs.Words.{◌≡◌, ℕ, ◌+◌, ◌≤◌, ◌<◌, ℤ, List, [], ◌∷◌, ◌++◌, length, append-nil, Option, None, Some, ap, sym, ◌∙◌, refl, arith, inl, inr}
-use Rattle.iim_audit.proofs.Words.{AllByRecursion, length-map, map-append, Device, HasGiven, GiftsJoin, IoFault, Limits, Value, Admits, Listed, Divides}
-use Rattle.iim_audit.proofs.Words.{IsListed, IsListing, Whole, RefusedBy, TooMany, joined, values_of, max_envelopes, Unpacking, IsDoneWith, raised}
-use Rattle.iim_audit.proofs.Words.{ShowsParts, UnpackedRef, Keeps, IsCutOff, IsTaken, TookOne, TookNone, report_of, row_with}
+use Rattle.iim_audit.proofs.Words.{◌≡◌, ℕ, ◌+◌, ◌≤◌, ◌<◌, ℤ, List, [], ◌∷◌, ◌++◌, length, append-nil, Option, None, Some, ap, sym, ◌∙◌, refl, arith, inl, inr, AllByRecursion, length-map, map-append, Device, HasGiven, GiftsJoin, IoFault, Limits, Value, Admits, Listed, Divides, IsListed, IsListing, Whole, RefusedBy, TooMany, joined, values_of, max_envelopes, Unpacking, IsDoneWith, raised, ShowsParts, UnpackedRef, Keeps, IsCutOff, IsTaken, TookOne, TookNone, report_of, row_with}
 use Rattle.std.proofs.Common.{length-append}
 use Rattle.std.specs.Io.KnownBytes.{IsAtEnd}
 use Rattle.iim_dataset.proofs.DeviceLaws.{missed_later}
 use Rattle.iim_places.proofs.Listings.{admitted_more, joined_more}
-use Rattle.iim_audit.specs.Format.Auditing.{IsAudited, IsMissedAt, FailsLeaving, told_after}
+use Rattle.iim_audit.specs.Format.{IsAudited, IsMissedAt, FailsLeaving, told_after, AuditRow}
 use Rattle.iim_audit.specs.declared.fault.AuditCause.{AuditCause}
 use Rattle.iim_audit.specs.declared.fault.AuditCause.TheVariants as causes
 use Rattle.iim_audit.specs.declared.ledger.Ledger.{Ledger}
-use Rattle.iim_audit.specs.Format.Rows.{AuditRow}
 
 -- how many octets are told of the last envelope
 told_more : (before : ℕ) (es : List Listed) (e : Listed) → told_after before (es ++ e ∷ []) ≡ raised 0 (length e.octets)

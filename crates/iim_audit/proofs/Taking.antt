@@ -1,35 +1,27 @@
 -- From what an intake and an unpacker answer to what an audit takes of it.
-use Rattle.iim_audit.proofs.Words.{◌≡◌, ℕ, List, [], length, refl, sym, ap, subst, ◌∙◌, false, ◌≢◌, ◌⊎◌, Option, Some, None, Bool, true, inl, inr, ⊎_elim}
-use Rattle.iim_audit.proofs.Words.{arith, ℤ, ◌≤◌, ◌++◌, take, Result, Ok, Err, IfOk, IfErr, OctetsAreHandedOnOneWay, EventsTellTheDatasets, WordsSoFar}
-use Rattle.iim_audit.proofs.Words.{CountsWords, capped, words, Value, Admits, object_of, Device, IoFault, Limits, FedEnvelope, Faults, WasMissed, WasRefused}
-use Rattle.iim_audit.proofs.Words.{WasTruncated, Unpacking, IsDoneWith, Stands, limits_in, Goes, IsDone, IsRefusedIn, failed_at, cause_of, IsCutOff}
-use Rattle.iim_audit.proofs.Words.{IsRefusal, TookEnvelope, TookOne, TookNone, IsTaken, option_map, raised, ShowsParts, UnpackedRef, row_with, counted_words}
-use Rattle.iim_audit.proofs.Words.{PieceAudit}
-use Rattle.iim_dataset.specs.Format.Datasets.{count_octets}
-use Rattle.iim_dataset.specs.Format.Splits.{InTag}
-use Rattle.iim_dataset.specs.States.Events.{handed_on}
-use Rattle.iim_dataset.specs.States.Places.{HandsOn}
-use Rattle.wire_story.specs.Format.Delivery.{StoryEvent}
-use Rattle.wire_story.specs.Format.Texts.{IsText}
+use Rattle.iim_audit.proofs.Words.{◌≡◌, ℕ, List, [], length, refl, sym, ap, subst, ◌∙◌, false, ◌≢◌, ◌⊎◌, Option, Some, None, Bool, true, inl, inr, ⊎_elim, arith, ℤ, ◌≤◌, ◌++◌, take, Result, Ok, Err, IfOk, IfErr, OctetsAreHandedOnOneWay, EventsTellTheDatasets, WordsSoFar, CountsWords, capped, words, Value, Admits, object_of, Device, IoFault, Limits, FedEnvelope, Faults, WasMissed, WasRefused, WasTruncated, Unpacking, IsDoneWith, Stands, limits_in, Goes, IsDone, IsRefusedIn, failed_at, cause_of, IsCutOff, IsRefusal, TookEnvelope, TookOne, TookNone, IsTaken, option_map, raised, ShowsParts, UnpackedRef, row_with, counted_words, PieceAudit}
+use Rattle.iim_dataset.specs.Format.Datasets.{count_octets, InTag}
+use Rattle.iim_dataset.specs.States.Reading.{handed_on, HandsOn}
+use Rattle.wire_story.specs.Format.Texts.{StoryEvent, IsText}
 use Rattle.wire_story.specs.Laws.{TextsAreCountedAsLines, DeliveryMayBeCut}
 use Rattle.wire_message.specs.Laws.{TextsStandBetweenStxAndEtx}
-use Rattle.wire_message.specs.Format.Layers.{text_so_far}
+use Rattle.wire_message.specs.Format.Messages.{text_so_far}
 use Rattle.wire_message.specs.declared.place.Place.TheVariants.{AfterEnd}
 use Rattle.iim_places.specs.Format.Open.{object_so_far, IsTextOf, Delivers}
 use Rattle.iim_places.proofs.Answering.{leads_to, no_text, reads_envelope}
 use Rattle.iim_unpack.proofs.Intakes.{missed_open, adds_none, adds_more}
-use Rattle.iim_unpack.specs.States.Parts.{CountsFor, has_ended}
+use Rattle.iim_unpack.specs.States.Unpacking.{CountsFor, has_ended}
 use Rattle.iim_unpack.specs.declared.intake.IntakeFault.{IntakeFault}
 use Rattle.iim_places.specs.declared.refusal.Cause.{Cause}
 use Rattle.iim_places.specs.declared.refusal.Cause.TheVariants.{Message}
 use Rattle.wire_message.specs.declared.fault.MessageCause.TheVariants.{Sink}
 use Rattle.iim_places.specs.declared.refusal.Refusal.{Refusal}
-use Rattle.iim_fields.specs.Format.Views.{instant_of_release, instant_of_expiration}
-use Rattle.wire_story.specs.SinkLaws.{counts_joined}
+use Rattle.iim_fields.specs.Format.Records.{instant_of_release, instant_of_expiration}
+use Rattle.wire_story.specs.Steps.{counts_joined}
 use Rattle.iim_unpack.specs.declared.unpacker.Progress.{Progress}
 use Rattle.iim_unpack.specs.declared.unpacker.Progress.TheVariants.{More, Done}
-use Rattle.iim_audit.specs.Counting.{HasFed, IsRefusedFor}
-use Rattle.iim_audit.specs.Format.Pieces.{Finds, HaveWords, IsRowOf, Refuses, StandsOn, no_words}
+use Rattle.iim_audit.specs.Steps.{HasFed, IsRefusedFor}
+use Rattle.iim_audit.specs.Format.{Finds, HaveWords, IsRowOf, Refuses, StandsOn, no_words}
 use Rattle.iim_audit.specs.declared.pieces.PieceRow.{PieceRow}
 use Rattle.iim_dataset.specs.declared.device.IoFault.TheVariants as io
 use Rattle.iim_unpack.specs.declared.intake.IntakeFault.TheVariants as intakes

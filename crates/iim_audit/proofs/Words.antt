@@ -1,33 +1,25 @@
 -- The names that several proofs bring in, passed on from one place.
-pub use Rattle.iim_audit.specs.Format.Rows.{counted_words, first_same, id_of, report_of, row_with, rows_after}
-pub use Rattle.iim_audit.specs.Format.Texts.{ages_of, lines_from, row_line}
-pub use Rattle.iim_audit.specs.Lines.{HaveShortIds, IsShort}
-pub use Rattle.iim_audit.specs.Repeats.{AreFilled, AreFresh, IsOrder, IsPlace, by_index, filled, ids_of, index_at, index_cmp, key_after, key_at, key_of}
-pub use Rattle.iim_audit.specs.Repeats.{keyed_cmp, place_cmp, place_of, places_of}
-pub use Rattle.iim_audit.specs.Taking.{IsCutOff, IsRefusal, IsTaken, Keeps, TookEnvelope, TookNone, TookOne, cause_of}
+pub use Rattle.iim_audit.specs.Format.{counted_words, first_same, id_of, report_of, row_with, rows_after, ages_of, lines_from, row_line}
+pub use Rattle.iim_audit.specs.Steps.{HaveShortIds, IsShort, AreFilled, AreFresh, IsOrder, IsPlace, by_index, filled, ids_of, index_at, index_cmp, key_after, key_at, key_of, keyed_cmp, place_cmp, place_of, places_of, IsCutOff, IsRefusal, IsTaken, Keeps, TookEnvelope, TookNone, TookOne, cause_of}
 pub use Rattle.iim_audit.specs.declared.pieces.PieceAudit.{PieceAudit}
 pub use Rattle.iim_dataset.specs.Laws.{EventsTellTheDatasets, GiftsJoin, OctetsAreHandedOnOneWay}
 pub use Rattle.iim_dataset.specs.States.Devices.{Device, HasGiven}
 pub use Rattle.iim_dataset.specs.declared.device.IoFault.{IoFault}
-pub use Rattle.iim_fields.specs.Format.Ids.{Identity, id_cmp, id_eq, text_eq}
+pub use Rattle.iim_fields.specs.Format.Records.{Identity, id_cmp, id_eq, text_eq}
 pub use Rattle.iim_fields.specs.declared.limits.Limits.{Limits}
 pub use Rattle.iim_places.specs.Format.Admitted.{Admits, Value, object_of}
-pub use Rattle.iim_places.specs.Format.Listing.{Divides, IsListed, IsListing, Listed, RefusedBy, TooMany, Whole, joined, max_envelopes, values_of}
-pub use Rattle.iim_places.specs.States.Counts.{raised}
-pub use Rattle.iim_unpack.specs.Format.Value.{ShowsParts}
+pub use Rattle.iim_places.specs.Format.Streams.{Divides, IsListed, IsListing, Listed, RefusedBy, TooMany, Whole, joined, max_envelopes, values_of, raised}
+pub use Rattle.iim_unpack.specs.Format.Pieces.{ShowsParts}
 pub use Rattle.iim_unpack.specs.States.Intakes.{Faults, FedEnvelope, WasMissed, WasRefused, WasTruncated, in_line}
 pub use Rattle.iim_unpack.specs.States.Unpacking.{Goes, IsDone, IsDoneWith, IsRefusedIn, Stands, Unpacking, failed_at, limits_in}
 pub use Rattle.iim_unpack.specs.declared.unpacker.UnpackedRef.{UnpackedRef}
-pub use Rattle.std.proofs.Common.{Bool, Err, IfErr, IfOk, List, None, Ok, Option, Result, Some, [], add-one, add-zero, ap, append-nil, append_assoc, arith}
-pub use Rattle.std.proofs.Common.{decimal, drop, false, get_or, inl, inr, length, length-drop, lit<, map, refl, rules, set, subst, suc, sym, take, true, zero}
-pub use Rattle.std.proofs.Common.{ℕ, ℤ, ⊎_elim, ◌*◌, ◌++◌, ◌+◌, ◌-◌, ◌<◌, ◌^◌, ◌∙◌, ◌∷◌, ◌≡◌, ◌≢◌, ◌≤◌, ◌⊎◌}
+pub use Rattle.std.proofs.Common.{Bool, Err, IfErr, IfOk, List, None, Ok, Option, Result, Some, [], add-one, add-zero, ap, append-nil, append_assoc, arith, decimal, drop, false, get_or, inl, inr, length, length-drop, lit<, map, refl, rules, set, subst, suc, sym, take, true, zero, ℕ, ℤ, ⊎_elim, ◌*◌, ◌++◌, ◌+◌, ◌-◌, ◌<◌, ◌^◌, ◌∙◌, ◌∷◌, ◌≡◌, ◌≢◌, ◌≤◌, ◌⊎◌}
 pub use Rattle.std.proofs.Math.Nat.{le_of_lt, pow-le-pow_right, pow-suc}
 pub use Rattle.std.proofs.lemmas.Bool.Decides.{leb_tells, nat_tests}
-pub use Rattle.std.proofs.lemmas.List.{get_or-map, get_or-set_other, get_or-set_same, get_or_default, length-map, length-set, length-take-le, length_push}
-pub use Rattle.std.proofs.lemmas.List.{map-append, map_push, same_lists, take_more, with_items_is}
+pub use Rattle.std.proofs.lemmas.List.{get_or-map, get_or-set_other, get_or-set_same, get_or_default, length-map, length-set, length-take-le, length_push, map-append, map_push, same_lists, take_more, with_items_is}
 pub use Rattle.std.proofs.lemmas.List.Sorted.{All-permutation, Contains-permutation, IsPermutation-map, ranks_by, sorted_far}
 pub use Rattle.std.specs.List.{All, AllByRecursion, Contains, slice_get}
 pub use Rattle.std.specs.Option.{option_cmp, option_map}
 pub use Rattle.std.specs.Ordering.{is_lt, nat_cmp, ordering_reverse, ordering_then}
 pub use Rattle.std.specs.Str.Parse.{digits_value}
-pub use Rattle.wire_story.specs.Format.Words.{CountsWords, WordsSoFar, capped, words}
+pub use Rattle.wire_story.specs.Format.Texts.{CountsWords, WordsSoFar, capped, words}

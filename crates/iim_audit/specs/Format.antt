@@ -1,6 +1,295 @@
-pub mod Ages
-pub mod Copies
-pub mod Auditing
-pub mod Pieces
-pub mod Rows
-pub mod Texts
+-- What an audit answers: the rows of envelopes, their ages and copies, and the text of a report.
+use Rattle.std.specs.Prelude.{ℤ, pos, ◌-ℤ◌, ◌*ℤ◌, ◌≤ℤ◌, Option, List, int_le, not, false, if◌then◌else◌, ℕ, ◌+◌, [], ◌∷◌, ◌++◌, map, slice_get, Some, None, ◌≡◌, ◌<◌, ◌⊎◌, length, ◌≤◌, take, slice_index, Bool, true, count_by, codes, decimal, is_some}
+use Rattle.std.specs.Int.{int_div_euclid}
+use Rattle.std.specs.Option.{option_map, option_map_or, option_and_then, unwrap_or}
+use Rattle.std.specs.Str.Parse.{digits_value}
+use Rattle.std.specs.Io.KnownBytes.{IsAtEnd}
+use Rattle.std.specs.Fmt.{signed_decimal}
+use Rattle.iim_dataset.specs.Format.Datasets.{Dataset, shown, number_or_dash}
+use Rattle.iim_tables.specs.Format.Dates.{nanoseconds_in_second}
+use Rattle.iim_fields.specs.Format.Records.{instant_sent, instant_of_release, instant_of_expiration, Identity, id_eq, first_data}
+use Rattle.wire_story.specs.Format.Texts.{words, capped, StoryEvent, WordsSoFar, CountsWords}
+use Rattle.iim_places.specs.Format.Admitted.{Value}
+use Rattle.iim_dataset.specs.States.Devices.{Device, HasGiven, MissedAfter}
+use Rattle.iim_places.specs.Format.Streams.{Listed, Divides, IsListing, Whole, RefusedBy, TooMany, values_of, raised, IsEnvelopeWithin, Kills}
+use Rattle.iim_places.specs.Format.Open.{IsOpen, Delivers}
+use Rattle.iim_unpack.specs.States.Unpacking.{failed_at, Stands}
+use Rattle.iim_places.specs.Format.Causes.{refusal_at}
+use Rattle.iim_dataset.specs.Format.Octets.{minus}
+use Rattle.iim_audit.specs.declared.copy.CopyState.{CopyState}
+use Rattle.iim_audit.specs.declared.copy.CopyState.TheVariants.{Held, Expired, Free}
+pub use Rattle.iim_audit.specs.declared.row.AuditRow.{AuditRow}
+pub use Rattle.iim_dataset.specs.declared.device.IoFault.{IoFault}
+use Rattle.iim_dataset.specs.declared.device.IoFault.TheVariants as io
+pub use Rattle.iim_fields.specs.declared.limits.Limits.{Limits}
+pub use Rattle.iim_places.specs.declared.refusal.Refusal.{Refusal}
+pub use Rattle.iim_audit.specs.declared.fault.AuditCause.{AuditCause}
+use Rattle.iim_audit.specs.declared.fault.AuditCause.TheVariants as causes
+use Rattle.iim_places.specs.declared.fault.TokenFault.{TokenFault}
+use Rattle.iim_audit.specs.declared.pieces.PieceAudit.{PieceAudit}
+use Rattle.iim_audit.specs.declared.pieces.PieceRow.{PieceRow}
+
+-- the whole seconds in `nanoseconds` nanoseconds, rounded down
+-- twins (with IsFloor): law `whole_seconds_are_floors`; "The age is the greatest whole number of seconds";
+--   `takes_the_instants_that_jiff_reads`
+abbrev pub whole_seconds : ℤ → ℤ
+whole_seconds nanoseconds = int_div_euclid nanoseconds (pos nanoseconds_in_second)
+
+-- the whole seconds from the instant sent to now, where these data name one
+-- twin: "The age is the greatest whole number of seconds"
+abbrev pub age_at : ℤ → List Dataset → Option ℤ
+age_at now fields = option_map (λ sent. whole_seconds (now -ℤ sent)) (instant_sent fields)
+
+-- The seconds are the greatest whole number of them that is not above the nanoseconds.
+pub record IsFloor (nanoseconds seconds : ℤ) : Type 0 where
+  pub below : (seconds *ℤ pos nanoseconds_in_second) ≤ℤ nanoseconds
+  pub greatest : (others : ℤ) → (others *ℤ pos nanoseconds_in_second) ≤ℤ nanoseconds → others ≤ℤ seconds
+
+-- Whole seconds are rounded down, below zero too.
+abbrev pub WholeSecondsAreFloors : Type 0
+WholeSecondsAreFloors = (nanoseconds : ℤ) → IsFloor nanoseconds (whole_seconds nanoseconds)
+
+-- held where the release is to come; else expired where the expiration is past; else free
+-- twin: "Copy is held before its release", "Copy whose release is still to come is held"; `tells_copy_that_is_held`,
+--   `tells_copy_that_has_expired`
+abbrev pub copy_at : ℤ → List Dataset → CopyState
+copy_at now fields =
+    if option_map_or (λ release. not (int_le release now)) (instant_of_release fields) false then Held
+    else if option_map_or (λ expiration. not (int_le now expiration)) (instant_of_expiration fields) false then Expired
+    else Free
+
+-- ---- The rows of a report, by the values of the envelopes.
+
+-- what an envelope is known by: 1:30 Service Identifier, 1:40 Envelope Number and 1:70 Date Sent
+-- twin: "A repeated one names the first of the same service, number and day"
+abbrev pub id_of : Value → Identity
+id_of v = record {
+  service = unwrap_or (first_data 1 30 v.fields) [];
+  number = unwrap_or (first_data 1 40 v.fields) [];
+  date_sent = unwrap_or (first_data 1 70 v.fields) [];
+}
+
+-- the digit of 1:60 Envelope Priority, its first octet
+-- twin: "The worked stream, and an empty one"; `audits_a_stream`
+abbrev pub priority_of : Value → Option ℕ
+priority_of v = option_and_then (λ digit. slice_get digit 0) (first_data 1 60 v.fields)
+
+-- the words of the lines, counted up to the greatest number of 64 bits
+-- twins (with row_with): "Words: a tab ends one, and so does a line; two spaces are no word"; `audits_streams`
+abbrev pub counted_words : Value → ℕ
+counted_words v = capped (words v.lines)
+
+-- the number of the first of these ids that is the same; they are numbered from n
+-- twins (with rows_after, report_of): "A repeated one names the first of the same service, number and day";
+--   `lists_a_million_envelopes_and_no_more`
+abbrev pub first_same : ℕ → Identity → List Identity → Option ℕ
+first_same n id [] = None
+first_same n id (other ∷ others) = if id_eq id other then Some n else first_same (n + 1) id others
+
+-- the row of an envelope, with the number of the first one with its id, where that came before
+abbrev pub row_with : ℤ → Value → Option ℕ → AuditRow
+row_with now v first = record {
+  id = id_of v;
+  priority = priority_of v;
+  size = v.sizes.total;
+  subfiles = v.sizes.subfiles;
+  announced = digits_value 10 v.head.words;
+  counted = counted_words v;
+  age = age_at now v.fields;
+  first = first;
+  copy = copy_at now v.fields;
+}
+
+-- the row of an envelope after those: all of them are looked through for its id
+abbrev pub row_of : ℤ → List Value → Value → AuditRow
+row_of now earlier v = row_with now v (first_same 1 (id_of v) (map id_of earlier))
+
+-- the rows of envelopes after those
+abbrev pub rows_after : ℤ → List Value → List Value → List AuditRow
+rows_after now earlier [] = []
+rows_after now earlier (v ∷ vs) = row_of now earlier v ∷ rows_after now (earlier ++ v ∷ []) vs
+
+-- the report of envelopes, by their values and the present instant in nanoseconds
+abbrev pub report_of : ℤ → List Value → List AuditRow
+report_of now values = rows_after now [] values
+
+-- ---- What an audit answers, by the octets that its intake has next in line.
+
+-- The whole input is envelopes, not too many, and the rows are their report.
+pub record IsAudited (limits : Limits) (now : ℤ) (old new : Device) (rows : List AuditRow) : Type 0 where
+  pub input : List ℕ
+  pub given : HasGiven old new input
+  pub at_end : IsAtEnd new.octets
+  pub envelopes : List Listed
+  pub listing : IsListing limits input envelopes Whole
+  pub report : rows ≡ report_of now (values_of envelopes)
+
+-- After the envelopes before that of this number come octets that are refused. They end the input where no octet of them is the refused one.
+pub record IsRefusedAt (limits : Limits) (old new : Device) (number : ℕ) (e : Refusal) : Type 0 where
+  pub input : List ℕ
+  pub given : HasGiven old new input
+  pub envelopes : List Listed
+  pub listing : IsListing limits input envelopes (RefusedBy e)
+  pub at_end : listing.ends.0 ≡ length listing.rest → IsAtEnd new.octets
+  pub in_hand : number ≡ length envelopes + 1
+
+-- After the envelopes before that of this number come octets on which it can continue, and then this fault of the reader.
+pub record IsMissedAt (limits : Limits) (old new : Device) (number : ℕ) (fault : IoFault) : Type 0 where
+  pub input : List ℕ
+  pub missed : MissedAfter old new input fault
+  pub envelopes : List Listed
+  pub rest : List ℕ
+  pub divides : Divides limits input envelopes rest
+  pub is_open : IsOpen limits rest
+  pub in_hand : number ≡ length envelopes + 1
+
+-- how many octets the last of these envelopes has, as an intake tells it; or what it told before them
+abbrev pub told_after : ℕ → List Listed → ℕ
+told_after before [] = before
+told_after before (e ∷ es) = told_after (raised 0 (length e.octets)) es
+
+-- There was no memory for the envelope of this number: before it was read, or after it.
+pub record IsShortAt (limits : Limits) (old new : Device) (number : ℕ) : Type 0 where
+  pub input : List ℕ
+  pub given : HasGiven old new input
+  pub envelopes : List Listed
+  pub divides : Divides limits input envelopes []
+  pub in_hand : (number ≡ length envelopes + 1) ⊎ ((number ≡ length envelopes) × (0 < number))
+
+-- One envelope more came than are listed, and just that: it is the one of this number.
+pub record IsOneTooMany (limits : Limits) (old new : Device) (number : ℕ) : Type 0 where
+  pub input : List ℕ
+  pub given : HasGiven old new input
+  pub envelopes : List Listed
+  pub listing : IsListing limits input envelopes TooMany
+  pub nothing_more : listing.ends.3 ≡ []
+  pub in_hand : number ≡ length envelopes + 1
+
+-- why there is no report, at the envelope of this number
+abbrev pub FailsAt : Limits → Device → Device → ℕ → AuditCause → Type 0
+FailsAt limits old new number (causes.Refused e) = IsRefusedAt limits old new number e
+FailsAt limits old new number causes.Read = IsMissedAt limits old new number io.Failed
+FailsAt limits old new number causes.Interrupted = IsMissedAt limits old new number io.Interrupted
+FailsAt limits old new number causes.OutOfMemory = IsShortAt limits old new number
+FailsAt limits old new number causes.TooManyEnvelopes = IsOneTooMany limits old new number
+
+-- What of the intake is left: after a fault of it the octet that it tells from then on, which is that of the refusal, or how many octets
+-- of the envelope in hand came; and how many octets its last envelope had. (What it told before the audit, then what it keeps and tells.)
+abbrev pub Leaves : (limits : Limits) (old new : Device) (number : ℕ) (cause : AuditCause) → FailsAt limits old new number cause → ℕ → Option ℕ → ℕ → Type 0
+Leaves limits old new number (causes.Refused e) why before kept told = (kept ≡ Some e.octet) × (told ≡ 0)
+Leaves limits old new number causes.Read why before kept told = (kept ≡ Some (raised 0 (length why.rest))) × (told ≡ 0)
+Leaves limits old new number causes.Interrupted why before kept told = (kept ≡ Some (raised 0 (length why.rest))) × (told ≡ 0)
+Leaves limits old new number causes.OutOfMemory why before kept told = (kept ≡ None) × (told ≡ told_after before why.envelopes)
+Leaves limits old new number causes.TooManyEnvelopes why before kept told = (kept ≡ None) × (told ≡ raised 0 (length why.listing.ends.1.octets))
+
+-- why there is no report, and what of the intake is left (what is next in line and the octets that it tells, before and after; after,
+-- also the octet that it keeps)
+abbrev pub FailsLeaving : Limits → Device × ℕ → Device × Option ℕ × ℕ → ℕ → AuditCause → Type 0
+FailsLeaving limits (old, before) (new, kept, told) number cause = (why : FailsAt limits old new number cause) × Leaves limits old new number cause why before kept told
+
+-- The intake had answered a fault before, which is told with envelope 1; or there was no memory, and it was not asked.
+-- twin: "From then on it is told again, with envelope 1"; `failing_readers`
+abbrev pub IsToldAgain : ℕ → ℕ → ℕ → ℕ → AuditCause → Type 0
+IsToldAgain octet before told number cause =
+    (number ≡ 1) × (((cause ≡ causes.Refused (failed_at octet)) × (told ≡ 0)) ⊎ ((cause ≡ causes.OutOfMemory) × (told ≡ before)))
+
+-- a count of no words, at the beginning of a line
+abbrev pub no_words : WordsSoFar
+no_words = record { words = 0; inside = false }
+
+-- The words of what the octets deliver were counted, from a count of none on.
+pub record HaveWords (p : List ℕ) (count : WordsSoFar) : Type 0 where
+  pub more : List StoryEvent
+  pub delivers : Delivers [] p more
+  pub counts : CountsWords no_words more count
+
+-- The audit stands on these octets of an envelope, of which `a` are counted, and their words.
+pub record StandsOn (audit : PieceAudit) (p : List ℕ) (a : ℕ) : Type 0 where
+  pub unpacker : Stands audit.unpacker p a
+  pub words : HaveWords p audit.count
+
+-- The octets are an envelope, and this is told of it: its row, which names no earlier one, and the instants of its copy.
+pub record IsRowOf (limits : Limits) (now : ℤ) (octets : List ℕ) (found : PieceRow) : Type 0 where
+  pub value : Value
+  pub envelope : IsEnvelopeWithin limits octets value
+  pub row : found.row ≡ row_with now value None
+  pub release : option_map (λ t. t.nanosecond) found.release ≡ instant_of_release value.fields
+  pub expires : option_map (λ t. t.nanosecond) found.expires ≡ instant_of_expiration value.fields
+
+-- What a piece comes to after octets `p` of an envelope, of which `a` are counted: none ends in it, and the audit stands on all octets;
+-- or one ends after some octets of the piece, and the audit stands on none.
+abbrev pub Finds : Limits → ℤ → List ℕ → ℕ → List ℕ → PieceAudit → Option PieceRow → Type 0
+Finds limits now p a piece audit None = StandsOn audit (p ++ piece) (raised a (length piece))
+Finds limits now p a piece audit (Some found) =
+    (found.used ≤ length piece) × (found.octets ≡ raised a found.used) × IsRowOf limits now (p ++ take found.used piece) found × StandsOn audit [] 0
+
+-- Octet k of the piece is refused, after those octets: with it a layer is dead.
+pub record Refuses (limits : Limits) (p : List ℕ) (a : ℕ) (piece : List ℕ) (e : Refusal) : Type 0 where
+  pub k : ℕ
+  pub within : k < length piece
+  pub fault : TokenFault
+  pub refusal : e ≡ refusal_at (raised a k) fault
+  pub kills : Kills limits (p ++ take k piece) (slice_index piece k) fault
+
+-- ---- The text of a report.
+
+-- a digit, or `-` where there is none
+-- twin: "The worked stream, and an empty one"; `audits_a_stream`
+abbrev pub digit_or_dash : Option ℕ → ℕ
+digit_or_dash digit = unwrap_or digit minus
+
+-- a number of seconds, with `-` before one below zero, or `-` alone where there is none
+-- twin: "The age is the greatest whole number of seconds", "There is none without a time"
+abbrev pub seconds_or_dash : Option ℤ → List ℕ
+seconds_or_dash None = codes "-"
+seconds_or_dash (Some n) = signed_decimal n
+
+-- service, number and date sent, after the row's number
+-- twins (with sizes_of, copy_word, ages_of, row_line): "The worked stream, and an empty one", "Copy is held before its release";
+--   `audits_a_stream`, `audits_the_sample`
+abbrev pub known_by : ℕ → AuditRow → List ℕ
+known_by number row = decimal number ++ (codes " " ++ (shown row.id.service ++ (codes " " ++ (row.id.number ++ (codes " " ++ row.id.date_sent)))))
+
+-- the sizes, and the words announced and counted
+abbrev pub sizes_of : AuditRow → List ℕ
+sizes_of row = codes " size " ++ (decimal row.size ++ (codes " subfiles " ++ (decimal row.subfiles ++ (codes " words " ++ (decimal row.announced ++ (codes "/" ++ decimal row.counted))))))
+
+abbrev pub copy_word : CopyState → List ℕ
+copy_word Held = codes "held"
+copy_word Expired = codes "expired"
+copy_word Free = codes "free"
+
+-- the age, the first envelope with the same id, and whether the copy may be used
+abbrev pub ages_of : AuditRow → List ℕ
+ages_of row =
+    codes " age " ++ (seconds_or_dash row.age ++ (codes " repeats " ++ (number_or_dash row.first ++ (codes " copy " ++ (copy_word row.copy ++ codes "\n")))))
+
+-- the line of a row
+abbrev pub row_line : ℕ → AuditRow → List ℕ
+row_line number row = known_by number row ++ (codes " priority " ++ (digit_or_dash row.priority ∷ (sizes_of row ++ ages_of row)))
+
+-- a line for each row, in their order, numbered from n
+abbrev pub lines_from : ℕ → List AuditRow → List ℕ
+lines_from n [] = []
+lines_from n (row ∷ rows) = row_line n row ++ lines_from (n + 1) rows
+
+-- how many rows repeat an earlier one
+-- twins (with is_held, held_rows, sums_line): "Held rows are counted, repeated ones too"; `counts_the_copies_that_are_held`
+abbrev pub repeated_rows : List AuditRow → ℕ
+repeated_rows rows = count_by (λ row. is_some row.first) rows
+
+abbrev pub is_held : CopyState → Bool
+is_held Held = true
+is_held _ = false
+
+-- how many rows are of copy that is held
+abbrev pub held_rows : List AuditRow → ℕ
+held_rows rows = count_by (λ row. is_held row.copy) rows
+
+-- the last line
+abbrev pub sums_line : List AuditRow → List ℕ
+sums_line rows = decimal (length rows) ++ (codes " envelopes, " ++ (decimal (repeated_rows rows) ++ (codes " repeated, " ++ (decimal (held_rows rows) ++ codes " held\n"))))
+
+-- what is printed of a report
+abbrev pub printed_report : List AuditRow → List ℕ
+printed_report rows = lines_from 1 rows ++ sums_line rows

@@ -1,7 +1,7 @@
 //! How old an envelope is.
 
 ghost use Rattle.std.specs.Prelude.{◌≡◌, ◌-ℤ◌};
-ghost use Rattle.iim_audit.specs.Format.Ages.{age_at, whole_seconds, WholeSecondsAreFloors};
+ghost use Rattle.iim_audit.specs.Format.{age_at, whole_seconds, WholeSecondsAreFloors};
 
 use iim_fields::{EnvelopeRef, instants};
 use jiff::Timestamp;

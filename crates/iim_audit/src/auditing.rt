@@ -3,8 +3,8 @@
 ghost use Rattle.std.specs.Prelude.{◌≡◌, ℕ, None, Some, IfOk, IfErr, OnOk, IsErrAnd};
 ghost use Rattle.iim_unpack.specs.States.Intakes.{in_line};
 ghost use Rattle.iim_unpack.specs.States.Unpacking.{limits_in};
-ghost use Rattle.iim_audit.specs.Format.Auditing.{IsAudited, FailsLeaving, IsToldAgain};
-ghost use Rattle.iim_audit.specs.Taking.{TookEnvelope, TookNone};
+ghost use Rattle.iim_audit.specs.Format.{IsAudited, FailsLeaving, IsToldAgain};
+ghost use Rattle.iim_audit.specs.Steps.{TookEnvelope, TookNone};
 
 use crate::fault::{AuditCause, AuditFault, cause_of, fault_at};
 use crate::ledger::Ledger;

@@ -1,8 +1,7 @@
 //! Whether copy may be used now.
 
 ghost use Rattle.std.specs.Prelude.{◌≡◌, ◌≤◌, length, Some};
-ghost use Rattle.iim_audit.specs.Format.Copies.{copy_at};
-ghost use Rattle.iim_audit.specs.Format.Texts.{copy_word};
+ghost use Rattle.iim_audit.specs.Format.{copy_at, copy_word};
 
 use iim_fields::{EnvelopeRef, instants};
 use jiff::Timestamp;

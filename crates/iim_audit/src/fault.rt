@@ -41,7 +41,7 @@ pub(crate) fn fault_at(envelope: u64, cause: AuditCause) -> AuditFault
 }
 
 ghost use Rattle.std.specs.Prelude.{◌≡◌};
-ghost use Rattle.iim_audit.specs.Taking.{cause_of};
+ghost use Rattle.iim_audit.specs.Steps.{cause_of};
 
 /// The cause for a fault of an intake.
 pub(crate) fn cause_of(fault: IntakeFault) -> AuditCause

@@ -2,8 +2,8 @@
 
 ghost use Rattle.std.specs.Prelude.{◌≡◌, ◌+◌, ◌<◌, ◌≤◌, ◌^◌, ◌++◌, ◌∷◌, [], ℤ, List, length, OnOk};
 ghost use Rattle.iim_places.specs.Format.Admitted.{Value};
-ghost use Rattle.iim_audit.specs.Format.Rows.{report_of};
-ghost use Rattle.iim_audit.specs.Taking.{IsTaken};
+ghost use Rattle.iim_audit.specs.Format.{report_of};
+ghost use Rattle.iim_audit.specs.Steps.{IsTaken};
 
 use crate::repeats::{place_of, tell_repeats};
 use crate::report::Report;
@@ -20,9 +20,7 @@ pub(crate) struct Ledger {
 }
 
 impl Ledger {
-    ghost use Rattle.iim_audit.specs.Taking.{Keeps};
-    ghost use Rattle.iim_audit.specs.Lines.{HaveShortIds};
-    ghost use Rattle.iim_audit.specs.Repeats.{ids_of, places_of};
+    ghost use Rattle.iim_audit.specs.Steps.{Keeps, HaveShortIds, ids_of, places_of};
 
     /// A ledger of no envelopes.
     pub(crate) fn new(alloc: Global) -> Ledger

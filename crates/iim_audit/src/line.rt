@@ -1,7 +1,7 @@
 //! Lines of a report, in a fixed room. They are made from their end on, so that the digits of a number are written where they stay.
 
 ghost use Rattle.std.specs.Prelude.{◌≡◌, ◌+◌, ◌*◌, ◌≤◌, [], ◌++◌, decimal, length};
-ghost use Rattle.iim_dataset.specs.Format.Shown.{shown, shown_octet};
+ghost use Rattle.iim_dataset.specs.Format.Datasets.{shown, shown_octet};
 
 use iim_dataset::{escaped, is_plain};
 use itoa::write_digits;

@@ -2,9 +2,8 @@
 
 ghost use Rattle.std.specs.Prelude.{◌≡◌, ◌≤◌, ℕ, List, [], length, None, Some, Err, IfOk, IfErr, IfSome, OnOk};
 ghost use Rattle.iim_unpack.specs.States.Unpacking.{IsDone, IsDoneWith, failed_at, limits_in};
-ghost use Rattle.iim_audit.specs.Format.Pieces.{Finds, HaveWords, IsRowOf, Refuses, StandsOn};
-ghost use Rattle.iim_audit.specs.Counting.{HasFed, IsRefusedFor};
-ghost use Rattle.iim_audit.specs.Lines.{IsShort};
+ghost use Rattle.iim_audit.specs.Format.{Finds, HaveWords, IsRowOf, Refuses, StandsOn};
+ghost use Rattle.iim_audit.specs.Steps.{HasFed, IsRefusedFor, IsShort};
 
 use crate::row::{AuditRow, Taken, row_of};
 use iim_dataset::laws::dataset_laws;
@@ -67,7 +66,7 @@ impl PieceAudit {
         Ok(PieceAudit { unpacker, count })
     }
 
-    /// An audit that goes on from an unpacker with which no envelope has ended, where so many words were counted in the octets so
+    /// An audit that continues from an unpacker with which no envelope has ended, where so many words were counted in the octets so
     /// far, the last of them inside a word of its line or not.
     pub fn resume(unpacker: Unpacker, words: u64, inside: bool) -> PieceAudit
         requires { IsDone unpacker → ⊥ }

@@ -4,8 +4,8 @@ ghost use Rattle.std.specs.Prelude.{◌≡◌, ℕ, ◌<◌, ◌≤◌, ◌^◌,
 ghost use Rattle.std.specs.List.{All};
 ghost use Rattle.std.specs.List.Sorted.{IsPermutation, IsSortedBy};
 ghost use Rattle.std.specs.Ordering.{is_lt};
-ghost use Rattle.iim_fields.specs.Format.Ids.{id_cmp, id_eq};
-ghost use Rattle.iim_audit.specs.Repeats.{AreFilled, AreFresh, IsOrder, IsPlace, by_index, ids_of, index_at, index_cmp, key_at, key_of, place_cmp, place_of, places_of};
+ghost use Rattle.iim_fields.specs.Format.Records.{id_cmp, id_eq};
+ghost use Rattle.iim_audit.specs.Steps.{AreFilled, AreFresh, IsOrder, IsPlace, by_index, ids_of, index_at, index_cmp, key_at, key_of, place_cmp, place_of, places_of};
 ghost use Rattle.iim_audit.specs.declared.row.AuditRow.{AuditRow as Row};
 
 use crate::row::AuditRow;

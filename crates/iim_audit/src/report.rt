@@ -19,7 +19,7 @@ impl Model for Report {
 
     ghost view = { λ report. report.rows.items };
 
-    ghost use Rattle.iim_audit.specs.Lines.{HaveShortIds};
+    ghost use Rattle.iim_audit.specs.Steps.{HaveShortIds};
 
     ghost invariant = { λ report. HaveShortIds report.rows.items };
 }

@@ -2,12 +2,11 @@
 
 ghost use Rattle.std.specs.Prelude.{◌≡◌, ◌<◌, None};
 ghost use Rattle.std.specs.Str.Parse.{digits_value};
-ghost use Rattle.wire_message.specs.Format.Fields.{IsField, max_words};
+ghost use Rattle.wire_message.specs.Format.Messages.{IsField, max_words};
 ghost use Rattle.iim_dataset.specs.Format.Octets.{is_digit};
 ghost use Rattle.iim_places.specs.Format.Admitted.{Value};
-ghost use Rattle.iim_audit.specs.Lines.{IsShort};
-ghost use Rattle.iim_audit.specs.Taking.{IsTaken};
-ghost use Rattle.iim_audit.specs.Format.Rows.{row_with};
+ghost use Rattle.iim_audit.specs.Steps.{IsShort, IsTaken};
+ghost use Rattle.iim_audit.specs.Format.{row_with};
 
 use crate::age::age_at;
 use crate::copy::{CopyState, copy_at};

@@ -1,9 +1,9 @@
 //! The text of a report.
 
 ghost use Rattle.std.specs.Prelude.{◌≡◌, ◌+◌, ◌≤◌, [], ◌++◌, length, IfOk};
-ghost use Rattle.iim_audit.specs.Format.Texts.{ages_of, held_rows, is_held, known_by, repeated_rows, row_line, seconds_or_dash, sizes_of, sums_line, printed_report};
-ghost use Rattle.iim_dataset.specs.Format.Shown.{number_or_dash};
-ghost use Rattle.iim_audit.specs.Lines.{IsShort};
+ghost use Rattle.iim_audit.specs.Format.{ages_of, held_rows, is_held, known_by, repeated_rows, row_line, seconds_or_dash, sizes_of, sums_line, printed_report};
+ghost use Rattle.iim_dataset.specs.Format.Datasets.{number_or_dash};
+ghost use Rattle.iim_audit.specs.Steps.{IsShort};
 
 use crate::copy::CopyState;
 use crate::line::{ROOM, ReportLine};
@@ -119,7 +119,7 @@ fn held(rows: &[AuditRow]) -> usize
 
 impl Report {
     ghost use Rattle.std.specs.Prelude.{◌≡◌, ◌+◌, ◌<◌, length, slice_index_or};
-    ghost use Rattle.iim_audit.specs.Format.Texts.{row_line, sums_line};
+    ghost use Rattle.iim_audit.specs.Format.{row_line, sums_line};
     ghost use Rattle.iim_audit.specs.declared.row.AuditRow.{AuditRow as Row};
 
     /// The line of the row at an index. A service is shown: octets from 20 to 7E but the backslash as they are, all others as `\x` and

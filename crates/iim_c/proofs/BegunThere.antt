@@ -1,20 +1,17 @@
 -- What is begun at the place of a ticket.
-use Rattle.iim_c.proofs.Words.{◌≡◌, ℕ, List, [], get_or, sym, ap, subst, ◌∙◌, arith, Dataset, count_octets, InTag, InData, Reads, Split, SplitsTicket}
-use Rattle.iim_c.proofs.Words.{Place, IsPlaceOf, IsTicketAt, TicketFault, IimBegun, TellsOctets, ◌==◌, ◌-◌, if◌then◌else◌, ◌∷◌, ◌++◌, inl, inr, length}
-use Rattle.iim_c.proofs.Words.{drop, refl, append_assoc, length-append, drop_at, Head, Limits, Cause}
+use Rattle.iim_c.proofs.Words.{◌≡◌, ℕ, List, [], get_or, sym, ap, subst, ◌∙◌, arith, Dataset, count_octets, InTag, InData, Reads, Split, SplitsTicket, Place, IsPlaceOf, IsTicketAt, TicketFault, IimBegun, TellsOctets, ◌==◌, ◌-◌, if◌then◌else◌, ◌∷◌, ◌++◌, inl, inr, length, drop, refl, append_assoc, length-append, drop_at, Head, Limits, Cause}
 use Rattle.std.proofs.Common.{◌⊎◌}
-use Rattle.iim_dataset.specs.Format.Splits.{Begun}
+use Rattle.iim_dataset.specs.Format.Datasets.{Begun}
 use Rattle.iim_places.specs.Format.TicketForm.{HasOtherVersion, IsFaultOf, IsVersion}
 use Rattle.iim_places.specs.Format.Tickets.{place_of}
 use Rattle.iim_places.specs.Laws.{TicketsHaveOneSplit, TicketsOfPlacesAreSplit, split_of}
 use Rattle.wire_message.specs.declared.saved.MessagePlace.{MessagePlace}
-use Rattle.iim_c.specs.Format.TicketAnswers.{IimSpan}
-use Rattle.iim_c.specs.Format.Begun.{IsBegunOf, HaveEnded, TellsBegun, begun_of, ended, AreOctetsOf, TellsToken}
+use Rattle.iim_c.specs.Format.Tickets.{IimSpan, IsBegunOf, HaveEnded, TellsBegun, begun_of, ended, AreOctetsOf, TellsToken}
 use Rattle.iim_dataset.specs.Laws.{DatasetLaws}
-use Rattle.iim_dataset.specs.States.Events.{handed_on}
+use Rattle.iim_dataset.specs.States.Reading.{handed_on}
 use Rattle.iim_fields.specs.Format.Records.{AreSections}
 use Rattle.iim_fields.specs.Laws.{EnvelopesEndWithTheLastRecord}
-use Rattle.iim_places.specs.Format.Conditions.{Token, AtOctet, AtHead, AtValue, rule_of}
+use Rattle.iim_places.specs.Format.Causes.{Token, AtOctet, AtHead, AtValue, rule_of}
 use Rattle.iim_places.specs.Format.Open.{AllCanContinue, Completes}
 use Rattle.iim_places.proofs.Lasts.{last_sections}
 use Rattle.iim_object.specs.declared.reading.fault.SizeCause.TheVariants as sizes

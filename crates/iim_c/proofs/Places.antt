@@ -1,6 +1,5 @@
 -- The place of a ticket, and the unpacker that stands there.
-use Rattle.iim_c.proofs.Words.{◌≡◌, ◌==◌, ◌⊎◌, ℕ, true, length, arith, List, [], ◌∷◌, inl, inr, refl, sym, ap, ◌∙◌, get_or, None, Limits}
-use Rattle.iim_c.proofs.Words.{◌≢◌, Cause, CountsFor, Message, Sink, PlaceLaws, IsTicketAt, Place, IsPlaceOf, Unpacking, Stands, IsDone, IsDoneWith, limits_in}
+use Rattle.iim_c.proofs.Words.{◌≡◌, ◌==◌, ◌⊎◌, ℕ, true, length, arith, List, [], ◌∷◌, inl, inr, refl, sym, ap, ◌∙◌, get_or, None, Limits, ◌≢◌, Cause, CountsFor, Message, Sink, PlaceLaws, IsTicketAt, Place, IsPlaceOf, Unpacking, Stands, IsDone, IsDoneWith, limits_in}
 use Rattle.iim_places.specs.Laws.{TicketsTellOnePlace}
 use Rattle.iim_places.specs.Format.Tickets.{ticket_in}
 use Rattle.iim_c.specs.Steps.{IsBegun}

@@ -1,19 +1,17 @@
 -- How much of a text is delivered: no more than the octets that it came in.
-use Rattle.std.proofs.Common.{◌≡◌, ℕ, ◌+◌, ◌<◌, ◌≤◌, ◌==◌, nat_eq, if◌then◌else◌, Bool, List, [], ◌∷◌, ◌++◌, length, drop, map, refl, ap, sym, subst}
-use Rattle.std.proofs.Common.{◌∙◌, inl, inr, arith, append-nil, append_assoc, length-append, length-drop, suc}
+use Rattle.std.proofs.Common.{◌≡◌, ℕ, ◌+◌, ◌<◌, ◌≤◌, ◌==◌, nat_eq, if◌then◌else◌, Bool, List, [], ◌∷◌, ◌++◌, length, drop, map, refl, ap, sym, subst, ◌∙◌, inl, inr, arith, append-nil, append_assoc, length-append, length-drop, suc}
 use Rattle.std.specs.List.{position_or_len, before_first, after_first}
 use Rattle.std.proofs.lemmas.Grind.{common_steps}
 use Rattle.std.proofs.lemmas.Bool.{cases_lt}
 use Rattle.std.proofs.lemmas.List.{length-map, length-take}
-use Rattle.iim_dataset.specs.Format.Characters.{stx, etx}
-use Rattle.iim_dataset.specs.Format.Datasets.{Dataset, SpellsStream, SpellsTag, head_of, count_octets, of_record}
-use Rattle.iim_dataset.specs.Format.Splits.{Begun, InTag, InData, IsBegun, Reads}
+use Rattle.iim_dataset.specs.Format.Octets.{stx, etx}
+use Rattle.iim_dataset.specs.Format.Datasets.{Dataset, SpellsStream, SpellsTag, head_of, count_octets, of_record, Begun, InTag, InData, IsBegun, Reads}
 use Rattle.iim_dataset.specs.Laws.{DatasetLaws, NoTagBeginsAnother}
 use Rattle.iim_dataset.specs.declared.head.Head.{Head}
 use Rattle.iim_dataset.proofs.Agreeing.{Longer, compare}
-use Rattle.iim_fields.specs.Format.Faults.{joined}
-use Rattle.wire_story.specs.Format.Delivery.{StoryEvent, events_of, delivered, octet_for}
-use Rattle.wire_message.specs.Format.Layers.{after_stx, text_so_far}
+use Rattle.iim_fields.specs.Format.Causes.{joined}
+use Rattle.wire_story.specs.Format.Texts.{StoryEvent, events_of, delivered, octet_for}
+use Rattle.wire_message.specs.Format.Messages.{after_stx, text_so_far}
 use Rattle.iim_places.specs.Format.Admitted.{object_of}
 use Rattle.iim_places.specs.Format.Open.{object_so_far, IsTextOf, Delivers}
 use Rattle.iim_places.proofs.Following.{longer_front, objects_append}

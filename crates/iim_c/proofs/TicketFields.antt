@@ -1,6 +1,5 @@
 -- Where the datasets of a ticket stand.
-use Rattle.iim_c.proofs.Words.{◌≡◌, ℕ, ◌+◌, ◌≤◌, List, [], ◌∷◌, ◌++◌, length, ap, ◌∙◌, arith, append_assoc, length-append, flat_map, Dataset, Split}
-use Rattle.iim_c.proofs.Words.{SplitsTicket, wide, four, ticket_name, phase_octets, number_octets, text_octets, StandAt}
+use Rattle.iim_c.proofs.Words.{◌≡◌, ℕ, ◌+◌, ◌≤◌, List, [], ◌∷◌, ◌++◌, length, ap, ◌∙◌, arith, append_assoc, length-append, flat_map, Dataset, Split, SplitsTicket, wide, four, ticket_name, phase_octets, number_octets, text_octets, StandAt}
 use Rattle.std.proofs.lemmas.Grind.{common_steps}
 use Rattle.iim_places.specs.Format.Tickets.{field_octets}
 

@@ -1,22 +1,21 @@
+-- What the steps of the calls come to: of saving a place, of feeding and auditing a piece, of looking at a place.
 use Rattle.std.specs.Prelude.{◌≡◌, ℕ, ◌<◌, ◌≤◌, ◌⊎◌, List, length, ◌≢◌, [], ◌∷◌, map, ◌+◌, ◌*◌, None, ℤ, ◌++◌, take, drop}
 use Rattle.iim_places.specs.Format.Tickets.{Phase, TagBegun, DataBegun, AllEnded, width}
 use Rattle.iim_unpack.specs.States.Unpacking.{Unpacking, Stands, limits_in, Goes, IsRefusedIn}
 use Rattle.iim_unpack.specs.declared.unpacker.Progress.{Progress}
 use Rattle.iim_unpack.specs.declared.unpacker.Progress.TheVariants.{More, Done}
-use Rattle.iim_c.specs.Format.Answers.{status_answer, short_answer, IimAnswer}
+use Rattle.iim_c.specs.Format.Answers.{status_answer, short_answer, IimAnswer, HasTaken}
 use Rattle.iim_c.specs.Format.Packing as packing
 use Rattle.iim_c.specs.Format.Statuses as status
-use Rattle.iim_c.specs.Format.Writing.{HasTaken}
 use Rattle.iim_fields.specs.declared.limits.Limits.{Limits}
 use Rattle.iim_unpack.specs.States.Restored.{IsRestored, HasTicketIn}
-use Rattle.wire_story.specs.Format.Delivery.{StoryEvent, octet_for}
+use Rattle.wire_story.specs.Format.Texts.{StoryEvent, octet_for}
 use Rattle.iim_places.specs.declared.refusal.Refusal.{Refusal}
 use Rattle.iim_places.specs.declared.refusal.Cause.TheVariants.{Message}
 use Rattle.wire_message.specs.declared.fault.MessageCause.TheVariants.{Sink}
-use Rattle.iim_c.specs.Format.TicketAnswers.{no_span, IimSpan}
-use Rattle.iim_c.specs.Format.Next.{bit_of}
-use Rattle.iim_places.specs.States.Counts.{raised}
-use Rattle.iim_audit.specs.Format.Pieces.{Refuses, StandsOn}
+use Rattle.iim_c.specs.Format.Tickets.{no_span, IimSpan, bit_of}
+use Rattle.iim_places.specs.Format.Streams.{raised}
+use Rattle.iim_audit.specs.Format.{Refuses, StandsOn}
 use Rattle.iim_audit.specs.declared.pieces.PieceAudit.{PieceAudit}
 use Rattle.iim_pack_script.specs.declared.packing.PackFault.{PackFault}
 use Rattle.iim_pack_script.specs.declared.packing.PackFault.TheVariants as faults
@@ -105,7 +104,7 @@ pub record IsWithin (piece : List ℕ) (old new : List IimAuditRow) (found : Fou
   pub room : found.rows ≤ length old
   pub others : drop found.rows new ≡ drop found.rows old
 
--- There is room for another row, or none; and the audit goes on under its limits, if nothing is refused.
+-- There is room for another row, or none; and the audit continues under its limits, if nothing is refused.
 abbrev pub StopsBy : PieceAudit → PieceAudit → (rows room : ℕ) → Ending → Type 0
 StopsBy old new rows room Used = (rows < room) × (new.unpacker.refused ≡ None) × (limits_in new.unpacker ≡ limits_in old.unpacker)
 StopsBy old new rows room Full = (rows ≡ room) × (new.unpacker.refused ≡ None) × (limits_in new.unpacker ≡ limits_in old.unpacker)

@@ -1,9 +1,9 @@
 -- The laws of a sink that writes into a buffer, handed in by its impl.
 use Rattle.std.proofs.Common.{ℕ, List, [], ◌++◌, map, refl, sym, ap, subst, ◌∙◌, append-nil, append_assoc}
 use Rattle.std.proofs.lemmas.List.{map-append}
-use Rattle.wire_story.specs.Format.Delivery.{StoryEvent, octet_for}
+use Rattle.wire_story.specs.Format.Texts.{StoryEvent, octet_for}
 use Rattle.iim_c.specs.declared.text_out.TextOut.{TextOut}
-use Rattle.iim_c.specs.Format.Writing.{HasTaken, WritesLines}
+use Rattle.iim_c.specs.Format.Answers.{HasTaken, WritesLines}
 
 pub writes_nothing : (sink : TextOut) → WritesLines sink [] sink
 writes_nothing sink = record {

@@ -23,7 +23,7 @@ use iim_unpack::laws::place_laws;
 use jiff::Timestamp;
 use std::alloc::Global;
 
-/// The answer for rows after which the audit goes on: writes the ticket of the place that it has come to, and tells what is kept beside
+/// The answer for rows after which the audit continues: writes the ticket of the place that it has come to, and tells what is kept beside
 /// it. Where the ticket has no room, or no memory, what was kept stays.
 fn kept(
     alloc: Global,

@@ -3,9 +3,8 @@
 ghost use Rattle.std.specs.Prelude.{◌≡◌, ℕ, ◌+◌, ◌*◌, List, [], length, get_or};
 ghost use Rattle.iim_places.specs.Format.TicketForm.{SplitsTicket};
 ghost use Rattle.iim_places.specs.Format.Tickets.{DataBegun, IsPlaceOf, Place, TagBegun, width};
-ghost use Rattle.iim_places.specs.States.Restored.{IsTicketAt};
-ghost use Rattle.iim_places.specs.States.TicketsTold.{phase_told, split_told};
-ghost use Rattle.iim_c.specs.Format.Begun.{IsBegunOf, IsBegunTold, TellsOctets, TellsToken, begun_by};
+ghost use Rattle.iim_places.specs.States.Restored.{IsTicketAt, phase_told, split_told};
+ghost use Rattle.iim_c.specs.Format.Tickets.{IsBegunOf, IsBegunTold, TellsOctets, TellsToken, begun_by};
 ghost use Rattle.iim_c.specs.Steps.{span_of};
 
 use crate::answer::{IimAnswer, status_answer, ticket_answer};

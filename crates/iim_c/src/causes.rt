@@ -1,8 +1,7 @@
 //! The causes by their numbers: their names, and what they mean.
 
 ghost use Rattle.std.specs.Prelude.{◌≡◌, Some, None, MatchOption};
-ghost use Rattle.iim_c.specs.Format.Causes.{cause_named, cause_text, cause_told};
-ghost use Rattle.iim_c.specs.Format.Names.{IsNamed, name_or_none};
+ghost use Rattle.iim_c.specs.Format.Tables.{cause_named, cause_text, cause_told, IsNamed, name_or_none};
 
 use crate::names::put_name;
 
@@ -81,7 +80,7 @@ macro_rules! cause_in_table {
 }
 
 /// The words of a cause by its number: those of octets, of memory and readers, of packing, of audits, of scripts and of tickets.
-#[tactic(auto, unfolding(crate::specs::Format::Causes::cause_told, crate::specs::Format::Causes::causes_told))]
+#[tactic(auto, unfolding(crate::specs::Format::Tables::cause_told, crate::specs::Format::Tables::causes_told))]
 fn cause_told(number: u8) -> Option<CauseWords>
     ensures { MatchOption result (cause_told number ≡ None) (λ words.
         cause_told number ≡ Some (record { number = number; name = words.name.now; text = words.text.now })) }

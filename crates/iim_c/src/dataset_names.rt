@@ -1,7 +1,7 @@
 //! The names of datasets.
 
 ghost use Rattle.std.specs.Prelude.{◌≡◌, Some, None, MatchOption};
-ghost use Rattle.iim_c.specs.Format.Names.{IsNamed, dataset_named, name_or_none};
+ghost use Rattle.iim_c.specs.Format.Tables.{IsNamed, dataset_named, name_or_none};
 
 use crate::names::put_name;
 
@@ -79,7 +79,7 @@ macro_rules! name_in_table {
 }
 
 /// The name of a dataset of the tables, as the standard has it.
-#[tactic(auto, unfolding(crate::specs::Format::Names::dataset_named, crate::specs::Format::Names::dataset_names))]
+#[tactic(auto, unfolding(crate::specs::Format::Tables::dataset_named, crate::specs::Format::Tables::dataset_names))]
 fn dataset_named(rec: u8, set: u8) -> Option<&'static str>
     ensures { MatchOption result (dataset_named rec set ≡ None) (λ name. dataset_named rec set ≡ Some name.now) }
 {

@@ -3,8 +3,8 @@
 ghost use Rattle.std.specs.Prelude.{◌≡◌, ◌+◌, ◌^◌, ◌<◌, ◌≤◌, length, IfSome, IfNone};
 ghost use Rattle.iim_places.specs.Format.TicketForm.{SplitsTicket};
 ghost use Rattle.iim_places.specs.Format.Tickets.{phase_octets};
-ghost use Rattle.iim_places.specs.States.TicketsTold.{phase_told, split_told};
-ghost use Rattle.iim_c.specs.Format.TicketAnswers.{IsField, IsFieldAt};
+ghost use Rattle.iim_places.specs.States.Restored.{phase_told, split_told};
+ghost use Rattle.iim_c.specs.Format.Tickets.{IsField, IsFieldAt};
 
 use crate::answer::{IimAnswer, status_answer, ticket_answer};
 use crate::span::{IimSpan, NO_SPAN};

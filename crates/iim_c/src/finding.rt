@@ -1,7 +1,7 @@
 //! The rows of the envelopes that end in a piece.
 
 ghost use Rattle.std.specs.Prelude.{◌≡◌, ◌≤◌, ◌<◌, ℕ, List, length, drop, None, OnErr};
-ghost use Rattle.iim_audit.specs.Format.Pieces.{StandsOn};
+ghost use Rattle.iim_audit.specs.Format.{StandsOn};
 ghost use Rattle.iim_unpack.specs.States.Unpacking.{limits_in};
 ghost use Rattle.iim_c.specs.Steps.{HasFound, IsWithin, StopsBy};
 

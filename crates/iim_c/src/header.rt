@@ -2,8 +2,8 @@
 
 ghost use Rattle.std.specs.Prelude.{◌≡◌, ◌-◌, length};
 ghost use Rattle.iim_places.specs.Format.TicketForm.{SplitsTicket};
-ghost use Rattle.iim_places.specs.States.TicketsTold.{split_told};
-ghost use Rattle.iim_c.specs.Format.TicketAnswers.{IsHeader, IsMessageOf};
+ghost use Rattle.iim_places.specs.States.Restored.{split_told};
+ghost use Rattle.iim_c.specs.Format.Tickets.{IsHeader, IsMessageOf};
 
 use crate::answer::{IimAnswer, status_answer, ticket_answer};
 use crate::span::{IimSpan, NO_SPAN};

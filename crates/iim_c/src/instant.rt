@@ -2,8 +2,8 @@
 
 ghost use Rattle.std.specs.Prelude.{◌≡◌, ◌<◌, IfSome, IfNone};
 ghost use Rattle.std.specs.Option.{option_map};
-ghost use Rattle.iim_tables.specs.Format.Instants.{nanoseconds_in_second};
-ghost use Rattle.iim_c.specs.Format.Instants.{IsInstant, IsToldAs, TellsInstant, nanoseconds_to};
+ghost use Rattle.iim_tables.specs.Format.Dates.{nanoseconds_in_second};
+ghost use Rattle.iim_c.specs.Format.Tables.{IsInstant, IsToldAs, TellsInstant, nanoseconds_to};
 
 use jiff::Timestamp;
 

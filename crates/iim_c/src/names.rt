@@ -2,12 +2,12 @@
 
 ghost use Rattle.std.specs.Prelude.{◌≡◌, ◌+◌, Some, None, MatchOption};
 ghost use Rattle.std.specs.Option.{option_map};
-ghost use Rattle.iim_c.specs.Format.Names.{IsNamed, layer_named, name_or_none};
+ghost use Rattle.iim_c.specs.Format.Tables.{IsNamed, layer_named, name_or_none};
 
 use crate::bytes::put_text;
 
 /// The name of a layer by its number.
-#[tactic(auto, unfolding(crate::specs::Format::Names::layer_named, crate::specs::Format::Names::layer_names))]
+#[tactic(auto, unfolding(crate::specs::Format::Tables::layer_named, crate::specs::Format::Tables::layer_names))]
 fn layer_named(number: u8) -> Option<&'static str>
     ensures { MatchOption result (layer_named number ≡ None) (λ name. layer_named number ≡ Some name.now) }
 {

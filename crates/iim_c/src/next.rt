@@ -5,7 +5,7 @@ ghost use Rattle.iim_c.specs.Format.Answers.{ticket_answer};
 ghost use Rattle.iim_c.specs.Steps.{IsSet};
 ghost use Rattle.iim_c.specs.Format.Checking.{limits_for};
 ghost use Rattle.iim_c.specs.Format.Feeding.{IsNowhere, IsSaid};
-ghost use Rattle.iim_c.specs.Format.Next.{GoesOnBy, HasEndedThere, IsNext, TellsNext};
+ghost use Rattle.iim_c.specs.Format.Tickets.{GoesOnBy, HasEndedThere, IsNext, TellsNext};
 
 use crate::answer::{IimAnswer, status_answer, ticket_answer};
 use crate::begin::begin;

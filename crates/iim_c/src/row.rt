@@ -1,9 +1,9 @@
 //! Rows of an audit.
 
 ghost use Rattle.std.specs.Prelude.{◌≡◌, ◌≤◌, length};
-ghost use Rattle.iim_audit.specs.Lines.{IsShort};
+ghost use Rattle.iim_audit.specs.Steps.{IsShort};
 ghost use Rattle.std.specs.Option.{option_map};
-ghost use Rattle.iim_c.specs.Format.Rows.{TellsRow, copy_number, padded};
+ghost use Rattle.iim_c.specs.Format.Auditing.{TellsRow, copy_number, padded};
 
 use crate::instant::{IimInstant, told};
 use iim_audit::{CopyState, PieceRow};

@@ -1,7 +1,7 @@
 //! The sizes of an object that a ticket tells.
 
-ghost use Rattle.iim_places.specs.States.TicketsTold.{split_told};
-ghost use Rattle.iim_c.specs.Format.TicketAnswers.{IsObjectOf, AreSizes};
+ghost use Rattle.iim_places.specs.States.Restored.{split_told};
+ghost use Rattle.iim_c.specs.Format.Tickets.{IsObjectOf, AreSizes};
 
 use crate::answer::{IimAnswer, status_answer, ticket_answer};
 use crate::status::DONE;

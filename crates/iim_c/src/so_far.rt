@@ -1,7 +1,7 @@
 //! What is kept beside a ticket.
 
 ghost use Rattle.std.specs.Prelude.{◌≡◌};
-ghost use Rattle.iim_c.specs.Format.SoFar.{begins_at, words_so_far};
+ghost use Rattle.iim_c.specs.Format.Tickets.{begins_at, words_so_far};
 
 /// What is kept beside a ticket, of the envelope in hand.
 #[repr(C)]

@@ -21,7 +21,7 @@ pub const SHORT: u8 = 5;
 /// Memory was refused.
 pub const NO_MEMORY: u8 = 6;
 
-/// The octets are no ticket from which the call can go on.
+/// The octets are no ticket from which the call can continue.
 pub const BAD_TICKET: u8 = 7;
 
 /// What is asked of a packer can't be.

@@ -15,7 +15,7 @@ pub struct TextOut<'t> {
 }
 
 impl<'t> TextOut<'t> {
-    ghost use Rattle.iim_c.specs.Format.Writing.{WritesOctets};
+    ghost use Rattle.iim_c.specs.Format.Answers.{WritesOctets};
 
     /// Takes an octet.
     #[inline(always)]
@@ -56,7 +56,7 @@ impl<'t> TextOut<'t> {
 }
 
 impl<'t> StorySink for TextOut<'t> {
-    ghost use Rattle.iim_c.specs.Format.Writing.{WritesLines};
+    ghost use Rattle.iim_c.specs.Format.Answers.{WritesLines};
 
     ghost goes = { WritesLines };
 
@@ -69,7 +69,7 @@ impl<'t> StorySink for TextOut<'t> {
     ghost joined = { writes_joined };
 
     #[inline(always)]
-    #[tactic(auto, using(wire_story::specs::SinkLaws::octets_of_line))]
+    #[tactic(auto, using(wire_story::specs::Steps::octets_of_line))]
     fn text(&mut self, run: &[u8]) -> Result<(), Stop> {
         self.put(run);
         Ok(())

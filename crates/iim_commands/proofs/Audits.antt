@@ -1,7 +1,5 @@
 -- What stops an audit's report.
-use Rattle.iim_commands.proofs.Words.{◌≡◌, ℕ, ◌+◌, ℤ, inl, inr, refl, sym, List, [], ◌∷◌, ◌++◌, length, take, drop, append_assoc, length-append, arith}
-use Rattle.iim_commands.proofs.Words.{take-append-drop, Device, FailsAt, lines_from, printed_report, row_line, sums_line, AuditRow, IsAuditAnswer}
-use Rattle.iim_commands.proofs.Words.{IsUnaudited, HasPut, HoldsNothing, IsCutShort, IsUnadded, limits, cut_on, stopped_in, CommandFault}
+use Rattle.iim_commands.proofs.Words.{◌≡◌, ℕ, ◌+◌, ℤ, inl, inr, refl, sym, List, [], ◌∷◌, ◌++◌, length, take, drop, append_assoc, length-append, arith, take-append-drop, Device, FailsAt, lines_from, printed_report, row_line, sums_line, AuditRow, IsAuditAnswer, IsUnaudited, HasPut, HoldsNothing, IsCutShort, IsUnadded, limits, cut_on, stopped_in, CommandFault}
 use Rattle.iim_dataset.specs.Laws.{TextsJoin}
 use Rattle.iim_audit.specs.declared.fault.AuditCause.{AuditCause}
 use Rattle.iim_audit.specs.declared.fault.AuditCause.TheVariants as causes

@@ -1,6 +1,5 @@
 -- How a run begins and ends.
-use Rattle.iim_commands.proofs.Words.{◌≡◌, ℕ, ◌⊎◌, inl, inr, refl, ap, ◌∙◌, List, [], Option, None, Some, Result, Ok, Err, IfOk, IfErr, Device, CommandFault}
-use Rattle.iim_commands.proofs.Words.{status_failed, in_line, Complained}
+use Rattle.iim_commands.proofs.Words.{◌≡◌, ℕ, ◌⊎◌, inl, inr, refl, ap, ◌∙◌, List, [], Option, None, Some, Result, Ok, Err, IfOk, IfErr, Device, CommandFault, status_failed, in_line, Complained}
 use Rattle.iim_unpack.specs.States.Blocks.{with_held, put_before}
 use Rattle.iim_unpack.specs.declared.intake.Intake.{Intake}
 

@@ -1,21 +1,19 @@
 -- What is shown of an envelope, and its story, are a script of its values.
-use Rattle.iim_commands.proofs.Words.{◌≡◌, inl, ℕ, ◌<◌, ◌≤◌, true, false, List, [], ◌∷◌, ◌++◌, append_assoc, append-nil, length, refl, ap, arith, limits}
-use Rattle.iim_commands.proofs.Words.{story_of, ScriptContent, IsScriptOf}
+use Rattle.iim_commands.proofs.Words.{◌≡◌, inl, ℕ, ◌<◌, ◌≤◌, true, false, List, [], ◌∷◌, ◌++◌, append_assoc, append-nil, length, refl, ap, arith, limits, story_of, ScriptContent, IsScriptOf}
 use Rattle.std.specs.Prelude.{codes}
 use Rattle.std.specs.List.{AllByRecursion}
 use Rattle.std.proofs.lemmas.List.Elements.{filter-append}
 use Rattle.iim_dataset.specs.Format.Datasets.{Dataset}
-use Rattle.iim_fields.specs.Format.Envelopes as builders
-use Rattle.iim_fields.specs.Format.Faults.{is_kept, kept}
+use Rattle.iim_fields.specs.Format.Records as builders
+use Rattle.iim_fields.specs.Format.Causes.{is_kept, kept}
 use Rattle.iim_fields.specs.Format.Records.{AreRecords, AreSections}
 use Rattle.iim_tables.specs.Format.Records.{IsGoodDataset}
 use Rattle.wire_story.specs.Format.Texts.{IsLine, IsText}
 use Rattle.iim_script.specs.Laws.{PrintedValuesAreScripts, ScriptsTellOneThing, ScriptsHaveNoFault, IsOneScript}
-use Rattle.iim_script.specs.Format.Printed.{value_lines}
-use Rattle.iim_script.specs.Format.Scripts.{max_script}
-use Rattle.iim_places.specs.Format.Listing.{Listed, IsListed}
+use Rattle.iim_script.specs.Format.Scripts.{value_lines, max_script}
+use Rattle.iim_places.specs.Format.Streams.{Listed, IsListed}
 use Rattle.iim_commands.specs.Laws.{told_of, TellsJust, ShownEnvelopesAreScripts}
-use Rattle.iim_listing.specs.Format.Texts.{number_line, sizes_line, shown_of}
+use Rattle.iim_listing.specs.Format.{number_line, sizes_line, shown_of}
 
 -- ---- the datasets that are kept
 

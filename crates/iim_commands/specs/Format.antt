@@ -1,24 +1,19 @@
+-- What a run of a command leaves of its output and its errors, and its status.
 use Rattle.std.specs.Prelude.{◌≡◌, ℕ, ℤ, ◌⊎◌, List}
 use Rattle.iim_dataset.specs.States.Devices.{Device, Wrote, Stopped, HasGiven}
-use Rattle.iim_audit.specs.Format.Auditing.{IsAudited, FailsAt}
-use Rattle.iim_audit.specs.Format.Texts.{printed_report}
+use Rattle.iim_audit.specs.Format.{IsAudited, FailsAt, printed_report}
 pub use Rattle.iim_audit.specs.declared.fault.AuditCause.{AuditCause}
 use Rattle.iim_audit.specs.declared.fault.AuditCause.TheVariants as causes
 use Rattle.iim_audit.specs.declared.row.AuditRow.{AuditRow}
-use Rattle.iim_output.specs.Format.Lines.{refused_line, too_many_line, fault_line}
-use Rattle.iim_output.specs.Format.Limits.{limits}
+use Rattle.iim_output.specs.Format.{refused_line, too_many_line, fault_line, limits, status_accepted, status_refused, status_failed}
 pub use Rattle.iim_output.specs.declared.fault.CommandFault.{CommandFault}
 pub use Rattle.iim_output.specs.declared.fault.CommandFault.TheVariants.{CannotRead, CannotWrite, OutOfMemory}
-use Rattle.iim_output.specs.Format.Statuses.{status_accepted, status_refused, status_failed}
 use Rattle.iim_request.specs.declared.request.Job.{Job}
 use Rattle.iim_request.specs.declared.request.Job.TheVariants.{Check, Show, Story, Pack, Audit}
 use Rattle.iim_output.specs.States.Devices.{Devices}
-use Rattle.iim_places.specs.Format.Listing.{Listed}
-use Rattle.iim_listing.specs.Format.Listings.{line_of}
-use Rattle.iim_listing.specs.Format.Narration.{IsUnnarrated, Narrated}
+use Rattle.iim_places.specs.Format.Streams.{Listed}
+use Rattle.iim_listing.specs.Format.{line_of, IsUnnarrated, Narrated, WritesListing, FailsListing, shown_of}
 use Rattle.iim_pack_script.specs.Format.{Answered, Asked, IsUnanswered, asked}
-use Rattle.iim_listing.specs.Format.WrittenListings.{WritesListing, FailsListing}
-use Rattle.iim_listing.specs.Format.Texts.{shown_of}
 
 -- ---- What `audit` leaves.
 

@@ -1,15 +1,14 @@
 -- What `show` and `story` print of an envelope makes a script of it.
 use Rattle.std.specs.Prelude.{◌≡◌, ℕ, ◌+◌, ◌≤◌, List, ◌++◌, length, codes}
-use Rattle.iim_script.specs.Format.Faults.{IsScriptFault}
+use Rattle.iim_script.specs.Format.Causes.{IsScriptFault}
 use Rattle.iim_script.specs.declared.fault.ScriptCause.{ScriptCause}
 use Rattle.iim_script.specs.declared.fault.ScriptCause.TheVariants.{OutOfMemory}
 use Rattle.iim_script.specs.Format.Scripts.{max_script}
 use Rattle.iim_places.specs.Format.Admitted.{Value}
-use Rattle.iim_output.specs.Format.Limits.{limits}
-use Rattle.iim_places.specs.Format.Listing.{Listed, IsListed}
-use Rattle.iim_listing.specs.Format.Narration.{story_of}
+use Rattle.iim_output.specs.Format.{limits}
+use Rattle.iim_places.specs.Format.Streams.{Listed, IsListed}
+use Rattle.iim_listing.specs.Format.{story_of, number_line, sizes_line, shown_of}
 use Rattle.iim_pack_script.specs.Format.{ScriptContent, IsScriptOf}
-use Rattle.iim_listing.specs.Format.Texts.{number_line, sizes_line, shown_of}
 
 -- what a script tells of these values, where each dataset, the header and the trailer has a line
 -- twins (with ShownEnvelopesAreScripts): law `shown_envelopes_are_scripts`; `gives_back_what_was_packed`, `gives_back_octets_of_every_kind`

@@ -1,7 +1,7 @@
 //! `audit`: the report of an input.
 
 ghost use Rattle.std.specs.Prelude.{◌≡◌, None, IfOk, IfErr, OnOk};
-ghost use Rattle.iim_audit.specs.Format.Texts.{printed_report};
+ghost use Rattle.iim_audit.specs.Format.{printed_report};
 ghost use Rattle.iim_unpack.specs.States.Intakes.{in_line};
 ghost use Rattle.iim_commands.specs.Format.{Audited, IsUnaudited, TellsWhy};
 ghost use Rattle.iim_output.specs.States.Holding.{HasPut, HoldsNothing, KeepsWriter, device_of, IsUnadded};

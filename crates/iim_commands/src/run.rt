@@ -5,7 +5,7 @@ ghost use Rattle.iim_unpack.specs.States.Blocks.{with_held};
 ghost use Rattle.iim_commands.specs.Format.{Complained, EndsListing, EndsPacking, Ran, Reviewed, ToldAsStory};
 ghost use Rattle.iim_pack_script.specs.Format.{asked};
 ghost use Rattle.iim_output.specs.States.Devices.{devices};
-ghost use Rattle.iim_output.specs.Format.Statuses.{status_failed};
+ghost use Rattle.iim_output.specs.Format.{status_failed};
 
 use crate::audit::write_audit;
 use iim_dataset::{Source, Target, put};
@@ -34,7 +34,8 @@ fn complain<E: Target>(errors: &mut E, fault: CommandFault) -> u8
 /// Ends a run with its answer: the status, after a fault was told.
 fn finish<E: Target>(errors: &mut E, answer: Result<u8, CommandFault>) -> u8
     ensures ok { IfOk answer (λ want. (result ≡ want) × (E.state errors.new ≡ E.state errors.old)) }
-    ensures fault { IfErr answer (λ fault. (result ≡ status_failed) × Complained (E.state errors.old) (E.state errors.new) fault) }
+    ensures fault { IfErr answer (λ fault. (result ≡ status_failed)
+        × Complained (E.state errors.old) (E.state errors.new) fault) }
 {
     match answer {
         Ok(status) => status,

@@ -1,19 +1,14 @@
--- What octets go on with, and where no octets do.
+-- What octets continue with, and where no octets do.
 use Rattle.std.proofs.Common.{◌≡◌, ℕ, ◌⊎◌, List, [], ◌∷◌, ◌++◌, length, refl, ap, sym, ◌∙◌, arith, inl, inr, append_assoc, append-nil, length-append, replicate}
-use Rattle.iim_dataset.specs.Format.Octets.{IsOctet}
-use Rattle.iim_dataset.specs.Format.Datasets.{Dataset, SpellsTag, SpellsDataset, head_of, count_octets, Head}
-use Rattle.iim_dataset.specs.Format.Splits.{Begun, InTag, InData, Reads}
+use Rattle.iim_dataset.specs.Format.Octets.{IsOctet, IsAlive, DiesAt}
+use Rattle.iim_dataset.specs.Format.Datasets.{Dataset, SpellsTag, SpellsDataset, head_of, count_octets, Head, Begun, InTag, InData, Reads, BeginsNoTag}
 use Rattle.iim_dataset.specs.Laws.{NoOctetsContinue, AreDatasets, ReadOctetsSplit, OctetsDieInTheirTag, ReadersDieExactly}
 use Rattle.iim_dataset.proofs.Spelled.{one_tag, one_dataset, whole_read, with_data, stream_more}
 use Rattle.iim_dataset.proofs.OneHanding.{read_octets_continue, not_within, splits}
 use Rattle.iim_dataset.proofs.Agreeing.{compare}
 use Rattle.iim_dataset.proofs.Each.{all_back}
 use Rattle.std.proofs.lemmas.List.{length-replicate}
-use Rattle.iim_dataset.specs.States.Events.{DatasetEvent}
-use Rattle.iim_dataset.specs.States.Places.{HandsOn, LeadsTo, DatasetPlace}
-use Rattle.iim_dataset.specs.States.Reading.{TagDies}
-use Rattle.iim_dataset.specs.Format.Tags.{BeginsNoTag}
-use Rattle.iim_dataset.specs.Format.Languages.{IsAlive, DiesAt}
+use Rattle.iim_dataset.specs.States.Reading.{DatasetEvent, HandsOn, LeadsTo, DatasetPlace, TagDies}
 use Rattle.iim_dataset.specs.declared.head.HeadCause.{HeadCause}
 use Rattle.iim_dataset.proofs.Places.{tag_held}
 use Rattle.iim_dataset.proofs.OctetLists.{zeros_are}
@@ -25,7 +20,7 @@ goes_on (x ∷ xs) ys [] vs v e = inr (xs, cc)
 goes_on (x ∷ xs) ys (u ∷ us) vs v e =
     let first : x ≡ u = cc in elim (goes_on xs ys us vs v (cc)) [ inl (m, is) ↦ inl (m, λ i. sym first i ∷ is i) | inr (m, is) ↦ inr (m, λ i. first i ∷ is i) ]
 
--- after whole datasets, octets go on with another
+-- after whole datasets, octets continue with another
 following : {octets : List ℕ} (more : List ℕ) (next : ℕ) {whole w : List Dataset} {begun b : Begun} (xs : List ℕ)
     → (r : Reads count_octets octets whole begun) → r.rest ≡ xs
     → Reads count_octets (octets ++ next ∷ more) w b
@@ -39,7 +34,7 @@ following {octets} more next {whole} {w} {begun} {b} xs r is s =
       | inr n ↦ (n.dataset, n.p, n.q ++ [], more ++ m, n.spelled, simp append_assoc at (rw n.spelled.parts at (sym n.agree)))
     ]
 
--- a tag of which some octets are held goes on with the next
+-- a tag of which some octets are held continues with the next
 pub tag_goes_on : {octets : List ℕ} (more : List ℕ) {held : List ℕ} (next : ℕ) {whole w : List Dataset} {b : Begun}
     → Reads count_octets octets whole (InTag held)
     → Reads count_octets (octets ++ next ∷ more) w b → (h : Head) × (m : List ℕ) × SpellsTag count_octets h (held ++ next ∷ m)
@@ -50,7 +45,7 @@ tag_goes_on more {held} next r s =
       | inr (m, is) ↦ (head_of d, m, rw is at spelled.is_tag)
     ]
 
--- data go on with an octet
+-- data continue with an octet
 pub data_go_on : {octets : List ℕ} (more : List ℕ) {taken : List ℕ} (next : ℕ) {whole w : List Dataset} {h : Head} {b : Begun}
     → Reads count_octets octets whole (InData h taken)
     → Reads count_octets (octets ++ next ∷ more) w b → IsOctet next

@@ -1,7 +1,7 @@
 -- Faults after calls that went well.
 use Rattle.std.proofs.Common.{ℕ, List, ◌++◌, inl, inr, arith, ◌∙◌}
 use Rattle.iim_dataset.specs.States.Devices.{BrokeFor, Device, HasGiven, MissedAfter, Unfailed, Broke, max_interruptions}
-use Rattle.iim_dataset.specs.HandedIn.{consumes_consumes, rose_after}
+use Rattle.iim_dataset.specs.Steps.{consumes_consumes, rose_after}
 use Rattle.iim_dataset.specs.declared.device.IoFault.{IoFault}
 use Rattle.iim_dataset.specs.declared.device.IoFault.TheVariants.{Interrupted, Failed}
 

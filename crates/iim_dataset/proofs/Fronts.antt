@@ -6,8 +6,7 @@ use Rattle.byteorder.specs.Endian.{big_number}
 use Rattle.byteorder.specs.Numbers.{big_from-take}
 use Rattle.std.proofs.lemmas.Bool.{cases_lt}
 use Rattle.iim_dataset.specs.Format.Octets.{Octets, number}
-use Rattle.iim_dataset.specs.Format.Datasets.{SpellsCount, count_octets}
-use Rattle.iim_dataset.specs.Format.Tags.{BeginsTag, BeginsNoTag, HasTag, HasNoTag, HeadFault}
+use Rattle.iim_dataset.specs.Format.Datasets.{SpellsCount, count_octets, BeginsTag, BeginsNoTag, HasTag, HasNoTag, HeadFault}
 use Rattle.iim_dataset.specs.declared.head.HeadCause.TheVariants.{Marker, CountForm}
 use Rattle.iim_dataset.proofs.OctetLists.{zeros_are, octets_append, Fit, are_octets, front_are}
 

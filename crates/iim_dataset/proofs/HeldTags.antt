@@ -3,8 +3,7 @@ use Rattle.std.proofs.Common.{◌≡◌, ℕ, ◌+◌, ◌-◌, ◌<◌, ◌≤�
 use Rattle.std.proofs.lemmas.Bool.{cases_lt}
 use Rattle.std.proofs.lemmas.List.{take_all, take_min, take-take, take-append-drop, take-append-le, length-take, length-take-le}
 use Rattle.std.proofs.Math.Seq.{take-append-add, take-suc}
-use Rattle.iim_dataset.specs.Format.Datasets.{SpellsTag, count_octets, tag_octets, Head}
-use Rattle.iim_dataset.specs.Format.Tags.{BeginsTag, BeginsNoTag, HasTag, HasNoTag, HeadFault}
+use Rattle.iim_dataset.specs.Format.Datasets.{SpellsTag, count_octets, tag_octets, Head, BeginsTag, BeginsNoTag, HasTag, HasNoTag, HeadFault}
 use Rattle.iim_dataset.proofs.Spelled.{no_longer, tag_length}
 
 -- ---- how long a tag is
@@ -34,7 +33,7 @@ first_refuse xs f t =
 
 -- ---- after held octets
 
--- a front of the held octets goes on to the tag
+-- a front of the held octets continues to the tag
 front_on : (held rest more : List ℕ) (n : ℕ) → n ≤ length held → take n (held ++ rest) ++ (drop n held ++ more) ≡ held ++ more
 front_on held rest more n le =
     rw (take-append-le n held rest le) (sym (append_assoc (take n held) (drop n held) more) ∙ ap (λ u. u ++ more) (take-append-drop n held))

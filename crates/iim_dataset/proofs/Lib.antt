@@ -1,4 +1,3 @@
-pub mod Fronts
 pub mod Canonical
 pub mod Places
 pub mod HeldTags
@@ -13,6 +12,7 @@ pub mod WrittenNumbers
 pub mod Agreeing
 pub mod Each
 pub mod Lists
+pub mod Fronts
 pub mod Spelled
 pub mod OctetLists
 pub mod DeviceLaws

@@ -1,8 +1,7 @@
 -- Octets are handed on in one way, and continue to datasets.
 use Rattle.std.proofs.Common.{◌≡◌, ℕ, ◌-◌, List, ◌++◌, length, replicate, ap, sym, ◌∙◌, arith, append_assoc, length-append}
 use Rattle.std.proofs.lemmas.List.{length-replicate}
-use Rattle.iim_dataset.specs.Format.Datasets.{SpellsTag, count_octets, Dataset, Head}
-use Rattle.iim_dataset.specs.Format.Splits.{Begun, InTag, InData, IsBegun, IsPart, SplitsInto, Reads}
+use Rattle.iim_dataset.specs.Format.Datasets.{SpellsTag, count_octets, Dataset, Head, Begun, InTag, InData, IsBegun, IsPart, SplitsInto, Reads}
 use Rattle.iim_dataset.specs.Laws.{OctetsAreHandedOnOneWay, ReadOctetsContinue}
 use Rattle.iim_dataset.proofs.Spelled.{one_tag, no_longer, one_split, with_data, stream_more}
 use Rattle.iim_dataset.proofs.OctetLists.{zeros_are, octets_append}

@@ -4,11 +4,8 @@ use Rattle.std.proofs.lemmas.Bool.{cases_lt}
 use Rattle.std.proofs.lemmas.List.{append_cancel_left}
 use Rattle.arrayvec.specs.ArrayVec.{ArrayVec}
 use Rattle.iim_dataset.specs.Format.Octets.{Octets}
-use Rattle.iim_dataset.specs.Format.Datasets.{SpellsTag, count_octets, Head}
-use Rattle.iim_dataset.specs.Format.Splits.{Begun, InTag, InData}
-use Rattle.iim_dataset.specs.Format.Tags.{BeginsTag}
-use Rattle.iim_dataset.specs.States.Events.{DatasetEvent, HeadRead, DataOctet, DatasetEnd, events_of}
-use Rattle.iim_dataset.specs.States.Places.{HandsOn, LeadsTo, Tag, Inside}
+use Rattle.iim_dataset.specs.Format.Datasets.{SpellsTag, count_octets, Head, Begun, InTag, InData, BeginsTag}
+use Rattle.iim_dataset.specs.States.Reading.{DatasetEvent, HeadRead, DataOctet, DatasetEnd, events_of, HandsOn, LeadsTo, Tag, Inside}
 use Rattle.iim_dataset.specs.Laws.{CompletesNow, WhatAnOctetCompletes}
 use Rattle.iim_dataset.proofs.OneHanding.{one_handing}
 use Rattle.iim_dataset.proofs.Deaths.{tag_goes_on, data_go_on}

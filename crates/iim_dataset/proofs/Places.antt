@@ -6,13 +6,9 @@ use Rattle.std.proofs.lemmas.List.{map-append, length-replicate}
 use Rattle.std.proofs.lemmas.List.Concat.{flat_map-append}
 use Rattle.arrayvec.specs.ArrayVec.{ArrayVec}
 use Rattle.iim_dataset.specs.Format.Octets.{Octets}
-use Rattle.iim_dataset.specs.Format.Datasets.{Dataset, SpellsTag, count_octets, Head}
-use Rattle.iim_dataset.specs.Format.Splits.{Begun, InTag, InData, IsBegun, Reads}
-use Rattle.iim_dataset.specs.Format.Tags.{BeginsTag}
-use Rattle.iim_dataset.specs.States.Events.{DatasetEvent, HeadRead, DataOctet, DatasetEnd, events_of, handed_on}
-use Rattle.iim_dataset.specs.States.Places.{LeadsTo, HandsOn, IsKeptAs, Brings, between, IsPlace, DatasetPlace, Tag, Inside}
-use Rattle.iim_dataset.specs.States.Reading.{Stops}
-use Rattle.iim_dataset.specs.TagEnds.{head_events}
+use Rattle.iim_dataset.specs.Format.Datasets.{Dataset, SpellsTag, count_octets, Head, Begun, InTag, InData, IsBegun, Reads, BeginsTag}
+use Rattle.iim_dataset.specs.States.Reading.{DatasetEvent, HeadRead, DataOctet, DatasetEnd, events_of, handed_on, LeadsTo, HandsOn, IsKeptAs, Brings, between, IsPlace, DatasetPlace, Tag, Inside, Stops}
+use Rattle.iim_dataset.specs.Steps.{head_events}
 use Rattle.iim_dataset.proofs.Spelled.{with_data, stream_more, held_of, whole_read}
 use Rattle.iim_dataset.proofs.OctetLists.{octets_append, zeros_are}
 use Rattle.iim_dataset.specs.Laws.{PlacesAreReached, OctetsLeadToOnePlace}
@@ -20,7 +16,7 @@ use Rattle.iim_dataset.proofs.OneHanding.{one_handing}
 
 -- ---- what is begun, and what was handed on of it
 
--- what is begun goes on
+-- what is begun continues
 hands_more : {octets : List ℕ} (ys : List ℕ) {events : List DatasetEvent} (more : List DatasetEvent) {b c : Begun}
     → (h : HandsOn count_octets octets events b) → IsBegun count_octets c (h.reads.rest ++ ys)
     → handed_on h.whole c ≡ handed_on h.whole b ++ more → HandsOn count_octets (octets ++ ys) (events ++ more) c

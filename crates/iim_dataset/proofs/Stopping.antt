@@ -7,11 +7,8 @@ use Rattle.std.proofs.Math.Seq.{take-add, take-append-add}
 use Rattle.arrayvec.specs.ArrayVec.{ArrayVec}
 use Rattle.iim_dataset.specs.Format.Octets.{Octets, IsOctet}
 use Rattle.iim_dataset.specs.Format.Datasets.{SpellsTag, count_octets, Head}
-use Rattle.iim_dataset.specs.States.Events.{DatasetEvent, DataOctet, DatasetEnd, HeadRead}
-use Rattle.iim_dataset.specs.States.Places.{between, IsPlace, Brings, TellsSink, DatasetPlace, Tag, Inside}
-use Rattle.iim_dataset.specs.States.Reading.{AfterStep, Stops, RefusesFor, RefusesOne}
-use Rattle.iim_dataset.specs.Fronts.{TakesOnward, WholeFront}
-use Rattle.iim_dataset.specs.TagEnds.{head_events}
+use Rattle.iim_dataset.specs.States.Reading.{DatasetEvent, DataOctet, DatasetEnd, HeadRead, between, IsPlace, Brings, TellsSink, DatasetPlace, Tag, Inside, AfterStep, Stops, RefusesFor, RefusesOne}
+use Rattle.iim_dataset.specs.Steps.{TakesOnward, WholeFront, head_events}
 use Rattle.iim_dataset.specs.declared.head.HeadCause.{HeadCause}
 use Rattle.iim_dataset.specs.declared.fault.Fault.{Fault}
 use Rattle.iim_dataset.specs.declared.fault.FaultCause.TheVariants.{Stopped}

@@ -1,8 +1,7 @@
 -- What was handed on tells the datasets.
 use Rattle.std.proofs.Common.{◌≡◌, ℕ, List, [], ◌∷◌, ◌++◌, refl, ap, sym, ◌∙◌, append_assoc, append-nil, map}
-use Rattle.iim_dataset.specs.Format.Datasets.{Dataset, head_of}
-use Rattle.iim_dataset.specs.Format.Splits.{Begun, InTag, InData}
-use Rattle.iim_dataset.specs.States.Events.{DatasetEvent, HeadRead, DataOctet, DatasetEnd, begun_events, begun_data, handed_on}
+use Rattle.iim_dataset.specs.Format.Datasets.{Dataset, head_of, Begun, InTag, InData}
+use Rattle.iim_dataset.specs.States.Reading.{DatasetEvent, HeadRead, DataOctet, DatasetEnd, begun_events, begun_data, handed_on}
 
 -- the data at the front, and what follows them
 abbrev led : List DatasetEvent → List ℕ × List DatasetEvent

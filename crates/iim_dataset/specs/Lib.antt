@@ -5,7 +5,6 @@ pub mod States
 -- What holds of these: statements, each the contract of a law.
 pub mod Laws
 -- What only proofs and private clauses cite.
-pub mod Fronts
-pub mod TagEnds
+pub mod Steps
+
 -- What impls of sources, targets and sinks hand in.
-pub mod HandedIn

@@ -1,5 +1,2 @@
-pub mod Events
-pub mod Places
 pub mod Reading
 pub mod Devices
-pub mod Reserved

@@ -1,7 +1,7 @@
 //! Numbers that may be absent, as they are printed.
 
 ghost use Rattle.std.specs.Prelude.{Some};
-ghost use Rattle.iim_dataset.specs.Format.Shown.{number_or_dash};
+ghost use Rattle.iim_dataset.specs.Format.Datasets.{number_or_dash};
 
 use std::fmt;
 use std::fmt::{Display, Formatter};

@@ -3,7 +3,7 @@
 ghost use Rattle.std.specs.Prelude.{◌≡◌, ◌≢◌, ◌↔◌, None, Some};
 ghost use Rattle.std.specs.IoError.{error_kind};
 ghost use Rattle.iim_dataset.specs.States.Devices.{CountedFailure, Faulted, faulty};
-ghost use Rattle.iim_dataset.specs.Format.Shown.{text_of_fault};
+ghost use Rattle.iim_dataset.specs.Format.Datasets.{text_of_fault};
 
 use std::fmt::{Display, Formatter};
 use std::io::{Error, ErrorKind};

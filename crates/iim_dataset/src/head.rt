@@ -1,8 +1,7 @@
 //! The tag of a dataset: a marker, two numbers and a count.
 
 ghost use Rattle.std.specs.Prelude.{◌≡◌, IfOk, IfErr, MatchOption};
-ghost use Rattle.iim_dataset.specs.Format.Datasets.{SpellsTag, canonical_tag, count_octets};
-ghost use Rattle.iim_dataset.specs.Format.Tags.{BeginsTag, HasTag, HasNoTag};
+ghost use Rattle.iim_dataset.specs.Format.Datasets.{SpellsTag, canonical_tag, count_octets, BeginsTag, HasTag, HasNoTag};
 
 use crate::number::number_bytes;
 use crate::place::lengthen;

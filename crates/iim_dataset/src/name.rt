@@ -1,7 +1,7 @@
 //! Names of datasets.
 
 ghost use Rattle.std.specs.Prelude.{◌≡◌, Some};
-ghost use Rattle.iim_dataset.specs.Format.Shown.{dataset_name, padding};
+ghost use Rattle.iim_dataset.specs.Format.Datasets.{dataset_name, padding};
 
 use std::fmt;
 use std::fmt::{Display, Formatter};

@@ -4,13 +4,9 @@
 //! sink stopped.
 
 ghost use Rattle.std.specs.Prelude.{◌≡◌, ◌==◌, if◌then◌else◌, ◌<◌, ◌⊎◌, [], ◌∷◌, length, Some, None, IfSome, IfOk, IfErr, OnOk, OnErr};
-ghost use Rattle.iim_dataset.specs.Format.Datasets.{count_octets};
-ghost use Rattle.iim_dataset.specs.Format.Tags.{BeginsTag};
-ghost use Rattle.iim_dataset.specs.States.Places.{IsPlace, between, to_come};
-ghost use Rattle.iim_dataset.specs.Fronts.{TakesOnward, TakesFront, WholeFront};
-ghost use Rattle.iim_dataset.specs.States.Reading.{TakesPiece, RefusesOne, Stops};
-ghost use Rattle.iim_dataset.specs.TagEnds.{head_events};
-ghost use Rattle.iim_dataset.specs.States.Events.{HeadRead, DatasetEnd};
+ghost use Rattle.iim_dataset.specs.Format.Datasets.{count_octets, BeginsTag};
+ghost use Rattle.iim_dataset.specs.States.Reading.{IsPlace, between, to_come, TakesPiece, RefusesOne, Stops, HeadRead, DatasetEnd};
+ghost use Rattle.iim_dataset.specs.Steps.{TakesOnward, TakesFront, WholeFront, head_events};
 
 use crate::fault::{Fault, FaultCause, tag_fault};
 use crate::head::{EXTENDED, Head, TAG_LENGTH, TAG_MARKER};

@@ -2,9 +2,8 @@
 
 ghost use Rattle.std.specs.Prelude.{◌≡◌, ◌↔◌, ◌+◌, ◌≤◌, ◌++◌, ℕ, List, length, take, IsTrue, IfOk, IfErr, MatchOption};
 ghost use Rattle.arrayvec.specs.ArrayVec.{array_vec_len};
-ghost use Rattle.iim_dataset.specs.Format.Datasets.{SpellsTag, count_octets};
-ghost use Rattle.iim_dataset.specs.States.Places.{IsPlace};
-ghost use Rattle.iim_dataset.specs.Format.Tags.{BeginsTag, HasTag, HasNoTag};
+ghost use Rattle.iim_dataset.specs.Format.Datasets.{SpellsTag, count_octets, BeginsTag, HasTag, HasNoTag};
+ghost use Rattle.iim_dataset.specs.States.Reading.{IsPlace};
 
 use crate::head::{Head, HeadFault, TAG_OCTETS, read_head};
 use crate::laws::dataset_laws;

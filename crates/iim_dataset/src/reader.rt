@@ -2,7 +2,7 @@
 
 ghost use Rattle.std.specs.Prelude.{◌≡◌, ℕ, List, [], IsTrue, IsSome, IfSome, MatchOption, ◌↔◌, IfOk, IfErr, OnOk, OnErr};
 ghost use Rattle.iim_dataset.specs.Format.Datasets.{count_octets};
-ghost use Rattle.iim_dataset.specs.States.Events.{DatasetEvent};
+ghost use Rattle.iim_dataset.specs.States.Reading.{DatasetEvent};
 
 use crate::fault::Fault;
 use crate::laws::places_are_reached;
@@ -21,8 +21,7 @@ pub struct HeadReader {
 }
 
 impl Model for HeadReader {
-    ghost use Rattle.iim_dataset.specs.States.Places.{IsPlace};
-    ghost use Rattle.iim_dataset.specs.States.Reading.{Reader};
+    ghost use Rattle.iim_dataset.specs.States.Reading.{IsPlace, Reader};
 
     ghost Value = { Reader };
 
@@ -31,8 +30,7 @@ impl Model for HeadReader {
     ghost invariant = { λ reader. IsPlace reader.place };
 }
 
-ghost use Rattle.iim_dataset.specs.States.Places.{LeadsTo, between, named_by, to_come};
-ghost use Rattle.iim_dataset.specs.States.Reading.{StandsAt, TakesCalls, IsFailed, TakesPiece, RefusesOne};
+ghost use Rattle.iim_dataset.specs.States.Reading.{LeadsTo, between, named_by, to_come, StandsAt, TakesCalls, IsFailed, TakesPiece, RefusesOne};
 
 impl HeadReader {
     /// The reader of a stream of which no octet has come.

@@ -18,7 +18,7 @@ pub struct ReservedOctets {
 
 impl Model for ReservedOctets {
     ghost use Rattle.std.specs.Prelude.{◌≤◌, take, vec_len, vec_capacity};
-    ghost use Rattle.iim_dataset.specs.States.Reserved.{Reserved};
+    ghost use Rattle.iim_dataset.specs.States.Devices.{Reserved};
 
     ghost Value = { Reserved };
 
@@ -85,7 +85,7 @@ fn write(places: &mut Vec<u8>, from: usize, octets: &[u8])
     lengthen(places, from, octets);
 }
 
-/// The same of octets that go on after all earlier ones.
+/// The same of octets that continue after all earlier ones.
 #[inline(never)]
 fn lengthen(places: &mut Vec<u8>, from: usize, octets: &[u8])
     requires within { from ≤ vec_len places.old }

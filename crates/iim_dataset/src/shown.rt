@@ -2,7 +2,7 @@
 
 ghost use Rattle.std.specs.Prelude.{◌≡◌, ◌++◌, ◌<◌, ◌≤◌, length, slice_index, take, true, false, OnOk};
 ghost use Rattle.std.specs.List.{list_all};
-ghost use Rattle.iim_dataset.specs.Format.Shown.{escape, hex_digit, is_plain, shown};
+ghost use Rattle.iim_dataset.specs.Format.Datasets.{escape, hex_digit, is_plain, shown};
 
 use std::alloc::AllocError;
 use std::simd::prelude::*;

@@ -1,8 +1,7 @@
 //! Where datasets go.
 
 ghost use Rattle.std.specs.Prelude.{◌≡◌, ◌-◌, ◌<◌, ◌≤◌, ◌++◌, [], ◌∷◌, List, ℕ, length, map, take, slice_index, Option, Some, None, MatchOption, IfSome, IfOk, IfErr, OnOk, OnErr};
-ghost use Rattle.iim_dataset.specs.States.Events.{DatasetEvent, HeadRead, DataOctet, DatasetEnd};
-ghost use Rattle.iim_dataset.specs.States.Reading.{AfterStep};
+ghost use Rattle.iim_dataset.specs.States.Reading.{DatasetEvent, HeadRead, DataOctet, DatasetEnd, AfterStep};
 
 use crate::head::Head;
 use crate::stop::Stop;

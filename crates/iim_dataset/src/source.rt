@@ -73,7 +73,7 @@ impl<R: Read> Source for FromRead<R> {
 
     ghost leads = { λ old new. LaterThan (reader_device R.remaining old) (reader_device R.remaining new) };
 
-    ghost use Rattle.iim_dataset.specs.HandedIn.{later_stays, later_leads_on};
+    ghost use Rattle.iim_dataset.specs.Steps.{later_stays, later_leads_on};
 
     ghost stays = { λ a. later_stays (reader_device R.remaining a) };
 

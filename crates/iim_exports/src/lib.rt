@@ -9,15 +9,11 @@ ghost use Rattle.iim_places.specs.Format.Tickets.{IsPlaceOf, Place};
 ghost use Rattle.iim_places.specs.States.Restored.{IsTicketAt};
 ghost use Rattle.iim_tables.specs.Format.Rows.{Meets, row_of};
 ghost use Rattle.iim_c.specs.Format.Auditing.{IsAudited};
-ghost use Rattle.iim_c.specs.Format.Begun.{IsBegunTold, TellsOctets, TellsToken};
+ghost use Rattle.iim_c.specs.Format.Tickets.{IsBegunTold, TellsOctets, TellsToken, IsNext, AreSizes, IsField, IsHeader};
 ghost use Rattle.iim_c.specs.Format.Checking.{IsChecked, IsOnly, limits_for};
 ghost use Rattle.iim_c.specs.Format.Feeding.{IsEnd, IsFed};
-ghost use Rattle.iim_c.specs.Format.Names.{IsNamed, dataset_named, layer_named, name_or_none};
-ghost use Rattle.iim_c.specs.Format.Next.{IsNext};
+ghost use Rattle.iim_c.specs.Format.Tables.{IsNamed, dataset_named, layer_named, name_or_none, rule_for, cause_named, cause_text};
 ghost use Rattle.iim_c.specs.Format.Packing.{IsPacked, IsSized};
-ghost use Rattle.iim_c.specs.Format.Tables.{rule_for};
-ghost use Rattle.iim_c.specs.Format.Causes.{cause_named, cause_text};
-ghost use Rattle.iim_c.specs.Format.TicketAnswers.{AreSizes, IsField, IsHeader};
 
 use iim_c::{
     IimAnswer, IimAuditRow, IimBegun, IimDataset, IimInstant, IimLimits, IimMessage, IimObject,

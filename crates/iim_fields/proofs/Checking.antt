@@ -1,11 +1,7 @@
 -- Where a check of records stands, token by token.
 use Rattle.std.proofs.Common.{set, ◌≡◌, ◌≢◌, ℕ, zero, suc, ◌<◌, ◌≤◌, Bool, true, false, ◌||◌, nat_eq, List, [], ◌∷◌, ◌++◌, length, replicate, get_or, refl, ap, sym, ◌∙◌, inl, inr, arith, subst, length-set, Option, Some, None}
 use Rattle.iim_tables.specs.declared.shape.Kind.{Kind}
-use Rattle.iim_fields.proofs.Words.{nat_tests, option_or, list_any-append, and_from, eqb_tells, same_Some, Octets, within, Dataset, head_of, of_record}
-use Rattle.iim_fields.proofs.Words.{Head, are_octets, row_of, is_admitted, Row, has_kind, records, occurs, SectionsLiveAt, head_fault, record_fault}
-use Rattle.iim_fields.proofs.Words.{value_fault, limits_fault, section_after, section_run, has_seen, IsOrderOf, AddsHead, data_of, number_told, AwaitsHead}
-use Rattle.iim_fields.proofs.Words.{TakesHead, AwaitsNone, IsIn, HasChecked, IsChecking, HasTaken, IsRecordFault, IsValueFault, IsRecordPlace, Order, Begun}
-use Rattle.iim_fields.proofs.Words.{RecordPlace, FieldFault, good_elsewhere, meets_as, DatasetsLeadToOnePlace}
+use Rattle.iim_fields.proofs.Words.{nat_tests, option_or, list_any-append, and_from, eqb_tells, same_Some, Octets, within, Dataset, head_of, of_record, Head, are_octets, row_of, is_admitted, Row, has_kind, records, occurs, SectionsLiveAt, head_fault, record_fault, value_fault, limits_fault, section_after, section_run, has_seen, IsOrderOf, AddsHead, data_of, number_told, AwaitsHead, TakesHead, AwaitsNone, IsIn, HasChecked, IsChecking, HasTaken, IsRecordFault, IsValueFault, IsRecordPlace, Order, Begun, RecordPlace, FieldFault, good_elsewhere, meets_as, DatasetsLeadToOnePlace}
 use Rattle.iim_fields.proofs.NumberSets.{seen_more, same_members}
 use Rattle.iim_fields.proofs.Table.{EachRowHasValues, not_after_itself, object_kind}
 use Rattle.iim_fields.proofs.Runs.{records_to_come}

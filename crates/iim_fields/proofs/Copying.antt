@@ -1,10 +1,7 @@
 -- A builder takes the datasets of an envelope that is within its limits.
 use Rattle.std.proofs.Common.{◌≡◌, ℕ, ◌+◌, Bool, true, cond, List, [], ◌∷◌, ◌++◌, append_assoc, length, length-append, refl, ap, sym, ◌∙◌, subst, arith, Some, None, Result, Ok, Err, IfErr, IsOk}
 use Rattle.std.proofs.lemmas.List.Concat.{flat_map-append}
-use Rattle.iim_fields.proofs.Words.{AllByRecursion, option_or, nat_tests, Octets, Dataset, head_of, IsGoodDataset, SectionsLive, IsEnvelope, add_fault}
-use Rattle.iim_fields.proofs.Words.{passed_by, joined, kept, kept_octets, is_kept, limits_fault, fault_on, HeadsDieWithTheirFault, ValuesDieWithTheirFault}
-use Rattle.iim_fields.proofs.Words.{DatasetsOfEnvelopesAreAdded, AreRecords, AreSections, IsWithin, FieldFault, RecordOrder, Limits, all_append, all_front}
-use Rattle.iim_fields.proofs.Words.{all_back}
+use Rattle.iim_fields.proofs.Words.{AllByRecursion, option_or, nat_tests, Octets, Dataset, head_of, IsGoodDataset, SectionsLive, IsEnvelope, add_fault, passed_by, joined, kept, kept_octets, is_kept, limits_fault, fault_on, HeadsDieWithTheirFault, ValuesDieWithTheirFault, DatasetsOfEnvelopesAreAdded, AreRecords, AreSections, IsWithin, FieldFault, RecordOrder, Limits, all_append, all_front, all_back}
 use Rattle.iim_fields.proofs.Runs.{records_to_come}
 use Rattle.iim_fields.proofs.Table.{EachRowHasValues, passes}
 

@@ -1,11 +1,6 @@
 -- The record layer dies exactly with a fault.
 use Rattle.std.proofs.Common.{◌≡◌, ℕ, ◌+◌, ◌⊎◌, Bool, true, false, not, ◌&&◌, cond, nat_eq, List, [], ◌∷◌, ◌++◌, length, refl, ap, sym, ◌∙◌, inl, inr, arith, subst, append_assoc, Option, Some, None}
-use Rattle.iim_fields.proofs.Words.{of_record, IsSomeAnd, IsTrue, AllByRecursion, find, and_parts, or_cases, eqb-true, eq-eqb, IsOctet, Octets, within, Dataset}
-use Rattle.iim_fields.proofs.Words.{head_of, Head, all_there, has_kind, row_of, is_admitted, Row, after, mandatory, repeats, occurs, occurrences}
-use Rattle.iim_fields.proofs.Words.{has_file_format, IsGoodDataset, IsGoodRecord, SectionsLive, SectionsLiveAt, section_after, section_run, is_first}
-use Rattle.iim_fields.proofs.Words.{is_in_order, fault_on, missing_of, head_fault, record_fault, fault_by_row, value_fault, BadValue, FileFormat}
-use Rattle.iim_fields.proofs.Words.{repeats_as, meets_as, occurrences_append, some_counts, all_back, false_from_ne_true, cases_Bool, ne_eqb, nat_tests}
-use Rattle.iim_fields.proofs.Words.{occurrences_cons}
+use Rattle.iim_fields.proofs.Words.{of_record, IsSomeAnd, IsTrue, AllByRecursion, find, and_parts, or_cases, eqb-true, eq-eqb, IsOctet, Octets, within, Dataset, head_of, Head, all_there, has_kind, row_of, is_admitted, Row, after, mandatory, repeats, occurs, occurrences, has_file_format, IsGoodDataset, IsGoodRecord, SectionsLive, SectionsLiveAt, section_after, section_run, is_first, is_in_order, fault_on, missing_of, head_fault, record_fault, fault_by_row, value_fault, BadValue, FileFormat, repeats_as, meets_as, occurrences_append, some_counts, all_back, false_from_ne_true, cases_Bool, ne_eqb, nat_tests, occurrences_cons}
 use Rattle.iim_fields.proofs.Table.{passed, passes, EachRowHasValues, next_of, not_after_itself, not_record0, value_for}
 use Rattle.iim_fields.proofs.Sections.{front_alive}
 use Rattle.iim_fields.proofs.Runs.{IsPart, part_front, part_of, part_more, no_part, part_completes, records_to_come, MayCome}
@@ -124,7 +119,7 @@ may_come r xs d row known once = elim (cases_Bool row.repeats) [
   | inr single ↦ inr (grind arith)
 ]
 
--- a dataset whose head has no fault may stand there, and goes on a part of its record
+-- a dataset whose head has no fault may stand there, and continues a part of its record
 place : (ds : List Dataset) (d : Dataset) → Follows ds → IsPart (section_after ds) (section_run ds)
     → HasNoFault (section_after ds) (λ n. occurs n (section_run ds)) (head_of d)
     → MayStand ds d × IsPart d.rec (of_record d.rec ds) × MayCome d.rec (of_record d.rec ds) d

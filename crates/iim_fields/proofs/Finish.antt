@@ -1,10 +1,6 @@
 -- When a builder's datasets are whole records 1 and 2, and when a reader of records hands over an envelope.
 use Rattle.std.proofs.Common.{arith, ◌≡◌, ℕ, Bool, true, false, nat_eq, List, [], ◌∷◌, ◌++◌, refl, ap, sym, ◌∙◌, inl, inr, subst, append-nil, Option, None, length}
-use Rattle.iim_fields.proofs.Words.{all_back, eqb_tells, AllByRecursion, list_any, filter, option_or, filter-append, filter_passes, recursion_from_All}
-use Rattle.iim_fields.proofs.Words.{or_cases, eqb-true, Dataset, of_record, all_there, after, AreRecords, AreSections, mandatory, occurs, IsGoodDataset}
-use Rattle.iim_fields.proofs.Words.{IsGoodRecord, SectionsLive, last_record, section_after, is_kept, kept, missing_fault, missing_of, has_seen, IsOrderOf}
-use Rattle.iim_fields.proofs.Words.{end_fault, IsEnvelope, finish_fault, IsEnvelopeStore, IsBuilding, fields_of, Limits, Store, RecordPlace, Order, joined}
-use Rattle.iim_fields.proofs.Words.{HasChecked, HasEnded, AwaitsHead, HasStored, IsReading, place_of, FieldFault, IsSomeAnd}
+use Rattle.iim_fields.proofs.Words.{all_back, eqb_tells, AllByRecursion, list_any, filter, option_or, filter-append, filter_passes, recursion_from_All, or_cases, eqb-true, Dataset, of_record, all_there, after, AreRecords, AreSections, mandatory, occurs, IsGoodDataset, IsGoodRecord, SectionsLive, last_record, section_after, is_kept, kept, missing_fault, missing_of, has_seen, IsOrderOf, end_fault, IsEnvelope, finish_fault, IsEnvelopeStore, IsBuilding, fields_of, Limits, Store, RecordPlace, Order, joined, HasChecked, HasEnded, AwaitsHead, HasStored, IsReading, place_of, FieldFault, IsSomeAnd}
 use Rattle.iim_fields.proofs.Table.{EachRowHasValues, no_application_fault}
 use Rattle.iim_fields.proofs.Runs.{part_front, part_of, records_to_come}
 use Rattle.iim_fields.proofs.Follows.{From, alive_follows}

@@ -1,7 +1,6 @@
 -- What can follow datasets that are alive.
 use Rattle.std.proofs.Common.{length, ◌<◌, ◌≡◌, ℕ, ◌⊎◌, Bool, true, false, nat_eq, List, [], ◌∷◌, ◌++◌, refl, ap, sym, ◌∙◌, inl, inr, arith, subst, append_assoc, append-nil}
-use Rattle.iim_fields.proofs.Words.{all_back, ne_eqb, mandatory, list_any, filter-append, or_right, eq-eqb, Dataset, of_record, table, after, records}
-use Rattle.iim_fields.proofs.Words.{AreRecords, AreSections, IsGoodDataset, IsGoodRecord, none_meets, SectionsLive, section_after, section_run}
+use Rattle.iim_fields.proofs.Words.{all_back, ne_eqb, mandatory, list_any, filter-append, or_right, eq-eqb, Dataset, of_record, table, after, records, AreRecords, AreSections, IsGoodDataset, IsGoodRecord, none_meets, SectionsLive, section_after, section_run}
 use Rattle.iim_fields.proofs.Table.{next_of, mandatory_is, no_row}
 use Rattle.iim_fields.proofs.Runs.{not_empty}
 use Rattle.iim_fields.proofs.Sections.{last_more, one_of}

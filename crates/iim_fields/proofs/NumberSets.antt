@@ -1,9 +1,8 @@
 -- The bits of a set of numbers, and the booleans that they stand for.
 use Rattle.std.proofs.Common.{◌≡◌, ◌≢◌, inl, inr, ℕ, zero, suc, ◌-◌, ◌*◌, ◌/◌, ◌%◌, ◌^◌, ◌<◌, nat_eq, Bool, true, false, ◌||◌, List, [], ◌∷◌, length, get_or, set, replicate, bit_and, bit_or, w64, refl, ap, sym, ◌∙◌, arith, length-append}
 use Rattle.std.proofs.lemmas.Nat.Bits.{bit_at_lowest, bit_at-suc, bit_at-zero, shr_and_one, bit_at_set_same, bit_at_set_other}
-use Rattle.iim_fields.specs.NumberSets.{bits, members}
-use Rattle.iim_fields.proofs.Words.{bit_at, get_or-set_at, get_or_append_left, get_or-append_right, get_or-set_same, get_or-set_other, length-set, leb_tells}
-use Rattle.iim_fields.proofs.Words.{eqb_tells}
+use Rattle.iim_fields.specs.StoreLayout.{bits, members}
+use Rattle.iim_fields.proofs.Words.{bit_at, get_or-set_at, get_or_append_left, get_or-append_right, get_or-set_same, get_or-set_other, length-set, leb_tells, eqb_tells}
 
 -- lists of one length with the same members
 pub same_members : (xs ys : List Bool) → length xs ≡ length ys → ((n : ℕ) → get_or xs n false ≡ get_or ys n false) → xs ≡ ys

@@ -1,7 +1,6 @@
 -- Parts of good records, and how they are completed.
 use Rattle.std.proofs.Common.{◌≡◌, ℕ, ◌+◌, ◌<◌, ◌≤◌, ◌⊎◌, Bool, true, false, cond, nat_eq, List, [], ◌∷◌, ◌++◌, length, refl, sym, inl, inr, arith, subst, append_assoc, append-nil}
-use Rattle.iim_fields.proofs.Words.{AllByRecursion, list_any-append, eq-eqb, eqb_tells, Dataset, all_append, all_front, AreRecords, mandatory, IsGoodDataset}
-use Rattle.iim_fields.proofs.Words.{IsGoodRecord, occurs, occurrences, repeats, occurrences_append, none_counts}
+use Rattle.iim_fields.proofs.Words.{AllByRecursion, list_any-append, eq-eqb, eqb_tells, Dataset, all_append, all_front, AreRecords, mandatory, IsGoodDataset, IsGoodRecord, occurs, occurrences, repeats, occurrences_append, none_counts}
 use Rattle.iim_fields.proofs.Table.{EachRowHasValues, HasSample, samples}
 
 pub occurs_front : (n : ℕ) (xs ys : List Dataset) → occurs n xs ≡ true → occurs n (xs ++ ys) ≡ true

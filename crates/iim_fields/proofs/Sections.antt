@@ -1,7 +1,6 @@
 -- The last record of datasets, and which can continue: lemmas for the proofs of every crate, of which nothing is to be believed.
 use Rattle.std.proofs.Common.{◌≡◌, ℕ, false, nat_eq, List, [], ◌∷◌, ◌++◌, length, replicate, Option, refl, sym, subst, append_assoc, inl, inr}
-use Rattle.iim_fields.proofs.Words.{AllByRecursion, cases_eq, ne_eqb, eqb_tells, length-replicate, Dataset, head_of, Octets, zeros_are, Head, RecordPlace}
-use Rattle.iim_fields.proofs.Words.{SectionsLive, SectionsLiveAt, last_record, AreSections, HasTaken}
+use Rattle.iim_fields.proofs.Words.{AllByRecursion, cases_eq, ne_eqb, eqb_tells, length-replicate, Dataset, head_of, Octets, zeros_are, Head, RecordPlace, SectionsLive, SectionsLiveAt, last_record, AreSections, HasTaken}
 
 pub last_more : (r : ℕ) (ds : List Dataset) (d : Dataset) → last_record r (ds ++ d ∷ []) ≡ d.rec
 last_more r [] d = refl

@@ -1,13 +1,7 @@
 -- What a reader of records keeps, step by step.
 use Rattle.std.proofs.Common.{◌≡◌, ◌≢◌, ℕ, suc, ◌+◌, ◌-◌, ◌<◌, ◌≤◌, ◌⊎◌, Bool, true, false, cond, List, [], ◌∷◌, ◌++◌, length, get_or, refl, ap, sym, ◌∙◌, inl, inr, arith, subst, append_assoc, append-nil, length-append, Option, Some, None}
 use Rattle.std.proofs.Math.Seq.{take-append_seam, drop-append_seam}
-use Rattle.iim_fields.proofs.Words.{limits_of, AwaitsHead, cases_Bool, nat_tests, HasRoom, IsEnvelopeStore, vec_len, vec_capacity, option_or, filter-append}
-use Rattle.iim_fields.proofs.Words.{flat_map-append, eqb_tells, Octets, Dataset, head_of, Head, octets_append, are_octets, nothing_of_two, size_octets}
-use Rattle.iim_fields.proofs.Words.{occurs, SectionsLiveAt, room_fault, limits_fault, first_fault, is_kept, kept, kept_octets, joined, section_after}
-use Rattle.iim_fields.proofs.Words.{section_run, data_of, number_told, tells_number, section_at, IsIn, HasChecked, IsChecking, HasTaken, IsRecordFault}
-use Rattle.iim_fields.proofs.Words.{IsValueFault, begun_head, HasStored, entries_of, fields_of, ends_at, begun_octets, fields_from, FieldsPlace}
-use Rattle.iim_fields.proofs.Words.{IsBetween, IsInside, CanTake, CanClose, StandsAfter, StandsIn, IsHeadFault, IsOf, section_of, begun_head_of, IsWithin}
-use Rattle.iim_fields.proofs.Words.{place_of, StandsSomewhere, IsReading, Limits, Store, FieldFault, RecordPlace}
+use Rattle.iim_fields.proofs.Words.{limits_of, AwaitsHead, cases_Bool, nat_tests, HasRoom, IsEnvelopeStore, vec_len, vec_capacity, option_or, filter-append, flat_map-append, eqb_tells, Octets, Dataset, head_of, Head, octets_append, are_octets, nothing_of_two, size_octets, occurs, SectionsLiveAt, room_fault, limits_fault, first_fault, is_kept, kept, kept_octets, joined, section_after, section_run, data_of, number_told, tells_number, section_at, IsIn, HasChecked, IsChecking, HasTaken, IsRecordFault, IsValueFault, begun_head, HasStored, entries_of, fields_of, ends_at, begun_octets, fields_from, FieldsPlace, IsBetween, IsInside, CanTake, CanClose, StandsAfter, StandsIn, IsHeadFault, IsOf, section_of, begun_head_of, IsWithin, place_of, StandsSomewhere, IsReading, Limits, Store, FieldFault, RecordPlace}
 use Rattle.iim_fields.proofs.Table.{EachRowHasValues, size_row, kept_or_tells}
 use Rattle.iim_fields.proofs.Follows.{present_more}
 use Rattle.iim_fields.proofs.Telling.{head_fault_told}

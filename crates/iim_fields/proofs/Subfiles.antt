@@ -1,9 +1,6 @@
 -- A whole subfile: where its head may stand, and what it leads to.
 use Rattle.std.proofs.Common.{◌≡◌, ℕ, Bool, true, false, ◌&&◌, ◌||◌, nat_eq, nat_le, List, [], ◌∷◌, ◌++◌, length, Option, Some, None, refl, ap, sym, ◌∙◌, inl, arith}
-use Rattle.iim_fields.proofs.Words.{AwaitsHead, FieldsPlace, limits_of, kept, nat_tests, vec_len, is_none, option_or, Dataset, Head, table, row_of}
-use Rattle.iim_fields.proofs.Words.{head_fault, record_fault, first_fault, row_fault, is_kept, kept_octets, HasChecked, StandsAfter, PassesSubfile, place_of}
-use Rattle.iim_fields.proofs.Words.{IsReading, Limits, FieldFault, Store, Begun, RecordPlace, HasTaken, IsIn, Octets, greatest_size, head_of, missing_of}
-use Rattle.iim_fields.proofs.Words.{occurs, section_after, section_run}
+use Rattle.iim_fields.proofs.Words.{AwaitsHead, FieldsPlace, limits_of, kept, nat_tests, vec_len, is_none, option_or, Dataset, Head, table, row_of, head_fault, record_fault, first_fault, row_fault, is_kept, kept_octets, HasChecked, StandsAfter, PassesSubfile, place_of, IsReading, Limits, FieldFault, Store, Begun, RecordPlace, HasTaken, IsIn, Octets, greatest_size, head_of, missing_of, occurs, section_after, section_run}
 use Rattle.iim_fields.proofs.Sections.{one_of, some_data}
 use Rattle.iim_fields.proofs.Dies.{no_fault_parts}
 use Rattle.iim_fields.proofs.Stand.{between_after, stands_in, closed_subfile, reading_between}

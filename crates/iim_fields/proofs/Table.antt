@@ -1,9 +1,6 @@
 -- What the table says of the records of an envelope.
 use Rattle.std.proofs.Common.{not, ◌≡◌, ◌≢◌, ℕ, ◌<◌, ◌≤◌, ◌⊎◌, Bool, true, false, ◌&&◌, ◌||◌, cond, nat_eq, List, [], ◌∷◌, length, map, Option, Some, None, refl, ap, sym, ◌∙◌, inl, inr, arith, subst}
-use Rattle.iim_fields.proofs.Words.{ne_eqb, cases_Bool, true_from_ne_false, nat_tests, AllByRecursion, list_all, filter, find, option_or, option_map}
-use Rattle.iim_fields.proofs.Words.{is_kept, is_first, value_fault, fault_by_row, missing_fault, missing_of, and_parts, or_cases, eqb-true, is_none}
-use Rattle.iim_fields.proofs.Words.{IsOctet, within, Dataset, head_of, Head, size_octets, has_kind, tells_number, data_of, table, row_of, row_of_others}
-use Rattle.iim_fields.proofs.Words.{Meets, is_admitted, HasValue, mandatory, has_to_occur, has_file_format, IsGoodDataset, Row, after}
+use Rattle.iim_fields.proofs.Words.{ne_eqb, cases_Bool, true_from_ne_false, nat_tests, AllByRecursion, list_all, filter, find, option_or, option_map, is_kept, is_first, value_fault, fault_by_row, missing_fault, missing_of, and_parts, or_cases, eqb-true, is_none, IsOctet, within, Dataset, head_of, Head, size_octets, has_kind, tells_number, data_of, table, row_of, row_of_others, Meets, is_admitted, HasValue, mandatory, has_to_occur, has_file_format, IsGoodDataset, Row, after}
 use Rattle.iim_fields.specs.declared.fault.FieldCause.TheVariants as causes
 use Rattle.iim_tables.specs.declared.shape.Kind.TheVariants as kinds
 use Rattle.iim_fields.proofs.Sections.{by_record, one_of}

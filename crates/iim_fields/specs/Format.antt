@@ -1,10 +1,2 @@
 pub mod Records
-pub mod Alive
-pub mod Faults
 pub mod Causes
-pub mod Names
-pub mod Values
-pub mod Bounds
-pub mod Envelopes
-pub mod Views
-pub mod Ids

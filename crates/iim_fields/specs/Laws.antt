@@ -1,15 +1,11 @@
+-- What holds of all records, and of ids; the record at the end has a field for each law.
 use Rattle.std.specs.Prelude.{◌≡◌, ◌↔◌, List, [], ◌∷◌, ◌++◌, length, Option, Some, None}
 use Rattle.iim_dataset.specs.Format.Octets.{IsOctet, Octets}
 use Rattle.iim_dataset.specs.Format.Datasets.{Dataset, head_of}
 use Rattle.iim_dataset.specs.declared.head.Head.{Head}
-use Rattle.iim_fields.specs.Format.Records.{AreSections}
-use Rattle.iim_fields.specs.Format.Alive.{SectionsLive, SectionsLiveAt}
-use Rattle.iim_fields.specs.Format.Faults.{record_fault, value_fault, first_fault, joined, Limits, FieldFault}
-use Rattle.iim_fields.specs.States.Builders.{add_fault}
-use Rattle.iim_fields.specs.Format.Envelopes.{IsEnvelope}
-use Rattle.iim_fields.specs.Format.Bounds.{IsWithin}
-use Rattle.iim_fields.specs.States.Checks.{AwaitsHead, HasChecked, IsChecking, RecordPlace}
-use Rattle.iim_fields.specs.Format.Causes.{Token, IsFault, HasNoFault}
+use Rattle.iim_fields.specs.Format.Records.{AreSections, SectionsLive, SectionsLiveAt, IsEnvelope, IsWithin}
+use Rattle.iim_fields.specs.Format.Causes.{record_fault, value_fault, first_fault, joined, Limits, FieldFault, Token, IsFault, HasNoFault}
+use Rattle.iim_fields.specs.States.Standing.{add_fault, AwaitsHead, HasChecked, IsChecking, RecordPlace}
 use Rattle.iim_fields.specs.Format.Causes.Token.{AtHead, AtValue}
 
 -- The record layer dies at a head exactly where the head has a fault: every head without one can be completed.

@@ -5,11 +5,5 @@ pub mod States
 -- What holds of these: statements, each the contract of a law.
 pub mod Laws
 -- What only proofs and private clauses cite.
-pub mod NumberSets
-pub mod OrderChanges
 pub mod StoreLayout
-pub mod Checking
-pub mod NumberTaking
-pub mod Reading
-pub mod Building
-pub mod IdLaws
+pub mod Steps

@@ -1,7 +1,3 @@
-pub mod Orders
-pub mod Checks
-pub mod Stores
 pub mod Standing
-pub mod Builders
+pub mod Stores
 pub mod Walks
-pub mod Admitting

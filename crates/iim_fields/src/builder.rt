@@ -1,8 +1,7 @@
 //! Envelopes, built dataset by dataset.
 
 ghost use Rattle.std.specs.Prelude.{◌≡◌, [], ◌∷◌, ◌++◌, Some, None, IfOk, IfErr, OnOk, OnErr};
-ghost use Rattle.iim_fields.specs.States.Builders.{add_fault, finish_fault, passed_by, IsCopyFault};
-ghost use Rattle.iim_fields.specs.States.Standing.{room_for};
+ghost use Rattle.iim_fields.specs.States.Standing.{add_fault, finish_fault, passed_by, IsCopyFault, room_for};
 
 use crate::check::RecordCheck;
 use crate::envelope::Envelope;
@@ -28,8 +27,8 @@ pub struct EnvelopeBuilder {
 }
 
 impl Model for EnvelopeBuilder {
-    ghost use Rattle.iim_fields.specs.States.Builders.{Building};
-    ghost use Rattle.iim_fields.specs.Building.{IsBuilding};
+    ghost use Rattle.iim_fields.specs.States.Standing.{Building};
+    ghost use Rattle.iim_fields.specs.Steps.{IsBuilding};
     ghost use Rattle.iim_fields.specs.StoreLayout.{fields_of, store_room};
 
     ghost Value = { Building };

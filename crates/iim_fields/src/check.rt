@@ -5,14 +5,10 @@ ghost use Rattle.std.specs.Option.{ForSome, option_or};
 ghost use Rattle.iim_dataset.specs.Format.Octets.{Octets};
 ghost use Rattle.iim_dataset.specs.Format.Datasets.{Dataset, head_of};
 ghost use Rattle.iim_dataset.specs.declared.head.Head.{Head as HeadValue};
-ghost use Rattle.iim_fields.specs.Format.Faults.{head_fault, section_after, record_fault, value_fault};
-ghost use Rattle.iim_fields.specs.States.Orders.{has_seen};
-ghost use Rattle.iim_fields.specs.OrderChanges.{AddsHead, end_fault};
-ghost use Rattle.iim_fields.specs.Format.Values.{number_told, data_of};
-ghost use Rattle.iim_fields.specs.States.Admitting.{Spells};
-ghost use Rattle.iim_fields.specs.NumberTaking.{MayTake};
-ghost use Rattle.iim_fields.specs.States.Checks.{begun_head, section_at, TakesHead, TakesValue, AwaitsHead, IsIn, HasChecked, IsChecking, HasTaken, IsRecordFault, IsValueFault, HasEnded};
-ghost use Rattle.iim_fields.specs.Checking.{place_fault, IsRecordPlace};
+ghost use Rattle.iim_fields.specs.Format.Causes.{head_fault, section_after, record_fault, value_fault};
+ghost use Rattle.iim_fields.specs.States.Standing.{has_seen, Spells, begun_head, section_at, TakesHead, TakesValue, AwaitsHead, IsIn, HasChecked, IsChecking, HasTaken, IsRecordFault, IsValueFault, HasEnded};
+ghost use Rattle.iim_fields.specs.Steps.{AddsHead, end_fault, MayTake, place_fault, IsRecordPlace};
+ghost use Rattle.iim_fields.specs.Format.Records.{number_told, data_of};
 ghost use Rattle.iim_fields.specs.declared.check.RecordPlace.{RecordPlace as PlaceValue};
 
 use crate::fault::FieldFault;

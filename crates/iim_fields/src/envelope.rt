@@ -17,7 +17,7 @@ pub struct Envelope {
 impl Model for Envelope {
     ghost use Rattle.std.specs.Prelude.{List};
     ghost use Rattle.iim_dataset.specs.Format.Datasets.{Dataset};
-    ghost use Rattle.iim_fields.specs.Building.{IsEnvelopeStore};
+    ghost use Rattle.iim_fields.specs.Steps.{IsEnvelopeStore};
     ghost use Rattle.iim_fields.specs.StoreLayout.{fields_of};
 
     ghost Value = { List Dataset };
@@ -33,10 +33,9 @@ impl Envelope {
     ghost use Rattle.std.specs.Option.{option_map};
     ghost use Rattle.iim_tables.specs.Format.Dates.{is_date};
     ghost use Rattle.iim_fields.specs.States.Walks.{rest_of, data_left};
-    ghost use Rattle.iim_fields.specs.Format.Envelopes.{IsEnvelope};
-    ghost use Rattle.iim_fields.specs.States.Builders.{AreFew};
-    ghost use Rattle.iim_fields.specs.Format.Faults.{joined};
-    ghost use Rattle.iim_fields.specs.Format.Views.{first_data, all_data};
+    ghost use Rattle.iim_fields.specs.Format.Records.{IsEnvelope, first_data, all_data};
+    ghost use Rattle.iim_fields.specs.States.Standing.{AreFew};
+    ghost use Rattle.iim_fields.specs.Format.Causes.{joined};
     ghost use Rattle.iim_tables.specs.Format.Rows.{Meets};
 
     /// The envelope where it lies.

@@ -17,7 +17,7 @@ pub struct EnvelopeRef<'a> {
 impl<'a> Model for EnvelopeRef<'a> {
     ghost use Rattle.std.specs.Prelude.{List};
     ghost use Rattle.iim_dataset.specs.Format.Datasets.{Dataset};
-    ghost use Rattle.iim_fields.specs.Building.{IsEnvelopeStore};
+    ghost use Rattle.iim_fields.specs.Steps.{IsEnvelopeStore};
     ghost use Rattle.iim_fields.specs.StoreLayout.{fields_of};
 
     ghost Value = { List Dataset };
@@ -33,9 +33,8 @@ impl<'a> EnvelopeRef<'a> {
     ghost use Rattle.std.specs.Option.{option_map};
     ghost use Rattle.iim_tables.specs.Format.Dates.{is_date};
     ghost use Rattle.iim_fields.specs.States.Walks.{rest_of};
-    ghost use Rattle.iim_fields.specs.Format.Envelopes.{IsEnvelope};
-    ghost use Rattle.iim_fields.specs.States.Builders.{AreFew};
-    ghost use Rattle.iim_fields.specs.Format.Views.{first_data};
+    ghost use Rattle.iim_fields.specs.Format.Records.{IsEnvelope, first_data};
+    ghost use Rattle.iim_fields.specs.States.Standing.{AreFew};
     ghost use Rattle.iim_tables.specs.Format.Rows.{Meets};
 
     /// All datasets, in order: record, number and data of each.

@@ -1,8 +1,7 @@
 //! Why a dataset is refused.
 
 ghost use Rattle.std.specs.Prelude.{◌≡◌, Some};
-ghost use Rattle.iim_fields.specs.Format.Causes.{number_of_cause};
-ghost use Rattle.iim_fields.specs.Format.Names.{name_of_cause, name_of_copy, number_of_copy, text_of_cause, text_of_copy, text_of_field};
+ghost use Rattle.iim_fields.specs.Format.Causes.{number_of_cause, name_of_cause, name_of_copy, number_of_copy, text_of_cause, text_of_copy, text_of_field};
 
 use iim_dataset::DatasetName;
 use std::alloc::AllocError;

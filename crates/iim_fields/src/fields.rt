@@ -3,11 +3,10 @@
 ghost use Rattle.std.specs.Prelude.{◌≡◌, ◌⊎◌, false, ◌+◌, ◌-◌, ◌≤◌, ◌<◌, ℕ, List, [], ◌∷◌, ◌++◌, length, is_none, Some, None, IfOk, IfErr, OnOk, OnErr, ◌↔◌, IsTrue, IsSome, IfSome};
 ghost use Rattle.iim_dataset.specs.Format.Datasets.{Dataset};
 ghost use Rattle.iim_dataset.specs.declared.head.Head.{Head as HeadValue};
-ghost use Rattle.iim_fields.specs.Format.Records.{AreSections};
+ghost use Rattle.iim_fields.specs.Format.Records.{AreSections, number_told, data_of};
 ghost use Rattle.std.specs.Option.{option_or};
-ghost use Rattle.iim_fields.specs.Format.Faults.{first_fault, is_kept, kept, room_fault, value_fault};
-ghost use Rattle.iim_fields.specs.States.Checks.{IsValueFault};
-ghost use Rattle.iim_fields.specs.Format.Values.{number_told, data_of};
+ghost use Rattle.iim_fields.specs.Format.Causes.{first_fault, is_kept, kept, room_fault, value_fault};
+ghost use Rattle.iim_fields.specs.States.Standing.{IsValueFault};
 
 use crate::check::RecordCheck;
 use crate::envelope::Envelope;
@@ -75,7 +74,7 @@ pub struct Fields {
 
 impl Model for Fields {
     ghost use Rattle.iim_fields.specs.States.Standing.{FieldsPlace};
-    ghost use Rattle.iim_fields.specs.Reading.{place_of, IsReading};
+    ghost use Rattle.iim_fields.specs.Steps.{place_of, IsReading};
 
     ghost Value = { FieldsPlace };
 
@@ -85,11 +84,9 @@ impl Model for Fields {
 }
 
 impl Fields {
-    ghost use Rattle.iim_fields.specs.Format.Faults.{section_after};
+    ghost use Rattle.iim_fields.specs.Format.Causes.{section_after};
     ghost use Rattle.iim_fields.specs.States.Walks.{rest_of};
-    ghost use Rattle.iim_fields.specs.States.Standing.{limits_of, room_of, section_of, begun_head_of, room_for, IsFailed, IsBetween, IsInside, CanTake, CanClose, StandsAfter, StandsIn, TookDataset, PassesSubfile, SameBounds, IsHeadFault, IsOf, IsEnded};
-    ghost use Rattle.iim_fields.specs.States.Admitting.{Spells, Admits};
-    ghost use Rattle.iim_fields.specs.States.Builders.{add_fault};
+    ghost use Rattle.iim_fields.specs.States.Standing.{limits_of, room_of, section_of, begun_head_of, room_for, IsFailed, IsBetween, IsInside, CanTake, CanClose, StandsAfter, StandsIn, TookDataset, PassesSubfile, SameBounds, IsHeadFault, IsOf, IsEnded, Spells, Admits, add_fault};
 
     /// At the beginning of an envelope, with memory for just what the limits allow: no later call takes any. An error says that
     /// memory was refused.

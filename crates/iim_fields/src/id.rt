@@ -2,8 +2,8 @@
 
 ghost use Rattle.std.specs.Prelude.{◌≡◌, ◌≤◌, ◌↔◌, length, take, IsTrue, refl};
 ghost use Rattle.std.specs.Ordering.{as_partial_cmp};
-ghost use Rattle.iim_fields.specs.Format.Ids.{id_eq, id_cmp};
-ghost use Rattle.iim_fields.specs.IdLaws.{id_equivalence, id_total, id_ties};
+ghost use Rattle.iim_fields.specs.Format.Records.{id_eq, id_cmp};
+ghost use Rattle.iim_fields.specs.Steps.{id_equivalence, id_total, id_ties};
 ghost use Rattle.std.specs.Cmp.{partial_equiv_from_equiv, po};
 
 use std::cmp::Ordering;
@@ -30,7 +30,7 @@ pub struct EnvelopeId {
 
 impl Model for EnvelopeId {
     ghost use Rattle.std.specs.Prelude.{◌≤◌, take};
-    ghost use Rattle.iim_fields.specs.Format.Ids.{Identity};
+    ghost use Rattle.iim_fields.specs.Format.Records.{Identity};
 
     ghost Value = { Identity };
 

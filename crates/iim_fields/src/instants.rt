@@ -6,7 +6,7 @@ ghost use Rattle.std.specs.Prelude.{◌≡◌, IsSomeAnd, pos};
 ghost use Rattle.std.specs.Option.{option_map};
 ghost use Rattle.jiff.specs.Words.{IsYmd};
 ghost use Rattle.iim_tables.specs.Format.Dates.{year_in, month_in, day_in};
-ghost use Rattle.iim_fields.specs.Format.Views.{first_data, instant_sent, instant_of_pair, instant_of_release, instant_of_expiration};
+ghost use Rattle.iim_fields.specs.Format.Records.{first_data, instant_sent, instant_of_pair, instant_of_release, instant_of_expiration};
 
 use crate::envelope_ref::EnvelopeRef;
 use iim_tables::records::{APPLICATION, ENVELOPE};

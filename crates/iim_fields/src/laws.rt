@@ -1,7 +1,7 @@
 //! What holds of all datasets, and of the limits of wire copy.
 
 ghost use Rattle.std.specs.Prelude.{◌≡◌};
-ghost use Rattle.iim_fields.specs.Format.Bounds.{wire_limits};
+ghost use Rattle.iim_fields.specs.Format.Records.{wire_limits};
 ghost use Rattle.iim_fields.specs.Laws.{RecordLaws};
 
 use crate::limits::Limits;

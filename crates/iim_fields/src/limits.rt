@@ -1,7 +1,7 @@
 //! How much of the records 1 and 2 may be kept.
 
 ghost use Rattle.std.specs.Prelude.{◌≡◌};
-ghost use Rattle.iim_fields.specs.Format.Faults.{limit_passed};
+ghost use Rattle.iim_fields.specs.Format.Causes.{limit_passed};
 
 use crate::fault::FieldCause;
 

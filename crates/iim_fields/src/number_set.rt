@@ -16,7 +16,7 @@ pub(crate) struct NumberSet {
 
 impl Model for NumberSet {
     ghost use Rattle.std.specs.Prelude.{◌≡◌, Bool, List, length};
-    ghost use Rattle.iim_fields.specs.NumberSets.{members};
+    ghost use Rattle.iim_fields.specs.StoreLayout.{members};
 
     ghost Value = { List Bool };
 

@@ -4,10 +4,10 @@ ghost use Rattle.std.specs.Prelude.{◌≡◌, ◌≢◌, false, ◌&&◌, ◌||
 ghost use Rattle.std.specs.Int.{IsInRange};
 ghost use Rattle.iim_dataset.specs.Format.Octets.{greatest_size, within};
 ghost use Rattle.iim_tables.specs.Format.Rows.{row_of};
-ghost use Rattle.iim_fields.specs.Format.Faults.{head_fault, row_fault, missing_of, missing_fault, is_in_order, is_first};
+ghost use Rattle.iim_fields.specs.Format.Causes.{head_fault, row_fault, missing_of, missing_fault, is_in_order, is_first};
 ghost use Rattle.iim_fields.specs.Format.Records.{after};
-ghost use Rattle.iim_fields.specs.States.Orders.{has_seen};
-ghost use Rattle.iim_fields.specs.OrderChanges.{AddsHead, end_fault};
+ghost use Rattle.iim_fields.specs.States.Standing.{has_seen};
+ghost use Rattle.iim_fields.specs.Steps.{AddsHead, end_fault};
 
 use crate::fault::{FieldCause, FieldFault};
 use crate::number_set::NumberSet;

@@ -3,7 +3,7 @@
 ghost use Rattle.std.specs.Prelude.{◌≡◌, ◌∷◌, [], MatchOption};
 ghost use Rattle.iim_fields.specs.Format.Records.{after};
 ghost use Rattle.iim_tables.specs.Format.Records.{mandatory};
-ghost use Rattle.iim_fields.specs.Format.Faults.{is_kept};
+ghost use Rattle.iim_fields.specs.Format.Causes.{is_kept};
 
 use iim_tables::records::{APPLICATION, ENVELOPE, OBJECT, POST_OBJECT, PRE_OBJECT};
 

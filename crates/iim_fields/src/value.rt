@@ -2,13 +2,12 @@
 
 ghost use Rattle.std.specs.Prelude.{◌≡◌, ◌==◌, ◌&&◌, ◌||◌, nat_le, if◌then◌else◌, IsTrue, is_none, Some, None, length, IfOk, IfErr, OnOk};
 ghost use Rattle.iim_tables.specs.Format.Rows.{row_of};
-ghost use Rattle.iim_fields.specs.Format.Faults.{value_fault};
+ghost use Rattle.iim_fields.specs.Format.Causes.{value_fault};
 ghost use Rattle.std.specs.Int.{IsInRange};
 ghost use Rattle.iim_dataset.specs.Format.Octets.{greatest_size};
-ghost use Rattle.iim_tables.specs.Format.Numbers.{size_octets};
-ghost use Rattle.iim_tables.specs.Format.Kinds.{has_kind};
+ghost use Rattle.iim_tables.specs.Format.Kinds.{size_octets, has_kind};
 ghost use Rattle.iim_tables.specs.Format.Records.{has_file_format};
-ghost use Rattle.iim_fields.specs.Format.Values.{data_of, number_told, tells_number};
+ghost use Rattle.iim_fields.specs.Format.Records.{data_of, number_told, tells_number};
 
 use crate::fault::{FieldCause, FieldFault};
 use crate::order::fault_on;

@@ -1,23 +1,18 @@
 -- Listings of inputs.
-use Rattle.iim_listing.proofs.Words.{◌≡◌, ℕ, ◌+◌, suc, inl, inr, refl, sym, ap, arith, List, [], ◌∷◌, ◌++◌, length, length-append, append_assoc}
-use Rattle.iim_listing.proofs.Words.{append-nil, Option, None, Some, Result, Ok, Err, IfErr, take-append-le, IsAtEnd, Device, HasGiven, Rose, GiftsJoin}
-use Rattle.iim_listing.proofs.Words.{TextsJoin, missed_later, StoryEvent, Unpacking, Refusal, IsNext, IsRefusal, HoldsNothing, PassesOver, refuses_never}
-use Rattle.iim_listing.proofs.Words.{KeepsWriter, put_nothing, AreListed, AreTaken, BlockWriter, HasOctets, ending_line, status_of, texts_from, limits, joined}
-use Rattle.iim_listing.proofs.Words.{max_envelopes, Divides, InputEnding, EndsBy, Listed, IsListed, IsRefusedAfter, FailsListing, CommandFault, CannotRead}
-use Rattle.iim_listing.proofs.Words.{CannotWrite, OutOfMemory}
+use Rattle.iim_listing.proofs.Words.{◌≡◌, ℕ, ◌+◌, suc, inl, inr, refl, sym, ap, arith, List, [], ◌∷◌, ◌++◌, length, length-append, append_assoc, append-nil, Option, None, Some, Result, Ok, Err, IfErr, take-append-le, IsAtEnd, Device, HasGiven, Rose, GiftsJoin, TextsJoin, missed_later, StoryEvent, Unpacking, Refusal, IsNext, IsRefusal, HoldsNothing, PassesOver, refuses_never, KeepsWriter, put_nothing, AreListed, AreTaken, BlockWriter, HasOctets, ending_line, status_of, texts_from, limits, joined, max_envelopes, Divides, InputEnding, EndsBy, Listed, IsListed, IsRefusedAfter, FailsListing, CommandFault, CannotRead, CannotWrite, OutOfMemory}
 use Rattle.std.proofs.Math.ListN.{get_or-append}
 use Rattle.std.specs.Io.KnownBytes.{Consumes}
 use Rattle.iim_dataset.specs.States.Devices.{MissedAfter}
 use Rattle.iim_dataset.specs.declared.device.IoFault.{IoFault}
 use Rattle.iim_places.proofs.Listings.{admitted_more, joined_more}
-use Rattle.iim_places.specs.Format.Listing.{IsDeadAfter}
+use Rattle.iim_places.specs.Format.Streams.{IsDeadAfter}
 use Rattle.iim_output.specs.States.Holding.{HasPut, device_of, IsCutShort, IsUnadded}
 use Rattle.iim_output.specs.States.Silence.{IsSettled, IsStuck}
 use Rattle.iim_output.specs.HoldingLaws.{put_on}
 use Rattle.iim_output.specs.declared.silent.Silent.{Silent}
 use Rattle.iim_output.proofs.Holding.{all_out, cut_by_stuck, cut_on, stopped_in}
-use Rattle.iim_listing.specs.Format.WrittenListings.{IsListingText, WritesListing}
-use Rattle.iim_listing.specs.Turns.{IsUnlisted, Settles}
+use Rattle.iim_listing.specs.Format.{IsListingText, WritesListing}
+use Rattle.iim_listing.specs.Steps.{IsUnlisted, Settles}
 
 -- ---- texts of envelopes
 

@@ -1,27 +1,19 @@
 -- What `story` writes.
-use Rattle.iim_listing.proofs.Words.{◌≡◌, ℕ, ◌+◌, ◌<◌, ◌⊎◌, inl, inr, refl, sym, ap, subst, ◌∙◌, arith, List, [], ◌∷◌, ◌++◌, length, map, take, append_assoc}
-use Rattle.iim_listing.proofs.Words.{length-append, append-nil, Err, take-length, take-append-le, Appends, Device, Wrote, HasGiven, Rose, GiftsJoin, TextsJoin}
-use Rattle.iim_listing.proofs.Words.{StoryEvent, octet_for, HoldsNothing, puts_nothing, BlockWriter, Refusal, Unpacking, no_text}
-use Rattle.iim_listing.proofs.Words.{EnvelopeHasCome, IsCalm, IsNext, IsRefusal, HasOctets, ending_line, status_of, texts_from, IsDelivered, limits, joined}
-use Rattle.iim_listing.proofs.Words.{max_envelopes, Divides, InputEnding, EndsBy, Listed, IsListed, IsRefusedAfter, RefusedBy, IsUnnarrated, text_of}
-use Rattle.iim_listing.proofs.Words.{IsLost, IsUntold, KeepsTargets, LetsOut, TellsOn, errors_of, output_of, stops_of, Narrator, CommandFault}
-use Rattle.iim_listing.proofs.Words.{CannotRead, CannotWrite, OutOfMemory, AreTaken, IsTelling}
+use Rattle.iim_listing.proofs.Words.{◌≡◌, ℕ, ◌+◌, ◌<◌, ◌⊎◌, inl, inr, refl, sym, ap, subst, ◌∙◌, arith, List, [], ◌∷◌, ◌++◌, length, map, take, append_assoc, length-append, append-nil, Err, take-length, take-append-le, Appends, Device, Wrote, HasGiven, Rose, GiftsJoin, TextsJoin, StoryEvent, octet_for, HoldsNothing, puts_nothing, BlockWriter, Refusal, Unpacking, no_text, EnvelopeHasCome, IsCalm, IsNext, IsRefusal, HasOctets, ending_line, status_of, texts_from, IsDelivered, limits, joined, max_envelopes, Divides, InputEnding, EndsBy, Listed, IsListed, IsRefusedAfter, RefusedBy, IsUnnarrated, text_of, IsLost, IsUntold, KeepsTargets, LetsOut, TellsOn, errors_of, output_of, stops_of, Narrator, CommandFault, CannotRead, CannotWrite, OutOfMemory, AreTaken, IsTelling}
 use Rattle.std.proofs.Common.{◌≤◌}
 use Rattle.std.specs.List.{AllByRecursion}
 use Rattle.std.proofs.Math.Seq.{take-append_seam}
 use Rattle.std.proofs.lemmas.List.{map-append}
 use Rattle.iim_dataset.specs.Laws.{OctetsAreHandedOnOneWay, EventsTellTheDatasets}
-use Rattle.iim_dataset.specs.States.Events.{handed_on}
-use Rattle.iim_dataset.specs.Format.Datasets.{count_octets}
-use Rattle.iim_dataset.specs.States.Places.{HandsOn}
-use Rattle.iim_dataset.specs.Format.Splits.{InTag}
-use Rattle.iim_dataset.specs.HandedIn.{appends_joined}
+use Rattle.iim_dataset.specs.States.Reading.{handed_on, HandsOn}
+use Rattle.iim_dataset.specs.Format.Datasets.{count_octets, InTag}
+use Rattle.iim_dataset.specs.Steps.{appends_joined}
 use Rattle.iim_dataset.proofs.Each.{all_append, all_back, all_front}
 use Rattle.iim_dataset.proofs.Lists.{some_none}
 use Rattle.wire_message.specs.Laws.{TextsStandBetweenStxAndEtx}
-use Rattle.wire_message.specs.Format.Layers.{text_so_far}
+use Rattle.wire_message.specs.Format.Messages.{text_so_far}
 use Rattle.wire_message.specs.declared.place.Place.TheVariants.{AfterEnd}
-use Rattle.wire_story.specs.Format.Delivery.{delivered}
+use Rattle.wire_story.specs.Format.Texts.{delivered}
 use Rattle.wire_story.specs.Laws.{LinesAreJoinedByLineFeeds, TextsAreDeliveredAsLines}
 use Rattle.iim_output.specs.States.Holding.{PutsOn, device_of, held_of, stops_of as writer_stops}
 use Rattle.iim_output.specs.HoldingLaws.{puts_on}
@@ -29,11 +21,9 @@ use Rattle.iim_output.proofs.Holding.{puts_of_stuck}
 use Rattle.iim_places.specs.Format.Admitted.{object_of}
 use Rattle.iim_places.specs.Format.Open.{object_so_far}
 use Rattle.iim_places.proofs.Answering.{leads_to, reads_envelope}
-use Rattle.iim_listing.specs.Format.Listings.{line_of}
+use Rattle.iim_listing.specs.Format.{line_of, AreToldWith, IsTextIn, LeavesText, Narrated, stories, story_of}
 use Rattle.iim_listing.specs.Laws.{EnvelopesAreDeliveredAsLines}
-use Rattle.iim_listing.specs.Format.Narration.{AreToldWith, IsTextIn, LeavesText, Narrated, stories, story_of}
-use Rattle.iim_listing.specs.Narrating.{HoldsLines, IsSettled, IsStuck, IsUnended}
-use Rattle.iim_listing.specs.Turns.{Stands}
+use Rattle.iim_listing.specs.Steps.{HoldsLines, IsSettled, IsStuck, IsUnended, Stands}
 use Rattle.iim_listing.proofs.Listings.{divided, missed_after, none_taken, taken_more, taken_then, texts_parts, whole}
 
 -- ---- what is delivered of an envelope
@@ -388,45 +378,47 @@ module _ {W E : Type 0} {ws : W → Device} {es : E → Device} {first b : Narra
       rw (← append_assoc told s.begun s.after.out, before) (appends_joined (output_of ws first).octets (device_of ws s.mark).octets (output_of ws d).octets
       s.before.out s.after.out s.before.writes.octets s.after.writes.octets) in
       let after : (front more : List Listed) (w : List ℕ) → front ≡ s.told ++ more → out ≡ texts_from story_of (1 + length s.told) more ++ w
-          → Appends (output_of ws first).octets (output_of ws d).octets (stories front ++ w) =
+      → Appends (output_of ws first).octets (output_of ws d).octets (stories front ++ w) =
       λ front more w parts at.
       rw (← parts_of story_of s.told more front parts, append_assoc told (texts_from story_of (1 + length s.told) more) w, ← at) octets in
-      let said : Wrote (errors_of es first) (errors_of es d) (texts_from line_of 1 s.told) = rw same s.said in
-      (elim (reach s.others (1 + length s.told) words out (held_of d.output) left) [
-        | inl (w, at, front) ↦ (
-          joined h.envelopes ++ begun,
-          h.envelopes,
-          begun,
-          h.taken.divides,
-          h.taken.given,
-          inl ((k, w, held_of d.output, h.within, all, rw front at h.is, after h.envelopes s.others w s.parts at, broken), (s.told, s.others, s.parts, said)),
-        )
-        | inr (f, e, g, w, more, parts, at, text) ↦
-            let is : h.envelopes ≡ (s.told ++ f) ++ e ∷ g = rw (append_assoc s.told f (e ∷ g), ← parts) s.parts in
-            let (divides, listed) = divides_before h.taken.divides (s.told ++ f) e g is in
-            let has = (all_back HasText (s.told ++ f) (e ∷ g) (rw is at h.texts)).0 in
-            let later = joined g ++ begun in
-            let text_is : IsTextIn (take (length e.octets) (e.octets ++ later)) (w ++ more) = rw (take-append_seam e.octets later, ← text) has in (
-              joined h.envelopes ++ begun,
-              s.told ++ f,
-              e.octets ++ later,
-              divides,
-              h.taken.given,
-              inl (
-                (
-                  length e.octets,
-                  w,
-                  more,
-                  omega (arith, length-append e.octets later),
-                  λ whole none. (e, listed, nothing_more e.octets later whole),
-                  text_is,
-                  after (s.told ++ f) f w refl at,
-                  broken,
+      let said : Wrote (errors_of es first) (errors_of es d) (texts_from line_of 1 s.told) = rw same s.said in (
+        elim (reach s.others (1 + length s.told) words out (held_of d.output) left) [
+          | inl (w, at, front) ↦ (
+            joined h.envelopes ++ begun,
+            h.envelopes,
+            begun,
+            h.taken.divides,
+            h.taken.given,
+            inl ((k, w, held_of d.output, h.within, all, rw front at h.is, after h.envelopes s.others w s.parts at, broken), (s.told, s.others, s.parts, said)),
+          )
+          | inr (f, e, g, w, more, parts, at, text) ↦
+              let is : h.envelopes ≡ (s.told ++ f) ++ e ∷ g = rw (append_assoc s.told f (e ∷ g), ← parts) s.parts in
+              let (divides, listed) = divides_before h.taken.divides (s.told ++ f) e g is in
+              let has = (all_back HasText (s.told ++ f) (e ∷ g) (rw is at h.texts)).0 in
+              let later = joined g ++ begun in
+              let text_is : IsTextIn (take (length e.octets) (e.octets ++ later)) (w ++ more) = rw (take-append_seam e.octets later, ← text) has in (
+                joined h.envelopes ++ begun,
+                s.told ++ f,
+                e.octets ++ later,
+                divides,
+                h.taken.given,
+                inl (
+                  (
+                    length e.octets,
+                    w,
+                    more,
+                    omega (arith, length-append e.octets later),
+                    λ whole none. (e, listed, nothing_more e.octets later whole),
+                    text_is,
+                    after (s.told ++ f) f w refl at,
+                    broken,
+                  ),
+                  (s.told, f, refl, said),
                 ),
-                (s.told, f, refl, said),
-              ),
-            )
-      ], kept d keeps)
+              )
+        ],
+        kept d keeps,
+      )
 
   told_with : (line : List ℕ) → (line ≡ []) ⊎ TellsEnd count begun words line → AreToldWith h.envelopes begun (texts_from line_of 1 h.envelopes ++ line) words
   told_with line (inl nothing) = inl (rw (nothing, append-nil) refl, k, h.is)

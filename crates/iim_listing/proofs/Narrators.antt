@@ -1,9 +1,8 @@
 -- What a narrator loses.
-use Rattle.iim_listing.proofs.Words.{◌≡◌, ℕ, ◌+◌, inl, inr, ◌∙◌, arith, List, [], ◌++◌, length, append-nil, length-append, Result, Ok, Err}
-use Rattle.iim_listing.proofs.Words.{IfErr, take-append-le, MutBor, Device, TextsJoin, CommandFault, IsLost, IsUntold, LetsOut, errors_of, output_of, Narrator}
+use Rattle.iim_listing.proofs.Words.{◌≡◌, ℕ, ◌+◌, inl, inr, ◌∙◌, arith, List, [], ◌++◌, length, append-nil, length-append, Result, Ok, Err, IfErr, take-append-le, MutBor, Device, TextsJoin, CommandFault, IsLost, IsUntold, LetsOut, errors_of, output_of, Narrator}
 use Rattle.iim_dataset.specs.States.Devices.{Stopped}
-use Rattle.iim_output.specs.Format.Statuses.{IsUnsaid}
-use Rattle.iim_listing.specs.Narrating.{TextIsOut}
+use Rattle.iim_output.specs.Format.{IsUnsaid}
+use Rattle.iim_listing.specs.Steps.{TextIsOut}
 
 stopped_before : (old new : Device) (xs ys : List ℕ) (n : ℕ) → Stopped old new (xs ++ []) n → Stopped old new (xs ++ ys) n
 stopped_before old new xs ys n stopped =

@@ -1,24 +1,20 @@
 -- How an unpacker that stood on no octets is fed up to the end of an envelope, and what an intake gives.
-use Rattle.iim_listing.proofs.Words.{◌≡◌, ◌⊎◌, ℕ, inl, inr, refl, sym, ap, subst, ◌∙◌, arith, List, [], length, take, Option, Some, Result, take-length}
-use Rattle.iim_listing.proofs.Words.{Device, StoryEvent, Unpacking, limits_in, raised, Joined, GiftsJoin, DeliveryMayBeCut, Refusal, CommandFault}
-use Rattle.iim_listing.proofs.Words.{EnvelopeHasCome, IsCalm, IsNext, IsRefusal, limits, IsDelivered, no_text, ◌-◌, ◌^◌, ◌<◌, ◌∷◌, length-append, IsAtEnd}
-use Rattle.iim_listing.proofs.Words.{HasGiven}
+use Rattle.iim_listing.proofs.Words.{◌≡◌, ◌⊎◌, ℕ, inl, inr, refl, sym, ap, subst, ◌∙◌, arith, List, [], length, take, Option, Some, Result, take-length, Device, StoryEvent, Unpacking, limits_in, raised, Joined, GiftsJoin, DeliveryMayBeCut, Refusal, CommandFault, EnvelopeHasCome, IsCalm, IsNext, IsRefusal, limits, IsDelivered, no_text, ◌-◌, ◌^◌, ◌<◌, ◌∷◌, length-append, IsAtEnd, HasGiven}
 use Rattle.std.proofs.Common.{◌≢◌, append-nil}
 use Rattle.iim_dataset.specs.declared.device.IoFault.{IoFault}
 use Rattle.iim_dataset.specs.declared.device.IoFault.TheVariants as io
 use Rattle.iim_unpack.specs.declared.intake.IntakeFault.{IntakeFault}
 use Rattle.iim_unpack.specs.declared.intake.IntakeFault.TheVariants.{Refused, Read, Interrupted}
 use Rattle.iim_unpack.specs.States.Intakes.{Faults, IsOfReader, WasDone, WasMissed, WasRefused, WasTruncated, HasFed, IsReady, WasEnded}
-use Rattle.iim_unpack.specs.States.Parts.{CountsFor}
+use Rattle.iim_unpack.specs.States.Unpacking.{CountsFor, IsDoneWith, LeftAs, Stands}
 use Rattle.iim_places.specs.Format.Open.{Delivers}
 use Rattle.iim_fields.specs.declared.limits.Limits.{Limits}
-use Rattle.iim_places.specs.Format.Framed.{AreWithin}
-use Rattle.iim_unpack.specs.States.Unpacking.{IsDoneWith, LeftAs, Stands}
+use Rattle.iim_places.specs.Format.Admitted.{AreWithin}
 use Rattle.iim_unpack.proofs.Intakes.{fed_and_done, fed_and_faults, missed_open, fed_few, fed_none, fed_nothing, fed_on, fed_then, raised_on, some_came}
 use Rattle.iim_places.specs.declared.refusal.Cause.{Cause}
 use Rattle.iim_places.specs.declared.refusal.Cause.TheVariants.{Message, Truncated}
 use Rattle.wire_message.specs.declared.fault.MessageCause.TheVariants as messages
-use Rattle.iim_listing.specs.Turns.{IsOfFault}
+use Rattle.iim_listing.specs.Steps.{IsOfFault}
 use Rattle.iim_listing.specs.declared.coming.Next.{Next}
 use Rattle.iim_listing.specs.States.{CanAskForMore, IsCutOff, IsHeldUp, IsUnheard}
 use Rattle.iim_places.specs.Laws.{OpenOctetsAreBounded}

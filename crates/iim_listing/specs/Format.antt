@@ -1,4 +1,173 @@
-pub mod Listings
-pub mod Narration
-pub mod Texts
-pub mod WrittenListings
+-- What the commands leave of an input: `check` and `show` a listing, `story` the texts.
+use Rattle.std.specs.Prelude.{◌≡◌, ℕ, ◌+◌, length, List, [], ◌∷◌, ◌++◌, codes, decimal, ◌⊎◌, ◌≤◌, map, take}
+use Rattle.std.specs.List.{flat_map, join_with_byte}
+use Rattle.std.specs.Io.KnownBytes.{Appends}
+use Rattle.wire_story.specs.Format.Texts.{StoryEvent, delivered, octet_for}
+use Rattle.iim_places.specs.Format.Open.{IsTextOf, IsOpen}
+use Rattle.iim_places.specs.Format.Streams.{raised, InputEnding, Listed, Whole, RefusedBy, TooMany, Divides, EndsBy, IsListing, IsListed, IsRefusedAfter}
+use Rattle.iim_output.specs.Format.{accepted_line, refused_line, too_many_line, status_accepted, status_refused, limits}
+use Rattle.iim_object.specs.Format.Objects.{mode_number}
+use Rattle.iim_places.specs.Format.Admitted.{Value}
+use Rattle.iim_script.specs.Format.Scripts.{field_line, message_line, trailer_line}
+use Rattle.iim_dataset.specs.Format.Datasets.{number_or_dash}
+use Rattle.iim_dataset.specs.States.Devices.{Device, Wrote, Stopped, Unfailed, HasGiven, MissedAfter}
+use Rattle.iim_output.specs.States.Devices.{HasOctets}
+use Rattle.iim_dataset.specs.Format.Octets.{lf}
+use Rattle.wire_story.specs.States.Reading.{HasBroken}
+use Rattle.iim_object.specs.declared.size.Sizes.{Sizes}
+use Rattle.iim_dataset.specs.declared.device.IoFault.{IoFault}
+pub use Rattle.iim_output.specs.declared.fault.CommandFault.{CommandFault}
+pub use Rattle.iim_output.specs.declared.fault.CommandFault.TheVariants.{CannotRead, CannotWrite, OutOfMemory}
+
+-- a count of octets as it is told: it stays at the greatest number of 64 bits
+abbrev pub told : ℕ → ℕ
+told n = raised 0 n
+
+-- What is delivered of the text in the octets is this.
+abbrev pub IsDelivered : List ℕ → List StoryEvent → Type 0
+IsDelivered octets more = (text : List ℕ) × IsTextOf octets text × (more ≡ delivered text)
+
+-- the line of an envelope with this number
+abbrev pub line_of : ℕ → Listed → List ℕ
+line_of number e = accepted_line number (told (length e.octets))
+
+-- what is written of each envelope, in their order, numbered from n
+abbrev pub texts_from : (ℕ → Listed → List ℕ) → ℕ → List Listed → List ℕ
+texts_from text n [] = []
+texts_from text n (e ∷ es) = text n e ++ texts_from text (n + 1) es
+
+-- the last line, after `count` envelopes
+abbrev pub ending_line : ℕ → InputEnding → List ℕ
+ending_line count Whole = []
+ending_line count (RefusedBy refusal) = refused_line (count + 1) refusal
+ending_line count TooMany = too_many_line
+
+-- what is written of a listing
+abbrev pub listing : (ℕ → Listed → List ℕ) → List Listed → InputEnding → List ℕ
+listing text envelopes ending = texts_from text 1 envelopes ++ ending_line (length envelopes) ending
+
+-- the status of a listing: 0 where the whole input is accepted, else 1
+-- twin: `tells_a_refusal_after_envelopes`, `lists_a_million_envelopes_and_no_more`
+abbrev pub status_of : InputEnding → ℕ
+status_of Whole = status_accepted
+status_of _ = status_refused
+
+-- the first line
+-- twins (with sizes_line, shown_text): `shows_worked_envelopes`, `shows_what_is_rare`, `packs_as_it_is_asked`
+abbrev pub number_line : ℕ → List ℕ
+number_line number = codes "envelope " ++ (decimal number ++ codes "\n")
+
+abbrev pub sizes_line : Sizes → List ℕ
+sizes_line s =
+    codes "object " ++ (decimal s.total ++ (codes " octets, " ++ (decimal s.subfiles ++ (codes " subfiles, mode " ++ (decimal (mode_number s.known)
+    ++ (codes ", limit " ++ (decimal s.subfile ++ (codes ", announced " ++ (number_or_dash s.announced ++ (codes ", maximum "
+    ++ (number_or_dash s.maximum ++ codes "\n")))))))))))
+
+-- all that is shown of an envelope with this number
+abbrev pub shown_text : ℕ → Value → List ℕ
+shown_text number v =
+    number_line number ++ (flat_map field_line v.fields ++ (message_line v.head ++ (trailer_line v.trailer ++ sizes_line v.sizes)))
+
+abbrev pub shown_of : ℕ → Listed → List ℕ
+shown_of number e = shown_text number e.value
+
+-- The listing of the whole input is written, and the status is the one for it. (The input before and after, then the output.)
+abbrev pub WritesListing : (ℕ → Listed → List ℕ) → Device → Device → Device → Device → ℕ → Type 0
+WritesListing text source rest old new status = (input : List ℕ) × (envelopes : List Listed) × (ending : InputEnding) × HasOctets source.octets input × Unfailed source rest
+    × IsListing limits input envelopes ending × (status ≡ status_of ending) × Wrote old new (listing text envelopes ending)
+
+-- The text is what is written of the envelopes, and perhaps the last line too.
+abbrev pub IsListingText : (ℕ → Listed → List ℕ) → List Listed → List ℕ → List ℕ → Type 0
+IsListingText text envelopes rest words = (words ≡ texts_from text 1 envelopes)
+    ⊎ ((ending : InputEnding) × EndsBy limits (length envelopes) rest ending × (words ≡ listing text envelopes ending))
+
+-- Why the listing isn't out. A read failed after envelopes and octets that every layer can continue from: all these envelopes are
+-- listed. Or the output broke inside the listing. Or memory was short: some of the envelopes that came are listed.
+abbrev pub FailsListing : (ℕ → Listed → List ℕ) → Device → Device → Device → Device → CommandFault → Type 0
+FailsListing text source rest old new CannotRead = (input : List ℕ) × (envelopes : List Listed) × (begun : List ℕ) × (fault : IoFault)
+    × Divides limits input envelopes begun × IsOpen limits begun × MissedAfter source rest input fault × Wrote old new (texts_from text 1 envelopes)
+FailsListing text source rest old new CannotWrite = (input : List ℕ) × (envelopes : List Listed) × (begun : List ℕ) × (words : List ℕ) × (n : ℕ)
+    × Divides limits input envelopes begun × HasGiven source rest input × IsListingText text envelopes begun words × Stopped old new words n
+FailsListing text source rest old new OutOfMemory = (input : List ℕ) × (envelopes : List Listed) × (begun : List ℕ)
+    × Divides limits input envelopes begun × HasGiven source rest input × Wrote old new (texts_from text 1 envelopes)
+
+-- ---- What `story` leaves: the text of each envelope on the output, and the lines of `check` on the errors.
+
+-- the text of an envelope: its lines, joined by LF
+-- twins (with story_of): law `envelopes_are_delivered_as_lines`; `tells_stories_up_to_a_refusal`, `leaves_the_text_before_a_refusal`
+abbrev pub text_of : Listed → List ℕ
+text_of e = join_with_byte lf e.value.lines
+
+-- and an LF after it
+abbrev pub story_of : ℕ → Listed → List ℕ
+story_of number e = text_of e ++ (lf ∷ [])
+
+-- the stories of all envelopes, in their order
+abbrev pub stories : List Listed → List ℕ
+stories envelopes = texts_from story_of 1 envelopes
+
+-- The words are what is delivered of the text in the octets, each line end as LF.
+abbrev pub IsTextIn : List ℕ → List ℕ → Type 0
+IsTextIn octets words = (more : List StoryEvent) × IsDelivered octets more × (words ≡ map octet_for more)
+
+-- What is written of the octets after the envelopes: of refused ones the text before the refused one, and of one envelope too many
+-- its text, without an LF.
+abbrev pub LeavesText : List ℕ → InputEnding → List ℕ → Type 0
+LeavesText rest Whole words = words ≡ []
+LeavesText rest (RefusedBy refusal) words = (k : ℕ) × IsRefusedAfter limits rest k refusal × IsTextIn (take k rest) words
+LeavesText rest TooMany words = (e : Listed) × IsListed limits e × (more : List ℕ) × (rest ≡ e.octets ++ more) × (words ≡ text_of e)
+
+-- The listing of an input, and what is written of the octets after its envelopes.
+pub record IsNarration (input : List ℕ) (envelopes : List Listed) (ending : InputEnding) (words : List ℕ) : Type 0 where
+  pub listing : IsListing limits input envelopes ending
+  pub leaves : LeavesText listing.rest ending words
+
+-- The whole input is told: its stories on the output, and the lines of `check` on the errors. (The input before and after, then the
+-- output, then the errors.)
+abbrev pub Narrated : Device → Device → Device → Device → Device → Device → ℕ → Type 0
+Narrated source rest old new errors_old errors_new status =
+    (input : List ℕ) × (envelopes : List Listed) × (ending : InputEnding) × (words : List ℕ) × HasOctets source.octets input × Unfailed source rest
+    × IsNarration input envelopes ending words × (status ≡ status_of ending) × Wrote old new (stories envelopes ++ words)
+    × Wrote errors_old errors_new (listing line_of envelopes ending)
+
+-- ---- where a fault comes
+
+-- The output broke after these stories, and inside the text of the octets: the words are out, with which the text in the first k
+-- begins. If that is all of them, and all of their text is out, then they are an envelope, and the LF after its text was refused.
+abbrev pub BreaksInText : Device → Device → List Listed → List ℕ → Type 0
+BreaksInText old new envelopes octets = (k : ℕ) × (words : List ℕ) × (rest : List ℕ) × (k ≤ length octets)
+    × (k ≡ length octets → rest ≡ [] → (e : Listed) × IsListed limits e × (e.octets ≡ octets))
+    × IsTextIn (take k octets) (words ++ rest) × Appends old.octets new.octets (stories envelopes ++ words) × HasBroken old new
+
+-- Of the envelopes whose stories are out some, from the first on, are told on the errors, each with its whole line.
+abbrev pub TellsFront : Device → Device → List Listed → Type 0
+TellsFront errors_old errors_new envelopes = (front : List Listed) × (others : List Listed) × (envelopes ≡ front ++ others)
+    × Wrote errors_old errors_new (texts_from line_of 1 front)
+
+-- The errors broke inside these lines, after these words, which are the text in the first k of the octets after the envelopes; or the
+-- lines have the one for what follows the envelopes.
+abbrev pub AreToldWith : List Listed → List ℕ → List ℕ → List ℕ → Type 0
+AreToldWith envelopes rest told words = ((told ≡ texts_from line_of 1 envelopes) × (k : ℕ) × IsTextIn (take k rest) words)
+    ⊎ ((ending : InputEnding) × EndsBy limits (length envelopes) rest ending × LeavesText rest ending words × (told ≡ listing line_of envelopes ending))
+
+abbrev pub BreaksInLines : Device → Device → Device → Device → List Listed → List ℕ → Type 0
+BreaksInLines old new errors_old errors_new envelopes rest = (told : List ℕ) × (words : List ℕ) × (n : ℕ) × AreToldWith envelopes rest told words
+    × Wrote old new (stories envelopes ++ words) × Stopped errors_old errors_new told n
+
+-- Why not all is told. A read failed after envelopes and octets that every layer can continue from. Or the output broke inside a story,
+-- which may be that of an earlier envelope than the one that came last: the lines that were held are lost then, and no line is told
+-- before its story is out. Or the errors broke inside their lines, when all that came of the stories was out. Or memory was short: the
+-- stories of some of the envelopes that came are out, and of octets after them the text in the first k.
+abbrev pub IsUnnarrated : Device → Device → Device → Device → Device → Device → CommandFault → Type 0
+IsUnnarrated source rest old new errors_old errors_new CannotRead =
+    (input : List ℕ) × (envelopes : List Listed) × (begun : List ℕ) × (fault : IoFault) × (words : List ℕ)
+    × Divides limits input envelopes begun × IsOpen limits begun × MissedAfter source rest input fault × IsTextIn begun words
+    × Wrote old new (stories envelopes ++ words) × Wrote errors_old errors_new (texts_from line_of 1 envelopes)
+IsUnnarrated source rest old new errors_old errors_new CannotWrite =
+    (input : List ℕ) × (envelopes : List Listed) × (begun : List ℕ) × Divides limits input envelopes begun × HasGiven source rest input
+    × ((BreaksInText old new envelopes begun × TellsFront errors_old errors_new envelopes)
+    ⊎ BreaksInLines old new errors_old errors_new envelopes begun)
+IsUnnarrated source rest old new errors_old errors_new OutOfMemory =
+    (input : List ℕ) × (envelopes : List Listed) × (begun : List ℕ) × (k : ℕ) × (words : List ℕ)
+    × Divides limits input envelopes begun × HasGiven source rest input × IsTextIn (take k begun) words
+    × Wrote old new (stories envelopes ++ words) × Wrote errors_old errors_new (texts_from line_of 1 envelopes)

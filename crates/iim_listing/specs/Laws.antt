@@ -1,8 +1,8 @@
 -- What `story` leaves: the text of each envelope on the output, and the lines of `check` on the errors.
 use Rattle.std.specs.Prelude.{◌≡◌, ℕ, List}
-use Rattle.wire_story.specs.Format.Delivery.{StoryEvent, events_of_lines}
+use Rattle.wire_story.specs.Format.Texts.{StoryEvent, events_of_lines}
 use Rattle.iim_places.specs.Format.Admitted.{Value, Admits}
-use Rattle.iim_listing.specs.Format.Listings.{IsDelivered}
+use Rattle.iim_listing.specs.Format.{IsDelivered}
 
 -- What is delivered of the text in an envelope is its lines.
 abbrev pub EnvelopesAreDeliveredAsLines : Type 0

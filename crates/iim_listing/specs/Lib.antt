@@ -5,6 +5,4 @@ pub mod States
 -- What holds of these: statements, each the contract of a law.
 pub mod Laws
 -- What only proofs and private clauses cite.
-pub mod Narrating
-pub mod NarratingLaws
-pub mod Turns
+pub mod Steps

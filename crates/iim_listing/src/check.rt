@@ -1,6 +1,6 @@
 //! `check`: a line for each envelope.
 
-ghost use Rattle.iim_listing.specs.Format.Listings.{line_of};
+ghost use Rattle.iim_listing.specs.Format.{line_of};
 
 use crate::list::EnvelopeLines;
 use iim_output::lines::push_accepted;

@@ -5,8 +5,8 @@ ghost use Rattle.iim_unpack.specs.States.Intakes.{in_line};
 ghost use Rattle.iim_listing.specs.States.{IsNext, IsCalm, CanAskForMore};
 ghost use Rattle.iim_unpack.specs.States.Unpacking.{limits_in};
 ghost use Rattle.iim_unpack.specs.declared.intake.IntakeFault.TheVariants.{Refused};
-ghost use Rattle.iim_listing.specs.Turns.{IsOfFault};
-ghost use Rattle.iim_output.specs.Format.Limits.{limits};
+ghost use Rattle.iim_listing.specs.Steps.{IsOfFault};
+ghost use Rattle.iim_output.specs.Format.{limits};
 
 use iim_dataset::device_laws::gifts_join;
 use iim_dataset::{Source, Stop};

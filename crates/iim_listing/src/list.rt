@@ -2,15 +2,14 @@
 
 ghost use Rattle.std.specs.Prelude.{◌≡◌, ◌<◌, ◌≤◌, ◌++◌, ℕ, List, length, None, Ok, Err, IfOk, IfErr, OnOk};
 ghost use Rattle.iim_unpack.specs.States.Intakes.{in_line};
-ghost use Rattle.iim_unpack.specs.Format.Value.{ShowsParts};
+ghost use Rattle.iim_unpack.specs.Format.Pieces.{ShowsParts};
 ghost use Rattle.iim_places.specs.Format.Admitted.{Admits};
 ghost use Rattle.iim_unpack.specs.States.Unpacking.{IsDone, IsDoneWith, limits_in};
-ghost use Rattle.iim_output.specs.Format.Limits.{limits};
-ghost use Rattle.iim_places.specs.Format.Listing.{Listed, max_envelopes};
-ghost use Rattle.iim_listing.specs.Format.Listings.{told};
-ghost use Rattle.iim_listing.specs.Format.WrittenListings.{WritesListing, FailsListing};
+ghost use Rattle.iim_output.specs.Format.{limits};
+ghost use Rattle.iim_places.specs.Format.Streams.{Listed, max_envelopes};
+ghost use Rattle.iim_listing.specs.Format.{told, WritesListing, FailsListing};
 ghost use Rattle.iim_output.specs.States.Holding.{HoldsNothing, KeepsWriter, device_of};
-ghost use Rattle.iim_listing.specs.Turns.{IsUnlisted, Settles, ListsNext};
+ghost use Rattle.iim_listing.specs.Steps.{IsUnlisted, Settles, ListsNext};
 
 use crate::coming::{LIMITS, Next, take_next};
 use iim_dataset::device_laws::{gifts_join, texts_join};
@@ -33,8 +32,8 @@ fn push_envelope<P: EnvelopeLines>(
     octets: u64,
 ) -> Result<(), AllocError>
     requires { IsDone unpacker.now }
-    ensures { (e : Listed) → IsDoneWith unpacker.now e.octets octets → Admits e.octets e.value → octets ≡ told (length e.octets)
-        → OnOk result (text.new.items ≡ text.old.items ++ P.written number e) }
+    ensures { (e : Listed) → IsDoneWith unpacker.now e.octets octets → Admits e.octets e.value
+        → octets ≡ told (length e.octets) → OnOk result (text.new.items ≡ text.old.items ++ P.written number e) }
 {
     let Some(got) = unpacker.unpacked() else {
         unreachable!()
@@ -60,7 +59,8 @@ fn list_next<P: EnvelopeLines, R: Source, W: Target>(
         (next ≡ None → (intake.new.failed ≡ None) × (limits_in unpacker.new ≡ limits) × (count < max_envelopes))
         × ListsNext W.state P.written (in_line R.state intake.old) (in_line R.state intake.new) silent.old.output
         silent.new.output count (Ok next)) }
-    ensures err { IfErr result (λ fault. ListsNext W.state P.written (in_line R.state intake.old) (in_line R.state intake.new)
+    ensures err { IfErr result (λ fault. ListsNext W.state P.written
+        (in_line R.state intake.old) (in_line R.state intake.new)
         silent.old.output silent.new.output count (Err fault)) }
     ensures leads { R.leads intake.old.reader intake.new.reader }
 {

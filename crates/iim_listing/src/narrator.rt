@@ -1,7 +1,7 @@
 //! What `story` writes with: the text in blocks, and the lines that are told beside it.
 
 ghost use Rattle.std.specs.Prelude.{◌≡◌, [], ◌∷◌, IfErr, OnOk, OnErr};
-ghost use Rattle.iim_output.specs.Format.Lines.{accepted_line, refused_line};
+ghost use Rattle.iim_output.specs.Format.{accepted_line, refused_line};
 
 use iim_dataset::device_laws::texts_join;
 use iim_dataset::octets::LF;
@@ -29,9 +29,9 @@ pub(crate) struct Narrator<'o, 'e, W, E> {
 }
 
 impl<'o, 'e, W: Target, E: Target> Narrator<'o, 'e, W, E> {
-    ghost use Rattle.iim_dataset.specs.Format.Characters.{lf};
+    ghost use Rattle.iim_dataset.specs.Format.Octets.{lf};
     ghost use Rattle.iim_output.specs.States.Holding.{PutsOn};
-    ghost use Rattle.iim_listing.specs.Narrating.{HoldsLines, IsUnended, IsUntold, LetsOut, stops_of};
+    ghost use Rattle.iim_listing.specs.Steps.{HoldsLines, IsUnended, IsUntold, LetsOut, stops_of};
 
     /// A narrator that holds no line.
     pub(crate) fn new(
@@ -131,13 +131,13 @@ impl<'o, 'e, W: Target, E: Target> Narrator<'o, 'e, W, E> {
 }
 
 impl<'o, 'e, W: Target, E: Target> StorySink for Narrator<'o, 'e, W, E> {
-    ghost use Rattle.iim_listing.specs.Narrating.{TellsOn, stops_of};
+    ghost use Rattle.iim_listing.specs.Steps.{TellsOn, stops_of};
 
     ghost goes = { TellsOn W.state E.state };
 
     ghost failures = { stops_of };
 
-    ghost use Rattle.iim_listing.specs.NarratingLaws.{tells_nothing, tells_joined};
+    ghost use Rattle.iim_listing.specs.Steps.{tells_nothing, tells_joined};
 
     ghost nothing = { λ sink. tells_nothing W.state E.state sink };
 
@@ -153,7 +153,7 @@ impl<'o, 'e, W: Target, E: Target> StorySink for Narrator<'o, 'e, W, E> {
 }
 
 impl<'o, 'e, W: Target, E: Target> Outlet for Narrator<'o, 'e, W, E> {
-    ghost use Rattle.iim_listing.specs.Narrating.{IsSettled, IsStuck, LetsOut, TellsOn, stops_of};
+    ghost use Rattle.iim_listing.specs.Steps.{IsSettled, IsStuck, LetsOut, TellsOn, stops_of};
 
     ghost settled = { IsSettled };
 

@@ -1,9 +1,9 @@
 //! `show`: all parts of each envelope but its story.
 
 ghost use Rattle.std.specs.Prelude.{◌≡◌, ◌+◌, ◌≤◌, ◌++◌, length, drop, OnOk, codes, decimal};
-ghost use Rattle.iim_dataset.specs.Format.Shown.{number_or_dash};
-ghost use Rattle.iim_object.specs.Format.Sizes.{mode_number};
-ghost use Rattle.iim_listing.specs.Format.Texts.{number_line, shown_of, sizes_line};
+ghost use Rattle.iim_dataset.specs.Format.Datasets.{number_or_dash};
+ghost use Rattle.iim_object.specs.Format.Objects.{mode_number};
+ghost use Rattle.iim_listing.specs.Format.{number_line, shown_of, sizes_line};
 
 use crate::list::EnvelopeLines;
 use iim_object::Sizes;

@@ -2,14 +2,13 @@
 
 ghost use Rattle.std.specs.Prelude.{◌≡◌, ◌<◌, ◌≤◌, None, Ok, Err, IfOk, IfErr};
 ghost use Rattle.iim_unpack.specs.States.Intakes.{in_line};
-ghost use Rattle.iim_listing.specs.Narrating.{IsSettled, KeepsTargets, errors_of, output_of};
-ghost use Rattle.iim_listing.specs.Narrating as narrators;
-ghost use Rattle.wire_story.specs.States.Writing.{device_of, stops_of};
-ghost use Rattle.iim_listing.specs.Format.Narration.{IsUnnarrated, Narrated};
-ghost use Rattle.iim_places.specs.Format.Listing.{max_envelopes};
-ghost use Rattle.iim_listing.specs.Turns.{TellsNext};
+ghost use Rattle.iim_listing.specs.Steps.{IsSettled, KeepsTargets, errors_of, output_of, TellsNext};
+ghost use Rattle.iim_listing.specs.Steps as narrators;
+ghost use Rattle.wire_story.specs.States.Reading.{device_of, stops_of};
+ghost use Rattle.iim_listing.specs.Format.{IsUnnarrated, Narrated};
+ghost use Rattle.iim_places.specs.Format.Streams.{max_envelopes};
 ghost use Rattle.iim_unpack.specs.States.Unpacking.{limits_in};
-ghost use Rattle.iim_output.specs.Format.Limits.{limits};
+ghost use Rattle.iim_output.specs.Format.{limits};
 
 use crate::coming::{LIMITS, Next, take_next};
 use crate::laws::envelopes_are_delivered_as_lines;
@@ -40,8 +39,8 @@ fn tell_next<R: Source, W: Target, E: Target>(
         (next ≡ None → (intake.new.failed ≡ None) × (limits_in unpacker.new ≡ limits) × (count < max_envelopes))
         × TellsNext W.state E.state (in_line R.state intake.old) (in_line R.state intake.new) narrator.old narrator.new
         count (Ok next)) }
-    ensures err { IfErr result (λ fault. TellsNext W.state E.state (in_line R.state intake.old) (in_line R.state intake.new)
-        narrator.old narrator.new count (Err fault)) }
+    ensures err { IfErr result (λ fault. TellsNext W.state E.state
+        (in_line R.state intake.old) (in_line R.state intake.new) narrator.old narrator.new count (Err fault)) }
     ensures leads { R.leads intake.old.reader intake.new.reader }
 {
     gifts_join();

@@ -1,7 +1,5 @@
 -- From places at which one reader stands the same tokens lead on alike.
-use Rattle.iim_object.proofs.Words.{◌≡◌, ℕ, List, [], ◌∷◌, ◌++◌, length, Option, Some, None, is_some, refl, sym, ap, ◌∙◌, arith, nil_from_length, IsAlive}
-use Rattle.iim_object.proofs.Words.{all_append, all_last, Stated, InRow, number_at, ObjectToken, NumberRead, SubfileBegun, ObjectEnded, Confirmed}
-use Rattle.iim_object.proofs.Words.{ObjectLanguage, Place, MayFollow, place_after, tokens_of, IsStateAt, StandsAt, LeadsOn, State, TokensLead}
+use Rattle.iim_object.proofs.Words.{◌≡◌, ℕ, List, [], ◌∷◌, ◌++◌, length, Option, Some, None, is_some, refl, sym, ap, ◌∙◌, arith, nil_from_length, IsAlive, all_append, all_last, Stated, InRow, number_at, ObjectToken, NumberRead, SubfileBegun, ObjectEnded, Confirmed, ObjectLanguage, Place, MayFollow, place_after, tokens_of, IsStateAt, StandsAt, LeadsOn, State, TokensLead}
 use Rattle.iim_object.specs.States.Reading.{SizeCause}
 use Rattle.iim_object.specs.Laws.{TokensLeadOnAlike}
 use Rattle.iim_object.proofs.Numbers.{once-append}

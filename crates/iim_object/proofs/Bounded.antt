@@ -1,7 +1,5 @@
 -- Numbers and subfiles that stay within bounds: lemmas for the proofs of every crate, of which nothing is to be believed.
-use Rattle.iim_object.proofs.Words.{◌≡◌, ℕ, zero, suc, ◌≤◌, Bool, true, false, List, [], ◌∷◌, ◌++◌, map, length, Option, refl, arith, inl, inr, greatest_size}
-use Rattle.iim_object.proofs.Words.{ObjectToken, NumberRead, SubfileBegun, ObjectEnded, Confirmed, Place, max_subfiles, Stated, InRow, mode_number}
-use Rattle.iim_object.proofs.Words.{TokensWithin, StandsAt, State, IsPossible}
+use Rattle.iim_object.proofs.Words.{◌≡◌, ℕ, zero, suc, ◌≤◌, Bool, true, false, List, [], ◌∷◌, ◌++◌, map, length, Option, refl, arith, inl, inr, greatest_size, ObjectToken, NumberRead, SubfileBegun, ObjectEnded, Confirmed, Place, max_subfiles, Stated, InRow, mode_number, TokensWithin, StandsAt, State, IsPossible}
 
 pub mode_known : (n : ℕ) → n ≤ 1 → (known : Bool) × (n ≡ mode_number known)
 mode_known zero h = (false, refl)

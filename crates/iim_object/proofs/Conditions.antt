@@ -1,10 +1,7 @@
 -- The first cause by tests is the cause of the lowest number whose condition holds.
-use Rattle.iim_object.proofs.Words.{◌≡◌, ℕ, ◌<◌, ◌≤◌, ◌+◌, ◌⊎◌, List, [], ◌∷◌, ◌++◌, sum, Option, Some, None, IfSome, unwrap_or, refl, ap, ◌∙◌, arith, inl}
-use Rattle.iim_object.proofs.Words.{inr, IsAlive, greatest_size, Stated, number_at, ObjectToken, SubfileBegun, ObjectLanguage, Place, HasBoth, MayFollow}
-use Rattle.iim_object.proofs.Words.{tokens_of, cause_at}
+use Rattle.iim_object.proofs.Words.{◌≡◌, ℕ, ◌<◌, ◌≤◌, ◌+◌, ◌⊎◌, List, [], ◌∷◌, ◌++◌, sum, Option, Some, None, IfSome, unwrap_or, refl, ap, ◌∙◌, arith, inl, inr, IsAlive, greatest_size, Stated, number_at, ObjectToken, SubfileBegun, ObjectLanguage, Place, HasBoth, MayFollow, tokens_of, cause_at}
 use Rattle.iim_object.specs.declared.reading.fault.SizeCause.{SizeCause}
-use Rattle.iim_object.specs.Format.Causes.{bound}
-use Rattle.iim_object.specs.Format.Conditions.{number_of, PassesBound, HasCause}
+use Rattle.iim_object.specs.Format.Causes.{bound, number_of, PassesBound, HasCause}
 use Rattle.iim_object.specs.Laws.{CausesAreTheFirst, ObjectsDieForCauses}
 use Rattle.iim_object.proofs.Steps.{announced_small, lives_on, tokens_follow}
 

@@ -1,10 +1,8 @@
 -- Where datasets end in records 7 to 9, and the places there.
-use Rattle.iim_object.proofs.Words.{◌≡◌, ℕ, ◌<◌, ◌≤◌, ◌⊎◌, Bool, ◌==◌, List, [], ◌∷◌, ◌++◌, length, refl, sym, ap, subst, ◌∙◌, arith, inl, inr, append-nil}
-use Rattle.iim_object.proofs.Words.{length-append, AllByRecursion, eq-eqb, nil_from_length, Dataset, of_record, all_front, all_back, all_map, nothing_of_two}
-use Rattle.iim_object.proofs.Words.{Place, AreObjectRecords, numbers_of, lengths_of, place_after_datasets}
+use Rattle.iim_object.proofs.Words.{◌≡◌, ℕ, ◌<◌, ◌≤◌, ◌⊎◌, Bool, ◌==◌, List, [], ◌∷◌, ◌++◌, length, refl, sym, ap, subst, ◌∙◌, arith, inl, inr, append-nil, length-append, AllByRecursion, eq-eqb, nil_from_length, Dataset, of_record, all_front, all_back, all_map, nothing_of_two, Place, AreObjectRecords, numbers_of, lengths_of, place_after_datasets}
 use Rattle.std.proofs.lemmas.Bool.{ne_eqb}
 use Rattle.std.proofs.lemmas.List.Elements.{filter-append}
-use Rattle.iim_object.specs.Format.Numbers.{ending_of}
+use Rattle.iim_object.specs.Format.Objects.{ending_of}
 use Rattle.iim_object.specs.Laws.{AreByNumber, RecordsAreByNumber}
 use Rattle.iim_object.proofs.Members.{IsMember, one_confirmation}
 

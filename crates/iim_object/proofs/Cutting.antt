@@ -1,8 +1,7 @@
 -- How an object is cut, and in how many ways.
-use Rattle.iim_object.proofs.Words.{◌≡◌, ℕ, ◌+◌, ◌*◌, ◌≤◌, inl, inr, List, [], ◌∷◌, ◌++◌, length, refl, sym, ap, ◌∙◌, arith, append_assoc, length-append}
-use Rattle.iim_object.proofs.Words.{le_of_mul-le-mul_left, nil_from_length, cases_lt, joined_parts, AreFull, IsCut, ObjectsAreCutOneWay, max_subfiles}
+use Rattle.iim_object.proofs.Words.{◌≡◌, ℕ, ◌+◌, ◌*◌, ◌≤◌, inl, inr, List, [], ◌∷◌, ◌++◌, length, refl, sym, ap, ◌∙◌, arith, append_assoc, length-append, le_of_mul-le-mul_left, nil_from_length, cases_lt, joined_parts, AreFull, IsCut, ObjectsAreCutOneWay, max_subfiles}
 use Rattle.std.proofs.Math.Nat.{mul-le-mul_left}
-use Rattle.iim_dataset.specs.HandedIn.{same_front}
+use Rattle.iim_dataset.specs.Steps.{same_front}
 
 -- a last part after a full one has an octet
 pub some_octet : (size : ℕ) (first rest last : List ℕ) → 1 ≤ size → length first ≡ size → (last ≡ [] → (first ++ rest) ++ last ≡ []) → 1 ≤ length last

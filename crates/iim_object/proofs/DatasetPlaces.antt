@@ -1,11 +1,7 @@
 -- The language over numbers and lengths is that of the datasets.
-use Rattle.iim_object.proofs.Words.{◌≡◌, ℕ, ◌<◌, ◌≤◌, ◌⊎◌, List, [], ◌∷◌, ◌++◌, length, map, sum, Some, refl, sym, ap, ◌∙◌, arith, inl, inr, append_assoc}
-use Rattle.iim_object.proofs.Words.{append-nil, length-append, AllByRecursion, map-append, length-map, eq-eqb, same_Some, number, greatest_size, Dataset}
-use Rattle.iim_object.proofs.Words.{IsAlive, nothing_of_two, all_append, all_back, all_map, Stated, InRow, number_at, mode_number, sizes_at, ObjectToken}
-use Rattle.iim_object.proofs.Words.{SubfileBegun, ObjectEnded, Confirmed, ObjectLanguage, number_tokens, Place, Ended, ending_tokens, tokens_of}
-use Rattle.iim_object.proofs.Words.{AreObjectRecords, numbers_of, lengths_of}
+use Rattle.iim_object.proofs.Words.{◌≡◌, ℕ, ◌<◌, ◌≤◌, ◌⊎◌, List, [], ◌∷◌, ◌++◌, length, map, sum, Some, refl, sym, ap, ◌∙◌, arith, inl, inr, append_assoc, append-nil, length-append, AllByRecursion, map-append, length-map, eq-eqb, same_Some, number, greatest_size, Dataset, IsAlive, nothing_of_two, all_append, all_back, all_map, Stated, InRow, number_at, mode_number, sizes_at, ObjectToken, SubfileBegun, ObjectEnded, Confirmed, ObjectLanguage, number_tokens, Place, Ended, ending_tokens, tokens_of, AreObjectRecords, numbers_of, lengths_of}
 use Rattle.iim_object.specs.Laws.{AreSized, object_tokens, TokensAreOfSizedDatasets, DatasetsLiveWithTheirTokens, DatasetsEndWithTheirTokens}
-use Rattle.iim_object.specs.Format.Numbers.{ending_of, place_ended}
+use Rattle.iim_object.specs.Format.Objects.{ending_of, place_ended}
 use Rattle.iim_object.proofs.Numbers.{in_row_at, largest_at_most}
 use Rattle.iim_object.proofs.Subfiles.{numbers_front, parts_of, ended_parts}
 use Rattle.iim_object.proofs.Members.{IsMember, are_stated, descriptor_of, object_of, confirmation_of, one_confirmation, some_subfile, ten_of, stating, subfiles, confirmation}

@@ -1,8 +1,5 @@
 -- The records 7, 8 and 9 that are written of an object are good.
-use Rattle.iim_object.proofs.Words.{ℕ, ◌<◌, ◌≤◌, List, [], ◌∷◌, ◌++◌, length, Some, None, refl, ap, arith, append_assoc, length-append, AllByRecursion}
-use Rattle.iim_object.proofs.Words.{length-map, good_elsewhere, part_meets, greatest_size, all_front, all_back, AreOnce, mode_number, numbers_of, AreFull}
-use Rattle.iim_object.proofs.Words.{joined_parts, limit_of, Size, Known, Unknown, number_dataset, is_known, size_datasets, plan_datasets, subfile_dataset}
-use Rattle.iim_object.proofs.Words.{subfile_datasets}
+use Rattle.iim_object.proofs.Words.{ℕ, ◌<◌, ◌≤◌, List, [], ◌∷◌, ◌++◌, length, Some, None, refl, ap, arith, append_assoc, length-append, AllByRecursion, length-map, good_elsewhere, part_meets, greatest_size, all_front, all_back, AreOnce, mode_number, numbers_of, AreFull, joined_parts, limit_of, Size, Known, Unknown, number_dataset, is_known, size_datasets, plan_datasets, subfile_dataset, subfile_datasets}
 use Rattle.iim_dataset.specs.Format.Octets.{IsOctet, Octets}
 use Rattle.iim_object.specs.Laws.{PackedRecordsAreGood}
 use Rattle.iim_object.proofs.PlanParts.{plan_parts}

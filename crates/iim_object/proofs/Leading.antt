@@ -1,8 +1,5 @@
 -- Tokens lead to the places that are possible.
-use Rattle.iim_object.proofs.Words.{◌≡◌, ℕ, ◌<◌, ◌≤◌, List, [], ◌∷◌, ◌++◌, length, map, refl, sym, ap, subst, ◌∙◌, arith, append_assoc, append-nil}
-use Rattle.iim_object.proofs.Words.{length-append, IsAlive, max_subfiles, Stated, AreStated, ObjectToken, SubfileBegun, ObjectLanguage, number_tokens, Place}
-use Rattle.iim_object.proofs.Words.{Ending, NotEnded, Ended, ConfirmedAs, HasBoth, MayFollow, ending_tokens, place_start, place_after, tokens_of, IsPossible}
-use Rattle.iim_object.proofs.Words.{TokensLead}
+use Rattle.iim_object.proofs.Words.{◌≡◌, ℕ, ◌<◌, ◌≤◌, List, [], ◌∷◌, ◌++◌, length, map, refl, sym, ap, subst, ◌∙◌, arith, append_assoc, append-nil, length-append, IsAlive, max_subfiles, Stated, AreStated, ObjectToken, SubfileBegun, ObjectLanguage, number_tokens, Place, Ending, NotEnded, Ended, ConfirmedAs, HasBoth, MayFollow, ending_tokens, place_start, place_after, tokens_of, IsPossible, TokensLead}
 use Rattle.iim_object.specs.Laws.{PlacesAreLedTo}
 use Rattle.iim_object.proofs.Leads.{stated_front}
 use Rattle.iim_object.proofs.Steps.{IsAdmitted, admitted_at, starts, stays_admitted, tokens_follow}

@@ -1,7 +1,6 @@
 -- What datasets tell leads from place to place.
-use Rattle.iim_object.proofs.Words.{◌≡◌, ℕ, ◌<◌, List, [], ◌∷◌, ◌++◌, length, None, refl, sym, ap, ◌∙◌, arith, append_assoc, map-append, length-map, Dataset}
-use Rattle.iim_object.proofs.Words.{of_record, all_front, Stated, InRow, AreOnce, AreStated, number_at, AreObjectRecords, numbers_of, lengths_of}
-use Rattle.iim_object.specs.Format.Numbers.{ending_of}
+use Rattle.iim_object.proofs.Words.{◌≡◌, ℕ, ◌<◌, List, [], ◌∷◌, ◌++◌, length, None, refl, sym, ap, ◌∙◌, arith, append_assoc, map-append, length-map, Dataset, of_record, all_front, Stated, InRow, AreOnce, AreStated, number_at, AreObjectRecords, numbers_of, lengths_of}
+use Rattle.iim_object.specs.Format.Objects.{ending_of}
 use Rattle.iim_object.specs.Laws.{OthersLeadNowhere, NumbersLead, SubfilesLead, EndsLead}
 use Rattle.iim_object.proofs.Numbers.{at-append}
 use Rattle.iim_object.proofs.Members.{are_stated, have_both, some_subfile, stated_of}

@@ -1,7 +1,5 @@
 -- Datasets of records 7, 8 and 9 as their rows say, and the numbers that they state.
-use Rattle.iim_object.proofs.Words.{◌≡◌, ℕ, suc, ◌<◌, ◌≤◌, true, false, ◌==◌, List, [], ◌∷◌, length, replicate, Some, None, is_some, refl, sym, ◌∙◌, arith}
-use Rattle.iim_object.proofs.Words.{inl, inr, AllByRecursion, eq-eqb, number, greatest_size, Dataset, written_number, number_back, good_elsewhere, part_meets}
-use Rattle.iim_object.proofs.Words.{Stated, InRow, AreOnce, AreStated, number_at, numbers_of, lengths_of, number_dataset}
+use Rattle.iim_object.proofs.Words.{◌≡◌, ℕ, suc, ◌<◌, ◌≤◌, true, false, ◌==◌, List, [], ◌∷◌, length, replicate, Some, None, is_some, refl, sym, ◌∙◌, arith, inl, inr, AllByRecursion, eq-eqb, number, greatest_size, Dataset, written_number, number_back, good_elsewhere, part_meets, Stated, InRow, AreOnce, AreStated, number_at, numbers_of, lengths_of, number_dataset}
 use Rattle.std.proofs.Common.{◌&&◌, nat_le}
 use Rattle.std.specs.List.{list_any}
 use Rattle.std.proofs.lemmas.List.{length-replicate}
@@ -9,8 +7,7 @@ use Rattle.std.proofs.lemmas.Bool.{and_from, le-leb}
 use Rattle.iim_dataset.specs.Format.Octets.{within}
 use Rattle.iim_dataset.proofs.OctetLists.{zeros_are}
 use Rattle.iim_dataset.proofs.WrittenNumbers.{number_octets, some_octets, few_octets}
-use Rattle.iim_tables.specs.Format.Numbers.{size_octets}
-use Rattle.iim_tables.specs.Format.Kinds.{is_mode, is_size_from}
+use Rattle.iim_tables.specs.Format.Kinds.{size_octets, is_mode, is_size_from}
 use Rattle.iim_tables.specs.Format.Rows.{table, row_of, Meets}
 use Rattle.iim_tables.specs.Format.Records.{repeats, occurrences, IsGoodDataset, IsGoodRecord}
 use Rattle.iim_tables.proofs.GoodDatasets.{occurrences_cons}

@@ -1,6 +1,5 @@
 -- The numbers of record 7: what is stated stays stated, what rows say of them, and their tokens.
-use Rattle.iim_object.proofs.Words.{◌≡◌, ℕ, ◌≤◌, false, ◌==◌, List, [], ◌∷◌, ◌++◌, map, Some, None, refl, arith, AllByRecursion, greatest_size, all_map}
-use Rattle.iim_object.proofs.Words.{Stated, InRow, AreOnce, number_at, TokensWithin, ObjectToken, SubfileBegun, ObjectEnded, Confirmed, number_tokens}
+use Rattle.iim_object.proofs.Words.{◌≡◌, ℕ, ◌≤◌, false, ◌==◌, List, [], ◌∷◌, ◌++◌, map, Some, None, refl, arith, AllByRecursion, greatest_size, all_map, Stated, InRow, AreOnce, number_at, TokensWithin, ObjectToken, SubfileBegun, ObjectEnded, Confirmed, number_tokens}
 use Rattle.iim_object.proofs.Bounded.{within_append, begun_within, row_low}
 
 -- ---- what is stated stays stated

@@ -1,9 +1,6 @@
 -- What is written of an object by a plan has the sizes of the plan.
-use Rattle.iim_object.proofs.Words.{◌≡◌, ℕ, ◌≤◌, List, [], ◌∷◌, ◌++◌, length, map, sum, Some, None, refl, ap, arith, append_assoc, length-append}
-use Rattle.iim_object.proofs.Words.{AllByRecursion, length-map, sum_cons, written_number, number_back, number, greatest_size, Agree, number_at, mode_number}
-use Rattle.iim_object.proofs.Words.{announced_of, maximum_of, limit_of, Size, Known, Unknown, numbers_of, lengths_of, joined_parts, AreFull, IsCut, is_known}
-use Rattle.iim_object.proofs.Words.{plan_datasets, subfile_dataset, subfile_datasets}
-use Rattle.iim_object.specs.Format.Plans.{fits}
+use Rattle.iim_object.proofs.Words.{◌≡◌, ℕ, ◌≤◌, List, [], ◌∷◌, ◌++◌, length, map, sum, Some, None, refl, ap, arith, append_assoc, length-append, AllByRecursion, length-map, sum_cons, written_number, number_back, number, greatest_size, Agree, number_at, mode_number, announced_of, maximum_of, limit_of, Size, Known, Unknown, numbers_of, lengths_of, joined_parts, AreFull, IsCut, is_known, plan_datasets, subfile_dataset, subfile_datasets}
+use Rattle.iim_object.specs.Format.Objects.{fits}
 use Rattle.iim_object.specs.Format.Packing.{IsAsKnown, packed_sizes}
 use Rattle.iim_object.specs.Laws.{PackedObjectsHaveSizes}
 use Rattle.iim_object.proofs.PlanParts.{plan_parts}

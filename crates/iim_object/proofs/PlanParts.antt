@@ -1,8 +1,7 @@
 -- What a plan of subfiles keeps to, part by part, for the proofs of every crate: nothing here is to be believed.
-use Rattle.iim_object.proofs.Words.{ℕ, ◌≤◌, arith, List, [], ◌∷◌, ◌++◌, length, Some, None, length-append, greatest_size, limit_of, Size, Known, Unknown}
-use Rattle.iim_object.proofs.Words.{canonical_dataset, canonical_stream, tag_octets, number_dataset, size_datasets, plan_datasets, is_known, mode_number}
+use Rattle.iim_object.proofs.Words.{ℕ, ◌≤◌, arith, List, [], ◌∷◌, ◌++◌, length, Some, None, length-append, greatest_size, limit_of, Size, Known, Unknown, canonical_dataset, canonical_stream, tag_octets, number_dataset, size_datasets, plan_datasets, is_known, mode_number}
 use Rattle.std.proofs.Common.{IsTrue}
-use Rattle.iim_object.specs.Format.Plans.{is_plan, most_sizes}
+use Rattle.iim_object.specs.Format.Objects.{is_plan, most_sizes}
 
 pub record IsPlan (subfile : ℕ) (size : Size) : Type 0 where
   pub least : 1 ≤ subfile

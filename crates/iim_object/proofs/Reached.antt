@@ -1,16 +1,12 @@
 -- Tokens lead to each state, and to no others.
-use Rattle.iim_object.proofs.Words.{◌≡◌, ℕ, zero, suc, ◌-◌, ◌*◌, ◌<◌, ◌≤◌, Bool, List, [], ◌∷◌, ◌++◌, length, map, sum, Option, Some, None, is_some}
-use Rattle.iim_object.proofs.Words.{unwrap_or, refl, sym, ap, ◌∙◌, arith, inl, inr, append_assoc, AllByRecursion, cases_lt, nil_from_length, IsAlive}
-use Rattle.iim_object.proofs.Words.{sum_cons, max_subfiles, Stated, InRow, AreOnce, AreStated, number_at, SubfileBegun, ObjectLanguage, number_tokens}
-use Rattle.iim_object.proofs.Words.{NoClash, HasDuties, Fit, Place, NotEnded, HasBoth, ending_tokens, tokens_of, HasNumbers, IsState, IsStateAt, StandsAt}
-use Rattle.iim_object.proofs.Words.{State}
+use Rattle.iim_object.proofs.Words.{◌≡◌, ℕ, zero, suc, ◌-◌, ◌*◌, ◌<◌, ◌≤◌, Bool, List, [], ◌∷◌, ◌++◌, length, map, sum, Option, Some, None, is_some, unwrap_or, refl, sym, ap, ◌∙◌, arith, inl, inr, append_assoc, AllByRecursion, cases_lt, nil_from_length, IsAlive, sum_cons, max_subfiles, Stated, InRow, AreOnce, AreStated, number_at, SubfileBegun, ObjectLanguage, number_tokens, NoClash, HasDuties, Fit, Place, NotEnded, HasBoth, ending_tokens, tokens_of, HasNumbers, IsState, IsStateAt, StandsAt, State}
 use Rattle.std.proofs.Common.{min, IfSome}
 use Rattle.iim_dataset.specs.Format.Octets.{greatest_size}
 use Rattle.iim_object.specs.Format.Causes.{bound}
 use Rattle.std.proofs.Math.Nat.{suc-mul}
 use Rattle.iim_dataset.proofs.Lists.{sum_fits}
 use Rattle.iim_object.specs.Laws.{PlacesAreReached}
-use Rattle.iim_object.specs.States.KeptNumbers.{HasSubfiles}
+use Rattle.iim_object.specs.States.Reading.{HasSubfiles}
 use Rattle.iim_object.proofs.Numbers.{in_row_at}
 use Rattle.iim_object.proofs.Subfiles.{front_lives, numbers_law, subfiles_law}
 use Rattle.iim_object.proofs.Steps.{tells_of, both_of, not_ended_tokens, number_before}

@@ -1,13 +1,9 @@
 -- Where numbers are those of a possible place, and the state that stands there.
-use Rattle.iim_object.proofs.Words.{◌≡◌, ℕ, ◌+◌, ◌-◌, ◌≤◌, [], ◌∷◌, length, sum, Option, Some, None, IfSome, refl, sym, ap, ◌∙◌, arith}
-use Rattle.iim_object.proofs.Words.{max_subfiles, ObjectToken, ObjectLanguage, SubfileBegun, Place, HasBoth, MayFollow, place_after, tokens_of, IsState}
-use Rattle.iim_object.proofs.Words.{TakesSubfile, IsStateAt, StandsAt, LeadsOn, Refuses, State, IsPossible}
+use Rattle.iim_object.proofs.Words.{◌≡◌, ℕ, ◌+◌, ◌-◌, ◌≤◌, [], ◌∷◌, length, sum, Option, Some, None, IfSome, refl, sym, ap, ◌∙◌, arith, max_subfiles, ObjectToken, ObjectLanguage, SubfileBegun, Place, HasBoth, MayFollow, place_after, tokens_of, IsState, TakesSubfile, IsStateAt, StandsAt, LeadsOn, Refuses, State, IsPossible}
 use Rattle.std.proofs.Common.{◌↔◌, IsSome, Result, Ok, Err, IfOk, IfErr}
 use Rattle.std.proofs.lemmas.List.{length_push}
 use Rattle.std.specs.Result.{result_ok}
-use Rattle.iim_object.specs.States.KeptNumbers.{state_numbers}
-use Rattle.iim_object.specs.States.Reading.{SizeCause}
-use Rattle.iim_object.specs.States.Saved.{IsAt, LastIsBegun, stated_numbers}
+use Rattle.iim_object.specs.States.Reading.{state_numbers, SizeCause, IsAt, LastIsBegun, stated_numbers}
 use Rattle.iim_object.specs.Laws.{PlacesHaveOneReader}
 use Rattle.iim_object.proofs.Subfiles.{front_lives}
 use Rattle.iim_object.proofs.Steps.{sum_more, tokens_follow}

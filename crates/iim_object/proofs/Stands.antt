@@ -1,8 +1,7 @@
 -- What a reader that stands after whole records says of their sizes.
-use Rattle.iim_object.proofs.Words.{◌≡◌, subst, ◌<◌, List, [], ◌∷◌, length, true, Some, None, refl, sym, ap, ◌∙◌, arith, length-map, eq-eqb, number, Dataset}
-use Rattle.iim_object.proofs.Words.{Agree, sizes_at, HasDuties, AreObjectRecords, numbers_of, lengths_of, place_after_datasets, StandsAt, State}
+use Rattle.iim_object.proofs.Words.{◌≡◌, subst, ◌<◌, List, [], ◌∷◌, length, true, Some, None, refl, sym, ap, ◌∙◌, arith, length-map, eq-eqb, number, Dataset, Agree, sizes_at, HasDuties, AreObjectRecords, numbers_of, lengths_of, place_after_datasets, StandsAt, State}
 use Rattle.iim_object.specs.Laws.{ReadersTellSizes}
-use Rattle.iim_object.specs.Format.Records.{HaveSizes}
+use Rattle.iim_object.specs.Format.Objects.{HaveSizes}
 use Rattle.iim_object.proofs.Subfiles.{agree_of, confirmed_law}
 use Rattle.iim_object.proofs.Steps.{sizes_are, sizes_in}
 use Rattle.iim_object.proofs.Members.{one_confirmation, some_subfile, ten_of}

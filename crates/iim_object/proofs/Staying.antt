@@ -1,12 +1,8 @@
 -- From state to state: each token leads from a state to which tokens lead to another.
-use Rattle.iim_object.proofs.Words.{◌≡◌, ℕ, ◌+◌, ◌≤◌, ◌∷◌, [], length, Option, Some, None, is_some, true, false, refl, ap, ◌∙◌, arith, inl, inr}
-use Rattle.iim_object.proofs.Words.{length-append, greatest_size, all_last, some_of, InRow, ObjectToken, NumberRead, SubfileBegun, ObjectEnded, Confirmed}
-use Rattle.iim_object.proofs.Words.{Place, MayFollow, place_after, end_cause, confirmed_cause, HasNumbers, IsState, TakesSubfile, state_with, StandsAt}
-use Rattle.iim_object.proofs.Words.{Refuses, State}
+use Rattle.iim_object.proofs.Words.{◌≡◌, ℕ, ◌+◌, ◌≤◌, ◌∷◌, [], length, Option, Some, None, is_some, true, false, refl, ap, ◌∙◌, arith, inl, inr, length-append, greatest_size, all_last, some_of, InRow, ObjectToken, NumberRead, SubfileBegun, ObjectEnded, Confirmed, Place, MayFollow, place_after, end_cause, confirmed_cause, HasNumbers, IsState, TakesSubfile, state_with, StandsAt, Refuses, State}
 use Rattle.iim_dataset.proofs.Lists.{no_some}
 use Rattle.iim_object.specs.declared.reading.fault.SizeCause.TheVariants.{ModeClash}
-use Rattle.iim_object.specs.States.Changes.{TakesNumber}
-use Rattle.iim_object.specs.States.Reading.{EndsAs, RefusesToEnd, SizeCause}
+use Rattle.iim_object.specs.States.Reading.{TakesNumber, EndsAs, RefusesToEnd, SizeCause}
 use Rattle.iim_object.proofs.Steps.{cause_in, next, tells_of, leads_on, refused}
 use Rattle.iim_object.proofs.Reached.{mode_in, largest_in, place_in, tells_in, stands_in, state_of}
 

@@ -1,15 +1,9 @@
 -- How each token leads on, and where the object layer dies with it.
-use Rattle.iim_object.proofs.Words.{◌≡◌, ℕ, ◌+◌, ◌<◌, ◌≤◌, Bool, List, [], ◌∷◌, ◌++◌, length, map, sum, Option, Some, None, IfSome, unwrap_or, refl, sym, ap}
-use Rattle.iim_object.proofs.Words.{◌∙◌, arith, append_assoc, append-nil, length-append, AllByRecursion, map-append, nil_from_length, same_Some, IsAlive}
-use Rattle.iim_object.proofs.Words.{greatest_size, all_append, all_last, sum_append, some_of, Stated, AreOnce, AreStated, number_at, mode_number, ObjectToken}
-use Rattle.iim_object.proofs.Words.{NumberRead, SubfileBegun, ObjectEnded, Confirmed, ObjectLanguage, number_tokens, NoClash, HasDuties, Fit, MeetsAnnounced}
-use Rattle.iim_object.proofs.Words.{Place, NotEnded, ConfirmedAs, tokens_of, place_after, place_start, HasBoth, MayFollow, end_cause, confirmed_cause}
-use Rattle.iim_object.proofs.Words.{cause_at, IsStateAt, StandsAt, LeadsOn, Refuses, State, state_with}
-use Rattle.iim_object.specs.Format.Sizes.{Sizes}
+use Rattle.iim_object.proofs.Words.{◌≡◌, ℕ, ◌+◌, ◌<◌, ◌≤◌, Bool, List, [], ◌∷◌, ◌++◌, length, map, sum, Option, Some, None, IfSome, unwrap_or, refl, sym, ap, ◌∙◌, arith, append_assoc, append-nil, length-append, AllByRecursion, map-append, nil_from_length, same_Some, IsAlive, greatest_size, all_append, all_last, sum_append, some_of, Stated, AreOnce, AreStated, number_at, mode_number, ObjectToken, NumberRead, SubfileBegun, ObjectEnded, Confirmed, ObjectLanguage, number_tokens, NoClash, HasDuties, Fit, MeetsAnnounced, Place, NotEnded, ConfirmedAs, tokens_of, place_after, place_start, HasBoth, MayFollow, end_cause, confirmed_cause, cause_at, IsStateAt, StandsAt, LeadsOn, Refuses, State, state_with}
+use Rattle.iim_object.specs.Format.Objects.{Sizes}
 use Rattle.iim_object.specs.Laws.{TokensFollow}
 use Rattle.iim_object.specs.Format.Causes.{is_given, number_cause, subfile_cause}
-use Rattle.iim_object.specs.States.Reading.{LivesWith, IsSizes, SizeCause}
-use Rattle.iim_object.specs.States.Changes.{set_where, state_start}
+use Rattle.iim_object.specs.States.Reading.{LivesWith, IsSizes, SizeCause, set_where, state_start}
 use Rattle.iim_object.proofs.Numbers.{at-append, at_most_size, in_row_at, mode_at_most_one, none-append}
 use Rattle.iim_object.proofs.Subfiles.{numbers_law, subfiles_law, ends_law, confirmed_law}
 use Rattle.iim_object.proofs.Bounded.{mode_known}

@@ -1,10 +1,6 @@
 -- The object layer by numbers and lengths: while record 7 is read it is alive exactly where the numbers don't clash, and while subfiles come
 -- and at the end exactly where they fit.
-use Rattle.iim_object.proofs.Words.{◌≡◌, ℕ, zero, suc, ◌+◌, ◌-◌, ◌<◌, ◌≤◌, Bool, true, false, List, [], ◌∷◌, ◌++◌, length, replicate, map, sum, Option, Some}
-use Rattle.iim_object.proofs.Words.{None, is_some, refl, sym, ap, ◌∙◌, arith, inl, inr, append_assoc, append-nil, length-append, AllByRecursion, map-append}
-use Rattle.iim_object.proofs.Words.{IsAlive, greatest_size, all_append, all_front, sum_append, sum_cons, NoClash, HasDuties, Fit, MeetsAnnounced}
-use Rattle.iim_object.proofs.Words.{LanguageWithin, Stated, InRow, AreStated, Agree, number_at, mode_number, sizes_at, Ending, NotEnded, Ended, ConfirmedAs}
-use Rattle.iim_object.proofs.Words.{ending_tokens, ObjectToken, NumberRead, SubfileBegun, ObjectEnded, Confirmed, ObjectLanguage, number_tokens}
+use Rattle.iim_object.proofs.Words.{◌≡◌, ℕ, zero, suc, ◌+◌, ◌-◌, ◌<◌, ◌≤◌, Bool, true, false, List, [], ◌∷◌, ◌++◌, length, replicate, map, sum, Option, Some, None, is_some, refl, sym, ap, ◌∙◌, arith, inl, inr, append_assoc, append-nil, length-append, AllByRecursion, map-append, IsAlive, greatest_size, all_append, all_front, sum_append, sum_cons, NoClash, HasDuties, Fit, MeetsAnnounced, LanguageWithin, Stated, InRow, AreStated, Agree, number_at, mode_number, sizes_at, Ending, NotEnded, Ended, ConfirmedAs, ending_tokens, ObjectToken, NumberRead, SubfileBegun, ObjectEnded, Confirmed, ObjectLanguage, number_tokens}
 use Rattle.std.proofs.Common.{◌↔◌}
 use Rattle.iim_object.specs.Laws.{SizesAreDetermined, NumbersLiveWithoutClash, SubfilesLiveWhileTheyFit, ObjectsEndWhereTheyAreWhole, TotalsAreConfirmed}
 use Rattle.iim_object.proofs.Numbers.{AreLow, at-append, none-append, once-append, low_at, rows_low, whole_within, in_row_at, at_least_one, at_most_size, mode_at_most_one}

@@ -1,6 +1,5 @@
 -- From a possible place the layer can continue by each smaller greatest size that the place keeps to.
-use Rattle.iim_object.proofs.Words.{◌≡◌, ℕ, ◌<◌, ◌≤◌, List, [], ◌∷◌, ◌++◌, length, map, sum, refl, arith, append-nil, IsAlive, Stated, AreStated}
-use Rattle.iim_object.proofs.Words.{SubfileBegun, ObjectLanguage, number_tokens, Ending, NotEnded, HasBoth, ending_tokens, LanguageWithin}
+use Rattle.iim_object.proofs.Words.{◌≡◌, ℕ, ◌<◌, ◌≤◌, List, [], ◌∷◌, ◌++◌, length, map, sum, refl, arith, append-nil, IsAlive, Stated, AreStated, SubfileBegun, ObjectLanguage, number_tokens, Ending, NotEnded, HasBoth, ending_tokens, LanguageWithin}
 use Rattle.iim_object.specs.Laws.{PlacesLiveWithin}
 use Rattle.iim_object.proofs.Numbers.{AreLow, numbers_low}
 use Rattle.iim_object.proofs.Subfiles.{numbers_law, lives_by, alive_within, numbers_alive_within}

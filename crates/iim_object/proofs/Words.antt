@@ -3,36 +3,21 @@ pub use Rattle.iim_dataset.proofs.Each.{all_append, all_back, all_front, all_las
 pub use Rattle.iim_dataset.proofs.Lists.{nothing_of_two, some_of, sum_append, sum_cons}
 pub use Rattle.iim_dataset.proofs.WrittenNumbers.{dataset_length, number_back}
 pub use Rattle.iim_dataset.specs.Format.Datasets.{Dataset, canonical_dataset, canonical_stream, of_record, tag_octets, written_number}
-pub use Rattle.iim_dataset.specs.Format.Languages.{IsAlive}
-pub use Rattle.iim_dataset.specs.Format.Octets.{greatest_size, number}
+pub use Rattle.iim_dataset.specs.Format.Octets.{IsAlive, greatest_size, number}
 pub use Rattle.iim_dataset.specs.Laws.{TextsJoin}
 pub use Rattle.iim_dataset.specs.States.Devices.{Device}
-pub use Rattle.iim_object.specs.Cutting.{HasRoom, writing_of}
+pub use Rattle.iim_object.specs.Steps.{HasRoom, writing_of, Cuts, Puts}
 pub use Rattle.iim_object.specs.Format.Causes.{cause_at, confirmed_cause, end_cause}
-pub use Rattle.iim_object.specs.Format.Cuts.{AreFull, IsCut, joined_parts}
-pub use Rattle.iim_object.specs.Format.Numbers.{place_after_datasets}
-pub use Rattle.iim_object.specs.Format.Objects.{Confirmed, NumberRead, ObjectEnded, ObjectLanguage, ObjectToken, SubfileBegun, number_tokens}
-pub use Rattle.iim_object.specs.Format.Packing.{is_known, number_dataset, plan_datasets, size_datasets, subfile_dataset, subfile_datasets}
-pub use Rattle.iim_object.specs.Format.Places.{ConfirmedAs, Ended, Ending, HasBoth, MayFollow, NotEnded, Place, ending_tokens, place_after, place_start}
-pub use Rattle.iim_object.specs.Format.Places.{tokens_of}
-pub use Rattle.iim_object.specs.Format.Plans.{Known, Size, Unknown, announced_of, limit_of, max_subfiles, maximum_of}
-pub use Rattle.iim_object.specs.Format.Records.{AreObjectRecords, lengths_of, numbers_of}
-pub use Rattle.iim_object.specs.Format.Sizes.{Agree, AreOnce, AreStated, InRow, Stated, mode_number, number_at, sizes_at}
-pub use Rattle.iim_object.specs.Format.Within.{LanguageWithin, TokensWithin}
+pub use Rattle.iim_object.specs.Format.Packing.{AreFull, IsCut, joined_parts, is_known, number_dataset, plan_datasets, size_datasets, subfile_dataset, subfile_datasets}
+pub use Rattle.iim_object.specs.Format.Objects.{place_after_datasets, Confirmed, NumberRead, ObjectEnded, ObjectLanguage, ObjectToken, SubfileBegun, number_tokens, ConfirmedAs, Ended, Ending, HasBoth, MayFollow, NotEnded, Place, ending_tokens, place_after, place_start, tokens_of, Known, Size, Unknown, announced_of, limit_of, max_subfiles, maximum_of, AreObjectRecords, lengths_of, numbers_of, Agree, AreOnce, AreStated, InRow, Stated, mode_number, number_at, sizes_at, LanguageWithin, TokensWithin}
 pub use Rattle.iim_object.specs.Laws.{Fit, HasDuties, MeetsAnnounced, NoClash, ObjectsAreCutOneWay, TokensLead}
-pub use Rattle.iim_object.specs.Outputs.{Cuts, Puts}
-pub use Rattle.iim_object.specs.States.Changes.{TakesSubfile, state_with}
-pub use Rattle.iim_object.specs.States.KeptNumbers.{HasNumbers, IsState}
-pub use Rattle.iim_object.specs.States.Reading.{IsStateAt, LeadsOn, Refuses, StandsAt, State}
-pub use Rattle.iim_object.specs.States.Saved.{IsPossible}
+pub use Rattle.iim_object.specs.States.Reading.{TakesSubfile, state_with, HasNumbers, IsState, IsStateAt, LeadsOn, Refuses, StandsAt, State, IsPossible}
 pub use Rattle.iim_object.specs.States.Writing.{Lengthens, finish_cause, octets_out, total_of, write_cause}
 pub use Rattle.iim_object.specs.declared.plan.Plan.{Plan}
 pub use Rattle.iim_object.specs.declared.writing.cutter.Cutter.{Cutter}
 pub use Rattle.iim_object.specs.declared.writing.output.Output.{Output}
 pub use Rattle.iim_tables.proofs.GoodDatasets.{good_elsewhere, part_meets}
-pub use Rattle.std.proofs.Common.{Bool, IfSome, List, None, Option, Some, [], ap, append-nil, append_assoc, arith, drop, false, inl, inr, is_some, length}
-pub use Rattle.std.proofs.Common.{length-append, length-take, map, refl, replicate, rules, subst, suc, sum, sym, take, true, unwrap_or, zero, ℕ, ◌*◌, ◌++◌}
-pub use Rattle.std.proofs.Common.{◌+◌, ◌-◌, ◌<◌, ◌==◌, ◌∙◌, ◌∷◌, ◌≡◌, ◌≤◌, ◌⊎◌}
+pub use Rattle.std.proofs.Common.{Bool, IfSome, List, None, Option, Some, [], ap, append-nil, append_assoc, arith, drop, false, inl, inr, is_some, length, length-append, length-take, map, refl, replicate, rules, subst, suc, sum, sym, take, true, unwrap_or, zero, ℕ, ◌*◌, ◌++◌, ◌+◌, ◌-◌, ◌<◌, ◌==◌, ◌∙◌, ◌∷◌, ◌≡◌, ◌≤◌, ◌⊎◌}
 pub use Rattle.std.proofs.Math.Nat.{le_of_mul-le-mul_left}
 pub use Rattle.std.proofs.lemmas.Bool.{cases_lt, eq-eqb}
 pub use Rattle.std.proofs.lemmas.List.{length-map, map-append, nil_from_length}

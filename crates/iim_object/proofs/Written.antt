@@ -1,15 +1,11 @@
 -- How a writer of subfiles continues, breaks off and finishes.
-use Rattle.iim_object.proofs.Words.{◌≡◌, ℕ, ◌+◌, ◌<◌, ◌≤◌, Bool, true, false, Option, Some, None, List, [], ◌∷◌, ◌++◌, length, take, drop, refl, sym, ap, ◌∙◌}
-use Rattle.iim_object.proofs.Words.{arith, append_assoc, append-nil, length-append, length-take, map-append, all_append, Device, TextsJoin, Dataset}
-use Rattle.iim_object.proofs.Words.{canonical_dataset, canonical_stream, joined_parts, AreFull, IsCut, ObjectsAreCutOneWay, plan_datasets, subfile_dataset}
-use Rattle.iim_object.proofs.Words.{subfile_datasets, number_dataset, Puts, Cuts, total_of, octets_out, Lengthens, write_cause, finish_cause, writing_of}
-use Rattle.iim_object.proofs.Words.{HasRoom, Plan, Output, Cutter}
+use Rattle.iim_object.proofs.Words.{◌≡◌, ℕ, ◌+◌, ◌<◌, ◌≤◌, Bool, true, false, Option, Some, None, List, [], ◌∷◌, ◌++◌, length, take, drop, refl, sym, ap, ◌∙◌, arith, append_assoc, append-nil, length-append, length-take, map-append, all_append, Device, TextsJoin, Dataset, canonical_dataset, canonical_stream, joined_parts, AreFull, IsCut, ObjectsAreCutOneWay, plan_datasets, subfile_dataset, subfile_datasets, number_dataset, Puts, Cuts, total_of, octets_out, Lengthens, write_cause, finish_cause, writing_of, HasRoom, Plan, Output, Cutter}
 use Rattle.std.proofs.Common.{cond}
 use Rattle.std.specs.Prelude.{IfNone}
 use Rattle.std.proofs.lemmas.List.{take-append-drop}
 use Rattle.iim_object.specs.Format.Packing.{confirmed_datasets, object_datasets}
 use Rattle.iim_object.specs.States.Writing.{Writing, HasWritten, Begins, BreaksOff, ContinuesWith, IsTheWhole, Finishes}
-use Rattle.iim_dataset.specs.States.Reserved.{Reserved}
+use Rattle.iim_dataset.specs.States.Devices.{Reserved}
 use Rattle.iim_object.proofs.PlanParts.{plan_parts}
 use Rattle.iim_object.proofs.Cutting.{same_first, some_octet, too_short}
 

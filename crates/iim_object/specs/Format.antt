@@ -1,14 +1,3 @@
-pub mod Plans
-pub mod Sizes
 pub mod Objects
-pub mod Records
-pub mod Events
-pub mod Places
-pub mod Numbers
 pub mod Causes
-pub mod Within
-pub mod Conditions
-pub mod Names
-pub mod Cuts
 pub mod Packing
-pub mod PackCauses

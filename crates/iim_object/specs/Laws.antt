@@ -1,23 +1,13 @@
+-- What holds of all objects; the record at the end has a field for each law.
 use Rattle.std.specs.Prelude.{◌≡◌, ◌↔◌, ℕ, ◌<◌, ◌≤◌, Bool, List, [], ◌∷◌, ◌++◌, length, map, sum, is_some, Some, None, IfSome, Option, IsTrue}
 use Rattle.std.specs.List.{AllByRecursion}
-use Rattle.iim_dataset.specs.Format.Languages.{IsAlive, DiesAt}
-use Rattle.iim_dataset.specs.Format.Octets.{greatest_size, number, Octets}
-use Rattle.iim_object.specs.Format.Sizes.{Stated, AreStated, number_at, mode_number, Sizes}
-use Rattle.iim_object.specs.Format.Objects.{SubfileBegun, ObjectEnded, Confirmed, ObjectLanguage, number_tokens, ObjectToken, NumberRead}
+use Rattle.iim_dataset.specs.Format.Octets.{IsAlive, DiesAt, greatest_size, number, Octets}
+use Rattle.iim_object.specs.Format.Objects.{Stated, AreStated, number_at, mode_number, Sizes, SubfileBegun, ObjectEnded, Confirmed, ObjectLanguage, number_tokens, ObjectToken, NumberRead, AreObjectRecords, HaveSizes, Place, tokens_of, place_after, MayFollow, place_start, max_subfiles, is_plan, announced_of, maximum_of, bound_of, Size, place_after_datasets, place_ended, TokensWithin, LanguageWithin}
 use Rattle.iim_dataset.specs.Format.Datasets.{Dataset, of_record}
-use Rattle.iim_object.specs.Format.Records.{AreObjectRecords, HaveSizes}
-use Rattle.iim_object.specs.Format.Places.{Place, tokens_of, place_after, MayFollow, place_start}
-use Rattle.iim_object.specs.Format.Plans.{max_subfiles, is_plan, announced_of, maximum_of, bound_of, Size}
-use Rattle.iim_object.specs.Format.Numbers.{place_after_datasets, place_ended}
-use Rattle.iim_object.specs.States.Reading.{StandsAt, State, SizeCause}
-use Rattle.iim_object.specs.States.KeptNumbers.{IsState}
-use Rattle.iim_object.specs.States.Saved.{IsPossible}
-use Rattle.iim_object.specs.Format.Within.{TokensWithin, LanguageWithin}
-use Rattle.iim_object.specs.Format.Causes.{cause_at}
-use Rattle.iim_object.specs.Format.Conditions.{number_of, HasCause}
-use Rattle.iim_object.specs.Format.Cuts.{IsCut}
+use Rattle.iim_object.specs.States.Reading.{StandsAt, State, SizeCause, IsState, IsPossible}
+use Rattle.iim_object.specs.Format.Causes.{cause_at, number_of, HasCause}
+use Rattle.iim_object.specs.Format.Packing.{IsCut, number_dataset, plan_datasets, subfile_datasets, confirmed_datasets, Suits, packed_sizes}
 use Rattle.iim_tables.specs.Format.Records.{IsGoodDataset, IsGoodRecord}
-use Rattle.iim_object.specs.Format.Packing.{number_dataset, plan_datasets, subfile_datasets, confirmed_datasets, Suits, packed_sizes}
 
 -- ---- When the object layer can continue, by the numbers and lengths so far.
 

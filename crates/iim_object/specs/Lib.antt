@@ -5,5 +5,4 @@ pub mod States
 -- What holds of these: statements, each the contract of a law.
 pub mod Laws
 -- What only proofs and private clauses cite.
-pub mod Outputs
-pub mod Cutting
+pub mod Steps

@@ -1,5 +1,2 @@
-pub mod Changes
-pub mod KeptNumbers
 pub mod Reading
-pub mod Saved
 pub mod Writing

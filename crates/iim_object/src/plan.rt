@@ -2,7 +2,7 @@
 
 ghost use Rattle.std.specs.Prelude.{◌≡◌, ◌≤◌, ◌↔◌, IsTrue, IsSome, IfSome};
 ghost use Rattle.iim_dataset.specs.Format.Octets.{greatest_size};
-ghost use Rattle.iim_object.specs.Format.Plans.{is_plan, bound_of, limit_of, fits, is_short};
+ghost use Rattle.iim_object.specs.Format.Objects.{is_plan, bound_of, limit_of, fits, is_short};
 
 use crate::size::Size;
 use iim_dataset::GREATEST_SIZE;

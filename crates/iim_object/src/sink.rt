@@ -1,7 +1,7 @@
 //! Where the octets of an object go.
 
 ghost use Rattle.std.specs.Prelude.{◌≡◌, ◌<◌, ◌++◌, [], ◌∷◌, List, length, map, take, slice_index, IfErr, OnOk, OnErr};
-ghost use Rattle.iim_object.specs.Format.Events.{ObjectEvent, ObjectOctet, ObjectEnd};
+ghost use Rattle.iim_object.specs.Format.Objects.{ObjectEvent, ObjectOctet, ObjectEnd};
 
 use iim_dataset::Stop;
 

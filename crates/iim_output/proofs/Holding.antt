@@ -1,15 +1,14 @@
 -- Writers of blocks.
-use Rattle.std.proofs.Common.{◌≡◌, ℕ, ◌+◌, ◌≤◌, List, [], ◌∷◌, ◌++◌, length, drop, refl, sym, ap, ◌∙◌, arith, ◌^◌, ◌<◌, inl, inr, take, map, append-nil}
-use Rattle.std.proofs.Common.{append_assoc, length-append, length-take, Result, Ok, Err, IfErr, OnErr}
+use Rattle.std.proofs.Common.{◌≡◌, ℕ, ◌+◌, ◌≤◌, List, [], ◌∷◌, ◌++◌, length, drop, refl, sym, ap, ◌∙◌, arith, ◌^◌, ◌<◌, inl, inr, take, map, append-nil, append_assoc, length-append, length-take, Result, Ok, Err, IfErr, OnErr}
 use Rattle.std.proofs.Math.Seq.{take-append_seam}
 use Rattle.std.proofs.lemmas.List.{drop-append-le, drop-drop, length-drop, take-append-drop}
 use Rattle.std.specs.Borrow.{MutBor}
 use Rattle.iim_dataset.specs.States.Devices.{Device, Broke, Stopped, WithinInterruptionLimit, Wrote}
-use Rattle.iim_dataset.specs.Format.Counts.{Rose}
+use Rattle.iim_dataset.specs.Format.Octets.{Rose}
 use Rattle.iim_dataset.specs.Laws.{TextsJoin}
-use Rattle.wire_story.specs.Format.Delivery.{LineOctet}
-use Rattle.wire_story.specs.States.Writing.{HasBroken}
-use Rattle.wire_story.specs.SinkLaws.{octets_of_line}
+use Rattle.wire_story.specs.Format.Texts.{LineOctet}
+use Rattle.wire_story.specs.States.Reading.{HasBroken}
+use Rattle.wire_story.specs.Steps.{octets_of_line}
 use Rattle.iim_output.specs.States.Holding.{HasPut, HasStuck, HoldsNothing, KeepsWriter, PutsOn, PutsLines, StaysStuck, device_of, held_of, stops_of, IsCutShort}
 use Rattle.iim_output.specs.HoldingLaws.{parts_on}
 use Rattle.iim_dataset.specs.declared.stop.Stop.{Stop}

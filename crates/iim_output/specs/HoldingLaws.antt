@@ -2,10 +2,10 @@
 use Rattle.std.proofs.Common.{◌≡◌, ℕ, List, [], ◌++◌, map, refl, sym, ◌∙◌, append-nil, append_assoc, length-append, arith}
 use Rattle.std.proofs.lemmas.List.{map-append}
 use Rattle.iim_dataset.specs.States.Devices.{Device}
-use Rattle.iim_dataset.specs.HandedIn.{appends_nothing, appends_joined}
-use Rattle.wire_story.specs.Format.Delivery.{StoryEvent, octet_for, LineOctet}
-use Rattle.wire_story.specs.States.Writing.{WritesOn}
-use Rattle.wire_story.specs.SinkLaws.{writes_nothing, writes_joined, octets_of_line}
+use Rattle.iim_dataset.specs.Steps.{appends_nothing, appends_joined}
+use Rattle.wire_story.specs.Format.Texts.{StoryEvent, octet_for, LineOctet}
+use Rattle.wire_story.specs.States.Reading.{WritesOn}
+use Rattle.wire_story.specs.Steps.{writes_nothing, writes_joined, octets_of_line}
 use Rattle.iim_output.specs.States.Holding.{HasPut, PutsOn, PutsLines, device_of, held_of, stops_of, BlockWriter}
 
 writes_on : (a b c : Device) (i j k : ℕ) (xs ys : List ℕ) → WritesOn a b i j xs → WritesOn b c j k ys → WritesOn a c i k (xs ++ ys)

@@ -1,10 +1,9 @@
 //! Output in blocks.
 
 ghost use Rattle.std.specs.Prelude.{◌≡◌, ◌+◌, ◌<◌, ◌≤◌, [], ◌∷◌, length, map, take, IfOk, IfErr, OnOk, OnErr};
-ghost use Rattle.iim_dataset.specs.Format.Counts.{Rose};
+ghost use Rattle.iim_dataset.specs.Format.Octets.{Rose};
 ghost use Rattle.iim_dataset.specs.States.Devices.{WithinInterruptionLimit};
-ghost use Rattle.wire_story.specs.Format.Texts.{IsLine};
-ghost use Rattle.wire_story.specs.Format.Delivery.{LineOctet, LineEnd};
+ghost use Rattle.wire_story.specs.Format.Texts.{IsLine, LineOctet, LineEnd};
 
 use crate::held::Held;
 use crate::outlet::Outlet;

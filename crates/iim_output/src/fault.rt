@@ -16,7 +16,7 @@ pub enum CommandFault {
 }
 
 impl CommandFault {
-    ghost use Rattle.iim_output.specs.Format.Lines.{fault_line};
+    ghost use Rattle.iim_output.specs.Format.{fault_line};
 
     /// The line that tells it.
     pub fn line(self) -> &'static str

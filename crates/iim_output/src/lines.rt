@@ -2,9 +2,8 @@
 
 ghost use Rattle.std.specs.Prelude.{◌≡◌, ◌++◌, length, IfErr, OnOk};
 ghost use Rattle.iim_dataset.specs.States.Devices.{Wrote, WithinInterruptionLimit};
-ghost use Rattle.iim_output.specs.Format.Statuses.{IsSaid, IsUnsaid};
+ghost use Rattle.iim_output.specs.Format.{IsSaid, IsUnsaid, accepted_line, refused_line};
 ghost use Rattle.iim_output.specs.States.Holding.{HasPut, HoldsNothing, IsUnadded};
-ghost use Rattle.iim_output.specs.Format.Lines.{accepted_line, refused_line};
 
 use crate::block_writer::BlockWriter;
 use crate::fault::CommandFault;

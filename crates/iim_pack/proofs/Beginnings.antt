@@ -1,7 +1,6 @@
 -- What a packer has begun with, call by call.
 use Rattle.iim_pack.proofs.Words.{ℕ, List, [], ◌++◌, arith, length-append, Device, TextsJoin, Dataset, Plan, StoryEvent, Header, Packing, Starts}
-use Rattle.iim_pack.specs.States.Packing.{Lengthens, Finishes}
-use Rattle.iim_pack.specs.States.Begun.{HasBegun, ContinuesBegun, EndsBegun}
+use Rattle.iim_pack.specs.States.Packing.{Lengthens, Finishes, HasBegun, ContinuesBegun, EndsBegun}
 
 pub begun_at_start : {W : Type 0} (state : W → Device) (writer : W) (fields : List Dataset) (head : Header) (plan : Plan) (k : Packing W) → Starts state writer fields head plan k → HasBegun state (state writer) k fields head [] plan
 begun_at_start state writer fields head plan k s = record { out = s.out; wrote = s.wrote; counted = s.counted; stands = s.stands }

@@ -1,13 +1,11 @@
 -- What is packed carries the fields, the object and the sizes of the plan.
-use Rattle.iim_pack.proofs.Words.{◌≡◌, ℕ, ◌≤◌, List, [], ◌++◌, length, refl, sym, ap, subst, ◌∙◌, arith, append_assoc, append-nil, AllByRecursion}
-use Rattle.iim_pack.proofs.Words.{greatest_size, Dataset, canonical_stream, count_octets, of_record, HasSpellings, all_append, all_map, IsGoodDataset, kept}
-use Rattle.iim_pack.proofs.Words.{joined, bound_of, plan_datasets, subfile_datasets, confirmed_datasets, plan_parts, stream_append, canonical}
+use Rattle.iim_pack.proofs.Words.{◌≡◌, ℕ, ◌≤◌, List, [], ◌++◌, length, refl, sym, ap, subst, ◌∙◌, arith, append_assoc, append-nil, AllByRecursion, greatest_size, Dataset, canonical_stream, count_octets, of_record, HasSpellings, all_append, all_map, IsGoodDataset, kept, joined, bound_of, plan_datasets, subfile_datasets, confirmed_datasets, plan_parts, stream_append, canonical}
 use Rattle.iim_dataset.specs.Format.Octets.{Octets}
 use Rattle.iim_dataset.specs.Format.Datasets.{SpellsStream}
 use Rattle.iim_dataset.specs.Laws.{CanonicalStreamsAreSpelled}
 use Rattle.iim_fields.specs.Format.Records.{AreSections}
 use Rattle.iim_tables.specs.Format.Records.{IsGoodRecord}
-use Rattle.iim_object.specs.Format.Records.{HaveSizes}
+use Rattle.iim_object.specs.Format.Objects.{HaveSizes}
 use Rattle.iim_object.specs.Format.Packing.{packed_sizes}
 use Rattle.iim_object.specs.Laws.{PackedObjectsHaveSizes, PackedRecordsAreGood}
 use Rattle.iim_pack.specs.Laws.{PackedOctetsCarryTheValue}

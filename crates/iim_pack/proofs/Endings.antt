@@ -1,7 +1,5 @@
 -- How the end of an object is written.
-use Rattle.iim_pack.proofs.Words.{◌≡◌, ℕ, ◌+◌, ◌≤◌, false, None, List, [], ◌++◌, length, refl, sym, subst, append_assoc, append-nil, arith, length-append}
-use Rattle.iim_pack.proofs.Words.{le-leb, Device, Wrote, WithinInterruptionLimit, TextsJoin, is_short, IsWritten, Writing, most_of, total_of, write_cause}
-use Rattle.iim_pack.proofs.Words.{Plan}
+use Rattle.iim_pack.proofs.Words.{◌≡◌, ℕ, ◌+◌, ◌≤◌, false, None, List, [], ◌++◌, length, refl, sym, subst, append_assoc, append-nil, arith, length-append, le-leb, Device, Wrote, WithinInterruptionLimit, TextsJoin, is_short, IsWritten, Writing, most_of, total_of, write_cause, Plan}
 use Rattle.iim_object.specs.States.Writing.{HasWritten, Lengthens, BreaksOff, ContinuesWith, IsTheWhole, Finishes, finish_cause}
 use Rattle.iim_object.proofs.Written.{breaks_on}
 

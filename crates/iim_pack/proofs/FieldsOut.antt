@@ -1,10 +1,8 @@
 -- Records 1 and 2 written one dataset after another.
-use Rattle.iim_pack.proofs.Words.{◌≡◌, ℕ, ◌+◌, ◌*◌, ◌^◌, ◌<◌, ◌≤◌, List, [], ◌∷◌, ◌++◌, length, sym, ap, subst, ◌∙◌, arith, append_assoc, append-nil}
-use Rattle.iim_pack.proofs.Words.{length-append, stream_append, Device, Wrote, Stopped, TextsJoin, Dataset, canonical_dataset, canonical_stream, tag_octets}
-use Rattle.iim_pack.proofs.Words.{joined}
+use Rattle.iim_pack.proofs.Words.{◌≡◌, ℕ, ◌+◌, ◌*◌, ◌^◌, ◌<◌, ◌≤◌, List, [], ◌∷◌, ◌++◌, length, sym, ap, subst, ◌∙◌, arith, append_assoc, append-nil, length-append, stream_append, Device, Wrote, Stopped, TextsJoin, Dataset, canonical_dataset, canonical_stream, tag_octets, joined}
 use Rattle.iim_dataset.proofs.StoppedTexts.{stopped_more}
 use Rattle.iim_dataset.proofs.WrittenNumbers.{dataset_length}
-use Rattle.iim_fields.specs.States.Builders.{AreFew}
+use Rattle.iim_fields.specs.States.Standing.{AreFew}
 
 -- ---- how long datasets are
 

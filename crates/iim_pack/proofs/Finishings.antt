@@ -1,7 +1,5 @@
 -- How a packer finishes, by the writer of its object.
-use Rattle.iim_pack.proofs.Words.{◌≡◌, ℕ, ◌+◌, ◌≤◌, false, None, List, ◌++◌, length, sym, ap, subst, ◌∙◌, arith, append_assoc, length-append, ltb-false}
-use Rattle.iim_pack.proofs.Words.{Device, canonical_stream, bound_of, is_short, IsWritten, Writing, most_of, total_of, Plan, Size, Known, Unknown}
-use Rattle.iim_pack.proofs.Words.{packed_text, StoryEvent, packed_events, lines_of, Header, IsTrailer, packed_head, packed_tail, canonical, EndsIn}
+use Rattle.iim_pack.proofs.Words.{◌≡◌, ℕ, ◌+◌, ◌≤◌, false, None, List, ◌++◌, length, sym, ap, subst, ◌∙◌, arith, append_assoc, length-append, ltb-false, Device, canonical_stream, bound_of, is_short, IsWritten, Writing, most_of, total_of, Plan, Size, Known, Unknown, packed_text, StoryEvent, packed_events, lines_of, Header, IsTrailer, packed_head, packed_tail, canonical, EndsIn}
 use Rattle.std.proofs.lemmas.Bool.Decides.{nat_tests}
 use Rattle.iim_object.specs.Format.Packing.{IsAsKnown}
 use Rattle.iim_object.specs.States.Writing as object

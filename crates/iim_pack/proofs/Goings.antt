@@ -1,9 +1,5 @@
 -- How a packer continues, breaks off and finishes, by the writer of its object.
-use Rattle.iim_pack.proofs.Words.{◌≡◌, ℕ, ◌+◌, ◌≤◌, false, not, nat_le, Option, Some, None, List, [], ◌∷◌, ◌++◌, map, refl, sym, ap, subst, ◌∙◌, arith}
-use Rattle.iim_pack.proofs.Words.{append_assoc, and_parts, le-leb, leb-true, not-false, list_all, Device, Dataset, canonical_stream, all_append, IsWritten}
-use Rattle.iim_pack.proofs.Words.{Writing, most_of, total_of, write_cause, Begins, Plan, is_line_octet, IsLine, packed_text, StoryEvent, LineOctet}
-use Rattle.iim_pack.proofs.Words.{events_of_lines, packed_events, AreEvents, LinesArePackedAsTheirEvents, events_append, Header, packed_head, packed_tail}
-use Rattle.iim_pack.proofs.Words.{canonical}
+use Rattle.iim_pack.proofs.Words.{◌≡◌, ℕ, ◌+◌, ◌≤◌, false, not, nat_le, Option, Some, None, List, [], ◌∷◌, ◌++◌, map, refl, sym, ap, subst, ◌∙◌, arith, append_assoc, and_parts, le-leb, leb-true, not-false, list_all, Device, Dataset, canonical_stream, all_append, IsWritten, Writing, most_of, total_of, write_cause, Begins, Plan, is_line_octet, IsLine, packed_text, StoryEvent, LineOctet, events_of_lines, packed_events, AreEvents, LinesArePackedAsTheirEvents, events_append, Header, packed_head, packed_tail, canonical}
 use Rattle.std.proofs.Common.{IfNone}
 use Rattle.iim_object.specs.States.Writing as object
 use Rattle.iim_pack.specs.States.Packing.{Lengthens, BreaksOff, ContinuesWith}

@@ -1,10 +1,7 @@
 -- How long a packed form is.
-use Rattle.iim_pack.proofs.Words.{◌≡◌, ℕ, ◌+◌, ◌*◌, ◌≤◌, List, [], ◌++◌, length, sym, ap, ◌∙◌, arith, length-append, canonical_dataset, canonical_stream}
-use Rattle.iim_pack.proofs.Words.{tag_octets, greatest_size, joined, plan_datasets, subfile_datasets, confirmed_datasets, object_datasets, SubfilesAreFew}
-use Rattle.iim_pack.proofs.Words.{plan_octets, plan_parts, Plan, canonical, stream_append}
+use Rattle.iim_pack.proofs.Words.{◌≡◌, ℕ, ◌+◌, ◌*◌, ◌≤◌, List, [], ◌++◌, length, sym, ap, ◌∙◌, arith, length-append, canonical_dataset, canonical_stream, tag_octets, greatest_size, joined, plan_datasets, subfile_datasets, confirmed_datasets, object_datasets, SubfilesAreFew, plan_octets, plan_parts, Plan, canonical, stream_append}
 use Rattle.std.proofs.lemmas.List.{length-map}
-use Rattle.iim_object.specs.Format.Cuts.{IsCut}
-use Rattle.iim_object.specs.Format.Packing.{number_dataset, subfile_dataset}
+use Rattle.iim_object.specs.Format.Packing.{IsCut, number_dataset, subfile_dataset}
 use Rattle.iim_object.proofs.PlanParts.{number_length}
 use Rattle.iim_pack.specs.Laws.{PackedOctetsAreFew}
 use Rattle.iim_pack.proofs.FieldsOut.{stream_length}

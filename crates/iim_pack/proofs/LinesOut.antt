@@ -1,7 +1,5 @@
 -- Lines packed one after another.
-use Rattle.iim_pack.proofs.Words.{◌≡◌, ℕ, ◌+◌, ◌≤◌, Bool, true, false, None, List, [], ◌∷◌, ◌++◌, length, map, refl, sym, ap, subst, ◌∙◌, arith, append_assoc}
-use Rattle.iim_pack.proofs.Words.{append-nil, length-append, le-leb, Device, TextsJoin, most_of, total_of, Begins, IsLine, StoryEvent, LineOctet, LineEnd}
-use Rattle.iim_pack.proofs.Words.{events_of_lines, packed_events, events_append, Packing, FormWith, text_cause, line_end_cause}
+use Rattle.iim_pack.proofs.Words.{◌≡◌, ℕ, ◌+◌, ◌≤◌, Bool, true, false, None, List, [], ◌∷◌, ◌++◌, length, map, refl, sym, ap, subst, ◌∙◌, arith, append_assoc, append-nil, length-append, le-leb, Device, TextsJoin, most_of, total_of, Begins, IsLine, StoryEvent, LineOctet, LineEnd, events_of_lines, packed_events, events_append, Packing, FormWith, text_cause, line_end_cause}
 use Rattle.iim_pack.specs.States.Packing.{Lengthens, BreaksOff, ContinuesWith}
 use Rattle.iim_pack.specs.Steps.{line_events}
 

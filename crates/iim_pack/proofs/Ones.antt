@@ -1,7 +1,6 @@
 -- There is one packed form, and it has few subfiles.
-use Rattle.iim_pack.proofs.Words.{◌≡◌, ℕ, ◌≤◌, ◌&&◌, nat_le, IsTrue, List, ◌++◌, sym, ap, ◌∙◌, and_parts, leb-true, canonical_stream, greatest_size}
-use Rattle.iim_pack.proofs.Words.{SubfilesAreFew, object_datasets, Size, canonical}
-use Rattle.iim_object.specs.Format.Plans.{is_plan, fits}
+use Rattle.iim_pack.proofs.Words.{◌≡◌, ℕ, ◌≤◌, ◌&&◌, nat_le, IsTrue, List, ◌++◌, sym, ap, ◌∙◌, and_parts, leb-true, canonical_stream, greatest_size, SubfilesAreFew, object_datasets, Size, canonical}
+use Rattle.iim_object.specs.Format.Objects.{is_plan, fits}
 use Rattle.iim_object.specs.Laws.{ObjectsAreCutOneWay}
 use Rattle.iim_pack.specs.Laws.{PackedOctetsAreOne, PackedSubfilesAreFew}
 

@@ -1,12 +1,9 @@
 -- How an object begins.
-use Rattle.iim_pack.proofs.Words.{◌≡◌, ℕ, ◌+◌, ◌≤◌, None, List, [], ◌++◌, length, take, refl, sym, ap, subst, ◌∙◌, arith, append_assoc, length-append, le-leb}
-use Rattle.iim_pack.proofs.Words.{Device, Wrote, Stopped, WithinInterruptionLimit, TextsJoin, canonical_stream, IsWritten, plan_datasets, subfile_datasets}
-use Rattle.iim_pack.proofs.Words.{confirmed_datasets, joined_parts, Writing, IsWrittenFrom, Begins, most_of, total_of, plan_octets, write_cause, Plan}
-use Rattle.iim_pack.proofs.Words.{StartFault, stream_append, Opens, StartBreaksOff}
+use Rattle.iim_pack.proofs.Words.{◌≡◌, ℕ, ◌+◌, ◌≤◌, None, List, [], ◌++◌, length, take, refl, sym, ap, subst, ◌∙◌, arith, append_assoc, length-append, le-leb, Device, Wrote, Stopped, WithinInterruptionLimit, TextsJoin, canonical_stream, IsWritten, plan_datasets, subfile_datasets, confirmed_datasets, joined_parts, Writing, IsWrittenFrom, Begins, most_of, total_of, plan_octets, write_cause, Plan, StartFault, stream_append, Opens, StartBreaksOff}
 use Rattle.std.proofs.Common.{drop}
 use Rattle.std.proofs.lemmas.List.{take-append-drop}
 use Rattle.iim_dataset.specs.States.Devices.{BrokeAfter}
-use Rattle.iim_object.specs.Format.Plans.{most_sizes}
+use Rattle.iim_object.specs.Format.Objects.{most_sizes}
 use Rattle.iim_object.proofs.PlanParts.{plan_length}
 use Rattle.iim_object.specs.States.Writing.{HasWritten, Lengthens, BreaksOff, ContinuesWith}
 use Rattle.iim_object.specs.declared.writing.cause.PackCause.TheVariants as causes

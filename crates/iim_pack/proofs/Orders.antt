@@ -1,8 +1,5 @@
 -- The first cause of an order.
-use Rattle.iim_pack.proofs.Words.{◌≡◌, ℕ, ◌+◌, Bool, true, false, not, cond, IsTrue, Option, Some, None, List, [], ◌∷◌, length, refl, sym, ap, ◌∙◌, arith}
-use Rattle.iim_pack.proofs.Words.{length-append, list_all, ltb-false, not-false, is_short, total_of, passes_plan, Plan, Size, Known, Unknown, is_line_octet}
-use Rattle.iim_pack.proofs.Words.{Header, IsTrailer, packed_head, packed_tail, canonical, Packing, is_trailer, start_cause, text_cause, line_end_cause}
-use Rattle.iim_pack.proofs.Words.{pack_cause}
+use Rattle.iim_pack.proofs.Words.{◌≡◌, ℕ, ◌+◌, Bool, true, false, not, cond, IsTrue, Option, Some, None, List, [], ◌∷◌, length, refl, sym, ap, ◌∙◌, arith, length-append, list_all, ltb-false, not-false, is_short, total_of, passes_plan, Plan, Size, Known, Unknown, is_line_octet, Header, IsTrailer, packed_head, packed_tail, canonical, Packing, is_trailer, start_cause, text_cause, line_end_cause, pack_cause}
 use Rattle.std.proofs.lemmas.Bool.Decides.{nat_tests}
 use Rattle.iim_object.specs.States.Writing.{PassesPlan, IsBelowKnown}
 use Rattle.iim_object.specs.declared.writing.cause.PackCause.{PackCause}

@@ -1,9 +1,8 @@
 -- Which datasets of a packed form are of which record.
-use Rattle.iim_pack.proofs.Words.{◌≡◌, ℕ, Bool, true, false, nat_eq, List, [], ◌∷◌, ◌++◌, refl, sym, ap, ◌∙◌, append_assoc, append-nil, AllByRecursion}
-use Rattle.iim_pack.proofs.Words.{Dataset, of_record, all_map, kept, joined, joined_parts, subfile_datasets}
+use Rattle.iim_pack.proofs.Words.{◌≡◌, ℕ, Bool, true, false, nat_eq, List, [], ◌∷◌, ◌++◌, refl, sym, ap, ◌∙◌, append_assoc, append-nil, AllByRecursion, Dataset, of_record, all_map, kept, joined, joined_parts, subfile_datasets}
 use Rattle.std.specs.List.{filter}
 use Rattle.std.proofs.lemmas.List.Elements.{filter-append}
-use Rattle.iim_fields.specs.Format.Faults.{is_kept}
+use Rattle.iim_fields.specs.Format.Causes.{is_kept}
 
 -- ---- what passes a test
 

@@ -1,6 +1,5 @@
 -- Good datasets have spellings: no row allows more octets than a count can tell.
-use Rattle.iim_pack.proofs.Words.{◌≡◌, ℕ, ◌<◌, ◌≤◌, ◌^◌, true, ◌&&◌, nat_eq, nat_le, List, [], ◌∷◌, length, Option, Some, None, arith, AllByRecursion}
-use Rattle.iim_pack.proofs.Words.{list_all, and_parts, leb-true, greatest_size, Dataset, count_octets, HasSpellings, IsGoodDataset}
+use Rattle.iim_pack.proofs.Words.{◌≡◌, ℕ, ◌<◌, ◌≤◌, ◌^◌, true, ◌&&◌, nat_eq, nat_le, List, [], ◌∷◌, length, Option, Some, None, arith, AllByRecursion, list_all, and_parts, leb-true, greatest_size, Dataset, count_octets, HasSpellings, IsGoodDataset}
 use Rattle.std.proofs.Common.{◌||◌, IfSome, IsSomeAnd}
 use Rattle.std.specs.List.{find}
 use Rattle.std.specs.Option.{option_map, option_or}

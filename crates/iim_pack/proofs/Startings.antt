@@ -1,9 +1,7 @@
 -- How a packer begins.
-use Rattle.iim_pack.proofs.Words.{◌≡◌, ℕ, ◌+◌, List, [], ◌++◌, length, take, refl, sym, subst, ◌∙◌, arith, append-nil, length-append, Device, Wrote, Stopped}
-use Rattle.iim_pack.proofs.Words.{WithinInterruptionLimit, TextsJoin, Dataset, canonical_stream, Writing, IsWrittenFrom, Begins, Plan, StartFault}
-use Rattle.iim_pack.proofs.Words.{packed_text, Header, packed_head, packed_tail, FormWith, Opens, StartBreaksOff, Starts}
+use Rattle.iim_pack.proofs.Words.{◌≡◌, ℕ, ◌+◌, List, [], ◌++◌, length, take, refl, sym, subst, ◌∙◌, arith, append-nil, length-append, Device, Wrote, Stopped, WithinInterruptionLimit, TextsJoin, Dataset, canonical_stream, Writing, IsWrittenFrom, Begins, Plan, StartFault, packed_text, Header, packed_head, packed_tail, FormWith, Opens, StartBreaksOff, Starts}
 use Rattle.std.proofs.Common.{length-take}
-use Rattle.iim_fields.specs.Format.Envelopes.{IsEnvelope}
+use Rattle.iim_fields.specs.Format.Records.{IsEnvelope}
 use Rattle.iim_object.specs.States.Writing as object
 use Rattle.iim_object.specs.declared.writing.cause.PackCause.TheVariants as causes
 use Rattle.wire_message.specs.Format.Messages.{IsHeader}

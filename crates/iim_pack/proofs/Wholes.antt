@@ -1,17 +1,12 @@
 -- A whole envelope packed in one call.
-use Rattle.iim_pack.proofs.Words.{◌≡◌, ℕ, ◌+◌, ◌≤◌, true, false, None, inr, List, [], ◌∷◌, ◌++◌, length, refl, sym, ap, subst, ◌∙◌, arith, append-nil}
-use Rattle.iim_pack.proofs.Words.{length-append, le-leb, Device, TextsJoin, Dataset, is_short, most_of, total_of, Plan, StartFault, packed_text, StoryEvent}
-use Rattle.iim_pack.proofs.Words.{events_of_lines, LinesArePackedAsTheirEvents, packed_events, lines_of, Header, packed_head, packed_tail, canonical}
-use Rattle.iim_pack.proofs.Words.{Packing, EndsIn, is_trailer, pack_cause, start_cause, Starts, StartBreaksOff}
+use Rattle.iim_pack.proofs.Words.{◌≡◌, ℕ, ◌+◌, ◌≤◌, true, false, None, inr, List, [], ◌∷◌, ◌++◌, length, refl, sym, ap, subst, ◌∙◌, arith, append-nil, length-append, le-leb, Device, TextsJoin, Dataset, is_short, most_of, total_of, Plan, StartFault, packed_text, StoryEvent, events_of_lines, LinesArePackedAsTheirEvents, packed_events, lines_of, Header, packed_head, packed_tail, canonical, Packing, EndsIn, is_trailer, pack_cause, start_cause, Starts, StartBreaksOff}
 use Rattle.std.proofs.Common.{inl}
 use Rattle.iim_object.specs.declared.writing.cause.PackCause.TheVariants as causes
 use Rattle.wire_story.specs.Format.Texts.{MakeText}
-use Rattle.wire_story.specs.States.Collecting.{collect}
+use Rattle.wire_story.specs.States.Reading.{collect}
 use Rattle.wire_story.specs.Laws.{PackedLinesAreAText, TextsAreDeliveredAsLines, TextsAreCollectedAsLines}
 use Rattle.iim_pack.specs.Format.Packed.{Packed}
-use Rattle.iim_pack.specs.States.Packing.{Lengthens, BreaksOff, ContinuesWith, Finishes, finish_cause, least_ending, written_of}
-use Rattle.iim_pack.specs.States.Starting.{IsStartFault}
-use Rattle.iim_pack.specs.States.Whole.{Packs, IsPackFault}
+use Rattle.iim_pack.specs.States.Packing.{Lengthens, BreaksOff, ContinuesWith, Finishes, finish_cause, least_ending, written_of, IsStartFault, Packs, IsPackFault}
 use Rattle.std.proofs.lemmas.Bool.Decides.{nat_tests}
 use Rattle.iim_pack.proofs.Openings.{halts_after}
 

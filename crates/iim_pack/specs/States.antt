@@ -1,4 +1,1 @@
-pub mod Begun
-pub mod Whole
-pub mod Starting
 pub mod Packing

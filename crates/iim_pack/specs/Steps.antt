@@ -1,5 +1,6 @@
+-- What the parts of a packed envelope are, as they are written one after another.
 use Rattle.std.specs.Prelude.{ℕ, Bool, true, false, List, ◌∷◌, map, ◌≡◌, length}
-use Rattle.wire_story.specs.Format.Delivery.{StoryEvent, LineOctet, LineEnd}
+use Rattle.wire_story.specs.Format.Texts.{StoryEvent, LineOctet, LineEnd}
 use Rattle.iim_dataset.specs.States.Devices.{Device, Wrote, WithinInterruptionLimit}
 use Rattle.iim_object.specs.States.Writing.{Writing}
 use Rattle.iim_object.specs.States.Writing as object

@@ -1,7 +1,7 @@
 //! The end of an object.
 
 ghost use Rattle.std.specs.Prelude.{◌≡◌, ◌+◌, ◌++◌, ◌≤◌, false, length, IfOk, IfErr};
-ghost use Rattle.iim_object.specs.Format.Plans.{is_short};
+ghost use Rattle.iim_object.specs.Format.Objects.{is_short};
 ghost use Rattle.iim_object.specs.States.Writing.{BreaksOff, Finishes, IsTheWhole, Lengthens, Writing, most_of, total_of};
 ghost use Rattle.iim_object.specs.declared.writing.cause.PackCause.TheVariants as causes;
 

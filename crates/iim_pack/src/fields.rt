@@ -3,7 +3,7 @@
 ghost use Rattle.std.specs.Prelude.{◌≡◌, ◌+◌, ◌<◌, ◌^◌, length, IfOk, IfErr, OnOk};
 ghost use Rattle.iim_dataset.specs.Format.Datasets.{canonical_stream};
 ghost use Rattle.iim_dataset.specs.States.Devices.{Wrote, Stopped, WithinInterruptionLimit};
-ghost use Rattle.iim_fields.specs.Format.Envelopes.{IsEnvelope};
+ghost use Rattle.iim_fields.specs.Format.Records.{IsEnvelope};
 
 use iim_dataset::device_laws::texts_join;
 use iim_dataset::{Target, put_dataset};

@@ -3,9 +3,8 @@
 ghost use Rattle.std.specs.Prelude.{◌≡◌, ◌+◌, ◌≤◌, false, length, OnOk, OnErr, IfErr};
 ghost use Rattle.iim_object.specs.States.Writing.{most_of, total_of};
 ghost use Rattle.iim_object.specs.declared.writing.cause.PackCause.TheVariants as causes;
-ghost use Rattle.wire_story.specs.Format.Texts.{IsLine, MakeText};
+ghost use Rattle.wire_story.specs.Format.Texts.{IsLine, MakeText, events_of_lines};
 ghost use Rattle.wire_story.specs.Format.Packing.{packed_events};
-ghost use Rattle.wire_story.specs.Format.Delivery.{events_of_lines};
 ghost use Rattle.iim_pack.specs.States.Packing.{Lengthens, BreaksOff, ContinuesWith, least_ending};
 ghost use Rattle.iim_pack.specs.Steps.{line_events};
 

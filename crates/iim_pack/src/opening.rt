@@ -1,10 +1,10 @@
 //! The beginning of an object.
 
 ghost use Rattle.std.specs.Prelude.{◌≡◌, ◌+◌, ◌<◌, ◌≤◌, ◌^◌, length, IfOk, IfErr};
-ghost use Rattle.iim_object.specs.Format.Plans.{most_out};
+ghost use Rattle.iim_object.specs.Format.Objects.{most_out};
 ghost use Rattle.iim_object.specs.States.Writing.{most_of, room_of, IsWrittenFrom};
 ghost use Rattle.iim_pack.specs.Steps.{Opens};
-ghost use Rattle.iim_pack.specs.States.Starting.{StartBreaksOff};
+ghost use Rattle.iim_pack.specs.States.Packing.{StartBreaksOff};
 
 use iim_dataset::Target;
 use iim_dataset::device_laws::texts_join;

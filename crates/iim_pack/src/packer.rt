@@ -1,11 +1,8 @@
 //! The packer.
 
 ghost use Rattle.std.specs.Prelude.{◌≡◌, ◌<◌, ◌^◌, [], ◌∷◌, map, IfOk, IfErr, OnOk, OnErr, IfSome, IfNone, MatchResult, Err};
-ghost use Rattle.wire_story.specs.Format.Delivery.{LineOctet, LineEnd};
-ghost use Rattle.wire_story.specs.Format.Texts.{IsLine};
-ghost use Rattle.iim_pack.specs.States.Packing.{Lengthens, BreaksOff, ContinuesWith, EndsIn, Finishes, start_cause, text_cause, line_end_cause, finish_cause, written_of};
-ghost use Rattle.iim_pack.specs.States.Starting.{Starts, StartIsRefused, IsStartFault};
-ghost use Rattle.iim_pack.specs.States.Begun.{HasBegun, ContinuesBegun, EndsBegun};
+ghost use Rattle.wire_story.specs.Format.Texts.{LineOctet, LineEnd, IsLine};
+ghost use Rattle.iim_pack.specs.States.Packing.{Lengthens, BreaksOff, ContinuesWith, EndsIn, Finishes, start_cause, text_cause, line_end_cause, finish_cause, written_of, Starts, StartIsRefused, IsStartFault, HasBegun, ContinuesBegun, EndsBegun};
 ghost use Rattle.iim_pack.specs.Format.Orders.{IsFirstOf, AgainstStart, AgainstText, AgainstLineEnd, AgainstFinish};
 ghost use Rattle.iim_object.specs.States.Writing.{room_of};
 ghost use Rattle.iim_object.specs.declared.writing.cause.PackCause.TheVariants as causes;
@@ -33,7 +30,7 @@ use wire_story::{LINE_END, is_text};
 /// memory for just those, in one request, and no later call asks for any. All else that it has is of a fixed size, below 256
 /// octets: the plan, four counts, whether a write failed, and what it writes to.
 ///
-/// Contracts see it as how many octets records 1 and 2 have, and the writer of its object. `HasBegun` (`specs/States/Begun.antt`)
+/// Contracts see it as how many octets records 1 and 2 have, and the writer of its object. `HasBegun` (`specs/States/Packing.antt`)
 /// says what it has taken and what is out.
 #[derive(Drop)]
 pub struct Packer<W> {

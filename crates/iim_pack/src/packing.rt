@@ -1,12 +1,10 @@
 //! A whole envelope, packed in one call.
 
 ghost use Rattle.std.specs.Prelude.{◌≡◌, [], ◌∷◌, IfOk, IfErr, IfSome, IfNone, MatchResult};
-ghost use Rattle.iim_pack.specs.States.Packing.{written_of};
+ghost use Rattle.iim_pack.specs.States.Packing.{written_of, StartIsRefused, Packs, IsPackFault};
 ghost use Rattle.iim_pack.specs.States.Packing as words;
 ghost use Rattle.iim_object.specs.declared.writing.cause.PackCause.TheVariants as causes;
 ghost use Rattle.iim_pack.specs.Format.Orders.{IsFirstOf, AgainstPack};
-ghost use Rattle.iim_pack.specs.States.Starting.{StartIsRefused};
-ghost use Rattle.iim_pack.specs.States.Whole.{Packs, IsPackFault};
 
 use crate::lines::put_lines;
 use crate::packer::Packer;

@@ -2,8 +2,7 @@
 
 ghost use Rattle.std.specs.Prelude.{◌≡◌, ◌≤◌, ◌↔◌, length, IsSome, IfSome};
 ghost use Rattle.iim_dataset.specs.Format.Octets.{greatest_size};
-ghost use Rattle.wire_message.specs.Format.Messages.{IsTrailer};
-ghost use Rattle.wire_message.specs.Format.Canonical.{canonical};
+ghost use Rattle.wire_message.specs.Format.Messages.{IsTrailer, canonical};
 
 use crate::cause::LEAST_ENDING;
 use iim_dataset::GREATEST_SIZE;

@@ -1,7 +1,5 @@
 -- A target that is written to in blocks: its steps, and what they come to.
-use Rattle.iim_pack_script.proofs.Words.{◌≡◌, ℕ, ◌+◌, ◌-◌, ◌<◌, ◌≤◌, ◌⊎◌, inl, inr, take, take-append-drop, length-drop, nat_le, Bool, true, false, cond}
-use Rattle.iim_pack_script.proofs.Words.{List, [], ◌∷◌, ◌++◌, length, drop, Option, Some, None, refl, sym, ap, ◌∙◌, arith, append_assoc, append-nil}
-use Rattle.iim_pack_script.proofs.Words.{length-append, Accepted, Calm, CountedFailure, Device, Faulted, Begins, octets_behind}
+use Rattle.iim_pack_script.proofs.Words.{◌≡◌, ℕ, ◌+◌, ◌-◌, ◌<◌, ◌≤◌, ◌⊎◌, inl, inr, take, take-append-drop, length-drop, nat_le, Bool, true, false, cond, List, [], ◌∷◌, ◌++◌, length, drop, Option, Some, None, refl, sym, ap, ◌∙◌, arith, append_assoc, append-nil, length-append, Accepted, Calm, CountedFailure, Device, Faulted, Begins, octets_behind}
 use Rattle.std.proofs.lemmas.Bool.{leb-true, le-leb, true≢false}
 use Rattle.std.proofs.lemmas.List.{drop-take}
 use Rattle.std.proofs.lemmas.List.Edits.{take-paste}

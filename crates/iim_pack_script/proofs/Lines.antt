@@ -1,6 +1,5 @@
 -- The lines of a text, packed one after another.
-use Rattle.iim_pack_script.proofs.Words.{◌≡◌, ℕ, ◌+◌, ◌≤◌, List, [], ◌∷◌, ◌++◌, length, length-append, map, refl, ap, sym, arith, append_assoc, IsLine}
-use Rattle.iim_pack_script.proofs.Words.{IsText, StoryEvent, LineOctet, LineEnd, events_of_lines, events_append, line_packed}
+use Rattle.iim_pack_script.proofs.Words.{◌≡◌, ℕ, ◌+◌, ◌≤◌, List, [], ◌∷◌, ◌++◌, length, length-append, map, refl, ap, sym, arith, append_assoc, IsLine, IsText, StoryEvent, LineOctet, LineEnd, events_of_lines, events_append, line_packed}
 use Rattle.wire_story.specs.Format.Packing.{lines_of, packed_events}
 use Rattle.wire_story.specs.Laws.{TextsAreDeliveredAsLines}
 use Rattle.wire_story.proofs.Collected.{text_collected}

@@ -1,13 +1,9 @@
 -- `pack`: what its parts leave comes to what it leaves.
-use Rattle.iim_pack_script.proofs.Words.{◌≡◌, ℕ, ◌+◌, ap, length-append, IfOk, min, ◌≤◌, ◌++◌, List, [], length, inl, inr, refl, take, drop, append_assoc}
-use Rattle.iim_pack_script.proofs.Words.{take-append-drop, sym, subst, ◌∙◌, arith, Bool, true, false, Option, Some, None, Result, Ok, Err, IfErr, IsTrue}
-use Rattle.iim_pack_script.proofs.Words.{Device, BrokeAfter, HasGiven, Stopped, Wrote, Begins, pack_cause, max_script, Answered, Asked, IsBrokenOff}
-use Rattle.iim_pack_script.proofs.Words.{IsNotPacked, IsPacked, IsPast, IsPlanOf, IsRead, IsScriptRefusal, IsScriptOf, IsUnanswered, IsUnread, ScriptContent}
-use Rattle.iim_pack_script.proofs.Words.{most_asked, object_of, said_size, IsFresh, block_device, held_in, octets_behind, ComesTo, IsFailedRead, TellsFault}
+use Rattle.iim_pack_script.proofs.Words.{◌≡◌, ℕ, ◌+◌, ap, length-append, IfOk, min, ◌≤◌, ◌++◌, List, [], length, inl, inr, refl, take, drop, append_assoc, take-append-drop, sym, subst, ◌∙◌, arith, Bool, true, false, Option, Some, None, Result, Ok, Err, IfErr, IsTrue, Device, BrokeAfter, HasGiven, Stopped, Wrote, Begins, pack_cause, max_script, Answered, Asked, IsBrokenOff, IsNotPacked, IsPacked, IsPast, IsPlanOf, IsRead, IsScriptRefusal, IsScriptOf, IsUnanswered, IsUnread, ScriptContent, most_asked, object_of, said_size, IsFresh, block_device, held_in, octets_behind, ComesTo, IsFailedRead, TellsFault}
 use Rattle.iim_dataset.specs.Format.Octets.{greatest_size}
-use Rattle.iim_dataset.specs.HandedIn.{appends_nothing}
+use Rattle.iim_dataset.specs.Steps.{appends_nothing}
 use Rattle.iim_dataset.specs.Laws.{GiftsJoin}
-use Rattle.iim_object.specs.Format.Plans.{bound_of, is_plan, most_in}
+use Rattle.iim_object.specs.Format.Objects.{bound_of, is_plan, most_in}
 use Rattle.iim_object.specs.declared.writing.cause.PackCause.TheVariants as causes
 use Rattle.iim_object.specs.declared.writing.cause.StartFault.{StartFault}
 use Rattle.iim_object.specs.declared.plan.Plan.{Plan}
@@ -16,14 +12,12 @@ use Rattle.iim_object.proofs.PlanParts.{plan_parts}
 use Rattle.iim_dataset.proofs.DeviceLaws.{broke_later}
 use Rattle.iim_pack.specs.Format.Packed.{Packed}
 use Rattle.iim_pack.specs.Laws.{PackedOctetsAreOne}
-use Rattle.iim_pack.specs.States.Starting.{StartBreaksOff}
-use Rattle.iim_pack.specs.States.Whole.{IsPackFault, Packs}
+use Rattle.iim_pack.specs.States.Packing.{StartBreaksOff, IsPackFault, Packs}
 use Rattle.iim_pack.proofs.Orders.{pack_order}
-use Rattle.iim_script.specs.Format.Faults.{IsScriptFault}
+use Rattle.iim_script.specs.Format.Causes.{IsScriptFault}
 use Rattle.iim_script.specs.declared.fault.ScriptFault.{ScriptFault}
-use Rattle.iim_output.specs.Format.Limits.{limits}
+use Rattle.iim_output.specs.Format.{limits, IsSaid}
 use Rattle.iim_output.specs.States.Devices.{devices}
-use Rattle.iim_output.specs.Format.Statuses.{IsSaid}
 use Rattle.iim_pack_script.specs.declared.blocks.BlockTarget.{BlockTarget}
 use Rattle.iim_pack_script.proofs.BlockSteps.{broken_off, finished}
 use Rattle.iim_output.specs.declared.fault.CommandFault.{CommandFault}

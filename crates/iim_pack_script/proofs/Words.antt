@@ -4,15 +4,10 @@ pub use Rattle.iim_object.specs.States.Writing.{Begins, most_of, total_of}
 pub use Rattle.iim_pack.proofs.Goings.{of_none}
 pub use Rattle.iim_pack.proofs.LinesOut.{breaks_before, breaks_later, goes_nowhere, leads_on, may_end_line, may_text}
 pub use Rattle.iim_pack.specs.States.Packing.{BreaksOff, ContinuesWith, Lengthens, finish_cause, line_end_cause, pack_cause, start_cause, text_cause}
-pub use Rattle.iim_pack_script.specs.Blocks.{IsFresh, block_device, held_in, octets_behind}
-pub use Rattle.iim_pack_script.specs.Format.{Answered, Asked, IsBrokenOff, IsNotPacked, IsPacked, IsPast, IsPlanOf, IsRead, IsScriptOf, IsScriptRefusal}
-pub use Rattle.iim_pack_script.specs.Format.{IsUnanswered, IsUnread, ScriptContent, asked, most_asked, object_of, refusal_line, said_size}
-pub use Rattle.iim_pack_script.specs.PackSteps.{ComesTo, IsFailedRead, TellsFault, told_by}
+pub use Rattle.iim_pack_script.specs.Steps.{IsFresh, block_device, held_in, octets_behind, ComesTo, IsFailedRead, TellsFault, told_by}
+pub use Rattle.iim_pack_script.specs.Format.{Answered, Asked, IsBrokenOff, IsNotPacked, IsPacked, IsPast, IsPlanOf, IsRead, IsScriptOf, IsScriptRefusal, IsUnanswered, IsUnread, ScriptContent, asked, most_asked, object_of, refusal_line, said_size}
 pub use Rattle.iim_script.specs.Format.Scripts.{max_script, text_lines}
-pub use Rattle.std.proofs.Common.{Bool, Err, IfErr, IfOk, IsTrue, List, None, Ok, Option, Result, Some, [], ap, append-nil, append_assoc, arith, cond, drop}
-pub use Rattle.std.proofs.Common.{false, inl, inr, length, length-append, length-drop, length-take, map, min, nat_le, refl, rules, subst, sym, take}
-pub use Rattle.std.proofs.Common.{take-append-drop, true, ℕ, ◌++◌, ◌+◌, ◌-◌, ◌<◌, ◌∙◌, ◌∷◌, ◌≡◌, ◌≤◌, ◌⊎◌}
+pub use Rattle.std.proofs.Common.{Bool, Err, IfErr, IfOk, IsTrue, List, None, Ok, Option, Result, Some, [], ap, append-nil, append_assoc, arith, cond, drop, false, inl, inr, length, length-append, length-drop, length-take, map, min, nat_le, refl, rules, subst, sym, take, take-append-drop, true, ℕ, ◌++◌, ◌+◌, ◌-◌, ◌<◌, ◌∙◌, ◌∷◌, ◌≡◌, ◌≤◌, ◌⊎◌}
 pub use Rattle.std.proofs.lemmas.Result.{IfErr-weaker, IfOk-weaker, on_err_weaker, on_ok_weaker}
 pub use Rattle.wire_story.proofs.PackedEvents.{events_append, line_packed}
-pub use Rattle.wire_story.specs.Format.Delivery.{LineEnd, LineOctet, StoryEvent, events_of_lines}
-pub use Rattle.wire_story.specs.Format.Texts.{IsLine, IsText}
+pub use Rattle.wire_story.specs.Format.Texts.{LineEnd, LineOctet, StoryEvent, events_of_lines, IsLine, IsText}

@@ -5,18 +5,16 @@ use Rattle.iim_dataset.specs.Format.Octets.{greatest_size}
 use Rattle.iim_dataset.specs.Format.Datasets.{Dataset}
 use Rattle.iim_dataset.specs.States.Devices.{Device, Wrote, BrokeAfter, HasGiven, MissedAfter}
 pub use Rattle.iim_dataset.specs.declared.device.IoFault.{IoFault}
-use Rattle.iim_object.specs.Format.Plans.{most_in}
+use Rattle.iim_object.specs.Format.Objects.{most_in}
 use Rattle.iim_object.specs.declared.size.Size.{Size}
 use Rattle.iim_object.specs.declared.size.Size.TheVariants.{Known, Unknown}
-use Rattle.iim_object.specs.Format.PackCauses.{pack_number}
+use Rattle.iim_object.specs.Format.Causes.{pack_number}
 use Rattle.iim_object.specs.States.Writing.{Begins}
 use Rattle.iim_object.specs.declared.writing.cause.PackCause.TheVariants as causes
 use Rattle.iim_object.specs.declared.plan.Plan.{Plan}
-use Rattle.wire_message.specs.Format.Messages.{Header}
-use Rattle.wire_message.specs.Format.Canonical.{canonical}
+use Rattle.wire_message.specs.Format.Messages.{Header, canonical}
 use Rattle.iim_pack.specs.Format.Packed.{Packed}
-use Rattle.iim_script.specs.Format.Causes.{cause_name, cause_number}
-use Rattle.iim_script.specs.Format.Faults.{IsScriptFault}
+use Rattle.iim_script.specs.Format.Causes.{cause_name, cause_number, IsScriptFault}
 use Rattle.iim_script.specs.declared.fault.ScriptCause.{ScriptCause}
 use Rattle.iim_script.specs.Format.Scripts.{IsScript, max_script}
 use Rattle.iim_script.specs.declared.fault.ScriptCause.TheVariants as script
@@ -25,8 +23,7 @@ pub use Rattle.iim_output.specs.declared.fault.CommandFault.TheVariants.{CannotR
 pub use Rattle.iim_pack_script.specs.declared.packing.PackFault.{PackFault}
 pub use Rattle.iim_pack_script.specs.declared.packing.PackFault.TheVariants.{Refused, Around}
 use Rattle.iim_output.specs.States.Devices.{Devices}
-use Rattle.iim_output.specs.Format.Limits.{limits}
-use Rattle.iim_output.specs.Format.Statuses.{IsSaid, status_accepted, status_refused}
+use Rattle.iim_output.specs.Format.{limits, IsSaid, status_accepted, status_refused}
 
 -- how an envelope is to be packed: the octets of a full subfile; whether the size is to be left unknown, and then the most octets of
 -- the object

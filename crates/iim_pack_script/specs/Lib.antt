@@ -1,6 +1,6 @@
 -- What octets are, and what is said of them.
 pub mod Format
 -- What only proofs and private clauses cite.
-pub mod PackSteps
+pub mod Steps
+
 -- A target that is written to in blocks.
-pub mod Blocks

@@ -40,7 +40,7 @@ pub(crate) struct BlockTarget<'b, W> {
 impl<'b, W: Target> BlockTarget<'b, W> {
     ghost use Rattle.iim_dataset.specs.States.Devices.{Calm, CountedFailure, Stopped, Wrote};
     ghost use Rattle.std.specs.Io.KnownBytes.{Appends, Keeps};
-    ghost use Rattle.iim_pack_script.specs.Blocks.{IsFresh, block_device, held_in, room_in};
+    ghost use Rattle.iim_pack_script.specs.Steps.{IsFresh, block_device, held_in, room_in};
 
     /// A target that holds nothing yet, over this one.
     pub(crate) fn new(block: &'b mut [u8], writer: W) -> BlockTarget<'b, W>
@@ -106,7 +106,8 @@ impl<'b, W: Target> BlockTarget<'b, W> {
         requires { 0 < self.old.used }
         ensures ok { IfOk result (λ count.
             Keeps (block_device W.state self.old).octets (block_device W.state self.new).octets
-            × (((0 < count) × (0 < room_in self.new) × Calm (block_device W.state self.old) (block_device W.state self.new))
+            × (((0 < count) × (0 < room_in self.new)
+            × Calm (block_device W.state self.old) (block_device W.state self.new))
             ⊎ ((count ≡ 0) × CountedFailure (block_device W.state self.old) (block_device W.state self.new)))) }
         ensures err { IfErr result (Faulted (block_device W.state self.old) (block_device W.state self.new)) }
     {
@@ -121,7 +122,7 @@ impl<'b, W: Target> BlockTarget<'b, W> {
 }
 
 impl<'b, W: Target> Target for BlockTarget<'b, W> {
-    ghost use Rattle.iim_pack_script.specs.Blocks.{block_device};
+    ghost use Rattle.iim_pack_script.specs.Steps.{block_device};
 
     ghost state = { block_device W.state };
 

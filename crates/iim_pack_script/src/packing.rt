@@ -8,8 +8,8 @@ ghost use Rattle.iim_pack.specs.States.Packing.{pack_cause};
 ghost use Rattle.iim_script.specs.Format.Scripts.{text_lines};
 ghost use Rattle.iim_output.specs.States.Devices.{devices};
 ghost use Rattle.iim_pack_script.specs.Format.{Answered, IsNotPacked, IsPacked, IsPast, IsPlanOf, IsRead, IsScriptOf, IsUnanswered, IsUnread, asked, object_of, refusal_line};
-ghost use Rattle.iim_pack_script.specs.PackSteps.{ComesTo, GotSome, IsFailedRead, TellsFault, told_by};
-ghost use Rattle.iim_output.specs.Format.Statuses.{IsSaid, status_refused};
+ghost use Rattle.iim_pack_script.specs.Steps.{ComesTo, GotSome, IsFailedRead, TellsFault, told_by};
+ghost use Rattle.iim_output.specs.Format.{IsSaid, status_refused};
 ghost use Rattle.iim_output.specs.declared.fault.CommandFault.TheVariants.{OutOfMemory};
 
 use crate::blocks::BlockTarget;

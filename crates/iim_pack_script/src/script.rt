@@ -1,10 +1,10 @@
 //! Scripts, within the limits of the commands.
 
 ghost use Rattle.std.specs.Prelude.{◌≡◌, length, IfOk, IfErr};
-ghost use Rattle.iim_script.specs.Format.Faults.{IsScriptFault};
+ghost use Rattle.iim_script.specs.Format.Causes.{IsScriptFault};
 ghost use Rattle.iim_script.specs.Format.Scripts.{IsScript, text_lines};
 ghost use Rattle.wire_story.specs.Format.Texts.{IsText, packed_text};
-ghost use Rattle.iim_output.specs.Format.Limits.{limits};
+ghost use Rattle.iim_output.specs.Format.{limits};
 
 use iim_output::limits::LIMITS;
 use iim_script::{Script, ScriptFault};

@@ -4,13 +4,10 @@ ghost use Rattle.std.specs.Prelude.{◌≡◌, ◌+◌, ◌<◌, ◌≤◌, ◌+
 ghost use Rattle.iim_dataset.specs.Format.Octets.{greatest_size};
 ghost use Rattle.iim_object.specs.States.Writing.{most_of, total_of};
 ghost use Rattle.iim_object.specs.declared.writing.cause.PackCause.TheVariants as causes;
-ghost use Rattle.wire_message.specs.Format.Messages.{IsTrailer};
-ghost use Rattle.wire_message.specs.Format.Canonical.{canonical};
-ghost use Rattle.wire_story.specs.Format.Delivery.{LineEnd, LineOctet, events_of_lines};
+ghost use Rattle.wire_message.specs.Format.Messages.{IsTrailer, canonical};
+ghost use Rattle.wire_story.specs.Format.Texts.{LineEnd, LineOctet, events_of_lines, IsLine, IsText, packed_text};
 ghost use Rattle.wire_story.specs.Format.Packing.{packed_events};
-ghost use Rattle.wire_story.specs.Format.Texts.{IsLine, IsText, packed_text};
-ghost use Rattle.iim_pack.specs.States.Packing.{BreaksOff, ContinuesWith, Lengthens, least_ending, pack_cause, written_of};
-ghost use Rattle.iim_pack.specs.States.Whole.{IsPackFault, Packs};
+ghost use Rattle.iim_pack.specs.States.Packing.{BreaksOff, ContinuesWith, Lengthens, least_ending, pack_cause, written_of, IsPackFault, Packs};
 ghost use Rattle.iim_script.specs.Format.Scripts.{text_lines};
 
 use iim_dataset::Target;

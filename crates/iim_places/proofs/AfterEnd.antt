@@ -1,8 +1,7 @@
 -- After EOT the octets are a message.
 use Rattle.std.proofs.Common.{◌≡◌, IsTrue, List, ℕ, Some, arith}
 use Rattle.iim_places.proofs.Words.{AreLines, Header, IsMessage, saved}
-use Rattle.wire_message.specs.States.Reading.{is_ended}
-use Rattle.wire_message.specs.States.SoFar.{LeadsTo}
+use Rattle.wire_message.specs.States.Reading.{is_ended, LeadsTo}
 use Rattle.wire_message.specs.declared.place.Place.{Place}
 use Rattle.wire_message.specs.declared.place.Place.TheVariants.{AfterEnd}
 use Rattle.wire_message.specs.declared.saved.MessagePart.TheVariants as part

@@ -1,10 +1,10 @@
 -- A stream has one answer: what is refused, what is open and what is an envelope exclude one another.
 use Rattle.std.proofs.Common.{◌≡◌, ◌≢◌, ℕ, zero, suc, ◌<◌, ◌≤◌, ◌⊎◌, false, nat_eq, List, [], ◌∷◌, ◌++◌, length, take, drop, slice_index, refl, ap, sym, subst, ◌∙◌, inl, inr, arith, append-nil, append_assoc, length-append}
 use Rattle.iim_places.proofs.Words.{cases_lt, ne_eqb, same_Some, map-append, take-append-drop, take-length, take-take, Dataset, SpellsTag, count_octets, Begun, InTag, InData, IsBegun, Reads, BeginsNoTag, Head, AreSections, data_of, SectionsLive, section_after, Limits, AreSized, Holds, Octet, MessageLanguage, MessageLivesWith, MessageDiesAt, StoryLivesIn, text_so_far, HasCause, MessageCause, Value, Admits, object_of, begun_record, begun_number, tag_cause, refusal_at, IsTextOf, message_on, Kills, AdmittedOctetsHaveOneValue, NoTagBeginsAnother, NoDatasetBeginsAnother, NoSectionsBeginOthers, compare, object_so_far, AllCanContinue, IsUnfinished, Answer, RefusesByTests, RefusesNext, truncated_in, IsRefusedHead, IsRefusedValue, OpenOctetsBeginWithNoEnvelope, IsEnvelopeWithin, CanContinue, NothingContinuesFromRefusedOctets, RefusalsAreDetermined, StreamsHaveOneAnswer, Answers, Finished, Refused, Truncated, IsFinished, IsTruncated, TokenFault, LowerLaws, IsPlaceOf, place_of, LeadsToSaved, IsOpen, MessagePlace, AreOpenOrWhole, DiesAtValue, Layer}
-use Rattle.iim_dataset.specs.Format.Languages as languages
+use Rattle.iim_dataset.specs.Format.Octets as languages
 use Rattle.iim_dataset.proofs.Fronts.{begun_none as nothing_begun}
 use Rattle.iim_dataset.proofs.Spelled.{held_of, whole_read}
-use Rattle.wire_message.specs.States.SoFar.{LeadsTo}
+use Rattle.wire_message.specs.States.Reading.{LeadsTo}
 use Rattle.wire_message.specs.declared.place.Place.TheVariants.{AfterEnd}
 use Rattle.wire_message.specs.declared.fault.MessageCause.TheVariants as messages
 use Rattle.iim_places.specs.Format.Open.{IsBadOctetAt}

@@ -1,13 +1,8 @@
 -- Readers at a place: the message that a ticket tells, and what the record layer can continue with.
-use Rattle.std.proofs.Common.{◌≡◌, ℕ, ◌↔◌, Bool, true, false, cond, IsTrue, IsSome, IfNone, OnOk, Option, Result, Ok, Err, is_ok, List, [], ◌∷◌, length, map}
-use Rattle.std.proofs.Common.{get_or, refl, sym, subst, ◌∙◌, arith, Bor}
-use Rattle.iim_places.proofs.Words.{same_Some, Dataset, Head, DatasetPlace, SectionsLive, SectionsLiveAt, HasChecked, HasTaken, kept, kept_octets, IsWithin}
-use Rattle.iim_places.proofs.Words.{RecordPlace, FieldFault, head_alive, taken_alive, LeadsToSaved, MessagePlace, AreNumbers, RecordsLive, head_of_numbers}
-use Rattle.iim_places.proofs.Words.{number_list, widest, AreKept, CanContinueWithin, IsMessageOf, numbers_told, told_datasets, Phase, DataBegun}
-use Rattle.iim_dataset.specs.States.Places.{IsPlace}
-use Rattle.wire_message.specs.States.Reading.{StandsAt}
-use Rattle.wire_message.specs.States.SoFar.{LeadsTo as LeadTo}
-use Rattle.wire_message.specs.States.Saved.{IsAt}
+use Rattle.std.proofs.Common.{◌≡◌, ℕ, ◌↔◌, Bool, true, false, cond, IsTrue, IsSome, IfNone, OnOk, Option, Result, Ok, Err, is_ok, List, [], ◌∷◌, length, map, get_or, refl, sym, subst, ◌∙◌, arith, Bor}
+use Rattle.iim_places.proofs.Words.{same_Some, Dataset, Head, DatasetPlace, SectionsLive, SectionsLiveAt, HasChecked, HasTaken, kept, kept_octets, IsWithin, RecordPlace, FieldFault, head_alive, taken_alive, LeadsToSaved, MessagePlace, AreNumbers, RecordsLive, head_of_numbers, number_list, widest, AreKept, CanContinueWithin, IsMessageOf, numbers_told, told_datasets, Phase, DataBegun}
+use Rattle.iim_dataset.specs.States.Reading.{IsPlace}
+use Rattle.wire_message.specs.States.Reading.{StandsAt, LeadsTo as LeadTo, IsAt}
 use Rattle.wire_message.specs.declared.place.Place.{Place as Message}
 use Rattle.iim_places.proofs.Fitting.{message_told}
 use Rattle.iim_places.proofs.Plain.{kept_fields, plain_kept}

@@ -1,19 +1,12 @@
 -- How many octets are open, or an envelope, at most.
-use Rattle.std.proofs.Common.{◌≡◌, ℕ, ◌+◌, ◌*◌, ◌<◌, ◌≤◌, ◌⊎◌, ◌^◌, ◌-◌, true, List, [], ◌∷◌, ◌++◌, length, map, sum}
-use Rattle.std.proofs.Common.{Option, Some, None, refl, ap, sym, subst, inl, inr, arith, append_assoc, length-append, ◌&&◌}
+use Rattle.std.proofs.Common.{◌≡◌, ℕ, ◌+◌, ◌*◌, ◌<◌, ◌≤◌, ◌⊎◌, ◌^◌, ◌-◌, true, List, [], ◌∷◌, ◌++◌, length, map, sum, Option, Some, None, refl, ap, sym, subst, inl, inr, arith, append_assoc, length-append, ◌&&◌}
 use Rattle.std.proofs.Math.Nat.{pow-le-pow_right}
-use Rattle.iim_places.proofs.Words.{AllByRecursion, Octets, number, greatest_size, all_append, all_front, all_back, all_map, Meets, Dataset, LowerLaws}
-use Rattle.iim_places.proofs.Words.{SpellsStream, count_octets, of_record, tag_octets, Begun, InTag, InData, Reads, Head, within_most_and, sum_cons, sum_append}
-use Rattle.iim_places.proofs.Words.{number-lt, AreRecords, AreSections, records, IsGoodDataset, SectionsLive, SectionsLiveAt, kept, is_kept}
-use Rattle.iim_places.proofs.Words.{NoSectionsBeginOthers, EnvelopesEndWithTheLastRecord, Limits, ObjectToken, NumberRead, SubfileBegun, ObjectEnded, Confirmed}
-use Rattle.iim_places.proofs.Words.{number_tokens, ending_tokens, place_after, place_after_datasets, lengths_of, Stated, AreOnce, InRow, number_at, MayContinue}
-use Rattle.iim_places.proofs.Words.{ObjectLives, OpenOctetsAreBounded, EnvelopesAreBounded, eqb_tells, kept_octets, length-map, within, nat_tests}
-use Rattle.iim_tables.specs.Format.Kinds.{is_mode, is_size_from}
-use Rattle.iim_tables.specs.Format.Numbers.{size_octets}
+use Rattle.iim_places.proofs.Words.{AllByRecursion, Octets, number, greatest_size, all_append, all_front, all_back, all_map, Meets, Dataset, LowerLaws, SpellsStream, count_octets, of_record, tag_octets, Begun, InTag, InData, Reads, Head, within_most_and, sum_cons, sum_append, number-lt, AreRecords, AreSections, records, IsGoodDataset, SectionsLive, SectionsLiveAt, kept, is_kept, NoSectionsBeginOthers, EnvelopesEndWithTheLastRecord, Limits, ObjectToken, NumberRead, SubfileBegun, ObjectEnded, Confirmed, number_tokens, ending_tokens, place_after, place_after_datasets, lengths_of, Stated, AreOnce, InRow, number_at, MayContinue, ObjectLives, OpenOctetsAreBounded, EnvelopesAreBounded, eqb_tells, kept_octets, length-map, within, nat_tests}
+use Rattle.iim_tables.specs.Format.Kinds.{is_mode, is_size_from, size_octets}
 use Rattle.iim_tables.specs.Format.Rows.{table, row_of}
 use Rattle.iim_dataset.proofs.Spelled.{tag_length}
-use Rattle.iim_fields.specs.Format.Faults.{joined}
-use Rattle.iim_object.specs.Format.Places.{Place}
+use Rattle.iim_fields.specs.Format.Causes.{joined}
+use Rattle.iim_object.specs.Format.Objects.{Place}
 use Rattle.iim_places.proofs.Answering.{lives_envelope}
 use Rattle.iim_places.proofs.Following.{alive_of, within_of, object_lives_after}
 use Rattle.iim_places.proofs.Lasts.{nine_ends}
@@ -129,9 +122,19 @@ Counted d = (is_kept d.rec ≡ true) ⊎ ((d.rec ≡ 8) ⊎ (((d.rec ≡ 7) ⊎ 
 
 alive_counted : (ds : List Dataset) → SectionsLive ds → AllByRecursion Counted ds
 alive_counted ds (more, are) =
-    all_front Counted ds more (each_in Counted records (ds ++ more) ((λ d is good. inl (ap is_kept is)), ((λ d is good. inl (ap is_kept is)),
-    ((λ d is good. inr (inr (inl is, (sized_seven d.set d.octets good.octets (rw is at good.meets)).0))), ((λ d is good. inr (inl is)),
-    ((λ d is good. inr (inr (inr is, (sized_nine d.set d.octets (rw is at good.meets)).0))), tt))))) are)
+    all_front Counted ds more (each_in Counted records (ds ++ more) (
+      (λ d is good. inl (ap is_kept is)),
+      (
+        (λ d is good. inl (ap is_kept is)),
+        (
+          (λ d is good. inr (inr (inl is, (sized_seven d.set d.octets good.octets (rw is at good.meets)).0))),
+          (
+            (λ d is good. inr (inl is)),
+            ((λ d is good. inr (inr (inr is, (sized_nine d.set d.octets (rw is at good.meets)).0))), tt),
+          ),
+        ),
+      ),
+    ) are)
 
 pub alive_ones : (ds : List Dataset) → SectionsLive ds → AllByRecursion IsOne ds
 alive_ones ds alive = all_map Counted IsOne ds (λ d is. grind (arith, is)) (alive_counted ds alive)

@@ -1,7 +1,7 @@
 -- A place is possible exactly where each layer alone can be there.
 use Rattle.std.proofs.Common.{◌≡◌, ℕ, zero, suc, ◌+◌, ◌-◌, ◌<◌, ◌≤◌, nat_eq, cond, if◌then◌else◌, Bool, true, false, List, [], ◌∷◌, ◌++◌, length, map, Some, None, refl, ap, sym, subst, ◌∙◌, inl, inr, arith, append-nil, length-append, ◌*◌, ◌^◌, sum, take, drop, length-drop, IfSome, Option}
 use Rattle.iim_places.proofs.Words.{eqb-true, eqb_tells, Octets, Dataset, count_octets, of_record, Begun, InTag, InData, Reads, Head, sum_append, SectionsLive, SectionsLiveAt, kept, section_after, Limits, place_after_datasets, place_ended, ending_of, ObjectEnded, SubfileBegun, NotEnded, ConfirmedAs, place_after, max_subfiles, lengths_of, numbers_of, IsPossible, stated_numbers, Octet, End, MessageLanguage, MessagePlace, object_of, LeadsByLayers, TagsLead, RecordsLive, ObjectLeads, record_datasets, begun_subfiles, one_of_some, are_ended, object_so_far, section, plain, Possible, widest, Phase, TagBegun, AllEnded, phase_of, place_of, ObjectLives, CanContinueAt, MayContinue, LowerLaws, AllByRecursion, unwrap_or, length-take, take-append-drop, nil_from_length, greatest_size, HasSpellings, IsBegun, all_append, all_front, all_back, front_are, sum_fits, is_kept, IsGoodDataset, head_alive, Confirmed, Ending, number_at, IsSize, head_of_numbers, AreWithin, Numbers, number_list, plain_end, AreOpenOrWhole, DataBegun, IsPlaceOf, place_at, eq-eqb, CanContinue, place_in, IsWithin, AllCanContinue, kept_octets, AreHeadsWithin, LimitsAreToldByPlace, subfile_datasets, filled, AreKept, IsOctet, heads_of, ne_eqb, numbers_told, number_back}
-use Rattle.iim_object.specs.States.Saved.{IsAt}
+use Rattle.iim_object.specs.States.Reading.{IsAt}
 use Rattle.iim_places.specs.Format.Tickets.{Place}
 use Rattle.iim_places.proofs.AfterEnd.{after_end}
 use Rattle.iim_places.proofs.Fitting.{lived, begins_tag, given_fits, tag_or_end}
@@ -10,14 +10,14 @@ use Rattle.iim_places.proofs.Twins.{Continues, plain_like, fit_in_rows, alive_at
 use Rattle.iim_places.proofs.PlainSizes.{numbers_in, all_kept, mode_octet, end_length, possible_like, AreBounded, bounded_at, ending_after, possible_after, possible_at}
 use Rattle.iim_places.proofs.SameRecords.{nines, stated_after_all, same_numbers}
 use Rattle.iim_places.proofs.Tickets.{total_of, count_of, sum_one, heads_by, so_far_by}
-use Rattle.iim_fields.specs.Format.Faults.{joined}
+use Rattle.iim_fields.specs.Format.Causes.{joined}
 use Rattle.iim_places.proofs.ObjectOctets.{living_octets}
 use Rattle.iim_places.proofs.Answering.{nothing_held, Lives, lives_open, lives_envelope, reads_envelope, coming}
 use Rattle.iim_places.proofs.Bounds.{object_fits}
 use Rattle.iim_places.proofs.Plain.{Tell, back_octets, plain_told, present_ended, plain_spelled}
 use Rattle.iim_places.proofs.Taking.{each_good}
-use Rattle.iim_dataset.specs.Format.Languages as languages
-use Rattle.iim_object.specs.Format.Places as objects
+use Rattle.iim_dataset.specs.Format.Octets as languages
+use Rattle.iim_object.specs.Format.Objects as objects
 use Rattle.wire_message.specs.declared.saved.MessagePart.TheVariants as part
 use Rattle.iim_places.proofs.SamePlace.{SameObject}
 

@@ -1,22 +1,14 @@
 -- The ticket of a possible place has the form of a ticket: each number fits its octets.
-use Rattle.std.proofs.Common.{◌≡◌, ℕ, ◌-◌, ◌<◌, ◌≤◌, ◌^◌, nat_eq, cond, if◌then◌else◌, Bool, true, false, List, [], ◌∷◌, ◌++◌, length, sum, get_or, Option}
-use Rattle.std.proofs.Common.{◌↔◌, rules, Some, None, refl, ap, sym, subst, ◌∙◌, inl, inr, arith, append_assoc, append-nil, length-append}
-use Rattle.iim_places.proofs.Words.{place_after, AllByRecursion, all_map, eqb_tells, nat_tests, Octets, Dataset, SpellsStream, SpellsTag, count_octets}
-use Rattle.iim_places.proofs.Words.{of_record, Begun, InTag, InData, Reads, kept, section_after, Head, BeginsTag, place_after_datasets, numbers_of}
-use Rattle.iim_places.proofs.Words.{stated_numbers, Stated, number_at, LeadsToSaved, MessagePlace, LowerLaws, object_so_far, section, AllCanContinue}
-use Rattle.iim_places.proofs.Words.{ObjectLives, MayContinue, Phase, TagBegun, AllEnded, present_version, phase_of, heads_of, place_of, ticket_in, part_number}
-use Rattle.iim_places.proofs.Words.{IsLongField, IsSizeIn, AreTexts, IsSize, IsVersion, IsPhase, HasForm, Split, SplitsTicket, split_octets, place_in, Possible}
-use Rattle.iim_places.proofs.Words.{IsSmall, IsSmallPhase, IsSmallPlace, widest, SmallPlacesWerePossible, TicketsTellOnePlace, TicketsOfPlacesAreSplit}
-use Rattle.iim_places.proofs.Words.{texts_of, split_of, Limits, max_subfiles, greatest_size_before, CanContinueAt, IsBegun, canonical_stream, place_at}
-use Rattle.iim_places.proofs.Words.{place_ended, SubfileBegun}
-use Rattle.iim_fields.specs.Format.Faults.{joined}
+use Rattle.std.proofs.Common.{◌≡◌, ℕ, ◌-◌, ◌<◌, ◌≤◌, ◌^◌, nat_eq, cond, if◌then◌else◌, Bool, true, false, List, [], ◌∷◌, ◌++◌, length, sum, get_or, Option, ◌↔◌, rules, Some, None, refl, ap, sym, subst, ◌∙◌, inl, inr, arith, append_assoc, append-nil, length-append}
+use Rattle.iim_places.proofs.Words.{place_after, AllByRecursion, all_map, eqb_tells, nat_tests, Octets, Dataset, SpellsStream, SpellsTag, count_octets, of_record, Begun, InTag, InData, Reads, kept, section_after, Head, BeginsTag, place_after_datasets, numbers_of, stated_numbers, Stated, number_at, LeadsToSaved, MessagePlace, LowerLaws, object_so_far, section, AllCanContinue, ObjectLives, MayContinue, Phase, TagBegun, AllEnded, present_version, phase_of, heads_of, place_of, ticket_in, part_number, IsLongField, IsSizeIn, AreTexts, IsSize, IsVersion, IsPhase, HasForm, Split, SplitsTicket, split_octets, place_in, Possible, IsSmall, IsSmallPhase, IsSmallPlace, widest, SmallPlacesWerePossible, TicketsTellOnePlace, TicketsOfPlacesAreSplit, texts_of, split_of, Limits, max_subfiles, greatest_size_before, CanContinueAt, IsBegun, canonical_stream, place_at, place_ended, SubfileBegun}
+use Rattle.iim_fields.specs.Format.Causes.{joined}
 use Rattle.wire_message.specs.declared.saved.MessagePart.{MessagePart}
 use Rattle.wire_message.specs.declared.saved.MessagePart.TheVariants as part
 use Rattle.iim_places.specs.Format.Tickets.{Place}
 use Rattle.iim_dataset.proofs.Counts.{tag-lt}
 use Rattle.iim_places.proofs.Answering.{Lives, lives_open, lives_envelope, coming}
 use Rattle.iim_places.proofs.Bounds.{low, object_fits, IsOne, alive_ones, is_one, few_in_seven}
-use Rattle.iim_object.specs.Format.Places as objects
+use Rattle.iim_object.specs.Format.Objects as objects
 use Rattle.iim_places.proofs.Following.{alive_of, within_of}
 use Rattle.iim_places.proofs.Splitting.{one_split}
 use Rattle.iim_places.proofs.TicketLengths.{tag_length_in, held_length, AreShortIn, texts_led}

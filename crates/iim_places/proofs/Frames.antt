@@ -1,8 +1,6 @@
 -- Framed and admitted octets: none are empty, none begin others, and they have one value.
 use Rattle.std.proofs.Common.{◌≡◌, ℕ, true, false, List, [], ◌∷◌, ◌++◌, ap, sym, subst, ◌∙◌, inl, inr}
-use Rattle.iim_places.proofs.Words.{append-nil, Dataset, SpellsStream, count_octets, NoDatasetBeginsAnother, compare, AreSections, NoSectionsBeginOthers}
-use Rattle.iim_places.proofs.Words.{NoEnvelopeIsEmpty, of_record, kept, RecordsAreByNumber, AreSized, SizesAreDetermined, MessagesHaveOneReading, Value, Admits}
-use Rattle.iim_places.proofs.Words.{object_of, AdmittedOctetsHaveOneValue, NoAdmittedOctetsBeginOthers, AdmittedOctetsAreFramed}
+use Rattle.iim_places.proofs.Words.{append-nil, Dataset, SpellsStream, count_octets, NoDatasetBeginsAnother, compare, AreSections, NoSectionsBeginOthers, NoEnvelopeIsEmpty, of_record, kept, RecordsAreByNumber, AreSized, SizesAreDetermined, MessagesHaveOneReading, Value, Admits, object_of, AdmittedOctetsHaveOneValue, NoAdmittedOctetsBeginOthers, AdmittedOctetsAreFramed}
 use Rattle.iim_places.proofs.Objects.{are_records}
 use Rattle.wire_story.specs.Laws.{TextsHaveOneReading}
 use Rattle.iim_tables.specs.Format.Rows.{table}

@@ -1,7 +1,6 @@
 -- What the tag at the front says of the datasets there.
 use Rattle.std.proofs.Common.{◌≡◌, ℕ, ◌<◌, List, [], ◌∷◌, ◌++◌, length, refl, ap, sym, subst, ◌∙◌, arith, append_assoc, length-append}
-use Rattle.iim_places.proofs.Words.{append-nil, Dataset, SpellsTag, SpellsDataset, head_of, count_octets, Begun, InTag, InData, IsBegun, NoTagBeginsAnother}
-use Rattle.iim_places.proofs.Words.{Head}
+use Rattle.iim_places.proofs.Words.{append-nil, Dataset, SpellsTag, SpellsDataset, head_of, count_octets, Begun, InTag, InData, IsBegun, NoTagBeginsAnother, Head}
 
 -- where nothing stands, nothing stands in front
 pub empty_front : {X : Type 0} (xs ys : List X) → xs ++ ys ≡ [] → xs ≡ []

@@ -1,7 +1,6 @@
 -- The last record of whole datasets.
 use Rattle.std.proofs.Common.{◌≡◌, ◌⊎◌, List, [], ◌∷◌, ◌++◌, refl, sym, subst, inl, inr, arith, append_assoc}
-use Rattle.iim_places.proofs.Words.{Dataset, Head, AreSections, SectionsLive, SectionsLiveAt, section_after, EnvelopesEndWithTheLastRecord}
-use Rattle.iim_places.proofs.Words.{NoSectionsBeginOthers, last_more, front_alive}
+use Rattle.iim_places.proofs.Words.{Dataset, Head, AreSections, SectionsLive, SectionsLiveAt, section_after, EnvelopesEndWithTheLastRecord, NoSectionsBeginOthers, last_more, front_alive}
 use Rattle.iim_places.proofs.Frames.{no_sections}
 use Rattle.iim_places.proofs.Fronts.{empty_front}
 

@@ -1,7 +1,7 @@
 -- What datasets after others add to the limits.
 use Rattle.std.proofs.Common.{◌≡◌, ◌+◌, nat_eq, List, ◌∷◌, ◌++◌, length, ap, ◌∙◌, arith, length-append}
 use Rattle.iim_places.proofs.Words.{filter-append, flat_map-append, Dataset, head_of, of_record, kept, kept_octets, is_kept, Limits, AreWithin, HaveRoom}
-use Rattle.iim_fields.specs.Format.Faults.{joined}
+use Rattle.iim_fields.specs.Format.Causes.{joined}
 
 -- ---- datasets after others
 

@@ -5,7 +5,7 @@ use Rattle.iim_places.proofs.Following.{longer_front}
 use Rattle.iim_places.proofs.Frames.{framed_of, no_envelope_is_empty}
 use Rattle.iim_places.proofs.Fronts.{empty_front}
 use Rattle.iim_places.specs.declared.refusal.Refusal.{Refusal}
-use Rattle.iim_places.specs.Format.Listing.{joined, Listed, IsListed, InputEnding, Whole, RefusedBy, TooMany, EndsBy, Divides, IsListing}
+use Rattle.iim_places.specs.Format.Streams.{joined, Listed, IsListed, InputEnding, Whole, RefusedBy, TooMany, EndsBy, Divides, IsListing}
 use Rattle.iim_places.specs.Laws.{InputsHaveOneListing, ListingsAreLongest}
 
 -- ---- one envelope more

@@ -1,9 +1,6 @@
 -- What is alive with octets is alive with fewer of them.
-use Rattle.std.proofs.Common.{inl, inr, ◌≡◌, ℕ, ◌+◌, ◌<◌, Bool, true, false, ◌==◌, if◌then◌else◌, List, [], ◌∷◌, ◌++◌, length, take, drop, map, refl, ap, sym}
-use Rattle.std.proofs.Common.{subst, ◌∙◌, arith, append-nil, append_assoc}
-use Rattle.iim_places.proofs.Words.{cases_Bool, IsAlive, list_any, position_or_len, before_first, after_first, drop-append-le, take-append-le, map-append}
-use Rattle.iim_places.proofs.Words.{list_any-append, drop-append-add, take-append-add, take-length, OctetOrEnd, Octet, End, StoryLanguage, MessageLanguage}
-use Rattle.iim_places.proofs.Words.{MessageLivesWith, StoryLivesIn, after_stx}
+use Rattle.std.proofs.Common.{inl, inr, ◌≡◌, ℕ, ◌+◌, ◌<◌, Bool, true, false, ◌==◌, if◌then◌else◌, List, [], ◌∷◌, ◌++◌, length, take, drop, map, refl, ap, sym, subst, ◌∙◌, arith, append-nil, append_assoc}
+use Rattle.iim_places.proofs.Words.{cases_Bool, IsAlive, list_any, position_or_len, before_first, after_first, drop-append-le, take-append-le, map-append, list_any-append, drop-append-add, take-append-add, take-length, OctetOrEnd, Octet, End, StoryLanguage, MessageLanguage, MessageLivesWith, StoryLivesIn, after_stx}
 
 pub alive_front : {T : Type 0} (L : List T → Type 0) (xs ys : List T) → IsAlive L (xs ++ ys) → IsAlive L xs
 alive_front L xs ys alive = (ys ++ alive.0, subst L (append_assoc xs ys alive.0) alive.1)

@@ -3,7 +3,7 @@ use Rattle.std.proofs.Common.{rules, ◌≡◌, ◌≢◌, ℕ, zero, suc, ◌<�
 use Rattle.std.specs.Prelude.{⊤}
 use Rattle.std.proofs.lemmas.Bool.{ltb-false}
 use Rattle.iim_places.proofs.Words.{option_or, option_map, eqb-true, lt-ltb, le-ltb, same_Some, length-replicate, map-append, Head, IsOctet, Octets, IsProperPrefix, number, zeros_are, Dataset, SpellsTag, SpellsCount, head_of, of_record, count_octets, Dies, InTag, InData, Begun, IsBegun, Reads, BeginsNoTag, SectionsLive, SectionsLiveAt, first_fault, value_fault, data_of, Limits, tells_number, FieldFault, cause_at, max_subfiles, SizeCause, Octet, MessageLanguage, text_so_far, HasCause, Token, MessageCause, object_of, AtOctet, AtHead, AtValue, IsNoCount, Names, TellsTheLowest, rule_of, AreWithin, AllCanContinue, IsUnfinished, RefusesByTests, RefusesNext, Completes, layer_of, layer_of_message, of_field, size_on, too_many_on, LowerLaws, message_on, DiesAtHead, DiesAtValue, IsRefusedHead, IsRefusedValue, subfile_fault, TokenFault, Layer, eq-eqb, eqb_tells, limits_fault, fault_on, is_kept, nat_tests, StoryLanguage, MessageLivesWith, StoryLivesIn, tag_cause, begun_record, begun_number, HaveRoom, octets_append}
-use Rattle.iim_places.specs.Format.Conditions.{begun_in}
+use Rattle.iim_places.specs.Format.Causes.{begun_in}
 use Rattle.iim_fields.specs.Format.Causes.{number_of_cause}
 use Rattle.iim_fields.specs.Laws.{IsFaultIfAny}
 use Rattle.iim_fields.specs.Format.Causes.Token.{AtHead as HeadToken, AtValue as ValueToken}
@@ -19,7 +19,7 @@ use Rattle.iim_places.proofs.Living.{alive_front}
 use Rattle.iim_fields.specs.Format.Causes as records
 use Rattle.iim_fields.specs.declared.fault.FieldCause.TheVariants as fields
 use Rattle.iim_object.specs.Laws as objects
-use Rattle.iim_object.specs.Format.Conditions as objects_format
+use Rattle.iim_object.specs.Format.Causes as objects_format
 use Rattle.iim_object.specs.declared.reading.fault.SizeCause.TheVariants as sizes
 use Rattle.wire_message.specs.Format.Causes.{number_of_message}
 use Rattle.wire_message.specs.declared.fault.MessageCause.TheVariants as messages

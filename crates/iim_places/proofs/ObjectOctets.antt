@@ -1,7 +1,7 @@
 -- The octets of the object: with one dataset more, and with its end.
 use Rattle.std.proofs.Common.{◌≡◌, ℕ, Bool, true, false, nat_eq, if◌then◌else◌, List, [], ◌++◌, ap, ◌∙◌, append-nil, ◌<◌, ◌≤◌, cond, ◌∷◌, length, refl, arith, map, sym, subst}
 use Rattle.iim_places.proofs.Words.{ne_eqb, IsAlive, Dataset, of_record, InData, Head, object_of, object_so_far, flat_map-append, filter-append, max_subfiles, End, Octet, with_end, MessageLanguage, MessageLivesWith, IsOctet, Octets, all_front}
-use Rattle.iim_fields.specs.Format.Faults.{joined}
+use Rattle.iim_fields.specs.Format.Causes.{joined}
 use Rattle.iim_places.proofs.Places.{one_more}
 use Rattle.wire_story.proofs.SoFar.{front_of}
 use Rattle.wire_message.proofs.MessageOctets.{message_octets}

@@ -1,8 +1,7 @@
 -- Places of the object at its end, and before it.
 use Rattle.std.proofs.Common.{◌≡◌, ℕ, [], ◌∷◌, ◌++◌, Option, refl, subst, arith}
-use Rattle.iim_places.proofs.Words.{nil_from_length, IsAlive, TokensFollow, ObjectToken, ObjectEnded, Confirmed, ObjectLanguage, NotEnded, Ended, ConfirmedAs, MayFollow}
-use Rattle.iim_places.proofs.Words.{place_after, tokens_of, IsPossible, State}
-use Rattle.iim_object.specs.Format.Places.{Place}
+use Rattle.iim_places.proofs.Words.{nil_from_length, IsAlive, TokensFollow, ObjectToken, ObjectEnded, Confirmed, ObjectLanguage, NotEnded, Ended, ConfirmedAs, MayFollow, place_after, tokens_of, IsPossible, State}
+use Rattle.iim_object.specs.Format.Objects.{Place}
 use Rattle.iim_object.specs.States.Reading.{RefusesHead, RefusesValue, StandsAt}
 use Rattle.iim_object.specs.declared.reading.fault.ObjectFault.{ObjectFault}
 use Rattle.iim_object.specs.declared.reading.fault.ObjectFault.TheVariants.{Size, Stopped}

@@ -1,7 +1,7 @@
 -- The records of an envelope are those that state the sizes of its object.
 use Rattle.std.proofs.Common.{◌<◌, refl, List, ◌++◌, arith, append-nil, append_assoc}
 use Rattle.iim_places.proofs.Words.{Dataset, IsAlive, all_append, all_map, AreSections, AreObjectRecords}
-use Rattle.iim_fields.specs.Format.Alive as sections
+use Rattle.iim_fields.specs.Format.Records as sections
 
 -- ---- the records of an envelope
 

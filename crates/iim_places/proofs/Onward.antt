@@ -1,7 +1,7 @@
 -- Octets that lead to one place read on and continue alike, and the same octet is refused, for the same fault.
 use Rattle.std.proofs.Common.{◌≡◌, ℕ, nat_eq, if◌then◌else◌, Bool, true, false, List, [], ◌∷◌, ◌++◌, length, Some, refl, ap, sym, subst, ◌∙◌, inl, inr, arith, append-nil, ◌&&◌, ◌||◌, ◌⊎◌, not, nat_lt, None, map, append_assoc, ◌<◌, length-append}
 use Rattle.iim_places.proofs.Words.{append_cancel_left, Dataset, count_octets, of_record, Begun, InTag, InData, IsBegun, Reads, Head, SectionsLive, SectionsLiveAt, section_after, AreSections, Limits, HaveSizes, Sizes, text_so_far, Value, object_of, AreAlike, PlacesContinueAlike, AllCanContinue, object_so_far, Delivers, IsOpen, IsTextOf, IsEnvelopeWithin, IsPlaceOf, heads_of, place_of, LowerLaws, ne_eqb, option_or, option_map, number, head_of, head_fault, room_fault, occurs, data_of, place_after_datasets, cause_at, number_cause, NumberRead, ObjectToken, head_token, value_token, max_subfiles, End, PlacesRefuseAlike, IsUnfinished, of_field, size_on, too_many_on, DiesAtHead, DiesAtValue, CanContinueAt, IsRefusedHead, IsRefusedValue, fault_at_head, fault_at_value, place_at, TokenFault, Layer, Octet, with_end, MessageLanguage, MessageLivesWith, MessageDiesAt, message_tokens, LivingOctetsAreOpen, section, AreOpenOrWhole, same_Some, NotEnded, ConfirmedAs, IsAlive, MayContinue, compare, eqb_tells, IsOctet, Octets, SpellsStream, all_back, octets_append, ValuesDieWithTheirFault, last_more, Meets, IsGoodDataset, good_elsewhere}
-use Rattle.wire_message.specs.States.SoFar.{LeadsTo}
+use Rattle.wire_message.specs.States.Reading.{LeadsTo}
 use Rattle.iim_places.specs.Format.Tickets.{Place}
 use Rattle.iim_places.proofs.Answering.{goes_envelope, leads_to, one_reading, reads_envelope, IsRefusedAt, IsRefusedWith, refuses_by, tests_of, lives_as}
 use Rattle.iim_places.proofs.Following.{alive_of, message_of, story_of, within_of, with_data, object_lives_after, follows, longer_front, same_data, front_goes, so_far_both, brought, more_object, closed_object}
@@ -11,16 +11,16 @@ use Rattle.iim_places.proofs.SamePlace.{SameObject, SameWhole, object_lives_afte
 use Rattle.iim_places.proofs.SameRecords.{SameFields, same_records, same_more}
 use Rattle.iim_places.proofs.Twins.{Twins, enveloped, value_of, at_as, after_as, numbers_on, room_as, same_tail, twins_on, may_as, alive_at_as, flip, bounded_after, heads_same, AreBounded, SameTail, alive_on, eights, present_on, sevens}
 use Rattle.iim_dataset.specs.Format.Datasets.{of_record as of_fields}
-use Rattle.iim_fields.specs.Format.Faults.{joined}
+use Rattle.iim_fields.specs.Format.Causes.{joined}
 use Rattle.iim_places.specs.Laws.{RefusalsTellTheLowestCause}
 use Rattle.iim_places.proofs.ObjectOctets.{few_more, no_object}
 use Rattle.iim_places.proofs.Taking.{good_at}
 use Rattle.wire_message.specs.declared.place.Place.{Place as Message}
 use Rattle.iim_places.proofs.AfterEnd.{ended_at}
 use Rattle.iim_places.proofs.Living.{alive_front}
-use Rattle.wire_story.specs.Format.Delivery as story
+use Rattle.wire_story.specs.Format.Texts as story
 use Rattle.wire_message.specs.declared.place.Place.TheVariants as at_message
-use Rattle.iim_object.specs.Format.Places as objects
+use Rattle.iim_object.specs.Format.Objects as objects
 use Rattle.iim_places.specs.declared.refusal.Layer.TheVariants as layers
 use Rattle.iim_places.proofs.Fronts.{begun_none}
 use Rattle.iim_tables.specs.Format.Rows.{table, row_of}
@@ -193,7 +193,7 @@ stays_in {p} {ds} {h} {t} z r short octets =
 closed_on : LowerLaws → {limits : Limits} {ds es : List Dataset} {h : Head} {t v : List ℕ} (z : List ℕ) → Pair limits ds es (InData h t) (InData h v)
     → length (t ++ z) ≡ h.count → Octets (v ++ z) → AllCanContinue limits (ds ++ data_of h (t ++ z) ∷ []) (InTag [])
     → Onto limits (object_so_far ds (InData h t)) (object_so_far es (InData h v)) (ds ++ data_of h (t ++ z) ∷ []) (es ++ data_of h (v ++ z) ∷ [])
-      (InTag []) (InTag [])
+    (InTag []) (InTag [])
 closed_on laws {limits} {ds} {es} {h} {t} {v} z pair many octets goes =
     let d = data_of h (t ++ z) in
     let x = data_of h (v ++ z) in
@@ -395,10 +395,10 @@ head_fault_as limits ds es h present twins =
     let cause = cause_as (place_after_datasets ds) (place_after_datasets es) twins.object (head_token h.rec h.count) in
     let heads = heads_same twins in
     λ i. option_or
-      (option_map of_field (option_or (head_fault (present i) (λ n. seen n i) h)
-      (room_fault limits (length (joined (twins.fields i))) (length (twins.fields i)) h)))
-      (option_or (if (nat_eq h.rec 8) && not (nat_lt (heads i) max_subfiles) then Some (too_many_on h) else None)
-      (if (nat_eq h.rec 8) || (nat_eq h.rec 9) then option_map (size_on h) (cause i) else None))
+    (option_map of_field (option_or (head_fault (present i) (λ n. seen n i) h)
+    (room_fault limits (length (joined (twins.fields i))) (length (twins.fields i)) h)))
+    (option_or (if (nat_eq h.rec 8) && not (nat_lt (heads i) max_subfiles) then Some (too_many_on h) else None)
+    (if (nat_eq h.rec 8) || (nat_eq h.rec 9) then option_map (size_on h) (cause i) else None))
 
 -- ---- where a head is refused
 

@@ -1,14 +1,7 @@
 -- The place that the parts of a ticket tell, and whether an envelope can be there.
-use Rattle.std.proofs.Common.{◌≡◌, ℕ, ◌+◌, ◌-◌, ◌≤◌, cond, if◌then◌else◌, Bool, List, [], ◌∷◌, length, Option, refl, ap, sym, ◌∙◌, subst, arith, ◌++◌, codes}
-use Rattle.std.proofs.Common.{rules, IsTrue, get_or}
-use Rattle.iim_places.proofs.Words.{AllByRecursion, all_map, is_kept, Dataset, kept, kept_octets, IsWithin, Limits, LeadsToSaved, MessagePlace, LeadsByLayers}
-use Rattle.iim_places.proofs.Words.{plain, PlacesArePossibleByLayers, RecordsLive, are_ended, begun_subfiles, one_of_some, record_datasets, Numbers}
-use Rattle.iim_places.proofs.Words.{number_list, TicketsOfPlacesAreSplit, split_of, TicketsHaveOneSplit, IsSmall, IsSmallPhase, Split, IsSmallPlace}
-use Rattle.iim_places.proofs.Words.{greatest_size_before, AreHeadsWithin, begun_count, begun_fields, widest, SmallPlacesWerePossible, IsTicketAt, IsLimitFault}
-use Rattle.iim_places.proofs.Words.{IsRestoreFault, AreKept, IsMessageOf, numbers_told, told_datasets, IsSizeIn, HasForm, SplitsTicket, Phase}
-use Rattle.iim_places.proofs.Words.{TicketsTellOnePlace, PossiblePlacesAreTaken, IsVersion, ticket_in, Form, Version, Impossible, OutOfMemory, split_octets}
-use Rattle.iim_places.proofs.Words.{HeaderFull, TooManyFields, AreNumbers, CanContinueWithin, DataBegun}
-use Rattle.iim_fields.specs.Format.Faults.{joined}
+use Rattle.std.proofs.Common.{◌≡◌, ℕ, ◌+◌, ◌-◌, ◌≤◌, cond, if◌then◌else◌, Bool, List, [], ◌∷◌, length, Option, refl, ap, sym, ◌∙◌, subst, arith, ◌++◌, codes, rules, IsTrue, get_or}
+use Rattle.iim_places.proofs.Words.{AllByRecursion, all_map, is_kept, Dataset, kept, kept_octets, IsWithin, Limits, LeadsToSaved, MessagePlace, LeadsByLayers, plain, PlacesArePossibleByLayers, RecordsLive, are_ended, begun_subfiles, one_of_some, record_datasets, Numbers, number_list, TicketsOfPlacesAreSplit, split_of, TicketsHaveOneSplit, IsSmall, IsSmallPhase, Split, IsSmallPlace, greatest_size_before, AreHeadsWithin, begun_count, begun_fields, widest, SmallPlacesWerePossible, IsTicketAt, IsLimitFault, IsRestoreFault, AreKept, IsMessageOf, numbers_told, told_datasets, IsSizeIn, HasForm, SplitsTicket, Phase, TicketsTellOnePlace, PossiblePlacesAreTaken, IsVersion, ticket_in, Form, Version, Impossible, OutOfMemory, split_octets, HeaderFull, TooManyFields, AreNumbers, CanContinueWithin, DataBegun}
+use Rattle.iim_fields.specs.Format.Causes.{joined}
 use Rattle.iim_places.specs.States.Readers.{AreAt, LeadsNowhereIn}
 use Rattle.iim_places.specs.Restoring.{LeadsNowhere, AreWithinWith}
 use Rattle.iim_places.specs.Format.Tickets.{Place}

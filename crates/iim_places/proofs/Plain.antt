@@ -1,13 +1,8 @@
 -- Plain datasets tell what they are made of, and can be spelled.
-use Rattle.std.proofs.Common.{◌≡◌, ℕ, zero, suc, ◌*◌, ◌<◌, ◌≤◌, nat_eq, cond, Bool, true, false, List, [], ◌∷◌, ◌++◌, length, take, drop, Option, Some, ◌-◌}
-use Rattle.std.proofs.Common.{subst, None, refl, ap, ◌∙◌, arith, append-nil, length-drop, IfSome, inl, inr}
-use Rattle.iim_places.proofs.Words.{option_or, AllByRecursion, filter, unwrap_or, ne_eqb, eqb_tells, take-append-drop, length-take, filter-append, few_octets}
-use Rattle.iim_places.proofs.Words.{AreKept, IsOctet, Octets, number, greatest_size, Dataset, of_record, all_append, all_map, front_are, HasSpellings, kept}
-use Rattle.iim_places.proofs.Words.{is_kept, last_record, section_after, numbers_of, number_dataset, subfile_datasets, stated_numbers, Stated, number_at}
-use Rattle.iim_places.proofs.Words.{object_of, IsSize, Numbers, number_list, mode_dataset, one_dataset, plain_numbers, filled, plain_end, plain, last_of_joined}
-use Rattle.iim_places.proofs.Words.{map-append}
+use Rattle.std.proofs.Common.{◌≡◌, ℕ, zero, suc, ◌*◌, ◌<◌, ◌≤◌, nat_eq, cond, Bool, true, false, List, [], ◌∷◌, ◌++◌, length, take, drop, Option, Some, ◌-◌, subst, None, refl, ap, ◌∙◌, arith, append-nil, length-drop, IfSome, inl, inr}
+use Rattle.iim_places.proofs.Words.{option_or, AllByRecursion, filter, unwrap_or, ne_eqb, eqb_tells, take-append-drop, length-take, filter-append, few_octets, AreKept, IsOctet, Octets, number, greatest_size, Dataset, of_record, all_append, all_map, front_are, HasSpellings, kept, is_kept, last_record, section_after, numbers_of, number_dataset, subfile_datasets, stated_numbers, Stated, number_at, object_of, IsSize, Numbers, number_list, mode_dataset, one_dataset, plain_numbers, filled, plain_end, plain, last_of_joined, map-append}
 use Rattle.iim_dataset.proofs.WrittenNumbers.{number_octets}
-use Rattle.iim_fields.specs.Format.Faults.{joined}
+use Rattle.iim_fields.specs.Format.Causes.{joined}
 use Rattle.iim_object.specs.Format.Packing.{subfile_dataset}
 
 -- The datasets tell these fields, numbers, object octets and heads.

@@ -1,15 +1,10 @@
 -- Readers of a possible place stand where octets lead there.
-use Rattle.std.proofs.Common.{◌≡◌, ℕ, ◌+◌, ◌-◌, ◌<◌, ◌≤◌, nat_eq, if◌then◌else◌, Bool, true, false, List, [], ◌++◌, length, Option, Some, None, ap, IsTrue, sym}
-use Rattle.std.proofs.Common.{subst, ◌∙◌, arith}
-use Rattle.iim_places.proofs.Words.{AllByRecursion, Dataset, of_record, count_octets, Begun, InTag, Reads, IsKeptAs, ne_eqb, numbers_told, between, Head}
-use Rattle.iim_places.proofs.Words.{DatasetPlace, SectionsLive, is_kept, kept, section_after, Limits, head_alive, place_after_datasets, NotEnded, ObjectEnded}
-use Rattle.iim_places.proofs.Words.{Confirmed, place_after, max_subfiles, numbers_of, IsPossible, stated_numbers, State, text_so_far, LeadsToSaved, saved}
-use Rattle.iim_places.proofs.Words.{MessagePlace, object_of, RecordsLive, begun_of_object, section, object_after, one_of_some, are_ended, begun_subfiles}
-use Rattle.iim_places.proofs.Words.{LowerLaws, Numbers, number_list, plain, Phase, TagBegun, AllEnded, phase_of, place_at, CanContinue, CanContinueAt}
+use Rattle.std.proofs.Common.{◌≡◌, ℕ, ◌+◌, ◌-◌, ◌<◌, ◌≤◌, nat_eq, if◌then◌else◌, Bool, true, false, List, [], ◌++◌, length, Option, Some, None, ap, IsTrue, sym, subst, ◌∙◌, arith}
+use Rattle.iim_places.proofs.Words.{AllByRecursion, Dataset, of_record, count_octets, Begun, InTag, Reads, IsKeptAs, ne_eqb, numbers_told, between, Head, DatasetPlace, SectionsLive, is_kept, kept, section_after, Limits, head_alive, place_after_datasets, NotEnded, ObjectEnded, Confirmed, place_after, max_subfiles, numbers_of, IsPossible, stated_numbers, State, text_so_far, LeadsToSaved, saved, MessagePlace, object_of, RecordsLive, begun_of_object, section, object_after, one_of_some, are_ended, begun_subfiles, LowerLaws, Numbers, number_list, plain, Phase, TagBegun, AllEnded, phase_of, place_at, CanContinue, CanContinueAt}
 use Rattle.iim_fields.specs.States.Standing as records
-use Rattle.iim_object.specs.Format.Places as objects
+use Rattle.iim_object.specs.Format.Objects as objects
 use Rattle.iim_object.specs.States.Reading as reading
-use Rattle.iim_object.specs.States.Saved.{IsAt}
+use Rattle.iim_object.specs.States.Reading.{IsAt}
 use Rattle.wire_message.specs.States.Reading as wire
 use Rattle.wire_message.specs.States.Reading.{is_ended}
 use Rattle.iim_places.proofs.AfterEnd.{ended_after}

@@ -1,19 +1,13 @@
 -- Octets of one place: what stands on the one stands on the other.
-use Rattle.std.proofs.Common.{◌≡◌, ℕ, ◌+◌, ◌-◌, Bool, true, false, if◌then◌else◌, ◌==◌, nat_eq, List, [], ◌∷◌, ◌++◌, length, sum, Option, refl, ap, sym, subst}
-use Rattle.std.proofs.Common.{◌∙◌, inl, inr, arith, length-append}
-use Rattle.iim_places.proofs.Words.{Octets, filter-append, Dataset, head_of, of_record, count_octets, Begun, InTag, InData, Reads, IsKeptAs, Head, ne_eqb}
-use Rattle.iim_places.proofs.Words.{DatasetPlace, sum_append, HasChecked, HasTaken, kept, section_after, SectionsLive, SectionsLiveAt, ValuesDieWithTheirFault}
-use Rattle.iim_places.proofs.Words.{Limits, RecordPlace, last_more, SubfileBegun, numbers_of, place_after_datasets, place_ended, State, stated_numbers}
-use Rattle.iim_places.proofs.Words.{text_so_far, LeadsToSaved, MessagePlace, object_of, LowerLaws, place_at, ObjectLives, object_so_far, section}
-use Rattle.iim_places.proofs.Words.{AllCanContinue, IsOpen, are_some, phase_of, heads_of}
+use Rattle.std.proofs.Common.{◌≡◌, ℕ, ◌+◌, ◌-◌, Bool, true, false, if◌then◌else◌, ◌==◌, nat_eq, List, [], ◌∷◌, ◌++◌, length, sum, Option, refl, ap, sym, subst, ◌∙◌, inl, inr, arith, length-append}
+use Rattle.iim_places.proofs.Words.{Octets, filter-append, Dataset, head_of, of_record, count_octets, Begun, InTag, InData, Reads, IsKeptAs, Head, ne_eqb, DatasetPlace, sum_append, HasChecked, HasTaken, kept, section_after, SectionsLive, SectionsLiveAt, ValuesDieWithTheirFault, Limits, RecordPlace, last_more, SubfileBegun, numbers_of, place_after_datasets, place_ended, State, stated_numbers, text_so_far, LeadsToSaved, MessagePlace, object_of, LowerLaws, place_at, ObjectLives, object_so_far, section, AllCanContinue, IsOpen, are_some, phase_of, heads_of}
 use Rattle.iim_dataset.proofs.Lists.{nothing_of_two}
-use Rattle.iim_fields.specs.States.Orders as orders
 use Rattle.iim_fields.specs.States.Standing as records
 use Rattle.iim_fields.specs.declared.order.Order.{Order}
-use Rattle.iim_object.specs.Format.Places as objects
+use Rattle.iim_object.specs.Format.Objects as objects
 use Rattle.iim_object.specs.States.Reading as reading
 use Rattle.wire_message.specs.States.Reading as wire
-use Rattle.wire_message.specs.States.SoFar.{LeadsTo}
+use Rattle.wire_message.specs.States.Reading.{LeadsTo}
 use Rattle.wire_message.specs.declared.place.Place.{Place as Message}
 use Rattle.iim_places.proofs.Following.{alive_of}
 use Rattle.iim_places.proofs.Lasts.{SplitLast, split_last, last_sections}
@@ -44,7 +38,7 @@ same_begun p q ds es c d r s sec e held = grind arith
 
 -- ---- the records
 
-same_tells : (o : Order) (ds es : List Dataset) → orders.IsOrderOf o ds → section_after ds ≡ section_after es → SameRecords ds es → orders.IsOrderOf o es
+same_tells : (o : Order) (ds es : List Dataset) → records.IsOrderOf o ds → section_after ds ≡ section_after es → SameRecords ds es → records.IsOrderOf o es
 same_tells o ds es t is s = grind arith
 
 checked_as : (check : Option RecordPlace) (ds es : List Dataset) → HasChecked check ds → SectionsLive es → section_after ds ≡ section_after es → SameRecords ds es → HasChecked check es

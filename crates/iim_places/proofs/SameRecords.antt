@@ -1,12 +1,7 @@
 -- Datasets of one place have the same numbers in each record.
-use Rattle.std.proofs.Common.{◌≡◌, ℕ, ◌<◌, ◌≤◌, Bool, true, false, cond, nat_eq, List, [], ◌∷◌, ◌++◌, length, is_some, None, refl, ap, sym, subst, ◌∙◌, inl}
-use Rattle.std.proofs.Common.{◌&&◌, inr, arith, append-nil, append_assoc, length-append}
-use Rattle.iim_places.proofs.Words.{front_alive, filter, AllByRecursion, eqb-true, ne_eqb, filter-append, list_any-append, number, Dataset, eqb_tells}
-use Rattle.iim_places.proofs.Words.{head_alive, tells_number, value_token, head_of, of_record, Head, all_front, AreSections, AreRecords, records, IsGoodDataset}
-use Rattle.iim_places.proofs.Words.{occurs, SectionsLive, SectionsLiveAt, section_after, kept, is_kept, last_more, by_record, max_subfiles, Stated, InRow}
-use Rattle.iim_places.proofs.Words.{AreStated, number_at, numbers_of, ObjectToken, NotEnded, HasBoth, MayFollow, place_after, head_token, place_after_datasets}
-use Rattle.iim_places.proofs.Words.{stated_numbers, one_of_some, place_at, LowerLaws, all_map}
-use Rattle.iim_object.specs.Format.Places.{Place}
+use Rattle.std.proofs.Common.{◌≡◌, ℕ, ◌<◌, ◌≤◌, Bool, true, false, cond, nat_eq, List, [], ◌∷◌, ◌++◌, length, is_some, None, refl, ap, sym, subst, ◌∙◌, inl, ◌&&◌, inr, arith, append-nil, append_assoc, length-append}
+use Rattle.iim_places.proofs.Words.{front_alive, filter, AllByRecursion, eqb-true, ne_eqb, filter-append, list_any-append, number, Dataset, eqb_tells, head_alive, tells_number, value_token, head_of, of_record, Head, all_front, AreSections, AreRecords, records, IsGoodDataset, occurs, SectionsLive, SectionsLiveAt, section_after, kept, is_kept, last_more, by_record, max_subfiles, Stated, InRow, AreStated, number_at, numbers_of, ObjectToken, NotEnded, HasBoth, MayFollow, place_after, head_token, place_after_datasets, stated_numbers, one_of_some, place_at, LowerLaws, all_map}
+use Rattle.iim_object.specs.Format.Objects.{Place}
 use Rattle.iim_places.proofs.Fronts.{empty_front}
 use Rattle.iim_places.proofs.Lasts.{SplitLast, split_last}
 use Rattle.iim_places.proofs.SizeRows.{HasTen, Unstated, by_number, by_ten, eight_has, nine_has}

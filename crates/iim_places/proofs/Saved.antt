@@ -1,9 +1,7 @@
 -- What a ticket is restored to stands where the saved unpacker stood; and octets have a place.
 use Rattle.std.proofs.Common.{◌≡◌, ℕ, ◌<◌, ◌^◌, List, [], get_or, ap, refl, sym, subst, ◌∙◌, inr, arith, append-nil}
-use Rattle.iim_places.proofs.Words.{Dataset, Begun, InTag, InData, Head, Limits, saved, Value, OctetsHaveOnePlace, TicketsTellOnePlace, AreWithin}
-use Rattle.iim_places.proofs.Words.{LowerLaws, object_so_far, IsOpen, AreOpenOrWhole, widest, IsPossibleIn, IsTicketAt, IsEnvelopeWithin, IsPlaceOf}
-use Rattle.iim_places.proofs.Words.{present_version, place_of, ticket_in, ticket_of, MayContinue, HaveRoom, AllCanContinue}
-use Rattle.wire_message.specs.States.SoFar.{LeadsTo}
+use Rattle.iim_places.proofs.Words.{Dataset, Begun, InTag, InData, Head, Limits, saved, Value, OctetsHaveOnePlace, TicketsTellOnePlace, AreWithin, LowerLaws, object_so_far, IsOpen, AreOpenOrWhole, widest, IsPossibleIn, IsTicketAt, IsEnvelopeWithin, IsPlaceOf, present_version, place_of, ticket_in, ticket_of, MayContinue, HaveRoom, AllCanContinue}
+use Rattle.wire_message.specs.States.Reading.{LeadsTo}
 use Rattle.wire_message.specs.declared.place.Place.{Place as Message}
 use Rattle.iim_places.specs.Format.Tickets.{Place}
 use Rattle.iim_places.proofs.Answering.{lives_as, one_reading}

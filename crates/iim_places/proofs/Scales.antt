@@ -8,14 +8,14 @@ use Rattle.iim_places.proofs.Fitting.{at_head, reads_of, begins_tag, so_far_fits
 use Rattle.iim_places.proofs.SmallTags.{wider_tag, small_tag}
 use Rattle.iim_places.proofs.ByLayers.{layers_open, possible_in, leads_by_layers, Opens, ended_heads, plain_of}
 use Rattle.iim_places.proofs.Tickets.{so_far_by, total_of, stated_by}
-use Rattle.iim_fields.specs.Format.Faults.{joined}
+use Rattle.iim_fields.specs.Format.Causes.{joined}
 use Rattle.iim_object.specs.Laws.{PlacesLiveWithin}
 use Rattle.iim_places.proofs.Following.{within_of, alive_of}
 use Rattle.iim_places.proofs.Plain.{numbers_each, parts_each, end_each, present_ended}
 use Rattle.iim_tables.specs.Format.Rows.{table, row_of}
 use Rattle.iim_places.proofs.SizeRows.{by_ten, eight_has, nine_has}
 use Rattle.iim_places.proofs.Taking.{each_good}
-use Rattle.iim_object.specs.Format.Places as objects
+use Rattle.iim_object.specs.Format.Objects as objects
 use Rattle.iim_places.proofs.AfterEnd.{WholeMessage, ended_after, ended_at}
 use Rattle.iim_places.proofs.Twins.{enveloped, value_of}
 use Rattle.iim_places.proofs.ObjectOctets.{lives_whole}
@@ -183,10 +183,13 @@ shrink_fits d good = by (tells_number d.rec) (nat_eq d.rec 8) refl refl
     by false true none eight =
         let (fine, few) = short_subfile d good (eqb-true d.rec 8 eight) (nat_le (length d.octets) greatest_size_before) refl in
         (fine, record { size = λ told. let bad : false ≡ true = sym none ∙ told in absurd cc; subfile = λ _. few })
-    by false false none other = (good, record {
-      size = λ told. let bad : false ≡ true = sym none ∙ told in absurd cc;
-      subfile = λ eight. let bad : false ≡ true = sym other ∙ eq-eqb d.rec 8 eight in absurd cc;
-    })
+    by false false none other = (
+      good,
+      record {
+        size = λ told. let bad : false ≡ true = sym none ∙ told in absurd cc;
+        subfile = λ eight. let bad : false ≡ true = sym other ∙ eq-eqb d.rec 8 eight in absurd cc;
+      },
+    )
 
 -- ---- records
 

@@ -1,14 +1,12 @@
 -- The conditions on sizes, as the table of the causes has them, and as the object layer has them at a place and a token.
-use Rattle.std.proofs.Common.{◌≡◌, ◌≢◌, ℕ, ◌+◌, ◌<◌, ◌⊎◌, nat_eq, if◌then◌else◌, ◌↔◌, List, [], ◌∷◌, ◌++◌, Option, Some, None, IsSomeAnd, refl, ap}
-use Rattle.std.proofs.Common.{◌∙◌, inl, inr, arith}
-use Rattle.iim_places.proofs.Words.{map-append, filter-append, Dataset, head_of, Head, of_record, number, Limits, place_after_datasets, ObjectToken, head_token}
-use Rattle.iim_places.proofs.Words.{value_token, numbers_of, Stated, number_at, SizeCause, Token, AtHead, AtValue, rule_of, stated, total, place_at}
+use Rattle.std.proofs.Common.{◌≡◌, ◌≢◌, ℕ, ◌+◌, ◌<◌, ◌⊎◌, nat_eq, if◌then◌else◌, ◌↔◌, List, [], ◌∷◌, ◌++◌, Option, Some, None, IsSomeAnd, refl, ap, ◌∙◌, inl, inr, arith}
+use Rattle.iim_places.proofs.Words.{map-append, filter-append, Dataset, head_of, Head, of_record, number, Limits, place_after_datasets, ObjectToken, head_token, value_token, numbers_of, Stated, number_at, SizeCause, Token, AtHead, AtValue, rule_of, stated, total, place_at}
 use Rattle.iim_fields.specs.Format.Causes as records
 use Rattle.iim_fields.specs.Format.Causes.Token.{AtHead as HeadToken, AtValue as ValueToken}
-use Rattle.iim_object.specs.Format.Conditions as objects
-use Rattle.iim_object.specs.Format.Places.{Place}
+use Rattle.iim_object.specs.Format.Causes as objects
+use Rattle.iim_object.specs.Format.Objects.{Place}
 use Rattle.iim_object.specs.declared.reading.fault.SizeCause.TheVariants as sizes
-use Rattle.iim_places.specs.Format.Conditions.{IsPast}
+use Rattle.iim_places.specs.Format.Causes.{IsPast}
 use Rattle.iim_places.specs.declared.refusal.Cause.TheVariants as causes
 
 -- a token of the record layer, as one of all layers

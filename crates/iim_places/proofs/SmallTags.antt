@@ -1,7 +1,6 @@
 -- Tags whose counts have fewer octets.
 use Rattle.std.proofs.Common.{◌≡◌, ℕ, ◌<◌, ◌≤◌, List, [], ◌∷◌, ◌++◌, length, take, drop, get_or, refl, ap, sym, ◌∙◌, inr, arith}
-use Rattle.iim_places.proofs.Words.{cases_lt, take-append-drop, length-drop, take-append_seam, take-append-le, SpellsCount, SpellsTag, count_octets, BeginsTag}
-use Rattle.iim_places.proofs.Words.{Head}
+use Rattle.iim_places.proofs.Words.{cases_lt, take-append-drop, length-drop, take-append_seam, take-append-le, SpellsCount, SpellsTag, count_octets, BeginsTag, Head}
 
 -- a count of fewer octets is one of more
 wider_count : (limit most n : ℕ) (xs : List ℕ) → limit ≤ most → SpellsCount limit n xs → SpellsCount most n xs

@@ -3,11 +3,10 @@ use Rattle.std.proofs.Common.{◌≡◌, ℕ, ◌+◌, ◌-◌, ◌<◌, ◌≤�
 use Rattle.iim_places.proofs.Words.{cases_Bool, nil_from_length, flat_map-append, take-append-drop, length-take, AllByRecursion, flat_map, Dataset, all_append, Phase, four, TagBegun, DataBegun, AllEnded, ticket_name, wide, phase_octets, field_octets, fields_octets, text_octets, IsLongField, came, AreFields, AreNumbersIn, AreTexts, IsSizeIn, IsShort, IsWide, IsPhase, HasForm, Split, split_octets, TicketsHaveOneSplit, AreNoMessage, AreNoBody, BeginsWithNoData, body_octets, message_parts}
 use Rattle.std.specs.Int.{w64, from_be_bytes, to_be_bytes}
 use Rattle.std.proofs.lemmas.Nat.{from_be_bytes-to_be_bytes_8}
-use Rattle.iim_dataset.specs.HandedIn.{same_front}
+use Rattle.iim_dataset.specs.Steps.{same_front}
 use Rattle.iim_places.specs.Format.Tickets.{number_octets}
-use Rattle.iim_places.specs.TicketParts.{HoldsFields}
+use Rattle.iim_places.specs.TicketParts.{HoldsFields, first_same, rest_same, one_four, one_field, some_octets, same_fields}
 use Rattle.iim_places.specs.Restoring.{BeginsWithNone, BeginsWithFewer, FieldsBefore, IsFour}
-use Rattle.iim_places.specs.FieldLaws.{first_same, rest_same, one_four, one_field, some_octets, same_fields}
 
 -- octets that two spellings begin have one reading
 abbrev pub HasOne : {X : Type 0} → (X → Type 0) → (X → List ℕ) → Type 0

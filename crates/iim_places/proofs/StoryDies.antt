@@ -1,8 +1,6 @@
 -- With which octets the story of an object dies.
-use Rattle.std.proofs.Common.{◌≡◌, ℕ, zero, suc, ◌+◌, ◌<◌, ◌⊎◌, Bool, true, false, List, [], ◌∷◌, ◌++◌, length, replicate, refl, ap, ◌∙◌, inl, inr, arith}
-use Rattle.std.proofs.Common.{append-nil, append_assoc}
-use Rattle.iim_places.proofs.Words.{list_any, position_or_len, after_first, cases_Bool, ne_eqb, nat_tests, list_any-append, list_all-append}
-use Rattle.iim_places.proofs.Words.{drop-append-add, IsOctet, IsTextSoFar, Holds, is_line_octet, LowerLaws, after_stx, text_so_far, StoryDiesWith, IsInText}
+use Rattle.std.proofs.Common.{◌≡◌, ℕ, zero, suc, ◌+◌, ◌<◌, ◌⊎◌, Bool, true, false, List, [], ◌∷◌, ◌++◌, length, replicate, refl, ap, ◌∙◌, inl, inr, arith, append-nil, append_assoc}
+use Rattle.iim_places.proofs.Words.{list_any, position_or_len, after_first, cases_Bool, ne_eqb, nat_tests, list_any-append, list_all-append, drop-append-add, IsOctet, IsTextSoFar, Holds, is_line_octet, LowerLaws, after_stx, text_so_far, StoryDiesWith, IsInText}
 use Rattle.wire_story.specs.States.Reading.{IsLoneReturn}
 use Rattle.wire_story.proofs.SoFar.{so_far_two}
 use Rattle.iim_places.proofs.Living.{after_found, after_none, before_found, before_later, before_all, place_later, is_etx, is_stx}
@@ -39,7 +37,7 @@ no_death laws o b held dies other holds =
 
 -- ---- texts so far with one octet more
 
--- a text so far goes on as its last line does
+-- a text so far continues as its last line does
 goes_on : (x y : List ℕ) (lines new : List (List ℕ)) (line last : List ℕ) (held returns : ℕ)
     → ((z : List ℕ) → IsTextSoFar z [] line held → IsTextSoFar (z ++ y) new last returns) → IsTextSoFar x lines line held
     → IsTextSoFar (x ++ y) (lines ++ new) last returns
@@ -61,16 +59,22 @@ module _ (laws : LowerLaws) (o : List ℕ) (b : ℕ) (dies : StoryDiesWith o b) 
   -- an LF never kills
   no_feed : (held : ℕ) → Holds (text_so_far o) held → b ≡ 10 → ⊥
   no_feed held (lines, line, so_far) feed =
-      no_death laws o b 0 dies (λ three. omega (arith, three, feed)) (rw feed (lines ++ line ∷ [], [],
-      goes_on (text_so_far o) (10 ∷ []) lines (line ∷ []) line [] held 0
-      (λ z is. (is.0, held, is.1, [], rw is.2 (simp (append_assoc, append-nil)), (refl, omega arith, refl))) so_far))
+      no_death laws o b 0 dies (λ three. omega (arith, three, feed)) (rw feed (
+        lines ++ line ∷ [],
+        [],
+        goes_on (text_so_far o) (10 ∷ []) lines (line ∷ []) line [] held 0
+            (λ z is. (is.0, held, is.1, [], rw is.2 (simp (append_assoc, append-nil)), (refl, omega arith, refl))) so_far,
+      ))
 
   -- nor does a CR where it is the first or the second
   no_return : (held : ℕ) → held < 2 → Holds (text_so_far o) held → b ≡ 13 → ⊥
   no_return held less (lines, line, so_far) return' =
-      no_death laws o b (held + 1) dies (λ three. omega (arith, three, return')) (rw return' (lines ++ [], line,
-      goes_on (text_so_far o) (13 ∷ []) lines [] line line held (held + 1)
-      (λ z is. (is.0, omega (arith, less), rw (is.2, append_assoc, one_more 13 held) refl)) so_far))
+      no_death laws o b (held + 1) dies (λ three. omega (arith, three, return')) (rw return' (
+        lines ++ [],
+        line,
+        goes_on (text_so_far o) (13 ∷ []) lines [] line line held (held + 1)
+            (λ z is. (is.0, omega (arith, less), rw (is.2, append_assoc, one_more 13 held) refl)) so_far,
+      ))
 
   -- where CR are held: an octet that is neither LF nor the second CR
   pub lone_return : (held : ℕ) → 0 < held → Holds (text_so_far o) held → IsLoneReturn held b
@@ -85,9 +89,12 @@ module _ (laws : LowerLaws) (o : List ℕ) (b : ℕ) (dies : StoryDiesWith o b) 
   pub control : IsOctet b → Holds (text_so_far o) 0 → (b ≡ 1) ⊎ ((b ≡ 2) ⊎ (b ≡ 4))
   control low holds = let (lines, line, so_far) = holds in elim (cases_Bool (is_line_octet b)) [
     | inr other ↦ control_octet b low other no_end (no_feed 0 holds) (no_return 0 (omega arith) holds)
-    | inl may ↦ absurd (no_death laws o b 0 dies (λ three. let bad : is_line_octet 3 ≡ true = rw three at may in cc) (lines ++ [], line ++ b ∷ [],
-        goes_on (text_so_far o) (b ∷ []) lines [] line (line ++ b ∷ []) 0 0
-        (λ z is. (rw (list_all-append is_line_octet line (b ∷ []), is.0, may) refl, is.1, rw is.2 (simp append-nil))) so_far))
+    | inl may ↦ absurd (no_death laws o b 0 dies (λ three. let bad : is_line_octet 3 ≡ true = rw three at may in cc) (
+      lines ++ [],
+      line ++ b ∷ [],
+      goes_on (text_so_far o) (b ∷ []) lines [] line (line ++ b ∷ []) 0 0
+          (λ z is. (rw (list_all-append is_line_octet line (b ∷ []), is.0, may) refl, is.1, rw is.2 (simp append-nil))) so_far,
+    ))
   ]
     where
       no_end : b ≡ 3 → ⊥

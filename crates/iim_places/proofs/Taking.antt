@@ -1,9 +1,6 @@
 -- What takes whole datasets one after another: takes joined, and datasets that can continue.
-use Rattle.std.proofs.Common.{◌≡◌, ℕ, ◌≤◌, ◌≢◌, Bool, true, false, Option, Result, Ok, Err, OnOk, IfOk, IfErr, is_ok, List, [], ◌∷◌, ◌++◌, refl, subst, ◌∙◌}
-use Rattle.std.proofs.Common.{rules, arith, append_assoc}
-use Rattle.iim_places.proofs.Words.{AllByRecursion, Dataset, head_of, Head, all_front, all_back, TakesHead, HasChecked, HasTaken, IsChecking, IsValueFault}
-use Rattle.iim_places.proofs.Words.{SectionsLive, AreSections, records, IsGoodDataset, data_of, number_told, RecordPlace, FieldFault, Limits, front_alive}
-use Rattle.iim_places.proofs.Words.{mode_dataset, widest, CanContinueWithin, TookDatasets}
+use Rattle.std.proofs.Common.{◌≡◌, ℕ, ◌≤◌, ◌≢◌, Bool, true, false, Option, Result, Ok, Err, OnOk, IfOk, IfErr, is_ok, List, [], ◌∷◌, ◌++◌, refl, subst, ◌∙◌, rules, arith, append_assoc}
+use Rattle.iim_places.proofs.Words.{AllByRecursion, Dataset, head_of, Head, all_front, all_back, TakesHead, HasChecked, HasTaken, IsChecking, IsValueFault, SectionsLive, AreSections, records, IsGoodDataset, data_of, number_told, RecordPlace, FieldFault, Limits, front_alive, mode_dataset, widest, CanContinueWithin, TookDatasets}
 use Rattle.iim_fields.specs.States.Standing.{FieldsPlace, IsBetween, IsOf, StandsAfter, StandsIn, limits_of}
 use Rattle.iim_places.proofs.Bounds.{each_in}
 use Rattle.iim_places.proofs.Limits.{kept_octets_append, kept_length_append}

@@ -1,10 +1,8 @@
 -- How long a ticket is at most.
-use Rattle.std.proofs.Common.{◌≡◌, ℕ, ◌+◌, ◌*◌, ◌≤◌, nat_eq, Bool, true, false, if◌then◌else◌, List, [], ◌∷◌, length, Option, Some, None, refl, ap, inl, inr}
-use Rattle.std.proofs.Common.{rules, arith, length-append}
-use Rattle.iim_places.proofs.Words.{flat_map, Dataset, SpellsTag, SpellsCount, count_octets, InTag, Reads, Head, saved, LeadsToSaved, MessagePlace, TagBegun}
-use Rattle.iim_places.proofs.Words.{DataBegun, AllEnded, present_version, phase_octets, field_octets, texts_octets, ticket_of}
-use Rattle.iim_fields.specs.Format.Faults.{joined}
-use Rattle.wire_message.specs.States.SoFar.{IsPlace}
+use Rattle.std.proofs.Common.{◌≡◌, ℕ, ◌+◌, ◌*◌, ◌≤◌, nat_eq, Bool, true, false, if◌then◌else◌, List, [], ◌∷◌, length, Option, Some, None, refl, ap, inl, inr, rules, arith, length-append}
+use Rattle.iim_places.proofs.Words.{flat_map, Dataset, SpellsTag, SpellsCount, count_octets, InTag, Reads, Head, saved, LeadsToSaved, MessagePlace, TagBegun, DataBegun, AllEnded, present_version, phase_octets, field_octets, texts_octets, ticket_of}
+use Rattle.iim_fields.specs.Format.Causes.{joined}
+use Rattle.wire_message.specs.States.Reading.{IsPlace}
 use Rattle.wire_message.specs.declared.part.HeaderPart.TheVariants as part
 use Rattle.wire_message.specs.declared.place.Place.{Place as Message}
 use Rattle.wire_message.specs.declared.place.Place.TheVariants as at

@@ -3,11 +3,9 @@ use Rattle.std.proofs.Common.{◌≡◌, ℕ, ◌≤◌, ◌||◌, nat_eq, cond,
 use Rattle.iim_places.proofs.Words.{AllByRecursion, flat_map, unwrap_or, eq-eqb, filter-append, list_any-append, Octets, greatest_size, Dataset, of_record, all_append, all_back, all_front, Meets, SectionsLive, kept, is_kept, section_after, last_record, AreRecords, IsGoodDataset, IsGoodRecord, occurs, occurrences, repeats, mandatory, subfile_datasets, numbers_of, Stated, InRow, number_at, stated_numbers, IsSize, AreKept, numbers_told, LowerLaws, Numbers, number_list, plain_numbers, filled, plain_end, plain, good_elsewhere, part_meets, none_counts, occurrences_append, some_counts, last_of_joined, max_subfiles, one_of_some, all_map, AreSections, option_or, SpellsStream, count_octets, Head, sum_append, SectionsLiveAt, Limits, ending_of, place_after_datasets, lengths_of, HaveSizes, AreWithin, place_at, ObjectLives, HaveRoom, CanContinue, MayContinue, ConfirmedAs, number, Begun, InTag, InData, Sizes, Header, IsMessage, IsEnvelopeWithin, IsText, object_of, map-append, Value}
 use Rattle.iim_tables.specs.Format.Rows.{table, row_of}
 use Rattle.iim_object.specs.Laws.{NumberDatasetsAreGood}
-use Rattle.iim_places.proofs.SameRecords.{occurs_stated, same_stated, same_numbers, stated_after_all, tens_after, SameRecords, same_shape, tens_seen}
-use Rattle.iim_places.proofs.SameRecords.{none_in_front, SameNumbers, stated_at, AreTens, nines, seen_on}
+use Rattle.iim_places.proofs.SameRecords.{occurs_stated, same_stated, same_numbers, stated_after_all, tens_after, SameRecords, same_shape, tens_seen, none_in_front, SameNumbers, stated_at, AreTens, nines, seen_on}
 use Rattle.iim_places.proofs.PlainSizes.{row_at, all_kept, numbers_in, end_length, bounded_at, possible_after, possible_at, possible_like, sizes_of}
-use Rattle.iim_places.proofs.Plain.{numbers_each, AreOf, one_stated, are_told, four_told, filled_count, all_of, none_of, none_in_fields, kept_fields}
-use Rattle.iim_places.proofs.Plain.{plain_told, parts_each, end_each, at_both, numbers_join}
+use Rattle.iim_places.proofs.Plain.{numbers_each, AreOf, one_stated, are_told, four_told, filled_count, all_of, none_of, none_in_fields, kept_fields, plain_told, parts_each, end_each, at_both, numbers_join}
 use Rattle.iim_places.proofs.Fitting.{four_at}
 use Rattle.iim_places.proofs.Fronts.{empty_front}
 use Rattle.iim_places.proofs.Limits.{kept_append}
@@ -158,7 +156,7 @@ with_others own ds more may (one, from2, parts, good, (two, from7, parts2, fine,
           let others = flat_map own object_records in (
             rw is (one, two ++ (others ++ more), simp append_assoc, good, (two, others ++ more, refl, fine, sections)),
             ap section_after ds_is ∙ last_of_joined 0 (one ++ two) y ∙ last (last_record 0 (one ++ two)) ∙ sym (last_of_joined 0 (one ++ two) others)
-            ∙ ap (λ (xs : List Dataset). section_after (xs ++ others)) (sym is),
+                ∙ ap (λ (xs : List Dataset). section_after (xs ++ others)) (sym is),
           ))
     ]
 

@@ -1,10 +1,5 @@
 pub mod Admitted
-pub mod Framed
-pub mod Refusals
-pub mod Conditions
-pub mod Names
-pub mod Tokens
-pub mod Listing
+pub mod Causes
 pub mod Streams
 pub mod Open
 pub mod Tickets

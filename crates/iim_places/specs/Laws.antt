@@ -1,28 +1,24 @@
+-- What holds of all envelopes, streams, places and tickets; the record at the end has a field for each law.
 use Rattle.std.specs.Prelude.{◌↔◌, ℕ, List, ◌≡◌, ◌^◌, ◌<◌, ◌≤◌, length, ◌++◌, ◌-◌, ◌∷◌, []}
 use Rattle.iim_dataset.specs.Format.Octets.{IsOctet, greatest_u64, greatest_size}
 use Rattle.iim_fields.specs.declared.limits.Limits.{Limits}
 use Rattle.iim_places.specs.Format.Open.{RefusesByTests, RefusesNext, IsOpen, AllCanContinue, Delivers}
 use Rattle.iim_places.specs.declared.fault.TokenFault.{TokenFault}
-use Rattle.iim_places.specs.Format.Listing.{Listed, Divides, InputEnding, IsListing}
-use Rattle.iim_dataset.specs.Format.Datasets.{Dataset, count_octets}
-use Rattle.iim_dataset.specs.Format.Splits.{Begun, Reads}
-use Rattle.iim_places.specs.Format.Admitted.{Value, Admits}
-use Rattle.iim_places.specs.Format.Streams.{IsEnvelopeWithin, Kills, Answer, Answers}
-use Rattle.wire_story.specs.Format.Delivery as story
-use Rattle.iim_places.specs.States.Possible.{AreOpenOrWhole, widest, AreHeadsWithin, Possible, IsSmallPlace}
+use Rattle.iim_places.specs.Format.Streams.{Listed, Divides, InputEnding, IsListing, IsEnvelopeWithin, Kills, Answer, Answers}
+use Rattle.iim_dataset.specs.Format.Datasets.{Dataset, count_octets, Begun, Reads}
+use Rattle.iim_places.specs.Format.Admitted.{Value, Admits, AreWithin, Framed}
+use Rattle.wire_story.specs.Format.Texts as story
+use Rattle.iim_places.specs.States.Possible.{AreOpenOrWhole, widest, AreHeadsWithin, Possible, IsSmallPlace, Scale, first_scale, PossibleAt, IsPossibleIn, PlacesArePossibleByLayers}
 use Rattle.iim_places.specs.States.Restored.{IsTicketAt, octets_told, fields_told, IsRestoreFault}
 use Rattle.iim_places.specs.Format.Tickets.{Place, IsPlaceOf, ticket_in, IsTicketOf, part_number}
 use Rattle.iim_places.specs.declared.ticket.fault.TicketFault.{TicketFault}
 use Rattle.iim_places.specs.Format.TicketForm.{IsVersion, Split, SplitsTicket, HeaderFull, TooManyFields, OutOfMemory}
-use Rattle.iim_places.specs.States.Scales.{Scale, first_scale, PossibleAt, IsPossibleIn}
-use Rattle.iim_places.specs.Format.Framed.{AreWithin, Framed}
 use Rattle.wire_message.specs.declared.saved.MessagePlace.{MessagePlace}
 use Rattle.iim_dataset.specs.Laws.{CanonicalStreamsAreSpelled, NoTagBeginsAnother, NoDatasetBeginsAnother, NoOctetsContinue, OctetsAreHandedOnOneWay, EventsTellTheDatasets, WhatAnOctetCompletes}
 use Rattle.iim_fields.specs.Laws.{EnvelopesEndWithTheLastRecord, HeadsDieWithTheirFault, HeadsTellTheLowestCause, NoSectionsBeginOthers, ValuesDieWithTheirFault, ValuesTellTheLowestCause}
 use Rattle.iim_object.specs.Laws.{CausesAreTheFirst, TokensFollow, OthersLeadNowhere, NumbersLead, SubfilesLead, EndsLead, DatasetsLiveWithTheirTokens, DatasetsEndWithTheirTokens, RecordsAreByNumber, NumberDatasetsAreGood, NumbersLiveWithoutClash, ObjectsEndWhereTheyAreWhole, SubfilesLiveWhileTheyFit, TotalsAreConfirmed}
 use Rattle.wire_story.specs.Laws.{StoriesEndAsTexts, StoriesLiveAsTextsSoFar, TextsEndInNoReturn, TextsSoFarHaveOneReading}
 use Rattle.wire_message.specs.Laws.{LivingOctetsLeadOn, MessagesEndAfterEot, OctetsAreRefusedAlike, OctetsLeadOnAlike, OctetsLeadToOnePlace, PlacesAreSavedApart, ReadersStandAtLivingOctets, TextsStandBetweenStxAndEtx}
-use Rattle.iim_places.specs.States.ByLayers.{PlacesArePossibleByLayers}
 
 -- An octet is refused for the cause of the lowest number in its layer whose condition holds at the token that it completes exactly where tests,
 -- made one after the other, find that fault first.

@@ -5,8 +5,6 @@ pub mod States
 -- What holds of these: statements, each the contract of a law.
 pub mod Laws
 -- What only proofs and private clauses cite.
-pub mod FieldLaws
 pub mod TicketParts
-pub mod Taking
 pub mod Restoring
 pub mod Nowhere

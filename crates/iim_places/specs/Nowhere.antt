@@ -1,6 +1,6 @@
 -- A sink of objects that takes all, and keeps nothing.
 use Rattle.std.specs.Prelude.{List, ⊤}
-use Rattle.iim_object.specs.Format.Events.{ObjectEvent}
+use Rattle.iim_object.specs.Format.Objects.{ObjectEvent}
 use Rattle.iim_places.specs.declared.ticket.object.Nowhere.{Nowhere}
 
 abbrev pub goes_nowhere : Nowhere → List ObjectEvent → Nowhere → Type 0

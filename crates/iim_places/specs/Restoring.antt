@@ -1,16 +1,15 @@
--- Where no envelope can be by a ticket's parts, and what the reader of records takes of them.
-use Rattle.std.specs.Prelude.{◌≡◌, ℕ, ◌^◌, ◌<◌, List, ◌++◌, length, ◌+◌}
+-- Where no envelope can be by a ticket's parts, and what takes the records of a ticket.
+use Rattle.std.specs.Prelude.{◌≡◌, ℕ, ◌^◌, ◌<◌, List, ◌++◌, length, ◌+◌, Bool, true, false, [], ◌∷◌, Option, None, cond}
 use Rattle.std.specs.List.{AllByRecursion, flat_map}
 use Rattle.iim_dataset.specs.Format.Datasets.{Dataset}
-use Rattle.iim_places.specs.Format.Tickets.{field_octets, Place, Phase}
-use Rattle.iim_places.specs.States.Begins.{IsLongField}
-use Rattle.iim_fields.specs.Format.Faults.{kept, kept_octets}
-use Rattle.iim_fields.specs.Format.Bounds.{IsWithin}
+use Rattle.iim_places.specs.Format.Tickets.{field_octets, Place, Phase, part_number}
+use Rattle.iim_places.specs.Format.TicketForm.{IsLongField, Split}
+use Rattle.iim_fields.specs.Format.Causes.{kept, kept_octets, is_kept}
+use Rattle.iim_fields.specs.Format.Records.{IsWithin, SectionsLive}
+use Rattle.iim_places.specs.States.Possible.{LeadsByLayers, begun_count, begun_fields, Numbers, plain}
+use Rattle.iim_places.specs.Laws.{split_of, texts_of}
 use Rattle.iim_fields.specs.declared.limits.Limits.{Limits}
-use Rattle.iim_places.specs.States.ByLayers.{LeadsByLayers}
-use Rattle.iim_places.specs.States.Possible.{begun_count, begun_fields}
-use Rattle.iim_places.specs.Laws.{split_of}
-use Rattle.iim_places.specs.Format.TicketForm.{Split}
+use Rattle.wire_message.specs.declared.saved.MessagePlace.{MessagePlace}
 
 -- a number that four octets tell
 abbrev pub IsFour : ℕ → Type 0
@@ -38,3 +37,34 @@ LeadsNowhere s = (place : Place) → split_of s.version place ≡ s → LeadsByL
 -- With what is begun the kept datasets are within the limits.
 abbrev pub AreWithinWith : Limits → ℕ → Phase → List Dataset → Type 0
 AreWithinWith limits section phase ds = IsWithin limits (kept_octets ds + begun_count section phase) (length (kept ds) + begun_fields section phase)
+
+-- all are of records 1 and 2
+abbrev pub AreKept : List Dataset → Type 0
+AreKept ds = AllByRecursion (λ (d : Dataset). is_kept d.rec ≡ true) ds
+
+-- Datasets within the limits can continue after these, and these are within them.
+pub record CanContinueWithin (limits : Limits) (ds : List Dataset) : Type 0 where
+  pub alive : SectionsLive ds
+  pub within : IsWithin limits (kept_octets ds) (length (kept ds))
+
+-- Whether it took the datasets. If so, it stands after them, wherever it stood. If not, no datasets within the limits can continue with
+-- them, wherever it stood.
+abbrev pub TookDatasets : {T : Type 0} → (T → Type 0) → (T → List Dataset → Type 0) → (T → Limits) → T → List Dataset → T → Bool → Type 0
+TookDatasets ready stands limits old es new true = ready new × (limits new ≡ limits old) × ((ds : List Dataset) → stands old ds → stands new (ds ++ es))
+TookDatasets ready stands limits old es new false = (ds : List Dataset) → stands old ds → CanContinueWithin (limits old) (ds ++ es) → ⊥
+
+-- the numbers of 7:10, 7:20, 7:90 and 7:95
+abbrev pub numbers_told : List (Option ℕ) → Numbers
+numbers_told (mode ∷ largest ∷ announced ∷ maximum ∷ []) = record { mode = mode; largest = largest; announced = announced; maximum = maximum }
+numbers_told other = record { mode = None; largest = None; announced = None; maximum = None }
+
+-- fields, numbers, one subfile where some have ended, and 9:10 where the object has
+abbrev pub told_datasets : List Dataset → List (Option ℕ) → (some ended : Bool) → List Dataset
+told_datasets fields numbers some ended = plain fields (numbers_told numbers) (cond some 1 0) [] ended
+
+-- The place of a message that a ticket tells by its part, counter, flag and texts.
+pub record IsMessageOf (part counter flag : ℕ) (texts : List (List ℕ)) (m : MessagePlace) : Type 0 where
+  pub part_is : part_number m.part ≡ part
+  pub counter_is : m.counter ≡ counter
+  pub flag_is : m.flag ≡ flag
+  pub texts_are : texts_of m ≡ texts

@@ -1,7 +1,7 @@
 //! Tokens that a layer refuses.
 
 ghost use Rattle.std.specs.Prelude.{◌≡◌};
-ghost use Rattle.iim_places.specs.Format.Refusals.{of_field, size_on, too_many_on, message_on, layer_of, layer_of_message};
+ghost use Rattle.iim_places.specs.Format.Causes.{of_field, size_on, too_many_on, message_on, layer_of, layer_of_message};
 
 use crate::refusal::{Cause, Layer};
 use iim_dataset::Head;

@@ -1,7 +1,7 @@
 //! Why octets are refused.
 
 ghost use Rattle.std.specs.Prelude.{◌≡◌, Some};
-ghost use Rattle.iim_places.specs.Format.Names.{layer_name, cause_number, cause_name, cause_text, refusal_text};
+ghost use Rattle.iim_places.specs.Format.Causes.{layer_name, cause_number, cause_name, cause_text, refusal_text};
 
 use iim_dataset::DatasetName;
 use iim_fields::FieldCause;

@@ -7,7 +7,7 @@ use Rattle.clap.specs.Values.{IsUnsignedIn}
 use Rattle.clap.specs.Words.{App, Row, Rule, Text, fault_of, first_of, kind_of, new_app, new_rule, one_of, subcommand_of, with_rule, with_subcommand, IsAmong}
 use Rattle.clap.specs.declared.builder.action.ArgAction.TheVariants.{SetTrue}
 use Rattle.clap.specs.declared.builder.value_parser.ValueParser.TheVariants.{Unsigned}
-use Rattle.iim_dataset.specs.Format.Octets.{greatest_size}
+use Rattle.iim_dataset.specs.Format.Octets.{greatest_size, backslash}
 use Rattle.jiff.specs.Words.{parse_timestamp, Error as InstantError}
 use Rattle.iim_request.specs.declared.request.Job.{Job}
 use Rattle.iim_request.specs.declared.request.Job.TheVariants.{Check, Show, Story, Pack, Audit}
@@ -15,8 +15,7 @@ use Rattle.iim_request.specs.declared.request.Request.{Request}
 pub use Rattle.iim_request.specs.declared.request.UsageFault.{UsageFault}
 pub use Rattle.iim_request.specs.declared.request.UsageFault.TheVariants.{Words, MaxNeedsUnknown, BadNow, OutOfMemory}
 use Rattle.std.specs.Char.{is_ascii_control}
-use Rattle.iim_dataset.specs.Format.Characters.{backslash}
-use Rattle.iim_dataset.specs.Format.Shown.{escape}
+use Rattle.iim_dataset.specs.Format.Datasets.{escape}
 
 -- ---- the program's commands, as clap is told of them
 

@@ -1,7 +1,7 @@
 //! How an envelope is to be packed.
 
 ghost use Rattle.std.specs.Prelude.{IsTrue};
-ghost use Rattle.iim_object.specs.Format.Plans.{is_plan};
+ghost use Rattle.iim_object.specs.Format.Objects.{is_plan};
 ghost use Rattle.iim_object.specs.declared.size.Size.TheVariants.{Unknown};
 
 /// How an envelope is to be packed.

@@ -1,7 +1,7 @@
 //! Octets as text that can be printed.
 
 ghost use Rattle.std.specs.Prelude.{◌≡◌, ◌++◌, [], ◌∷◌, if◌then◌else◌, slice_index, OnOk};
-ghost use Rattle.iim_dataset.specs.Format.Shown.{escape};
+ghost use Rattle.iim_dataset.specs.Format.Datasets.{escape};
 ghost use Rattle.iim_request.specs.Format.{is_hidden, shown_name, spell_control};
 
 use iim_dataset::push_escape;

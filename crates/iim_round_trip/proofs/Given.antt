@@ -3,7 +3,7 @@ use Rattle.std.proofs.Common.{◌≡◌, ◌≢◌, ℕ, ◌⊎◌, inl, inr, Li
 use Rattle.std.specs.Prelude.{Ok, Err}
 use Rattle.iim_fields.specs.declared.limits.Limits.{Limits}
 use Rattle.iim_places.specs.Format.Admitted.{Value}
-use Rattle.iim_unpack.specs.States.Parts as parts
+use Rattle.iim_unpack.specs.States.Unpacking as parts
 use Rattle.iim_unpack.specs.Format.Pieces as pieces
 use Rattle.iim_places.specs.Format.Streams.{Answer, Answers, Finished, Truncated}
 use Rattle.iim_places.specs.declared.refusal.Cause.{Cause}
@@ -11,13 +11,11 @@ use Rattle.iim_places.specs.declared.refusal.Cause.TheVariants as causes
 use Rattle.wire_message.specs.declared.fault.MessageCause.TheVariants as messages
 use Rattle.iim_places.specs.declared.refusal.Refusal.{Refusal}
 use Rattle.iim_unpack.specs.declared.unpacker.Unpacked.{Unpacked}
-use Rattle.iim_round_trip.specs.Format.RoundTrip.{packed_value, GivesBack, FailsOutside}
-use Rattle.iim_round_trip.specs.Format.Results.{CountsCause, IsAnswer, IsTurnedDown}
+use Rattle.iim_round_trip.specs.Format.RoundTrip.{packed_value, GivesBack, FailsOutside, CountsCause, IsAnswer, IsTurnedDown}
 use Rattle.iim_round_trip.specs.Laws.{packed_answer, PackedStreamsHaveTheirAnswer}
 use Rattle.iim_round_trip.specs.declared.unpacking.UnpackFault.TheVariants.{Refused, OutOfMemory}
-use Rattle.wire_story.specs.States.Collecting.{Collected, collect}
-use Rattle.wire_story.specs.Format.Delivery.{StoryEvent, events_of_lines}
-use Rattle.wire_story.specs.Format.Texts.{IsText}
+use Rattle.wire_story.specs.States.Reading.{Collected, collect}
+use Rattle.wire_story.specs.Format.Texts.{StoryEvent, events_of_lines, IsText}
 use Rattle.wire_story.specs.Laws.{TextsAreDeliveredAsLines, TextsAreCollectedAsLines}
 use Rattle.iim_unpack.specs.Format.Pieces.{IsUnpacked}
 use Rattle.iim_places.specs.Laws.{StreamsHaveOneAnswer}

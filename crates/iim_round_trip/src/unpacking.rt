@@ -3,8 +3,7 @@
 ghost use Rattle.std.specs.Prelude.{◌≡◌, IfOk, IfErr, OnOk};
 ghost use Rattle.iim_unpack.specs.Format.Pieces.{IsUnpacked, stream_of};
 ghost use Rattle.iim_places.specs.Format.Streams.{Answer, Answers};
-ghost use Rattle.iim_round_trip.specs.Format.RoundTrip.{GivesBack, IsOutside, FailsOutside};
-ghost use Rattle.iim_round_trip.specs.Format.Results.{IsAnswer, IsTurnedDown, CountsFor};
+ghost use Rattle.iim_round_trip.specs.Format.RoundTrip.{GivesBack, IsOutside, FailsOutside, IsAnswer, IsTurnedDown, CountsFor};
 ghost use Rattle.iim_round_trip.specs.Format.Stories.{ComesBack, IsStoryIn, IsStoryAnswer, HasNoStory};
 
 use crate::laws::packed_streams_have_their_answer;

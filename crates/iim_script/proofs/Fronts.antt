@@ -1,14 +1,10 @@
 -- What stands before the story, line by line.
-use Rattle.iim_script.proofs.Words.{◌≡◌, ◌⊎◌, inl, inr, ℕ, ◌+◌, ◌≤◌, true, false, List, [], ◌∷◌, ◌++◌, append_assoc, length, length-append, get_or, refl, ap}
-use Rattle.iim_script.proofs.Words.{sym, ◌∙◌, subst, arith, None, list_all, false≢true, and_parts, Dataset, Building, add_fault, finish_fault, Limits, Header}
-use Rattle.iim_script.proofs.Words.{HasNo, NextLine, TellsField, TellsHead, TellsTrailer, text_word, is_digit, AreFieldLines, AreTrailer, IsFront, max_script, Stage}
-use Rattle.iim_script.proofs.Words.{InFields, AfterMessage, AfterTrailer, HaveCome, Stands, TellsNone, IsNextWrong, IsFrontFault}
-use Rattle.iim_script.proofs.Words.{IsScriptFault, ScriptLine, Field, BadTrailer, OutOfMemory, ScriptCause}
+use Rattle.iim_script.proofs.Words.{◌≡◌, ◌⊎◌, inl, inr, ℕ, ◌+◌, ◌≤◌, true, false, List, [], ◌∷◌, ◌++◌, append_assoc, length, length-append, get_or, refl, ap, sym, ◌∙◌, subst, arith, None, list_all, false≢true, and_parts, Dataset, Building, add_fault, finish_fault, Limits, Header, HasNo, NextLine, TellsField, TellsHead, TellsTrailer, text_word, is_digit, AreFieldLines, AreTrailer, IsFront, max_script, Stage, InFields, AfterMessage, AfterTrailer, HaveCome, Stands, TellsNone, IsNextWrong, IsFrontFault, IsScriptFault, ScriptLine, Field, BadTrailer, OutOfMemory, ScriptCause}
 use Rattle.std.proofs.Common.{append-nil}
 use Rattle.wire_message.specs.Format.Messages.{IsTrailer}
 use Rattle.iim_fields.specs.declared.fault.FieldCause.{FieldCause}
 use Rattle.iim_script.specs.declared.fault.ScriptFault.{ScriptFault}
-use Rattle.iim_script.specs.Format.Faults.{EndsTooSoon, IsWrong, ScriptTooLong, BadTextOctet}
+use Rattle.iim_script.specs.Format.Causes.{EndsTooSoon, IsWrong, ScriptTooLong, BadTextOctet}
 use Rattle.iim_script.specs.Steps.{number_after, NextMustBe, Refuses}
 use Rattle.iim_script.proofs.Next.{lines_more, lines_front, count_more, next_once, no_next}
 

@@ -1,7 +1,5 @@
 -- The words of a header's line.
-use Rattle.iim_script.proofs.Words.{◌≡◌, ℕ, ◌-◌, ◌==◌, List, [], ◌∷◌, ◌++◌, length, take, drop, get_or, refl, ap, sym, ◌∙◌, subst, Option, Some, None, IfSome}
-use Rattle.iim_script.proofs.Words.{IfNone, position_or_len, eqb-true, false≢true, take_rest, take-append-drop, is_alphanumeric, is_letter, is_digit, Header}
-use Rattle.iim_script.proofs.Words.{IsHeader, HasNo, AreWords, TellsLast, TellsHead, message_word, head_words}
+use Rattle.iim_script.proofs.Words.{◌≡◌, ℕ, ◌-◌, ◌==◌, List, [], ◌∷◌, ◌++◌, length, take, drop, get_or, refl, ap, sym, ◌∙◌, subst, Option, Some, None, IfSome, IfNone, position_or_len, eqb-true, false≢true, take_rest, take-append-drop, is_alphanumeric, is_letter, is_digit, Header, IsHeader, HasNo, AreWords, TellsLast, TellsHead, message_word, head_words}
 use Rattle.std.proofs.Common.{append-nil, IsSome}
 use Rattle.wire_message.specs.Format.Messages.{header_of}
 use Rattle.iim_script.proofs.Cuts.{cut_once, has_no_octet, has_no_before, lacks, first_passes}

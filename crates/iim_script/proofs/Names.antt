@@ -1,9 +1,7 @@
 -- The numbers at the front of a line.
-use Rattle.iim_script.proofs.Words.{◌≡◌, ℕ, suc, ◌-◌, Bool, true, false, not, cond, List, [], ◌∷◌, ◌++◌, length, take, drop, get_or, refl, ap, sym, ◌∙◌}
-use Rattle.iim_script.proofs.Words.{subst, position_or_len, list_all, false≢true, and_from, and_parts, one-add, take_rest, take-append-drop, HasNo}
-use Rattle.iim_script.proofs.Words.{TellsNumber, is_digit}
+use Rattle.iim_script.proofs.Words.{◌≡◌, ℕ, suc, ◌-◌, Bool, true, false, not, cond, List, [], ◌∷◌, ◌++◌, length, take, drop, get_or, refl, ap, sym, ◌∙◌, subst, position_or_len, list_all, false≢true, and_from, and_parts, one-add, take_rest, take-append-drop, HasNo, TellsNumber, is_digit}
 use Rattle.std.proofs.lemmas.Bool.{not-true}
-use Rattle.iim_script.specs.Format.Forms.{TellsNames}
+use Rattle.iim_script.specs.Format.Scripts.{TellsNames}
 use Rattle.iim_script.proofs.Cuts.{cut_once, has_no_octet, lacks, first_passes}
 
 abbrev pub no_digit : ℕ → Bool

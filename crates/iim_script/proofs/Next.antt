@@ -1,6 +1,6 @@
 -- The next line of a script, and the first line of a text.
 use Rattle.std.proofs.Common.{◌≡◌, ◌⊎◌, inl, inr, ℕ, ◌+◌, List, [], ◌∷◌, ◌++◌, append_assoc, append-nil, length, length-append, refl, ap, sym, ◌∙◌, subst, arith, zero, suc, ◌≤◌, replicate}
-use Rattle.iim_script.specs.Format.Lines.{HasNo, WithoutLast, NextLine, NextLines}
+use Rattle.iim_script.specs.Format.Scripts.{HasNo, WithoutLast, NextLine, NextLines}
 use Rattle.std.proofs.lemmas.List.{append_cancel_right}
 use Rattle.iim_script.proofs.Cuts.{cut_once, has_no_octet, has_no_append, lacks}
 use Rattle.wire_story.specs.Format.Texts.{IsLine, IsText, is_line_octet}

@@ -1,8 +1,5 @@
 -- Stories whose lines end in LF alone.
-use Rattle.iim_script.proofs.Words.{◌≡◌, inl, inr, ℕ, zero, suc, ◌+◌, ◌*◌, ◌<◌, ◌==◌, Bool, true, false, cond, List, [], ◌∷◌, ◌++◌, append_assoc, length}
-use Rattle.iim_script.proofs.Words.{take, drop, map, count_by, get_or, refl, ap, sym, ◌∙◌, subst, arith, IsTrue, list_all, AllByRecursion, and_parts}
-use Rattle.iim_script.proofs.Words.{and_from, nat_tests, take-append-drop, is_line_octet, IsLine, IsText, HasNo, NextLine, NextLines}
-use Rattle.iim_script.proofs.Words.{WithoutLast, IsStory, TellsText}
+use Rattle.iim_script.proofs.Words.{◌≡◌, inl, inr, ℕ, zero, suc, ◌+◌, ◌*◌, ◌<◌, ◌==◌, Bool, true, false, cond, List, [], ◌∷◌, ◌++◌, append_assoc, length, take, drop, map, count_by, get_or, refl, ap, sym, ◌∙◌, subst, arith, IsTrue, list_all, AllByRecursion, and_parts, and_from, nat_tests, take-append-drop, is_line_octet, IsLine, IsText, HasNo, NextLine, NextLines, WithoutLast, IsStory, TellsText}
 use Rattle.std.proofs.Common.{take-add}
 use Rattle.std.specs.List.{onto_first, join_with_byte}
 use Rattle.std.specs.Simd.Lanes.{mask_l}
@@ -11,13 +8,12 @@ use Rattle.std.proofs.lemmas.List.{drop-drop}
 use Rattle.std.proofs.lemmas.List.Sums.{sum_by-take-drop}
 use Rattle.std.proofs.lemmas.List.Folds.{list_all-append}
 use Rattle.std.proofs.lemmas.List.Splits.{slice_split-cons_yes, slice_split-cons_no, join_with_byte-slice_split}
-use Rattle.wire_story.specs.Joining.{lines_in}
+use Rattle.wire_story.specs.Steps.{lines_in, is_low}
 use Rattle.wire_story.proofs.Collected.{some_line, packed_len}
-use Rattle.iim_script.specs.Format.Printed.{PrintsStory}
+use Rattle.iim_script.specs.Format.Scripts.{PrintsStory}
 use Rattle.iim_script.proofs.Cuts.{lacks, ended}
 use Rattle.iim_script.proofs.Next.{no_feed}
-use Rattle.iim_script.specs.Plain.{is_plain}
-use Rattle.wire_story.specs.Marking.{is_low}
+use Rattle.iim_script.specs.Steps.{is_plain}
 
 -- ---- octets
 

@@ -1,20 +1,14 @@
 -- What is printed tells what it is printed of, and ends in lines.
-use Rattle.iim_script.proofs.Words.{◌≡◌, inl, inr, ℕ, ◌+◌, ◌/◌, ◌%◌, ◌<◌, ◌≤◌, ◌==◌, ◌&&◌, nat_le, nat_lt, Bool, true, false, cond, List, [], ◌∷◌, ◌++◌}
-use Rattle.iim_script.proofs.Words.{append_assoc, length, map, get_or, refl, sym, subst, arith, AllByRecursion, list_all, flat_map, false≢true, and_from}
-use Rattle.iim_script.proofs.Words.{and_parts, nat_tests, is_letter, is_digit, Dataset, is_alphanumeric, Header, IsHeader, HasNo, NextLine, NextLines}
-use Rattle.iim_script.proofs.Words.{IsHexDigit, TellsOctets, TellsLast, TellsNumber, TellsField, TellsHead, TellsTrailer, message_word, head_words}
-use Rattle.iim_script.proofs.Words.{shown_octet, shown, field_line, message_line, trailer_line}
+use Rattle.iim_script.proofs.Words.{◌≡◌, inl, inr, ℕ, ◌+◌, ◌/◌, ◌%◌, ◌<◌, ◌≤◌, ◌==◌, ◌&&◌, nat_le, nat_lt, Bool, true, false, cond, List, [], ◌∷◌, ◌++◌, append_assoc, length, map, get_or, refl, sym, subst, arith, AllByRecursion, list_all, flat_map, false≢true, and_from, and_parts, nat_tests, is_letter, is_digit, Dataset, is_alphanumeric, Header, IsHeader, HasNo, NextLine, NextLines, IsHexDigit, TellsOctets, TellsLast, TellsNumber, TellsField, TellsHead, TellsTrailer, message_word, head_words, shown_octet, shown, field_line, message_line, trailer_line}
 use Rattle.std.specs.Prelude.{decimal}
 use Rattle.std.proofs.lemmas.Bool.{leb-true, le-leb}
 use Rattle.std.proofs.lemmas.Fmt.{decimal_nonempty, digits_decimal, digits_value-decimal, length-decimal-le}
 use Rattle.std.proofs.lemmas.Str.Parse.{IsDigitsTest, IsNumeralModel, numerals_by_fold}
 use Rattle.iim_dataset.specs.Format.Octets.{Octets}
-use Rattle.wire_message.specs.Format.Fields.{Are}
-use Rattle.wire_message.specs.Format.Fields as message
-use Rattle.iim_script.specs.Format.Shown.{BeginsWith}
-use Rattle.iim_script.specs.Format.Forms.{decimal_from, trailer_word}
-use Rattle.iim_dataset.specs.Format.Shown.{hex_digit, escape, is_plain, padding, dataset_name}
-use Rattle.iim_script.specs.Format.Printed.{after_space}
+use Rattle.wire_message.specs.Format.Messages.{Are}
+use Rattle.wire_message.specs.Format.Messages as message
+use Rattle.iim_script.specs.Format.Scripts.{BeginsWith, decimal_from, trailer_word, after_space}
+use Rattle.iim_dataset.specs.Format.Datasets.{hex_digit, escape, is_plain, padding, dataset_name}
 use Rattle.iim_script.proofs.Cuts.{has_no_append, lacks, ended}
 
 -- ---- octets

@@ -1,12 +1,11 @@
 -- What is put at places of a text: digits, octets that stand for themselves, and the lines of datasets.
-use Rattle.iim_script.proofs.Words.{◌≡◌, ℕ, ◌+◌, ◌/◌, ◌%◌, ◌<◌, ◌≤◌, List, [], ◌∷◌, ◌++◌, ap, ◌∙◌, arith, ◌&&◌, Bool, true, not, nat_eq, nat_le, length, map}
-use Rattle.iim_script.proofs.Words.{take, refl, sym, append_assoc, list_all, flat_map, shown, Dataset, field_line}
+use Rattle.iim_script.proofs.Words.{◌≡◌, ℕ, ◌+◌, ◌/◌, ◌%◌, ◌<◌, ◌≤◌, List, [], ◌∷◌, ◌++◌, ap, ◌∙◌, arith, ◌&&◌, Bool, true, not, nat_eq, nat_le, length, map, take, refl, sym, append_assoc, list_all, flat_map, shown, Dataset, field_line}
 use Rattle.std.proofs.Common.{decimal, append-nil, bit_and}
 use Rattle.std.proofs.lemmas.Fmt.{decimal_digit, decimal_step}
 use Rattle.std.specs.Simd.Lanes.{zip2}
 use Rattle.std.proofs.lemmas.List.{take-take, take-append-le}
 use Rattle.std.proofs.lemmas.List.Concat.{flat_map-append}
-use Rattle.iim_dataset.specs.Format.Shown.{is_plain}
+use Rattle.iim_dataset.specs.Format.Datasets.{is_plain}
 use Rattle.iim_dataset.proofs.Lanes.{lane, both_lanes, from_on, up_to, other_than, are_set, first_of}
 use Rattle.iim_dataset.proofs.PlainLanes.{shown_plain}
 

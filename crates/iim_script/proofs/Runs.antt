@@ -1,8 +1,5 @@
 -- Scripts line by line: what a line tells and leads to is one thing, and so is what lines lead to.
-use Rattle.iim_script.proofs.Words.{◌≡◌, ℕ, List, ◌∷◌, ◌++◌, get_or, drop, refl, ap, sym, ◌∙◌, subst, arith, ◌⊎◌, inl, inr, ◌+◌, [], append_assoc, length}
-use Rattle.iim_script.proofs.Words.{length-append, None, AllByRecursion, IsLine, Dataset, Header, TellsLast, TellsField, TellsHead, TellsTrailer, head_words}
-use Rattle.iim_script.proofs.Words.{text_word, add_fault, finish_fault, Limits, NextLine, NextLines, AreFieldLines, AreTrailer, IsFront}
-use Rattle.iim_script.proofs.Words.{Stage, InFields, AfterMessage, AfterTrailer, HaveCome, Stands, IsNextWrong, ScriptLine, Field, BadTrailer, ScriptCause}
+use Rattle.iim_script.proofs.Words.{◌≡◌, ℕ, List, ◌∷◌, ◌++◌, get_or, drop, refl, ap, sym, ◌∙◌, subst, arith, ◌⊎◌, inl, inr, ◌+◌, [], append_assoc, length, length-append, None, AllByRecursion, IsLine, Dataset, Header, TellsLast, TellsField, TellsHead, TellsTrailer, head_words, text_word, add_fault, finish_fault, Limits, NextLine, NextLines, AreFieldLines, AreTrailer, IsFront, Stage, InFields, AfterMessage, AfterTrailer, HaveCome, Stands, IsNextWrong, ScriptLine, Field, BadTrailer, ScriptCause}
 use Rattle.std.proofs.Common.{append-nil}
 use Rattle.iim_dataset.proofs.Spelled.{dataset_is}
 use Rattle.wire_message.specs.Format.Messages.{IsTrailer}
@@ -11,7 +8,7 @@ use Rattle.iim_script.proofs.Names.{names_once}
 use Rattle.iim_script.proofs.Heads.{words_of_header, last_ends, head_once}
 use Rattle.iim_script.proofs.Fronts.{field_digit, tells_no_head}
 use Rattle.iim_fields.specs.declared.fault.FieldCause.{FieldCause}
-use Rattle.iim_script.specs.Format.Faults.{EndsTooSoon, IsWrong}
+use Rattle.iim_script.specs.Format.Causes.{EndsTooSoon, IsWrong}
 use Rattle.iim_script.proofs.Next.{next_once, no_next, lines_append, lines_before}
 
 -- ---- what a line tells is one thing

@@ -1,8 +1,6 @@
 -- Octets tell one script or have one fault.
-use Rattle.iim_script.proofs.Words.{◌≡◌, ◌⊎◌, inl, inr, ℕ, ◌+◌, ◌<◌, ◌≤◌, List, [], ◌∷◌, ◌++◌, length, refl, ap, sym, ◌∙◌, arith, AllByRecursion, Dataset}
-use Rattle.iim_script.proofs.Words.{all_front, all_last, Limits, Header, IsLine, HasNo, NextLine, IsStory, IsScript, max_script, IsNextWrong, IsFrontFault}
-use Rattle.iim_script.proofs.Words.{IsScriptFault, OutOfMemory, ScriptCause}
-use Rattle.iim_script.specs.Format.Faults.{IsStoryFault, ScriptTooLong, BadTextOctet}
+use Rattle.iim_script.proofs.Words.{◌≡◌, ◌⊎◌, inl, inr, ℕ, ◌+◌, ◌<◌, ◌≤◌, List, [], ◌∷◌, ◌++◌, length, refl, ap, sym, ◌∙◌, arith, AllByRecursion, Dataset, all_front, all_last, Limits, Header, IsLine, HasNo, NextLine, IsStory, IsScript, max_script, IsNextWrong, IsFrontFault, IsScriptFault, OutOfMemory, ScriptCause}
+use Rattle.iim_script.specs.Format.Causes.{IsStoryFault, ScriptTooLong, BadTextOctet}
 use Rattle.iim_script.specs.Laws.{IsOneScript}
 use Rattle.iim_script.proofs.Next.{next_once, no_next}
 use Rattle.iim_script.proofs.Runs.{Place, At, InStory, Run, Onward, runs_once, stands_run, story_run, next_wrong_stuck, next_wrong_once}

@@ -1,12 +1,10 @@
 -- The lines of a story, one after another.
-use Rattle.iim_script.proofs.Words.{◌≡◌, ◌⊎◌, inl, inr, ℕ, ◌+◌, ◌<◌, List, [], ◌∷◌, ◌++◌, append_assoc, length, length-append, take, refl, ap, sym, ◌∙◌}
-use Rattle.iim_script.proofs.Words.{subst, arith, Option, Some, None, IfSome, IfNone, Bor, AllByRecursion, all_append, IsLine, IsText, HasNo}
-use Rattle.iim_script.proofs.Words.{NextLine, NextLines, WithoutLast, IsStory, TellsText}
+use Rattle.iim_script.proofs.Words.{◌≡◌, ◌⊎◌, inl, inr, ℕ, ◌+◌, ◌<◌, List, [], ◌∷◌, ◌++◌, append_assoc, length, length-append, take, refl, ap, sym, ◌∙◌, subst, arith, Option, Some, None, IfSome, IfNone, Bor, AllByRecursion, all_append, IsLine, IsText, HasNo, NextLine, NextLines, WithoutLast, IsStory, TellsText}
 use Rattle.std.proofs.Common.{append-nil}
 use Rattle.std.proofs.Math.Seq.{take-append_seam}
 use Rattle.iim_dataset.proofs.Lists.{some_none}
 use Rattle.wire_story.specs.Format.Texts.{packed_text}
-use Rattle.iim_script.specs.Format.Faults.{IsBadStory}
+use Rattle.iim_script.specs.Format.Causes.{IsBadStory}
 use Rattle.iim_script.proofs.Next.{lines_more, count_more}
 
 -- The line is the last of a story: with its end, or without one.

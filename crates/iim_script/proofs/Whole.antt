@@ -1,7 +1,5 @@
 -- What is printed of an envelope is a script: a builder takes its datasets.
-use Rattle.iim_script.proofs.Words.{◌≡◌, ℕ, ◌<◌, true, List, [], ◌∷◌, ◌++◌, append_assoc, length, refl, ap, sym, ◌∙◌, subst, arith, Option, None, map}
-use Rattle.iim_script.proofs.Words.{AllByRecursion, flat_map, eq-eqb, Dataset, all_append, finish_fault, Limits, AreFieldLines, Header, IsHeader, text_word}
-use Rattle.iim_script.proofs.Words.{NextLines, field_line, message_line, trailer_line}
+use Rattle.iim_script.proofs.Words.{◌≡◌, ℕ, ◌<◌, true, List, [], ◌∷◌, ◌++◌, append_assoc, length, refl, ap, sym, ◌∙◌, subst, arith, Option, None, map, AllByRecursion, flat_map, eq-eqb, Dataset, all_append, finish_fault, Limits, AreFieldLines, Header, IsHeader, text_word, NextLines, field_line, message_line, trailer_line}
 use Rattle.std.specs.Option.{option_or}
 use Rattle.std.proofs.lemmas.List.Elements.{filter-append}
 use Rattle.std.proofs.lemmas.List.Folds.{list_any-append}
@@ -10,17 +8,16 @@ use Rattle.std.proofs.lemmas.List.{length-map}
 use Rattle.iim_dataset.specs.Format.Datasets.{of_record}
 use Rattle.iim_dataset.proofs.Each.{all_map}
 use Rattle.iim_dataset.proofs.Lists.{all_there}
-use Rattle.iim_fields.specs.Format.Envelopes.{IsEnvelope}
-use Rattle.iim_fields.specs.States.Builders.{absent}
-use Rattle.iim_fields.specs.Format.Faults.{joined, missing_fault}
+use Rattle.iim_fields.specs.Format.Records.{IsEnvelope, IsWithin}
+use Rattle.iim_fields.specs.States.Standing.{absent}
+use Rattle.iim_fields.specs.Format.Causes.{joined, missing_fault}
 use Rattle.iim_fields.specs.Laws.{DatasetsOfEnvelopesAreAdded}
 use Rattle.iim_tables.specs.Format.Records.{IsGoodDataset, mandatory, occurs}
-use Rattle.iim_fields.specs.Format.Bounds.{IsWithin}
 use Rattle.iim_fields.specs.declared.fault.FieldFault.{FieldFault}
 use Rattle.iim_script.proofs.Printing.{IsPrintable, field_words, field_told, fields_end, message_words, message_ends, head_told, trailer_words, trailer_ends, trailer_told}
 use Rattle.std.specs.Prelude.{codes}
 use Rattle.iim_script.specs.Laws.{PrintedValuesAreScripts}
-use Rattle.iim_script.specs.Format.Printed.{script_of}
+use Rattle.iim_script.specs.Format.Scripts.{script_of}
 use Rattle.iim_script.proofs.Cuts.{ended}
 use Rattle.iim_script.proofs.Plains.{story_printed}
 

@@ -2,17 +2,13 @@
 use Rattle.std.specs.Prelude.{◌≡◌, ◌⊎◌, ℕ, ◌+◌, ◌<◌, ◌≤◌, List, length}
 use Rattle.std.specs.List.{AllByRecursion}
 use Rattle.iim_dataset.specs.Format.Datasets.{Dataset}
-use Rattle.iim_fields.specs.Format.Envelopes.{IsEnvelope}
-use Rattle.iim_fields.specs.Format.Faults.{joined}
-use Rattle.iim_fields.specs.Format.Bounds.{IsWithin}
+use Rattle.iim_fields.specs.Format.Records.{IsEnvelope, IsWithin}
+use Rattle.iim_fields.specs.Format.Causes.{joined}
 use Rattle.iim_fields.specs.declared.limits.Limits.{Limits}
 use Rattle.wire_message.specs.Format.Messages.{Header, IsHeader, IsTrailer}
 use Rattle.wire_story.specs.Format.Texts.{IsLine}
-use Rattle.iim_script.specs.Format.Lines.{NextLine}
-use Rattle.iim_script.specs.Format.Forms.{TellsField, TellsHead, TellsTrailer, text_word}
-use Rattle.iim_script.specs.Format.Printed.{PrintsStory, script_of}
-use Rattle.iim_script.specs.Format.Scripts.{IsScript, max_script}
-use Rattle.iim_script.specs.Format.Faults.{IsScriptFault, OutOfMemory, ScriptCause}
+use Rattle.iim_script.specs.Format.Scripts.{NextLine, TellsField, TellsHead, TellsTrailer, text_word, PrintsStory, script_of, IsScript, max_script}
+use Rattle.iim_script.specs.Format.Causes.{IsScriptFault, OutOfMemory, ScriptCause}
 
 -- Octets have one next line, and one thing follows it.
 abbrev pub OctetsHaveOneNextLine : Type 0

@@ -3,5 +3,4 @@ pub mod Format
 -- What holds of these: statements, each the contract of a law.
 pub mod Laws
 -- What only proofs and private clauses cite.
-pub mod Plain
 pub mod Steps

@@ -1,9 +1,24 @@
--- What the parts of the reader answer, each of what is left after the lines before it.
-use Rattle.std.specs.Prelude.{ℕ, ◌+◌, ◌≡◌, ◌⊎◌, List}
+-- What the parts of the reader answer, each of what is left after the lines before it; and texts of stories.
+use Rattle.std.specs.Prelude.{◌≡◌, ℕ, ◌==◌, ◌||◌, Bool, List, length, ◌+◌, ◌⊎◌}
+use Rattle.std.specs.List.{AllByRecursion}
+use Rattle.iim_dataset.specs.Format.Octets.{lf}
+use Rattle.wire_story.specs.Format.Texts.{is_line_octet, IsLine, IsText, packed_text}
+use Rattle.iim_script.specs.Format.Scripts.{IsStory, NextLine}
+use Rattle.iim_script.specs.Format.Causes.{Stage, IsNextWrong, OutOfMemory, ScriptCause}
 use Rattle.iim_fields.specs.declared.limits.Limits.{Limits}
 use Rattle.iim_script.specs.declared.fault.ScriptFault.{ScriptFault}
-use Rattle.iim_script.specs.Format.Lines.{NextLine}
-use Rattle.iim_script.specs.Format.Faults.{Stage, IsNextWrong, OutOfMemory, ScriptCause}
+
+-- It may stand in a line, or is LF.
+abbrev pub is_plain : ℕ → Bool
+is_plain b = is_line_octet b || b == lf
+
+-- The text is that of the lines of this story, and has so many octets where it is packed.
+pub record TellsText (story text : List ℕ) (len : ℕ) : Type 0 where
+  pub lines : List (List ℕ)
+  pub is_story : IsStory story lines
+  pub texts : AllByRecursion IsLine lines
+  pub is_text : IsText text lines
+  pub len_is : len ≡ length (packed_text lines)
 
 -- the number of the line after the first `count` lines, or 0 where memory is refused
 abbrev pub number_after : ℕ → ScriptCause → ℕ

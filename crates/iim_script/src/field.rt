@@ -2,11 +2,11 @@
 
 ghost use Rattle.std.specs.Prelude.{◌≡◌, ◌⊎◌, not, ℕ, List, [], ◌∷◌, ◌++◌, None, IfErr, OnOk, OnErr, IfSome, IfNone};
 ghost use Rattle.std.specs.List.{position_or_len};
-ghost use Rattle.iim_script.specs.Format.Forms.{TellsNames, TellsField, TellsHead};
+ghost use Rattle.iim_script.specs.Format.Scripts.{TellsNames, TellsField, TellsHead};
 ghost use Rattle.iim_dataset.specs.Format.Datasets.{Dataset};
 ghost use Rattle.iim_dataset.specs.Format.Octets.{is_digit};
-ghost use Rattle.iim_fields.specs.States.Builders.{add_fault};
-ghost use Rattle.iim_script.specs.Format.Faults.{InFields, TellsNone, IsWrong};
+ghost use Rattle.iim_fields.specs.States.Standing.{add_fault};
+ghost use Rattle.iim_script.specs.Format.Causes.{InFields, TellsNone, IsWrong};
 
 use crate::fault::ScriptCause;
 use crate::line::cut_at;

@@ -2,8 +2,8 @@
 
 ghost use Rattle.std.specs.Prelude.{◌≡◌, ◌==◌, ◌+◌, ◌≤◌, ◌<◌, ◌++◌, ◌∷◌, ℕ, List, length, IfSome, IfNone};
 ghost use Rattle.std.specs.List.{position_or_len};
-ghost use Rattle.iim_dataset.specs.Format.Characters.{lf};
-ghost use Rattle.iim_script.specs.Format.Lines.{HasNo, NextLine};
+ghost use Rattle.iim_dataset.specs.Format.Octets.{lf};
+ghost use Rattle.iim_script.specs.Format.Scripts.{HasNo, NextLine};
 
 use iim_dataset::octets::{CR, LF};
 use memchr::memchr;

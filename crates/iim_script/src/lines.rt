@@ -1,9 +1,9 @@
 //! The lines of a text, where they lie.
 
 ghost use Rattle.std.specs.Prelude.{◌≡◌, ◌<◌, ◌≤◌, ◌++◌, ◌∷◌, [], ℕ, List, length, replicate, IfSome, IfNone};
-ghost use Rattle.iim_dataset.specs.Format.Characters.{cr};
+ghost use Rattle.iim_dataset.specs.Format.Octets.{cr};
 ghost use Rattle.wire_story.specs.Format.Texts.{IsLine, IsText, max_returns};
-ghost use Rattle.iim_script.specs.Format.Lines.{WithoutLast};
+ghost use Rattle.iim_script.specs.Format.Scripts.{WithoutLast};
 
 use crate::line::cut_at;
 use iim_dataset::octets::LF;

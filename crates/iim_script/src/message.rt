@@ -2,7 +2,7 @@
 
 ghost use Rattle.std.specs.Prelude.{ℕ, List, [], IfOk, IfSome, IfNone};
 ghost use Rattle.wire_message.specs.Format.Messages.{Header, header_of};
-ghost use Rattle.iim_script.specs.Format.Forms.{AreWords, TellsHead, TellsTrailer};
+ghost use Rattle.iim_script.specs.Format.Scripts.{AreWords, TellsHead, TellsTrailer};
 
 use crate::line::{after, before_first, cut_at};
 use crate::shown::read_last;

@@ -1,9 +1,8 @@
 //! Numbers of records and datasets.
 
 ghost use Rattle.std.specs.Prelude.{◌≡◌, ◌+◌, ◌≤◌, ℕ, [], ◌∷◌, false, IsTrue, IfSome, IfNone};
-ghost use Rattle.iim_dataset.specs.Format.Characters.{digit_zero};
-ghost use Rattle.iim_script.specs.Format.Forms.{TellsNumber};
-ghost use Rattle.iim_dataset.specs.Format.Octets.{is_digit};
+ghost use Rattle.iim_dataset.specs.Format.Octets.{digit_zero, is_digit};
+ghost use Rattle.iim_script.specs.Format.Scripts.{TellsNumber};
 
 /// Whether the octet is a decimal digit.
 pub(crate) fn is_decimal(octet: u8) -> bool

@@ -1,8 +1,8 @@
 //! What is printed of a dataset, put into octets from a place on.
 
 ghost use Rattle.std.specs.Prelude.{◌≡◌, ◌+◌, ◌*◌, ◌≤◌, ◌++◌, length, take, decimal};
-ghost use Rattle.iim_dataset.specs.Format.Shown.{dataset_name, shown, shown_octet};
-ghost use Rattle.iim_script.specs.Format.Printed.{after_space, field_line};
+ghost use Rattle.iim_dataset.specs.Format.Datasets.{dataset_name, shown, shown_octet};
+ghost use Rattle.iim_script.specs.Format.Scripts.{after_space, field_line};
 
 use crate::plain::{are_plain, plain_in_16};
 use iim_dataset::{DatasetName, escaped, is_plain};

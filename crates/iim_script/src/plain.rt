@@ -2,7 +2,7 @@
 
 ghost use Rattle.std.specs.Prelude.{◌≡◌, ◌≤◌, length, take};
 ghost use Rattle.std.specs.List.{list_all};
-ghost use Rattle.iim_dataset.specs.Format.Shown.{is_plain};
+ghost use Rattle.iim_dataset.specs.Format.Datasets.{is_plain};
 
 use iim_dataset::is_plain;
 use std::simd::prelude::*;

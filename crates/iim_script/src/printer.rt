@@ -2,8 +2,8 @@
 
 ghost use Rattle.std.specs.Prelude.{◌≡◌, ◌+◌, ◌*◌, ◌^◌, ◌<◌, ◌≤◌, ◌++◌, ◌∷◌, length, take, drop, vec_len, IfSome, OnOk, codes, decimal};
 ghost use Rattle.std.specs.List.{flat_map};
-ghost use Rattle.iim_dataset.specs.Format.Characters.{sp};
-ghost use Rattle.iim_script.specs.Format.Printed.{after_space, field_line, message_line, trailer_line};
+ghost use Rattle.iim_dataset.specs.Format.Octets.{sp};
+ghost use Rattle.iim_script.specs.Format.Scripts.{after_space, field_line, message_line, trailer_line};
 
 use crate::places::put_field;
 use iim_dataset::{DatasetName, push_shown};

@@ -1,17 +1,15 @@
 //! Reads a script.
 
 ghost use Rattle.std.specs.Prelude.{◌≡◌, ◌≤◌, ◌+◌, ◌⊎◌, ◌++◌, [], ℕ, List, length, slice_index, IfOk, IfErr, OnOk, None};
-ghost use Rattle.iim_fields.specs.States.Builders.{finish_fault};
-ghost use Rattle.iim_script.specs.Format.Forms.{TellsField, TellsHead, TellsTrailer, text_word};
+ghost use Rattle.iim_fields.specs.States.Standing.{finish_fault};
+ghost use Rattle.iim_script.specs.Format.Scripts.{TellsField, TellsHead, TellsTrailer, text_word, NextLine, IsFront, IsScript, max_script, text_lines};
 ghost use Rattle.wire_message.specs.Format.Messages.{Header, IsTrailer};
 ghost use Rattle.wire_story.specs.Format.Texts.{IsText, packed_text};
 ghost use Rattle.iim_dataset.specs.Format.Datasets.{Dataset};
 ghost use Rattle.iim_fields.specs.declared.limits.Limits.{Limits};
 ghost use Rattle.iim_fields.specs.declared.fault.FieldCause.{FieldCause};
 ghost use Rattle.iim_dataset.specs.Format.Octets.{is_digit};
-ghost use Rattle.iim_script.specs.Format.Lines.{NextLine};
-ghost use Rattle.iim_script.specs.Format.Scripts.{IsFront, IsScript, max_script, text_lines};
-ghost use Rattle.iim_script.specs.Format.Faults.{Stage, Stands, InFields, AfterMessage, TellsNone, EndsTooSoon, IsWrong, IsScriptFault};
+ghost use Rattle.iim_script.specs.Format.Causes.{Stage, Stands, InFields, AfterMessage, TellsNone, EndsTooSoon, IsWrong, IsScriptFault};
 ghost use Rattle.iim_script.specs.Steps.{NextMustBe, Refuses};
 
 use crate::fault::{ScriptCause, ScriptFault, fault_after};

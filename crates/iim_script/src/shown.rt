@@ -1,8 +1,8 @@
 //! Octets that are shown as text, read back.
 
 ghost use Rattle.std.specs.Prelude.{◌+◌, ◌≤◌, ◌∷◌, ℕ, List, IfOk, IfSome, IfNone};
-ghost use Rattle.iim_dataset.specs.Format.Characters.{sp, backslash};
-ghost use Rattle.iim_script.specs.Format.Shown.{IsHexDigit, IsOfDigits, BeginsWith, TellsOctets, TellsLast};
+ghost use Rattle.iim_dataset.specs.Format.Octets.{sp, backslash};
+ghost use Rattle.iim_script.specs.Format.Scripts.{IsHexDigit, IsOfDigits, BeginsWith, TellsOctets, TellsLast};
 
 use std::alloc::{AllocError, Global};
 

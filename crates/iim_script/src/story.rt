@@ -1,10 +1,10 @@
 //! The story of a script: all that follows the line `text`.
 
 ghost use Rattle.std.specs.Prelude.{◌≡◌, ◌+◌, ◌<◌, ◌⊎◌, [], length, IfOk, IfErr, IfSome, IfNone};
-ghost use Rattle.iim_dataset.specs.Format.Characters.{lf};
-ghost use Rattle.iim_script.specs.Format.Lines.{HasNo, NextLine};
-ghost use Rattle.iim_script.specs.Plain.{TellsText};
-ghost use Rattle.iim_script.specs.Format.Faults.{IsBadStory};
+ghost use Rattle.iim_dataset.specs.Format.Octets.{lf};
+ghost use Rattle.iim_script.specs.Format.Scripts.{HasNo, NextLine};
+ghost use Rattle.iim_script.specs.Steps.{TellsText};
+ghost use Rattle.iim_script.specs.Format.Causes.{IsBadStory};
 
 use crate::fault::{ScriptCause, ScriptFault, fault_after};
 use crate::line::next_line;

@@ -3,11 +3,10 @@
 ghost use Rattle.std.specs.Prelude.{◌≡◌, ◌==◌, ◌≤◌, count_by, length, map, take, IsTrue, IfSome};
 ghost use Rattle.std.specs.List.{list_all};
 ghost use Rattle.std.specs.Simd.Lanes.{mask_l};
-ghost use Rattle.iim_dataset.specs.Format.Characters.{lf};
-ghost use Rattle.iim_script.specs.Format.Scripts.{max_script};
-ghost use Rattle.wire_story.specs.Marking.{is_low};
-ghost use Rattle.iim_script.specs.Format.Lines.{WithoutLast};
-ghost use Rattle.iim_script.specs.Plain.{is_plain, TellsText};
+ghost use Rattle.iim_dataset.specs.Format.Octets.{lf};
+ghost use Rattle.iim_script.specs.Format.Scripts.{max_script, WithoutLast};
+ghost use Rattle.wire_story.specs.Steps.{is_low};
+ghost use Rattle.iim_script.specs.Steps.{is_plain, TellsText};
 
 use iim_dataset::octets::{CR, EOT, ETX, LF, SOH, STX};
 use std::simd::prelude::*;

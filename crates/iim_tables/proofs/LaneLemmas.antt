@@ -10,7 +10,7 @@ use Rattle.std.proofs.lemmas.List.Folds.{list_all-append}
 use Rattle.std.proofs.lemmas.Simd.{bytes_below, chunk-fits}
 use Rattle.iim_dataset.specs.Format.Octets.{is_digit}
 use Rattle.iim_dataset.proofs.Lanes.{lane, both_lanes, from_on, up_to, other_than, are_set, first_of}
-use Rattle.iim_tables.specs.Format.Octets.{is_graphic, is_spaced, is_spaced_or_line_end}
+use Rattle.iim_tables.specs.Format.Kinds.{is_graphic, is_spaced, is_spaced_or_line_end}
 use Rattle.iim_tables.specs.Text.{is_text}
 
 either_lane : (a b : Bool) → bit_or (lane a) (lane b) ≡ lane (a || b)

@@ -1,17 +1,14 @@
 -- For each row and each length in its bounds there is data that the row admits: a head with such a count can always continue.
 use Rattle.std.proofs.Common.{◌⊎◌, inl, inr, if◌then◌else◌, Option, Some, None, ◌≡◌, ℕ, zero, suc, ◌^◌, ◌<◌, ◌≤◌, Bool, true, false, ◌&&◌, ◌||◌, ◌==◌, nat_le, List, [], ◌∷◌, ◌++◌, length, replicate, codes, refl, sym, arith, length-append, zero-mul}
-use Rattle.std.specs.List.{list_all}
+use Rattle.std.specs.List.{list_all, find}
 use Rattle.std.proofs.lemmas.List.{length-replicate}
 use Rattle.std.proofs.lemmas.Bool.{and_from, and_parts, eqb-true, leb-true}
 use Rattle.iim_dataset.specs.Format.Octets.{Octets as AreOctets, within, is_digit, is_letter, number, greatest_size}
 use Rattle.iim_dataset.proofs.OctetLists.{number-cons, octets_append, octets_same}
-use Rattle.iim_tables.specs.Format.Octets.{is_graphic, is_spaced, is_spaced_or_line_end}
-use Rattle.iim_tables.specs.Format.Numbers.{size_octets}
-use Rattle.iim_tables.specs.Format.Kinds.{has_kind, is_size_from}
+use Rattle.iim_tables.specs.Format.Kinds.{is_graphic, is_spaced, is_spaced_or_line_end, size_octets, has_kind, is_size_from}
 use Rattle.iim_tables.specs.Format.Rows.{Entry, table, row_of, row_in, row_of_others, kept_row, is_admitted}
 use Rattle.iim_tables.specs.Format.Records.{HasValue}
 use Rattle.iim_tables.specs.declared.shape.Row.{Row}
-use Rattle.std.specs.List.{find}
 use Rattle.std.specs.Option.{option_map, option_or}
 use Rattle.std.proofs.lemmas.Bool.Decides.{nat_tests}
 use Rattle.iim_tables.specs.declared.shape.Kind.{Kind}

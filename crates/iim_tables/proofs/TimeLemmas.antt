@@ -3,10 +3,8 @@ use Rattle.std.proofs.Common.{◌≡◌, ℕ, Bool, true, ◌||◌, ◌==◌, if
 use Rattle.std.specs.Prelude.{slice_index}
 use Rattle.std.specs.List.{list_all}
 use Rattle.std.proofs.lemmas.Bool.Decides.{nat_tests}
-use Rattle.iim_dataset.specs.Format.Characters.{plus, minus}
-use Rattle.iim_dataset.specs.Format.Octets.{is_digit}
-use Rattle.iim_tables.specs.Format.Dates.{pair_at, two_digits}
-use Rattle.iim_tables.specs.Format.Instants.{has_time_form, time_text}
+use Rattle.iim_dataset.specs.Format.Octets.{plus, minus, is_digit}
+use Rattle.iim_tables.specs.Format.Dates.{pair_at, two_digits, has_time_form, time_text}
 use Rattle.iim_tables.proofs.DateLemmas.{pair, front, two_digits-pair}
 
 -- what a time is made of, whole

@@ -2,8 +2,7 @@
 use Rattle.std.proofs.Common.{◌≡◌, true, false, Some, None, [], ◌∷◌, map, refl, codes, pos}
 use Rattle.jiff_core.specs.Calendar.{days_from_civil, day_count, days_of_years, days_of_months}
 use Rattle.iim_dataset.specs.Format.Octets.{number}
-use Rattle.iim_tables.specs.Format.Dates.{is_date, is_part_date, date_text}
-use Rattle.iim_tables.specs.Format.Instants.{is_time, instant_in, time_text}
+use Rattle.iim_tables.specs.Format.Dates.{is_date, is_part_date, date_text, is_time, instant_in, time_text}
 use Rattle.iim_tables.specs.Format.Rows.{row_of, table, kept_row}
 
 -- a leap day, and none in 2023 and 1900

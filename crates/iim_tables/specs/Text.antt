@@ -1,6 +1,6 @@
 -- The classes of text as one.
 use Rattle.std.specs.Prelude.{ℕ, Bool, true, false, not, ◌&&◌, ◌||◌, ◌==◌, nat_le}
-use Rattle.iim_dataset.specs.Format.Characters.{lf, cr}
+use Rattle.iim_dataset.specs.Format.Octets.{lf, cr}
 
 -- from a least octet on, but for DEL; with LF and CR, or without
 abbrev pub is_text : ℕ → Bool → ℕ → Bool

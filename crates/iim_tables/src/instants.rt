@@ -3,7 +3,7 @@
 ghost use Rattle.std.specs.Prelude.{◌≡◌, ◌↔◌, ◌*◌, ◌<◌, length, IsTrue, IsSome, IfSome};
 ghost use Rattle.std.specs.Option.{option_map};
 ghost use Rattle.jiff.specs.Words.{IsOffsetSeconds, time_nanos};
-ghost use Rattle.iim_tables.specs.Format.Instants.{has_time_form, is_clock, is_time, clock_seconds, offset_seconds, instant_nanos, instant_in, HasInstant, nanoseconds_in_second};
+ghost use Rattle.iim_tables.specs.Format.Dates.{has_time_form, is_clock, is_time, clock_seconds, offset_seconds, instant_nanos, instant_in, HasInstant, nanoseconds_in_second};
 
 use crate::dates::{date_of, pair_at};
 use crate::kinds::are_digits;

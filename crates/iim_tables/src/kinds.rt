@@ -2,10 +2,9 @@
 
 ghost use Rattle.std.specs.Prelude.{◌≡◌, ◌≤◌, length, take};
 ghost use Rattle.std.specs.List.{list_all};
-ghost use Rattle.iim_tables.specs.Format.Octets.{is_graphic, is_spaced, is_spaced_or_line_end};
+ghost use Rattle.iim_tables.specs.Format.Kinds.{is_graphic, is_spaced, is_spaced_or_line_end, is_mode, is_size_from, has_kind};
 ghost use Rattle.iim_tables.specs.Text.{is_text};
 ghost use Rattle.iim_dataset.specs.Format.Octets.{is_digit, is_letter};
-ghost use Rattle.iim_tables.specs.Format.Kinds.{is_mode, is_size_from, has_kind};
 ghost use Rattle.iim_tables.specs.Format.Rows.{is_admitted};
 
 use crate::dates::{is_date, is_part_date};

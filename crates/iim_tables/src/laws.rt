@@ -1,10 +1,8 @@
 //! What holds of all dates, times and rows.
 
 ghost use Rattle.std.specs.Prelude.{◌≡◌, ◌==◌, ◌<◌, ℕ, Bool, List, slice_index, ◌≤◌, Some, IsTrue};
-ghost use Rattle.iim_dataset.specs.Format.Characters.{minus};
-ghost use Rattle.iim_dataset.specs.Format.Octets.{within, greatest_size};
-ghost use Rattle.iim_tables.specs.Format.Dates.{pair_at, year_in, month_in, day_in, are_eight_digits, date_text, ReadsDate};
-ghost use Rattle.iim_tables.specs.Format.Instants.{has_time_form, time_text, ReadsTime};
+ghost use Rattle.iim_dataset.specs.Format.Octets.{minus, within, greatest_size};
+ghost use Rattle.iim_tables.specs.Format.Dates.{pair_at, year_in, month_in, day_in, are_eight_digits, date_text, ReadsDate, has_time_form, time_text, ReadsTime};
 ghost use Rattle.iim_tables.specs.Format.Rows.{row_of};
 ghost use Rattle.iim_tables.specs.Format.Records.{HasValue};
 ghost use Rattle.iim_tables.specs.declared.shape.Row.{Row};

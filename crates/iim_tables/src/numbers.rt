@@ -2,7 +2,7 @@
 
 ghost use Rattle.std.specs.Prelude.{◌≡◌, ◌↔◌, length, IsSome, IfSome};
 ghost use Rattle.std.specs.Int.{IsInRange};
-ghost use Rattle.iim_tables.specs.Format.Numbers.{size_octets};
+ghost use Rattle.iim_tables.specs.Format.Kinds.{size_octets};
 ghost use Rattle.iim_dataset.specs.Format.Octets.{number};
 
 use byteorder::{BigEndian, ByteOrder};

@@ -1,33 +1,26 @@
 -- What a run of octets, or the end, tells a message, and what the object's refusal of a head says of it.
 -- Where heads, data and ends of datasets lead the parts of an unpacker.
-use Rattle.iim_unpack.proofs.Words.{AllCanContinue, AreLed, Begun, Bool, CanContinueAt, CountsFor, DataOctet, Dataset, DatasetEvent, FieldsPlace, Head, InData}
-use Rattle.iim_unpack.proofs.Words.{InTag, IsBetween, IsSome, Limits, List, LowerLaws, MayContinue, MessageCause, MessageRefuses, None, ObjectToken, Octets}
-use Rattle.iim_unpack.proofs.Words.{Option, Parts, PartsRefuse, Some, StandsFor, StandsIn, State, TellsMessage, TellsParts, TextsStandBetweenStxAndEtx, Within}
-use Rattle.iim_unpack.proofs.Words.{[], ap, append-nil, append_assoc, arith, begun_head, begun_head_of, cond, eqb-true, false, flat_map, handed_on}
-use Rattle.iim_unpack.proofs.Words.{if◌then◌else◌, length, limits_of, map, message_on, nat_eq, ne_eqb, not_all, object_of, object_so_far, octets_of, refl}
-use Rattle.iim_unpack.proofs.Words.{same_Some, section, subst, sym, tells_message_nothing, text_so_far, true, ℕ, ◌++◌, ◌==◌, ◌∙◌, ◌∷◌, ◌≡◌}
+use Rattle.iim_unpack.proofs.Words.{AllCanContinue, AreLed, Begun, Bool, CanContinueAt, CountsFor, DataOctet, Dataset, DatasetEvent, FieldsPlace, Head, InData, InTag, IsBetween, IsSome, Limits, List, LowerLaws, MayContinue, MessageCause, MessageRefuses, None, ObjectToken, Octets, Option, Parts, PartsRefuse, Some, StandsFor, StandsIn, State, TellsMessage, TellsParts, TextsStandBetweenStxAndEtx, Within, [], ap, append-nil, append_assoc, arith, begun_head, begun_head_of, cond, eqb-true, false, flat_map, handed_on, if◌then◌else◌, length, limits_of, map, message_on, nat_eq, ne_eqb, not_all, object_of, object_so_far, octets_of, refl, same_Some, section, subst, sym, tells_message_nothing, text_so_far, true, ℕ, ◌++◌, ◌==◌, ◌∙◌, ◌∷◌, ◌≡◌}
 use Rattle.wire_message.specs.Laws.{ReadersStandAtLivingOctets}
-use Rattle.wire_message.specs.Format.Layers.{MessageDiesAt, MessageLanguage, MessageLivesWith, StoryLivesIn}
-use Rattle.wire_story.specs.Format.Tokens.{End, Octet, with_end}
-use Rattle.iim_unpack.specs.Passed.{HaltsAt, PassesTo, end_is_last}
+use Rattle.wire_message.specs.Format.Messages.{MessageDiesAt, MessageLanguage, MessageLivesWith, StoryLivesIn}
+use Rattle.wire_story.specs.Format.Texts.{End, Octet, with_end}
+use Rattle.iim_unpack.specs.Routes.{HaltsAt, PassesTo, end_is_last, goes_nowhere}
 use Rattle.std.proofs.lemmas.List.{nil_from_length}
-use Rattle.iim_object.specs.Format.Events.{ObjectEnd, ObjectOctet}
-use Rattle.wire_message.specs.States.Reading.{CountsCause, GoesSomewhere, IsWhole, LeadsOn, StandsAt, TakesPiece}
+use Rattle.iim_object.specs.Format.Objects.{ObjectEnd, ObjectOctet}
+use Rattle.wire_message.specs.States.Reading.{CountsCause, GoesSomewhere, IsWhole, LeadsOn, StandsAt, TakesPiece, LeadsTo}
 use Rattle.wire_message.specs.Format.Causes.{HasCause}
 use Rattle.wire_message.specs.declared.place.Place.{Place}
 use Rattle.wire_message.specs.declared.fault.MessageCause.TheVariants.{Unfinished}
-use Rattle.iim_unpack.specs.Passing.{goes_nowhere}
-use Rattle.wire_story.specs.Format.Delivery as story
+use Rattle.wire_story.specs.Format.Texts as story
 use Rattle.iim_object.specs.States.Reading.{RefusesHead}
 use Rattle.iim_object.specs.declared.reading.fault.ObjectFault.{ObjectFault}
 use Rattle.iim_object.specs.declared.reading.fault.ObjectFault.TheVariants.{Size, Stopped}
 use Rattle.iim_unpack.specs.declared.parts.message.ToMessage.{ToMessage}
-use Rattle.iim_dataset.specs.Format.Languages as languages
+use Rattle.iim_dataset.specs.Format.Octets as languages
 use Rattle.iim_dataset.proofs.OctetLists.{octets_append}
-use Rattle.iim_object.specs.Format.Events as object_events
+use Rattle.iim_object.specs.Format.Objects as object_events
 use Rattle.wire_message.specs.States.Reading as wire
 use Rattle.wire_message.specs.Format.Causes as wire_format
-use Rattle.wire_message.specs.States.SoFar.{LeadsTo}
 use Rattle.wire_message.specs.declared.fault.MessageCause.TheVariants as messages
 use Rattle.iim_places.specs.declared.refusal.Cause.TheVariants as causes
 use Rattle.iim_unpack.proofs.Sequences.{data_more}

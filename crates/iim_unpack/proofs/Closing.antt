@@ -1,39 +1,29 @@
 -- Where the end of a dataset leads the parts of an unpacker, and why it is refused.
 -- A whole dataset leads the parts of an unpacker on; or a subfile is refused at an octet.
-use Rattle.iim_unpack.proofs.Words.{Admits, AreAfter, AreBetween, Bool, CountsFor, DataOctet, Dataset, DatasetEnd, DatasetEvent, FieldFault, FieldsPlace}
-use Rattle.iim_unpack.proofs.Words.{HasFewSubfiles, Head, HeadRead, InData, InTag, IsBetween, IsObjectFault, IsRefusedValue, IsValueFault, List, LowerLaws}
-use Rattle.iim_unpack.proofs.Words.{MessageCause, MessageRefuses, None, NumberRead, Octets, Option, Parts, PartsRefuse, SectionsLive, SectionsLiveAt, Some}
-use Rattle.iim_unpack.proofs.Words.{Spells, StandsAfter, StandsIn, State, SubfileBegun, Takes, TellsMessage, TellsParts, TellsWhole, TokenFault, Within, []}
-use Rattle.iim_unpack.proofs.Words.{ap, append-nil, append_assoc, are_octets, arith, begun_head, begun_head_of, cond, data_of, eqb-true, events_at, events_of}
-use Rattle.iim_unpack.proofs.Words.{false, first_fault, flat_map, get_or, handed_on, head_of, if◌then◌else◌, inl, inr, is_kept, length, limits_of, map}
-use Rattle.iim_unpack.proofs.Words.{message_on, nat_eq, ne_eqb, not_all, number, object_of, of_field, option_or, place_after_datasets, place_at, refl}
-use Rattle.iim_unpack.proofs.Words.{section_of, subst, sym, tells_message_nothing, tells_number, text_so_far, true, true≢false, value_fault, value_token, ℕ}
-use Rattle.iim_unpack.proofs.Words.{◌++◌, ◌<◌, ◌∙◌, ◌∷◌, ◌≡◌}
-use Rattle.iim_unpack.specs.PartSteps.{LeadsParts, NotClosed}
+use Rattle.iim_unpack.proofs.Words.{Admits, AreAfter, AreBetween, Bool, CountsFor, DataOctet, Dataset, DatasetEnd, DatasetEvent, FieldFault, FieldsPlace, HasFewSubfiles, Head, HeadRead, InData, InTag, IsBetween, IsObjectFault, IsRefusedValue, IsValueFault, List, LowerLaws, MessageCause, MessageRefuses, None, NumberRead, Octets, Option, Parts, PartsRefuse, SectionsLive, SectionsLiveAt, Some, Spells, StandsAfter, StandsIn, State, SubfileBegun, Takes, TellsMessage, TellsParts, TellsWhole, TokenFault, Within, [], ap, append-nil, append_assoc, are_octets, arith, begun_head, begun_head_of, cond, data_of, eqb-true, events_at, events_of, false, first_fault, flat_map, get_or, handed_on, head_of, if◌then◌else◌, inl, inr, is_kept, length, limits_of, map, message_on, nat_eq, ne_eqb, not_all, number, object_of, of_field, option_or, place_after_datasets, place_at, refl, section_of, subst, sym, tells_message_nothing, tells_number, text_so_far, true, true≢false, value_fault, value_token, ℕ, ◌++◌, ◌<◌, ◌∙◌, ◌∷◌, ◌≡◌}
+use Rattle.iim_unpack.specs.Routes.{LeadsParts, NotClosed, TookWhole, stopped_joined, tells_parts_joined}
 use Rattle.iim_fields.proofs.Sections.{last_more}
 use Rattle.iim_places.proofs.Places.{number_leads, silent_leads}
 use Rattle.iim_places.proofs.ObjectOctets.{few_more, object_of_more}
 use Rattle.iim_fields.specs.States.Standing.{IsOf, PassesSubfile}
-use Rattle.iim_fields.specs.Format.Values.{number_told}
+use Rattle.iim_fields.specs.Format.Records.{number_told}
 use Rattle.iim_object.specs.States.Reading as objects
 use Rattle.iim_unpack.proofs.Faults.{field_value, object_value}
 use Rattle.iim_unpack.proofs.Carrying.{HasBegun, after_all, all_for, in_one, stopped_object, tells_parts_object}
 use Rattle.iim_unpack.proofs.Sequences.{all_came, end_told}
-use Rattle.wire_story.specs.Format.Delivery as story
+use Rattle.wire_story.specs.Format.Texts as story
 use Rattle.std.specs.Prelude.{IsSome, is_none, is_some}
 use Rattle.std.proofs.lemmas.Bool.{eqb-false, or_cases}
 use Rattle.std.specs.Bool.{then_some}
 use Rattle.std.specs.Int.{IsInRange}
 use Rattle.iim_dataset.specs.States.Reading.{AfterStep}
 use Rattle.iim_dataset.specs.declared.sink.Step.{Step}
-use Rattle.iim_tables.specs.Format.Numbers.{size_octets}
-use Rattle.iim_object.specs.Format.Events as object_events
-use Rattle.iim_object.specs.Format.Numbers.{place_ended}
+use Rattle.iim_tables.specs.Format.Kinds.{size_octets}
+use Rattle.iim_object.specs.Format.Objects as object_events
+use Rattle.iim_object.specs.Format.Objects.{place_ended}
 use Rattle.wire_message.specs.States.Reading as wire
 use Rattle.wire_message.specs.declared.place.Place.{Place}
-use Rattle.iim_unpack.specs.States.Parts.{has_ended}
-use Rattle.iim_unpack.specs.Routing.{TookWhole}
-use Rattle.iim_unpack.specs.Going.{stopped_joined, tells_parts_joined}
+use Rattle.iim_unpack.specs.States.Unpacking.{has_ended}
 use Rattle.iim_places.proofs.Objects.{records_alive}
 use Rattle.iim_unpack.proofs.Heading.{begins_object, tells_parts_head}
 use Rattle.iim_unpack.proofs.Intakes.{Joined}
@@ -146,9 +136,11 @@ module _ (laws : LowerLaws) (p : Parts) (k : Head) (begun : HasBegun p k) where
       not_closed_by (of_field f) (λ m. refl)
       (λ ds taken at whole.
       let given = is ds k (if nat_eq k.rec 8 then [] else taken) at.fields in
-      let apart = ne_eqb k.rec 8 given.value in
-      (given.value, field_value ds (data_of k taken) f (subst (λ (xs : List ℕ). IsValueFault ds (data_of k xs) f) (ap (λ (b : Bool). cond b [] taken) apart)
-      given)))
+      let apart = ne_eqb k.rec 8 given.value in (
+        given.value,
+        field_value ds (data_of k taken) f (subst (λ (xs : List ℕ). IsValueFault ds (data_of k xs) f) (ap (λ (b : Bool). cond b [] taken) apart)
+            given),
+      ))
 
   pub not_closed_number : (checker : FieldsPlace) (n : ℕ) (fault : TokenFault) → ClosesFields p.fields checker (Some n)
       → IsObjectFault p.object (value_token k.rec k.set n) k fault → NotClosed p fault
@@ -191,7 +183,7 @@ none_where o e = grind arith
 -- they may come
 pub admits_where : {f : FieldsPlace} {h : Head} {n : ℕ} {xs : List ℕ} {b : Bool} → Spells xs h n
     → ((ds : List Dataset) (ys : List ℕ) → StandsAfter f ds → Spells ys h n
-        → b ≡ is_none (option_or (first_fault (limits_of f) ds h) (value_fault (data_of h ys))))
+    → b ≡ is_none (option_or (first_fault (limits_of f) ds h) (value_fault (data_of h ys))))
     → b ≡ true → Admits f h xs
 admits_where {xs = xs} s exactly is = record { count = s.count; octets = s.fit; no_fault = λ ds t. none_where _ (sym (exactly ds xs t s) ∙ is) }
 
@@ -223,7 +215,7 @@ module _ (laws : LowerLaws) {p new : Parts} {h : Head} {xs : List ℕ} (t : Took
   -- the dataset is of no subfile, and leads the object to its place
   tells_one : nat_eq h.rec 8 ≡ false → (h.rec ≡ 9 → wire.IsWhole p.message)
       → ((ds : List Dataset) → AreAfter p ds → SectionsLive (ds ++ data_of h xs ∷ [])
-          → objects.StandsAt new.object (place_after_datasets (ds ++ data_of h xs ∷ [])))
+      → objects.StandsAt new.object (place_after_datasets (ds ++ data_of h xs ∷ [])))
       → TellsWhole p h xs new
   tells_one eight whole object = record {
     limits = t.limits;

@@ -1,28 +1,21 @@
 -- Which fault of a token is the first, and which layer dies with it.
-use Rattle.iim_unpack.proofs.Words.{Bool, Dataset, FieldFault, Head, HeadLeads, IsHeadFault, IsObjectFault, IsOctet, IsRefusedHead, IsRefusedValue}
-use Rattle.iim_unpack.proofs.Words.{IsValueFault, Limits, List, None, ObjectLanguage, ObjectLives, ObjectToken, Octets, Option, SectionsLive, SectionsLiveAt}
-use Rattle.iim_unpack.proofs.Words.{Some, State, TokenFault, [], ap, arith, false, first_fault, head_of, head_token, if◌then◌else◌, inl, is_kept, kept, length}
-use Rattle.iim_unpack.proofs.Words.{max_subfiles, nat_eq, not, number, of_field, of_record, option_map, option_or, place_after_datasets, place_at, refl}
-use Rattle.iim_unpack.proofs.Words.{section_after, subst, sym, tells_number, too_many_on, true, value_fault, value_token, ℕ, ◌++◌, ◌<◌, ◌||◌, ◌∙◌, ◌∷◌, ◌≡◌}
-use Rattle.iim_unpack.proofs.Words.{◌≤◌, ◌⊎◌}
+use Rattle.iim_unpack.proofs.Words.{Bool, Dataset, FieldFault, Head, HeadLeads, IsHeadFault, IsObjectFault, IsOctet, IsRefusedHead, IsRefusedValue, IsValueFault, Limits, List, None, ObjectLanguage, ObjectLives, ObjectToken, Octets, Option, SectionsLive, SectionsLiveAt, Some, State, TokenFault, [], ap, arith, false, first_fault, head_of, head_token, if◌then◌else◌, inl, is_kept, kept, length, max_subfiles, nat_eq, not, number, of_field, of_record, option_map, option_or, place_after_datasets, place_at, refl, section_after, subst, sym, tells_number, too_many_on, true, value_fault, value_token, ℕ, ◌++◌, ◌<◌, ◌||◌, ◌∙◌, ◌∷◌, ◌≡◌, ◌≤◌, ◌⊎◌}
 use Rattle.std.proofs.Common.{nat_lt, ◌&&◌}
 use Rattle.std.proofs.lemmas.Bool.{le-ltb}
-use Rattle.iim_dataset.specs.Format.Languages as languages
+use Rattle.iim_dataset.specs.Format.Octets as languages
 use Rattle.iim_tables.specs.Format.Rows.{row_of}
 use Rattle.iim_tables.specs.declared.shape.Row.{Row}
 use Rattle.iim_fields.specs.Format.Records.{after}
 use Rattle.iim_tables.specs.Format.Records.{occurs}
-use Rattle.iim_fields.specs.Format.Faults.{fault_by_row, fault_on, head_fault, is_first, is_in_order, kept_octets, limits_fault, missing_fault, missing_of}
-use Rattle.iim_fields.specs.Format.Faults.{record_fault, room_fault, row_fault, section_run}
+use Rattle.iim_fields.specs.Format.Causes.{fault_by_row, fault_on, head_fault, is_first, is_in_order, kept_octets, limits_fault, missing_fault, missing_of, record_fault, room_fault, row_fault, section_run}
 use Rattle.iim_fields.specs.Laws.{HeadsDieWithTheirFault, ValuesDieWithTheirFault}
 use Rattle.iim_fields.specs.declared.fault.FieldCause.TheVariants.{RecordOrder}
-use Rattle.iim_object.specs.Format.Places.{MayFollow, Place, place_after}
+use Rattle.iim_object.specs.Format.Objects.{MayFollow, Place, place_after}
 use Rattle.iim_object.specs.Format.Causes.{cause_at}
 use Rattle.iim_object.specs.States.Reading.{Refuses, StandsAt}
 use Rattle.iim_object.specs.Laws.{TokensFollow}
 use Rattle.iim_object.specs.declared.reading.fault.SizeCause.{SizeCause}
-use Rattle.iim_places.specs.Format.Refusals.{layer_of, size_on}
-use Rattle.iim_places.specs.Format.Tokens.{DiesAtHead, DiesAtValue, HaveRoom, number_fault, object_fault, subfile_fault}
+use Rattle.iim_places.specs.Format.Causes.{layer_of, size_on, DiesAtHead, DiesAtValue, HaveRoom, number_fault, object_fault, subfile_fault}
 use Rattle.iim_places.specs.declared.refusal.Layer.{Layer}
 use Rattle.iim_places.specs.declared.refusal.Layer.TheVariants as layers
 use Rattle.iim_places.proofs.Places.{ValueLeads}

@@ -1,41 +1,29 @@
 -- What the reader of tags says of the parts.
 -- Where an unpacker stands after a piece.
-use Rattle.iim_unpack.proofs.Words.{AllCanContinue, AreAfter, AreBetween, AreInOrder, AreLed, Begun, Bool, Cause, DataOctet, Dataset, DatasetEnd, DatasetEvent}
-use Rattle.iim_unpack.proofs.Words.{Delivers, Err, HandsOn, Head, HeadRead, InData, InTag, IsDone, IsDoneWith, IsKeptAs, IsLed, IsOctet, IsOpen, IsRefusedIn}
-use Rattle.iim_unpack.proofs.Words.{IsSome, IsTextOf, IsTruncatedAt, IsUnpacking, LeadsTo, Limits, List, LowerLaws, None, Ok, Option, Parts, Reads, Refusal}
-use Rattle.iim_unpack.proofs.Words.{Sizes, Some, Stands, StandsAfter, StandsFor, Stood, Tag, Takes, TakesCalls, TellsParts, TokenFault, Unpacking, Value, []}
-use Rattle.iim_unpack.proofs.Words.{ap, append-nil, append_assoc, are_some, arith, begun_number, begun_record, between, count_octets, eqb-true, false, get_or}
-use Rattle.iim_unpack.proofs.Words.{handed_on, has_ended, inl, inr, length, limits_in, limits_of, named_by, nat_eq, not_all, object_of, object_so_far}
-use Rattle.iim_unpack.proofs.Words.{of_record, place_after_datasets, raised, refl, refusal_at, same_Some, section_after, sections_last, slice_index, subst}
-use Rattle.iim_unpack.proofs.Words.{sym, take, take_all, text_so_far, to_come, true, true≢false, truncated_in, ℕ, ◌++◌, ◌<◌, ◌||◌, ◌∙◌, ◌∷◌, ◌≡◌, ◌≤◌}
+use Rattle.iim_unpack.proofs.Words.{AllCanContinue, AreAfter, AreBetween, AreInOrder, AreLed, Begun, Bool, Cause, DataOctet, Dataset, DatasetEnd, DatasetEvent, Delivers, Err, HandsOn, Head, HeadRead, InData, InTag, IsDone, IsDoneWith, IsKeptAs, IsLed, IsOctet, IsOpen, IsRefusedIn, IsSome, IsTextOf, IsTruncatedAt, IsUnpacking, LeadsTo, Limits, List, LowerLaws, None, Ok, Option, Parts, Reads, Refusal, Sizes, Some, Stands, StandsAfter, StandsFor, Stood, Tag, Takes, TakesCalls, TellsParts, TokenFault, Unpacking, Value, [], ap, append-nil, append_assoc, are_some, arith, begun_number, begun_record, between, count_octets, eqb-true, false, get_or, handed_on, has_ended, inl, inr, length, limits_in, limits_of, named_by, nat_eq, not_all, object_of, object_so_far, of_record, place_after_datasets, raised, refl, refusal_at, same_Some, section_after, sections_last, slice_index, subst, sym, take, take_all, text_so_far, to_come, true, true≢false, truncated_in, ℕ, ◌++◌, ◌<◌, ◌||◌, ◌∙◌, ◌∷◌, ◌≡◌, ◌≤◌}
 use Rattle.iim_dataset.specs.declared.head.HeadCause.{HeadCause}
 use Rattle.std.specs.Prelude.{IfErr, IfOk, OnOk, Result}
-use Rattle.iim_dataset.specs.States.Reading.{Completes, Reader, RefusesFor, RefusesOne, StillStands, TagDies, TakesPiece, tag_cause_of}
+use Rattle.iim_dataset.specs.States.Reading.{Completes, Reader, RefusesFor, RefusesOne, StillStands, TagDies, TakesPiece, tag_cause_of, TellsSink}
 use Rattle.iim_dataset.specs.declared.fault.Fault.{Fault}
 use Rattle.iim_dataset.specs.declared.place.DatasetPlace.{DatasetPlace as Place}
 use Rattle.iim_fields.specs.States.Standing.{room_of}
-use Rattle.wire_story.specs.Format.Delivery as story
-use Rattle.iim_unpack.specs.Routing.{IsOver, RefusesRoute, Routes, TakesNext}
-use Rattle.iim_unpack.specs.UnpackerInside.{FailsAs, FailsFor, HasAdvanced, cause_of_tag, tag_fault}
+use Rattle.wire_story.specs.Format.Texts as story
+use Rattle.iim_unpack.specs.Routes.{IsOver, RefusesRoute, Routes, TakesNext, Refused, RefusesAt, front_in_order}
+use Rattle.iim_unpack.specs.Steps.{FailsAs, FailsFor, HasAdvanced, cause_of_tag, tag_fault}
 use Rattle.iim_unpack.specs.declared.parts.router.Router.{Router}
-use Rattle.iim_dataset.specs.States.Places.{TellsSink}
-use Rattle.iim_dataset.specs.Format.Datasets.{SpellsStream}
-use Rattle.iim_dataset.specs.Format.Splits.{CompletesData}
-use Rattle.iim_dataset.specs.Format.Tags.{Concerns}
+use Rattle.iim_dataset.specs.Format.Datasets.{SpellsStream, CompletesData, Concerns}
 use Rattle.iim_dataset.specs.Laws.{CompletesNow}
 use Rattle.iim_fields.specs.Format.Records.{AreSections}
-use Rattle.iim_fields.specs.Format.Faults.{kept as kept_of}
+use Rattle.iim_fields.specs.Format.Causes.{kept as kept_of}
 use Rattle.iim_object.specs.States.Reading as objects
-use Rattle.iim_object.specs.Format.Records.{AreObjectRecords, HaveSizes}
+use Rattle.iim_object.specs.Format.Objects.{AreObjectRecords, HaveSizes}
 use Rattle.wire_message.specs.States.Reading as wire
 use Rattle.wire_story.specs.Format.Texts.{IsText}
 use Rattle.wire_message.specs.Format.Messages.{Header, IsMessage}
 use Rattle.iim_places.specs.Laws.{AdmittedOctetsHaveOneValue, RefusalsTellTheLowestCause}
 use Rattle.iim_places.specs.Format.Admitted.{Admits}
-use Rattle.iim_places.specs.Format.Refusals.{tag_cause}
+use Rattle.iim_places.specs.Format.Causes.{tag_cause}
 use Rattle.iim_places.specs.Format.Open.{IsBadTagAt, RefusesByTests}
-use Rattle.iim_unpack.specs.PartSteps.{Refused, RefusesAt}
-use Rattle.iim_unpack.specs.Going.{front_in_order}
 use Rattle.iim_places.specs.declared.refusal.Layer.TheVariants as layers
 use Rattle.iim_places.proofs.Objects.{are_records}
 use Rattle.iim_unpack.proofs.Carrying.{all_for}
@@ -110,7 +98,7 @@ begun_on u v (x ∷ p) piece was is = rw was at is
 
 -- ---- a piece
 
--- by octets, the parts went on from where events had led them
+-- by octets, the parts continued from where events had led them
 module _ {S : Type 0} {goes : S → List story.StoryEvent → S → Type 0} {failures : S → ℕ} (laws : LowerLaws) {u : Unpacking} {p : List ℕ} (led : IsLed u p)
     (octets : List ℕ) {place : Place} {q : Parts} {a b : S} (t : TellsSink (TellsParts goes failures) u.reader.place octets place (u.parts, a) (q, b)) where
   leads_on : LeadsTo count_octets (p ++ octets) (led.events ++ t.more) place
@@ -245,8 +233,7 @@ module _ {S : Type 0} {goes : S → List story.StoryEvent → S → Type 0} {fai
         begun = rw (sym whole) at (begun_on u.begun v.begun p piece at.begun begun);
         is_led = record { events = at.is_led.events ++ h.told.more; text = at.is_led.text ++ h.told.told.more; leads = leads; led = led };
         is_open = open_by laws (reached laws.events_tell leads led) more;
-      } in
-      (
+      } in (
         rw (whole, all) at there,
         subst (λ (xs : List ℕ). Delivers p xs (story.delivered h.told.told.more)) whole (adds_by laws at.is_led (take used piece) h.told),
       )

@@ -1,19 +1,13 @@
 -- Where a head leads the parts of an unpacker, and why it is refused.
-use Rattle.iim_unpack.proofs.Words.{AreAfter, AreBetween, Bool, CountsFor, Dataset, DatasetEvent, FieldFault, FieldsPlace, HasFewSubfiles, Head, HeadLeads}
-use Rattle.iim_unpack.proofs.Words.{HeadRead, InData, InTag, IsHeadFault, IsRefusedHead, List, LowerLaws, ObjectLanguage, ObjectLives, Option, Parts}
-use Rattle.iim_unpack.proofs.Words.{PartsRefuse, SectionsLiveAt, Some, StandsAfter, StandsIn, State, SubfileBegun, TellsMessage, TellsParts}
-use Rattle.iim_unpack.proofs.Words.{TextsStandBetweenStxAndEtx, TokenFault, Within, [], ap, append-nil, arith, cases_Bool, cond, events_at, events_of, false}
-use Rattle.iim_unpack.proofs.Words.{flat_map, head_token, inl, inr, length, limits_of, max_subfiles, message_on, nat_eq, ne_eqb, object_of, object_so_far}
-use Rattle.iim_unpack.proofs.Words.{octets_of, of_field, of_record, place_after_datasets, place_at, refl, same_Some, sections_last, subst, sym, text_so_far}
-use Rattle.iim_unpack.proofs.Words.{too_many_on, true, true≢false, ℕ, ◌++◌, ◌<◌, ◌∙◌, ◌∷◌, ◌≡◌, ◌≤◌, ◌⊎◌}
+use Rattle.iim_unpack.proofs.Words.{AreAfter, AreBetween, Bool, CountsFor, Dataset, DatasetEvent, FieldFault, FieldsPlace, HasFewSubfiles, Head, HeadLeads, HeadRead, InData, InTag, IsHeadFault, IsRefusedHead, List, LowerLaws, ObjectLanguage, ObjectLives, Option, Parts, PartsRefuse, SectionsLiveAt, Some, StandsAfter, StandsIn, State, SubfileBegun, TellsMessage, TellsParts, TextsStandBetweenStxAndEtx, TokenFault, Within, [], ap, append-nil, arith, cases_Bool, cond, events_at, events_of, false, flat_map, head_token, inl, inr, length, limits_of, max_subfiles, message_on, nat_eq, ne_eqb, object_of, object_so_far, octets_of, of_field, of_record, place_after_datasets, place_at, refl, same_Some, sections_last, subst, sym, text_so_far, too_many_on, true, true≢false, ℕ, ◌++◌, ◌<◌, ◌∙◌, ◌∷◌, ◌≡◌, ◌≤◌, ◌⊎◌}
 use Rattle.std.proofs.lemmas.List.{length-map}
-use Rattle.iim_dataset.specs.Format.Languages as languages
+use Rattle.iim_dataset.specs.Format.Octets as languages
 use Rattle.iim_object.specs.Format.Objects.{ObjectEnded}
 use Rattle.iim_object.specs.States.Reading as objects
-use Rattle.wire_story.specs.Format.Delivery as story
+use Rattle.wire_story.specs.Format.Texts as story
 use Rattle.wire_message.specs.States.Reading as wire
 use Rattle.wire_message.specs.declared.place.Place.{Place}
-use Rattle.iim_unpack.specs.Passed.{RefusesObject, RefusesSubfile}
+use Rattle.iim_unpack.specs.Routes.{RefusesObject, RefusesSubfile}
 use Rattle.iim_places.specs.Format.Open.{IsUnfinished}
 use Rattle.iim_places.proofs.Places.{end_leads, subfile_leads}
 use Rattle.iim_unpack.proofs.Faults.{IsObjects, field_head, have_room, object_head, too_many_head}
@@ -118,7 +112,7 @@ module _ {S : Type 0} {goes : S → List story.StoryEvent → S → Type 0} {fai
   stopped_head : {a b : S} {new : Parts} (fault : TokenFault) (more : List ℕ) → LowerLaws → AreBetween false p → goes a (story.delivered more) b
       → CountsFor fault.cause (failures a) (failures b)
       → ((ds : List Dataset) → AreAfter p ds
-          → (IsRefusedHead (limits_of p.fields) ds h fault ⊎ IsUnfinished (limits_of p.fields) ds h fault) × AddsNone ds more)
+      → (IsRefusedHead (limits_of p.fields) ds h fault ⊎ IsUnfinished (limits_of p.fields) ds h fault) × AddsNone ds more)
       → PartsRefuse goes failures (Some fault) (p, a) [] (HeadRead h) (new, b)
   stopped_head fault more laws takes told counts refuses = record {
     fault = fault;

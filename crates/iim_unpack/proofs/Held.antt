@@ -1,25 +1,18 @@
 -- An unpacker holds few octets and entries.
 -- The ticket that is spelled of an unpacker is that of its place, and how long it is.
-use Rattle.iim_unpack.proofs.Words.{Begun, Dataset, DatasetPlace, EventsTellTheDatasets, Head, HoldsFew, InData, InTag, Inside, IsDoneWith, IsKeptAs, IsLed}
-use Rattle.iim_unpack.proofs.Words.{IsTicketOf, LeadsToSaved, List, MessagePlace, Option, Parts, Place, Reads, Some, Stands, StandsAfter, StandsFor, StandsIn}
-use Rattle.iim_unpack.proofs.Words.{Stood, Tag, Unpacking, [], ap, arith, begun_head, begun_head_of, cases_Bool, count_octets, count_of, false, has_ended}
-use Rattle.iim_unpack.proofs.Words.{if◌then◌else◌, inl, inr, is_kept, kept, length, limits_in, nat_eq, numbers_of, object_of, object_so_far, of_record}
-use Rattle.iim_unpack.proofs.Words.{place_after_datasets, place_at, place_of, present_version, refl, section, section_after, stated_numbers, subst, sym, ℕ}
-use Rattle.iim_unpack.proofs.Words.{◌*◌, ◌+◌, ◌-◌, ◌<◌, ◌∙◌, ◌≡◌, ◌≤◌, ◌⊎◌}
-use Rattle.iim_fields.specs.Format.Faults.{joined}
+use Rattle.iim_unpack.proofs.Words.{Begun, Dataset, DatasetPlace, EventsTellTheDatasets, Head, HoldsFew, InData, InTag, Inside, IsDoneWith, IsKeptAs, IsLed, IsTicketOf, LeadsToSaved, List, MessagePlace, Option, Parts, Place, Reads, Some, Stands, StandsAfter, StandsFor, StandsIn, Stood, Tag, Unpacking, [], ap, arith, begun_head, begun_head_of, cases_Bool, count_octets, count_of, false, has_ended, if◌then◌else◌, inl, inr, is_kept, kept, length, limits_in, nat_eq, numbers_of, object_of, object_so_far, of_record, place_after_datasets, place_at, place_of, present_version, refl, section, section_after, stated_numbers, subst, sym, ℕ, ◌*◌, ◌+◌, ◌-◌, ◌<◌, ◌∙◌, ◌≡◌, ◌≤◌, ◌⊎◌}
+use Rattle.iim_fields.specs.Format.Causes.{joined}
 use Rattle.iim_places.proofs.Bounds.{is_one}
-use Rattle.iim_places.proofs.TicketLengths.{AreShortIn, data_length, held_length, none_taken, numbers_length, rest_length, some_taken, tag_begun_length}
-use Rattle.iim_places.proofs.TicketLengths.{texts_at, texts_short}
+use Rattle.iim_places.proofs.TicketLengths.{AreShortIn, data_length, held_length, none_taken, numbers_length, rest_length, some_taken, tag_begun_length, texts_at, texts_short}
 use Rattle.iim_dataset.specs.declared.place.DatasetPlace.TheVariants as tags
 use Rattle.wire_message.specs.States.Reading as wire
-use Rattle.wire_message.specs.States.Saved.{saved}
-use Rattle.wire_message.specs.States.SoFar.{IsPlace}
+use Rattle.wire_message.specs.States.Reading.{saved, IsPlace}
 use Rattle.wire_message.specs.declared.place.Place.{Place as Message}
 use Rattle.wire_message.specs.declared.place.Place.TheVariants as at
-use Rattle.iim_unpack.specs.States.Held.{begun_entries, message_held, returns_held, tag_held}
+use Rattle.iim_unpack.specs.States.Unpacking.{begun_entries, message_held, returns_held, tag_held}
 use Rattle.iim_unpack.proofs.Sequences.{ended_by_record, led_of, reached, unended_inside}
 use Rattle.iim_places.specs.Format.Tickets.{heads_of, phase_octets, phase_of, ticket_of}
-use Rattle.iim_unpack.specs.TicketReading.{IsSpelled, phase_in}
+use Rattle.iim_unpack.specs.Steps.{IsSpelled, phase_in}
 use Rattle.iim_places.proofs.Tickets.{heads_by, message_at, stated_by, taken_by, total_of}
 
 -- ---- the message

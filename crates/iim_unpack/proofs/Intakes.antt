@@ -1,10 +1,6 @@
 -- Blocks, and the line of an intake.
 -- What an intake feeds, piece after piece.
-use Rattle.iim_unpack.proofs.Words.{AreWithin, Bool, CountsFor, Delivers, DeliveryMayBeCut, Done, Goes, HasFed, HasParts, IsDoneWith, IsOpen, IsReady}
-use Rattle.iim_unpack.proofs.Words.{IsRefusedIn, IsTruncatedAt, LeftAs, Limits, List, More, None, Option, Refusal, Some, Stands, Stood, Unpacked, Unpacking}
-use Rattle.iim_unpack.proofs.Words.{Value, [], ap, append-nil, append_assoc, arith, drop, false, get_or-append-add, in_line, inl, inr, length, length-append}
-use Rattle.iim_unpack.proofs.Words.{length-take-le, limits_in, raised, refl, refusal_at, same_Some, subst, sym, take, take-append-add, take-append-drop}
-use Rattle.iim_unpack.proofs.Words.{take_all, true≢false, with_held, ℕ, ◌++◌, ◌+◌, ◌-◌, ◌<◌, ◌^◌, ◌∙◌, ◌≡◌, ◌≤◌}
+use Rattle.iim_unpack.proofs.Words.{AreWithin, Bool, CountsFor, Delivers, DeliveryMayBeCut, Done, Goes, HasFed, HasParts, IsDoneWith, IsOpen, IsReady, IsRefusedIn, IsTruncatedAt, LeftAs, Limits, List, More, None, Option, Refusal, Some, Stands, Stood, Unpacked, Unpacking, Value, [], ap, append-nil, append_assoc, arith, drop, false, get_or-append-add, in_line, inl, inr, length, length-append, length-take-le, limits_in, raised, refl, refusal_at, same_Some, subst, sym, take, take-append-add, take-append-drop, take_all, true≢false, with_held, ℕ, ◌++◌, ◌+◌, ◌-◌, ◌<◌, ◌^◌, ◌∙◌, ◌≡◌, ◌≤◌}
 use Rattle.std.proofs.Common.{length-take}
 use Rattle.std.proofs.lemmas.List.{drop-drop, drop-take}
 use Rattle.std.specs.Io.KnownBytes.{Consumes, IsAtEnd}
@@ -17,11 +13,10 @@ use Rattle.iim_dataset.specs.declared.device.IoFault.{IoFault}
 use Rattle.iim_dataset.specs.declared.device.IoFault.TheVariants as io
 use Rattle.iim_dataset.proofs.Lists.{nothing_of_two}
 use Rattle.iim_dataset.proofs.DeviceLaws.{broke_for_later}
-use Rattle.iim_dataset.specs.HandedIn.{consumes_consumes}
-use Rattle.wire_story.specs.Format.Delivery as story
-use Rattle.iim_unpack.specs.IntakeSteps.{read_fault}
-use Rattle.iim_unpack.specs.States.Intakes.{Came, Faults, FedPiece, GivesNothing, IsRefusedOf, IsTruncatedIn, StandsOn, WasDone, WasEnded, WasGiven, WasMissed}
-use Rattle.iim_unpack.specs.States.Intakes.{WasRefused, WasTruncated}
+use Rattle.iim_dataset.specs.Steps.{consumes_consumes}
+use Rattle.wire_story.specs.Format.Texts as story
+use Rattle.iim_unpack.specs.Steps.{read_fault}
+use Rattle.iim_unpack.specs.States.Intakes.{Came, Faults, FedPiece, GivesNothing, IsRefusedOf, IsTruncatedIn, StandsOn, WasDone, WasEnded, WasGiven, WasMissed, WasRefused, WasTruncated}
 use Rattle.iim_places.specs.Laws.{OpenOctetsAreBounded}
 use Rattle.iim_unpack.specs.declared.intake.Fed.{Fed}
 use Rattle.iim_unpack.specs.declared.intake.Fed.TheVariants as piece

@@ -1,20 +1,14 @@
 -- What an unpacker says of a stream that comes in pieces.
-use Rattle.iim_unpack.proofs.Words.{Answer, Answers, Bor, Cause, CountsFor, Delivers, DeliveryMayBeCut, Done, Err, Finished, Goes, HasFedPieces, HasParts}
-use Rattle.iim_unpack.proofs.Words.{InTag, IsDone, IsDoneWith, IsEnvelopeWithin, IsFinished, IsOpen, IsRefusedIn, IsTruncatedAt, IsTurnedDown, Limits, List}
-use Rattle.iim_unpack.proofs.Words.{LowerLaws, More, None, Ok, Option, PlaceLaws, Progress, Refusal, Refused, Result, Some, Stands, StreamsHaveOneAnswer}
-use Rattle.iim_unpack.proofs.Words.{Truncated, Unpacked, Unpacking, Value, [], ap, append-nil, append_assoc, arith, drop, flat_map-append, get_or}
-use Rattle.iim_unpack.proofs.Words.{get_or-append-add, inl, inr, length, length-append, length-take-le, limits_in, object_of, raised, reads_envelope, refl}
-use Rattle.iim_unpack.proofs.Words.{refusal_at, slice_index, stream_of, subst, sym, take, take-append-add, take-append-drop, text_so_far, ℕ, ◌++◌, ◌+◌, ◌-◌}
-use Rattle.iim_unpack.proofs.Words.{◌<◌, ◌^◌, ◌∙◌, ◌∷◌, ◌≡◌, ◌≤◌, ◌⊎◌}
+use Rattle.iim_unpack.proofs.Words.{Answer, Answers, Bor, Cause, CountsFor, Delivers, DeliveryMayBeCut, Done, Err, Finished, Goes, HasFedPieces, HasParts, InTag, IsDone, IsDoneWith, IsEnvelopeWithin, IsFinished, IsOpen, IsRefusedIn, IsTruncatedAt, IsTurnedDown, Limits, List, LowerLaws, More, None, Ok, Option, PlaceLaws, Progress, Refusal, Refused, Result, Some, Stands, StreamsHaveOneAnswer, Truncated, Unpacked, Unpacking, Value, [], ap, append-nil, append_assoc, arith, drop, flat_map-append, get_or, get_or-append-add, inl, inr, length, length-append, length-take-le, limits_in, object_of, raised, reads_envelope, refl, refusal_at, slice_index, stream_of, subst, sym, take, take-append-add, take-append-drop, text_so_far, ℕ, ◌++◌, ◌+◌, ◌-◌, ◌<◌, ◌^◌, ◌∙◌, ◌∷◌, ◌≡◌, ◌≤◌, ◌⊎◌}
 use Rattle.std.proofs.Common.{IfErr}
 use Rattle.std.proofs.lemmas.List.{get_or_append_left, take-append-le, take_more}
 use Rattle.std.specs.Result.{IsErrAnd}
-use Rattle.wire_story.specs.Format.Delivery as story
+use Rattle.wire_story.specs.Format.Texts as story
 use Rattle.wire_story.specs.Laws.{TextsAreDeliveredAsLines}
 use Rattle.wire_message.specs.declared.place.Place.TheVariants.{AfterEnd}
 use Rattle.iim_places.specs.Format.Admitted.{Admits}
 use Rattle.iim_unpack.specs.Format.Pieces.{IsAnswer, IsUnpacked}
-use Rattle.iim_unpack.specs.IntakeSteps.{DoneIn}
+use Rattle.iim_unpack.specs.Steps.{DoneIn}
 use Rattle.iim_places.specs.declared.refusal.Cause.TheVariants.{Message}
 use Rattle.wire_message.specs.declared.fault.MessageCause.TheVariants.{Sink}
 use Rattle.iim_places.proofs.Answering.{leads_to, no_text}
@@ -202,29 +196,29 @@ only_on limits stream (Err f) e is only answer answers other =
 -- what is missing at the end, after all pieces
 module _ {S : Type 0} {goes : S → List story.StoryEvent → S → Type 0} {limits : Limits} {v : Unpacking} {a b : S} {stream : List ℕ} {answer : Option Refusal}
     (fed : HasFedPieces goes limits v a b stream) (truncated : (p : List ℕ) (n : ℕ) → Stands v p n → (f : Refusal) × (answer ≡ Some f) × IsTruncatedAt p n f)
-    where
-  -- where the envelope has ended, nothing is
-  not_done : {e : Refusal} → answer ≡ Some e → (IsDone v → answer ≡ None) → DoneIn v stream fed.more → ⊥
-  not_done {e} is done' d = let bad : Some e ≡ None = sym is ∙ done' (d.done.taking, d.done.ended) in cc
+  where
+    -- where the envelope has ended, nothing is
+    not_done : {e : Refusal} → answer ≡ Some e → (IsDone v → answer ≡ None) → DoneIn v stream fed.more → ⊥
+    not_done {e} is done' d = let bad : Some e ≡ None = sym is ∙ done' (d.done.taking, d.done.ended) in cc
 
-  pub ends_short : {e : Refusal} → answer ≡ Some e → (IsDone v → answer ≡ None) → IsTurnedDown goes limits stream a b e
-  ends_short {e} is done' = elim fed.stood [
-    | inl (at, adds) ↦
-        let t = told_truncated stream (length stream) answer e is (truncated stream (length stream) at) in
-        inr (record { is_open = subst (λ (l : Limits). IsOpen l stream) fed.limits_are at.is_open; refusal = t }, (fed.more, fed.told, adds))
-    | inr d ↦ absurd (not_done is done' d)
-  ]
+    pub ends_short : {e : Refusal} → answer ≡ Some e → (IsDone v → answer ≡ None) → IsTurnedDown goes limits stream a b e
+    ends_short {e} is done' = elim fed.stood [
+      | inl (at, adds) ↦
+          let t = told_truncated stream (length stream) answer e is (truncated stream (length stream) at) in
+          inr (record { is_open = subst (λ (l : Limits). IsOpen l stream) fed.limits_are at.is_open; refusal = t }, (fed.more, fed.told, adds))
+      | inr d ↦ absurd (not_done is done' d)
+    ]
 
-  pub short_counts : {e : Refusal} {old new : ℕ} → answer ≡ Some e → (IsDone v → answer ≡ None) → new ≡ old → CountsFor e.cause old new
-  short_counts {e} {old} {new} is done' calm = elim fed.stood [
-    | inl (at, adds) ↦
-        let t = told_truncated stream (length stream) answer e is (truncated stream (length stream) at) in
-        subst (λ (x : Cause). CountsFor x old new) (sym (ap (λ (x : Refusal). x.cause) t.refusal)) calm
-    | inr d ↦ absurd (not_done is done' d)
-  ]
+    pub short_counts : {e : Refusal} {old new : ℕ} → answer ≡ Some e → (IsDone v → answer ≡ None) → new ≡ old → CountsFor e.cause old new
+    short_counts {e} {old} {new} is done' calm = elim fed.stood [
+      | inl (at, adds) ↦
+          let t = told_truncated stream (length stream) answer e is (truncated stream (length stream) at) in
+          subst (λ (x : Cause). CountsFor x old new) (sym (ap (λ (x : Refusal). x.cause) t.refusal)) calm
+      | inr d ↦ absurd (not_done is done' d)
+    ]
 
-  pub ends_done : answer ≡ None → Finishes goes v a b stream
-  ends_done is = elim fed.stood [
-    | inl (at, adds) ↦ absurd (not_told answer stream (length stream) is (truncated stream (length stream) at))
-    | inr d ↦ record { more = fed.more; told = fed.told; done = d }
-  ]
+    pub ends_done : answer ≡ None → Finishes goes v a b stream
+    ends_done is = elim fed.stood [
+      | inl (at, adds) ↦ absurd (not_told answer stream (length stream) is (truncated stream (length stream) at))
+      | inr d ↦ record { more = fed.more; told = fed.told; done = d }
+    ]

@@ -1,16 +1,8 @@
 -- Readers that were made for a possible place stand at all octets that lead there, and an unpacker that is made of them is sound.
-use Rattle.iim_unpack.proofs.Words.{AreAfter, AreBetween, Begun, CanContinue, CanContinueAt, Dataset, DatasetPlace, FieldsPlace, Head, InData, InTag, Inside}
-use Rattle.iim_unpack.proofs.Words.{IsDoneWith, IsEnvelopeWithin, IsKeptAs, IsOpen, IsRestored, IsSome, IsUnpacking, LeadsToSaved, Limits, List, LowerLaws}
-use Rattle.iim_unpack.proofs.Words.{MayContinue, MessagePlace, None, Octets, Parts, Place, PlaceLaws, Reads, SectionsLiveAt, Sizes, Split, Stands, StandsFor}
-use Rattle.iim_unpack.proofs.Words.{Tag, Takes, TakesCalls, Unpacking, Value, Within, [], alive_of, ap, arith, between, count_octets, count_of, false}
-use Rattle.iim_unpack.proofs.Words.{fields_after, fields_in, handed_on, has_ended, head_alive, heads_within, if◌then◌else◌, inl, inr, kept, length, limits_in}
-use Rattle.iim_unpack.proofs.Words.{limits_of, nat_eq, ne_eqb, numbers_of, object_of, object_so_far, of_record, one_reading, opened, place_after_datasets}
-use Rattle.iim_unpack.proofs.Words.{place_of, reads_envelope, refl, section_after, sections_last, some_read, stated_after_all, stated_numbers, subst, sym}
-use Rattle.iim_unpack.proofs.Words.{text_so_far, ticket_at, to_come, true, true≢false, ℕ, ◌+◌, ◌<◌, ◌∙◌, ◌≡◌, ◌⊎◌}
+use Rattle.iim_unpack.proofs.Words.{AreAfter, AreBetween, Begun, CanContinue, CanContinueAt, Dataset, DatasetPlace, FieldsPlace, Head, InData, InTag, Inside, IsDoneWith, IsEnvelopeWithin, IsKeptAs, IsOpen, IsRestored, IsSome, IsUnpacking, LeadsToSaved, Limits, List, LowerLaws, MayContinue, MessagePlace, None, Octets, Parts, Place, PlaceLaws, Reads, SectionsLiveAt, Sizes, Split, Stands, StandsFor, Tag, Takes, TakesCalls, Unpacking, Value, Within, [], alive_of, ap, arith, between, count_octets, count_of, false, fields_after, fields_in, handed_on, has_ended, head_alive, heads_within, if◌then◌else◌, inl, inr, kept, length, limits_in, limits_of, nat_eq, ne_eqb, numbers_of, object_of, object_so_far, of_record, one_reading, opened, place_after_datasets, place_of, reads_envelope, refl, section_after, sections_last, some_read, stated_after_all, stated_numbers, subst, sym, text_so_far, ticket_at, to_come, true, true≢false, ℕ, ◌+◌, ◌<◌, ◌∙◌, ◌≡◌, ◌⊎◌}
 use Rattle.iim_fields.specs.States.Standing as records
-use Rattle.iim_object.specs.Format.Places.{NotEnded}
-use Rattle.iim_places.specs.States.ByLayers.{LeadsByLayers, RecordsLive, one_of_some, record_datasets}
-use Rattle.iim_places.specs.States.PlainDatasets.{Numbers, plain}
+use Rattle.iim_object.specs.Format.Objects.{NotEnded}
+use Rattle.iim_places.specs.States.Possible.{LeadsByLayers, RecordsLive, one_of_some, record_datasets, Numbers, plain, AreHeadsWithin, AreOpenOrWhole}
 use Rattle.iim_places.specs.States.Readers.{AreAtIn, FieldsStand, MessageStands, ObjectStands, RecordsStand, has_come, tag_place}
 use Rattle.iim_places.specs.Format.Tickets.{IsPlaceOf}
 use Rattle.iim_places.proofs.Answering.{goes_envelope}
@@ -21,11 +13,9 @@ use Rattle.iim_places.proofs.ByLayers.{begun_same, whole_at}
 use Rattle.iim_places.proofs.PlainSizes.{possible_of}
 use Rattle.iim_places.specs.Laws.{LimitsAreToldByPlace}
 use Rattle.iim_places.specs.Format.TicketForm.{SplitsTicket}
-use Rattle.iim_fields.specs.Format.Bounds.{IsWithin}
-use Rattle.iim_places.proofs.ReadersAt.{TagPhase, base_tag, between_tag, come, ended_reader, ending_tag, keeps, like, live_tag, object_data, object_tag}
-use Rattle.iim_places.proofs.ReadersAt.{present_tag, stand_tag, text_led}
+use Rattle.iim_fields.specs.Format.Records.{IsWithin}
+use Rattle.iim_places.proofs.ReadersAt.{TagPhase, base_tag, between_tag, come, ended_reader, ending_tag, keeps, like, live_tag, object_data, object_tag, present_tag, stand_tag, text_led}
 use Rattle.iim_object.specs.Laws.{ReadersTellSizes}
-use Rattle.iim_places.specs.States.Possible.{AreHeadsWithin, AreOpenOrWhole}
 use Rattle.iim_places.specs.States.Restored.{IsTicketAt}
 use Rattle.iim_places.specs.declared.ticket.possible.Readers.{Readers}
 

@@ -1,20 +1,11 @@
 -- What is read of octets of one place leaves the parts of an unpacker alike.
 -- What unpackers that stand alike answer, and that a restored one stands as the saved one.
-use Rattle.iim_unpack.proofs.Words.{AllCanContinue, Answer, Answers, AreAfter, AreWithin, Begun, CanContinue, CanContinueAt, Dataset, Done, Err, Finished}
-use Rattle.iim_unpack.proofs.Words.{Head, InData, InTag, IsDoneWith, IsEnvelopeWithin, IsFinished, IsKeptAs, IsOpen, IsRefusedIn, Limits, List, LowerLaws}
-use Rattle.iim_unpack.proofs.Words.{More, Octets, Ok, Parts, Place, Progress, Reads, Refusal, Refused, Result, Stands, StandsFor, StreamsHaveOneAnswer}
-use Rattle.iim_unpack.proofs.Words.{TokenFault, Truncated, Unpacking, Within, [], alive_of, ap, are_some, arith, begun_number, begun_record, count_octets}
-use Rattle.iim_unpack.proofs.Words.{fields_after, fields_in, get_or-append-add, handed_on, head_alive, if◌then◌else◌, inl, inr, length, length-append}
-use Rattle.iim_unpack.proofs.Words.{limits_in, nat_eq, object_of, object_so_far, one_reading, opened, place_after_datasets, place_at, place_of, raised, refl}
-use Rattle.iim_unpack.proofs.Words.{refusal_at, section_after, slice_index, some_read, stated_after_all, subst, sym, take, take-append-add, text_so_far, ℕ}
-use Rattle.iim_unpack.proofs.Words.{◌++◌, ◌+◌, ◌==◌, ◌∙◌, ◌∷◌, ◌≡◌, ◌≤◌, ◌⊎◌}
+use Rattle.iim_unpack.proofs.Words.{AllCanContinue, Answer, Answers, AreAfter, AreWithin, Begun, CanContinue, CanContinueAt, Dataset, Done, Err, Finished, Head, InData, InTag, IsDoneWith, IsEnvelopeWithin, IsFinished, IsKeptAs, IsOpen, IsRefusedIn, Limits, List, LowerLaws, More, Octets, Ok, Parts, Place, Progress, Reads, Refusal, Refused, Result, Stands, StandsFor, StreamsHaveOneAnswer, TokenFault, Truncated, Unpacking, Within, [], alive_of, ap, are_some, arith, begun_number, begun_record, count_octets, fields_after, fields_in, get_or-append-add, handed_on, head_alive, if◌then◌else◌, inl, inr, length, length-append, limits_in, nat_eq, object_of, object_so_far, one_reading, opened, place_after_datasets, place_at, place_of, raised, refl, refusal_at, section_after, slice_index, some_read, stated_after_all, subst, sym, take, take-append-add, text_so_far, ℕ, ◌++◌, ◌+◌, ◌==◌, ◌∙◌, ◌∷◌, ◌≡◌, ◌≤◌, ◌⊎◌}
 use Rattle.iim_fields.specs.States.Standing as records
-use Rattle.iim_unpack.specs.Laws.{AnswersPiece, IsOfNoSink, PieceIsAnsweredAlike, PiecesAreAnsweredAlike, RestoredStandAlike, RestoredStandAsSaved, StandAlike}
-use Rattle.iim_unpack.specs.Laws.{StandOnSame, UnpackersStandByPlace}
+use Rattle.iim_unpack.specs.Laws.{AnswersPiece, IsOfNoSink, PieceIsAnsweredAlike, PiecesAreAnsweredAlike, RestoredStandAlike, RestoredStandAsSaved, StandAlike, StandOnSame, UnpackersStandByPlace}
 use Rattle.iim_unpack.proofs.Sequences.{reached}
 use Rattle.iim_places.proofs.SameRecords.{same_records, stated_at}
-use Rattle.iim_places.proofs.SamePlace.{SameAll, SameBegun, SameWhole, count_as, has_as, held_open, keeps_as, message_as, object_as, object_at_as}
-use Rattle.iim_places.proofs.SamePlace.{object_lives_after_as, octets_of, same_begun, same_message, total_as}
+use Rattle.iim_places.proofs.SamePlace.{SameAll, SameBegun, SameWhole, count_as, has_as, held_open, keeps_as, message_as, object_as, object_at_as, object_lives_after_as, octets_of, same_begun, same_message, total_as}
 use Rattle.std.proofs.Common.{rules}
 use Rattle.iim_places.specs.Format.Open.{RefusesNext}
 use Rattle.iim_places.specs.Format.Open as opens

@@ -1,16 +1,10 @@
 -- Whether the last dataset has ended.
 -- Where octets lead reader and parts; events in order: what is handed on of octets is in order, and a dataset ends where its head says.
-use Rattle.iim_unpack.proofs.Words.{AreInOrder, AreLed, Begun, DataOctet, Dataset, DatasetEnd, DatasetEvent, DatasetPlace, EventsTellTheDatasets, HandsOn}
-use Rattle.iim_unpack.proofs.Words.{Head, HeadRead, InData, InTag, IsDoneWith, IsKeptAs, IsLed, IsTextOf, LeadsTo, List, None, Parts, Reads, Some, Stands}
-use Rattle.iim_unpack.proofs.Words.{StandsAfter, StandsFor, Unpacking, [], ap, append-nil, append_assoc, arith, begun_head, begun_head_of, count_octets}
-use Rattle.iim_unpack.proofs.Words.{data_of, events_of, false, flat_map, flat_map-append, handed_on, head_of, inl, inr, length, length-append, map, nat_eq}
-use Rattle.iim_unpack.proofs.Words.{ne_eqb, not, object_so_far, refl, section_after, section_of, subst, sym, text_so_far, ℕ, ◌++◌, ◌-◌, ◌<◌, ◌∙◌, ◌∷◌, ◌≡◌}
-use Rattle.iim_unpack.proofs.Words.{◌⊎◌}
+use Rattle.iim_unpack.proofs.Words.{AreInOrder, AreLed, Begun, DataOctet, Dataset, DatasetEnd, DatasetEvent, DatasetPlace, EventsTellTheDatasets, HandsOn, Head, HeadRead, InData, InTag, IsDoneWith, IsKeptAs, IsLed, IsTextOf, LeadsTo, List, None, Parts, Reads, Some, Stands, StandsAfter, StandsFor, Unpacking, [], ap, append-nil, append_assoc, arith, begun_head, begun_head_of, count_octets, data_of, events_of, false, flat_map, flat_map-append, handed_on, head_of, inl, inr, length, length-append, map, nat_eq, ne_eqb, not, object_so_far, refl, section_after, section_of, subst, sym, text_so_far, ℕ, ◌++◌, ◌-◌, ◌<◌, ◌∙◌, ◌∷◌, ◌≡◌, ◌⊎◌}
 use Rattle.std.proofs.Common.{is_some, replicate}
-use Rattle.iim_fields.specs.States.Checks.{section_at}
-use Rattle.iim_fields.specs.States.Standing.{IsInside}
-use Rattle.iim_unpack.specs.States.Parts.{has_ended}
-use Rattle.iim_dataset.specs.States.Events.{begun_data}
+use Rattle.iim_fields.specs.States.Standing.{section_at, IsInside}
+use Rattle.iim_unpack.specs.States.Unpacking.{has_ended}
+use Rattle.iim_dataset.specs.States.Reading.{begun_data}
 use Rattle.std.proofs.lemmas.List.{length-replicate, map-append}
 use Rattle.iim_dataset.proofs.Telling.{same_data}
 

@@ -1,33 +1,22 @@
 -- The names that several proofs bring in, passed on from one place.
 pub use Rattle.iim_dataset.proofs.Lists.{no_some}
 pub use Rattle.iim_dataset.proofs.OctetLists.{are_octets}
-pub use Rattle.iim_dataset.specs.Format.Datasets.{Dataset, count_octets, head_of, of_record}
+pub use Rattle.iim_dataset.specs.Format.Datasets.{Dataset, count_octets, head_of, of_record, Begun, InData, InTag, Reads}
 pub use Rattle.iim_dataset.specs.Format.Octets.{IsOctet, Octets, number}
-pub use Rattle.iim_dataset.specs.Format.Splits.{Begun, InData, InTag, Reads}
 pub use Rattle.iim_dataset.specs.Laws.{EventsTellTheDatasets}
-pub use Rattle.iim_dataset.specs.States.Events.{DataOctet, DatasetEnd, DatasetEvent, HeadRead, events_of, handed_on}
-pub use Rattle.iim_dataset.specs.States.Places.{HandsOn, IsKeptAs, LeadsTo, between, named_by, to_come}
-pub use Rattle.iim_dataset.specs.States.Reading.{TakesCalls}
+pub use Rattle.iim_dataset.specs.States.Reading.{DataOctet, DatasetEnd, DatasetEvent, HeadRead, events_of, handed_on, HandsOn, IsKeptAs, LeadsTo, between, named_by, to_come, TakesCalls}
 pub use Rattle.iim_dataset.specs.declared.head.Head.{Head}
 pub use Rattle.iim_dataset.specs.declared.place.DatasetPlace.{DatasetPlace}
 pub use Rattle.iim_dataset.specs.declared.place.DatasetPlace.TheVariants.{Inside, Tag}
 pub use Rattle.iim_fields.proofs.Sections.{head_alive}
-pub use Rattle.iim_fields.specs.Format.Alive.{SectionsLive, SectionsLiveAt}
-pub use Rattle.iim_fields.specs.Format.Faults.{first_fault, is_kept, kept, section_after, value_fault}
-pub use Rattle.iim_fields.specs.Format.Values.{data_of, tells_number}
-pub use Rattle.iim_fields.specs.States.Admitting.{Admits, Spells}
-pub use Rattle.iim_fields.specs.States.Checks.{IsValueFault, begun_head}
-pub use Rattle.iim_fields.specs.States.Standing.{FieldsPlace, IsBetween, IsHeadFault, StandsAfter, StandsIn, begun_head_of, limits_of, section_of}
+pub use Rattle.iim_fields.specs.Format.Records.{SectionsLive, SectionsLiveAt, data_of, tells_number}
+pub use Rattle.iim_fields.specs.Format.Causes.{first_fault, is_kept, kept, section_after, value_fault}
+pub use Rattle.iim_fields.specs.States.Standing.{Admits, Spells, IsValueFault, begun_head, FieldsPlace, IsBetween, IsHeadFault, StandsAfter, StandsIn, begun_head_of, limits_of, section_of}
 pub use Rattle.iim_fields.specs.States.Walks.{rest_of}
 pub use Rattle.iim_fields.specs.declared.fault.FieldFault.{FieldFault}
 pub use Rattle.iim_fields.specs.declared.limits.Limits.{Limits}
-pub use Rattle.iim_object.specs.Format.Numbers.{place_after_datasets}
-pub use Rattle.iim_object.specs.Format.Objects.{NumberRead, ObjectLanguage, ObjectToken, SubfileBegun}
-pub use Rattle.iim_object.specs.Format.Places.{head_token, value_token}
-pub use Rattle.iim_object.specs.Format.Plans.{max_subfiles}
-pub use Rattle.iim_object.specs.Format.Records.{numbers_of}
-pub use Rattle.iim_object.specs.States.Reading.{events_at}
-pub use Rattle.iim_object.specs.States.Saved.{stated_numbers}
+pub use Rattle.iim_object.specs.Format.Objects.{place_after_datasets, NumberRead, ObjectLanguage, ObjectToken, SubfileBegun, head_token, value_token, max_subfiles, numbers_of}
+pub use Rattle.iim_object.specs.States.Reading.{events_at, stated_numbers}
 pub use Rattle.iim_object.specs.declared.reading.state.State.{State}
 pub use Rattle.iim_object.specs.declared.size.Sizes.{Sizes}
 pub use Rattle.iim_places.proofs.Answering.{one_reading, reads_envelope}
@@ -38,37 +27,25 @@ pub use Rattle.iim_places.proofs.PlacesTold.{heads_within, ticket_at}
 pub use Rattle.iim_places.proofs.SamePlace.{fields_after, fields_in, opened, some_read}
 pub use Rattle.iim_places.proofs.SameRecords.{stated_after_all}
 pub use Rattle.iim_places.proofs.Tickets.{count_of}
-pub use Rattle.iim_places.specs.Format.Admitted.{Value, object_of}
-pub use Rattle.iim_places.specs.Format.Framed.{AreWithin}
+pub use Rattle.iim_places.specs.Format.Admitted.{Value, object_of, AreWithin}
 pub use Rattle.iim_places.specs.Format.Open.{AllCanContinue, Delivers, IsOpen, IsTextOf, IsTruncatedAt, object_so_far, section, truncated_in}
-pub use Rattle.iim_places.specs.Format.Refusals.{begun_number, begun_record, message_on, of_field, refusal_at, too_many_on}
-pub use Rattle.iim_places.specs.Format.Streams.{Answer, Answers, Finished, IsEnvelopeWithin, IsFinished, Refused, Truncated}
+pub use Rattle.iim_places.specs.Format.Causes.{begun_number, begun_record, message_on, of_field, refusal_at, too_many_on, CanContinue, CanContinueAt, IsRefusedHead, IsRefusedValue, MayContinue, ObjectLives, place_at}
+pub use Rattle.iim_places.specs.Format.Streams.{Answer, Answers, Finished, IsEnvelopeWithin, IsFinished, Refused, Truncated, are_some, raised}
 pub use Rattle.iim_places.specs.Format.TicketForm.{Split}
 pub use Rattle.iim_places.specs.Format.Tickets.{IsTicketOf, Place, field_octets, four, place_of, present_version}
-pub use Rattle.iim_places.specs.Format.Tokens.{CanContinue, CanContinueAt, IsRefusedHead, IsRefusedValue, MayContinue, ObjectLives, place_at}
 pub use Rattle.iim_places.specs.Laws.{LowerLaws, PlaceLaws, StreamsHaveOneAnswer}
-pub use Rattle.iim_places.specs.States.Counts.{are_some, raised}
-pub use Rattle.iim_places.specs.States.TicketsTold.{split_told}
+pub use Rattle.iim_places.specs.States.Restored.{split_told}
 pub use Rattle.iim_places.specs.declared.fault.TokenFault.{TokenFault}
 pub use Rattle.iim_places.specs.declared.refusal.Cause.{Cause}
 pub use Rattle.iim_places.specs.declared.refusal.Refusal.{Refusal}
-pub use Rattle.iim_unpack.specs.Format.Pieces.{IsTurnedDown, stream_of}
-pub use Rattle.iim_unpack.specs.Format.Value.{HasParts, Unpacked}
-pub use Rattle.iim_unpack.specs.IntakeSteps.{HasFedPieces}
-pub use Rattle.iim_unpack.specs.PartSteps.{AreBetween, AreInOrder, PartsRefuse, TellsParts, TellsWhole}
-pub use Rattle.iim_unpack.specs.Passed.{HasFewSubfiles, IsObjectFault, MessageRefuses, TellsMessage, octets_of}
-pub use Rattle.iim_unpack.specs.Passing.{tells_message_nothing}
-pub use Rattle.iim_unpack.specs.Routing.{Takes}
+pub use Rattle.iim_unpack.specs.Format.Pieces.{IsTurnedDown, stream_of, HasParts, Unpacked}
+pub use Rattle.iim_unpack.specs.Steps.{HasFedPieces, IsUnpacking, Stood}
+pub use Rattle.iim_unpack.specs.Routes.{AreBetween, AreInOrder, PartsRefuse, TellsParts, TellsWhole, HasFewSubfiles, IsObjectFault, MessageRefuses, TellsMessage, octets_of, tells_message_nothing, Takes}
 pub use Rattle.iim_unpack.specs.States.Blocks.{with_held}
-pub use Rattle.iim_unpack.specs.States.Held.{HoldsFew}
+pub use Rattle.iim_unpack.specs.States.Unpacking.{HoldsFew, AreAfter, AreLed, CountsFor, Parts, StandsFor, Within, has_ended, Done, Goes, IsDone, IsDoneWith, IsLed, IsRefusedIn, LeftAs, More, Progress, Stands, Unpacking, limits_in}
 pub use Rattle.iim_unpack.specs.States.Intakes.{HasFed, IsReady, in_line}
-pub use Rattle.iim_unpack.specs.States.Parts.{AreAfter, AreLed, CountsFor, Parts, StandsFor, Within, has_ended}
 pub use Rattle.iim_unpack.specs.States.Restored.{IsRestored}
-pub use Rattle.iim_unpack.specs.States.Unpacking.{Done, Goes, IsDone, IsDoneWith, IsLed, IsRefusedIn, LeftAs, More, Progress, Stands, Unpacking, limits_in}
-pub use Rattle.iim_unpack.specs.UnpackerInside.{IsUnpacking, Stood}
-pub use Rattle.std.proofs.Common.{Bool, Bor, Err, IsSome, List, None, Ok, Option, Result, Some, [], ap, append-nil, append_assoc, arith, cond, drop, false}
-pub use Rattle.std.proofs.Common.{flat_map, get_or, if◌then◌else◌, inl, inr, length, length-append, map, nat_eq, not, refl, slice_index, subst, sym, take}
-pub use Rattle.std.proofs.Common.{true, ℕ, ◌*◌, ◌++◌, ◌+◌, ◌-◌, ◌<◌, ◌==◌, ◌^◌, ◌||◌, ◌∙◌, ◌∷◌, ◌≡◌, ◌≤◌, ◌⊎◌}
+pub use Rattle.std.proofs.Common.{Bool, Bor, Err, IsSome, List, None, Ok, Option, Result, Some, [], ap, append-nil, append_assoc, arith, cond, drop, false, flat_map, get_or, if◌then◌else◌, inl, inr, length, length-append, map, nat_eq, not, refl, slice_index, subst, sym, take, true, ℕ, ◌*◌, ◌++◌, ◌+◌, ◌-◌, ◌<◌, ◌==◌, ◌^◌, ◌||◌, ◌∙◌, ◌∷◌, ◌≡◌, ◌≤◌, ◌⊎◌}
 pub use Rattle.std.proofs.Math.Seq.{take-append-add}
 pub use Rattle.std.proofs.lemmas.Bool.{cases_Bool, eqb-true, ne_eqb, true≢false}
 pub use Rattle.std.proofs.lemmas.List.{get_or-append-add, length-take-le, take-append-drop, take_all}
@@ -76,9 +53,9 @@ pub use Rattle.std.proofs.lemmas.List.Concat.{flat_map-append}
 pub use Rattle.std.proofs.lemmas.Option.{same_Some}
 pub use Rattle.std.proofs.lemmas.Result.{IfErr-weaker, on_ok_weaker}
 pub use Rattle.std.specs.Option.{option_map, option_or}
-pub use Rattle.wire_message.specs.Format.Layers.{text_so_far}
+pub use Rattle.wire_message.specs.Format.Messages.{text_so_far}
 pub use Rattle.wire_message.specs.Laws.{TextsStandBetweenStxAndEtx}
-pub use Rattle.wire_message.specs.States.Saved.{LeadsToSaved}
+pub use Rattle.wire_message.specs.States.Reading.{LeadsToSaved}
 pub use Rattle.wire_message.specs.declared.fault.MessageCause.{MessageCause}
 pub use Rattle.wire_message.specs.declared.saved.MessagePlace.{MessagePlace}
 pub use Rattle.wire_story.specs.Laws.{DeliveryMayBeCut}

@@ -1,6 +1,4 @@
 pub mod Restored
 pub mod Blocks
-pub mod Parts
-pub mod Intakes
 pub mod Unpacking
-pub mod Held
+pub mod Intakes

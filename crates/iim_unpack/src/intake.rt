@@ -5,10 +5,10 @@ ghost use Rattle.std.specs.Io.KnownBytes.{IsAtEnd};
 ghost use Rattle.iim_dataset.specs.States.Devices.{HasGiven, MissedAfter, WithinInterruptionLimit};
 ghost use Rattle.iim_unpack.specs.States.Blocks.{with_held};
 ghost use Rattle.iim_unpack.specs.States.Intakes.{in_line, IsReady, GivesNothing, FedEnvelope, FedPiece, Gives, ReadsWhereEmpty, WasRefused};
-ghost use Rattle.iim_unpack.specs.IntakeSteps.{read_fault};
+ghost use Rattle.iim_unpack.specs.Steps.{read_fault};
 ghost use Rattle.iim_places.specs.Format.Open.{IsTruncatedAt};
 ghost use Rattle.iim_unpack.specs.States.Unpacking.{Unpacking, Stands, failed_at};
-ghost use Rattle.iim_places.specs.States.Counts.{raised};
+ghost use Rattle.iim_places.specs.Format.Streams.{raised};
 ghost use Rattle.iim_unpack.specs.declared.intake.IntakeFault.TheVariants.{Refused as RefusedFault};
 ghost use Rattle.iim_places.specs.declared.refusal.Refusal.{Refusal as RefusalValue};
 
@@ -147,9 +147,10 @@ impl<R: Source> Intake<R> {
             (in_line R.state self.new, unpacker.new, sink.new)) }
         ensures not_end { IfOk result (λ fed. fed ≡ Fed.End → ⊥) }
         ensures calm { OnOk result ((self.new.failed ≡ self.old.failed) × (S.failures sink.new ≡ S.failures sink.old)) }
-        ensures refused { IfErr result (λ fault. (e : RefusalValue) × (fault ≡ RefusedFault e) × (self.new.failed ≡ Some e.octet)
-            × WasRefused S.goes S.failures (in_line R.state self.old) (in_line R.state self.new) unpacker.old unpacker.new
-            sink.old sink.new e) }
+        ensures refused { IfErr result (λ fault. (e : RefusalValue) × (fault ≡ RefusedFault e)
+            × (self.new.failed ≡ Some e.octet)
+            × WasRefused S.goes S.failures (in_line R.state self.old) (in_line R.state self.new)
+            unpacker.old unpacker.new sink.old sink.new e) }
         ensures keeps { (self.new.reader ≡ self.old.reader) × (self.new.octets ≡ self.old.octets) }
     {
         unpacker.stands_somewhere();

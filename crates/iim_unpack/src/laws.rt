@@ -1,8 +1,7 @@
 //! What holds of all envelopes.
 
 ghost use Rattle.std.specs.Prelude.{◌≡◌, ℕ, List, None};
-ghost use Rattle.iim_unpack.specs.States.Held.{HoldsFew};
-ghost use Rattle.iim_unpack.specs.States.Unpacking.{IsDone, IsDoneWith, Stands};
+ghost use Rattle.iim_unpack.specs.States.Unpacking.{HoldsFew, IsDone, IsDoneWith, Stands};
 ghost use Rattle.iim_unpack.specs.Laws.{UnpackerLaws};
 
 use crate::unpacker::Unpacker;

@@ -1,17 +1,14 @@
 //! The readers of an unpacker after that of the tags, as one.
 
 ghost use Rattle.std.specs.Prelude.{◌≡◌, true, false, IsTrue, ◌<◌, ◌≤◌, ◌-◌, ℕ, nat_lt, [], ◌∷◌, length, map, take, slice_index, Some, None, IsSome, IfSome, IfOk, IfErr, OnOk};
-ghost use Rattle.iim_dataset.specs.States.Events.{HeadRead, DataOctet, DatasetEnd};
+ghost use Rattle.iim_dataset.specs.States.Reading.{HeadRead, DataOctet, DatasetEnd};
 ghost use Rattle.iim_fields.specs.States.Standing.{room_of, IsBetween};
-ghost use Rattle.iim_object.specs.Format.Places.{head_token, value_token};
-ghost use Rattle.iim_object.specs.Format.Plans.{max_subfiles};
+ghost use Rattle.iim_object.specs.Format.Objects.{head_token, value_token, max_subfiles};
 ghost use Rattle.iim_object.specs.States.Reading.{EndsAs, LeadsOn, events_at};
 ghost use Rattle.wire_message.specs.States.Reading.{IsWhole};
-ghost use Rattle.iim_places.specs.Format.Refusals.{message_on, too_many_on};
-ghost use Rattle.iim_unpack.specs.Passed.{TellsMessage, IsObjectFault, HasFewSubfiles, RefusesSubfile};
-ghost use Rattle.iim_unpack.specs.PartSteps.{AreBetween, TakesData, LeadsParts, TellsParts, TellsWhole, PartsRefuse, NotClosed};
-ghost use Rattle.iim_unpack.specs.States.Parts.{has_ended};
-ghost use Rattle.iim_unpack.specs.Routing.{TookWhole};
+ghost use Rattle.iim_places.specs.Format.Causes.{message_on, too_many_on};
+ghost use Rattle.iim_unpack.specs.Routes.{TellsMessage, IsObjectFault, HasFewSubfiles, RefusesSubfile, AreBetween, TakesData, LeadsParts, TellsParts, TellsWhole, PartsRefuse, NotClosed, TookWhole};
+ghost use Rattle.iim_unpack.specs.States.Unpacking.{has_ended};
 
 pub(crate) mod message;
 pub(crate) mod router;

@@ -1,11 +1,10 @@
 //! A stream in pieces.
 
 ghost use Rattle.std.specs.Prelude.{◌≡◌, ◌≢◌, [], IfOk, IfErr, OnOk};
-ghost use Rattle.iim_unpack.specs.States.Parts.{CountsFor};
-ghost use Rattle.iim_unpack.specs.IntakeSteps.{HasFedPieces};
+ghost use Rattle.iim_unpack.specs.States.Unpacking.{CountsFor, Stands, limits_in};
+ghost use Rattle.iim_unpack.specs.Steps.{HasFedPieces};
 ghost use Rattle.iim_unpack.specs.Format.Pieces.{IsAnswer, IsTurnedDown, IsUnpacked, stream_of};
 ghost use Rattle.iim_places.specs.Format.Streams.{Answer, Answers};
-ghost use Rattle.iim_unpack.specs.States.Unpacking.{Stands, limits_in};
 ghost use Rattle.iim_places.specs.declared.refusal.Cause.TheVariants.{Message};
 ghost use Rattle.wire_message.specs.declared.fault.MessageCause.TheVariants.{Sink};
 

@@ -1,22 +1,19 @@
 //! The streaming unpacker.
 
 ghost use Rattle.std.specs.Prelude.{◌≡◌, ◌+◌, ◌*◌, ◌^◌, [], is_some, ◌<◌, ◌≤◌, ◌⊎◌, ◌||◌, ℕ, List, Option, Some, None, Ok, Err, false, length, take, IsTrue, ◌↔◌, IsSome, IfSome, IfOk, IfErr, OnOk, OnErr};
-ghost use Rattle.iim_dataset.specs.States.Places.{to_come};
-ghost use Rattle.iim_dataset.specs.States.Reading.{TakesCalls, tag_cause_of};
+ghost use Rattle.iim_dataset.specs.States.Reading.{to_come, TakesCalls, tag_cause_of};
 ghost use Rattle.iim_fields.specs.States.Standing.{StandsAfter, limits_of, room_of, room_for};
-ghost use Rattle.wire_story.specs.Format.Delivery as story;
-ghost use Rattle.iim_unpack.specs.States.Parts.{CountsFor};
-ghost use Rattle.iim_places.specs.Format.Refusals.{refusal_at};
-ghost use Rattle.iim_unpack.specs.Routing.{Takes};
-ghost use Rattle.iim_unpack.specs.UnpackerInside.{HasAdvanced, FailsFor, FailsAs, tag_fault, IsUnpacking, Stood};
-ghost use Rattle.iim_places.specs.States.Counts.{are_some, raised};
-ghost use Rattle.iim_unpack.specs.States.Unpacking.{failed_at, Stands, IsDoneWith, IsDone, IsRefusedIn, Goes, limits_in, room_in, LeftAs};
-ghost use Rattle.iim_unpack.specs.States.Held.{HoldsFew};
+ghost use Rattle.wire_story.specs.Format.Texts as story;
+ghost use Rattle.iim_unpack.specs.States.Unpacking.{CountsFor, failed_at, Stands, IsDoneWith, IsDone, IsRefusedIn, Goes, limits_in, room_in, LeftAs, HoldsFew};
+ghost use Rattle.iim_places.specs.Format.Causes.{refusal_at};
+ghost use Rattle.iim_unpack.specs.Routes.{Takes};
+ghost use Rattle.iim_unpack.specs.Steps.{HasAdvanced, FailsFor, FailsAs, tag_fault, IsUnpacking, Stood};
+ghost use Rattle.iim_places.specs.Format.Streams.{are_some, raised};
 ghost use Rattle.iim_unpack.specs.States.Restored.{HasTicketIn};
 ghost use Rattle.iim_places.specs.Format.Open.{IsTruncatedAt};
 ghost use Rattle.iim_places.specs.Format.Admitted.{Value, Admits};
 ghost use Rattle.iim_places.specs.Format.Tickets.{IsTicketOf};
-ghost use Rattle.iim_unpack.specs.Format.Value.{HasParts, ShowsParts};
+ghost use Rattle.iim_unpack.specs.Format.Pieces.{HasParts, ShowsParts};
 ghost use Rattle.iim_places.specs.declared.refusal.Refusal.{Refusal as RefusalValue};
 
 use crate::parts::message::give_back;
@@ -170,7 +167,7 @@ pub struct Unpacker {
 impl Model for Unpacker {
     ghost use Rattle.iim_unpack.specs.States.Unpacking.{Unpacking};
     ghost use Rattle.std.specs.Prelude.{◌≡◌, None};
-    ghost use Rattle.iim_unpack.specs.UnpackerInside.{IsUnpacking};
+    ghost use Rattle.iim_unpack.specs.Steps.{IsUnpacking};
 
     ghost Value = { Unpacking };
 

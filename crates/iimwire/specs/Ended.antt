@@ -3,7 +3,7 @@ use Rattle.std.specs.Prelude.{◌≡◌, ℕ, ◌⊎◌}
 use Rattle.iim_output.specs.States.Devices.{Devices}
 use Rattle.iim_commands.specs.Format.{Ran}
 use Rattle.iim_request.specs.declared.request.Job.{Job}
-use Rattle.iim_output.specs.Format.Statuses.{status_failed}
+use Rattle.iim_output.specs.Format.{status_failed}
 use Rattle.iimwire.specs.declared.start.RunFault.{RunFault}
 use Rattle.iimwire.specs.Format.{status_of_start}
 

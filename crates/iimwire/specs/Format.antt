@@ -1,10 +1,11 @@
+-- What the program leaves, and why a run can't begin.
 use Rattle.std.specs.Prelude.{◌≡◌, ℕ, ◌⊎◌, ⊤, List, ◌++◌, codes, Result, Ok, Err}
 use Rattle.iim_dataset.specs.States.Devices.{Device}
 use Rattle.iim_request.specs.declared.request.UsageFault.{UsageFault}
 use Rattle.iim_request.specs.declared.request.UsageFault.TheVariants as usage
 use Rattle.iimwire.specs.declared.start.RunFault.{RunFault}
 use Rattle.iimwire.specs.declared.start.RunFault.TheVariants.{Usage, NoText, CannotOpen, OutOfMemory}
-use Rattle.iim_output.specs.Format.Statuses.{IsSaid, status_usage, status_failed}
+use Rattle.iim_output.specs.Format.{IsSaid, status_usage, status_failed}
 use Rattle.iim_request.specs.Format.{shown_name}
 use Rattle.iim_request.specs.declared.request.Request.{Request}
 use Rattle.iim_unpack.specs.States.Blocks.{with_held}

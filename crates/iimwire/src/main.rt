@@ -13,7 +13,7 @@ mod words;
 ghost use Rattle.std.specs.Prelude.{◌≡◌, ◌≢◌, ◌⊎◌, IfSome, None};
 ghost use Rattle.std.specs.IoError.{error_kind};
 ghost use Rattle.std.specs.Process.{exit_status};
-ghost use Rattle.iim_output.specs.Format.Statuses.{status_failed};
+ghost use Rattle.iim_output.specs.Format.{status_failed};
 ghost use Rattle.iimwire.specs.Ended.{EndsWith, EndsWithout};
 
 use iim_commands::request::{Request, parse};

@@ -1,8 +1,7 @@
 //! Sinks of stories that count calls, stop, and write to devices that fail.
 
 ghost use Rattle.std.specs.Prelude.{◌≡◌, ◌++◌, OnOk};
-ghost use Rattle.wire_story.specs.Format.Texts.{AreLines, IsLine};
-ghost use Rattle.wire_story.specs.Format.Delivery.{delivered};
+ghost use Rattle.wire_story.specs.Format.Texts.{AreLines, IsLine, delivered};
 
 use crate::told::{Told, count_of};
 use iim_dataset::Stop;

@@ -3,7 +3,7 @@ use Rattle.std.proofs.Common.{refl, ◌∙◌, arith}
 use Rattle.trials.specs.declared.device.Plan.{Plan}
 use Rattle.trials.specs.declared.device.TrialReader.{TrialReader}
 use Rattle.trials.specs.States.{GoesByPlan, ReadsOn, trial_device}
-use Rattle.iim_dataset.specs.HandedIn.{later_stays, later_leads_on}
+use Rattle.iim_dataset.specs.Steps.{later_stays, later_leads_on}
 
 pub reads_on_stays : (r : TrialReader) → ReadsOn r r
 reads_on_stays r = record {

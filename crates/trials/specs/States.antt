@@ -1,3 +1,4 @@
+-- Test devices and a sink of tests, as contracts see them.
 use Rattle.std.specs.Prelude.{◌≡◌, ℕ, ◌+◌, ◌<◌, ◌≤◌, ◌⊎◌, ◌↔◌, Bool, true, false, List, length, drop, None, Some, Option, ◌-◌, min}
 use Rattle.iim_dataset.specs.States.Devices.{Device, Calm, LaterThan}
 use Rattle.iim_dataset.specs.declared.device.IoFault.{IoFault}
@@ -7,8 +8,8 @@ use Rattle.trials.specs.declared.device.Trouble.{Trouble}
 use Rattle.trials.specs.declared.device.Trouble.TheVariants.{Failure, Interruptions}
 use Rattle.trials.specs.declared.device.TrialReader.{TrialReader}
 use Rattle.trials.specs.declared.device.TrialWriter.{TrialWriter}
-use Rattle.iim_dataset.specs.Format.Counts.{Rose}
-use Rattle.wire_story.specs.Format.Delivery.{StoryEvent}
+use Rattle.iim_dataset.specs.Format.Octets.{Rose}
+use Rattle.wire_story.specs.Format.Texts.{StoryEvent}
 use Rattle.trials.specs.declared.sink.TrialSink.{TrialSink}
 
 -- ---- Test devices, as contracts see them.

@@ -1,9 +1,8 @@
 //! A sink that stops at a chosen call, for tests.
 
 ghost use Rattle.std.specs.Prelude.{◌≡◌, ◌<◌, [], ◌∷◌, length, map, take, IsErr, IfErr, OnOk, OnErr};
-ghost use Rattle.iim_dataset.specs.Format.Counts.{Rose};
-ghost use Rattle.wire_story.specs.Format.Texts.{IsLine};
-ghost use Rattle.wire_story.specs.Format.Delivery.{LineOctet, LineEnd};
+ghost use Rattle.iim_dataset.specs.Format.Octets.{Rose};
+ghost use Rattle.wire_story.specs.Format.Texts.{IsLine, LineOctet, LineEnd};
 
 use iim_dataset::Stop;
 use wire_story::StorySink;

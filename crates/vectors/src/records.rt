@@ -1,8 +1,7 @@
 //! Records checked, envelopes read and built.
 
 ghost use Rattle.std.specs.Prelude.{◌≢◌, length, OnOk};
-ghost use Rattle.iim_fields.specs.States.Standing.{IsBetween, IsInside};
-ghost use Rattle.iim_fields.specs.States.Checks.{TakesHead};
+ghost use Rattle.iim_fields.specs.States.Standing.{IsBetween, IsInside, TakesHead};
 
 use crate::views::{print_fields, print_views, print_walk};
 use iim_dataset::Head;

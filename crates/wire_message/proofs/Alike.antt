@@ -1,11 +1,7 @@
 -- Octets that have led to a place live, lead on alike from the same place, and are refused alike.
 use Rattle.std.proofs.Common.{◌≡◌, ℕ, ◌≤◌, true, cond, List, [], ◌∷◌, ◌++◌, map, Option, Some, refl, sym, ap, subst, ◌∙◌, arith, append-nil}
-use Rattle.wire_message.proofs.Names.{append_cancel_left, same_Some, AreLines, Holds, Octet, End, StoryLanguage, StoryLaws, TextReader, map_snoc, so_far_two}
-use Rattle.wire_message.proofs.Names.{MessageLivesWith, text_so_far, StoryLivesIn, StoryDiesWith, HasCause, Spells, StoryStands, LeadsTo}
-use Rattle.wire_message.proofs.Names.{TextsStandBetweenStxAndEtx, ReadersStandAtLivingOctets, LivingOctetsLeadOn, OctetsLeadToOnePlace, OctetsLeadOnAlike}
-use Rattle.wire_message.proofs.Names.{OctetsAreRefusedAlike, Place, Filler, Text, Trailer, AfterEnd, MessageCause, BadOctet, Unfinished, LoneReturn}
-use Rattle.wire_message.proofs.Names.{ControlOctet, Sink}
-use Rattle.iim_dataset.specs.Format.Languages.{IsAlive}
+use Rattle.wire_message.proofs.Names.{append_cancel_left, same_Some, AreLines, Holds, Octet, End, StoryLanguage, StoryLaws, TextReader, map_snoc, so_far_two, MessageLivesWith, text_so_far, StoryLivesIn, StoryDiesWith, HasCause, Spells, StoryStands, LeadsTo, TextsStandBetweenStxAndEtx, ReadersStandAtLivingOctets, LivingOctetsLeadOn, OctetsLeadToOnePlace, OctetsLeadOnAlike, OctetsAreRefusedAlike, Place, Filler, Text, Trailer, AfterEnd, MessageCause, BadOctet, Unfinished, LoneReturn, ControlOctet, Sink}
+use Rattle.iim_dataset.specs.Format.Octets.{IsAlive}
 use Rattle.wire_story.specs.States.Reading as story
 use Rattle.wire_message.proofs.Machine.{Stands, led, unread, stands_unread, run, run_parts, one_end}
 use Rattle.wire_message.proofs.Runs.{spelled_runs}

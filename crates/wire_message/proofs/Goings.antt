@@ -1,15 +1,9 @@
 -- What octets do at a place.
-use Rattle.std.proofs.Common.{◌≡◌, ℕ, ◌+◌, ◌<◌, ◌≤◌, Bool, true, false, ◌&&◌, ◌||◌, ◌==◌, nat_lt, length, slice_index, List, [], ◌∷◌, ◌++◌, Some, None, refl}
-use Rattle.std.proofs.Common.{subst, arith, append_assoc, append-nil}
-use Rattle.wire_message.proofs.Names.{and_parts, or_right, eqb-true, take_more, same_Some, ArrayVec, TextReader, IsField, is_info_octet, is_trailer_octet}
-use Rattle.wire_message.proofs.Names.{is_filler_octet, is_text_octet, max_filler, max_info, max_trailer, Header, IsHeader, IsPlace, Spells, StoryStands}
-use Rattle.wire_message.proofs.Names.{TakesSome, lengthens_gap, ends, begins, is_octet_of, most_of, text_of, HeaderPart, Source}
-use Rattle.wire_message.proofs.Names.{HeaderTexts, Place, Filler, InHeader, Info, Gap, Text, Trailer, AfterEnd}
+use Rattle.std.proofs.Common.{◌≡◌, ℕ, ◌+◌, ◌<◌, ◌≤◌, Bool, true, false, ◌&&◌, ◌||◌, ◌==◌, nat_lt, length, slice_index, List, [], ◌∷◌, ◌++◌, Some, None, refl, subst, arith, append_assoc, append-nil}
+use Rattle.wire_message.proofs.Names.{and_parts, or_right, eqb-true, take_more, same_Some, ArrayVec, TextReader, IsField, is_info_octet, is_trailer_octet, is_filler_octet, is_text_octet, max_filler, max_info, max_trailer, Header, IsHeader, IsPlace, Spells, StoryStands, TakesSome, lengthens_gap, ends, begins, is_octet_of, most_of, text_of, HeaderPart, Source, HeaderTexts, Place, Filler, InHeader, Info, Gap, Text, Trailer, AfterEnd}
 use Rattle.wire_story.specs.States.Reading as story
 use Rattle.wire_message.proofs.Machine.{of, no_texts, put, more_info, IsBare, Stands, stands, guarded, next, run, and_then_place, extended}
-use Rattle.wire_message.proofs.Transitions.{field_more, field_none, one_is, filler_more, filler_soh, info_more, info_gap, gap_more, gap_stx, text_more}
-use Rattle.wire_message.proofs.Transitions.{text_etx, trailer_more, trailer_eot, end_more, no_texts_yet, longer_info, longer_is, longer_spells, next_is}
-use Rattle.wire_message.proofs.Transitions.{next_spells, next_story}
+use Rattle.wire_message.proofs.Transitions.{field_more, field_none, one_is, filler_more, filler_soh, info_more, info_gap, gap_more, gap_stx, text_more, text_etx, trailer_more, trailer_eot, end_more, no_texts_yet, longer_info, longer_is, longer_spells, next_is, next_spells, next_story}
 
 -- the octet that stands first
 pub first_is : (xs ys : List ℕ) (b : ℕ) → xs ≡ b ∷ ys → slice_index xs 0 ≡ b

@@ -1,8 +1,7 @@
 -- A header is kept as the octets of its parts with one octet between two of them, whichever it is; and one that stands whole at
 -- the front leads from filler to the text.
 use Rattle.std.proofs.Common.{◌≡◌, ◌⊎◌, ℕ, ◌+◌, ◌-◌, List, [], ◌∷◌, ◌++◌, length, take, refl, ap, ◌∙◌, arith, append_assoc, length-append, inl, inr}
-use Rattle.wire_message.proofs.Names.{slice_range, take-append_seam, drop-append_seam, TextReader, Header, header_of, IsHeader, SpellsInfo, fixed_header}
-use Rattle.wire_message.proofs.Names.{TakesSome, Filler, Text, BeginsWithHeader, IsGap}
+use Rattle.wire_message.proofs.Names.{slice_range, take-append_seam, drop-append_seam, TextReader, Header, header_of, IsHeader, SpellsInfo, fixed_header, TakesSome, Filler, Text, BeginsWithHeader, IsGap}
 use Rattle.wire_story.specs.States.Reading as story
 use Rattle.wire_message.specs.Kept.{parts_in, ends_of, IsKept}
 use Rattle.wire_message.specs.declared.ends.Ends.{Ends}

@@ -1,11 +1,6 @@
 -- Reading a message octet by octet: the place after each octet. A reader of the text is left out of it.
-use Rattle.std.proofs.Common.{◌≡◌, ℕ, ◌+◌, ◌<◌, ◌≤◌, Bool, true, false, ◌&&◌, ◌||◌, ◌==◌, nat_lt, cond, List, [], ◌∷◌, ◌++◌, length, Option, Some, None, refl}
-use Rattle.std.proofs.Common.{ap, ◌∙◌, arith, append_assoc, append-nil, length-append, option_and_then}
-use Rattle.wire_message.proofs.Names.{cond-true, cond-false, and_from, and_parts, lt-ltb, ltb-true, and_left, nat_tests, ArrayVec, Are, is_info_octet}
-use Rattle.wire_message.proofs.Names.{is_trailer_octet, is_filler_octet, is_text_octet, max_filler, max_source, max_info, max_trailer, is_letter, Header}
-use Rattle.wire_message.proofs.Names.{header_of, IsHeader, IsFiller, IsMessage, IsPlace, Spells, LeadsTo, lengthens_gap, ends, begins, is_octet_of, most_of}
-use Rattle.wire_message.proofs.Names.{text_of, HeaderPart, Source, Number, Priority, Category, Words, HeaderTexts, Place, Filler, InHeader, Info, Gap, Text}
-use Rattle.wire_message.proofs.Names.{Trailer, AfterEnd, Are-head, Are-tail}
+use Rattle.std.proofs.Common.{◌≡◌, ℕ, ◌+◌, ◌<◌, ◌≤◌, Bool, true, false, ◌&&◌, ◌||◌, ◌==◌, nat_lt, cond, List, [], ◌∷◌, ◌++◌, length, Option, Some, None, refl, ap, ◌∙◌, arith, append_assoc, append-nil, length-append, option_and_then}
+use Rattle.wire_message.proofs.Names.{cond-true, cond-false, and_from, and_parts, lt-ltb, ltb-true, and_left, nat_tests, ArrayVec, Are, is_info_octet, is_trailer_octet, is_filler_octet, is_text_octet, max_filler, max_source, max_info, max_trailer, is_letter, Header, header_of, IsHeader, IsFiller, IsMessage, IsPlace, Spells, LeadsTo, lengthens_gap, ends, begins, is_octet_of, most_of, text_of, HeaderPart, Source, Number, Priority, Category, Words, HeaderTexts, Place, Filler, InHeader, Info, Gap, Text, Trailer, AfterEnd, Are-head, Are-tail}
 
 abbrev pub of : List ℕ → ArrayVec ℕ
 of xs = record { items = xs }

@@ -1,7 +1,6 @@
 -- The octets of a message are octets, for the proofs of every crate: nothing here is to be believed.
 use Rattle.std.proofs.Common.{◌≡◌, ℕ, ◌<◌, Bool, true, List, [], ◌∷◌, ◌++◌, arith}
-use Rattle.wire_message.proofs.Names.{list_all, and_parts, nat_tests, Octets, Are, is_info_octet, is_trailer_octet, is_filler_octet, is_text_octet, Header}
-use Rattle.wire_message.proofs.Names.{IsMessage, fixed_header}
+use Rattle.wire_message.proofs.Names.{list_all, and_parts, nat_tests, Octets, Are, is_info_octet, is_trailer_octet, is_filler_octet, is_text_octet, Header, IsMessage, fixed_header}
 use Rattle.iim_dataset.proofs.OctetLists.{octets_append}
 use Rattle.wire_message.proofs.TextSoFar.{header_info, spelled_info}
 

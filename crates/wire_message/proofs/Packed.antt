@@ -1,7 +1,6 @@
 -- The canonical object is a message, and the octets of its head.
 use Rattle.std.proofs.Common.{◌≡◌, ℕ, zero, suc, Bool, true, List, [], ◌∷◌, ◌++◌, refl, arith, inl, inr, append_assoc, replicate}
-use Rattle.wire_message.proofs.Names.{StoryLaws, IsTextSoFar, IsLine, IsText, is_line_octet, line_end, packed_text, Are, is_text_octet, Header, IsHeader}
-use Rattle.wire_message.proofs.Names.{IsMessage, IsTrailer, SpellsInfo, fixed_header, canonical, packed_info, Are-append, Are-cons, nat_tests}
+use Rattle.wire_message.proofs.Names.{StoryLaws, IsTextSoFar, IsLine, IsText, is_line_octet, line_end, packed_text, Are, is_text_octet, Header, IsHeader, IsMessage, IsTrailer, SpellsInfo, fixed_header, canonical, packed_info, Are-append, Are-cons, nat_tests}
 use Rattle.wire_message.proofs.Transitions.{message_from}
 use Rattle.wire_message.proofs.TextSoFar.{each}
 

@@ -1,12 +1,8 @@
 -- Octets lead to each place: of each length that is neither too small nor too great, and of no other. Filler is of zeros; a gap
 -- has its LF first; a text is letters and its held CR.
-use Rattle.std.proofs.Common.{◌≡◌, ℕ, ◌+◌, ◌-◌, ◌≤◌, ◌↔◌, Bool, true, false, List, [], ◌∷◌, ◌++◌, length, replicate, Option, Some, None, refl, sym, ap, subst}
-use Rattle.std.proofs.Common.{◌∙◌, arith, inl, inr, length-append, ⊎_elim}
-use Rattle.wire_message.proofs.Names.{Holds, AreLines, cases_lt, length-replicate, same_Some, ArrayVec, IsTextSoFar, is_line_octet, line_end, Are}
-use Rattle.wire_message.proofs.Names.{is_filler_octet, is_text_octet, max_filler, Header, IsFiller, IsGap, SpellsInfo, fixed_header, has_feed, packed_info}
-use Rattle.wire_message.proofs.Names.{IsPlace, Spells, StoryStands, LeadsTo, so_far, PlacesAreReached, Place, Filler, InHeader, Info, Gap, Text, Trailer}
-use Rattle.wire_message.proofs.Names.{AfterEnd, Are-append}
-use Rattle.wire_message.specs.Format.Lengths.{LeadsIn, IsOneOf, fixed_octets, least_head, least_of, greatest_of}
+use Rattle.std.proofs.Common.{◌≡◌, ℕ, ◌+◌, ◌-◌, ◌≤◌, ◌↔◌, Bool, true, false, List, [], ◌∷◌, ◌++◌, length, replicate, Option, Some, None, refl, sym, ap, subst, ◌∙◌, arith, inl, inr, length-append, ⊎_elim}
+use Rattle.wire_message.proofs.Names.{Holds, AreLines, cases_lt, length-replicate, same_Some, ArrayVec, IsTextSoFar, is_line_octet, line_end, Are, is_filler_octet, is_text_octet, max_filler, Header, IsFiller, IsGap, SpellsInfo, fixed_header, has_feed, packed_info, IsPlace, Spells, StoryStands, LeadsTo, so_far, PlacesAreReached, Place, Filler, InHeader, Info, Gap, Text, Trailer, AfterEnd, Are-append}
+use Rattle.wire_message.specs.States.Reading.{LeadsIn, IsOneOf, fixed_octets, least_head, least_of, greatest_of}
 use Rattle.wire_message.proofs.Transitions.{field_none, message_from}
 use Rattle.wire_message.proofs.TextSoFar.{any_none, is_not}
 use Rattle.wire_message.proofs.Packed.{spells_packed, all_pass}

@@ -1,14 +1,8 @@
 -- What a piece does to a reader that stands at a place, and to the story in it.
-use Rattle.wire_message.proofs.Names.{take-add, slice_range, take_more, take_rest, get_or-drop, and_from, eqb-true, lt-ltb, not_from_false, true_from_ne_false}
-use Rattle.wire_message.proofs.Names.{same_Some, ArrayVec, Holds, Octet, End, LivesWith, StoryDiesAt, with_end, StoryLaws, TextReader, TextCause, map_snoc}
-use Rattle.wire_message.proofs.Names.{Are-tail, Are, is_trailer_octet, is_text_octet, max_trailer, Header, MessageDiesAt, MessagesEndAfterEot}
-use Rattle.wire_message.proofs.Names.{ReadersStandAtLivingOctets, LeadsTo, StandsAt, LeadsOn, GoesSomewhere, Refuses, TakesPiece, RefusesOne, IsWhole, is_ended}
-use Rattle.wire_message.proofs.Names.{trailer_read, HasCause, StoryDiesWith, cause_of, TakesSome, TakesOctets, RefusesInPart, DiesWith, MessageCause, BadOctet}
-use Rattle.wire_message.proofs.Names.{LoneReturn, IsPlace, Spells, Place, Filler, Text, Trailer, AfterEnd}
+use Rattle.wire_message.proofs.Names.{take-add, slice_range, take_more, take_rest, get_or-drop, and_from, eqb-true, lt-ltb, not_from_false, true_from_ne_false, same_Some, ArrayVec, Holds, Octet, End, LivesWith, StoryDiesAt, with_end, StoryLaws, TextReader, TextCause, map_snoc, Are-tail, Are, is_trailer_octet, is_text_octet, max_trailer, Header, MessageDiesAt, MessagesEndAfterEot, ReadersStandAtLivingOctets, LeadsTo, StandsAt, LeadsOn, GoesSomewhere, Refuses, TakesPiece, RefusesOne, IsWhole, is_ended, trailer_read, HasCause, StoryDiesWith, cause_of, TakesSome, TakesOctets, RefusesInPart, DiesWith, MessageCause, BadOctet, LoneReturn, IsPlace, Spells, Place, Filler, Text, Trailer, AfterEnd}
 use Rattle.std.proofs.lemmas.List.Concat.{flat_map-append}
-use Rattle.std.proofs.Common.{◌≡◌, ℕ, ◌+◌, ◌<◌, ◌==◌, nat_lt, not, Bool, true, false, List, [], ◌∷◌, ◌++◌, length, take, slice_index, Option, Some, map, refl}
-use Rattle.std.proofs.Common.{sym, ap, ◌∙◌, arith, append_assoc, append-nil}
-use Rattle.wire_story.specs.Format.Delivery.{StoryEvent, delivered, events_of}
+use Rattle.std.proofs.Common.{◌≡◌, ℕ, ◌+◌, ◌<◌, ◌==◌, nat_lt, not, Bool, true, false, List, [], ◌∷◌, ◌++◌, length, take, slice_index, Option, Some, map, refl, sym, ap, ◌∙◌, arith, append_assoc, append-nil}
+use Rattle.wire_story.specs.Format.Texts.{StoryEvent, delivered, events_of}
 use Rattle.wire_story.specs.States.Reading as story
 use Rattle.wire_story.specs.declared.fault.TextCause.TheVariants as text_cause
 use Rattle.wire_message.specs.declared.fault.MessageFault.{MessageFault}

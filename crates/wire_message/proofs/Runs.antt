@@ -1,13 +1,7 @@
 -- Octets that spell a place run to it, and a message runs to its end.
-use Rattle.std.proofs.Common.{◌≡◌, ℕ, ◌+◌, ◌≤◌, Bool, true, false, ◌||◌, ◌==◌, ◌<◌, nat_lt, cond, List, [], ◌∷◌, ◌++◌, length, Some, None, refl, sym, ap, ◌∙◌}
-use Rattle.std.proofs.Common.{arith, inl, inr, append_assoc, append-nil}
-use Rattle.wire_message.proofs.Names.{cond-true, cond-false, and_from, or_right, lt-ltb, and_left, nat_tests, or_assoc, or-false, Are, IsField, is_alphanumeric}
-use Rattle.wire_message.proofs.Names.{is_info_octet, is_trailer_octet, is_filler_octet, is_text_octet, max_filler, max_number, max_words, max_info, max_trailer}
-use Rattle.wire_message.proofs.Names.{is_digit, Header, header_of, IsHeader, IsFiller, IsGap, IsTrailer, SpellsInfo, fixed_header, has_feed, IsPlace, so_far}
-use Rattle.wire_message.proofs.Names.{lengthens_gap, ends, begins, is_octet_of, most_of, text_of, HeaderPart, Source, Number, Priority, Category, Words}
-use Rattle.wire_message.proofs.Names.{HeaderTexts, Place, Filler, InHeader, Info, Gap, Text, Trailer, AfterEnd, Are-head, Are-tail}
-use Rattle.wire_message.proofs.Machine.{next, of, texts, texts_of, words_place, no_texts, put, Stands, unread, run, step_to, field_run, count_run, extends}
-use Rattle.wire_message.proofs.Machine.{reads_part, ends_next}
+use Rattle.std.proofs.Common.{◌≡◌, ℕ, ◌+◌, ◌≤◌, Bool, true, false, ◌||◌, ◌==◌, ◌<◌, nat_lt, cond, List, [], ◌∷◌, ◌++◌, length, Some, None, refl, sym, ap, ◌∙◌, arith, inl, inr, append_assoc, append-nil}
+use Rattle.wire_message.proofs.Names.{cond-true, cond-false, and_from, or_right, lt-ltb, and_left, nat_tests, or_assoc, or-false, Are, IsField, is_alphanumeric, is_info_octet, is_trailer_octet, is_filler_octet, is_text_octet, max_filler, max_number, max_words, max_info, max_trailer, is_digit, Header, header_of, IsHeader, IsFiller, IsGap, IsTrailer, SpellsInfo, fixed_header, has_feed, IsPlace, so_far, lengthens_gap, ends, begins, is_octet_of, most_of, text_of, HeaderPart, Source, Number, Priority, Category, Words, HeaderTexts, Place, Filler, InHeader, Info, Gap, Text, Trailer, AfterEnd, Are-head, Are-tail}
+use Rattle.wire_message.proofs.Machine.{next, of, texts, texts_of, words_place, no_texts, put, Stands, unread, run, step_to, field_run, count_run, extends, reads_part, ends_next}
 use Rattle.wire_message.proofs.Transitions.{field_none, join1, join2, join3, join4, join5, none}
 
 -- ---- the header

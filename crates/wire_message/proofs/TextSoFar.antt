@@ -1,12 +1,6 @@
 -- The text so far in octets that spell a place.
-use Rattle.std.proofs.Common.{◌≡◌, ℕ, ◌+◌, Bool, true, false, not, ◌==◌, cond, nat_lt, List, [], ◌∷◌, ◌++◌, length, take, drop, map, Some, None, refl, sym, ap}
-use Rattle.std.proofs.Common.{◌∙◌, arith, inl, inr, append-nil}
-use Rattle.wire_message.proofs.Names.{list_any, position_or_len, before_first, after_first, and_parts, and_from, or_right, or_left, or_from, not-true}
-use Rattle.wire_message.proofs.Names.{list_all-append, list_any-append, nat_tests, drop-append-add, take-append_seam, take-length, Octet, End, TextReader, Are}
-use Rattle.wire_message.proofs.Names.{IsField, is_alphanumeric, is_info_octet, is_filler_octet, is_text_octet, max_info, is_digit, is_letter, Header, IsHeader}
-use Rattle.wire_message.proofs.Names.{IsFiller, IsGap, IsMessage, SpellsInfo, BeginsWithHeader, fixed_header, ArrayVec, after_stx, text_so_far, story_tokens_of}
-use Rattle.wire_message.proofs.Names.{IsPlace, Spells, so_far, head_read, HeaderPart, Source, Words, HeaderTexts, Place, Filler, InHeader, Info, Gap, Text}
-use Rattle.wire_message.proofs.Names.{Trailer, AfterEnd, Are-append, Are-head, Are-tail, Are-cons}
+use Rattle.std.proofs.Common.{◌≡◌, ℕ, ◌+◌, Bool, true, false, not, ◌==◌, cond, nat_lt, List, [], ◌∷◌, ◌++◌, length, take, drop, map, Some, None, refl, sym, ap, ◌∙◌, arith, inl, inr, append-nil}
+use Rattle.wire_message.proofs.Names.{list_any, position_or_len, before_first, after_first, and_parts, and_from, or_right, or_left, or_from, not-true, list_all-append, list_any-append, nat_tests, drop-append-add, take-append_seam, take-length, Octet, End, TextReader, Are, IsField, is_alphanumeric, is_info_octet, is_filler_octet, is_text_octet, max_info, is_digit, is_letter, Header, IsHeader, IsFiller, IsGap, IsMessage, SpellsInfo, BeginsWithHeader, fixed_header, ArrayVec, after_stx, text_so_far, story_tokens_of, IsPlace, Spells, so_far, head_read, HeaderPart, Source, Words, HeaderTexts, Place, Filler, InHeader, Info, Gap, Text, Trailer, AfterEnd, Are-append, Are-head, Are-tail, Are-cons}
 use Rattle.wire_message.proofs.Machine.{texts_of, words_place, Stands}
 use Rattle.wire_message.proofs.Transitions.{join2}
 

@@ -1,11 +1,6 @@
 -- What more octets lead to from each place; how a part of the header gets longer, and how the next one begins.
-use Rattle.std.proofs.Common.{◌≡◌, ℕ, ◌+◌, ◌≤◌, Bool, true, ◌||◌, ◌==◌, List, [], ◌∷◌, ◌++◌, length, refl, arith, inr, append_assoc, length-append, ◌<◌, ap}
-use Rattle.std.proofs.Common.{◌∙◌, inl}
-use Rattle.wire_message.proofs.Names.{and_from, list_any-append, or-false, ArrayVec, Are, IsField, is_filler_octet, is_text_octet, max_filler, Header, IsHeader}
-use Rattle.wire_message.proofs.Names.{IsFiller, IsGap, IsTrailer, IsMessage, SpellsInfo, fixed_header, has_feed, Spells, Filler, InHeader, Info, Gap, Text}
-use Rattle.wire_message.proofs.Names.{Trailer, AfterEnd, Are-append, Source, TextReader, or_right, eqb-true, cond_both, is_digit, is_letter, is_alphanumeric}
-use Rattle.wire_message.proofs.Names.{is_info_octet, max_source, max_number, max_priority, max_category, max_words, max_info, IsPlace, StoryStands, so_far}
-use Rattle.wire_message.proofs.Names.{ends, begins, is_octet_of, most_of, text_of, begun, HeaderPart, Number, Priority, Category, Words, HeaderTexts, Place}
+use Rattle.std.proofs.Common.{◌≡◌, ℕ, ◌+◌, ◌≤◌, Bool, true, ◌||◌, ◌==◌, List, [], ◌∷◌, ◌++◌, length, refl, arith, inr, append_assoc, length-append, ◌<◌, ap, ◌∙◌, inl}
+use Rattle.wire_message.proofs.Names.{and_from, list_any-append, or-false, ArrayVec, Are, IsField, is_filler_octet, is_text_octet, max_filler, Header, IsHeader, IsFiller, IsGap, IsTrailer, IsMessage, SpellsInfo, fixed_header, has_feed, Spells, Filler, InHeader, Info, Gap, Text, Trailer, AfterEnd, Are-append, Source, TextReader, or_right, eqb-true, cond_both, is_digit, is_letter, is_alphanumeric, is_info_octet, max_source, max_number, max_priority, max_category, max_words, max_info, IsPlace, StoryStands, so_far, ends, begins, is_octet_of, most_of, text_of, begun, HeaderPart, Number, Priority, Category, Words, HeaderTexts, Place}
 use Rattle.wire_message.proofs.Machine.{of, no_texts, more_info, put}
 
 -- ---- parts with more octets

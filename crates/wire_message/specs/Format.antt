@@ -1,6 +1,2 @@
-pub mod Canonical
-pub mod Causes
-pub mod Fields
-pub mod Layers
-pub mod Lengths
 pub mod Messages
+pub mod Causes

@@ -1,7 +1,10 @@
--- How a header is kept: as octets of a message, and where its parts end in them.
-use Rattle.std.specs.Prelude.{ℕ, ◌+◌, ◌≤◌, List, drop, length, slice_range}
-use Rattle.wire_message.specs.Format.Messages.{Header, header_of, IsHeader}
+-- How a header is kept, and the octets of a class.
+use Rattle.std.specs.Prelude.{ℕ, ◌+◌, ◌≤◌, List, drop, length, slice_range, Bool}
+use Rattle.wire_message.specs.Format.Messages.{Header, header_of, IsHeader, is_alphanumeric, is_info_octet, is_trailer_octet, is_filler_octet, is_text_octet}
+use Rattle.iim_dataset.specs.Format.Octets.{is_digit, is_letter}
 use Rattle.wire_message.specs.declared.ends.Ends.{Ends}
+use Rattle.wire_message.specs.declared.class.Class.{Class}
+use Rattle.wire_message.specs.declared.class.Class.TheVariants.{Letter, Digit, Alphanumeric, Info, Trailer, Filler, Text}
 
 -- the header whose parts end there in the octets: the number follows the source at once, and one octet, whichever it is, stands
 -- between other parts
@@ -30,3 +33,13 @@ pub record IsKept (octets : List ℕ) (ends : Ends) : Type 0 where
   pub category : ends.category + 1 ≤ ends.words
   pub words : ends.words + 1 ≤ length octets
   pub is_header : IsHeader (parts_in octets ends)
+
+-- the octets of a class
+abbrev pub is_in_class : Class → ℕ → Bool
+is_in_class Letter = is_letter
+is_in_class Digit = is_digit
+is_in_class Alphanumeric = is_alphanumeric
+is_in_class Info = is_info_octet
+is_in_class Trailer = is_trailer_octet
+is_in_class Filler = is_filler_octet
+is_in_class Text = is_text_octet

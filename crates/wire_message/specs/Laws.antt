@@ -1,17 +1,11 @@
 -- What holds of all messages, and where a reader of messages stands.
 use Rattle.std.specs.Prelude.{◌≡◌, ◌↔◌, ℕ, ◌==◌, IsTrue, List, ◌++◌, Option, Some, IsSome}
 use Rattle.std.specs.List.{list_any}
-use Rattle.iim_dataset.specs.Format.Characters.{stx}
-use Rattle.wire_story.specs.Format.Texts.{packed_text, IsText, MakeText}
-use Rattle.wire_message.specs.Format.Messages.{Header, IsHeader, IsTrailer, IsMessage, BeginsWithHeader}
-use Rattle.wire_message.specs.Format.Canonical.{canonical}
-use Rattle.iim_dataset.specs.Format.Languages.{IsAlive}
-use Rattle.wire_story.specs.Format.Tokens.{with_end}
-use Rattle.wire_message.specs.Format.Layers.{MessageLanguage, MessageLivesWith, text_so_far, trailer_so_far, StoryLivesIn}
-use Rattle.wire_message.specs.States.SoFar.{IsPlace, LeadsTo, Place}
-use Rattle.wire_message.specs.States.Reading.{StandsAt, head_read, trailer_read, is_ended}
+use Rattle.iim_dataset.specs.Format.Octets.{stx, IsAlive}
+use Rattle.wire_story.specs.Format.Texts.{packed_text, IsText, MakeText, with_end}
+use Rattle.wire_message.specs.Format.Messages.{Header, IsHeader, IsTrailer, IsMessage, BeginsWithHeader, canonical, MessageLanguage, MessageLivesWith, text_so_far, trailer_so_far, StoryLivesIn}
+use Rattle.wire_message.specs.States.Reading.{IsPlace, LeadsTo, Place, StandsAt, head_read, trailer_read, is_ended, saved}
 use Rattle.wire_message.specs.Format.Causes.{HasCause}
-use Rattle.wire_message.specs.States.Saved.{saved}
 use Rattle.wire_message.specs.declared.fault.MessageCause.{MessageCause}
 
 -- An object is a message in one way at most.

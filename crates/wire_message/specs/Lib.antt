@@ -5,8 +5,5 @@ pub mod States
 -- What holds of these: statements, each the contract of a law.
 pub mod Laws
 -- What only proofs and private clauses cite.
-pub mod Parts
-pub mod Classes
 pub mod Steps
-pub mod Restoring
 pub mod Kept

@@ -1,3 +1,1 @@
-pub mod SoFar
 pub mod Reading
-pub mod Saved

@@ -1,9 +1,9 @@
 //! The classes of octets that the parts of a message are made of.
 
 ghost use Rattle.std.specs.Prelude.{◌≡◌};
-ghost use Rattle.wire_message.specs.Format.Fields.{is_info_octet, is_filler_octet};
+ghost use Rattle.wire_message.specs.Format.Messages.{is_info_octet, is_filler_octet};
 ghost use Rattle.iim_dataset.specs.Format.Octets.{is_letter, is_digit};
-ghost use Rattle.wire_message.specs.Classes.{is_in_class};
+ghost use Rattle.wire_message.specs.Kept.{is_in_class};
 
 use iim_dataset::octets::{CR, ETX, LF, NUL, SYN};
 

@@ -1,7 +1,7 @@
 //! Where the parts of a header end.
 
 ghost use Rattle.std.specs.Prelude.{◌≡◌, ◌≤◌, length};
-ghost use Rattle.wire_message.specs.Format.Fields.{max_source, max_number, max_category, max_words};
+ghost use Rattle.wire_message.specs.Format.Messages.{max_source, max_number, max_category, max_words};
 ghost use Rattle.wire_message.specs.Kept.{ends_of};
 
 /// Where the parts of a header end in its octets. The number follows the source at once, and one octet stands between other

@@ -2,9 +2,9 @@
 
 ghost use Rattle.std.specs.Prelude.{◌≡◌, ◌≤◌, ◌<◌, ◌↔◌, ◌+◌, ◌++◌, [], ◌∷◌, false, length, slice_index, take, IsTrue};
 ghost use Rattle.arrayvec.specs.ArrayVec.{array_vec_len};
-ghost use Rattle.iim_dataset.specs.Format.Characters.{sp};
-ghost use Rattle.wire_message.specs.Classes.{is_in_class};
-ghost use Rattle.wire_message.specs.Format.Fields.{Are, IsField};
+ghost use Rattle.iim_dataset.specs.Format.Octets.{sp};
+ghost use Rattle.wire_message.specs.Kept.{is_in_class};
+ghost use Rattle.wire_message.specs.Format.Messages.{Are, IsField};
 
 use crate::class::{Class, is_in};
 use arrayvec::ArrayVec;

@@ -34,11 +34,10 @@ impl Model for MessageHead {
     ghost invariant = { λ head. IsKept head.octets.items head.ends };
 }
 
-ghost use Rattle.wire_message.specs.Format.Messages.{header_of, IsHeader};
-ghost use Rattle.wire_message.specs.Format.Fields.{is_alphanumeric, is_info_octet, Are, IsField, max_source, max_number, max_priority, max_category, max_words, max_info};
+ghost use Rattle.wire_message.specs.Format.Messages.{header_of, IsHeader, is_alphanumeric, is_info_octet, Are, IsField, max_source, max_number, max_priority, max_category, max_words, max_info};
 ghost use Rattle.iim_dataset.specs.Format.Octets.{is_letter, is_digit};
 ghost use Rattle.wire_message.specs.Kept.{parts_in, IsKept};
-ghost use Rattle.wire_message.specs.Parts.{begun};
+ghost use Rattle.wire_message.specs.Steps.{begun};
 
 /// Whether the parts are those of a header.
 fn is_header(

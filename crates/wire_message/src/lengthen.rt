@@ -1,11 +1,10 @@
 //! How a part gets longer where it lies: by its longest run, or by one octet of filler.
 
 ghost use Rattle.std.specs.Prelude.{◌≡◌, ◌<◌, ◌≤◌, ◌+◌, ◌&&◌, ◌||◌, ◌==◌, nat_lt, true, false, length, slice_index};
-ghost use Rattle.iim_dataset.specs.Format.Characters.{lf};
-ghost use Rattle.wire_message.specs.Format.Fields.{is_filler_octet, max_filler};
-ghost use Rattle.wire_message.specs.States.SoFar.{IsPlace};
-ghost use Rattle.wire_message.specs.Parts.{EndsPart, lengthens_gap};
-ghost use Rattle.wire_message.specs.Steps.{TakesSome};
+ghost use Rattle.iim_dataset.specs.Format.Octets.{lf};
+ghost use Rattle.wire_message.specs.Format.Messages.{is_filler_octet, max_filler};
+ghost use Rattle.wire_message.specs.States.Reading.{IsPlace};
+ghost use Rattle.wire_message.specs.Steps.{EndsPart, lengthens_gap, TakesSome};
 
 use crate::class::{Class, is_in};
 use crate::field::take_run;

@@ -1,14 +1,13 @@
 //! The step from one part of a message to the next.
 
 ghost use Rattle.std.specs.Prelude.{◌<◌, ◌≤◌, ◌≡◌, true, false, [], length, slice_index, IfSome, IfNone};
-ghost use Rattle.iim_dataset.specs.Format.Characters.{eot};
+ghost use Rattle.iim_dataset.specs.Format.Octets.{eot};
 ghost use Rattle.wire_message.specs.Format.Messages.{Header};
-ghost use Rattle.wire_message.specs.States.SoFar.{IsPlace};
+ghost use Rattle.wire_message.specs.States.Reading.{IsPlace};
 ghost use Rattle.wire_message.specs.declared.part.HeaderPart.{HeaderPart};
 ghost use Rattle.wire_message.specs.declared.part.HeaderTexts.{HeaderTexts};
 ghost use Rattle.wire_story.specs.declared.reader.TextReader.{TextReader};
-ghost use Rattle.wire_message.specs.Parts.{EndsPart};
-ghost use Rattle.wire_message.specs.Steps.{DiesWith, TakesSome, IsNoText};
+ghost use Rattle.wire_message.specs.Steps.{EndsPart, DiesWith, TakesSome, IsNoText};
 
 use crate::place::Place;
 use crate::step::{after_filler, begin_part, ends_part};

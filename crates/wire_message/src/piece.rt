@@ -1,7 +1,7 @@
 //! How a piece of a message is read from a place on: by the longest runs that lie in one part, and else octet by octet.
 
 ghost use Rattle.std.specs.Prelude.{◌≡◌, ◌<◌, ◌≤◌, length, slice_index, take, IfOk, IfErr, IfSome, IfNone, OnOk};
-ghost use Rattle.wire_message.specs.States.SoFar.{IsPlace};
+ghost use Rattle.wire_message.specs.States.Reading.{IsPlace};
 ghost use Rattle.wire_message.specs.declared.place.Place.TheVariants.{Filler};
 ghost use Rattle.wire_message.specs.Steps.{DiesWith, TakesSome, IsNoText, TakesOctets, RefusesInPart};
 

@@ -2,10 +2,9 @@
 
 ghost use Rattle.std.specs.Prelude.{◌≡◌, ◌↔◌, ◌<◌, [], List, ℕ, Option, false, is_none, length, Some, None, IsTrue, IsSome, IsOk, IfSome, IfErr, OnOk, OnErr};
 ghost use Rattle.std.specs.Option.{option_map};
-ghost use Rattle.wire_story.specs.Format.Tokens.{End};
-ghost use Rattle.wire_message.specs.Format.Layers.{MessageDiesAt};
-ghost use Rattle.wire_message.specs.States.Saved.{IsAt, LeadsToSaved};
-ghost use Rattle.wire_message.specs.Format.Lengths.{LeadsIn, IsOneOf, least_of, greatest_of};
+ghost use Rattle.wire_story.specs.Format.Texts.{End};
+ghost use Rattle.wire_message.specs.Format.Messages.{MessageDiesAt};
+ghost use Rattle.wire_message.specs.States.Reading.{IsAt, LeadsToSaved, LeadsIn, IsOneOf, least_of, greatest_of};
 
 use crate::fault::{MessageCause, MessageFault};
 use crate::head::MessageHead;
@@ -43,7 +42,7 @@ impl Model for MessageReader {
 
     ghost Value = { Option Place };
 
-    ghost use Rattle.wire_message.specs.States.SoFar.{IsPlace};
+    ghost use Rattle.wire_message.specs.States.Reading.{IsPlace};
 
     ghost view = { λ reader. reader.place };
 

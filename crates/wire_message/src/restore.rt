@@ -3,12 +3,10 @@
 ghost use Rattle.std.specs.Prelude.{◌≡◌, ◌≤◌, ◌↔◌, ◌||◌, nat_lt, if◌then◌else◌, IsTrue, IsSome, IfSome};
 ghost use Rattle.wire_message.specs.declared.place.Place.{Place};
 ghost use Rattle.wire_message.specs.declared.saved.MessagePart.TheVariants as part;
-ghost use Rattle.wire_message.specs.Classes.{is_in_class};
-ghost use Rattle.wire_message.specs.Format.Fields.{IsField, max_filler};
-ghost use Rattle.wire_message.specs.Format.Messages.{IsHeader};
-ghost use Rattle.wire_message.specs.States.SoFar.{IsPlace};
-ghost use Rattle.wire_message.specs.States.Saved.{saved};
-ghost use Rattle.wire_message.specs.Restoring.{head_in, texts_in, IsOnly};
+ghost use Rattle.wire_message.specs.Kept.{is_in_class};
+ghost use Rattle.wire_message.specs.Format.Messages.{IsField, max_filler, IsHeader};
+ghost use Rattle.wire_message.specs.States.Reading.{IsPlace, saved};
+ghost use Rattle.wire_message.specs.Steps.{head_in, texts_in, IsOnly};
 
 use crate::class::Class;
 use crate::field::{is_field, kept};

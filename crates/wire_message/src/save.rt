@@ -1,8 +1,7 @@
 //! How a place is saved.
 
 ghost use Rattle.std.specs.Prelude.{◌≡◌, ◌≤◌, [], length};
-ghost use Rattle.wire_message.specs.States.SoFar.{IsPlace};
-ghost use Rattle.wire_message.specs.States.Saved.{place_with_header, saved, saved_part};
+ghost use Rattle.wire_message.specs.States.Reading.{IsPlace, place_with_header, saved, saved_part};
 
 use crate::field::kept;
 use crate::head::MessageHead;

@@ -1,7 +1,7 @@
 //! The place of a reader, as it is saved.
 
 ghost use Rattle.std.specs.Prelude.{◌≡◌, ◌↔◌, [], IsTrue};
-ghost use Rattle.wire_message.specs.States.Saved.{place_from};
+ghost use Rattle.wire_message.specs.States.Reading.{place_from};
 
 use crate::lengths::MAX_SAVED;
 use arrayvec::ArrayVec;

@@ -1,10 +1,8 @@
 //! How many octets lead to a place.
 
 ghost use Rattle.std.specs.Prelude.{◌≡◌, ◌≤◌, ◌+◌, Some, None, length};
-ghost use Rattle.wire_message.specs.Format.Fields.{max_filler, max_source, max_number, max_priority, max_category, max_words, max_info};
-ghost use Rattle.wire_message.specs.Format.Canonical.{packed_info};
-ghost use Rattle.wire_message.specs.States.SoFar.{IsPlace, so_far};
-ghost use Rattle.wire_message.specs.Format.Lengths.{fixed_octets, least_head, least_of, greatest_of};
+ghost use Rattle.wire_message.specs.Format.Messages.{max_filler, max_source, max_number, max_priority, max_category, max_words, max_info, packed_info};
+ghost use Rattle.wire_message.specs.States.Reading.{IsPlace, so_far, fixed_octets, least_head, least_of, greatest_of};
 
 use crate::head::MessageHead;
 use crate::lengths::MAX_FILLER;

@@ -2,9 +2,8 @@
 
 ghost use Rattle.std.specs.Prelude.{◌≡◌, ◌<◌, ◌&&◌, nat_lt, IfSome, IfNone, length, slice_index};
 ghost use Rattle.std.specs.Option.{unwrap_or};
-ghost use Rattle.wire_message.specs.States.SoFar.{IsPlace};
-ghost use Rattle.wire_message.specs.Parts.{EndsPart, ends, begins, text_of};
-ghost use Rattle.wire_message.specs.Steps.{DiesWith, TakesSome};
+ghost use Rattle.wire_message.specs.States.Reading.{IsPlace};
+ghost use Rattle.wire_message.specs.Steps.{EndsPart, ends, begins, text_of, DiesWith, TakesSome};
 
 use crate::class::{Class, is_in};
 use crate::field::part_of_one;

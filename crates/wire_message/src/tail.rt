@@ -1,10 +1,9 @@
 //! The octets that end the info, the gap and the trailer, and the part that comes after each.
 
 ghost use Rattle.std.specs.Prelude.{◌≡◌, ◌<◌, ◌&&◌, ◌==◌, IfSome, IfNone, length, slice_index};
-ghost use Rattle.iim_dataset.specs.Format.Characters.{stx};
-ghost use Rattle.wire_message.specs.States.SoFar.{IsPlace};
-ghost use Rattle.wire_message.specs.Parts.{EndsPart};
-ghost use Rattle.wire_message.specs.Steps.{DiesWith, TakesSome};
+ghost use Rattle.iim_dataset.specs.Format.Octets.{stx};
+ghost use Rattle.wire_message.specs.States.Reading.{IsPlace};
+ghost use Rattle.wire_message.specs.Steps.{EndsPart, DiesWith, TakesSome};
 
 use crate::class::{Class, is_in};
 use crate::head::MessageHead;

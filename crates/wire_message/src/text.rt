@@ -3,7 +3,7 @@
 ghost use Rattle.std.specs.Prelude.{◌≡◌, ◌<◌, ◌≤◌, ℕ, false, true, [], length, take, IfOk, IfErr};
 ghost use Rattle.arrayvec.specs.ArrayVec.{ArrayVec};
 ghost use Rattle.wire_message.specs.declared.place.Place.{Place};
-ghost use Rattle.wire_message.specs.States.SoFar.{IsPlace};
+ghost use Rattle.wire_message.specs.States.Reading.{IsPlace};
 ghost use Rattle.wire_message.specs.Steps.{cause_of, TakesOctets, RefusesInPart};
 
 use crate::fault::{MessageCause, MessageFault};

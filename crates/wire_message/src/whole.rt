@@ -1,13 +1,11 @@
 //! A header that stands whole in a piece, read at once.
 
 ghost use Rattle.std.specs.Prelude.{ℕ, ◌≡◌, ◌≤◌, ◌<◌, ◌⊎◌, List, [], ◌∷◌, ◌++◌, length, take, IsTrue, IfSome, IfNone};
-ghost use Rattle.iim_dataset.specs.Format.Characters.{stx, sp};
-ghost use Rattle.wire_message.specs.Classes.{is_in_class};
-ghost use Rattle.wire_message.specs.Format.Fields.{Are, IsField, is_info_octet, max_info};
-ghost use Rattle.wire_message.specs.Format.Messages.{IsGap, BeginsWithHeader, has_feed};
+ghost use Rattle.iim_dataset.specs.Format.Octets.{stx, sp};
+ghost use Rattle.wire_message.specs.Kept.{is_in_class, parts_in, IsKept};
+ghost use Rattle.wire_message.specs.Format.Messages.{Are, IsField, is_info_octet, max_info, IsGap, BeginsWithHeader, has_feed};
 ghost use Rattle.wire_message.specs.declared.place.Place.TheVariants.{Filler};
 ghost use Rattle.wire_message.specs.Steps.{TakesSome};
-ghost use Rattle.wire_message.specs.Kept.{parts_in, IsKept};
 
 use crate::class::Class;
 use crate::ends::Ends;

@@ -2,8 +2,7 @@
 
 ghost use Rattle.std.specs.Prelude.{◌≡◌, ◌↔◌, ◌+◌, ◌≤◌, ◌∷◌, ◌++◌, length, IsTrue, IsSome, IfSome};
 ghost use Rattle.arrayvec.specs.ArrayVec.{array_vec_len};
-ghost use Rattle.wire_message.specs.Format.Messages.{IsHeader, IsTrailer};
-ghost use Rattle.wire_message.specs.Format.Canonical.{packed_head, packed_info, packed_tail};
+ghost use Rattle.wire_message.specs.Format.Messages.{IsHeader, IsTrailer, packed_head, packed_info, packed_tail};
 
 use crate::class::Class;
 use crate::field::{append, append_part, is_field};

@@ -11,12 +11,10 @@ use Rattle.std.proofs.lemmas.Nat.{and_block}
 use Rattle.std.proofs.lemmas.Simd.{zip2_of_maps, zip2_splat, map-map, mask_l-mod, mask_l-lt, ones-mask_l_cons}
 use Rattle.std.proofs.lemmas.Bool.Decides.{nat_tests}
 use Rattle.std.proofs.lemmas.List.{drop_more, drop_all, drop-drop, take_rest, take-append-drop, length-map, length-append, length-replicate, take_all, length-take-le, map-append}
-use Rattle.wire_story.specs.Format.Delivery.{LineOctet}
-use Rattle.wire_story.specs.Format.Words.{WordsSoFar, CountsWords, capped, is_word_octet, is_blank, words_begun, begun_with, inside_after}
+use Rattle.wire_story.specs.Format.Texts.{LineOctet, WordsSoFar, CountsWords, capped, is_word_octet, is_blank, words_begun, begun_with, inside_after}
 use Rattle.wire_story.proofs.Words.{told_last}
 use Rattle.wire_story.proofs.Marked.{mask_drop, mask_join}
-use Rattle.wire_story.specs.SinkLaws.{told-append}
-use Rattle.wire_story.specs.Marking.{outside_after}
+use Rattle.wire_story.specs.Steps.{told-append, outside_after}
 
 -- which octets begin a word
 abbrev begins : Bool → List ℕ → List Bool

@@ -6,12 +6,10 @@ use Rattle.std.specs.List.{slice_range, onto_first, list_all, join_with_byte}
 use Rattle.std.proofs.lemmas.Bool.{and_parts, and_from, cases_Bool}
 use Rattle.std.proofs.lemmas.List.Splits.{slice_split-cons_yes, slice_split-cons_no, length-slice_split, join_with_byte-slice_split}
 use Rattle.std.proofs.lemmas.List.Folds.{list_all-append}
-use Rattle.wire_story.specs.Format.Texts.{is_line_octet, IsLine, IsText, IsTextSoFar, MakeText, packed_text}
-use Rattle.wire_story.specs.Format.Delivery.{StoryEvent, LineOctet, LineEnd, delivered, events_of_lines}
-use Rattle.wire_story.specs.States.Collecting.{add_octet, collect}
+use Rattle.wire_story.specs.Format.Texts.{is_line_octet, IsLine, IsText, IsTextSoFar, MakeText, packed_text, StoryEvent, LineOctet, LineEnd, delivered, events_of_lines}
+use Rattle.wire_story.specs.States.Reading.{add_octet, collect}
 use Rattle.wire_story.specs.Format.Packing.{AreEvents}
-use Rattle.wire_story.specs.Joining.{lines_in}
-use Rattle.wire_story.specs.SinkLaws.{collect-append}
+use Rattle.wire_story.specs.Steps.{lines_in, collect-append}
 use Rattle.wire_story.proofs.Spans.{Are-head, Are-tail, Are-append}
 use Rattle.std.proofs.lemmas.Option.{same_Some}
 use Rattle.wire_story.specs.Laws.{TextsHaveOneReading, TextsSoFarHaveOneReading}

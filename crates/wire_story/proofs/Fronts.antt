@@ -2,11 +2,10 @@
 use Rattle.std.proofs.Common.{◌≡◌, ◌≢◌, ℕ, false, zero, suc, ◌+◌, ◌-◌, ◌<◌, ◌≤◌, List, [], ◌∷◌, ◌++◌, length, take, drop, slice_index, Option, Some, refl, subst, sym, ap, ◌∙◌, arith, length-drop}
 use Rattle.std.proofs.lemmas.List.{take_rest, drop-drop, take-append-drop}
 use Rattle.std.specs.List.{slice_range}
-use Rattle.iim_dataset.specs.Format.Counts.{Rose}
-use Rattle.wire_story.specs.Marking.{AreMarks, IsTextFront, StartsLineEnd}
+use Rattle.iim_dataset.specs.Format.Octets.{Rose}
+use Rattle.wire_story.specs.Steps.{AreMarks, IsTextFront, StartsLineEnd}
 use Rattle.wire_story.specs.declared.marks.Marks.{Marks}
-use Rattle.wire_story.specs.Format.Texts.{is_line_octet, line_end}
-use Rattle.wire_story.specs.Format.Delivery.{StoryEvent, LineEnd}
+use Rattle.wire_story.specs.Format.Texts.{is_line_octet, line_end, StoryEvent, LineEnd}
 use Rattle.wire_story.specs.States.Reading.{CountsCause, TakesPiece, RefusesOne}
 use Rattle.wire_story.specs.declared.fault.TextCause.TheVariants.{LoneReturn, ControlOctet, Sink}
 use Rattle.wire_story.specs.declared.fault.TextFault.{TextFault}

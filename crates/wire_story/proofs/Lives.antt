@@ -2,9 +2,8 @@
 use Rattle.std.proofs.Common.{◌≡◌, ℕ, ◌<◌, ◌≤◌, List, [], ◌∷◌, ◌++◌, map, Some, None, sym, ap, subst, ◌∙◌, arith, append-nil, option_and_then}
 use Rattle.std.proofs.lemmas.Option.{same_Some}
 use Rattle.wire_story.specs.Laws.{OctetsLeadToOnePlace, OctetsLeadOnAlike}
-use Rattle.iim_dataset.specs.Format.Languages.{IsAlive}
-use Rattle.wire_story.specs.Format.Texts.{IsLine, line_end, IsText, IsTextSoFar, Holds, AreLines}
-use Rattle.wire_story.specs.Format.Tokens.{Octet, End, with_end, StoryLanguage, LivesWith, StoryDiesAt}
+use Rattle.iim_dataset.specs.Format.Octets.{IsAlive}
+use Rattle.wire_story.specs.Format.Texts.{IsLine, line_end, IsText, IsTextSoFar, Holds, AreLines, Octet, End, with_end, StoryLanguage, LivesWith, StoryDiesAt}
 use Rattle.wire_story.proofs.HeldReturns.{held_after, after_octet, held_is, so_far, and_then_is, held_append}
 use Rattle.wire_story.proofs.SoFar.{with_end-append, map_snoc, front_of, end_of}
 

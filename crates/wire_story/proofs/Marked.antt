@@ -11,7 +11,7 @@ use Rattle.std.proofs.lemmas.Bool.{and_from, cases_lt}
 use Rattle.std.proofs.lemmas.Bool.Decides.{nat_tests}
 use Rattle.std.proofs.lemmas.List.Folds.{list_all_more, prefix_len-append}
 use Rattle.wire_story.specs.Format.Texts.{is_line_octet, IsLine}
-use Rattle.wire_story.specs.Marking.{is_low, AreMarks}
+use Rattle.wire_story.specs.Steps.{is_low, AreMarks}
 use Rattle.wire_story.specs.declared.marks.Marks.{Marks}
 
 -- ---- masks

@@ -4,12 +4,11 @@ use Rattle.std.specs.List.{list_all, join_with_byte}
 use Rattle.std.proofs.lemmas.Bool.{and_parts, and_from}
 use Rattle.std.proofs.lemmas.List.{map-append}
 use Rattle.std.proofs.lemmas.List.Concat.{flat_map-append}
-use Rattle.wire_story.specs.Format.Texts.{is_line_octet, line_end, packed_text, IsText, MakeText}
-use Rattle.wire_story.specs.Format.Delivery.{StoryEvent, LineOctet, LineEnd, events_of_lines, octet_for}
-use Rattle.wire_story.specs.States.Collecting.{add_octet, collect}
+use Rattle.wire_story.specs.Format.Texts.{is_line_octet, line_end, packed_text, IsText, MakeText, StoryEvent, LineOctet, LineEnd, events_of_lines, octet_for}
+use Rattle.wire_story.specs.States.Reading.{add_octet, collect}
 use Rattle.wire_story.specs.Format.Packing.{packed_event, packed_events}
 use Rattle.wire_story.specs.Laws.{LinesArePackedAsTheirEvents, EventsArePackedAsLines}
-use Rattle.wire_story.specs.SinkLaws.{octets_of_line}
+use Rattle.wire_story.specs.Steps.{octets_of_line}
 use Rattle.wire_story.proofs.Collected.{octet_some, collected_made}
 
 pub line_packed : (line : List ℕ) → packed_events (map LineOctet line) ≡ line

@@ -5,8 +5,7 @@ use Rattle.std.proofs.Common.{◌≡◌, ◌≢◌, ℕ, ◌+◌, ◌<◌, true,
 use Rattle.std.proofs.lemmas.Bool.{true≢false}
 use Rattle.std.proofs.lemmas.Bool.Decides.{nat_tests}
 use Rattle.std.proofs.lemmas.Option.{same_Some}
-use Rattle.wire_story.specs.Format.Texts.{is_line_octet, IsLine, Holds}
-use Rattle.wire_story.specs.Format.Tokens.{LivesWith}
+use Rattle.wire_story.specs.Format.Texts.{is_line_octet, IsLine, Holds, LivesWith}
 use Rattle.wire_story.specs.States.Reading.{StandsAt, LeadsOn, Refuses}
 use Rattle.wire_story.specs.declared.fault.TextCause.{TextCause}
 use Rattle.wire_story.specs.declared.fault.TextCause.TheVariants.{LoneReturn, ControlOctet, Sink}

@@ -1,8 +1,7 @@
 -- Octets as tokens, and texts so far: lemmas that proofs on messages cite too.
 use Rattle.std.proofs.Common.{◌≡◌, ℕ, ◌≤◌, List, [], ◌∷◌, ◌++◌, map, refl, sym, ap, ◌∙◌, append_assoc}
 use Rattle.std.proofs.lemmas.List.{map-append}
-use Rattle.wire_story.specs.Format.Texts.{IsTextSoFar}
-use Rattle.wire_story.specs.Format.Tokens.{OctetOrEnd, Octet, End, with_end}
+use Rattle.wire_story.specs.Format.Texts.{IsTextSoFar, OctetOrEnd, Octet, End, with_end}
 
 pub with_end-append : (x y : List ℕ) → with_end (x ++ y) ≡ map Octet x ++ with_end y
 with_end-append x y = ap (λ (t : List OctetOrEnd). t ++ End ∷ []) (map-append Octet x y) ∙ append_assoc (map Octet x) (map Octet y) (End ∷ [])

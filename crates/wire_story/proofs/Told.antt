@@ -4,8 +4,7 @@ use Rattle.std.proofs.Math.Seq.{take-add}
 use Rattle.std.specs.List.{slice_range}
 use Rattle.std.proofs.Common.{◌≡◌, ℕ, zero, suc, ◌+◌, true, List, [], ◌∷◌, ◌++◌, map, take, replicate, refl, sym, ap, ◌∙◌, append-nil, length}
 use Rattle.std.proofs.lemmas.List.Concat.{flat_map-append}
-use Rattle.wire_story.specs.Format.Texts.{is_line_octet, IsLine, line_end, IsText, IsTextSoFar}
-use Rattle.wire_story.specs.Format.Delivery.{StoryEvent, LineOctet, LineEnd, events_of, delivered, events_of_lines}
+use Rattle.wire_story.specs.Format.Texts.{is_line_octet, IsLine, line_end, IsText, IsTextSoFar, StoryEvent, LineOctet, LineEnd, events_of, delivered, events_of_lines}
 use Rattle.wire_story.proofs.Spans.{Are-head, Are-tail}
 use Rattle.wire_story.proofs.HeldReturns.{not_at}
 

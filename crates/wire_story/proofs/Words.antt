@@ -2,11 +2,10 @@
 use Rattle.std.proofs.Common.{◌≡◌, ℕ, ◌+◌, cond, Bool, true, false, not, List, [], ◌∷◌, ◌++◌, length, map, inl, inr, refl, sym, ap, subst, ◌∙◌, arith, append-nil}
 use Rattle.std.proofs.lemmas.Bool.{cases_Bool, both_ways}
 use Rattle.std.proofs.lemmas.List.Sums.{sum_by-cons}
-use Rattle.wire_story.specs.Format.Delivery.{LineOctet, LineEnd, delivered, events_of_lines}
-use Rattle.wire_story.specs.Format.Words.{is_word_octet, is_blank, words_begun, words_in, words, EndsWord, HasWords, capped, words_told}
+use Rattle.wire_story.specs.Format.Texts.{LineOctet, LineEnd, delivered, events_of_lines, is_word_octet, is_blank, words_begun, words_in, words, EndsWord, HasWords, capped, words_told}
 use Rattle.wire_story.specs.Laws.{WordsAreLongestRuns, TextsAreCountedAsLines}
 use Rattle.wire_story.proofs.Spans.{Are, Are-head, Are-tail, Are-cons, span, no_stop}
-use Rattle.wire_story.specs.SinkLaws.{told-append}
+use Rattle.wire_story.specs.Steps.{told-append}
 use Rattle.std.proofs.lemmas.Bool.Decides.{nat_tests}
 use Rattle.wire_story.proofs.Told.{delivered_lines}
 

@@ -1,15 +1,11 @@
+-- What holds of all texts and stories; the record at the end has a field for each law.
 use Rattle.std.specs.Prelude.{◌≡◌, ℕ, List, ◌↔◌, [], ◌∷◌, ◌++◌, map, Option}
-use Rattle.wire_story.specs.Format.Texts.{packed_text, IsText, IsTextSoFar, Holds, AreLines, MakeText}
-use Rattle.wire_story.specs.Format.Delivery.{StoryEvent, events_of_lines, delivered, octet_for}
+use Rattle.wire_story.specs.Format.Texts.{packed_text, IsText, IsTextSoFar, Holds, AreLines, MakeText, StoryEvent, events_of_lines, delivered, octet_for, StoryLanguage, Octet, End, LivesWith, words_in, words, HasWords, WordsSoFar, capped, CountsWords}
 use Rattle.wire_story.specs.Format.Packing.{packed_events, AreEvents, IsPackedAsLines}
 use Rattle.std.specs.List.{join_with_byte}
-use Rattle.iim_dataset.specs.Format.Characters.{lf}
-use Rattle.iim_dataset.specs.Format.Languages.{IsAlive}
-use Rattle.wire_story.specs.States.Collecting.{collect}
-use Rattle.wire_story.specs.Format.Tokens.{StoryLanguage, Octet, End, LivesWith}
-use Rattle.wire_story.specs.States.Reading.{StandsAt, IsPlace}
+use Rattle.iim_dataset.specs.Format.Octets.{lf, IsAlive}
+use Rattle.wire_story.specs.States.Reading.{collect, StandsAt, IsPlace}
 use Rattle.std.proofs.Common.{false, length}
-use Rattle.wire_story.specs.Format.Words.{words_in, words, HasWords, WordsSoFar, capped, CountsWords}
 
 -- ---- How events are packed, and the lines that they are.
 

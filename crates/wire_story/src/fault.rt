@@ -1,7 +1,7 @@
 //! Why a text is refused.
 
 ghost use Rattle.std.specs.Prelude.{◌≡◌, Some};
-ghost use Rattle.wire_story.specs.Format.Causes.{number_of_text, name_of_text, print_of_text};
+ghost use Rattle.wire_story.specs.Format.Texts.{number_of_text, name_of_text, print_of_text};
 
 use std::error::Error;
 use std::fmt;

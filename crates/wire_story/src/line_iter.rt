@@ -4,8 +4,8 @@ ghost use Rattle.std.specs.Prelude.{◌≡◌, ◌==◌, ℕ, List, []};
 ghost use Rattle.std.specs.Iterator.{YieldsFirstRef, item_count};
 ghost use Rattle.std.specs.List.{position_or_len};
 ghost use Rattle.std.specs.Option.{option_copied, option_map, unwrap_or};
-ghost use Rattle.iim_dataset.specs.Format.Characters.{lf};
-ghost use Rattle.wire_story.specs.Joining.{lines_in};
+ghost use Rattle.iim_dataset.specs.Format.Octets.{lf};
+ghost use Rattle.wire_story.specs.Steps.{lines_in};
 
 use crate::marks::Marks;
 use iim_dataset::octets::LF;

@@ -1,11 +1,10 @@
 //! A sink that collects the lines.
 
 ghost use Rattle.std.specs.Prelude.{◌≡◌, ◌<◌, [], ◌∷◌, length, map, take, refl, vec_capacity, IfErr, OnOk, OnErr};
-ghost use Rattle.iim_dataset.specs.Format.Counts.{Rose};
-ghost use Rattle.wire_story.specs.Format.Texts.{IsLine, MakeText};
-ghost use Rattle.wire_story.specs.Format.Delivery.{LineOctet};
-ghost use Rattle.wire_story.specs.States.Collecting.{Collected, collect};
-ghost use Rattle.wire_story.specs.Joining.{lines_in};
+ghost use Rattle.iim_dataset.specs.Format.Octets.{Rose};
+ghost use Rattle.wire_story.specs.Format.Texts.{IsLine, MakeText, LineOctet};
+ghost use Rattle.wire_story.specs.States.Reading.{Collected, collect};
+ghost use Rattle.wire_story.specs.Steps.{lines_in};
 
 use crate::line_iter::LineIter;
 use crate::sink::StorySink;
@@ -77,7 +76,7 @@ impl StorySink for Lines {
 
     ghost failures = { λ sink. sink.failures };
 
-    ghost use Rattle.wire_story.specs.SinkLaws.{collect_joined};
+    ghost use Rattle.wire_story.specs.Steps.{collect_joined};
 
     ghost nothing = { λ sink. refl };
 

@@ -4,7 +4,7 @@ ghost use Rattle.std.specs.Prelude.{◌≡◌, ◌<◌, ◌≤◌, ◌+◌, ◌/
 ghost use Rattle.std.specs.Int.Count.{count_trailing_zeros};
 ghost use Rattle.std.specs.Simd.Lanes.{mask_l};
 ghost use Rattle.wire_story.specs.Format.Texts.{is_line_octet, IsLine};
-ghost use Rattle.wire_story.specs.Marking.{is_low, AreMarks};
+ghost use Rattle.wire_story.specs.Steps.{is_low, AreMarks};
 
 use crate::line::may_stand;
 use std::simd::prelude::*;

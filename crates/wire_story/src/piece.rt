@@ -1,10 +1,10 @@
 //! How a piece of a text is read after some held CR or none: by the longest runs that lie in one line, and else octet by octet.
 
 ghost use Rattle.std.specs.Prelude.{◌≡◌, ◌<◌, ◌≤◌, false, length, drop, slice_index, take, Some, IfErr, IfOk, IsTrue, OnOk};
-ghost use Rattle.iim_dataset.specs.Format.Characters.{lf, cr};
+ghost use Rattle.iim_dataset.specs.Format.Octets.{lf, cr};
 ghost use Rattle.wire_story.specs.Format.Texts.{is_line_octet, IsLine, max_returns};
 ghost use Rattle.wire_story.specs.States.Reading.{TakesPiece, RefusesOne};
-ghost use Rattle.wire_story.specs.Marking.{AreMarks, IsTextFront, StartsLineEnd};
+ghost use Rattle.wire_story.specs.Steps.{AreMarks, IsTextFront, StartsLineEnd};
 
 use crate::fault::{TextCause, TextFault};
 use crate::marks::{BLOCK, Marks, tail_len};

@@ -2,8 +2,7 @@
 
 ghost use Rattle.std.specs.Prelude.{◌≡◌, ◌≤◌, [], List, ℕ, Option, is_none, Some, None, ◌↔◌, IsSome, IfSome, IfErr, OnOk, OnErr};
 ghost use Rattle.std.specs.Option.{ForSome};
-ghost use Rattle.wire_story.specs.Format.Texts.{AreLines, max_returns};
-ghost use Rattle.wire_story.specs.Format.Tokens.{End, StoryDiesAt};
+ghost use Rattle.wire_story.specs.Format.Texts.{AreLines, max_returns, End, StoryDiesAt};
 ghost use Rattle.wire_story.specs.States.Reading.{StandsAt, TakesPiece, RefusesOne};
 
 use crate::fault::{TextCause, TextFault};

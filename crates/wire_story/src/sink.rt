@@ -1,9 +1,8 @@
 //! Where the text of a story goes.
 
 ghost use Rattle.std.specs.Prelude.{◌≡◌, ◌<◌, ◌++◌, [], ◌∷◌, List, ℕ, length, map, take, IfErr, OnOk, OnErr};
-ghost use Rattle.iim_dataset.specs.Format.Counts.{Rose};
-ghost use Rattle.wire_story.specs.Format.Texts.{IsLine};
-ghost use Rattle.wire_story.specs.Format.Delivery.{StoryEvent, LineOctet, LineEnd};
+ghost use Rattle.iim_dataset.specs.Format.Octets.{Rose};
+ghost use Rattle.wire_story.specs.Format.Texts.{IsLine, StoryEvent, LineOctet, LineEnd};
 
 use iim_dataset::Stop;
 

@@ -1,9 +1,8 @@
 //! How long a text is where it is packed.
 
 ghost use Rattle.std.specs.Prelude.{◌≡◌, ◌≤◌, ◌↔◌, ◌==◌, length, count_by, take, IsSome, IfSome};
-ghost use Rattle.iim_dataset.specs.Format.Characters.{lf};
+ghost use Rattle.iim_dataset.specs.Format.Octets.{lf, greatest_size};
 ghost use Rattle.wire_story.specs.Format.Texts.{packed_text};
-ghost use Rattle.iim_dataset.specs.Format.Octets.{greatest_size};
 
 use crate::lines::Lines;
 use iim_dataset::GREATEST_SIZE;

@@ -2,9 +2,8 @@
 
 ghost use Rattle.std.specs.Prelude.{List, ℕ, ◌≡◌, ◌==◌, ◌<◌, ◌≤◌, ◌∷◌, [], false, drop, length, map, take, IsOk};
 ghost use Rattle.std.specs.Simd.Lanes.{mask_l};
-ghost use Rattle.wire_story.specs.Format.Delivery.{LineOctet, LineEnd};
-ghost use Rattle.wire_story.specs.Format.Words.{WordsSoFar, is_word_octet, is_blank, words_begun, inside_after, CountsWords};
-ghost use Rattle.wire_story.specs.Marking.{outside_after};
+ghost use Rattle.wire_story.specs.Format.Texts.{LineOctet, LineEnd, WordsSoFar, is_word_octet, is_blank, words_begun, inside_after, CountsWords};
+ghost use Rattle.wire_story.specs.Steps.{outside_after};
 
 use crate::marks::BLOCK;
 use crate::sink::StorySink;
@@ -165,7 +164,7 @@ impl WordCount {
         }
     }
 
-    /// A count that goes on from so many words, inside a word of the present line or not.
+    /// A count that continues from so many words, inside a word of the present line or not.
     pub fn resume(words: u64, inside: bool) -> WordCount
         ensures words { result.words ≡ words }
         ensures inside { result.inside ≡ inside }
@@ -240,7 +239,7 @@ impl StorySink for WordCount {
 
     ghost failures = { λ sink. 0 };
 
-    ghost use Rattle.wire_story.specs.SinkLaws.{counts_nothing, counts_joined};
+    ghost use Rattle.wire_story.specs.Steps.{counts_nothing, counts_joined};
 
     ghost nothing = { counts_nothing };
 

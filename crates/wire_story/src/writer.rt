@@ -1,11 +1,9 @@
 //! A sink that writes the lines joined by LF.
 
 ghost use Rattle.std.specs.Prelude.{◌≡◌, ◌<◌, [], ◌∷◌, length, map, take, IfErr, OnOk, OnErr};
-ghost use Rattle.iim_dataset.specs.Format.Characters.{lf};
-ghost use Rattle.iim_dataset.specs.Format.Counts.{Rose};
+ghost use Rattle.iim_dataset.specs.Format.Octets.{lf, Rose};
 ghost use Rattle.iim_dataset.specs.States.Devices.{Wrote, Stopped, WithinInterruptionLimit};
-ghost use Rattle.wire_story.specs.Format.Texts.{IsLine};
-ghost use Rattle.wire_story.specs.Format.Delivery.{LineOctet, LineEnd};
+ghost use Rattle.wire_story.specs.Format.Texts.{IsLine, LineOctet, LineEnd};
 
 use crate::sink::StorySink;
 use iim_dataset::octets::LF;
@@ -19,7 +17,7 @@ pub struct LineWriter<W> {
 }
 
 impl<W: Target> LineWriter<W> {
-    ghost use Rattle.wire_story.specs.States.Writing.{writer_of, device_of, stops_of, WritesOctets};
+    ghost use Rattle.wire_story.specs.States.Reading.{writer_of, device_of, stops_of, WritesOctets};
 
     /// A sink that writes lines to this target.
     pub fn new(writer: W) -> LineWriter<W>
@@ -61,13 +59,13 @@ impl<W: Target> LineWriter<W> {
 }
 
 impl<W: Target> StorySink for LineWriter<W> {
-    ghost use Rattle.wire_story.specs.States.Writing.{device_of, stops_of, WritesLines};
+    ghost use Rattle.wire_story.specs.States.Reading.{device_of, stops_of, WritesLines};
 
     ghost goes = { WritesLines W.state };
 
     ghost failures = { stops_of };
 
-    ghost use Rattle.wire_story.specs.SinkLaws.{writes_nothing, writes_joined};
+    ghost use Rattle.wire_story.specs.Steps.{writes_nothing, writes_joined};
 
     ghost nothing = { λ sink. writes_nothing (device_of W.state sink) (stops_of sink) };
 
@@ -111,7 +109,7 @@ impl<W: Target> StorySink for LineWriter<W> {
 }
 
 impl<W: Target> Target for LineWriter<W> {
-    ghost use Rattle.wire_story.specs.States.Writing.{device_of};
+    ghost use Rattle.wire_story.specs.States.Reading.{device_of};
 
     ghost state = { device_of W.state };
 

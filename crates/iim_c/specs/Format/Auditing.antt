@@ -1,25 +1,57 @@
--- What a piece of an input comes to that is audited from the place of a ticket on.
-use Rattle.std.specs.Prelude.{◌≡◌, ℕ, ◌<◌, ◌≤◌, ℤ, ◌⊎◌, List, [], ◌∷◌, ◌++◌, length, take, drop, None, ⊤}
-use Rattle.iim_fields.specs.Format.Views.{instant_of_release, instant_of_expiration}
-use Rattle.iim_fields.specs.declared.limits.Limits.{Limits}
+-- What a piece of an input comes to that is audited from the place of a ticket on, and the rows of an audit.
+use Rattle.std.specs.Prelude.{◌≡◌, ℕ, ◌-◌, ℤ, pos, List, ◌++◌, length, replicate, Option, is_some, ◌<◌, ◌≤◌, ◌⊎◌, [], ◌∷◌, take, drop, None, ⊤}
+use Rattle.std.specs.Option.{unwrap_or}
+use Rattle.iim_c.specs.Format.Tables.{TellsInstant, IsInstant, IsToldAs}
+use Rattle.iim_fields.specs.Format.Records.{instant_of_release, instant_of_expiration}
 use Rattle.iim_places.specs.Format.Admitted.{Value}
 use Rattle.iim_places.specs.Format.Open.{IsOpen}
-use Rattle.iim_places.specs.Format.Streams.{IsEnvelopeWithin}
+use Rattle.iim_places.specs.Format.Streams.{IsEnvelopeWithin, raised}
 use Rattle.iim_places.specs.Format.Tickets.{IsTicketOf}
-use Rattle.iim_places.specs.States.Counts.{raised}
-use Rattle.iim_places.specs.declared.refusal.Refusal.{Refusal}
-use Rattle.iim_audit.specs.Format.Pieces.{HaveWords, Refuses}
-use Rattle.iim_audit.specs.Format.Rows.{row_with}
-use Rattle.iim_c.specs.Format.Answers.{status_answer, short_answer, refusal_answer, IimAnswer}
+use Rattle.iim_audit.specs.Format.{HaveWords, Refuses, row_with}
+use Rattle.iim_c.specs.Format.Answers.{status_answer, short_answer, refusal_answer, IimAnswer, HoldsFirst}
 use Rattle.iim_c.specs.Format.Feeding.{IsSaid, IsNowhere, most_of_ticket}
 use Rattle.iim_c.specs.Format.Statuses as status
+use Rattle.iim_c.specs.Format.Tickets.{words_so_far, begins_at}
+use Rattle.iim_audit.specs.declared.copy.CopyState.{CopyState}
+use Rattle.iim_audit.specs.declared.copy.CopyState.TheVariants.{Held, Expired, Free}
+use Rattle.iim_audit.specs.declared.row.AuditRow.{AuditRow}
+use Rattle.iim_fields.specs.declared.limits.Limits.{Limits}
+use Rattle.iim_places.specs.declared.refusal.Refusal.{Refusal}
 use Rattle.iim_c.specs.declared.instant.IimInstant.{IimInstant}
 pub use Rattle.iim_c.specs.declared.row.IimAuditRow.{IimAuditRow}
 pub use Rattle.iim_c.specs.declared.so_far.IimSoFar.{IimSoFar}
-use Rattle.iim_c.specs.Format.Instants.{IsInstant, IsToldAs}
-use Rattle.iim_c.specs.Format.Rows.{TellsRow}
-use Rattle.iim_c.specs.Format.SoFar.{words_so_far, begins_at}
-use Rattle.iim_c.specs.Format.Writing.{HoldsFirst}
+
+-- octets, and zeros after them up to a number of octets
+abbrev pub padded : ℕ → List ℕ → List ℕ
+padded room octets = octets ++ replicate (room - length octets) 0
+
+-- the states of copy by their numbers
+-- twin: `names_the_kinds_and_duties_as_the_header_does`, `tells_the_rows_of_the_samples_whatever_the_pieces`
+abbrev pub copy_number : CopyState → ℕ
+copy_number Free = 0
+copy_number Held = 1
+copy_number Expired = 2
+
+-- The row of an envelope of so many octets, which begins at this offset of the input: what an audit's row tells of it but which earlier
+-- one it repeats, and the instants of its copy.
+-- twin: `declares_each_struct_with_its_members`, `tells_the_rows_of_the_samples_whatever_the_pieces`
+pub record TellsRow (at octets : ℕ) (told : AuditRow) (release expires : Option ℤ) (row : IimAuditRow) : Type 0 where
+  pub at_is : row.at ≡ at
+  pub octets_are : row.octets ≡ octets
+  pub service : row.service ≡ padded 10 told.id.service
+  pub service_octets : row.service_octets ≡ length told.id.service
+  pub number : row.number ≡ padded 8 told.id.number
+  pub date_sent : row.date_sent ≡ padded 8 told.id.date_sent
+  pub priority : row.priority ≡ unwrap_or told.priority 0
+  pub size : row.size ≡ told.size
+  pub subfiles : row.subfiles ≡ told.subfiles
+  pub announced : row.announced ≡ told.announced
+  pub counted : row.counted ≡ told.counted
+  pub has_age : row.has_age ≡ is_some told.age
+  pub age : row.age ≡ unwrap_or told.age (pos 0)
+  pub copy : row.copy ≡ copy_number told.copy
+  pub release_is : TellsInstant release row.has_release row.release
+  pub expires_is : TellsInstant expires row.has_expires row.expires
 
 -- ---- rows
 
@@ -93,7 +125,7 @@ IsSaidOf limits ticket so_far said =
     IsSaid limits ticket so_far.octets
     (λ p a. HaveWords p (words_so_far ticket so_far) → said (record { at = so_far.at; octets = p; count = a })) (λ p a. ⊥)
 
--- the answer after which the audit goes on
+-- the answer after which the audit continues
 abbrev pub answer_with : (state used : ℕ) → Outcome → IimAnswer
 answer_with state used o = record (status_answer state) { octet = o.kept.octets; used = used; written = length o.rows; ticket = length o.next }
 

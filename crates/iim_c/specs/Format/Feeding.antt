@@ -1,21 +1,19 @@
 -- What a piece comes to that is fed from the place of a ticket.
 use Rattle.std.specs.Prelude.{◌≡◌, ◌≢◌, ℕ, ◌+◌, ◌*◌, ◌<◌, ◌≤◌, ◌⊎◌, List, [], ◌∷◌, ◌++◌, length, take, map}
 use Rattle.iim_fields.specs.declared.limits.Limits.{Limits}
-use Rattle.wire_story.specs.Format.Delivery.{StoryEvent, octet_for}
+use Rattle.wire_story.specs.Format.Texts.{StoryEvent, octet_for}
 use Rattle.iim_places.specs.Format.Admitted.{Value}
 use Rattle.iim_places.specs.Format.Open.{IsOpen, Delivers, IsTruncatedAt}
 use Rattle.iim_places.specs.States.Restored.{IsTicketAt, IsRestoreFault}
-use Rattle.iim_places.specs.Format.Streams.{IsEnvelopeWithin}
+use Rattle.iim_places.specs.Format.Streams.{IsEnvelopeWithin, raised}
 use Rattle.iim_places.specs.Format.Tickets.{Place, IsPlaceOf, IsTicketOf}
 use Rattle.iim_unpack.specs.States.Unpacking.{IsRefusedIn}
-use Rattle.iim_places.specs.States.Counts.{raised}
 use Rattle.iim_places.specs.declared.refusal.Refusal.{Refusal}
 use Rattle.iim_places.specs.declared.refusal.Cause.TheVariants.{Message}
 use Rattle.wire_message.specs.declared.fault.MessageCause.TheVariants.{Sink}
 use Rattle.iim_places.specs.declared.ticket.fault.TicketFault.{TicketFault}
-use Rattle.iim_c.specs.Format.Answers.{status_answer, short_answer, refusal_answer, ticket_answer, IimAnswer}
+use Rattle.iim_c.specs.Format.Answers.{status_answer, short_answer, refusal_answer, ticket_answer, IimAnswer, counted, HoldsFirst}
 use Rattle.iim_c.specs.Format.Statuses as status
-use Rattle.iim_c.specs.Format.Writing.{counted, HoldsFirst}
 
 -- ---- the place of a ticket
 
@@ -77,7 +75,7 @@ pub record Refuses (limits : Limits) (piece : List ℕ) (e : Refusal) (text : Li
   pub text_is : text ≡ map octet_for more
   pub by_octets : e.cause ≢ Message Sink
 
--- There is no place to go on from, and the answer tells why: the ticket is refused, or memory.
+-- There is no place to continue from, and the answer tells why: the ticket is refused, or memory.
 abbrev pub IsNowhere : Limits → List ℕ → IimAnswer → Type 0
 IsNowhere limits ticket told =
     ((fault : TicketFault) × (ticket ≢ []) × IsRestoreFault limits ticket fault × (told ≡ ticket_answer fault)) ⊎ (told ≡ status_answer status.no_memory)

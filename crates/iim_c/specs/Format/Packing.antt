@@ -1,6 +1,6 @@
 -- What a script and the way of packing are answered.
 use Rattle.std.specs.Prelude.{◌≡◌, ℕ, ◌<◌, ◌≤◌, ◌⊎◌, true, false, IsTrue, if◌then◌else◌, List, [], ◌++◌, length, drop, Some, None}
-use Rattle.iim_object.specs.Format.Plans.{is_plan}
+use Rattle.iim_object.specs.Format.Objects.{is_plan}
 use Rattle.iim_object.specs.declared.size.Size.TheVariants.{Unknown}
 use Rattle.iim_pack_script.specs.Format.{Asked, asked, IsFormOf, IsScriptRefusal, IsScriptOf, ScriptContent, refusal_line}
 use Rattle.iim_request.specs.Format.{default_subfile}

@@ -31,7 +31,7 @@ short = 5
 abbrev pub no_memory : ℕ
 no_memory = 6
 
--- the octets are no ticket from which the call can go on
+-- the octets are no ticket from which the call can continue
 abbrev pub bad_ticket : ℕ
 bad_ticket = 7
 

@@ -1,9 +1,14 @@
--- Datasets, and how octets spell them (IIM version 4, the chapter on DataSets).
-use Rattle.std.specs.Prelude.{◌≡◌, ℕ, ◌+◌, ◌^◌, ◌<◌, ◌≤◌, nat_lt, ◌⊎◌, if◌then◌else◌, List, [], ◌∷◌, ◌++◌, length, flat_map, ◌==◌}
-use Rattle.byteorder.specs.Endian.{big_bytes}
-use Rattle.iim_dataset.specs.Format.Octets.{IsOctet, Octets, number}
-pub use Rattle.iim_dataset.specs.declared.head.Head.{Head}
+-- Datasets (IIM version 4, the chapter on DataSets): how octets spell them, what octets so far split into, and how they are printed.
+use Rattle.std.specs.Prelude.{◌≡◌, ℕ, ◌+◌, ◌^◌, ◌<◌, ◌≤◌, nat_lt, ◌⊎◌, if◌then◌else◌, List, [], ◌∷◌, ◌++◌, length, flat_map, ◌==◌, take, ◌-◌, ◌/◌, ◌%◌, ◌&&◌, not, Bool, nat_le, codes, decimal, Option, Some, None}
 use Rattle.std.specs.List.{filter}
+use Rattle.byteorder.specs.Endian.{big_bytes}
+use Rattle.iim_dataset.specs.Format.Octets.{IsOctet, Octets, number, IsProperPrefix, sp, digit_zero, capital_a, backslash, small_x}
+pub use Rattle.iim_dataset.specs.declared.head.Head.{Head}
+pub use Rattle.iim_dataset.specs.declared.head.HeadFault.{HeadFault}
+use Rattle.iim_dataset.specs.declared.head.HeadCause.{HeadCause}
+use Rattle.iim_dataset.specs.declared.head.HeadCause.TheVariants.{Marker, CountForm}
+use Rattle.iim_dataset.specs.declared.device.IoFault.{IoFault}
+use Rattle.iim_dataset.specs.declared.device.IoFault.TheVariants.{Interrupted, Failed}
 
 -- a dataset: the number of its record, its number in the record, and its data
 pub record Dataset : Type 0 where
@@ -96,3 +101,112 @@ canonical_stream ds = flat_map canonical_dataset ds
 -- the datasets of record r
 abbrev pub of_record : ℕ → List Dataset → List Dataset
 of_record r ds = filter (λ d. d.rec == r) ds
+
+-- less than the whole spelling of one dataset
+pub record IsPart (limit : ℕ) (xs : List ℕ) : Type 0 where
+  pub begun : Dataset
+  pub octets : List ℕ
+  pub spelled : SpellsDataset limit begun octets
+  pub is_part : IsProperPrefix xs octets
+
+-- The octets so far split into whole datasets and a rest that is less than a whole one.
+pub record SplitsInto (limit : ℕ) (xs : List ℕ) (whole : List Dataset) (rest : List ℕ) : Type 0 where
+  pub front : List ℕ
+  pub is_front : SpellsStream limit whole front
+  pub is_rest : IsPart limit rest
+  pub parts : xs ≡ front ++ rest
+
+-- A begun dataset: octets of its tag (none between datasets), or its head with less than all of its data.
+pub data Begun : Type 0 where
+  InTag : List ℕ → Begun
+  InData : Head → List ℕ → Begun
+
+-- The octets are those of the begun dataset.
+abbrev pub IsBegun : ℕ → Begun → List ℕ → Type 0
+IsBegun limit (InTag held) xs = (xs ≡ held) × (h : Head) × (tag : List ℕ) × SpellsTag limit h tag × IsProperPrefix held tag
+IsBegun limit (InData h taken) xs = (tag : List ℕ) × SpellsTag limit h tag × (length taken < h.count) × Octets taken × (xs ≡ tag ++ taken)
+
+-- The octets so far are these whole datasets and this begun one.
+pub record Reads (limit : ℕ) (xs : List ℕ) (whole : List Dataset) (begun : Begun) : Type 0 where
+  pub front : List ℕ
+  pub rest : List ℕ
+  pub is_front : SpellsStream limit whole front
+  pub is_rest : IsBegun limit begun rest
+  pub parts : xs ≡ front ++ rest
+
+-- The next octet completes the data of the head: it is the last of them, or the head has none and its tag ends there.
+abbrev pub CompletesData : List ℕ → ℕ → List Dataset → Head → List ℕ → Type 0
+CompletesData octets next whole head given =
+    ((taken : List ℕ) × Reads count_octets octets whole (InData head taken) × (given ≡ taken ++ next ∷ []) × (length given ≡ head.count))
+    ⊎ ((held : List ℕ) × Reads count_octets octets whole (InTag held) × SpellsTag count_octets head (held ++ next ∷ []) × (head.count ≡ 0) × (given ≡ []))
+
+-- The octets begin a tag, and are not all of it.
+pub record BeginsTag (limit : ℕ) (octets : List ℕ) : Type 0 where
+  pub head : Head
+  pub more : List ℕ
+  pub some_more : 0 < length more
+  pub whole : SpellsTag limit head (octets ++ more)
+
+-- No tag begins with the octets.
+abbrev pub BeginsNoTag : ℕ → List ℕ → Type 0
+BeginsNoTag limit octets = (h : Head) (more : List ℕ) → SpellsTag limit h (octets ++ more) → ⊥
+
+-- The first octet of a tag is its marker, and those from the fourth on are its count.
+-- twin: "Octets that begin no tag", "Counts of no such form"
+abbrev pub Concerns : HeadCause → ℕ → Type 0
+Concerns Marker at = at ≡ 0
+Concerns CountForm at = 3 ≤ at
+
+-- The first `used` octets are the tag of this head.
+pub record HasTag (octets : List ℕ) (head : Head) (used : ℕ) : Type 0 where
+  pub some : 0 < used
+  pub within : used ≤ length octets
+  pub tag : SpellsTag count_octets head (take used octets)
+
+-- The octets before the one at `at` begin a tag, and with that one no tag does.
+pub record HasNoTag (octets : List ℕ) (fault : HeadFault) : Type 0 where
+  pub within : fault.taken < length octets
+  pub begun : BeginsTag count_octets (take fault.taken octets)
+  pub dead : BeginsNoTag count_octets (take (fault.taken + 1) octets)
+  pub cause : Concerns fault.cause fault.taken
+
+-- the digit of a number below 16: 0 to 9, A to F
+-- twins (with escape, is_plain, shown_octet): "Octets as they are shown": each of the 256; `shows_each_octet`
+abbrev pub hex_digit : ℕ → ℕ
+hex_digit n = if nat_lt n 10 then digit_zero + n else capital_a - 10 + n
+
+-- \x and the two digits of an octet
+abbrev pub escape : ℕ → List ℕ
+escape octet = backslash ∷ small_x ∷ hex_digit (octet / 16) ∷ hex_digit (octet % 16) ∷ []
+
+-- Octets from 20 to 7E stand for themselves, but for the backslash.
+abbrev pub is_plain : ℕ → Bool
+is_plain octet = nat_le sp octet && nat_le octet 0x7e && not (octet == backslash)
+
+-- an octet as itself, or as \x and two digits
+abbrev pub shown_octet : ℕ → List ℕ
+shown_octet octet = if is_plain octet then octet ∷ [] else escape octet
+
+abbrev pub shown : List ℕ → List ℕ
+shown octets = flat_map shown_octet octets
+
+-- a 0 before a number of one digit
+-- twins (with dataset_name): `knows_each_row` asks it of each number; "the numbers that were read are told": 2:105 and 2:05
+abbrev pub padding : ℕ → List ℕ
+padding n = if nat_lt n 10 then codes "0" else []
+
+-- a dataset's name: its record, and its number with two digits at least, as 1:00 or 2:105
+abbrev pub dataset_name : ℕ → ℕ → List ℕ
+dataset_name rec set = decimal rec ++ (codes ":" ++ (padding set ++ decimal set))
+
+-- a number in decimal digits, or - where there is none
+-- twin: "The age is the greatest whole number of seconds", "There is none without a time"
+abbrev pub number_or_dash : Option ℕ → List ℕ
+number_or_dash None = codes "-"
+number_or_dash (Some n) = decimal n
+
+-- how faults of devices are printed
+-- twin: `faults_are_printed`
+abbrev pub text_of_fault : IoFault → List ℕ
+text_of_fault Interrupted = codes "the device was interrupted"
+text_of_fault Failed = codes "the device failed"

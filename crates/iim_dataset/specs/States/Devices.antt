@@ -1,7 +1,7 @@
--- Sources and targets of octets, as contracts see them.
+-- Sources and targets of octets, as contracts see them, and octets in memory that is taken once.
 use Rattle.std.specs.Prelude.{◌≡◌, ℕ, ◌≤◌, List, ◌+◌, ◌*◌, ◌^◌, ◌<◌, ◌⊎◌, length, take, Option}
 use Rattle.std.specs.Io.KnownBytes.{Appends, Consumes, Keeps, IsAtEnd}
-use Rattle.iim_dataset.specs.Format.Counts.{Rose}
+use Rattle.iim_dataset.specs.Format.Octets.{Rose}
 use Rattle.iim_dataset.specs.declared.device.IoFault.{IoFault}
 use Rattle.iim_dataset.specs.declared.device.IoFault.TheVariants.{Interrupted, Failed}
 use Rattle.iim_dataset.specs.declared.device.Faults.{Faults}
@@ -129,3 +129,8 @@ MissedAfter old new octets fault = Consumes old.octets new.octets octets × Brok
 -- Just this text is out, and then a write failed or was interrupted a million times in a row.
 abbrev pub BrokeAfter : Device → Device → List ℕ → Type 0
 BrokeAfter old new text = Appends old.octets new.octets text × Broke old new
+
+-- the octets, and how many there is room for
+pub record Reserved : Type 0 where
+  pub items : List ℕ
+  pub room : ℕ

@@ -1,9 +1,16 @@
--- Good records, and the records of an envelope (IIM version 4, the chapters on the envelope, application, pre-ObjectData
--- descriptor, ObjectData and post-ObjectData descriptor records; their order is the profile's).
-use Rattle.std.specs.Prelude.{◌≡◌, ℕ, ◌==◌, if◌then◌else◌, List, [], ◌∷◌, ◌++◌}
-use Rattle.std.specs.List.{after_first}
-use Rattle.iim_dataset.specs.Format.Datasets.{Dataset}
+-- Good records, what can continue to them, and what an envelope's fields are, tell and keep to.
+use Rattle.std.specs.Prelude.{◌≡◌, ℕ, ◌==◌, if◌then◌else◌, List, [], ◌∷◌, ◌++◌, Bool, ◌||◌, Option, Some, None, ◌≤◌, nat_eq, ◌&&◌, map, codes, ℤ}
+use Rattle.std.specs.List.{after_first, filter}
+use Rattle.std.specs.declared.cmp.Ordering.{Ordering}
+use Rattle.std.specs.Ordering.{nat_cmp, on, then_cmp, eq_of_both}
+use Rattle.std.specs.Cmp.Lexicographic.{pointwise, slice_cmp}
+use Rattle.std.specs.Option.{option_and_then, option_or}
+use Rattle.iim_dataset.specs.Format.Datasets.{Dataset, head_of}
 use Rattle.iim_tables.specs.Format.Records.{IsGoodRecord}
+use Rattle.iim_dataset.specs.Format.Octets.{IsAlive, number}
+use Rattle.iim_tables.specs.Format.Dates.{instant_in}
+use Rattle.iim_dataset.specs.declared.head.Head.{Head}
+use Rattle.iim_fields.specs.declared.limits.Limits.{Limits}
 
 -- the records of an envelope, in their order
 -- twins (with after): "A head out of order is told before all else", "Records: the present one or the next"
@@ -22,3 +29,102 @@ AreRecords (r ∷ rs) ds = (run rest : List Dataset) × (ds ≡ run ++ rest) × 
 -- The datasets of an envelope: the records 1, 2, 7, 8 and 9, each good.
 abbrev pub AreSections : List Dataset → Type 0
 AreSections ds = AreRecords records ds
+
+-- The datasets are a good record 1 and then a good record 2.
+-- twin: "Datasets that are added or refused"; `tells_what_is_wrong_with_a_script`
+pub record IsEnvelope (ds : List Dataset) : Type 0 where
+  pub r1 : List Dataset
+  pub r2 : List Dataset
+  pub parts : ds ≡ r1 ++ r2
+  pub envelope : IsGoodRecord 1 r1
+  pub application : IsGoodRecord 2 r2
+
+-- Some datasets that follow complete the datasets of an envelope.
+abbrev pub SectionsLive : List Dataset → Type 0
+SectionsLive ds = IsAlive AreSections ds
+
+-- Some data of the head, and datasets after it, do so.
+abbrev pub SectionsLiveAt : List Dataset → Head → Type 0
+SectionsLiveAt ds h = (d : Dataset) × (head_of d ≡ h) × SectionsLive (ds ++ d ∷ [])
+
+-- the dataset with the head's numbers and these data
+abbrev pub data_of : Head → List ℕ → Dataset
+data_of h xs = record { rec = h.rec; set = h.set; octets = xs }
+
+-- records 7 and 9 tell numbers
+-- twins (with number_told): "Those of 7 and 9 tell numbers", "Numbers of eight octets, and those that are too great"
+abbrev pub tells_number : ℕ → Bool
+tells_number rec = rec == 7 || rec == 9
+
+-- the number that a value tells
+abbrev pub number_told : Dataset → Option ℕ
+number_told d = if tells_number d.rec then Some (number d.octets) else None
+
+-- The kept data, and the number of the kept datasets, are within the limits.
+pub record IsWithin (limits : Limits) (octets fields : ℕ) : Type 0 where
+  pub octets_in : octets ≤ limits.octets
+  pub fields_in : fields ≤ limits.fields
+
+-- what the records 1 and 2 of an envelope may have where wire copy is taken: 65,536 octets in 512 datasets
+-- twin: `limits_of_wire_copy`, `keeps_so_much_of_records_one_and_two`, `keeps_so_much_of_a_script`
+abbrev pub wire_limits : Limits
+wire_limits = record { octets = 65536; fields = 512 }
+
+-- the data of 1:30 Service Identifier, 1:40 Envelope Number and 1:70 Date Sent
+pub record Identity : Type 0 where
+  pub service : List ℕ
+  pub number : List ℕ
+  pub date_sent : List ℕ
+
+-- texts have the same octets
+abbrev pub text_eq : List ℕ → List ℕ → Bool
+text_eq = pointwise nat_eq
+
+-- The first octet that differs decides, or else the shorter text is first.
+-- twins (with id_eq, id_cmp): "Ids in order: by service, then by number, then by date"; "A repeated one names the first of the same
+--   service, number and day"
+abbrev pub text_cmp : List ℕ → List ℕ → Ordering
+text_cmp = slice_cmp nat_cmp
+
+-- service, number and date sent are the same
+abbrev pub id_eq : Identity → Identity → Bool
+id_eq = eq_of_both (on (λ i. i.service) text_eq) (eq_of_both (on (λ i. i.number) text_eq) (on (λ i. i.date_sent) text_eq))
+
+-- first by service, then by number, then by date sent
+abbrev pub id_cmp : Identity → Identity → Ordering
+id_cmp = then_cmp (on (λ i. i.service) text_cmp) (then_cmp (on (λ i. i.number) text_cmp) (on (λ i. i.date_sent) text_cmp))
+
+-- the dataset has the numbers
+abbrev pub has_names : ℕ → ℕ → Dataset → Bool
+has_names rec set d = d.rec == rec && d.set == set
+
+-- the data of each dataset with the numbers, in order
+-- twins (with first_data): "Each view has a dataset of its own"
+abbrev pub all_data : ℕ → ℕ → List Dataset → List (List ℕ)
+all_data rec set ds = map (λ d. d.octets) (filter (has_names rec set) ds)
+
+-- the data of the first dataset with the numbers
+abbrev pub first_data : ℕ → ℕ → List Dataset → Option (List ℕ)
+first_data rec set [] = None
+first_data rec set (d ∷ ds) = if has_names rec set d then Some d.octets else first_data rec set ds
+
+-- the instant of the first datasets of the record with these numbers, a date and a time, in nanoseconds; where there is no time, `absent`
+-- stands for it, if that is a text
+abbrev pub instant_of_pair : (rec date_set time_set : ℕ) → Option (List ℕ) → List Dataset → Option ℤ
+instant_of_pair rec date_set time_set absent ds =
+    option_and_then (λ date. option_and_then (λ time. instant_in date time) (option_or (first_data rec time_set ds) absent)) (first_data rec date_set ds)
+
+-- the instant of 1:70 Date Sent and 1:80 Time Sent, in nanoseconds, where both were sent and name one
+-- twin: "The instant sent is the date sent and the time sent"
+abbrev pub instant_sent : List Dataset → Option ℤ
+instant_sent ds = instant_of_pair 1 70 80 None ds
+
+-- the instant of 2:30 Release Date and 2:35 Release Time, or of that day's beginning
+-- twin: "Release and expiration by their dates alone", "By date and time, less the offset"; `tells_copy_that_is_held`
+abbrev pub instant_of_release : List Dataset → Option ℤ
+instant_of_release ds = instant_of_pair 2 30 35 (Some (codes "000000+0000")) ds
+
+-- the instant of 2:37 Expiration Date and 2:38 Expiration Time, or of that day's last second
+-- twin: "Release and expiration by their dates alone", "By date and time, less the offset"; `tells_copy_that_has_expired`
+abbrev pub instant_of_expiration : List Dataset → Option ℤ
+instant_of_expiration ds = instant_of_pair 2 37 38 (Some (codes "235959+0000")) ds

@@ -1,17 +1,129 @@
--- What a reader of records stands at.
-use Rattle.std.specs.Prelude.{◌≡◌, ◌≢◌, ℕ, ◌+◌, ◌≤◌, ◌⊎◌, List, [], ◌∷◌, ◌++◌, length, Option, Some, None, IsTrue}
-use Rattle.iim_dataset.specs.Format.Octets.{Octets}
-use Rattle.iim_dataset.specs.Format.Datasets.{Dataset, head_of}
-use Rattle.iim_dataset.specs.declared.head.Head.{Head}
-use Rattle.iim_fields.specs.Format.Alive.{SectionsLive, SectionsLiveAt}
-use Rattle.iim_fields.specs.Format.Faults.{first_fault, kept, kept_octets, is_kept, Limits, FieldFault}
-use Rattle.iim_fields.specs.Format.Causes.{IsFault}
-use Rattle.iim_fields.specs.Format.Causes.Token.{AtHead}
-use Rattle.iim_fields.specs.States.Checks.{IsIn, HasChecked, HasTaken, HasEnded, begun_head, section_at, RecordPlace}
-use Rattle.iim_fields.specs.States.Checks as checks
+-- Where a check of records, a reader of them and a builder of envelopes stand, and why they refuse.
+use Rattle.std.specs.Prelude.{◌≡◌, ℕ, Bool, false, List, length, slice_index_or, ◌≢◌, ⊤, [], ◌∷◌, ◌++◌, Option, Some, None, ◌+◌, ◌≤◌, ◌⊎◌, IsTrue, ◌^◌, ◌<◌, not, if◌then◌else◌}
+use Rattle.std.specs.Option.{option_and_then, option_or}
+use Rattle.std.specs.Int.{IsInRange}
+use Rattle.iim_dataset.specs.Format.Datasets.{Dataset, head_of, of_record}
+use Rattle.iim_tables.specs.Format.Records.{occurs}
+use Rattle.iim_fields.specs.Format.Causes.{section_after, section_run, record_fault, value_fault, Limits, FieldFault, IsFault, first_fault, kept, kept_octets, is_kept, joined, missing_fault, missing_of, fault_on, limit_passed}
+use Rattle.iim_dataset.specs.Format.Octets.{Octets, number}
+use Rattle.iim_tables.specs.Format.Rows.{row_of}
+use Rattle.iim_fields.specs.Format.Records.{SectionsLive, SectionsLiveAt, number_told, data_of, IsWithin}
+use Rattle.iim_fields.specs.Format.Causes.Token.{AtHead, AtValue}
 use Rattle.iim_fields.specs.States.Stores.{Room}
-use Rattle.iim_fields.specs.Format.Values.{number_told, data_of}
-use Rattle.iim_fields.specs.Format.Bounds.{IsWithin}
+use Rattle.iim_tables.specs.Format.Kinds.{size_octets}
+use Rattle.iim_fields.specs.declared.order.Order.{Order}
+use Rattle.iim_dataset.specs.declared.head.Head.{Head}
+use Rattle.iim_tables.specs.declared.shape.Row.{Row}
+use Rattle.iim_fields.specs.declared.check.Begun.{Begun}
+pub use Rattle.iim_fields.specs.declared.check.RecordPlace.{RecordPlace}
+use Rattle.iim_fields.specs.declared.fault.FieldCause.{FieldCause}
+use Rattle.iim_fields.specs.declared.fault.FieldCause.TheVariants.{RecordOrder}
+use Rattle.iim_fields.specs.declared.fault.CopyFault.{CopyFault}
+use Rattle.iim_fields.specs.declared.fault.CopyFault.TheVariants.{Passed, OutOfMemory}
+
+-- the number has occurred in the present record
+abbrev pub has_seen : Order → ℕ → Bool
+has_seen o n = slice_index_or o.seen n false
+
+-- It has the present record of the datasets, and, in a place for each of 256 numbers, which occurred in it.
+-- no twin: its clause `seen` compares with `occurs`, which counts the datasets; `knows_each_row` asks of all numbers
+pub record IsOrderOf (o : Order) (ds : List Dataset) : Type 0 where
+  pub places : length o.seen ≡ 256
+  pub present : o.rec ≡ section_after ds
+  pub seen : (n : ℕ) → has_seen o n ≡ occurs n (section_run ds)
+
+-- ---- a check, from outside: its place, or None after a refusal
+
+-- No value of a begun dataset is to come: none is begun, or a subfile, whose data are no matter of records.
+-- twins (with TakesValue, IsChecking, HasTaken, IsValueFault): "Before the first octet, and an envelope in one piece": another record would
+--   have its values unread
+abbrev pub AwaitsNone : Option Begun → Type 0
+AwaitsNone None = ⊤
+AwaitsNone (Some begun) = begun.head.rec ≡ 8
+
+-- It takes a head.
+pub record TakesHead (check : Option RecordPlace) : Type 0 where
+  pub order : Order
+  pub begun : Option Begun
+  pub at : check ≡ Some (record { order = order; begun = begun })
+  pub none : AwaitsNone begun
+
+-- No dataset is begun.
+pub record AwaitsHead (check : Option RecordPlace) : Type 0 where
+  pub order : Order
+  pub between : check ≡ Some (record { order = order; begun = None })
+
+-- A dataset of this head is begun.
+pub record IsIn (check : Option RecordPlace) (h : Head) : Type 0 where
+  pub order : Order
+  pub row : Row
+  pub inside : check ≡ Some (record { order = order; begun = Some (record { head = h; row = row }) })
+  pub known : row_of h.rec h.set ≡ Some row
+
+-- It takes a value of n octets.
+abbrev pub TakesValue : Option RecordPlace → ℕ → Type 0
+TakesValue check n = (h : Head) × IsIn check h × (h.rec ≢ 8) × (h.count ≡ n)
+
+-- It stands after these datasets.
+pub record HasChecked (check : Option RecordPlace) (ds : List Dataset) : Type 0 where
+  pub order : Order
+  pub begun : Option Begun
+  pub at : check ≡ Some (record { order = order; begun = begun })
+  pub none : AwaitsNone begun
+  pub alive : SectionsLive ds
+  pub tells : IsOrderOf order ds
+
+-- It stands after these datasets and this head, whose value is to come.
+pub record IsChecking (check : Option RecordPlace) (ds : List Dataset) (h : Head) : Type 0 where
+  pub order : Order
+  pub row : Row
+  pub inside : check ≡ Some (record { order = order; begun = Some (record { head = h; row = row }) })
+  pub known : row_of h.rec h.set ≡ Some row
+  pub value : h.rec ≢ 8
+  pub alive : SectionsLiveAt ds h
+  pub tells : (d : Dataset) → head_of d ≡ h → IsOrderOf order (ds ++ d ∷ [])
+
+-- It has taken this head after these datasets: its value is to come, or any data of a subfile make one dataset more.
+pub record HasTaken (check : Option RecordPlace) (ds : List Dataset) (h : Head) : Type 0 where
+  pub checking : h.rec ≢ 8 → IsChecking check ds h
+  pub subfile : h.rec ≡ 8 → (d : Dataset) → head_of d ≡ h → Octets d.octets → HasChecked check (ds ++ d ∷ [])
+
+-- ---- refusals
+
+-- The fault is that of the head in the record layer: the first, and of the lowest number, under any limits. With it no datasets
+-- can continue.
+pub record IsRecordFault (ds : List Dataset) (h : Head) (fault : FieldFault) : Type 0 where
+  pub first : record_fault ds h ≡ Some fault
+  pub lowest : (limits : Limits) → IsFault limits ds (AtHead h) fault
+  pub dead : SectionsLiveAt ds h → ⊥
+
+-- The fault is that of the value, which is no subfile's: the first, and of the lowest number, under any limits. With it no datasets
+-- can continue.
+pub record IsValueFault (ds : List Dataset) (d : Dataset) (fault : FieldFault) : Type 0 where
+  pub value : d.rec ≢ 8
+  pub first : value_fault d ≡ Some fault
+  pub lowest : (limits : Limits) → IsFault limits ds (AtValue d) fault
+  pub dead : SectionsLive (ds ++ d ∷ []) → ⊥
+
+-- ---- what a check tells
+
+-- the head of the begun dataset
+abbrev pub begun_head : Option RecordPlace → Option Head
+begun_head check = option_and_then (λ place. option_and_then (λ begun. Some begun.head) place.begun) check
+
+-- the record of the last head, 0 at the beginning
+abbrev pub section_at : Option RecordPlace → ℕ
+section_at None = 0
+section_at (Some place) = place.order.rec
+
+-- The last record has ended.
+-- twin: law `envelopes_end_with_the_last_record`; "After the end of an envelope no octet is used"
+pub record HasEnded (check : Option RecordPlace) : Type 0 where
+  pub order : Order
+  pub between : check ≡ Some (record { order = order; begun = None })
+  pub last : order.rec ≡ 9
+
+-- ---- What a reader of records stands at.
 
 -- A reader of records is seen as where its check stands, its limits, the datasets that it has kept, the octets that it has
 -- taken of a begun one, and what it has room for.
@@ -53,7 +165,7 @@ IsFailed fields = fields.check ≡ None
 
 -- It takes a head.
 abbrev pub IsBetween : FieldsPlace → Type 0
-IsBetween fields = checks.AwaitsHead fields.check
+IsBetween fields = AwaitsHead fields.check
 
 -- It has taken this head, and n octets of its data are still to come. Those of a subfile do not pass here.
 -- twins (with CanTake, CanClose, StandsIn, IsOf): "Before the first octet, and an envelope in one piece": another record would have its
@@ -120,3 +232,54 @@ pub record PassesSubfile (old : FieldsPlace) (h : Head) (new : FieldsPlace) : Ty
   pub begins : (ds : List Dataset) → StandsAfter old ds → StandsIn inside ds h []
   pub closes : (ds : List Dataset) (g : Head) (taken : List ℕ) → StandsIn inside ds g taken → (d : Dataset) → IsOf g taken d
       → StandsAfter new (ds ++ d ∷ []) × (None ≡ number_told d)
+
+-- The octets are as many as the head counts and as a size may have, and spell the number.
+pub record Spells (octets : List ℕ) (h : Head) (n : ℕ) : Type 0 where
+  pub count : h.count ≡ length octets
+  pub few : IsInRange 1 size_octets (length octets)
+  pub fit : Octets octets
+  pub is : n ≡ number octets
+
+-- A whole dataset of this head and these data may come: neither the head nor the value has a fault.
+pub record Admits (fields : FieldsPlace) (h : Head) (xs : List ℕ) : Type 0 where
+  pub count : h.count ≡ length xs
+  pub octets : Octets xs
+  pub no_fault : (ds : List Dataset) → StandsAfter fields ds → option_or (first_fault (limits_of fields) ds h) (value_fault (data_of h xs)) ≡ None
+
+-- A builder is seen as its limits, the datasets so far, and what it has room for.
+pub record Building : Type 0 where
+  pub limits : Limits
+  pub fields : List Dataset
+  pub room : Room
+
+-- The first fault of a dataset that is added: its record is neither 1 nor 2, or else the fault of its head, or else of its value.
+-- twin: "Datasets that are added or refused"; `tells_what_is_wrong_with_a_script`
+abbrev pub add_fault : Limits → List Dataset → Dataset → Option FieldFault
+add_fault limits ds d =
+    if not (is_kept d.rec) then Some (fault_on (head_of d) RecordOrder)
+    else option_or (first_fault limits ds (head_of d)) (value_fault d)
+
+-- the lowest mandatory number of the record that is absent
+-- twins (with finish_fault): "Each mandatory dataset of record 1 is missed", "2:00 is missed at the end"
+abbrev pub absent : ℕ → List Dataset → Option FieldFault
+absent r ds = missing_fault r (missing_of r (λ n. occurs n (of_record r ds)))
+
+-- What is missing of a whole envelope: of record 1, or else of record 2.
+abbrev pub finish_fault : List Dataset → Option FieldFault
+finish_fault ds = option_or (absent 1 ds) (absent 2 ds)
+
+-- They are no more than limits can allow, and have no more octets.
+-- no twin: no code has these words
+pub record AreFew (ds : List Dataset) : Type 0 where
+  pub datasets : length ds < 2 ^ 32
+  pub octets : length (joined ds) < 2 ^ 32
+
+-- the first limit that all these datasets pass: that on octets, or else that on their number
+-- twins (with IsCopyFault): `envelopes_are_copied_within_other_limits`
+abbrev pub passed_by : Limits → List Dataset → Option FieldCause
+passed_by limits ds = limit_passed limits (length (joined ds)) (length ds)
+
+-- Why an envelope of these datasets is not copied: it passes a limit; or else memory was refused.
+abbrev pub IsCopyFault : Limits → List Dataset → CopyFault → Type 0
+IsCopyFault limits ds (Passed cause) = passed_by limits ds ≡ Some cause
+IsCopyFault limits ds OutOfMemory = passed_by limits ds ≡ None

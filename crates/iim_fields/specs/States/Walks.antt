@@ -1,6 +1,6 @@
 -- What a walk over an envelope has left.
 use Rattle.std.specs.Prelude.{ℕ, List}
-use Rattle.iim_fields.specs.Format.Views.{all_data}
+use Rattle.iim_fields.specs.Format.Records.{all_data}
 use Rattle.iim_fields.specs.declared.walk.DataIter.{DataIter}
 use Rattle.iim_dataset.specs.Format.Datasets.{Dataset}
 use Rattle.iim_fields.specs.States.Stores.{fields_from}

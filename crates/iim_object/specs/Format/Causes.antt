@@ -1,11 +1,55 @@
--- The first cause for which a token is refused, by the numbers so far.
-use Rattle.std.specs.Prelude.{ℕ, ◌+◌, ◌==◌, Bool, false, ◌&&◌, not, nat_lt, min, if◌then◌else◌, ◌++◌, ◌∷◌, [], sum, is_some, Option, Some, None, unwrap_or}
+-- Why a token of an object is refused, and why a packer refuses: the causes, and how they are printed.
+use Rattle.std.specs.Prelude.{◌≡◌, ◌⊎◌, ℕ, ◌+◌, ◌<◌, List, [], ◌∷◌, ◌++◌, sum, Some, None, ◌==◌, Bool, false, ◌&&◌, not, nat_lt, min, if◌then◌else◌, is_some, Option, unwrap_or, codes, decimal}
 use Rattle.iim_dataset.specs.Format.Octets.{greatest_size}
-use Rattle.iim_object.specs.Format.Sizes.{number_at}
-use Rattle.iim_object.specs.Format.Objects.{ObjectToken, NumberRead, SubfileBegun, ObjectEnded, Confirmed}
-use Rattle.iim_object.specs.Format.Places.{Place}
+use Rattle.iim_object.specs.Format.Objects.{Stated, number_at, ObjectToken, NumberRead, SubfileBegun, ObjectEnded, Confirmed, Place}
 use Rattle.iim_object.specs.declared.reading.fault.SizeCause.{SizeCause}
 use Rattle.iim_object.specs.declared.reading.fault.SizeCause.TheVariants.{ModeClash, SizeClash, SubfileTooLong, PastSize, Short, ConfirmedWrong}
+use Rattle.iim_object.specs.declared.reading.fault.ObjectFault.{ObjectFault}
+use Rattle.iim_object.specs.declared.reading.fault.ObjectFault.TheVariants.{Size, Stopped}
+use Rattle.iim_object.specs.declared.writing.cause.PackCause.{PackCause}
+use Rattle.iim_object.specs.declared.writing.cause.PackCause.TheVariants.{OutOfMemory, PastAnnounced, ShortOfAnnounced, BadTextOctet, BadTrailer, Write, Failed}
+
+-- twin: "Each cause of sizes, and of a packer"; `names_each_cause`
+abbrev pub number_of : SizeCause → ℕ
+number_of ModeClash = 20
+number_of SizeClash = 21
+number_of SubfileTooLong = 22
+number_of PastSize = 23
+number_of Short = 24
+number_of ConfirmedWrong = 25
+
+-- the numbers of record 7, with the one that the token brings
+abbrev pub stated_with : Place → ℕ → ℕ → List Stated
+stated_with p set n = p.stated ++ record { set = set; number = n } ∷ []
+
+-- The total passes the greatest size, what is announced, or the maximum.
+-- twins (with HasCause): law `objects_die_for_causes`; "Mode 0 with an announced size", "The subfiles pass the announced size", "The object
+--   ends short"
+abbrev pub PassesBound : List Stated → ℕ → Type 0
+PassesBound ps total = (greatest_size < total)
+    ⊎ (((announced : ℕ) × (number_at 90 ps ≡ Some announced) × (announced < total))
+    ⊎ ((most : ℕ) × (number_at 95 ps ≡ Some most) × (most < total)))
+
+-- The condition of a cause, at a token after a place.
+-- 20: mode 0 with an announced size, at the later of the two; or mode 1 without one, at a subfile.
+-- 21: the announced size is above the maximum, at the later of the two.
+-- 22: the subfile is longer than the largest may be.
+-- 23: with the subfile the total passes the bound.
+-- 24: at the end the total is below the announced size.
+-- 25: the confirmed size is not the total.
+abbrev pub HasCause : SizeCause → Place → ObjectToken → Type 0
+HasCause ModeClash p token =
+    ((set : ℕ) × (n : ℕ) × (token ≡ NumberRead set n) × (number_at 10 (stated_with p set n) ≡ Some 0)
+    × ((announced : ℕ) × (number_at 90 (stated_with p set n) ≡ Some announced)))
+    ⊎ ((count : ℕ) × (token ≡ SubfileBegun count) × (number_at 10 p.stated ≡ Some 1) × (number_at 90 p.stated ≡ None))
+HasCause SizeClash p token = (set : ℕ) × (n : ℕ) × (token ≡ NumberRead set n)
+    × ((announced : ℕ) × (most : ℕ) × (number_at 90 (stated_with p set n) ≡ Some announced) × (number_at 95 (stated_with p set n) ≡ Some most) × (most < announced))
+HasCause SubfileTooLong p token = (count : ℕ) × (token ≡ SubfileBegun count) × ((largest : ℕ) × (number_at 20 p.stated ≡ Some largest) × (largest < count))
+HasCause PastSize p token = (count : ℕ) × (token ≡ SubfileBegun count) × PassesBound p.stated (sum p.lengths + count)
+HasCause Short p token = (announced : ℕ) × (token ≡ ObjectEnded) × (number_at 90 p.stated ≡ Some announced) × (sum p.lengths < announced)
+HasCause ConfirmedWrong p token = (n : ℕ) × (token ≡ Confirmed n) × (n ≡ sum p.lengths → ⊥)
+
+-- ---- The first cause for which a token is refused, by the numbers so far.
 
 -- the number is given, and is this one
 abbrev pub is_given : Option ℕ → ℕ → Bool
@@ -57,3 +101,52 @@ cause_at p (NumberRead set n) =
 cause_at p (SubfileBegun count) = subfile_cause (number_at 10 p.stated) (number_at 20 p.stated) (number_at 90 p.stated) (number_at 95 p.stated) (sum p.lengths) count
 cause_at p ObjectEnded = end_cause (number_at 90 p.stated) (sum p.lengths)
 cause_at p (Confirmed n) = confirmed_cause (sum p.lengths) n
+
+-- twins (with text_of): "Each cause of sizes, and of a packer"; `names_each_cause`
+abbrev pub name_of : SizeCause → List ℕ
+name_of ModeClash = codes "ModeClash"
+name_of SizeClash = codes "SizeClash"
+name_of SubfileTooLong = codes "SubfileTooLong"
+name_of PastSize = codes "PastSize"
+name_of Short = codes "Short"
+name_of ConfirmedWrong = codes "ConfirmedWrong"
+
+-- a cause's number and name, as they are printed
+abbrev pub text_of : SizeCause → List ℕ
+text_of cause = decimal (number_of cause) ++ (codes " " ++ name_of cause)
+
+-- That the sink stopped is cause 60.
+-- twins (with fault_name, fault_text): `faults_are_printed`
+abbrev pub fault_number : ObjectFault → ℕ
+fault_number (Size cause) = number_of cause
+fault_number (Stopped stop) = 60
+
+abbrev pub fault_name : ObjectFault → List ℕ
+fault_name (Size cause) = name_of cause
+fault_name (Stopped stop) = codes "Sink"
+
+abbrev pub fault_text : ObjectFault → List ℕ
+fault_text fault = decimal (fault_number fault) ++ (codes " " ++ fault_name fault)
+
+-- twins (with pack_name, pack_text): "Each cause of sizes, and of a packer"; `names_each_cause`
+abbrev pub pack_number : PackCause → ℕ
+pack_number OutOfMemory = 70
+pack_number PastAnnounced = 80
+pack_number ShortOfAnnounced = 81
+pack_number BadTextOctet = 82
+pack_number BadTrailer = 83
+pack_number Write = 84
+pack_number Failed = 85
+
+abbrev pub pack_name : PackCause → List ℕ
+pack_name OutOfMemory = codes "OutOfMemory"
+pack_name PastAnnounced = codes "PastAnnounced"
+pack_name ShortOfAnnounced = codes "ShortOfAnnounced"
+pack_name BadTextOctet = codes "BadTextOctet"
+pack_name BadTrailer = codes "BadTrailer"
+pack_name Write = codes "Write"
+pack_name Failed = codes "Failed"
+
+-- a cause's number and name, as they are printed
+abbrev pub pack_text : PackCause → List ℕ
+pack_text cause = decimal (pack_number cause) ++ (codes " " ++ pack_name cause)

@@ -1,6 +1,116 @@
--- The tokens of the object layer, and its language.
-use Rattle.std.specs.Prelude.{◌≡◌, ℕ, ◌<◌, Bool, List, [], ◌∷◌, ◌++◌, length, map, Some}
-use Rattle.iim_object.specs.Format.Sizes.{Stated, AreStated, Agree, number_at, mode_number, sizes_at}
+-- Objects: what records 7, 8 and 9 say of one, its tokens, and how far it has been read.
+use Rattle.std.specs.Prelude.{◌≡◌, ℕ, ◌≤◌, ◌==◌, ◌⊎◌, Bool, true, false, cond, List, [], ◌∷◌, length, sum, is_some, Option, Some, None, IfSome, ◌+◌, ◌*◌, ◌^◌, ◌&&◌, nat_le, nat_lt, min, unwrap_or, ◌<◌, ◌++◌, map, if◌then◌else◌}
+use Rattle.std.specs.List.{AllByRecursion}
+use Rattle.std.specs.Option.{option_or}
+use Rattle.iim_dataset.specs.Format.Octets.{greatest_size, greatest_u32, number}
+use Rattle.iim_dataset.specs.Format.Datasets.{tag_octets, Dataset, of_record}
+use Rattle.iim_tables.specs.Format.Records.{IsGoodRecord}
+pub use Rattle.iim_object.specs.declared.size.Sizes.{Sizes}
+pub use Rattle.iim_object.specs.declared.size.Size.{Size}
+pub use Rattle.iim_object.specs.declared.size.Size.TheVariants.{Known, Unknown}
+
+-- the number of a dataset of record 7, with the dataset's own number
+pub record Stated : Type 0 where
+  pub set : ℕ
+  pub number : ℕ
+
+-- the number that is stated for a dataset of record 7, where one is
+abbrev pub number_at : ℕ → List Stated → Option ℕ
+number_at set [] = None
+number_at set (p ∷ ps) = cond (p.set == set) (Some p.number) (number_at set ps)
+
+-- A number is one that the row of its dataset allows: 7:10 Size Mode 0 or 1, 7:20 from 1 on, and 7:20, 7:90 and 7:95 up to
+-- the greatest size of an object.
+-- twin: "No tokens lead to numbers that no row allows", "Sizes are at most 9,223,372,036,854,775,807"
+abbrev pub InRow : Stated → Type 0
+InRow p = ((p.set ≡ 10) × (p.number ≤ 1)) ⊎ (((p.set ≡ 20) × (1 ≤ p.number) × (p.number ≤ greatest_size)) ⊎ (((p.set ≡ 90) ⊎ (p.set ≡ 95)) × (p.number ≤ greatest_size)))
+
+-- No dataset repeats.
+abbrev pub AreOnce : List Stated → Type 0
+AreOnce [] = Unit {0}
+AreOnce (p ∷ ps) = (number_at p.set ps ≡ None) × AreOnce ps
+
+-- The numbers are those of datasets of record 7 that meet their rows, none of them twice.
+pub record AreStated (ps : List Stated) : Type 0 where
+  pub each : AllByRecursion InRow ps
+  pub once : AreOnce ps
+
+-- twin: "Mode 0 with an announced size", "Objects that are written"
+abbrev pub mode_number : Bool → ℕ
+mode_number true = 1
+mode_number false = 0
+
+-- what is said of an object: by record 7, and by subfiles of these lengths
+-- twins (with Agree): "Objects by their tokens", "No known size: subfiles of no octets too", "The confirmed size"
+abbrev pub sizes_at : Bool → ℕ → List Stated → List ℕ → Sizes
+sizes_at known subfile ps lengths = record { known = known; subfile = subfile; announced = number_at 90 ps; maximum = number_at 95 ps; subfiles = length lengths; total = sum lengths }
+
+-- The sizes agree: 7:90 stands exactly where the size is known; it is at most 7:95; no subfile is longer than 7:20; the
+-- total is at most the greatest size and 7:95, equals 7:90, and is the size that 9:10 confirms.
+pub record Agree (s : Sizes) (lengths : List ℕ) (confirmed : ℕ) : Type 0 where
+  pub by_mode : is_some s.announced ≡ s.known
+  pub announced_fits : IfSome s.announced (λ a. IfSome s.maximum (λ m. a ≤ m))
+  pub each_subfile : AllByRecursion (λ n. n ≤ s.subfile) lengths
+  pub total_fits : s.total ≤ greatest_size
+  pub within_maximum : IfSome s.maximum (λ m. s.total ≤ m)
+  pub as_announced : IfSome s.announced (λ a. s.total ≡ a)
+  pub as_confirmed : confirmed ≡ s.total
+
+-- ---- Plans of objects.
+
+-- the most subfiles of one envelope
+-- twin: "4,294,967,295 subfiles, and one more"; `refuses_one_subfile_too_many`
+abbrev pub max_subfiles : ℕ
+max_subfiles = greatest_u32
+
+-- the most octets of record 7: 7:10, 7:20, and 7:90 or 7:95
+-- no twin (with most_out): no answer depends on them; sums past their types would not be proved
+abbrev pub most_sizes : ℕ
+most_sizes = 6 + 2 * tag_octets
+
+-- more octets than are ever out of one envelope: those of the greatest object, of the tag of each of its subfiles, and of all other records
+abbrev pub most_out : ℕ
+most_out = 2 ^ 63 + 2 ^ 40
+
+-- the most octets that subfiles of `subfile` octets hold
+-- twins (with fits, is_plan, limit_of, bound_of): law `subfiles_are_few`; "Plans: the bound is the known size", "Plans: the most octets of
+--   an object"
+abbrev pub most_in : ℕ → ℕ
+most_in subfile = subfile * max_subfiles
+
+-- A size is at most the greatest, and a known one needs no more subfiles than there may be.
+abbrev pub fits : ℕ → Size → Bool
+fits subfile (Known n) = nat_le n greatest_size && nat_le n (most_in subfile)
+fits subfile (Unknown (Some m)) = nat_le m greatest_size
+fits subfile (Unknown None) = true
+
+-- Subfiles have at least one octet, and at most as many as the greatest object.
+abbrev pub is_plan : ℕ → Size → Bool
+is_plan subfile size = nat_le 1 subfile && nat_le subfile greatest_size && fits subfile size
+
+-- a known size is announced
+abbrev pub announced_of : Size → Option ℕ
+announced_of (Known n) = Some n
+announced_of (Unknown most) = None
+
+-- of an unknown one a maximum may be said
+abbrev pub maximum_of : Size → Option ℕ
+maximum_of (Known n) = None
+maximum_of (Unknown most) = most
+
+-- what is said of the size: the known one, the maximum, or the greatest
+abbrev pub limit_of : Size → ℕ
+limit_of size = unwrap_or (option_or (announced_of size) (maximum_of size)) greatest_size
+
+-- the most octets of the object: never more than full subfiles hold
+abbrev pub bound_of : ℕ → Size → ℕ
+bound_of subfile size = min (limit_of size) (most_in subfile)
+
+-- the object is below a known size
+-- twin: "Octets past the bound change nothing", "Writers that take an octet a call and then fail"; `causes_and_their_order`
+abbrev pub is_short : Size → ℕ → Bool
+is_short (Known n) total = nat_lt total n
+is_short (Unknown most) total = false
 
 -- the number of a value of record 7, the count of a head of 8:10, the head of 9:10, and the number of its value
 pub data ObjectToken : Type 0 where
@@ -27,3 +137,126 @@ pub record ObjectLanguage (tokens : List ObjectToken) : Type 0 where
   pub some : 0 < length lengths
   pub agree : Agree (sizes_at known subfile stated lengths) lengths confirmed
   pub tokens_are : tokens ≡ number_tokens stated ++ (map SubfileBegun lengths ++ (ObjectEnded ∷ Confirmed confirmed ∷ []))
+
+-- Records 7, 8 and 9 in this order, each good, after datasets of the records before them.
+-- twin: "Before the first octet, and an envelope in one piece", "Sizes: the mode"
+pub record AreObjectRecords (ds : List Dataset) : Type 0 where
+  pub before : List Dataset
+  pub r7 : List Dataset
+  pub r8 : List Dataset
+  pub r9 : List Dataset
+  pub others : AllByRecursion (λ d. d.rec < 7) before
+  pub descriptor : IsGoodRecord 7 r7
+  pub object : IsGoodRecord 8 r8
+  pub confirmation : IsGoodRecord 9 r9
+  pub parts : ds ≡ before ++ (r7 ++ (r8 ++ r9))
+
+-- the number of each dataset, with the dataset's own number
+abbrev pub numbers_of : List Dataset → List Stated
+numbers_of ds = map (λ d. record { set = d.set; number = number d.octets }) ds
+
+abbrev pub lengths_of : List Dataset → List ℕ
+lengths_of ds = map (λ d. length d.octets) ds
+
+-- The sizes are what the records state: the numbers of record 7, how many subfiles there are, and the sum of their lengths.
+-- They agree with one another, with each subfile, and with the number of 9:10.
+-- twin: "Objects by their tokens", "No known size: subfiles of no octets too", "The confirmed size"
+pub record HaveSizes (r7 r8 r9 : List Dataset) (s : Sizes) : Type 0 where
+  pub mode : number_at 10 (numbers_of r7) ≡ Some (mode_number s.known)
+  pub largest : number_at 20 (numbers_of r7) ≡ Some s.subfile
+  pub announced : number_at 90 (numbers_of r7) ≡ s.announced
+  pub maximum : number_at 95 (numbers_of r7) ≡ s.maximum
+  pub subfiles : length r8 ≡ s.subfiles
+  pub total : sum (lengths_of r8) ≡ s.total
+  pub confirmed : ℕ
+  pub is_confirmed : number_at 10 (numbers_of r9) ≡ Some confirmed
+  pub agree : Agree s (lengths_of r8) confirmed
+
+-- ---- How far an object has been read: the numbers, the lengths of the subfiles, and whether it has ended.
+
+-- before the end, after the head of 9:10, after its value
+pub data Ending : Type 0 where
+  NotEnded : Ending
+  Ended : Ending
+  ConfirmedAs : ℕ → Ending
+
+pub record Place : Type 0 where
+  pub stated : List Stated
+  pub lengths : List ℕ
+  pub ending : Ending
+
+abbrev pub ending_tokens : Ending → List ObjectToken
+ending_tokens NotEnded = []
+ending_tokens Ended = ObjectEnded ∷ []
+ending_tokens (ConfirmedAs n) = ObjectEnded ∷ Confirmed n ∷ []
+
+-- the tokens that lead to the place
+abbrev pub tokens_of : Place → List ObjectToken
+tokens_of p = number_tokens p.stated ++ (map SubfileBegun p.lengths ++ ending_tokens p.ending)
+
+-- the place after one token more
+abbrev pub place_after : Place → ObjectToken → Place
+place_after p (NumberRead set n) = record p { stated = p.stated ++ record { set = set; number = n } ∷ [] }
+place_after p (SubfileBegun count) = record p { lengths = p.lengths ++ count ∷ [] }
+place_after p ObjectEnded = record p { ending = Ended }
+place_after p (Confirmed n) = record p { ending = ConfirmedAs n }
+
+-- Mode and largest subfile are stated.
+-- twin: "Nor to subfiles before the mode"
+abbrev pub HasBoth : List Stated → Type 0
+HasBoth ps = (is_some (number_at 10 ps) ≡ true) × (is_some (number_at 20 ps) ≡ true)
+
+-- The record layer has admitted the token, and the limits too: numbers of record 7 that meet their rows, none twice, come
+-- before the subfiles; these come after mode and largest subfile, and not too many; the end after one subfile at least; and
+-- the confirmed size after the end.
+-- twin: "4,294,967,295 subfiles, and one more"; `refuses_one_subfile_too_many`
+abbrev pub MayFollow : Place → ObjectToken → Type 0
+MayFollow p (NumberRead set n) = (p.ending ≡ NotEnded) × (p.lengths ≡ []) × AreStated (p.stated ++ record { set = set; number = n } ∷ [])
+MayFollow p (SubfileBegun count) = (p.ending ≡ NotEnded) × HasBoth p.stated × (length p.lengths < max_subfiles)
+MayFollow p ObjectEnded = (p.ending ≡ NotEnded) × (0 < length p.lengths)
+MayFollow p (Confirmed n) = p.ending ≡ Ended
+
+-- where nothing has been read
+abbrev pub place_start : Place
+place_start = record { stated = []; lengths = []; ending = NotEnded }
+
+-- the token of a value: the confirmed size of record 9, or a number of record 7
+-- twins (with head_token): "Objects by their tokens", "The numbers that have come, the sizes"
+abbrev pub value_token : ℕ → ℕ → ℕ → ObjectToken
+value_token rec set n = if rec == 9 then Confirmed n else NumberRead set n
+
+-- the token of a head: the end of the object at record 9, or a subfile
+abbrev pub head_token : ℕ → ℕ → ObjectToken
+head_token rec count = if rec == 9 then ObjectEnded else SubfileBegun count
+
+-- the end that datasets of record 9 make
+abbrev pub ending_of : List Dataset → Ending
+ending_of [] = NotEnded
+ending_of (d ∷ ds) = ConfirmedAs (number d.octets)
+
+-- the place after datasets: the numbers of record 7, the lengths of record 8, and the number of record 9
+-- twin: "Before the first octet, and an envelope in one piece", "Sizes: the mode"
+abbrev pub place_after_datasets : List Dataset → Place
+place_after_datasets ds = record { stated = numbers_of (of_record 7 ds); lengths = lengths_of (of_record 8 ds); ending = ending_of (of_record 9 ds) }
+
+-- the place after datasets and the head of 9:10
+abbrev pub place_ended : List Dataset → Place
+place_ended ds = record (place_after_datasets ds) { ending = Ended }
+
+-- The numbers of record 7, and the one that is confirmed, are at most `most`.
+abbrev pub TokensWithin : ℕ → List ObjectToken → Type 0
+TokensWithin most [] = Unit {0}
+TokensWithin most (NumberRead set n ∷ tokens) = (n ≤ most) × TokensWithin most tokens
+TokensWithin most (SubfileBegun n ∷ tokens) = TokensWithin most tokens
+TokensWithin most (ObjectEnded ∷ tokens) = TokensWithin most tokens
+TokensWithin most (Confirmed n ∷ tokens) = (n ≤ most) × TokensWithin most tokens
+
+-- The language of the object layer, if the greatest size is `most`: the numbers of record 7 are at most that, and so is the total, which
+-- is the number that is confirmed.
+abbrev pub LanguageWithin : ℕ → List ObjectToken → Type 0
+LanguageWithin most tokens = ObjectLanguage tokens × TokensWithin most tokens
+
+-- an octet of the object, or its end
+pub data ObjectEvent : Type 0 where
+  ObjectOctet : (octet : ℕ) → ObjectEvent
+  ObjectEnd : ObjectEvent

@@ -1,9 +1,29 @@
--- What a packer writes of an object by a plan: record 7, the subfiles and record 9.
-use Rattle.std.specs.Prelude.{◌≡◌, ℕ, ◌≤◌, Bool, List, [], ◌∷◌, ◌++◌, length, map, Some, None, is_some, IfSome}
+-- What is written of an object: how it is cut into subfiles, and records 7, 8 and 9.
+use Rattle.std.specs.Prelude.{◌≡◌, ℕ, ◌≤◌, List, [], ◌∷◌, ◌++◌, length, flat_map, Bool, map, Some, None, is_some, IfSome}
+use Rattle.std.specs.List.{AllByRecursion}
 use Rattle.iim_dataset.specs.Format.Datasets.{Dataset, canonical_stream, written_number}
-use Rattle.iim_object.specs.Format.Sizes.{mode_number, Sizes}
-use Rattle.iim_object.specs.Format.Plans.{announced_of, maximum_of, bound_of, Size, Known, Unknown}
-use Rattle.iim_object.specs.Format.Cuts.{IsCut}
+use Rattle.iim_object.specs.Format.Objects.{mode_number, Sizes, announced_of, maximum_of, bound_of, Size, Known, Unknown}
+
+-- parts joined in order
+abbrev pub joined_parts : List (List ℕ) → List ℕ
+joined_parts parts = flat_map (λ part. part) parts
+
+-- Each part has `size` octets.
+abbrev pub AreFull : ℕ → List (List ℕ) → Type 0
+AreFull size parts = AllByRecursion (λ part. length part ≡ size) parts
+
+-- The object is cut into full parts of `size` octets, and a last one of 1 up to as many. An empty object is one empty part.
+-- twin: law `objects_are_cut_one_way`; "A full subfile goes out when another octet comes", "No octets are one empty subfile"
+pub record IsCut (size : ℕ) (object : List ℕ) (parts : List (List ℕ)) : Type 0 where
+  pub full : List (List ℕ)
+  pub last : List ℕ
+  pub are_full : AreFull size full
+  pub fits : length last ≤ size
+  pub some : last ≡ [] → object ≡ []
+  pub joined : object ≡ joined_parts full ++ last
+  pub parts_are : parts ≡ full ++ last ∷ []
+
+-- ---- What a packer writes of an object by a plan: record 7, the subfiles and record 9.
 
 -- a dataset whose value is this number
 -- twins (with subfile_dataset, confirmed_datasets): "Objects that are written"; `packs_by_every_small_plan_and_gives_back_what_was_packed`

@@ -1,15 +1,89 @@
--- Where a reader of objects stands, and why it refuses a token.
-use Rattle.std.specs.Prelude.{◌≡◌, ℕ, ◌<◌, ◌⊎◌, Bool, ◌==◌, if◌then◌else◌, List, [], ◌∷◌, ◌++◌, length, map, sum, take, slice_index, Option, Some}
-use Rattle.iim_dataset.specs.Format.Languages.{IsAlive, DiesAt}
-use Rattle.iim_object.specs.Format.Sizes.{AreStated, number_at, mode_number, sizes_at, Sizes}
-use Rattle.iim_object.specs.Format.Objects.{ObjectToken, ObjectEnded, Confirmed, ObjectLanguage}
-use Rattle.iim_object.specs.Format.Places.{Place, NotEnded, MayFollow, HasBoth, place_after, tokens_of}
-use Rattle.iim_object.specs.Format.Causes.{cause_at}
+-- Where a reader of objects stands, what it keeps, how it changes, and how it is made again from what was saved.
+use Rattle.std.specs.Prelude.{◌≡◌, ℕ, ◌<◌, ◌==◌, true, if◌then◌else◌, is_some, Option, Some, None, ◌*◌, ◌≤◌, List, [], ◌∷◌, IfSome, ◌⊎◌, Bool, ◌++◌, length, map, sum, take, slice_index, ◌+◌}
+use Rattle.iim_object.specs.Format.Objects.{max_subfiles, InRow, mode_number, AreStated, number_at, sizes_at, Sizes, ObjectToken, ObjectEnded, Confirmed, ObjectLanguage, Place, NotEnded, MayFollow, HasBoth, place_after, tokens_of, ObjectEvent, ObjectOctet, ObjectEnd, Stated}
+use Rattle.iim_object.specs.Format.Causes.{number_cause, subfile_cause, bound, cause_at}
+use Rattle.iim_dataset.specs.Format.Octets.{greatest_size, IsAlive, DiesAt}
 pub use Rattle.iim_object.specs.declared.reading.state.State.{State}
 pub use Rattle.iim_object.specs.declared.reading.fault.SizeCause.{SizeCause}
 use Rattle.iim_object.specs.declared.reading.fault.ObjectFault.{ObjectFault}
 use Rattle.iim_object.specs.declared.reading.fault.ObjectFault.TheVariants.{Size, Stopped}
-use Rattle.iim_object.specs.Format.Events.{ObjectEvent, ObjectOctet, ObjectEnd}
+
+abbrev pub state_start : State
+state_start = record { mode = None; subfile = None; announced = None; maximum = None; subfiles = 0; total = 0 }
+
+-- the number, where the dataset is this one
+abbrev pub set_where : ℕ → ℕ → ℕ → Option ℕ → Option ℕ
+set_where wanted set number old = if set == wanted then Some number else old
+
+-- with the number of a dataset of record 7
+-- twin: "Readers put where tokens lead", "The numbers that have come, the sizes"
+abbrev pub state_with : State → ℕ → ℕ → State
+state_with s set number = record s {
+  mode = set_where 10 set number s.mode;
+  subfile = set_where 20 set number s.subfile;
+  announced = set_where 90 set number s.announced;
+  maximum = set_where 95 set number s.maximum;
+}
+
+-- A number of record 7 may come: no subfile has come, and its row allows the number.
+-- no twin (with TakesSubfile, FitsNumber, FitsSubfile): by `LeadsOn` and `Refuses` the calls are held to `MayFollow` and `ObjectLanguage`
+abbrev pub TakesNumber : State → ℕ → ℕ → Type 0
+TakesNumber s set number = (s.subfiles ≡ 0) × InRow (record { set = set; number = number })
+
+-- A subfile may come: mode and largest subfile are given, and one more is not too many.
+abbrev pub TakesSubfile : State → Type 0
+TakesSubfile s = (is_some s.mode ≡ true) × (is_some s.subfile ≡ true) × (s.subfiles < max_subfiles)
+
+-- A number of record 7 may come, and no number clashes with it.
+abbrev pub FitsNumber : State → ℕ → ℕ → Type 0
+FitsNumber s set number = TakesNumber s set number
+    × (number_cause (state_with s set number).mode (state_with s set number).announced (state_with s set number).maximum ≡ None)
+
+-- A subfile may come, and nothing is wrong with one of `count` octets.
+abbrev pub FitsSubfile : State → ℕ → Type 0
+FitsSubfile s count = TakesSubfile s × (subfile_cause s.mode s.subfile s.announced s.maximum s.total count ≡ None)
+
+-- A reader that takes calls, seen as its state, accepts a number of dataset 7:`set`.
+abbrev pub AcceptsNumber : Option State → ℕ → ℕ → Type 0
+AcceptsNumber reader set number = (s : State) → reader ≡ Some s → FitsNumber s set number
+
+-- The same of the head of a subfile of `count` octets.
+abbrev pub AcceptsSubfile : Option State → ℕ → Type 0
+AcceptsSubfile reader count = (s : State) → reader ≡ Some s → FitsSubfile s count
+
+-- the numbers of 7:10, 7:20, 7:90 and 7:95
+-- twin: "Readers put where tokens lead", "The numbers that have come, the sizes"
+abbrev pub state_numbers : State → List (Option ℕ)
+state_numbers s = s.mode ∷ s.subfile ∷ s.announced ∷ s.maximum ∷ []
+
+-- The numbers of record 7 that have come are ones that their rows allow. A size that isn't known is not announced, and the
+-- announced size is at most the maximum.
+-- twin: "No tokens lead to numbers that no row allows", "Sizes are at most 9,223,372,036,854,775,807"
+pub record HasNumbers (s : State) : Type 0 where
+  pub mode : IfSome s.mode (λ n. n ≤ 1)
+  pub largest : IfSome s.subfile (λ n. (1 ≤ n) × (n ≤ greatest_size))
+  pub announced : IfSome s.announced (λ n. n ≤ greatest_size)
+  pub maximum : IfSome s.maximum (λ n. n ≤ greatest_size)
+  pub not_known : s.mode ≡ Some 0 → s.announced ≡ None
+  pub sizes : (a m : ℕ) → s.announced ≡ Some a → s.maximum ≡ Some m → a ≤ m
+
+-- Subfiles have come, not too many. Mode and largest subfile are given, and the size is announced exactly where it is known. The
+-- total is no more than these subfiles hold, and does not pass the bound.
+pub record HasSubfiles (s : State) : Type 0 where
+  pub subfile : ℕ
+  pub mode : s.mode ≡ Some (mode_number (is_some s.announced))
+  pub largest : s.subfile ≡ Some subfile
+  pub few : s.subfiles ≤ max_subfiles
+  pub held : s.total ≤ s.subfiles * subfile
+  pub total : s.total ≤ bound s.announced s.maximum
+
+-- The state is one to which tokens lead: numbers of record 7, and then subfiles.
+pub record IsState (s : State) : Type 0 where
+  pub numbers : HasNumbers s
+  pub no_subfile : s.subfiles ≡ 0 → s.total ≡ 0
+  pub some_subfiles : 0 < s.subfiles → HasSubfiles s
+
+-- ---- Where a reader of objects stands, and why it refuses a token.
 
 -- The state has the numbers of the place, how many subfiles there are and their octets together.
 -- twins (with IsSizes): "Readers put where tokens lead", "The numbers that have come, the sizes"
@@ -82,3 +156,36 @@ RefusesRun stops run sink now (Stopped stop) =
 abbrev pub IsSizes : Place → Sizes → Type 0
 IsSizes p s = (known : Bool) × (subfile : ℕ) × (number_at 10 p.stated ≡ Some (mode_number known)) × (number_at 20 p.stated ≡ Some subfile)
     × (s ≡ sizes_at known subfile p.stated p.lengths)
+
+-- the numbers of 7:10, 7:20, 7:90 and 7:95, each where it is stated
+-- twin: "Readers put where tokens lead", "The numbers that have come, the sizes"
+abbrev pub stated_numbers : List Stated → List (Option ℕ)
+stated_numbers ps = number_at 10 ps ∷ number_at 20 ps ∷ number_at 90 ps ∷ number_at 95 ps ∷ []
+
+-- Of the last subfile, which counts `count` octets, `left` octets are still to come, one at least. All others have come.
+pub record LastIsBegun (lengths : List ℕ) (taken count left : ℕ) : Type 0 where
+  pub finished : List ℕ
+  pub lengths_are : lengths ≡ finished ++ count ∷ []
+  pub some : 1 ≤ left
+  pub fits : left ≤ count
+  pub octets : sum lengths ≡ taken + left
+
+-- Of the subfiles `taken` octets have come: all of them, or all but those to come of the begun one.
+abbrev pub OctetsAre : List ℕ → ℕ → Option (ℕ × ℕ) → Type 0
+OctetsAre lengths taken None = sum lengths ≡ taken
+OctetsAre lengths taken (Some begun) = LastIsBegun lengths taken begun.0 begun.1
+
+-- The place has these numbers of record 7, `heads` heads of subfiles, and `taken` octets that have come. The object has not ended.
+pub record IsAt (numbers : List (Option ℕ)) (taken : ℕ) (begun : Option (ℕ × ℕ)) (heads : ℕ) (p : Place) : Type 0 where
+  pub numbers_are : numbers ≡ stated_numbers p.stated
+  pub octets : OctetsAre p.lengths taken begun
+  pub subfiles : heads ≡ length p.lengths
+  pub not_ended : p.ending ≡ NotEnded
+
+-- Tokens that the record layer and the limits admit lead to the place, and the object layer can continue from them.
+pub record IsPossible (p : Place) : Type 0 where
+  pub stated : AreStated p.stated
+  pub subfiles : p.lengths ≡ [] → p.ending ≡ NotEnded
+  pub duties : 0 < length p.lengths → HasBoth p.stated
+  pub few : length p.lengths ≤ max_subfiles
+  pub alive : IsAlive ObjectLanguage (tokens_of p)

@@ -3,9 +3,8 @@ use Rattle.std.specs.Prelude.{◌≡◌, ℕ, ◌+◌, ◌<◌, ◌≤◌, ◌�
 use Rattle.iim_dataset.specs.States.Devices.{Device, Wrote, Broke, WithinInterruptionLimit}
 use Rattle.std.specs.Io.KnownBytes.{Appends}
 use Rattle.iim_dataset.specs.Format.Datasets.{canonical_stream}
-use Rattle.iim_object.specs.Format.Plans.{bound_of, is_short, Known}
-use Rattle.iim_object.specs.Format.Cuts.{AreFull, joined_parts}
-use Rattle.iim_object.specs.Format.Packing.{plan_datasets, subfile_datasets, IsWritten}
+use Rattle.iim_object.specs.Format.Objects.{bound_of, is_short, Known}
+use Rattle.iim_object.specs.Format.Packing.{AreFull, joined_parts, plan_datasets, subfile_datasets, IsWritten}
 use Rattle.iim_object.specs.declared.plan.Plan.{Plan}
 use Rattle.iim_object.specs.declared.writing.cause.PackCause.{PackCause}
 use Rattle.iim_object.specs.declared.writing.cause.PackCause.TheVariants as causes

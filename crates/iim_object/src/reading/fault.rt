@@ -1,8 +1,7 @@
 //! Why an object is refused.
 
 ghost use Rattle.std.specs.Prelude.{◌≡◌, Some};
-ghost use Rattle.iim_object.specs.Format.Conditions.{number_of};
-ghost use Rattle.iim_object.specs.Format.Names.{name_of, text_of, fault_number, fault_name, fault_text};
+ghost use Rattle.iim_object.specs.Format.Causes.{number_of, name_of, text_of, fault_number, fault_name, fault_text};
 ghost use Rattle.iim_object.specs.declared.reading.fault.ObjectFault.TheVariants.{Size, Stopped};
 
 use iim_dataset::Stop;

@@ -1,10 +1,8 @@
 //! The states of places that are given by numbers.
 
 ghost use Rattle.std.specs.Prelude.{◌≡◌, ◌↔◌, ◌≤◌, ◌+◌, IsTrue, IsSome, IfSome, Some, None};
-ghost use Rattle.iim_object.specs.States.KeptNumbers.{IsState, state_numbers};
-ghost use Rattle.iim_object.specs.Format.Places.{Place};
-ghost use Rattle.iim_object.specs.States.Reading.{StandsAt};
-ghost use Rattle.iim_object.specs.States.Saved.{IsAt, IsPossible};
+ghost use Rattle.iim_object.specs.States.Reading.{IsState, state_numbers, StandsAt, IsAt, IsPossible};
+ghost use Rattle.iim_object.specs.Format.Objects.{Place};
 
 use crate::reading::state::State;
 use crate::reading::step::take_subfile;

@@ -4,17 +4,9 @@ ghost use Rattle.std.specs.Prelude.{◌≡◌, ◌↔◌, ◌<◌, false, IsTrue
 ghost use Rattle.std.specs.Option.{ForSome};
 ghost use Rattle.iim_dataset.specs.Format.Datasets.{Dataset};
 ghost use Rattle.iim_object.specs.declared.reading.state.State.{State};
-ghost use Rattle.iim_object.specs.States.KeptNumbers.{IsState, state_numbers};
-ghost use Rattle.iim_object.specs.States.Changes.{AcceptsNumber, AcceptsSubfile};
-ghost use Rattle.iim_object.specs.Format.Plans.{max_subfiles};
-ghost use Rattle.iim_object.specs.Format.Events.{ObjectOctet, ObjectEnd};
-ghost use Rattle.iim_object.specs.Format.Objects.{NumberRead, SubfileBegun, ObjectEnded};
-ghost use Rattle.iim_object.specs.Format.Places.{Place, ConfirmedAs, place_start, value_token, head_token};
-ghost use Rattle.iim_object.specs.Format.Records.{AreObjectRecords, HaveSizes};
-ghost use Rattle.iim_object.specs.Format.Numbers.{place_after_datasets};
-ghost use Rattle.iim_object.specs.States.Saved.{IsAt, IsPossible, stated_numbers};
+ghost use Rattle.iim_object.specs.States.Reading.{IsState, state_numbers, AcceptsNumber, AcceptsSubfile, IsAt, IsPossible, stated_numbers, StandsAt, LeadsOn, Refuses, EndsAs, RefusesToEnd, RefusesValue, RefusesHead, RefusesRun, IsSizes, events_at};
+ghost use Rattle.iim_object.specs.Format.Objects.{max_subfiles, ObjectOctet, ObjectEnd, NumberRead, SubfileBegun, ObjectEnded, Place, ConfirmedAs, place_start, value_token, head_token, AreObjectRecords, HaveSizes, place_after_datasets};
 ghost use Rattle.iim_object.specs.declared.reading.fault.SizeCause.{SizeCause};
-ghost use Rattle.iim_object.specs.States.Reading.{StandsAt, LeadsOn, Refuses, EndsAs, RefusesToEnd, RefusesValue, RefusesHead, RefusesRun, IsSizes, events_at};
 
 use crate::reading::fault::ObjectFault;
 use crate::reading::place::state_at;

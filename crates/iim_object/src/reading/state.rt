@@ -2,9 +2,8 @@
 
 ghost use Rattle.std.specs.Prelude.{◌≡◌, ◌↔◌, ◌+◌, ◌^◌, ◌<◌, ◌≤◌, IsTrue, IfSome, is_some};
 ghost use Rattle.iim_dataset.specs.Format.Octets.{greatest_u64};
-ghost use Rattle.iim_object.specs.Format.Sizes.{mode_number};
-ghost use Rattle.iim_object.specs.States.KeptNumbers.{HasNumbers, HasSubfiles, IsState, state_numbers};
-ghost use Rattle.iim_object.specs.States.Changes.{FitsNumber, FitsSubfile, TakesNumber, TakesSubfile, state_start, state_with};
+ghost use Rattle.iim_object.specs.Format.Objects.{mode_number};
+ghost use Rattle.iim_object.specs.States.Reading.{HasNumbers, HasSubfiles, IsState, state_numbers, FitsNumber, FitsSubfile, TakesNumber, TakesSubfile, state_start, state_with};
 ghost use Rattle.iim_object.specs.Format.Causes.{is_given, is_above, number_cause, bound, is_past, subfile_cause, end_cause, confirmed_cause};
 
 use crate::plan::MAX_SUBFILES;

@@ -2,8 +2,7 @@
 
 ghost use Rattle.std.specs.Prelude.{Some, IfOk, IfErr, OnOk};
 ghost use Rattle.iim_object.specs.Format.Objects.{NumberRead, SubfileBegun, ObjectEnded, Confirmed};
-ghost use Rattle.iim_object.specs.States.Reading.{LeadsOn, LivesWith, Refuses};
-ghost use Rattle.iim_object.specs.States.KeptNumbers.{IsState};
+ghost use Rattle.iim_object.specs.States.Reading.{LeadsOn, LivesWith, Refuses, IsState};
 
 use crate::reading::fault::SizeCause;
 use crate::reading::state::State;

@@ -1,7 +1,7 @@
 //! Why a packer refuses a call.
 
 ghost use Rattle.std.specs.Prelude.{◌≡◌, Some};
-ghost use Rattle.iim_object.specs.Format.PackCauses.{pack_number, pack_name, pack_text};
+ghost use Rattle.iim_object.specs.Format.Causes.{pack_number, pack_name, pack_text};
 
 use std::error::Error;
 use std::fmt;

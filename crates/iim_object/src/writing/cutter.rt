@@ -4,8 +4,7 @@ ghost use Rattle.std.specs.Prelude.{◌≡◌, ◌+◌, ◌-◌, ◌^◌, ◌<�
 ghost use Rattle.iim_dataset.specs.Format.Datasets.{canonical_dataset};
 ghost use Rattle.iim_object.specs.Format.Packing.{subfile_dataset};
 ghost use Rattle.iim_object.specs.States.Writing.{most_of, total_of, Lengthens, BreaksOff, ContinuesWith, IsTheWhole, Finishes, write_cause, finish_cause};
-ghost use Rattle.iim_object.specs.Cutting.{writing_of, HasRoom};
-ghost use Rattle.iim_object.specs.Outputs.{Puts, Cuts};
+ghost use Rattle.iim_object.specs.Steps.{writing_of, HasRoom, Puts, Cuts};
 ghost use Rattle.iim_object.specs.declared.writing.cause.PackCause.TheVariants as causes;
 
 use crate::laws::objects_are_cut_one_way;

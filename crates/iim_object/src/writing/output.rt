@@ -4,9 +4,8 @@ ghost use Rattle.std.specs.Prelude.{◌≡◌, ◌+◌, ◌^◌, ◌<◌, ◌≤
 ghost use Rattle.iim_dataset.specs.Format.Datasets.{canonical_dataset, canonical_stream, count_octets, tag_octets};
 ghost use Rattle.iim_dataset.specs.Format.Octets.{greatest_size};
 ghost use Rattle.iim_object.specs.Format.Packing.{number_dataset, size_datasets, plan_datasets, is_known};
-ghost use Rattle.iim_object.specs.Format.Plans.{limit_of};
-ghost use Rattle.iim_object.specs.Format.Sizes.{mode_number};
-ghost use Rattle.iim_object.specs.Outputs.{Puts, Cuts};
+ghost use Rattle.iim_object.specs.Format.Objects.{limit_of, mode_number};
+ghost use Rattle.iim_object.specs.Steps.{Puts, Cuts};
 ghost use Rattle.iim_object.specs.declared.writing.cause.PackCause.TheVariants as causes;
 
 use crate::plan::Plan;

@@ -2,7 +2,7 @@
 
 ghost use Rattle.std.specs.Prelude.{◌≡◌, ◌⊎◌, ◌+◌, ◌<◌, ◌≤◌, ◌^◌, [], length, IfOk, IfErr, OnOk, OnErr, IfSome, IfNone, Err};
 ghost use Rattle.iim_dataset.specs.States.Devices.{Wrote, Stopped, WithinInterruptionLimit};
-ghost use Rattle.iim_object.specs.Format.Plans.{most_out};
+ghost use Rattle.iim_object.specs.Format.Objects.{most_out};
 ghost use Rattle.iim_object.specs.States.Writing.{HasWritten, Lengthens, BreaksOff, ContinuesWith, IsTheWhole, Finishes, write_cause, finish_cause, RefusesOctets, RefusesEnd, plan_octets, total_of, most_of, room_of};
 ghost use Rattle.iim_object.specs.declared.writing.cause.PackCause.{PackCause as PackCauseValue};
 ghost use Rattle.iim_object.specs.declared.writing.cause.PackCause.TheVariants as causes;
@@ -28,7 +28,7 @@ pub struct SubfileWriter<W> {
 
 impl<W> Model for SubfileWriter<W> {
     ghost use Rattle.iim_object.specs.States.Writing.{Writing};
-    ghost use Rattle.iim_object.specs.Cutting.{writing_of, HasRoom};
+    ghost use Rattle.iim_object.specs.Steps.{writing_of, HasRoom};
 
     ghost Value = { Writing W };
 

@@ -1,11 +1,11 @@
 -- A writer of blocks: what it holds, and what is out.
 use Rattle.std.specs.Prelude.{◌≡◌, ℕ, ◌+◌, ◌<◌, List, [], ◌++◌, length, map}
 use Rattle.iim_dataset.specs.States.Devices.{Device, Wrote, BrokeAfter, WithinInterruptionLimit}
-use Rattle.iim_dataset.specs.Format.Counts.{Rose}
-use Rattle.wire_story.specs.Format.Delivery.{StoryEvent, octet_for}
-use Rattle.wire_story.specs.States.Writing.{WritesOn}
+use Rattle.iim_dataset.specs.Format.Octets.{Rose}
+use Rattle.wire_story.specs.Format.Texts.{StoryEvent, octet_for}
+use Rattle.wire_story.specs.States.Reading.{WritesOn}
 pub use Rattle.iim_output.specs.declared.block_writer.BlockWriter.{BlockWriter}
-use Rattle.iim_output.specs.Format.Lines.{CommandFault, CannotWrite}
+use Rattle.iim_output.specs.Format.{CommandFault, CannotWrite}
 
 -- what it has taken and not let out
 abbrev pub held_of : {W : Type 0} → BlockWriter W → List ℕ

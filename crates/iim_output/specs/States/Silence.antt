@@ -1,7 +1,7 @@
 -- A sink that passes over the text of a story.
 use Rattle.std.specs.Prelude.{ℕ, List, []}
 use Rattle.iim_dataset.specs.States.Devices.{Device}
-use Rattle.wire_story.specs.Format.Delivery.{StoryEvent}
+use Rattle.wire_story.specs.Format.Texts.{StoryEvent}
 use Rattle.iim_output.specs.declared.silent.Silent.{Silent}
 use Rattle.iim_output.specs.States.Holding.{HasPut, HoldsNothing, StaysStuck}
 

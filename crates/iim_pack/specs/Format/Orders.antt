@@ -6,8 +6,7 @@ use Rattle.iim_object.specs.declared.plan.Plan.{Plan}
 use Rattle.iim_object.specs.declared.writing.cause.PackCause.{PackCause}
 use Rattle.iim_object.specs.declared.writing.cause.PackCause.TheVariants.{PastAnnounced, ShortOfAnnounced, BadTextOctet, BadTrailer, Failed}
 use Rattle.wire_story.specs.Format.Texts.{IsLine}
-use Rattle.wire_message.specs.Format.Messages.{Header, IsTrailer}
-use Rattle.wire_message.specs.Format.Canonical.{packed_head, canonical}
+use Rattle.wire_message.specs.Format.Messages.{Header, IsTrailer, packed_head, canonical}
 use Rattle.iim_pack.specs.States.Packing.{Packing, least_ending}
 
 -- The cause is one of the order; what it says holds, and nothing holds that a cause before it says.

@@ -1,11 +1,10 @@
 -- What is packed: the canonical form of an envelope, a message and a story, by a plan.
 use Rattle.std.specs.Prelude.{◌≡◌, ℕ, List, ◌++◌}
 use Rattle.iim_dataset.specs.Format.Datasets.{Dataset, canonical_stream}
-use Rattle.iim_fields.specs.Format.Envelopes.{IsEnvelope}
+use Rattle.iim_fields.specs.Format.Records.{IsEnvelope}
 use Rattle.iim_object.specs.Format.Packing.{IsWritten, Suits}
 use Rattle.iim_object.specs.declared.plan.Plan.{Plan}
-use Rattle.wire_message.specs.Format.Messages.{Header, IsMessage}
-use Rattle.wire_message.specs.Format.Canonical.{canonical}
+use Rattle.wire_message.specs.Format.Messages.{Header, IsMessage, canonical}
 use Rattle.wire_story.specs.Format.Texts.{IsText}
 
 -- What may be packed by the plan: the fields are a good record 1 and a good record 2; the canonical object is a message whose

@@ -1,23 +1,21 @@
--- A packer: what it has taken, what is out, and how a call ends.
-use Rattle.std.specs.Prelude.{◌≡◌, ℕ, ◌+◌, ◌&&◌, not, nat_le, Bool, false, if◌then◌else◌, IsTrue, List, ◌++◌, length, Option, Some, None}
+-- Where a packer stands: how it begins, what it has taken and written, and a whole envelope in one call.
+use Rattle.std.specs.Prelude.{◌≡◌, ℕ, ◌+◌, ◌&&◌, not, nat_le, Bool, false, if◌then◌else◌, IsTrue, List, ◌++◌, length, Option, Some, None, ◌⊎◌, []}
 use Rattle.std.specs.List.{list_all}
 use Rattle.std.specs.Io.KnownBytes.{Appends}
 use Rattle.iim_dataset.specs.States.Devices.{Device, Wrote, Broke, WithinInterruptionLimit}
 use Rattle.iim_dataset.specs.Format.Datasets.{Dataset, canonical_stream}
-use Rattle.iim_fields.specs.Format.Envelopes.{IsEnvelope}
-use Rattle.iim_object.specs.Format.Plans.{is_short}
+use Rattle.iim_fields.specs.Format.Records.{IsEnvelope}
+use Rattle.iim_object.specs.Format.Objects.{is_short}
 use Rattle.iim_object.specs.States.Writing as object
-use Rattle.iim_object.specs.States.Writing.{Writing, total_of, passes_plan}
+use Rattle.iim_object.specs.States.Writing.{Writing, total_of, passes_plan, Begins}
+use Rattle.wire_story.specs.Format.Texts.{is_line_octet, StoryEvent, events_of_lines}
+use Rattle.wire_story.specs.Format.Packing.{packed_events, AreEvents, lines_of}
+use Rattle.wire_message.specs.Format.Messages.{is_trailer_octet, max_trailer, Header, IsHeader, packed_head, packed_tail, canonical}
+use Rattle.iim_pack.specs.Format.Packed.{Packed}
 use Rattle.iim_object.specs.declared.plan.Plan.{Plan}
 use Rattle.iim_object.specs.declared.writing.cause.PackCause.{PackCause}
 use Rattle.iim_object.specs.declared.writing.cause.PackCause.TheVariants as causes
-use Rattle.wire_story.specs.Format.Texts.{is_line_octet}
-use Rattle.wire_story.specs.Format.Delivery.{StoryEvent, events_of_lines}
-use Rattle.wire_story.specs.Format.Packing.{packed_events, AreEvents, lines_of}
-use Rattle.wire_message.specs.Format.Fields.{is_trailer_octet, max_trailer}
-use Rattle.wire_message.specs.Format.Messages.{Header, IsHeader}
-use Rattle.wire_message.specs.Format.Canonical.{packed_head, packed_tail, canonical}
-use Rattle.iim_pack.specs.Format.Packed.{Packed}
+use Rattle.iim_object.specs.declared.writing.cause.StartFault.{StartFault}
 
 -- A packer is seen as how many octets records 1 and 2 have, and the writer of its object.
 pub record Packing (W : Type 0) : Type 0 where
@@ -142,3 +140,64 @@ pack_cause head lines trailer plan =
     else if passes_plan plan (length (canonical head lines trailer)) then Some causes.PastAnnounced
     else if is_short plan.size (length (canonical head lines trailer)) then Some causes.ShortOfAnnounced
     else None
+
+-- The packer has taken these fields, this header and the text that comes in these events, and has not failed. Since its writer
+-- stood so, exactly this was written, `written` octets: the fields, record 7 of the plan and full subfiles. The data of those and
+-- the octets that are held are the canonical object from SOH to the end of the text.
+pub record HasBegun {W : Type 0} (state : W → Device) (first : Device) (k : Packing W) (fields : List Dataset) (head : Header) (events : List StoryEvent) (plan : Plan) : Type 0 where
+  pub out : List ℕ
+  pub wrote : Wrote first (state k.object.writer) out
+  pub counted : written_of k ≡ length out
+  pub stands : HasPacked k fields head events plan out
+
+-- Whatever the packer had taken, it has taken these events too.
+abbrev pub ContinuesBegun : {W : Type 0} → (W → Device) → Packing W → Packing W → List StoryEvent → Type 0
+ContinuesBegun state old new events = (first : Device) (fields : List Dataset) (head : Header) (before : List StoryEvent) (plan : Plan)
+    → HasBegun state first old fields head before plan → HasBegun state first new fields head (before ++ events) plan
+
+-- Whatever the packer had taken, exactly the packed form of its lines with this trailer was written.
+abbrev pub EndsBegun : {W : Type 0} → (W → Device) → Packing W → List ℕ → W → Type 0
+EndsBegun state old trailer writer = (first : Device) (fields : List Dataset) (head : Header) (events : List StoryEvent) (plan : Plan)
+    → HasBegun state first old fields head events plan
+    → (form : List ℕ) × Packed fields head (lines_of events) trailer plan form × Wrote first (state writer) form
+
+-- Nothing was written, and the writer is handed back as it was.
+pub record StartIsRefused {W : Type 0} (cause : PackCause) (writer : W) (fault : StartFault W) : Type 0 where
+  pub cause_is : fault.cause ≡ cause
+  pub writer_is : fault.writer ≡ writer
+  pub nothing : fault.written ≡ 0
+
+-- A write failed: some octets are out and counted, and they begin every such form. A million interruptions at most came for each, and
+-- for the next.
+pub record StartBreaksOff {W : Type 0} (state : W → Device) (Form : List ℕ → Type 0) (writer : W) (fault : StartFault W) : Type 0 where
+  pub cause_is : fault.cause ≡ causes.Write
+  pub out : List ℕ
+  pub appends : Appends (state writer).octets (state fault.writer).octets out
+  pub broke : Broke (state writer) (state fault.writer)
+  pub patience : WithinInterruptionLimit (length out + 1) (state writer) (state fault.writer)
+  pub counted : fault.written ≡ length out
+  pub begins : (whole : List ℕ) → Form whole → Begins out whole
+
+-- The packer stands with an empty text, and what is out was written in this call. A million interruptions at most came for each octet.
+pub record Starts {W : Type 0} (state : W → Device) (writer : W) (fields : List Dataset) (head : Header) (plan : Plan) (k : Packing W) : Type 0 where
+  pub out : List ℕ
+  pub wrote : Wrote (state writer) (state k.object.writer) out
+  pub patience : WithinInterruptionLimit (length out) (state writer) (state k.object.writer)
+  pub counted : written_of k ≡ length out
+  pub total : total_of k.object ≡ length (packed_head head)
+  pub stands : HasPacked k fields head [] plan out
+
+-- Memory was refused, and nothing was written; or a write failed.
+abbrev pub IsStartFault : {W : Type 0} → (W → Device) → List Dataset → Header → Plan → W → StartFault W → Type 0
+IsStartFault state fields head plan writer fault = StartIsRefused causes.OutOfMemory writer fault ⊎ StartBreaksOff state (FormWith fields head plan []) writer fault
+
+-- The packed form is out. A million interruptions at most came for each octet.
+pub record Packs {W : Type 0} (state : W → Device) (writer : W) (fields : List Dataset) (head : Header) (lines : List (List ℕ)) (trailer : List ℕ) (plan : Plan) (last : W) : Type 0 where
+  pub out : List ℕ
+  pub wrote : Wrote (state writer) (state last) out
+  pub patience : WithinInterruptionLimit (length out) (state writer) (state last)
+  pub packed : Packed fields head lines trailer plan out
+
+-- Memory was refused, and nothing was written; or a write failed, and what is out begins the form.
+abbrev pub IsPackFault : {W : Type 0} → (W → Device) → List Dataset → Header → List (List ℕ) → List ℕ → Plan → W → StartFault W → Type 0
+IsPackFault state fields head lines trailer plan writer fault = StartIsRefused causes.OutOfMemory writer fault ⊎ StartBreaksOff state (Packed fields head lines trailer plan) writer fault

@@ -1,10 +1,11 @@
--- What a whole stream is answered: one answer, whatever the cut.
-use Rattle.std.specs.Prelude.{◌≡◌, ◌≢◌, ℕ, ◌<◌, ◌≤◌, List, length, take, slice_index}
-use Rattle.iim_fields.specs.declared.limits.Limits.{Limits}
-use Rattle.iim_places.specs.Format.Admitted.{Value, Admits}
-use Rattle.iim_places.specs.Format.Framed.{AreWithin}
-use Rattle.iim_places.specs.Format.Refusals.{refusal_at, TokenFault}
+-- What a whole stream is answered, and the envelopes that an input begins with.
+use Rattle.std.specs.Prelude.{◌≡◌, ◌≢◌, ℕ, ◌<◌, ◌≤◌, List, length, take, slice_index, ◌+◌, min, true, false, [], ◌∷◌, Bool, ◌⊎◌, ◌++◌, map}
+use Rattle.std.specs.List.{AllByRecursion}
+use Rattle.iim_places.specs.Format.Admitted.{Value, Admits, AreWithin}
+use Rattle.iim_places.specs.Format.Causes.{refusal_at, TokenFault}
 use Rattle.iim_places.specs.Format.Open.{IsOpen, RefusesNext, IsTruncatedAt}
+use Rattle.iim_dataset.specs.Format.Octets.{greatest_u64}
+use Rattle.iim_fields.specs.declared.limits.Limits.{Limits}
 use Rattle.iim_places.specs.declared.refusal.Refusal.{Refusal}
 use Rattle.iim_places.specs.declared.refusal.Cause.TheVariants.{Message}
 use Rattle.wire_message.specs.declared.fault.MessageCause.TheVariants.{Sink}
@@ -48,3 +49,80 @@ abbrev pub Answers : Limits → List ℕ → Answer → Type 0
 Answers limits stream (Finished used value) = IsFinished limits stream used value
 Answers limits stream (Refused e) = IsRefused limits stream e × (e.cause ≢ Message Sink)
 Answers limits stream (Truncated e) = IsTruncated limits stream e
+
+-- a count, raised by n; it stays at the greatest number of 64 bits
+-- twin: "The count of octets stays at the greatest number of 64 bits", "The octets are counted on from the number that is handed in"
+abbrev pub raised : ℕ → ℕ → ℕ
+raised a n = min (a + n) greatest_u64
+
+-- there is an octet
+abbrev pub are_some : List ℕ → Bool
+are_some [] = false
+are_some (x ∷ xs) = true
+
+-- ---- The envelopes that an input begins with, and what stands after them.
+
+-- how many envelopes are listed at most
+-- twin: `lists_a_million_envelopes_and_no_more`, `one_envelope_too_many`
+abbrev pub max_envelopes : ℕ
+max_envelopes = 1000000
+
+-- an envelope of an input: its octets, and the value that they have
+pub record Listed : Type 0 where
+  pub octets : List ℕ
+  pub value : Value
+
+-- Its octets are admitted with its value, within the limits.
+abbrev pub IsListed : Limits → Listed → Type 0
+IsListed limits e = IsEnvelopeWithin limits e.octets e.value
+
+-- the values of envelopes, in their order
+abbrev pub values_of : List Listed → List Value
+values_of es = map (λ e. e.value) es
+
+-- the octets of all envelopes, in their order
+abbrev pub joined : List Listed → List ℕ
+joined [] = []
+joined (e ∷ es) = e.octets ++ joined es
+
+-- The input is these envelopes, joined, and a rest; and they are not too many to be listed.
+pub record Divides (limits : Limits) (input : List ℕ) (envelopes : List Listed) (rest : List ℕ) : Type 0 where
+  pub admitted : AllByRecursion (IsListed limits) envelopes
+  pub parts : input ≡ joined envelopes ++ rest
+  pub few : length envelopes ≤ max_envelopes
+
+-- Every layer can continue from the first k octets, and no envelope ends with them. The next octet completes the first token with
+-- which a layer can't. (Octets are counted up to the greatest number of 64 bits.)
+pub record IsDeadAfter (limits : Limits) (rest : List ℕ) (k : ℕ) (e : Refusal) : Type 0 where
+  pub within : k < length rest
+  pub fault : TokenFault
+  pub refusal : e ≡ refusal_at (raised 0 k) fault
+  pub kills : Kills limits (take k rest) (slice_index rest k) fault
+
+-- Every layer can continue from the octets, which are some, and which end there.
+pub record EndsTruncated (limits : Limits) (rest : List ℕ) (e : Refusal) : Type 0 where
+  pub some : rest ≢ []
+  pub is_open : IsOpen limits rest
+  pub truncated : IsTruncatedAt rest (raised 0 (length rest)) e
+
+-- The octets are refused after the first k of them: by the next one, or since they end there.
+abbrev pub IsRefusedAfter : Limits → List ℕ → ℕ → Refusal → Type 0
+IsRefusedAfter limits rest k e = (EndsTruncated limits rest e × (k ≡ length rest)) ⊎ IsDeadAfter limits rest k e
+
+-- What stands after the envelopes: nothing, octets that are refused, or one envelope too many.
+pub data InputEnding : Type 0 where
+  Whole : InputEnding
+  RefusedBy : Refusal → InputEnding
+  TooMany : InputEnding
+
+-- The octets after `count` envelopes are this ending.
+abbrev pub EndsBy : Limits → ℕ → List ℕ → InputEnding → Type 0
+EndsBy limits count rest Whole = rest ≡ []
+EndsBy limits count rest (RefusedBy refusal) = (k : ℕ) × IsRefusedAfter limits rest k refusal
+EndsBy limits count rest TooMany = (count ≡ max_envelopes) × (e : Listed) × IsListed limits e × (more : List ℕ) × (rest ≡ e.octets ++ more)
+
+-- The listing of an input: the envelopes that it begins with, and what stands after them.
+pub record IsListing (limits : Limits) (input : List ℕ) (envelopes : List Listed) (ending : InputEnding) : Type 0 where
+  pub rest : List ℕ
+  pub divides : Divides limits input envelopes rest
+  pub ends : EndsBy limits (length envelopes) rest ending

@@ -1,16 +1,28 @@
--- Places at which an envelope can be, and the limits that they keep.
-use Rattle.std.specs.Prelude.{◌≡◌, ℕ, ◌+◌, ◌⊎◌, ◌≤◌, true, ⊤, Option, None, Some, if◌then◌else◌, List, length}
-use Rattle.iim_fields.specs.Format.Faults.{is_kept, joined}
-use Rattle.iim_fields.specs.Format.Bounds.{IsWithin}
-use Rattle.iim_fields.specs.declared.limits.Limits.{Limits}
-use Rattle.iim_places.specs.Format.Admitted.{Value}
-use Rattle.iim_places.specs.Format.Open.{IsOpen}
-use Rattle.iim_places.specs.Format.Streams.{IsEnvelopeWithin}
-use Rattle.iim_places.specs.Format.Tickets.{Place, Phase, TagBegun, DataBegun, AllEnded, IsPlaceOf}
-use Rattle.iim_dataset.specs.Format.Octets.{greatest_u32}
-use Rattle.iim_dataset.specs.Format.Tags.{BeginsTag}
-use Rattle.iim_fields.specs.Format.Values.{tells_number}
+-- Places at which an envelope can be: by datasets that lead there, by what each layer says, and by smaller sizes.
+use Rattle.std.specs.Prelude.{◌≡◌, ℕ, ◌+◌, ◌⊎◌, ◌≤◌, true, ⊤, Option, None, Some, if◌then◌else◌, List, length, zero, suc, Bool, [], ◌∷◌, ◌++◌, take, drop, ◌↔◌, ◌-◌, ◌==◌, false}
 use Rattle.std.specs.List.{AllByRecursion}
+use Rattle.std.specs.Option.{unwrap_or}
+use Rattle.iim_fields.specs.Format.Causes.{is_kept, joined, section_after}
+use Rattle.iim_fields.specs.Format.Records.{IsWithin, tells_number, SectionsLive, SectionsLiveAt, AreSections}
+use Rattle.iim_places.specs.Format.Admitted.{Value, Admits, object_of, AreWithin}
+use Rattle.iim_places.specs.Format.Open.{IsOpen, message_tokens, object_so_far}
+use Rattle.iim_places.specs.Format.Streams.{IsEnvelopeWithin}
+use Rattle.iim_places.specs.Format.Tickets.{Place, Phase, TagBegun, DataBegun, AllEnded, IsPlaceOf, first_version}
+use Rattle.iim_dataset.specs.Format.Octets.{greatest_u32, Octets, number, IsAlive}
+use Rattle.iim_dataset.specs.Format.Datasets.{BeginsTag, Dataset, count_octets, SpellsStream, head_of, Begun, InTag, InData, Reads}
+use Rattle.iim_object.specs.Format.Packing.{number_dataset, subfile_datasets, confirmed_datasets}
+use Rattle.iim_dataset.specs.States.Reading.{IsPlace}
+use Rattle.iim_object.specs.Format.Objects.{ObjectEnded, Confirmed, LanguageWithin, place_after_datasets}
+use Rattle.iim_object.specs.Format.Objects as objects
+use Rattle.iim_object.specs.States.Reading.{IsAt, IsPossible}
+use Rattle.wire_message.specs.States.Reading.{LeadsToSaved}
+use Rattle.iim_places.specs.Format.TicketForm.{came}
+use Rattle.wire_message.specs.Format.Messages.{MessageLanguage, StoryLivesIn}
+use Rattle.iim_places.specs.Format.Causes.{HaveRoom, place_at}
+use Rattle.iim_fields.specs.declared.limits.Limits.{Limits}
+use Rattle.iim_dataset.specs.declared.head.Head.{Head}
+use Rattle.iim_dataset.specs.declared.place.DatasetPlace.TheVariants.{Inside}
+use Rattle.wire_message.specs.declared.saved.MessagePart.TheVariants.{AfterEnd}
 
 -- the widest limits: 4,294,967,295 octets and as many fields
 -- twin that nothing finds: no test has a ticket of 4 GB. Heads of up to 65,536 octets: "Long tickets"
@@ -73,3 +85,200 @@ begun_fields section AllEnded = 0
 -- The heads of records 1 and 2 that the place tells, a begun one among them, are within the limits.
 abbrev pub AreHeadsWithin : Limits → Place → Type 0
 AreHeadsWithin limits p = IsWithin limits (length (joined p.fields) + begun_count p.section p.phase) (length p.fields + begun_fields p.section p.phase)
+
+-- what a ticket tells of record 7: the numbers of 7:10, 7:20, 7:90 and 7:95
+pub record Numbers : Type 0 where
+  pub mode : Option ℕ
+  pub largest : Option ℕ
+  pub announced : Option ℕ
+  pub maximum : Option ℕ
+
+abbrev pub number_list : Numbers → List (Option ℕ)
+number_list n = n.mode ∷ n.largest ∷ n.announced ∷ n.maximum ∷ []
+
+-- Size Mode, in one octet
+-- twins (with plain_numbers): law `places_are_possible_by_layers`; "The tickets of places in the smallest envelope, in each version"; "No
+--   subfile is longer than 7:20, and all together"
+abbrev pub mode_dataset : ℕ → Dataset
+mode_dataset n = record { rec = 7; set = 10; octets = n ∷ [] }
+
+-- a dataset where there is a number
+abbrev pub one_dataset : (ℕ → Dataset) → Option ℕ → List Dataset
+one_dataset made None = []
+one_dataset made (Some n) = made n ∷ []
+
+-- record 7: its numbers in their order
+abbrev pub plain_numbers : Numbers → List Dataset
+plain_numbers n =
+    one_dataset mode_dataset n.mode ++ (one_dataset (number_dataset 7 20) n.largest ++ (one_dataset (number_dataset 7 90) n.announced ++ one_dataset (number_dataset 7 95) n.maximum))
+
+-- the octets cut into `count` parts of at most `size` octets, each filled before the next
+abbrev pub filled : (size count : ℕ) → List ℕ → List (List ℕ)
+filled size zero xs = []
+filled size (suc count) xs = take size xs ∷ filled size count (drop size xs)
+
+-- 9:10, where the object has ended
+abbrev pub plain_end : Bool → List ℕ → List Dataset
+plain_end ended object = if ended then confirmed_datasets object else []
+
+-- records 1 and 2, the numbers of record 7, `heads` subfiles of the object, each filled before the next, and its end where it has
+-- come
+abbrev pub plain : List Dataset → Numbers → ℕ → List ℕ → Bool → List Dataset
+plain fields numbers heads object ended = fields ++ (plain_numbers numbers ++ (subfile_datasets (filled (unwrap_or numbers.largest 0) heads object) ++ plain_end ended object))
+
+-- ---- the dataset layer
+
+-- the head of begun data
+abbrev pub head_of_numbers : (section set count : ℕ) → Head
+head_of_numbers section set count = record { rec = section; set = set; count = count }
+
+-- Octets lead to what is begun: to the held octets of a tag; or to the data of a head, of which those that have come are kept, unless
+-- it is a subfile's.
+abbrev pub TagsLead : ℕ → Phase → Type 0
+TagsLead section (TagBegun held) = BeginsTag count_octets held
+TagsLead section (DataBegun set count left taken) =
+    IsPlace (Inside (head_of_numbers section set count) left) × (length taken ≡ came section count left) × Octets taken
+TagsLead section AllEnded = ⊤
+
+-- ---- the record layer
+
+-- one where a subfile is begun, else none
+-- twins (with RecordsLive, begun_of_object, object_after, MessageLeads): law `places_are_possible_by_layers`; "Inside a subfile; whether
+--   octets lead there"; `judges_each_part_of_a_message`
+abbrev pub begun_subfiles : ℕ → Phase → ℕ
+begun_subfiles section (TagBegun held) = 0
+begun_subfiles section (DataBegun set count left taken) = if section == 8 then 1 else 0
+begun_subfiles section AllEnded = 0
+
+-- one where there are some, else none
+abbrev pub one_of_some : ℕ → ℕ
+one_of_some zero = 0
+one_of_some (suc n) = 1
+
+-- whether the last dataset has ended
+abbrev pub are_ended : Phase → Bool
+are_ended (TagBegun held) = false
+are_ended (DataBegun set count left taken) = false
+are_ended AllEnded = true
+
+-- Whole datasets by which the record layer is told: the fields, the numbers of record 7 in their order, one subfile where some have
+-- ended, and 9:10 where the last dataset has. What subfiles and sizes tell is no matter of this layer.
+abbrev pub record_datasets : Place → Numbers → List Dataset
+record_datasets p numbers = plain p.fields numbers (one_of_some (p.heads - begun_subfiles p.section p.phase)) [] (are_ended p.phase)
+
+-- The layer can continue after the whole datasets with what is begun, and the section is the record of the last head.
+abbrev pub RecordsLive : ℕ → Phase → List Dataset → Type 0
+RecordsLive section (TagBegun held) ds = (section_after ds ≡ section) × SectionsLive ds
+RecordsLive section (DataBegun set count left taken) ds = SectionsLiveAt ds (head_of_numbers section set count)
+RecordsLive section AllEnded ds = (section ≡ 9) × SectionsLive ds
+
+-- ---- the object layer
+
+-- the count of a begun subfile, and how many octets of it are to come
+abbrev pub begun_of_object : ℕ → Phase → Option (ℕ × ℕ)
+begun_of_object section (TagBegun held) = None
+begun_of_object section (DataBegun set count left taken) = if section == 8 then Some (count, left) else None
+begun_of_object section AllEnded = None
+
+-- the place of the object after what came last: its end with the head of 9:10, and its size with the value
+abbrev pub object_after : ℕ → Phase → ℕ → objects.Place → objects.Place
+object_after section (TagBegun held) total p = p
+object_after section (DataBegun set count left taken) total p = if section == 9 then objects.place_after p ObjectEnded else p
+object_after section AllEnded total p = objects.place_after (objects.place_after p ObjectEnded) (Confirmed total)
+
+-- Tokens lead the object to these numbers, and the layer can continue from them.
+abbrev pub ObjectLeads : Place → Type 0
+ObjectLeads place = (p : objects.Place) × IsAt place.numbers place.taken (begun_of_object place.section place.phase) place.heads p
+    × IsPossible (object_after place.section place.phase place.taken p)
+
+-- Some octets, `place.taken` of them, lead to the message's place, and where the object has ended, so has the message.
+abbrev pub MessageLeads : Place → Type 0
+MessageLeads place = (octets : List ℕ) × (text : List ℕ) × LeadsToSaved octets text place.message × (length octets ≡ place.taken)
+    × (place.section ≡ 9 → place.message.part ≡ AfterEnd)
+
+-- ---- all of them
+
+-- Each layer can be at the place, and can continue from there; and it is within the widest limits.
+pub record LeadsByLayers (place : Place) : Type 0 where
+  pub numbers : Numbers
+  pub numbers_are : place.numbers ≡ number_list numbers
+  pub kept : AllByRecursion (λ (d : Dataset). is_kept d.rec ≡ true) place.fields
+  pub tags : TagsLead place.section place.phase
+  pub records : RecordsLive place.section place.phase (record_datasets place numbers)
+  pub object : ObjectLeads place
+  pub message : MessageLeads place
+  pub within : AreHeadsWithin widest place
+
+-- A place is possible exactly where each layer alone can be there.
+abbrev pub PlacesArePossibleByLayers : Type 0
+PlacesArePossibleByLayers = (place : Place) → Possible place ↔ LeadsByLayers place
+
+-- ---- Places that were possible by smaller sizes: with at most `octets` octets in an extended count and in a size, and objects of at most
+-- `greatest` octets. The languages of the layers are those of today, without what is larger.
+
+pub record Scale : Type 0 where
+  pub octets : ℕ
+  pub greatest : ℕ
+
+-- the sizes that there were when version 1 was made
+-- twins (with FitsRow): law `small_places_were_possible`; "No subfile is longer than 7:20, and all together";
+--   `refuses_places_of_version_1_by_its_sizes`
+abbrev pub first_scale : Scale
+first_scale = record { octets = count_octets_before; greatest = greatest_size_before }
+
+-- ---- the record layer
+
+-- what the rows of 7:20, 7:90, 7:95, 8:10 and 9:10 say by the scale, beside what they say now
+pub record FitsRow (s : Scale) (d : Dataset) : Type 0 where
+  pub size : tells_number d.rec ≡ true → (length d.octets ≤ s.octets) × (number d.octets ≤ s.greatest)
+  pub subfile : d.rec ≡ 8 → length d.octets ≤ s.greatest
+
+-- the datasets of an envelope, each as its row says by the scale
+abbrev pub SectionsIn : Scale → List Dataset → Type 0
+SectionsIn s ds = AreSections ds × AllByRecursion (FitsRow s) ds
+
+-- ---- open octets, and envelopes
+
+abbrev pub SectionsLiveIn : Scale → List Dataset → Begun → Type 0
+SectionsLiveIn s ds (InTag held) = IsAlive (SectionsIn s) ds
+SectionsLiveIn s ds (InData h taken) = (d : Dataset) × (head_of d ≡ h) × IsAlive (SectionsIn s) (ds ++ d ∷ [])
+
+abbrev pub place_in : List Dataset → Begun → objects.Place
+place_in ds (InTag held) = place_after_datasets ds
+place_in ds (InData h taken) = place_at ds h
+
+abbrev pub HaveRoomIn : Limits → List Dataset → Begun → Type 0
+HaveRoomIn limits ds (InTag held) = Unit {0}
+HaveRoomIn limits ds (InData h taken) = HaveRoom limits ds h
+
+-- Every layer can continue from the octets by the scale, within the limits, and they are no envelope.
+pub record IsOpenIn (s : Scale) (limits : Limits) (octets : List ℕ) : Type 0 where
+  pub whole : List Dataset
+  pub begun : Begun
+  pub reads : Reads s.octets octets whole begun
+  pub records : SectionsLiveIn s whole begun
+  pub within : AreWithin limits whole
+  pub room : HaveRoomIn limits whole begun
+  pub object : IsAlive (LanguageWithin s.greatest) (objects.tokens_of (place_in whole begun))
+  pub message : IsAlive MessageLanguage (message_tokens whole begun)
+  pub story : StoryLivesIn (object_so_far whole begun)
+  pub unfinished : SectionsIn s whole → ⊥
+
+-- The octets are an envelope by the scale, within the limits.
+pub record IsWholeIn (s : Scale) (limits : Limits) (octets : List ℕ) : Type 0 where
+  pub value : Value
+  pub admits : Admits octets value
+  pub spelled : SpellsStream s.octets admits.datasets octets
+  pub rows : AllByRecursion (FitsRow s) admits.datasets
+  pub total : length (object_of admits.datasets) ≤ s.greatest
+  pub within : AreWithin limits admits.datasets
+
+-- Some octets lead to the place, and are open or an envelope by the scale under the widest limits.
+pub record PossibleAt (s : Scale) (place : Place) : Type 0 where
+  pub octets : List ℕ
+  pub leads : IsPlaceOf octets place
+  pub comes : IsOpenIn s widest octets ⊎ IsWholeIn s widest octets
+
+-- The place is possible in tickets of the version: in version 1 by the first scale.
+abbrev pub IsPossibleIn : ℕ → Place → Type 0
+IsPossibleIn version place = Possible place × (version ≡ first_version.number → PossibleAt first_scale place)

@@ -1,12 +1,14 @@
--- The tickets of possible places, and why one is refused.
-use Rattle.std.specs.Prelude.{◌≡◌, ℕ, ◌+◌, ◌<◌, ◌≤◌, List, length}
-use Rattle.iim_fields.specs.Format.Faults.{joined}
-use Rattle.iim_fields.specs.declared.limits.Limits.{Limits}
-use Rattle.iim_places.specs.States.Scales.{IsPossibleIn}
-use Rattle.iim_places.specs.States.Possible.{AreHeadsWithin, begun_count, begun_fields}
+-- The tickets of possible places, what they tell, and why one is refused.
+use Rattle.std.specs.Prelude.{◌≡◌, ℕ, ◌+◌, ◌<◌, ◌≤◌, List, length, map}
+use Rattle.iim_fields.specs.Format.Causes.{joined}
+use Rattle.iim_places.specs.States.Possible.{IsPossibleIn, AreHeadsWithin, begun_count, begun_fields}
 use Rattle.iim_places.specs.Format.TicketForm.{Split, IsVersion, SplitsTicket, IsFaultOf, Form, Version, Impossible, HeaderFull, TooManyFields, OutOfMemory}
-use Rattle.iim_places.specs.Format.Tickets.{Place, ticket_in}
+use Rattle.iim_places.specs.Format.Tickets.{Place, ticket_in, Phase, TagBegun, DataBegun, AllEnded}
+use Rattle.iim_fields.specs.declared.limits.Limits.{Limits}
 use Rattle.iim_places.specs.declared.ticket.fault.TicketFault.{TicketFault}
+use Rattle.iim_places.specs.declared.ticket.split.TicketParts.{TicketParts}
+use Rattle.iim_places.specs.declared.ticket.split.TicketPhase.{TicketPhase}
+use Rattle.iim_places.specs.declared.ticket.split.TicketPhase.TheVariants.{Tag, Data, Ended}
 
 -- The octets are the ticket of this place in a version in which it is possible.
 pub record IsTicketAt (ticket : List ℕ) (place : Place) : Type 0 where
@@ -39,3 +41,25 @@ IsRestoreFault limits ticket Impossible = ((s : Split) × SplitsTicket ticket s)
 IsRestoreFault limits ticket HeaderFull = (place : Place) × IsTicketAt ticket place × (limits.octets < octets_told place)
 IsRestoreFault limits ticket TooManyFields = (place : Place) × IsTicketAt ticket place × (octets_told place ≤ limits.octets) × (limits.fields < fields_told place)
 IsRestoreFault limits ticket OutOfMemory = (place : Place) × IsTicketAt ticket place × AreHeadsWithin limits place
+
+-- ---- what is told of octets
+
+abbrev pub phase_told : TicketPhase → Phase
+phase_told (Tag held) = TagBegun held.now
+phase_told (Data set count left taken) = DataBegun set count left taken.now
+phase_told Ended = AllEnded
+
+abbrev pub split_told : TicketParts → Split
+split_told p = record {
+  version = p.version;
+  section = p.section;
+  phase = phase_told p.phase;
+  fields = p.fields;
+  numbers = p.numbers;
+  taken = p.taken;
+  heads = p.heads;
+  part = p.part;
+  counter = p.counter;
+  flag = p.flag;
+  texts = map (λ t. t.now) p.texts;
+}

@@ -3,9 +3,8 @@
 ghost use Rattle.std.specs.Prelude.{◌≡◌};
 ghost use Rattle.std.specs.List.{AllByRecursion, flat_map};
 ghost use Rattle.iim_places.specs.Format.Tickets.{field_octets};
-ghost use Rattle.iim_places.specs.States.Begins.{IsLongField};
-ghost use Rattle.iim_places.specs.TicketParts.{HoldsFields};
-ghost use Rattle.iim_places.specs.FieldLaws.{held_once};
+ghost use Rattle.iim_places.specs.Format.TicketForm.{IsLongField};
+ghost use Rattle.iim_places.specs.TicketParts.{HoldsFields, held_once};
 
 use crate::ticket::front::take_field;
 use std::marker::Model;
@@ -48,7 +47,7 @@ impl<'a> TicketFields<'a> {
 
 impl<'a> Iterator for TicketFields<'a> {
     ghost use Rattle.std.specs.Iterator.{YieldsFirstBy, item_count};
-    ghost use Rattle.iim_places.specs.States.Begins.{those_left};
+    ghost use Rattle.iim_places.specs.Format.TicketForm.{those_left};
 
     type Item = (u8, u8, &'a [u8]);
 

@@ -2,7 +2,7 @@
 
 ghost use Rattle.std.specs.Prelude.{◌≡◌, ◌^◌, ◌<◌, ◌++◌, ◌∷◌, [], length, IfSome, IfNone};
 ghost use Rattle.iim_places.specs.Format.Tickets.{four, wide, field_octets, number_octets, text_octets};
-ghost use Rattle.iim_places.specs.States.Begins.{IsLongField, IsSizeIn, IsShort, IsWide};
+ghost use Rattle.iim_places.specs.Format.TicketForm.{IsLongField, IsSizeIn, IsShort, IsWide};
 ghost use Rattle.iim_places.specs.TicketParts.{dataset};
 ghost use Rattle.std.specs.Int.{w64, to_be_bytes};
 ghost use Rattle.iim_places.specs.Restoring.{BeginsWithNone, IsFour};

@@ -1,13 +1,11 @@
 //! The reader of the object at the place that a ticket tells.
 
 ghost use Rattle.std.specs.Prelude.{◌≡◌, Some, None, IsSome, IfSome, IfNone};
-ghost use Rattle.iim_object.specs.Format.Objects.{ObjectEnded, Confirmed};
-ghost use Rattle.iim_object.specs.Format.Places.{Place, MayFollow, place_after};
-ghost use Rattle.iim_object.specs.States.Reading.{StandsAt};
-ghost use Rattle.iim_object.specs.States.Saved.{IsAt, IsPossible};
-ghost use Rattle.iim_places.specs.States.ByLayers.{begun_of_object, object_after};
+ghost use Rattle.iim_object.specs.Format.Objects.{ObjectEnded, Confirmed, Place, MayFollow, place_after};
+ghost use Rattle.iim_object.specs.States.Reading.{StandsAt, IsAt, IsPossible};
+ghost use Rattle.iim_places.specs.States.Possible.{begun_of_object, object_after};
 ghost use Rattle.iim_places.specs.Nowhere.{goes_nowhere, stops_nowhere};
-ghost use Rattle.iim_places.specs.States.TicketsTold.{phase_told};
+ghost use Rattle.iim_places.specs.States.Restored.{phase_told};
 
 use crate::laws::lower_laws;
 use crate::ticket::split::TicketPhase;

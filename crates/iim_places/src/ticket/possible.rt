@@ -1,18 +1,14 @@
 //! Whether an envelope can be at the place that a ticket tells, and the readers there.
 
-ghost use Rattle.iim_dataset.specs.Format.Tags.{BeginsTag};
-ghost use Rattle.iim_dataset.specs.Format.Datasets.{count_octets};
-ghost use Rattle.iim_fields.specs.Format.Values.{tells_number};
+ghost use Rattle.iim_dataset.specs.Format.Datasets.{BeginsTag, count_octets};
+ghost use Rattle.iim_fields.specs.Format.Records.{tells_number, IsWithin};
 ghost use Rattle.std.specs.Prelude.{◌≡◌, ◌↔◌, ◌≤◌, true, ◌+◌, ◌-◌, cond, length, false, IsTrue, IfSome, IfNone};
-ghost use Rattle.iim_fields.specs.Format.Faults.{joined};
-ghost use Rattle.iim_fields.specs.Format.Bounds.{IsWithin};
-ghost use Rattle.iim_places.specs.States.ByLayers.{begun_subfiles, one_of_some, TagsLead};
-ghost use Rattle.iim_places.specs.States.Possible.{widest, begun_count, begun_fields, count_octets_before, greatest_size_before, IsSmallPhase};
+ghost use Rattle.iim_fields.specs.Format.Causes.{joined};
+ghost use Rattle.iim_places.specs.States.Possible.{begun_subfiles, one_of_some, TagsLead, widest, begun_count, begun_fields, count_octets_before, greatest_size_before, IsSmallPhase};
 ghost use Rattle.iim_places.specs.States.Readers.{AreAt, AreAtIn, LeadsNowhereIn};
-ghost use Rattle.iim_places.specs.States.Restored.{IsLimitFault};
+ghost use Rattle.iim_places.specs.States.Restored.{IsLimitFault, phase_told, split_told};
 ghost use Rattle.iim_places.specs.Restoring.{LeadsNowhere};
 ghost use Rattle.iim_places.specs.Format.TicketForm.{HasForm};
-ghost use Rattle.iim_places.specs.States.TicketsTold.{phase_told, split_told};
 
 use crate::form::FIRST_VERSION;
 use crate::ticket::fault::TicketFault;

@@ -4,21 +4,18 @@ ghost use Rattle.std.specs.Prelude.{◌≡◌, ◌↔◌, ◌<◌, ℕ, List, le
 ghost use Rattle.iim_dataset.specs.Format.Datasets.{Dataset};
 ghost use Rattle.iim_dataset.specs.Format.Octets.{Octets};
 ghost use Rattle.iim_dataset.specs.States.Reading.{TakesCalls};
-ghost use Rattle.iim_fields.specs.States.Checks.{TakesHead, HasChecked};
-ghost use Rattle.iim_fields.specs.Format.Faults.{kept_octets};
-ghost use Rattle.iim_fields.specs.Format.Bounds.{IsWithin};
-ghost use Rattle.wire_message.specs.Format.Lengths.{LeadsIn, IsOneOf};
-ghost use Rattle.wire_message.specs.States.Reading.{StandsAt};
-ghost use Rattle.wire_message.specs.States.Saved.{LeadsToSaved};
+ghost use Rattle.iim_fields.specs.States.Standing.{TakesHead, HasChecked};
+ghost use Rattle.iim_fields.specs.Format.Causes.{kept_octets};
+ghost use Rattle.iim_fields.specs.Format.Records.{IsWithin};
+ghost use Rattle.wire_message.specs.States.Reading.{LeadsIn, IsOneOf, StandsAt, LeadsToSaved};
 ghost use Rattle.wire_message.specs.declared.saved.MessagePart.{MessagePart as MessagePartValue};
 ghost use Rattle.wire_message.specs.declared.saved.MessagePlace.{MessagePlace as MessagePlaceValue};
 ghost use Rattle.iim_places.specs.TicketParts.{AreNumbers};
-ghost use Rattle.iim_places.specs.States.ByLayers.{TagsLead, RecordsLive, are_ended};
-ghost use Rattle.iim_places.specs.States.Possible.{widest};
-ghost use Rattle.iim_places.specs.Taking.{AreKept, IsMessageOf, told_datasets};
+ghost use Rattle.iim_places.specs.States.Possible.{TagsLead, RecordsLive, are_ended, widest};
+ghost use Rattle.iim_places.specs.Restoring.{AreKept, IsMessageOf, told_datasets};
 ghost use Rattle.iim_places.specs.States.Readers.{has_come, tag_place};
 ghost use Rattle.iim_places.specs.Format.TicketForm.{IsPhase};
-ghost use Rattle.iim_places.specs.States.TicketsTold.{phase_told};
+ghost use Rattle.iim_places.specs.States.Restored.{phase_told};
 ghost use Rattle.iim_places.specs.Format.Tickets.{part_number, present_version};
 
 use crate::ticket::fields::TicketFields;

@@ -2,17 +2,15 @@
 
 ghost use Rattle.std.specs.Prelude.{◌≡◌, ◌+◌, List, length, IfOk};
 ghost use Rattle.iim_dataset.specs.Format.Datasets.{Dataset};
-ghost use Rattle.iim_fields.specs.Format.Faults.{joined};
-ghost use Rattle.iim_fields.specs.Format.Bounds.{IsWithin};
+ghost use Rattle.iim_fields.specs.Format.Causes.{joined};
+ghost use Rattle.iim_fields.specs.Format.Records.{IsWithin};
 ghost use Rattle.iim_fields.specs.States.Standing.{StandsAfter, limits_of, room_for, room_of};
 ghost use Rattle.iim_places.specs.TicketParts.{AreNumbers};
-ghost use Rattle.iim_places.specs.States.ByLayers.{TagsLead, RecordsLive, are_ended};
-ghost use Rattle.iim_places.specs.States.Possible.{begun_count, begun_fields};
+ghost use Rattle.iim_places.specs.States.Possible.{TagsLead, RecordsLive, are_ended, begun_count, begun_fields};
 ghost use Rattle.iim_places.specs.States.Readers.{RecordsStand, LeadsWithin, FieldsStand};
-ghost use Rattle.iim_places.specs.Restoring.{AreWithinWith};
-ghost use Rattle.iim_places.specs.Taking.{AreKept, told_datasets};
+ghost use Rattle.iim_places.specs.Restoring.{AreWithinWith, AreKept, told_datasets};
 ghost use Rattle.iim_places.specs.Format.TicketForm.{HasForm};
-ghost use Rattle.iim_places.specs.States.TicketsTold.{phase_told, split_told};
+ghost use Rattle.iim_places.specs.States.Restored.{phase_told, split_told};
 
 use crate::ticket::fields::TicketFields;
 use crate::ticket::possible::some_ended;

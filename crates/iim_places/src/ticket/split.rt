@@ -3,11 +3,10 @@
 ghost use Rattle.std.specs.Prelude.{◌≡◌, ◌<◌, ◌+◌, ◌++◌, ◌∷◌, length, map, IfSome, IfNone, IfOk, IfErr};
 ghost use Rattle.std.specs.List.{flat_map};
 ghost use Rattle.iim_places.specs.Format.Tickets.{ticket_name, width, phase_octets, field_octets, fields_octets, number_octets, text_octets};
-ghost use Rattle.iim_places.specs.States.Begins.{IsLongField, AreFields, AreNumbersIn, AreTexts};
+ghost use Rattle.iim_places.specs.Format.TicketForm.{IsLongField, AreFields, AreNumbersIn, AreTexts, IsVersion, IsPhase, IsFaultOf, HasForm, SplitsTicket};
 ghost use Rattle.iim_places.specs.Restoring.{BeginsWithNone, BeginsWithFewer, FieldsBefore};
 ghost use Rattle.iim_places.specs.TicketParts.{BeginsWithNoData, AreNoMessage, AreNoBody, message_parts, body_octets};
-ghost use Rattle.iim_places.specs.States.TicketsTold.{phase_told, split_told};
-ghost use Rattle.iim_places.specs.Format.TicketForm.{IsVersion, IsPhase, IsFaultOf, HasForm, SplitsTicket};
+ghost use Rattle.iim_places.specs.States.Restored.{phase_told, split_told};
 
 use crate::form::{ENDED, FIRST_VERSION, IN_DATA, IN_TAG, PRESENT_VERSION};
 use crate::ticket::fault::TicketFault;

@@ -2,16 +2,15 @@
 
 ghost use Rattle.std.specs.Prelude.{◌≡◌, [], ◌∷◌, ◌++◌, List, IsTrue, true, cond};
 ghost use Rattle.iim_dataset.specs.Format.Datasets.{Dataset};
-ghost use Rattle.iim_fields.specs.States.Checks as checks;
-ghost use Rattle.iim_fields.specs.Format.Faults.{is_kept};
+ghost use Rattle.iim_fields.specs.States.Standing as checks;
+ghost use Rattle.iim_fields.specs.Format.Causes.{is_kept};
 ghost use Rattle.iim_fields.specs.States.Standing.{IsBetween, StandsAfter, limits_of, room_of};
 ghost use Rattle.iim_fields.specs.States.Stores.{Room};
 ghost use Rattle.iim_fields.specs.declared.limits.Limits.{Limits as LimitsValue};
 ghost use Rattle.iim_object.specs.Format.Packing.{number_dataset};
 ghost use Rattle.iim_places.specs.TicketParts.{dataset, AreNumbers, IsSize};
-ghost use Rattle.iim_places.specs.States.PlainDatasets.{mode_dataset, one_dataset, plain_end, plain_numbers};
-ghost use Rattle.iim_places.specs.States.Possible.{widest};
-ghost use Rattle.iim_places.specs.Taking.{AreKept, TookDatasets, numbers_told, told_datasets};
+ghost use Rattle.iim_places.specs.States.Possible.{mode_dataset, one_dataset, plain_end, plain_numbers, widest};
+ghost use Rattle.iim_places.specs.Restoring.{AreKept, TookDatasets, numbers_told, told_datasets};
 
 use crate::ticket::fields::TicketFields;
 use iim_dataset::{Head, number_bytes};

@@ -1,22 +1,26 @@
--- What was packed, unpacked.
-use Rattle.std.specs.Prelude.{ℕ, List, ◌≡◌, ◌++◌, length}
+-- What was packed, unpacked; and what any stream is answered.
+use Rattle.std.specs.Prelude.{ℕ, List, ◌≡◌, ◌++◌, length, ◌≢◌, Result, Ok, Err}
 pub use Rattle.iim_dataset.specs.Format.Datasets.{Dataset}
 use Rattle.iim_object.specs.Format.Packing.{packed_sizes}
-pub use Rattle.iim_object.specs.declared.plan.Plan.{Plan}
 pub use Rattle.wire_message.specs.Format.Messages.{Header}
-use Rattle.wire_message.specs.Format.Canonical.{canonical}
+use Rattle.wire_message.specs.Format.Messages.{canonical}
 pub use Rattle.iim_places.specs.Format.Admitted.{Value}
-use Rattle.iim_fields.specs.Format.Faults.{joined}
-pub use Rattle.iim_fields.specs.declared.limits.Limits.{Limits}
-use Rattle.iim_fields.specs.Format.Bounds.{IsWithin}
-use Rattle.wire_story.specs.Format.Delivery as story
+use Rattle.iim_fields.specs.Format.Causes.{joined}
+use Rattle.iim_fields.specs.Format.Records.{IsWithin}
+use Rattle.wire_story.specs.Format.Texts as story
 pub use Rattle.iim_pack.specs.Format.Packed.{Packed}
-use Rattle.iim_unpack.specs.Format.Value.{HasParts}
+use Rattle.iim_unpack.specs.Format.Pieces.{HasParts}
+use Rattle.iim_dataset.specs.Format.Octets.{Rose}
+use Rattle.iim_unpack.specs.Format.Pieces as pieces
+use Rattle.iim_places.specs.Format.Streams.{Answer}
+pub use Rattle.iim_object.specs.declared.plan.Plan.{Plan}
+pub use Rattle.iim_fields.specs.declared.limits.Limits.{Limits}
 pub use Rattle.iim_unpack.specs.declared.unpacker.Unpacked.{Unpacked}
 use Rattle.iim_places.specs.declared.refusal.Cause.TheVariants.{Message}
 use Rattle.wire_message.specs.declared.fault.MessageCause.TheVariants.{Sink}
 pub use Rattle.iim_round_trip.specs.declared.unpacking.UnpackFault.{UnpackFault}
 pub use Rattle.iim_round_trip.specs.declared.unpacking.UnpackFault.TheVariants.{OutOfMemory, Refused}
+use Rattle.iim_places.specs.declared.refusal.Cause.{Cause}
 
 -- The fields have no more octets than the limits allow, and are no more.
 abbrev pub FieldsAreWithin : Limits → List Dataset → Type 0
@@ -62,3 +66,25 @@ IsOutside (Refused e) = e.cause ≡ Message Sink
 abbrev pub FailsOutside : Limits → List ℕ → UnpackFault → Type 0
 FailsOutside limits stream fault = (fields : List Dataset) (head : Header) (lines : List (List ℕ)) (trailer : List ℕ) (plan : Plan)
     → BeginsPacked limits stream fields head lines trailer plan → IsOutside fault
+
+-- Why there is no envelope. Where memory was refused for the unpacker, the sink was told nothing. Else the stream has none at its
+-- front: a layer is dead, or the stream is truncated, or the sink stopped.
+abbrev pub IsTurnedDown : {S : Type 0} → (S → List story.StoryEvent → S → Type 0) → Limits → List ℕ → S → S → UnpackFault → Type 0
+IsTurnedDown goes limits stream a b OutOfMemory = b ≡ a
+IsTurnedDown goes limits stream a b (Refused e) = pieces.IsTurnedDown goes limits stream a b e
+
+-- The result is the answer.
+abbrev pub IsAnswer : Result (Unpacked × ℕ) UnpackFault → Answer → Type 0
+IsAnswer (Ok got) answer = pieces.IsAnswer (Ok got) answer
+IsAnswer (Err OutOfMemory) answer = ⊥
+IsAnswer (Err (Refused e)) answer = pieces.IsAnswer (Err e) answer
+
+-- The sink's count of failures rose where the sink stopped, and nowhere else.
+pub record CountsCause (cause : Cause) (old new : ℕ) : Type 0 where
+  pub stopped : cause ≡ Message Sink → Rose old new
+  pub others : cause ≢ Message Sink → new ≡ old
+
+-- no twin: no body has these words; `packed_streams_have_their_answer` ties them to the octets' answer
+abbrev pub CountsFor : UnpackFault → ℕ → ℕ → Type 0
+CountsFor OutOfMemory old new = new ≡ old
+CountsFor (Refused e) old new = CountsCause e.cause old new

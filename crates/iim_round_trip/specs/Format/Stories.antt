@@ -1,10 +1,9 @@
 -- A story that is collected.
 use Rattle.std.specs.Prelude.{◌≡◌, ℕ, List, length, Result, Ok, Err}
-use Rattle.wire_story.specs.Format.Delivery.{StoryEvent}
-use Rattle.iim_unpack.specs.Format.Pieces.{IsTurnedDown}
+use Rattle.wire_story.specs.Format.Texts.{StoryEvent}
+use Rattle.iim_unpack.specs.Format.Pieces.{IsTurnedDown, HasParts}
 use Rattle.iim_places.specs.Format.Streams.{Answer, Finished, Truncated, IsFinished}
 use Rattle.iim_places.specs.Format.Streams as answers
-use Rattle.iim_unpack.specs.Format.Value.{HasParts}
 use Rattle.iim_round_trip.specs.Format.RoundTrip.{packed_value, BeginsPacked, UnpackFault, OutOfMemory, Refused, Dataset, Limits, Plan, Header, Value}
 use Rattle.iim_round_trip.specs.declared.unpacking.Story.{Story}
 

@@ -1,9 +1,18 @@
--- The numbers and names of causes.
-use Rattle.std.specs.Prelude.{ℕ, List, codes}
-use Rattle.iim_fields.specs.Format.Causes.{number_of_cause}
-use Rattle.iim_fields.specs.Format.Names.{name_of_cause}
-use Rattle.iim_script.specs.declared.fault.ScriptCause.{ScriptCause}
-use Rattle.iim_script.specs.declared.fault.ScriptCause.TheVariants.{ScriptLine, ScriptTooLong, Field, BadTrailer, BadTextOctet, OutOfMemory}
+-- Why octets are no script: the causes, and the first fault by line.
+use Rattle.std.specs.Prelude.{ℕ, List, codes, ◌≡◌, ◌+◌, ◌<◌, ◌≤◌, ◌⊎◌, [], ◌∷◌, ◌++◌, length, Some}
+use Rattle.std.specs.List.{AllByRecursion}
+use Rattle.iim_fields.specs.Format.Causes.{number_of_cause, name_of_cause}
+use Rattle.iim_dataset.specs.Format.Octets.{lf}
+use Rattle.iim_dataset.specs.Format.Datasets.{Dataset}
+use Rattle.iim_fields.specs.States.Standing.{add_fault, finish_fault}
+use Rattle.wire_message.specs.Format.Messages.{Header, IsTrailer}
+use Rattle.wire_story.specs.Format.Texts.{IsLine}
+use Rattle.iim_script.specs.Format.Scripts.{HasNo, NextLine, NextLines, TellsField, TellsHead, TellsTrailer, text_word, AreFieldLines, IsFront, max_script}
+use Rattle.iim_fields.specs.declared.limits.Limits.{Limits}
+use Rattle.iim_fields.specs.declared.fault.FieldCause.{FieldCause}
+use Rattle.iim_fields.specs.declared.fault.FieldFault.{FieldFault}
+pub use Rattle.iim_script.specs.declared.fault.ScriptCause.{ScriptCause}
+pub use Rattle.iim_script.specs.declared.fault.ScriptCause.TheVariants.{ScriptLine, ScriptTooLong, Field, BadTrailer, BadTextOctet, OutOfMemory}
 
 -- twin: "A line in the place of line 4", "Lines after the fields", "Octets that may not stand in a line", "The longest script"
 -- twins (with cause_name) that nothing finds: OutOfMemory, which a caller of the library alone sees. The command has a line of its own:
@@ -24,3 +33,97 @@ cause_name (Field cause) = name_of_cause cause
 cause_name BadTrailer = codes "BadTrailer"
 cause_name BadTextOctet = codes "BadTextOctet"
 cause_name OutOfMemory = codes "OutOfMemory"
+
+-- ---- Why octets are no script: the first fault by line.
+
+-- how far a script has come after some lines, and what they tell: datasets; then the header too; then the trailer too
+pub data Stage : Type 0 where
+  InFields : List Dataset → Stage
+  AfterMessage : List Dataset → Header → Stage
+  AfterTrailer : List Dataset → Header → List ℕ → Stage
+
+-- The lines are the beginning of a script, which has come this far.
+abbrev pub HaveCome : Limits → List (List ℕ) → Stage → Type 0
+HaveCome limits lines (InFields ds) = AreFieldLines limits [] lines ds
+HaveCome limits lines (AfterMessage ds head) =
+    (fields : List (List ℕ)) × (message : List ℕ) × AreFieldLines limits [] fields ds × TellsHead message head × (lines ≡ fields ++ message ∷ [])
+HaveCome limits lines (AfterTrailer ds head trailer) =
+    (fields : List (List ℕ)) × (message : List ℕ) × (line : List ℕ) × AreFieldLines limits [] fields ds × TellsHead message head
+    × TellsTrailer line trailer × IsTrailer trailer × (lines ≡ fields ++ (message ∷ line ∷ []))
+
+-- The octets begin with `count` lines, each with its end, after which a script has come this far, and this is left.
+pub record Stands (limits : Limits) (octets : List ℕ) (stage : Stage) (rest : List ℕ) (count : ℕ) : Type 0 where
+  pub lines : List (List ℕ)
+  pub lined : NextLines octets lines rest
+  pub count_is : count ≡ length lines
+  pub come : HaveCome limits lines stage
+
+-- The line tells nothing of this form.
+abbrev pub TellsNone : {A : Type 0} → (List ℕ → A → Type 0) → List ℕ → Type 0
+TellsNone {A} tells line = (told : A) → tells line told → ⊥
+
+-- The line is `text`, and the datasets make no envelope, for this cause.
+abbrev pub EndsTooSoon : List Dataset → List ℕ → FieldCause → Type 0
+EndsTooSoon ds line cause = (fault : FieldFault) × (line ≡ text_word) × (finish_fault ds ≡ Some fault) × (cause ≡ fault.cause)
+
+-- What is wrong with the line at this stage. 91 ScriptLine: it has no form of those that may stand there. Else it tells a dataset that the
+-- builder takes not, for this cause; or it is `text`, and something is missing; or its octets may be no trailer, 83 BadTrailer.
+-- twins (with IsNextWrong): laws `octets_have_one_fault`, `scripts_have_no_fault`; "The first wrong line is told";
+--   `tells_the_first_wrong_line`
+abbrev pub IsWrong : Limits → Stage → List ℕ → ScriptCause → Type 0
+IsWrong limits (InFields ds) line ScriptLine = TellsNone TellsField line × TellsNone TellsHead line
+IsWrong limits (InFields ds) line (Field cause) =
+    (d : Dataset) × (fault : FieldFault) × TellsField line d × (add_fault limits ds d ≡ Some fault) × (cause ≡ fault.cause)
+IsWrong limits (AfterMessage ds head) line ScriptLine = TellsNone TellsTrailer line × (line ≡ text_word → ⊥)
+IsWrong limits (AfterMessage ds head) line (Field cause) = EndsTooSoon ds line cause
+IsWrong limits (AfterMessage ds head) line BadTrailer = (octets : List ℕ) × TellsTrailer line octets × (IsTrailer octets → ⊥)
+IsWrong limits (AfterTrailer ds head trailer) line ScriptLine = line ≡ text_word → ⊥
+IsWrong limits (AfterTrailer ds head trailer) line (Field cause) = EndsTooSoon ds line cause
+IsWrong limits stage line cause = ⊥
+
+-- The next line before the story is wrong; or no LF ends it, as where the octets end, for 91 ScriptLine.
+abbrev pub IsNextWrong : Limits → Stage → List ℕ → ScriptCause → Type 0
+IsNextWrong limits stage rest cause =
+    (HasNo lf rest × (cause ≡ ScriptLine)) ⊎ ((line : List ℕ) × (after : List ℕ) × NextLine rest line after × IsWrong limits stage line cause)
+
+-- The line with this number, before the story, is the first that is wrong.
+pub record IsFrontFault (limits : Limits) (octets : List ℕ) (number : ℕ) (cause : ScriptCause) : Type 0 where
+  pub stage : Stage
+  pub rest : List ℕ
+  pub count : ℕ
+  pub stands : Stands limits octets stage rest count
+  pub number_is : number ≡ count + 1
+  pub wrong : IsNextWrong limits stage rest cause
+
+-- A line of the story has an octet that may stand in no line, and none before it has: with its end, or at the end of the story. The
+-- line `text` has that number.
+-- twin: "Stories: an end at the end begins no further line", "Octets that may not stand in a line"
+pub record IsBadStory (story : List ℕ) (text_line number : ℕ) : Type 0 where
+  pub before : List (List ℕ)
+  pub rest : List ℕ
+  pub line : List ℕ
+  pub lined : NextLines story before rest
+  pub is_there : ((after : List ℕ) × NextLine rest line after) ⊎ (HasNo lf rest × (line ≡ rest))
+  pub texts : AllByRecursion IsLine before
+  pub bad : IsLine line → ⊥
+  pub number_is : number ≡ text_line + length before + 1
+
+-- What stands before the story is that of a script, and the line of the story with this number is the first that is wrong.
+pub record IsStoryFault (limits : Limits) (octets : List ℕ) (number : ℕ) : Type 0 where
+  pub front : List ℕ
+  pub story : List ℕ
+  pub parts : octets ≡ front ++ story
+  pub fields : List Dataset
+  pub head : Header
+  pub trailer : List ℕ
+  pub text_line : ℕ
+  pub is_front : IsFront limits front fields head trailer text_line
+  pub is_bad : IsBadStory story text_line number
+
+-- Why octets are no script: they are too many (of line 0); else the first line that is wrong, and why. Memory may be refused at
+-- any place (of line 0).
+abbrev pub IsScriptFault : Limits → List ℕ → ℕ → ScriptCause → Type 0
+IsScriptFault limits octets number ScriptTooLong = (max_script < length octets) × (number ≡ 0)
+IsScriptFault limits octets number OutOfMemory = (length octets ≤ max_script) × (number ≡ 0)
+IsScriptFault limits octets number BadTextOctet = (length octets ≤ max_script) × IsStoryFault limits octets number
+IsScriptFault limits octets number cause = (length octets ≤ max_script) × IsFrontFault limits octets number cause

@@ -1,16 +1,141 @@
--- What a script is, and what it tells.
-use Rattle.std.specs.Prelude.{◌≡◌, ℕ, ◌+◌, ◌<◌, ◌≤◌, ◌⊎◌, List, [], ◌∷◌, ◌++◌, length, None}
-use Rattle.std.specs.List.{AllByRecursion}
-use Rattle.iim_dataset.specs.Format.Characters.{lf}
-use Rattle.iim_dataset.specs.Format.Datasets.{Dataset}
-use Rattle.iim_fields.specs.States.Builders.{add_fault, finish_fault}
-use Rattle.iim_fields.specs.declared.limits.Limits.{Limits}
-use Rattle.wire_message.specs.Format.Messages.{Header, IsTrailer}
-use Rattle.wire_story.specs.Format.Texts.{IsLine}
-use Rattle.wire_story.specs.Format.Delivery.{delivered}
+-- What a script is: its lines, their forms, what they tell, and what is printed of an envelope.
+use Rattle.std.specs.Prelude.{◌≡◌, ℕ, ◌==◌, false, ◌⊎◌, List, [], ◌∷◌, ◌++◌, ◌≢◌, ◌+◌, ◌*◌, ◌<◌, ◌≤◌, ◌-◌, get_or, IsTrue, length, codes, None}
+use Rattle.std.specs.List.{AllByRecursion, list_all, flat_map, join_with_byte}
+use Rattle.iim_dataset.specs.Format.Octets.{lf, cr, sp, digit_zero, capital_a, small_a, backslash, small_x, colon, is_digit}
+use Rattle.iim_dataset.specs.Format.Datasets.{Dataset, shown, dataset_name}
+use Rattle.wire_message.specs.Format.Messages.{Header, IsHeader, IsTrailer}
+use Rattle.iim_fields.specs.States.Standing.{add_fault, finish_fault}
+use Rattle.wire_story.specs.Format.Texts.{IsLine, delivered}
 use Rattle.wire_story.specs.Format.Packing.{lines_of}
-use Rattle.iim_script.specs.Format.Lines.{HasNo, NextLines}
-use Rattle.iim_script.specs.Format.Forms.{TellsField, TellsHead, TellsTrailer, text_word}
+use Rattle.iim_fields.specs.declared.limits.Limits.{Limits}
+
+-- None of the octets is this one.
+abbrev pub HasNo : ℕ → List ℕ → Type 0
+HasNo b xs = AllByRecursion (λ x. (x == b) ≡ false) xs
+
+-- They are the octets but for this one at their end; or all of them, and it is not their last.
+abbrev pub WithoutLast : ℕ → List ℕ → List ℕ → Type 0
+WithoutLast b octets front = (octets ≡ front ++ b ∷ []) ⊎ ((octets ≡ front) × ((before : List ℕ) → octets ≡ before ++ b ∷ [] → ⊥))
+
+-- The octets begin with the line and its end, and this follows: LF ends the line, and the one CR right before it is none of the line.
+-- twins (with NextLines): "One CR before the end of a line is dropped", "Escapes are decoded in fields, info and trailer"
+pub record NextLine (octets line after : List ℕ) : Type 0 where
+  pub ended : List ℕ
+  pub no_feed : HasNo lf ended
+  pub is_line : WithoutLast cr ended line
+  pub parts : octets ≡ ended ++ lf ∷ after
+
+-- The octets begin with the lines, each with its end, and this follows.
+abbrev pub NextLines : List ℕ → List (List ℕ) → List ℕ → Type 0
+NextLines octets [] after = octets ≡ after
+NextLines octets (line ∷ lines) after = (rest : List ℕ) × NextLine octets line rest × NextLines rest lines after
+
+-- The digit is one of so many from `first` on, of which the first has the value `least`, and the digit this value.
+-- twins (with IsHexDigit, IsOfDigits): "Each digit of an escape, in either case", "What stands beside the digits, as the first and as the
+--   second one, is none"
+abbrev pub IsDigitFrom : ℕ → ℕ → ℕ → ℕ → ℕ → Type 0
+IsDigitFrom first least many digit value = (first ≤ digit) × (digit < first + many) × (digit + least ≡ first + value)
+
+-- The digit has this value in hexadecimal: ten octets from 0 on, six from A on, or six from a on.
+abbrev pub IsHexDigit : ℕ → ℕ → Type 0
+IsHexDigit digit value = IsDigitFrom digit_zero 0 10 digit value ⊎ (IsDigitFrom capital_a 10 6 digit value ⊎ IsDigitFrom small_a 10 6 digit value)
+
+-- The octet has these two hexadecimal digits.
+abbrev pub IsOfDigits : ℕ → ℕ → ℕ → Type 0
+IsOfDigits high low octet = (h : ℕ) × (l : ℕ) × IsHexDigit high h × IsHexDigit low l × (octet ≡ h * 16 + l)
+
+-- The text begins with the octet itself, which is no backslash, or with its escape: `\x` and two hexadecimal digits. The rest follows.
+-- twin: "Escapes are decoded in fields, info and trailer", "A line in the place of line 4"; `shows_each_octet`
+abbrev pub BeginsWith : List ℕ → ℕ → List ℕ → Type 0
+BeginsWith text octet rest = ((octet ≢ backslash) × (text ≡ octet ∷ rest))
+    ⊎ ((high : ℕ) × (low : ℕ) × (text ≡ backslash ∷ small_x ∷ high ∷ low ∷ rest) × IsOfDigits high low octet)
+
+-- The text tells the octets, one after another.
+abbrev pub TellsOctets : List ℕ → List ℕ → Type 0
+TellsOctets text [] = text ≡ []
+TellsOctets text (octet ∷ octets) = (rest : List ℕ) × BeginsWith text octet rest × TellsOctets rest octets
+
+-- What ends a line: nothing, for no octets; else SP, and a text of at least one octet.
+-- twin: "A line in the place of line 4", "Lines after the fields"
+abbrev pub TellsLast : List ℕ → List ℕ → Type 0
+TellsLast end [] = end ≡ []
+TellsLast end (octet ∷ octets) = (text : List ℕ) × (end ≡ sp ∷ text) × TellsOctets text (octet ∷ octets)
+
+-- ---- The forms of a script's lines.
+
+-- the number of decimal digits, after those that have told this number
+-- twins (with TellsNumber): "The greatest number of a dataset"; "A line in the place of line 4": 0001, 0030 and 256
+abbrev pub decimal_from : ℕ → List ℕ → ℕ
+decimal_from n [] = n
+decimal_from n (digit ∷ digits) = decimal_from (n * 10 + (digit - digit_zero)) digits
+
+-- The number of a record or a dataset: 1 to 3 decimal digits, of a value up to 255.
+pub record TellsNumber (digits : List ℕ) (n : ℕ) : Type 0 where
+  pub some : 1 ≤ length digits
+  pub few : length digits ≤ 3
+  pub are_digits : IsTrue (list_all is_digit digits)
+  pub value : n ≡ decimal_from 0 digits
+  pub fits : n ≤ 255
+
+-- The line is the numbers `R:D`, and what ends it, which begins with no digit.
+-- twins (with TellsField): "A line in the place of line 4"; `gives_back_octets_of_every_kind`
+pub record TellsNames (line : List ℕ) (rec set : ℕ) (end : List ℕ) : Type 0 where
+  pub rec_digits : List ℕ
+  pub set_digits : List ℕ
+  pub is_rec : TellsNumber rec_digits rec
+  pub is_set : TellsNumber set_digits set
+  pub undigited : is_digit (get_or end 0 0) ≡ false
+  pub line_is : line ≡ rec_digits ++ (colon ∷ set_digits ++ end)
+
+-- A line `R:D`, and SP and the octets as text where there are some.
+pub record TellsField (line : List ℕ) (d : Dataset) : Type 0 where
+  pub end : List ℕ
+  pub names : TellsNames line d.rec d.set end
+  pub is_end : TellsLast end d.octets
+
+-- `message` and SP
+-- twins (with trailer_word, text_word): "The lines of the script of the smallest envelope", "Lines after the fields"
+abbrev pub message_word : List ℕ
+message_word = codes "message "
+
+-- `trailer`
+abbrev pub trailer_word : List ℕ
+trailer_word = codes "trailer"
+
+-- `text`
+abbrev pub text_word : List ℕ
+text_word = codes "text"
+
+-- the parts of a header before its info, with one SP between each two, and what ends the line
+-- twins (with AreWords, TellsHead): "Lines after the fields"; "The script of an envelope with by-lines"
+abbrev pub head_words : Header → List ℕ → List ℕ
+head_words head end = head.source ++ (sp ∷ (head.number ++ (sp ∷ (head.priority ++ (sp ∷ (head.category ++ (sp ∷ (head.words ++ end))))))))
+
+-- The octets are these parts, none with an SP in it, and what ends the line: nothing, or SP and more.
+pub record AreWords (octets : List ℕ) (head : Header) (end : List ℕ) : Type 0 where
+  pub source : HasNo sp head.source
+  pub number : HasNo sp head.number
+  pub priority : HasNo sp head.priority
+  pub category : HasNo sp head.category
+  pub words : HasNo sp head.words
+  pub ends : get_or end 0 sp ≡ sp
+  pub octets_are : octets ≡ head_words head end
+
+-- A line `message SOURCE NUMBER PRIORITY CATEGORY WORDS`, and SP and the info as text where there is one.
+pub record TellsHead (line : List ℕ) (head : Header) : Type 0 where
+  pub end : List ℕ
+  pub is_header : IsHeader head
+  pub is_end : TellsLast end head.info
+  pub line_is : line ≡ message_word ++ head_words head end
+
+-- A line `trailer`, and SP and the octets as text where there are some.
+-- twin: "A line in the place of line 4", "Lines after the fields"
+pub record TellsTrailer (line octets : List ℕ) : Type 0 where
+  pub end : List ℕ
+  pub is_end : TellsLast end octets
+  pub line_is : line ≡ trailer_word ++ end
+
+-- ---- What a script is, and what it tells.
 
 -- the most octets of a script
 -- twin: "The longest script has 16,777,216 octets"; `reads_one_octet_of_a_script_too_many_at_most`
@@ -65,3 +190,36 @@ pub record IsScript (limits : Limits) (octets : List ℕ) (fields : List Dataset
   pub is_front : IsFront limits front fields head trailer text_line
   pub is_story : IsStory story lines
   pub texts : AllByRecursion IsLine lines
+
+-- a space and the octets, shown; nothing where there are none
+-- twins (with field_line, message_line, trailer_line, PrintsStory, script_of): law `printed_values_are_scripts`; `shows_worked_envelopes`,
+--   `shows_what_is_rare`, `gives_back_octets_of_every_kind`
+abbrev pub after_space : List ℕ → List ℕ
+after_space [] = []
+after_space (x ∷ xs) = sp ∷ shown (x ∷ xs)
+
+-- a dataset: its name and its octets
+abbrev pub field_line : Dataset → List ℕ
+field_line d = dataset_name d.rec d.set ++ (after_space d.octets ++ codes "\n")
+
+-- the header of the message
+abbrev pub message_line : Header → List ℕ
+message_line head =
+    codes "message " ++ (head.source ++ (codes " " ++ (head.number ++ (codes " " ++ (head.priority ++ (codes " " ++ (head.category
+    ++ (codes " " ++ (head.words ++ (after_space head.info ++ codes "\n"))))))))))
+
+abbrev pub trailer_line : List ℕ → List ℕ
+trailer_line trailer = codes "trailer" ++ (after_space trailer ++ codes "\n")
+
+-- the lines of the datasets, of the header and of the trailer
+abbrev pub value_lines : List Dataset → Header → List ℕ → List ℕ
+value_lines fields head trailer = flat_map field_line fields ++ (message_line head ++ trailer_line trailer)
+
+-- The octets are the lines of a story, joined by LF, and an LF; which may be missing, unless the last of several lines is empty.
+abbrev pub PrintsStory : List ℕ → List (List ℕ) → Type 0
+PrintsStory octets lines =
+    (octets ≡ join_with_byte lf lines ++ lf ∷ []) ⊎ ((octets ≡ join_with_byte lf lines) × ((before : List (List ℕ)) → lines ≡ before ++ [] ∷ [] → before ≡ []))
+
+-- the lines of the values, the line `text`, and a story
+abbrev pub script_of : List Dataset → Header → List ℕ → List ℕ → List ℕ
+script_of fields head trailer story = value_lines fields head trailer ++ (codes "text\n" ++ story)

@@ -1,9 +1,9 @@
--- Dates in eight digits, CCYYMMDD: days of the proleptic Gregorian calendar, of the years 1 to 9999.
-use Rattle.std.specs.Prelude.{◌≡◌, IsTrue, ℕ, ◌+◌, ◌*◌, ◌-◌, ◌/◌, ◌%◌, Bool, ◌&&◌, ◌||◌, ◌==◌, nat_le, List, [], ◌∷◌, ◌++◌, length, slice_index, pos}
+-- Dates, times of day, and the instants that they name.
+use Rattle.std.specs.Prelude.{◌≡◌, IsTrue, ℕ, ◌+◌, ◌*◌, ◌-◌, ◌/◌, ◌%◌, Bool, ◌&&◌, ◌||◌, ◌==◌, nat_le, List, [], ◌∷◌, ◌++◌, length, slice_index, pos, nat_lt, if◌then◌else◌, take, drop, Option, Some, None, ℤ, neg_ℤ, ◌+ℤ◌, ◌-ℤ◌, ◌*ℤ◌, int_le}
 use Rattle.std.specs.List.{list_all}
-use Rattle.jiff.specs.Words.{days_in_month}
-use Rattle.iim_dataset.specs.Format.Characters.{digit_zero}
-use Rattle.iim_dataset.specs.Format.Octets.{within, is_digit}
+use Rattle.jiff.specs.Words.{days_in_month, IsTimestampNanos, nanos_of_seconds}
+use Rattle.iim_dataset.specs.Format.Octets.{digit_zero, within, is_digit, plus, minus}
+use Rattle.jiff_core.specs.Calendar.{days_from_civil}
 
 -- the number that the two digits at a place write
 -- twins (with year_in, month_in, day_in, are_eight_digits, is_date): "Dates are days of the Gregorian calendar", "What is no date and no
@@ -57,3 +57,69 @@ date_text y m d = two_digits (y / 100) ++ two_digits (y % 100) ++ two_digits m +
 -- the octets are eight digits of this year, month and day
 abbrev pub ReadsDate : List ℕ → ℕ → ℕ → ℕ → Type 0
 ReadsDate xs y m d = IsTrue (are_eight_digits xs) × (year_in xs ≡ y) × (month_in xs ≡ m) × (day_in xs ≡ d)
+
+-- ---- Times of day in eleven octets, HHMMSS, + or -, HHMM, and the instant that a date and a time name.
+
+-- six digits, a sign (+ where the clock is ahead of universal time, - where it is behind), four digits
+-- twin: "Times have hours up to 23"
+abbrev pub has_time_form : List ℕ → Bool
+has_time_form xs = (length xs == 11) && list_all is_digit (take 6 xs)
+    && (slice_index xs 6 == plus || slice_index xs 6 == minus) && list_all is_digit (drop 7 xs)
+
+-- hours 00 to 23, minutes and seconds 00 to 59
+-- twins (with is_time): "Times have hours up to 23": 23, 24, 59 and 60 of each; `checks_release_and_expiration`
+abbrev pub is_clock : ℕ → ℕ → ℕ → Bool
+is_clock hour minute second = nat_lt hour 24 && nat_lt minute 60 && nat_lt second 60
+
+-- a time of day, and how far the clock is from universal time, in hours and minutes
+abbrev pub is_time : List ℕ → Bool
+is_time xs = has_time_form xs && is_clock (pair_at xs 0) (pair_at xs 2) (pair_at xs 4) && is_clock (pair_at xs 7) (pair_at xs 9) 0
+
+-- hour, minute and second, the sign, and hours and minutes, in two digits each
+abbrev pub time_text : ℕ → ℕ → ℕ → Bool → ℕ → ℕ → List ℕ
+time_text hour minute second is_behind hours minutes =
+    two_digits hour ++ two_digits minute ++ two_digits second
+    ++ (if is_behind then minus else plus) ∷ (two_digits hours ++ two_digits minutes)
+
+-- the octets have the form of a time, with these parts
+-- no twin: only the laws `dates_are_written_in_one_way` and `times_are_written_in_one_way` have these words
+abbrev pub ReadsTime : List ℕ → ℕ → ℕ → ℕ → Bool → ℕ → ℕ → Type 0
+ReadsTime xs hour minute second is_behind hours minutes =
+    IsTrue (has_time_form xs) × (pair_at xs 0 ≡ hour) × (pair_at xs 2 ≡ minute) × (pair_at xs 4 ≡ second)
+    × ((slice_index xs 6 == minus) ≡ is_behind) × (pair_at xs 7 ≡ hours) × (pair_at xs 9 ≡ minutes)
+
+-- how many nanoseconds a second has
+-- twin: law `whole_seconds_are_floors`; "The age is the greatest whole number of seconds"; `takes_the_instants_that_jiff_reads`
+abbrev pub nanoseconds_in_second : ℕ
+nanoseconds_in_second = 1_000_000_000
+
+-- seconds since midnight
+-- twins (with offset_seconds, instant_nanos): "An instant is a local time less its offset"; `reads_dates_and_instants`
+abbrev pub clock_seconds : ℕ → ℕ → ℕ → ℕ
+clock_seconds hour minute second = hour * 3600 + minute * 60 + second
+
+-- how many seconds the clock is ahead of universal time
+abbrev pub offset_seconds : Bool → ℕ → ℕ → ℤ
+offset_seconds is_behind hour minute =
+    if is_behind then neg_ℤ (pos (clock_seconds hour minute 0)) else pos (clock_seconds hour minute 0)
+
+-- local time less its offset, in nanoseconds since 1970-01-01T00:00:00Z
+abbrev pub instant_nanos : List ℕ → List ℕ → ℤ
+instant_nanos date time = nanos_of_seconds ((days_from_civil (pos (year_in date)) (month_in date) (day_in date) *ℤ pos 86_400)
+    +ℤ pos (clock_seconds (pair_at time 0) (pair_at time 2) (pair_at time 4))
+    -ℤ offset_seconds (slice_index time 6 == minus) (pair_at time 7) (pair_at time 9))
+
+-- both texts are admitted, and the instant lies in the library's range
+abbrev pub HasInstant : List ℕ → List ℕ → Type 0
+HasInstant date time = IsTrue (is_date date) × IsTrue (is_time time) × IsTimestampNanos (instant_nanos date time)
+
+-- the library's range of instants, as a test
+-- twins (with instant_in): "An instant is a local time less its offset": the first that a date and time tell; "No instant: past the last
+--   that there is"
+abbrev pub is_instant : ℤ → Bool
+is_instant n = int_le (neg_ℤ (pos 377_705_023_201_000_000_000)) n && int_le n (pos 253_402_207_200_999_999_999)
+
+-- the instant that the texts name, if they name one, in nanoseconds
+abbrev pub instant_in : List ℕ → List ℕ → Option ℤ
+instant_in date time =
+    if is_date date && is_time time && is_instant (instant_nanos date time) then Some (instant_nanos date time) else None

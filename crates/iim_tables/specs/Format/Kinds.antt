@@ -1,13 +1,29 @@
--- The kinds: which octets a dataset may have.
-use Rattle.std.specs.Prelude.{ℕ, Bool, true, ◌&&◌, ◌==◌, nat_le, List, length}
+-- The kinds: which octets a dataset may have, and how many octets a size may have.
+use Rattle.std.specs.Prelude.{ℕ, Bool, ◌||◌, ◌==◌, true, ◌&&◌, nat_le, List, length}
 use Rattle.std.specs.List.{list_all}
-use Rattle.iim_tables.specs.Format.Octets.{is_graphic, is_spaced, is_spaced_or_line_end}
-use Rattle.iim_dataset.specs.Format.Octets.{within, is_digit, is_letter, number, greatest_size}
-use Rattle.iim_tables.specs.Format.Numbers.{size_octets}
-use Rattle.iim_tables.specs.Format.Dates.{is_date, is_part_date}
-use Rattle.iim_tables.specs.Format.Instants.{is_time}
+use Rattle.iim_dataset.specs.Format.Octets.{within, lf, cr, sp, is_digit, is_letter, number, greatest_size}
+use Rattle.iim_dataset.specs.Format.Datasets.{count_octets}
+use Rattle.iim_tables.specs.Format.Dates.{is_date, is_part_date, is_time}
 use Rattle.iim_tables.specs.declared.shape.Kind.{Kind}
 use Rattle.iim_tables.specs.declared.shape.Kind.TheVariants.{Graphic, Spaced, SpacedLines, Letters, Digits, Date, PartDate, Time, Binary, Octets, Mode, Size, SizeFromOne}
+
+-- 21 to 7E and 80 to FF
+-- twins (with is_spaced, is_spaced_or_line_end): "The octets that alone are a value, by kind"
+abbrev pub is_graphic : ℕ → Bool
+is_graphic b = within 0x21 0x7e b || within 0x80 0xff b
+
+-- graphic, or the space
+abbrev pub is_spaced : ℕ → Bool
+is_spaced b = is_graphic b || b == sp
+
+-- spaced, or LF, or CR
+abbrev pub is_spaced_or_line_end : ℕ → Bool
+is_spaced_or_line_end b = is_spaced b || b == lf || b == cr
+
+-- the most octets of a size: as many as an extended count may have (the profile's)
+-- twin: "Sizes are at most 9,223,372,036,854,775,807", "How many octets a row admits"
+abbrev pub size_octets : ℕ
+size_octets = count_octets
 
 -- one octet, 00 or 01
 -- twin: "A mode is 0 or 1": `admits 7 10 02`; "The octets that alone are a value, by kind"

@@ -3,8 +3,7 @@ use Rattle.std.specs.Prelude.{ℕ, IsTrue, Bool, true, false, ◌&&◌, ◌||◌
 use Rattle.std.specs.List.{find}
 use Rattle.std.specs.Option.{option_map, option_or}
 use Rattle.iim_dataset.specs.Format.Octets.{within, greatest_size}
-use Rattle.iim_tables.specs.Format.Numbers.{size_octets}
-use Rattle.iim_tables.specs.Format.Kinds.{has_kind}
+use Rattle.iim_tables.specs.Format.Kinds.{size_octets, has_kind}
 use Rattle.iim_tables.specs.declared.shape.Kind.{Kind}
 use Rattle.iim_tables.specs.declared.shape.Kind.TheVariants.{Graphic, Spaced, SpacedLines, Letters, Digits, Date, PartDate, Time, Binary, Octets, Mode, Size, SizeFromOne}
 use Rattle.iim_tables.specs.declared.shape.Duty.{Duty}

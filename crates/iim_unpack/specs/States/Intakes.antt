@@ -5,16 +5,14 @@ use Rattle.iim_dataset.specs.States.Devices.{Device, HasGiven, MissedAfter, With
 use Rattle.iim_dataset.specs.declared.device.IoFault.{IoFault}
 use Rattle.iim_dataset.specs.declared.device.IoFault.TheVariants as io
 use Rattle.iim_fields.specs.declared.limits.Limits.{Limits}
-use Rattle.wire_story.specs.Format.Delivery as story
-use Rattle.iim_places.specs.Format.Admitted.{Value, Admits}
+use Rattle.wire_story.specs.Format.Texts as story
+use Rattle.iim_places.specs.Format.Admitted.{Value, Admits, AreWithin}
 use Rattle.iim_unpack.specs.States.Blocks.{with_held}
-use Rattle.iim_places.specs.Format.Framed.{AreWithin}
-use Rattle.iim_unpack.specs.States.Parts.{CountsFor, has_ended}
-use Rattle.iim_places.specs.Format.Refusals.{refusal_at}
-use Rattle.iim_unpack.specs.States.Unpacking.{Unpacking, Stands, IsDoneWith, LeftAs, limits_in}
-use Rattle.iim_places.specs.States.Counts.{raised}
+use Rattle.iim_unpack.specs.States.Unpacking.{CountsFor, has_ended, Unpacking, Stands, IsDoneWith, LeftAs, limits_in}
+use Rattle.iim_places.specs.Format.Causes.{refusal_at}
+use Rattle.iim_places.specs.Format.Streams.{raised}
 use Rattle.iim_places.specs.Format.Open.{IsOpen, Delivers, RefusesNext, IsTruncatedAt}
-use Rattle.iim_unpack.specs.Format.Value.{HasParts, Unpacked}
+use Rattle.iim_unpack.specs.Format.Pieces.{HasParts, Unpacked}
 use Rattle.iim_places.specs.declared.fault.TokenFault.{TokenFault}
 use Rattle.iim_unpack.specs.declared.intake.Fed.{Fed}
 use Rattle.iim_unpack.specs.declared.intake.Fed.TheVariants as piece

@@ -1,25 +1,82 @@
--- Where an unpacker stands, and what it answers.
-use Rattle.std.specs.Prelude.{◌≡◌, ℕ, ◌<◌, ◌≤◌, true, false, List, ◌++◌, length, take, slice_index, Option, None, Bool}
-use Rattle.iim_dataset.specs.Format.Datasets.{count_octets}
-use Rattle.iim_dataset.specs.States.Events.{DatasetEvent}
-use Rattle.iim_dataset.specs.States.Places.{LeadsTo, between}
-use Rattle.iim_dataset.specs.States.Reading.{Reader}
-use Rattle.iim_fields.specs.States.Standing.{limits_of, room_of}
+-- Where an unpacker and its parts stand, what it holds, and what it answers.
+use Rattle.std.specs.Prelude.{◌≡◌, ℕ, ◌<◌, ◌≤◌, ◌==◌, ◌&&◌, if◌then◌else◌, Bool, List, [], length, is_none, true, false, ◌++◌, take, slice_index, Option, None, ◌+◌, Some}
+use Rattle.iim_dataset.specs.Format.Octets.{Octets, Rose}
+use Rattle.iim_dataset.specs.Format.Datasets.{Dataset, of_record, Begun, InTag, InData, count_octets}
+use Rattle.iim_dataset.specs.States.Reading.{DatasetEvent, handed_on, LeadsTo, between, Reader}
+use Rattle.iim_fields.specs.Format.Causes.{section_after, is_kept, joined}
+use Rattle.iim_fields.specs.States.Standing as records
+use Rattle.iim_object.specs.Format.Objects.{max_subfiles, place_after_datasets}
+use Rattle.iim_object.specs.States.Reading as objects
+use Rattle.wire_message.specs.Format.Messages.{text_so_far}
+use Rattle.wire_message.specs.States.Reading as wire
+use Rattle.iim_places.specs.Format.Admitted.{object_of, Value, Admits, AreWithin}
+use Rattle.iim_places.specs.Format.Causes.{place_at, refusal_at}
+use Rattle.iim_places.specs.Format.Open.{object_so_far, IsTextOf, Delivers, IsOpen, RefusesNext}
+use Rattle.iim_fields.specs.States.Standing.{limits_of, room_of, begun_head_of}
 use Rattle.iim_fields.specs.States.Stores.{Room}
+use Rattle.wire_story.specs.Format.Texts as story
+use Rattle.iim_places.specs.Format.Streams.{are_some, raised}
+use Rattle.wire_message.specs.States.Reading.{saved}
+use Rattle.iim_dataset.specs.declared.head.Head.{Head}
+pub use Rattle.iim_unpack.specs.declared.parts.Parts.{Parts}
+use Rattle.iim_places.specs.declared.refusal.Cause.{Cause}
+use Rattle.iim_places.specs.declared.refusal.Cause.TheVariants.{Message, Failed}
+use Rattle.wire_message.specs.declared.fault.MessageCause.TheVariants.{Sink}
 use Rattle.iim_fields.specs.declared.limits.Limits.{Limits}
-use Rattle.wire_story.specs.Format.Delivery as story
-use Rattle.iim_places.specs.Format.Refusals.{refusal_at}
-use Rattle.iim_places.specs.Format.Open.{IsTextOf, Delivers, IsOpen, RefusesNext}
-use Rattle.iim_unpack.specs.States.Parts.{AreLed, has_ended, Parts}
-use Rattle.iim_places.specs.Format.Admitted.{Value, Admits}
-use Rattle.iim_places.specs.Format.Framed.{AreWithin}
 pub use Rattle.iim_unpack.specs.declared.unpacker.Progress.{Progress}
 pub use Rattle.iim_unpack.specs.declared.unpacker.Progress.TheVariants.{More, Done}
-use Rattle.iim_places.specs.declared.refusal.Cause.TheVariants.{Failed}
 use Rattle.iim_places.specs.declared.fault.TokenFault.{TokenFault}
 use Rattle.iim_places.specs.declared.refusal.Refusal.{Refusal}
 use Rattle.iim_places.specs.declared.refusal.Layer.TheVariants as layers
-use Rattle.iim_places.specs.States.Counts.{are_some, raised}
+use Rattle.iim_dataset.specs.declared.place.DatasetPlace.{DatasetPlace}
+use Rattle.iim_dataset.specs.declared.place.DatasetPlace.TheVariants as tags
+use Rattle.wire_message.specs.declared.place.Place.{Place}
+use Rattle.wire_message.specs.declared.place.Place.TheVariants.{Text}
+use Rattle.wire_message.specs.declared.saved.MessagePlace.{MessagePlace}
+
+-- after these datasets
+-- twins (with Within): "Before the first octet, and an envelope in one piece", "Empty subfiles among others"; `reads_random_envelopes`
+pub record AreAfter (parts : Parts) (ds : List Dataset) : Type 0 where
+  pub fields : records.StandsAfter parts.fields ds
+  pub object : objects.StandsAt parts.object (place_after_datasets ds)
+  pub few : length (of_record 8 ds) ≤ max_subfiles
+  pub message : wire.StandsAt parts.message (object_of ds) (text_so_far (object_of ds))
+  pub ended : section_after ds ≡ 9 → wire.IsWhole parts.message
+
+-- in one of this head, with these data so far
+pub record Within (parts : Parts) (ds : List Dataset) (h : Head) (taken : List ℕ) : Type 0 where
+  pub octets : Octets taken
+  pub fields : records.StandsIn parts.fields ds h (if h.rec == 8 then [] else taken)
+  pub object : objects.StandsAt parts.object (place_at ds h)
+  pub few : length (of_record 8 ds) ≤ max_subfiles
+  pub room : h.rec ≡ 8 → length (of_record 8 ds) < max_subfiles
+  pub message : wire.StandsAt parts.message (object_so_far ds (InData h taken)) (text_so_far (object_so_far ds (InData h taken)))
+  pub ended : h.rec ≡ 9 → wire.IsWhole parts.message
+
+abbrev pub StandsFor : Parts → List Dataset → Begun → Type 0
+StandsFor parts ds (InTag held) = AreAfter parts ds
+StandsFor parts ds (InData h taken) = Within parts ds h taken
+
+-- The events have led the parts here, with this text among them.
+pub record AreLed (parts : Parts) (events : List DatasetEvent) (text : List ℕ) : Type 0 where
+  pub whole : List Dataset
+  pub begun : Begun
+  pub told : events ≡ handed_on whole begun
+  pub stands : StandsFor parts whole begun
+  pub is_text : text ≡ text_so_far (object_so_far whole begun)
+
+-- The last dataset has ended: record 9 is the present one, and no dataset is begun.
+-- twin: "After the end of an envelope no octet is used"
+unfoldable pub has_ended : Parts → Bool
+has_ended parts = (records.section_of parts.fields == 9) && is_none (records.begun_head_of parts.fields)
+
+-- the sink's count of failures rose where the sink refused, and nowhere else
+-- twin: `sinks_that_stop`
+abbrev pub CountsFor : Cause → ℕ → ℕ → Type 0
+CountsFor (Message Sink) old new = Rose old new
+CountsFor _ old new = new ≡ old
+
+-- ---- Where an unpacker stands, and what it answers.
 
 pub record Unpacking : Type 0 where
   pub reader : Reader
@@ -89,3 +146,44 @@ failed_at octet = record { layer = layers.Outside; rec = 0; set = 0; octet = oct
 -- Unpacker and sink are left as they were.
 abbrev pub LeftAs : {S : Type 0} → Unpacking → S → Unpacking → S → Type 0
 LeftAs old a new b = (new ≡ old) × (b ≡ a)
+
+-- the octets of a begun tag
+abbrev pub tag_held : DatasetPlace → ℕ
+tag_held (tags.Tag held) = length held.items
+tag_held (tags.Inside head left) = 0
+
+-- the octets of the header and the trailer so far
+abbrev pub texts_held : MessagePlace → ℕ
+texts_held m =
+    length m.source.items + length m.number.items + length m.priority.items + length m.category.items + length m.words.items + length m.info.items
+    + length m.trailer.items
+
+-- the CR that no LF has followed yet
+abbrev pub returns_held : Place → ℕ
+returns_held (Text head (Some held)) = held
+returns_held _ = 0
+
+-- what is held of a message
+abbrev pub message_held : Option Place → ℕ
+message_held None = 0
+message_held (Some place) = texts_held (saved place) + returns_held place
+
+-- The octets that it holds: the data of records 1 and 2, and those so far of a begun value of record 1, 2, 7 or 9; a begun tag; the
+-- texts of the message; and CR.
+abbrev pub held_octets : Unpacking → ℕ
+held_octets u = length (joined u.parts.fields.kept) + length u.parts.fields.taken + (tag_held u.reader.place + message_held u.parts.message)
+
+-- one for a begun dataset of record 1 or 2
+abbrev pub begun_entries : Option Head → ℕ
+begun_entries None = 0
+begun_entries (Some h) = if is_kept h.rec then 1 else 0
+
+-- Its entries: the heads of records 1 and 2.
+abbrev pub held_entries : Unpacking → ℕ
+held_entries u = length u.parts.fields.kept + begun_entries (begun_head_of u.parts.fields)
+
+-- It holds 256 octets at most beside those that its limits allow, and no more entries than they allow.
+-- no twin: a bound that is proved of it; no code has the number
+pub record HoldsFew (u : Unpacking) : Type 0 where
+  pub octets : held_octets u ≤ (limits_in u).octets + 256
+  pub entries : held_entries u ≤ (limits_in u).fields

@@ -2,11 +2,9 @@
 
 ghost use Rattle.std.specs.Prelude.{◌≡◌, ◌<◌, length, map, take, slice_index, Some, IsSome, IfErr, OnOk, refl};
 ghost use Rattle.std.proofs.Common.{◌∙◌};
-ghost use Rattle.iim_object.specs.Format.Events.{ObjectOctet};
-ghost use Rattle.iim_object.specs.Format.Places.{head_token};
+ghost use Rattle.iim_object.specs.Format.Objects.{ObjectOctet, head_token};
 ghost use Rattle.iim_object.specs.States.Reading.{LeadsOn, RefusesHead, RefusesRun, events_at};
-ghost use Rattle.iim_unpack.specs.Passed.{TellsMessage, MessageRefuses, PassesTo, HaltsAt, RefusesObject};
-ghost use Rattle.iim_unpack.specs.Passing.{tells_message_nothing, tells_message_joined, message_refuses_joined};
+ghost use Rattle.iim_unpack.specs.Routes.{TellsMessage, MessageRefuses, PassesTo, HaltsAt, RefusesObject, tells_message_nothing, tells_message_joined, message_refuses_joined};
 
 use iim_dataset::{Head, Stop};
 use iim_object::{ObjectFault, ObjectReader, ObjectSink};

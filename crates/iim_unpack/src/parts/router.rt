@@ -2,8 +2,7 @@
 
 ghost use Rattle.std.specs.Prelude.{refl};
 ghost use Rattle.std.proofs.Common.{◌∙◌};
-ghost use Rattle.iim_unpack.specs.Going.{tells_parts_nothing, tells_parts_joined, stopped_joined, ended_takes_nothing};
-ghost use Rattle.iim_unpack.specs.Routing.{Routes, RefusesRoute, TakesNext, IsOver};
+ghost use Rattle.iim_unpack.specs.Routes.{tells_parts_nothing, tells_parts_joined, stopped_joined, ended_takes_nothing, Routes, RefusesRoute, TakesNext, IsOver};
 
 use crate::parts::Parts;
 use iim_dataset::{DatasetSink, Head, Step, Stop};

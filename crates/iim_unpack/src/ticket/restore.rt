@@ -1,13 +1,12 @@
 //! An unpacker, made again from a ticket.
 
 ghost use Rattle.std.specs.Prelude.{IfSome, IfNone, IfOk, IfErr, ◌≡◌, ℕ, List};
-ghost use Rattle.iim_fields.specs.Format.Bounds.{IsWithin};
+ghost use Rattle.iim_fields.specs.Format.Records.{IsWithin};
 ghost use Rattle.iim_fields.specs.States.Standing.{room_for};
 ghost use Rattle.iim_places.specs.States.Readers.{AreAtIn};
 ghost use Rattle.iim_unpack.specs.States.Restored.{IsRestored};
-ghost use Rattle.iim_places.specs.States.Restored.{IsRestoreFault};
+ghost use Rattle.iim_places.specs.States.Restored.{IsRestoreFault, split_told};
 ghost use Rattle.iim_places.specs.Format.TicketForm.{HasForm, SplitsTicket};
-ghost use Rattle.iim_places.specs.States.TicketsTold.{split_told};
 ghost use Rattle.iim_unpack.specs.States.Unpacking.{room_in};
 
 use crate::parts::Parts;
@@ -59,7 +58,7 @@ impl Unpacker {
     /// for just what the limits allow, and no later call takes any.
     ///
     /// A ticket is of version 1 or 2. One of version 1 tells a place where an envelope can be by the sizes that there were when that
-    /// version was made; the unpacker goes on by those that there are.
+    /// version was made; the unpacker continues by those that there are.
     ///
     /// Refused are, in this order: octets that begin with no name of a ticket (`Form`); another version (`Version`); what else has
     /// not the form of a ticket (`Form`); a place where no envelope can be (`Impossible`); one that passes a limit (`HeaderFull`,

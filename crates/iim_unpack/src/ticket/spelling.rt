@@ -4,10 +4,10 @@ ghost use Rattle.std.specs.Prelude.{◌≡◌, ◌^◌, ◌-◌, ◌<◌, ◌≤
 ghost use Rattle.std.specs.List.{flat_map};
 ghost use Rattle.iim_dataset.specs.States.Reading.{TakesCalls};
 ghost use Rattle.iim_fields.specs.States.Standing.{IsFailed};
-ghost use Rattle.iim_object.specs.Format.Places as object_places;
+ghost use Rattle.iim_object.specs.Format.Objects as object_places;
 ghost use Rattle.iim_object.specs.States.Reading as objects;
 ghost use Rattle.iim_places.specs.Format.Tickets.{four, wide, present_version, field_octets, fields_octets, number_octets, text_octets, texts_octets, message_octets, phase_octets, DataBegun, TagBegun};
-ghost use Rattle.iim_unpack.specs.TicketReading.{phase_in, left_in, IsSpelled};
+ghost use Rattle.iim_unpack.specs.Steps.{phase_in, left_in, IsSpelled};
 
 use crate::parts::Parts;
 use crate::ticket::out::{Front, Full, TicketOut};

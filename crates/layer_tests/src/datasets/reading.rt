@@ -10,7 +10,7 @@ use iim_dataset::{DatasetSink, Fault, Head, HeadReader, Step, Stop};
 /// Three datasets: a standard count, an extended one, and no data; and an octet after them.
 const STREAM: &[u8] = b"\x1c\x01\x1e\x00\x03TST\x1c\x02\x05\x80\x01\x02ab\x1c\x07\x0a\x00\x00x";
 
-/// Writes down what it takes. The third dataset is the last one, and after it nothing is taken until it goes on.
+/// Writes down what it takes. The third dataset is the last one, and after it nothing is taken until it continues.
 #[derive(Drop)]
 struct Recorder {
     record: ArrayVec<u8, 64>,

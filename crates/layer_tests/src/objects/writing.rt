@@ -91,7 +91,7 @@ fn write_after<W: Target>(told: &mut Told, writer: &mut SubfileWriter<W>) {
     tell_counts(told, writer);
 }
 
-/// Tells the end that is refused, and goes on after it.
+/// Tells the end that is refused, and continues after it.
 fn finish_after(told: &mut Told, mut writer: SubfileWriter<Sink>, cause: PackCause) {
     told.line(CAUSES, " finish: ", &cause);
     write_after(told, &mut writer);

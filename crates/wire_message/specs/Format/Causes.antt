@@ -1,13 +1,11 @@
 -- Why an octet of a message is refused.
 use Rattle.std.specs.Prelude.{List, ℕ, ◌++◌, codes, decimal, ◌≡◌, ◌≢◌, ◌<◌, [], ◌∷◌}
-use Rattle.wire_story.specs.Format.Causes.{number_of_text, name_of_text}
+use Rattle.wire_story.specs.Format.Texts.{number_of_text, name_of_text, Holds, Octet}
 use Rattle.wire_story.specs.declared.fault.TextCause.TheVariants as texts
 use Rattle.wire_message.specs.declared.fault.MessageCause.{MessageCause}
 use Rattle.wire_message.specs.declared.fault.MessageCause.TheVariants.{BadOctet, Unfinished, LoneReturn, ControlOctet, Sink}
-use Rattle.iim_dataset.specs.Format.Characters.{cr}
-use Rattle.wire_story.specs.Format.Texts.{Holds}
-use Rattle.wire_story.specs.Format.Tokens.{Octet}
-use Rattle.wire_message.specs.Format.Layers.{MessageLivesWith, MessageDiesAt, text_so_far, StoryLivesIn}
+use Rattle.iim_dataset.specs.Format.Octets.{cr}
+use Rattle.wire_message.specs.Format.Messages.{MessageLivesWith, MessageDiesAt, text_so_far, StoryLivesIn}
 
 -- twins (with name_of_message, print_of_message): `names_each_cause`
 abbrev pub number_of_message : MessageCause → ℕ

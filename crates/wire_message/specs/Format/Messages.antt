@@ -1,9 +1,70 @@
--- The message: filler, SOH, header, gap, STX, text, ETX, trailer, EOT, filler.
-use Rattle.std.specs.Prelude.{◌≡◌, ℕ, Bool, ◌==◌, ◌⊎◌, IsTrue, List, [], ◌∷◌, ◌++◌}
-use Rattle.std.specs.List.{list_any}
-use Rattle.iim_dataset.specs.Format.Characters.{soh, stx, etx, eot, lf, sp}
-use Rattle.wire_message.specs.Format.Fields.{Are, IsField, is_alphanumeric, is_info_octet, is_trailer_octet, is_filler_octet, is_text_octet, max_filler, max_source, max_number, max_priority, max_category, max_words, max_info, max_trailer}
-use Rattle.iim_dataset.specs.Format.Octets.{is_digit, is_letter}
+-- The message: its parts, its canonical form, and the layers of an object.
+use Rattle.std.specs.Prelude.{ℕ, ◌≤◌, Bool, ◌&&◌, ◌||◌, ◌==◌, not, nat_lt, IsTrue, List, length, ◌≡◌, ◌⊎◌, [], ◌∷◌, ◌++◌, if◌then◌else◌, map}
+use Rattle.std.specs.List.{list_all, list_any, before_first, after_first}
+use Rattle.iim_dataset.specs.Format.Octets.{nul, etx, lf, cr, syn, sp, within, is_digit, is_letter, soh, stx, eot, IsAlive, DiesAt}
+use Rattle.wire_story.specs.Format.Texts.{packed_text, OctetOrEnd, Octet, End, with_end, StoryLanguage}
+
+-- twins (with is_info_octet, is_trailer_octet, is_filler_octet, is_text_octet): "Each octet alone in each part", "The octets that alone
+--   make a part of a header": each of the 256
+abbrev pub is_alphanumeric : ℕ → Bool
+is_alphanumeric b = is_letter b || is_digit b
+
+-- 20 to 7E and 80 to FF
+abbrev pub is_info_octet : ℕ → Bool
+is_info_octet b = within sp 0x7e b || within 0x80 0xff b
+
+-- the same, LF and CR
+abbrev pub is_trailer_octet : ℕ → Bool
+is_trailer_octet b = is_info_octet b || b == lf || b == cr
+
+-- NUL, LF, CR and SYN
+abbrev pub is_filler_octet : ℕ → Bool
+is_filler_octet b = b == nul || b == lf || b == cr || b == syn
+
+-- To the message the text is any octets but ETX.
+abbrev pub is_text_octet : ℕ → Bool
+is_text_octet b = nat_lt b 256 && not (b == etx)
+
+-- Each octet passes the test.
+abbrev pub Are : (ℕ → Bool) → List ℕ → Type 0
+Are test xs = IsTrue (list_all test xs)
+
+-- least to most octets that pass the test
+abbrev pub IsField : (ℕ → Bool) → ℕ → ℕ → List ℕ → Type 0
+IsField test least most xs = Are test xs × (least ≤ length xs) × (length xs ≤ most)
+
+-- ---- how many octets the parts have at most
+
+-- filler before SOH and after EOT, and the gap
+-- twin: "Filler before and after: up to 32 octets"
+abbrev pub max_filler : ℕ
+max_filler = 32
+
+-- twins (with max_number, max_category, max_words, max_info): "Source, number and category have 1 to 8 octets", "A trailer has up to 64
+--   octets, and so has info", "Parts of other lengths"
+abbrev pub max_source : ℕ
+max_source = 8
+
+abbrev pub max_number : ℕ
+max_number = 8
+
+abbrev pub max_priority : ℕ
+max_priority = 1
+
+abbrev pub max_category : ℕ
+max_category = 8
+
+abbrev pub max_words : ℕ
+max_words = 6
+
+abbrev pub max_info : ℕ
+max_info = 64
+
+-- twin: "A trailer has up to 64 octets", "Tails as they are written"
+abbrev pub max_trailer : ℕ
+max_trailer = 64
+
+-- ---- The message: filler, SOH, header, gap, STX, text, ETX, trailer, EOT, filler.
 
 -- what a header says
 pub record Header : Type 0 where
@@ -85,3 +146,62 @@ pub record BeginsWithHeader (octets : List ℕ) (head : Header) : Type 0 where
   pub is_info : SpellsInfo head.info info
   pub is_gap : IsGap gap
   pub parts : octets ≡ before ++ (soh ∷ fixed_header head ++ (info ++ (gap ++ (stx ∷ rest))))
+
+-- nothing for an empty info, and else SP and the info
+-- twin: "which may be empty after its SP", "Headers as they are written"
+abbrev pub packed_info : List ℕ → List ℕ
+packed_info [] = []
+packed_info (b ∷ bs) = sp ∷ b ∷ bs
+
+-- SOH to STX, with the gap CR LF
+-- twins (with packed_tail, canonical): "Headers as they are written", "Tails as they are written"; `packs_a_script`
+abbrev pub packed_head : Header → List ℕ
+packed_head head = soh ∷ fixed_header head ++ (packed_info head.info ++ (cr ∷ lf ∷ stx ∷ []))
+
+-- ETX, trailer, EOT
+abbrev pub packed_tail : List ℕ → List ℕ
+packed_tail trailer = etx ∷ trailer ++ (eot ∷ [])
+
+-- the object with no filler, its lines joined by CR LF
+abbrev pub canonical : Header → List (List ℕ) → List ℕ → List ℕ
+canonical head lines trailer = packed_head head ++ (packed_text lines ++ packed_tail trailer)
+
+-- the language of the message: the octets of a message, and then the end
+pub record MessageLanguage (tokens : List OctetOrEnd) : Type 0 where
+  pub object : List ℕ
+  pub head : Header
+  pub text : List ℕ
+  pub trailer : List ℕ
+  pub message : IsMessage object head text trailer
+  pub tokens_are : tokens ≡ with_end object
+
+-- A message can continue from the octets.
+abbrev pub MessageLivesWith : List ℕ → Type 0
+MessageLivesWith octets = IsAlive MessageLanguage (map Octet octets)
+
+-- A message can continue from the octets, and not from them with the next token.
+abbrev pub MessageDiesAt : List ℕ → OctetOrEnd → Type 0
+MessageDiesAt octets token = DiesAt MessageLanguage (map Octet octets) token
+
+-- what stands after STX
+-- twins (with text_so_far, trailer_so_far, story_tokens_of): laws `texts_stand_between_stx_and_etx`, `trailers_stand_between_etx_and_eot`,
+--   `headers_are_told_from_stx`
+abbrev pub after_stx : List ℕ → List ℕ
+after_stx octets = after_first (λ b. b == stx) octets
+
+-- the text so far: what stands after STX and before ETX
+abbrev pub text_so_far : List ℕ → List ℕ
+text_so_far octets = before_first (λ b. b == etx) (after_stx octets)
+
+-- the trailer so far: what stands after ETX, which ends the text, and before EOT
+abbrev pub trailer_so_far : List ℕ → List ℕ
+trailer_so_far octets = before_first (λ b. b == eot) (after_first (λ b. b == etx) (after_stx octets))
+
+-- the story's tokens of the octets so far: the text has ended where an ETX stands after STX
+abbrev pub story_tokens_of : List ℕ → List OctetOrEnd
+story_tokens_of octets = map Octet (text_so_far octets)
+    ++ (if list_any (λ b. b == etx) (after_stx octets) then End ∷ [] else [])
+
+-- The story of the object can continue from the octets.
+abbrev pub StoryLivesIn : List ℕ → Type 0
+StoryLivesIn octets = IsAlive StoryLanguage (story_tokens_of octets)

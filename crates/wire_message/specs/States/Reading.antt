@@ -1,15 +1,86 @@
--- Where a reader of messages stands, and why it refuses an octet.
-use Rattle.std.specs.Prelude.{◌≡◌, ℕ, ◌<◌, List, [], ◌++◌, length, take, slice_index, Bool, true, false, Option, Some, None}
-use Rattle.iim_dataset.specs.Format.Counts.{Rose}
-use Rattle.wire_story.specs.Format.Texts.{AreLines}
-use Rattle.wire_story.specs.Format.Delivery.{StoryEvent, delivered}
-use Rattle.wire_message.specs.Format.Messages.{Header, IsMessage}
-use Rattle.wire_message.specs.Format.Layers.{MessageLivesWith, StoryLivesIn}
-use Rattle.wire_message.specs.States.SoFar.{LeadsTo, Place, Text, Trailer, AfterEnd}
+-- Where a reader of messages stands, what octets so far are, and how a place is saved.
+use Rattle.std.specs.Prelude.{◌≡◌, ℕ, ◌≤◌, ◌||◌, nat_lt, IsTrue, List, [], ◌∷◌, ◌++◌, length, ◌<◌, take, slice_index, Bool, true, false, Option, Some, None, if◌then◌else◌, ◌+◌, IfSome}
+use Rattle.iim_dataset.specs.Format.Octets.{soh, stx, etx, sp, is_digit, is_letter, Rose}
+use Rattle.wire_story.specs.Format.Texts.{AreLines, StoryEvent, delivered}
+use Rattle.wire_story.specs.States.Reading as story
+use Rattle.wire_message.specs.Format.Messages.{Are, IsField, is_alphanumeric, is_filler_octet, is_text_octet, max_filler, max_source, max_number, max_priority, max_category, max_words, IsHeader, IsTrailer, IsFiller, IsGap, IsMessage, SpellsInfo, fixed_header, has_feed, Header, MessageLivesWith, StoryLivesIn, packed_info}
+use Rattle.wire_message.specs.Format.Causes.{HasCause}
+use Rattle.wire_message.specs.declared.part.HeaderPart.{HeaderPart}
+use Rattle.wire_message.specs.declared.part.HeaderPart.TheVariants.{Source, Number, Priority, Category, Words}
+use Rattle.wire_message.specs.declared.part.HeaderTexts.{HeaderTexts}
+pub use Rattle.wire_message.specs.declared.place.Place.{Place}
+pub use Rattle.wire_message.specs.declared.place.Place.TheVariants.{Filler, InHeader, Info, Gap, Text, Trailer, AfterEnd}
 use Rattle.wire_message.specs.declared.fault.MessageCause.{MessageCause}
 use Rattle.wire_message.specs.declared.fault.MessageCause.TheVariants.{Sink}
 use Rattle.wire_message.specs.declared.fault.MessageFault.{MessageFault}
-use Rattle.wire_message.specs.Format.Causes.{HasCause}
+use Rattle.wire_message.specs.declared.saved.MessagePart.{MessagePart}
+use Rattle.wire_message.specs.declared.saved.MessagePart.TheVariants as part
+use Rattle.wire_message.specs.declared.saved.MessagePlace.{MessagePlace}
+
+-- ---- the parts of a header
+
+-- They are made of their octets, and each has so many of them at least, and so many at most.
+abbrev pub AreParts : (s s' n n' p p' c c' w w' : ℕ) → HeaderTexts → Type 0
+AreParts s s' n n' p p' c c' w w' t = IsField is_letter s s' t.source.items × IsField is_digit n n' t.number.items × IsField is_digit p p' t.priority.items
+    × IsField is_alphanumeric c c' t.category.items × IsField is_digit w w' t.words.items
+
+-- the octets after SOH up to the part that is being read: the number follows the source at once, and SP stands between other parts
+abbrev pub so_far : HeaderPart → HeaderTexts → List ℕ
+so_far Source t = t.source.items
+so_far Number t = t.source.items ++ t.number.items
+so_far Priority t = t.source.items ++ (t.number.items ++ (sp ∷ t.priority.items))
+so_far Category t = t.source.items ++ (t.number.items ++ (sp ∷ (t.priority.items ++ (sp ∷ t.category.items))))
+so_far Words t = t.source.items ++ (t.number.items ++ (sp ∷ (t.priority.items ++ (sp ∷ (t.category.items ++ (sp ∷ t.words.items))))))
+
+-- ---- all places
+
+-- What was read has lengths and octets with which a message can continue. Of a header the parts before the one that is being read
+-- have an octet at least, and so has the number, which its first digit begins; those after it have none.
+-- twins (with Spells): law `places_are_reached`; "No octets lead to these: counters and flags", "And texts: of a later part, too long"
+abbrev pub IsPlace : Place → Type 0
+IsPlace (Filler count) = count ≤ max_filler
+IsPlace (InHeader Source t) = AreParts 0 max_source 0 0 0 0 0 0 0 0 t
+IsPlace (InHeader Number t) = AreParts 1 max_source 1 max_number 0 0 0 0 0 0 t
+IsPlace (InHeader Priority t) = AreParts 1 max_source 1 max_number 0 max_priority 0 0 0 0 t
+IsPlace (InHeader Category t) = AreParts 1 max_source 1 max_number 1 max_priority 0 max_category 0 0 t
+IsPlace (InHeader Words t) = AreParts 1 max_source 1 max_number 1 max_priority 1 max_category 0 max_words t
+IsPlace (Info h) = IsHeader h
+IsPlace (Gap h count feed) = IsHeader h × (1 ≤ count) × (count ≤ max_filler) × IsTrue (feed || nat_lt count max_filler)
+IsPlace (Text h reader) = IsHeader h × story.IsPlace reader
+IsPlace (Trailer h t) = IsHeader h × IsTrailer t.items
+IsPlace (AfterEnd h t count) = IsHeader h × IsTrailer t.items × (count ≤ max_filler)
+
+-- The octets are what was read, in order, with this text so far.
+abbrev pub Spells : List ℕ → List ℕ → Place → Type 0
+Spells octets text (Filler count) = IsFiller octets × (length octets ≡ count) × (text ≡ [])
+Spells octets text (InHeader part t) = (before : List ℕ) × IsFiller before × (octets ≡ before ++ (soh ∷ so_far part t)) × (text ≡ [])
+Spells octets text (Info h) = (before : List ℕ) × IsFiller before
+    × (octets ≡ before ++ (soh ∷ (fixed_header h ++ (sp ∷ h.info)))) × (text ≡ [])
+Spells octets text (Gap h count feed) = (before : List ℕ) × (info : List ℕ) × (gap : List ℕ) × IsFiller before × SpellsInfo h.info info
+    × Are is_filler_octet gap × (length gap ≡ count) × (has_feed gap ≡ feed)
+    × (octets ≡ before ++ (soh ∷ (fixed_header h ++ (info ++ gap)))) × (text ≡ [])
+Spells octets text (Text h reader) = (before : List ℕ) × (info : List ℕ) × (gap : List ℕ) × IsFiller before × SpellsInfo h.info info
+    × IsGap gap × Are is_text_octet text
+    × (octets ≡ before ++ (soh ∷ (fixed_header h ++ (info ++ (gap ++ (stx ∷ text))))))
+Spells octets text (Trailer h t) = (before : List ℕ) × (info : List ℕ) × (gap : List ℕ) × IsFiller before × SpellsInfo h.info info
+    × IsGap gap × Are is_text_octet text
+    × (octets ≡ before ++ (soh ∷ (fixed_header h ++ (info ++ (gap ++ (stx ∷ (text ++ (etx ∷ t.items))))))))
+Spells octets text (AfterEnd h t count) = (message : IsMessage octets h text t.items) × (length message.after ≡ count)
+
+-- The text so far is one of the story: a reader stands where it has taken it, and from ETX on it is whole.
+abbrev pub StoryStands : List ℕ → Place → Type 0
+StoryStands text (Text h reader) = story.StandsAt reader text
+StoryStands text (Trailer h t) = AreLines text
+StoryStands text (AfterEnd h t count) = AreLines text
+StoryStands text _ = text ≡ []
+
+-- The octets so far, with this text among them, have led to the place.
+pub record LeadsTo (octets text : List ℕ) (place : Place) : Type 0 where
+  pub is_place : IsPlace place
+  pub spelled : Spells octets text place
+  pub story : StoryStands text place
+
+-- ---- Where a reader of messages stands, and why it refuses an octet.
 
 -- The reader has taken these octets, with this text among them.
 abbrev pub StandsAt : Option Place → List ℕ → List ℕ → Type 0
@@ -89,3 +160,93 @@ is_ended _ = false
 abbrev pub IsWhole : Option Place → Type 0
 IsWhole reader = (octets text : List ℕ) → StandsAt reader octets text
     → (head : Header) × (head_read reader ≡ Some head) × IsMessage octets head text (trailer_read reader) × AreLines text
+
+-- ---- The place of a reader of messages, as it is saved.
+
+-- a part, its counter and flag, and the octets of source, number, priority, category, words, info and trailer
+-- twins (with saved): law `places_are_saved_apart`; "Places that octets lead to: the part, the counter, the flag"
+abbrev pub place_from : MessagePart → ℕ → ℕ → List ℕ → List ℕ → List ℕ → List ℕ → List ℕ → List ℕ → List ℕ → MessagePlace
+place_from part counter flag source number priority category words info trailer = record {
+  part = part;
+  counter = counter;
+  flag = flag;
+  source = record { items = source };
+  number = record { items = number };
+  priority = record { items = priority };
+  category = record { items = category };
+  words = record { items = words };
+  info = record { items = info };
+  trailer = record { items = trailer };
+}
+
+-- the same with the parts of a header
+abbrev pub place_with_header : MessagePart → ℕ → ℕ → Header → List ℕ → MessagePlace
+place_with_header part counter flag h trailer = place_from part counter flag h.source h.number h.priority h.category h.words h.info trailer
+
+-- a part of the header as it is saved: the priority, with these octets, before its digit or after it
+abbrev pub saved_part : HeaderPart → List ℕ → MessagePart
+saved_part Source _ = part.Source
+saved_part Number _ = part.Number
+saved_part Priority [] = part.Priority
+saved_part Priority (b ∷ bs) = part.PriorityRead
+saved_part Category _ = part.Category
+saved_part Words _ = part.Words
+
+-- A place as it is saved. What comes later than the part that is being read is empty.
+abbrev pub saved : Place → MessagePlace
+saved (Filler count) = place_from part.Filler count 0 [] [] [] [] [] [] []
+saved (InHeader at t) = place_from (saved_part at t.priority.items) 0 0 t.source.items t.number.items t.priority.items t.category.items t.words.items [] []
+saved (Info h) = place_with_header part.Info 0 0 h []
+saved (Gap h count feed) = place_with_header part.Gap count (if feed then 1 else 0) h []
+saved (Text h (Some held)) = place_with_header part.Text 0 held h []
+saved (Text h None) = place_with_header part.Text 0 0 h []
+saved (Trailer h t) = place_with_header part.Trailer 0 0 h t.items
+saved (AfterEnd h t count) = place_with_header part.AfterEnd count 0 h t.items
+
+-- The octets so far, with this text among them, have led to the place that is saved so.
+abbrev pub LeadsToSaved : List ℕ → List ℕ → MessagePlace → Type 0
+LeadsToSaved octets text place = (at : Place) × LeadsTo octets text at × (saved at ≡ place)
+
+-- The reader is at the place that is saved so.
+abbrev pub IsAt : Option Place → MessagePlace → Type 0
+IsAt reader place = (at : Place) × (reader ≡ Some at) × (saved at ≡ place)
+
+-- Some octets, `count` of them, lead to where the reader stands.
+abbrev pub LeadsIn : Option Place → ℕ → Type 0
+LeadsIn reader count = (octets : List ℕ) × (text : List ℕ) × StandsAt reader octets text × (length octets ≡ count)
+
+-- The number is no less than the least, and no more than the greatest where there is one.
+abbrev pub IsOneOf : ℕ → Option ℕ → ℕ → Type 0
+IsOneOf least greatest count = (least ≤ count) × IfSome greatest (λ most. count ≤ most)
+
+-- SOH and the parts up to the words, with the SP between them
+abbrev pub fixed_octets : Header → ℕ
+fixed_octets h = 1 + length (fixed_header h)
+
+-- SOH to STX at least: an empty info has no SP, and the gap is LF alone
+-- twins (with least_of, greatest_of): "Places that octets lead to", "How many octets lead to a place of a message";
+--   `judges_each_part_of_a_message`
+abbrev pub least_head : Header → ℕ
+least_head h = fixed_octets h + length (packed_info h.info) + 2
+
+-- How many octets lead to a place at least: no filler stands before SOH, an empty info has no SP once the gap has begun, and
+-- once it has ended the gap is LF alone; of the text there are the CR that are held.
+abbrev pub least_of : Place → ℕ
+least_of (Filler count) = count
+least_of (InHeader part t) = 1 + length (so_far part t)
+least_of (Info h) = fixed_octets h + 1 + length h.info
+least_of (Gap h count feed) = fixed_octets h + length (packed_info h.info) + count
+least_of (Text h (Some held)) = least_head h + held
+least_of (Text h None) = least_head h
+least_of (Trailer h t) = least_head h + 1 + length t.items
+least_of (AfterEnd h t count) = least_head h + 2 + length t.items + count
+
+-- How many lead there at most: 32 of filler stand before SOH, and in the gap an empty info has its SP. From STX on the text
+-- may be of any length.
+abbrev pub greatest_of : Place → Option ℕ
+greatest_of (Filler count) = Some count
+greatest_of (Gap h count feed) = Some (max_filler + (fixed_octets h + 1 + length h.info + count))
+greatest_of (Text h reader) = None
+greatest_of (Trailer h t) = None
+greatest_of (AfterEnd h t count) = None
+greatest_of place = Some (max_filler + least_of place)

@@ -1,9 +1,8 @@
 -- How events are packed, and the lines that they are.
 use Rattle.std.specs.Prelude.{◌≡◌, ℕ, List, [], ◌∷◌, flat_map, IsTrue}
 use Rattle.std.specs.List.{AllByRecursion}
-use Rattle.wire_story.specs.Format.Texts.{is_line_octet, line_end, packed_text, MakeText}
-use Rattle.wire_story.specs.Format.Delivery.{StoryEvent, LineOctet, LineEnd}
-use Rattle.wire_story.specs.States.Collecting.{collect}
+use Rattle.wire_story.specs.Format.Texts.{is_line_octet, line_end, packed_text, MakeText, StoryEvent, LineOctet, LineEnd}
+use Rattle.wire_story.specs.States.Reading.{collect}
 
 -- an octet of a line as itself, the end of a line as CR LF
 -- twin: law `line_ends_are_packed_as_return_and_feed`; "The octets that may stand in a line, those that alone are a text, and what a line

@@ -1,7 +1,9 @@
--- The text of a story: its lines, and the ends of lines.
-use Rattle.std.specs.Prelude.{◌≡◌, ℕ, ◌<◌, ◌≤◌, Bool, not, ◌&&◌, ◌||◌, nat_lt, ◌==◌, IsTrue, List, [], ◌∷◌, ◌++◌, length, replicate}
-use Rattle.std.specs.List.{list_all}
-use Rattle.iim_dataset.specs.Format.Characters.{soh, stx, etx, eot, lf, cr}
+-- The text of a story: its lines, its tokens, what a sink is told of it, its words, and why an octet is refused.
+use Rattle.std.specs.Prelude.{◌≡◌, ℕ, ◌<◌, ◌≤◌, Bool, not, ◌&&◌, ◌||◌, nat_lt, ◌==◌, IsTrue, List, [], ◌∷◌, ◌++◌, length, replicate, map, if◌then◌else◌, flat_map, ◌+◌, ◌^◌, min, false, codes, decimal}
+use Rattle.std.specs.List.{list_all, sum_by}
+use Rattle.iim_dataset.specs.Format.Octets.{soh, stx, etx, eot, lf, cr, IsAlive, DiesAt, greatest_u64, tab, sp}
+use Rattle.wire_story.specs.declared.fault.TextCause.{TextCause}
+use Rattle.wire_story.specs.declared.fault.TextCause.TheVariants.{LoneReturn, ControlOctet, Sink}
 
 -- any octet but SOH, STX, ETX, EOT, LF and CR
 -- twin: "The octets that may stand in a line": each of the 256
@@ -58,3 +60,140 @@ abbrev pub packed_text : List (List ℕ) → List ℕ
 packed_text [] = []
 packed_text (line ∷ []) = line
 packed_text (line ∷ next ∷ lines) = line ++ (line_end 1 ++ packed_text (next ∷ lines))
+
+-- an octet, or the end of the octets
+pub data OctetOrEnd : Type 0 where
+  Octet : (octet : ℕ) → OctetOrEnd
+  End : OctetOrEnd
+
+-- the octets, and then their end
+abbrev pub with_end : List ℕ → List OctetOrEnd
+with_end xs = map Octet xs ++ End ∷ []
+
+-- the language of the story: the octets of a text, and then the end
+pub record StoryLanguage (tokens : List OctetOrEnd) : Type 0 where
+  pub text : List ℕ
+  pub lines : List (List ℕ)
+  pub lined : IsText text lines
+  pub tokens_are : tokens ≡ with_end text
+
+-- A story can continue from the octets.
+abbrev pub LivesWith : List ℕ → Type 0
+LivesWith octets = IsAlive StoryLanguage (map Octet octets)
+
+-- A story can continue from the octets, and not from them with the next token.
+abbrev pub StoryDiesAt : List ℕ → OctetOrEnd → Type 0
+StoryDiesAt octets token = DiesAt StoryLanguage (map Octet octets) token
+
+-- an octet of a line, or the end of a line
+pub data StoryEvent : Type 0 where
+  LineOctet : (octet : ℕ) → StoryEvent
+  LineEnd : StoryEvent
+
+-- An LF ends a line. Of a CR nothing is told: it belongs to the line end that follows, or no LF has come yet.
+-- twins (with octet_for): laws `texts_are_delivered_as_lines`, `lines_are_joined_by_line_feeds`; "Lines that are written on are joined by
+--   LF"
+abbrev pub events_of : ℕ → List StoryEvent
+events_of b = if b == lf then LineEnd ∷ [] else if b == cr then [] else LineOctet b ∷ []
+
+-- what is delivered of octets of a text, whole or not
+abbrev pub delivered : List ℕ → List StoryEvent
+delivered x = flat_map events_of x
+
+-- the octets of each line, and the end of a line between each two
+abbrev pub events_of_lines : List (List ℕ) → List StoryEvent
+events_of_lines [] = []
+events_of_lines (line ∷ []) = map LineOctet line
+events_of_lines (line ∷ next ∷ lines) = map LineOctet line ++ (LineEnd ∷ events_of_lines (next ∷ lines))
+
+-- the octet that stands for an event where lines are joined by LF
+abbrev pub octet_for : StoryEvent → ℕ
+octet_for (LineOctet b) = b
+octet_for LineEnd = lf
+
+-- ---- The words of lines, and a count of words that grows by what a sink is told.
+
+-- any octet but SP and TAB
+-- twin: "Words are the longest runs in a line": each of the 256 between `a` and `b`; `counts_words`
+abbrev pub is_word_octet : ℕ → Bool
+is_word_octet b = not (b == sp || b == tab)
+
+-- SP or TAB
+abbrev pub is_blank : ℕ → Bool
+is_blank b = not (is_word_octet b)
+
+-- One where a word begins with the octet: it is of a word, and the one before it in its line is not.
+abbrev pub begun_with : Bool → ℕ → ℕ
+begun_with inside b = if is_word_octet b && not inside then 1 else 0
+
+-- how many words begin in octets of a line, where those before them end inside a word or not
+-- twins (with words_told): laws `words_are_longest_runs`, `texts_are_counted_as_lines`; "Words are the longest runs in a line";
+--   `counts_words`
+abbrev pub words_begun : Bool → List ℕ → ℕ
+words_begun inside [] = 0
+words_begun inside (b ∷ xs) = begun_with inside b + words_begun (is_word_octet b) xs
+
+-- how many words a line has
+abbrev pub words_in : List ℕ → ℕ
+words_in line = words_begun false line
+
+-- how many words the lines have
+abbrev pub words : List (List ℕ) → ℕ
+words lines = sum_by words_in lines
+
+-- ---- what a word is
+
+-- Nothing comes next, or SP, or TAB: a word before it is as long as it can be.
+abbrev pub EndsWord : List ℕ → Type 0
+EndsWord [] = Unit {0}
+EndsWord (b ∷ xs) = is_word_octet b ≡ false
+
+-- The line is these words, in order, each of one octet at least and as long as it can be, and blanks before, between and after them.
+abbrev pub HasWords : List ℕ → List (List ℕ) → Type 0
+HasWords line [] = IsTrue (list_all is_blank line)
+HasWords line (word ∷ others) = (blank : List ℕ) × IsTrue (list_all is_blank blank) × ((0 < length word) × IsTrue (list_all is_word_octet word))
+    × (rest : List ℕ) × (line ≡ blank ++ (word ++ rest)) × EndsWord rest × HasWords rest others
+
+-- ---- words as they are told
+
+-- a count of words, and whether the present line ends inside a word so far
+pub record WordsSoFar : Type 0 where
+  pub words : ℕ
+  pub inside : Bool
+
+-- the greatest count
+-- twins (with CountsWords) that nothing finds: no text has so many words. 70,000 are counted under "Words are the longest runs in a line"
+abbrev pub capped : ℕ → ℕ
+capped n = min n greatest_u64
+
+-- how many words begin in the events, where those before them end inside a word or not
+abbrev pub words_told : Bool → List StoryEvent → ℕ
+words_told inside [] = 0
+words_told inside (LineOctet b ∷ events) = begun_with inside b + words_told (is_word_octet b) events
+words_told inside (LineEnd ∷ events) = words_told false events
+
+-- whether the present line ends inside a word after the events
+abbrev pub inside_after : Bool → List StoryEvent → Bool
+inside_after inside [] = inside
+inside_after inside (LineOctet b ∷ events) = inside_after (is_word_octet b) events
+inside_after inside (LineEnd ∷ events) = inside_after false events
+
+-- The words of the events were counted, in 64 bits.
+pub record CountsWords (old : WordsSoFar) (events : List StoryEvent) (new : WordsSoFar) : Type 0 where
+  pub words : old.words < 2 ^ 64 → new.words ≡ capped (old.words + words_told old.inside events)
+  pub inside : new.inside ≡ inside_after old.inside events
+
+-- twins (with name_of_text, print_of_text): `causes_of_texts_are_printed`
+abbrev pub number_of_text : TextCause → ℕ
+number_of_text LoneReturn = 40
+number_of_text ControlOctet = 41
+number_of_text Sink = 60
+
+abbrev pub name_of_text : TextCause → List ℕ
+name_of_text LoneReturn = codes "LoneReturn"
+name_of_text ControlOctet = codes "ControlOctet"
+name_of_text Sink = codes "Sink"
+
+-- a cause's number and name, as they are printed
+abbrev pub print_of_text : TextCause → List ℕ
+print_of_text cause = decimal (number_of_text cause) ++ (codes " " ++ name_of_text cause)

@@ -1,13 +1,33 @@
--- Where a reader of a text stands, and why it refuses an octet.
-use Rattle.std.specs.Prelude.{◌≡◌, ◌≢◌, ℕ, ◌<◌, ◌≤◌, List, [], ◌∷◌, ◌++◌, length, take, slice_index, Option, Some}
-use Rattle.iim_dataset.specs.Format.Characters.{soh, eot, lf, cr}
-use Rattle.iim_dataset.specs.Format.Counts.{Rose}
-use Rattle.wire_story.specs.Format.Texts.{Holds, max_returns}
-use Rattle.wire_story.specs.Format.Delivery.{StoryEvent, delivered}
-use Rattle.wire_story.specs.Format.Tokens.{Octet, LivesWith, StoryDiesAt}
+-- Where a reader of a text, a writer of lines and what collects them stand.
+use Rattle.std.specs.Prelude.{ℕ, List, [], ◌∷◌, ◌++◌, ◌≡◌, ◌≢◌, ◌<◌, ◌≤◌, length, take, slice_index, Option, Some, ◌+◌, ◌^◌, ◌⊎◌, map}
+use Rattle.std.specs.Io.KnownBytes.{Appends}
+use Rattle.wire_story.specs.Format.Texts.{StoryEvent, LineOctet, LineEnd, Holds, max_returns, delivered, Octet, LivesWith, StoryDiesAt, octet_for}
+use Rattle.iim_dataset.specs.Format.Octets.{soh, eot, lf, cr, Rose}
+use Rattle.iim_dataset.specs.States.Devices.{Device, RoseAtLeast, max_interruptions}
 use Rattle.wire_story.specs.declared.fault.TextCause.{TextCause}
 use Rattle.wire_story.specs.declared.fault.TextCause.TheVariants.{LoneReturn, ControlOctet, Sink}
 use Rattle.wire_story.specs.declared.fault.TextFault.{TextFault}
+use Rattle.wire_story.specs.declared.writer.LineWriter.{LineWriter}
+
+-- collected lines, how often their growth was refused, and for how many octets there is memory
+pub record Collected : Type 0 where
+  pub lines : List (List ℕ)
+  pub failures : ℕ
+  pub room : ℕ
+
+-- the lines with one octet more, at the end of the last
+abbrev pub add_octet : List (List ℕ) → ℕ → List (List ℕ)
+add_octet [] b = (b ∷ []) ∷ []
+add_octet (line ∷ []) b = (line ++ b ∷ []) ∷ []
+add_octet (line ∷ next ∷ lines) b = line ∷ add_octet (next ∷ lines) b
+
+-- An octet goes to the end of the last line, and the end of a line begins an empty one.
+abbrev pub collect : List (List ℕ) → List StoryEvent → List (List ℕ)
+collect lines [] = lines
+collect lines (LineOctet b ∷ events) = collect (add_octet lines b) events
+collect lines (LineEnd ∷ events) = collect (lines ++ [] ∷ []) events
+
+-- ---- Where a reader of a text stands, and why it refuses an octet.
 
 -- The reader, seen as the number of CR held, stands where it has taken these octets: they are a text so far that holds as many.
 abbrev pub StandsAt : Option ℕ → List ℕ → Type 0
@@ -63,3 +83,37 @@ pub record RefusesOne {S : Type 0} (goes : S → List StoryEvent → S → Type 
   pub refused : Refuses old piece fault
   pub told : goes a (delivered (take fault.taken piece)) b
   pub counted : CountsCause (failures a) (failures b) fault.cause
+
+-- what the lines go to
+abbrev pub writer_of : {W : Type 0} → LineWriter W → W
+writer_of sink = sink.writer
+
+-- the same as a device
+abbrev pub device_of : {W : Type 0} → (W → Device) → LineWriter W → Device
+device_of state sink = state sink.writer
+
+-- how often it stopped
+abbrev pub stops_of : {W : Type 0} → LineWriter W → ℕ
+stops_of sink = sink.stops
+
+-- Of a device a call failed, or a million were interrupted.
+abbrev pub HasBroken : Device → Device → Type 0
+HasBroken old new = RoseAtLeast 1 old.failures new.failures ⊎ RoseAtLeast max_interruptions old.interruptions new.interruptions
+
+-- A device took these octets. It has broken where the writer of lines stopped, and no call of it failed where it did not.
+-- twin that nothing finds: no test stops so often
+pub record WritesOn (old new : Device) (stops_old stops_new : ℕ) (text : List ℕ) : Type 0 where
+  pub octets : Appends old.octets new.octets text
+  pub failures : old.failures ≤ new.failures
+  pub interruptions : old.interruptions ≤ new.interruptions
+  pub stops : stops_old ≤ stops_new
+  pub broken : stops_old < stops_new → HasBroken old new
+  pub unbroken : stops_new ≡ stops_old → stops_new + 1 < 2 ^ 64 → new.failures ≡ old.failures
+
+-- From one value to another a writer of lines wrote these octets.
+abbrev pub WritesOctets : {W : Type 0} → (W → Device) → LineWriter W → List ℕ → LineWriter W → Type 0
+WritesOctets state old octets new = WritesOn (device_of state old) (device_of state new) (stops_of old) (stops_of new) octets
+
+-- It was told these events, and wrote the octets for them.
+abbrev pub WritesLines : {W : Type 0} → (W → Device) → LineWriter W → List StoryEvent → LineWriter W → Type 0
+WritesLines state old events new = WritesOctets state old (map octet_for events) new

@@ -1,5 +1,5 @@
 use Rattle.std.proofs.Common.{[], map}
-use Rattle.wire_story.specs.Format.Delivery.{LineOctet}
+use Rattle.wire_story.specs.Format.Texts.{LineOctet}
 use Rattle.caller_tests.proofs.packing.pack_line.Goals as goal
 
 pub returns-in-Ok-finish : goal.returns-in-Ok-finish

@@ -1,4 +1,4 @@
-use Rattle.iim_places.specs.States.TicketsTold.{split_told}
+use Rattle.iim_places.specs.States.Restored.{split_told}
 use Rattle.caller_tests.proofs.TicketParts.{same_taken}
 use Rattle.caller_tests.proofs.places.octets_of_object.Goals as goal
 

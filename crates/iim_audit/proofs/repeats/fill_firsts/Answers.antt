@@ -1,5 +1,4 @@
-use Rattle.iim_audit.proofs.Words.{◌≡◌, ℕ, List, length, map, get_or, set, refl, sym, ◌∙◌, arith, rules, get_or_default, get_or-map, length-map, length-set}
-use Rattle.iim_audit.proofs.Words.{index_at}
+use Rattle.iim_audit.proofs.Words.{◌≡◌, ℕ, List, length, map, get_or, set, refl, sym, ◌∙◌, arith, rules, get_or_default, get_or-map, length-map, length-set, index_at}
 use Rattle.std.proofs.Math.Seq.{map-set_same}
 use Rattle.iim_audit.specs.declared.row.AuditRow.{AuditRow}
 use Rattle.iim_audit.proofs.Firsts.{all_filled, so_far_more, so_far_none}

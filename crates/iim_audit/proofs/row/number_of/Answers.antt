@@ -1,9 +1,8 @@
-use Rattle.iim_audit.proofs.Words.{◌≡◌, ℕ, ◌+◌, ◌-◌, ◌*◌, ◌^◌, ◌<◌, ◌≤◌, List, length, take, get_or, true, arith, ap, ◌∙◌, add-one, lit<, pow-suc}
-use Rattle.iim_audit.proofs.Words.{pow-le-pow_right, digits_value, nat_tests, take_more}
+use Rattle.iim_audit.proofs.Words.{◌≡◌, ℕ, ◌+◌, ◌-◌, ◌*◌, ◌^◌, ◌<◌, ◌≤◌, List, length, take, get_or, true, arith, ap, ◌∙◌, add-one, lit<, pow-suc, pow-le-pow_right, digits_value, nat_tests, take_more}
 use Rattle.std.specs.Char.{digit_value}
 use Rattle.std.proofs.lemmas.Int.Digits.{digits_value_push}
 use Rattle.std.proofs.lemmas.List.Folds.{list_all_at}
-use Rattle.wire_message.specs.Format.Fields.{Are}
+use Rattle.wire_message.specs.Format.Messages.{Are}
 use Rattle.iim_dataset.specs.Format.Octets.{is_digit}
 use Rattle.iim_audit.proofs.row.number_of.Goals as goal
 

@@ -1,15 +1,13 @@
 -- What a piece comes to that is audited from the place of a ticket on.
-use Rattle.iim_c.proofs.Words.{arith, sym, subst, ◌∙◌, inl, inr, refl, ◌≡◌, ◌≢◌, ℕ, ℤ, List, ◌⊎◌, [], length, take, drop, ap, length-take-le, Limits}
-use Rattle.iim_c.proofs.Words.{IsTicketOf, Refusal, Unpacking, Stands, IsDone, IsDoneWith, StandsOn, PieceAudit, status_answer, refusal_answer, limits_in}
-use Rattle.iim_c.proofs.Words.{◌++◌, with_more, HasFound, PlaceLaws, InHand, Found, IimAuditRow}
+use Rattle.iim_c.proofs.Words.{arith, sym, subst, ◌∙◌, inl, inr, refl, ◌≡◌, ◌≢◌, ℕ, ℤ, List, ◌⊎◌, [], length, take, drop, ap, length-take-le, Limits, IsTicketOf, Refusal, Unpacking, Stands, IsDone, IsDoneWith, StandsOn, PieceAudit, status_answer, refusal_answer, limits_in, ◌++◌, with_more, HasFound, PlaceLaws, InHand, Found, IimAuditRow}
 use Rattle.iim_c.specs.Format.Feeding.{IsNowhere}
 use Rattle.iim_c.proofs.Places.{begun, not_open, said, Begun, is_done}
 use Rattle.std.proofs.lemmas.List.{take-append-drop}
-use Rattle.wire_story.specs.Format.Words.{WordsSoFar}
+use Rattle.wire_story.specs.Format.Texts.{WordsSoFar}
 use Rattle.iim_c.specs.Format.Answers.{IimAnswer}
 use Rattle.iim_c.specs.Steps.{IsBegun, IsSaved, IsWithin, StopsBy, IsKept, kept_of}
 use Rattle.iim_c.specs.Format.Auditing.{Outcome, IsAuditedAt, IsOutcome, IsSaidOf, GoesOn, UsesAll, UsesSome, RefusesOne}
-use Rattle.iim_c.specs.Format.SoFar.{words_so_far, begins_at}
+use Rattle.iim_c.specs.Format.Tickets.{words_so_far, begins_at}
 use Rattle.iim_c.specs.declared.finding.Ending.{Ending}
 use Rattle.iim_c.specs.declared.so_far.IimSoFar.{IimSoFar}
 use Rattle.iim_c.specs.Format.Statuses as status

@@ -1,4 +1,4 @@
-use Rattle.iim_places.specs.States.TicketsTold.{split_told}
+use Rattle.iim_places.specs.States.Restored.{split_told}
 use Rattle.iim_c.proofs.BegunThere.{no_split, octets_tell, split_at, token_told}
 use Rattle.iim_c.proofs.begun.place_told.Goals as goal
 

@@ -1,6 +1,6 @@
 -- What octets in memory are answered.
 use Rattle.iim_c.proofs.Words.{[], length, ◌∙◌, arith, raised, ◌≡◌, ℕ, ◌<◌, List, inl, sym, ap, subst, Limits, IsTruncatedAt, Refusal, refusal_answer}
-use Rattle.iim_places.specs.Format.Refusals.{refusal_at}
+use Rattle.iim_places.specs.Format.Causes.{refusal_at}
 use Rattle.iim_places.specs.Format.Streams.{Answer, Answers, Finished, Refused, Truncated}
 use Rattle.iim_places.specs.Laws.{StreamsHaveOneAnswer}
 use Rattle.iim_c.specs.Format.Answers.{IimAnswer}

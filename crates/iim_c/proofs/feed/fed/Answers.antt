@@ -1,14 +1,11 @@
 -- What a piece comes to that is fed from the place of a ticket.
-use Rattle.iim_c.proofs.Words.{length, arith, sym, subst, ◌∙◌, ◌≡◌, ℕ, ◌<◌, ◌≤◌, ◌^◌, List, [], ◌⊎◌, inl, inr, take, map, None, refl, ap, Limits}
-use Rattle.iim_c.proofs.Words.{StoryEvent, text_so_far, IsTextOf, object_so_far, IsTicketOf, Unpacking, Stands, Goes, IsDone, IsDoneWith, IsRefusedIn}
-use Rattle.iim_c.proofs.Words.{limits_in, Progress, Refusal, HasFedText, HasRefusedText, status_answer, refusal_answer, DatasetLaws, length-take}
+use Rattle.iim_c.proofs.Words.{length, arith, sym, subst, ◌∙◌, ◌≡◌, ℕ, ◌<◌, ◌≤◌, ◌^◌, List, [], ◌⊎◌, inl, inr, take, map, None, refl, ap, Limits, StoryEvent, text_so_far, IsTextOf, object_so_far, IsTicketOf, Unpacking, Stands, Goes, IsDone, IsDoneWith, IsRefusedIn, limits_in, Progress, Refusal, HasFedText, HasRefusedText, status_answer, refusal_answer, DatasetLaws, length-take}
 use Rattle.iim_c.proofs.Places.{begun, begun_alive, Begun, is_done, said, at_place}
 use Rattle.iim_c.specs.Format.Feeding.{IsNowhere, Outcome, IsOutcome, IsAnswered, IsFed}
 use Rattle.std.proofs.lemmas.List.{nil_from_length}
-use Rattle.wire_story.specs.Format.Delivery.{octet_for}
+use Rattle.wire_story.specs.Format.Texts.{octet_for}
 use Rattle.iim_c.specs.Steps.{IsSaved, TellsRoom, used_in}
-use Rattle.iim_c.specs.Format.Answers.{IimAnswer}
-use Rattle.iim_c.specs.Format.Writing.{HasTaken, HoldsFirst, counted}
+use Rattle.iim_c.specs.Format.Answers.{IimAnswer, HasTaken, HoldsFirst, counted}
 use Rattle.iim_c.proofs.TextLengths.{delivers_few, events_few}
 use Rattle.iim_unpack.specs.declared.unpacker.Progress.TheVariants as progress
 use Rattle.iim_c.specs.Format.Statuses as status

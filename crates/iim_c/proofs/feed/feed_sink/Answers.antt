@@ -1,9 +1,8 @@
 -- A buffer for text.
-use Rattle.iim_c.proofs.Words.{◌≡◌, ℕ, List, [], refl, StoryEvent, CountsFor, Unpacking, Stands, Goes, IsRefusedIn, limits_in, Progress}
-use Rattle.iim_c.proofs.Words.{Refusal, HasFedText, HasRefusedText}
+use Rattle.iim_c.proofs.Words.{◌≡◌, ℕ, List, [], refl, StoryEvent, CountsFor, Unpacking, Stands, Goes, IsRefusedIn, limits_in, Progress, Refusal, HasFedText, HasRefusedText}
 use Rattle.std.proofs.Common.{Result, Ok, Err, IfOk, IfErr}
 use Rattle.iim_c.specs.declared.text_out.TextOut.{TextOut}
-use Rattle.iim_c.specs.Format.Writing.{WritesLines}
+use Rattle.iim_c.specs.Format.Answers.{WritesLines}
 use Rattle.iim_c.proofs.Places.{not_sink}
 use Rattle.iim_c.proofs.feed.feed_sink.Goals as goal
 

@@ -1,14 +1,11 @@
 -- Rows, one after the other.
-use Rattle.iim_c.proofs.Words.{◌+◌, ◌<◌, ◌≤◌, length, drop, arith, length-drop, drop-drop, sym, ap, ◌∙◌, limits_in, ◌≡◌, ℕ, ℤ, List, [], ◌∷◌, ◌++◌, take}
-use Rattle.iim_c.proofs.Words.{set, Some, refl, subst, append-nil, append_assoc, length-take-le, Limits, raised, StandsOn, PieceAudit, InHand, with_more}
-use Rattle.iim_c.proofs.Words.{HasFound, Found, IimAuditRow}
+use Rattle.iim_c.proofs.Words.{◌+◌, ◌<◌, ◌≤◌, length, drop, arith, length-drop, drop-drop, sym, ap, ◌∙◌, limits_in, ◌≡◌, ℕ, ℤ, List, [], ◌∷◌, ◌++◌, take, set, Some, refl, subst, append-nil, append_assoc, length-take-le, Limits, raised, StandsOn, PieceAudit, InHand, with_more, HasFound, Found, IimAuditRow}
 use Rattle.std.proofs.lemmas.List.{take_rest, length-set, drop-set-lt, take_more_set}
 use Rattle.std.proofs.Common.{take-add}
 use Rattle.std.specs.Option.{option_map}
-use Rattle.iim_audit.specs.Format.Pieces.{Finds, IsRowOf}
+use Rattle.iim_audit.specs.Format.{Finds, IsRowOf}
 use Rattle.iim_audit.specs.declared.pieces.PieceRow.{PieceRow}
-use Rattle.iim_c.specs.Format.Auditing.{AreRows, IsRow, after}
-use Rattle.iim_c.specs.Format.Rows.{TellsRow}
+use Rattle.iim_c.specs.Format.Auditing.{AreRows, IsRow, after, TellsRow}
 use Rattle.iim_c.specs.declared.finding.Ending.TheVariants.{Full}
 use Rattle.iim_c.proofs.finding.find_rows.Goals as goal
 

@@ -1,12 +1,10 @@
 -- Where the texts of a ticket stand.
 use Rattle.std.proofs.Common.{◌-◌, length, ap, arith, refl, Bor}
 use Rattle.iim_c.specs.declared.span.IimSpan.{IimSpan}
-use Rattle.iim_c.proofs.Words.{◌≡◌, ℕ, ◌+◌, List, [], ◌∷◌, ◌++◌, ◌-◌, length, map, get_or, refl, ap, sym, ◌∙◌, arith, append_assoc, length-append}
-use Rattle.iim_c.proofs.Words.{length-map, flat_map, Split, SplitsTicket, split_told, four, wide, ticket_name, phase_octets, fields_octets, number_octets}
-use Rattle.iim_c.proofs.Words.{text_octets, StandAt}
+use Rattle.iim_c.proofs.Words.{◌≡◌, ℕ, ◌+◌, List, [], ◌∷◌, ◌++◌, ◌-◌, length, map, get_or, refl, ap, sym, ◌∙◌, arith, append_assoc, length-append, length-map, flat_map, Split, SplitsTicket, split_told, four, wide, ticket_name, phase_octets, fields_octets, number_octets, text_octets, StandAt}
 use Rattle.iim_places.specs.declared.ticket.split.TicketParts.{TicketParts}
 use Rattle.iim_places.proofs.AtPlaces.{texts_seven}
-use Rattle.iim_c.specs.Format.TicketAnswers.{IimSpan}
+use Rattle.iim_c.specs.Format.Tickets.{IimSpan}
 use Rattle.iim_c.proofs.TicketFields.{stands_after}
 use Rattle.iim_c.proofs.header.message_in.Goals as goal
 

@@ -36,6 +36,9 @@ pub returns-clause-err : goal.returns-clause-err
 returns-clause-err g c =
     let rows : List AuditRow = c.args.report.now in
     let before = rw (take_all c.rows.index rows (omega (arith, ap length c.rows-index-end.ensures, c.rows-test.false))) at c.rows.invariant in
-    IfErr-weaker c.add_last.result _ _ (λ fault unadded. (unadded.0, rw (c.as_slice-2.ensures, c.last_line.ensures) at (cut_on g.W.Target.state
-    c.texts_join.ensures c.args.output.now c.rows.output c.add_last.new.output (lines_from 1 rows) c.as_slice-2.result.now before unadded.1)))
+    IfErr-weaker c.add_last.result _ _ (λ fault unadded. (
+      unadded.0,
+      rw (c.as_slice-2.ensures, c.last_line.ensures) at (cut_on g.W.Target.state
+          c.texts_join.ensures c.args.output.now c.rows.output c.add_last.new.output (lines_from 1 rows) c.as_slice-2.result.now before unadded.1),
+    ))
     c.add_last.ensures.err

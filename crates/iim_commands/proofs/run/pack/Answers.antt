@@ -1,5 +1,4 @@
-use Rattle.iim_commands.proofs.Words.{◌≡◌, ℕ, Result, Ok, Err, IfOk, IfErr, OnErr, inl, inr, Device, devices, status_failed, Complained, EndsPacking}
-use Rattle.iim_commands.proofs.Words.{Answered, Asked, IsUnanswered, asked, CommandFault}
+use Rattle.iim_commands.proofs.Words.{◌≡◌, ℕ, Result, Ok, Err, IfOk, IfErr, OnErr, inl, inr, Device, devices, status_failed, Complained, EndsPacking, Answered, Asked, IsUnanswered, asked, CommandFault}
 use Rattle.iim_output.specs.declared.fault.CommandFault.TheVariants.{CannotRead, CannotWrite, OutOfMemory}
 use Rattle.iim_commands.proofs.run.pack.Goals as goal
 

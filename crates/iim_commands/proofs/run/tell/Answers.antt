@@ -1,5 +1,5 @@
 use Rattle.iim_commands.proofs.Words.{◌≡◌, IfOk, IfErr, ap, sym, inl, inr, subst, subst₂, Device, in_line, IsUnnarrated, Narrated}
-use Rattle.wire_story.specs.States.Writing.{device_of}
+use Rattle.wire_story.specs.States.Reading.{device_of}
 use Rattle.iim_commands.proofs.Runs.{begun, ends}
 use Rattle.iim_commands.proofs.run.tell.Goals as goal
 

@@ -2,7 +2,7 @@ use Rattle.std.proofs.Common.{[], List, ℕ, Option, None, Some, sym, inl, inr, 
 use Rattle.std.proofs.lemmas.List.{append-nil}
 use Rattle.std.specs.Io.KnownBytes.{Keeps, Consumes}
 use Rattle.iim_dataset.specs.States.Devices.{Device, Broke, BrokeFor, Missed, HasGiven, MissedAfter}
-use Rattle.iim_dataset.specs.HandedIn.{consumes_consumes, consumes_none}
+use Rattle.iim_dataset.specs.Steps.{consumes_consumes, consumes_none}
 use Rattle.iim_dataset.specs.declared.device.IoFault.{IoFault}
 use Rattle.iim_dataset.specs.declared.device.IoFault.TheVariants.{Interrupted, Failed}
 use Rattle.iim_dataset.proofs.DeviceLaws.{missed_later}

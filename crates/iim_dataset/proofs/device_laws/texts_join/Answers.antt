@@ -2,7 +2,7 @@ use Rattle.std.proofs.Common.{arith, length-append}
 use Rattle.std.proofs.Math.Seq.{take-append-add}
 use Rattle.iim_dataset.proofs.DeviceLaws.{broke_later}
 use Rattle.iim_dataset.proofs.device_laws.texts_join.Goals as goal
-use Rattle.iim_dataset.specs.HandedIn.{appends_joined, appends_nothing}
+use Rattle.iim_dataset.specs.Steps.{appends_joined, appends_nothing}
 
 pub returns : goal.returns
 returns c = record {

@@ -1,7 +1,7 @@
 use Rattle.std.proofs.Common.{◌-◌, ◌<◌, [], ◌∷◌, ◌++◌, length, take, slice_index, map, arith}
 use Rattle.std.proofs.lemmas.List.{take-take, length-take-le, get_or-take}
 use Rattle.std.proofs.Math.Seq.{take-length}
-use Rattle.iim_dataset.specs.States.Events.{DataOctet, DatasetEnd}
+use Rattle.iim_dataset.specs.States.Reading.{DataOctet, DatasetEnd}
 use Rattle.iim_dataset.proofs.Places.{data_on, data_end}
 use Rattle.iim_dataset.proofs.Stopping.{after_end, data_stops, end_stops, stopped_at}
 use Rattle.iim_dataset.proofs.piece.take_data.Goals as goal

@@ -1,5 +1,5 @@
 use Rattle.std.proofs.Common.{◌-◌, ◌≤◌, length, take}
-use Rattle.iim_dataset.specs.States.Places.{IsPlace, TellsSink, to_come}
+use Rattle.iim_dataset.specs.States.Reading.{IsPlace, TellsSink, to_come}
 use Rattle.iim_dataset.proofs.piece.take_piece.Given as goal
 
 -- the octets so far have led here, and the sink was told what they completed

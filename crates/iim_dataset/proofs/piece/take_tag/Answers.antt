@@ -1,6 +1,6 @@
 use Rattle.std.proofs.Common.{◌≡◌, ◌+◌, ◌-◌, ◌<◌, [], ◌++◌, length, take, ap, arith, length-append}
 use Rattle.std.proofs.Math.Seq.{take-length}
-use Rattle.iim_dataset.specs.TagEnds.{head_events}
+use Rattle.iim_dataset.specs.Steps.{head_events}
 use Rattle.iim_dataset.specs.declared.place.DatasetPlace.TheVariants.{Tag}
 use Rattle.iim_dataset.proofs.Places.{tag_on, head_leads}
 use Rattle.iim_dataset.proofs.HeldTags.{begun_length, ends, after_held, refused_at}

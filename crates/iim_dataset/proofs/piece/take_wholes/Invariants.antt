@@ -1,5 +1,5 @@
 use Rattle.std.proofs.Common.{◌≡◌, ◌-◌, ◌≤◌, length, take, None}
-use Rattle.iim_dataset.specs.States.Places.{TellsSink, between}
+use Rattle.iim_dataset.specs.States.Reading.{TellsSink, between}
 use Rattle.iim_dataset.proofs.piece.take_wholes.Given as goal
 
 -- whole datasets so far, of which the sink was told

@@ -1,6 +1,6 @@
 use Rattle.std.proofs.Common.{◌≡◌, ◌-◌, ◌≤◌, true, length, take}
 use Rattle.std.specs.List.{list_all}
-use Rattle.iim_dataset.specs.Format.Shown.{is_plain}
+use Rattle.iim_dataset.specs.Format.Datasets.{is_plain}
 use Rattle.iim_dataset.proofs.shown.plain_run.Given as goal
 
 abbrev pub invariant-loop-at : goal.invariant-loop-at

@@ -1,5 +1,5 @@
 use Rattle.std.proofs.Common.{◌≡◌, ◌++◌, length}
-use Rattle.iim_dataset.specs.Format.Shown.{shown}
+use Rattle.iim_dataset.specs.Format.Datasets.{shown}
 use Rattle.iim_dataset.proofs.shown.push_shown.Given as goal
 
 -- what is there and the rest, shown, are what there was and all, shown

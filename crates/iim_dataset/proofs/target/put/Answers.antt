@@ -2,7 +2,7 @@ use Rattle.std.proofs.Common.{◌<◌, take, drop, arith, length-take, length-dr
 use Rattle.std.proofs.lemmas.List.{take_rest}
 use Rattle.std.proofs.Math.Seq.{take-add}
 use Rattle.iim_dataset.proofs.target.put.Goals as goal
-use Rattle.iim_dataset.specs.HandedIn.{appends_joined}
+use Rattle.iim_dataset.specs.Steps.{appends_joined}
 
 pub loop-at-preserved : goal.loop-at-preserved
 loop-at-preserved g c =

@@ -1,5 +1,4 @@
-use Rattle.iim_listing.proofs.Words.{rules, ◌≡◌, ◌+◌, ℕ, List, [], ◌++◌, append-nil, refl, sym, arith, in_line, max_envelopes, Whole, RefusedBy, TooMany}
-use Rattle.iim_listing.proofs.Words.{OutOfMemory, put_nothing}
+use Rattle.iim_listing.proofs.Words.{rules, ◌≡◌, ◌+◌, ℕ, List, [], ◌++◌, append-nil, refl, sym, arith, in_line, max_envelopes, Whole, RefusedBy, TooMany, OutOfMemory, put_nothing}
 use Rattle.iim_dataset.proofs.Lists.{handed_on}
 use Rattle.iim_listing.proofs.Listings.{ends_refused, failed, left_of, none_left, listed, listed_more, listed_out, starved, unended, unsaid_of}
 use Rattle.iim_listing.proofs.list.list_next.Goals as goal

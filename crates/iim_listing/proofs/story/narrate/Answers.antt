@@ -1,5 +1,5 @@
 use Rattle.iim_listing.proofs.Words.{rules, IfErr, ap, ◌∙◌, Device, in_line, IsUnnarrated, OutOfMemory}
-use Rattle.wire_story.specs.States.Writing.{device_of}
+use Rattle.wire_story.specs.States.Reading.{device_of}
 use Rattle.iim_listing.proofs.Narration.{nothing_told}
 use Rattle.iim_listing.proofs.Narrators.{between}
 use Rattle.iim_listing.proofs.story.narrate.Goals as goal

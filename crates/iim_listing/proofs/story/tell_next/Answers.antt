@@ -1,8 +1,6 @@
-use Rattle.iim_listing.proofs.Words.{rules, ◌≡◌, ◌+◌, [], length, append-nil, inr, refl, sym, ap, ◌∙◌, arith, in_line, refused_line, max_envelopes}
-use Rattle.iim_listing.proofs.Words.{accepted_line, Device, Narrator, Whole, RefusedBy, TooMany, EnvelopeHasCome, TellsOn, text_of, IsTelling, no_text}
+use Rattle.iim_listing.proofs.Words.{rules, ◌≡◌, ◌+◌, [], length, append-nil, inr, refl, sym, ap, ◌∙◌, arith, in_line, refused_line, max_envelopes, accepted_line, Device, Narrator, Whole, RefusedBy, TooMany, EnvelopeHasCome, TellsOn, text_of, IsTelling, no_text}
 use Rattle.iim_dataset.proofs.Lists.{handed_on}
-use Rattle.iim_listing.proofs.Narration.{HasBegun, envelope_begun, has_begun, narrated, narrated_more, refused_begun, settled_out, text_refused}
-use Rattle.iim_listing.proofs.Narration.{unended, unfed, untold}
+use Rattle.iim_listing.proofs.Narration.{HasBegun, envelope_begun, has_begun, narrated, narrated_more, refused_begun, settled_out, text_refused, unended, unfed, untold}
 use Rattle.iim_listing.proofs.Listings.{ends_refused, left_of, none_left}
 use Rattle.iim_listing.proofs.story.tell_next.Given.{Over}
 use Rattle.iim_listing.proofs.story.tell_next.Goals.{In-Envelope}

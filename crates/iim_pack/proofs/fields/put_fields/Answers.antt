@@ -1,5 +1,4 @@
-use Rattle.iim_pack.proofs.Words.{◌≡◌, ℕ, ◌+◌, List, [], ◌∷◌, ◌++◌, length, sym, ap, subst, ◌∙◌, arith, append_assoc, length-append, Dataset}
-use Rattle.iim_pack.proofs.Words.{canonical_dataset, canonical_stream, Wrote, Stopped, rest_of}
+use Rattle.iim_pack.proofs.Words.{◌≡◌, ℕ, ◌+◌, List, [], ◌∷◌, ◌++◌, length, sym, ap, subst, ◌∙◌, arith, append_assoc, length-append, Dataset, canonical_dataset, canonical_stream, Wrote, Stopped, rest_of}
 use Rattle.iim_pack.proofs.FieldsOut.{stream_one, front_small, part_small, part_stopped}
 use Rattle.iim_pack.proofs.fields.put_fields.Goals as goal
 

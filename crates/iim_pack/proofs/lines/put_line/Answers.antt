@@ -1,5 +1,4 @@
-use Rattle.iim_pack.proofs.Words.{◌≡◌, ℕ, ◌+◌, ◌≤◌, Bool, true, false, None, List, [], ◌∷◌, length, map, ap, ◌∙◌, arith, on_ok_weaker, on_err_weaker, most_of}
-use Rattle.iim_pack.proofs.Words.{total_of, Device, IsLine, LineOctet, LineEnd, packed_events, line_packed, Packing, text_cause, line_end_cause}
+use Rattle.iim_pack.proofs.Words.{◌≡◌, ℕ, ◌+◌, ◌≤◌, Bool, true, false, None, List, [], ◌∷◌, length, map, ap, ◌∙◌, arith, on_ok_weaker, on_err_weaker, most_of, total_of, Device, IsLine, LineOctet, LineEnd, packed_events, line_packed, Packing, text_cause, line_end_cause}
 use Rattle.iim_pack.specs.States.Packing.{Lengthens}
 use Rattle.iim_pack.specs.Steps.{line_events}
 use Rattle.iim_pack.proofs.Goings.{of_none}

@@ -1,6 +1,4 @@
-use Rattle.iim_pack_script.proofs.Words.{◌≡◌, ℕ, ◌+◌, ◌≤◌, List, [], ◌∷◌, None, length, map, ap, arith, on_ok_weaker, on_err_weaker, most_of, total_of}
-use Rattle.iim_pack_script.proofs.Words.{LineOctet, LineEnd, line_packed, Lengthens, BreaksOff, ContinuesWith, text_cause, line_end_cause, of_none, leads_on}
-use Rattle.iim_pack_script.proofs.Words.{breaks_later, breaks_before, may_text, may_end_line}
+use Rattle.iim_pack_script.proofs.Words.{◌≡◌, ℕ, ◌+◌, ◌≤◌, List, [], ◌∷◌, None, length, map, ap, arith, on_ok_weaker, on_err_weaker, most_of, total_of, LineOctet, LineEnd, line_packed, Lengthens, BreaksOff, ContinuesWith, text_cause, line_end_cause, of_none, leads_on, breaks_later, breaks_before, may_text, may_end_line}
 use Rattle.iim_pack_script.proofs.text.put_line.Given.{Over}
 use Rattle.iim_pack_script.proofs.text.put_line.Goals.{In-Ok}
 use Rattle.iim_pack_script.proofs.text.put_line.Goals as goal

@@ -1,6 +1,4 @@
-use Rattle.iim_pack_script.proofs.Words.{◌≡◌, ℕ, ◌+◌, ◌≤◌, List, [], ◌∷◌, ◌++◌, None, length, map, refl, sym, ◌∙◌, append_assoc, on_ok_weaker, on_err_weaker}
-use Rattle.iim_pack_script.proofs.Words.{most_of, total_of, StoryEvent, LineOctet, LineEnd, events_of_lines, text_lines, Lengthens, BreaksOff, ContinuesWith}
-use Rattle.iim_pack_script.proofs.Words.{text_cause, of_none, goes_nowhere, leads_on, breaks_later, breaks_before, may_text}
+use Rattle.iim_pack_script.proofs.Words.{◌≡◌, ℕ, ◌+◌, ◌≤◌, List, [], ◌∷◌, ◌++◌, None, length, map, refl, sym, ◌∙◌, append_assoc, on_ok_weaker, on_err_weaker, most_of, total_of, StoryEvent, LineOctet, LineEnd, events_of_lines, text_lines, Lengthens, BreaksOff, ContinuesWith, text_cause, of_none, goes_nowhere, leads_on, breaks_later, breaks_before, may_text}
 use Rattle.iim_pack_script.proofs.Lines.{first_is, last_is, parts_more, parts_last, fits_line, fits_last}
 use Rattle.iim_pack_script.proofs.text.put_text.Given.{Over}
 use Rattle.iim_pack_script.proofs.text.put_text.Goals.{In_default}

@@ -1,5 +1,5 @@
 use Rattle.iim_places.specs.Laws.{RefusalsTellTheLowestCause, RefusedOctetsWereOpen}
-use Rattle.iim_places.specs.States.ByLayers.{PlacesArePossibleByLayers}
+use Rattle.iim_places.specs.States.Possible.{PlacesArePossibleByLayers}
 use Rattle.iim_places.proofs.Frames.{no_envelope_is_empty, one_value, no_others, framed_of}
 use Rattle.iim_places.proofs.Bounds.{bounded_octets, envelope_bounded}
 use Rattle.iim_places.proofs.Lowest.{found_by_tests, told_by_table}

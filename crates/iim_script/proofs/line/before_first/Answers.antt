@@ -1,5 +1,4 @@
-use Rattle.iim_script.proofs.Words.{◌≡◌, ◌<◌, ◌==◌, ℕ, List, length, get_or, Option, Some, None, sym, ◌∙◌, arith, position_or_len, false_from_ne_true}
-use Rattle.iim_script.proofs.Words.{position_or_len_is}
+use Rattle.iim_script.proofs.Words.{◌≡◌, ◌<◌, ◌==◌, ℕ, List, length, get_or, Option, Some, None, sym, ◌∙◌, arith, position_or_len, false_from_ne_true, position_or_len_is}
 use Rattle.std.specs.Option.{unwrap_or}
 use Rattle.memchr.specs.Find.{IsFirstByte, is_byte}
 use Rattle.iim_script.proofs.line.before_first.Goals as goal

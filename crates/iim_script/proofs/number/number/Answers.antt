@@ -1,5 +1,5 @@
 use Rattle.std.proofs.Common.{ℕ, List, IfNone, sym, subst}
-use Rattle.iim_script.specs.Format.Forms.{TellsNumber}
+use Rattle.iim_script.specs.Format.Scripts.{TellsNumber}
 use Rattle.iim_script.proofs.Texts.{three_of}
 use Rattle.iim_script.proofs.number.number.Goals as goal
 

@@ -1,6 +1,6 @@
 use Rattle.iim_script.proofs.Words.{ℕ, List, ◌++◌, take, ap, sym, ◌∙◌, arith, list_all}
 use Rattle.std.proofs.lemmas.List.{take_all}
-use Rattle.iim_dataset.specs.Format.Shown.{is_plain}
+use Rattle.iim_dataset.specs.Format.Datasets.{is_plain}
 use Rattle.iim_script.proofs.Put.{all_plain}
 use Rattle.iim_script.proofs.places.put_sixteen.Goals as goal
 

@@ -1,5 +1,5 @@
 use Rattle.std.proofs.Common.{sym, ◌∙◌, arith}
-use Rattle.iim_dataset.specs.Format.Shown.{is_plain}
+use Rattle.iim_dataset.specs.Format.Datasets.{is_plain}
 use Rattle.iim_tables.proofs.LaneLemmas.{part_fails, front_fails, last_pass}
 use Rattle.iim_script.proofs.plain.are_plain.Goals as goal
 

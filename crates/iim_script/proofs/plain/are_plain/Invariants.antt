@@ -1,5 +1,5 @@
 use Rattle.iim_script.proofs.Words.{◌≡◌, ◌-◌, ◌≤◌, true, length, take, list_all}
-use Rattle.iim_dataset.specs.Format.Shown.{is_plain}
+use Rattle.iim_dataset.specs.Format.Datasets.{is_plain}
 use Rattle.iim_script.proofs.plain.are_plain.Given as goal
 
 abbrev pub invariant-loop-at : goal.invariant-loop-at

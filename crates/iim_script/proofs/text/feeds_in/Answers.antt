@@ -1,5 +1,5 @@
 use Rattle.iim_script.proofs.Words.{◌≡◌, ◌==◌, ℕ, List, count_by, take, subst, arith, IsTrue, list_all, take_rest}
-use Rattle.iim_script.specs.Plain.{is_plain}
+use Rattle.iim_script.specs.Steps.{is_plain}
 use Rattle.iim_script.proofs.Plains.{plain_more, count_next}
 use Rattle.iim_script.proofs.text.feeds_in.Goals as goal
 

@@ -1,5 +1,5 @@
 use Rattle.iim_script.proofs.Words.{◌≡◌, ◌==◌, ◌≤◌, ◌+◌, ◌-◌, length, count_by, take, drop, IsTrue, list_all}
-use Rattle.iim_script.specs.Plain.{is_plain}
+use Rattle.iim_script.specs.Steps.{is_plain}
 use Rattle.iim_script.proofs.text.feeds_in.Given as goal
 
 abbrev pub invariant-loop-at : goal.invariant-loop-at

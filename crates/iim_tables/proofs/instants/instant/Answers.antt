@@ -1,7 +1,6 @@
 use Rattle.std.proofs.Common.{rules, IsTrue}
 use Rattle.iim_tables.proofs.InstantLemmas.{clocks, same_instant, ok-some, some-ok, ok-if}
-use Rattle.iim_tables.specs.Format.Dates.{is_date}
-use Rattle.iim_tables.specs.Format.Instants.{is_time}
+use Rattle.iim_tables.specs.Format.Dates.{is_date, is_time}
 use Rattle.iim_tables.proofs.instants.instant.Goals as goal
 
 pub clock_of-clock-requires : goal.clock_of-clock-requires

@@ -1,5 +1,4 @@
-use Rattle.iim_unpack.proofs.Words.{Bor, HasFedPieces, IsTurnedDown, List, [], arith, drop, get_or, inl, limits_in, refl, stream_of, subst, take, take_all, ℕ}
-use Rattle.iim_unpack.proofs.Words.{◌+◌, ◌∙◌}
+use Rattle.iim_unpack.proofs.Words.{Bor, HasFedPieces, IsTurnedDown, List, [], arith, drop, get_or, inl, limits_in, refl, stream_of, subst, take, take_all, ℕ, ◌+◌, ◌∙◌}
 use Rattle.iim_dataset.proofs.Lists.{handed_on}
 use Rattle.iim_unpack.proofs.Intakes.{adds_none}
 use Rattle.iim_unpack.proofs.PieceLemmas.{AreLow, feeds_on, still_taking, stream_rest, stream_step, turned_down}

@@ -1,4 +1,4 @@
-use Rattle.iim_fields.specs.States.Checks.{TakesHead}
+use Rattle.iim_fields.specs.States.Standing.{TakesHead}
 use Rattle.vectors.proofs.records.check_datasets.Given as goal
 
 abbrev pub invariant-loop : goal.invariant-loop

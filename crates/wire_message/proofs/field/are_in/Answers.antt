@@ -2,7 +2,7 @@ use Rattle.std.proofs.Common.{rules, tests, ◌≡◌, sym, ◌∙◌}
 use Rattle.std.specs.List.{list_all}
 use Rattle.std.proofs.lemmas.Iterator.{YieldsList-from_slice}
 use Rattle.std.proofs.lemmas.Iterator.Search.{all_from_yields_List}
-use Rattle.wire_message.specs.Classes.{is_in_class}
+use Rattle.wire_message.specs.Kept.{is_in_class}
 use Rattle.wire_message.proofs.field.are_in.Goals as goal
 
 pub returns : goal.returns

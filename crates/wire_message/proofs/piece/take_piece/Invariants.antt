@@ -1,6 +1,5 @@
 use Rattle.std.proofs.Common.{◌≡◌, ◌≤◌, ◌-◌, take, length, Some}
-use Rattle.wire_message.specs.States.SoFar.{IsPlace}
-use Rattle.wire_message.specs.States.Reading.{TellsStory}
+use Rattle.wire_message.specs.States.Reading.{IsPlace, TellsStory}
 use Rattle.wire_message.proofs.piece.take_piece.Given as goal
 
 -- the octets so far have led here, and the sink was told what they deliver

@@ -1,6 +1,6 @@
 use Rattle.std.proofs.Common.{List, ℕ, subst, sym, arith, length-drop}
 use Rattle.std.proofs.lemmas.List.{take_rest}
-use Rattle.wire_story.specs.Marking.{StartsLineEnd}
+use Rattle.wire_story.specs.Steps.{StartsLineEnd}
 use Rattle.wire_story.proofs.Fronts.{takes_both, refuses_later}
 use Rattle.wire_story.proofs.piece.take_line.Goals as goal
 

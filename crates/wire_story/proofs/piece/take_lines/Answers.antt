@@ -1,6 +1,6 @@
 use Rattle.std.proofs.Common.{◌≡◌, ◌+◌, List, ℕ, Some, refl, subst, ◌∙◌, arith, drop, ap, length, length-drop}
 use Rattle.std.proofs.lemmas.List.{take_rest, drop-drop}
-use Rattle.wire_story.specs.Marking.{AreMarks}
+use Rattle.wire_story.specs.Steps.{AreMarks}
 use Rattle.wire_story.proofs.Pieces.{leads_on_none}
 use Rattle.wire_story.proofs.Fronts.{takes_both, refuses_later}
 use Rattle.wire_story.proofs.piece.take_lines.Goals as goal

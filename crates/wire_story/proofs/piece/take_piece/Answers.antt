@@ -1,6 +1,6 @@
 use Rattle.std.proofs.Common.{ℕ, List, Some, refl, subst, ◌∙◌, arith, drop, ap, length, length-drop}
 use Rattle.std.proofs.lemmas.List.{take_all, take_rest, drop-drop}
-use Rattle.wire_story.specs.Marking.{AreMarks}
+use Rattle.wire_story.specs.Steps.{AreMarks}
 use Rattle.wire_story.proofs.Pieces.{leads_on_none}
 use Rattle.wire_story.proofs.Marked.{no_marks}
 use Rattle.wire_story.proofs.Fronts.{takes_both, refuses_later}

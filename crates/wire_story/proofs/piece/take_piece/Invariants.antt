@@ -1,6 +1,6 @@
 use Rattle.std.proofs.Common.{◌≤◌, ◌-◌, take, drop, length, Some}
 use Rattle.wire_story.specs.States.Reading.{TakesPiece}
-use Rattle.wire_story.specs.Marking.{AreMarks}
+use Rattle.wire_story.specs.Steps.{AreMarks}
 use Rattle.wire_story.proofs.piece.take_piece.Given as goal
 
 -- the octets so far were taken

@@ -1,7 +1,6 @@
 use Rattle.std.proofs.Common.{◌+◌, ◌≤◌, List, take, Some, refl, subst, sym, ap, ◌∙◌, arith}
 use Rattle.std.proofs.lemmas.List.{length-take-le, take-take}
-use Rattle.wire_story.specs.Format.Texts.{IsLine, is_line_octet}
-use Rattle.wire_story.specs.Format.Delivery.{StoryEvent, delivered}
+use Rattle.wire_story.specs.Format.Texts.{IsLine, is_line_octet, StoryEvent, delivered}
 use Rattle.wire_story.proofs.Spans.{Are-take}
 use Rattle.wire_story.proofs.Pieces.{leads_on, leads_on_none, held_in_line, refuses_in_line}
 use Rattle.wire_story.proofs.Told.{delivered_line}

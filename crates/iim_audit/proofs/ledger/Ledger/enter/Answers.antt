@@ -1,6 +1,5 @@
-use Rattle.iim_audit.proofs.Words.{◌≡◌, ◌+◌, ◌++◌, ◌∷◌, [], length, None, ap, sym, subst, arith, rules, length_push, map_push, row_with, HaveShortIds, ids_of}
-use Rattle.iim_audit.proofs.Words.{place_of, Value}
-use Rattle.iim_audit.specs.Format.Rows.{AuditRow}
+use Rattle.iim_audit.proofs.Words.{◌≡◌, ◌+◌, ◌++◌, ◌∷◌, [], length, None, ap, sym, subst, arith, rules, length_push, map_push, row_with, HaveShortIds, ids_of, place_of, Value}
+use Rattle.iim_audit.specs.Format.{AuditRow}
 use Rattle.iim_audit.proofs.Firsts.{places_push}
 use Rattle.iim_audit.proofs.Lines.{length_ids, short_push}
 use Rattle.iim_audit.proofs.ledger.Ledger.enter.Goals as goal

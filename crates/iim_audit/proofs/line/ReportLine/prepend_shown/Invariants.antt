@@ -1,5 +1,5 @@
 use Rattle.iim_audit.proofs.Words.{◌≡◌, ◌+◌, ◌*◌, ◌≤◌, ◌++◌, length, drop}
-use Rattle.iim_dataset.specs.Format.Shown.{shown}
+use Rattle.iim_dataset.specs.Format.Datasets.{shown}
 use Rattle.iim_audit.proofs.line.ReportLine.prepend_shown.Given as goal
 
 -- the octets that are not left were added

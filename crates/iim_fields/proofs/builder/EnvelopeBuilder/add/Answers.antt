@@ -53,5 +53,11 @@ invariant_of-self c =
     let checking = checking_of d c.self.invariant keeps c.copied-check.ensures c.in_ok-head.ensures.stands in
     building_more c.len-kept.result c.len.result d c.self.invariant keeps c.len-kept.ensures c.len.ensures (sym c.in_default.is ∙ c.room_fault.ensures)
     (c.in_ok-value.ensures.stands (fields_of c.self.inside.store) (head_of d) checking).0
-    (omega (arith, c.self.invariant.room, c.take.ensures.capacity, ap (λ v. vec_capacity v) c.take.ensures.entries, ap (λ v. v.room) c.keep.ensures.octets,
-    c.keep.ensures.capacity)) (stored c)
+    (omega (
+      arith,
+      c.self.invariant.room,
+      c.take.ensures.capacity,
+      ap (λ v. vec_capacity v) c.take.ensures.entries,
+      ap (λ v. v.room) c.keep.ensures.octets,
+      c.keep.ensures.capacity,
+    )) (stored c)

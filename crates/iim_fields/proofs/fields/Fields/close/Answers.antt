@@ -1,7 +1,6 @@
 use Rattle.std.proofs.Common.{List, ℕ, ◌++◌, sym, ap, refl, ◌∙◌}
 use Rattle.iim_fields.proofs.Words.{handed_on, Dataset, Head, data_of, IsValueFault, StandsIn}
-use Rattle.iim_fields.proofs.Stand.{ends_within, closed_subfile, closes_in, stands_closed, refused_value, somewhere_closed, kept_in_store, reading_kept}
-use Rattle.iim_fields.proofs.Stand.{reading_between, entry_room, in_store_alone}
+use Rattle.iim_fields.proofs.Stand.{ends_within, closed_subfile, closes_in, stands_closed, refused_value, somewhere_closed, kept_in_store, reading_kept, reading_between, entry_room, in_store_alone}
 use Rattle.iim_fields.proofs.Stand.Kept.{Passed}
 use Rattle.iim_fields.proofs.fields.Fields.close.Goals as goal
 

@@ -53,5 +53,11 @@ invariant_of-self-2 c =
     let between = rw (← c.self.view_is) at c.requires.between in
     let d = data_of c.args.head c.args.octets.now in
     reading_whole d c.self.invariant between c.whole.ensures.between
-    (omega (arith, c.self.invariant.room, c.take.ensures.capacity, ap (λ v. vec_capacity v) c.take.ensures.entries, ap (λ v. v.room) c.keep.ensures.octets,
-    c.keep.ensures.capacity)) (store_is c.keep.new.self _ [] (stored c)) (stands c _ refl)
+    (omega (
+      arith,
+      c.self.invariant.room,
+      c.take.ensures.capacity,
+      ap (λ v. vec_capacity v) c.take.ensures.entries,
+      ap (λ v. v.room) c.keep.ensures.octets,
+      c.keep.ensures.capacity,
+    )) (store_is c.keep.new.self _ [] (stored c)) (stands c _ refl)

@@ -1,8 +1,8 @@
 use Rattle.std.proofs.Common.{◌≡◌, ℕ, List, ◌++◌, append_assoc}
 use Rattle.std.specs.List.{flat_map}
 use Rattle.std.proofs.lemmas.Result.{on_ok_weaker}
-use Rattle.iim_script.specs.Format.Printed.{field_line, message_line, trailer_line}
-use Rattle.iim_listing.specs.Format.Texts.{number_line, sizes_line, shown_text}
+use Rattle.iim_script.specs.Format.Scripts.{field_line, message_line, trailer_line}
+use Rattle.iim_listing.specs.Format.{number_line, sizes_line, shown_text}
 use Rattle.iim_listing.proofs.show.ShowEnvelopeLines.push_text.Goals as goal
 
 -- five parts, one after another

@@ -1,5 +1,5 @@
 use Rattle.std.proofs.Common.{rules, [], refl}
-use Rattle.iim_dataset.specs.Format.Counts.{Rose}
+use Rattle.iim_dataset.specs.Format.Octets.{Rose}
 use Rattle.iim_output.proofs.Holding.{lets_out, puts_of_put, puts_of_stuck, stays_stuck}
 use Rattle.iim_output.proofs.block_writer.BlockWriter.flush.Goals as goal
 

@@ -1,5 +1,5 @@
 use Rattle.std.proofs.Common.{rules, take, refl}
-use Rattle.iim_dataset.specs.Format.Counts.{Rose}
+use Rattle.iim_dataset.specs.Format.Octets.{Rose}
 use Rattle.iim_output.proofs.Holding.{breaks_through, passes_through, puts_of_put, puts_of_stuck}
 use Rattle.iim_output.proofs.block_writer.BlockWriter.put_first.Goals as goal
 

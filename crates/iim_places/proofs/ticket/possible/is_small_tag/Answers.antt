@@ -14,5 +14,5 @@ returns c =
     let held = c.args.held.now in (
       (λ is. small_tag held c.requires (λ long form. leb-true (get_or held 4 0) 4 is)),
       (λ b. let more = λ (more : 4 < get_or held 4 0). no_small_tag held (omega (arith, c.if-held-lt5.false)) c.if-held.false more b in
-      le-leb (get_or held 4 0) 4 (omega (arith, more))),
+          le-leb (get_or held 4 0) 4 (omega (arith, more))),
     )

@@ -1,9 +1,8 @@
 use Rattle.iim_places.specs.States.Readers.{AreAt}
 use Rattle.iim_places.specs.Format.TicketForm.{Split}
-use Rattle.iim_places.specs.States.TicketsTold.{split_told}
+use Rattle.iim_places.specs.States.Restored.{split_told}
 use Rattle.iim_places.proofs.PlacesTold.{small_told}
-use Rattle.iim_places.proofs.ticket.possible.readers_at.Goals.{else-parts-eq-FIRST_VERSION-via-then-parts-eq-FIRST_VERSION+else-not-is_small}
-use Rattle.iim_places.proofs.ticket.possible.readers_at.Goals.{else-parts-eq-FIRST_VERSION-via-else-parts-eq-FIRST_VERSION}
+use Rattle.iim_places.proofs.ticket.possible.readers_at.Goals.{else-parts-eq-FIRST_VERSION-via-then-parts-eq-FIRST_VERSION+else-not-is_small, else-parts-eq-FIRST_VERSION-via-else-parts-eq-FIRST_VERSION}
 use Rattle.iim_places.proofs.ticket.possible.readers_at.Goals as goal
 
 pub returns-clause-some : goal.returns-clause-some

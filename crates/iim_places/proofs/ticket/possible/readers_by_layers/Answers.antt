@@ -1,6 +1,6 @@
 use Rattle.std.proofs.Common.{◌∙◌, arith}
 use Rattle.iim_places.proofs.Words.{numbers_told, Split}
-use Rattle.iim_places.specs.States.TicketsTold.{split_told}
+use Rattle.iim_places.specs.States.Restored.{split_told}
 use Rattle.wire_message.specs.declared.saved.MessagePart.TheVariants.{AfterEnd}
 use Rattle.iim_places.proofs.AtPlaces.{four_back}
 use Rattle.iim_places.proofs.Fitting.{part_told}

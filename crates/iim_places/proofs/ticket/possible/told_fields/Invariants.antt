@@ -1,5 +1,5 @@
 use Rattle.std.proofs.Common.{◌≡◌, ◌+◌, length}
-use Rattle.iim_fields.specs.Format.Faults.{joined}
+use Rattle.iim_fields.specs.Format.Causes.{joined}
 use Rattle.iim_places.proofs.ticket.possible.told_fields.Given as goal
 
 -- the octets of those that are left are to come

@@ -1,6 +1,6 @@
 use Rattle.std.proofs.Common.{sym, subst, ◌∙◌}
-use Rattle.iim_places.specs.States.ByLayers.{RecordsLive, head_of_numbers}
-use Rattle.iim_places.specs.States.TicketsTold.{phase_told}
+use Rattle.iim_places.specs.States.Possible.{RecordsLive, head_of_numbers}
+use Rattle.iim_places.specs.States.Restored.{phase_told}
 use Rattle.iim_places.specs.declared.ticket.split.TicketPhase.{TicketPhase}
 use Rattle.iim_places.proofs.AtPlaces.{lives_at}
 use Rattle.iim_places.proofs.ticket.readers.can_continue.Goals as goal

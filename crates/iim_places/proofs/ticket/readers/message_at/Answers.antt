@@ -1,5 +1,5 @@
 use Rattle.std.proofs.Common.{◌≡◌, true, false, sym, subst, ◌∙◌}
-use Rattle.wire_message.specs.States.Saved.{LeadsToSaved}
+use Rattle.wire_message.specs.States.Reading.{LeadsToSaved}
 use Rattle.iim_places.proofs.AtPlaces.{same_message, leads_saved}
 use Rattle.iim_places.proofs.ticket.readers.message_at.Goals as goal
 

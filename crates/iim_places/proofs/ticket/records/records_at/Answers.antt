@@ -1,6 +1,6 @@
 use Rattle.std.proofs.Common.{[], ◌∙◌}
 use Rattle.iim_places.proofs.Words.{are_ended}
-use Rattle.iim_places.specs.States.TicketsTold.{phase_told}
+use Rattle.iim_places.specs.States.Restored.{phase_told}
 use Rattle.iim_places.proofs.PlacesTold.{with_told, goes_told}
 use Rattle.iim_places.proofs.ticket.records.records_at.Goals as goal
 

@@ -1,5 +1,4 @@
-use Rattle.iim_places.proofs.Splitting.{past_phase, past_fields, past_numbers, past_taken, past_heads, no_fields, no_numbers_follow, no_taken, no_heads}
-use Rattle.iim_places.proofs.Splitting.{no_message}
+use Rattle.iim_places.proofs.Splitting.{past_phase, past_fields, past_numbers, past_taken, past_heads, no_fields, no_numbers_follow, no_taken, no_heads, no_message}
 use Rattle.iim_places.proofs.ticket.split.read_body.Goals as goal
 
 pub returns-in_err-fields-clause-none : goal.returns-in_err-fields-clause-none

@@ -1,6 +1,5 @@
 use Rattle.iim_unpack.proofs.Words.{Limits, arith, in_line, refl, subst, sym, ◌<◌, ◌∙◌}
-use Rattle.iim_unpack.proofs.Intakes.{done_of, end_of, fed_and_done, fed_and_ended, fed_and_faults, fed_few, fed_none, fed_then, more_of, raised_on, some_came}
-use Rattle.iim_unpack.proofs.Intakes.{somewhere}
+use Rattle.iim_unpack.proofs.Intakes.{done_of, end_of, fed_and_done, fed_and_ended, fed_and_faults, fed_few, fed_none, fed_then, more_of, raised_on, some_came, somewhere}
 use Rattle.iim_unpack.proofs.intake.Intake.feed_envelope.Goals as goal
 
 pub feeding-init : goal.feeding-init

@@ -4,9 +4,11 @@ use Rattle.iim_unpack.proofs.Closing.{admits_where, end_ends, end_went, spells_n
 use Rattle.iim_unpack.proofs.parts.Parts.whole_end.Goals as goal
 
 pub admits_number-requires-clause-spelled : goal.admits_number-requires-clause-spelled
-admits_number-requires-clause-spelled c =
-    (c.args.octets.now, spells_number c.requires.count c.number_of.ensures.exactly.0 c.in-Some.is c.in-Some.ensures.value
-    (λ i. omega (arith, c.type_inv.octets i)))
+admits_number-requires-clause-spelled c = (
+  c.args.octets.now,
+  spells_number c.requires.count c.number_of.ensures.exactly.0 c.in-Some.is c.in-Some.ensures.value
+      (λ i. omega (arith, c.type_inv.octets i)),
+)
 
 pub put_number-requires-clause-admitted : goal.put_number-requires-clause-admitted
 put_number-requires-clause-admitted c =

@@ -19,7 +19,7 @@ returns-in-Ok-clause-taken g c =
             few = c.accepts_subfile.ensures.few c.if-not-accepts_subfile.false;
           }) run (are_octets run (λ i. omega (arith, c.type_inv.octets i))) c.whole_subfile.ensures.bounds.limits c.in-Ok.ensures.told),
       takes_next 8 refl c.whole_subfile.ensures.between (c.whole_subfile.ensures.section c.if-not-whole_subfile.false ∙ c.requires.subfile) some
-      c.in-Ok.ensures.told.takes_calls,
+          c.in-Ok.ensures.told.takes_calls,
     )
 
 pub returns-in-Err-clause-stopped : goal.returns-in-Err-clause-stopped

@@ -1,7 +1,6 @@
-use Rattle.iim_unpack.proofs.Words.{HoldsFew, IsOctet, IsRefusedIn, IsUnpacking, None, Stands, Unpacking, [], ap, arith, false, has_ended, limits_in, refl}
-use Rattle.iim_unpack.proofs.Words.{refusal_at, slice_index, subst, sym, true, ℕ, ◌∙◌, ◌≡◌}
+use Rattle.iim_unpack.proofs.Words.{HoldsFew, IsOctet, IsRefusedIn, IsUnpacking, None, Stands, Unpacking, [], ap, arith, false, has_ended, limits_in, refl, refusal_at, slice_index, subst, sym, true, ℕ, ◌∙◌, ◌≡◌}
 use Rattle.iim_unpack.specs.States.Unpacking.{room_in}
-use Rattle.wire_story.specs.Format.Delivery as story
+use Rattle.wire_story.specs.Format.Texts as story
 use Rattle.iim_unpack.proofs.Held.{holds_few}
 use Rattle.iim_unpack.proofs.Feeding.{goes_done, goes_more, refused_in, sound_done, sound_more}
 use Rattle.iim_unpack.proofs.unpacker.Unpacker.feed.Given.{Over}
@@ -62,12 +61,12 @@ returns-in-Err-clause-refused g c =
 
 -- after the end of an envelope, and within one
 sound_ended : (g : Over) (c : Then-has_ended-2 g) → c.self.inside.refused ≡ None → IsUnpacking (record {
-      reader = c.advance.new.reader;
-      parts = c.advance.new.parts;
-      octets = c.raised-self-inside.result;
-      begun = c.begins-self-inside.result;
-      refused = c.self.inside.refused;
-    })
+  reader = c.advance.new.reader;
+  parts = c.advance.new.parts;
+  octets = c.raised-self-inside.result;
+  begun = c.begins-self-inside.result;
+  refused = c.self.inside.refused;
+})
 sound_ended g c none =
     let s = c.readers_tell_sizes.ensures c.advance.new.parts.object in
     sound_done c.lower_laws.ensures _ _ c.in-Ok.ensures.taken refl c.raised-self-inside.ensures c.begins-self-inside.ensures s.0
@@ -75,12 +74,12 @@ sound_ended g c none =
     (c.self.invariant none) (sym c.if-has_ended.ensures)
 
 sound_within : (g : Over) (c : Else-has_ended-2 g) → c.self.inside.refused ≡ None → IsUnpacking (record {
-      reader = c.advance.new.reader;
-      parts = c.advance.new.parts;
-      octets = c.raised-self-inside.result;
-      begun = c.begins-self-inside.result;
-      refused = c.self.inside.refused;
-    })
+  reader = c.advance.new.reader;
+  parts = c.advance.new.parts;
+  octets = c.raised-self-inside.result;
+  begun = c.begins-self-inside.result;
+  refused = c.self.inside.refused;
+})
 sound_within g c none =
     sound_more c.lower_laws.ensures _ _ c.in-Ok.ensures.taken refl c.raised-self-inside.ensures c.begins-self-inside.ensures (sym c.if-has_ended-2.ensures)
     (c.self.invariant none) (sym c.if-has_ended.ensures)

@@ -1,5 +1,4 @@
-use Rattle.iim_unpack.proofs.Words.{IsDoneWith, IsTicketOf, List, Stands, Unpacking, ap, arith, length, length-take-le, limits_in, no_some, not, refl, subst}
-use Rattle.iim_unpack.proofs.Words.{sym, take, ℕ, ◌*◌, ◌+◌, ◌∙◌, ◌≡◌, ◌≤◌, ◌⊎◌}
+use Rattle.iim_unpack.proofs.Words.{IsDoneWith, IsTicketOf, List, Stands, Unpacking, ap, arith, length, length-take-le, limits_in, no_some, not, refl, subst, sym, take, ℕ, ◌*◌, ◌+◌, ◌∙◌, ◌≡◌, ◌≤◌, ◌⊎◌}
 use Rattle.iim_unpack.specs.States.Restored.{HasTicketIn}
 use Rattle.iim_unpack.proofs.Held.{short_ticket, ticket_by}
 use Rattle.iim_unpack.proofs.unpacker.Unpacker.save_at.Goals as goal

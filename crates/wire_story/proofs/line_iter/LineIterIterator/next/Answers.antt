@@ -5,7 +5,7 @@ use Rattle.std.specs.Option.{option_copied, option_map, unwrap_or}
 use Rattle.std.proofs.lemmas.List.Splits.{slice_split_first, slice_split_none}
 use Rattle.std.proofs.lemmas.List.Sums.{fails_before_first}
 use Rattle.std.proofs.lemmas.List.Elements.{All-from_get_or}
-use Rattle.wire_story.specs.Joining.{lines_in}
+use Rattle.wire_story.specs.Steps.{lines_in}
 use Rattle.wire_story.proofs.line_iter.LineIterIterator.next.Goals as goal
 
 -- the first line, and those that are left after its LF

@@ -1,5 +1,5 @@
 use Rattle.std.proofs.lemmas.List.{take_more, map-append}
-use Rattle.wire_story.specs.SinkLaws.{counts_joined}
+use Rattle.wire_story.specs.Steps.{counts_joined}
 use Rattle.wire_story.proofs.word_count.WordCount.take_each.Goals as goal
 
 pub loop-octet-preserved : goal.loop-octet-preserved

@@ -1,6 +1,5 @@
 use Rattle.std.proofs.Common.{take, map}
-use Rattle.wire_story.specs.Format.Delivery.{LineOctet}
-use Rattle.wire_story.specs.Format.Words.{CountsWords}
+use Rattle.wire_story.specs.Format.Texts.{LineOctet, CountsWords}
 use Rattle.wire_story.proofs.word_count.WordCount.take_each.Given as goal
 
 -- the octets so far were counted

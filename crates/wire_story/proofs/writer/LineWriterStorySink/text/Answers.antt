@@ -1,5 +1,5 @@
 use Rattle.wire_story.proofs.writer.LineWriterStorySink.text.Goals as goal
-use Rattle.wire_story.specs.SinkLaws.{octets_of_line}
+use Rattle.wire_story.specs.Steps.{octets_of_line}
 
 pub returns-clause-ok : goal.returns-clause-ok
 returns-clause-ok g c = simp octets_of_line c.write.ensures.ok

@@ -1,6 +1,5 @@
 use Rattle.std.proofs.Common.{ap, ◌∙◌}
-use Rattle.iim_places.specs.FieldLaws.{held_once}
-use Rattle.iim_places.specs.TicketParts.{HoldsFields}
+use Rattle.iim_places.specs.TicketParts.{held_once, HoldsFields}
 use Rattle.iim_places.proofs.ticket.fields.TicketFields.again.Goals as goal
 
 pub returns : goal.returns

@@ -5,9 +5,12 @@ use Rattle.iim_unpack.proofs.parts.message.ToMessageObjectSink.close.Goals as go
 pub returns-in-Ok-clause-ok : goal.returns-in-Ok-clause-ok
 returns-in-Ok-clause-ok g c =
     let a = c.args.self.now in
-    let h = c.in-Ok.ensures in
-    (refl, refl, λ some. rw h.unchanged (tells_message_end g.S.StorySink.goes g.S.StorySink.failures a.message.now a.sink.now some
-    (g.met.S.StorySink.nothing a.sink.now) h.whole))
+    let h = c.in-Ok.ensures in (
+      refl,
+      refl,
+      λ some. rw h.unchanged (tells_message_end g.S.StorySink.goes g.S.StorySink.failures a.message.now a.sink.now some
+          (g.met.S.StorySink.nothing a.sink.now) h.whole),
+    )
 
 pub returns-in-Err-clause-stopped : goal.returns-in-Err-clause-stopped
 returns-in-Err-clause-stopped g c =

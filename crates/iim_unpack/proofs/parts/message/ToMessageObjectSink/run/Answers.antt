@@ -7,7 +7,7 @@ returns-then-is_empty-clause-ok g c = (
   refl,
   refl,
   λ some. tells_message_empty g.S.StorySink.goes g.S.StorySink.failures _ _ c.args.run.now c.if-is_empty.ensures some
-  (g.met.S.StorySink.nothing c.args.self.now.sink.now),
+      (g.met.S.StorySink.nothing c.args.self.now.sink.now),
 )
 
 pub returns-in-Ok-clause-ok : goal.returns-in-Ok-clause-ok

@@ -1,0 +1,290 @@
+-- What a ticket tells: its parts and where they stand, what is begun at its place, and which octets can come next.
+use Rattle.std.specs.Prelude.{◌≡◌, ℕ, ◌+◌, ◌≤◌, ◌⊎◌, Bool, false, List, [], ◌∷◌, length, get_or, take, drop, None, is_some, ◌≢◌, ◌-◌, ◌==◌, if◌then◌else◌, ◌++◌, ◌<◌, ◌/◌, ◌%◌, ◌↔◌, replicate, ⊤}
+use Rattle.std.specs.Option.{unwrap_or}
+use Rattle.std.specs.Int.{bit_at}
+use Rattle.iim_dataset.specs.Format.Datasets.{Dataset, SpellsTag, count_octets, head_of, Begun, InTag, InData, Reads}
+use Rattle.iim_places.specs.Format.TicketForm.{Split, SplitsTicket, IsFaultOf}
+use Rattle.iim_c.specs.Format.Answers.{status_answer, ticket_answer, IimAnswer}
+use Rattle.iim_c.specs.Format.Statuses as status
+use Rattle.iim_fields.specs.Format.Causes.{section_after}
+use Rattle.iim_places.specs.Format.Causes.{Token, AtOctet, AtHead, AtValue, begun_record, begun_number}
+use Rattle.iim_places.specs.Format.Open.{RefusesNext, IsOpen}
+use Rattle.iim_places.specs.Format.Tickets.{Phase, TagBegun, DataBegun, AllEnded}
+use Rattle.iim_places.specs.Format.Admitted.{Value}
+use Rattle.iim_places.specs.Format.Streams.{IsEnvelopeWithin, Kills}
+use Rattle.iim_places.specs.States.Restored.{IsRestoreFault}
+use Rattle.iim_c.specs.Format.Feeding.{IsSaid}
+use Rattle.wire_story.specs.Format.Texts.{WordsSoFar}
+use Rattle.iim_audit.specs.Format.{no_words}
+use Rattle.iim_places.specs.declared.ticket.fault.TicketFault.{TicketFault}
+use Rattle.iim_c.specs.declared.field.IimDataset.{IimDataset}
+use Rattle.iim_c.specs.declared.header.IimMessage.{IimMessage}
+use Rattle.iim_c.specs.declared.sizes.IimObject.{IimObject}
+pub use Rattle.iim_c.specs.declared.span.IimSpan.{IimSpan}
+use Rattle.iim_fields.specs.declared.limits.Limits.{Limits}
+use Rattle.iim_places.specs.declared.fault.TokenFault.{TokenFault}
+use Rattle.iim_c.specs.declared.begun.IimBegun.{IimBegun}
+use Rattle.iim_c.specs.declared.so_far.IimSoFar.{IimSoFar}
+
+-- ---- places in a ticket
+
+-- The octets stand there.
+pub record StandAt (ticket : List ℕ) (span : IimSpan) (octets : List ℕ) : Type 0 where
+  pub within : span.offset + span.count ≤ length ticket
+  pub octets_are : take span.count (drop span.offset ticket) ≡ octets
+
+abbrev pub no_span : IimSpan
+no_span = record { offset = 0; count = 0 }
+
+-- The octets are no ticket, and the answer tells why.
+abbrev pub IsNoTicket : List ℕ → IimAnswer → Type 0
+IsNoTicket ticket told = (fault : TicketFault) × IsFaultOf ticket fault × (told ≡ ticket_answer fault)
+
+-- ---- datasets
+
+-- The dataset that comes after the first n, and where its data stand.
+pub record IsFieldAt (ticket : List ℕ) (s : Split) (n : ℕ) (found : IimDataset) : Type 0 where
+  pub field : Dataset
+  pub after : List Dataset
+  pub is_next : drop n s.fields ≡ field ∷ after
+  pub rec_is : found.rec ≡ field.rec
+  pub set_is : found.set ≡ field.set
+  pub stands : StandAt ticket found.data field.octets
+
+abbrev pub no_dataset : IimDataset
+no_dataset = record { rec = 0; set = 0; «data» = no_span }
+
+-- The ticket tells more than n datasets, and this is the next one; or it tells no more; or it is none.
+abbrev pub IsField : List ℕ → ℕ → IimDataset → IimAnswer → Type 0
+IsField ticket n found told =
+    ((s : Split) × SplitsTicket ticket s × IsFieldAt ticket s n found × (told ≡ status_answer status.done))
+    ⊎ ((s : Split) × SplitsTicket ticket s × (length s.fields ≤ n) × (found ≡ no_dataset) × (told ≡ status_answer status.none))
+    ⊎ (IsNoTicket ticket told × (found ≡ no_dataset))
+
+-- ---- header and trailer
+
+-- The text with this index stands there.
+abbrev pub TextStands : List ℕ → Split → ℕ → IimSpan → Type 0
+TextStands ticket s n span = StandAt ticket span (get_or s.texts n [])
+
+-- The part is this, and the texts stand where the message says.
+-- twins (with IsObjectOf): `shows_the_samples_as_the_command_does`
+abbrev pub IsMessageOf : List ℕ → Split → IimMessage → Type 0
+IsMessageOf ticket s m =
+    (m.part ≡ s.part) × TextStands ticket s 0 m.source × TextStands ticket s 1 m.number × TextStands ticket s 2 m.priority
+    × TextStands ticket s 3 m.category × TextStands ticket s 4 m.words × TextStands ticket s 5 m.info × TextStands ticket s 6 m.trailer
+
+abbrev pub no_message : IimMessage
+no_message = record {
+  part = 0;
+  source = no_span;
+  number = no_span;
+  priority = no_span;
+  category = no_span;
+  words = no_span;
+  info = no_span;
+  trailer = no_span;
+}
+
+-- The ticket tells this of the message; or it is none.
+abbrev pub IsHeader : List ℕ → IimMessage → IimAnswer → Type 0
+IsHeader ticket m told =
+    ((s : Split) × SplitsTicket ticket s × IsMessageOf ticket s m × (told ≡ status_answer status.done)) ⊎ (IsNoTicket ticket told × (m ≡ no_message))
+
+-- ---- sizes
+
+-- The number with this index is this, or has not come and is 0.
+abbrev pub IsNumber : Split → ℕ → Bool → ℕ → Type 0
+IsNumber s n has number = (has ≡ is_some (get_or s.numbers n None)) × (number ≡ unwrap_or (get_or s.numbers n None) 0)
+
+abbrev pub IsObjectOf : Split → IimObject → Type 0
+IsObjectOf s o =
+    IsNumber s 0 o.has_mode o.mode × IsNumber s 1 o.has_subfile o.subfile × IsNumber s 2 o.has_announced o.announced
+    × IsNumber s 3 o.has_maximum o.maximum × (o.subfiles ≡ s.heads) × (o.octets ≡ s.taken)
+
+abbrev pub no_object : IimObject
+no_object = record {
+  has_mode = false;
+  has_subfile = false;
+  has_announced = false;
+  has_maximum = false;
+  mode = 0;
+  subfile = 0;
+  announced = 0;
+  maximum = 0;
+  subfiles = 0;
+  octets = 0;
+}
+
+-- The ticket tells these sizes; or it is none.
+abbrev pub AreSizes : List ℕ → IimObject → IimAnswer → Type 0
+AreSizes ticket o told =
+    ((s : Split) × SplitsTicket ticket s × IsObjectOf s o × (told ≡ status_answer status.done)) ⊎ (IsNoTicket ticket told × (o ≡ no_object))
+
+-- ---- what is begun, by its number
+
+-- nothing, between datasets; or a tag, of which some octets have come
+abbrev pub kind_of_tag : List ℕ → ℕ
+kind_of_tag [] = 0
+kind_of_tag (x ∷ held) = 1
+
+-- the data of a dataset
+-- twins (with ended): `names_the_kinds_and_duties_as_the_header_does`, `tells_the_place_after_each_front_of_both_worked_envelopes`
+abbrev pub in_data : ℕ
+in_data = 2
+
+-- nothing any more: the last dataset has ended
+abbrev pub ended : ℕ
+ended = 3
+
+-- ---- what a ticket tells of it
+
+-- the octets of it that the ticket keeps
+abbrev pub kept_of : Phase → List ℕ
+kept_of (TagBegun held) = held
+kept_of (DataBegun set count left taken) = taken
+kept_of AllEnded = []
+
+abbrev pub no_begun : IimBegun
+no_begun = record {
+  kind = 0;
+  section = 0;
+  rec = 0;
+  set = 0;
+  part = 0;
+  counter = 0;
+  flag = 0;
+  count = 0;
+  came = 0;
+  left = 0;
+  first = 0;
+  token = 0;
+  octets = no_span;
+}
+
+-- What is begun in the record `section` after `at` octets, where those that the ticket keeps of it stand in this span. The first
+-- octet of a tag or of data lies as many octets back as have come of it. What the next octet belongs to begins there, too, but in a
+-- subfile, where each octet is looked at alone.
+-- twins (with TellsBegun): `tells_the_place_after_each_front_of_both_worked_envelopes`
+abbrev pub begun_by : (at section : ℕ) → Phase → IimSpan → IimBegun
+begun_by at section (TagBegun held) span =
+    record no_begun {
+      kind = kind_of_tag held;
+      rec = get_or held 1 0;
+      set = get_or held 2 0;
+      came = length held;
+      first = at - length held;
+      token = at - length held;
+      octets = span;
+    }
+begun_by at section (DataBegun set count left taken) span =
+    record no_begun {
+      kind = in_data;
+      rec = section;
+      set = set;
+      count = count;
+      came = count - left;
+      left = left;
+      first = at - (count - left);
+      token = if section == 8 then at else at - (count - left);
+      octets = span;
+    }
+begun_by at section AllEnded span = record no_begun { kind = ended; first = at; token = at; octets = span }
+
+-- the same with the record of the last head, and with the part of the message that has come, its counter and its flag
+abbrev pub begun_of : ℕ → Split → IimSpan → IimBegun
+begun_of at s span = record (begun_by at s.section s.phase span) { section = s.section; part = s.part; counter = s.counter; flag = s.flag }
+
+pub record IsBegunOf (ticket : List ℕ) (at : ℕ) (s : Split) (found : IimBegun) : Type 0 where
+  pub stand : StandAt ticket found.octets (kept_of s.phase)
+  pub is : found ≡ begun_of at s found.octets
+
+-- The ticket tells this of what is begun; or it is none.
+abbrev pub IsBegunTold : List ℕ → ℕ → IimBegun → IimAnswer → Type 0
+IsBegunTold ticket at found told =
+    ((s : Split) × SplitsTicket ticket s × IsBegunOf ticket at s found × (told ≡ status_answer status.done)) ⊎ (IsNoTicket ticket told × (found ≡ no_begun))
+
+-- ---- what octets have begun that have led there
+
+-- What has come of it, what is to come, and where it began, after `at` octets: of a tag it isn't known what is to come. The token that
+-- the next octet belongs to is a tag, a value, or of the object each octet by itself.
+abbrev pub TellsBegun : ℕ → Begun → IimBegun → Type 0
+TellsBegun at (InTag held) found =
+    (found.rec ≡ begun_record (InTag held)) × (found.set ≡ begun_number (InTag held)) × (found.came ≡ length held) × (found.left ≡ 0)
+    × (found.first ≡ at - length held) × (found.token ≡ at - length held)
+TellsBegun at (InData h taken) found =
+    (found.rec ≡ h.rec) × (found.set ≡ h.set) × (found.came ≡ length taken) × (found.left ≡ h.count - length taken)
+    × (found.first ≡ at - length taken) × (found.token ≡ (if h.rec == 8 then at else at - length taken))
+
+-- The last dataset has ended: it is of record 9, and no other is begun.
+-- no twin: no body has these words
+abbrev pub HaveEnded : List Dataset → Begun → Type 0
+HaveEnded whole (InTag held) = section_after whole ≡ 9
+HaveEnded whole (InData h taken) = ⊥
+
+-- The octets so far have begun this, or have ended.
+pub record TellsOctets (p : List ℕ) (at : ℕ) (found : IimBegun) : Type 0 where
+  pub whole : List Dataset
+  pub begun : Begun
+  pub reads : Reads count_octets p whole begun
+  pub tells : ((found.kind ≡ ended) × HaveEnded whole begun) ⊎ TellsBegun at begun found
+
+-- ---- the refused token
+
+-- The octets of a token: of a tag that no octet continues those up to that octet; of a head its tag; of an octet of the object that
+-- octet; of a value its data, or where it has none the tag that says so.
+abbrev pub AreOctetsOf : Token → List ℕ → Type 0
+AreOctetsOf (AtOctet (InTag held) octet) xs = xs ≡ held ++ octet ∷ []
+AreOctetsOf (AtOctet (InData h taken) octet) xs = xs ≡ octet ∷ []
+AreOctetsOf (AtHead h) xs = SpellsTag count_octets h xs
+AreOctetsOf (AtValue d) xs = ((d.octets ≢ []) × (xs ≡ d.octets)) ⊎ ((d.octets ≡ []) × SpellsTag count_octets (head_of d) xs)
+
+-- Whichever octet is refused after those, of whichever layer: from `token` on, up to the refused one, they are the octets of the
+-- refused token.
+abbrev pub TellsToken : List ℕ → ℕ → IimBegun → Type 0
+TellsToken p at found = (limits : Limits) (next : ℕ) (fault : TokenFault) → (refused : RefusesNext limits p next fault) → at ≡ length p
+    → AreOctetsOf refused.token (drop found.token (p ++ next ∷ []))
+
+-- the bit of an octet in the 32 octets of a set: eight octets have their bits in each, the first of them the lowest
+-- twins (with no_octets): `tells_the_octets_that_can_come_next`
+abbrev pub bit_of : List ℕ → ℕ → ℕ
+bit_of bits octet = bit_at (get_or bits (octet / 8) 0) (octet % 8)
+
+-- the set that has none
+abbrev pub no_octets : List ℕ
+no_octets = replicate 32 0
+
+-- With the octet after those every layer can continue, or they are an envelope.
+abbrev pub IsTaken : Limits → List ℕ → ℕ → Type 0
+IsTaken limits p next = IsOpen limits (p ++ next ∷ []) ⊎ ((value : Value) × IsEnvelopeWithin limits (p ++ next ∷ []) value)
+
+-- Its bit is set exactly where it is taken, and is not set exactly where a layer is dead with it.
+pub record TellsNext (limits : Limits) (p : List ℕ) (next bit : ℕ) : Type 0 where
+  pub taken : (bit ≡ 1) ↔ IsTaken limits p next
+  pub refused : (bit ≡ 0) ↔ ((fault : TokenFault) × Kills limits p next fault)
+
+-- Of all octets that have led to the ticket every layer can continue, and the bits tell by which next octet.
+-- twin: `tells_the_octets_that_can_come_next`
+abbrev pub GoesOnBy : Limits → List ℕ → List ℕ → Type 0
+GoesOnBy limits ticket bits = IsSaid limits ticket 0 (λ p a. (next : ℕ) → next < 256 → TellsNext limits p next (bit_of bits next)) (λ p a. ⊥)
+
+-- All of them are an envelope.
+abbrev pub HasEndedThere : Limits → List ℕ → Type 0
+HasEndedThere limits ticket = IsSaid limits ticket 0 (λ p a. ⊥) (λ p a. ⊤)
+
+-- what is answered: which octets come next; or that an envelope has ended, and none does; or the ticket is refused, or memory
+abbrev pub IsNext : Limits → List ℕ → List ℕ → IimAnswer → Type 0
+IsNext limits ticket bits told =
+    (GoesOnBy limits ticket bits × (told ≡ status_answer status.more))
+    ⊎ (HasEndedThere limits ticket × (bits ≡ no_octets) × (told ≡ status_answer status.done))
+    ⊎ ((fault : TicketFault) × (ticket ≢ []) × IsRestoreFault limits ticket fault × (bits ≡ no_octets) × (told ≡ ticket_answer fault))
+    ⊎ ((bits ≡ no_octets) × (told ≡ status_answer status.no_memory))
+
+-- the count of words that is kept: none where there is no ticket
+abbrev pub words_so_far : List ℕ → IimSoFar → WordsSoFar
+words_so_far [] so_far = no_words
+words_so_far (x ∷ xs) so_far = record { words = so_far.words; inside = so_far.inside }
+
+-- what is kept where an envelope begins
+abbrev pub begins_at : ℕ → IimSoFar
+begins_at at = record { at = at; octets = 0; words = 0; inside = false }

@@ -1,0 +1,94 @@
+-- A check, a reader and a builder from inside: what they are told, and how a head changes what they know.
+use Rattle.std.specs.Prelude.{ℕ, ◌⊎◌, List, Option, Some, ◌≡◌, length, None, ◌≢◌, Bool, true, false, replicate, slice_set, ◌==◌, if◌then◌else◌, ◌≤◌, ◌<◌, ◌^◌, [], ◌++◌, IsTrue, vec_capacity}
+use Rattle.std.specs.Option.{option_or}
+use Rattle.std.specs.Ordering.{eq_by_cmp}
+use Rattle.std.specs.Cmp.{IsEquivalence, IsTotalOrder, and_equiv, then_total, both_tied}
+use Rattle.std.specs.Cmp.Lexicographic.{on_texts, on_texts_equal, texts_ties}
+use Rattle.iim_dataset.specs.Format.Datasets.{Dataset}
+use Rattle.iim_fields.specs.States.Standing.{has_seen, HasChecked, IsChecking, begun_head, FieldsPlace, StandsAfter, StandsIn, AreFew}
+use Rattle.iim_fields.specs.Format.Causes.{head_fault, value_fault, FieldFault, missing_fault, missing_of, is_kept, Limits, joined, kept}
+use Rattle.iim_fields.specs.Format.Records.{data_of, Identity, text_cmp, id_eq, id_cmp, IsWithin, IsEnvelope}
+use Rattle.iim_dataset.specs.Format.Octets.{Octets}
+use Rattle.iim_fields.specs.StoreLayout.{store_room, fields_of, begun_octets, HasStored}
+use Rattle.iim_dataset.specs.declared.head.Head.{Head}
+use Rattle.iim_fields.specs.declared.check.RecordPlace.{RecordPlace}
+use Rattle.iim_fields.specs.declared.order.Order.{Order}
+use Rattle.iim_fields.specs.declared.store.Store.{Store}
+
+-- Some datasets lead to the place, or some datasets and a head.
+abbrev pub IsRecordPlace : RecordPlace → Type 0
+IsRecordPlace place = ((ds : List Dataset) × HasChecked (Some place) ds) ⊎ ((ds : List Dataset) × (h : Head) × IsChecking (Some place) ds h)
+
+-- The first fault in the record layer of a dataset of this head and these data: of its head at the place, or else of its value.
+abbrev pub place_fault : RecordPlace → Head → List ℕ → Option FieldFault
+place_fault place h xs = option_or (head_fault place.order.rec (has_seen place.order) h) (value_fault (data_of h xs))
+
+pub id_equivalence : IsEquivalence id_eq
+id_equivalence = and_equiv (on_texts_equal (λ (i : Identity). i.service)) (and_equiv (on_texts_equal (λ (i : Identity). i.number)) (on_texts_equal (λ (i : Identity). i.date_sent)))
+
+pub id_total : IsTotalOrder id_cmp
+id_total = then_total (on_texts (λ (i : Identity). i.service)) (then_total (on_texts (λ (i : Identity). i.number)) (on_texts (λ (i : Identity). i.date_sent)))
+
+-- ids are equal where their order does not tell them apart
+pub id_ties : (x y : Identity) → id_eq x y ≡ eq_by_cmp id_cmp x y
+id_ties x y =
+    both_tied _ _ (text_cmp x.service y.service) _ (texts_ties x.service y.service)
+    (both_tied _ _ (text_cmp x.number y.number) (text_cmp x.date_sent y.date_sent) (texts_ties x.number y.number) (texts_ties x.date_sent y.date_sent))
+
+-- A dataset of this head and these data has no fault at the place where the check stands.
+pub record MayTake (check : Option RecordPlace) (h : Head) (xs : List ℕ) : Type 0 where
+  pub count : h.count ≡ length xs
+  pub octets : Octets xs
+  pub fine : (place : RecordPlace) → check ≡ Some place → place_fault place h xs ≡ None
+
+-- A head leads from one to the other: its number is added, to those of the present record or to none.
+pub record AddsHead (old : Order) (h : Head) (new : Order) : Type 0 where
+  pub rec : new.rec ≡ h.rec
+  pub same : h.rec ≡ old.rec → new.seen ≡ slice_set old.seen h.set true
+  pub next : h.rec ≢ old.rec → new.seen ≡ slice_set (replicate 256 false) h.set true
+
+-- What is missing where records 1 and 2 end, by the present record and the test whether a number occurred in it: of record 2, or else of
+-- record 1, or all of record 2.
+abbrev pub end_fault : ℕ → (ℕ → Bool) → Option FieldFault
+end_fault present has =
+    if present == 2 then missing_fault 2 (missing_of 2 has)
+    else option_or (missing_fault 1 (missing_of 1 has)) (missing_fault 2 (missing_of 2 (λ _. false)))
+
+-- what it is seen as whose size is these octets
+abbrev pub place_of : Option RecordPlace → Limits → Store → List ℕ → FieldsPlace
+place_of check limits store size =
+    record { check = check; limits = limits; kept = fields_of store; taken = begun_octets store ++ size; room = store_room store }
+
+-- It stands somewhere.
+abbrev pub StandsSomewhere : FieldsPlace → Type 0
+StandsSomewhere fields = ((ds : List Dataset) × StandsAfter fields ds) ⊎ ((ds : List Dataset) × (h : Head) × (taken : List ℕ) × StandsIn fields ds h taken)
+
+-- The store has room for all that the limits, numbers of 32 bits, allow.
+pub record HasRoom (limits : Limits) (store : Store) : Type 0 where
+  pub small_octets : limits.octets < 2 ^ 32
+  pub small_fields : limits.fields < 2 ^ 32
+  pub octets : limits.octets ≤ store.octets.room
+  pub entries : limits.fields ≤ vec_capacity store.entries
+
+-- It stands somewhere, or something was refused; and the octets of a begun dataset are in the store if it will be kept, and else
+-- in the size.
+pub record IsReading (check : Option RecordPlace) (limits : Limits) (store : Store) (size : List ℕ) : Type 0 where
+  pub room : HasRoom limits store
+  pub store_is : HasStored store (fields_of store) (begun_octets store)
+  pub stands : (check ≡ None) ⊎ StandsSomewhere (place_of check limits store size)
+  pub in_store : (h : Head) → begun_head check ≡ Some h → IsTrue (is_kept h.rec) → size ≡ []
+  pub in_size : (h : Head) → begun_head check ≡ Some h → is_kept h.rec ≡ false → begun_octets store ≡ []
+
+-- the builder's check stands after the datasets that are kept, and there are no others
+pub record IsBuilding (check : Option RecordPlace) (limits : Limits) (store : Store) : Type 0 where
+  pub room : HasRoom limits store
+  pub checked : HasChecked check (fields_of store)
+  pub within : IsWithin limits (length (joined (fields_of store))) (length (fields_of store))
+  pub holds : HasStored store (fields_of store) []
+  pub all_kept : kept (fields_of store) ≡ fields_of store
+
+-- the store has exactly the datasets of an envelope
+pub record IsEnvelopeStore (store : Store) : Type 0 where
+  pub few : AreFew (fields_of store)
+  pub holds : HasStored store (fields_of store) []
+  pub envelope : IsEnvelope (fields_of store)

@@ -1,0 +1,226 @@
+-- A narrator from inside, and what is listed and told of an input by turns.
+use Rattle.std.specs.Prelude.{◌≡◌, ℕ, List, ◌⊎◌, [], ◌++◌, Result, Err, ◌+◌, length, Option, Some, None, Ok}
+use Rattle.std.proofs.Common.{inl, inr, refl, sym, subst, ◌∙◌, append-nil, append_assoc, arith}
+use Rattle.std.specs.List.{AllByRecursion}
+use Rattle.iim_dataset.specs.Format.Octets.{Rose}
+use Rattle.iim_dataset.specs.States.Devices.{Device, Wrote, Stopped, HasGiven}
+use Rattle.wire_story.specs.Format.Texts.{StoryEvent}
+use Rattle.iim_output.specs.States.Holding.{HoldsNothing, KeepsWriter, PutsLines, PutsOn, StaysStuck, device_of, stops_of as writer_stops, HasPut}
+use Rattle.iim_listing.specs.Format.{CommandFault, CannotRead, CannotWrite, OutOfMemory, texts_from, line_of, FailsListing, WritesListing, IsTextIn, IsUnnarrated, Narrated, stories, story_of, text_of}
+use Rattle.iim_dataset.specs.Steps.{appends_joined}
+use Rattle.iim_output.specs.HoldingLaws.{puts_nothing, puts_joined}
+use Rattle.iim_places.specs.Format.Streams.{Divides, Listed, joined}
+use Rattle.iim_output.specs.Format.{limits}
+pub use Rattle.iim_output.specs.declared.block_writer.BlockWriter.{BlockWriter}
+pub use Rattle.iim_listing.specs.declared.narrator.Narrator.{Narrator}
+use Rattle.iim_unpack.specs.declared.intake.IntakeFault.{IntakeFault}
+use Rattle.iim_unpack.specs.declared.intake.IntakeFault.TheVariants.{Refused}
+use Rattle.iim_places.specs.declared.refusal.Cause.TheVariants.{Message}
+use Rattle.wire_message.specs.declared.fault.MessageCause.TheVariants.{Sink}
+use Rattle.iim_listing.specs.declared.coming.Next.{Next}
+use Rattle.iim_listing.specs.declared.coming.Next.TheVariants as next
+
+-- what the text goes to, and who is told the lines, as devices
+abbrev pub output_of : {W E : Type 0} → (W → Device) → Narrator W E → Device
+output_of ws n = device_of ws n.output
+
+abbrev pub errors_of : {W E : Type 0} → (E → Device) → Narrator W E → Device
+errors_of es n = es n.errors.now
+
+-- how often the output stopped
+abbrev pub stops_of : {W E : Type 0} → Narrator W E → ℕ
+stops_of n = writer_stops n.output
+
+-- It still writes to the targets that it was lent.
+abbrev pub KeepsTargets : {W E : Type 0} → Narrator W E → Narrator W E → Type 0
+KeepsTargets a b = KeepsWriter a.output b.output × (b.errors.ghost_name ≡ a.errors.ghost_name)
+
+-- It holds these lines more, and none went out.
+abbrev pub HoldsLines : {W E : Type 0} → Narrator W E → Narrator W E → List ℕ → Type 0
+HoldsLines a b lines = (b.lines.items ≡ a.lines.items ++ lines) × (b.errors ≡ a.errors)
+
+-- All lines that it held went out, when of the text nothing was held: it was told some of these events before, and the others after.
+pub record ToldLines {W E : Type 0} (ws : W → Device) (es : E → Device) (a : Narrator W E) (events : List StoryEvent) (b : Narrator W E) : Type 0 where
+  pub mark : BlockWriter W
+  pub first : List StoryEvent
+  pub then : List StoryEvent
+  pub before : PutsLines ws a.output first mark
+  pub settled : HoldsNothing mark
+  pub after : PutsLines ws mark then b.output
+  pub all : first ++ then ≡ events
+  pub none : b.lines.items ≡ []
+  pub told : Wrote (errors_of es a) (errors_of es b) a.lines.items
+
+-- It was told these events; and the lines that it held it still holds, or they are out.
+pub record TellsOn {W E : Type 0} (ws : W → Device) (es : E → Device) (a : Narrator W E) (events : List StoryEvent) (b : Narrator W E) : Type 0 where
+  pub put : PutsLines ws a.output events b.output
+  pub keeps : b.errors.ghost_name ≡ a.errors.ghost_name
+  pub lines : HoldsLines a b [] ⊎ ToldLines ws es a events b
+
+-- It holds nothing.
+abbrev pub IsSettled : {W E : Type 0} → Narrator W E → Type 0
+IsSettled n = HoldsNothing n.output × (n.lines.items ≡ [])
+
+-- Of the text all is out, and nothing is held.
+abbrev pub TextIsOut : {W E : Type 0} → (W → Device) → Narrator W E → Narrator W E → Type 0
+TextIsOut ws a b = PutsOn ws a.output b.output [] × HoldsNothing b.output × (stops_of b ≡ stops_of a)
+
+-- All that it held is out, the text before the lines, and then this line.
+pub record LetsOut {W E : Type 0} (ws : W → Device) (es : E → Device) (a b : Narrator W E) (line : List ℕ) : Type 0 where
+  pub text : TextIsOut ws a b
+  pub keeps : b.errors.ghost_name ≡ a.errors.ghost_name
+  pub told : Wrote (errors_of es a) (errors_of es b) (a.lines.items ++ line)
+
+-- The text that it held could not be let out, and no line went out; or the text is out, and the errors broke inside the lines and this one.
+pub record IsLost {W E : Type 0} (ws : W → Device) (es : E → Device) (a b : Narrator W E) (line : List ℕ) : Type 0 where
+  pub keeps : KeepsTargets a b
+  pub broke : (StaysStuck ws a.output b.output × (errors_of es b ≡ errors_of es a))
+      ⊎ (TextIsOut ws a b × (n : ℕ) × Stopped (errors_of es a) (errors_of es b) (a.lines.items ++ line) n)
+
+abbrev pub IsStuck : {W E : Type 0} → (W → Device) → (E → Device) → Narrator W E → Narrator W E → Type 0
+IsStuck ws es a b = IsLost ws es a b []
+
+-- Why a last line isn't told. Where memory was refused for it, all that was held is out.
+abbrev pub IsUntold : {W E : Type 0} → (W → Device) → (E → Device) → Narrator W E → Narrator W E → List ℕ → CommandFault → Type 0
+IsUntold ws es a b line CannotRead = ⊥
+IsUntold ws es a b line CannotWrite = IsLost ws es a b line
+IsUntold ws es a b line OutOfMemory = LetsOut ws es a b []
+
+-- Why a story isn't ended: what is held is lost, or is out where memory was refused for the line; or the LF was not taken, and no line went out.
+abbrev pub IsUnended : {W E : Type 0} → (W → Device) → (E → Device) → Narrator W E → Narrator W E → CommandFault → Type 0
+IsUnended ws es a b fault = IsUntold ws es a b [] fault
+    ⊎ ((fault ≡ CannotWrite) × PutsOn ws a.output b.output [] × Rose (stops_of a) (stops_of b) × (b.errors ≡ a.errors))
+
+pub tells_nothing : {W E : Type 0} (ws : W → Device) (es : E → Device) (n : Narrator W E) → TellsOn ws es n [] n
+tells_nothing ws es n = record { put = puts_nothing ws n.output; keeps = refl; lines = inl (sym (append-nil n.lines.items), refl) }
+
+-- Lines that are held as before went out; or those went out, and then nothing more.
+lines_joined : {W E : Type 0} (ws : W → Device) (es : E → Device) (a b c : Narrator W E) (xs ys : List StoryEvent) → TellsOn ws es a xs b
+    → PutsLines ws b.output ys c.output → HoldsLines a b [] ⊎ ToldLines ws es a xs b → HoldsLines b c [] ⊎ ToldLines ws es b ys c
+    → HoldsLines a c [] ⊎ ToldLines ws es a (xs ++ ys) c
+lines_joined ws es a b c xs ys first put (inl h) (inl k) = inl (k.0 ∙ append-nil b.lines.items ∙ h.0, k.1 ∙ h.1)
+lines_joined ws es a b c xs ys first put (inr t) (inl k) = inr (record {
+  mark = t.mark;
+  first = t.first;
+  then = t.then ++ ys;
+  before = t.before;
+  settled = t.settled;
+  after = puts_joined ws t.mark b.output c.output t.then ys t.after put;
+  all = rw (← append_assoc t.first t.then ys, t.all) refl;
+  none = k.0 ∙ append-nil b.lines.items ∙ t.none;
+  told = rw k.1 t.told;
+})
+lines_joined ws es a b c xs ys first put one (inr u) = inr (record {
+  mark = u.mark;
+  first = xs ++ u.first;
+  then = u.then;
+  before = puts_joined ws a.output b.output u.mark xs u.first first.put u.before;
+  settled = u.settled;
+  after = u.after;
+  all = rw (append_assoc xs u.first u.then, u.all) refl;
+  none = u.none;
+  told = elim one [
+    | inl h ↦ subst (Wrote (errors_of es a) (errors_of es c)) (h.0 ∙ append-nil a.lines.items) (rw h.1 at u.told)
+    | inr t ↦ (let then = subst (Wrote (errors_of es b) (errors_of es c)) t.none u.told in (
+      rw append-nil at (appends_joined (errors_of es a).octets (errors_of es b).octets (errors_of es c).octets a.lines.items [] t.told.0 then.0),
+      (then.1.0 ∙ t.told.1.0, omega (arith, t.told.1.1, then.1.1)),
+    ))
+  ];
+})
+
+pub tells_joined : {W E : Type 0} (ws : W → Device) (es : E → Device) (a b c : Narrator W E) (xs ys : List StoryEvent) → TellsOn ws es a xs b → TellsOn ws es b ys c → TellsOn ws es a (xs ++ ys) c
+tells_joined ws es a b c xs ys first then = record {
+  put = puts_joined ws a.output b.output c.output xs ys first.put then.put;
+  keeps = then.keeps ∙ first.keeps;
+  lines = lines_joined ws es a b c xs ys first then.put first.lines then.lines;
+}
+
+-- ---- How a listing is held and let out.
+
+-- Why the listing isn't out. Where memory was short, some of the envelopes that came are listed, out or held.
+abbrev pub IsUnlisted : {W : Type 0} → (W → Device) → (ℕ → Listed → List ℕ) → Device → Device → BlockWriter W → BlockWriter W → CommandFault → Type 0
+IsUnlisted state text source rest old new OutOfMemory = (input : List ℕ) × (envelopes : List Listed) × (begun : List ℕ)
+    × Divides limits input envelopes begun × HasGiven source rest input × HasPut state old new (texts_from text 1 envelopes)
+IsUnlisted state text source rest old new fault = FailsListing text source rest (device_of state old) (device_of state new) fault
+
+-- What was held is let out where memory was short, or the output breaks; any other answer is handed on, and nothing is done.
+abbrev pub Settles : {W : Type 0} → (W → Device) → BlockWriter W → BlockWriter W → Result ℕ CommandFault → Result ℕ CommandFault → Type 0
+Settles state old new (Err OutOfMemory) result = ((result ≡ Err OutOfMemory) × HasPut state old new [] × HoldsNothing new)
+    ⊎ ((result ≡ Err CannotWrite) × StaysStuck state old new)
+Settles state old new answer result = (result ≡ answer) × (new ≡ old)
+
+-- These envelopes, `count` of them, came from the input, and octets after them, and nothing else.
+pub record AreTaken (source rest : Device) (count : ℕ) (envelopes : List Listed) (begun : List ℕ) : Type 0 where
+  pub divides : Divides limits (joined envelopes ++ begun) envelopes begun
+  pub given : HasGiven source rest (joined envelopes ++ begun)
+  pub counted : count ≡ length envelopes
+
+-- Envelopes came, and this text of each was taken, where nothing was held before.
+pub record AreListed {W : Type 0} (state : W → Device) (text : ℕ → Listed → List ℕ) (source rest : Device) (old new : BlockWriter W) (count : ℕ) : Type 0 where
+  pub envelopes : List Listed
+  pub taken : AreTaken source rest count envelopes []
+  pub fresh : HoldsNothing old
+  pub put : HasPut state old new (texts_from text 1 envelopes)
+
+-- One envelope more than so many is listed; or the listing is out with this status; or this is why it isn't.
+abbrev pub IsListedTo : {W : Type 0} → (W → Device) → (ℕ → Listed → List ℕ) → Device → Device → BlockWriter W → BlockWriter W
+    → ℕ → Result (Option ℕ) CommandFault → Type 0
+IsListedTo state text source rest old new count (Ok None) = AreListed state text source rest old new (count + 1)
+IsListedTo state text source rest old new count (Ok (Some status)) =
+    WritesListing text source rest (device_of state old) (device_of state new) status × KeepsWriter old new
+IsListedTo state text source rest old new count (Err fault) = IsUnlisted state text source rest old new fault × KeepsWriter old new
+
+-- It comes to this where so many envelopes are listed.
+abbrev pub ListsNext : {W : Type 0} → (W → Device) → (ℕ → Listed → List ℕ) → Device → Device → BlockWriter W → BlockWriter W
+    → ℕ → Result (Option ℕ) CommandFault → Type 0
+ListsNext {W = W} state text mid rest now new count result = (source : Device) (old : BlockWriter W) → AreListed state text source mid old now count
+    → IsListedTo state text source rest old new count result
+
+-- ---- stories
+
+-- Of these envelopes, and of words after them, the first ones are told; when they were, their stories and some words were out, and nothing
+-- was held. The writer has taken the rest since, and the lines of the other envelopes are held.
+pub record Stands {W : Type 0} (ws : W → Device) (first : BlockWriter W) (errors_old : Device) (es : List Listed) (words : List ℕ) (output : BlockWriter W) (errors : Device) (lines : List ℕ) : Type 0 where
+  pub fresh : HoldsNothing first × (writer_stops first ≡ 0)
+  pub told : List Listed
+  pub others : List Listed
+  pub parts : es ≡ told ++ others
+  pub mark : BlockWriter W
+  pub begun : List ℕ
+  pub before : PutsOn ws first mark (stories told ++ begun)
+  pub settled : HoldsNothing mark
+  pub rest : List ℕ
+  pub after : PutsOn ws mark output rest
+  pub texts : texts_from story_of (1 + length told) others ++ words ≡ begun ++ rest
+  pub said : Wrote errors_old errors (texts_from line_of 1 told)
+  pub held : lines ≡ texts_from line_of (1 + length told) others
+
+-- `count` envelopes came from the input, and nothing else; the text of each is its lines, joined; the narrator took their stories, and was
+-- told no words after them. It writes to the same targets, of which the output never stopped.
+pub record IsTelling {W E : Type 0} (ws : W → Device) (es : E → Device) (first : Narrator W E) (source rest : Device)
+    (n : Narrator W E) (count : ℕ) : Type 0 where
+  pub envelopes : List Listed
+  pub taken : AreTaken source rest count envelopes []
+  pub texts : AllByRecursion (λ e. IsTextIn e.octets (text_of e)) envelopes
+  pub stands : Stands ws first.output (errors_of es first) envelopes [] n.output (errors_of es n) n.lines.items
+  pub keeps : KeepsTargets first n
+  pub unbroken : stops_of n ≡ 0
+
+-- One envelope more than so many is told; or the whole input with this status; or this is why it isn't.
+abbrev pub IsToldTo : {W E : Type 0} → (W → Device) → (E → Device) → Device → Device → Narrator W E → Narrator W E → ℕ → Result (Option ℕ) CommandFault → Type 0
+IsToldTo ws es source rest first new count (Ok None) = IsTelling ws es first source rest new (count + 1)
+IsToldTo ws es source rest first new count (Ok (Some status)) =
+    Narrated source rest (output_of ws first) (output_of ws new) (errors_of es first) (errors_of es new) status × KeepsTargets first new
+IsToldTo ws es source rest first new count (Err fault) =
+    IsUnnarrated source rest (output_of ws first) (output_of ws new) (errors_of es first) (errors_of es new) fault × KeepsTargets first new
+
+-- It comes to this where so many envelopes are told.
+abbrev pub TellsNext : {W E : Type 0} → (W → Device) → (E → Device) → Device → Device → Narrator W E → Narrator W E
+    → ℕ → Result (Option ℕ) CommandFault → Type 0
+TellsNext {W = W} {E = E} ws es mid rest now new count result = (source : Device) (first : Narrator W E) → IsTelling ws es first source mid now count
+    → IsToldTo ws es source rest first new count result
+
+-- What it comes to that an intake gives nothing. Where the sink refused octets it is a fault of the output.
+abbrev pub IsOfFault : IntakeFault → Result Next CommandFault → Type 0
+IsOfFault (Refused e) result = ((e.cause ≡ Message Sink) × (result ≡ Err CannotWrite)) ⊎ ((e.cause ≡ Message Sink → ⊥) × (result ≡ Ok (next.Refused e)))
+IsOfFault _ result = result ≡ Err CannotRead

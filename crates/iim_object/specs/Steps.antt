@@ -1,0 +1,36 @@
+-- A writer of subfiles and its target from inside.
+use Rattle.std.specs.Prelude.{◌≡◌, ℕ, ◌+◌, ◌*◌, ◌<◌, ◌≤◌, false, length, List}
+use Rattle.iim_dataset.specs.Format.Datasets.{tag_octets}
+use Rattle.iim_object.specs.Format.Objects.{most_out, most_sizes}
+use Rattle.iim_object.specs.States.Writing.{Writing, most_of, room_of}
+use Rattle.iim_dataset.specs.States.Devices.{Device, Wrote, Stopped, WithinInterruptionLimit}
+use Rattle.iim_object.specs.declared.writing.cutter.Cutter.{Cutter}
+use Rattle.iim_object.specs.declared.writing.output.Output.{Output}
+
+-- the cutter as a writer of subfiles
+abbrev pub writing_of : {W : Type 0} → Cutter W → Writing W
+writing_of c = record { plan = c.plan; held = c.held.items; room = c.held.room; sent = c.sent; written = c.output.written; failed = c.failed; writer = c.output.writer }
+
+-- It has room for what the plan allows. Full subfiles are out, `parts` of them: so its numbers are small. Record 7 and their tags are
+-- out too.
+pub record HasRoom {W : Type 0} (c : Cutter W) : Type 0 where
+  pub capacity : room_of c.plan ≤ c.held.room
+  pub within : length c.held.items ≤ c.plan.subfile
+  pub bound : c.sent + length c.held.items ≤ most_of c.plan
+  pub parts : ℕ
+  pub sent : c.sent ≡ c.plan.subfile * parts
+  pub count : c.failed ≡ false → c.output.written ≤ most_sizes + c.sent + tag_octets * parts
+  pub small : c.output.written < most_out
+
+-- The text is out, and was counted. A million interruptions at most came for each octet.
+pub record Puts {W : Type 0} (state : W → Device) (old new : Output W) (text : List ℕ) : Type 0 where
+  pub wrote : Wrote (state old.writer) (state new.writer) text
+  pub counted : new.written ≡ old.written + length text
+  pub patience : WithinInterruptionLimit (length text) (state old.writer) (state new.writer)
+
+-- A write failed. The octets of the text that are out were counted. A million interruptions at most came for each, and for the next.
+pub record Cuts {W : Type 0} (state : W → Device) (old new : Output W) (text : List ℕ) : Type 0 where
+  pub out : ℕ
+  pub stopped : Stopped (state old.writer) (state new.writer) text out
+  pub counted : new.written ≡ old.written + out
+  pub patience : WithinInterruptionLimit (out + 1) (state old.writer) (state new.writer)

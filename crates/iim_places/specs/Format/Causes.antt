@@ -1,0 +1,381 @@
+-- Why a token is refused: the causes with their numbers, names, layers and conditions, and the fault that is told.
+use Rattle.std.specs.Prelude.{ℕ, List, [], ◌∷◌, get_or, ◌≡◌, ◌≢◌, ◌+◌, ◌<◌, ◌≤◌, ◌⊎◌, ◌==◌, false, ◌++◌, length, sum, Option, None, Some, IsTrue, IsSomeAnd, codes, decimal, ◌&&◌, ◌||◌, not, nat_lt, if◌then◌else◌}
+use Rattle.std.specs.List.{list_any}
+use Rattle.std.specs.Option.{option_or, option_map}
+use Rattle.iim_dataset.specs.Format.Datasets.{Begun, InTag, InData, Dataset, head_of, of_record, count_octets, tag_marker, extended, dataset_name}
+use Rattle.iim_dataset.specs.Format.Octets.{soh, stx, etx, eot, lf, cr, number, greatest_size, IsAlive}
+use Rattle.iim_fields.specs.Format.Causes.{IsOutOfOrder, HasNoRow, IsRepeated, IsOutOfRange, IsAbsent, EndsTooEarly, IsBad, IsOtherFormat, PassesOctets, PassesFields, section_after, name_of_cause, kept, kept_octets, is_kept, first_fault, value_fault}
+use Rattle.iim_object.specs.Format.Objects.{max_subfiles, number_at, numbers_of, lengths_of, ObjectLanguage, Place, tokens_of, head_token, value_token, place_after_datasets, place_ended}
+use Rattle.wire_story.specs.Format.Texts.{Holds, max_returns, with_end}
+use Rattle.wire_message.specs.Format.Messages.{MessageLanguage, MessageLivesWith, after_stx, text_so_far}
+use Rattle.iim_places.specs.Format.Admitted.{object_of, AreWithin}
+use Rattle.iim_object.specs.Format.Causes.{name_of, cause_at}
+use Rattle.wire_message.specs.Format.Causes.{name_of_message}
+use Rattle.iim_dataset.specs.Format.Octets as languages
+use Rattle.iim_fields.specs.Format.Records.{SectionsLive, SectionsLiveAt, IsWithin, tells_number}
+use Rattle.iim_dataset.specs.declared.head.Head.{Head}
+use Rattle.iim_fields.specs.declared.fault.FieldFault.{FieldFault}
+use Rattle.iim_fields.specs.declared.fault.FieldCause.{FieldCause}
+use Rattle.iim_fields.specs.declared.fault.FieldCause.TheVariants as fields
+use Rattle.iim_object.specs.declared.reading.fault.SizeCause.{SizeCause}
+use Rattle.wire_message.specs.declared.fault.MessageCause.{MessageCause}
+use Rattle.wire_message.specs.declared.fault.MessageCause.TheVariants as messages
+pub use Rattle.iim_places.specs.declared.fault.TokenFault.{TokenFault}
+use Rattle.iim_places.specs.declared.refusal.Refusal.{Refusal}
+pub use Rattle.iim_places.specs.declared.refusal.Layer.{Layer}
+use Rattle.iim_places.specs.declared.refusal.Layer.TheVariants as layers
+use Rattle.iim_places.specs.declared.refusal.Cause.{Cause}
+use Rattle.iim_places.specs.declared.refusal.Cause.TheVariants as causes
+use Rattle.iim_fields.specs.declared.limits.Limits.{Limits}
+use Rattle.iim_object.specs.declared.reading.fault.SizeCause.TheVariants as sizes
+use Rattle.iim_places.specs.declared.refusal.Cause.TheVariants.{Marker, CountForm, Truncated, Field, Size, Message, TooManySubfiles, Failed}
+
+-- the layer that refuses for a cause of the records: the limits, or the record layer
+-- twins (with layer_of_message, tag_cause): law `refusals_tell_the_lowest_cause`; `refuses_random_envelopes`, `changes_each_octet`
+abbrev pub layer_of : FieldCause → Layer
+layer_of fields.HeaderFull = layers.Limits
+layer_of fields.TooManyFields = layers.Limits
+layer_of other = layers.Record
+
+-- a fault of the record layer or the limits
+abbrev pub of_field : FieldFault → TokenFault
+of_field f = record { layer = layer_of f.cause; rec = f.rec; set = f.set; cause = causes.Field f.cause }
+
+-- a fault of the object layer, on the dataset of the head
+abbrev pub size_on : Head → SizeCause → TokenFault
+size_on h cause = record { layer = layers.Object; rec = h.rec; set = h.set; cause = causes.Size cause }
+
+-- the head of a subfile too many
+abbrev pub too_many_on : Head → TokenFault
+too_many_on h = record { layer = layers.Limits; rec = h.rec; set = h.set; cause = causes.TooManySubfiles }
+
+-- the refusal for a fault, at this octet
+abbrev pub refusal_at : ℕ → TokenFault → Refusal
+refusal_at octet fault = record { layer = fault.layer; rec = fault.rec; set = fault.set; octet = octet; cause = fault.cause }
+
+-- the layer that refuses for a cause of the message
+abbrev pub layer_of_message : MessageCause → Layer
+layer_of_message messages.LoneReturn = layers.Story
+layer_of_message messages.ControlOctet = layers.Story
+layer_of_message messages.Sink = layers.Outside
+layer_of_message other = layers.Message
+
+-- a fault of the message, the story or the sink, on the dataset of the head
+abbrev pub message_on : Head → MessageCause → TokenFault
+message_on h cause = record { layer = layer_of_message cause; rec = h.rec; set = h.set; cause = causes.Message cause }
+
+-- ---- begun datasets
+
+-- the numbers of the begun dataset: of a begun tag its second and third octets, each 0 while it isn't read
+-- twins (with begun_number): "A front of an envelope is truncated, and the begun dataset is named"
+abbrev pub begun_record : Begun → ℕ
+begun_record (InTag held) = get_or held 1 0
+begun_record (InData h taken) = h.rec
+
+abbrev pub begun_number : Begun → ℕ
+begun_number (InTag held) = get_or held 2 0
+begun_number (InData h taken) = h.set
+
+-- A tag's first octet has to be the marker; what can be wrong after it is the count.
+abbrev pub tag_cause : List ℕ → Cause
+tag_cause [] = causes.Marker
+tag_cause (x ∷ xs) = causes.CountForm
+
+-- ---- tokens
+
+-- What is judged after whole datasets: an octet, of the tag or the data of a begun dataset; a complete head; a complete value.
+pub data Token : Type 0 where
+  AtOctet : Begun → ℕ → Token
+  AtHead : Head → Token
+  AtValue : Dataset → Token
+
+-- a condition on octets of tags, after those that are held of one
+abbrev pub OfTag : (List ℕ → ℕ → Type 0) → Token → Type 0
+OfTag P (AtOctet (InTag held) octet) = P held octet
+OfTag P _ = ⊥
+
+-- a condition on heads
+abbrev pub OfHead : (Head → Type 0) → Token → Type 0
+OfHead P (AtHead h) = P h
+OfHead P _ = ⊥
+
+-- a condition on values
+abbrev pub OfValue : (Dataset → Type 0) → Token → Type 0
+OfValue P (AtValue d) = P d
+OfValue P _ = ⊥
+
+-- a condition on octets of the object, after those before them: the data of subfiles
+-- twins (with stated, total): "Before the first octet, and an envelope in one piece", "Empty subfiles among others";
+--   `reads_random_envelopes`
+abbrev pub OfOctet : (List ℕ → ℕ → Type 0) → List Dataset → Token → Type 0
+OfOctet P ds (AtOctet (InData h taken) octet) = (h.rec ≡ 8) × P (object_of ds ++ taken) octet
+OfOctet P ds _ = ⊥
+
+-- ---- the conditions
+
+-- 1: the first octet of a tag is not the marker, 1C.
+-- twins (with IsNoCount): law `refusals_tell_the_lowest_cause`; "Tags: the first octet; the count"
+abbrev pub IsNoMarker : List ℕ → ℕ → Type 0
+IsNoMarker held octet = (held ≡ []) × (octet ≢ tag_marker)
+
+-- 2: the fourth octet is above 80; or it is 80, and the fifth is not one of 1 to 8.
+abbrev pub IsNoCount : List ℕ → ℕ → Type 0
+IsNoCount held octet = ((length held ≡ 3) × (extended < octet))
+    ⊎ ((length held ≡ 4) × (get_or held 3 0 ≡ extended) × ((octet ≡ 0) ⊎ (count_octets < octet)))
+
+-- what record 7 has stated so far: the mode by 10, the largest subfile by 20, the announced size by 90, the maximum by 95
+abbrev pub stated : ℕ → List Dataset → Option ℕ
+stated set ds = number_at set (numbers_of (of_record 7 ds))
+
+-- how many octets of the object the subfiles so far have
+abbrev pub total : List Dataset → ℕ
+total ds = sum (lengths_of (of_record 8 ds))
+
+-- 20: mode 1 and no announced size, at the head of a subfile; mode 0 and an announced size, at the later value.
+-- twins (with ClashesInSize, IsTooLong, IsPast, IsShort, IsConfirmedWrong): "Sizes: the mode, and whether a size is announced", "100 octets
+--   are announced", "The confirmed size"
+abbrev pub ClashesInMode : List Dataset → Token → Type 0
+ClashesInMode ds (AtHead h) = (h.rec ≡ 8) × (stated 10 ds ≡ Some 1) × (stated 90 ds ≡ None)
+ClashesInMode ds (AtValue d) = (d.rec ≡ 7) × (stated 10 (ds ++ d ∷ []) ≡ Some 0) × (stated 90 (ds ++ d ∷ []) ≢ None)
+ClashesInMode ds _ = ⊥
+
+-- 21: the announced size is above the maximum, at the later value.
+abbrev pub ClashesInSize : List Dataset → Dataset → Type 0
+ClashesInSize ds d = (d.rec ≡ 7) × IsSomeAnd (stated 90 (ds ++ d ∷ [])) (λ announced. IsSomeAnd (stated 95 (ds ++ d ∷ [])) (λ most. most < announced))
+
+-- 22: the subfile has more octets than 7:20 allows.
+abbrev pub IsTooLong : List Dataset → Head → Type 0
+IsTooLong ds h = (h.rec ≡ 8) × IsSomeAnd (stated 20 ds) (λ largest. largest < h.count)
+
+-- 23: with the subfile the object has more octets than any may have, than are announced, or than the maximum.
+abbrev pub IsPast : List Dataset → Head → Type 0
+IsPast ds h = (h.rec ≡ 8) × ((greatest_size < total ds + h.count)
+    ⊎ (IsSomeAnd (stated 90 ds) (λ announced. announced < total ds + h.count) ⊎ IsSomeAnd (stated 95 ds) (λ most. most < total ds + h.count)))
+
+-- 24: at the head of 9:10 the object has fewer octets than are announced.
+abbrev pub IsShort : List Dataset → Head → Type 0
+IsShort ds h = (h.rec ≡ 9) × IsSomeAnd (stated 90 ds) (λ announced. total ds < announced)
+
+-- 25: the number of 9:10 is not how many octets the object has.
+abbrev pub IsConfirmedWrong : List Dataset → Dataset → Type 0
+IsConfirmedWrong ds d = (d.rec ≡ 9) × (number d.octets ≢ total ds)
+
+-- 30: no message can continue with the octet.
+abbrev pub IsNoOctet : List ℕ → ℕ → Type 0
+IsNoOctet before octet = MessageLivesWith (before ++ octet ∷ []) → ⊥
+
+-- 32: the object ends, with the head of 9:10, and no message ends there.
+-- twin: "An object that ends too early", "Messages: a gap of 32 octets has an LF": refused at octet 108
+abbrev pub IsNoEnd : List Dataset → Head → Type 0
+IsNoEnd ds h = (h.rec ≡ 9) × (IsAlive MessageLanguage (with_end (object_of ds)) → ⊥)
+
+-- STX has come, and ETX has not.
+-- twins (with IsAfterReturns, IsControlInText): law `refusals_tell_the_lowest_cause`; "Texts: a line ends with LF, and none, one or two CR
+--   before it"
+abbrev pub IsInText : List ℕ → Type 0
+IsInText before = IsTrue (list_any (λ b. b == stx) before) × (list_any (λ b. b == etx) (after_stx before) ≡ false)
+
+-- 40: after held CR comes an octet of the text, or ETX, that is neither LF nor the second CR.
+abbrev pub IsAfterReturns : List ℕ → ℕ → Type 0
+IsAfterReturns before octet = IsInText before × ((held : ℕ) × Holds (text_so_far before) held × (0 < held) × (octet ≢ lf) × (octet ≡ cr → held ≡ max_returns))
+
+-- 41: SOH, STX or EOT stands in the text.
+abbrev pub IsControlInText : List ℕ → ℕ → Type 0
+IsControlInText before octet = IsInText before × ((octet ≡ soh) ⊎ ((octet ≡ stx) ⊎ (octet ≡ eot)))
+
+-- 52: the head of a subfile comes after as many others as there may be.
+-- twin: "4,294,967,295 subfiles, and one more"; `refuses_one_subfile_too_many`, `holds_limits_at_their_edge`
+abbrev pub IsOneTooMany : List Dataset → Head → Type 0
+IsOneTooMany ds h = (h.rec ≡ 8) × (max_subfiles ≤ length (of_record 8 ds))
+
+-- 60: the sink is told of the octet: it is one of the text, but no CR.
+-- twin: `sinks_that_stop`
+abbrev pub IsTold : List ℕ → ℕ → Type 0
+IsTold before octet = (text_so_far (before ++ octet ∷ []) ≡ text_so_far before ++ octet ∷ []) × (octet ≢ cr)
+
+-- ---- the causes
+
+-- The number of a cause, its layer, and its condition at a token after datasets, under limits.
+pub record Rule : Type 1 where
+  pub number : ℕ
+  pub layer : Layer
+  pub holds : Limits → List Dataset → Token → Type 0
+
+-- Those that are told of no token have no condition.
+-- twin: law `refusals_tell_the_lowest_cause`; "The names of the layers, in the order in which they look at a token"; `names_each_cause`,
+--   `refuses_random_envelopes`
+abbrev pub rule_of : Cause → Rule
+rule_of Marker = record { number = 1; layer = layers.Dataset; holds = λ limits ds. OfTag IsNoMarker }
+rule_of CountForm = record { number = 2; layer = layers.Dataset; holds = λ limits ds. OfTag IsNoCount }
+rule_of Truncated = record { number = 3; layer = layers.Dataset; holds = λ limits ds token. ⊥ }
+rule_of (Field fields.RecordOrder) = record { number = 10; layer = layers.Record; holds = λ limits ds. OfHead (IsOutOfOrder ds) }
+rule_of (Field fields.UnknownDataset) = record { number = 11; layer = layers.Record; holds = λ limits ds. OfHead HasNoRow }
+rule_of (Field fields.Repeated) = record { number = 12; layer = layers.Record; holds = λ limits ds. OfHead (IsRepeated ds) }
+rule_of (Field fields.CountRange) = record { number = 13; layer = layers.Record; holds = λ limits ds. OfHead IsOutOfRange }
+rule_of (Field fields.Missing) = record { number = 14; layer = layers.Record; holds = λ limits ds. OfHead (EndsTooEarly ds) }
+rule_of (Field fields.BadValue) = record { number = 15; layer = layers.Record; holds = λ limits ds. OfValue IsBad }
+rule_of (Field fields.FileFormat) = record { number = 16; layer = layers.Record; holds = λ limits ds. OfValue IsOtherFormat }
+rule_of (Size sizes.ModeClash) = record { number = 20; layer = layers.Object; holds = λ limits. ClashesInMode }
+rule_of (Size sizes.SizeClash) = record { number = 21; layer = layers.Object; holds = λ limits ds. OfValue (ClashesInSize ds) }
+rule_of (Size sizes.SubfileTooLong) = record { number = 22; layer = layers.Object; holds = λ limits ds. OfHead (IsTooLong ds) }
+rule_of (Size sizes.PastSize) = record { number = 23; layer = layers.Object; holds = λ limits ds. OfHead (IsPast ds) }
+rule_of (Size sizes.Short) = record { number = 24; layer = layers.Object; holds = λ limits ds. OfHead (IsShort ds) }
+rule_of (Size sizes.ConfirmedWrong) = record { number = 25; layer = layers.Object; holds = λ limits ds. OfValue (IsConfirmedWrong ds) }
+rule_of (Message messages.BadOctet) = record { number = 30; layer = layers.Message; holds = λ limits. OfOctet IsNoOctet }
+rule_of (Message messages.Unfinished) = record { number = 32; layer = layers.Message; holds = λ limits ds. OfHead (IsNoEnd ds) }
+rule_of (Message messages.LoneReturn) = record { number = 40; layer = layers.Story; holds = λ limits. OfOctet IsAfterReturns }
+rule_of (Message messages.ControlOctet) = record { number = 41; layer = layers.Story; holds = λ limits. OfOctet IsControlInText }
+rule_of (Field fields.HeaderFull) = record { number = 50; layer = layers.Limits; holds = λ limits ds. OfHead (PassesOctets limits ds) }
+rule_of (Field fields.TooManyFields) = record { number = 51; layer = layers.Limits; holds = λ limits ds. OfHead (PassesFields limits ds) }
+rule_of TooManySubfiles = record { number = 52; layer = layers.Limits; holds = λ limits ds. OfHead (IsOneTooMany ds) }
+rule_of (Message messages.Sink) = record { number = 60; layer = layers.Outside; holds = λ limits. OfOctet IsTold }
+rule_of Failed = record { number = 61; layer = layers.Outside; holds = λ limits ds token. ⊥ }
+
+-- ---- what is told of a token
+
+-- The fault names the layer of its cause; the condition of the cause holds, and in this layer that of no cause of a lower number.
+pub record TellsTheLowest (limits : Limits) (ds : List Dataset) (token : Token) (fault : TokenFault) : Type 0 where
+  pub layer : (rule_of fault.cause).layer ≡ fault.layer
+  pub holds : (rule_of fault.cause).holds limits ds token
+  pub lowest : (other : Cause) → (rule_of other).layer ≡ fault.layer → (rule_of other).number < (rule_of fault.cause).number
+      → (rule_of other).holds limits ds token → ⊥
+
+-- the dataset that is begun with the token
+abbrev pub begun_in : Token → Begun
+begun_in (AtOctet begun octet) = begun
+begun_in (AtHead h) = InData h []
+begun_in (AtValue d) = InData (head_of d) []
+
+-- The dataset that is named: where one is missing, the missing one of the lowest number; else the token's own.
+abbrev pub Names : Cause → List Dataset → Token → ℕ → ℕ → Type 0
+Names (Field fields.Missing) ds token rec set = (rec ≡ section_after ds) × IsAbsent ds set × ((n : ℕ) → IsAbsent ds n → set ≤ n)
+Names cause ds token rec set = (rec ≡ begun_record (begun_in token)) × (set ≡ begun_number (begun_in token))
+
+-- twin: "The names of the layers, in the order in which they look at a token"; `names_each_cause`
+abbrev pub layer_name : Layer → List ℕ
+layer_name layers.Dataset = codes "dataset"
+layer_name layers.Record = codes "record"
+layer_name layers.Limits = codes "limits"
+layer_name layers.Object = codes "object"
+layer_name layers.Message = codes "message"
+layer_name layers.Story = codes "story"
+layer_name layers.Outside = codes "outside"
+
+-- twins (with cause_name, cause_text): "The names of the layers, in the order in which they look at a token; and of the causes";
+--   `names_each_cause`
+abbrev pub cause_number : Cause → ℕ
+cause_number cause = (rule_of cause).number
+
+-- a cause of a layer has the name that it has there
+abbrev pub cause_name : Cause → List ℕ
+cause_name Marker = codes "Marker"
+cause_name CountForm = codes "CountForm"
+cause_name Truncated = codes "Truncated"
+cause_name (Field cause) = name_of_cause cause
+cause_name (Size cause) = name_of cause
+cause_name (Message cause) = name_of_message cause
+cause_name TooManySubfiles = codes "TooManySubfiles"
+cause_name Failed = codes "Failed"
+
+-- ---- as they are printed
+
+-- a cause's number and name
+abbrev pub cause_text : Cause → List ℕ
+cause_text cause = decimal (cause_number cause) ++ (codes " " ++ cause_name cause)
+
+-- a refusal: the octet, the layer, the dataset and the cause
+-- twin: "Values: the file format"; `checks_the_samples`, `tells_a_refusal_after_envelopes`
+abbrev pub refusal_text : Refusal → List ℕ
+refusal_text e =
+    codes "refused at octet " ++ (decimal e.octet ++ (codes " by layer " ++ (layer_name e.layer ++ (codes " on "
+    ++ (dataset_name e.rec e.set ++ (codes ", cause " ++ cause_text e.cause))))))
+
+-- ---- Which heads and values the layers can continue with, after datasets, and the first fault of one.
+
+-- the place of the object after datasets and a head: a subfile more, or the end
+-- twins (with object_fault): "Sizes: the mode, and whether a size is announced", "100 octets are announced", "The confirmed size"
+abbrev pub place_at : List Dataset → Head → Place
+place_at ds h =
+    if h.rec == 8 then record (place_after_datasets ds) { lengths = lengths_of (of_record 8 ds) ++ h.count ∷ [] }
+    else if h.rec == 9 then place_ended ds
+    else place_after_datasets ds
+
+-- the object layer can continue from the place
+abbrev pub ObjectLives : Place → Type 0
+ObjectLives p = languages.IsAlive ObjectLanguage (tokens_of p)
+
+-- With the head after the datasets, the limits are kept.
+-- twins (with subfile_fault): "4,294,967,295 subfiles, and one more"; `refuses_one_subfile_too_many`, `holds_limits_at_their_edge`
+pub record HaveRoom (limits : Limits) (ds : List Dataset) (h : Head) : Type 0 where
+  pub kept : IsTrue (is_kept h.rec) → IsWithin limits (kept_octets ds + h.count) (length (kept ds) + 1)
+  pub subfiles : h.rec ≡ 8 → length (of_record 8 ds) < max_subfiles
+
+-- Every layer can continue after the datasets, within the limits.
+pub record CanContinue (limits : Limits) (ds : List Dataset) : Type 0 where
+  pub records : SectionsLive ds
+  pub within : AreWithin limits ds
+  pub object : ObjectLives (place_after_datasets ds)
+
+-- Every layer can continue with the head after them.
+pub record CanContinueAt (limits : Limits) (ds : List Dataset) (h : Head) : Type 0 where
+  pub records : SectionsLiveAt ds h
+  pub within : AreWithin limits ds
+  pub room : HaveRoom limits ds h
+  pub object : ObjectLives (place_at ds h)
+
+-- Every layer can continue after the whole datasets and the begun one.
+abbrev pub MayContinue : Limits → List Dataset → Begun → Type 0
+MayContinue limits whole (InTag held) = CanContinue limits whole
+MayContinue limits whole (InData h taken) = CanContinueAt limits whole h
+
+-- With the head the layer is dead, and those that are asked before are alive: first the record layer, then the limits, then
+-- the object layer.
+-- twins (with fault_at_head): "At one head the record layer is asked first, then the limits", "the object's layer is asked first"
+abbrev pub DiesAtHead : Layer → Limits → List Dataset → Head → Type 0
+DiesAtHead layers.Record limits ds h = SectionsLiveAt ds h → ⊥
+DiesAtHead layers.Limits limits ds h = SectionsLiveAt ds h × (HaveRoom limits ds h → ⊥)
+DiesAtHead layers.Object limits ds h = SectionsLiveAt ds h × HaveRoom limits ds h × (ObjectLives (place_at ds h) → ⊥)
+DiesAtHead other limits ds h = ⊥
+
+-- With the value the layer is dead, and those that are asked before are alive.
+-- twins (with number_fault, fault_at_value): "At one value too: a size above the greatest"
+abbrev pub DiesAtValue : Layer → List Dataset → Dataset → Type 0
+DiesAtValue layers.Record ds d = SectionsLive (ds ++ d ∷ []) → ⊥
+DiesAtValue layers.Object ds d = SectionsLive (ds ++ d ∷ []) × (ObjectLives (place_after_datasets (ds ++ d ∷ [])) → ⊥)
+DiesAtValue other ds d = ⊥
+
+-- ---- first faults
+
+-- there are as many subfiles as there may be
+abbrev pub subfile_fault : List Dataset → Head → Option TokenFault
+subfile_fault ds h = if (h.rec == 8) && not (nat_lt (length (of_record 8 ds)) max_subfiles) then Some (too_many_on h) else None
+
+-- the object's fault at the head of a subfile or of 9:10
+abbrev pub object_fault : List Dataset → Head → Option TokenFault
+object_fault ds h =
+    if (h.rec == 8) || (h.rec == 9) then option_map (size_on h) (cause_at (place_after_datasets ds) (head_token h.rec h.count))
+    else None
+
+-- the first fault of a head: of the record layer, of the limits, of the object layer
+abbrev pub fault_at_head : Limits → List Dataset → Head → Option TokenFault
+fault_at_head limits ds h = option_or (option_map of_field (first_fault limits ds h)) (option_or (subfile_fault ds h) (object_fault ds h))
+
+-- the object's fault at a number of record 7 or 9
+abbrev pub number_fault : List Dataset → Dataset → Option TokenFault
+number_fault ds d =
+    if tells_number d.rec then option_map (size_on (head_of d)) (cause_at (place_at ds (head_of d)) (value_token d.rec d.set (number d.octets)))
+    else None
+
+-- the first fault of a value: of the record layer, of the object layer
+abbrev pub fault_at_value : List Dataset → Dataset → Option TokenFault
+fault_at_value ds d = option_or (option_map of_field (value_fault d)) (number_fault ds d)
+
+-- The fault is the first of the head, and the layer that it names dies with it.
+pub record IsRefusedHead (limits : Limits) (ds : List Dataset) (h : Head) (fault : TokenFault) : Type 0 where
+  pub first : fault_at_head limits ds h ≡ Some fault
+  pub dead : DiesAtHead fault.layer limits ds h
+
+-- The fault is the first of the value, and the layer that it names dies with it.
+pub record IsRefusedValue (ds : List Dataset) (d : Dataset) (fault : TokenFault) : Type 0 where
+  pub first : fault_at_value ds d ≡ Some fault
+  pub dead : DiesAtValue fault.layer ds d
