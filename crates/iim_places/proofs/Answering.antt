@@ -1,6 +1,6 @@
 -- A stream has one answer: what is refused, what is open and what is an envelope exclude one another.
-use Rattle.std.proofs.Common.{◌≡◌, ◌≢◌, ℕ, zero, suc, ◌<◌, ◌≤◌, ◌⊎◌, false, nat_eq, List, [], ◌∷◌, ◌++◌, length, take, drop, slice_index, refl, ap, sym, subst, ◌∙◌, inl, inr, arith, append-nil, append_assoc, length-append}
-use Rattle.iim_places.proofs.Words.{cases_lt, ne_eqb, same_Some, map-append, take-append-drop, take-length, take-take, Dataset, SpellsTag, count_octets, Begun, InTag, InData, IsBegun, Reads, BeginsNoTag, Head, AreSections, data_of, SectionsLive, section_after, Limits, AreSized, Holds, Octet, MessageLanguage, MessageLivesWith, MessageDiesAt, StoryLivesIn, text_so_far, HasCause, MessageCause, Value, Admits, object_of, begun_record, begun_number, tag_cause, refusal_at, IsTextOf, message_on, Kills, AdmittedOctetsHaveOneValue, NoTagBeginsAnother, NoDatasetBeginsAnother, NoSectionsBeginOthers, compare, object_so_far, AllCanContinue, IsUnfinished, Answer, RefusesByTests, RefusesNext, truncated_in, IsRefusedHead, IsRefusedValue, OpenOctetsBeginWithNoEnvelope, IsEnvelopeWithin, CanContinue, NothingContinuesFromRefusedOctets, RefusalsAreDetermined, StreamsHaveOneAnswer, Answers, Finished, Refused, Truncated, IsFinished, IsTruncated, TokenFault, LowerLaws, IsPlaceOf, place_of, LeadsToSaved, IsOpen, MessagePlace, AreOpenOrWhole, DiesAtValue, Layer}
+use Rattle.std.proofs.Common.{◌≡◌, ◌≢◌, ℕ, zero, suc, ◌<◌, ◌≤◌, ◌⊎◌, false, nat_eq, List, [], ◌∷◌, ◌++◌, length, take, slice_index, refl, ap, sym, subst, ◌∙◌, inl, inr, arith, append-nil, append_assoc, length-append}
+use Rattle.iim_places.proofs.Words.{cases_lt, ne_eqb, same_Some, map-append, take-length, Dataset, SpellsTag, count_octets, Begun, InTag, InData, IsBegun, Reads, BeginsNoTag, Head, AreSections, data_of, SectionsLive, section_after, Limits, AreSized, Holds, Octet, MessageLanguage, MessageLivesWith, MessageDiesAt, StoryLivesIn, text_so_far, HasCause, MessageCause, Value, Admits, object_of, begun_record, begun_number, tag_cause, refusal_at, IsTextOf, message_on, Kills, AdmittedOctetsHaveOneValue, NoTagBeginsAnother, NoDatasetBeginsAnother, NoSectionsBeginOthers, compare, object_so_far, AllCanContinue, IsUnfinished, Answer, RefusesByTests, RefusesNext, truncated_in, IsRefusedHead, IsRefusedValue, OpenOctetsBeginWithNoEnvelope, IsEnvelopeWithin, CanContinue, NothingContinuesFromRefusedOctets, RefusalsAreDetermined, StreamsHaveOneAnswer, Answers, Finished, Refused, Truncated, IsFinished, TokenFault, LowerLaws, IsPlaceOf, place_of, LeadsToSaved, IsOpen, MessagePlace, AreOpenOrWhole, DiesAtValue, Layer}
 use Rattle.iim_dataset.specs.Format.Octets as languages
 use Rattle.iim_dataset.proofs.Fronts.{begun_none as nothing_begun}
 use Rattle.iim_dataset.proofs.Spelled.{held_of, whole_read}
@@ -218,10 +218,8 @@ tests_of limits octets next fault (ds, InData h xs, reads, all, open', inr (othe
     inr (inr (inr (record { whole = ds; head = h; given = ys; is_value = other; completes = done; leads_on = more; unfinished = open'; refuses = bad })))
 
 one_with : LowerLaws → (limits : Limits) (ds : List Dataset) (h : Head) (f g : TokenFault) → IsRefusedWith limits ds h f → IsRefusedWith limits ds h g → f ≡ g
-one_with laws limits ds h f g (inl a) (inl b) = grind (arith, a, b, no_dead_head f.layer limits ds h, no_dead_head g.layer limits ds h)
-one_with laws limits ds h f g (inl a) (inr b) = not_both laws limits ds h [] f b.2 a
-one_with laws limits ds h f g (inr a) (inl b) = not_both laws limits ds h [] g a.2 b
-one_with laws limits ds h f g (inr a) (inr b) = same_Some _ _ (sym a.3.first ∙ b.3.first)
+one_with laws limits ds h f g a b =
+    grind (arith, a, b, no_dead_head f.layer limits ds h, no_dead_head g.layer limits ds h, not_both laws {A = f ≡ g} limits ds h [])
 
 one_step : LowerLaws → (limits : Limits) (ds : List Dataset) (b : Begun) (next : ℕ) (f g : TokenFault) → IsRefusedAt limits ds b next f
     → IsRefusedAt limits ds b next g → f ≡ g
@@ -233,9 +231,9 @@ one_step laws limits ds (InTag held) next f g (inr (h, tag, a)) (inr (k, spelled
     one_with laws limits ds k f g (rw same at a) b
 one_step laws limits ds (InData h taken) next f g (inl a) (inl b) =
     a.3 ∙ ap (message_on h) (one_cause laws a.1 b.1 (object_of ds ++ taken) next a.2 b.2) ∙ sym b.3
+one_step laws limits ds (InData h taken) next f g (inr a) (inr b) = same_Some _ _ (sym a.2.first ∙ b.2.first)
 one_step laws limits ds (InData h taken) next f g (inl a) (inr b) = absurd (b.0 a.0)
 one_step laws limits ds (InData h taken) next f g (inr a) (inl b) = absurd (a.0 b.0)
-one_step laws limits ds (InData h taken) next f g (inr a) (inr b) = same_Some _ _ (sym a.2.first ∙ b.2.first)
 
 pub one_refusal : LowerLaws → RefusalsTellTheLowestCause → RefusalsAreDetermined
 one_refusal laws tests limits octets next f g a b =
@@ -322,78 +320,62 @@ no_front tags one law limits octets front rest v open' parts admits =
       | inr n ↦ begun_none tags open'.begun r.rest r.is_rest n.dataset n.p (n.q ++ rest) n.spelled n.agree
     ]
 
+-- after how many octets of the stream the answer is told
+abbrev reach : List ℕ → Answer → ℕ
+reach stream (Finished n v) = n
+reach stream (Refused e) = e.octet
+reach stream (Truncated e) = length stream
+
 module _ (laws : LowerLaws) (tests : RefusalsTellTheLowestCause) (value : AdmittedOctetsHaveOneValue) (limits : Limits) (stream : List ℕ) where
-  -- no octets live that are more than the refused one
-  lives_before : (e : Refusal) (n : ℕ) → Answers limits stream (Refused e) → n ≤ length stream → Lives limits (take n stream) → n ≤ e.octet
-  lives_before e n (is, calm) fits lives = elim (cases_lt e.octet n) [
+  -- Before it the octets are open or an envelope.
+  led : (x : Answer) → Answers limits stream x → (reach stream x ≤ length stream) × AreOpenOrWhole limits (take (reach stream x) stream)
+  led (Finished n v) a = (a.fits, inr (v, a.envelope))
+  led (Refused e) a = (omega (arith, a.0.fits), inl a.0.refuses.before)
+  led (Truncated e) a = (omega arith, inl (rw take-length a.is_open))
+
+  -- With another octet they are neither.
+  past : (x : Answer) → Answers limits stream x → reach stream x < length stream → (more : List ℕ)
+      → AreOpenOrWhole limits (take (reach stream x) stream ++ slice_index stream (reach stream x) ∷ more) → ⊥
+  past (Finished n v) a less more (inl open') = no_front laws.one_tag laws.one_dataset laws.sections limits _ (take n stream) _ v open' refl a.envelope.admits
+  past (Finished n v) a less more (inr (w, is)) =
+      let bad : slice_index stream n ∷ more ≡ [] = no_others laws.one_dataset laws.sections (take n stream) _ v w a.envelope.admits is.admits in cc
+  past (Refused e) (is, calm) less more comes =
+      let by_octets = λ (sink : is.fault.cause ≡ Message Sink). calm (ap (λ (x : Refusal). x.cause) is.refusal ∙ sink) in
+      no_life laws tests more (record { refuses = is.refuses; by_octets = by_octets }) (lives_as laws limits _ comes)
+  past (Truncated e) a less more comes = omega (arith, less)
+
+  no_later : (x y : Answer) → Answers limits stream x → Answers limits stream y → reach stream y ≤ reach stream x
+  no_later x y a b = elim (cases_lt (reach stream x) (reach stream y)) [
     | inr le ↦ le
     | inl less ↦
-        let (more, parts) = front_at stream e.octet n less fits in
-        let by_octets = λ (sink : is.fault.cause ≡ Message Sink). calm (ap (λ (x : Refusal). x.cause) is.refusal ∙ sink) in
-        absurd (no_life laws tests more (record { refuses = is.refuses; by_octets = by_octets }) (subst (Lives limits) parts lives))
+        let (fits, comes) = led y b in
+        let (more, parts) = front_at stream (reach stream x) (reach stream y) less fits in
+        absurd (past x a (omega (arith, less, fits)) more (rw parts at comes))
   ]
 
-  -- no envelope begins open octets
-  ends_before : (used n : ℕ) (v : Value) → IsFinished limits stream used v → used ≤ n → IsOpen limits (take n stream) → ⊥
-  ends_before used n v a le open' =
-      no_front laws.one_tag laws.one_dataset laws.sections limits (take n stream) (take used stream) (drop used (take n stream)) v open'
-      (rw (← take-take used n stream le) (sym (take-append-drop used (take n stream)))) a.envelope.admits
+  not_open : (n : ℕ) (v : Value) → IsFinished limits stream n v → IsOpen limits (take n stream) → ⊥
+  not_open n v a open' =
+      no_front laws.one_tag laws.one_dataset laws.sections limits _ (take n stream) [] v open' (sym (append-nil (take n stream))) a.envelope.admits
 
-  -- an envelope, and a refusal or an end of octets
-  ends_or_dies : (used : ℕ) (v : Value) (e : Refusal) → IsFinished limits stream used v → Answers limits stream (Refused e) → ⊥
-  ends_or_dies used v e a b =
-      let lives = lives_envelope laws limits (take used stream) v a.envelope in
-      ends_before used e.octet v a (lives_before e used b a.fits lives) b.0.refuses.before
-
-  ends_or_breaks : (used : ℕ) (v : Value) (e : Refusal) → IsFinished limits stream used v → IsTruncated limits stream e → ⊥
-  ends_or_breaks used v e a b = ends_before used (length stream) v a a.fits (rw take-length b.is_open)
-
-  dies_or_breaks : (e f : Refusal) → Answers limits stream (Refused e) → IsTruncated limits stream f → ⊥
-  dies_or_breaks e f a b =
-      let late = lives_before e (length stream) a (omega arith) (rw take-length (lives_open limits stream b.is_open)) in omega (arith, late, a.0.fits)
-
-  -- of two envelopes none is longer
-  no_longer : (n m : ℕ) (v w : Value) → IsFinished limits stream n v → IsFinished limits stream m w → m ≤ n
-  no_longer n m v w a b = elim (cases_lt n m) [
-    | inr le ↦ le
-    | inl less ↦
-        let (more, is) = front_at stream n m less b.fits in
-        let bad : slice_index stream n ∷ more ≡ [] =
-        no_others laws.one_dataset laws.sections (take n stream) _ v w a.envelope.admits (rw is at b.envelope.admits) in cc
-  ]
-
-  one_end : (n m : ℕ) (v w : Value) → IsFinished limits stream n v → IsFinished limits stream m w → Finished n v ≡ Finished m w
-  one_end n m v w a b =
-      let same : n ≡ m = omega (arith, no_longer n m v w a b, no_longer m n w v b a) in
-      let same_value = value (take m stream) v w (rw same at a.envelope.admits) b.envelope.admits in
-      λ i. Finished (same i) (same_value i)
-
-  one_death : (e f : Refusal) → Answers limits stream (Refused e) → Answers limits stream (Refused f) → e ≡ f
-  one_death e f a b =
-      let late = lives_before e f.octet a (omega (arith, b.0.fits)) (lives_open limits (take f.octet stream) b.0.refuses.before) in
-      let early = lives_before f e.octet b (omega (arith, a.0.fits)) (lives_open limits (take e.octet stream) a.0.refuses.before) in
-      let same : e.octet ≡ f.octet = omega (arith, late, early) in
+  answer_at : (x y : Answer) → Answers limits stream x → Answers limits stream y → reach stream x ≡ reach stream y → x ≡ y
+  answer_at (Finished n v) (Finished m w) a b same =
+      let same_value = value (take m stream) v w (rw same at a.envelope.admits) b.envelope.admits in λ i. Finished (same i) (same_value i)
+  answer_at (Finished n v) (Refused e) a b same = absurd (not_open n v a (rw (← same) at b.0.refuses.before))
+  answer_at (Finished n v) (Truncated e) a b same = absurd (not_open n v a (rw (same, take-length) b.is_open))
+  answer_at (Refused e) (Refused f) a b same =
       let refuses = subst (λ (k : ℕ). RefusesNext limits (take k stream) (slice_index stream k) a.0.fault) same a.0.refuses in
       let fault = one_refusal laws tests limits (take f.octet stream) (slice_index stream f.octet) a.0.fault b.0.fault refuses b.0.refuses in
-      a.0.refusal ∙ (λ i. refusal_at (same i) (fault i)) ∙ sym b.0.refusal
-
-  one_break : (e f : Refusal) → IsTruncated limits stream e → IsTruncated limits stream f → e ≡ f
-  one_break e f a b =
+      ap Refused (a.0.refusal ∙ (λ i. refusal_at (same i) (fault i)) ∙ sym b.0.refusal)
+  answer_at (Truncated e) (Truncated f) a b same =
       let s = a.refusal in
       let t = b.refusal in
-      let same = (one_reading laws stream s.whole t.whole s.begun t.begun s.reads t.reads).begun_is in
-      s.refusal ∙ (λ i. truncated_in (length stream) (begun_record (same i), begun_number (same i))) ∙ sym t.refusal
-
-  answer_once : (x y : Answer) → Answers limits stream x → Answers limits stream y → x ≡ y
-  answer_once (Finished n v) (Finished m w) a b = one_end n m v w a b
-  answer_once (Finished n v) (Refused e) a b = absurd (ends_or_dies n v e a b)
-  answer_once (Finished n v) (Truncated e) a b = absurd (ends_or_breaks n v e a b)
-  answer_once (Refused e) (Finished n v) a b = absurd (ends_or_dies n v e b a)
-  answer_once (Refused e) (Refused f) a b = ap Refused (one_death e f a b)
-  answer_once (Refused e) (Truncated f) a b = absurd (dies_or_breaks e f a b)
-  answer_once (Truncated e) (Finished n v) a b = absurd (ends_or_breaks n v e b a)
-  answer_once (Truncated e) (Refused f) a b = absurd (dies_or_breaks f e b a)
-  answer_once (Truncated e) (Truncated f) a b = ap Truncated (one_break e f a b)
+      let one = (one_reading laws stream s.whole t.whole s.begun t.begun s.reads t.reads).begun_is in
+      ap Truncated (s.refusal ∙ (λ i. truncated_in (length stream) (begun_record (one i), begun_number (one i))) ∙ sym t.refusal)
+  answer_at (Refused e) (Truncated f) a b same = absurd (omega (arith, same, a.0.fits))
+  answer_at (Refused e) (Finished n v) a b same = absurd (not_open n v b (rw same at a.0.refuses.before))
+  answer_at (Truncated e) (Finished n v) a b same = absurd (not_open n v b (rw (← same, take-length) a.is_open))
+  answer_at (Truncated e) (Refused f) a b same = absurd (omega (arith, same, b.0.fits))
 
 pub one_answer : LowerLaws → RefusalsTellTheLowestCause → AdmittedOctetsHaveOneValue → StreamsHaveOneAnswer
-one_answer laws tests value limits stream = answer_once laws tests value limits stream
+one_answer laws tests value limits stream x y a b =
+    let later = no_later laws tests value limits stream in answer_at laws tests value limits stream x y a b (omega (arith, later x y a b, later y x b a))

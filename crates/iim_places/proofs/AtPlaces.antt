@@ -1,11 +1,12 @@
 -- Readers at a place: the message that a ticket tells, and what the record layer can continue with.
-use Rattle.std.proofs.Common.{◌≡◌, ℕ, ◌↔◌, Bool, true, false, cond, IsTrue, IsSome, IfNone, OnOk, Option, Result, Ok, Err, is_ok, List, [], ◌∷◌, length, map, get_or, refl, sym, subst, ◌∙◌, arith, Bor}
-use Rattle.iim_places.proofs.Words.{same_Some, Dataset, Head, DatasetPlace, SectionsLive, SectionsLiveAt, HasChecked, HasTaken, kept, kept_octets, IsWithin, RecordPlace, FieldFault, head_alive, taken_alive, LeadsToSaved, MessagePlace, AreNumbers, RecordsLive, head_of_numbers, number_list, widest, AreKept, CanContinueWithin, IsMessageOf, numbers_told, told_datasets, Phase, DataBegun}
+use Rattle.std.proofs.Common.{◌≡◌, ℕ, ◌+◌, ◌↔◌, Bool, true, false, cond, IsTrue, IsSome, IfNone, OnOk, Option, Result, Ok, Err, is_ok, List, [], ◌∷◌, length, map, get_or, refl, sym, subst, ◌∙◌, arith, Bor}
+use Rattle.iim_places.proofs.Words.{same_Some, Dataset, Head, DatasetPlace, SectionsLive, SectionsLiveAt, HasChecked, HasTaken, kept, IsWithin, Limits, RecordPlace, FieldFault, head_alive, taken_alive, LeadsToSaved, MessagePlace, AreNumbers, RecordsLive, head_of_numbers, number_list, AreKept, CanContinueWithin, IsMessageOf, numbers_told, told_datasets, Phase, DataBegun}
 use Rattle.iim_dataset.specs.States.Reading.{IsPlace}
+use Rattle.iim_fields.specs.Format.Causes.{joined}
 use Rattle.wire_message.specs.States.Reading.{StandsAt, LeadsTo as LeadTo, IsAt}
 use Rattle.wire_message.specs.declared.place.Place.{Place as Message}
 use Rattle.iim_places.proofs.Fitting.{message_told}
-use Rattle.iim_places.proofs.Plain.{kept_fields, plain_kept}
+use Rattle.iim_places.proofs.Plain.{plain_kept}
 
 pub no_place : {X A : Type 0} (result : Option X) (place : DatasetPlace) → IsSome result ↔ A → IsPlace place ↔ A → (P : Type 0) → (P → IsPlace place)
     → IfNone result (P → ⊥)
@@ -30,10 +31,10 @@ pub kept_told : (fields : List Dataset) (numbers : List (Option ℕ)) (some ende
     → kept (told_datasets fields numbers some ended) ≡ fields
 kept_told fields numbers some ended fit each = plain_kept fields (numbers_told numbers) (cond some 1 0) [] ended each
 
-pub leads_on_told : (section : ℕ) (phase : Phase) (fields : List Dataset) (numbers : List (Option ℕ)) (some ended : Bool) → AreNumbers numbers → AreKept fields
-    → IsWithin widest (kept_octets fields) (length fields) → RecordsLive section phase (told_datasets fields numbers some ended)
-    → CanContinueWithin widest (told_datasets fields numbers some ended)
-leads_on_told section phase fields numbers some ended fit each within lives = grind (arith, live_alive, kept_told, kept_fields)
+pub leads_on_told : (limits : Limits) (section : ℕ) (phase : Phase) (fields : List Dataset) (numbers : List (Option ℕ)) (some ended : Bool) (more one : ℕ)
+    → AreNumbers numbers → AreKept fields → IsWithin limits (length (joined fields) + more) (length fields + one)
+    → RecordsLive section phase (told_datasets fields numbers some ended) → CanContinueWithin limits (told_datasets fields numbers some ended)
+leads_on_told limits section phase fields numbers some ended more one fit each within lives = grind (arith, live_alive, kept_told)
 
 -- ---- the message
 

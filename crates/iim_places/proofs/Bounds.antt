@@ -1,28 +1,16 @@
 -- How many octets are open, or an envelope, at most.
-use Rattle.std.proofs.Common.{◌≡◌, ℕ, ◌+◌, ◌*◌, ◌<◌, ◌≤◌, ◌⊎◌, ◌^◌, ◌-◌, true, List, [], ◌∷◌, ◌++◌, length, map, sum, Option, Some, None, refl, ap, sym, subst, inl, inr, arith, append_assoc, length-append, ◌&&◌}
+use Rattle.std.proofs.Common.{◌≡◌, ◌∙◌, nat_eq, cond, append-nil, ℕ, ◌+◌, ◌*◌, ◌<◌, ◌≤◌, ◌⊎◌, ◌^◌, ◌-◌, true, List, [], ◌∷◌, ◌++◌, length, map, sum, Option, Some, None, refl, ap, sym, subst, inl, inr, arith, append_assoc, length-append, ◌&&◌}
 use Rattle.std.proofs.Math.Nat.{pow-le-pow_right}
-use Rattle.iim_places.proofs.Words.{AllByRecursion, Octets, number, greatest_size, all_append, all_front, all_back, all_map, Meets, Dataset, LowerLaws, SpellsStream, count_octets, of_record, tag_octets, Begun, InTag, InData, Reads, Head, within_most_and, sum_cons, sum_append, number-lt, AreRecords, AreSections, records, IsGoodDataset, SectionsLive, SectionsLiveAt, kept, is_kept, NoSectionsBeginOthers, EnvelopesEndWithTheLastRecord, Limits, ObjectToken, NumberRead, SubfileBegun, ObjectEnded, Confirmed, number_tokens, ending_tokens, place_after, place_after_datasets, lengths_of, Stated, AreOnce, InRow, number_at, MayContinue, ObjectLives, OpenOctetsAreBounded, EnvelopesAreBounded, eqb_tells, kept_octets, length-map, within, nat_tests}
-use Rattle.iim_tables.specs.Format.Kinds.{is_mode, is_size_from, size_octets}
+use Rattle.iim_places.proofs.Words.{tells_number, or_cases, eqb-true, front_alive, section_after, last_more, head_of, ne_eqb, filter-append, AllByRecursion, Octets, number, greatest_size, all_append, all_front, all_back, all_map, Meets, Dataset, LowerLaws, SpellsStream, count_octets, of_record, tag_octets, Begun, InTag, InData, Reads, Head, sum_cons, sum_append, number-lt, AreRecords, records, IsGoodDataset, SectionsLive, SectionsLiveAt, kept, is_kept, Limits, ObjectToken, NumberRead, SubfileBegun, ObjectEnded, Confirmed, number_tokens, ending_tokens, place_after, place_after_datasets, lengths_of, Stated, AreOnce, InRow, number_at, MayContinue, ObjectLives, OpenOctetsAreBounded, EnvelopesAreBounded, kept_octets, length-map, within, nat_tests}
+use Rattle.iim_tables.specs.Format.Kinds.{size_octets}
 use Rattle.iim_tables.specs.Format.Rows.{table, row_of}
 use Rattle.iim_dataset.proofs.Spelled.{tag_length}
 use Rattle.iim_fields.specs.Format.Causes.{joined}
 use Rattle.iim_object.specs.Format.Objects.{Place}
 use Rattle.iim_places.proofs.Answering.{lives_envelope}
 use Rattle.iim_places.proofs.Following.{alive_of, within_of, object_lives_after}
-use Rattle.iim_places.proofs.Lasts.{nine_ends}
-use Rattle.iim_places.proofs.SizeRows.{by_seven, by_ten, nine_has}
-
--- how many octets datasets take at most: thirteen for each tag, and the data
-abbrev weight : List Dataset → ℕ
-weight [] = 0
-weight (d ∷ ds) = (tag_octets + length d.octets) + weight ds
-
--- ---- tags
-
-stream_fits : (ds : List Dataset) (xs : List ℕ) → SpellsStream count_octets ds xs → length xs ≤ weight ds
-stream_fits [] xs none = omega (arith, ap length none)
-stream_fits (d ∷ ds) xs (first, rest, one, more, parts) =
-    omega (arith, ap length parts, length-append first rest, ap length one.parts, length-append one.tag d.octets, tag_length _ one.tag one.is_tag, stream_fits ds rest more)
+use Rattle.iim_places.proofs.Lasts.{not_all, last_sections}
+use Rattle.iim_places.proofs.TicketLengths.{held_length}
 
 -- what the good datasets of each record have, all of them have
 pub each_in : (P : Dataset → Type 0) (rs : List ℕ) (ds : List Dataset) → AllByRecursion (λ r. (d : Dataset) → d.rec ≡ r → IsGoodDataset d → P d) rs → AreRecords rs ds → AllByRecursion P ds
@@ -58,21 +46,29 @@ object_fits p (rest, is) = omega (arith, (part_of_whole p (rest, is)).1, is.agre
 
 -- ---- record 9
 
--- Datasets that can continue have one of record 9 at most, with which an envelope ends.
-nines : NoSectionsBeginOthers → EnvelopesEndWithTheLastRecord → (xs ys : List Dataset) → SectionsLive (xs ++ ys)
-    → (of_record 9 ys ≡ []) ⊎ ((length (of_record 9 ys) ≡ 1) × AreSections (xs ++ ys))
-nines law ends xs [] alive = inl refl
-nines law ends xs (d ∷ ys) alive = elim (eqb_tells d.rec 9) [
-  | inl nine ↦ let (sections, none) = nine_ends law ends xs d ys alive nine.1 in rw (none, nine.0) (inr (refl, sections))
-  | inr other ↦
-      let parts = append_assoc xs (d ∷ []) ys in
-      rw other.0 (subst (λ (ds : List Dataset). (of_record 9 ys ≡ []) ⊎ ((length (of_record 9 ys) ≡ 1) × AreSections ds)) parts
-      (nines law ends (xs ++ d ∷ []) ys (subst SectionsLive (sym parts) alive)))
-]
+-- What holds of no datasets, and with one more where it did before, holds of all that can continue.
+pub by_last : (P : List Dataset → Type 0) → P [] → ((xs : List Dataset) (d : Dataset) → SectionsLive (xs ++ d ∷ []) → P xs → P (xs ++ d ∷ []))
+    → (ds : List Dataset) → SectionsLive ds → P ds
+by_last P none step ds alive = on [] ds alive none
+  where
+    on : (xs ys : List Dataset) → SectionsLive (xs ++ ys) → P xs → P (xs ++ ys)
+    on xs [] alive is = rw append-nil is
+    on xs (d ∷ ys) alive is =
+        let parts = append_assoc xs (d ∷ []) ys in
+        let longer = subst SectionsLive (sym parts) alive in
+        subst P parts (on (xs ++ d ∷ []) ys longer (step xs d (front_alive (xs ++ d ∷ []) ys longer) is))
 
-pub none_nine : NoSectionsBeginOthers → EnvelopesEndWithTheLastRecord → (xs ys : List Dataset) → SectionsLive (xs ++ ys) → (AreSections (xs ++ ys) → ⊥)
-    → of_record 9 ys ≡ []
-none_nine law ends xs ys alive open' = elim (nines law ends xs ys alive) [ inl none ↦ none | inr some ↦ absurd (open' some.1) ]
+-- Datasets that can continue have one of record 9 where it is the last, and else none.
+pub nines : LowerLaws → (ds : List Dataset) → SectionsLive ds → length (of_record 9 ds) ≡ cond (nat_eq (section_after ds) 9) 1 0
+nines laws =
+    by_last (λ (ds : List Dataset). length (of_record 9 ds) ≡ cond (nat_eq (section_after ds) 9) 1 0) refl
+    (λ xs d alive is.
+    let open' = ne_eqb (section_after xs) 9
+    (λ nine. not_all laws.sections xs (head_of d) (d, refl, alive) (last_sections laws.last_record xs (front_alive xs (d ∷ []) alive) nine)) in
+    rw (filter-append (λ (x : Dataset). nat_eq x.rec 9) xs (d ∷ []), length-append, is, open', last_more 0 xs d) (grind arith))
+
+few_nines : LowerLaws → (ds : List Dataset) → SectionsLive ds → length (of_record 9 ds) ≤ 1
+few_nines laws ds alive = grind (arith, nines laws ds alive)
 
 -- ---- record 7
 
@@ -95,63 +91,53 @@ low n xs all fits = let most' : 256 ^ length xs ≤ 256 ^ n = pow-le-pow_right (
 
 -- ---- how long data are
 
--- A dataset is kept, or a subfile, or short.
-abbrev pub IsOne : Dataset → Type 0
-IsOne d = (is_kept d.rec ≡ true) ⊎ ((d.rec ≡ 8) ⊎ (length d.octets ≤ size_octets))
-
 -- what the rows of records 7 and 9 allow
 abbrev pub IsSized : List ℕ → Type 0
 IsSized xs = (length xs ≤ size_octets) × (number xs ≤ greatest_size)
 
-row_size : (least : ℕ) (xs : List ℕ) → (within 1 size_octets (length xs) && is_size_from least xs) ≡ true → IsSized xs
-row_size least xs h = grind (arith, nat_tests, h)
+-- records 7 and 9 tell numbers
+pub told_in : (r : ℕ) → tells_number r ≡ true → (r ≡ 7) ⊎ (r ≡ 9)
+told_in r is = elim (or_cases (nat_eq r 7) (nat_eq r 9) is) [ inl seven ↦ inl (eqb-true r 7 seven) | inr nine ↦ inr (eqb-true r 9 nine) ]
 
-pub sized_seven : (set : ℕ) (xs : List ℕ) → Octets xs → Meets 7 set xs → IsSized xs
+sized_seven : (set : ℕ) (xs : List ℕ) → Octets xs → Meets 7 set xs → IsSized xs
 unfolding row_of table
-sized_seven set xs all =
-    by_seven xs (λ _. IsSized xs) (λ h. let few = within_most_and 1 1 (length xs) (is_mode xs) h in (omega (arith, few), omega (arith, low 1 xs all few)))
-    (λ h. row_size 1 xs h) (λ h. row_size 0 xs h) (λ h. row_size 0 xs h) set
+sized_seven set xs all = grind (arith, nat_tests, low 1 xs)
 
-pub sized_nine : (set : ℕ) (xs : List ℕ) → Meets 9 set xs → IsSized xs
+sized_nine : (set : ℕ) (xs : List ℕ) → Meets 9 set xs → IsSized xs
 unfolding row_of table
-sized_nine set xs = by_ten 9 nine_has xs (λ _. IsSized xs) (λ h. row_size 0 xs h) set
+sized_nine set xs = grind (arith, nat_tests)
+
+pub sized : (r set : ℕ) (xs : List ℕ) → tells_number r ≡ true → Octets xs → Meets r set xs → IsSized xs
+sized r set xs told all = grind (arith, told_in, sized_seven, sized_nine)
 
 -- A dataset is kept, or a subfile, or a short one of record 7 or 9.
-abbrev Counted : Dataset → Type 0
-Counted d = (is_kept d.rec ≡ true) ⊎ ((d.rec ≡ 8) ⊎ (((d.rec ≡ 7) ⊎ (d.rec ≡ 9)) × (length d.octets ≤ size_octets)))
+abbrev pub Counted : Dataset → Type 0
+Counted d = (is_kept d.rec ≡ true) ⊎ ((d.rec ≡ 8) ⊎ ((tells_number d.rec ≡ true) × (length d.octets ≤ size_octets)))
 
 alive_counted : (ds : List Dataset) → SectionsLive ds → AllByRecursion Counted ds
 alive_counted ds (more, are) =
-    all_front Counted ds more (each_in Counted records (ds ++ more) (
-      (λ d is good. inl (ap is_kept is)),
-      (
-        (λ d is good. inl (ap is_kept is)),
-        (
-          (λ d is good. inr (inr (inl is, (sized_seven d.set d.octets good.octets (rw is at good.meets)).0))),
-          (
-            (λ d is good. inr (inl is)),
-            ((λ d is good. inr (inr (inr is, (sized_nine d.set d.octets (rw is at good.meets)).0))), tt),
-          ),
-        ),
-      ),
-    ) are)
+    let fields : (r : ℕ) → is_kept r ≡ true → (d : Dataset) → d.rec ≡ r → IsGoodDataset d → Counted d = λ r keeps d is good. inl (ap is_kept is ∙ keeps) in
+    let told : (r : ℕ) → tells_number r ≡ true → (d : Dataset) → d.rec ≡ r → IsGoodDataset d → Counted d = λ r tells d is good.
+    let here = ap tells_number is ∙ tells in inr (inr (here, (sized d.rec d.set d.octets here good.octets good.meets).0)) in
+    all_front Counted ds more
+    (each_in Counted records (ds ++ more) (fields 1 refl, (fields 2 refl, (told 7 refl, ((λ d is good. inr (inl is)), (told 9 refl, tt))))) are)
 
-pub alive_ones : (ds : List Dataset) → SectionsLive ds → AllByRecursion IsOne ds
-alive_ones ds alive = all_map Counted IsOne ds (λ d is. grind (arith, is)) (alive_counted ds alive)
+pub last_counted : (xs : List Dataset) (d : Dataset) → SectionsLive (xs ++ d ∷ []) → Counted d
+last_counted xs d alive = (all_back Counted xs (d ∷ []) (alive_counted (xs ++ d ∷ []) alive)).0
 
 pub is_one : (ds : List Dataset) (h : Head) → SectionsLiveAt ds h → (is_kept h.rec ≡ true) ⊎ ((h.rec ≡ 8) ⊎ (h.count ≤ size_octets))
-is_one ds h (d, is, alive) =
-    subst (λ (k : Head). (is_kept k.rec ≡ true) ⊎ ((k.rec ≡ 8) ⊎ (k.count ≤ size_octets))) is (all_back IsOne ds (d ∷ []) (alive_ones (ds ++ d ∷ []) alive)).0
+is_one ds h (d, is, alive) = grind (arith, is, last_counted ds d alive)
 
-pub few_in_seven : (d : Dataset) → d.rec ≡ 7 → IsOne d → length d.octets ≤ size_octets
-few_in_seven d seven one = grind arith
-
--- the datasets of each record apart: those of records 7 and 9 have few octets
-apart : (ds : List Dataset) → AllByRecursion Counted ds
-    → weight ds ≤ (tag_octets * length (kept ds) + kept_octets ds) + (tag_octets + size_octets) * (length (of_record 7 ds) + length (of_record 9 ds))
+-- How many octets datasets take: thirteen at most for each tag, and the data, of which those of records 7 and 9 are short.
+stream_fits : (ds : List Dataset) (xs : List ℕ) → AllByRecursion Counted ds → SpellsStream count_octets ds xs
+    → length xs ≤ (tag_octets * length (kept ds) + kept_octets ds) + (tag_octets + size_octets) * (length (of_record 7 ds) + length (of_record 9 ds))
     + (tag_octets * length (of_record 8 ds) + sum (lengths_of (of_record 8 ds)))
-apart [] all = omega arith
-apart (d ∷ ds) all = grind (arith, apart ds all.1, all.0, length-append d.octets (joined (kept ds)), sum_cons (length d.octets) (lengths_of (of_record 8 ds)))
+stream_fits [] xs all none = omega (arith, ap length none)
+stream_fits (d ∷ ds) xs all (first, rest, one, more, parts) =
+    let whole : length xs ≤ tag_octets + length d.octets + length rest =
+    omega (arith, ap length parts, length-append first rest, ap length one.parts, length-append one.tag d.octets, tag_length _ one.tag one.is_tag) in
+    let sums = sum_cons (length d.octets) (lengths_of (of_record 8 ds)) in
+    grind (arith, whole, stream_fits ds rest all.1 more, all.0, length-append d.octets (joined (kept ds)), sums)
 
 -- ---- all of it
 
@@ -163,18 +149,16 @@ whole_fits laws limits less few ds c xs spelled goes =
     let within = within_of limits ds c goes in
     let numbers = few_numbers (place_after_datasets ds) (object_lives_after laws limits ds c goes) in
     let count = length-map {B = Stated} (of_record 7 ds) (λ (d : Dataset). record { set = d.set; number = number d.octets }) in
-    let nine : length (of_record 9 ds) ≤ 1 = grind (arith, nines laws.sections laws.last_record [] ds alive) in
-    omega (arith, stream_fits ds xs spelled, apart ds (alive_counted ds alive), within.kept.octets_in, within.kept.fields_in, within.subfiles, numbers, count)
+    let stream = stream_fits ds xs (alive_counted ds alive) spelled in
+    omega (arith, stream, within.kept.octets_in, within.kept.fields_in, within.subfiles, numbers, count, few_nines laws ds alive)
 
 -- and with a begun one
 read_fits : LowerLaws → (limits : Limits) → limits.octets < 2 ^ 32 → limits.fields < 2 ^ 32 → (octets : List ℕ) (ds : List Dataset) (c : Begun)
     → Reads count_octets octets ds c → MayContinue limits ds c → length octets < 2 ^ 64 - 1
 read_fits laws limits less few octets ds (InTag held) r goes =
-    let (same, h, tag, spelled, (rest, some, joined)) = r.is_rest in
     let whole = whole_fits laws limits less few ds (InTag held) r.front r.is_front goes in
     let size = object_fits (place_after_datasets ds) goes.object in
-    let parts = ap length r.parts in
-    omega (arith, whole, size, parts, length-append r.front r.rest, ap length same, ap length joined, length-append held rest, tag_length h tag spelled)
+    omega (arith, whole, size, ap length r.parts, length-append r.front r.rest, ap length r.is_rest.0, held_length octets ds held r)
 read_fits laws limits less few octets ds (InData h taken) r goes =
     let (tag, spelled, fits, given, same) = r.is_rest in
     let whole = whole_fits laws limits less few ds (InData h taken) r.front r.is_front goes in

@@ -1,18 +1,19 @@
 -- A place is possible exactly where each layer alone can be there.
-use Rattle.std.proofs.Common.{◌≡◌, ℕ, zero, suc, ◌+◌, ◌-◌, ◌<◌, ◌≤◌, nat_eq, cond, if◌then◌else◌, Bool, true, false, List, [], ◌∷◌, ◌++◌, length, map, Some, None, refl, ap, sym, subst, ◌∙◌, inl, inr, arith, append-nil, length-append, ◌*◌, ◌^◌, sum, take, drop, length-drop, IfSome, Option}
-use Rattle.iim_places.proofs.Words.{eqb-true, eqb_tells, Octets, Dataset, count_octets, of_record, Begun, InTag, InData, Reads, Head, sum_append, SectionsLive, SectionsLiveAt, kept, section_after, Limits, place_after_datasets, place_ended, ending_of, ObjectEnded, SubfileBegun, NotEnded, ConfirmedAs, place_after, max_subfiles, lengths_of, numbers_of, IsPossible, stated_numbers, Octet, End, MessageLanguage, MessagePlace, object_of, LeadsByLayers, TagsLead, RecordsLive, ObjectLeads, record_datasets, begun_subfiles, one_of_some, are_ended, object_so_far, section, plain, Possible, widest, Phase, TagBegun, AllEnded, phase_of, place_of, ObjectLives, CanContinueAt, MayContinue, LowerLaws, AllByRecursion, unwrap_or, length-take, take-append-drop, nil_from_length, greatest_size, HasSpellings, IsBegun, all_append, all_front, all_back, front_are, sum_fits, is_kept, IsGoodDataset, head_alive, Confirmed, Ending, number_at, IsSize, head_of_numbers, AreWithin, Numbers, number_list, plain_end, AreOpenOrWhole, DataBegun, IsPlaceOf, place_at, eq-eqb, CanContinue, place_in, IsWithin, AllCanContinue, kept_octets, AreHeadsWithin, LimitsAreToldByPlace, subfile_datasets, filled, AreKept, IsOctet, heads_of, ne_eqb, numbers_told, number_back}
+use Rattle.std.proofs.Common.{◌≡◌, ℕ, zero, suc, ◌+◌, ◌-◌, ◌<◌, ◌≤◌, nat_eq, cond, if◌then◌else◌, Bool, true, false, List, [], ◌∷◌, ◌++◌, length, Some, None, refl, ap, sym, subst, ◌∙◌, inl, inr, arith, append-nil, length-append, ◌*◌, sum, take, drop, length-drop, IfSome}
+use Rattle.iim_places.proofs.Words.{IsLongField, eqb-true, eqb_tells, Octets, Dataset, count_octets, of_record, Begun, InTag, InData, Reads, Head, sum_append, SectionsLive, SectionsLiveAt, kept, section_after, Limits, place_after_datasets, place_ended, ending_of, ObjectEnded, SubfileBegun, NotEnded, ConfirmedAs, place_after, max_subfiles, lengths_of, numbers_of, IsPossible, stated_numbers, MessagePlace, object_of, LeadsByLayers, TagsLead, RecordsLive, ObjectLeads, record_datasets, begun_subfiles, one_of_some, are_ended, object_so_far, section, plain, Possible, widest, Phase, TagBegun, AllEnded, phase_of, place_of, ObjectLives, CanContinueAt, MayContinue, LowerLaws, AllByRecursion, unwrap_or, length-take, take-append-drop, nil_from_length, greatest_size, HasSpellings, IsBegun, all_append, all_front, all_back, front_are, sum_fits, IsGoodDataset, head_alive, Confirmed, Ending, IsSize, head_of_numbers, AreWithin, Numbers, number_list, plain_end, DataBegun, place_at, eq-eqb, CanContinue, place_in, IsWithin, AreHeadsWithin, LimitsAreToldByPlace, subfile_datasets, filled, AreKept, IsOctet, heads_of, ne_eqb, numbers_told, number_back}
 use Rattle.iim_object.specs.States.Reading.{IsAt}
 use Rattle.iim_places.specs.Format.Tickets.{Place}
+use Rattle.iim_places.proofs.Following.{within_of}
 use Rattle.iim_places.proofs.AfterEnd.{after_end}
-use Rattle.iim_places.proofs.Fitting.{lived, begins_tag, given_fits, tag_or_end}
+use Rattle.iim_places.proofs.Fitting.{fit_in_rows, each_fits, goes_at, begins_tag, given_fits}
 use Rattle.iim_places.proofs.Lasts.{last_sections, not_all}
-use Rattle.iim_places.proofs.Twins.{Continues, plain_like, fit_in_rows, alive_at_as}
+use Rattle.iim_places.proofs.Twins.{Continues, plain_like, alive_at_as}
 use Rattle.iim_places.proofs.PlainSizes.{numbers_in, all_kept, mode_octet, end_length, possible_like, AreBounded, bounded_at, ending_after, possible_after, possible_at}
 use Rattle.iim_places.proofs.SameRecords.{nines, stated_after_all, same_numbers}
 use Rattle.iim_places.proofs.Tickets.{total_of, count_of, sum_one, heads_by, so_far_by}
 use Rattle.iim_fields.specs.Format.Causes.{joined}
 use Rattle.iim_places.proofs.ObjectOctets.{living_octets}
-use Rattle.iim_places.proofs.Answering.{nothing_held, Lives, lives_open, lives_envelope, reads_envelope, coming}
+use Rattle.iim_places.proofs.Answering.{open_at, one_reading, nothing_held, reads_envelope}
 use Rattle.iim_places.proofs.Bounds.{object_fits}
 use Rattle.iim_places.proofs.Plain.{Tell, back_octets, plain_told, present_ended, plain_spelled}
 use Rattle.iim_places.proofs.Taking.{each_good}
@@ -22,20 +23,18 @@ use Rattle.wire_message.specs.declared.saved.MessagePart.TheVariants as part
 use Rattle.iim_places.proofs.SamePlace.{SameObject}
 
 tags_lead : (octets : List ℕ) (ds : List Dataset) (b : Begun) → Reads count_octets octets ds b → TagsLead (section ds b) (phase_of ds b)
-tags_lead octets ds (InTag held) reads =
-    tag_or_end (TagsLead (section_after ds)) (nat_eq (section_after ds) 9) held tt (begins_tag count_octets octets ds held reads)
+tags_lead octets ds (InTag held) reads = grind (arith, begins_tag count_octets octets ds held reads)
 tags_lead octets ds (InData h taken) reads =
     let (tag, spelled, less, all, parts) = reads.is_rest in
     ((omega (arith, less), omega arith, tag, spelled), given_fits (nat_eq h.rec 8) h.count taken less, grind arith)
 
 -- ---- the record layer
 
-pub few_subfiles : (n : ℕ) → one_of_some n ≤ max_subfiles
+few_subfiles : (n : ℕ) → one_of_some n ≤ max_subfiles
 few_subfiles n = grind arith
 
 one_same : (n : ℕ) → one_of_some n ≡ one_of_some (one_of_some n)
-one_same zero = refl
-one_same (suc n) = refl
+one_same n = grind arith
 
 -- What the layer says after datasets it says after the few by which it is told.
 pub fewer : LowerLaws → (ds : List Dataset) → SectionsLive ds → length (of_record 8 ds) ≤ max_subfiles → (some : ℕ) (ended : Bool)
@@ -43,7 +42,7 @@ pub fewer : LowerLaws → (ds : List Dataset) → SectionsLive ds → length (of
     → Continues ds (plain (kept ds) (numbers_in (numbers_of (of_record 7 ds))) (one_of_some some) [] ended)
 fewer laws ds alive few some ended some_is ended_is =
     let ends = nines laws ds alive in
-    plain_like laws ds (kept ds) (numbers_in (numbers_of (of_record 7 ds))) (one_of_some some) [] ended (grind (arith, few_subfiles, one_same))
+    plain_like laws ds (kept ds) (numbers_in (numbers_of (of_record 7 ds))) (one_of_some some) [] ended (grind (arith, one_same))
 
 pub begun_same : (n : ℕ) (b : Bool) → (n + (if b then 1 else 0)) - (if b then 1 else 0) ≡ n
 begun_same n b = grind arith
@@ -103,7 +102,11 @@ pub led_at : LowerLaws → (limits : Limits) (ds : List Dataset) (h : Head) (tak
 led_at laws limits ds h taken goes open' less = elim (eqb_tells h.rec 8) [
   | inl eight ↦ rw (eight.0, ap (λ (r : ℕ). nat_eq r 9) eight.1)
       (place_after (opened ds) (SubfileBegun h.count), subfile, ap (λ (p : objects.Place). place_after p (SubfileBegun h.count)) same)
-  | inr other ↦ rw other.0 (opened ds, whole_at ds _ _ (ap length (append-nil (object_of ds))) (omega arith), ends (nat_eq h.rec 9))
+  | inr other ↦ rw other.0 (
+    opened ds,
+    whole_at ds _ _ (ap length (append-nil (object_of ds))) (omega arith),
+    ap (λ (p : objects.Place). if nat_eq h.rec 9 then place_after p ObjectEnded else p) same,
+  )
 ]
   where
     same : opened ds ≡ place_after_datasets ds
@@ -123,10 +126,6 @@ led_at laws limits ds h taken goes open' less = elim (eqb_tells h.rec 8) [
       subfiles = sym (heads_by true false ds h.count);
       not_ended = refl;
     }
-
-    ends : (c : Bool) → (if c then place_after (opened ds) ObjectEnded else opened ds) ≡ (if c then place_ended ds else place_after_datasets ds)
-    ends true = refl
-    ends false = same
 
 object_leads : LowerLaws → (ds : List Dataset) (b : Begun) (m : MessagePlace) (rest : List ℕ) → IsBegun count_octets b rest → MayContinue widest ds b
     → ObjectLeads (place_of ds b m)
@@ -152,50 +151,47 @@ within_by : (limits : Limits) (ds : List Dataset) (b : Begun) (m : MessagePlace)
     → MayContinue limits ds b
 within_by limits ds b m goes within = grind arith
 
-back : LowerLaws → (limits : Limits) (octets : List ℕ) (place : Place) → IsPlaceOf octets place → AreOpenOrWhole widest octets → AreHeadsWithin limits place
-    → AreOpenOrWhole limits octets
-back laws limits octets place is (inl o) within =
-    let c = coming laws place octets is o.whole o.begun o.reads in
-    let sizes = within_by limits o.whole o.begun c.message o.leads_on.sizes (subst (AreHeadsWithin limits) c.is_place within) in
-    let goes : AllCanContinue limits o.whole o.begun = record { sizes = sizes; message = o.leads_on.message; story = o.leads_on.story } in
-    inl (record { whole = o.whole; begun = o.begun; reads = o.reads; leads_on = goes; unfinished = o.unfinished })
-back laws limits octets place is (inr (value, e)) within =
-    let c = coming laws place octets is e.admits.datasets (InTag []) (reads_envelope octets value e.admits) in
-    let there = subst (AreHeadsWithin limits) c.is_place within in
-    let inside : IsWithin limits (kept_octets e.admits.datasets) (length (kept e.admits.datasets)) = grind arith in
-    inr (value, record { admits = e.admits; within = record { kept = inside; subfiles = e.within.subfiles } })
-
 -- Octets that are open or an envelope under the widest limits are so under others exactly where the heads that their place tells
 -- are within these.
 pub limits_told : LowerLaws → LimitsAreToldByPlace
 limits_told laws limits octets place is comes = (
-  (λ at.
-      let lives : Lives limits octets = elim at [ inl o ↦ lives_open limits octets o | inr e ↦ lives_envelope laws limits octets e.0 e.1 ] in
-      let c = coming laws place octets is lives.whole lives.begun lives.reads in
-      subst (AreHeadsWithin limits) (sym c.is_place) (told_by limits lives.whole lives.begun c.message lives.leads_on.sizes)),
-  (λ within. back laws limits octets place is comes within),
+  (λ at. subst (AreHeadsWithin limits) (sym is.is_place) (told_by limits is.whole is.begun is.message (goes_at laws limits octets place is at).sizes)),
+  (λ within.
+      let goes = goes_at laws widest octets place is comes in
+      let sizes = within_by limits is.whole is.begun is.message goes.sizes (subst (AreHeadsWithin limits) is.is_place within) in
+      elim comes [
+        | inl o ↦ inl (record {
+          whole = is.whole;
+          begun = is.begun;
+          reads = is.reads;
+          leads_on = record { sizes = sizes; message = goes.message; story = goes.story };
+          unfinished = (open_at laws widest octets is.whole is.begun is.reads o).1;
+        })
+        | inr (value, e) ↦
+            let same = one_reading laws octets is.whole e.admits.datasets is.begun (InTag []) is.reads (reads_envelope octets value e.admits) in
+            inr (value, record { admits = e.admits; within = rw same.whole_is at (within_of limits is.whole is.begun sizes) })
+      ]),
 )
 
 -- At a possible place each layer can be.
 pub leads_by_layers : LowerLaws → (place : Place) → Possible place → LeadsByLayers place
 leads_by_layers laws place p =
-    let l = lived laws place p in
+    let l = p.leads in
+    let goes = goes_at laws widest p.octets place l p.comes in
     let ds = l.whole in
     let o = object_so_far ds l.begun in
     let same = ap (λ (m : MessagePlace). m.part) l.leads.2 in
-    let alive = λ (nine : section ds l.begun ≡ 9).
-    subst (λ (r : ℕ). languages.IsAlive MessageLanguage (map Octet o ++ (if nat_eq r 9 then End ∷ [] else []))) nine l.leads_on.message in
     let last : section ds l.begun ≡ 9 → l.message.part ≡ part.AfterEnd =
-    λ nine. sym same ∙ after_end l.leads.0 ((laws.message_ends o l.text l.leads.0 l.leads.1).0 (alive nine)) in
+    λ nine. sym same ∙ after_end l.leads.0 ((laws.message_ends o l.text l.leads.0 l.leads.1).0 (rw nine at goes.message)) in
     subst LeadsByLayers (sym l.is_place) (record {
       numbers = numbers_in (numbers_of (of_record 7 ds));
       numbers_are = refl;
       kept = all_kept ds;
-      tags = tags_lead l.octets ds l.begun l.reads;
-      records = records_lead laws ds l.begun l.message l.leads_on.sizes;
-      object = object_leads laws ds l.begun l.message l.reads.rest l.reads.is_rest l.leads_on.sizes;
+      tags = tags_lead p.octets ds l.begun l.reads;
+      records = records_lead laws ds l.begun l.message goes.sizes;
+      object = object_leads laws ds l.begun l.message l.reads.rest l.reads.is_rest goes.sizes;
       message = (o, l.text, l.leads, refl, last);
-      within = told_by widest ds l.begun l.message l.leads_on.sizes;
+      within = told_by widest ds l.begun l.message goes.sizes;
     })
 
 -- ---- plain datasets of a place
@@ -204,18 +200,10 @@ part_small : (size count : ℕ) (xs : List ℕ) → AllByRecursion (λ n. n ≤ 
 part_small size zero xs = tt
 part_small size (suc count) xs = (omega (arith, length-take size xs), part_small size count (drop size xs))
 
-two_at_most : (r : ℕ) → is_kept r ≡ true → r ≤ 2
-two_at_most r is = grind arith
-
 -- the fields of sections can be spelled, where they have few octets
-have_spellings : (ds : List Dataset) → AreKept ds → AllByRecursion IsGoodDataset ds → length (joined ds) < 2 ^ 32 → AllByRecursion HasSpellings ds
+have_spellings : (ds : List Dataset) → AreKept ds → AllByRecursion IsGoodDataset ds → AllByRecursion IsLongField ds → AllByRecursion HasSpellings ds
 have_spellings [] keeps good few = tt
-have_spellings (d ∷ ds) keeps good few =
-    let both = length-append d.octets (joined ds) in
-    let low = two_at_most d.rec keeps.0 in (
-      record { rec = omega (arith, low); set = good.0.numbered; octets = good.0.octets; few = omega (arith, both, few) },
-      have_spellings ds keeps.1 good.1 (omega (arith, both, few)),
-    )
+have_spellings (d ∷ ds) keeps good few = grind (arith, have_spellings ds keeps.1 good.1 few.1, keeps.0, good.0, few.0)
 
 -- how many subfiles have ended
 abbrev pub ended_heads : Place → ℕ
@@ -263,10 +251,8 @@ module _ (laws : LowerLaws) (place : Place) (l : LeadsByLayers place) (object : 
       → sum ls ≡ length object → Octets object → SectionsLive (record_datasets place l.numbers) → Filling p ks
   filling p ls ks same is parts many total octets alive =
       let are : l.numbers ≡ numbers_in p.stated = ap numbers_told same in
-      let largest : l.numbers.largest ≡ number_at 20 p.stated = ap (λ (n : Numbers). n.largest) are in
       let size = unwrap_or l.numbers.largest 0 in
-      let each : AllByRecursion (λ n. n ≤ size) (ls ++ ks) =
-      subst (λ (o : Option ℕ). AllByRecursion (λ n. n ≤ unwrap_or o 0) (ls ++ ks)) (sym largest) (subst (AreBounded p.stated) parts (bounded_at laws p is)) in
+      let each : AllByRecursion (λ n. n ≤ size) (ls ++ ks) = rw (are, ← parts) (bounded_at laws p is) in
       let sums : sum p.lengths ≡ sum ls + sum ks = ap sum parts ∙ sum_append ls ks in
       let counts : length p.lengths ≡ length ls + length ks = ap length parts ∙ length-append ls ks in
       let few : length object ≤ greatest_size = omega (arith, object_fits p is.alive, sums, total) in
@@ -275,7 +261,7 @@ module _ (laws : LowerLaws) (place : Place) (l : LeadsByLayers place) (object : 
       let base = record_datasets place l.numbers in
       let tell = plain_told place.fields l.numbers heads object ended l.kept fit room in
       let less = plain_told place.fields l.numbers (one_of_some heads) [] ended l.kept fit (omega arith) in
-      let low = few_subfiles heads in
+      let low : one_of_some heads ≤ max_subfiles = few_subfiles heads in
       let ends = ap length less.nines_are ∙ end_length ended [] in
       let on = plain_like laws base place.fields l.numbers heads object ended (grind (arith, one_same)) in
       let subfiles : length (of_record 8 made) ≤ max_subfiles = omega (arith, tell.heads_are, many, counts, is.few) in
@@ -284,20 +270,20 @@ module _ (laws : LowerLaws) (place : Place) (l : LeadsByLayers place) (object : 
       let good = all_front IsGoodDataset place.fields _ (all_front IsGoodDataset base alive.0 (each_good (base ++ alive.0) alive.1)) in
       let ns = numbers_of (of_record 7 made) in
       let ms = lengths_of (of_record 8 made) in
-      let same_largest : l.numbers.largest ≡ number_at 20 ns = largest ∙ (same_numbers p.stated ns (sym same ∙ sym tell.numbers_are)).largest in
-      let bounded : AreBounded ns (ms ++ ks) = subst (λ (o : Option ℕ). AllByRecursion (λ n. n ≤ unwrap_or o 0) (ms ++ ks)) same_largest
-      (all_append (λ n. n ≤ size) ms ks
-      (subst (λ (ds : List Dataset). AllByRecursion (λ n. n ≤ size) (lengths_of ds)) (sym tell.eights_are) (part_small size heads object))
-      (all_back (λ n. n ≤ size) ls ks each)) in
+      let told = same_numbers p.stated ns (sym same ∙ sym tell.numbers_are) in
+      let bounded : AreBounded ns (ms ++ ks) =
+      rw (← told.largest, ← ap (λ (n : Numbers). n.largest) are)
+      (all_append (λ n. n ≤ size) ms ks (rw tell.eights_are (part_small size heads object)) (all_back (λ n. n ≤ size) ls ks each)) in
       let alike : (e : Ending) → SameObject p (record { stated = ns; lengths = ms ++ ks; ending = e }) = λ e. record {
-        numbers = same_numbers p.stated ns (sym same ∙ sym tell.numbers_are);
+        numbers = told;
         heads = omega (arith, counts, many, tell.heads_are, count_of (of_record 8 made), length-append ms ks);
         octets = omega (arith, sums, total, ap length tell.object_is, total_of (of_record 8 made), sum_append ms ks);
       } in
       record {
         tell = tell;
         few = few;
-        spelled = plain_spelled place.fields l.numbers heads object ended (have_spellings place.fields l.kept good (omega (arith, l.within.octets_in)))
+        spelled = plain_spelled place.fields l.numbers heads object ended
+            (have_spellings place.fields l.kept good (each_fits place.fields (omega (arith, l.within.octets_in))))
             (subst (λ (n : Numbers). IfSome n.mode IsOctet) (sym are) (mode_octet p.stated is.stated.each)) octets few;
         inside = record { kept = rw tell.kept_are within; subfiles = subfiles };
         on = on;
@@ -353,9 +339,16 @@ between laws place l p same is many total none alive =
 abbrev with_phase : Place → Phase → Place
 with_phase place phase = record place { phase = phase }
 
-lead_data : (laws : LowerLaws) (place : Place) (set count left : ℕ) (given : List ℕ) → (l : LeadsByLayers (with_phase place (DataBegun set count left given)))
-    → Opens (with_phase place (DataBegun set count left given)) l
-lead_data laws place set count left given l = by (nat_eq place.section 8) (nat_eq place.section 9) refl refl l.tags.1 l.object.1 l.object.2
+lead_by : (laws : LowerLaws) (place : Place) (phase : Phase) (l : LeadsByLayers (with_phase place phase)) → Opens (with_phase place phase) l
+lead_by laws place (TagBegun held) l =
+    let here = with_phase place (TagBegun held) in
+    let o = l.message.0 in
+    let at = l.object.1 in
+    let f = between laws here l l.object.0 (sym l.numbers_are ∙ at.numbers_are) l.object.2 at.subfiles at.octets refl l.records.1 in
+    led laws here l o l.object.0 [] f (InTag held) held (refl, l.tags.head, held ++ l.tags.more, l.tags.whole, (l.tags.more, l.tags.some_more, refl))
+    f.tell.object_is (sym l.records.0 ∙ f.on.present) (rw (present_ended place.fields l.numbers (ended_heads here) o false l.kept) refl)
+    (omega (arith, f.tell.heads_are)) (goes_on laws here l o l.object.0 f at.not_ended) (λ e. absurd (let bad : false ≡ true = e in cc))
+lead_by laws place (DataBegun set count left given) l = by (nat_eq place.section 8) (nat_eq place.section 9) refl refl l.tags.1 l.object.1 l.object.2
   where
     here : Place
     here = with_phase place (DataBegun set count left given)
@@ -422,17 +415,6 @@ lead_data laws place set count left given l = by (nat_eq place.section 8) (nat_e
     by false false not8 not9 come at is =
         other l.object.0 not8 come (sym l.numbers_are ∙ at.numbers_are) is at.subfiles at.octets
         (λ ds none. rw (not8, not9, append-nil) (λ i. record (place_after_datasets ds) { ending = (none ∙ sym at.not_ended) i }))
-
-lead_by : (laws : LowerLaws) (place : Place) (phase : Phase) (l : LeadsByLayers (with_phase place phase)) → Opens (with_phase place phase) l
-lead_by laws place (TagBegun held) l =
-    let here = with_phase place (TagBegun held) in
-    let o = l.message.0 in
-    let at = l.object.1 in
-    let f = between laws here l l.object.0 (sym l.numbers_are ∙ at.numbers_are) l.object.2 at.subfiles at.octets refl l.records.1 in
-    led laws here l o l.object.0 [] f (InTag held) held (refl, l.tags.head, held ++ l.tags.more, l.tags.whole, (l.tags.more, l.tags.some_more, refl))
-    f.tell.object_is (sym l.records.0 ∙ f.on.present) (rw (present_ended place.fields l.numbers (ended_heads here) o false l.kept) refl)
-    (omega (arith, f.tell.heads_are)) (goes_on laws here l o l.object.0 f at.not_ended) (λ e. absurd (let bad : false ≡ true = e in cc))
-lead_by laws place (DataBegun set count left given) l = lead_data laws place set count left given l
 lead_by laws place AllEnded l =
     let here = with_phase place AllEnded in
     let o = l.message.0 in

@@ -1,13 +1,14 @@
 -- The ticket of a possible place has the form of a ticket: each number fits its octets.
 use Rattle.std.proofs.Common.{◌≡◌, ℕ, ◌-◌, ◌<◌, ◌≤◌, ◌^◌, nat_eq, cond, if◌then◌else◌, Bool, true, false, List, [], ◌∷◌, ◌++◌, length, sum, get_or, Option, ◌↔◌, rules, Some, None, refl, ap, sym, subst, ◌∙◌, inl, inr, arith, append_assoc, append-nil, length-append}
-use Rattle.iim_places.proofs.Words.{place_after, AllByRecursion, all_map, eqb_tells, nat_tests, Octets, Dataset, SpellsStream, SpellsTag, count_octets, of_record, Begun, InTag, InData, Reads, kept, section_after, Head, BeginsTag, place_after_datasets, numbers_of, stated_numbers, Stated, number_at, LeadsToSaved, MessagePlace, LowerLaws, object_so_far, section, AllCanContinue, ObjectLives, MayContinue, Phase, TagBegun, AllEnded, present_version, phase_of, heads_of, place_of, ticket_in, part_number, IsLongField, IsSizeIn, AreTexts, IsSize, IsVersion, IsPhase, HasForm, Split, SplitsTicket, split_octets, place_in, Possible, IsSmall, IsSmallPhase, IsSmallPlace, widest, SmallPlacesWerePossible, TicketsTellOnePlace, TicketsOfPlacesAreSplit, texts_of, split_of, Limits, max_subfiles, greatest_size_before, CanContinueAt, IsBegun, canonical_stream, place_at, place_ended, SubfileBegun}
+use Rattle.iim_places.proofs.Words.{InRow, IsPlaceOf, AreOpenOrWhole, AllByRecursion, all_map, nat_tests, Octets, Dataset, SpellsStream, SpellsTag, count_octets, of_record, Begun, InTag, InData, Reads, kept, Head, BeginsTag, numbers_of, stated_numbers, Stated, number_at, MessagePlace, LowerLaws, object_so_far, section, AllCanContinue, ObjectLives, MayContinue, present_version, phase_of, heads_of, place_of, ticket_in, part_number, IsLongField, IsSizeIn, AreTexts, IsSize, IsVersion, IsPhase, HasForm, Split, SplitsTicket, split_octets, place_in, IsSmall, IsSmallPhase, IsSmallPlace, widest, SmallPlacesWerePossible, TicketsTellOnePlace, TicketsOfPlacesAreSplit, texts_of, split_of, Limits, max_subfiles, greatest_size_before, CanContinueAt, IsBegun, canonical_stream}
 use Rattle.iim_fields.specs.Format.Causes.{joined}
 use Rattle.wire_message.specs.declared.saved.MessagePart.{MessagePart}
 use Rattle.wire_message.specs.declared.saved.MessagePart.TheVariants as part
 use Rattle.iim_places.specs.Format.Tickets.{Place}
 use Rattle.iim_dataset.proofs.Counts.{tag-lt}
-use Rattle.iim_places.proofs.Answering.{Lives, lives_open, lives_envelope, coming}
-use Rattle.iim_places.proofs.Bounds.{low, object_fits, IsOne, alive_ones, is_one, few_in_seven}
+use Rattle.iim_places.proofs.Answering.{lives_as, one_reading}
+use Rattle.iim_places.proofs.Bounds.{object_fits, is_one}
+use Rattle.iim_places.proofs.SameRecords.{stated_after_all}
 use Rattle.iim_object.specs.Format.Objects as objects
 use Rattle.iim_places.proofs.Following.{alive_of, within_of}
 use Rattle.iim_places.proofs.Splitting.{one_split}
@@ -16,38 +17,18 @@ use Rattle.iim_places.proofs.Tickets.{total_of, so_far_by}
 
 -- ---- what is read
 
--- Octets lead to the place, and every layer can continue from them under the widest limits.
-pub record Lived (place : Place) : Type 0 where
-  pub whole : List Dataset
-  pub begun : Begun
-  pub octets : List ℕ
-  pub reads : Reads count_octets octets whole begun
-  pub leads_on : AllCanContinue widest whole begun
-  pub text : List ℕ
-  pub message : MessagePlace
-  pub leads : LeadsToSaved (object_so_far whole begun) text message
-  pub is_place : place ≡ place_of whole begun message
-
-unfoldable pub lived : LowerLaws → (place : Place) → Possible place → Lived place
-lived laws place p =
-    let lives : Lives widest p.octets = elim p.comes [ inl o ↦ lives_open widest p.octets o | inr e ↦ lives_envelope laws widest p.octets e.0 e.1 ] in
-    let c = coming laws place p.octets p.leads lives.whole lives.begun lives.reads in
-    record {
-      whole = lives.whole;
-      begun = lives.begun;
-      octets = p.octets;
-      reads = lives.reads;
-      leads_on = lives.leads_on;
-      text = c.text;
-      message = c.message;
-      leads = c.leads;
-      is_place = c.is_place;
-    }
+-- Where octets lead to the place, every layer can continue.
+pub goes_at : LowerLaws → (limits : Limits) (octets : List ℕ) (place : Place) → (is : IsPlaceOf octets place) → AreOpenOrWhole limits octets
+    → AllCanContinue limits is.whole is.begun
+goes_at laws limits octets place is comes =
+    let lives = lives_as laws limits octets comes in
+    let same = one_reading laws octets lives.whole is.whole lives.begun is.begun lives.reads is.reads in
+    rw (same.whole_is, same.begun_is) at lives.leads_on
 
 -- ---- datasets
 
 -- each has no more octets than all have together
-each_fits : (ds : List Dataset) → length (joined ds) < 2 ^ 32 → AllByRecursion IsLongField ds
+pub each_fits : (ds : List Dataset) → length (joined ds) < 2 ^ 32 → AllByRecursion IsLongField ds
 each_fits [] few = tt
 each_fits (d ∷ ds) few = let both = length-append d.octets (joined ds) in (omega (arith, few, both), each_fits ds (omega (arith, few, both)))
 
@@ -56,16 +37,6 @@ each_octets [] xs none = tt
 each_octets (d ∷ ds) xs (first, rest, one, more, parts) = (one.data_octets, each_octets ds rest more)
 
 -- ---- the numbers of record 7
-
-abbrev pub IsLow : Stated → Type 0
-IsLow p = p.number < 2 ^ 64
-
-pub each_low : (ds : List Dataset) → AllByRecursion IsOne ds → AllByRecursion (λ (d : Dataset). Octets d.octets) ds → AllByRecursion IsLow (numbers_of (of_record 7 ds))
-each_low [] ones octets = tt
-each_low (d ∷ ds) ones octets = elim (eqb_tells d.rec 7) [
-  | inl is ↦ rw is.0 (low 8 d.octets octets.0 (few_in_seven d is.1 ones.0), each_low ds ones.1 octets.1)
-  | inr other ↦ rw other.0 (each_low ds ones.1 octets.1)
-]
 
 -- what holds of each number that is stated, and where none is, holds of those that are told
 pub told_at : (Q : Option ℕ → Type 0) (set : ℕ) (ps : List Stated) → Q None → AllByRecursion (λ p. Q (Some p.number)) ps → Q (number_at set ps)
@@ -76,40 +47,24 @@ told_at Q set (p ∷ ps) none all =
 pub four_at : (Q : Option ℕ → Type 0) (ps : List Stated) → Q None → AllByRecursion (λ p. Q (Some p.number)) ps → AllByRecursion Q (stated_numbers ps)
 four_at Q ps none all = (told_at Q 10 ps none all, (told_at Q 20 ps none all, (told_at Q 90 ps none all, (told_at Q 95 ps none all, tt))))
 
+pub fit_in_rows : (ps : List Stated) → AllByRecursion InRow ps → AllByRecursion IsSize (stated_numbers ps)
+fit_in_rows ps all = four_at IsSize ps tt (all_map _ _ ps (λ p row. omega (arith, row)) all)
+
 -- ---- the object
 
 -- the octets of the object so far are no more than its subfiles have
 pub so_far_fits : (counts : ℕ) (octets : List ℕ) (ds : List Dataset) (b : Begun) → Reads counts octets ds b → length (object_so_far ds b) ≤ sum (place_in ds b).lengths
-so_far_fits counts octets ds (InTag held) reads = let total = total_of (of_record 8 ds) in omega (arith, total)
+so_far_fits counts octets ds (InTag held) reads = omega (arith, total_of (of_record 8 ds))
 so_far_fits counts octets ds (InData h taken) reads =
-    let less = reads.is_rest.2 in
-    let all = so_far_by (nat_eq h.rec 8) (nat_eq h.rec 9) ds taken h.count (h.count - length taken) (omega (arith, less)) in
-    omega (arith, all)
+    omega (arith, so_far_by (nat_eq h.rec 8) (nat_eq h.rec 9) ds taken h.count (h.count - length taken) (omega (arith, reads.is_rest.2)))
 
 pub lives_in : (ds : List Dataset) (b : Begun) → MayContinue widest ds b → ObjectLives (place_in ds b)
-lives_in ds (InTag held) goes = goes.object
-lives_in ds (InData h taken) goes = goes.object
+lives_in ds b goes = grind arith
 
 heads_few : (limits : Limits) (ds : List Dataset) (b : Begun) → MayContinue limits ds b → heads_of ds b ≤ max_subfiles
-heads_few limits ds (InTag held) goes = goes.within.subfiles
-heads_few limits ds (InData h taken) goes = let room = goes.room.subfiles in let few = goes.within.subfiles in grind (arith, nat_tests)
-
--- what holds of the place at a head of each record
-pub at_head : (P : objects.Place → Type 0) (ds : List Dataset) (h : Head) → P (place_after (place_after_datasets ds) (SubfileBegun h.count))
-    → P (place_ended ds) → P (place_after_datasets ds) → P (place_at ds h)
-at_head P ds h eight nine other = by (nat_eq h.rec 8) (nat_eq h.rec 9)
-  where
-    by : (b c : Bool) → P (if b then place_after (place_after_datasets ds) (SubfileBegun h.count) else if c then place_ended ds else place_after_datasets ds)
-    by true c = eight
-    by false true = nine
-    by false false = other
+heads_few limits ds b goes = grind (arith, nat_tests)
 
 -- ---- what is begun
-
--- what holds at the end and in a tag
-pub tag_or_end : (P : Phase → Type 0) (b : Bool) (held : List ℕ) → P AllEnded → P (TagBegun held) → P (if b then AllEnded else TagBegun held)
-tag_or_end P true held ended begun = ended
-tag_or_end P false held ended begun = begun
 
 pub begins_tag : (counts : ℕ) (octets : List ℕ) (ds : List Dataset) (held : List ℕ) → Reads counts octets ds (InTag held) → BeginsTag counts held
 begins_tag counts octets ds held reads =
@@ -127,8 +82,7 @@ given_fits true count taken less = refl
 given_fits false count taken less = omega (arith, less)
 
 phase_fits : (octets : List ℕ) (ds : List Dataset) (b : Begun) → Reads count_octets octets ds b → IsPhase present_version (section ds b) (phase_of ds b)
-phase_fits octets ds (InTag held) reads =
-    tag_or_end (IsPhase present_version (section_after ds)) (nat_eq (section_after ds) 9) held tt (omega (arith, held_length octets ds held reads))
+phase_fits octets ds (InTag held) reads = grind (arith, held_length octets ds held reads)
 phase_fits octets ds (InData h taken) reads =
     (omega (arith, tag-lt h reads.is_rest.0 reads.is_rest.1), omega arith, given_fits (nat_eq h.rec 8) h.count taken reads.is_rest.2)
 
@@ -146,14 +100,13 @@ low_count ds h goes small = elim (is_one ds h goes.records) [
 
 -- the sizes of version 1 are those that its octets tell
 pub small_size : (o : Option ℕ) → IsSmall o ↔ IsSizeIn 1 o
-small_size None = (λ is. is, λ is. is)
-small_size (Some n) = (λ is. omega (arith, is), λ is. omega (arith, is))
+small_size o = grind arith
 
 small_phase : (taken : ℕ) (ds : List Dataset) (b : Begun) → MayContinue widest ds b → IsPhase present_version (section ds b) (phase_of ds b)
     → IsSmallPhase (section ds b) taken (phase_of ds b) → IsPhase 1 (section ds b) (phase_of ds b)
 small_phase taken ds (InTag held) goes form small =
-    tag_or_end (λ (p : Phase). IsSmallPhase (section_after ds) taken p → IsPhase 1 (section_after ds) p) (nat_eq (section_after ds) 9) held
-    (λ ended. tt) (λ b. omega (arith, tag_length_in 4 b.head (held ++ b.more) b.whole, length-append held b.more, b.some_more)) small
+    let short : BeginsTag 4 held → length held < 9 = λ b. omega (arith, tag_length_in 4 b.head (held ++ b.more) b.whole, length-append held b.more, b.some_more) in
+    grind (arith, short)
 small_phase taken ds (InData h xs) goes form small = (low_count ds h goes (λ eight. (small.1 eight).0), form.1, form.2)
 
 -- ---- a ticket
@@ -161,19 +114,20 @@ small_phase taken ds (InData h xs) goes form small = (low_count ds h goes (λ ei
 pub spelled : (version : ℕ) (p : Place) → ticket_in version p ≡ split_octets (split_of version p)
 spelled version p = simp (append_assoc, append-nil)
 
-form_of : (version : ℕ) (place : Place) (l : Lived place) → IsVersion version → (version ≡ 1 → IsSmallPlace (place_of l.whole l.begun l.message))
-    → HasForm (split_of version (place_of l.whole l.begun l.message))
-form_of version place l is small =
+form_of : LowerLaws → (version : ℕ) (octets : List ℕ) (place : Place) (l : IsPlaceOf octets place) → AllCanContinue widest l.whole l.begun → IsVersion version
+    → (version ≡ 1 → IsSmallPlace (place_of l.whole l.begun l.message)) → HasForm (split_of version (place_of l.whole l.begun l.message))
+form_of laws version octets place l leads_on is small =
     let ds = l.whole in
-    let goes = l.leads_on.sizes in
-    let room = (within_of widest ds l.begun goes).kept in
-    let low = each_low ds (alive_ones ds (alive_of widest ds l.begun goes)) (each_octets ds l.reads.front l.reads.is_front) in
+    let goes = leads_on.sizes in
+    let within = within_of widest ds l.begun goes in
+    let room = within.kept in
+    let stated = (stated_after_all laws ds (alive_of widest ds l.begun goes) within.subfiles).stated in
     let present : HasForm (split_of present_version (place_of ds l.begun l.message)) = record {
       version = inr refl;
-      phase = phase_fits l.octets ds l.begun l.reads;
+      phase = phase_fits octets ds l.begun l.reads;
       fields = record { each = each_fits (kept ds) (omega (arith, room.octets_in)); few = omega (arith, room.fields_in) };
-      numbers = record { each = four_at IsSize (numbers_of (of_record 7 ds)) tt low; four = refl };
-      taken = omega (arith, so_far_fits count_octets l.octets ds l.begun l.reads, object_fits (place_in ds l.begun) (lives_in ds l.begun goes));
+      numbers = record { each = fit_in_rows (numbers_of (of_record 7 ds)) stated.each; four = refl };
+      taken = omega (arith, so_far_fits count_octets octets ds l.begun l.reads, object_fits (place_in ds l.begun) (lives_in ds l.begun goes));
       heads = omega (arith, heads_few widest ds l.begun goes);
       texts = texts_fit l.message (texts_led (object_so_far ds l.begun) l.text l.message l.leads);
     } in
@@ -193,22 +147,18 @@ form_of version place l is small =
 -- The ticket of a possible place has the form of a ticket, with the parts of the place.
 pub tickets_split : LowerLaws → SmallPlacesWerePossible → TicketsOfPlacesAreSplit
 tickets_split laws scales version place is p =
-    let l = lived laws place p.0 in
+    let l = p.0.leads in
+    let goes = goes_at laws widest p.0.octets place l p.0.comes in
     let small = λ (one : version ≡ 1). subst IsSmallPlace l.is_place ((scales place).0 (p.1 one)).1 in
-    record { form = subst (λ (q : Place). HasForm (split_of version q)) (sym l.is_place) (form_of version place l is small); spelled = spelled version place }
+    record {
+      form = subst (λ (q : Place). HasForm (split_of version q)) (sym l.is_place) (form_of laws version p.0.octets place l goes is small);
+      spelled = spelled version place;
+    }
 
 -- ---- one place
 
 pub part_told : (p q : MessagePart) → part_number p ≡ part_number q → p ≡ q
-part_told p q e = sym (back p) ∙ ap part_at e ∙ back q
-  where
-    part_at : ℕ → MessagePart
-    part_at n = get_or (part.Filler ∷ part.Source ∷ part.Number ∷ part.Priority ∷ part.PriorityRead ∷ part.Category ∷ part.Words ∷ part.Info ∷ part.Gap
-        ∷ part.Text ∷ part.Trailer ∷ part.AfterEnd ∷ []) n part.Filler
-
-    back : (p : MessagePart) → part_at (part_number p) ≡ p
-    back part.Filler = refl
-    back other = refl
+part_told p q e = grind arith
 
 -- the numbers and the texts of a message's place tell it
 pub message_told : (m n : MessagePlace) → part_number m.part ≡ part_number n.part → m.counter ≡ n.counter → m.flag ≡ n.flag → texts_of m ≡ texts_of n → m ≡ n

@@ -8,7 +8,6 @@ pub mod Objects
 pub mod Places
 pub mod Frames
 pub mod Limits
-pub mod SizeConditions
 pub mod Lowest
 pub mod Results
 pub mod Lasts

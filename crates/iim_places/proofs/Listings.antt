@@ -1,10 +1,9 @@
 -- Envelopes one after another.
-use Rattle.std.proofs.Common.{◌≡◌, ◌≢◌, ◌≤◌, ◌<◌, ◌⊎◌, ◌^◌, ℕ, List, [], ◌∷◌, ◌++◌, length, take, slice_index, refl, ap, sym, subst, ◌∙◌, inl, inr, arith, append_assoc, length-append}
-use Rattle.iim_places.proofs.Words.{AllByRecursion, all_append, cases_lt, append-nil, nil_from_length, length-take-le, append_cancel_left, take-append_seam, Limits, OpenOctetsAreBounded, StreamsHaveOneAnswer, Answer, Answers, AdmittedOctetsHaveOneValue, NoAdmittedOctetsBeginOthers, refusal_at, IsEnvelopeWithin, Finished, Refused, Truncated, IsTruncatedAt, raised, IsRefused, RefusesNext}
+use Rattle.std.proofs.Common.{◌≡◌, ◌≢◌, ◌≤◌, ◌<◌, ◌⊎◌, ◌^◌, ℕ, List, [], ◌∷◌, ◌++◌, length, take, refl, ap, sym, subst, ◌∙◌, inl, inr, arith, append_assoc, length-append}
+use Rattle.iim_places.proofs.Words.{AllByRecursion, all_append, cases_lt, append-nil, nil_from_length, length-take-le, append_cancel_left, take-append_seam, Limits, OpenOctetsAreBounded, StreamsHaveOneAnswer, Answer, Answers, AdmittedOctetsHaveOneValue, NoAdmittedOctetsBeginOthers, refusal_at, IsEnvelopeWithin, Finished, Refused, Truncated, IsTruncatedAt, raised, IsRefused}
 use Rattle.iim_places.proofs.Following.{longer_front}
 use Rattle.iim_places.proofs.Frames.{framed_of, no_envelope_is_empty}
 use Rattle.iim_places.proofs.Fronts.{empty_front}
-use Rattle.iim_places.specs.declared.refusal.Refusal.{Refusal}
 use Rattle.iim_places.specs.Format.Streams.{joined, Listed, IsListed, InputEnding, Whole, RefusedBy, TooMany, EndsBy, Divides, IsListing}
 use Rattle.iim_places.specs.Laws.{InputsHaveOneListing, ListingsAreLongest}
 
@@ -65,8 +64,7 @@ module _ (one_value : AdmittedOctetsHaveOneValue) (one_end : NoAdmittedOctetsBeg
   begins rest f more is at =
       let framed = framed_of limits f.octets f.value is.admits is.within in
       let some = λ (none : rest ≡ []). no_envelope_is_empty limits (rw (empty_front f.octets more (sym at ∙ none)) at framed) in
-      let front : take (length f.octets) rest ≡ f.octets = rw (at, take-append_seam) refl in
-      let envelope = subst (λ (l : List ℕ). IsEnvelopeWithin limits l f.value) (sym front) is in
+      let envelope : IsEnvelopeWithin limits (take (length f.octets) rest) f.value = rw (at, take-append_seam) is in
       inr (some, Finished (length f.octets) f.value, record { fits = omega (arith, ap length at, length-append f.octets more); envelope = envelope }, refl)
 
   told : (count : ℕ) (rest : List ℕ) (x : InputEnding) → EndsBy limits count rest x → IsTold limits rest x
@@ -78,19 +76,10 @@ module _ (one_value : AdmittedOctetsHaveOneValue) (one_end : NoAdmittedOctetsBeg
   told count rest (RefusedBy e) (k, inr d) =
       let short = bounded limits (take k rest) octets_less fields_less d.kills.refuses.before in
       let is : raised 0 k ≡ k = omega (arith, short, length-take-le k rest (omega (arith, d.within))) in
-      let octet : k ≡ e.octet = sym (ap (λ (f : Refusal). f.octet) d.refusal ∙ is) in
-      let refused : IsRefused limits rest e = record {
-        fits = rw octet at d.within;
-        fault = d.fault;
-        refusal = d.refusal ∙ ap (λ (n : ℕ). refusal_at n d.fault) (is ∙ octet);
-        refuses = subst (λ (n : ℕ). RefusesNext limits (take n rest) (slice_index rest n) d.fault) octet d.kills.refuses;
-      } in
-      inr (
-        (λ none. omega (arith, d.within, ap length none)),
-        Refused e,
-        (refused, λ sink. d.kills.by_octets (sym (ap (λ (f : Refusal). f.cause) d.refusal) ∙ sink)),
-        refl,
-      )
+      let refused : IsRefused limits rest (refusal_at k d.fault) =
+      record { fits = d.within; fault = d.fault; refusal = refl; refuses = d.kills.refuses } in
+      rw (d.refusal ∙ ap (λ (n : ℕ). refusal_at n d.fault) is)
+      (inr ((λ none. omega (arith, d.within, ap length none)), Refused (refusal_at k d.fault), (refused, d.kills.by_octets), refl))
 
   one_told : (rest : List ℕ) (x y : InputEnding) → IsTold limits rest x → IsTold limits rest y → x ≡ y
   one_told rest x y (inl a) (inl b) = a.1 ∙ sym b.1

@@ -7,14 +7,14 @@ use Rattle.iim_object.specs.declared.reading.fault.ObjectFault.{ObjectFault}
 use Rattle.iim_object.specs.declared.reading.fault.ObjectFault.TheVariants.{Size, Stopped}
 use Rattle.iim_places.specs.Nowhere.{goes_nowhere, stops_nowhere}
 use Rattle.iim_places.specs.declared.ticket.object.Nowhere.{Nowhere}
-use Rattle.iim_places.proofs.PlainSizes.{alive_front}
+use Rattle.iim_places.proofs.Living.{alive_front}
 
 -- the end may follow at a place after which it is possible
 pub may_end : (p : Place) → p.ending ≡ NotEnded → IsPossible (place_after p ObjectEnded) → MayFollow p ObjectEnded
 may_end p open' is = (open', grind (arith, nil_from_length p.lengths, is.subfiles))
 
 before : TokensFollow → (p : Place) (token : ObjectToken) → MayFollow p token → IsAlive ObjectLanguage (tokens_of (place_after p token)) → IsAlive ObjectLanguage (tokens_of p)
-before law p token may alive = alive_front (tokens_of p) (token ∷ []) (subst (IsAlive ObjectLanguage) (law p token may) alive)
+before law p token may alive = alive_front ObjectLanguage (tokens_of p) (token ∷ []) (subst (IsAlive ObjectLanguage) (law p token may) alive)
 
 pub before_end : TokensFollow → (p : Place) → p.ending ≡ NotEnded → IsPossible (place_after p ObjectEnded) → IsPossible p
 before_end law p open' is =

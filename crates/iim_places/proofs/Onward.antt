@@ -1,6 +1,6 @@
 -- Octets that lead to one place read on and continue alike, and the same octet is refused, for the same fault.
-use Rattle.std.proofs.Common.{◌≡◌, ℕ, nat_eq, if◌then◌else◌, Bool, true, false, List, [], ◌∷◌, ◌++◌, length, Some, refl, ap, sym, subst, ◌∙◌, inl, inr, arith, append-nil, ◌&&◌, ◌||◌, ◌⊎◌, not, nat_lt, None, map, append_assoc, ◌<◌, length-append}
-use Rattle.iim_places.proofs.Words.{append_cancel_left, Dataset, count_octets, of_record, Begun, InTag, InData, IsBegun, Reads, Head, SectionsLive, SectionsLiveAt, section_after, AreSections, Limits, HaveSizes, Sizes, text_so_far, Value, object_of, AreAlike, PlacesContinueAlike, AllCanContinue, object_so_far, Delivers, IsOpen, IsTextOf, IsEnvelopeWithin, IsPlaceOf, heads_of, place_of, LowerLaws, ne_eqb, option_or, option_map, number, head_of, head_fault, room_fault, occurs, data_of, place_after_datasets, cause_at, number_cause, NumberRead, ObjectToken, head_token, value_token, max_subfiles, End, PlacesRefuseAlike, IsUnfinished, of_field, size_on, too_many_on, DiesAtHead, DiesAtValue, CanContinueAt, IsRefusedHead, IsRefusedValue, fault_at_head, fault_at_value, place_at, TokenFault, Layer, Octet, with_end, MessageLanguage, MessageLivesWith, MessageDiesAt, message_tokens, LivingOctetsAreOpen, section, AreOpenOrWhole, same_Some, NotEnded, ConfirmedAs, IsAlive, MayContinue, compare, eqb_tells, IsOctet, Octets, SpellsStream, all_back, octets_append, ValuesDieWithTheirFault, last_more, Meets, IsGoodDataset, good_elsewhere}
+use Rattle.std.proofs.Common.{◌≡◌, ℕ, nat_eq, if◌then◌else◌, Bool, true, false, List, [], ◌∷◌, ◌++◌, length, Some, refl, ap, sym, subst, ◌∙◌, inl, inr, arith, append-nil, ◌&&◌, ◌||◌, not, nat_lt, None, map, append_assoc, ◌<◌, length-append}
+use Rattle.iim_places.proofs.Words.{append_cancel_left, Dataset, count_octets, of_record, Begun, InTag, InData, IsBegun, Reads, Head, section_after, AreSections, Limits, HaveSizes, Sizes, text_so_far, Value, object_of, AreAlike, PlacesContinueAlike, AllCanContinue, object_so_far, IsTextOf, IsEnvelopeWithin, IsPlaceOf, heads_of, place_of, LowerLaws, ne_eqb, option_or, option_map, number, head_of, head_fault, room_fault, occurs, data_of, place_after_datasets, cause_at, number_cause, NumberRead, ObjectToken, head_token, value_token, max_subfiles, End, PlacesRefuseAlike, of_field, size_on, too_many_on, DiesAtHead, DiesAtValue, CanContinueAt, IsRefusedValue, fault_at_head, fault_at_value, place_at, TokenFault, Layer, Octet, with_end, MessageLanguage, MessageLivesWith, MessageDiesAt, message_tokens, LivingOctetsAreOpen, section, AreOpenOrWhole, same_Some, NotEnded, ConfirmedAs, IsAlive, MayContinue, compare, eqb_tells, IsOctet, Octets, SpellsStream, all_back, octets_append, last_more, Meets, IsGoodDataset, good_elsewhere}
 use Rattle.wire_message.specs.States.Reading.{LeadsTo}
 use Rattle.iim_places.specs.Format.Tickets.{Place}
 use Rattle.iim_places.proofs.Answering.{goes_envelope, leads_to, one_reading, reads_envelope, IsRefusedAt, IsRefusedWith, refuses_by, tests_of, lives_as}
@@ -153,21 +153,12 @@ good_as h xs ys same good octets = elim (eqb_tells h.rec 8) [
 ]
 
 head_is : (h : Head) (xs : List ℕ) → length xs ≡ h.count → head_of (data_of h xs) ≡ h
-head_is h xs many = λ i. record { rec = h.rec; set = h.set; count = many i }
-
-alive_with : ValuesDieWithTheirFault → (ds es : List Dataset) (h : Head) (xs ys : List ℕ) → SameData h xs h ys → length ys ≡ h.count → Octets ys
-    → SectionsLive (ds ++ data_of h xs ∷ []) → SectionsLiveAt es h → SectionsLive (es ++ data_of h ys ∷ [])
-alive_with law ds es h xs ys same many octets alive at =
-    (law es (data_of h ys) (rw (head_is h ys many) at) octets).0 (good_value (data_of h ys) (good_as h xs ys same (good_at ds (data_of h xs) alive) octets))
+head_is h xs many = grind (arith, many)
 
 tail_as : (h : Head) (a b : List ℕ) → SameData h a h b → SameTail (data_of h a ∷ []) (data_of h b ∷ [])
-tail_as h a b same = record {
-  fields = grind (arith, same.given);
-  numbers = grind (arith, same.given);
-  lengths = grind (arith, same.many);
-  nines = grind (arith, same.given);
-  seen = same_more [] [] (data_of h a) (data_of h b) (λ i. record { rec = h.rec; set = h.set; count = same.many i }) (same_tail []).seen;
-}
+tail_as h a b same =
+    let seen = same_more [] [] (data_of h a) (data_of h b) (λ i. record { rec = h.rec; set = h.set; count = same.many i }) (same_tail []).seen in
+    grind (arith, same, seen)
 
 data_more : {h : Head} {t v : List ℕ} (z : List ℕ) → SameData h t h v → SameData h (t ++ z) h (v ++ z)
 data_more {h} {t} {v} z same = grind (arith, same, length-append t z, length-append v z)
@@ -199,7 +190,8 @@ closed_on laws {limits} {ds} {es} {h} {t} {v} z pair many octets goes =
     let x = data_of h (v ++ z) in
     let same : SameData h (t ++ z) h (v ++ z) = data_more z pair.begun in
     let present : section_after (ds ++ d ∷ []) ≡ section_after (es ++ x ∷ []) = last_more 0 ds d ∙ sym (last_more 0 es x) in
-    let alive = alive_with laws.values_die ds es h (t ++ z) (v ++ z) same (sym same.many ∙ many) octets goes.sizes.records pair.there.sizes.records in
+    let good = good_value x (good_as h (t ++ z) (v ++ z) same (good_at ds d goes.sizes.records) octets) in
+    let alive = (laws.values_die es x (rw (head_is h (v ++ z) (sym same.many ∙ many)) pair.there.sizes.records) octets).0 good in
     let twins = twins_on pair.twins (tail_as h (t ++ z) (v ++ z) same) (bounded_of laws limits (ds ++ d ∷ []) (InTag []) goes.sizes) in
     let sizes = may_as laws limits (ds ++ d ∷ []) (es ++ x ∷ []) (InTag []) alive present twins goes.sizes in
     onto laws (brought h z) pair.message twins refl present (closed_object ds h t z) (closed_object es h v z) sizes goes
@@ -309,11 +301,6 @@ unfinished_as laws {ds = ds} {es = es} (InTag x) (InTag y) pair none sections =
 unfinished_as laws {es = es} (InData h t) (InData k v) pair none sections = not_all laws.sections es k pair.there.sizes.records sections
 unfinished_as laws c d pair none sections = absurd pair.begun
 
-open_as : LowerLaws → {limits : Limits} {p q o r : List ℕ} (opens : IsOpen limits p) → ReadAlike limits q o r opens.whole opens.begun → IsOpen limits q
-open_as laws opens read =
-    let none = unfinished_as laws opens.begun read.begun read.on.pair opens.unfinished in
-    record { whole = read.whole; begun = read.begun; reads = read.reads; leads_on = read.on.pair.there; unfinished = none }
-
 -- ---- envelopes
 
 sizes_as : {ds es : List Dataset} {s t : Sizes} → Twins ds es → HaveSizes (of_record 7 ds) (of_record 8 ds) (of_record 9 ds) s
@@ -322,11 +309,7 @@ sizes_as {s = s} {t = t} twins here there =
     let same = twins.object.numbers in
     let known : s.known ≡ t.known = grind (arith, same_Some _ _ (sym here.mode ∙ same.mode ∙ there.mode)) in
     let subfile = same_Some _ _ (sym here.largest ∙ same.largest ∙ there.largest) in
-    let announced = sym here.announced ∙ same.announced ∙ there.announced in
-    let maximum = sym here.maximum ∙ same.maximum ∙ there.maximum in
-    let subfiles = sym here.subfiles ∙ heads_same twins ∙ there.subfiles in
-    let total = sym here.total ∙ twins.object.octets ∙ there.total in
-    λ i. record { known = known i; subfile = subfile i; announced = announced i; maximum = maximum i; subfiles = subfiles i; total = total i }
+    grind (arith, here, there, known, subfile, same.announced, same.maximum, heads_same twins, twins.object.octets)
 
 -- what is read after the one as an envelope is read after the other as one
 envelope_as : LowerLaws → {limits : Limits} {p q o r : List ℕ} {v : Value} (is : IsEnvelopeWithin limits p v)
@@ -355,16 +338,6 @@ text_of laws p ds c reads text (whole, begun, other, is) =
     let same = one_reading laws p whole ds begun c other reads in
     is ∙ (λ i. text_so_far (object_so_far (same.whole_is i) (same.begun_is i)))
 
-adds_as : LowerLaws → {limits : Limits} {p q : List ℕ} (more : List ℕ) {ds es W : List Dataset} {c d b : Begun} → Reads count_octets p ds c
-    → Reads count_octets q es d → Reads count_octets (p ++ more) W b → ReadAlike limits (q ++ more) (object_so_far ds c) (object_so_far es d) W b
-    → (events : List story.StoryEvent) → Delivers p more events → Delivers q more events
-adds_as laws {limits} {p} {q} more {ds} {es} {W} {c} {d} {b} r s w read events adds text is =
-    let before = text_so_far (object_so_far ds c) in
-    let (more_text, is_text, told) = adds before (ds, c, r, refl) in
-    let same : more_text ≡ read.on.added =
-    append_cancel_left before more_text read.on.added (text_of laws (p ++ more) W b w (before ++ more_text) is_text ∙ read.on.here) in
-    (more_text, (read.whole, read.begun, read.reads, (λ i. text_of laws q es d s text is i ++ same i) ∙ sym read.on.there), told)
-
 -- ---- both
 
 pub continue_alike : LowerLaws → PlacesContinueAlike
@@ -372,13 +345,22 @@ continue_alike laws limits p q place is are opens goes more =
     let pair = pair_of laws limits p q place is are opens goes in
     let on = λ (W : List Dataset) (b : Begun). on_pair laws is.begun are.begun is.reads are.reads pair more {W = W} {b = b} in
     record {
-      are_open = λ open'. open_as laws open' (on open'.whole open'.begun open'.reads open'.leads_on);
+      are_open = λ open'.
+          let read = on open'.whole open'.begun open'.reads open'.leads_on in
+          let none = unfinished_as laws open'.begun read.begun read.on.pair open'.unfinished in
+          record { whole = read.whole; begun = read.begun; reads = read.reads; leads_on = read.on.pair.there; unfinished = none };
       are_whole = λ v whole.
           let reads = reads_envelope (p ++ more) v whole.admits in
           envelope_as laws whole (on whole.admits.datasets (InTag []) reads (goes_envelope laws limits (p ++ more) v whole));
-      add = λ events comes.
+      add = λ events comes adds text told.
           let lives = lives_as laws limits (p ++ more) comes in
-          adds_as laws more is.reads are.reads lives.reads (on lives.whole lives.begun lives.reads lives.leads_on) events;
+          let read = on lives.whole lives.begun lives.reads lives.leads_on in
+          let before = text_so_far (object_so_far is.whole is.begun) in
+          let (more_text, is_text, spoken) = adds before (is.whole, is.begun, is.reads, refl) in
+          let same : more_text ≡ read.on.added =
+          append_cancel_left before more_text read.on.added (text_of laws (p ++ more) lives.whole lives.begun lives.reads (before ++ more_text) is_text ∙ read.on.here) in
+          let parts = text_of laws q are.whole are.begun are.reads text told in
+          (more_text, (read.whole, read.begun, read.reads, (λ i. parts i ++ same i) ∙ sym read.on.there), spoken);
     }
 
 -- ---- the first fault of a head
@@ -402,22 +384,14 @@ head_fault_as limits ds es h present twins =
 
 -- ---- where a head is refused
 
--- the other way round
-back : {limits : Limits} {ds es : List Dataset} {x : List ℕ} → Pair limits ds es (InTag x) (InTag x) → Pair limits es ds (InTag x) (InTag x)
-back {ds = ds} {es = es} pair =
-    let m = pair.message in
-    let message : SameMessage (object_of es) (object_of ds) = record { text = m.other; other = m.text; at = m.at; here = m.there; there = m.here } in
-    record { section_is = sym pair.section_is; begun = refl; twins = flip pair.twins; message = message; here = pair.there; there = pair.here }
-
-lives_at : {limits : Limits} {ds es : List Dataset} {x : List ℕ} {h : Head} → Pair limits ds es (InTag x) (InTag x) → SectionsLiveAt ds h → SectionsLiveAt es h
-lives_at {ds = ds} {es = es} {h = h} pair = alive_at_as ds es h pair.there.sizes.records pair.section_is pair.twins.seen
-
 module _ (laws : LowerLaws) {limits : Limits} {ds es : List Dataset} {x : List ℕ} (pair : Pair limits ds es (InTag x) (InTag x)) where
   head_dies_as : (h : Head) (layer : Layer) → DiesAtHead layer limits ds h → DiesAtHead layer limits es h
-  head_dies_as h layers.Record dies = λ alive. dies (lives_at (back pair) alive)
-  head_dies_as h layers.Limits dies = (lives_at pair dies.0, (λ room. dies.1 (room_as (flip pair.twins) room)))
+  head_dies_as h layers.Record dies =
+      λ alive. dies (alive_at_as es ds h pair.here.sizes.records (sym pair.section_is) (flip pair.twins).seen alive)
+  head_dies_as h layers.Limits dies =
+      (alive_at_as ds es h pair.there.sizes.records pair.section_is pair.twins.seen dies.0, (λ room. dies.1 (room_as (flip pair.twins) room)))
   head_dies_as h layers.Object dies =
-      let alive = lives_at pair dies.0 in
+      let alive = alive_at_as ds es h pair.there.sizes.records pair.section_is pair.twins.seen dies.0 in
       let room = room_as pair.twins dies.1 in
       (alive, room, (λ lives. dies.2 (at_as laws es ds h alive dies.0 pair.there.sizes.within.subfiles room.subfiles (flip pair.twins) lives)))
   head_dies_as h rest dies = absurd dies
@@ -425,16 +399,6 @@ module _ (laws : LowerLaws) {limits : Limits} {ds es : List Dataset} {x : List �
   -- every layer that is asked before the message can continue with a head
   goes_as : (h : Head) → CanContinueAt limits ds h → CanContinueAt limits es h
   goes_as h goes = may_as laws limits ds es (InData h []) pair.there.sizes.records pair.section_is pair.twins goes
-
-  either_head : (h : Head) (fault : TokenFault) → IsRefusedHead limits ds h fault ⊎ IsUnfinished limits ds h fault
-      → IsRefusedHead limits es h fault ⊎ IsUnfinished limits es h fault
-  either_head h fault (inl bad) =
-      inl (record { first = sym (head_fault_as limits ds es h pair.section_is pair.twins) ∙ bad.first; dead = head_dies_as h fault.layer bad.dead })
-  either_head h fault (inr bad) =
-      let m = pair.message in
-      let lives = (laws.living (object_of es) m.other m.at m.there).0 in
-      let dies : MessageDiesAt (object_of es) End = (lives, λ alive. bad.dies.1 (message_as laws (back pair).message true alive)) in
-      inr (record { last = bad.last; leads_on = goes_as h bad.leads_on; dies = dies; is_fault = bad.is_fault })
 
 -- ---- where a value is refused
 
@@ -466,7 +430,15 @@ module _ (laws : LowerLaws) {limits : Limits} (ds es : List Dataset) (twins : Tw
 
 with_as : LowerLaws → {limits : Limits} {ds es : List Dataset} {x : List ℕ} (h : Head) (fault : TokenFault) → Pair limits ds es (InTag x) (InTag x)
     → IsRefusedWith limits ds h fault → IsRefusedWith limits es h fault
-with_as laws h fault pair (inl bad) = inl (either_head laws pair h fault bad)
+with_as laws {limits} {ds} {es} h fault pair (inl (inl bad)) =
+    let first = sym (head_fault_as limits ds es h pair.section_is pair.twins) ∙ bad.first in
+    inl (inl (record { first = first; dead = head_dies_as laws pair h fault.layer bad.dead }))
+with_as laws {limits} {ds} {es} h fault pair (inl (inr bad)) =
+    let m = pair.message in
+    let ends = λ (alive : IsAlive MessageLanguage (with_end (object_of es))).
+    (laws.message_ends (object_of ds) m.text m.at m.here).1 ((laws.message_ends (object_of es) m.other m.at m.there).0 alive) in
+    let dies : MessageDiesAt (object_of es) End = ((laws.living (object_of es) m.other m.at m.there).0, λ alive. bad.dies.1 (ends alive)) in
+    inl (inr (record { last = bad.last; leads_on = goes_as laws pair h bad.leads_on; dies = dies; is_fault = bad.is_fault }))
 with_as laws {limits} {ds} {es} h fault pair (inr (other, none, all, bad)) =
     let sizes : CanContinueAt limits es h = goes_as laws pair h all.sizes in
     let message : SameMessage (object_so_far ds (InData h [])) (object_so_far es (InData h [])) =

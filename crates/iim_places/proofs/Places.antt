@@ -1,6 +1,6 @@
 -- Where heads and values lead the object.
 use Rattle.std.proofs.Common.{◌≡◌, ℕ, ◌+◌, ◌<◌, ◌⊎◌, true, false, if◌then◌else◌, nat_eq, List, [], ◌∷◌, ◌++◌, length, refl, ap, sym, subst, ◌∙◌, inl, inr, rules, arith, length-append}
-use Rattle.iim_places.proofs.Words.{AllByRecursion, filter-append, or_cases, eqb-true, ne_eqb, number, Dataset, head_of, of_record, Head, all_append, all_front, all_back, all_map, SectionsLive, SectionsLiveAt, tells_number, max_subfiles, MayFollow, place_after, head_token, value_token, AreObjectRecords, AreSized, place_after_datasets, DatasetsLiveWithTheirTokens, place_at, ObjectLives, LowerLaws, IsAlive, Limits, CanContinueAt, DiesAtHead, DiesAtValue, Layer}
+use Rattle.iim_places.proofs.Words.{AllByRecursion, filter-append, or_cases, eqb-true, ne_eqb, number, Dataset, head_of, of_record, Head, all_append, all_front, all_back, all_map, SectionsLive, SectionsLiveAt, tells_number, max_subfiles, MayFollow, place_after, head_token, value_token, AreObjectRecords, AreSized, place_after_datasets, DatasetsLiveWithTheirTokens, place_at, ObjectLives, LowerLaws, IsAlive, Limits, CanContinueAt, DiesAtHead, Layer}
 use Rattle.iim_places.specs.declared.refusal.Layer.TheVariants as layers
 use Rattle.iim_places.proofs.Objects.{records_alive}
 use Rattle.iim_places.proofs.Living.{alive_front}

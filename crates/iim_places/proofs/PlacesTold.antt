@@ -1,39 +1,33 @@
 -- The place that the parts of a ticket tell, and whether an envelope can be there.
-use Rattle.std.proofs.Common.{◌≡◌, ℕ, ◌+◌, ◌-◌, ◌≤◌, cond, if◌then◌else◌, Bool, List, [], ◌∷◌, length, Option, refl, ap, sym, ◌∙◌, subst, arith, ◌++◌, codes, rules, IsTrue, get_or}
-use Rattle.iim_places.proofs.Words.{AllByRecursion, all_map, is_kept, Dataset, kept, kept_octets, IsWithin, Limits, LeadsToSaved, MessagePlace, LeadsByLayers, plain, PlacesArePossibleByLayers, RecordsLive, are_ended, begun_subfiles, one_of_some, record_datasets, Numbers, number_list, TicketsOfPlacesAreSplit, split_of, TicketsHaveOneSplit, IsSmall, IsSmallPhase, Split, IsSmallPlace, greatest_size_before, AreHeadsWithin, begun_count, begun_fields, widest, SmallPlacesWerePossible, IsTicketAt, IsLimitFault, IsRestoreFault, AreKept, IsMessageOf, numbers_told, told_datasets, IsSizeIn, HasForm, SplitsTicket, Phase, TicketsTellOnePlace, PossiblePlacesAreTaken, IsVersion, ticket_in, Form, Version, Impossible, OutOfMemory, split_octets, HeaderFull, TooManyFields, AreNumbers, CanContinueWithin, DataBegun}
+use Rattle.std.proofs.Common.{◌≡◌, ℕ, ◌+◌, ◌-◌, ◌≤◌, cond, if◌then◌else◌, Bool, List, [], ◌∷◌, length, refl, ap, sym, ◌∙◌, subst, arith, ◌++◌, codes, rules, IsTrue, get_or}
+use Rattle.iim_places.proofs.Words.{AllByRecursion, all_map, is_kept, Dataset, kept, kept_octets, IsWithin, Limits, LeadsToSaved, MessagePlace, LeadsByLayers, plain, PlacesArePossibleByLayers, RecordsLive, are_ended, begun_subfiles, one_of_some, record_datasets, Numbers, number_list, TicketsOfPlacesAreSplit, split_of, TicketsHaveOneSplit, IsSmall, IsSmallPhase, Split, IsSmallPlace, greatest_size_before, AreHeadsWithin, begun_count, begun_fields, widest, SmallPlacesWerePossible, IsTicketAt, IsLimitFault, IsRestoreFault, AreKept, IsMessageOf, numbers_told, told_datasets, IsSizeIn, HasForm, SplitsTicket, TicketsTellOnePlace, PossiblePlacesAreTaken, IsVersion, ticket_in, Form, Version, Impossible, OutOfMemory, split_octets, HeaderFull, TooManyFields, DataBegun}
 use Rattle.iim_fields.specs.Format.Causes.{joined}
 use Rattle.iim_places.specs.States.Readers.{AreAt, LeadsNowhereIn}
+use Rattle.iim_places.specs.States.Restored.{fields_told, octets_told}
 use Rattle.iim_places.specs.Restoring.{LeadsNowhere, AreWithinWith}
 use Rattle.iim_places.specs.Format.Tickets.{Place}
 use Rattle.iim_places.specs.declared.ticket.possible.Readers.{Readers}
 use Rattle.iim_places.specs.declared.ticket.fault.TicketFault.{TicketFault}
-use Rattle.iim_places.proofs.AtPlaces.{live_alive, kept_told}
 use Rattle.iim_places.proofs.Fitting.{small_size, spelled}
 use Rattle.iim_places.proofs.Plain.{kept_fields}
 
--- whether some subfiles have ended
-abbrev pub TellsSome : Bool → Split → Type 0
-TellsSome some s = cond some 1 0 ≡ one_of_some (s.heads - begun_subfiles s.section s.phase)
-
--- the datasets by which the record layer is told
-abbrev pub datasets_told : Split → Bool → List Dataset
-datasets_told s some = told_datasets s.fields s.numbers some (are_ended s.phase)
-
-pub told_same : (version : ℕ) (place : Place) (numbers : Numbers) (some : Bool) → place.numbers ≡ number_list numbers → TellsSome some (split_of version place)
-    → datasets_told (split_of version place) some ≡ record_datasets place numbers
-told_same version place numbers some are one = λ i. plain place.fields (numbers_told (are i)) (one i) [] (are_ended place.phase)
+pub told_same : (place : Place) (numbers : Numbers) (some : Bool) → place.numbers ≡ number_list numbers
+    → cond some 1 0 ≡ one_of_some (place.heads - begun_subfiles place.section place.phase)
+    → told_datasets place.fields place.numbers some (are_ended place.phase) ≡ record_datasets place numbers
+told_same place numbers some are one = λ i. plain place.fields (numbers_told (are i)) (one i) [] (are_ended place.phase)
 
 -- ---- where no envelope can be
 
-pub no_records : (s : Split) (some : Bool) → TellsSome some s
-    → (AreKept s.fields → IsWithin widest (kept_octets s.fields) (length s.fields) → RecordsLive s.section s.phase (datasets_told s some) → ⊥) → LeadsNowhere s
+pub no_records : (s : Split) (some : Bool) → cond some 1 0 ≡ one_of_some (s.heads - begun_subfiles s.section s.phase)
+    → (AreKept s.fields → IsWithin widest (kept_octets s.fields) (length s.fields)
+    → RecordsLive s.section s.phase (told_datasets s.fields s.numbers some (are_ended s.phase)) → ⊥) → LeadsNowhere s
 no_records s some one none place is l =
     let each : AreKept s.fields = rw (← is) l.kept in
     let within : IsWithin widest (length (joined s.fields) + begun_count s.section s.phase) (length s.fields + begun_fields s.section s.phase) =
     rw (← is) l.within in
     let same = ap (λ (ds : List Dataset). length (joined ds)) (kept_fields s.fields each) in
     none each (record { octets_in = omega (arith, same, within.octets_in); fields_in = omega (arith, within.fields_in) })
-    (rw (← is) (rw (told_same s.version place l.numbers some l.numbers_are (rw (← is) at one)) l.records))
+    (rw (← is) (rw (told_same place l.numbers some l.numbers_are (rw (← is) at one)) l.records))
 
 pub no_message : (s : Split)
     → ((m : MessagePlace) (octets text : List ℕ) → IsMessageOf s.part s.counter s.flag s.texts m → LeadsToSaved octets text m → length octets ≡ s.taken → ⊥)
@@ -77,12 +71,9 @@ taken split one limits ticket place Version is bad =
     let e : codes "IIMT" ++ bad.version ∷ bad.rest ≡ ticket_in is.version place = sym bad.named ∙ is.spelled in
     absurd (bad.other (subst IsVersion (sym (ap (λ (xs : List ℕ). get_or xs 4 0) e)) is.is_version))
 taken split one limits ticket place Impossible is bad = absurd (bad.1 place is)
-taken split one limits ticket place HeaderFull is (there, are, over) =
-    let more = rw (same_place one ticket place there is are) at over in search (rules, arith)
+taken split one limits ticket place HeaderFull is (there, are, over) = grind (arith, ap octets_told (same_place one ticket place there is are), over)
 taken split one limits ticket place TooManyFields is (there, are, low, over) =
-    let same = same_place one ticket place there is are in
-    let few = rw same at low in
-    let more = rw same at over in search (rules, arith)
+    grind (arith, ap octets_told (same_place one ticket place there is are), ap fields_told (same_place one ticket place there is are), low, over)
 taken split one limits ticket place OutOfMemory is (there, are, heads) =
     let within = rw (same_place one ticket place there is are) at heads in search (rules, arith)
 
@@ -116,17 +107,6 @@ limit_told limits ticket s r at is TooManyFields bad = (at.place, is, rw at.octe
 limit_told limits ticket s r at is other bad = absurd bad
 
 -- ---- the records of a restored place
-
-pub with_told : (limits : Limits) (section : ℕ) (phase : Phase) (fields : List Dataset) (numbers : List (Option ℕ)) (some ended : Bool) → AreNumbers numbers
-    → AreKept fields → IsWithin limits (length (joined fields) + begun_count section phase) (length fields + begun_fields section phase)
-    → AreWithinWith limits section phase (told_datasets fields numbers some ended)
-with_told limits section phase fields numbers some ended fit each within =
-    subst (λ (ks : List Dataset). IsWithin limits (length (joined ks) + begun_count section phase) (length ks + begun_fields section phase))
-    (sym (kept_told fields numbers some ended fit each)) within
-
-pub goes_told : (limits : Limits) (section : ℕ) (phase : Phase) (ds : List Dataset) → RecordsLive section phase ds → AreWithinWith limits section phase ds
-    → CanContinueWithin limits ds
-goes_told limits section phase ds lives within = record { alive = live_alive section phase ds lives; within = search (rules, arith) }
 
 -- with begun data of records 1 and 2 the datasets are within the limits
 pub within_with : (limits : Limits) (section set count left : ℕ) (given : List ℕ) (ds : List Dataset)

@@ -1,6 +1,6 @@
 -- Plain datasets tell what they are made of, and can be spelled.
-use Rattle.std.proofs.Common.{◌≡◌, ℕ, zero, suc, ◌*◌, ◌<◌, ◌≤◌, nat_eq, cond, Bool, true, false, List, [], ◌∷◌, ◌++◌, length, take, drop, Option, Some, ◌-◌, subst, None, refl, ap, ◌∙◌, arith, append-nil, length-drop, IfSome, inl, inr}
-use Rattle.iim_places.proofs.Words.{option_or, AllByRecursion, filter, unwrap_or, ne_eqb, eqb_tells, take-append-drop, length-take, filter-append, few_octets, AreKept, IsOctet, Octets, number, greatest_size, Dataset, of_record, all_append, all_map, front_are, HasSpellings, kept, is_kept, last_record, section_after, numbers_of, number_dataset, subfile_datasets, stated_numbers, Stated, number_at, object_of, IsSize, Numbers, number_list, mode_dataset, one_dataset, plain_numbers, filled, plain_end, plain, last_of_joined, map-append}
+use Rattle.std.proofs.Common.{sym, ◌≡◌, ℕ, zero, suc, ◌*◌, ◌<◌, ◌≤◌, nat_eq, cond, Bool, true, false, List, [], ◌∷◌, ◌++◌, length, take, drop, Option, Some, subst, None, refl, ap, ◌∙◌, arith, append-nil, length-drop, IfSome}
+use Rattle.iim_places.proofs.Words.{nil_from_length, option_or, AllByRecursion, filter, unwrap_or, ne_eqb, take-append-drop, length-take, filter-append, few_octets, AreKept, IsOctet, Octets, number, greatest_size, Dataset, of_record, all_append, all_map, front_are, HasSpellings, kept, is_kept, last_record, section_after, numbers_of, number_dataset, subfile_datasets, stated_numbers, Stated, number_at, object_of, IsSize, Numbers, number_list, mode_dataset, one_dataset, plain_numbers, filled, plain_end, plain, last_of_joined, map-append}
 use Rattle.iim_dataset.proofs.WrittenNumbers.{number_octets}
 use Rattle.iim_fields.specs.Format.Causes.{joined}
 use Rattle.iim_object.specs.Format.Packing.{subfile_dataset}
@@ -24,24 +24,18 @@ filter_all : (p : Dataset → Bool) (ds : List Dataset) → AllByRecursion (λ (
 filter_all p [] all = refl
 filter_all p (d ∷ ds) all = rw (all.0, filter_all p ds all.1) refl
 
-filter_none : (p : Dataset → Bool) (ds : List Dataset) → AllByRecursion (λ (d : Dataset). p d ≡ false) ds → filter p ds ≡ []
+pub filter_none : (p : Dataset → Bool) (ds : List Dataset) → AllByRecursion (λ (d : Dataset). p d ≡ false) ds → filter p ds ≡ []
 filter_none p [] all = refl
 filter_none p (d ∷ ds) all = rw all.0 (filter_none p ds all.1)
 
 pub kept_fields : (ds : List Dataset) → AreKept ds → kept ds ≡ ds
 kept_fields ds all = filter_all (λ (d : Dataset). is_kept d.rec) ds all
 
-pub all_of : (r : ℕ) (ds : List Dataset) → nat_eq r r ≡ true → AreOf r ds → of_record r ds ≡ ds
-all_of r ds same all = filter_all (λ (d : Dataset). nat_eq d.rec r) ds (all_map _ _ ds (λ d e. ap (λ (n : ℕ). nat_eq n r) e ∙ same) all)
-
 pub none_by : (p : ℕ → Bool) (s : ℕ) (ds : List Dataset) → p s ≡ false → AreOf s ds → filter (λ (d : Dataset). p d.rec) ds ≡ []
 none_by p s ds none all = filter_none (λ (d : Dataset). p d.rec) ds (all_map _ _ ds (λ d e. ap p e ∙ none) all)
 
-pub none_of : (r s : ℕ) (ds : List Dataset) → nat_eq s r ≡ false → AreOf s ds → of_record r ds ≡ []
-none_of r s ds apart all = none_by (λ k. nat_eq k r) s ds apart all
-
 -- all datasets of a record, or none
-run_by : (p : ℕ → Bool) (s : ℕ) (ds : List Dataset) → AreOf s ds → filter (λ (d : Dataset). p d.rec) ds ≡ cond (p s) ds []
+pub run_by : (p : ℕ → Bool) (s : ℕ) (ds : List Dataset) → AreOf s ds → filter (λ (d : Dataset). p d.rec) ds ≡ cond (p s) ds []
 run_by p s ds all = grind (arith, filter_all, all_map, none_by)
 
 pub none_in_fields : (r : ℕ) (ds : List Dataset) → is_kept r ≡ false → AreKept ds → of_record r ds ≡ []
@@ -114,8 +108,7 @@ filled_count size zero xs = refl
 filled_count size (suc count) xs = let more = filled_count size count (drop size xs) in omega (arith, more)
 
 filled_all : (size count : ℕ) (xs : List ℕ) → length xs ≤ count * size → joined (subfile_datasets (filled size count xs)) ≡ xs
-filled_all size zero [] fits = refl
-filled_all size zero (x ∷ xs) fits = absurd (omega (arith, fits))
+filled_all size zero xs fits = sym (nil_from_length xs (omega (arith, fits)))
 filled_all size (suc count) xs fits =
     let rest = length-drop size xs in
     ap (λ (ys : List ℕ). take size xs ++ ys) (filled_all size count (drop size xs) (omega (arith, fits, rest))) ∙ take-append-drop size xs
@@ -127,12 +120,9 @@ told_by : (test : Dataset → Bool) (a b c d : List Dataset) {w x y z : List Dat
 told_by test a b c d e f g h = simp (filter-append, e, f, g, h)
 
 -- without datasets of a record the last is of another
-last_none : (r k : ℕ) (ds : List Dataset) → nat_eq k r ≡ false → of_record r ds ≡ [] → nat_eq (last_record k ds) r ≡ false
+pub last_none : (r k : ℕ) (ds : List Dataset) → nat_eq k r ≡ false → of_record r ds ≡ [] → nat_eq (last_record k ds) r ≡ false
 last_none r k [] other none = other
-last_none r k (d ∷ ds) other none = elim (eqb_tells d.rec r) [
-  | inl same ↦ absurd (let bad = rw same.0 at none in cc)
-  | inr apart ↦ last_none r d.rec ds apart.0 (rw apart.0 at none)
-]
+last_none r k (d ∷ ds) other none = grind (arith, last_none r d.rec ds, none)
 
 module _ (fields : List Dataset) (numbers : Numbers) (heads : ℕ) (object : List ℕ) (ended : Bool) where
   abbrev made : List Dataset

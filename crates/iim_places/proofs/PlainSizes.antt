@@ -1,6 +1,6 @@
 -- What an object's numbers and lengths tell: the object layer lives alike with others that tell the same.
-use Rattle.std.proofs.Common.{◌≡◌, ℕ, ◌<◌, ◌≤◌, ◌↔◌, nat_eq, cond, Bool, true, false, List, [], ◌∷◌, ◌++◌, length, map, sum, Some, IfSome, refl, ap, sym, subst, ◌∙◌, arith, append_assoc, append-nil, if◌then◌else◌, ◌-◌, Option}
-use Rattle.iim_places.proofs.Words.{AllByRecursion, unwrap_or, IsOctet, Dataset, of_record, some_of, kept, is_kept, ObjectToken, SubfileBegun, ObjectLanguage, number_tokens, ending_tokens, place_after_datasets, numbers_of, Stated, InRow, number_at, object_of, ObjectLives, Numbers, plain_end, ending_of, SectionsLive, section_after, number, mode_known, IsAlive, Ending, NotEnded, Ended, ConfirmedAs, HasBoth, AreStated, LowerLaws, max_subfiles, IsPossible, HaveSizes, Sizes, nil_from_length, Head, SectionsLiveAt, place_at, lengths_of}
+use Rattle.std.proofs.Common.{◌≡◌, ℕ, ◌<◌, ◌≤◌, ◌↔◌, nat_eq, cond, Bool, true, false, List, [], ◌∷◌, ◌++◌, length, map, sum, Some, IfSome, refl, ap, sym, subst, ◌∙◌, arith, append-nil, if◌then◌else◌, ◌-◌, Option}
+use Rattle.iim_places.proofs.Words.{AllByRecursion, unwrap_or, IsOctet, Dataset, of_record, some_of, kept, is_kept, SubfileBegun, ObjectLanguage, number_tokens, ending_tokens, place_after_datasets, numbers_of, Stated, InRow, number_at, object_of, ObjectLives, Numbers, plain_end, ending_of, SectionsLive, section_after, number, mode_known, IsAlive, Ending, NotEnded, Ended, ConfirmedAs, HasBoth, AreStated, LowerLaws, max_subfiles, IsPossible, HaveSizes, Sizes, nil_from_length, Head, SectionsLiveAt, place_at, lengths_of}
 use Rattle.iim_dataset.proofs.Lists.{some_there}
 use Rattle.iim_object.specs.Format.Objects.{Agree, sizes_at}
 use Rattle.iim_object.specs.Laws.{NoClash, HasDuties, Fit, MeetsAnnounced}
@@ -21,9 +21,6 @@ row_at set (p ∷ ps) n all is = let more = row_at set ps n all.1 in grind arith
 
 pub mode_octet : (ps : List Stated) → AllByRecursion InRow ps → IfSome (number_at 10 ps) IsOctet
 mode_octet ps all = grind (arith, row_at)
-
-pub alive_front : (xs ys : List ObjectToken) → IsAlive ObjectLanguage (xs ++ ys) → IsAlive ObjectLanguage xs
-alive_front xs ys (rest, is) = (ys ++ rest, subst ObjectLanguage (append_assoc xs ys rest) is)
 
 pub all_kept : (ds : List Dataset) → AllByRecursion (λ (d : Dataset). is_kept d.rec ≡ true) (kept ds)
 all_kept [] = tt

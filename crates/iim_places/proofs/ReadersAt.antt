@@ -1,12 +1,11 @@
 -- Readers of a possible place stand where octets lead there.
-use Rattle.std.proofs.Common.{◌≡◌, ℕ, ◌+◌, ◌-◌, ◌<◌, ◌≤◌, nat_eq, if◌then◌else◌, Bool, true, false, List, [], ◌++◌, length, Option, Some, None, ap, IsTrue, sym, subst, ◌∙◌, arith}
+use Rattle.std.proofs.Common.{◌≡◌, ℕ, ◌+◌, ◌-◌, ◌<◌, ◌≤◌, nat_eq, if◌then◌else◌, Bool, true, false, List, [], ◌++◌, length, Option, Some, None, ap, sym, subst, ◌∙◌, arith}
 use Rattle.iim_places.proofs.Words.{AllByRecursion, Dataset, of_record, count_octets, Begun, InTag, Reads, IsKeptAs, ne_eqb, numbers_told, between, Head, DatasetPlace, SectionsLive, is_kept, kept, section_after, Limits, head_alive, place_after_datasets, NotEnded, ObjectEnded, Confirmed, place_after, max_subfiles, numbers_of, IsPossible, stated_numbers, State, text_so_far, LeadsToSaved, saved, MessagePlace, object_of, RecordsLive, begun_of_object, section, object_after, one_of_some, are_ended, begun_subfiles, LowerLaws, Numbers, number_list, plain, Phase, TagBegun, AllEnded, phase_of, place_at, CanContinue, CanContinueAt}
 use Rattle.iim_fields.specs.States.Standing as records
 use Rattle.iim_object.specs.Format.Objects as objects
 use Rattle.iim_object.specs.States.Reading as reading
 use Rattle.iim_object.specs.States.Reading.{IsAt}
 use Rattle.wire_message.specs.States.Reading as wire
-use Rattle.wire_message.specs.States.Reading.{is_ended}
 use Rattle.iim_places.proofs.AfterEnd.{ended_after}
 use Rattle.wire_message.specs.declared.place.Place.{Place as Message}
 use Rattle.wire_message.specs.declared.saved.MessagePart.TheVariants as part
@@ -37,14 +36,12 @@ like laws fields numbers some ended ds keeps same alive there few fields_are som
 -- ---- the message
 
 -- where octets lead to the place after EOT, they are a whole message
-whole_place : (reader : Option Message) (at : Message) → reader ≡ Some at → IsTrue (is_ended (Some at)) → wire.IsWhole reader
-whole_place reader at is e = grind arith
-
 pub ended_reader : LowerLaws → (reader : Option Message) (place : Place) (o text : List ℕ) → MessageStands reader place → LeadsToSaved o text place.message → place.message.part ≡ part.AfterEnd → wire.IsWhole reader
 ended_reader laws reader place o text stands leads last =
     let (at, is, here) = stands o text leads in
     let one = (laws.one_place o text text at leads.0 here leads.1).1 in
-    whole_place reader at is (ended_after at (ap (λ (m : Message). (saved m).part) one ∙ ap (λ (m : MessagePlace). m.part) leads.2 ∙ last))
+    let ended = ended_after at (ap (λ (m : Message). (saved m).part) one ∙ ap (λ (m : MessagePlace). m.part) leads.2 ∙ last) in
+    grind (arith, is, ended)
 
 pub text_led : LowerLaws → (reader : Option Message) (place : Place) (o text : List ℕ) → MessageStands reader place → LeadsToSaved o text place.message → wire.StandsAt reader o (text_so_far o)
 text_led laws reader place o text stands leads =

@@ -1,7 +1,7 @@
 -- Octets of one place: what stands on the one stands on the other.
-use Rattle.std.proofs.Common.{◌≡◌, ℕ, ◌+◌, ◌-◌, Bool, true, false, if◌then◌else◌, ◌==◌, nat_eq, List, [], ◌∷◌, ◌++◌, length, sum, Option, refl, ap, sym, subst, ◌∙◌, inl, inr, arith, length-append}
-use Rattle.iim_places.proofs.Words.{Octets, filter-append, Dataset, head_of, of_record, count_octets, Begun, InTag, InData, Reads, IsKeptAs, Head, ne_eqb, DatasetPlace, sum_append, HasChecked, HasTaken, kept, section_after, SectionsLive, SectionsLiveAt, ValuesDieWithTheirFault, Limits, RecordPlace, last_more, SubfileBegun, numbers_of, place_after_datasets, place_ended, State, stated_numbers, text_so_far, LeadsToSaved, MessagePlace, object_of, LowerLaws, place_at, ObjectLives, object_so_far, section, AllCanContinue, IsOpen, are_some, phase_of, heads_of}
-use Rattle.iim_dataset.proofs.Lists.{nothing_of_two}
+use Rattle.std.proofs.Common.{◌≡◌, ℕ, ◌+◌, Bool, true, false, if◌then◌else◌, ◌==◌, nat_eq, List, [], ◌∷◌, ◌++◌, length, sum, Option, refl, sym, subst, ◌∙◌, arith, length-append}
+use Rattle.iim_places.proofs.Words.{Octets, Dataset, head_of, of_record, count_octets, Begun, InTag, InData, Reads, IsKeptAs, Head, ne_eqb, DatasetPlace, sum_append, HasChecked, HasTaken, kept, section_after, SectionsLive, SectionsLiveAt, ValuesDieWithTheirFault, Limits, RecordPlace, last_more, SubfileBegun, numbers_of, place_after_datasets, place_ended, State, stated_numbers, text_so_far, LeadsToSaved, MessagePlace, object_of, LowerLaws, place_at, ObjectLives, object_so_far, section, AllCanContinue, IsOpen, are_some, phase_of, heads_of}
+use Rattle.iim_places.proofs.Plain.{last_none}
 use Rattle.iim_fields.specs.States.Standing as records
 use Rattle.iim_fields.specs.declared.order.Order.{Order}
 use Rattle.iim_object.specs.Format.Objects as objects
@@ -10,7 +10,7 @@ use Rattle.wire_message.specs.States.Reading as wire
 use Rattle.wire_message.specs.States.Reading.{LeadsTo}
 use Rattle.wire_message.specs.declared.place.Place.{Place as Message}
 use Rattle.iim_places.proofs.Following.{alive_of}
-use Rattle.iim_places.proofs.Lasts.{SplitLast, split_last, last_sections}
+use Rattle.iim_places.proofs.Lasts.{last_sections}
 use Rattle.iim_places.proofs.Tickets.{count_of, total_of}
 use Rattle.iim_places.proofs.SameRecords.{SameRecords, SameFields, SameNumbers, IsStated, same_more, same_numbers, none_other}
 use Rattle.iim_places.proofs.Answering.{open_at}
@@ -52,11 +52,7 @@ taken_as : ValuesDieWithTheirFault → (check : Option RecordPlace) (ds es : Lis
 taken_as law check ds es h at alive same =
     let present : (d : Dataset) → section_after (ds ++ d ∷ []) ≡ section_after (es ++ d ∷ []) = λ d. last_more 0 ds d ∙ sym (last_more 0 es d) in
     record {
-      checking = λ value.
-          let was = at.checking value in
-          let tells = λ (d : Dataset) (is : head_of d ≡ h).
-          same_tells was.order (ds ++ d ∷ []) (es ++ d ∷ []) (was.tells d is) (present d) (same_more ds es d d refl same) in
-          grind arith;
+      checking = λ value. grind (arith, at.checking value, same_tells, same_more, present);
       subfile = λ eight d is octets.
           let was = at.subfile eight d is octets in
           let lives = value_as law ds es d octets was.alive (rw (← is) at alive) in
@@ -120,15 +116,9 @@ same_message laws o r t v m n is (at, leads, saves) (other, goes, keeps) =
 -- ---- whether an octet has come
 
 pub none_present : (es : List Dataset) → SectionsLive es → section_after es ≡ 0 → es ≡ []
-none_present es alive zero = by (split_last es)
-  where
-    by : SplitLast es → es ≡ []
-    by (inl none) = none
-    by (inr (front, l, is)) =
-        let rec : l.rec ≡ 0 = sym (last_more 0 front l) ∙ sym (ap section_after is) ∙ zero in
-        let none = none_other 0 (refl, (refl, (refl, (refl, (refl, tt))))) (front ++ l ∷ []) (rw is at alive) in
-        let parts = filter-append (λ (x : Dataset). nat_eq x.rec 0) front (l ∷ []) in
-        let bad = rw rec at (nothing_of_two (of_record 0 front) (of_record 0 (l ∷ [])) (sym parts ∙ none)).1 in absurd cc
+none_present [] alive zero = refl
+none_present (d ∷ ds) alive zero =
+    let none = none_other 0 (refl, (refl, (refl, (refl, (refl, tt))))) (d ∷ ds) alive in grind (arith, none, zero, last_none 0 d.rec ds)
 
 abbrev pub has_begun : List Dataset → Begun → Bool
 has_begun [] (InTag x) = are_some x

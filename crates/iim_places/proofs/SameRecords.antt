@@ -1,13 +1,12 @@
 -- Datasets of one place have the same numbers in each record.
-use Rattle.std.proofs.Common.{◌≡◌, ℕ, ◌<◌, ◌≤◌, Bool, true, false, cond, nat_eq, List, [], ◌∷◌, ◌++◌, length, is_some, None, refl, ap, sym, subst, ◌∙◌, inl, ◌&&◌, inr, arith, append-nil, append_assoc, length-append}
-use Rattle.iim_places.proofs.Words.{front_alive, filter, AllByRecursion, eqb-true, ne_eqb, filter-append, list_any-append, number, Dataset, eqb_tells, head_alive, tells_number, value_token, head_of, of_record, Head, all_front, AreSections, AreRecords, records, IsGoodDataset, occurs, SectionsLive, SectionsLiveAt, section_after, kept, is_kept, last_more, by_record, max_subfiles, Stated, InRow, AreStated, number_at, numbers_of, ObjectToken, NotEnded, HasBoth, MayFollow, place_after, head_token, place_after_datasets, stated_numbers, one_of_some, place_at, LowerLaws, all_map}
+use Rattle.std.proofs.Common.{◌≡◌, ℕ, ◌<◌, ◌≤◌, Bool, true, false, cond, nat_eq, List, [], ◌∷◌, ◌++◌, length, is_some, None, refl, ap, sym, subst, ◌∙◌, inl, ◌&&◌, inr, arith}
+use Rattle.iim_places.proofs.Words.{AllByRecursion, eqb-true, ne_eqb, filter-append, list_any-append, number, Dataset, head_alive, tells_number, value_token, head_of, of_record, Head, all_front, records, IsGoodDataset, occurs, SectionsLive, SectionsLiveAt, section_after, kept, is_kept, by_record, max_subfiles, Stated, InRow, AreStated, number_at, numbers_of, ObjectToken, NotEnded, HasBoth, MayFollow, place_after, head_token, place_after_datasets, stated_numbers, one_of_some, place_at, LowerLaws, all_map}
 use Rattle.iim_object.specs.Format.Objects.{Place}
-use Rattle.iim_places.proofs.Fronts.{empty_front}
-use Rattle.iim_places.proofs.Lasts.{SplitLast, split_last}
 use Rattle.iim_places.proofs.SizeRows.{HasTen, Unstated, by_number, by_ten, eight_has, nine_has}
-use Rattle.iim_places.proofs.Places.{is_one, at_other, at_number, subfile_leads, end_leads, HeadLeads, number_leads, silent_leads}
-use Rattle.iim_places.proofs.Bounds.{none_nine}
-use Rattle.iim_places.proofs.Plain.{none_by}
+use Rattle.iim_places.proofs.Places.{one_more, is_one, at_other, at_number, subfile_leads, end_leads, HeadLeads, number_leads, silent_leads}
+use Rattle.iim_places.proofs.Bounds.{each_in, by_last}
+pub use Rattle.iim_places.proofs.Bounds.{nines}
+use Rattle.iim_places.proofs.Plain.{filter_none}
 use Rattle.iim_places.proofs.Taking.{each_good}
 
 -- The datasets have the same numbers in each record.
@@ -16,14 +15,11 @@ pub record SameRecords (ds es : List Dataset) : Type 0 where
 
 -- ---- one dataset more
 
-seen_one : (d e : Dataset) → head_of d ≡ head_of e → SameRecords (d ∷ []) (e ∷ [])
-seen_one d e is = record { seen = λ r n. grind (arith, is) }
-
 pub seen_on : {ds es xs ys : List Dataset} → SameRecords ds es → SameRecords xs ys → SameRecords (ds ++ xs) (es ++ ys)
 seen_on {ds} {es} {xs} {ys} same more = grind (arith, filter-append, list_any-append)
 
 pub same_more : (ds es : List Dataset) (d e : Dataset) → head_of d ≡ head_of e → SameRecords ds es → SameRecords (ds ++ d ∷ []) (es ++ e ∷ [])
-same_more ds es d e is same = seen_on same (seen_one d e is)
+same_more ds es d e is same = seen_on same (record { seen = λ r n. grind (arith, is) })
 
 pub of_kept : (r : ℕ) → is_kept r ≡ true → (ds : List Dataset) → of_record r (kept ds) ≡ of_record r ds
 of_kept r is [] = refl
@@ -39,11 +35,6 @@ pub record IsStated (p : Place) : Type 0 where
 
 stated_after : (p : Place) (token : ObjectToken) → MayFollow p token → IsStated p → IsStated (place_after p token)
 stated_after p token may is = grind arith
-
--- how many subfiles come before a dataset
-few_front : (xs : List Dataset) (d : Dataset) (ys : List Dataset) → length (of_record 8 (xs ++ d ∷ ys)) ≤ max_subfiles → d.rec ≡ 8 → length (of_record 8 xs) < max_subfiles
-few_front xs d ys few eight =
-    grind (arith, few, eight, ap length (filter-append (λ (x : Dataset). nat_eq x.rec 8) xs (d ∷ ys)), length-append (of_record 8 xs) (of_record 8 (d ∷ ys)))
 
 stated_head : LowerLaws → (ds : List Dataset) (h : Head) → SectionsLiveAt ds h → (h.rec ≡ 8 → length (of_record 8 ds) < max_subfiles)
     → IsStated (place_after_datasets ds) → IsStated (place_at ds h)
@@ -68,16 +59,12 @@ stated_step laws xs d alive few is =
       | false ↦ λ none. subst IsStated (silent_leads laws xs d alive none few) head
     ] refl
 
-stated_on : LowerLaws → (xs ys : List Dataset) → SectionsLive (xs ++ ys) → length (of_record 8 (xs ++ ys)) ≤ max_subfiles → IsStated (place_after_datasets xs) → IsStated (place_after_datasets (xs ++ ys))
-stated_on laws xs [] alive few is = rw append-nil is
-stated_on laws xs (d ∷ ys) alive few is =
-    let parts = append_assoc xs (d ∷ []) ys in
-    subst (λ (zs : List Dataset). IsStated (place_after_datasets zs)) parts
-    (stated_on laws (xs ++ d ∷ []) ys (subst SectionsLive (sym parts) alive) (subst (λ (zs : List Dataset). length (of_record 8 zs) ≤ max_subfiles) (sym parts) few)
-    (stated_step laws xs d (front_alive (xs ++ d ∷ []) ys (rw append_assoc alive)) (few_front xs d ys few) is))
-
 pub stated_after_all : LowerLaws → (ds : List Dataset) → SectionsLive ds → length (of_record 8 ds) ≤ max_subfiles → IsStated (place_after_datasets ds)
-stated_after_all laws ds alive few = stated_on laws [] ds alive few (record { stated = record { each = tt; once = tt }; subfiles = λ e. refl; duties = λ some. absurd (omega (arith, some)) })
+stated_after_all laws =
+    by_last (λ (ds : List Dataset). length (of_record 8 ds) ≤ max_subfiles → IsStated (place_after_datasets ds))
+    (λ few. record { stated = record { each = tt; once = tt }; subfiles = λ e. refl; duties = λ some. absurd (omega (arith, some)) })
+    (λ xs d alive is few.
+    let more = one_more xs d in stated_step laws xs d alive (λ eight. grind (arith, few, more, eight)) (is (omega (arith, few, more))))
 
 pub stated_at : LowerLaws → (ds : List Dataset) (h : Head) → SectionsLiveAt ds h → length (of_record 8 ds) ≤ max_subfiles → (h.rec ≡ 8 → length (of_record 8 ds) < max_subfiles) → IsStated (place_at ds h)
 stated_at laws ds h at few room = stated_head laws ds h at room (stated_after_all laws ds (head_alive ds h at) few)
@@ -101,8 +88,10 @@ pub record SameNumbers (ps qs : List Stated) : Type 0 where
 pub same_numbers : (ps qs : List Stated) → stated_numbers ps ≡ stated_numbers qs → SameNumbers ps qs
 same_numbers ps qs e = record { mode = cc e; largest = cc e; announced = cc e; maximum = cc e }
 
-pub same_stated : (n : ℕ) (ps qs : List Stated) → SameNumbers ps qs → AllByRecursion InRow ps → AllByRecursion InRow qs → number_at n ps ≡ number_at n qs
-same_stated n ps qs same a b = grind (arith, by_number, not_stated)
+-- the numbers are seen alike where they are stated alike
+pub same_stated : (n : ℕ) (xs ys : List Dataset) → SameNumbers (numbers_of xs) (numbers_of ys) → AllByRecursion InRow (numbers_of xs)
+    → AllByRecursion InRow (numbers_of ys) → occurs n xs ≡ occurs n ys
+same_stated n xs ys same a b = grind (arith, by_number, not_stated, occurs_stated n xs, occurs_stated n ys)
 
 -- ---- records 8 and 9, whose one number is 10
 
@@ -111,10 +100,9 @@ AreTens ds = AllByRecursion (λ d. d.set ≡ 10) ds
 
 tens_in : (r : ℕ) → HasTen r → (ds : List Dataset) → AllByRecursion IsGoodDataset ds → AreTens (of_record r ds)
 tens_in r has [] all = tt
-tens_in r has (d ∷ ds) all = elim (eqb_tells d.rec r) [
-  | inl same ↦ rw same.0 (by_ten r has d.octets (λ n. n ≡ 10) (λ m. refl) d.set (rw same.1 at all.0.meets), tens_in r has ds all.1)
-  | inr other ↦ rw other.0 (tens_in r has ds all.1)
-]
+tens_in r has (d ∷ ds) (good, more) =
+    let ten : d.rec ≡ r → d.set ≡ 10 = λ is. by_ten r has d.octets (λ n. n ≡ 10) (λ m. refl) d.set (rw is at good.meets) in
+    let later = tens_in r has ds more in grind (arith, ten, later)
 
 pub tens_after : (ds : List Dataset) → SectionsLive ds → AreTens (of_record 8 ds) × AreTens (of_record 9 ds)
 tens_after ds alive = grind (arith, all_front, each_good, tens_in, eight_has, nine_has)
@@ -127,41 +115,13 @@ ten_seen n (x ∷ xs) all = grind (arith, ten_seen n xs all.1, all.0)
 pub tens_seen : (n : ℕ) (xs ys : List Dataset) → AreTens xs → AreTens ys → one_of_some (length xs) ≡ one_of_some (length ys) → occurs n xs ≡ occurs n ys
 tens_seen n xs ys a b e = ten_seen n xs a ∙ ap (λ (k : ℕ). nat_eq k 1 && nat_eq 10 n) e ∙ sym (ten_seen n ys b)
 
--- ---- record 9 is the last
-
-abbrev pub CountsNines : List Dataset → Type 0
-CountsNines ds = length (of_record 9 ds) ≡ cond (nat_eq (section_after ds) 9) 1 0
-
-pub nines : LowerLaws → (ds : List Dataset) → SectionsLive ds → CountsNines ds
-nines laws ds alive = by (split_last ds)
-  where
-    at_last : (front : List Dataset) (d : Dataset) → SectionsLive (front ++ d ∷ []) → CountsNines (front ++ d ∷ [])
-    at_last front d alive =
-        let more : AreSections (front ++ d ∷ alive.0) = rw append_assoc at alive.1 in
-        let none : of_record 9 front ≡ [] = none_nine laws.sections laws.last_record [] front ((d ∷ alive.0), more)
-        (λ s. let bad : d ∷ alive.0 ≡ [] = laws.sections front (d ∷ alive.0) s more in absurd cc) in
-        rw (filter-append (λ (x : Dataset). nat_eq x.rec 9) front (d ∷ []), none, last_more 0 front d) (grind arith)
-
-    by : SplitLast ds → CountsNines ds
-    by (inl none) = subst CountsNines (sym none) refl
-    by (inr (front, d, is)) = subst CountsNines (sym is) (at_last front d (subst SectionsLive is alive))
-
 -- ---- there are no other records
 
-none_in_records : (p : ℕ → Bool) (rs : List ℕ) (ds : List Dataset) → AreRecords rs ds → AllByRecursion (λ k. p k ≡ false) rs
-    → filter (λ (d : Dataset). p d.rec) ds ≡ []
-none_in_records p [] ds none apart = ap (filter (λ (d : Dataset). p d.rec)) none
-none_in_records p (k ∷ rs) ds (run, rest, parts, good, later) apart =
-    let none = none_by p k run apart.0 (all_map _ _ run (λ d h. h.0) good.each) in
-    rw parts (simp (filter-append, none, none_in_records p rs rest later apart.1))
-
--- nor in front of others
-pub none_in_front : (p : ℕ → Bool) (rs : List ℕ) (ds more : List Dataset) → AreRecords rs (ds ++ more) → AllByRecursion (λ k. p k ≡ false) rs
-    → filter (λ (d : Dataset). p d.rec) ds ≡ []
-none_in_front p rs ds more are apart = grind (arith, empty_front, filter-append, none_in_records)
-
 pub none_other : (r : ℕ) → AllByRecursion (λ k. nat_eq k r ≡ false) records → (ds : List Dataset) → SectionsLive ds → of_record r ds ≡ []
-none_other r apart ds alive = none_in_front (λ k. nat_eq k r) records ds alive.0 alive.1 apart
+none_other r apart ds (more, are) =
+    let each = all_map (λ k. nat_eq k r ≡ false) (λ k. (d : Dataset) → d.rec ≡ k → IsGoodDataset d → nat_eq d.rec r ≡ false) records
+    (λ k no d is good. ap (λ (n : ℕ). nat_eq n r) is ∙ no) apart in
+    filter_none (λ (d : Dataset). nat_eq d.rec r) ds (all_front _ ds more (each_in (λ (d : Dataset). nat_eq d.rec r ≡ false) records (ds ++ more) each are))
 
 -- ---- all records
 
@@ -178,31 +138,21 @@ SameIn ds es r = (n : ℕ) → occurs n (of_record r ds) ≡ occurs n (of_record
 same_kept : (ds es : List Dataset) (r : ℕ) → is_kept r ≡ true → kept ds ≡ kept es → SameIn ds es r
 same_kept ds es r is same n = grind (arith, of_kept)
 
--- Of the subfiles it need say no more than whether some have ended.
-pub same_shape : LowerLaws → (ds es : List Dataset) → SectionsLive ds → SectionsLive es → length (of_record 8 ds) ≤ max_subfiles
-    → length (of_record 8 es) ≤ max_subfiles → nat_eq (section_after ds) 9 ≡ nat_eq (section_after es) 9 → kept ds ≡ kept es
-    → stated_numbers (numbers_of (of_record 7 ds)) ≡ stated_numbers (numbers_of (of_record 7 es))
-    → one_of_some (length (of_record 8 ds)) ≡ one_of_some (length (of_record 8 es)) → SameRecords ds es
-same_shape laws ds es a b few less ended fields numbers some =
+pub same_records : LowerLaws → (ds es : List Dataset) → SectionsLive ds → SectionsLive es → length (of_record 8 ds) ≤ max_subfiles → length (of_record 8 es) ≤ max_subfiles → SameFields ds es
+    → SameRecords ds es
+same_records laws ds es a b few less same =
     let tens = tens_after ds a in
     let others = tens_after es b in
-    let seven : SameIn ds es 7 = λ n.
     let stated = (stated_after_all laws ds a few).stated.each in
-    let more = (stated_after_all laws es b less).stated.each in
-    occurs_stated n (of_record 7 ds)
-    ∙ ap is_some (same_stated n (numbers_of (of_record 7 ds)) (numbers_of (of_record 7 es)) (same_numbers _ _ numbers) stated more)
-    ∙ sym (occurs_stated n (of_record 7 es)) in
-    let eight : SameIn ds es 8 = λ n. tens_seen n (of_record 8 ds) (of_record 8 es) tens.0 others.0 some in
-    let count = nines laws ds a ∙ ap (λ (b : Bool). cond b 1 0) ended ∙ sym (nines laws es b) in
+    let seven : SameIn ds es 7 =
+    λ n. same_stated n (of_record 7 ds) (of_record 7 es) (same_numbers _ _ same.numbers) stated (stated_after_all laws es b less).stated.each in
+    let eight : SameIn ds es 8 = λ n. tens_seen n (of_record 8 ds) (of_record 8 es) tens.0 others.0 (ap one_of_some same.heads) in
+    let count = nines laws ds a ∙ ap (λ (b : Bool). cond b 1 0) same.ended ∙ sym (nines laws es b) in
     let nine : SameIn ds es 9 = λ n. tens_seen n (of_record 9 ds) (of_record 9 es) tens.1 others.1 (ap one_of_some count) in
     record {
       seen = λ r.
-          by_record (SameIn ds es) r (same_kept ds es 1 refl fields) (same_kept ds es 2 refl fields) seven eight nine
+          by_record (SameIn ds es) r (same_kept ds es 1 refl same.fields) (same_kept ds es 2 refl same.fields) seven eight nine
           (λ not1 not2 not7 not8 not9 n.
           let apart : AllByRecursion (λ k. nat_eq k r ≡ false) records = grind (arith, ne_eqb) in
           ap (occurs n) (none_other r apart ds a ∙ sym (none_other r apart es b)));
     }
-
-pub same_records : LowerLaws → (ds es : List Dataset) → SectionsLive ds → SectionsLive es → length (of_record 8 ds) ≤ max_subfiles → length (of_record 8 es) ≤ max_subfiles → SameFields ds es
-    → SameRecords ds es
-same_records laws ds es a b few less same = same_shape laws ds es a b few less same.ended same.fields same.numbers (ap one_of_some same.heads)

@@ -1,6 +1,6 @@
 -- What a ticket is restored to stands where the saved unpacker stood; and octets have a place.
 use Rattle.std.proofs.Common.{◌≡◌, ℕ, ◌<◌, ◌^◌, List, [], get_or, ap, refl, sym, subst, ◌∙◌, inr, arith, append-nil}
-use Rattle.iim_places.proofs.Words.{Dataset, Begun, InTag, InData, Head, Limits, saved, Value, OctetsHaveOnePlace, TicketsTellOnePlace, AreWithin, LowerLaws, object_so_far, IsOpen, AreOpenOrWhole, widest, IsPossibleIn, IsTicketAt, IsEnvelopeWithin, IsPlaceOf, present_version, place_of, ticket_in, ticket_of, MayContinue, HaveRoom, AllCanContinue}
+use Rattle.iim_places.proofs.Words.{Dataset, Begun, Limits, saved, Value, OctetsHaveOnePlace, TicketsTellOnePlace, LowerLaws, object_so_far, IsOpen, AreOpenOrWhole, widest, IsPossibleIn, IsTicketAt, IsEnvelopeWithin, IsPlaceOf, present_version, place_of, ticket_in, ticket_of, MayContinue, AllCanContinue}
 use Rattle.wire_message.specs.States.Reading.{LeadsTo}
 use Rattle.wire_message.specs.declared.place.Place.{Place as Message}
 use Rattle.iim_places.specs.Format.Tickets.{Place}
@@ -29,15 +29,8 @@ one_place laws start begins limits octets comes =
 
 -- ---- under wider limits
 
-are_wider : (limits : Limits) (ds : List Dataset) → limits.octets < 2 ^ 32 → limits.fields < 2 ^ 32 → AreWithin limits ds → AreWithin widest ds
-are_wider limits ds less few within = grind (arith, less, few, within)
-
-room_wider : (limits : Limits) (ds : List Dataset) (h : Head) → limits.octets < 2 ^ 32 → limits.fields < 2 ^ 32 → HaveRoom limits ds h → HaveRoom widest ds h
-room_wider limits ds h less few room = grind (arith, less, few, room)
-
 goes_wider : (limits : Limits) (ds : List Dataset) (b : Begun) → limits.octets < 2 ^ 32 → limits.fields < 2 ^ 32 → MayContinue limits ds b → MayContinue widest ds b
-goes_wider limits ds (InTag held) less few goes = record { records = goes.records; within = are_wider limits ds less few goes.within; object = goes.object }
-goes_wider limits ds (InData h taken) less few goes = assumption (are_wider limits ds less few goes.within, room_wider limits ds h less few goes.room)
+goes_wider limits ds b less few goes = grind (arith, less, few, goes)
 
 pub open_wider : (limits : Limits) (octets : List ℕ) → limits.octets < 2 ^ 32 → limits.fields < 2 ^ 32 → IsOpen limits octets → IsOpen widest octets
 open_wider limits octets less few opens =
@@ -46,7 +39,7 @@ open_wider limits octets less few opens =
     record { whole = opens.whole; begun = opens.begun; reads = opens.reads; leads_on = goes; unfinished = opens.unfinished }
 
 pub whole_wider : (limits : Limits) (octets : List ℕ) (v : Value) → limits.octets < 2 ^ 32 → limits.fields < 2 ^ 32 → IsEnvelopeWithin limits octets v → IsEnvelopeWithin widest octets v
-whole_wider limits octets v less few whole = record { admits = whole.admits; within = are_wider limits whole.admits.datasets less few whole.within }
+whole_wider limits octets v less few whole = record { admits = whole.admits; within = grind (arith, less, few, whole.within) }
 
 -- ---- the restored unpacker
 

@@ -1,10 +1,11 @@
 -- Places that were possible by smaller sizes, and by the sizes that there are.
-use Rattle.std.proofs.Common.{◌≡◌, ℕ, ◌-◌, ◌≤◌, nat_eq, cond, if◌then◌else◌, Bool, true, false, List, [], ◌∷◌, ◌++◌, length, map, sum, refl, ap, sym, subst, ◌∙◌, inl, inr, arith, ◌^◌, ◌<◌, Option, append-nil, length-append, ◌+◌, ◌⊎◌, ◌||◌, nat_le}
-use Rattle.iim_places.proofs.Words.{AllByRecursion, eqb-true, eq-eqb, Dataset, SpellsDataset, SpellsStream, count_octets, head_of, of_record, IsAlive, Begun, InTag, InData, IsBegun, Reads, Head, all_front, all_back, section_after, tells_number, SubfileBegun, ObjectEnded, Confirmed, number_tokens, numbers_of, Stated, TokensWithin, LanguageWithin, LowerLaws, object_of, AreWithin, object_so_far, section, Possible, IsSmall, IsSmallPhase, IsSmallPlace, greatest_size_before, widest, Scale, FitsRow, SectionsLiveIn, HaveRoomIn, IsOpenIn, PossibleAt, place_in, first_scale, IsPlaceOf, TagBegun, AllEnded, phase_of, MayContinue, unwrap_or, lt-ltb, IsOctet, SpellsCount, SpellsTag, canonical_count, canonical_tag, canonical_dataset, canonical_stream, written_number, all_append, all_map, HasSpellings, is_kept, AreSections, place_after_datasets, ending_of, number_dataset, ending_tokens, within_append, begun_within, SmallPlacesWerePossible, Numbers, number_list, plain_numbers, plain, within, greatest_size, within_most_and, Meets, IsGoodDataset, SectionsIn, PresentScaleSaysNothingMore, present_scale, or_cases, AreKept, LeadsByLayers, are_ended, leb-true, le-leb, nat_tests, map-append, IsGoodRecord, occurs, occurrences, occurrences_cons, mandatory, AreRecords, records, good_elsewhere, place_at, BeginsTag, IsWholeIn, LeadsToSaved, MessagePlace, CanContinue, AllCanContinue}
+use Rattle.std.proofs.Common.{◌≡◌, ◌&&◌, nat_lt, ℕ, ◌-◌, ◌≤◌, nat_eq, if◌then◌else◌, Bool, true, false, List, [], ◌∷◌, ◌++◌, length, map, sum, refl, ap, sym, subst, ◌∙◌, inl, inr, arith, ◌^◌, ◌<◌, append-nil, length-append, ◌⊎◌, ◌||◌}
+use Rattle.iim_places.proofs.Words.{IsLongField, AllByRecursion, eqb-true, Dataset, SpellsDataset, SpellsStream, count_octets, head_of, of_record, IsAlive, Begun, InTag, InData, IsBegun, Reads, Head, all_front, all_back, section_after, tells_number, SubfileBegun, ObjectEnded, Confirmed, number_tokens, numbers_of, Stated, TokensWithin, LanguageWithin, LowerLaws, object_of, AreWithin, object_so_far, section, Possible, IsSmall, IsSmallPhase, IsSmallPlace, greatest_size_before, widest, Scale, FitsRow, SectionsLiveIn, HaveRoomIn, IsOpenIn, PossibleAt, place_in, first_scale, IsPlaceOf, phase_of, MayContinue, unwrap_or, lt-ltb, IsOctet, SpellsTag, canonical_tag, canonical_dataset, canonical_stream, all_append, all_map, HasSpellings, AreSections, place_after_datasets, number_dataset, ending_tokens, within_append, begun_within, SmallPlacesWerePossible, Numbers, number_list, plain_numbers, plain, within, greatest_size, within_most_and, Meets, IsGoodDataset, SectionsIn, PresentScaleSaysNothingMore, present_scale, AreKept, LeadsByLayers, are_ended, nat_tests, map-append, IsGoodRecord, occurs, occurrences, occurrences_cons, mandatory, AreRecords, records, good_elsewhere, place_at, BeginsTag, IsWholeIn, LeadsToSaved, MessagePlace, AllCanContinue}
 use Rattle.iim_places.specs.Format.Tickets.{Place}
 use Rattle.iim_places.proofs.Answering.{reads_envelope, coming}
-use Rattle.iim_places.proofs.Bounds.{part_of_whole, object_fits, sized_seven, sized_nine, low}
-use Rattle.iim_places.proofs.Fitting.{at_head, reads_of, begins_tag, so_far_fits, lives_in, tag_or_end, four_at, low_count}
+use Rattle.iim_places.proofs.Bounds.{told_in, part_of_whole, object_fits, sized, low}
+use Rattle.iim_places.proofs.Fitting.{each_fits, reads_of, begins_tag, so_far_fits, lives_in, four_at, low_count}
+use Rattle.iim_places.proofs.SamePlace.{at_tests}
 use Rattle.iim_places.proofs.SmallTags.{wider_tag, small_tag}
 use Rattle.iim_places.proofs.ByLayers.{layers_open, possible_in, leads_by_layers, Opens, ended_heads, plain_of}
 use Rattle.iim_places.proofs.Tickets.{so_far_by, total_of, stated_by}
@@ -13,7 +14,7 @@ use Rattle.iim_object.specs.Laws.{PlacesLiveWithin}
 use Rattle.iim_places.proofs.Following.{within_of, alive_of}
 use Rattle.iim_places.proofs.Plain.{numbers_each, parts_each, end_each, present_ended}
 use Rattle.iim_tables.specs.Format.Rows.{table, row_of}
-use Rattle.iim_places.proofs.SizeRows.{by_ten, eight_has, nine_has}
+use Rattle.iim_places.proofs.SizeRows.{by_ten, eight_has}
 use Rattle.iim_places.proofs.Taking.{each_good}
 use Rattle.iim_object.specs.Format.Objects as objects
 use Rattle.iim_places.proofs.AfterEnd.{WholeMessage, ended_after, ended_at}
@@ -25,16 +26,10 @@ use Rattle.iim_places.proofs.Lasts.{sections_last}
 
 wider_stream : (limit : ℕ) → limit ≤ count_octets → (ds : List Dataset) (xs : List ℕ) → SpellsStream limit ds xs → SpellsStream count_octets ds xs
 wider_stream limit le [] xs s = s
-wider_stream limit le (d ∷ ds) xs (first, rest, one, more, parts) =
-    let tag = wider_tag limit count_octets (head_of d) one.tag le one.is_tag in
-    let wider : SpellsDataset count_octets d first = record { tag = one.tag; is_tag = tag; data_octets = one.data_octets; parts = one.parts } in
-    (first, rest, wider, wider_stream limit le ds rest more, parts)
-
-wider_rest : (limit : ℕ) → limit ≤ count_octets → (b : Begun) (xs : List ℕ) → IsBegun limit b xs → IsBegun count_octets b xs
-wider_rest limit le b xs begun = grind arith
+wider_stream limit le (d ∷ ds) xs (first, rest, one, more, parts) = (first, rest, grind (arith, wider_tag), wider_stream limit le ds rest more, parts)
 
 wider_reads : (limit : ℕ) → limit ≤ count_octets → (xs : List ℕ) (ds : List Dataset) (b : Begun) → Reads limit xs ds b → Reads count_octets xs ds b
-wider_reads limit le xs ds b r = grind (arith, wider_rest, wider_stream)
+wider_reads limit le xs ds b r = grind (arith, wider_stream)
 
 rows_of : (s : Scale) (ds : List Dataset) (b : Begun) → SectionsLiveIn s ds b → AllByRecursion (FitsRow s) ds
 rows_of s ds b alive = grind (arith, all_front)
@@ -70,10 +65,7 @@ AreLow most ds = AllByRecursion (λ (p : Stated). p.number ≤ most) (numbers_of
 -- each number of record 7, or of record 9, is at most the greatest size
 stated_low : (s : Scale) (r : ℕ) → tells_number r ≡ true → (ds : List Dataset) → AllByRecursion (FitsRow s) ds → AreLow s.greatest (of_record r ds)
 stated_low s r told [] all = tt
-stated_low s r told (d ∷ ds) all = elim (nat_eq d.rec r) as (λ b. nat_eq d.rec r ≡ b → AreLow s.greatest (cond b (d ∷ of_record r ds) (of_record r ds))) [
-  | true ↦ λ is. ((all.0.size (ap tells_number (eqb-true d.rec r is) ∙ told)).1, stated_low s r told ds all.1)
-  | false ↦ λ is. stated_low s r told ds all.1
-] refl
+stated_low s r told (d ∷ ds) all = grind (arith, stated_low s r told ds all.1, all.0, eqb-true)
 
 -- the confirmed size is the last token
 confirmed_low : (most : ℕ) (ps : List Stated) (ls : List ℕ) (n : ℕ) → TokensWithin most (number_tokens ps ++ (map SubfileBegun ls ++ (ObjectEnded ∷ Confirmed n ∷ []))) → n ≤ most
@@ -89,12 +81,9 @@ total_low most p (rest, (lang, within)) =
 
 small_phase : (octets : List ℕ) (ds : List Dataset) (b : Begun) → Reads 4 octets ds b → SectionsLiveIn first_scale ds b → sum (place_in ds b).lengths ≤ greatest_size_before
     → IsSmallPhase (section ds b) (length (object_so_far ds b)) (phase_of ds b)
-small_phase octets ds (InTag held) reads alive low =
-    tag_or_end (IsSmallPhase (section_after ds) (length (object_of ds))) (nat_eq (section_after ds) 9) held tt (begins_tag 4 octets ds held reads)
+small_phase octets ds (InTag held) reads alive low = grind (arith, begins_tag 4 octets ds held reads)
 small_phase octets ds (InData h taken) reads (d, head, alive) low =
     let fits = (all_back (FitsRow first_scale) ds (d ∷ []) (all_front (FitsRow first_scale) (ds ++ d ∷ []) alive.0 alive.1.1)).0 in
-    let rec : d.rec ≡ h.rec = ap (λ (k : Head). k.rec) head in
-    let count : length d.octets ≡ h.count = ap (λ (k : Head). k.count) head in
     let all = so_far_by (nat_eq h.rec 8) (nat_eq h.rec 9) ds taken h.count (h.count - length taken) (let less = reads.is_rest.2 in omega (arith, less)) in
     grind arith
 
@@ -107,6 +96,9 @@ small_of laws place octets leads ds b reads rows taken phase =
     let c = coming laws place octets leads ds b reads in
     let numbers = four_at IsSmall (numbers_of (of_record 7 ds)) tt (stated_low first_scale 7 refl ds rows) in
     subst IsSmallPlace (sym c.is_place) (record { numbers = numbers; taken = taken; begun = phase })
+
+small_between : (ds : List Dataset) → BeginsTag count_octets [] → IsSmallPhase (section_after ds) (length (object_of ds)) (phase_of ds (InTag []))
+small_between ds begins = grind (arith, small_tag [] begins)
 
 -- What was possible is possible, and keeps to the first sizes.
 still_possible : LowerLaws → (place : Place) → PossibleAt first_scale place → Possible place × IsSmallPlace place
@@ -121,9 +113,7 @@ still_possible laws place p = (
     | inr is ↦
         (let ds = is.admits.datasets in
         let reads = reads_envelope p.octets is.value is.admits in
-        let small = small_tag [] (begins_tag count_octets p.octets ds [] reads) (λ long. absurd (omega (arith, long))) in
-        small_of laws place p.octets p.leads ds (InTag []) reads is.rows is.total
-        (tag_or_end (IsSmallPhase (section_after ds) (length (object_of ds))) (nat_eq (section_after ds) 9) [] tt small))
+        small_of laws place p.octets p.leads ds (InTag []) reads is.rows is.total (small_between ds (begins_tag count_octets p.octets ds [] reads)))
   ],
 )
 
@@ -136,72 +126,31 @@ short_number = 0 ∷ 0 ∷ 0 ∷ 1 ∷ []
 abbrev Low : Dataset → Type 0
 Low d = (length d.octets < 2 ^ 32) × (tells_number d.rec ≡ true → length d.octets ≤ 4)
 
-abbrev shrunk : (tells subfile : Bool) → List ℕ → List ℕ
-shrunk true subfile xs = if nat_le (length xs) 4 then xs else short_number
-shrunk false true xs = if nat_le (length xs) greatest_size_before then xs else []
-shrunk false false xs = xs
-
 abbrev shrink : Dataset → Dataset
-shrink d = record d { octets = shrunk (tells_number d.rec) (nat_eq d.rec 8) d.octets }
-
--- records 7 and 9 tell numbers
-told_in : (r : ℕ) → tells_number r ≡ true → (r ≡ 7) ⊎ (r ≡ 9)
-told_in r is = elim (or_cases (nat_eq r 7) (nat_eq r 9) is) [ inl seven ↦ inl (eqb-true r 7 seven) | inr nine ↦ inr (eqb-true r 9 nine) ]
+shrink d = record d {
+  octets = if tells_number d.rec && nat_lt 4 (length d.octets) then short_number
+      else (if nat_eq d.rec 8 && nat_lt greatest_size_before (length d.octets) then [] else d.octets);
+}
 
 -- the row of a number that is too long takes a short one
-seven_takes : (set : ℕ) (xs : List ℕ) → Meets 7 set xs → 4 < length xs → Meets 7 set short_number
+number_takes : (r set : ℕ) (xs : List ℕ) → tells_number r ≡ true → Meets r set xs → 4 < length xs → Meets r set short_number
 unfolding row_of table
-seven_takes set xs = grind arith
-
-nine_takes : (set : ℕ) (xs : List ℕ) → Meets 9 set xs → Meets 9 set short_number
-unfolding row_of table
-nine_takes set xs = by_ten 9 nine_has xs (λ k. Meets 9 k short_number) (λ h. refl) set
+number_takes r set xs told = grind (arith, told_in)
 
 eight_takes : (set : ℕ) (xs : List ℕ) → Meets 8 set xs → Meets 8 set []
 unfolding row_of table
 eight_takes set xs = by_ten 8 eight_has xs (λ k. Meets 8 k []) (λ h. refl) set
 
--- a number's data, or short ones
-short_told : (d : Dataset) → IsGoodDataset d → tells_number d.rec ≡ true → (b : Bool) → nat_le (length d.octets) 4 ≡ b
-    → IsGoodDataset (record d { octets = if b then d.octets else short_number }) × (length (if b then d.octets else short_number) ≤ 4)
-short_told d good told b few = grind (arith, leb-true, nat_tests, told_in, seven_takes, nine_takes, good_elsewhere)
-
--- a subfile, or an empty one
-short_subfile : (d : Dataset) → IsGoodDataset d → d.rec ≡ 8 → (b : Bool) → nat_le (length d.octets) greatest_size_before ≡ b
-    → IsGoodDataset (record d { octets = if b then d.octets else [] }) × (length (if b then d.octets else []) ≤ greatest_size_before)
-short_subfile d good eight b few = grind (arith, leb-true, good_elsewhere, eight_takes)
-
 -- The data of a good dataset may be replaced so that it fits its row by the first scale.
 shrink_fits : (d : Dataset) → IsGoodDataset d → IsGoodDataset (shrink d) × FitsRow first_scale (shrink d)
-shrink_fits d good = by (tells_number d.rec) (nat_eq d.rec 8) refl refl
-  where
-    by : (tells subfile : Bool) → tells_number d.rec ≡ tells → nat_eq d.rec 8 ≡ subfile
-        → IsGoodDataset (record d { octets = shrunk tells subfile d.octets }) × FitsRow first_scale (record d { octets = shrunk tells subfile d.octets })
-    by true subfile told eight =
-        let (fine, few) = short_told d good told (nat_le (length d.octets) 4) refl in
-        (fine, record { size = λ _. (few, omega (arith, low 4 _ fine.octets few)); subfile = λ _. omega (arith, few) })
-    by false true none eight =
-        let (fine, few) = short_subfile d good (eqb-true d.rec 8 eight) (nat_le (length d.octets) greatest_size_before) refl in
-        (fine, record { size = λ told. let bad : false ≡ true = sym none ∙ told in absurd cc; subfile = λ _. few })
-    by false false none other = (
-      good,
-      record {
-        size = λ told. let bad : false ≡ true = sym none ∙ told in absurd cc;
-        subfile = λ eight. let bad : false ≡ true = sym other ∙ eq-eqb d.rec 8 eight in absurd cc;
-      },
-    )
+shrink_fits d good = grind (arith, nat_tests, told_in, number_takes, eight_takes, good_elsewhere, low)
 
 -- ---- records
 
 -- what is short stays
 all_same : (ds : List Dataset) → AllByRecursion Low ds → map shrink ds ≡ ds
 all_same [] all = refl
-all_same (d ∷ ds) all = rw (same (tells_number d.rec) (nat_eq d.rec 8) d.octets all.0.0 all.0.1, all_same ds all.1) refl
-  where
-    same : (tells subfile : Bool) (xs : List ℕ) → length xs < 2 ^ 32 → (tells ≡ true → length xs ≤ 4) → shrunk tells subfile xs ≡ xs
-    same true subfile xs few less = rw (le-leb (length xs) 4 (less refl)) refl
-    same false true xs few less = rw (le-leb (length xs) greatest_size_before (omega (arith, few))) refl
-    same false false xs few less = refl
+all_same (d ∷ ds) all = grind (arith, nat_tests, all_same ds all.1, all.0)
 
 occurs_same : (n : ℕ) (ds : List Dataset) → occurs n (map shrink ds) ≡ occurs n ds
 occurs_same n [] = refl
@@ -235,48 +184,36 @@ sections_live_small ds (more, are) short = (map shrink more, rw (map-append shri
 
 -- ---- spellings with few count octets
 
-few_count : (n : ℕ) → n < 2 ^ 32 → SpellsCount 4 n (canonical_count n)
-few_count n few = grind arith
-
 few_tag : (h : Head) → IsOctet h.rec → IsOctet h.set → h.count < 2 ^ 32 → SpellsTag 4 h (canonical_tag h)
-few_tag h r s few = grind (arith, few_count)
+few_tag h r s few = grind arith
 
 few_stream : (ds : List Dataset) → AllByRecursion HasSpellings ds → AllByRecursion Low ds → SpellsStream 4 ds (canonical_stream ds)
 few_stream [] all few = refl
 few_stream (d ∷ ds) all few =
     let tag = few_tag (head_of d) all.0.rec all.0.set few.0.0 in
-    let first : SpellsDataset 4 d (canonical_dataset d) = record { tag = canonical_tag (head_of d); is_tag = tag; data_octets = all.0.octets; parts = refl } in
-    (canonical_dataset d, canonical_stream ds, first, few_stream ds all.1 few.1, refl)
+    let first : SpellsDataset 4 d (canonical_dataset d) = grind (arith, tag, all.0) in (canonical_dataset d, canonical_stream ds, first, few_stream ds all.1 few.1, refl)
 
 -- ---- plain datasets are short
 
-no_number : (r : ℕ) → is_kept r ≡ true → tells_number r ≡ true → ⊥
-no_number r keeps told = grind arith
-
-low_fields : (ds : List Dataset) → AreKept ds → length (joined ds) < 2 ^ 32 → AllByRecursion Low ds
+low_fields : (ds : List Dataset) → AreKept ds → AllByRecursion IsLongField ds → AllByRecursion Low ds
 low_fields [] all few = tt
-low_fields (d ∷ ds) all few =
-    let both = length-append d.octets (joined ds) in
-    ((omega (arith, both, few), λ told. absurd (no_number d.rec all.0 told)), low_fields ds all.1 (omega (arith, both, few)))
+low_fields (d ∷ ds) all few = ((few.0, λ told. grind arith), low_fields ds all.1 few.1)
 
 low_one : (rec set n : ℕ) → n ≤ greatest_size_before → Low (number_dataset rec set n)
-low_one rec set n low =
-    let four : length (written_number n) ≡ 4 = rw (lt-ltb n (2 ^ 32) (omega (arith, low))) refl in (omega (arith, four), λ told. omega (arith, four))
-
-size_low : (o : Option ℕ) → IsSmall o → unwrap_or o 0 ≤ greatest_size_before
-size_low o low = grind arith
+low_one rec set n low = grind (arith, lt-ltb n (2 ^ 32))
 
 low_plain : (fields : List Dataset) (numbers : Numbers) (heads : ℕ) (object : List ℕ) (ended : Bool) → AreKept fields
     → length (joined fields) < 2 ^ 32 → AllByRecursion IsSmall (number_list numbers) → length object ≤ greatest_size_before
     → AllByRecursion Low (plain fields numbers heads object ended)
 low_plain fields numbers heads object ended kept few small low =
-    all_append Low fields _ (low_fields fields kept few)
+    all_append Low fields _ (low_fields fields kept (each_fits fields few))
     (all_append Low (plain_numbers numbers) _
     (numbers_each Low numbers (λ n is. (omega arith, λ told. omega arith)) (λ n is. low_one 7 20 n (subst IsSmall is small.1.0))
     (λ n is. low_one 7 90 n (subst IsSmall is small.1.1.0)) (λ n is. low_one 7 95 n (subst IsSmall is small.1.1.1.0)))
     (all_append Low _ _
     (parts_each Low (unwrap_or numbers.largest 0) heads object
-    (λ ys short few good. let most = size_low numbers.largest small.1.0 in (omega (arith, short, most), λ told. absurd cc)))
+    (λ ys short few good.
+    let most : unwrap_or numbers.largest 0 ≤ greatest_size_before = grind (arith, small.1.0) in (omega (arith, short, most), λ told. absurd cc)))
     (end_each Low ended object (low_one 9 10 (length object) low))))
 
 -- ---- the object's tokens
@@ -285,22 +222,23 @@ numbers_within : (most : ℕ) (ps : List Stated) → AllByRecursion (λ (p : Sta
 numbers_within most [] low = tt
 numbers_within most (p ∷ ps) low = (low.0, numbers_within most ps low.1)
 
--- and so is the size that is confirmed
-end_within : (most : ℕ) (rs : List Dataset) → AreLow most rs → TokensWithin most (ending_tokens (ending_of rs))
-end_within most rs low = grind arith
-
 tokens_within : (s : Scale) (ds : List Dataset) → AllByRecursion (FitsRow s) ds → (p : objects.Place) → p.stated ≡ numbers_of (of_record 7 ds)
     → TokensWithin s.greatest (ending_tokens p.ending) → TokensWithin s.greatest (objects.tokens_of p)
 tokens_within s ds rows p is end' =
     within_append s.greatest (number_tokens p.stated) _ (rw is (numbers_within s.greatest (numbers_of (of_record 7 ds)) (stated_low s 7 refl ds rows)))
     (within_append s.greatest (map SubfileBegun p.lengths) _ (begun_within s.greatest p.lengths) end')
 
+-- and so is the size that is confirmed
+end_at : (most : ℕ) (b c : Bool) (ds : List Dataset) (count : ℕ) → AreLow most (of_record 9 ds)
+    → TokensWithin most (ending_tokens (at_tests b c ds count).ending)
+end_at most b c ds count last = grind arith
+
 within_in : (s : Scale) (ds : List Dataset) (b : Begun) → AllByRecursion (FitsRow s) ds → TokensWithin s.greatest (objects.tokens_of (place_in ds b))
-within_in s ds (InTag held) rows = tokens_within s ds rows (place_after_datasets ds) refl (end_within s.greatest (of_record 9 ds) (stated_low s 9 refl ds rows))
+within_in s ds (InTag held) rows =
+    tokens_within s ds rows (place_after_datasets ds) refl (end_at s.greatest false false ds 0 (stated_low s 9 refl ds rows))
 within_in s ds (InData h taken) rows =
-    let last = end_within s.greatest (of_record 9 ds) (stated_low s 9 refl ds rows) in
     tokens_within s ds rows (place_at ds h) (stated_by (nat_eq h.rec 8) (nat_eq h.rec 9) ds h.count)
-    (at_head (λ (p : objects.Place). TokensWithin s.greatest (ending_tokens p.ending)) ds h last tt last)
+    (end_at s.greatest (nat_eq h.rec 8) (nat_eq h.rec 9) ds h.count (stated_low s 9 refl ds rows))
 
 -- What the scale asks of plain datasets and what is begun after them: octets that spell them by it, rows, and the size of the object.
 record KeepTo (s : Scale) (place : Place) (l : LeadsByLayers place) (p : Opens place l) : Type 0 where
@@ -311,21 +249,6 @@ record KeepTo (s : Scale) (place : Place) (l : LeadsByLayers place) (p : Opens p
   spelled : SpellsStream s.octets (plain_of place l p.object) (canonical_stream (plain_of place l p.object))
   records : SectionsLiveIn s (plain_of place l p.object) p.begun
   low : sum (place_in (plain_of place l p.object) p.begun).lengths ≤ s.greatest
-
--- Where the last dataset has ended and nothing is begun, they are an envelope by the scale.
-whole_by : LowerLaws → (s : Scale) (octets : List ℕ) (ds : List Dataset) → s.octets ≤ count_octets → SpellsStream s.octets ds octets → CanContinue widest ds
-    → AllByRecursion (FitsRow s) ds → section_after ds ≡ 9 → WholeMessage (object_of ds) → sum (place_after_datasets ds).lengths ≤ s.greatest
-    → IsWholeIn s widest octets
-whole_by laws s octets ds few spelled goes rows nine m low =
-    let e = enveloped laws widest octets ds m.head m.text m.trailer m.lined.0 (wider_stream s.octets few ds octets spelled) goes nine m.message m.lined.1 in
-    record {
-      value = value_of ds m.head m.lined.0 m.trailer e.sizes;
-      admits = e.within.admits;
-      spelled = rw e.datasets_are spelled;
-      rows = rw e.datasets_are rows;
-      total = rw e.datasets_are (omega (arith, total_of (of_record 8 ds), low));
-      within = e.within.within;
-    }
 
 -- A place where each layer can be is possible by each scale to which its plain datasets keep.
 possible_by : LowerLaws → PlacesLiveWithin → (s : Scale) (place : Place) (l : LeadsByLayers place) (p : Opens place l) → KeepTo s place l p → PossibleAt s place
@@ -352,8 +275,17 @@ possible_by laws law s place l p k =
             let nine = eqb-true (section_after ds) 9 (present ∙ ended) in
             let m = subst (λ (c : Begun). section ds c ≡ 9 → WholeMessage (object_so_far ds c)) none message nine in
             let low = subst (λ (c : Begun). sum (place_in ds c).lengths ≤ s.greatest) none k.low in
-            inr (whole_by laws s octets ds k.few (rw (rest, append-nil) k.spelled) (subst (MayContinue widest ds) none p.goes)
-            (rows_of s ds b k.records) nine m low)
+            let spelled : SpellsStream s.octets ds octets = rw (rest, append-nil) k.spelled in
+            let e = enveloped laws widest octets ds m.head m.text m.trailer m.lined.0 (wider_stream s.octets k.few ds octets spelled)
+            (subst (MayContinue widest ds) none p.goes) nine m.message m.lined.1 in
+            inr (record {
+              value = value_of ds m.head m.lined.0 m.trailer e.sizes;
+              admits = e.within.admits;
+              spelled = rw e.datasets_are spelled;
+              rows = rw e.datasets_are (rows_of s ds b k.records);
+              total = rw e.datasets_are (omega (arith, total_of (of_record 8 ds), low));
+              within = e.within.within;
+            })
         | false ↦ λ open'. inl (record {
           whole = ds;
           begun = b;
@@ -375,42 +307,28 @@ possible_by laws law s place l p k =
 
 -- how many octets the subfiles have with a begun one
 sum_in : (ds : List Dataset) (b : Begun) (rest : List ℕ) → IsBegun count_octets b rest → length (object_so_far ds b) ≤ greatest_size_before → IsSmallPhase (section ds b) (length (object_so_far ds b)) (phase_of ds b) → sum (place_in ds b).lengths ≤ greatest_size_before
-sum_in ds (InTag held) rest is low small = let total = total_of (of_record 8 ds) in omega (arith, total, low)
+sum_in ds (InTag held) rest is low small = omega (arith, total_of (of_record 8 ds), low)
 sum_in ds (InData h got) rest is low small =
-    let left = h.count - length got in
-    let all = so_far_by (nat_eq h.rec 8) (nat_eq h.rec 9) ds got h.count left (omega (arith, is.2)) in
-    let fits : length (object_so_far ds (InData h got)) + (if nat_eq h.rec 8 then left else 0) ≤ greatest_size_before = grind arith in
-    omega (arith, all, fits)
+    grind (arith, so_far_by (nat_eq h.rec 8) (nat_eq h.rec 9) ds got h.count (h.count - length got) (omega (arith, is.2)))
 
 -- ---- what is begun
 
--- some octets that spell it with few count octets
+-- some octets that spell it with few count octets, and data that fit its row
 small_begun : (octets : List ℕ) (ds : List Dataset) (b : Begun) → Reads count_octets octets ds b → MayContinue widest ds b
-    → (nat_eq (section_after ds) 9 ≡ true → b ≡ InTag []) → IsSmallPhase (section ds b) (length (object_so_far ds b)) (phase_of ds b)
-    → (r : List ℕ) × IsBegun 4 b r
-small_begun octets ds (InTag held) reads goes last small =
-    let tag = by (nat_eq (section_after ds) 9) refl small in (held, (refl, tag.head, held ++ tag.more, tag.whole, (tag.more, tag.some_more, refl)))
-  where
-    by : (c : Bool) → nat_eq (section_after ds) 9 ≡ c → IsSmallPhase (section_after ds) (length (object_of ds)) (if c then AllEnded else TagBegun held)
-        → BeginsTag 4 held
-    by true nine s =
-        let none : held ≡ [] = cc (last nine) in
-        small_tag held (begins_tag count_octets octets ds held reads) (λ long. absurd (omega (arith, long, ap length none)))
-    by false other s = s
-small_begun octets ds (InData h got) reads goes last small =
+    → (nat_eq (section_after ds) 9 ≡ true → b ≡ InTag []) → AllByRecursion Low ds → IsSmallPhase (section ds b) (length (object_so_far ds b)) (phase_of ds b)
+    → ((r : List ℕ) × IsBegun 4 b r) × SectionsLiveIn first_scale ds b
+small_begun octets ds (InTag held) reads goes last short small =
+    let begins = small_tag held (begins_tag count_octets octets ds held reads) in
+    let tag : BeginsTag 4 held = grind (arith, small, last, begins) in
+    ((held, (refl, tag.head, held ++ tag.more, tag.whole, (tag.more, tag.some_more, refl))), sections_live_small ds goes.records short)
+small_begun octets ds (InData h got) reads goes last short small =
     let (tag, spelled, less, given, parts) = reads.is_rest in
-    (canonical_tag h ++ got, (canonical_tag h, few_tag h spelled.rec spelled.set (low_count ds h goes (λ eight. (small.1 eight).0)), less, given, refl))
-
-records_in : (ds : List Dataset) (b : Begun) → AllByRecursion Low ds → MayContinue widest ds b
-    → IsSmallPhase (section ds b) (length (object_so_far ds b)) (phase_of ds b) → SectionsLiveIn first_scale ds b
-records_in ds (InTag held) short goes small = sections_live_small ds goes.records short
-records_in ds (InData h got) short goes small =
     let (d, head, alive) = goes.records in
-    let count : length d.octets ≡ h.count = ap (λ (k : Head). k.count) head in
     let few = low_count ds h goes (λ eight. (small.1 eight).0) in
-    let four = λ (told : tells_number d.rec ≡ true). small.0 (ap (λ (k : Head). tells_number k.rec) (sym head) ∙ told) in
-    let last : Low d = (omega (arith, few, count), λ told. omega (arith, four told, count)) in
-    (d, head, sections_live_small (ds ++ d ∷ []) alive (all_append Low ds (d ∷ []) short (last, tt)))
+    let fits : Low d = grind (arith, few, head, small.0) in (
+      (canonical_tag h ++ got, (canonical_tag h, few_tag h spelled.rec spelled.set few, less, given, refl)),
+      (d, head, sections_live_small (ds ++ d ∷ []) alive (all_append Low ds (d ∷ []) short (fits, tt))),
+    )
 
 -- ---- both
 
@@ -427,14 +345,14 @@ small_keeps laws place l small p =
     (rw l.numbers_are at small.numbers) (omega (arith, more, ap length p.tell.object_is, there.taken)) in
     let present = present_ended place.fields l.numbers (ended_heads place) p.object (are_ended place.phase) l.kept in
     let reads = reads_of count_octets ds p.begun p.rest (laws.spelled ds p.spelled) p.is_begun in
-    let begun = small_begun (canonical_stream ds ++ p.rest) ds p.begun reads p.goes (λ nine. p.last (sym present ∙ nine)) there.begun in
+    let begun = small_begun (canonical_stream ds ++ p.rest) ds p.begun reads p.goes (λ nine. p.last (sym present ∙ nine)) low there.begun in
     record {
       few = omega arith;
       one = omega arith;
-      rest = begun.0;
-      is_begun = begun.1;
+      rest = begun.0.0;
+      is_begun = begun.0.1;
       spelled = few_stream ds p.spelled low;
-      records = records_in ds p.begun low p.goes there.begun;
+      records = begun.1;
       low = sum_in ds p.begun p.rest p.is_begun there.taken there.begun;
     }
 
@@ -452,11 +370,8 @@ eight_fits : (set : ℕ) (xs : List ℕ) → Meets 8 set xs → length xs ≤ gr
 unfolding row_of table
 eight_fits set xs = by_ten 8 eight_has xs (λ _. length xs ≤ greatest_size) (λ h. within_most_and 0 greatest_size (length xs) true h) set
 
-good_fits : (d : Dataset) → IsGoodDataset d → FitsRow present_scale d
-good_fits d good = grind (arith, told_in, sized_seven, sized_nine, eight_fits)
-
 all_fit : (ds : List Dataset) → AreSections ds → AllByRecursion (FitsRow present_scale) ds
-all_fit ds are = all_map IsGoodDataset (FitsRow present_scale) ds good_fits (each_good ds are)
+all_fit ds are = all_map _ _ ds (λ d good. grind (arith, sized, eight_fits)) (each_good ds are)
 
 -- ---- the present scale
 

@@ -1,6 +1,7 @@
 -- The rows of records 7, 8 and 9, number by number.
-use Rattle.std.proofs.Common.{◌≡◌, ℕ, false, nat_eq, List, None, refl, subst, inl, inr}
-use Rattle.iim_places.proofs.Words.{eqb_tells, Meets, none_meets}
+use Rattle.std.proofs.Common.{◌≡◌, ℕ, false, nat_eq, List, [], ◌∷◌, None, refl}
+use Rattle.iim_places.proofs.Words.{Meets, none_meets}
+use Rattle.iim_fields.proofs.Sections.{one_of}
 use Rattle.iim_tables.specs.Format.Rows.{table, row_of}
 
 -- a number that no row of record 7 has
@@ -10,14 +11,10 @@ pub record Unstated (n : ℕ) : Type 0 where
   pub announced : nat_eq 90 n ≡ false
   pub maximum : nat_eq 95 n ≡ false
 
--- what holds at this number holds at one, or that is another
-at_or : (P : ℕ → Type 0) (k n : ℕ) → P k → (nat_eq k n ≡ false → P n) → P n
-at_or P k n at other = elim (eqb_tells k n) [ inl is ↦ subst P is.1 at | inr apart ↦ other apart.0 ]
-
 pub by_number : (P : ℕ → Type 0) → P 10 → P 20 → P 90 → P 95 → ((n : ℕ) → Unstated n → P n) → (n : ℕ) → P n
 by_number P mode largest announced maximum other n =
-    at_or P 10 n mode (λ not10. at_or P 20 n largest (λ not20. at_or P 90 n announced (λ not90. at_or P 95 n maximum (λ not95.
-    other n (record { mode = not10; largest = not20; announced = not90; maximum = not95 })))))
+    one_of P n (10 ∷ 20 ∷ 90 ∷ 95 ∷ []) (mode, (largest, (announced, (maximum, tt))))
+    (λ apart. other n (record { mode = apart.0.0; largest = apart.1.0.0; announced = apart.1.1.0.0; maximum = apart.1.1.1.0.0 }))
 
 no_seven : (n : ℕ) → Unstated n → row_of 7 n ≡ None
 unfolding row_of table
@@ -40,4 +37,4 @@ unfolding row_of table
 nine_has n e = rw e refl
 
 pub by_ten : (r : ℕ) → HasTen r → (xs : List ℕ) (P : ℕ → Type 0) → (Meets r 10 xs → P 10) → (n : ℕ) → Meets r n xs → P n
-by_ten r none xs P ten n = at_or (λ (k : ℕ). Meets r k xs → P k) 10 n ten (λ other h. absurd (none_meets r n xs (none n other) h))
+by_ten r none xs P ten n = one_of (λ (k : ℕ). Meets r k xs → P k) n (10 ∷ []) (ten, tt) (λ apart h. absurd (none_meets r n xs (none n apart.0.0) h))

@@ -1,6 +1,7 @@
 -- Tags whose counts have fewer octets.
-use Rattle.std.proofs.Common.{◌≡◌, ℕ, ◌<◌, ◌≤◌, List, [], ◌∷◌, ◌++◌, length, take, drop, get_or, refl, ap, sym, ◌∙◌, inr, arith}
-use Rattle.iim_places.proofs.Words.{cases_lt, take-append-drop, length-drop, take-append_seam, take-append-le, SpellsCount, SpellsTag, count_octets, BeginsTag, Head}
+use Rattle.std.proofs.Common.{◌≡◌, ℕ, ◌<◌, ◌≤◌, List, [], ◌∷◌, ◌++◌, length, get_or, refl, ap, sym, ◌∙◌, inr, arith, append_assoc, length-append}
+use Rattle.iim_places.proofs.Following.{longer_front}
+use Rattle.iim_places.proofs.Words.{cases_lt, SpellsCount, SpellsTag, count_octets, BeginsTag, Head}
 
 -- a count of fewer octets is one of more
 wider_count : (limit most n : ℕ) (xs : List ℕ) → limit ≤ most → SpellsCount limit n xs → SpellsCount most n xs
@@ -18,24 +19,14 @@ fourth held more count r s long e = absurd (omega (arith, long))
 
 -- four octets of a tag whose count is extended begin one whose count has one octet
 short_begins : (limit r s low : ℕ) (held more rest : List ℕ) → 1 ≤ limit → r < 256 → s < 256 → length held < 5 → held ++ more ≡ 28 ∷ r ∷ s ∷ 128 ∷ low ∷ rest → BeginsTag limit held
-short_begins limit r s low held more rest one small less short e = record {
-  head = record { rec = r; set = s; count = 0 };
-  more = drop (length held) whole;
-  some_more = let left = length-drop (length held) whole in omega (arith, left, short);
-  whole = record { rec = small; set = less; count = 128 ∷ 1 ∷ 0 ∷ []; is_count = inr (refl, refl, omega arith, one, (omega arith, tt), refl); parts = ap (λ (xs : List ℕ). xs ++ drop (length held) whole) front ∙ take-append-drop (length held) whole };
-}
-  where
-    whole : List ℕ
-    whole = 28 ∷ r ∷ s ∷ 128 ∷ 1 ∷ 0 ∷ []
-
-    first : List ℕ
-    first = 28 ∷ r ∷ s ∷ 128 ∷ []
-
-    front : held ≡ take (length held) whole
-    front =
-        let fits : length held ≤ length first = omega (arith, short) in
-        sym (take-append_seam held more) ∙ ap (take (length held)) e ∙ take-append-le (length held) first (low ∷ rest) fits
-        ∙ sym (take-append-le (length held) first (1 ∷ 0 ∷ []) fits)
+short_begins limit r s low held more rest one small less short e =
+    let (m, is) = longer_front held more (28 ∷ r ∷ s ∷ 128 ∷ []) (low ∷ rest) e (omega (arith, short)) in
+    let parts = sym (append_assoc held m (1 ∷ 0 ∷ [])) ∙ ap (λ (xs : List ℕ). xs ++ 1 ∷ 0 ∷ []) (sym is) in record {
+      head = record { rec = r; set = s; count = 0 };
+      more = m ++ 1 ∷ 0 ∷ [];
+      some_more = omega (arith, length-append m (1 ∷ 0 ∷ []));
+      whole = record { rec = small; set = less; count = 128 ∷ 1 ∷ 0 ∷ []; is_count = inr (refl, refl, omega arith, one, (omega arith, tt), refl); parts = parts };
+    }
 
 -- Held octets of a tag begin one of at most four count octets where the fifth does not say more.
 pub small_tag : (held : List ℕ) → BeginsTag count_octets held → (4 < length held → get_or held 3 0 ≡ 128 → get_or held 4 0 ≤ 4) → BeginsTag 4 held

@@ -19,11 +19,8 @@ pub took_more : {T : Type 0} (ready : T → Type 0) (stands : T → List Dataset
 took_more ready stands limits a b c es fs true h k = (k.0, k.1 ∙ h.1, λ ds s. rw (← append_assoc ds es fs) (k.2 (ds ++ es) (h.2 ds s)))
 took_more ready stands limits a b c es fs false h k = λ ds s goes. k (ds ++ es) (h.2 ds s) (rw (h.1, append_assoc ds es fs) goes)
 
-good_only : (r : ℕ) (d : Dataset) → d.rec ≡ r → IsGoodDataset d → IsGoodDataset d
-good_only r d is good = good
-
 pub each_good : (ds : List Dataset) → AreSections ds → AllByRecursion IsGoodDataset ds
-each_good ds are = each_in IsGoodDataset records ds (good_only 1, (good_only 2, (good_only 7, (good_only 8, (good_only 9, tt))))) are
+each_good ds are = each_in IsGoodDataset records ds (search rules) are
 
 pub good_at : (ds : List Dataset) (d : Dataset) → SectionsLive (ds ++ d ∷ []) → IsGoodDataset d
 good_at ds d (more, are) = (all_back IsGoodDataset ds (d ∷ []) (all_front IsGoodDataset (ds ++ d ∷ []) more (each_good ((ds ++ d ∷ []) ++ more) are))).0

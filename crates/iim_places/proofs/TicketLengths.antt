@@ -1,5 +1,5 @@
 -- How long a ticket is at most.
-use Rattle.std.proofs.Common.{◌≡◌, ℕ, ◌+◌, ◌*◌, ◌≤◌, nat_eq, Bool, true, false, if◌then◌else◌, List, [], ◌∷◌, length, Option, Some, None, refl, ap, inl, inr, rules, arith, length-append}
+use Rattle.std.proofs.Common.{◌≡◌, ℕ, ◌+◌, ◌*◌, ◌≤◌, nat_eq, Bool, if◌then◌else◌, List, [], ◌∷◌, length, Option, refl, ap, arith, length-append}
 use Rattle.iim_places.proofs.Words.{flat_map, Dataset, SpellsTag, SpellsCount, count_octets, InTag, Reads, Head, saved, LeadsToSaved, MessagePlace, TagBegun, DataBegun, AllEnded, present_version, phase_octets, field_octets, texts_octets, ticket_of}
 use Rattle.iim_fields.specs.Format.Causes.{joined}
 use Rattle.wire_message.specs.States.Reading.{IsPlace}
@@ -15,8 +15,7 @@ fields_length [] = refl
 fields_length (d ∷ ds) = simp length-append (omega (arith, fields_length ds))
 
 number_length : (n : Option ℕ) → length (number_octets present_version n) ≤ 9
-number_length None = omega arith
-number_length (Some n) = omega arith
+number_length n = grind arith
 
 pub numbers_length : (a b c d : Option ℕ) → length (flat_map (number_octets present_version) (a ∷ b ∷ c ∷ d ∷ [])) ≤ 36
 numbers_length a b c d = simp length-append (omega (arith, number_length a, number_length b, number_length c, number_length d))
@@ -38,16 +37,12 @@ abbrev pub AreShortIn : MessagePlace → Type 0
 AreShortIn m = AreShort m.source.items m.number.items m.priority.items m.category.items m.words.items m.info.items m.trailer.items
 
 pub texts_at : (place : Message) → IsPlace place → AreShortIn (saved place)
-texts_at (at.InHeader part.Words t) is = search (rules, arith)
-texts_at (at.Text h (Some held)) is = search (rules, arith)
-texts_at other is = search (rules, arith)
+texts_at place is = grind arith
 
 -- ---- what is begun
 
 count_length : (limit count : ℕ) (xs : List ℕ) → SpellsCount limit count xs → length xs ≤ 2 + limit
-count_length limit count (high ∷ low ∷ more) (inl h) = omega (arith, ap length h.2)
-count_length limit count (high ∷ low ∷ more) (inr h) = omega (arith, h.1, h.3)
-count_length limit count xs h = absurd h
+count_length limit count xs h = grind arith
 
 pub tag_length_in : (limit : ℕ) (h : Head) (tag : List ℕ) → SpellsTag limit h tag → length tag ≤ 5 + limit
 tag_length_in limit h tag s = omega (arith, ap length s.parts, count_length limit h.count s.count s.is_count)
@@ -69,12 +64,10 @@ pub data_length : (set count left : ℕ) (taken : List ℕ) → length (phase_oc
 data_length set count left taken = simp length-append (omega arith)
 
 pub tag_begun_length : (b : Bool) (held : List ℕ) → length held ≤ 12 → length (phase_octets present_version (if b then AllEnded else TagBegun held)) ≤ 14
-tag_begun_length true held h = omega arith
-tag_begun_length false held h = omega (arith, h)
+tag_begun_length b held h = grind arith
 
 pub some_taken : (b : Bool) (taken : List ℕ) → length (if b then [] else taken) ≤ length taken
-some_taken true taken = omega arith
-some_taken false taken = omega arith
+some_taken b taken = grind arith
 
 pub none_taken : (rec : ℕ) (taken : List ℕ) → rec ≡ 8 → length (if nat_eq rec 8 then [] else taken) ≡ 0
 none_taken rec taken is = ap (λ (r : ℕ). length (if nat_eq r 8 then [] else taken)) is

@@ -1,5 +1,5 @@
 -- The ticket that an unpacker spells is that of the octets on which it stands.
-use Rattle.std.proofs.Common.{◌≡◌, ℕ, ◌+◌, ◌-◌, Bool, true, false, if◌then◌else◌, List, [], ◌∷◌, ◌++◌, length, sum, Option, refl, ap, sym, ◌∙◌, arith, append-nil, length-append}
+use Rattle.std.proofs.Common.{◌≡◌, ℕ, ◌+◌, ◌-◌, Bool, if◌then◌else◌, List, [], ◌∷◌, ◌++◌, length, sum, Option, refl, ap, sym, ◌∙◌, arith, append-nil, length-append}
 use Rattle.iim_places.proofs.Words.{same_Some, length-map, Dataset, of_record, Begun, LowerLaws, sum_cons, sum_append, SubfileBegun, lengths_of, numbers_of, place_after_datasets, place_ended, OctetsLeadToOnePlace, saved, LeadsToSaved, MessagePlace, object_of, object_so_far, place_of, ticket_of, OctetsHaveOneTicket}
 use Rattle.iim_fields.specs.Format.Causes.{joined}
 use Rattle.iim_object.specs.Format.Objects as objects
@@ -27,22 +27,23 @@ abbrev at_by : Bool → Bool → List Dataset → ℕ → objects.Place
 at_by b c ds count = if b then objects.place_after (place_after_datasets ds) (SubfileBegun count) else if c then place_ended ds else place_after_datasets ds
 
 pub stated_by : (b c : Bool) (ds : List Dataset) (count : ℕ) → (at_by b c ds count).stated ≡ numbers_of (of_record 7 ds)
-stated_by true c ds count = refl
-stated_by false true ds count = refl
-stated_by false false ds count = refl
+stated_by b c ds count = grind arith
 
 pub heads_by : (b c : Bool) (ds : List Dataset) (count : ℕ) → length (at_by b c ds count).lengths ≡ length (of_record 8 ds) + (if b then 1 else 0)
-heads_by true c ds count = length-append (lengths_of (of_record 8 ds)) (count ∷ []) ∙ ap (λ n. n + 1) (count_of (of_record 8 ds))
-heads_by false true ds count = omega (arith, count_of (of_record 8 ds))
-heads_by false false ds count = omega (arith, count_of (of_record 8 ds))
+heads_by b c ds count = grind (arith, count_of (of_record 8 ds), length-append (lengths_of (of_record 8 ds)) (count ∷ []))
 
 -- the octets so far, and what is to come of a begun subfile, are those of the subfiles
 pub so_far_by : (b c : Bool) (ds : List Dataset) (taken : List ℕ) (count left : ℕ) → length taken + left ≡ count
     → length (object_of ds ++ (if b then taken else [])) + (if b then left else 0) ≡ sum (at_by b c ds count).lengths
-so_far_by true c ds taken count left e =
-    omega (arith, sum_append (lengths_of (of_record 8 ds)) (count ∷ []), sum_one count, total_of (of_record 8 ds), length-append (object_of ds) taken, e)
-so_far_by false true ds taken count left e = omega (arith, total_of (of_record 8 ds), ap length (append-nil (object_of ds)))
-so_far_by false false ds taken count left e = omega (arith, total_of (of_record 8 ds), ap length (append-nil (object_of ds)))
+so_far_by b c ds taken count left e =
+    grind (
+      arith,
+      sum_append (lengths_of (of_record 8 ds)) (count ∷ []),
+      sum_one count,
+      total_of (of_record 8 ds),
+      length-append (object_of ds) taken,
+      append-nil (object_of ds),
+    )
 
 pub taken_by : (b c : Bool) (ds : List Dataset) (taken : List ℕ) (count left : ℕ) → length taken + left ≡ count
     → sum (at_by b c ds count).lengths - (if b then left else 0) ≡ length (object_of ds ++ (if b then taken else []))

@@ -1,19 +1,21 @@
 -- Datasets that tell the same, and what follows them. Plain datasets continue as those do for which they stand.
-use Rattle.std.proofs.Common.{◌≡◌, ℕ, ◌≤◌, ◌||◌, nat_eq, cond, Bool, true, false, List, [], ◌∷◌, ◌++◌, length, Option, Some, None, is_some, refl, ap, sym, subst, ◌∙◌, inl, inr, arith, append-nil, append_assoc, ◌⊎◌, ◌*◌, ◌-◌, ◌<◌, length-append}
-use Rattle.iim_places.proofs.Words.{AllByRecursion, flat_map, unwrap_or, eq-eqb, filter-append, list_any-append, Octets, greatest_size, Dataset, of_record, all_append, all_back, all_front, Meets, SectionsLive, kept, is_kept, section_after, last_record, AreRecords, IsGoodDataset, IsGoodRecord, occurs, occurrences, repeats, mandatory, subfile_datasets, numbers_of, Stated, InRow, number_at, stated_numbers, IsSize, AreKept, numbers_told, LowerLaws, Numbers, number_list, plain_numbers, filled, plain_end, plain, good_elsewhere, part_meets, none_counts, occurrences_append, some_counts, last_of_joined, max_subfiles, one_of_some, all_map, AreSections, option_or, SpellsStream, count_octets, Head, sum_append, SectionsLiveAt, Limits, ending_of, place_after_datasets, lengths_of, HaveSizes, AreWithin, place_at, ObjectLives, HaveRoom, CanContinue, MayContinue, ConfirmedAs, number, Begun, InTag, InData, Sizes, Header, IsMessage, IsEnvelopeWithin, IsText, object_of, map-append, Value}
+use Rattle.std.proofs.Common.{◌≡◌, ℕ, ◌≤◌, ◌||◌, nat_eq, cond, Bool, true, false, List, [], ◌∷◌, ◌++◌, length, Option, Some, None, refl, ap, sym, subst, ◌∙◌, inl, inr, arith, append-nil, append_assoc, ◌<◌, length-append}
+use Rattle.iim_places.proofs.Words.{front_alive, last_more, eqb-true, AllByRecursion, unwrap_or, eq-eqb, filter-append, list_any-append, Octets, greatest_size, Dataset, of_record, all_append, all_back, all_front, Meets, SectionsLive, kept, is_kept, section_after, last_record, IsGoodDataset, IsGoodRecord, occurs, occurrences, repeats, mandatory, subfile_datasets, numbers_of, Stated, InRow, number_at, stated_numbers, numbers_told, LowerLaws, Numbers, number_list, plain_numbers, filled, plain_end, plain, good_elsewhere, part_meets, none_counts, occurrences_append, some_counts, last_of_joined, max_subfiles, one_of_some, all_map, AreSections, option_or, SpellsStream, count_octets, Head, sum_append, SectionsLiveAt, Limits, ending_of, place_after_datasets, lengths_of, HaveSizes, AreWithin, place_at, ObjectLives, HaveRoom, CanContinue, MayContinue, ConfirmedAs, number, Begun, InTag, InData, Sizes, Header, IsMessage, IsEnvelopeWithin, IsText, object_of, map-append, Value}
 use Rattle.iim_tables.specs.Format.Rows.{table, row_of}
 use Rattle.iim_object.specs.Laws.{NumberDatasetsAreGood}
-use Rattle.iim_places.proofs.SameRecords.{occurs_stated, same_stated, same_numbers, stated_after_all, tens_after, SameRecords, same_shape, tens_seen, none_in_front, SameNumbers, stated_at, AreTens, nines, seen_on}
+use Rattle.iim_places.proofs.SameRecords.{same_stated, same_numbers, stated_after_all, tens_after, SameRecords, tens_seen, SameNumbers, stated_at, AreTens, nines, seen_on}
 use Rattle.iim_places.proofs.PlainSizes.{row_at, all_kept, numbers_in, end_length, bounded_at, possible_after, possible_at, possible_like, sizes_of}
-use Rattle.iim_places.proofs.Plain.{numbers_each, AreOf, one_stated, are_told, four_told, filled_count, all_of, none_of, none_in_fields, kept_fields, plain_told, parts_each, end_each, at_both, numbers_join}
-use Rattle.iim_places.proofs.Fitting.{four_at}
-use Rattle.iim_places.proofs.Fronts.{empty_front}
+use Rattle.iim_places.proofs.Plain.{last_none, none_by, run_by, numbers_each, AreOf, one_stated, are_told, four_told, filled_count, none_in_fields, parts_each, end_each, at_both, numbers_join}
+use Rattle.iim_places.proofs.Fitting.{fit_in_rows}
 use Rattle.iim_places.proofs.Limits.{kept_append}
 use Rattle.iim_places.proofs.SamePlace.{SameObject, object_at, at_tests}
 pub use Rattle.iim_places.proofs.PlainSizes.{AreBounded}
 use Rattle.iim_places.proofs.Tickets.{count_of}
 use Rattle.iim_places.proofs.Lasts.{last_sections}
-use Rattle.iim_fields.proofs.Follows.{alive_follows}
+use Rattle.iim_places.proofs.Bounds.{by_last, last_counted}
+use Rattle.iim_dataset.proofs.Lists.{nothing_of_two}
+use Rattle.iim_fields.proofs.Dies.{from_alive}
+use Rattle.iim_fields.proofs.Follows.{alive_follows, fresh_next, is_coming}
 
 -- what occurs once at most occurs no oftener than in other datasets where it is seen as well
 pub fewer_by : (n : ℕ) (xs ys : List Dataset) → occurs n xs ≡ occurs n ys → occurrences n ys ≤ 1 → occurrences n ys ≤ occurrences n xs
@@ -28,17 +30,16 @@ AreGood r ds = AllByRecursion (λ d. (d.rec ≡ r) × IsGoodDataset d) ds
 pub record MayReplace (r : ℕ) (xs ys : List Dataset) : Type 0 where
   pub each : AreGood r ys
   pub seen : (n : ℕ) → occurs n xs ≡ occurs n ys
-  pub fewer : (n : ℕ) → repeats r n ≡ false → occurrences n ys ≤ occurrences n xs
+  pub once : (n : ℕ) → repeats r n ≡ false → occurrences n ys ≤ 1
 
 pub good_with : (r : ℕ) (xs ys more : List Dataset) → MayReplace r xs ys → IsGoodRecord r (xs ++ more) → IsGoodRecord r (ys ++ more)
 good_with r xs ys more may good = record {
   each = all_append _ ys more may.each (all_back _ xs more good.each);
   mandatory = all_map _ _ (mandatory r) (λ n is. grind (arith, list_any-append, may.seen n)) good.mandatory;
-  once = λ n no'. omega (arith, good.once n no', occurrences_append n xs more, occurrences_append n ys more, may.fewer n no');
+  once = λ n no'.
+      let fewer = fewer_by n xs ys (may.seen n) (may.once n no') in
+      omega (arith, good.once n no', occurrences_append n xs more, occurrences_append n ys more, fewer);
 }
-
-are_of : (r : ℕ) (ds : List Dataset) → AreGood r ds → AreOf r ds
-are_of r ds all = all_map _ _ ds (λ d h. h.0) all
 
 none_seen : (xs : List Dataset) → ((n : ℕ) → false ≡ occurs n xs) → xs ≡ []
 none_seen [] none = refl
@@ -53,112 +54,92 @@ last_alike k r [] ys a b seen = ap (last_record k) (sym (none_seen ys seen))
 last_alike k r (x ∷ xs) [] a b seen = ap (last_record k) (none_seen (x ∷ xs) (λ n. sym (seen n)))
 last_alike k r (x ∷ xs) (y ∷ ys) a b seen = last_run k r x xs a ∙ sym (last_run k r y ys b)
 
--- ---- each run for another
+pub of_both : (r : ℕ) (xs ys : List Dataset) → of_record r (xs ++ ys) ≡ of_record r xs ++ of_record r ys
+of_both r xs ys = filter-append (λ (d : Dataset). nat_eq d.rec r) xs ys
 
-abbrev AreApart : List ℕ → Type 0
-AreApart [] = Unit {0}
-AreApart (r ∷ rs) = AllByRecursion (λ k. nat_eq k r ≡ false) rs × AllByRecursion (λ k. nat_eq r k ≡ false) rs × AreApart rs
+are_of_record : (r : ℕ) (ds : List Dataset) → AreOf r (of_record r ds)
+are_of_record r [] = tt
+are_of_record r (d ∷ ds) = let more = are_of_record r ds in grind (arith, eqb-true)
 
--- each run may be replaced by one of these
-abbrev MayAll : (ℕ → List Dataset) → List ℕ → List Dataset → Type 0
-MayAll own rs ds = AllByRecursion (λ r. MayReplace r (of_record r ds) (own r)) rs
+-- ---- the order of the records
 
--- datasets of none of the records, which stand in front or alone
-abbrev HasNone : List ℕ → List Dataset → Type 0
-HasNone rs ds = AllByRecursion (λ k. of_record k ds ≡ []) rs
+abbrev InOrder : List Dataset → Type 0
+InOrder ds = ds ≡ ((kept ds ++ of_record 7 ds) ++ of_record 8 ds) ++ of_record 9 ds
 
-later_all : (own : ℕ → List Dataset) (rs : List ℕ) (run ds : List Dataset) → HasNone rs run → MayAll own rs (run ++ ds) → MayAll own rs ds
-later_all own [] run ds none may = tt
-later_all own (k ∷ rs) run ds none may =
-    let later : of_record k (run ++ ds) ≡ of_record k ds =
-    filter-append (λ (x : Dataset). nat_eq x.rec k) run ds ∙ ap (λ (xs : List Dataset). xs ++ of_record k ds) none.0 in
-    (rw later at may.0, later_all own rs run ds none.1 may.1)
+in_order : (ds : List Dataset) → SectionsLive ds → InOrder ds
+in_order = by_last InOrder refl step
+  where
+    step : (xs : List Dataset) (d : Dataset) → SectionsLive (xs ++ d ∷ []) → InOrder xs → InOrder (xs ++ d ∷ [])
+    step xs d alive is =
+        let follows = alive_follows (xs ++ d ∷ []) alive in
+        let later : (r : ℕ) → is_coming d.rec r ≡ true → of_record r xs ≡ [] =
+        λ r coming. (nothing_of_two (of_record r xs) _ (sym (of_both r xs (d ∷ [])) ∙ follows.fresh r (rw (last_more 0 xs d) coming))).0 in
+        let known = last_counted xs d alive in
+        rw (kept_append xs (d ∷ []), of_both 7 xs (d ∷ []), of_both 8 xs (d ∷ []), of_both 9 xs (d ∷ []))
+        (grind (arith, append_assoc, append-nil, is, later 7, later 8, later 9, known))
 
-none_later : (own : ℕ → List Dataset) (rs : List ℕ) (ds : List Dataset) → HasNone rs ds → MayAll own rs ds → flat_map own rs ≡ []
-none_later own [] ds none may = refl
-none_later own (k ∷ rs) ds none may =
-    rw (none_seen (own k) (λ n. ap (occurs n) (sym none.0) ∙ may.0.seen n)) (none_later own rs ds none.1 may.1)
+-- ---- the last run for another
 
--- where one list is parted in two ways
-parted : (a b c d : List Dataset) → a ++ b ≡ c ++ d → ((x : List Dataset) × (c ≡ a ++ x) × (b ≡ x ++ d)) ⊎ ((y : List Dataset) × (a ≡ c ++ y) × (d ≡ y ++ b))
-parted [] b c d e = inl (c, refl, e)
-parted (x ∷ a) b [] d e = inr (x ∷ a, refl, sym e)
-parted (x ∷ a) b (y ∷ c) d e =
-    let first : x ≡ y = cc in
-    elim (parted a b c d cc) [
-      | inl (z, left, right) ↦ inl (z, (λ i. sym first i ∷ left i), right)
-      | inr (z, left, right) ↦ inr (z, (λ i. first i ∷ left i), right)
+last_replaced : (r : ℕ) (es xs ys : List Dataset) → nat_eq (section_after es) r ≡ false → AreOf r xs → MayReplace r xs ys → SectionsLive (es ++ xs)
+    → SectionsLive (es ++ ys)
+last_replaced r es [] ys other of may alive = rw (none_seen ys may.seen) alive
+last_replaced r es (x ∷ xs) ys other of may (more, whole) =
+    let alive : SectionsLive (es ++ x ∷ xs) = (more, whole) in
+    let first = front_alive (es ++ x ∷ []) xs (rw append_assoc alive) in
+    let follows = alive_follows es (front_alive es (x ∷ []) first) in
+    elim (from_alive es x first).0 [
+      | inl same ↦ absurd (let bad : true ≡ false = sym (eq-eqb (section_after es) r (sym same ∙ of.0)) ∙ other in cc)
+      | inr (next, done) ↦
+          let present = last_of_joined 0 es (x ∷ xs) ∙ last_run (section_after es) r x xs of in
+          let none = rw of.0 at (fresh_next es x follows next) in
+          let own : of_record r (es ++ x ∷ xs) ≡ x ∷ xs =
+          rw (of_both r es (x ∷ xs), none, run_by (λ m. nat_eq m r) r (x ∷ xs) of, eq-eqb r r refl) refl in
+          let (run, rest, parts, good, later) = rw (present, own) at ((alive_follows (es ++ x ∷ xs) alive).goes more whole) in
+          let goes = ap (λ (zs : List Dataset). ys ++ zs) parts ∙ sym (append_assoc ys run rest) in (
+            more,
+            rw append_assoc (follows.comes (ys ++ more)
+                ([], ys ++ more, refl, rw append-nil done, rw (next, of.0) (ys ++ run, rest, goes, good_with r (x ∷ xs) ys run may good, later))),
+          )
     ]
 
--- Datasets with others for each run continue alike, and their last record is the same.
-swapped : (own : ℕ → List Dataset) (rs : List ℕ) (ds more : List Dataset) → AreApart rs → MayAll own rs ds → AreRecords rs (ds ++ more)
-    → AreRecords rs (flat_map own rs ++ more) × ((k : ℕ) → last_record k ds ≡ last_record k (flat_map own rs))
-swapped own [] ds more apart may none =
-    let nil = empty_front ds more none in (ap (λ (xs : List Dataset). xs ++ more) (sym nil) ∙ none, (λ k. ap (last_record k) nil))
-swapped own (r ∷ rs) ds more apart may (run, rest, parts, good, later) = elim (parted ds more run rest parts) [
-  | inl (x, run_is, more_is) ↦
-      (let are = are_of r ds (all_front _ ds x (rw run_is at good.each)) in
-      let here : MayReplace r ds (own r) = rw (all_of r ds (eq-eqb r r refl) are) at may.0 in
-      let none : HasNone rs ds = all_map _ _ rs (λ k other. none_of k r ds other are) apart.1 in
-      let is : own r ++ flat_map own rs ≡ own r = rw (none_later own rs ds none may.1) (append-nil (own r)) in (
-        (own r ++ x, rest, rw (is, more_is) (sym (append_assoc (own r) x rest)), good_with r ds (own r) x here (rw run_is at good), later),
-        (λ k. last_alike k r ds (own r) are (are_of r (own r) here.each) here.seen ∙ ap (last_record k) (sym is)),
-      ))
-  | inr (y, ds_is, rest_is) ↦
-      (let are = are_of r run good.each in
-      let all : MayAll own (r ∷ rs) (run ++ y) = subst (MayAll own (r ∷ rs)) ds_is may in
-      let none = none_in_front (λ k. nat_eq k r) rs y more (rw rest_is at later) apart.0 in
-      let whole : of_record r (run ++ y) ≡ run =
-      filter-append (λ (x : Dataset). nat_eq x.rec r) run y ∙ (λ i. all_of r run (eq-eqb r r refl) are i ++ none i) ∙ append-nil run in
-      let here : MayReplace r run (own r) = rw whole at all.0 in
-      let rest_may = later_all own rs run y (all_map _ _ rs (λ k other. none_of k r run other are) apart.1) all.1 in
-      let (sections, last) = swapped own rs y more apart.2 rest_may (rw rest_is at later) in (
-        (
-          own r,
-          flat_map own rs ++ more,
-          append_assoc (own r) (flat_map own rs) more,
-          rw append-nil at (good_with r run (own r) [] here (rw append-nil good)),
-          sections,
-        ),
-        (λ k.
-            rw (ds_is, last_of_joined k run y, last_of_joined k (own r) (flat_map own rs), last_alike k r run (own r) are (are_of r (own r) here.each) here.seen)
-            (last (last_record k (own r)))),
-      ))
-]
+-- ---- what follows datasets to the sections of an envelope
 
--- the records of the object
-abbrev object_records : List ℕ
-object_records = 7 ∷ 8 ∷ 9 ∷ []
+-- Datasets with one present record, in which the same numbers have occurred, are followed by the same.
+pub alive_on : (ds es xs : List Dataset) → SectionsLive es → section_after ds ≡ section_after es → SameRecords ds es → SectionsLive (ds ++ xs)
+    → SectionsLive (es ++ xs)
+alive_on ds es xs alive present same (later, sections) =
+    let whole : AreSections (ds ++ (xs ++ later)) = rw append_assoc at sections in
+    let (run, rest, parts, good, others) = (alive_follows ds (xs ++ later, whole)).goes (xs ++ later) whole in
+    let r = section_after es in
+    let there = alive_follows es alive in
+    let (own, left, own_parts, own_good, own_later) = there.goes alive.0 alive.1 in
+    let may : MayReplace r (of_record r ds) (of_record r es) = record {
+      each = all_front _ (of_record r es) own own_good.each;
+      seen = same.seen r;
+      once = λ n no'. omega (arith, own_good.once n no', occurrences_append n (of_record r es) own);
+    } in
+    let goes = good_with r (of_record r ds) (of_record r es) run may (rw present at good) in
+    (later, rw append_assoc (there.comes (xs ++ later) (run, rest, parts, goes, rw present at others)))
 
-no_fields : (ds : List Dataset) → AreKept ds → HasNone object_records ds
-no_fields ds all = (none_in_fields 7 ds refl all, (none_in_fields 8 ds refl all, (none_in_fields 9 ds refl all, tt)))
+-- The others continue as the one do.
+pub record Continues (ds es : List Dataset) : Type 0 where
+  pub alive : SectionsLive es
+  pub present : section_after ds ≡ section_after es
+  pub fields : kept ds ≡ kept es
+  pub seen : SameRecords ds es
 
--- Datasets with others for the records of the object continue alike, and their last record is the same.
-with_others : (own : ℕ → List Dataset) (ds more : List Dataset) → MayAll own object_records ds → AreSections (ds ++ more)
-    → AreSections ((kept ds ++ flat_map own object_records) ++ more) × (section_after ds ≡ section_after (kept ds ++ flat_map own object_records))
-with_others own ds more may (one, from2, parts, good, (two, from7, parts2, fine, later)) =
-    let keeps : AreKept (one ++ two) =
-    all_append _ one two (all_map _ _ one (λ d h. ap is_kept h.0) good.each) (all_map _ _ two (λ d h. ap is_kept h.0) fine.each) in
-    let whole : ds ++ more ≡ (one ++ two) ++ from7 = parts ∙ ap (λ (xs : List Dataset). one ++ xs) parts2 ∙ sym (append_assoc one two from7) in
-    elim (parted ds more (one ++ two) from7 whole) [
-      | inl (x, is, more_is) ↦
-          (let all = all_front _ ds x (rw is at keeps) in
-          let none = none_later own object_records ds (no_fields ds all) may in
-          let same : kept ds ++ flat_map own object_records ≡ ds = (λ i. kept_fields ds all i ++ none i) ∙ append-nil ds in
-          (rw same (one, from2, parts, good, (two, from7, parts2, fine, later)), ap section_after (sym same)))
-      | inr (y, ds_is, from7_is) ↦
-          (let there = rw from7_is at later in
-          let none = none_in_front is_kept object_records y more there (refl, (refl, (refl, tt))) in
-          let is : kept ds ≡ one ++ two =
-          rw (ds_is, filter-append (λ (x : Dataset). is_kept x.rec) (one ++ two) y, none, kept_fields (one ++ two) keeps) (append-nil (one ++ two)) in
-          let rest_may = later_all own object_records (one ++ two) y (no_fields (one ++ two) keeps) (subst (MayAll own object_records) ds_is may) in
-          let (sections, last) = swapped own object_records y more (assumption) rest_may there in
-          let others = flat_map own object_records in (
-            rw is (one, two ++ (others ++ more), simp append_assoc, good, (two, others ++ more, refl, fine, sections)),
-            ap section_after ds_is ∙ last_of_joined 0 (one ++ two) y ∙ last (last_record 0 (one ++ two)) ∙ sym (last_of_joined 0 (one ++ two) others)
-                ∙ ap (λ (xs : List Dataset). section_after (xs ++ others)) (sym is),
-          ))
-    ]
+-- Datasets of one record after others may be replaced, as the others are.
+replaced : (r : ℕ) (ds es xs ys : List Dataset) → nat_eq 0 r ≡ false → is_kept r ≡ false → of_record r ds ≡ [] → AreOf r xs → MayReplace r xs ys
+    → SectionsLive (ds ++ xs) → Continues ds es → Continues (ds ++ xs) (es ++ ys)
+replaced r ds es xs ys zero other none of may alive c =
+    let are : AreOf r ys = all_map _ _ ys (λ d h. h.0) may.each in
+    let apart : nat_eq (section_after es) r ≡ false = rw (← c.present) (last_none r 0 ds zero none) in
+    record {
+      alive = last_replaced r es xs ys apart of may (alive_on ds es xs c.alive c.present c.seen alive);
+      present = rw (last_of_joined 0 ds xs, last_of_joined 0 es ys, c.present) (last_alike (section_after es) r xs ys of are may.seen);
+      fields = rw (kept_append ds xs, kept_append es ys, none_by is_kept r xs other of, none_by is_kept r ys other are, c.fields) refl;
+      seen = seen_on c.seen (record { seen = λ k n. grind (arith, run_by (λ m. nat_eq m k) r xs of, run_by (λ m. nat_eq m k) r ys are, may.seen n) });
+    }
 
 mode_meets : (n : ℕ) → n ≤ 1 → Meets 7 10 (n ∷ [])
 unfolding row_of table
@@ -174,11 +155,8 @@ sevens_once n numbers = grind arith
 end_once : (n : ℕ) (ended : Bool) (object : List ℕ) → occurrences n (plain_end ended object) ≤ 1
 end_once n ended object = grind arith
 
-pub fit_in_rows : (ps : List Stated) → AllByRecursion InRow ps → AllByRecursion IsSize (number_list (numbers_in ps))
-fit_in_rows ps all = four_at IsSize ps tt (all_map _ _ ps (λ p row. omega (arith, row)) all)
-
 replace_sevens : NumberDatasetsAreGood → (es : List Dataset) → AllByRecursion InRow (numbers_of es) → MayReplace 7 es (plain_numbers (numbers_in (numbers_of es)))
-replace_sevens rows es all = record { each = good; seen = seen; fewer = λ n no'. fewer_by n es numbered (seen n) (sevens_once n (numbers_in ps)) }
+replace_sevens rows es all = record { each = good; seen = seen; once = λ n no'. sevens_once n (numbers_in ps) }
   where
     ps : List Stated
     ps = numbers_of es
@@ -202,8 +180,7 @@ replace_sevens rows es all = record { each = good; seen = seen; fewer = λ n no'
         let told = are_told (numbers_in ps) (fit_in_rows ps all) in
         let stated : AllByRecursion InRow (numbers_of numbered) =
         rw told (all_append InRow _ _ (one 10 _ refl) (all_append InRow _ _ (one 20 _ refl) (all_append InRow _ _ (one 90 _ refl) (one 95 _ refl)))) in
-        let same = same_numbers ps (numbers_of numbered) (sym (ap stated_numbers told ∙ four_told (numbers_in ps))) in
-        occurs_stated n es ∙ ap is_some (same_stated n ps (numbers_of numbered) same all stated) ∙ sym (occurs_stated n numbered)
+        same_stated n es numbered (same_numbers ps (numbers_of numbered) (sym (ap stated_numbers told ∙ four_told (numbers_in ps)))) all stated
 
 -- subfiles may repeat, and there are no others than 8:10 that could not
 eights_repeat : (n : ℕ) → repeats 8 n ≡ true
@@ -220,17 +197,8 @@ pub record StandsFor (ds fields : List Dataset) (numbers : Numbers) (heads : ℕ
   pub numbers_are : stated_numbers (numbers_of (of_record 7 ds)) ≡ number_list numbers
   pub some : one_of_some (length (of_record 8 ds)) ≡ one_of_some heads
   pub ends : length (of_record 9 ds) ≡ cond ended 1 0
-  pub many : heads ≤ max_subfiles
   pub octets : Octets object
   pub fits : length object ≤ greatest_size
-  pub room : length object ≤ heads * unwrap_or numbers.largest 0
-
--- The others continue as the one do.
-pub record Continues (ds es : List Dataset) : Type 0 where
-  pub alive : SectionsLive es
-  pub present : section_after ds ≡ section_after es
-  pub fields : kept ds ≡ kept es
-  pub seen : SameRecords ds es
 
 pub plain_like : LowerLaws → (ds fields : List Dataset) (numbers : Numbers) (heads : ℕ) (object : List ℕ) (ended : Bool)
     → StandsFor ds fields numbers heads object ended → Continues ds (plain fields numbers heads object ended)
@@ -239,7 +207,6 @@ plain_like laws ds fields numbers heads object ended s =
     let size = unwrap_or numbers.largest 0 in
     let subfiles = subfile_datasets (filled size heads object) in
     let last = plain_end ended object in
-    let es = plain fields numbers heads object ended in
     let stated = (stated_after_all laws ds s.alive s.few).stated.each in
     let are : numbers ≡ numbers_in ps = ap numbers_told (sym s.numbers_are) in
     let tens = tens_after ds s.alive in
@@ -249,52 +216,37 @@ plain_like laws ds fields numbers heads object ended s =
       each = parts_each (λ d. (d.rec ≡ 8) × IsGoodDataset d) size heads object
           (λ xs short few octets. (refl, good_elsewhere refl (omega arith) (octets s.octets) (part_meets xs (omega (arith, few, s.fits)))));
       seen = λ n. tens_seen n (of_record 8 ds) subfiles tens.0 (parts_each (λ d. d.set ≡ 10) size heads object (λ xs short few octets. refl)) some;
-      fewer = λ n no'. grind (arith, eights_repeat);
+      once = λ n no'. grind (arith, eights_repeat);
     } in
-    let nine_seen : (n : ℕ) → occurs n (of_record 9 ds) ≡ occurs n last =
-    λ n. tens_seen n (of_record 9 ds) last tens.1 (end_each (λ d. d.set ≡ 10) ended object refl) (ap one_of_some (s.ends ∙ sym (end_length ended object))) in
     let nine : MayReplace 9 (of_record 9 ds) last = record {
       each = end_each (λ d. (d.rec ≡ 9) × IsGoodDataset d) ended object (refl, laws.rows.confirmed (length object) s.fits);
-      seen = nine_seen;
-      fewer = λ n no'. fewer_by n (of_record 9 ds) last (nine_seen n) (end_once n ended object);
+      seen = λ n. tens_seen n (of_record 9 ds) last tens.1 (end_each (λ d. d.set ≡ 10) ended object refl)
+          (ap one_of_some (s.ends ∙ sym (end_length ended object)));
+      once = λ n no'. end_once n ended object;
     } in
-    let own : ℕ → List Dataset = λ r. cond (nat_eq r 7) (plain_numbers numbers) (cond (nat_eq r 8) subfiles last) in
-    let (sections, ends) = with_others own ds s.alive.0 (seven, (eight, (nine, tt))) s.alive.1 in
-    let is : kept ds ++ flat_map own object_records ≡ es = λ i. s.fields_are i ++ (plain_numbers numbers ++ (subfiles ++ append-nil last i)) in
-    let alive : SectionsLive es = (s.alive.0, rw is at sections) in
-    let present : section_after ds ≡ section_after es = ends ∙ ap section_after is in
-    let tell = plain_told fields numbers heads object ended (rw s.fields_are at (all_kept ds)) (rw are (fit_in_rows ps stated)) s.room in
-    let same = s.fields_are ∙ sym tell.kept_are in
-    record {
-      alive = alive;
-      present = present;
-      fields = same;
-      seen = same_shape laws ds es s.alive alive s.few (rw (tell.heads_are) s.many) (ap (λ (r : ℕ). nat_eq r 9) present) same
-          (s.numbers_are ∙ sym tell.numbers_are) (s.some ∙ sym (ap one_of_some tell.heads_are));
-    }
-
--- ---- what follows datasets to the sections of an envelope
-
-of_both : (r : ℕ) (xs ys : List Dataset) → of_record r (xs ++ ys) ≡ of_record r xs ++ of_record r ys
-of_both r xs ys = filter-append (λ (d : Dataset). nat_eq d.rec r) xs ys
-
--- Datasets with one present record, in which the same numbers have occurred, are followed by the same.
-pub alive_on : (ds es xs : List Dataset) → SectionsLive es → section_after ds ≡ section_after es → SameRecords ds es → SectionsLive (ds ++ xs)
-    → SectionsLive (es ++ xs)
-alive_on ds es xs alive present same (later, sections) =
-    let whole : AreSections (ds ++ (xs ++ later)) = rw append_assoc at sections in
-    let (run, rest, parts, good, others) = (alive_follows ds (xs ++ later, whole)).goes (xs ++ later) whole in
-    let r = section_after es in
-    let there = alive_follows es alive in
-    let (own, left, own_parts, own_good, own_later) = there.goes alive.0 alive.1 in
-    let may : MayReplace r (of_record r ds) (of_record r es) = record {
-      each = all_front _ (of_record r es) own own_good.each;
-      seen = same.seen r;
-      fewer = λ n no'. fewer_by n (of_record r ds) (of_record r es) (same.seen r n)
-          (let one = own_good.once n no' in let both = occurrences_append n (of_record r es) own in omega (arith, one, both));
-    } in
-    let goes = good_with r (of_record r ds) (of_record r es) run may (rw present at good) in
-    (later, rw append_assoc (there.comes (xs ++ later) (run, rest, parts, goes, rw present at others)))
+    let keeps = all_kept ds in
+    let fields7 = none_in_fields 7 (kept ds) refl keeps in
+    let alone7 = are_of_record 7 ds in
+    let alone8 = are_of_record 8 ds in
+    let none8 : of_record 8 (kept ds ++ of_record 7 ds) ≡ [] =
+    rw (of_both 8 (kept ds) (of_record 7 ds), none_in_fields 8 (kept ds) refl keeps) (none_by (λ k. nat_eq k 8) 7 (of_record 7 ds) refl alone7) in
+    let none9 : of_record 9 ((kept ds ++ of_record 7 ds) ++ of_record 8 ds) ≡ [] =
+    rw (
+      of_both 9 (kept ds ++ of_record 7 ds) (of_record 8 ds),
+      of_both 9 (kept ds) (of_record 7 ds),
+      none_in_fields 9 (kept ds) refl keeps,
+      none_by (λ k. nat_eq k 9) 7 (of_record 7 ds) refl alone7,
+    ) (none_by (λ k. nat_eq k 9) 8 (of_record 8 ds) refl alone8) in
+    let whole = subst SectionsLive (in_order ds s.alive) s.alive in
+    let to8 = front_alive _ (of_record 9 ds) whole in
+    let to7 = front_alive _ (of_record 8 ds) to8 in
+    let same : Continues (kept ds) (kept ds) =
+    record { alive = front_alive _ (of_record 7 ds) to7; present = refl; fields = refl; seen = record { seen = λ r n. refl } } in
+    let with7 = replaced 7 (kept ds) (kept ds) (of_record 7 ds) (plain_numbers numbers) refl refl fields7 alone7 seven to7 same in
+    let with8 = replaced 8 _ _ (of_record 8 ds) subfiles refl refl none8 alone8 eight to8 with7 in
+    let with9 = replaced 9 _ _ (of_record 9 ds) last refl refl none9 (are_of_record 9 ds) nine whole with8 in
+    let all = subst (λ (x : List Dataset). Continues x (((kept ds ++ plain_numbers numbers) ++ subfiles) ++ last)) (sym (in_order ds s.alive)) with9 in
+    rw (s.fields_are, append_assoc, append_assoc) at all
 
 pub alive_at_as : (ds es : List Dataset) (h : Head) → SectionsLive es → section_after ds ≡ section_after es → SameRecords ds es → SectionsLiveAt ds h
     → SectionsLiveAt es h
@@ -364,10 +316,8 @@ twins_on {ds} {es} {xs} {ys} t tail bounded = record {
   fields = rw (kept_append ds xs, kept_append es ys, t.fields, tail.fields) refl;
   object = record {
     numbers = rw (sevens_both ds xs, sevens_both es ys, ← tail.numbers) (numbers_on (sevens xs) t.object.numbers);
-    heads = rw (eights_both ds xs, eights_both es ys, ← tail.lengths)
-        (omega (arith, length-append (eights ds) (eights xs), length-append (eights es) (eights xs), t.object.heads));
-    octets = rw (eights_both ds xs, eights_both es ys, ← tail.lengths)
-        (omega (arith, sum_append (eights ds) (eights xs), sum_append (eights es) (eights xs), t.object.octets));
+    heads = rw (eights_both ds xs, eights_both es ys, ← tail.lengths) (simp length-append (omega (arith, t.object.heads)));
+    octets = rw (eights_both ds xs, eights_both es ys, ← tail.lengths) (simp sum_append (omega (arith, t.object.octets)));
   };
   ending = rw (of_both 9 ds xs, of_both 9 es ys, tail.nines) (ending_on (of_record 9 ds) (of_record 9 es) (of_record 9 ys) t.ending);
   seen = seen_on t.seen tail.seen;
@@ -393,21 +343,18 @@ after_as laws ds es alive there few t lives =
     (possible_like laws (place_after_datasets ds) (place_after_datasets es) (possible_after laws ds alive few lives) stated.stated t.object t.bounded
     t.ending).alive
 
+tests_as : (b c : Bool) (ds es : List Dataset) (count : ℕ) → Twins ds es → AreBounded (at_tests b c ds count).stated (at_tests b c ds count).lengths
+    → AreBounded (at_tests b c es count).stated (at_tests b c es count).lengths × ((at_tests b c ds count).ending ≡ (at_tests b c es count).ending)
+tests_as b c ds es count t here =
+    grind (arith, append-nil, bounded_on (sevens ds) (sevens es) [] (eights ds) (eights es) (count ∷ []) t.object.numbers t.bounded)
+
 pub at_as : LowerLaws → (ds es : List Dataset) (h : Head) → SectionsLiveAt ds h → SectionsLiveAt es h → length (of_record 8 ds) ≤ max_subfiles
     → (h.rec ≡ 8 → length (of_record 8 ds) < max_subfiles) → Twins ds es → ObjectLives (place_at ds h) → ObjectLives (place_at es h)
 at_as laws ds es h alive there few room t lives =
     let p = possible_at laws ds h alive few room lives in
     let stated = stated_at laws es h there (rw (← heads_same t) few) (λ eight. rw (← heads_same t) (room eight)) in
-    let (bounded, ending) = by (nat_eq h.rec 8) (nat_eq h.rec 9) (bounded_at laws (place_at ds h) p) in
+    let (bounded, ending) = tests_as (nat_eq h.rec 8) (nat_eq h.rec 9) ds es h.count t (bounded_at laws (place_at ds h) p) in
     (possible_like laws (place_at ds h) (place_at es h) p stated.stated (object_at ds es h t.object) bounded ending).alive
-  where
-    by : (b c : Bool) → AreBounded (at_tests b c ds h.count).stated (at_tests b c ds h.count).lengths
-        → AreBounded (at_tests b c es h.count).stated (at_tests b c es h.count).lengths × ((at_tests b c ds h.count).ending ≡ (at_tests b c es h.count).ending)
-    by true c here =
-        let bounded = bounded_on (sevens ds) (sevens es) [] (eights ds) (eights es) (h.count ∷ []) t.object.numbers t.bounded (rw append-nil here) in
-        (rw append-nil at bounded, t.ending)
-    by false true here = (t.bounded, refl)
-    by false false here = (t.bounded, t.ending)
 
 -- ---- every layer but the message
 

@@ -192,6 +192,7 @@ fn take_numbers(version: u8, octets: &[u8]) -> Option<([Option<u64>; 4], &[u8])>
 }
 
 /// The texts of the message, and what follows them.
+#[tactic(auto, using(crate::proofs::Splitting::cut, crate::proofs::Splitting::seven, std::proofs::lemmas::List::append_assoc))]
 fn take_texts(octets: &[u8]) -> Option<([&[u8]; 7], &[u8])>
     ensures parts { IfSome result (λ r. octets.now ≡ flat_map text_octets (map (λ t. t.now) r.0) ++ r.1.now) }
     ensures fits { IfSome result (λ r. AreTexts (map (λ t. t.now) r.0)) }
@@ -209,6 +210,7 @@ fn take_texts(octets: &[u8]) -> Option<([&[u8]; 7], &[u8])>
 }
 
 /// What a ticket tells of the message, with which it ends.
+#[tactic(auto, using(crate::proofs::Splitting::cut, crate::proofs::Splitting::seven, crate::proofs::Splitting::ending))]
 fn read_message(octets: &[u8]) -> Option<MessageParts<'_>>
     ensures parts { IfSome result (λ m. octets.now ≡ message_parts m.part m.counter m.flag (map (λ t. t.now) m.texts)) }
     ensures fits { IfSome result (λ m. AreTexts (map (λ t. t.now) m.texts)) }

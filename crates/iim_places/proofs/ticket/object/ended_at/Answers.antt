@@ -2,9 +2,6 @@ use Rattle.iim_places.proofs.ObjectPlaces.{may_end, before_end}
 use Rattle.iim_places.proofs.Results.{if_none}
 use Rattle.iim_places.proofs.ticket.object.ended_at.Goals as goal
 
-pub returns-in_err-object-clause-none : goal.returns-in_err-object-clause-none
-returns-in_err-object-clause-none c = rw c.from_residual.ensures (λ p at is. let some = c.in_err-object.ensures.exactly.1 (p, at, before_end c.lower_laws.ensures.tokens p at.not_ended is) in cc)
-
 pub returns-clause-none : goal.returns-clause-none
 returns-clause-none c =
     if_none _ _ c.ended.result

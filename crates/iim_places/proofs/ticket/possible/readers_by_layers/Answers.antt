@@ -34,7 +34,7 @@ returns-clause-some c =
         numbers_are = four;
         kept = kept;
         tags = c.in_ok-tags.ensures.leads;
-        records = rw (told_same s.version (place_told s m) (numbers_told s.numbers) some four c.some_ended-some.ensures) at lives;
+        records = rw (told_same (place_told s m) (numbers_told s.numbers) some four c.some_ended-some.ensures) at lives;
         object = c.in_ok-object.ensures.leads;
         message = (o, text, leads, count, λ nine. part_told m.part AfterEnd (is.part_is ∙ c.ends_together.ensures.ends c.if-not-ends_together.false nine));
         within = record { octets_in = omega (arith, octets); fields_in = omega (arith, fields) };

@@ -1,5 +1,4 @@
 use Rattle.std.proofs.Common.{[]}
-use Rattle.iim_places.proofs.AtPlaces.{leads_on_told}
 use Rattle.iim_places.proofs.ticket.readers.records_lead.Goals as goal
 
 pub returns-then-take_told-clause-lives : goal.returns-then-take_told-clause-lives
@@ -7,13 +6,3 @@ returns-then-take_told-clause-lives c yes' =
     let kept = c.take_told.ensures.kept c.if-take_told.true in
     let took = rw (c.has_ended.ensures, c.if-take_told.true) at (c.take_told.ensures.all kept) in
     c.can_continue.ensures.lives yes' _ (took.2 [] c.new-check.ensures.stands)
-
-pub returns-then-take_told-clause-dies : goal.returns-then-take_told-clause-dies
-returns-then-take_told-clause-dies c no' each within lives =
-    let took = rw (c.has_ended.ensures, c.if-take_told.true) at (c.take_told.ensures.all each) in
-    c.can_continue.ensures.dies no' _ (took.2 [] c.new-check.ensures.stands) lives
-
-pub returns-else-take_told-clause-dies : goal.returns-else-take_told-clause-dies
-returns-else-take_told-clause-dies c no' each within lives =
-    let none = rw (c.has_ended.ensures, c.if-take_told.false) at (c.take_told.ensures.all each) in
-    none [] c.new-check.ensures.stands (leads_on_told c.args.section _ c.args.fields c.args.numbers c.args.some _ c.requires each within lives)

@@ -1,19 +1,15 @@
-use Rattle.std.proofs.Common.{◌≡◌, true, false, List, [], ◌∷◌, ◌++◌, sym, ◌∙◌, append_assoc}
-use Rattle.iim_places.proofs.Words.{Dataset, is_kept, AreKept, all_append}
+use Rattle.std.proofs.Common.{◌≡◌, true, false, [], ◌∷◌, ◌++◌, sym, ◌∙◌, append_assoc}
+use Rattle.iim_places.proofs.Words.{Dataset, is_kept, all_append, all_back}
 use Rattle.iim_places.specs.TicketParts.{dataset}
 use Rattle.iim_places.proofs.Taking.{took_more, no_more}
 use Rattle.iim_places.proofs.ticket.taker.take_fields.Goals as goal
-
--- one of these is not kept
-not_all : (done : List Dataset) (d : Dataset) (rest : List Dataset) → is_kept d.rec ≡ false → AreKept (done ++ d ∷ rest) → ⊥
-not_all [] d rest is all = let bad : false ≡ true = sym is ∙ all.0 in cc
-not_all (x ∷ done) d rest is all = not_all done d rest is all.1
 
 pub returns-then-not-is_kept-clause-all : goal.returns-then-not-is_kept-clause-all
 returns-then-not-is_kept-clause-all g c all ds s goes =
     let inv = c.loop-rec.invariant in
     let d : Dataset = dataset c.in-Some.rec c.in-Some.set c.in-Some.octets.now in
-    not_all inv.done d c.next.new.self (sym c.is_kept.ensures ∙ c.if-not-is_kept.true) (rw (inv.parts, c.in-Some.ensures.steps) at all)
+    let kept = all_back (λ (e : Dataset). is_kept e.rec ≡ true) inv.done (d ∷ c.next.new.self) (rw (inv.parts, c.in-Some.ensures.steps) at all) in
+    absurd (let bad : false ≡ true = sym c.if-not-is_kept.true ∙ c.is_kept.ensures ∙ kept.0 in cc)
 
 pub returns-then-not-take-clause-all : goal.returns-then-not-take-clause-all
 returns-then-not-take-clause-all g c all ds s goes =

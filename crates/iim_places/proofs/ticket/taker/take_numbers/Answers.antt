@@ -1,4 +1,4 @@
-use Rattle.std.proofs.Common.{◌≡◌, ℕ, List, [], ◌∷◌, ◌++◌, length, get_or, Option, None, ◌∙◌, arith, append_assoc}
+use Rattle.std.proofs.Common.{◌≡◌, ℕ, List, [], ◌∷◌, ◌++◌, length, get_or, Option, None, arith, append_assoc}
 use Rattle.iim_places.proofs.Words.{Dataset, number_dataset, mode_dataset, one_dataset, plain_numbers, TookDatasets, numbers_told}
 use Rattle.iim_places.proofs.Taking.{no_more, took_more}
 use Rattle.iim_places.proofs.ticket.taker.take_numbers.Goals.{then-take_size, else-take_size, then-take_mode, else-take_mode}
@@ -13,9 +13,7 @@ size_in set at ns = one_dataset (number_dataset 7 set) (get_or ns at None)
 
 four : (ns : List (Option ℕ)) → length ns ≡ 4 → ((mode_in ns ++ size_in 20 1 ns) ++ size_in 90 2 ns) ++ size_in 95 3 ns ≡ plain_numbers (numbers_told ns)
 unfolding mode_in size_in
-four (a ∷ b ∷ c ∷ d ∷ []) is =
-    append_assoc (one_dataset mode_dataset a ++ one_dataset (number_dataset 7 20) b) (one_dataset (number_dataset 7 90) c) (one_dataset (number_dataset 7 95) d)
-    ∙ append_assoc (one_dataset mode_dataset a) (one_dataset (number_dataset 7 20) b) (one_dataset (number_dataset 7 90) c ++ one_dataset (number_dataset 7 95) d)
+four (a ∷ b ∷ c ∷ d ∷ []) is = simp append_assoc
 four ns is = absurd (omega (arith, is))
 
 pub returns-else-take_size-2-clause-took : goal.returns-else-take_size-2-clause-took

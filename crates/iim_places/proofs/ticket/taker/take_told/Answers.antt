@@ -1,7 +1,6 @@
-use Rattle.std.proofs.Common.{◌≡◌, ℕ, Bool, true, false, cond, List, [], ◌∷◌, ◌++◌, refl, ap, sym, ◌∙◌, append_assoc}
+use Rattle.std.proofs.Common.{◌≡◌, Bool, true, false, cond, List, [], ◌∷◌, ◌++◌, append_assoc}
 use Rattle.std.proofs.Math.Seq.{take-nil}
-use Rattle.iim_places.proofs.Words.{unwrap_or, Dataset, subfile_datasets, Numbers, filled, plain, plain_end, plain_numbers, numbers_told}
-use Rattle.iim_object.specs.Format.Packing.{subfile_dataset}
+use Rattle.iim_places.proofs.Words.{Dataset, Numbers, plain, plain_end, plain_numbers, numbers_told}
 use Rattle.iim_places.specs.TicketParts.{dataset}
 use Rattle.iim_places.proofs.Taking.{no_more, took_more}
 use Rattle.iim_places.proofs.ticket.taker.take_told.Goals as goal
@@ -10,15 +9,11 @@ use Rattle.iim_places.proofs.ticket.taker.take_told.Goals as goal
 subfile : Bool → List Dataset
 subfile some = cond some (dataset 8 10 [] ∷ []) []
 
-one_filled : (size : ℕ) (some : Bool) → subfile some ≡ subfile_datasets (filled size (cond some 1 0) [])
+joined : (fields : List Dataset) (numbers : Numbers) (some ended : Bool)
+    → (fields ++ plain_numbers numbers) ++ (subfile some ++ plain_end ended []) ≡ plain fields numbers (cond some 1 0) [] ended
 unfolding subfile
-one_filled size true = ap (λ (xs : List ℕ). subfile_dataset xs ∷ []) (sym (take-nil size))
-one_filled size false = refl
-
-joined : (fields : List Dataset) (numbers : Numbers) (some ended : Bool) → (fields ++ plain_numbers numbers) ++ (subfile some ++ plain_end ended []) ≡ plain fields numbers (cond some 1 0) [] ended
-joined fields numbers some ended =
-    append_assoc fields (plain_numbers numbers) (subfile some ++ plain_end ended [])
-    ∙ (λ i. fields ++ (plain_numbers numbers ++ (one_filled (unwrap_or numbers.largest 0) some i ++ plain_end ended [])))
+joined fields numbers true ended = rw take-nil (append_assoc fields (plain_numbers numbers) (dataset 8 10 [] ∷ plain_end ended []))
+joined fields numbers false ended = append_assoc fields (plain_numbers numbers) (plain_end ended [])
 
 pub returns-then-take_records-clause-all : goal.returns-then-take_records-clause-all
 unfolding subfile

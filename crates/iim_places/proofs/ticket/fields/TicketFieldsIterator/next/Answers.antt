@@ -1,6 +1,6 @@
 use Rattle.std.proofs.Common.{List, ◌∷◌, length, ap, sym, ◌∙◌, arith}
 use Rattle.iim_dataset.specs.Format.Datasets.{Dataset}
-use Rattle.iim_places.specs.TicketParts.{dataset}
+use Rattle.iim_places.specs.TicketParts.{dataset, HoldsFields}
 use Rattle.iim_places.proofs.Splitting.{rest_held, first_held, none_held}
 use Rattle.iim_places.proofs.ticket.fields.TicketFieldsIterator.next.Goals as goal
 
@@ -14,10 +14,10 @@ walk_over-requires c =
 
 pub returns-clause-steps : goal.returns-clause-steps
 returns-clause-steps c =
-    sym c.self.view_is
-    ∙ first_held c.self.inside.octets.now c.in_ok-field.octets.now (dataset c.in_ok-field.field.0 c.in_ok-field.field.1 c.in_ok-field.field.2.now) c.self.inside.holds
-    (c.walk_over.result, (c.walk_over.ensures.each, c.walk_over.ensures.spelled)) c.in_ok-field.ensures.fits c.in_ok-field.ensures.parts
-    ∙ ap (λ (ds : List Dataset). dataset c.in_ok-field.field.0 c.in_ok-field.field.1 c.in_ok-field.field.2.now ∷ ds) (sym c.self-2.view_is)
+    let d = dataset c.in_ok-field.field.0 c.in_ok-field.field.1 c.in_ok-field.field.2.now in
+    let rest : HoldsFields c.in_ok-field.octets.now = (c.walk_over.result, (c.walk_over.ensures.each, c.walk_over.ensures.spelled)) in
+    sym c.self.view_is ∙ first_held c.self.inside.octets.now _ d c.self.inside.holds rest c.in_ok-field.ensures.fits c.in_ok-field.ensures.parts
+    ∙ ap (λ (ds : List Dataset). d ∷ ds) (sym c.self-2.view_is)
 
 pub returns-clause-goes : goal.returns-clause-goes
 returns-clause-goes c = record { on = λ _. (tt, tt, (let e = ap length (returns-clause-steps c) in omega (arith, e))); keeps = tt; rests = λ _. tt }
